@@ -1,0 +1,28 @@
+-- Bytes that a port tells of, in pieces.
+use Rattle.std.proofs.Common.{◌≡◌, ℕ, ◌+◌, List, ◌++◌, take, drop, Option, None, Some, refl, sym, ◌∙◌, ap, append_assoc}
+use Rattle.std.proofs.Math.Seq.{take-add}
+use Rattle.dr_ports.specs.Ports.{appended, prepended}
+
+-- two pieces taken in turn are one
+pub appended-appended : (told : Option (List ℕ)) (a b : List ℕ) → appended (appended told a) b ≡ appended told (a ++ b)
+appended-appended None a b = refl
+appended-appended (Some xs) a b = ap Some (append_assoc xs a b)
+
+-- two pieces read in turn are one
+pub prepended-prepended : (told : Option (List ℕ)) (a b : List ℕ) → prepended a (prepended b told) ≡ prepended (a ++ b) told
+prepended-prepended None a b = refl
+prepended-prepended (Some xs) a b = ap Some (sym (append_assoc a b xs))
+
+-- a sink that took the first bytes and then some more
+pub took_more : (old mid new : Option (List ℕ)) (bytes : List ℕ) (done more : ℕ) → mid ≡ appended old (take done bytes) → new ≡ appended mid (take more (drop done bytes)) → new ≡ appended old (take (done + more) bytes)
+took_more old mid new bytes done more e f =
+    f ∙ ap (λ t. appended t (take more (drop done bytes))) e
+    ∙ appended-appended old (take done bytes) (take more (drop done bytes))
+    ∙ ap (appended old) (sym (take-add done more bytes))
+
+-- a source that gave the first bytes of a piece and then some more
+pub gave_more : (old mid new : Option (List ℕ)) (before now : List ℕ) (done more : ℕ) → old ≡ prepended (take done before) mid → take done now ≡ take done before → mid ≡ prepended (take more (drop done now)) new → old ≡ prepended (take (done + more) now) new
+gave_more old mid new before now done more e same f =
+    e ∙ ap (λ b. prepended b mid) (sym same) ∙ ap (prepended (take done now)) f
+    ∙ prepended-prepended new (take done now) (take more (drop done now))
+    ∙ ap (λ b. prepended b new) (sym (take-add done more now))

@@ -1,0 +1,28 @@
+-- Writes in turn.
+use Rattle.std.proofs.Common.{◌≡◌, ℕ, List, ◌++◌, take, drop, Option, sym, ◌∙◌, ap, append_assoc}
+use Rattle.std.proofs.lemmas.List.{take-append-drop}
+use Rattle.dr_ports.specs.Ports.{appended}
+use Rattle.dr_ports.specs.Writing.{TookBeginning}
+use Rattle.dr_ports.proofs.Told.{appended-appended}
+
+-- a sink that stopped at a place of the bytes
+pub took_first : (old new : Option (List ℕ)) (bytes : List ℕ) (done : ℕ) → new ≡ appended old (take done bytes) → TookBeginning old new bytes
+took_first old new bytes done e = record { beginning = take done bytes; remainder = drop done bytes; split = sym (take-append-drop done bytes); took = e }
+
+-- what was taken of the first piece is a beginning of both
+pub took_of_first : (old new : Option (List ℕ)) (a b : List ℕ) → TookBeginning old new a → TookBeginning old new (a ++ b)
+took_of_first old new a b t = record {
+  beginning = t.beginning;
+  remainder = t.remainder ++ b;
+  split = ap (λ x. x ++ b) t.split ∙ append_assoc t.beginning t.remainder b;
+  took = t.took;
+}
+
+-- all of the first piece and a beginning of the second
+pub took_of_second : (old mid new : Option (List ℕ)) (a b : List ℕ) → mid ≡ appended old a → TookBeginning mid new b → TookBeginning old new (a ++ b)
+took_of_second old mid new a b e t = record {
+  beginning = a ++ t.beginning;
+  remainder = t.remainder;
+  split = ap (λ x. a ++ x) t.split ∙ sym (append_assoc a t.beginning t.remainder);
+  took = t.took ∙ ap (λ m. appended m t.beginning) e ∙ appended-appended old a t.beginning;
+}

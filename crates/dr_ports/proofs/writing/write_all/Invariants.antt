@@ -1,0 +1,13 @@
+use Rattle.std.proofs.Common.{length, ◌-◌, ◌≡◌, ◌≤◌, take}
+use Rattle.dr_ports.specs.Ports.{appended}
+use Rattle.dr_ports.proofs.writing.write_all.Given as goal
+
+abbrev pub invariant-pieces : goal.invariant-pieces
+invariant-pieces g l = record {
+  within : l.done ≤ length l.bytes;
+  content : g.O.Sink.taken l.out ≡ appended (g.O.Sink.taken l.initial.out) (take l.done l.bytes);
+  later : g.O.Sink.faults l.initial.out ≤ g.O.Sink.faults l.out;
+}
+
+abbrev pub decreases-pieces : goal.decreases-pieces
+decreases-pieces g l = length l.initial.bytes - l.done

@@ -1,0 +1,66 @@
+//! Adapters over std's reader and writer. They tell nothing of content, and count each error.
+
+ghost use Rattle.std.specs.Prelude.{None};
+
+use crate::port::{Failed, Sink, Source};
+use std::io::{Read, Write};
+
+/// A source over a reader.
+#[derive(Drop)]
+pub struct ReaderSource<R: Read> {
+    reader: R,
+    faults: u64,
+}
+
+impl<R: Read> ReaderSource<R> {
+    /// A source over a reader, with no fault so far.
+    pub fn new(reader: R) -> Self {
+        ReaderSource { reader, faults: 0 }
+    }
+}
+
+impl<R: Read> Source for ReaderSource<R> {
+    ghost left = { λ _. None };
+
+    ghost faults = { λ s. s.faults };
+
+    fn read(&mut self, into: &mut [u8]) -> Result<usize, Failed> {
+        match self.reader.read(into) {
+            Ok(count) => Ok(count),
+            Err(_) => {
+                self.faults = self.faults.saturating_add(1);
+                Err(Failed)
+            }
+        }
+    }
+}
+
+/// A sink over a writer. A writer that takes nothing of a piece that isn't empty has failed.
+#[derive(Drop)]
+pub struct WriterSink<W: Write> {
+    writer: W,
+    faults: u64,
+}
+
+impl<W: Write> WriterSink<W> {
+    /// A sink over a writer, with no fault so far.
+    pub fn new(writer: W) -> Self {
+        WriterSink { writer, faults: 0 }
+    }
+}
+
+impl<W: Write> Sink for WriterSink<W> {
+    ghost taken = { λ _. None };
+
+    ghost faults = { λ s. s.faults };
+
+    fn write(&mut self, bytes: &[u8]) -> Result<usize, Failed> {
+        match self.writer.write(bytes) {
+            Ok(count) if count > 0 || bytes.is_empty() => Ok(count),
+            _ => {
+                self.faults = self.faults.saturating_add(1);
+                Err(Failed)
+            }
+        }
+    }
+}

@@ -1,0 +1,20 @@
+//! The outside, as traits: where bytes come from and where they go. Each port counts its faults, and tells
+//! what it holds or has taken where it can. The forms in memory tell all and fail where they are told to;
+//! the adapters stand over std's reader and writer.
+#![tactic(auto)]
+
+pub use adapter::{ReaderSource, WriterSink};
+pub use memory::plan::CallPlan;
+pub use memory::sink::{MemorySink, NullSink};
+pub use memory::source::{MemorySource, SteadySource};
+pub use port::{Failed, Sink, Source};
+pub use reading::{InputError, read_whole};
+pub use writing::write_all;
+
+mod adapter;
+mod memory;
+mod port;
+mod reading;
+#[cfg(test)]
+mod tests;
+mod writing;

@@ -1,0 +1,87 @@
+//! Reading a source to its end, or to one byte past a limit.
+
+ghost use Rattle.std.specs.Prelude.{◌≡◌, ℕ, ◌+◌, ◌^◌, ◌<◌, ◌≤◌, List, [], vec_len, length, take, drop, IfOk, IfSome, IsErrOf};
+ghost use Rattle.dr_ports.specs.Ports.{Rose, HasCause, prepended};
+ghost use Rattle.dr_ports.specs.declared.reading.InputError.TheVariants.{Memory};
+
+use crate::port::{Failed, Source};
+use std::alloc::{AllocError, Global};
+
+/// Why a source wasn't read whole.
+#[derive(Clone, Copy, Debug, PartialEq, Eq, Hash)]
+pub enum InputError {
+    /// There was no memory for the bytes.
+    Memory,
+    /// The source holds more than the limit.
+    TooLong,
+    /// A read failed.
+    Fault,
+}
+
+impl From<AllocError> for InputError {
+    ghost from_gives = { λ _ e. e ≡ Memory };
+
+    fn from(_: AllocError) -> Self {
+        InputError::Memory
+    }
+}
+
+/// Reads once, into a piece from a place on.
+fn read_at<S: Source>(source: &mut S, into: &mut [u8], at: usize) -> Result<usize, Failed>
+    requires { at < length into.old }
+    ensures bound { IfOk result (λ count. at + count ≤ length into.old) }
+    ensures kept { take at into.new ≡ take at into.old }
+    ensures content { IfOk result (λ count.
+        S.left source.old ≡ prepended (take count (drop at into.new)) (S.left source.new)) }
+    ensures end { IfOk result (λ count. count ≡ 0 → IfSome (S.left source.new) (λ bytes. bytes ≡ [])) }
+    ensures cause { HasCause (S.faults source.old) (S.faults source.new) result }
+{
+    source.read(&mut into[at..])
+}
+
+/// Reads until the piece is full or the source ends, and answers how many bytes it read.
+fn fill<S: Source>(source: &mut S, into: &mut [u8]) -> Result<usize, Failed>
+    ensures bound { IfOk result (λ count. count ≤ length into.old) }
+    ensures content { IfOk result (λ count.
+        S.left source.old ≡ prepended (take count into.new) (S.left source.new)) }
+    ensures end { IfOk result (λ count. count < length into.old →
+        IfSome (S.left source.new) (λ bytes. bytes ≡ [])) }
+    ensures cause { HasCause (S.faults source.old) (S.faults source.new) result }
+{
+    let mut count = 0;
+    'pieces: while count < into.len() {
+        match read_at(source, into, count) {
+            Err(Failed) => return Err(Failed),
+            Ok(0) => return Ok(count),
+            Ok(more) => count += more,
+        }
+    }
+    Ok(count)
+}
+
+/// Reads a source to its end. It takes all its memory first, room for one byte past the limit.
+pub fn read_whole<S: Source>(
+    alloc: Global,
+    source: &mut S,
+    limit: usize,
+) -> Result<Vec<u8>, InputError>
+    requires { limit < 2 ^ 32 }
+    ensures fits { IfOk result (λ bytes. vec_len bytes ≤ limit) }
+    ensures whole { IfOk result (λ bytes. IfSome (S.left source.old) (λ left. bytes.items ≡ left)) }
+    ensures too_long { IsErrOf result InputError.TooLong →
+        IfSome (S.left source.old) (λ left. limit < length left) }
+    ensures fault { IsErrOf result InputError.Fault → Rose (S.faults source.old) (S.faults source.new) }
+    ensures later { S.faults source.old ≤ S.faults source.new }
+{
+    let mut bytes = vec![in alloc; 0; limit + 1]?;
+    match fill(source, bytes.as_mut_slice()) {
+        Err(Failed) => Err(InputError::Fault),
+        Ok(count) => {
+            if count > limit {
+                return Err(InputError::TooLong);
+            }
+            bytes.truncate(count);
+            Ok(bytes)
+        }
+    }
+}
