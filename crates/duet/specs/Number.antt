@@ -1,0 +1,18 @@
+-- Numbers as scripts write them: decimal digits without a sign or a leading zero.
+use Rattle.std.specs.Prelude.{ℕ, ◌^◌, ◌==◌, ◌&&◌, Bool, true, false, not, nat_lt, List, [], ◌∷◌, Option, Some, None, if◌then◌else◌}
+use Rattle.std.specs.Str.{all_ascii_digits}
+use Rattle.std.specs.Str.Parse.{digits_value}
+
+-- at least one digit, and no zero before another
+abbrev pub is_unpadded : List ℕ → Bool
+is_unpadded [] = false
+is_unpadded (c ∷ []) = true
+is_unpadded (c ∷ d ∷ ds) = not (c == 48)
+
+-- the text of a number below 2^32
+abbrev pub is_number : List ℕ → Bool
+is_number text = is_unpadded text && (all_ascii_digits text && nat_lt (digits_value 10 text) (2 ^ 32))
+
+-- the number that a text says
+unfoldable pub number_of : List ℕ → Option ℕ
+number_of text = if is_number text then Some (digits_value 10 text) else None
