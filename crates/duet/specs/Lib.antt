@@ -1,2 +1,4 @@
+pub mod Faults
 pub mod Number
 pub mod Script
+pub mod Seen

@@ -1,6 +1,7 @@
 -- Numbers as scripts write them: decimal digits without a sign or a leading zero.
 use Rattle.std.specs.Prelude.{ℕ, ◌^◌, ◌==◌, ◌&&◌, Bool, true, false, not, nat_lt, List, [], ◌∷◌, Option, Some, None, if◌then◌else◌}
-use Rattle.std.specs.Str.{all_ascii_digits}
+use Rattle.std.specs.Char.{is_ascii_digit}
+use Rattle.std.specs.List.{list_all}
 use Rattle.std.specs.Str.Parse.{digits_value}
 
 -- at least one digit, and no zero before another
@@ -11,7 +12,7 @@ is_unpadded (c ∷ d ∷ ds) = not (c == 48)
 
 -- the text of a number below 2^32
 abbrev pub is_number : List ℕ → Bool
-is_number text = is_unpadded text && (all_ascii_digits text && nat_lt (digits_value 10 text) (2 ^ 32))
+is_number text = is_unpadded text && (list_all is_ascii_digit text && nat_lt (digits_value 10 text) (2 ^ 32))
 
 -- the number that a text says
 unfoldable pub number_of : List ℕ → Option ℕ

@@ -1,0 +1,44 @@
+-- The first line of a text.
+use Rattle.std.proofs.Common.{◌≡◌, ◌≢◌, ℕ, zero, suc, ◌+◌, ◌<◌, ◌≤◌, Bool, true, false, List, [], ◌∷◌, length, take, drop, get_or, refl, sym, ◌∙◌, ap, arith, nat_eq}
+use Rattle.std.specs.Prelude.{if◌then◌else◌}
+use Rattle.std.proofs.lemmas.Bool.{eq-eqb, eqb-true}
+use Rattle.duet.specs.Script.{lines_of, with_byte}
+
+choose : (b : Bool) (x xs : List (List ℕ)) → b ≡ true → (if b then x else xs) ≡ x
+choose true x xs h = refl
+choose false x xs h = cc
+
+refuse : (b : Bool) (x xs : List (List ℕ)) → (b ≡ true → ⊥) → (if b then x else xs) ≡ xs
+refuse true x xs h = absurd (h refl)
+refuse false x xs h = refl
+
+-- a line feed ends an empty line
+at_feed : (byte : ℕ) (rest : List ℕ) → byte ≡ 10 → lines_of (byte ∷ rest) ≡ [] ∷ lines_of rest
+unfolding lines_of
+at_feed byte rest e = choose (nat_eq byte 10) _ _ (eq-eqb byte 10 e)
+
+-- every other byte stands in the first line
+at_byte : (byte : ℕ) (rest : List ℕ) → byte ≢ 10 → lines_of (byte ∷ rest) ≡ with_byte byte (lines_of rest)
+unfolding lines_of
+at_byte byte rest n = refuse (nat_eq byte 10) _ _ (λ t. n (eqb-true byte 10 t))
+
+-- a text up to its first line feed is the first line
+pub first_line : (text : List ℕ) (n : ℕ) → n < length text → ((k : ℕ) → k < n → get_or text k 0 ≢ 10) → get_or text n 0 ≡ 10 → lines_of text ≡ take n text ∷ lines_of (drop (suc n) text)
+first_line [] n h before found = absurd (omega arith)
+first_line (byte ∷ rest) zero h before found = at_feed byte rest found
+first_line (byte ∷ rest) (suc n) h before found =
+    at_byte byte rest (before zero (omega arith))
+    ∙ ap (with_byte byte) (first_line rest n (omega arith) (λ k l. before (suc k) (omega arith)) found)
+
+-- a text without a line feed is one line
+pub last_line : (text : List ℕ) → 0 < length text → ((k : ℕ) → k < length text → get_or text k 0 ≢ 10) → lines_of text ≡ text ∷ []
+last_line [] h before = absurd (omega arith)
+last_line (byte ∷ []) h before = at_byte byte [] (before zero (omega arith)) ∙ ap (with_byte byte) no_lines
+last_line (byte ∷ next ∷ rest) h before =
+    at_byte byte (next ∷ rest) (before zero (omega arith))
+    ∙ ap (with_byte byte) (last_line (next ∷ rest) (omega arith) (λ k l. before (suc k) (omega arith)))
+
+-- nothing has no line
+pub no_lines : lines_of [] ≡ []
+unfolding lines_of
+no_lines = refl

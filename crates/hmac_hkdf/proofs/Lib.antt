@@ -1,0 +1,4 @@
+pub mod Lengths
+pub mod Bytes
+pub mod Pads
+pub mod Blocks
