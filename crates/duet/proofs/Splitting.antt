@@ -1,7 +1,8 @@
 -- The first line of a text.
-use Rattle.std.proofs.Common.{◌≡◌, ◌≢◌, ℕ, zero, suc, ◌+◌, ◌<◌, ◌≤◌, Bool, true, false, List, [], ◌∷◌, length, take, drop, get_or, refl, sym, ◌∙◌, ap, arith, nat_eq}
+use Rattle.std.proofs.Common.{◌≡◌, ◌≢◌, ℕ, zero, suc, ◌+◌, ◌<◌, Bool, true, false, List, [], ◌∷◌, length, take, drop, get_or, refl, sym, ◌∙◌, ap, arith, nat_eq, ◌-◌, length-drop, add-one}
 use Rattle.std.specs.Prelude.{if◌then◌else◌}
 use Rattle.std.proofs.lemmas.Bool.{eq-eqb, eqb-true}
+use Rattle.std.proofs.lemmas.List.{take_all}
 use Rattle.duet.specs.Script.{lines_of, with_byte}
 
 choose : (b : Bool) (x xs : List (List ℕ)) → b ≡ true → (if b then x else xs) ≡ x
@@ -30,6 +31,11 @@ first_line (byte ∷ rest) (suc n) h before found =
     at_byte byte rest (before zero (omega arith))
     ∙ ap (with_byte byte) (first_line rest n (omega arith) (λ k l. before (suc k) (omega arith)) found)
 
+-- nothing has no line
+pub no_lines : lines_of [] ≡ []
+unfolding lines_of
+no_lines = refl
+
 -- a text without a line feed is one line
 pub last_line : (text : List ℕ) → 0 < length text → ((k : ℕ) → k < length text → get_or text k 0 ≢ 10) → lines_of text ≡ text ∷ []
 last_line [] h before = absurd (omega arith)
@@ -38,7 +44,17 @@ last_line (byte ∷ next ∷ rest) h before =
     at_byte byte (next ∷ rest) (before zero (omega arith))
     ∙ ap (with_byte byte) (last_line (next ∷ rest) (omega arith) (λ k l. before (suc k) (omega arith)))
 
--- nothing has no line
-pub no_lines : lines_of [] ≡ []
-unfolding lines_of
-no_lines = refl
+-- the rest of a text, as the code cuts it
+pub rest_is : (text : List ℕ) (k : ℕ) → take (length text - k) (drop k text) ≡ drop k text
+rest_is text k = take_all (length text - k) (drop k text) (simp length-drop (omega arith))
+
+-- a first line that ends at a line feed
+pub cut_line : (text : List ℕ) (n : ℕ) → n < length text → ((k : ℕ) → k < n → get_or text k 0 ≢ 10) → get_or text n 0 ≡ 10 → lines_of text ≡ take n text ∷ lines_of (take (length text - (n + 1)) (drop (n + 1) text))
+cut_line text n h before found =
+    first_line text n h before found
+    ∙ ap (λ rest. take n text ∷ lines_of rest) (sym (rest_is text (n + 1) ∙ rw add-one refl))
+
+-- an empty text has no line
+pub empty_lines : (text : List ℕ) → nat_eq (length text) 0 ≡ true → lines_of text ≡ []
+empty_lines [] h = no_lines
+empty_lines (byte ∷ rest) h = absurd (omega (arith, eqb-true (length (byte ∷ rest)) 0 h))

@@ -1,5 +1,5 @@
 -- What the types of the code stand for.
-use Rattle.std.specs.Prelude.{ℕ, List, map}
+use Rattle.std.specs.Prelude.{map}
 use Rattle.dr_model.specs.Machine.{Event, says, takes}
 use Rattle.duet.specs.Script.{Scripted}
 use Rattle.duet.specs.declared.script.line.Line.{Line}

@@ -1,6 +1,6 @@
 //! A text taken apart: its first line, and what follows a prefix.
 
-ghost use Rattle.std.specs.Prelude.{◌≡◌, ◌≢◌, ℕ, ◌+◌, ◌<◌, ◌≤◌, List, [], ◌∷◌, length, slice_index, take, drop, option_copied, MatchOption};
+ghost use Rattle.std.specs.Prelude.{◌≡◌, ◌≢◌, ℕ, ◌+◌, ◌<◌, ◌≤◌, List, [], ◌∷◌, length, slice_index, take, drop, option_copied, MatchOption, IfSome};
 ghost use Rattle.duet.specs.Script.{lines_of, after_prefix};
 
 /// The place of the first line feed, or the end of the text.
@@ -19,15 +19,16 @@ fn line_end(text: &[u8]) -> usize
 
 /// The first line, without its line feed, and what follows it.
 pub fn split_line(text: &[u8]) -> Option<(&[u8], &[u8])>
-    ensures { MatchOption result (text.entry.now ≡ [])
-        (λ parts. (lines_of text.entry.now ≡ parts.0.now ∷ lines_of parts.1.now) × (length parts.1.now < length text.entry.now)) }
+    ensures line { MatchOption result (lines_of text.entry.now ≡ [])
+        (λ parts. lines_of text.entry.now ≡ parts.0.now ∷ lines_of parts.1.now) }
+    ensures shorter { IfSome result (λ parts. length parts.1.now < length text.entry.now) }
 {
     if text.is_empty() {
         return None;
     }
     let end = line_end(text);
     if end == text.len() {
-        return Some((text, &text[end..]));
+        return Some((text, &text[..0]));
     }
     Some((&text[..end], &text[end + 1..]))
 }

@@ -1,7 +1,7 @@
-use Rattle.std.proofs.Common.{◌≡◌, ℕ, ◌+◌, ◌≤◌, length, map}
+use Rattle.std.proofs.Common.{◌≡◌, ◌+◌, ◌≤◌, length, map}
 use Rattle.duet.specs.Script.{lines_of, events_of}
 use Rattle.duet.specs.Seen.{event_of}
-use Rattle.duet.specs.Going.{with_events}
+use Rattle.duet.proofs.Reading.{with_events}
 use Rattle.duet.proofs.script.parse_lines.Given as goal
 
 abbrev pub invariant-lines : goal.invariant-lines
