@@ -7,12 +7,14 @@ pub use adapter::{ReaderSource, WriterSink};
 pub use memory::plan::CallPlan;
 pub use memory::sink::{MemorySink, NullSink};
 pub use memory::source::{MemorySource, SteadySource};
+pub use output_line::{OutputLine, ROOM};
 pub use port::{Failed, Sink, Source};
 pub use reading::{InputError, read_whole};
 pub use writing::write_all;
 
 mod adapter;
 mod memory;
+mod output_line;
 mod port;
 mod reading;
 #[cfg(test)]
