@@ -1,0 +1,5 @@
+mod Blocks
+pub mod Encryption
+mod Lanes
+mod StandardFacts
+mod Xor

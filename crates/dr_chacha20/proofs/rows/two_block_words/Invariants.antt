@@ -1,0 +1,10 @@
+use Rattle.std.proofs.Common.{◌≡◌}
+use Rattle.dr_chacha20.specs.Block.{double_rounds}
+use Rattle.dr_chacha20.specs.Rows.{words_of}
+use Rattle.dr_chacha20.proofs.rows.two_block_words.Given as goal
+
+abbrev pub invariant-rounds : goal.invariant-rounds
+invariant-rounds l = record {
+  first : words_of l.x ≡ double_rounds l._round (words_of l.start);
+  second : words_of l.y ≡ double_rounds l._round (words_of l.other);
+}
