@@ -34,7 +34,7 @@ impl Side {
 }
 
 /// The place of a text: its epoch, and its index in the epoch, which begins at 1. It prints as `epoch.index`.
-#[derive(Clone, Copy, Debug, PartialEq, Eq, Hash)]
+#[derive(Clone, Copy, Debug, Default, PartialEq, Eq, Hash)]
 pub struct Position {
     pub epoch: u32,
     pub index: u32,

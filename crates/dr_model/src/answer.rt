@@ -1,6 +1,7 @@
 //! What an event is answered with.
 
 use dr_base::Position;
+use packet::Malformed;
 
 /// The answer to an event of the conversation.
 #[derive(Clone, Copy, Debug, PartialEq, Eq, Hash)]
@@ -22,6 +23,16 @@ pub enum Refusal {
     TextTooLong(usize),
     /// 32 packets stand in the outbox.
     OutboxFull,
+    /// The bytes are no packet.
+    Malformed(Malformed),
+    /// The packet is of another session.
+    OtherSession,
+    /// The packet is of an epoch of the taker's own.
+    OwnPacket(u32),
+    /// The packet is of an epoch, the first, that comes after the one that may follow the second, which is reached.
+    Ahead(u32, u32),
     /// The packet of this position was opened before.
     Spent(Position),
+    /// The packet's tag differs from the one under its key.
+    BadTag,
 }

@@ -1,3 +1,4 @@
 pub mod Digits
 pub mod Splitting
 pub mod Reading
+pub mod Trace

@@ -2,5 +2,12 @@
 #![tactic(auto)]
 
 pub use script::{Line, Script, ScriptError};
+pub use sides::{PlayError, play};
 
+mod message;
+mod receiver;
+mod reply;
+mod schedule;
 mod script;
+mod sender;
+mod sides;

@@ -1,0 +1,12 @@
+use Rattle.std.proofs.Common.{ap, sym, ◌∙◌, append_assoc, ◌++◌, codes, decimal}
+use Rattle.dr_model.specs.declared.answer.Refusal.TheVariants.{TextTooLong}
+use Rattle.duet.specs.Lines.{refusal_text}
+use Rattle.duet.proofs.reply.put_refusal.Goals as goal
+
+pub returns-in-TextTooLong-clause-bytes : goal.returns-in-TextTooLong-clause-bytes
+unfolding refusal_text
+returns-in-TextTooLong-clause-bytes c =
+    c.number.ensures.bytes
+    ∙ ap (λ line. line ++ decimal c.in-TextTooLong.len) c.text.ensures.bytes
+    ∙ append_assoc c.args.line.now (codes "TextTooLong ") (decimal c.in-TextTooLong.len)
+    ∙ ap (λ r. c.args.line.now ++ refusal_text r) (sym c.in-TextTooLong.is)

@@ -1,0 +1,4 @@
+pub mod Chain
+pub mod Seal
+pub mod Aead
+pub mod Undoing
