@@ -1,0 +1,4 @@
+pub mod Ending
+pub mod Ends
+pub mod Runs
+pub mod Words

@@ -1,0 +1,67 @@
+//! The top call.
+
+ghost use Rattle.std.specs.Prelude.{◌≡◌, ℕ, ◌≤◌, [], IfOk, OnErr};
+ghost use Rattle.messenger_cli.specs.Ends.{Ends};
+ghost use Rattle.messenger_cli.specs.Runs.{RunsDuet, Works, IsCutOff};
+ghost use Rattle.messenger_cli.specs.Words.{IsDuet};
+ghost use Rattle.messenger_cli.specs.declared.ending.Ending.TheVariants.{Usage};
+
+use crate::ending::{Ending, SCRIPT_LIMIT};
+use crate::status::{Status, finish};
+use crate::words::is_duet;
+use dr_ports::{Failed, InputError, Sink, Source, read_whole};
+use duet::{PlayError, Script, ScriptError, play};
+use std::alloc::Global;
+
+/// Reads a script from the source and plays it.
+fn work<S: Source, O: Sink>(alloc: Global, source: &mut S, out: &mut O) -> Result<Ending, Failed>
+    ensures ended { IfOk result (Works (S.left source.old) (S.faults source.old) (S.faults source.new) (O.taken out.old) (O.taken out.new)) }
+    ensures cut { OnErr result (IsCutOff (S.left source.old) (S.faults source.old) (S.faults source.new)
+        (O.taken out.old) (O.taken out.new) (O.faults out.old) (O.faults out.new)) }
+    ensures reads { S.faults source.old ≤ S.faults source.new }
+    ensures writes { O.faults out.old ≤ O.faults out.new }
+{
+    let text = match read_whole(alloc, source, SCRIPT_LIMIT) {
+        Ok(text) => text,
+        Err(InputError::Memory) => return Ok(Ending::NoMemory),
+        Err(InputError::TooLong) => return Ok(Ending::InputTooLong),
+        Err(InputError::Fault) => return Ok(Ending::ReadFault),
+    };
+    let script = match Script::parse(alloc, text.as_slice()) {
+        Ok(script) => script,
+        Err(ScriptError::Memory) => return Ok(Ending::NoMemory),
+        Err(ScriptError::Line(number)) => return Ok(Ending::BadLine(number)),
+    };
+    match play(alloc, &script, out) {
+        Ok(()) => Ok(Ending::Done),
+        Err(PlayError::Memory) => Ok(Ending::NoMemory),
+        Err(PlayError::Write) => Err(Failed),
+    }
+}
+
+/// Runs the program on its words, the arguments behind its name: it reads from `source`, writes to `out`, and
+/// answers the status that the program ends with. The one command is `duet`, which plays a script.
+pub fn run<S: Source, O: Sink>(
+    alloc: Global,
+    words: &[String],
+    source: &mut S,
+    out: &mut O,
+) -> Status
+    // Other words are answered with how the program is used, and nothing else is done.
+    ensures usage { (IsDuet words.now → ⊥) → Ends Usage [] (O.taken out.old) (O.taken out.new) (O.faults out.old) (O.faults out.new) result.code }
+
+    // The headline: what is written is what the machine answers to the script's events, up to a write that fails,
+    // and each ending has its cause.
+    ensures duet { IsDuet words.now → RunsDuet (S.left source.old) (S.faults source.old) (S.faults source.new)
+        (O.taken out.old) (O.taken out.new) (O.faults out.old) (O.faults out.new) result.code }
+    ensures reads { S.faults source.old ≤ S.faults source.new }
+    ensures writes { O.faults out.old ≤ O.faults out.new }
+{
+    if !is_duet(words) {
+        return finish(out, Ending::Usage);
+    }
+    match work(alloc, source, out) {
+        Ok(ending) => finish(out, ending),
+        Err(Failed) => Status { code: 5 },
+    }
+}

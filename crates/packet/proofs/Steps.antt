@@ -1,0 +1,134 @@
+-- One field: what is read was written, and what was written is read again.
+use Rattle.std.proofs.Common.{◌≡◌, ℕ, ◌%◌, ◌^◌, ◌<◌, ◌≤◌, Bool, true, false, cond, List, [], ◌∷◌, ◌++◌, length, get_or, take, drop, Result, Ok, Err, refl, sym, ap, subst, ◌∙◌, arith, inl, inr, mod-eq_of_lt}
+use Rattle.std.specs.Prelude.{nat_le}
+use Rattle.std.specs.Int.{Width, w8, w16, w32, byte_len, from_be_bytes, to_be_bytes}
+use Rattle.std.proofs.lemmas.Bool.{cases_lt, leb-true, le-leb}
+use Rattle.std.proofs.lemmas.List.{take_at, drop_at, take-append-drop, length-append, length-take, length-drop, get_or-drop, get_or-take, get_or_past}
+use Rattle.std.proofs.lemmas.Nat.{be_bytes_2, be_bytes_4, from_be_bytes-to_be_bytes_2, from_be_bytes-to_be_bytes_4}
+use Rattle.packet.specs.declared.fault.Kind.{Kind}
+use Rattle.packet.specs.declared.fault.Malformed.{Malformed}
+use Rattle.packet.specs.Packet.{AreBytes}
+use Rattle.packet.specs.Reading.{◌>>=◌, field, number, lawful}
+
+-- bytes are below 256 at each place, and 0 past the end
+small_at : (bytes : List ℕ) (i : ℕ) → AreBytes bytes → get_or bytes i 0 < 256
+small_at bytes i small =
+    elim (cases_lt i (length bytes)) [
+      | inl inside ↦ small i 0 inside
+      | inr past ↦ rw (get_or_past bytes i 0 past) (omega arith)
+    ]
+
+AreBytes-take : (n : ℕ) (bytes : List ℕ) → AreBytes bytes → AreBytes (take n bytes)
+AreBytes-take n bytes small k d inside =
+    let shorter = length-take n bytes in
+    rw (get_or-take n bytes k d (omega arith)) (small k d (omega arith))
+
+AreBytes-drop : (n : ℕ) (bytes : List ℕ) → AreBytes bytes → AreBytes (drop n bytes)
+AreBytes-drop n bytes small k d inside =
+    let shorter = length-drop n bytes in
+    rw (get_or-drop n bytes k d) (small _ d (omega arith))
+
+-- the value of a step without a fault
+pub step : {A B : Type 0} (r : Result A Malformed) (next : A → Result B Malformed) (y : B) → (r >>= next) ≡ Ok y → (x : A) × (r ≡ Ok x) × (next x ≡ Ok y)
+step (Ok x) next y e = (x, refl, e)
+step (Err fault) next y e = absurd cc
+
+-- what follows from the value of a step without a fault
+pub by_step : {A B : Type 0} {P : Type 0} (r : Result A Malformed) (next : A → Result B Malformed) (y : B) → (r >>= next) ≡ Ok y → ((x : A) → r ≡ Ok x → next x ≡ Ok y → P) → P
+by_step r next y e so = let x = step r next y e in so x.0 x.1 x.2
+
+-- a test that was passed
+pub passed : {A : Type 0} (b : Bool) (x y : A) (e : Malformed) → cond b (Ok x) (Err e) ≡ Ok y → (b ≡ true) × (x ≡ y)
+passed true x y fault e = (refl, cc)
+passed false x y fault e = absurd cc
+
+abbrev answered : {A : Type 0} → A → Result A Malformed
+answered x = Ok x
+
+pub passed_on : {A : Type 0} (x y : A) → answered x ≡ answered y → x ≡ y
+passed_on x y e = cc
+
+-- a field's bytes, and the rest
+pub record IsField (bytes front rest : List ℕ) : Type 0 where
+  pub parts : bytes ≡ front ++ rest
+  pub front_small : AreBytes front
+  pub rest_small : AreBytes rest
+
+pub field_read : (at size : ℕ) (bytes : List ℕ) (x : List ℕ × List ℕ) → AreBytes bytes → field at size bytes ≡ Ok x → IsField bytes x.0 x.1 × (length x.0 ≡ size)
+unfolding field
+field_read at size bytes x small e =
+    let p = passed (nat_le size (length bytes)) (take size bytes, drop size bytes) x _ e in
+    let inside : size ≤ length bytes = leb-true _ _ p.0 in
+    let whole : IsField bytes (take size bytes) (drop size bytes) = record {
+      parts = sym (take-append-drop size bytes);
+      front_small = AreBytes-take size bytes small;
+      rest_small = AreBytes-drop size bytes small;
+    } in
+    let len : length (take size bytes) ≡ size = omega (arith, length-take size bytes) in
+    subst (λ (y : List ℕ × List ℕ). IsField bytes y.0 y.1 × (length y.0 ≡ size)) p.1 (whole, len)
+
+pub field_again : (at size : ℕ) (front rest : List ℕ) → length front ≡ size → field at size (front ++ rest) ≡ Ok (front, rest)
+unfolding field
+field_again at size front rest len =
+    let inside : nat_le size (length (front ++ rest)) ≡ true = le-leb _ _ (omega (arith, length-append front rest)) in
+    rw (inside, take_at front rest size len, drop_at front rest size len) refl
+
+-- a width whose numbers and bytes determine each other
+pub record IsExact (w : Width) (limit : ℕ) : Type 0 where
+  pub len : (n : ℕ) → length (to_be_bytes w n) ≡ byte_len w
+  pub back : (bytes : List ℕ) → length bytes ≡ byte_len w → AreBytes bytes → to_be_bytes w (from_be_bytes w bytes) ≡ bytes
+  pub again : (n : ℕ) → n < limit → from_be_bytes w (to_be_bytes w n) ≡ n
+
+one_byte : (bytes : List ℕ) → length bytes ≡ 1 → AreBytes bytes → (get_or bytes 0 0 % 256) ∷ [] ≡ bytes
+one_byte [] len small = absurd (omega arith)
+one_byte (b ∷ []) len small = let fits : b < 256 = small 0 0 (omega arith) in ap (λ (x : ℕ). x ∷ []) (mod-eq_of_lt fits)
+one_byte (b ∷ c ∷ rest) len small = absurd (omega arith)
+
+pub exact8 : IsExact w8 (2 ^ 8)
+exact8 = record {
+  len = λ n. refl;
+  back = λ bytes len small. one_byte bytes len small;
+  again = λ n fits. mod-eq_of_lt fits;
+}
+
+pub exact16 : IsExact w16 (2 ^ 16)
+exact16 = record {
+  len = λ n. refl;
+  back = λ bytes len small. be_bytes_2 bytes _ len (λ i. small_at bytes i small) refl;
+  again = λ n fits. from_be_bytes-to_be_bytes_2 n fits;
+}
+
+pub exact32 : IsExact w32 (2 ^ 32)
+exact32 = record {
+  len = λ n. refl;
+  back = λ bytes len small. be_bytes_4 bytes _ len (λ i. small_at bytes i small) refl;
+  again = λ n fits. from_be_bytes-to_be_bytes_4 n fits;
+}
+
+-- a lawful number's bytes and the rest
+pub record IsNumber (w : Width) (test : ℕ → Bool) (bytes : List ℕ) (n : ℕ) (rest : List ℕ) : Type 0 where
+  pub parts : bytes ≡ to_be_bytes w n ++ rest
+  pub rest_small : AreBytes rest
+  pub passes : test n ≡ true
+
+pub number_read : (w : Width) (limit : ℕ) → IsExact w limit → (at : ℕ) (kind : Kind) (test : ℕ → Bool) (bytes : List ℕ) (x : ℕ × List ℕ) → AreBytes bytes → lawful w at kind test bytes ≡ Ok x → IsNumber w test bytes x.0 x.1
+unfolding lawful number
+number_read w limit exact at kind test bytes x small e =
+    let n = step (number w at bytes) _ x e in
+    let f = step (field at (byte_len w) bytes) _ n.0 n.1 in
+    let p = passed (test n.0.0) n.0 x _ n.2 in
+    let front = field_read at (byte_len w) bytes f.0 small f.1 in
+    let made : ℕ × List ℕ = (from_be_bytes w f.0.0, f.0.1) in
+    let is : made ≡ n.0 = passed_on made n.0 f.2 in
+    let back : to_be_bytes w made.0 ≡ f.0.0 = exact.back f.0.0 front.1 front.0.front_small in
+    let found : IsNumber w test bytes made.0 made.1 = record {
+      parts = front.0.parts ∙ ap (λ (t : List ℕ). t ++ f.0.1) (sym back);
+      rest_small = front.0.rest_small;
+      passes = subst (λ (y : ℕ × List ℕ). test y.0 ≡ true) (sym is) p.0;
+    } in
+    subst (λ (y : ℕ × List ℕ). IsNumber w test bytes y.0 y.1) (is ∙ p.1) found
+
+pub number_again : (w : Width) (limit : ℕ) → IsExact w limit → (at : ℕ) (kind : Kind) (test : ℕ → Bool) (n : ℕ) (rest : List ℕ) → n < limit → test n ≡ true → lawful w at kind test (to_be_bytes w n ++ rest) ≡ Ok (n, rest)
+unfolding lawful number
+number_again w limit exact at kind test n rest fits passes =
+    rw (field_again at (byte_len w) (to_be_bytes w n) rest (exact.len n), exact.again n fits, passes) refl

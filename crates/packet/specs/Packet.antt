@@ -1,0 +1,49 @@
+-- A packet as a printer from its fields to bytes. Numbers are big-endian.
+use Rattle.std.specs.Prelude.{◌≡◌, ℕ, ◌-◌, ◌^◌, ◌<◌, ◌≤◌, ◌==◌, List, ◌∷◌, ◌++◌, length, All, if◌then◌else◌}
+use Rattle.std.specs.Int.{w16, w32, to_be_bytes}
+
+-- what a packet says
+pub record Fields : Type 0 where
+  pub session : List ℕ
+  pub epoch : ℕ
+  pub previous : ℕ
+  pub index : ℕ
+  pub agreement : List ℕ
+  pub ciphertext : List ℕ
+  pub tag : List ℕ
+
+-- the length of the agreement message: none in epoch 0
+abbrev pub agreement_len : ℕ → ℕ → ℕ
+agreement_len agreement epoch = if epoch == 0 then 0 else agreement
+
+-- fields that a packet may have, where agreement messages have this length
+pub record IsLawful (agreement : ℕ) (f : Fields) : Type 0 where
+  pub session_len : length f.session ≡ 16
+  pub epoch_fits : f.epoch < 2 ^ 32 - 1
+  pub previous_fits : f.previous < 2 ^ 16
+  -- epochs 0 and 1 are the first of each side: none of its texts went before
+  pub previous_none : f.epoch ≤ 1 → f.previous ≡ 0
+  pub index_from_one : 1 ≤ f.index
+  pub index_fits : f.index < 2 ^ 16
+  pub agreement_is : length f.agreement ≡ agreement_len agreement f.epoch
+  pub text_fits : length f.ciphertext ≤ 1024
+  pub tag_len : length f.tag ≡ 32
+
+-- all before the ciphertext: version 1, session id, epoch, previous count, index, the agreement message behind
+-- its length, and the length of the text
+unfoldable pub header_of : List ℕ → ℕ → ℕ → ℕ → List ℕ → ℕ → List ℕ
+header_of session epoch previous index agreement text_len =
+    1 ∷ session ++ to_be_bytes w32 epoch ++ to_be_bytes w32 previous ++ to_be_bytes w32 index
+    ++ to_be_bytes w16 (length agreement) ++ agreement ++ to_be_bytes w16 text_len
+
+-- what the tag covers beside the ciphertext
+abbrev pub ad_of : Fields → List ℕ
+ad_of f = header_of f.session f.epoch f.previous f.index f.agreement (length f.ciphertext)
+
+-- the packet: what stands before the ciphertext, the ciphertext, the tag
+unfoldable pub packet_of : Fields → List ℕ
+packet_of f = ad_of f ++ f.ciphertext ++ f.tag
+
+-- numbers that are bytes
+abbrev pub AreBytes : List ℕ → Type 0
+AreBytes bytes = All (λ b. b < 256) bytes

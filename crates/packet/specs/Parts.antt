@@ -1,0 +1,34 @@
+-- Fields that are lent, and fields that are given one by one.
+use Rattle.std.specs.Prelude.{◌≡◌, ℕ, List, length}
+use Rattle.dr_base.specs.declared.position.Position.{Position}
+use Rattle.packet.specs.declared.parts.Parts.{Parts}
+use Rattle.packet.specs.Packet.{Fields, IsLawful, ad_of}
+
+-- the fields that were lent from bytes
+abbrev pub fields_of : Parts → Fields
+fields_of p = record {
+  session = p.session.now;
+  epoch = p.epoch;
+  previous = p.previous;
+  index = p.index;
+  agreement = p.agreement.now;
+  ciphertext = p.ciphertext.now;
+  tag = p.tag.now;
+}
+
+-- the fields of a packet that is written at a position
+abbrev pub fields_at : List ℕ → Position → ℕ → List ℕ → List ℕ → List ℕ → Fields
+fields_at session position previous agreement ciphertext tag = record {
+  session = session;
+  epoch = position.epoch;
+  previous = previous;
+  index = position.index;
+  agreement = agreement;
+  ciphertext = ciphertext;
+  tag = tag;
+}
+
+-- lawful fields, and what stands before their ciphertext
+pub record IsViewed (ad : List ℕ) (f : Fields) : Type 0 where
+  pub ad_is : ad ≡ ad_of f
+  pub lawful : IsLawful (length f.agreement) f

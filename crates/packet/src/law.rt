@@ -1,0 +1,18 @@
+//! What reading and writing have to do with each other.
+
+ghost use Rattle.std.specs.Prelude.{◌≡◌, ℕ, ◌+◌, ◌^◌, ◌<◌, List, length};
+ghost use Rattle.packet.specs.Packet.{Fields, IsLawful, AreBytes, ad_of, packet_of};
+ghost use Rattle.packet.specs.Reading.{read_packet};
+
+/// The law of the grammar: a packet is read exactly where it was printed from lawful fields, and as these.
+pub fn grammar()
+    // What is printed from lawful fields is read as these fields.
+    ensures printed_is_read { (agreement : ℕ) (f : Fields) → agreement < 2 ^ 16 → IsLawful agreement f →
+        read_packet agreement (packet_of f) ≡ Ok f }
+    // Only what is printed from lawful fields is read.
+    ensures read_was_printed { (agreement : ℕ) (bytes : List ℕ) (f : Fields) → AreBytes bytes →
+        read_packet agreement bytes ≡ Ok f → IsLawful agreement f × (bytes ≡ packet_of f) }
+    ensures ad_len { (agreement : ℕ) (f : Fields) → IsLawful agreement f → length (ad_of f) ≡ 33 + length f.agreement }
+    ensures packet_len { (agreement : ℕ) (f : Fields) → IsLawful agreement f →
+        length (packet_of f) ≡ 65 + length f.agreement + length f.ciphertext }
+{}

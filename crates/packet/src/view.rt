@@ -1,0 +1,101 @@
+//! A packet that was read, and what it lends.
+
+ghost use Rattle.std.specs.Prelude.{◌≡◌, ◌-◌, ◌^◌, ◌<◌, ◌≤◌, length, IfOk};
+ghost use Rattle.packet.specs.Packet.{Fields, IsLawful, ad_of, packet_of};
+ghost use Rattle.packet.specs.Parts.{fields_of, IsViewed};
+ghost use Rattle.packet.specs.Reading.{read_packet};
+
+use crate::fault::Malformed;
+use crate::parts::{self, Parts};
+use std::marker::Model;
+
+/// The fields of a packet, lent from the bytes that were parsed.
+#[derive(Drop)]
+pub struct View<'a> {
+    parts: Parts<'a>,
+    ad: &'a [u8],
+}
+
+impl<'a> Model for View<'a> {
+    ghost Value = { Fields };
+
+    ghost view = { λ v. fields_of v.parts };
+
+    ghost invariant = { λ v. IsViewed v.ad.now (fields_of v.parts) };
+}
+
+/// Reads a packet, or finds the first fault from left to right. The agreement messages of epochs above 0 have
+/// the length `agreement`; those of epoch 0 are empty. No field is copied.
+pub fn parse(bytes: &[u8], agreement: usize) -> Result<View<'_>, Malformed>
+    ensures exact { result ≡ read_packet agreement bytes.now }
+    ensures found { IfOk result (λ f. IsLawful agreement f × (bytes.now ≡ packet_of f)) }
+{
+    let parts = parts::read(bytes, agreement)?;
+    let ad = &bytes[..33 + parts.agreement.len()];
+    Ok(View { parts, ad })
+}
+
+impl View<'_> {
+    /// The session id.
+    pub fn session(&self) -> &[u8; 16]
+        ensures { result.now ≡ self.now.session }
+    {
+        self.parts.session
+    }
+
+    /// The epoch of the text.
+    pub fn epoch(&self) -> u32
+        ensures value { result ≡ self.now.epoch }
+        ensures fits { result < 2 ^ 32 - 1 }
+    {
+        self.parts.epoch
+    }
+
+    /// The number of texts of the sender's epoch before.
+    pub fn previous(&self) -> u32
+        ensures value { result ≡ self.now.previous }
+        ensures fits { result < 2 ^ 16 }
+        ensures none { self.now.epoch ≤ 1 → result ≡ 0 }
+    {
+        self.parts.previous
+    }
+
+    /// The index of the text in its epoch.
+    pub fn index(&self) -> u32
+        ensures value { result ≡ self.now.index }
+        ensures from_one { 1 ≤ result }
+        ensures fits { result < 2 ^ 16 }
+    {
+        self.parts.index
+    }
+
+    /// The agreement message, empty in epoch 0.
+    pub fn agreement(&self) -> &[u8]
+        ensures value { result.now ≡ self.now.agreement }
+        ensures lawful { IsLawful (length result.now) self.now }
+    {
+        self.parts.agreement
+    }
+
+    /// The bytes before the ciphertext.
+    pub fn ad(&self) -> &[u8]
+        ensures { result.now ≡ ad_of self.now }
+    {
+        self.ad
+    }
+
+    /// The ciphertext, as long as its text.
+    pub fn ciphertext(&self) -> &[u8]
+        ensures value { result.now ≡ self.now.ciphertext }
+        ensures fits { length result.now ≤ 1024 }
+    {
+        self.parts.ciphertext
+    }
+
+    /// The tag over the bytes before it.
+    pub fn tag(&self) -> &[u8; 32]
+        ensures { result.now ≡ self.now.tag }
+    {
+        self.parts.tag
+    }
+}
