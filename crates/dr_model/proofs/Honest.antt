@@ -1,18 +1,17 @@
 -- The packets that Second's session makes, as First takes them.
-use Rattle.std.proofs.Common.{◌≡◌, ℕ, zero, suc, ◌+◌, ◌-◌, ◌^◌, ◌&&◌, ◌<◌, ◌≤◌, Bool, true, false, not, nat_eq, nat_le, List, [], ◌∷◌, ◌++◌, length, take, drop, slice_index_or, Option, Some, None, Result, Ok, Err, refl, sym, ◌∙◌, ap, arith, length-drop, length-take, length-append, if◌then◌else◌, add-one, add-zero, zero-add, replicate, codes}
+use Rattle.std.proofs.Common.{◌≡◌, ℕ, zero, suc, ◌+◌, ◌^◌, ◌&&◌, ◌<◌, ◌≤◌, Bool, true, false, not, nat_eq, List, [], ◌∷◌, ◌++◌, length, slice_index_or, Some, None, Result, Ok, Err, refl, sym, ◌∙◌, ap, arith, length-drop, length-take, if◌then◌else◌, add-zero, replicate, codes}
 use Rattle.std.specs.Cmp.Lexicographic.{pointwise}
 use Rattle.std.proofs.lemmas.Bool.{eq-eqb}
 use Rattle.hmac_hkdf.proofs.Lengths.{length-expand_of}
 use Rattle.hmac_hkdf.specs.Hkdf.{expand_of, extract_of}
 use Rattle.etm_aead.specs.Seal.{ciphertext_of, tag_of}
 use Rattle.etm_aead.specs.Undoing.{ciphertext_of-ciphertext_of, length-ciphertext_of, length-tag_of}
-use Rattle.packet.specs.Packet.{Fields, IsLawful, header_of, ad_of, packet_of}
-use Rattle.packet.specs.Reading.{read_packet}
+use Rattle.packet.specs.Packet.{IsLawful, header_of, ad_of}
 use Rattle.dr_model.specs.declared.answer.Refusal.{Refusal}
 use Rattle.dr_model.specs.declared.answer.Refusal.TheVariants.{OtherSession, Spent, BadTag}
-use Rattle.dr_model.specs.Schedule.{begun, session_of, stream_of}
+use Rattle.dr_model.specs.Schedule.{begun, session_of}
 use Rattle.etm_aead.specs.Chain.{message_key}
-use Rattle.dr_model.specs.Packets.{ad_at, sealed, packet_at, packets_from}
+use Rattle.dr_model.specs.Packets.{sealed, packet_at, packets_from}
 use Rattle.dr_model.specs.Machine.{position}
 use Rattle.dr_model.specs.States.{Receiving, Opening, unless_barred, taking_fields}
 
@@ -29,8 +28,11 @@ pointwise-same (x ∷ xs) = both (nat_eq x x) (pointwise nat_eq xs xs) (eq-eqb x
 pub length-session_of : (key : List ℕ) → length (session_of key) ≡ 16
 unfolding begun
 length-session_of key =
-    simp length-take (omega (arith, length-drop 96 (expand_of (extract_of (replicate 32 0) key) (codes "dr begin") 112),
-      length-expand_of (extract_of (replicate 32 0) key) (codes "dr begin") 112))
+    simp length-take (omega (
+      arith,
+      length-drop 96 (expand_of (extract_of (replicate 32 0) key) (codes "dr begin") 112),
+      length-expand_of (extract_of (replicate 32 0) key) (codes "dr begin") 112,
+    ))
 
 -- a text's packet has lawful fields
 pub IsLawful-sealed : (session key : List ℕ) (index : ℕ) (text : List ℕ) → length session ≡ 16 → 1 ≤ index → index < 2 ^ 16 → length text ≤ 1024 → IsLawful 64 (sealed session key index text)
@@ -64,12 +66,12 @@ taking-sealed s index text =
     let key = message_key s.stream index in
     let f = sealed s.session key index text in
     let tagged : pointwise nat_eq f.tag (tag_of key (ad_of f) f.ciphertext) ≡ true =
-        ap (λ t. pointwise nat_eq f.tag t) (sym (tag-sealed s.session key index text)) ∙ pointwise-same f.tag in
+    ap (λ t. pointwise nat_eq f.tag t) (sym (tag-sealed s.session key index text)) ∙ pointwise-same f.tag in
     chosen (pointwise nat_eq s.session s.session) (slice_index_or s.opened index false)
     (pointwise nat_eq f.tag (tag_of key (ad_of f) f.ciphertext)) OtherSession BadTag BadTag (Spent (position index))
     (Ok (record { index = index; text = ciphertext_of key f.ciphertext })) (Err BadTag) (pointwise-same s.session) tagged
     ∙ ap (λ t. if slice_index_or s.opened index false then Err (Spent (position index)) else Ok (record { index = index; text = t }))
-      (ciphertext_of-ciphertext_of key text)
+    (ciphertext_of-ciphertext_of key text)
 
 -- a packet of a list of packets
 pub packets_from-at : (session stream : List ℕ) (index : ℕ) (texts : List (List ℕ)) (k : ℕ) (d : List ℕ) → k < length texts → slice_index_or (packets_from session stream index texts) k d ≡ packet_at session stream (index + k) (slice_index_or texts k d)

@@ -1,5 +1,5 @@
 -- A step of the machine on both sides: the answer, and what both keep then.
-use Rattle.std.proofs.Common.{◌≡◌, ℕ, zero, suc, ◌+◌, ◌-◌, ◌^◌, ◌&&◌, ◌<◌, ◌≤◌, Bool, true, false, not, nat_eq, nat_le, List, [], ◌∷◌, ◌++◌, length, slice_index_or, slice_set, Result, Ok, Err, refl, sym, ◌∙◌, ap, subst, arith, if◌then◌else◌, length-append}
+use Rattle.std.proofs.Common.{◌≡◌, ℕ, zero, suc, ◌+◌, ◌-◌, ◌&&◌, ◌<◌, ◌≤◌, Bool, true, false, not, nat_le, List, [], ◌∷◌, ◌++◌, length, slice_index_or, slice_set, Ok, Err, refl, sym, ◌∙◌, ap, subst, arith, if◌then◌else◌, length-append}
 use Rattle.std.proofs.lemmas.Bool.Decides.{nat_tests}
 use Rattle.dr_model.specs.declared.answer.Answer.{Answer}
 use Rattle.dr_model.specs.declared.answer.Answer.TheVariants.{Said, Opened, Nothing, Refused}
@@ -7,7 +7,7 @@ use Rattle.dr_model.specs.declared.answer.Refusal.{Refusal}
 use Rattle.dr_model.specs.declared.answer.Refusal.TheVariants.{Spent, OutboxFull, TextTooLong}
 use Rattle.dr_model.specs.Schedule.{session_of, stream_of}
 use Rattle.dr_model.specs.Packets.{packet_at, packets_from}
-use Rattle.dr_model.specs.Machine.{World, Event, says, takes, position, opening, fits, is_outbox_full, is_said, is_opened, answer_of, next_of}
+use Rattle.dr_model.specs.Machine.{World, says, takes, position, opening, fits, is_outbox_full, is_said, is_opened, answer_of, next_of}
 use Rattle.dr_model.specs.States.{Sending, Receiving, Opening, saying, after_saying, sending_of, IsReceivingOf, IsPlaying, taking}
 use Rattle.dr_model.proofs.Honest.{packets_from-at, length-packets_from}
 use Rattle.dr_model.proofs.Runs.{first_arrival, repeats, refusal_changes_nothing}
@@ -160,7 +160,7 @@ after_opened w s r index bytes o p one most is e =
       short = p.short;
       sends = p.sends;
       receives = subst (λ i. IsReceivingOf (record w { arrived = w.arrived ++ index ∷ [] }) (record r { opened = slice_set r.opened i true })) (sym q.1)
-        (flags-set w r index p.receives (omega (arith, p.few)));
+          (flags-set w r index p.receives (omega (arith, p.few)));
     })
 
 pub spent : (w : World) (s : Sending) (r : Receiving) (index : ℕ) (bytes : List ℕ) (refusal : Refusal) → IsPlaying w s r → 1 ≤ index → index ≤ length s.packets → bytes ≡ slice_index_or s.packets (index - 1) [] → taking r bytes ≡ Err refusal → Refused refusal ≡ answer_of w (takes index)

@@ -1,21 +1,18 @@
 -- A step of the machine on what both sides keep.
-use Rattle.std.proofs.Common.{◌≡◌, ℕ, zero, suc, ◌+◌, ◌-◌, ◌^◌, ◌&&◌, ◌||◌, ◌<◌, ◌≤◌, Bool, true, false, not, nat_eq, nat_le, List, [], ◌∷◌, ◌++◌, length, slice_index_or, slice_set, Result, Ok, Err, refl, sym, ◌∙◌, ap, subst, arith, if◌then◌else◌, add-one, length-append, get_or, set, get_or-set_other, ◌≢◌}
+use Rattle.std.proofs.Common.{◌≡◌, ℕ, ◌+◌, ◌^◌, ◌||◌, ◌<◌, ◌≤◌, Bool, true, false, nat_eq, nat_le, List, [], ◌∷◌, ◌++◌, length, slice_index_or, slice_set, Ok, Err, refl, sym, ◌∙◌, ap, arith, if◌then◌else◌, get_or, set, get_or-set_other, ◌≢◌}
 use Rattle.std.specs.List.{list_any}
 use Rattle.std.proofs.lemmas.Bool.{eqb-true, eqb-false}
 use Rattle.std.proofs.lemmas.Grind.{get_or-set_at}
 use Rattle.std.proofs.Math.ListN.{length-set}
 use Rattle.std.proofs.lemmas.List.Folds.{list_any-append}
-use Rattle.packet.specs.Packet.{packet_of}
 use Rattle.packet.proofs.Printed.{printed_is_read}
-use Rattle.packet.specs.Reading.{read_packet}
-use Rattle.dr_model.specs.declared.answer.Refusal.{Refusal}
 use Rattle.dr_model.specs.declared.answer.Refusal.TheVariants.{Spent, OutboxFull, TextTooLong}
 use Rattle.dr_model.specs.Schedule.{session_of, stream_of}
 use Rattle.etm_aead.specs.Chain.{message_key}
 use Rattle.dr_model.specs.Packets.{sealed, packet_at, packets_from}
-use Rattle.dr_model.specs.Machine.{World, says, takes, position, fits, is_outbox_full, is_said, is_opened, next_of}
-use Rattle.dr_model.specs.States.{Sending, Receiving, saying, after_saying, sending_of, IsReceivingOf, taking, taking_read, taking_fields}
-use Rattle.dr_model.proofs.Honest.{length-session_of, IsLawful-sealed, taking-sealed, packets_from-at, packets_from-push, length-packets_from}
+use Rattle.dr_model.specs.Machine.{World, position, fits, is_outbox_full, is_opened}
+use Rattle.dr_model.specs.States.{Receiving, saying, after_saying, sending_of, IsReceivingOf, taking, taking_read}
+use Rattle.dr_model.proofs.Honest.{length-session_of, IsLawful-sealed, taking-sealed, packets_from-push, length-packets_from}
 
 -- Second answers as the machine does
 pub saying-sending_of : (w : World) (text : List ℕ) → saying (sending_of w) text ≡ (if fits text then (if is_outbox_full w then Err OutboxFull else Ok (length w.texts + 1)) else Err (TextTooLong (length text)))
@@ -29,7 +26,7 @@ sending_of-push w text =
     ap (λ ps. record { session = session_of w.key; stream = stream_of w.key; packets = ps })
     (packets_from-push (session_of w.key) (stream_of w.key) 1 w.texts text
     ∙ ap (λ i. packets_from (session_of w.key) (stream_of w.key) 1 w.texts ++ packet_at (session_of w.key) (stream_of w.key) i text ∷ [])
-      (ap (λ n. 1 + n) (sym (length-packets_from (session_of w.key) (stream_of w.key) 1 w.texts)) ∙ omega arith))
+    (ap (λ n. 1 + n) (sym (length-packets_from (session_of w.key) (stream_of w.key) 1 w.texts)) ∙ omega arith))
 
 -- First takes the packet of a text by whether it has opened it
 pub taking-packet_at : (w : World) (s : Receiving) (index : ℕ) (text : List ℕ) → IsReceivingOf w s → 1 ≤ index → index < 2 ^ 16 → length text ≤ 1024

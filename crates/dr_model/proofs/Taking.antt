@@ -1,5 +1,5 @@
 -- What First answers, in the order in which the code finds it out.
-use Rattle.std.proofs.Common.{◌≡◌, ℕ, List, Option, Some, None, Result, Ok, Err, sym, ◌∙◌, ap}
+use Rattle.std.proofs.Common.{◌≡◌, ℕ, List, Some, None, Result, Ok, Err, sym, ◌∙◌, ap}
 use Rattle.packet.specs.declared.fault.Malformed.{Malformed}
 use Rattle.packet.specs.Packet.{Fields}
 use Rattle.packet.specs.Reading.{read_packet}

@@ -1,6 +1,6 @@
 -- What holds in every run of the machine.
-use Rattle.std.specs.Prelude.{◌≡◌, ℕ, ◌+◌, ◌≤◌, ◌==◌, true, false, List, [], ◌∷◌, ◌++◌, length, count_by}
-use Rattle.dr_model.specs.declared.answer.Answer.TheVariants.{Said, Opened, Nothing, Refused}
+use Rattle.std.specs.Prelude.{◌≡◌, ℕ, ◌≤◌, ◌==◌, true, false, List, count_by}
+use Rattle.dr_model.specs.declared.answer.Answer.TheVariants.{Opened, Refused}
 use Rattle.dr_model.specs.declared.answer.Refusal.{Refusal}
 use Rattle.dr_model.specs.declared.answer.Refusal.TheVariants.{Spent}
 use Rattle.dr_model.specs.Machine.{World, Event, takes, opening, position, is_said, is_opened, answer_of, next_of, after}

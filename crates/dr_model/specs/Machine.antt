@@ -1,5 +1,5 @@
 -- The machine of a conversation in epoch 0: Second says texts, First takes their packets.
-use Rattle.std.specs.Prelude.{ℕ, ◌+◌, ◌==◌, ◌&&◌, Bool, not, nat_lt, nat_le, List, [], ◌∷◌, ◌++◌, length, if◌then◌else◌}
+use Rattle.std.specs.Prelude.{ℕ, ◌+◌, ◌==◌, ◌&&◌, Bool, not, nat_le, List, [], ◌∷◌, ◌++◌, length, if◌then◌else◌}
 use Rattle.std.specs.List.{list_any}
 use Rattle.dr_base.specs.declared.position.Position.{Position}
 use Rattle.dr_model.specs.declared.answer.Answer.{Answer}

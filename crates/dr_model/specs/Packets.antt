@@ -1,8 +1,7 @@
 -- The packets of epoch 0.
-use Rattle.std.specs.Prelude.{ℕ, suc, ◌+◌, List, [], ◌∷◌, length}
+use Rattle.std.specs.Prelude.{ℕ, suc, List, [], ◌∷◌, length}
 use Rattle.etm_aead.specs.Seal.{ciphertext_of, tag_of}
 use Rattle.packet.specs.Packet.{Fields, header_of, packet_of}
-use Rattle.dr_model.specs.Schedule.{stream_of, session_of}
 use Rattle.etm_aead.specs.Chain.{message_key}
 
 -- what the tag of a text covers beside the ciphertext

@@ -1,5 +1,5 @@
 -- A trace, line by line.
-use Rattle.std.proofs.Common.{◌≡◌, ℕ, ◌+◌, ◌≤◌, ◌<◌, List, [], ◌∷◌, ◌++◌, length, take, drop, map, get_or, Option, None, Some, refl, sym, ◌∙◌, ap, append_assoc, append-nil, subst}
+use Rattle.std.proofs.Common.{◌≡◌, ℕ, ◌+◌, ◌<◌, List, [], ◌∷◌, ◌++◌, length, take, drop, map, get_or, Option, None, Some, refl, sym, ◌∙◌, ap, append_assoc, append-nil, subst}
 use Rattle.std.proofs.lemmas.List.{map-append, take-append-drop, take_more}
 use Rattle.dr_ports.specs.Ports.{appended}
 use Rattle.dr_ports.specs.Writing.{TookBeginning}
@@ -50,9 +50,9 @@ took_line old mid new w events event e f =
 pub took_until : (old mid new : Option (List ℕ)) (w : World) (events : List Event) (event : Event) (others : List Event) → mid ≡ appended old (replies w events) → TookBeginning mid new (reply_line event (answer_of (after w events) event)) → TookBeginning old new (replies w ((events ++ event ∷ []) ++ others))
 took_until old mid new w events event others e t =
     let so_far : TookBeginning old new (replies w events ++ reply_line event (answer_of (after w events) event)) =
-        took_of_second old mid new (replies w events) (reply_line event (answer_of (after w events) event)) e t in
+    took_of_second old mid new (replies w events) (reply_line event (answer_of (after w events) event)) e t in
     let whole : replies w ((events ++ event ∷ []) ++ others) ≡ (replies w events ++ reply_line event (answer_of (after w events) event)) ++ replies (after w (events ++ event ∷ [])) others =
-        replies-append w (events ++ event ∷ []) others ∙ ap (λ lines. lines ++ replies (after w (events ++ event ∷ [])) others) (replies-push w events event) in
+    replies-append w (events ++ event ∷ []) others ∙ ap (λ lines. lines ++ replies (after w (events ++ event ∷ [])) others) (replies-push w events event) in
     subst (λ lines. TookBeginning old new lines) (sym whole) (took_of_first old new _ (replies (after w (events ++ event ∷ [])) others) so_far)
 
 -- the events of the lines so far, with one line more

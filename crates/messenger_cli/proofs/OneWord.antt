@@ -1,5 +1,5 @@
 -- A list of one word.
-use Rattle.std.proofs.Common.{◌≡◌, ◌≢◌, ◌↔◌, ℕ, ◌<◌, ◌≤◌, Bool, true, false, IsTrue, MatchBool, List, [], ◌∷◌, length, map, get_or, refl, sym, ◌∙◌, ap, subst, arith, nat_eq}
+use Rattle.std.proofs.Common.{◌≡◌, ◌≢◌, ◌↔◌, ℕ, ◌<◌, ◌≤◌, Bool, true, false, IsTrue, MatchBool, List, [], ◌∷◌, length, map, get_or, refl, sym, ap, subst, arith, nat_eq}
 use Rattle.std.specs.Cmp.Lexicographic.{pointwise, told_text}
 
 -- a list of length 1 is its first element

@@ -1,5 +1,5 @@
 -- The words of a command.
-use Rattle.std.specs.Prelude.{◌≡◌, ℕ, List, [], ◌∷◌, String, string_bytes, map, codes}
+use Rattle.std.specs.Prelude.{◌≡◌, List, [], ◌∷◌, String, string_bytes, map, codes}
 use Rattle.std.specs.declared.alloc.Global.{Global}
 
 -- the words are the one word `duet`

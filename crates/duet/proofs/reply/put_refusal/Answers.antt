@@ -1,5 +1,4 @@
 use Rattle.std.proofs.Common.{ap, sym, ◌∙◌, append_assoc, ◌++◌, codes, decimal}
-use Rattle.dr_model.specs.declared.answer.Refusal.TheVariants.{TextTooLong}
 use Rattle.duet.specs.Lines.{refusal_text}
 use Rattle.duet.proofs.reply.put_refusal.Goals as goal
 

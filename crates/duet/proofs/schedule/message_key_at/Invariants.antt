@@ -1,4 +1,4 @@
-use Rattle.std.proofs.Common.{◌≡◌, ℕ}
+use Rattle.std.proofs.Common.{◌≡◌}
 use Rattle.etm_aead.specs.Chain.{chain_of}
 use Rattle.duet.proofs.schedule.message_key_at.Given as goal
 

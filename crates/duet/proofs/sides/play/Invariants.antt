@@ -1,4 +1,4 @@
-use Rattle.std.proofs.Common.{◌≡◌, ℕ, ◌≤◌, take, map}
+use Rattle.std.proofs.Common.{◌≡◌, ◌≤◌, take, map}
 use Rattle.dr_ports.specs.Ports.{appended}
 use Rattle.dr_model.specs.Machine.{opening, after}
 use Rattle.duet.specs.Lines.{replies}

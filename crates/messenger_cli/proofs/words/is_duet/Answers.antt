@@ -1,4 +1,4 @@
-use Rattle.std.proofs.Common.{arith, ◌≡◌, ◌∷◌, [], ◌∙◌, ap, nat_eq, string_bytes, codes}
+use Rattle.std.proofs.Common.{◌≡◌, ◌∙◌, ap, nat_eq, string_bytes, codes}
 use Rattle.std.specs.Cmp.Lexicographic.{pointwise}
 use Rattle.messenger_cli.proofs.OneWord.{only, tells}
 use Rattle.messenger_cli.proofs.words.is_duet.Goals as goal

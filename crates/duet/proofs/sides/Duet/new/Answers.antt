@@ -1,6 +1,4 @@
-use Rattle.std.proofs.Common.{◌≡◌, ◌∙◌, ap, [], ℕ, List}
-use Rattle.dr_model.specs.States.{Sending}
-use Rattle.dr_model.specs.Schedule.{session_of, stream_of}
+use Rattle.std.proofs.Common.{◌∙◌}
 use Rattle.dr_model.proofs.Playing.{opens}
 use Rattle.duet.proofs.Trace.{same_start}
 use Rattle.duet.proofs.sides.Duet.new.Goals as goal

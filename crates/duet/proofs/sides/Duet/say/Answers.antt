@@ -1,6 +1,6 @@
-use Rattle.std.proofs.Common.{ℕ, ◌≡◌, subst, sym}
+use Rattle.std.proofs.Common.{subst, sym}
 use Rattle.dr_model.specs.States.{IsPlaying}
-use Rattle.dr_model.specs.Machine.{World, says, next_of}
+use Rattle.dr_model.specs.Machine.{says, next_of}
 use Rattle.dr_model.proofs.Playing.{said, after_said, unsaid, after_unsaid}
 use Rattle.duet.proofs.sides.Duet.say.Goals as goal
 

@@ -1,6 +1,6 @@
-use Rattle.std.proofs.Common.{ℕ, ◌≡◌, subst, sym}
+use Rattle.std.proofs.Common.{subst, sym}
 use Rattle.dr_model.specs.States.{IsPlaying}
-use Rattle.dr_model.specs.Machine.{World, takes, next_of}
+use Rattle.dr_model.specs.Machine.{takes, next_of}
 use Rattle.dr_model.proofs.Playing.{nothing, after_nothing, opened, after_opened, spent, after_spent}
 use Rattle.duet.proofs.sides.Duet.take.Goals as goal
 
