@@ -1,20 +1,29 @@
 //! Adapters over std's reader and writer. They tell nothing of content, and count each error.
 
-ghost use Rattle.std.specs.Prelude.{None};
+ghost use Rattle.std.specs.Prelude.{◌≡◌, ℕ, None};
 
 use crate::port::{Failed, Sink, Source};
 use std::io::{Read, Write};
+use std::marker::Model;
 
-/// A source over a reader.
+/// A source over a reader. A contract sees its count of faults.
 #[derive(Drop)]
 pub struct ReaderSource<R: Read> {
     reader: R,
     faults: u64,
 }
 
+impl<R: Read> Model for ReaderSource<R> {
+    ghost Value = { ℕ };
+
+    ghost view = { λ s. s.faults };
+}
+
 impl<R: Read> ReaderSource<R> {
     /// A source over a reader, with no fault so far.
-    pub fn new(reader: R) -> Self {
+    pub fn new(reader: R) -> Self
+        ensures { result ≡ 0 }
+    {
         ReaderSource { reader, faults: 0 }
     }
 }
@@ -22,7 +31,7 @@ impl<R: Read> ReaderSource<R> {
 impl<R: Read> Source for ReaderSource<R> {
     ghost left = { λ _. None };
 
-    ghost faults = { λ s. s.faults };
+    ghost faults = { λ s. s };
 
     fn read(&mut self, into: &mut [u8]) -> Result<usize, Failed> {
         match self.reader.read(into) {
@@ -35,16 +44,25 @@ impl<R: Read> Source for ReaderSource<R> {
     }
 }
 
-/// A sink over a writer. A writer that takes nothing of a piece that isn't empty has failed.
+/// A sink over a writer. A writer that takes nothing of a piece that isn't empty has failed. A contract sees its
+/// count of faults.
 #[derive(Drop)]
 pub struct WriterSink<W: Write> {
     writer: W,
     faults: u64,
 }
 
+impl<W: Write> Model for WriterSink<W> {
+    ghost Value = { ℕ };
+
+    ghost view = { λ s. s.faults };
+}
+
 impl<W: Write> WriterSink<W> {
     /// A sink over a writer, with no fault so far.
-    pub fn new(writer: W) -> Self {
+    pub fn new(writer: W) -> Self
+        ensures { result ≡ 0 }
+    {
         WriterSink { writer, faults: 0 }
     }
 }
@@ -52,7 +70,7 @@ impl<W: Write> WriterSink<W> {
 impl<W: Write> Sink for WriterSink<W> {
     ghost taken = { λ _. None };
 
-    ghost faults = { λ s. s.faults };
+    ghost faults = { λ s. s };
 
     fn write(&mut self, bytes: &[u8]) -> Result<usize, Failed> {
         match self.writer.write(bytes) {
