@@ -1,0 +1,30 @@
+//! Arithmetic of NTRU Prime (round 3 specification, sntrup761): the rings R/3 and R/q, which are Z[x]/(x^761 - x - 1)
+//! modulo 3 and modulo 4591.
+//!
+//! An element is its 761 coefficients, that of x^0 first, each by its representative next to zero. [`R3`] and [`Rq`] keep
+//! the range in their types, so sums, products and inverses ask for nothing more. [`inverse3`] and [`inverse_q`] work in a
+//! [`Workspace`] that is taken once: they answer with the inverse, or with an element that shows that there is none.
+//! [`laws`] states the algebra that a caller's proofs stand on.
+#![tactic(auto)]
+
+mod elimination_q;
+mod elimination_three;
+mod modulo_q;
+mod modulo_three;
+mod rows_q;
+mod rows_three;
+mod sums_q;
+mod sums_three;
+mod theory;
+mod units_q;
+mod working;
+
+pub use elimination_q::{AnnihilatedQ, inverse_q};
+pub use elimination_three::{Annihilated3, inverse3};
+pub use modulo_q::Rq;
+pub use modulo_three::R3;
+pub use theory::laws;
+pub use working::Workspace;
+
+#[cfg(test)]
+mod tests;

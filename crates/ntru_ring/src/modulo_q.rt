@@ -1,0 +1,134 @@
+//! Elements of R/q.
+ghost use Rattle.std.specs.Prelude.{◌≡◌, ◌<◌, ℕ, length, All, pos, slice_set};
+ghost use Rattle.ntru_ring.specs.Reduction.{centred, reduced, IsWithin};
+ghost use Rattle.ntru_ring.specs.Ring.{plus, scale, shift, times, zero_of};
+ghost use Rattle.ntru_ring.specs.Small.{nearest, rounded};
+
+use crate::modulo_three::{R3, centred_three};
+use crate::sums_q::{SumsQ, centred_q};
+
+/// An element of R/q, q = 4591: the coefficients of x^0 to x^760, each in -2295..2295.
+#[derive(Clone, Copy, PartialEq, Eq)]
+pub struct Rq {
+    /// The coefficients of x^0 to x^760.
+    pub coefficients: [i16; 761],
+    ghost length: { length coefficients ≡ 761 },
+    ghost within: { All (IsWithin 2295) coefficients },
+}
+
+/// The nearest multiple of 3.
+fn nearest(z: i16) -> i16
+    requires { IsWithin 2295 z }
+    ensures value { result ≡ nearest z }
+    ensures within { IsWithin 2295 result }
+{
+    z - centred_three(z)
+}
+
+impl Rq {
+    /// The element with these coefficients.
+    pub fn new(c: &[i16; 761]) -> Rq
+        requires { All (IsWithin 2295) c.now }
+        ensures { result.coefficients ≡ c.now }
+    {
+        Rq { coefficients: *c }
+    }
+
+    /// The coefficients of x^0 to x^760.
+    pub fn coefficients(&self) -> &[i16; 761]
+        ensures { result.now ≡ self.now.coefficients }
+    {
+        &self.coefficients
+    }
+
+    /// Each coefficient's representative modulo 3.
+    pub fn to_r3(&self) -> R3
+        ensures { result.coefficients ≡ reduced 1 self.now.coefficients }
+    {
+        let mut small = [0; 761];
+        for k in 0..761 {
+            small[k] = centred_three(self.coefficients[k]);
+        }
+        R3 {
+            coefficients: small,
+        }
+    }
+
+    /// The sum in R/q.
+    pub fn add(&self, o: &Rq) -> Rq
+        ensures { result.coefficients ≡ reduced 2295 (plus self.now.coefficients o.now.coefficients) }
+    {
+        let mut sum = [0; 761];
+        for k in 0..761 {
+            sum[k] = centred_q(i32::from(self.coefficients[k]) + i32::from(o.coefficients[k]));
+        }
+        Rq { coefficients: sum }
+    }
+
+    /// `by` times each coefficient, in R/q.
+    pub fn scale(&self, by: i16) -> Rq
+        ensures { result.coefficients ≡ reduced 2295 (scale by self.now.coefficients) }
+    {
+        let mut scaled = [0; 761];
+        for k in 0..761 {
+            scaled[k] = centred_q(i32::from(by) * i32::from(self.coefficients[k]));
+        }
+        Rq {
+            coefficients: scaled,
+        }
+    }
+
+    /// The nearest multiple of 3 of each coefficient.
+    pub fn round(&self) -> Rq
+        ensures { result.coefficients ≡ rounded self.now.coefficients }
+    {
+        let mut rounded = [0; 761];
+        for k in 0..761 {
+            rounded[k] = nearest(self.coefficients[k]);
+        }
+        Rq {
+            coefficients: rounded,
+        }
+    }
+
+    /// The product in R/q.
+    pub fn mul(&self, o: &Rq) -> Rq
+        ensures { result.coefficients ≡ reduced 2295 (times self.now.coefficients o.now.coefficients) }
+    {
+        let mut sums = SumsQ::of(&Rq::zero());
+        for k in 0..761 {
+            sums.shift();
+            sums.add(self.coefficients[760 - k], o, 0, 761);
+        }
+        sums.settled()
+    }
+
+    /// x times the element.
+    pub(crate) fn shift(&self) -> Rq
+        ensures { result.coefficients ≡ reduced 2295 (shift self.now.coefficients) }
+    {
+        let mut sums = SumsQ::of(self);
+        sums.shift();
+        sums.settled()
+    }
+
+    /// 0.
+    pub(crate) fn zero() -> Rq
+        ensures { result.coefficients ≡ zero_of 761 }
+    {
+        Rq {
+            coefficients: [0; 761],
+        }
+    }
+
+    /// `c` times x^place.
+    pub(crate) fn monomial(place: usize, c: i16) -> Rq
+        requires place { place < 761 }
+        requires within { IsWithin 2295 c }
+        ensures { result.coefficients ≡ slice_set (zero_of 761) place c }
+    {
+        let mut coefficients = Rq::zero().coefficients;
+        coefficients[place] = c;
+        Rq { coefficients }
+    }
+}
