@@ -1,4 +1,5 @@
-//! Measures the messenger: medians of many runs, with the word `run`. Without it, one fixed line.
+//! Measures the messenger: medians of many runs. The word `run` measures the path of a text, the word `ring` the
+//! arithmetic of the key encapsulation. Without a word it prints one fixed line.
 #![tactic(auto)]
 
 use dr_ports::NullSink;
@@ -6,6 +7,8 @@ use std::{env, io};
 
 mod cipher;
 mod clock;
+mod message;
+mod ring;
 mod script;
 
 fn main(rt: HostRuntime) -> io::Result<()> {
@@ -14,8 +17,10 @@ fn main(rt: HostRuntime) -> io::Result<()> {
     match args.next() {
         Some(word) if word.as_str() == "run" => {
             cipher::report(&rt)?;
+            message::report(&rt)?;
             script::report(&rt, &mut NullSink::new())
         }
-        _ => println!(rt; "bench: give the word run, and wait some seconds"),
+        Some(word) if word.as_str() == "ring" => ring::report(&rt),
+        _ => println!(rt; "bench: give the word run or ring, and wait some seconds"),
     }
 }

@@ -1,0 +1,8 @@
+use Rattle.std.proofs.Common.{sym, subst, pos}
+use Rattle.std.proofs.lemmas.List.{get_or-replicate}
+use Rattle.ntru_ring.specs.Reduction.{IsWithin}
+use Rattle.ntru_ring.proofs.Ranges.{within_zero}
+use Rattle.bench.proofs.ring.element.Goals as goal
+
+pub places-init : goal.places-init
+places-init c k d h = subst (IsWithin 1) (sym (get_or-replicate 761 k (pos 0) d h)) (within_zero 1)

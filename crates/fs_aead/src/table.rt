@@ -1,0 +1,153 @@
+// The table of the keys that were passed over.
+
+ghost use Rattle.std.specs.Prelude.{◌≡◌, ℕ, ◌+◌, ◌^◌, ◌<◌, ◌≤◌, ◌↔◌, [], ◌∷◌, ◌++◌, length, IsTrue, IsOk, IfErr, IfNone, position as position_of};
+ghost use Rattle.fs_aead.specs.Table.{AllBefore, IsAscending, is_at, kept_key, without};
+
+use arrayvec::ArrayVec;
+use dr_base::{Kept, Key32, Position};
+use etm_aead::OpenKey;
+use std::marker::Model;
+
+// How many keys have room.
+const LIMIT: usize = 256;
+
+/// So many keys have no room: `would` is how many there would be.
+#[derive(Clone, Copy, Debug, PartialEq, Eq, Hash)]
+pub struct SkipLimit {
+    pub would: u32,
+}
+
+/// The keys that were passed over, each for a text that is still to come. A contract sees the list of them,
+/// which ascends by epoch and index.
+///
+/// It has room for 256 keys, in the value itself: it allocates nothing.
+#[derive(Drop)]
+pub struct Skipped {
+    keys: ArrayVec<Kept, 256>,
+}
+
+impl Model for Skipped {
+    ghost use Rattle.std.specs.Prelude.{List};
+    ghost use Rattle.dr_base.specs.declared.key.Kept.{Kept};
+    ghost use Rattle.fs_aead.specs.Table.{IsAscending};
+
+    ghost Value = { List Kept };
+
+    ghost view = { λ s. s.keys.items };
+
+    ghost invariant = { λ s. IsAscending s.keys.items };
+}
+
+impl Default for Skipped {
+    ghost is_default = { λ s. s ≡ [] };
+
+    fn default() -> Skipped {
+        Skipped::new()
+    }
+}
+
+// A second copy of a kept key.
+fn copied(kept: &Kept) -> Kept
+    ensures { result ≡ kept.now }
+{
+    Kept {
+        position: kept.position,
+        key: Key32 {
+            bytes: kept.key.bytes,
+        },
+    }
+}
+
+// Where the key of a position stands.
+fn place_of(keys: &[Kept], position: Position) -> Option<usize>
+    ensures { result ≡ position_of (is_at position) keys.now }
+{
+    keys.iter().position(|kept| {
+        kept.position.epoch == position.epoch && kept.position.index == position.index
+    })
+}
+
+impl Skipped {
+    /// An empty table.
+    pub fn new() -> Skipped
+        ensures { result ≡ [] }
+    {
+        Skipped {
+            keys: ArrayVec::new(),
+        }
+    }
+
+    /// The table of these keys.
+    pub fn resume(keys: &[Kept]) -> Skipped
+        requires ascending { IsAscending keys.now }
+        requires room { length keys.now ≤ 256 }
+        ensures { result ≡ keys.now }
+    {
+        let mut table = ArrayVec::new();
+        'keys: for kept in keys {
+            table.push(copied(kept));
+        }
+        Skipped { keys: table }
+    }
+
+    /// The keys, in ascending order of their positions.
+    pub fn kept(&self) -> &[Kept]
+        ensures keys { result.now ≡ self.now }
+        ensures ascending { IsAscending self.now }
+        ensures room { length self.now ≤ 256 }
+    {
+        self.keys.as_slice()
+    }
+
+    /// How many keys are kept.
+    pub fn len(&self) -> usize
+        ensures value { result ≡ length self.now }
+        ensures room { result ≤ 256 }
+    {
+        self.keys.len()
+    }
+
+    /// Whether no key is kept.
+    pub fn is_empty(&self) -> bool
+        ensures { IsTrue result ↔ (self.now ≡ []) }
+    {
+        self.keys.is_empty()
+    }
+
+    /// Whether `n` more keys have room.
+    pub fn room_for(&self, n: u32) -> Result<(), SkipLimit>
+        requires { length self.now + n < 2 ^ 32 }
+        ensures ok { IsOk result ↔ (length self.now + n ≤ 256) }
+        ensures err { IfErr result (λ limit. limit.would ≡ length self.now + n) }
+    {
+        let would = self.len() as u32 + n;
+        if would as usize > LIMIT {
+            return Err(SkipLimit { would });
+        }
+        Ok(())
+    }
+
+    // Appends a key whose position is above those that are kept.
+    pub(crate) fn shelve(&mut self, kept: Kept)
+        requires room { length self.old < 256 }
+        requires above { AllBefore self.old kept.position }
+        ensures { self.new ≡ self.old ++ kept ∷ [] }
+    {
+        self.keys.push(kept);
+    }
+
+    /// Takes the key of a position out of the table, if it is kept there.
+    pub fn take(&mut self, position: Position) -> Option<OpenKey>
+        ensures key { result ≡ kept_key self.old position }
+        ensures rest { self.new ≡ without self.old position }
+        ensures none { IfNone result (self.new ≡ self.old) }
+    {
+        match place_of(self.kept(), position) {
+            Some(place) => {
+                let Kept { position: _, key } = self.keys.remove(place);
+                Some(OpenKey::from_message(key))
+            }
+            None => None,
+        }
+    }
+}
