@@ -11,6 +11,7 @@ ghost use Rattle.ntru_ring.specs.Elimination.{IsMultiple, IsCombined};
 ghost use Rattle.ntru_ring.specs.RowsQ.{IsEchelonQ, AreMultiplesQ};
 ghost use Rattle.ntru_ring.specs.declared.rows_q.RowQ.{RowQ};
 
+use crate::groups::{group_end, group_start};
 use crate::modulo_q::Rq;
 use crate::rows_q::{PairQ, RowQ};
 use crate::sums_q::SumsQ;
@@ -38,8 +39,8 @@ fn clear(rows: &[RowQ], count: usize, a: &Rq, b: &Rq) -> PairQ
     for j in 0..count {
         let row = &rows[j];
         let by = -sums_a.at(row.pivot);
-        sums_a.add(by, &row.a, row.pivot, 761);
-        sums_b.add(by, &row.b, 0, row.top);
+        sums_a.add(by, &row.a, group_start(row.pivot), 761);
+        sums_b.add(by, &row.b, 0, group_end(row.top));
     }
     PairQ {
         a: sums_a.settled(),

@@ -11,6 +11,7 @@ ghost use Rattle.ntru_ring.specs.Elimination.{IsMultiple, IsCombined};
 ghost use Rattle.ntru_ring.specs.Rows3.{IsEchelon3, AreMultiples3};
 ghost use Rattle.ntru_ring.specs.declared.rows_three.Row3.{Row3};
 
+use crate::groups::{group_end, group_start};
 use crate::modulo_three::R3;
 use crate::rows_three::{Pair3, Row3};
 use crate::sums_three::Sums3;
@@ -37,8 +38,8 @@ fn clear(rows: &[Row3], count: usize, a: &R3, b: &R3) -> Pair3
     for j in 0..count {
         let row = &rows[j];
         let by = -sums_a.at(row.pivot);
-        sums_a.add(by, &row.a, row.pivot, 761);
-        sums_b.add(by, &row.b, 0, row.top);
+        sums_a.add(by, &row.a, group_start(row.pivot), 761);
+        sums_b.add(by, &row.b, 0, group_end(row.top));
     }
     Pair3 {
         a: sums_a.settled(),

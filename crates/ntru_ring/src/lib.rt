@@ -9,6 +9,7 @@
 
 mod elimination_q;
 mod elimination_three;
+mod groups;
 mod modulo_q;
 mod modulo_three;
 mod rows_q;
