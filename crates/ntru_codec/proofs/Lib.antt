@@ -1,0 +1,11 @@
+pub mod Places
+pub mod Pairs
+pub mod Limits
+pub mod NextLevel
+pub mod Steps
+pub mod Undo
+pub mod Recursion
+pub mod Digits
+pub mod SmallLaws
+pub mod Raised
+pub mod ElementLaws

@@ -1,0 +1,5 @@
+pub mod Numbers
+pub mod Levels
+pub mod Coding
+pub mod Small
+pub mod Elements
