@@ -1,0 +1,90 @@
+//! The inbox: the texts that came in, each under its position.
+
+ghost use Rattle.std.specs.Prelude.{◌≡◌, ◌<◌, ◌≤◌, ◌↔◌, [], ◌∷◌, ◌++◌, length, drop, option_map, slice_get, IsSome, IsOk, IfOk, OnOk, OnErr, IfErr, IfSome};
+ghost use Rattle.boxes.specs.Items.{item_at};
+
+use crate::errors::{Fewer, Full};
+use crate::row::Row;
+use dr_base::Position;
+use std::alloc::{AllocError, Global};
+use std::marker::Model;
+
+/// A text of the inbox, and its position in the conversation.
+#[derive(Clone, Copy)]
+pub struct Entry<'a> {
+    pub position: Position,
+    pub text: &'a [u8],
+}
+
+/// The texts that came in. A contract sees the list of them, the oldest first.
+///
+/// It has room for 64 texts of 1,024 bytes, taken when it is made.
+#[derive(Drop)]
+pub struct Inbox {
+    row: Row<64, 1024>,
+}
+
+impl Model for Inbox {
+    ghost use Rattle.std.specs.Prelude.{List};
+    ghost use Rattle.boxes.specs.Items.{Item};
+
+    ghost Value = { List Item };
+
+    ghost view = { λ inbox. inbox.row };
+}
+
+impl Inbox {
+    ghost use Rattle.boxes.specs.Seen.{entry_item};
+
+    /// An empty inbox, with all the memory that it will ever use.
+    pub fn new(alloc: Global) -> Result<Inbox, AllocError>
+        ensures { IfOk result (λ inbox. inbox ≡ []) }
+    {
+        let row = Row::new(alloc)?;
+        Ok(Inbox { row })
+    }
+
+    /// Appends a text under its position.
+    pub fn push(&mut self, position: Position, text: &[u8]) -> Result<(), Full>
+        requires { length text.now ≤ 1024 }
+        ensures variant { IsOk result ↔ (length self.old < 64) }
+        ensures ok { OnOk result (self.new ≡ self.old ++ item_at position text.now ∷ []) }
+        ensures full { OnErr result (length self.old ≡ 64) }
+        ensures err { OnErr result (self.new ≡ self.old) }
+    {
+        self.row.push(position, text)
+    }
+
+    /// The text at a place, from 0, the oldest first.
+    pub fn at(&self, at: usize) -> Option<Entry<'_>>
+        ensures variant { IsSome result ↔ (at < length self.now) }
+        ensures entry { option_map entry_item result ≡ slice_get self.now at }
+        ensures fits { IfSome result (λ entry. length entry.text.now ≤ 1024) }
+    {
+        match self.row.at(at) {
+            Some(stored) => Some(Entry {
+                position: stored.position(),
+                text: stored.bytes(),
+            }),
+            None => None,
+        }
+    }
+
+    /// How many texts stand.
+    pub fn len(&self) -> u32
+        ensures value { result ≡ length self.now }
+        ensures limit { result ≤ 64 }
+    {
+        self.row.len() as u32
+    }
+
+    /// Drops the oldest texts, so many.
+    pub fn drop_first(&mut self, n: u32) -> Result<(), Fewer>
+        ensures variant { IsOk result ↔ (n ≤ length self.old) }
+        ensures ok { OnOk result (self.new ≡ drop n self.old) }
+        ensures held { IfErr result (λ fewer. fewer.held ≡ length self.old) }
+        ensures err { OnErr result (self.new ≡ self.old) }
+    {
+        self.row.drop_first(n)
+    }
+}

@@ -1,0 +1,29 @@
+//! The two boxes of a client: the texts that came in, and the packets that wait to go out.
+//!
+//! Each box is a list with a limit, the oldest first. All its memory is taken when it is made, room for as
+//! many items as it may hold, each of the greatest size: no later call allocates.
+//!
+//! ```rust
+//! use boxes::{Fewer, Inbox};
+//! use dr_base::Position;
+//!
+//! let mut inbox = Inbox::new(alloc)?;
+//! let pushed = inbox.push(Position { epoch: 1, index: 1 }, b"hi");
+//! if let Some(oldest) = inbox.at(0) {
+//!     let text: &[u8] = oldest.text;
+//! }
+//! let dropped = inbox.drop_first(1); // Ok: the one text that stood is gone
+//! let refused = inbox.drop_first(1); // Err(Fewer { held: 0 })
+//! ```
+#![tactic(auto)]
+
+pub use errors::{Fewer, Full};
+pub use inbox::{Entry, Inbox};
+pub use outbox::Outbox;
+
+mod errors;
+mod inbox;
+mod outbox;
+mod row;
+#[cfg(test)]
+mod tests;

@@ -1,0 +1,78 @@
+//! The outbox: the packets that wait to go out, each under its position.
+
+ghost use Rattle.std.specs.Prelude.{◌≡◌, ◌<◌, ◌≤◌, ◌↔◌, [], ◌∷◌, ◌++◌, length, drop, option_map, slice_get, IsSome, IsOk, IfOk, OnOk, OnErr, IfErr, IfSome};
+ghost use Rattle.boxes.specs.Items.{item_at};
+
+use crate::errors::{Fewer, Full};
+use crate::row::Row;
+use dr_base::Position;
+use std::alloc::{AllocError, Global};
+use std::marker::Model;
+
+/// The packets that wait to go out. A contract sees the list of them, the oldest first.
+///
+/// It has room for 32 packets of 3,286 bytes, taken when it is made.
+#[derive(Drop)]
+pub struct Outbox {
+    row: Row<32, 3286>,
+}
+
+impl Model for Outbox {
+    ghost use Rattle.std.specs.Prelude.{List};
+    ghost use Rattle.boxes.specs.Items.{Item};
+
+    ghost Value = { List Item };
+
+    ghost view = { λ outbox. outbox.row };
+}
+
+impl Outbox {
+    /// An empty outbox, with all the memory that it will ever use.
+    pub fn new(alloc: Global) -> Result<Outbox, AllocError>
+        ensures { IfOk result (λ outbox. outbox ≡ []) }
+    {
+        let row = Row::new(alloc)?;
+        Ok(Outbox { row })
+    }
+
+    /// Appends a packet under its position.
+    pub fn push(&mut self, position: Position, packet: &[u8]) -> Result<(), Full>
+        requires { length packet.now ≤ 3286 }
+        ensures variant { IsOk result ↔ (length self.old < 32) }
+        ensures ok { OnOk result (self.new ≡ self.old ++ item_at position packet.now ∷ []) }
+        ensures full { OnErr result (length self.old ≡ 32) }
+        ensures err { OnErr result (self.new ≡ self.old) }
+    {
+        self.row.push(position, packet)
+    }
+
+    /// The packet at a place, from 0, the oldest first, and its position.
+    pub fn at(&self, at: usize) -> Option<(Position, &[u8])>
+        ensures variant { IsSome result ↔ (at < length self.now) }
+        ensures packet { option_map (λ pair. item_at pair.0 pair.1.now) result ≡ slice_get self.now at }
+        ensures fits { IfSome result (λ pair. length pair.1.now ≤ 3286) }
+    {
+        match self.row.at(at) {
+            Some(stored) => Some((stored.position(), stored.bytes())),
+            None => None,
+        }
+    }
+
+    /// How many packets stand.
+    pub fn len(&self) -> u32
+        ensures value { result ≡ length self.now }
+        ensures limit { result ≤ 32 }
+    {
+        self.row.len() as u32
+    }
+
+    /// Drops the oldest packets, so many.
+    pub fn drop_first(&mut self, n: u32) -> Result<(), Fewer>
+        ensures variant { IsOk result ↔ (n ≤ length self.old) }
+        ensures ok { OnOk result (self.new ≡ drop n self.old) }
+        ensures held { IfErr result (λ fewer. fewer.held ≡ length self.old) }
+        ensures err { OnErr result (self.new ≡ self.old) }
+    {
+        self.row.drop_first(n)
+    }
+}

@@ -1,0 +1,130 @@
+//! A row of at most LIMIT items, the oldest first, each of at most ROOM bytes, in memory that is taken once.
+
+ghost use Rattle.std.specs.Prelude.{◌≡◌, ◌^◌, ◌<◌, ◌≤◌, ◌↔◌, [], ◌∷◌, ◌++◌, length, drop, option_copied, slice_get, IsSome, IsOk, IfOk, OnOk, OnErr, IfErr};
+ghost use Rattle.boxes.specs.Items.{item_at};
+
+use crate::errors::{Fewer, Full};
+use arrayvec::ArrayVec;
+use dr_base::Position;
+use std::alloc::{AllocError, Global};
+use std::marker::Model;
+
+/// One item: a position, and bytes in room of their own.
+#[derive(Drop)]
+pub(crate) struct Stored<const ROOM: usize> {
+    position: Position,
+    bytes: ArrayVec<u8, ROOM>,
+}
+
+impl<const ROOM: usize> Model for Stored<ROOM> {
+    ghost use Rattle.boxes.specs.Items.{Item, item_at};
+
+    ghost Value = { Item };
+
+    ghost view = { λ s. item_at s.position s.bytes.items };
+}
+
+impl<const ROOM: usize> Stored<ROOM> {
+    /// An item of these bytes under a position.
+    fn new(position: Position, bytes: &[u8]) -> Self
+        requires { length bytes.now ≤ ROOM }
+        ensures { result ≡ item_at position bytes.now }
+    {
+        let mut own = ArrayVec::new();
+        own.try_extend_from_slice(bytes).unwrap();
+        Stored {
+            position,
+            bytes: own,
+        }
+    }
+
+    /// The position under which the item stands.
+    pub(crate) fn position(&self) -> Position
+        ensures { result ≡ self.now.position }
+    {
+        self.position
+    }
+
+    /// The bytes of the item.
+    pub(crate) fn bytes(&self) -> &[u8]
+        ensures value { result.now ≡ self.now.bytes }
+        ensures fits { length result.now ≤ ROOM }
+    {
+        self.bytes.as_slice()
+    }
+}
+
+/// The items of a box. A contract sees the list of them.
+#[derive(Drop)]
+pub(crate) struct Row<const LIMIT: usize, const ROOM: usize> {
+    items: Vec<Stored<ROOM>>,
+}
+
+impl<const LIMIT: usize, const ROOM: usize> Model for Row<LIMIT, ROOM> {
+    ghost use Rattle.std.specs.Prelude.{◌≤◌, List, vec_len, vec_capacity};
+    ghost use Rattle.boxes.specs.Items.{Item};
+
+    ghost Value = { List Item };
+
+    ghost view = { λ r. r.items.items };
+
+    ghost invariant = { λ r. (vec_len r.items ≤ LIMIT) × (LIMIT ≤ vec_capacity r.items) };
+}
+
+impl<const LIMIT: usize, const ROOM: usize> Row<LIMIT, ROOM> {
+    /// An empty row, with its memory.
+    pub(crate) fn new(alloc: Global) -> Result<Self, AllocError>
+        ensures { IfOk result (λ row. row ≡ []) }
+    {
+        let items = Vec::with_capacity(alloc, LIMIT)?;
+        Ok(Row { items })
+    }
+
+    /// How many items stand.
+    pub(crate) fn len(&self) -> usize
+        ensures value { result ≡ length self.now }
+        ensures limit { result ≤ LIMIT }
+    {
+        self.items.len()
+    }
+
+    /// Appends an item of these bytes under a position.
+    pub(crate) fn push(&mut self, position: Position, bytes: &[u8]) -> Result<(), Full>
+        requires { length bytes.now ≤ ROOM }
+        ensures variant { IsOk result ↔ (length self.old < LIMIT) }
+        ensures ok { OnOk result (self.new ≡ self.old ++ item_at position bytes.now ∷ []) }
+        ensures full { OnErr result (length self.old ≡ LIMIT) }
+        ensures err { OnErr result (self.new ≡ self.old) }
+    {
+        if self.items.len() >= LIMIT {
+            return Err(Full);
+        }
+        self.items.push(Stored::new(position, bytes)).unwrap();
+        Ok(())
+    }
+
+    /// The item at a place, from 0, the oldest first.
+    pub(crate) fn at(&self, at: usize) -> Option<&Stored<ROOM>>
+        ensures variant { IsSome result ↔ (at < length self.now) }
+        ensures item { option_copied result ≡ slice_get self.now at }
+    {
+        self.items.get(at)
+    }
+
+    /// Drops the oldest items, so many.
+    pub(crate) fn drop_first(&mut self, n: u32) -> Result<(), Fewer>
+        requires { LIMIT < 2 ^ 32 }
+        ensures variant { IsOk result ↔ (n ≤ length self.old) }
+        ensures ok { OnOk result (self.new ≡ drop n self.old) }
+        ensures held { IfErr result (λ fewer. fewer.held ≡ length self.old) }
+        ensures err { OnErr result (self.new ≡ self.old) }
+    {
+        let held = self.len() as u32;
+        if held < n {
+            return Err(Fewer { held });
+        }
+        self.items.rotate_left(n as usize);
+        self.items.truncate((held - n) as usize);
+        Ok(())
+    }
+}
