@@ -1,5 +1,9 @@
+pub mod Schedule
+pub mod Packets
+pub mod Worlds
+pub mod Events
+pub mod States
+pub mod Sides
+pub mod Standing
 pub mod Machine
 pub mod Headline
-pub mod Packets
-pub mod Schedule
-pub mod States

@@ -1,95 +1,110 @@
 -- What each side keeps, and what it answers.
-use Rattle.std.specs.Prelude.{◌≡◌, ℕ, ◌+◌, ◌<◌, ◌≤◌, ◌%◌, ◌==◌, Bool, not, nat_eq, nat_le, List, [], ◌∷◌, ◌++◌, length, slice_index_or, Option, Some, None, Result, Ok, Err, false, if◌then◌else◌}
+use Rattle.std.specs.Prelude.{ℕ, ◌+◌, ◌-◌, ◌%◌, ◌==◌, Bool, not, nat_eq, nat_le, nat_lt, List, [], ◌∷◌, ◌++◌, length, Option, Some, None, Result, Ok, Err, if◌then◌else◌}
 use Rattle.std.specs.Cmp.Lexicographic.{pointwise}
+use Rattle.dr_base.specs.declared.key.Kept.{Kept}
+use Rattle.dr_base.specs.declared.position.Position.{Position}
+use Rattle.etm_aead.specs.Chain.{chain_of, next_chain, chain_message_key, message_key}
 use Rattle.etm_aead.specs.Seal.{ciphertext_of, tag_of}
+use Rattle.fs_aead.specs.Table.{kept_key, without, shelved}
 use Rattle.packet.specs.declared.fault.Malformed.{Malformed}
 use Rattle.packet.specs.Packet.{Fields, ad_of}
 use Rattle.packet.specs.Reading.{read_packet}
+use Rattle.boxes.specs.Items.{Item, item_at}
 use Rattle.dr_model.specs.declared.answer.Refusal.{Refusal}
-use Rattle.dr_model.specs.declared.answer.Refusal.TheVariants.{TextTooLong, OutboxFull, Malformed as Unreadable, OtherSession, OwnPacket, Ahead, Spent, BadTag}
-use Rattle.dr_model.specs.Schedule.{stream_of, session_of}
-use Rattle.etm_aead.specs.Chain.{message_key}
-use Rattle.dr_model.specs.Packets.{packet_at, packets_from}
-use Rattle.dr_model.specs.Machine.{World, position, fits, is_opened}
+use Rattle.dr_model.specs.declared.answer.Refusal.TheVariants.{TextTooLong, OutboxFull, EpochFull, Malformed as Unreadable, OtherSession, OwnPacket, Ahead, Spent, SkipLimit, BadTag, InboxFull}
+use Rattle.dr_model.specs.Packets.{position, post_of}
 
--- Second: its session, its stream, and the packets of its texts, of which the first has index 1
+-- Second: its session, the chain key of its next text, how many texts it said, and its outbox
 pub record Sending : Type 0 where
   pub session : List ℕ
-  pub stream : List ℕ
-  pub packets : List (List ℕ)
+  pub chain : List ℕ
+  pub sent : ℕ
+  pub outbox : List Item
 
--- what Second answers to a text: its index, or why it can't be said
-abbrev pub saying : Sending → List ℕ → Result ℕ Refusal
+-- a text fits a packet
+abbrev pub fits : List ℕ → Bool
+fits text = nat_le (length text) 1024
+
+-- what Second answers to a text: its packet under its position, or the first reason why it can't be said
+abbrev pub saying : Sending → List ℕ → Result Item Refusal
 saying s text =
-    if fits text then (if nat_le 32 (length s.packets) then Err OutboxFull else Ok (length s.packets + 1))
-    else Err (TextTooLong (length text))
+    if not (fits text) then Err (TextTooLong (length text))
+    else (if nat_le 32 (length s.outbox) then Err OutboxFull
+    else (if nat_le 65535 s.sent then Err EpochFull
+    else Ok (post_of s.session (chain_message_key s.chain) (s.sent + 1) text)))
 
--- what Second keeps after a text that was said
-abbrev pub after_saying : Sending → List ℕ → Sending
-after_saying s text = record s { packets = s.packets ++ packet_at s.session s.stream (length s.packets + 1) text ∷ [] }
+-- what Second keeps after a text with this packet
+abbrev pub after_saying : Sending → Item → Sending
+after_saying s post = record s { chain = next_chain s.chain; sent = s.sent + 1; outbox = s.outbox ++ post ∷ [] }
 
--- First: its session, its stream, and for each index up to 65,535 whether it was opened
+-- First: its session, its chain key and the greatest index that it opened, the keys that it passed, and its inbox
 pub record Receiving : Type 0 where
   pub session : List ℕ
-  pub stream : List ℕ
-  pub opened : List Bool
+  pub chain : List ℕ
+  pub reach : ℕ
+  pub kept : List Kept
+  pub inbox : List Item
 
--- a packet that was opened: its index and its text
-pub record Opening : Type 0 where
-  pub index : ℕ
-  pub text : List ℕ
+-- the message key of a packet, and what First keeps if that key opens it
+pub record Way : Type 0 where
+  pub key : List ℕ
+  pub next : Receiving
 
--- why First doesn't look at a packet's tag: the first reason that applies
-abbrev pub barred : Receiving → Fields → Option Refusal
-barred s f =
-    if not (pointwise nat_eq f.session s.session) then Some OtherSession
-    else (if f.epoch % 2 == 1 then Some (OwnPacket f.epoch)
-    else (if nat_le 1 f.epoch then Some (Ahead f.epoch 0)
-    else (if slice_index_or s.opened f.index false then Some (Spent (position f.index)) else None)))
+-- a kept key opens the packet and leaves the table
+abbrev pub kept_way : Receiving → Position → Option (List ℕ) → Result Way Refusal
+kept_way s p None = Err (Spent p)
+kept_way s p (Some key) = Ok (record { key = key; next = record s { kept = without s.kept p } })
 
--- the packet's text, if its tag is the one under its key
-abbrev pub opening_of : Receiving → Fields → Result Opening Refusal
-opening_of s f =
-    let key = message_key s.stream f.index in
-    if pointwise nat_eq f.tag (tag_of key (ad_of f) f.ciphertext) then Ok (record { index = f.index; text = ciphertext_of key f.ciphertext })
-    else Err BadTag
+-- along the chain: the keys between are kept, and the chain goes on behind the index
+abbrev pub chain_way : Receiving → ℕ → Way
+chain_way s index = record {
+  key = message_key s.chain (index - s.reach);
+  next = record s {
+    chain = chain_of s.chain (index - s.reach);
+    reach = index;
+    kept = s.kept ++ shelved 0 s.chain s.reach (index - s.reach - 1);
+  };
+}
 
--- a reason comes first
-abbrev pub unless_barred : Option Refusal → Result Opening Refusal → Result Opening Refusal
-unless_barred None opening = opening
-unless_barred (Some reason) opening = Err reason
+-- how many keys would be kept once an index above the reach is opened
+abbrev pub would : Receiving → ℕ → ℕ
+would s index = length s.kept + (index - s.reach - 1)
 
--- what First opens, or why not
-abbrev pub taking_fields : Receiving → Fields → Result Opening Refusal
-taking_fields s f = unless_barred (barred s f) (opening_of s f)
+-- the way to a packet's key, or the first reason why its tag isn't looked at
+unfoldable pub way_of : Receiving → Fields → Result Way Refusal
+way_of s f =
+    if not (pointwise nat_eq f.session s.session) then Err OtherSession
+    else (if f.epoch % 2 == 1 then Err (OwnPacket f.epoch)
+    else (if nat_le 1 f.epoch then Err (Ahead f.epoch 0)
+    else (if nat_le f.index s.reach then kept_way s (position f.index) (kept_key s.kept (position f.index))
+    else (if nat_lt 256 (would s f.index) then Err (SkipLimit (would s f.index)) else Ok (chain_way s f.index)))))
 
--- the same of bytes that may be no packet; agreement messages of later epochs have 64 bytes
-abbrev pub taking_read : Receiving → Result Fields Malformed → Result Opening Refusal
-taking_read s (Ok f) = taking_fields s f
+-- a packet that was opened: its position, and what First keeps then
+pub record Taken : Type 0 where
+  pub position : Position
+  pub next : Receiving
+
+-- a text more in the inbox
+abbrev pub received : Receiving → ℕ → List ℕ → Receiving
+received s index text = record s { inbox = s.inbox ++ item_at (position index) text ∷ [] }
+
+-- on the way to a packet's key: whether its tag is the one under that key, and the inbox has room
+abbrev pub opening_of : Receiving → Fields → Way → Result Taken Refusal
+opening_of s f way =
+    if not (pointwise nat_eq f.tag (tag_of way.key (ad_of f) f.ciphertext)) then Err BadTag
+    else (if nat_le 64 (length s.inbox) then Err InboxFull
+    else Ok (record { position = position f.index; next = received way.next f.index (ciphertext_of way.key f.ciphertext) }))
+
+-- where there is a way
+abbrev pub along : Receiving → Fields → Result Way Refusal → Result Taken Refusal
+along s f (Ok way) = opening_of s f way
+along s f (Err refusal) = Err refusal
+
+-- where the bytes are a packet; agreement messages of later epochs have 64 bytes
+abbrev pub taking_read : Receiving → Result Fields Malformed → Result Taken Refusal
+taking_read s (Ok f) = along s f (way_of s f)
 taking_read s (Err fault) = Err (Unreadable fault)
 
 -- what First answers to bytes
-unfoldable pub taking : Receiving → List ℕ → Result Opening Refusal
+unfoldable pub taking : Receiving → List ℕ → Result Taken Refusal
 taking s bytes = taking_read s (read_packet 64 bytes)
-
--- what Second keeps in a world
-abbrev pub sending_of : World → Sending
-sending_of w = record {
-  session = session_of w.key;
-  stream = stream_of w.key;
-  packets = packets_from (session_of w.key) (stream_of w.key) 1 w.texts;
-}
-
--- what First keeps in a world: its flags tell which indices it has opened
-pub record IsReceivingOf (w : World) (s : Receiving) : Type 0 where
-  pub session : s.session ≡ session_of w.key
-  pub stream : s.stream ≡ stream_of w.key
-  pub room : length s.opened ≡ 65536
-  pub flags : (index : ℕ) → index < 65536 → slice_index_or s.opened index false ≡ is_opened w index
-
--- what both sides keep in a world whose texts all fit a packet, 32 at most
-pub record IsPlaying (w : World) (second : Sending) (first : Receiving) : Type 0 where
-  pub few : length w.texts ≤ 32
-  pub short : (k : ℕ) → k < length w.texts → length (slice_index_or w.texts k []) ≤ 1024
-  pub sends : second ≡ sending_of w
-  pub receives : IsReceivingOf w first

@@ -10,10 +10,31 @@ pub enum Answer {
     Said(Position),
     /// The packet of this position was opened.
     Opened(Position),
+    /// So many packets were taken out of the outbox.
+    Sent(u32),
+    /// So many texts were taken out of the inbox.
+    Done(u32),
+    /// So many texts stand in the inbox.
+    Inbox(u32),
+    /// What a side holds.
+    State(Summary),
     /// The network holds no such packet.
     Nothing,
     /// Nothing changed, for this reason.
     Refused(Refusal),
+}
+
+/// What a side holds, in numbers.
+#[derive(Clone, Copy, Debug, PartialEq, Eq, Hash)]
+pub struct Summary {
+    /// The greatest epoch that the side has reached.
+    pub epoch: u32,
+    /// How many message keys wait for texts that haven't come.
+    pub missing: u32,
+    /// How many texts stand in the inbox.
+    pub inbox: u32,
+    /// How many packets stand in the outbox.
+    pub outbox: u32,
 }
 
 /// Why an event changed nothing.
@@ -23,16 +44,34 @@ pub enum Refusal {
     TextTooLong(usize),
     /// 32 packets stand in the outbox.
     OutboxFull,
+    /// 65,535 texts were said in the epoch.
+    EpochFull,
     /// The bytes are no packet.
     Malformed(Malformed),
     /// The packet is of another session.
     OtherSession,
     /// The packet is of an epoch of the taker's own.
     OwnPacket(u32),
-    /// The packet is of an epoch, the first, that comes after the one that may follow the second, which is reached.
+    /// The packet's epoch, the first number, comes after the next one that may begin; the second number is the
+    /// greatest epoch that is reached.
     Ahead(u32, u32),
     /// The packet of this position was opened before.
     Spent(Position),
+    /// So many message keys would have to be kept, which is more than 256.
+    SkipLimit(u32),
     /// The packet's tag differs from the one under its key.
     BadTag,
+    /// 64 texts stand in the inbox.
+    InboxFull,
+    /// Only so many stand, fewer than were to be taken out.
+    Fewer(u32),
+}
+
+/// How many of the oldest items are taken out of a box.
+#[derive(Clone, Copy, Debug, PartialEq, Eq, Hash)]
+pub enum Amount {
+    /// All that stand.
+    All,
+    /// Just so many.
+    Exactly(u32),
 }

@@ -1,9 +1,15 @@
-//! The headline on the machine.
+//! The laws of the machine. These functions have no code: a caller that needs the facts calls them.
 
-ghost use Rattle.dr_model.specs.Headline.{Headline};
+ghost use Rattle.dr_model.specs.Headline.{Follows, Headline};
 
-/// Whatever is said and taken, in every order: each text is opened at its first arrival and counted once,
-/// and a repeat or a refusal changes nothing.
+/// Whatever is said and taken, in every order: within the limits each text is opened at its first arrival, stands in
+/// the history once from then on, and a repeat or a refusal changes nothing.
 pub fn headline()
     ensures { Headline }
+{}
+
+/// Both sides follow the machine: from what they keep in a world, they answer each event as the machine does, and keep
+/// what stands in the world after it, where no tag is forged.
+pub fn both_sides_follow()
+    ensures { Follows }
 {}

@@ -2,8 +2,8 @@
 //! The definitions stand in specs/; the functions here have empty bodies, and their contracts are the laws.
 #![tactic(auto)]
 
-pub use answer::{Answer, Refusal};
-pub use laws::headline;
+pub use answer::{Amount, Answer, Refusal, Summary};
+pub use laws::{both_sides_follow, headline};
 
 mod answer;
 mod laws;

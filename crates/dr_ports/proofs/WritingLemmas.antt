@@ -1,8 +1,8 @@
 -- Writes in turn.
-use Rattle.std.proofs.Common.{◌≡◌, ℕ, List, ◌++◌, take, drop, Option, sym, ◌∙◌, ap, append_assoc}
+use Rattle.std.proofs.Common.{◌≡◌, ℕ, ◌≤◌, List, ◌++◌, take, drop, Option, Result, Ok, Err, sym, ◌∙◌, ap, append_assoc, arith}
 use Rattle.std.proofs.lemmas.List.{take-append-drop}
 use Rattle.dr_ports.specs.Ports.{appended}
-use Rattle.dr_ports.specs.Writing.{TookBeginning}
+use Rattle.dr_ports.specs.Writing.{TookBeginning, Writes}
 use Rattle.dr_ports.proofs.Told.{appended-appended}
 
 -- a sink that stopped at a place of the bytes
@@ -26,3 +26,21 @@ took_of_second old mid new a b e t = record {
   split = ap (λ x. a ++ x) t.split ∙ sym (append_assoc a t.beginning t.remainder);
   took = t.took ∙ ap (λ m. appended m t.beginning) e ∙ appended-appended old a t.beginning;
 }
+
+-- a write behind one that passed
+pub writes_behind : {T E : Type 0} (old mid new : Option (List ℕ)) (before middle now : ℕ) (a b : List ℕ) (result : Result T E) → mid ≡ appended old a → before ≤ middle
+    → Writes mid new middle now b result → Writes old new before now (a ++ b) result
+writes_behind old mid new before middle now a b (Ok x) e later w = record {
+  whole = w.whole ∙ ap (λ m. appended m b) e ∙ appended-appended old a b;
+  part = w.part;
+  cause = record { later = omega (arith, w.cause.later); failed = w.cause.failed };
+}
+writes_behind old mid new before middle now a b (Err x) e later w = record {
+  whole = w.whole;
+  part = took_of_second old mid new a b e w.part;
+  cause = record { later = omega (arith, w.cause.later); failed = omega (arith, w.cause.failed) };
+}
+
+-- a write that failed, and what was to be written behind it
+pub writes_first : {T E : Type 0} (old new : Option (List ℕ)) (before now : ℕ) (a b : List ℕ) (e : E) → Writes {T = T} old new before now a (Err e) → Writes {T = T} old new before now (a ++ b) (Err e)
+writes_first old new before now a b e w = record { whole = w.whole; part = took_of_first old new a b w.part; cause = w.cause }

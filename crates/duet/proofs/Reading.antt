@@ -1,6 +1,6 @@
 -- Lines read one after another.
 use Rattle.std.proofs.Common.{◌≡◌, ℕ, suc, ◌+◌, List, [], ◌∷◌, ◌++◌, Some, None, Result, Ok, Err, refl, sym, ◌∙◌, ap, append_assoc, append-nil, add-one}
-use Rattle.dr_model.specs.Machine.{Event}
+use Rattle.dr_model.specs.Events.{Event}
 use Rattle.duet.specs.Script.{events_of, line_of, or_bad, with_event}
 
 -- events that were read, and those that follow

@@ -1,9 +1,9 @@
--- The first line of a text.
+-- A text taken apart: its first line, and its halves at the first space.
 use Rattle.std.proofs.Common.{◌≡◌, ◌≢◌, ℕ, zero, suc, ◌+◌, ◌<◌, Bool, true, false, List, [], ◌∷◌, length, take, drop, get_or, refl, sym, ◌∙◌, ap, arith, nat_eq, ◌-◌, length-drop, add-one}
-use Rattle.std.specs.Prelude.{if◌then◌else◌}
+use Rattle.std.specs.Prelude.{◌==◌, Option, Some, None, option_map, position, if◌then◌else◌}
 use Rattle.std.proofs.lemmas.Bool.{eq-eqb, eqb-true}
 use Rattle.std.proofs.lemmas.List.{take_all}
-use Rattle.duet.specs.Script.{lines_of, with_byte}
+use Rattle.duet.specs.Script.{lines_of, with_byte, halves_of}
 
 choose : (b : Bool) (x xs : List (List ℕ)) → b ≡ true → (if b then x else xs) ≡ x
 choose true x xs h = refl
@@ -58,3 +58,15 @@ cut_line text n h before found =
 pub empty_lines : (text : List ℕ) → nat_eq (length text) 0 ≡ true → lines_of text ≡ []
 empty_lines [] h = no_lines
 empty_lines (byte ∷ rest) h = absurd (omega (arith, eqb-true (length (byte ∷ rest)) 0 h))
+
+-- a text that has a space, as the code cuts it there
+pub cut_halves : (text : List ℕ) (found : Option ℕ) (at : ℕ) → found ≡ position (λ byte. byte == 32) text → found ≡ Some at → Some (take at text, take (length text - (at + 1)) (drop (at + 1) text)) ≡ halves_of text
+unfolding halves_of
+cut_halves text found at first is =
+    ap (λ rest. Some (take at text, rest)) (rest_is text (at + 1))
+    ∙ ap (option_map (λ k. (take k text, drop (k + 1) text))) (sym is ∙ first)
+
+-- a text without a space has no halves
+pub no_halves : (text : List ℕ) (found : Option ℕ) → found ≡ position (λ byte. byte == 32) text → found ≡ None → None ≡ halves_of text
+unfolding halves_of
+no_halves text found first is = ap (option_map (λ k. (take k text, drop (k + 1) text))) (sym is ∙ first)

@@ -1,59 +1,66 @@
--- A trace, line by line.
+-- Lines of a trace, one event after another.
 use Rattle.std.proofs.Common.{◌≡◌, ℕ, ◌+◌, ◌<◌, List, [], ◌∷◌, ◌++◌, length, take, drop, map, get_or, Option, None, Some, refl, sym, ◌∙◌, ap, append_assoc, append-nil, subst}
 use Rattle.std.proofs.lemmas.List.{map-append, take-append-drop, take_more}
 use Rattle.dr_ports.specs.Ports.{appended}
 use Rattle.dr_ports.specs.Writing.{TookBeginning}
 use Rattle.dr_ports.proofs.Told.{appended-appended}
 use Rattle.dr_ports.proofs.WritingLemmas.{took_of_first, took_of_second}
-use Rattle.dr_model.specs.Machine.{World, Event, opening, after, answer_of, next_of}
-use Rattle.dr_model.specs.States.{Sending}
-use Rattle.duet.specs.Lines.{replies, reply_line, trace_of}
-use Rattle.duet.specs.Script.{Scripted}
+use Rattle.dr_model.specs.Events.{Event, Step}
+use Rattle.dr_model.specs.Sides.{Sides, step_on}
+use Rattle.duet.specs.Held.{DuetNow, stepped}
+use Rattle.duet.specs.Lines.{reply_of}
 use Rattle.duet.specs.Seen.{event_of}
+use Rattle.duet.specs.Trace.{lines_by, after_by}
 use Rattle.duet.specs.declared.script.line.Line.{Line}
-use Rattle.dr_model.specs.declared.answer.Answer.{Answer}
-
--- the same side from the same parts
-pub same_start : (a b c d : List ℕ) → a ≡ c → b ≡ d → let s : Sending = record { session = a; stream = b; packets = [] } in let t : Sending = record { session = c; stream = d; packets = [] } in s ≡ t
-same_start a b c d e f = cc
 
 -- the lines of events and of those that follow
-replies-append : (w : World) (events others : List Event) → replies w (events ++ others) ≡ replies w events ++ replies (after w events) others
-unfolding replies
-replies-append w [] others = refl
-replies-append w (event ∷ events) others =
-    ap (λ lines. reply_line event (answer_of w event) ++ lines) (replies-append (next_of w event) events others)
-    ∙ sym (append_assoc (reply_line event (answer_of w event)) (replies (next_of w event) events) (replies (after (next_of w event) events) others))
+lines_by-append : {S : Type 0} (act : S → Event → Step S) (s : S) (events others : List Event) → lines_by act s (events ++ others) ≡ lines_by act s events ++ lines_by act (after_by act s events) others
+unfolding lines_by after_by
+lines_by-append act s [] others = refl
+lines_by-append act s (event ∷ events) others =
+    ap (λ lines. reply_of event (act s event) ++ lines) (lines_by-append act (act s event).next events others)
+    ∙ sym (append_assoc (reply_of event (act s event)) (lines_by act (act s event).next events) (lines_by act (after_by act (act s event).next events) others))
 
--- the world after one event more
-pub after-push : (w : World) (events : List Event) (event : Event) → after w (events ++ event ∷ []) ≡ next_of (after w events) event
-after-push w [] event = refl
-after-push w (first ∷ events) event = after-push (next_of w first) events event
+-- what stands after one event more
+after_by-push : {S : Type 0} (act : S → Event → Step S) (s : S) (events : List Event) (event : Event) → after_by act s (events ++ event ∷ []) ≡ (act (after_by act s events) event).next
+unfolding after_by
+after_by-push act s [] event = refl
+after_by-push act s (first ∷ events) event = after_by-push act (act s first).next events event
 
-one_reply : (w : World) (event : Event) → replies w (event ∷ []) ≡ reply_line event (answer_of w event)
-unfolding replies
-one_reply w event = append-nil (reply_line event (answer_of w event))
+one_reply : {S : Type 0} (act : S → Event → Step S) (s : S) (event : Event) → lines_by act s (event ∷ []) ≡ reply_of event (act s event)
+unfolding lines_by
+one_reply act s event = append-nil (reply_of event (act s event))
 
 -- the lines of one event more
-replies-push : (w : World) (events : List Event) (event : Event) → replies w (events ++ event ∷ []) ≡ replies w events ++ reply_line event (answer_of (after w events) event)
-replies-push w events event =
-    replies-append w events (event ∷ []) ∙ ap (λ lines. replies w events ++ lines) (one_reply (after w events) event)
+lines_by-push : {S : Type 0} (act : S → Event → Step S) (s : S) (events : List Event) (event : Event) → lines_by act s (events ++ event ∷ []) ≡ lines_by act s events ++ reply_of event (act (after_by act s events) event)
+lines_by-push act s events event =
+    lines_by-append act s events (event ∷ []) ∙ ap (λ lines. lines_by act s events ++ lines) (one_reply act (after_by act s events) event)
 
--- a sink that took the lines so far, and then the line of one event more
-pub took_line : (old mid new : Option (List ℕ)) (w : World) (events : List Event) (event : Event) → mid ≡ appended old (replies w events) → new ≡ appended mid (reply_line event (answer_of (after w events) event)) → new ≡ appended old (replies w (events ++ event ∷ []))
-took_line old mid new w events event e f =
-    f ∙ ap (λ t. appended t (reply_line event (answer_of (after w events) event))) e
-    ∙ appended-appended old (replies w events) (reply_line event (answer_of (after w events) event))
-    ∙ ap (appended old) (sym (replies-push w events event))
+-- a sink that took the lines so far, and then those of one event more
+took_line : {S : Type 0} (old mid new : Option (List ℕ)) (act : S → Event → Step S) (s : S) (events : List Event) (event : Event) → mid ≡ appended old (lines_by act s events)
+    → new ≡ appended mid (reply_of event (act (after_by act s events) event)) → new ≡ appended old (lines_by act s (events ++ event ∷ []))
+took_line old mid new act s events event e f =
+    f ∙ ap (λ t. appended t (reply_of event (act (after_by act s events) event))) e
+    ∙ appended-appended old (lines_by act s events) (reply_of event (act (after_by act s events) event))
+    ∙ ap (appended old) (sym (lines_by-push act s events event))
 
 -- a sink that took the lines so far, and then a beginning of the next: it took a beginning of all
-pub took_until : (old mid new : Option (List ℕ)) (w : World) (events : List Event) (event : Event) (others : List Event) → mid ≡ appended old (replies w events) → TookBeginning mid new (reply_line event (answer_of (after w events) event)) → TookBeginning old new (replies w ((events ++ event ∷ []) ++ others))
-took_until old mid new w events event others e t =
-    let so_far : TookBeginning old new (replies w events ++ reply_line event (answer_of (after w events) event)) =
-    took_of_second old mid new (replies w events) (reply_line event (answer_of (after w events) event)) e t in
-    let whole : replies w ((events ++ event ∷ []) ++ others) ≡ (replies w events ++ reply_line event (answer_of (after w events) event)) ++ replies (after w (events ++ event ∷ [])) others =
-    replies-append w (events ++ event ∷ []) others ∙ ap (λ lines. lines ++ replies (after w (events ++ event ∷ [])) others) (replies-push w events event) in
-    subst (λ lines. TookBeginning old new lines) (sym whole) (took_of_first old new _ (replies (after w (events ++ event ∷ [])) others) so_far)
+took_until : {S : Type 0} (old mid new : Option (List ℕ)) (act : S → Event → Step S) (s : S) (events : List Event) (event : Event) (others : List Event)
+    → mid ≡ appended old (lines_by act s events) → TookBeginning mid new (reply_of event (act (after_by act s events) event))
+    → TookBeginning old new (lines_by act s ((events ++ event ∷ []) ++ others))
+took_until old mid new act s events event others e t =
+    let so_far : TookBeginning old new (lines_by act s events ++ reply_of event (act (after_by act s events) event)) =
+    took_of_second old mid new (lines_by act s events) (reply_of event (act (after_by act s events) event)) e t in
+    let whole : lines_by act s ((events ++ event ∷ []) ++ others)
+    ≡ (lines_by act s events ++ reply_of event (act (after_by act s events) event)) ++ lines_by act (after_by act s (events ++ event ∷ [])) others =
+    lines_by-append act s (events ++ event ∷ []) others ∙ ap (λ lines. lines ++ lines_by act (after_by act s (events ++ event ∷ [])) others) (lines_by-push act s events event) in
+    subst (λ lines. TookBeginning old new lines) (sym whole) (took_of_first old new _ (lines_by act (after_by act s (events ++ event ∷ [])) others) so_far)
+
+-- nothing was taken yet
+pub no_lines_yet : {S : Type 0} (told : Option (List ℕ)) (act : S → Event → Step S) (s : S) → told ≡ appended told (lines_by act s [])
+unfolding lines_by
+no_lines_yet None act s = refl
+no_lines_yet (Some xs) act s = ap Some (sym (append-nil xs))
 
 -- the events of the lines so far, with one line more
 pub events_more : (items seen : List Line) (i : ℕ) (d : Line) → seen ≡ items → i < length seen → map event_of (take (i + 1) items) ≡ map event_of (take i items) ++ event_of (get_or seen i d) ∷ []
@@ -68,17 +75,23 @@ events_whole items seen i d e h =
     ∙ map-append event_of (take (i + 1) items) (drop (i + 1) items)
     ∙ ap (λ xs. xs ++ map event_of (drop (i + 1) items)) (events_more items seen i d e h)
 
--- the bytes of a line with the machine's answer
-pub line_is : (bytes line : List ℕ) (w : World) (event : Event) (answer : Answer) → bytes ≡ line → line ≡ reply_line event answer → answer ≡ answer_of w event → bytes ≡ reply_line event (answer_of w event)
-line_is bytes line w event answer e f h = e ∙ f ∙ ap (reply_line event) h
+-- both sides after one event more
+pub stands_more : (start : Sides) (events more : List Event) (event : Event) (old new : DuetNow) → new ≡ stepped old event → more ≡ events ++ event ∷ []
+    → old.sides ≡ after_by step_on start events → new.sides ≡ after_by step_on start more
+stands_more start events more event old new next e stands =
+    ap (λ (d : DuetNow). d.sides) next ∙ ap (λ (s : Sides). (step_on s event).next) stands ∙ sym (after_by-push step_on start events event) ∙ ap (after_by step_on start) (sym e)
 
--- nothing was taken yet
-pub no_lines_yet : (told : Option (List ℕ)) (w : World) → told ≡ appended told (replies w [])
-unfolding replies
-no_lines_yet None w = refl
-no_lines_yet (Some xs) w = ap Some (sym (append-nil xs))
+-- the lines so far, and then those of one event more
+pub wrote_more : (told mid new : Option (List ℕ)) (start : Sides) (events more : List Event) (event : Event) (sides : Sides) → new ≡ appended mid (reply_of event (step_on sides event))
+    → more ≡ events ++ event ∷ [] → sides ≡ after_by step_on start events → mid ≡ appended told (lines_by step_on start events) → new ≡ appended told (lines_by step_on start more)
+wrote_more told mid new start events more event sides wrote e stands so_far =
+    took_line told mid new step_on start events event so_far (wrote ∙ ap (λ (s : Sides). appended mid (reply_of event (step_on s event))) stands)
+    ∙ ap (λ es. appended told (lines_by step_on start es)) (sym e)
 
--- the trace of a script from its key and its events
-pub trace_is : (script : Scripted) → trace_of script ≡ replies (opening script.key) script.events
-unfolding trace_of
-trace_is script = refl
+-- the lines so far, and then a beginning of those of the next event
+pub wrote_part : (told mid new : Option (List ℕ)) (start : Sides) (events others all : List Event) (event : Event) (sides : Sides) → TookBeginning mid new (reply_of event (step_on sides event))
+    → all ≡ (events ++ event ∷ []) ++ others → sides ≡ after_by step_on start events → mid ≡ appended told (lines_by step_on start events) → TookBeginning told new (lines_by step_on start all)
+wrote_part told mid new start events others all event sides part e stands so_far =
+    subst (λ es. TookBeginning told new (lines_by step_on start es)) (sym e)
+    (took_until told mid new step_on start events event others so_far
+    (subst (λ (s : Sides). TookBeginning mid new (reply_of event (step_on s event))) stands part))

@@ -1,6 +1,9 @@
 pub mod Faults
+pub mod Held
+pub mod Keys
 pub mod Lines
 pub mod Number
-pub mod Playing
 pub mod Script
 pub mod Seen
+pub mod Trace
+pub mod Ways

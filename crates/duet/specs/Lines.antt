@@ -1,14 +1,16 @@
--- The lines of a trace: one for each event.
-use Rattle.std.specs.Prelude.{ℕ, List, [], ◌∷◌, ◌++◌, codes, decimal}
+-- The lines of a trace: one for each event, and behind an inbox one for each of its texts.
+use Rattle.std.specs.Prelude.{ℕ, Bool, ◌==◌, ◌&&◌, ◌||◌, not, nat_le, List, [], ◌∷◌, ◌++◌, flat_map, codes, decimal, if◌then◌else◌}
+use Rattle.hex.specs.Hex.{encode_lower}
 use Rattle.dr_base.specs.declared.position.Position.{Position}
-use Rattle.dr_model.specs.declared.answer.Answer.{Answer}
-use Rattle.dr_model.specs.declared.answer.Answer.TheVariants.{Said, Opened, Nothing, Refused}
-use Rattle.dr_model.specs.declared.answer.Refusal.{Refusal}
-use Rattle.dr_model.specs.declared.answer.Refusal.TheVariants.{TextTooLong, OutboxFull, Malformed, OtherSession, OwnPacket, Ahead, Spent, BadTag}
 use Rattle.packet.specs.declared.fault.Kind.{Kind}
 use Rattle.packet.specs.declared.fault.Kind.TheVariants.{Version, Epoch, Previous, Index, Agreement, Text, Short, Long}
-use Rattle.dr_model.specs.Machine.{World, Event, says, takes, opening, answer_of, next_of}
-use Rattle.duet.specs.Script.{Scripted}
+use Rattle.boxes.specs.Items.{Item}
+use Rattle.dr_model.specs.declared.answer.Answer.{Answer}
+use Rattle.dr_model.specs.declared.answer.Answer.TheVariants.{Said, Opened, Sent, Done, Inbox, State, Nothing, Refused}
+use Rattle.dr_model.specs.declared.answer.Refusal.{Refusal}
+use Rattle.dr_model.specs.declared.answer.Refusal.TheVariants.{TextTooLong, OutboxFull, EpochFull, Malformed, OtherSession, OwnPacket, Ahead, Spent, SkipLimit, BadTag, InboxFull, Fewer}
+use Rattle.dr_model.specs.declared.answer.Summary.{Summary}
+use Rattle.dr_model.specs.Events.{Event, says, drops_sent, Step}
 
 -- `epoch.index`
 unfoldable pub position_text : Position → List ℕ
@@ -29,34 +31,56 @@ kind_text Long = codes "Long"
 unfoldable pub refusal_text : Refusal → List ℕ
 refusal_text (TextTooLong len) = codes "TextTooLong " ++ decimal len
 refusal_text OutboxFull = codes "OutboxFull"
+refusal_text EpochFull = codes "EpochFull"
 refusal_text (Malformed fault) = codes "Malformed " ++ kind_text fault.kind ++ codes " " ++ decimal fault.at
 refusal_text OtherSession = codes "OtherSession"
 refusal_text (OwnPacket epoch) = codes "OwnPacket " ++ decimal epoch
 refusal_text (Ahead epoch reached) = codes "Ahead " ++ decimal epoch ++ codes " " ++ decimal reached
-refusal_text BadTag = codes "BadTag"
 refusal_text (Spent p) = codes "Spent " ++ position_text p
+refusal_text (SkipLimit would) = codes "SkipLimit " ++ decimal would
+refusal_text BadTag = codes "BadTag"
+refusal_text InboxFull = codes "InboxFull"
+refusal_text (Fewer held) = codes "Fewer " ++ decimal held
+
+-- what a side holds
+unfoldable pub summary_text : Summary → List ℕ
+summary_text s =
+    codes "epoch " ++ decimal s.epoch ++ codes " missing " ++ decimal s.missing ++ codes " inbox " ++ decimal s.inbox
+    ++ codes " outbox " ++ decimal s.outbox
 
 -- an answer in words
 unfoldable pub answer_text : Answer → List ℕ
 answer_text (Said p) = codes "said " ++ position_text p
 answer_text (Opened p) = codes "opened " ++ position_text p
+answer_text (Sent n) = codes "sent " ++ decimal n
+answer_text (Done n) = codes "done " ++ decimal n
+answer_text (Inbox n) = codes "inbox " ++ decimal n
+answer_text (State s) = codes "state " ++ summary_text s
 answer_text Nothing = codes "nothing"
 answer_text (Refused r) = codes "refused " ++ refusal_text r
 
 -- the side whose event it is
 abbrev pub side_text : Event → List ℕ
 side_text (says text) = codes "second "
-side_text (takes index) = codes "first "
+side_text (drops_sent amount) = codes "second "
+side_text _ = codes "first "
 
 -- the line of an event with its answer
 unfoldable pub reply_line : Event → Answer → List ℕ
 reply_line event answer = side_text event ++ answer_text answer ++ codes "\n"
 
--- the lines of events, from a world on
-unfoldable pub replies : World → List Event → List ℕ
-replies w [] = []
-replies w (event ∷ events) = reply_line event (answer_of w event) ++ replies (next_of w event) events
+-- a printable byte, but for the quote and the backslash
+abbrev pub is_plain : ℕ → Bool
+is_plain byte = (nat_le 32 byte && nat_le byte 126) && not (byte == 34 || byte == 92)
 
--- the trace of a script
-unfoldable pub trace_of : Scripted → List ℕ
-trace_of script = replies (opening script.key) script.events
+-- a plain byte as it is; every other one as `\x` and two hex digits
+unfoldable pub escaped : ℕ → List ℕ
+escaped byte = if is_plain byte then byte ∷ [] else codes "\\x" ++ encode_lower (byte ∷ [])
+
+-- the line of a text in First's inbox
+unfoldable pub entry_line : Item → List ℕ
+entry_line item = codes "first " ++ position_text item.position ++ codes " \"" ++ flat_map escaped item.bytes ++ codes "\"\n"
+
+-- what an event is answered with, in lines
+unfoldable pub reply_of : {S : Type 0} → Event → Step S → List ℕ
+reply_of event step = reply_line event step.answer ++ flat_map entry_line step.entries

@@ -2,17 +2,27 @@
 
 ghost use Rattle.std.specs.Prelude.{◌≡◌, ℕ, ◌+◌, ◌≤◌, List, ◌++◌, length, codes, decimal};
 ghost use Rattle.duet.specs.Seen.{event_of};
-ghost use Rattle.duet.specs.Lines.{position_text, kind_text, refusal_text, answer_text, reply_line};
+ghost use Rattle.duet.specs.Lines.{position_text, kind_text, refusal_text, summary_text, answer_text, side_text, reply_line};
 
 use crate::script::Line;
 use dr_base::Position;
-use dr_model::{Answer, Refusal};
+use dr_model::{Answer, Refusal, Summary};
 use dr_ports::{OutputLine, ROOM};
 use packet::{Kind, Malformed};
 
+/// Puts a name and a number behind what stands.
+fn put_named(line: &mut OutputLine, name: &[u8], number: u64)
+    requires { length line.old + length name.now + 20 ≤ ROOM }
+    ensures bytes { line.new ≡ line.old ++ name.now ++ decimal number }
+    ensures len { length line.new ≤ length line.old + length name.now + 20 }
+{
+    line.text(name);
+    line.number(number);
+}
+
 /// Puts a position behind what stands, as `epoch.index`.
 #[tactic(auto, unfolding(crate::specs::Lines::position_text))]
-fn put_position(line: &mut OutputLine, position: Position)
+pub fn put_position(line: &mut OutputLine, position: Position)
     requires { length line.old + 41 ≤ ROOM }
     ensures bytes { line.new ≡ line.old ++ position_text position }
     ensures len { length line.new ≤ length line.old + 41 }
@@ -60,37 +70,46 @@ pub fn put_refusal(line: &mut OutputLine, refusal: Refusal)
     ensures len { length line.new ≤ length line.old + 60 }
 {
     match refusal {
-        Refusal::TextTooLong(len) => {
-            line.text(b"TextTooLong ");
-            line.number(len as u64);
-        }
+        Refusal::TextTooLong(len) => put_named(line, b"TextTooLong ", len as u64),
         Refusal::OutboxFull => line.text(b"OutboxFull"),
+        Refusal::EpochFull => line.text(b"EpochFull"),
         Refusal::Malformed(fault) => put_fault(line, fault),
         Refusal::OtherSession => line.text(b"OtherSession"),
-        Refusal::OwnPacket(epoch) => {
-            line.text(b"OwnPacket ");
-            line.number(u64::from(epoch));
-        }
+        Refusal::OwnPacket(epoch) => put_named(line, b"OwnPacket ", u64::from(epoch)),
         Refusal::Ahead(epoch, reached) => {
-            line.text(b"Ahead ");
-            line.number(u64::from(epoch));
-            line.text(b" ");
-            line.number(u64::from(reached));
+            put_named(line, b"Ahead ", u64::from(epoch));
+            put_named(line, b" ", u64::from(reached));
         }
-        Refusal::BadTag => line.text(b"BadTag"),
         Refusal::Spent(position) => {
             line.text(b"Spent ");
             put_position(line, position);
         }
+        Refusal::SkipLimit(would) => put_named(line, b"SkipLimit ", u64::from(would)),
+        Refusal::BadTag => line.text(b"BadTag"),
+        Refusal::InboxFull => line.text(b"InboxFull"),
+        Refusal::Fewer(held) => put_named(line, b"Fewer ", u64::from(held)),
     }
+}
+
+/// Puts what a side holds behind what stands.
+#[tactic(auto, unfolding(crate::specs::Lines::summary_text))]
+fn put_summary(line: &mut OutputLine, summary: Summary)
+    requires { length line.old + 110 ≤ ROOM }
+    ensures bytes { line.new ≡ line.old ++ summary_text summary }
+    ensures len { length line.new ≤ length line.old + 110 }
+{
+    put_named(line, b"epoch ", u64::from(summary.epoch));
+    put_named(line, b" missing ", u64::from(summary.missing));
+    put_named(line, b" inbox ", u64::from(summary.inbox));
+    put_named(line, b" outbox ", u64::from(summary.outbox));
 }
 
 /// Puts an answer in words behind what stands.
 #[tactic(auto, unfolding(crate::specs::Lines::answer_text))]
 fn put_answer(line: &mut OutputLine, answer: Answer)
-    requires { length line.old + 70 ≤ ROOM }
+    requires { length line.old + 116 ≤ ROOM }
     ensures bytes { line.new ≡ line.old ++ answer_text answer }
-    ensures len { length line.new ≤ length line.old + 70 }
+    ensures len { length line.new ≤ length line.old + 116 }
 {
     match answer {
         Answer::Said(position) => {
@@ -101,11 +120,29 @@ fn put_answer(line: &mut OutputLine, answer: Answer)
             line.text(b"opened ");
             put_position(line, position);
         }
+        Answer::Sent(n) => put_named(line, b"sent ", u64::from(n)),
+        Answer::Done(n) => put_named(line, b"done ", u64::from(n)),
+        Answer::Inbox(n) => put_named(line, b"inbox ", u64::from(n)),
+        Answer::State(summary) => {
+            line.text(b"state ");
+            put_summary(line, summary);
+        }
         Answer::Nothing => line.text(b"nothing"),
         Answer::Refused(refusal) => {
             line.text(b"refused ");
             put_refusal(line, refusal);
         }
+    }
+}
+
+/// The side whose event it is, and a space.
+fn side_name(event: &Line<'_>) -> &'static [u8]
+    ensures name { result.now ≡ side_text (event_of event.now) }
+    ensures short { length result.now ≤ 7 }
+{
+    match event {
+        Line::Say(_) | Line::Sent(_) => b"second ",
+        _ => b"first ",
     }
 }
 
@@ -115,10 +152,7 @@ pub fn reply(event: &Line<'_>, answer: Answer) -> OutputLine
     ensures { result ≡ reply_line (event_of event.now) answer }
 {
     let mut line = OutputLine::new();
-    match event {
-        Line::Say(_) => line.text(b"second "),
-        Line::Take(_) => line.text(b"first "),
-    }
+    line.text(side_name(event));
     put_answer(&mut line, answer);
     line.text(b"\n");
     line

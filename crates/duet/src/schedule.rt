@@ -1,11 +1,10 @@
 //! The keys that follow from the shared key.
 
-ghost use Rattle.std.specs.Prelude.{◌≡◌, ℕ, ◌≤◌, take, drop};
+ghost use Rattle.std.specs.Prelude.{◌≡◌, take, drop};
 ghost use Rattle.dr_model.specs.Schedule.{stream_of, session_of, begun};
-ghost use Rattle.etm_aead.specs.Chain.{message_key};
 
 use dr_base::Key32;
-use hmac_hkdf::{expand_into, extract, hmac};
+use hmac_hkdf::{expand_into, extract};
 
 /// The label under which a conversation begins.
 const LABEL: &[u8; 8] = b"dr begin";
@@ -39,19 +38,4 @@ pub fn begin(key: &Key32) -> Beginning
     let mut bytes = [0; 112];
     expand_into(&prk, LABEL, &mut bytes);
     split(&bytes)
-}
-
-#[tactic(auto, unfolding(etm_aead::specs::Chain::next_chain, etm_aead::specs::Chain::chain_message_key, etm_aead::specs::Chain::chain_of, etm_aead::specs::Chain::message_key))]
-/// The message key of an index of a stream, by steps from the stream's beginning.
-pub fn message_key_at(stream: [u8; 32], index: u32) -> Key32
-    requires { 1 ≤ index }
-    ensures { result.bytes ≡ message_key stream index }
-{
-    let mut chain = stream;
-    'steps: for _step in 0..index - 1 {
-        chain = hmac(&chain, &[2]);
-    }
-    Key32 {
-        bytes: hmac(&chain, &[1]),
-    }
 }

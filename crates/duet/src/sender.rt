@@ -1,146 +1,106 @@
-//! Second: it says texts, and keeps their packets.
+//! Second: it says texts, and keeps their packets until they are sent.
 
-ghost use Rattle.std.specs.Prelude.{◌≡◌, ℕ, ◌-◌, ◌+◌, ◌<◌, ◌≤◌, List, [], length, slice_index_or, take, map, vec_len, vec_capacity, IfOk, OnOk, OnErr, MatchOption};
-ghost use Rattle.packet.specs.Packet.{header_of, packet_of};
-ghost use Rattle.dr_model.specs.Packets.{packet_at};
+ghost use Rattle.std.specs.Prelude.{◌≡◌, ℕ, ◌≤◌, [], drop, length, nat_le, Ok, Err, IfOk, OnErr, if◌then◌else◌};
+ghost use Rattle.dr_model.specs.declared.answer.Refusal.TheVariants.{Fewer};
+ghost use Rattle.dr_model.specs.Events.{amount_of};
 ghost use Rattle.dr_model.specs.States.{Sending, saying, after_saying};
 
-use crate::message::{message_of, seal};
-use crate::schedule::message_key_at;
-use arrayvec::ArrayVec;
-use dr_base::Position;
-use dr_model::Refusal;
-use etm_aead::SealKey;
-use packet::{write_ad, write_into};
+use crate::amount::number_of;
+use crate::post::Post;
+use boxes::Outbox;
+use dr_base::Key32;
+use dr_model::{Amount, Refusal};
+use fs_aead::SendStream;
 use std::alloc::{AllocError, Global};
 use std::marker::Model;
-
-/// How many packets the outbox has room for.
-const OUTBOX_ROOM: usize = 32;
 
 /// The longest text, in bytes.
 const TEXT_LIMIT: usize = 1024;
 
-/// A packet of epoch 0: at most 65 bytes and a text.
-type Packet = ArrayVec<u8, 1089>;
+/// How many packets the outbox holds.
+const OUTBOX_LIMIT: u32 = 32;
+
+/// How many texts an epoch holds.
+const EPOCH_LIMIT: u32 = 65535;
 
 /// Second's side of a conversation in epoch 0.
 #[derive(Drop)]
 pub struct Sender {
     session: [u8; 16],
-    stream: [u8; 32],
-    packets: Vec<Packet>,
+    chain: Key32,
+    sent: u32,
+    outbox: Outbox,
 }
 
 impl Model for Sender {
+    ghost use Rattle.std.specs.Prelude.{◌≤◌};
+    ghost use Rattle.dr_model.specs.States.{Sending};
+
     ghost Value = { Sending };
 
-    ghost view = { λ s. record { session = s.session; stream = s.stream; packets = map (λ p. p.items) s.packets.items } };
+    ghost view = { λ s. record { session = s.session; chain = s.chain.bytes; sent = s.sent; outbox = s.outbox } };
 
-    ghost invariant = { λ s. (vec_len s.packets ≤ 32) × (32 ≤ vec_capacity s.packets) };
+    ghost invariant = { λ s. s.sent ≤ 65535 };
 }
 
 impl Sender {
     /// A side that has said nothing yet. It takes all its memory here.
     pub fn new(alloc: Global, session: [u8; 16], stream: [u8; 32]) -> Result<Self, AllocError>
-        ensures { IfOk result (λ s. s ≡ record { session = session; stream = stream; packets = [] }) }
+        ensures { IfOk result (λ s. s ≡ record { session = session; chain = stream; sent = 0; outbox = [] }) }
     {
         Ok(Sender {
             session,
-            stream,
-            packets: Vec::with_capacity(alloc, OUTBOX_ROOM)?,
+            chain: Key32 { bytes: stream },
+            sent: 0,
+            outbox: Outbox::new(alloc)?,
         })
     }
 
-    /// Says a text: seals it, keeps its packet and answers its index.
-    pub fn say(&mut self, text: &[u8]) -> Result<u32, Refusal>
+    /// How many packets stand in the outbox.
+    pub fn outbox_len(&self) -> u32
+        ensures { result ≡ length self.now.outbox }
+    {
+        self.outbox.len()
+    }
+
+    /// Says a text: seals it with the next key, puts its packet into the outbox and answers it.
+    pub fn say(&mut self, text: &[u8]) -> Result<Post, Refusal>
         ensures answer { result ≡ saying self.old text.now }
-        ensures said { OnOk result (self.new ≡ after_saying self.old text.now) }
+        ensures said { IfOk result (λ post. self.new ≡ after_saying self.old post) }
         ensures refused { OnErr result (self.new ≡ self.old) }
     {
         if text.len() > TEXT_LIMIT {
             return Err(Refusal::TextTooLong(text.len()));
         }
-        if self.packets.len() >= OUTBOX_ROOM {
+        if self.outbox.len() >= OUTBOX_LIMIT {
             return Err(Refusal::OutboxFull);
         }
-        let index = self.packets.len() as u32 + 1;
-        let packet = seal_packet(&self.session, self.stream, index, text);
-        self.packets.push_reserved(packet);
-        Ok(index)
-    }
-
-    /// The packet of an index, as the network holds it.
-    pub fn packet(&self, index: u32) -> Option<&[u8]>
-        ensures { MatchOption result (1 ≤ index → length self.now.packets < index)
-            (λ bytes. (1 ≤ index) × (index ≤ length self.now.packets) × (bytes.now ≡ slice_index_or self.now.packets (index - 1) [])) }
-    {
-        if index == 0 || index as usize > self.packets.len() {
-            return None;
+        if self.sent >= EPOCH_LIMIT {
+            return Err(Refusal::EpochFull);
         }
-        Some(self.packets[index as usize - 1].as_slice())
+        let chain = Key32 {
+            bytes: self.chain.bytes,
+        };
+        let (stream, key) = SendStream::resume(chain, self.sent).next();
+        let post = Post::seal(&self.session, key, self.sent + 1, text);
+        self.outbox.push(post.position(), post.packet()).unwrap();
+        let (chain, sent) = stream.rest();
+        self.chain = chain;
+        self.sent = sent;
+        Ok(post)
     }
-}
 
-/// What the tag of a text covers beside the ciphertext.
-fn ad_of(session: &[u8; 16], index: u32, text_len: usize) -> [u8; 33]
-    requires { text_len ≤ 1024 }
-    ensures { result ≡ header_of session.now 0 0 index [] text_len }
-{
-    let mut ad = [0; 33];
-    write_ad(
-        session,
-        Position { epoch: 0, index },
-        0,
-        &[],
-        text_len,
-        &mut ad,
-    );
-    ad
-}
-
-/// The packet of a ciphertext and its tag.
-fn packet_of_parts(session: &[u8; 16], index: u32, ciphertext: &[u8], tag: &[u8; 32]) -> Packet
-    requires one { 1 ≤ index }
-    requires most { index < 65536 }
-    requires short { length ciphertext.now ≤ 1024 }
-    ensures { result.items ≡ packet_of (record {
-      session = session.now;
-      epoch = 0;
-      previous = 0;
-      index = index;
-      agreement = [];
-      ciphertext = ciphertext.now;
-      tag = tag.now;
-    }) }
-{
-    let position = Position { epoch: 0, index };
-    let mut bytes = [0; 1089];
-    let len = write_into(session, position, 0, &[], ciphertext, tag, &mut bytes);
-    packet_of_bytes(&bytes, len)
-}
-
-/// The first bytes of a buffer.
-fn packet_of_bytes(bytes: &[u8; 1089], len: usize) -> Packet
-    requires { len ≤ 1089 }
-    ensures { result.items ≡ take len bytes.now }
-{
-    let mut packet = Packet::new();
-    packet.try_extend_from_slice(&bytes[..len]).unwrap();
-    packet
-}
-
-/// The packet of a text, sealed with the message key of its index.
-#[tactic(auto, unfolding(dr_model::specs::Packets::packet_at))]
-fn seal_packet(session: &[u8; 16], stream: [u8; 32], index: u32, text: &[u8]) -> Packet
-    requires one { 1 ≤ index }
-    requires most { index < 65536 }
-    requires short { length text.now ≤ 1024 }
-    ensures { result.items ≡ packet_at session.now stream index text.now }
-{
-    let ad = ad_of(session, index, text.len());
-    let mut message = message_of(text);
-    let key = SealKey::from_message(message_key_at(stream, index));
-    let tag = seal(key, &ad, &mut message);
-    packet_of_parts(session, index, message.as_slice(), &tag)
+    /// Takes the oldest packets out of the outbox, and answers how many.
+    pub fn drop_sent(&mut self, amount: Amount) -> Result<u32, Refusal>
+        ensures answer { let n = amount_of amount (length self.old.outbox) in
+            result ≡ (if nat_le n (length self.old.outbox) then Ok n else Err (Fewer (length self.old.outbox))) }
+        ensures dropped { IfOk result (λ n. self.new ≡ record self.old { outbox = drop n self.old.outbox }) }
+        ensures refused { OnErr result (self.new ≡ self.old) }
+    {
+        let n = number_of(amount, self.outbox.len());
+        match self.outbox.drop_first(n) {
+            Ok(()) => Ok(n),
+            Err(fewer) => Err(Refusal::Fewer(fewer.held)),
+        }
+    }
 }

@@ -1,110 +1,147 @@
-//! Both sides of a conversation, and the network between them.
+//! Both sides of a conversation, with the network between them.
 
-ghost use Rattle.std.specs.Prelude.{◌≡◌, ℕ, ◌+◌, ◌≤◌, List, Ok, Err, IfOk, OnOk, IsErrOf};
-ghost use Rattle.dr_ports.specs.Ports.{Rose, appended};
-ghost use Rattle.dr_ports.specs.Writing.{TookBeginning};
-ghost use Rattle.dr_model.specs.Machine.{World, says, takes, opening, answer_of, next_of};
-ghost use Rattle.duet.specs.Lines.{trace_of};
-ghost use Rattle.duet.specs.Seen.{event_of, seen_script};
+ghost use Rattle.std.specs.Prelude.{◌≡◌, ℕ, ◌<◌, [], length, vec_capacity, IfOk};
+ghost use Rattle.dr_model.specs.Events.{says, takes, flips, drops_sent, drops_done};
+ghost use Rattle.dr_model.specs.Sides.{step_on};
+ghost use Rattle.dr_model.specs.Standing.{sides_of};
+ghost use Rattle.dr_model.specs.Worlds.{opening};
+ghost use Rattle.duet.specs.Held.{DuetNow, stepped};
 
+use crate::network::{flipped, held};
+use crate::post::Post;
 use crate::receiver::Receiver;
-use crate::reply::reply;
 use crate::schedule::begin;
-use crate::script::{Line, Script};
+use crate::script::Line;
 use crate::sender::Sender;
-use dr_base::{Key32, Position};
-use dr_model::{Answer, Refusal};
-use dr_ports::{Failed, Sink, write_all};
+use boxes::Inbox;
+use dr_base::Key32;
+use dr_model::{Amount, Answer, Refusal};
 use std::alloc::{AllocError, Global};
+use std::marker::Model;
 
-/// Why a script wasn't played to its end.
-#[derive(Clone, Copy, Debug, PartialEq, Eq, Hash)]
-pub enum PlayError {
-    /// There was no memory for the two sides; nothing was written.
-    Memory,
-    /// A write failed.
-    Write,
-}
-
-/// Both sides. The network holds every packet that Second made.
+/// Both sides. The network holds every packet that stood in Second's outbox.
 #[derive(Drop)]
 pub struct Duet {
     second: Sender,
     first: Receiver,
+    posts: Vec<Post>,
+}
+
+impl Model for Duet {
+    ghost use Rattle.std.specs.Prelude.{vec_capacity};
+    ghost use Rattle.duet.specs.Held.{DuetNow, duet_now};
+
+    ghost Value = { DuetNow };
+
+    ghost view = { λ d. duet_now d.second d.first d.posts.items (vec_capacity d.posts) };
 }
 
 impl Duet {
-    ghost use Rattle.duet.specs.Playing.{Plays};
+    ghost use Rattle.duet.specs.Seen.{event_of};
 
-    /// Both sides before the first event. It takes all memory that the events need.
-    fn new(alloc: Global, key: &Key32) -> Result<Self, AllocError>
-        ensures { IfOk result (Plays (opening key.now.bytes)) }
+    /// Both sides before the first event, and room in the network for so many packets. It takes all memory that the
+    /// events need.
+    pub fn new(alloc: Global, key: &Key32, room: usize) -> Result<Self, AllocError>
+        ensures { IfOk result (λ duet. duet ≡ record { sides = sides_of (opening key.now.bytes); room = room }) }
     {
         let beginning = begin(key);
         Ok(Duet {
             second: Sender::new(alloc, beginning.session, beginning.stream)?,
             first: Receiver::new(alloc, beginning.session, beginning.stream)?,
+            posts: Vec::with_capacity(alloc, room)?,
         })
     }
 
-    /// Second says a text.
+    /// First's inbox.
+    pub fn inbox(&self) -> &Inbox
+        ensures { result.now ≡ self.now.sides.first.inbox }
+    {
+        self.first.inbox()
+    }
+
+    /// Second says a text, whose packet the network gets.
     fn say(&mut self, text: &[u8]) -> Answer
-        ensures answer { (w : World) → Plays w self.old → result ≡ answer_of w (says text.now) }
-        ensures next { (w : World) → Plays w self.old → Plays (next_of w (says text.now)) self.new }
+        requires { length self.old.sides.posts < self.old.room }
+        ensures answer { result ≡ (step_on self.old.sides (says text.now)).answer }
+        ensures next { self.new ≡ stepped self.old (says text.now) }
     {
         match self.second.say(text) {
-            Ok(index) => Answer::Said(Position { epoch: 0, index }),
+            Ok(post) => {
+                let position = post.position();
+                self.posts.push_reserved(post);
+                Answer::Said(position)
+            }
             Err(refusal) => Answer::Refused(refusal),
         }
     }
 
     /// First takes the packet of an index.
     fn take(&mut self, index: u32) -> Answer
-        ensures answer { (w : World) → Plays w self.old → result ≡ answer_of w (takes index) }
-        ensures next { (w : World) → Plays w self.old → Plays (next_of w (takes index)) self.new }
+        ensures answer { result ≡ (step_on self.old.sides (takes index)).answer }
+        ensures next { self.new ≡ stepped self.old (takes index) }
     {
-        match self.second.packet(index) {
+        match held(self.posts.as_slice(), index) {
             None => Answer::Nothing,
-            Some(packet) => match self.first.take(packet) {
-                Ok(opened) => Answer::Opened(Position {
-                    epoch: 0,
-                    index: opened.index,
-                }),
+            Some(bytes) => match self.first.take(bytes) {
+                Ok(position) => Answer::Opened(position),
                 Err(refusal) => Answer::Refused(refusal),
             },
         }
     }
 
-    /// One event.
-    fn step(&mut self, line: &Line<'_>) -> Answer
-        ensures answer { (w : World) → Plays w self.old → result ≡ answer_of w (event_of line.now) }
-        ensures next { (w : World) → Plays w self.old → Plays (next_of w (event_of line.now)) self.new }
+    /// First takes the packet of an index with one bit changed.
+    fn flip(&mut self, index: u32, bit: u32) -> Answer
+        ensures answer { result ≡ (step_on self.old.sides (flips index bit)).answer }
+        ensures next { self.new ≡ stepped self.old (flips index bit) }
+    {
+        match held(self.posts.as_slice(), index) {
+            None => Answer::Nothing,
+            Some(bytes) => match flipped(bit, bytes) {
+                None => Answer::Nothing,
+                Some(packet) => match self.first.take(packet.as_slice()) {
+                    Ok(position) => Answer::Opened(position),
+                    Err(refusal) => Answer::Refused(refusal),
+                },
+            },
+        }
+    }
+
+    /// Second's oldest packets leave the outbox.
+    fn drop_sent(&mut self, amount: Amount) -> Answer
+        ensures answer { result ≡ (step_on self.old.sides (drops_sent amount)).answer }
+        ensures next { self.new ≡ stepped self.old (drops_sent amount) }
+    {
+        match self.second.drop_sent(amount) {
+            Ok(n) => Answer::Sent(n),
+            Err(refusal) => Answer::Refused(refusal),
+        }
+    }
+
+    /// First's oldest texts leave the inbox.
+    fn drop_done(&mut self, amount: Amount) -> Answer
+        ensures answer { result ≡ (step_on self.old.sides (drops_done amount)).answer }
+        ensures next { self.new ≡ stepped self.old (drops_done amount) }
+    {
+        match self.first.drop_done(amount) {
+            Ok(n) => Answer::Done(n),
+            Err(refusal) => Answer::Refused(refusal),
+        }
+    }
+
+    /// One event. An inbox is answered with how many texts stand in it.
+    pub fn step(&mut self, line: &Line<'_>) -> Answer
+        requires { length self.old.sides.posts < self.old.room }
+        ensures answer { result ≡ (step_on self.old.sides (event_of line.now)).answer }
+        ensures next { self.new ≡ stepped self.old (event_of line.now) }
     {
         match line {
             Line::Say(text) => self.say(text),
             Line::Take(index) => self.take(*index),
+            Line::Flip(index, bit) => self.flip(*index, *bit),
+            Line::Sent(amount) => self.drop_sent(*amount),
+            Line::Done(amount) => self.drop_done(*amount),
+            Line::Inbox => Answer::Inbox(self.first.inbox().len()),
+            Line::State => Answer::State(self.first.summary()),
         }
     }
-}
-
-/// Plays a script: it writes a line for each event, with the machine's answer.
-pub fn play<O: Sink>(alloc: Global, script: &Script<'_>, out: &mut O) -> Result<(), PlayError>
-    ensures ok { OnOk result (O.taken out.new ≡ appended (O.taken out.old) (trace_of (seen_script script.now))) }
-    ensures memory { IsErrOf result PlayError.Memory → O.taken out.new ≡ O.taken out.old }
-    ensures write { IsErrOf result PlayError.Write
-        → TookBeginning (O.taken out.old) (O.taken out.new) (trace_of (seen_script script.now)) × Rose (O.faults out.old) (O.faults out.new) }
-    ensures later { O.faults out.old ≤ O.faults out.new }
-{
-    let Ok(mut duet) = Duet::new(alloc, &script.key) else {
-        return Err(PlayError::Memory);
-    };
-    'events: for line in &script.lines {
-        let answer = duet.step(line);
-        let reply = reply(line, answer);
-        match write_all(out, reply.as_bytes()) {
-            Err(Failed) => return Err(PlayError::Write),
-            Ok(()) => {}
-        }
-    }
-    Ok(())
 }

@@ -3,18 +3,20 @@ use Rattle.std.specs.Prelude.{◌≡◌, ℕ, ◌<◌, ◌≤◌, List, [], leng
 use Rattle.dr_ports.specs.Ports.{Rose, appended}
 use Rattle.dr_ports.specs.Writing.{TookBeginning}
 use Rattle.duet.specs.Script.{Scripted, script_of}
-use Rattle.duet.specs.Lines.{trace_of}
+use Rattle.duet.specs.Trace.{IsFairScript, played, trace_of}
 use Rattle.messenger_cli.specs.declared.ending.Ending.{Ending}
 use Rattle.messenger_cli.specs.declared.ending.Ending.TheVariants.{Done, Usage, InputTooLong, BadLine, ReadFault, NoMemory}
 use Rattle.messenger_cli.specs.declared.ending.TheConstants.{SCRIPT_LIMIT}
 use Rattle.messenger_cli.specs.Ends.{Ends}
 
--- the source's text is a script, and these lines are its trace
+-- the source's text is a script, and these lines are what both sides answer to it: where no packet that the script
+-- makes up has a forged tag, the machine's trace
 pub record IsTraceOf (text lines : List ℕ) : Type 0 where
   pub script : Scripted
   pub fits : length text ≤ SCRIPT_LIMIT
   pub read : script_of text ≡ Ok script
-  pub lines_are : lines ≡ trace_of script
+  pub lines_are : lines ≡ played script
+  pub trace_is : IsFairScript script → lines ≡ trace_of script
 
 -- the text's first bad line
 pub record HasBadLine (text : List ℕ) (number : ℕ) : Type 0 where

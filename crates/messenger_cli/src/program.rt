@@ -50,8 +50,9 @@ pub fn run<S: Source, O: Sink>(
     // Other words are answered with how the program is used, and nothing else is done.
     ensures usage { (IsDuet words.now → ⊥) → Ends Usage [] (O.taken out.old) (O.taken out.new) (O.faults out.old) (O.faults out.new) result.code }
 
-    // The headline: what is written is what the machine answers to the script's events, up to a write that fails,
-    // and each ending has its cause.
+    // The headline: what is written is what both sides answer to the script's events, up to a write that fails, and
+    // that is what the machine answers, where no packet that the script makes up has a forged tag. Each ending has
+    // its cause.
     ensures duet { IsDuet words.now → RunsDuet (S.left source.old) (S.faults source.old) (S.faults source.new)
         (O.taken out.old) (O.taken out.new) (O.faults out.old) (O.faults out.new) result.code }
     ensures reads { S.faults source.old ≤ S.faults source.new }

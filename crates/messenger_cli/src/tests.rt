@@ -6,10 +6,14 @@ use std::alloc::{AllocError, Global};
 use std::io::Cursor;
 use std::test::Fail;
 
-const HELLO: &[u8] =
-    b"kem open\nkey 0000000000000000000000000000000000000000000000000000000000000000\nsecond say hi\nfirst take 0.1\nfirst take 0.1\n";
+const HEAD: &[u8] =
+    b"kem open\nkey 0000000000000000000000000000000000000000000000000000000000000000\n";
 
-const HELLO_TRACE: &[u8] = b"second said 0.1\nfirst opened 0.1\nfirst refused Spent 0.1\n";
+const HELLO: &[u8] =
+    b"kem open\nkey 0000000000000000000000000000000000000000000000000000000000000000\nsecond say hi\nfirst take 0.1\nfirst inbox\nfirst take 0.1\n";
+
+const HELLO_TRACE: &[u8] =
+    b"second said 0.1\nfirst opened 0.1\nfirst inbox 1\nfirst 0.1 \"hi\"\nfirst refused Spent 0.1\n";
 
 fn run_duet<S: Source, O: Sink>(
     alloc: Global,
@@ -34,38 +38,89 @@ fn outcome(
     Ok((status.code, out.taken() == expected))
 }
 
+/// Whether a script of these lines behind the key ends with status 0 and writes just this.
+fn answers(alloc: Global, lines: &[u8], expected: &[u8]) -> Result<bool, AllocError> {
+    let mut script = Vec::from_slice(alloc, HEAD)?;
+    script.extend_from_slice(lines)?;
+    Ok(outcome(alloc, script.as_slice(), &[], 16384, expected)? == (0, true))
+}
+
 #[test]
 fn plays_scripts(rt: HostRuntime) -> Result<(), Fail> {
     let alloc = rt.alloc();
-    let cases: [(&[u8], u8, &[u8]); 9] = [
-        (HELLO, 0, HELLO_TRACE),
-        (b"", 3, b"refused: Script 1\n"),
-        (b"kem open\n", 3, b"refused: Script 2\n"),
-        (b"kem sntrup761\n", 3, b"refused: Script 1\n"),
-        (b"kem open\nkey 00\n", 3, b"refused: Script 2\n"),
+    let cases: [(&[u8], &[u8]); 8] = [
         (
-            b"kem open\nkey 00112233445566778899AABBCCDDEEFF00112233445566778899aabbccddeeff\nsecond say\nsecond say \nfirst take 0.2\nfirst take 0.3\nfirst take 0.0\nfirst take 0.1",
-            0,
+            b"second say\nsecond say \nfirst take 0.2\nfirst take 0.3\nfirst take 0.0\nfirst take 0.1",
             b"second said 0.1\nsecond said 0.2\nfirst opened 0.2\nfirst nothing\nfirst nothing\nfirst opened 0.1\n",
         ),
+        // a bit of each field of a packet, and then the packet itself
         (
-            b"kem open\nkey 0000000000000000000000000000000000000000000000000000000000000000\nsecond say a\nfirst take 0.01\n",
-            3,
-            b"refused: Script 4\n",
+            b"second say hi\nfirst flip 0.1 535\nfirst flip 0.1 0\nfirst flip 0.1 8\nfirst flip 0.1 160\nfirst flip 0.1 224\nfirst flip 0.1 225\nfirst flip 0.1 536\nfirst flip 0.2 0\nfirst take 0.1\n",
+            b"second said 0.1\nfirst refused BadTag\nfirst refused Malformed Version 0\nfirst refused OtherSession\nfirst refused Malformed Agreement 29\nfirst refused Malformed Index 25\nfirst refused BadTag\nfirst nothing\nfirst nothing\nfirst opened 0.1\n",
+        ),
+        // the indices 257, 513 and 65,537
+        (
+            b"second say hi\nfirst flip 0.1 216\nfirst flip 0.1 217\nfirst flip 0.1 208\n",
+            b"second said 0.1\nfirst refused BadTag\nfirst refused SkipLimit 512\nfirst refused Malformed Index 25\n",
+        ),
+        // the epochs 2 and 65
+        (
+            b"second say hi\nfirst flip 0.1 161\nfirst flip 0.1 167\n",
+            b"second said 0.1\nfirst refused Malformed Agreement 29\nfirst refused Malformed Agreement 29\n",
         ),
         (
-            b"kem open\nkey 0000000000000000000000000000000000000000000000000000000000000000\nfirst say a\n",
-            3,
-            b"refused: Script 3\n",
+            b"second say a\"b\\\nfirst take 0.1\nfirst inbox\n",
+            b"second said 0.1\nfirst opened 0.1\nfirst inbox 1\nfirst 0.1 \"a\\x22b\\x5c\"\n",
         ),
         (
-            b"kem open\nkey 0000000000000000000000000000000000000000000000000000000000000000\n\n",
-            3,
-            b"refused: Script 3\n",
+            b"second say one\nsecond say two\nsecond say three\nfirst take 0.3\nfirst state\nfirst take 0.1\nfirst state\nfirst take 0.2\nfirst state\nfirst inbox\n",
+            b"second said 0.1\nsecond said 0.2\nsecond said 0.3\nfirst opened 0.3\nfirst state epoch 0 missing 2 inbox 1 outbox 0\nfirst opened 0.1\nfirst state epoch 0 missing 1 inbox 2 outbox 0\nfirst opened 0.2\nfirst state epoch 0 missing 0 inbox 3 outbox 0\nfirst inbox 3\nfirst 0.3 \"three\"\nfirst 0.1 \"one\"\nfirst 0.2 \"two\"\n",
+        ),
+        (
+            b"second say a\nsecond say b\nfirst take 0.2\nfirst take 0.1\nfirst done 3\nfirst done 1\nfirst inbox\nfirst done all\nfirst done all\nfirst take 0.2\n",
+            b"second said 0.1\nsecond said 0.2\nfirst opened 0.2\nfirst opened 0.1\nfirst refused Fewer 2\nfirst done 1\nfirst inbox 1\nfirst 0.1 \"a\"\nfirst done 1\nfirst done 0\nfirst refused Spent 0.2\n",
+        ),
+        (
+            b"second say a\nsecond sent 2\nsecond sent 1\nsecond sent all\nfirst take 0.1\n",
+            b"second said 0.1\nsecond refused Fewer 1\nsecond sent 1\nsecond sent 0\nfirst opened 0.1\n",
         ),
     ];
-    for (script, code, lines) in cases {
-        assert_eq!(rt; outcome(alloc, script, &[], 4096, lines)?, (code, true));
+    for (lines, expected) in cases {
+        assert!(rt; answers(alloc, lines, expected)?);
+    }
+    assert_eq!(rt; outcome(alloc, HELLO, &[], 4096, HELLO_TRACE)?, (0, true));
+    Ok(())
+}
+
+#[test]
+fn refuses_bad_lines(rt: HostRuntime) -> Result<(), Fail> {
+    let alloc = rt.alloc();
+    let cases: [(&[u8], &[u8]); 14] = [
+        (b"", b"refused: Script 1\n"),
+        (b"kem open\n", b"refused: Script 2\n"),
+        (b"kem sntrup761\n", b"refused: Script 1\n"),
+        (b"kem open\nkey 00\n", b"refused: Script 2\n"),
+        (b"second say a\nfirst take 0.01\n", b"refused: Script 4\n"),
+        (b"first say a\n", b"refused: Script 3\n"),
+        (b"\n", b"refused: Script 3\n"),
+        (b"second take 0.1\n", b"refused: Script 3\n"),
+        (b"first take 1.1\n", b"refused: Script 3\n"),
+        (b"first flip 0.1\n", b"refused: Script 3\n"),
+        (b"first flip 0.1  2\n", b"refused: Script 3\n"),
+        (b"first inbox \n", b"refused: Script 3\n"),
+        (b"second sent\n", b"refused: Script 3\n"),
+        (b"first done 4294967296\n", b"refused: Script 3\n"),
+    ];
+    for (text, line) in cases {
+        let mut script = Vec::new(alloc);
+        if !text.starts_with(b"kem") && !text.is_empty() {
+            script.extend_from_slice(HEAD)?;
+        }
+        script.extend_from_slice(text)?;
+        assert_eq!(rt;
+            outcome(alloc, script.as_slice(), &[], 64, line)?,
+            (3, true)
+        );
     }
     Ok(())
 }
@@ -109,24 +164,86 @@ fn knows_one_command(rt: HostRuntime) -> Result<(), Fail> {
 #[test]
 fn refuses_at_limits(rt: HostRuntime) -> Result<(), Fail> {
     let alloc = rt.alloc();
-    let mut script = Vec::from_slice(
-        alloc,
-        b"kem open\nkey 0000000000000000000000000000000000000000000000000000000000000000\n",
-    )?;
     let mut lines = Vec::new(alloc);
+    let mut trace = Vec::new(alloc);
     for i in 1..33 {
-        script.extend_from_slice(b"second say a\n")?;
-        lines.extend_from_slice(format!(in alloc; "second said 0.{i}\n")?.as_bytes())?;
+        lines.extend_from_slice(b"second say a\n")?;
+        trace.extend_from_slice(format!(in alloc; "second said 0.{i}\n")?.as_bytes())?;
     }
-    script.extend_from_slice(b"second say a\nsecond say ")?;
+    lines.extend_from_slice(b"second say a\nsecond say ")?;
     for _ in 0..1025 {
-        script.push(b'a')?;
+        lines.push(b'a')?;
     }
-    lines.extend_from_slice(b"second refused OutboxFull\nsecond refused TextTooLong 1025\n")?;
-    assert_eq!(rt;
-        outcome(alloc, script.as_slice(), &[], 4096, lines.as_slice())?,
-        (0, true)
+    lines.extend_from_slice(b"\nsecond sent 1\nsecond say ")?;
+    for _ in 0..1024 {
+        lines.push(b'a')?;
+    }
+    lines.extend_from_slice(b"\nfirst take 0.33\n")?;
+    trace.extend_from_slice(
+        b"second refused OutboxFull\nsecond refused TextTooLong 1025\nsecond sent 1\nsecond said 0.33\nfirst opened 0.33\n",
+    )?;
+    assert!(rt; answers(alloc, lines.as_slice(), trace.as_slice())?);
+    Ok(())
+}
+
+/// Lines in which Second says so many texts, each sent at once, and their answers; then these lines.
+fn said_and_sent(
+    alloc: Global,
+    texts: u32,
+    lines: &[u8],
+    answered: &[u8],
+) -> Result<bool, AllocError> {
+    let mut script = Vec::new(alloc);
+    let mut trace = Vec::new(alloc);
+    for i in 1..texts + 1 {
+        script.extend_from_slice(b"second say a\nsecond sent 1\n")?;
+        trace.extend_from_slice(format!(in alloc;
+            "second said 0.{i}\nsecond sent 1\n"
+        )?.as_bytes())?;
+    }
+    script.extend_from_slice(lines)?;
+    trace.extend_from_slice(answered)?;
+    answers(alloc, script.as_slice(), trace.as_slice())
+}
+
+#[test]
+fn keeps_256_keys(rt: HostRuntime) -> Result<(), Fail> {
+    let alloc = rt.alloc();
+    assert!(rt;
+        said_and_sent(
+            alloc,
+            258,
+            b"first take 0.257\nfirst state\n",
+            b"first opened 0.257\nfirst state epoch 0 missing 256 inbox 1 outbox 0\n",
+        )?
     );
+    assert!(rt;
+        said_and_sent(
+            alloc,
+            258,
+            b"first take 0.258\nfirst take 0.1\nfirst take 0.258\nfirst state\n",
+            b"first refused SkipLimit 257\nfirst opened 0.1\nfirst opened 0.258\nfirst state epoch 0 missing 256 inbox 2 outbox 0\n",
+        )?
+    );
+    Ok(())
+}
+
+#[test]
+fn fills_the_inbox(rt: HostRuntime) -> Result<(), Fail> {
+    let alloc = rt.alloc();
+    let mut lines = Vec::new(alloc);
+    let mut trace = Vec::new(alloc);
+    for i in 1..65 {
+        lines.extend_from_slice(format!(in alloc; "first take 0.{i}\n")?.as_bytes())?;
+        trace.extend_from_slice(format!(in alloc; "first opened 0.{i}\n")?.as_bytes())?;
+    }
+    lines.extend_from_slice(
+        b"first take 0.65\nfirst flip 0.65 527\nfirst done 1\nfirst take 0.65\n",
+    )?;
+    trace.extend_from_slice(
+        b"first refused InboxFull\nfirst refused BadTag\nfirst done 1\nfirst opened 0.65\n",
+    )?;
+    assert!(rt; said_and_sent(alloc, 65, lines.as_slice(), trace.as_slice())?);
     Ok(())
 }
 
@@ -134,7 +251,7 @@ fn refuses_at_limits(rt: HostRuntime) -> Result<(), Fail> {
 fn runs_over_std(rt: HostRuntime) -> Result<(), Fail> {
     let alloc = rt.alloc();
     let mut source = ReaderSource::new(HELLO);
-    let mut bytes = [0; 57];
+    let mut bytes = [0; 86];
     let mut out = WriterSink::new(Cursor::new(bytes.as_mut_slice()));
     assert_eq!(rt; run_duet(alloc, &mut source, &mut out)?.code, 0);
     drop(out);

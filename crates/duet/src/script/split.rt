@@ -1,7 +1,7 @@
 //! A text taken apart: its first line, and what follows a prefix.
 
-ghost use Rattle.std.specs.Prelude.{◌≡◌, ◌≢◌, ℕ, ◌+◌, ◌<◌, ◌≤◌, List, [], ◌∷◌, length, slice_index, take, drop, option_copied, MatchOption, IfSome};
-ghost use Rattle.duet.specs.Script.{lines_of, after_prefix};
+ghost use Rattle.std.specs.Prelude.{◌≡◌, ◌≢◌, ℕ, ◌+◌, ◌<◌, ◌≤◌, List, [], ◌∷◌, length, slice_index, take, drop, option_copied, option_map, MatchOption, IfSome};
+ghost use Rattle.duet.specs.Script.{lines_of, after_prefix, halves_of};
 
 /// The place of the first line feed, or the end of the text.
 fn line_end(text: &[u8]) -> usize
@@ -42,4 +42,15 @@ pub fn after<'a>(text: &'a [u8], prefix: &[u8]) -> Option<&'a [u8]>
         return Some(&text[prefix.len()..]);
     }
     None
+}
+
+/// The text before the first space, and the text behind it.
+#[tactic(auto, unfolding(crate::specs::Script::halves_of))]
+pub fn halves(text: &[u8]) -> Option<(&[u8], &[u8])>
+    ensures { option_map (λ halves. (halves.0.now, halves.1.now)) result ≡ halves_of text.entry.now }
+{
+    match text.iter().position(|byte| *byte == b' ') {
+        Some(at) => Some((&text[..at], &text[at + 1..])),
+        None => None,
+    }
 }
