@@ -195,7 +195,8 @@ fn said_and_sent(
 ) -> Result<bool, AllocError> {
     let mut script = Vec::new(alloc);
     let mut trace = Vec::new(alloc);
-    for i in 1..texts + 1 {
+    for said in 0..texts {
+        let i = u64::from(said) + 1;
         script.extend_from_slice(b"second say a\nsecond sent 1\n")?;
         trace.extend_from_slice(format!(in alloc;
             "second said 0.{i}\nsecond sent 1\n"
