@@ -4,7 +4,7 @@ use Rattle.std.specs.Prelude.{max}
 use Rattle.std.proofs.lemmas.Bool.{or_left, or_right, eq-eqb, ne_eqb}
 use Rattle.std.proofs.lemmas.Bool.Decides.{nat_tests}
 use Rattle.std.proofs.lemmas.List.Folds.{list_any-append}
-use Rattle.dr_model.specs.Worlds.{is_among, reach}
+use Rattle.dr_model.specs.Indices.{is_among, reach}
 
 -- a test that fails adds nothing
 or_false : (a b : Bool) → b ≡ false → (a || (b || false)) ≡ a

@@ -1,139 +1,166 @@
--- Runs of the machine, and what becomes of a packet of Second's.
-use Rattle.std.proofs.Common.{◌≡◌, ℕ, ◌+◌, ◌<◌, ◌≤◌, Bool, true, false, List, [], ◌∷◌, ◌++◌, length, count_by, Ok, Err, refl, sym, ◌∙◌, ap, subst, arith, cond}
-use Rattle.std.specs.Prelude.{◌==◌, ◌||◌, if◌then◌else◌, nat_le, nat_lt}
+-- Runs of a world, and what becomes of a packet of the peer's.
+use Rattle.std.proofs.Common.{◌≡◌, ℕ, ◌+◌, ◌<◌, ◌≤◌, Bool, true, false, List, [], ◌∷◌, ◌++◌, length, count_by, Some, None, Err, refl, sym, ◌∙◌, ap, subst, arith}
+use Rattle.std.specs.Prelude.{◌||◌, nat_le, nat_lt}
 use Rattle.std.specs.List.{list_any}
-use Rattle.std.proofs.lemmas.Bool.{eqb-true, or_left, cond-true, cond-false, le-ltb, lt-ltb, le-leb, lt-leb}
+use Rattle.std.proofs.lemmas.Bool.{or_left, or_right, cond-true, cond-false, le-ltb, lt-ltb, le-leb, lt-leb}
+use Rattle.std.proofs.lemmas.Bool.Decides.{nat_tests}
 use Rattle.std.proofs.lemmas.List.{map_push}
 use Rattle.std.proofs.lemmas.List.Folds.{list_any-append}
-use Rattle.std.proofs.lemmas.List.Sums.{sum_by-cons, sum_by_push}
+use Rattle.dr_base.specs.declared.position.Position.{Position}
+use Rattle.dr_base.specs.declared.position.Side.{Side}
+use Rattle.dr_base.specs.declared.position.Side.TheVariants.{First, Second}
 use Rattle.dr_model.specs.declared.answer.Answer.TheVariants.{Opened, Refused}
 use Rattle.dr_model.specs.declared.answer.Refusal.{Refusal}
-use Rattle.dr_model.specs.declared.answer.Refusal.TheVariants.{Spent, SkipLimit, InboxFull}
-use Rattle.dr_model.specs.Events.{Event, takes, step, settled, nothing}
-use Rattle.dr_model.specs.Headline.{IsWithin, times_opened}
-use Rattle.dr_model.specs.Machine.{taking_in, step_of, run_of}
-use Rattle.dr_model.specs.Packets.{position}
-use Rattle.dr_model.specs.Worlds.{World, is_said, is_among, is_opened, after, missing, entry_of, history, inbox}
-use Rattle.dr_model.proofs.Arrived.{is_among-last}
-use Rattle.dr_model.proofs.Growth.{Grows, same, more, event_sound}
+use Rattle.dr_model.specs.declared.answer.Refusal.TheVariants.{OwnPacket, Spent, SkipLimit, InboxFull}
+use Rattle.dr_model.specs.Conversation.{is_own, is_said}
+use Rattle.dr_model.specs.Steps.{Step, step, settled}
+use Rattle.dr_model.specs.Events.{Event, takes}
+use Rattle.dr_model.specs.Headline.{IsWithinLimits, IsNew, times_opened_by}
+use Rattle.dr_model.specs.Machine.{World, opening_world, view_of, with_view, inbox_in, taking_in, taking_at, step_of, run_of}
+use Rattle.dr_model.specs.Turns.{Mechanism}
+use Rattle.dr_model.specs.Views.{View, is_at, has_opened, after_opening, missing_of, entry_at, history_of}
+use Rattle.dr_model.proofs.Counted.{count_by-none, count_push}
+use Rattle.dr_model.proofs.Passes.{none_passes, second_passes, third_passes}
+use Rattle.dr_model.proofs.WorldGrowth.{Gains, same, more, IsUnchanged, step_sound}
+use Rattle.dr_model.proofs.NetworkPosts.{here}
 
 -- ---- runs
 
--- an index that is among the first list is among the second
-among_grown : (xs ys : List ℕ) (index : ℕ) → Grows xs ys → is_among xs index ≡ true → is_among ys index ≡ true
-among_grown xs ys index (same e) h = ap (λ zs. is_among zs index) e ∙ h
-among_grown xs ys index (more i new e) h =
-    ap (λ zs. is_among zs index) e ∙ list_any-append (λ k. k == index) xs (i ∷ []) ∙ or_left (is_among xs index) (is_among (i ∷ []) index) h
+-- a position that is among the first is among the second
+gained_among : (ps qs : List Position) (p : Position) → Gains ps qs → list_any (is_at p) ps ≡ true → list_any (is_at p) qs ≡ true
+gained_among ps qs p (same e) h = ap (list_any (is_at p)) e ∙ h
+gained_among ps qs p (more q new e) h =
+    ap (list_any (is_at p)) e ∙ list_any-append (is_at p) ps (q ∷ []) ∙ or_left (list_any (is_at p) ps) (list_any (is_at p) (q ∷ [])) h
 
 -- opened stays opened
-pub stays_opened : (w : World) (events : List Event) (index : ℕ) → is_opened w index ≡ true → is_opened (run_of w events) index ≡ true
-stays_opened w [] index h = h
-stays_opened w (event ∷ events) index h =
-    stays_opened (step_of w event).next events index
-    (among_grown w.arrived (step_of w event).next.arrived index (event_sound w event).grows h)
+pub stays : (k : Mechanism) (w : World) (hs : List Event) (side : Side) (p : Position) → has_opened (view_of w side) p ≡ true
+    → has_opened (view_of (run_of k w hs) side) p ≡ true
+stays k w [] side p h = h
+stays k w (e ∷ hs) side p h =
+    stays k (step_of k w e).next hs side p
+    (gained_among (view_of w side).arrived (view_of (step_of k w e).next side).arrived p ((step_sound k w e).gains side) h)
 
--- one step of the next lemma
-none_step : (a r : Bool) (n : ℕ) → (r ≡ false → n ≡ 0) → (a || r) ≡ false → cond a 1 0 + n ≡ 0
-none_step true r n none h = cc
-none_step false r n none h = let e : n ≡ 0 = none h in omega arith
-
--- what isn't there is counted 0 times
-count_by-none : (p : ℕ → Bool) (xs : List ℕ) → list_any p xs ≡ false → count_by p xs ≡ 0
-count_by-none p [] h = refl
-count_by-none p (x ∷ xs) h =
-    sum_by-cons (λ y. cond (p y) 1 0) x xs ∙ none_step (p x) (list_any p xs) (count_by p xs) (count_by-none p xs) h
-
--- one more is counted if it passes the test
-count_push : (p : ℕ → Bool) (xs : List ℕ) (x : ℕ) (a : Bool) → p x ≡ a → count_by p (xs ++ x ∷ []) ≡ count_by p xs + cond a 1 0
-count_push p xs x a h = sum_by_push (λ y. cond (p y) 1 0) xs x ∙ ap (λ b. count_by p xs + cond b 1 0) h
-
--- an index that is counted at most once still is, with one more that wasn't there
-count_new : (xs : List ℕ) (i index : ℕ) (equal : Bool) → (i == index) ≡ equal → is_among xs i ≡ false → count_by (λ k. k == index) xs ≤ 1 → count_by (λ k. k == index) (xs ++ i ∷ []) ≤ 1
-count_new xs i index true e new h =
-    let none : is_among xs index ≡ false = subst (λ j. is_among xs j ≡ false) (eqb-true i index e) new in
-    let before : count_by (λ k. k == index) xs ≡ 0 = count_by-none (λ k. k == index) xs none in
-    let now : count_by (λ k. k == index) (xs ++ i ∷ []) ≡ count_by (λ k. k == index) xs + 1 = count_push (λ k. k == index) xs i true e in
+-- a position that is counted at most once still is, with one more that wasn't there
+count_new : (ps : List Position) (q p : Position) (at : Bool) → is_at p q ≡ at → list_any (is_at q) ps ≡ false → count_by (is_at p) ps ≤ 1 → count_by (is_at p) (ps ++ q ∷ []) ≤ 1
+count_new ps q p true e new h =
+    let none : list_any (is_at p) ps ≡ false = subst (λ r. list_any (is_at r) ps ≡ false) (here p q e) new in
+    let before : count_by (is_at p) ps ≡ 0 = count_by-none (is_at p) ps none in
+    let now : count_by (is_at p) (ps ++ q ∷ []) ≡ count_by (is_at p) ps + 1 = count_push (is_at p) ps q true e in
     omega arith
-count_new xs i index false e new h =
-    let now : count_by (λ k. k == index) (xs ++ i ∷ []) ≡ count_by (λ k. k == index) xs + 0 = count_push (λ k. k == index) xs i false e in
+count_new ps q p false e new h =
+    let now : count_by (is_at p) (ps ++ q ∷ []) ≡ count_by (is_at p) ps + 0 = count_push (is_at p) ps q false e in
     omega arith
 
--- and so it is in a list that grew
-count_grown : (xs ys : List ℕ) (index : ℕ) → Grows xs ys → count_by (λ k. k == index) xs ≤ 1 → count_by (λ k. k == index) ys ≤ 1
-count_grown xs ys index (same e) h = subst (λ zs. count_by (λ k. k == index) zs ≤ 1) (sym e) h
-count_grown xs ys index (more i new e) h =
-    subst (λ zs. count_by (λ k. k == index) zs ≤ 1) (sym e) (count_new xs i index (i == index) refl new h)
+-- and so it is among those that were gained
+count_gained : (ps qs : List Position) (p : Position) → Gains ps qs → count_by (is_at p) ps ≤ 1 → count_by (is_at p) qs ≤ 1
+count_gained ps qs p (same e) h = subst (λ rs. count_by (is_at p) rs ≤ 1) (sym e) h
+count_gained ps qs p (more q new e) h = subst (λ rs. count_by (is_at p) rs ≤ 1) (sym e) (count_new ps q p (is_at p q) refl new h)
 
 -- opened at most once stays so
-pub stays_once : (w : World) (events : List Event) (index : ℕ) → times_opened w index ≤ 1 → times_opened (run_of w events) index ≤ 1
-stays_once w [] index h = h
-stays_once w (event ∷ events) index h =
-    stays_once (step_of w event).next events index
-    (count_grown w.arrived (step_of w event).next.arrived index (event_sound w event).grows h)
+stays_once : (k : Mechanism) (w : World) (hs : List Event) (side : Side) (p : Position) → times_opened_by w side p ≤ 1
+    → times_opened_by (run_of k w hs) side p ≤ 1
+stays_once k w [] side p h = h
+stays_once k w (e ∷ hs) side p h =
+    stays_once k (step_of k w e).next hs side p
+    (count_gained (view_of w side).arrived (view_of (step_of k w e).next side).arrived p ((step_sound k w e).gains side) h)
 
--- a refusal leaves the world
-pub refusal_changes_nothing : (w : World) (event : Event) (refusal : Refusal) → (step_of w event).answer ≡ Refused refusal → (step_of w event).next ≡ w
-refusal_changes_nothing w event refusal = (event_sound w event).refused refusal
+-- at the beginning nothing was opened
+opening_once : (key : List ℕ) (side : Side) (p : Position) → times_opened_by (opening_world key) side p ≤ 1
+opening_once key First p = omega arith
+opening_once key Second p = omega arith
 
--- ---- a packet of Second's
+-- so each position is opened at most once
+pub once : (k : Mechanism) (key : List ℕ) (hs : List Event) (side : Side) (p : Position) → times_opened_by (run_of k (opening_world key) hs) side p ≤ 1
+once k key hs side p = stays_once k (opening_world key) hs side p (opening_once key side p)
 
--- the packet of an index that was said is taken
-taken : (w : World) (index : ℕ) → is_said w index ≡ true → step_of w (takes index) ≡ settled w (taking_in w index)
-taken w index said = ap (settled w) (cond-true (is_said w index) (taking_in w index) (Ok (nothing w)) said)
+-- a refusal leaves the conversation and both views
+pub refusal_changes_nothing : (k : Mechanism) (w : World) (h : Event) (refusal : Refusal) → (step_of k w h).answer ≡ Refused refusal → IsUnchanged w (step_of k w h).next
+refusal_changes_nothing k w h refusal = (step_sound k w h).refused refusal
 
--- no test of three passes
-none_passes : {A : Type 0} (a b c : Bool) (x y z v : A) → a ≡ false → b ≡ false → c ≡ false → (if a then x else (if b then y else (if c then z else v))) ≡ v
-none_passes a b c x y z v h k l = cond-false a x _ h ∙ cond-false b y _ k ∙ cond-false c z v l
+-- ---- a packet of the peer's
 
--- the second test is the first that passes
-second_passes : {A : Type 0} (a b : Bool) (x y z : A) → a ≡ false → b ≡ true → (if a then x else (if b then y else z)) ≡ y
-second_passes a b x y z h k = cond-false a x _ h ∙ cond-true b y z k
+-- a side takes the packet of a position that was said
+taken : (k : Mechanism) (w : World) (side : Side) (p : Position) → is_said w.conversation p ≡ true → step_of k w (takes side p) ≡ settled w (taking_in w side p)
+taken k w side p said = ap (taking_at w side) (cond-true (is_said w.conversation p) (Some p) None said)
 
--- the third is
-third_passes : {A : Type 0} (a b c : Bool) (x y z v : A) → a ≡ false → b ≡ false → c ≡ true → (if a then x else (if b then y else (if c then z else v))) ≡ z
-third_passes a b c x y z v h k l = cond-false a x _ h ∙ second_passes b c y z v k l
-
--- within the limits the packet is opened
-opened_within : (w : World) (index : ℕ) → is_said w index ≡ true → is_opened w index ≡ false → IsWithin w index → step_of w (takes index) ≡ step (Opened (position index)) (after w index)
-opened_within w index said new within =
-    let near : nat_lt 256 (length (missing (after w index))) ≡ false = le-ltb 256 (length (missing (after w index))) within.near in
-    let room : nat_le 64 (length (inbox w)) ≡ false = lt-leb 64 (length (inbox w)) within.room in
-    taken w index said ∙ ap (settled w) (none_passes (is_opened w index) (nat_lt 256 (length (missing (after w index)))) (nat_le 64 (length (inbox w))) _ _ _ _ new near room)
+-- within the limits it is opened
+opened_within : (k : Mechanism) (w : World) (side : Side) (p : Position) → IsNew w side p → IsWithinLimits w side p
+    → step_of k w (takes side p) ≡ step (Opened p) (with_view w side (after_opening (view_of w side) p))
+opened_within k w side p new within =
+    let missing = length (missing_of w.conversation (after_opening (view_of w side) p)) in
+    let near : nat_lt 256 missing ≡ false = le-ltb 256 missing within.near in
+    let room : nat_le 64 (length (inbox_in w side)) ≡ false = lt-leb 64 (length (inbox_in w side)) within.room in
+    taken k w side p new.said
+    ∙ ap (settled w) (cond-false (is_own side p.epoch) (Err (OwnPacket p.epoch)) _ new.peers
+    ∙ none_passes (has_opened (view_of w side) p) (nat_lt 256 missing) (nat_le 64 (length (inbox_in w side))) _ _ _ _ new.unopened near room)
 
 -- it is answered so
-pub first_arrival : (w : World) (index : ℕ) → is_said w index ≡ true → is_opened w index ≡ false → IsWithin w index
-    → (step_of w (takes index)).answer ≡ Opened (position index)
-first_arrival w index said new within = ap (λ made. made.answer) (opened_within w index said new within)
+pub first_arrival : (k : Mechanism) (w : World) (side : Side) (p : Position) → IsNew w side p → IsWithinLimits w side p
+    → (step_of k w (takes side p)).answer ≡ Opened p
+first_arrival k w side p new within = ap (λ (made : Step World). made.answer) (opened_within k w side p new within)
 
--- its text comes last in the history
-pub stands : (w : World) (index : ℕ) → is_said w index ≡ true → is_opened w index ≡ false → IsWithin w index
-    → history (step_of w (takes index)).next ≡ history w ++ entry_of w index ∷ []
-stands w index said new within = ap (λ made. history made.next) (opened_within w index said new within) ∙ map_push (entry_of w) w.arrived index
+-- the history of the view that changed
+history_with : (w : World) (side : Side) (v : View) → history_of (with_view w side v).conversation (view_of (with_view w side v) side) ≡ history_of w.conversation v
+history_with w First v = refl
+history_with w Second v = refl
 
--- and it is among those that were opened
-pub opened : (w : World) (index : ℕ) → is_said w index ≡ true → is_opened w index ≡ false → IsWithin w index
-    → is_opened (step_of w (takes index)).next index ≡ true
-opened w index said new within = ap (λ made. is_opened made.next index) (opened_within w index said new within) ∙ is_among-last w.arrived index
+-- the text comes last in the history
+pub stands : (k : Mechanism) (w : World) (side : Side) (p : Position) → IsNew w side p → IsWithinLimits w side p
+    → let next = (step_of k w (takes side p)).next in
+    history_of next.conversation (view_of next side) ≡ history_of w.conversation (view_of w side) ++ entry_at w.conversation p ∷ []
+stands k w side p new within =
+    ap (λ (made : Step World). history_of made.next.conversation (view_of made.next side)) (opened_within k w side p new within)
+    ∙ history_with w side (after_opening (view_of w side) p)
+    ∙ map_push (entry_at w.conversation) (view_of w side).arrived p
+
+-- a position is the same as itself
+is_at-itself : (p : Position) → is_at p p ≡ true
+is_at-itself p = grind (arith, nat_tests)
+
+-- what comes last is among them
+among_last : (ps : List Position) (p : Position) → list_any (is_at p) (ps ++ p ∷ []) ≡ true
+among_last ps p =
+    list_any-append (is_at p) ps (p ∷ [])
+    ∙ or_right (list_any (is_at p) ps) (is_at p p || false) (or_left (is_at p p) false (is_at-itself p))
+
+-- what the view that changed has opened
+opened_with : (w : World) (side : Side) (v : View) (p : Position) → has_opened (view_of (with_view w side v) side) p ≡ has_opened v p
+opened_with w First v p = refl
+opened_with w Second v p = refl
+
+-- the position is among those that were opened
+pub opened : (k : Mechanism) (w : World) (side : Side) (p : Position) → IsNew w side p → IsWithinLimits w side p
+    → has_opened (view_of (step_of k w (takes side p)).next side) p ≡ true
+opened k w side p new within =
+    ap (λ (made : Step World). has_opened (view_of made.next side) p) (opened_within k w side p new within)
+    ∙ opened_with w side (after_opening (view_of w side) p) p
+    ∙ among_last (view_of w side).arrived p
 
 -- a repeat is refused
-pub repeats : (w : World) (index : ℕ) → is_said w index ≡ true → is_opened w index ≡ true → (step_of w (takes index)).answer ≡ Refused (Spent (position index))
-repeats w index said opened =
-    ap (λ made. made.answer) (taken w index said)
-    ∙ ap (λ r. (settled w r).answer) (cond-true (is_opened w index) (Err (Spent (position index))) _ opened)
+pub repeats : (k : Mechanism) (w : World) (side : Side) (p : Position) → is_said w.conversation p ≡ true → is_own side p.epoch ≡ false
+    → has_opened (view_of w side) p ≡ true → (step_of k w (takes side p)).answer ≡ Refused (Spent p)
+repeats k w side p said peers before =
+    ap (λ (made : Step World). made.answer)
+    (taken k w side p said ∙ ap (settled w) (second_passes (is_own side p.epoch) (has_opened (view_of w side) p) _ _ _ peers before))
 
 -- too far ahead it is refused
-pub too_far : (w : World) (index : ℕ) → is_said w index ≡ true → is_opened w index ≡ false → 256 < length (missing (after w index))
-    → (step_of w (takes index)).answer ≡ Refused (SkipLimit (length (missing (after w index))))
-too_far w index said new far =
-    let over : nat_lt 256 (length (missing (after w index))) ≡ true = lt-ltb 256 (length (missing (after w index))) far in
-    ap (λ made. made.answer)
-    (taken w index said ∙ ap (settled w) (second_passes (is_opened w index) (nat_lt 256 (length (missing (after w index)))) _ _ _ new over))
+pub too_far : (k : Mechanism) (w : World) (side : Side) (p : Position) → IsNew w side p → 256 < length (missing_of w.conversation (after_opening (view_of w side) p))
+    → (step_of k w (takes side p)).answer ≡ Refused (SkipLimit (length (missing_of w.conversation (after_opening (view_of w side) p))))
+too_far k w side p new far =
+    let missing = length (missing_of w.conversation (after_opening (view_of w side) p)) in
+    let over : nat_lt 256 missing ≡ true = lt-ltb 256 missing far in
+    ap (λ (made : Step World). made.answer)
+    (taken k w side p new.said
+    ∙ ap (settled w) (third_passes (is_own side p.epoch) (has_opened (view_of w side) p) (nat_lt 256 missing) _ _ _ _ new.peers new.unopened over))
 
 -- and so it is where the inbox is full
-pub inbox_full : (w : World) (index : ℕ) → is_said w index ≡ true → is_opened w index ≡ false → length (missing (after w index)) ≤ 256 → 64 ≤ length (inbox w)
-    → (step_of w (takes index)).answer ≡ Refused InboxFull
-inbox_full w index said new near full =
-    let under : nat_lt 256 (length (missing (after w index))) ≡ false = le-ltb 256 (length (missing (after w index))) near in
-    let filled : nat_le 64 (length (inbox w)) ≡ true = le-leb 64 (length (inbox w)) full in
-    ap (λ made. made.answer)
-    (taken w index said ∙ ap (settled w) (third_passes (is_opened w index) (nat_lt 256 (length (missing (after w index)))) (nat_le 64 (length (inbox w))) _ _ _ _ new under filled))
+pub inbox_full : (k : Mechanism) (w : World) (side : Side) (p : Position) → IsNew w side p → length (missing_of w.conversation (after_opening (view_of w side) p)) ≤ 256
+    → 64 ≤ length (inbox_in w side) → (step_of k w (takes side p)).answer ≡ Refused InboxFull
+inbox_full k w side p new near full =
+    let missing = length (missing_of w.conversation (after_opening (view_of w side) p)) in
+    let under : nat_lt 256 missing ≡ false = le-ltb 256 missing near in
+    let filled : nat_le 64 (length (inbox_in w side)) ≡ true = le-leb 64 (length (inbox_in w side)) full in
+    ap (λ (made : Step World). made.answer)
+    (taken k w side p new.said
+    ∙ ap (settled w) (cond-false (is_own side p.epoch) (Err (OwnPacket p.epoch)) _ new.peers
+    ∙ third_passes (has_opened (view_of w side) p) (nat_lt 256 missing) (nat_le 64 (length (inbox_in w side))) _ _ _ _ new.unopened under filled))

@@ -1,106 +1,170 @@
--- The machine of a conversation in epoch 0: what each event is answered with, and the world after it.
-use Rattle.std.specs.Prelude.{◌≡◌, ◌≢◌, ⊤, ℕ, suc, ◌+◌, not, nat_eq, nat_le, nat_lt, List, [], ◌∷◌, ◌++◌, length, position as place_of, Option, Some, None, option_map, Result, Ok, Err, IfSome, if◌then◌else◌}
+-- The machine: what becomes of a conversation and of both sides' views, event by event.
+use Rattle.std.specs.Prelude.{◌≡◌, ◌≢◌, ⊤, ℕ, ◌+◌, ◌-◌, ◌^◌, Bool, true, false, not, nat_eq, nat_le, nat_lt, List, [], ◌∷◌, length, filter, find, slice_get, Option, Some, None, option_map, Result, Ok, Err, IfSome, is_none, if◌then◌else◌}
 use Rattle.std.specs.Cmp.Lexicographic.{pointwise}
+use Rattle.dr_base.specs.declared.position.Position.{Position}
+use Rattle.dr_base.specs.declared.position.Side.{Side}
+use Rattle.dr_base.specs.declared.position.Side.TheVariants.{First, Second}
 use Rattle.etm_aead.specs.Seal.{tag_of}
 use Rattle.packet.specs.declared.fault.Malformed.{Malformed}
 use Rattle.packet.specs.Packet.{Fields, ad_of}
 use Rattle.packet.specs.Reading.{read_packet}
-use Rattle.dr_model.specs.declared.answer.Answer.TheVariants.{Said, Opened, Sent, Done, Inbox, State}
+use Rattle.boxes.specs.Items.{Item}
+use Rattle.dr_model.specs.declared.answer.Answer.TheVariants.{Said, Opened, Sent, Done, Inbox, State as InNumbers, Seeded}
 use Rattle.dr_model.specs.declared.answer.Refusal.{Refusal}
-use Rattle.dr_model.specs.declared.answer.Refusal.TheVariants.{TextTooLong, OutboxFull, EpochFull, Malformed as Unreadable, Spent, SkipLimit, BadTag, InboxFull, Fewer}
-use Rattle.dr_model.specs.Events.{Event, says, takes, flips, takes_bytes, drops_sent, drops_done, shows_inbox, shows_state, Step, step, settled, nothing, flipped_in, amount_of}
-use Rattle.dr_model.specs.Packets.{position}
-use Rattle.dr_model.specs.Standing.{receiving_of}
-use Rattle.dr_model.specs.States.{Receiving, Way, fits, way_of}
-use Rattle.dr_model.specs.Worlds.{World, is_said, is_opened, after, missing, inbox, posts, outbox}
+use Rattle.dr_model.specs.declared.answer.Refusal.TheVariants.{TextTooLong, OutboxFull, EpochFull, LastEpoch, NoPair, Malformed as Unreadable, OwnPacket, Spent, SkipLimit, BadTag, InboxFull, Fewer}
+use Rattle.dr_model.specs.Clients.{Client, Sides}
+use Rattle.dr_model.specs.Conversation.{Conversation, is_own, is_said, count_of, next_position, positions, with_text, with_turn}
+use Rattle.dr_model.specs.Drafts.{Way, way_of}
+use Rattle.dr_model.specs.Steps.{Step, step, settled, nothing, amount_of}
+use Rattle.dr_model.specs.Events.{Event, seeds, says, takes, takes_nth, flips, takes_bytes, drops_sent, drops_done, shows_inbox, shows_state, Draws, next_seed, after_draw, flipped_at}
+use Rattle.dr_model.specs.Posts.{posts}
+use Rattle.dr_model.specs.Sessions.{State, state_of}
+use Rattle.dr_model.specs.Turns.{Mechanism, agreement_size}
+use Rattle.dr_model.specs.Views.{View, opening_view, has_opened, after_opening, missing_of, inbox_of, outbox_of}
 
--- Second says a text
-abbrev pub saying_in : World → List ℕ → Result (Step World) Refusal
-saying_in w text =
-    if not (fits text) then Err (TextTooLong (length text))
-    else (if nat_le 32 (length (outbox w)) then Err OutboxFull
-    else (if nat_le 65535 (length w.texts) then Err EpochFull
-    else Ok (step (Said (position (length w.texts + 1))) (record w { texts = w.texts ++ text ∷ [] }))))
+pub record World : Type 0 where
+  pub conversation : Conversation
+  pub first : View
+  pub second : View
+  pub draws : Draws
 
--- First takes the packet of an index
-abbrev pub taking_in : World → ℕ → Result (Step World) Refusal
-taking_in w index =
-    if is_opened w index then Err (Spent (position index))
-    else (if nat_lt 256 (length (missing (after w index))) then Err (SkipLimit (length (missing (after w index))))
-    else (if nat_le 64 (length (inbox w)) then Err InboxFull
-    else Ok (step (Opened (position index)) (after w index))))
+-- where a conversation begins
+abbrev pub opening_world : List ℕ → World
+opening_world key = record {
+  conversation = record { key = key; seeds = []; said = [] };
+  first = opening_view First;
+  second = opening_view Second;
+  draws = record { made = 0; given = None };
+}
 
--- where there is a way to the packet's key, the tag differs: `IsUnforged`, below, says so
+abbrev pub view_of : World → Side → View
+view_of w First = w.first
+view_of w Second = w.second
+
+abbrev pub with_view : World → Side → View → World
+with_view w First v = record w { first = v }
+with_view w Second v = record w { second = v }
+
+-- the texts and packets that stand in a side's boxes
+abbrev pub inbox_in : World → Side → List Item
+inbox_in w side = inbox_of w.conversation (view_of w side)
+
+abbrev pub outbox_in : Mechanism → World → Side → List Item
+outbox_in k w side = outbox_of k w.conversation (view_of w side)
+
+-- whether a side may say a text of this length, and then whether that needs a seed
+abbrev pub may_say : Mechanism → World → Side → ℕ → Result Bool Refusal
+may_say k w side len =
+    let v = view_of w side in
+    if nat_lt 1024 len then Err (TextTooLong len)
+    else (if nat_le 32 (length (outbox_in k w side)) then Err OutboxFull
+    else (if is_own side v.epoch then (if nat_le 65535 (count_of w.conversation v.epoch) then Err EpochFull else Ok false)
+    else (if nat_le (2 ^ 32 - 2) v.epoch then Err LastEpoch else Ok true)))
+
+-- the next text of the side's epoch
+abbrev pub said_here : World → Side → List ℕ → Step World
+said_here w side text =
+    let epoch = (view_of w side).epoch in
+    step (Said (next_position w.conversation.said epoch)) (record w { conversation = with_text w.conversation epoch text })
+
+-- the first text of the side's next epoch
+abbrev pub said_next : World → Side → List ℕ → List ℕ → Step World
+said_next w side seed text =
+    let v = view_of w side in
+    step (Said (record { epoch = v.epoch + 1; index = 1 }))
+    (with_view (record w { conversation = with_turn w.conversation seed (v.epoch + 1) text }) side (record v { epoch = v.epoch + 1 }))
+
+abbrev pub saying_in : Mechanism → World → Side → List ℕ → Result Bool Refusal → Step World
+saying_in k w side text (Err refusal) = settled w (Err refusal)
+saying_in k w side text (Ok false) = said_here w side text
+saying_in k w side text (Ok true) =
+    let seed = next_seed w.conversation.key w.draws in
+    let drawn = record w { draws = after_draw w.draws } in
+    if is_none (k.meaning.pair_of seed) then settled drawn (Err NoPair) else said_next drawn side seed text
+
+-- a side takes the packet of a position of the conversation
+abbrev pub taking_in : World → Side → Position → Result (Step World) Refusal
+taking_in w side p =
+    let v = view_of w side in
+    let opened = after_opening v p in
+    if is_own side p.epoch then Err (OwnPacket p.epoch)
+    else (if has_opened v p then Err (Spent p)
+    else (if nat_lt 256 (length (missing_of w.conversation opened)) then Err (SkipLimit (length (missing_of w.conversation opened)))
+    else (if nat_le 64 (length (inbox_in w side)) then Err InboxFull
+    else Ok (step (Opened p) (with_view w side opened)))))
+
+-- a side takes the packet of a position, if the network holds it
+abbrev pub taking_at : World → Side → Option Position → Step World
+taking_at w side None = nothing w
+taking_at w side (Some p) = settled w (taking_in w side p)
+
+-- the position of a text that was said
+abbrev pub said_at : Conversation → Position → Option Position
+said_at c p = if is_said c p then Some p else None
+
+-- the position of a text of the other side's, counted from 1
+abbrev pub nth_of_peer : Conversation → Side → ℕ → Option Position
+nth_of_peer c side nth =
+    if nat_le 1 nth then slice_get (filter (λ p. not (is_own side p.epoch)) (positions c)) (nth - 1) else None
+
+-- the first reason against a packet; where there is a way to its key, the tag differs: `IsUnforged`, below, says so
 abbrev pub way_refusal : Result Way Refusal → Refusal
 way_refusal (Err refusal) = refusal
 way_refusal (Ok way) = BadTag
 
--- the first fault of bytes that are no packet, or the first reason against the packet
-abbrev pub read_refusal : Receiving → Result Fields Malformed → Refusal
-read_refusal s (Err fault) = Unreadable fault
-read_refusal s (Ok f) = way_refusal (way_of s f)
+abbrev pub read_refusal : Mechanism → State → Result Fields Malformed → Refusal
+read_refusal k s (Err fault) = Unreadable fault
+read_refusal k s (Ok f) = way_refusal (way_of k s f)
 
--- why First refuses bytes that Second's session didn't make
-abbrev pub refusal_of : Receiving → List ℕ → Refusal
-refusal_of s bytes = read_refusal s (read_packet 64 bytes)
+-- why a session refuses bytes that neither side's session made
+abbrev pub refusal_of : Mechanism → State → List ℕ → Refusal
+refusal_of k s bytes = read_refusal k s (read_packet (agreement_size k) bytes)
 
--- the index of the text whose packet the bytes are, if they are one of Second's
-abbrev pub made_index : World → List ℕ → Option ℕ
-made_index w bytes = option_map suc (place_of (λ post. pointwise nat_eq post.bytes bytes) (posts w))
+-- the position of the text whose packet the bytes are
+abbrev pub made_at : Mechanism → World → List ℕ → Option Position
+made_at k w bytes = option_map (λ post. post.position) (find (λ post. pointwise nat_eq post.bytes bytes) (posts k w.conversation))
 
-abbrev pub taking_made : World → List ℕ → Option ℕ → Result (Step World) Refusal
-taking_made w bytes (Some index) = taking_in w index
-taking_made w bytes None = Err (refusal_of (receiving_of w) bytes)
+abbrev pub taking_made : Mechanism → World → Side → List ℕ → Option Position → Result (Step World) Refusal
+taking_made k w side bytes (Some p) = taking_in w side p
+taking_made k w side bytes None = Err (refusal_of k (state_of k w.conversation (view_of w side)) bytes)
 
--- First takes any bytes
-abbrev pub taking_bytes : World → List ℕ → Result (Step World) Refusal
-taking_bytes w bytes = taking_made w bytes (made_index w bytes)
+-- a side takes bytes, if the network has them to give
+abbrev pub taking_given : Mechanism → World → Side → Option (List ℕ) → Step World
+taking_given k w side None = nothing w
+taking_given k w side (Some bytes) = settled w (taking_made k w side bytes (made_at k w bytes))
 
--- First takes bytes, if the network has them to give
-abbrev pub taking_given : World → Option (List ℕ) → Result (Step World) Refusal
-taking_given w None = Ok (nothing w)
-taking_given w (Some bytes) = taking_bytes w bytes
+abbrev pub sent_in : Mechanism → World → Side → ℕ → Result (Step World) Refusal
+sent_in k w side n =
+    let v = view_of w side in
+    if nat_le n (length (outbox_in k w side)) then Ok (step (Sent n) (with_view w side (record v { dropped = v.dropped + n })))
+    else Err (Fewer (length (outbox_in k w side)))
 
-abbrev pub sent_in : World → ℕ → Result (Step World) Refusal
-sent_in w n =
-    if nat_le n (length (outbox w)) then Ok (step (Sent n) (record w { dropped = w.dropped + n }))
-    else Err (Fewer (length (outbox w)))
+abbrev pub done_in : World → Side → ℕ → Result (Step World) Refusal
+done_in w side n =
+    let v = view_of w side in
+    if nat_le n (length (inbox_in w side)) then Ok (step (Done n) (with_view w side (record v { done = v.done + n })))
+    else Err (Fewer (length (inbox_in w side)))
 
-abbrev pub done_in : World → ℕ → Result (Step World) Refusal
-done_in w n =
-    if nat_le n (length (inbox w)) then Ok (step (Done n) (record w { done = w.done + n }))
-    else Err (Fewer (length (inbox w)))
+-- what becomes of what happens
+abbrev pub step_of : Mechanism → World → Event → Step World
+step_of k w (seeds seed) = step Seeded (record w { draws = record w.draws { given = Some seed } })
+step_of k w (says side text) = saying_in k w side text (may_say k w side (length text))
+step_of k w (takes side p) = taking_at w side (said_at w.conversation p)
+step_of k w (takes_nth side nth) = taking_at w side (nth_of_peer w.conversation side nth)
+step_of k w (flips side p bit) = taking_given k w side (flipped_at (posts k w.conversation) p bit)
+step_of k w (takes_bytes side bytes) = taking_given k w side (Some bytes)
+step_of k w (drops_sent side amount) = settled w (sent_in k w side (amount_of amount (length (outbox_in k w side))))
+step_of k w (drops_done side amount) = settled w (done_in w side (amount_of amount (length (inbox_in w side))))
+step_of k w (shows_inbox side) = record { answer = Inbox (length (inbox_in w side)); entries = inbox_in w side; next = w }
+step_of k w (shows_state side) =
+    step (InNumbers (record {
+      epoch = (view_of w side).epoch;
+      missing = length (missing_of w.conversation (view_of w side));
+      inbox = length (inbox_in w side);
+      outbox = length (outbox_in k w side);
+    })) w
 
--- what becomes of an event
-abbrev pub step_of : World → Event → Step World
-step_of w (says text) = settled w (saying_in w text)
-step_of w (takes index) = settled w (if is_said w index then taking_in w index else Ok (nothing w))
-step_of w (flips index bit) = settled w (taking_given w (flipped_in (posts w) index bit))
-step_of w (takes_bytes bytes) = settled w (taking_bytes w bytes)
-step_of w (drops_sent amount) = settled w (sent_in w (amount_of amount (length (outbox w))))
-step_of w (drops_done amount) = settled w (done_in w (amount_of amount (length (inbox w))))
-step_of w shows_inbox = record { answer = Inbox (length (inbox w)); entries = inbox w; next = w }
-step_of w shows_state =
-    step (State (record { epoch = 0; missing = length (missing w); inbox = length (inbox w); outbox = 0 })) w
-
--- the world after events
-abbrev pub run_of : World → List Event → World
-run_of w [] = w
-run_of w (event ∷ events) = run_of (step_of w event).next events
-
--- Nobody forged a tag: where First comes to look at the tag of bytes that Second's session didn't make, it isn't
--- the one under the key.
-abbrev pub IsUnforged : World → List ℕ → Type 0
-IsUnforged w bytes = made_index w bytes ≡ None → (f : Fields) (way : Way) → read_packet 64 bytes ≡ Ok f
-    → way_of (receiving_of w) f ≡ Ok way → f.tag ≢ tag_of way.key (ad_of f) f.ciphertext
-
--- the bytes that an event makes up have no forged tag
-abbrev pub IsFair : World → Event → Type 0
-IsFair w (flips index bit) = IfSome (flipped_in (posts w) index bit) (IsUnforged w)
-IsFair w (takes_bytes bytes) = IsUnforged w bytes
-IsFair w _ = ⊤
-
--- and so in a run
-abbrev pub IsFairRun : World → List Event → Type 0
-IsFairRun w [] = ⊤
-IsFairRun w (event ∷ events) = IsFair w event × IsFairRun (step_of w event).next events
+-- what stands after all that happened
+abbrev pub run_of : Mechanism → World → List Event → World
+run_of k w [] = w
+run_of k w (h ∷ hs) = run_of k (step_of k w h).next hs

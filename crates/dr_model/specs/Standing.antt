@@ -1,35 +1,46 @@
--- What both sides keep in a world.
-use Rattle.std.specs.Prelude.{ℕ, List, length, map}
-use Rattle.dr_base.specs.declared.key.Kept.{Kept}
-use Rattle.etm_aead.specs.Chain.{chain_of, message_key}
-use Rattle.dr_model.specs.Packets.{position}
-use Rattle.dr_model.specs.Schedule.{session_of, stream_of}
-use Rattle.dr_model.specs.Sides.{Sides}
-use Rattle.dr_model.specs.States.{Sending, Receiving}
-use Rattle.dr_model.specs.Worlds.{World, reach, missing, inbox, posts, outbox}
+-- What both sides keep in a world, and the premise under which they follow it.
+use Rattle.std.specs.Prelude.{◌≡◌, ◌≢◌, ⊤, ℕ, List, [], ◌∷◌, length, None, Ok, IfSome}
+use Rattle.dr_base.specs.declared.position.Side.{Side}
+use Rattle.etm_aead.specs.Seal.{tag_of}
+use Rattle.packet.specs.Packet.{Fields, ad_of}
+use Rattle.packet.specs.Reading.{read_packet}
+use Rattle.dr_model.specs.Clients.{Client, Sides}
+use Rattle.dr_model.specs.Drafts.{Way, way_of}
+use Rattle.dr_model.specs.Events.{Event, seeds, flips, takes_bytes, flipped_at}
+use Rattle.dr_model.specs.Machine.{World, made_at, step_of, view_of}
+use Rattle.dr_model.specs.Posts.{posts}
+use Rattle.dr_model.specs.Sessions.{state_of}
+use Rattle.dr_model.specs.Turns.{Mechanism, agreement_size}
+use Rattle.dr_model.specs.Views.{View, inbox_of, outbox_of}
 
--- Second keeps the chain key of its next text
-abbrev pub sending_of : World → Sending
-sending_of w = record {
-  session = session_of w.key;
-  chain = chain_of (stream_of w.key) (length w.texts);
-  sent = length w.texts;
-  outbox = outbox w;
+abbrev pub client_in : Mechanism → World → View → Client
+client_in k w v = record { state = state_of k w.conversation v; inbox = inbox_of w.conversation v; outbox = outbox_of k w.conversation v }
+
+abbrev pub sides_of : Mechanism → World → Sides
+sides_of k w = record {
+  key = w.conversation.key;
+  first = client_in k w w.first;
+  second = client_in k w w.second;
+  posts = posts k w.conversation;
+  draws = w.draws;
 }
 
--- the message key of an index, under its position
-abbrev pub key_at : List ℕ → ℕ → Kept
-key_at stream index = record { position = position index; key = record { bytes = message_key stream index } }
+-- ---- the premise
 
--- First keeps the chain key behind the greatest index that arrived, and the keys of the missing ones
-abbrev pub receiving_of : World → Receiving
-receiving_of w = record {
-  session = session_of w.key;
-  chain = chain_of (stream_of w.key) (reach w.arrived);
-  reach = reach w.arrived;
-  kept = map (key_at (stream_of w.key)) (missing w);
-  inbox = inbox w;
-}
+-- Nobody forged a tag: where a side comes to look at the tag of bytes that no session made, it isn't the one under
+-- the key.
+abbrev pub IsUnforged : Mechanism → World → Side → List ℕ → Type 0
+IsUnforged k w side bytes = made_at k w bytes ≡ None → (f : Fields) (way : Way) → read_packet (agreement_size k) bytes ≡ Ok f
+    → way_of k (state_of k w.conversation (view_of w side)) f ≡ Ok way → f.tag ≢ tag_of way.key (ad_of f) f.ciphertext
 
-abbrev pub sides_of : World → Sides
-sides_of w = record { second = sending_of w; first = receiving_of w; posts = posts w }
+-- the bytes that are made up have no forged tag, and a given seed has 32 bytes
+abbrev pub IsFair : Mechanism → World → Event → Type 0
+IsFair k w (flips side p bit) = IfSome (flipped_at (posts k w.conversation) p bit) (IsUnforged k w side)
+IsFair k w (takes_bytes side bytes) = IsUnforged k w side bytes
+IsFair k w (seeds seed) = length seed ≡ 32
+IsFair k w _ = ⊤
+
+-- and so in a run
+abbrev pub IsFairRun : Mechanism → World → List Event → Type 0
+IsFairRun k w [] = ⊤
+IsFairRun k w (h ∷ hs) = IsFair k w h × IsFairRun k (step_of k w h).next hs

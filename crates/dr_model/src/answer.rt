@@ -18,6 +18,8 @@ pub enum Answer {
     Inbox(u32),
     /// What a side holds.
     State(Summary),
+    /// The next draw is a given seed; this has no line.
+    Seeded,
     /// The network holds no such packet.
     Nothing,
     /// Nothing changed, for this reason.
@@ -46,6 +48,10 @@ pub enum Refusal {
     OutboxFull,
     /// 65,535 texts were said in the epoch.
     EpochFull,
+    /// No epoch follows.
+    LastEpoch,
+    /// The seed of the turn gives no pair of keys.
+    NoPair,
     /// The bytes are no packet.
     Malformed(Malformed),
     /// The packet is of another session.
@@ -57,6 +63,8 @@ pub enum Refusal {
     Ahead(u32, u32),
     /// The packet of this position was opened before.
     Spent(Position),
+    /// The packet claims that the peer's last epoch has so many texts, the first number, fewer than are known.
+    Count(u32, u32),
     /// So many message keys would have to be kept, which is more than 256.
     SkipLimit(u32),
     /// The packet's tag differs from the one under its key.

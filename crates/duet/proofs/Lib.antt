@@ -1,11 +1,11 @@
 pub mod Digits
 pub mod Splitting
 pub mod Reading
-pub mod Taking
-pub mod Ways
-pub mod Beginning
 pub mod Escaping
-pub mod Trace
-pub mod Showing
+pub mod Hex
+pub mod Finding
+pub mod Beginning
 pub mod Entries
 pub mod Following
+pub mod Showing
+pub mod Trace

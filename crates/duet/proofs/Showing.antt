@@ -1,74 +1,92 @@
--- What an event shows, and what it adds to the network.
-use Rattle.std.proofs.Common.{◌≡◌, ℕ, ◌+◌, ◌≤◌, Bool, true, false, List, [], ◌∷◌, ◌++◌, length, Option, Some, None, Result, Ok, Err, refl, sym, ap, arith, length-append}
-use Rattle.std.specs.Prelude.{nat_le, if◌then◌else◌}
+-- What an event shows, and what it adds to the network and to the draws.
+use Rattle.std.proofs.Common.{◌≡◌, ℕ, ◌+◌, ◌<◌, ◌≤◌, Bool, true, false, List, [], ◌∷◌, ◌++◌, length, Option, Some, None, Result, Ok, Err, refl, sym, ◌∙◌, ap, arith, length-append}
+use Rattle.dr_base.specs.declared.position.Side.{Side}
+use Rattle.dr_base.specs.declared.position.Side.TheVariants.{First, Second}
 use Rattle.boxes.specs.Items.{Item}
 use Rattle.dr_model.specs.declared.answer.Refusal.{Refusal}
-use Rattle.dr_model.specs.Events.{Event, says, takes, flips, takes_bytes, drops_sent, drops_done, shows_inbox, shows_state, Step, settled, held, flipped_in, amount_of}
-use Rattle.dr_model.specs.Sides.{Sides, said_on, opened_on, taken_on, step_on}
-use Rattle.dr_model.specs.States.{Taken, saying, taking}
+use Rattle.dr_model.specs.Clients.{Client, SaidText, Sides, TakenPacket, client_of, done_on, dropped_of, opened_on, said_on, say_check, say_on, saying_on, sent_on, step_on, take_on, taken_on, with_client}
+use Rattle.dr_model.specs.Steps.{Step, step, settled, amount_of}
+use Rattle.dr_model.specs.Events.{Draws, Event, seeds, says, takes, takes_nth, flips, takes_bytes, drops_sent, drops_done, shows_inbox, shows_state, after_draw, flipped_at, held_at, held_nth, next_seed}
+use Rattle.dr_model.specs.Turns.{Mechanism}
 use Rattle.duet.specs.Held.{DuetNow, shown, stepped}
 
--- a step that shows no text, and adds at most one packet to the network
+-- a step that shows no text, adds at most one packet to the network, and makes at most one draw
 record IsQuiet (s : Sides) (made : Step Sides) : Type 0 where
   none : made.entries ≡ []
   posts : length made.next.posts ≤ length s.posts + 1
+  draws : made.next.draws.made ≤ s.draws.made + 1
 
-err_quiet : (s : Sides) (refusal : Refusal) → IsQuiet s (settled s (Err refusal))
-err_quiet s refusal = record { none = refl; posts = omega arith }
+still_quiet : (s : Sides) (made : Step Sides) → made.entries ≡ [] → made.next.posts ≡ s.posts → made.next.draws ≡ s.draws → IsQuiet s made
+still_quiet s made none posts draws = record {
+  none = none;
+  posts = omega (arith, ap length posts);
+  draws = omega (arith, ap (λ (d : Draws). d.made) draws);
+}
 
-said_quiet : (s : Sides) (r : Result Item Refusal) → IsQuiet s (settled s (said_on s r))
-said_quiet s (Ok post) = record { none = refl; posts = omega (arith, length-append s.posts (post ∷ [])) }
-said_quiet s (Err refusal) = err_quiet s refusal
+said_quiet : (s : Sides) (side : Side) (draws : Draws) (r : Result SaidText Refusal) → draws.made ≤ s.draws.made + 1 → IsQuiet s (said_on (record s { draws = draws }) side r)
+said_quiet s First draws (Ok said) few = record { none = refl; posts = omega (arith, length-append s.posts (said.post ∷ [])); draws = few }
+said_quiet s Second draws (Ok said) few = record { none = refl; posts = omega (arith, length-append s.posts (said.post ∷ [])); draws = few }
+said_quiet s side draws (Err refusal) few = record { none = refl; posts = omega arith; draws = few }
 
-opened_quiet : (s : Sides) (r : Result Taken Refusal) → IsQuiet s (settled s (opened_on s r))
-opened_quiet s (Ok taken) = record { none = refl; posts = omega arith }
-opened_quiet s (Err refusal) = err_quiet s refusal
+saying_quiet : (k : Mechanism) (s : Sides) (side : Side) (text : List ℕ) (r : Result Bool Refusal) → IsQuiet s (saying_on k s side text r)
+saying_quiet k s side text (Err refusal) = still_quiet s _ refl refl refl
+saying_quiet k s side text (Ok false) = said_quiet s side s.draws (say_on k (client_of s side) text []) (omega arith)
+saying_quiet k s side text (Ok true) = said_quiet s side (after_draw s.draws) (say_on k (client_of s side) text (next_seed s.key s.draws)) (omega arith)
 
-taken_quiet : (s : Sides) (given : Option (List ℕ)) → IsQuiet s (settled s (taken_on s given))
-taken_quiet s None = record { none = refl; posts = omega arith }
-taken_quiet s (Some bytes) = opened_quiet s (taking s.first bytes)
+opened_quiet : (s : Sides) (side : Side) (r : Result TakenPacket Refusal) → IsQuiet s (opened_on s side r)
+opened_quiet s First (Ok taken) = still_quiet s _ refl refl refl
+opened_quiet s Second (Ok taken) = still_quiet s _ refl refl refl
+opened_quiet s side (Err refusal) = still_quiet s _ refl refl refl
 
-left_quiet : (s : Sides) (enough : Bool) (made : Step Sides) (refusal : Refusal) → IsQuiet s made → IsQuiet s (settled s (if enough then Ok made else Err refusal))
-left_quiet s true made refusal quiet = quiet
-left_quiet s false made refusal quiet = err_quiet s refusal
+taken_quiet : (k : Mechanism) (s : Sides) (side : Side) (given : Option (List ℕ)) → IsQuiet s (taken_on k s side given)
+taken_quiet k s side None = still_quiet s _ refl refl refl
+taken_quiet k s side (Some bytes) = opened_quiet s side (take_on k (client_of s side) bytes)
 
-still_quiet : (s : Sides) (made : Step Sides) → made.entries ≡ [] → made.next.posts ≡ s.posts → IsQuiet s made
-still_quiet s made none same = record { none = none; posts = omega (arith, ap length same) }
+sent_quiet : (s : Sides) (side : Side) (n : ℕ) (r : Result (List Item) Refusal) → IsQuiet s (sent_on s side n r)
+sent_quiet s First n (Ok outbox) = still_quiet s _ refl refl refl
+sent_quiet s Second n (Ok outbox) = still_quiet s _ refl refl refl
+sent_quiet s side n (Err refusal) = still_quiet s _ refl refl refl
 
--- every event but the inbox
-quiet : (s : Sides) (event : Event) → (event ≡ shows_inbox → ⊥) → IsQuiet s (step_on s event)
-quiet s (says text) other = said_quiet s (saying s.second text)
-quiet s (takes index) other = taken_quiet s (held s.posts index)
-quiet s (flips index bit) other = taken_quiet s (flipped_in s.posts index bit)
-quiet s (takes_bytes bytes) other = opened_quiet s (taking s.first bytes)
-quiet s (drops_sent amount) other = left_quiet s (nat_le (amount_of amount (length s.second.outbox)) (length s.second.outbox)) _ _ (still_quiet s _ refl refl)
-quiet s (drops_done amount) other = left_quiet s (nat_le (amount_of amount (length s.first.inbox)) (length s.first.inbox)) _ _ (still_quiet s _ refl refl)
-quiet s shows_inbox other = absurd (other refl)
-quiet s shows_state other = still_quiet s _ refl refl
+done_quiet : (s : Sides) (side : Side) (n : ℕ) (r : Result (List Item) Refusal) → IsQuiet s (done_on s side n r)
+done_quiet s First n (Ok inbox) = still_quiet s _ refl refl refl
+done_quiet s Second n (Ok inbox) = still_quiet s _ refl refl refl
+done_quiet s side n (Err refusal) = still_quiet s _ refl refl refl
+
+-- a step that shows just what the event shows, adds at most one packet, and makes at most one draw
+record IsShown (s : Sides) (event : Event) (made : Step Sides) : Type 0 where
+  entries : shown event made.next ≡ made.entries
+  posts : length made.next.posts ≤ length s.posts + 1
+  draws : made.next.draws.made ≤ s.draws.made + 1
+
+from_quiet : (s : Sides) (event : Event) (made : Step Sides) → shown event made.next ≡ [] → IsQuiet s made → IsShown s event made
+from_quiet s event made nothing quiet = record { entries = nothing ∙ sym quiet.none; posts = quiet.posts; draws = quiet.draws }
+
+shows : (k : Mechanism) (s : Sides) (event : Event) → IsShown s event (step_on k s event)
+shows k s (seeds seed) = record { entries = refl; posts = omega arith; draws = omega arith }
+shows k s (says side text) = from_quiet s (says side text) _ refl (saying_quiet k s side text (say_check (client_of s side) (length text)))
+shows k s (takes side p) = from_quiet s (takes side p) _ refl (taken_quiet k s side (held_at s.posts p))
+shows k s (takes_nth side nth) = from_quiet s (takes_nth side nth) _ refl (taken_quiet k s side (held_nth s.posts side nth))
+shows k s (flips side p bit) = from_quiet s (flips side p bit) _ refl (taken_quiet k s side (flipped_at s.posts p bit))
+shows k s (takes_bytes side bytes) = from_quiet s (takes_bytes side bytes) _ refl (opened_quiet s side (take_on k (client_of s side) bytes))
+shows k s (drops_sent side amount) =
+    let n = amount_of amount (length (client_of s side).outbox) in
+    from_quiet s (drops_sent side amount) _ refl (sent_quiet s side n (dropped_of n (client_of s side).outbox))
+shows k s (drops_done side amount) =
+    let n = amount_of amount (length (client_of s side).inbox) in
+    from_quiet s (drops_done side amount) _ refl (done_quiet s side n (dropped_of n (client_of s side).inbox))
+shows k s (shows_inbox side) = record { entries = refl; posts = omega arith; draws = omega arith }
+shows k s (shows_state side) = record { entries = refl; posts = omega arith; draws = omega arith }
 
 -- the texts that an event shows
-pub shown-entries : (s : Sides) (event : Event) → shown event (step_on s event).next ≡ (step_on s event).entries
-shown-entries s (says text) = sym (quiet s (says text) (λ e. cc)).none
-shown-entries s (takes index) = sym (quiet s (takes index) (λ e. cc)).none
-shown-entries s (flips index bit) = sym (quiet s (flips index bit) (λ e. cc)).none
-shown-entries s (takes_bytes bytes) = sym (quiet s (takes_bytes bytes) (λ e. cc)).none
-shown-entries s (drops_sent amount) = sym (quiet s (drops_sent amount) (λ e. cc)).none
-shown-entries s (drops_done amount) = sym (quiet s (drops_done amount) (λ e. cc)).none
-shown-entries s shows_inbox = refl
-shown-entries s shows_state = refl
-
--- each event adds at most one packet
-one_post : (s : Sides) (event : Event) → length (step_on s event).next.posts ≤ length s.posts + 1
-one_post s (says text) = (quiet s (says text) (λ e. cc)).posts
-one_post s (takes index) = (quiet s (takes index) (λ e. cc)).posts
-one_post s (flips index bit) = (quiet s (flips index bit) (λ e. cc)).posts
-one_post s (takes_bytes bytes) = (quiet s (takes_bytes bytes) (λ e. cc)).posts
-one_post s (drops_sent amount) = (quiet s (drops_sent amount) (λ e. cc)).posts
-one_post s (drops_done amount) = (quiet s (drops_done amount) (λ e. cc)).posts
-one_post s shows_inbox = omega arith
-one_post s shows_state = omega arith
+pub shown-entries : (k : Mechanism) (s : Sides) (event : Event) → shown event (step_on k s event).next ≡ (step_on k s event).entries
+shown-entries k s event = (shows k s event).entries
 
 -- as many packets as events, and one event more
-pub posts_more : (events more : List Event) (event : Event) (old new : DuetNow) (n : ℕ) → new ≡ stepped old event → more ≡ events ++ event ∷ [] → length old.sides.posts ≤ n
+pub posts_more : (k : Mechanism) (events more : List Event) (event : Event) (old new : DuetNow) (n : ℕ) → new ≡ stepped k old event → more ≡ events ++ event ∷ [] → length old.sides.posts ≤ n
     → length new.sides.posts ≤ n + 1
-posts_more events more event old new n next e few = omega (arith, ap (λ (d : DuetNow). length d.sides.posts) next, one_post old.sides event)
+posts_more k events more event old new n next e few = omega (arith, ap (λ (d : DuetNow). length d.sides.posts) next, (shows k old.sides event).posts)
+
+-- and as many draws
+pub draws_more : (k : Mechanism) (events more : List Event) (event : Event) (old new : DuetNow) (n : ℕ) → new ≡ stepped k old event → more ≡ events ++ event ∷ [] → old.sides.draws.made ≤ n
+    → new.sides.draws.made ≤ n + 1
+draws_more k events more event old new n next e few = omega (arith, ap (λ (d : DuetNow). d.sides.draws.made) next, (shows k old.sides event).draws)

@@ -59,14 +59,14 @@ pub empty_lines : (text : List ℕ) → nat_eq (length text) 0 ≡ true → line
 empty_lines [] h = no_lines
 empty_lines (byte ∷ rest) h = absurd (omega (arith, eqb-true (length (byte ∷ rest)) 0 h))
 
--- a text that has a space, as the code cuts it there
-pub cut_halves : (text : List ℕ) (found : Option ℕ) (at : ℕ) → found ≡ position (λ byte. byte == 32) text → found ≡ Some at → Some (take at text, take (length text - (at + 1)) (drop (at + 1) text)) ≡ halves_of text
+-- a text that has such a byte, as the code cuts it there
+pub cut_halves : (mark : ℕ) (text : List ℕ) (found : Option ℕ) (at : ℕ) → found ≡ position (λ byte. byte == mark) text → found ≡ Some at → Some (take at text, take (length text - (at + 1)) (drop (at + 1) text)) ≡ halves_of mark text
 unfolding halves_of
-cut_halves text found at first is =
+cut_halves mark text found at first is =
     ap (λ rest. Some (take at text, rest)) (rest_is text (at + 1))
     ∙ ap (option_map (λ k. (take k text, drop (k + 1) text))) (sym is ∙ first)
 
--- a text without a space has no halves
-pub no_halves : (text : List ℕ) (found : Option ℕ) → found ≡ position (λ byte. byte == 32) text → found ≡ None → None ≡ halves_of text
+-- a text without one has no halves
+pub no_halves : (mark : ℕ) (text : List ℕ) (found : Option ℕ) → found ≡ position (λ byte. byte == mark) text → found ≡ None → None ≡ halves_of mark text
 unfolding halves_of
-no_halves text found first is = ap (option_map (λ k. (take k text, drop (k + 1) text))) (sym is ∙ first)
+no_halves mark text found first is = ap (option_map (λ k. (take k text, drop (k + 1) text))) (sym is ∙ first)

@@ -5,8 +5,10 @@ use Rattle.dr_ports.specs.Ports.{appended}
 use Rattle.dr_ports.specs.Writing.{TookBeginning}
 use Rattle.dr_ports.proofs.Told.{appended-appended}
 use Rattle.dr_ports.proofs.WritingLemmas.{took_of_first, took_of_second}
-use Rattle.dr_model.specs.Events.{Event, Step}
-use Rattle.dr_model.specs.Sides.{Sides, step_on}
+use Rattle.dr_model.specs.Steps.{Step}
+use Rattle.dr_model.specs.Events.{Event}
+use Rattle.dr_model.specs.Clients.{Sides, step_on}
+use Rattle.dr_model.specs.Turns.{Mechanism}
 use Rattle.duet.specs.Held.{DuetNow, stepped}
 use Rattle.duet.specs.Lines.{reply_of}
 use Rattle.duet.specs.Seen.{event_of}
@@ -76,22 +78,22 @@ events_whole items seen i d e h =
     ∙ ap (λ xs. xs ++ map event_of (drop (i + 1) items)) (events_more items seen i d e h)
 
 -- both sides after one event more
-pub stands_more : (start : Sides) (events more : List Event) (event : Event) (old new : DuetNow) → new ≡ stepped old event → more ≡ events ++ event ∷ []
-    → old.sides ≡ after_by step_on start events → new.sides ≡ after_by step_on start more
-stands_more start events more event old new next e stands =
-    ap (λ (d : DuetNow). d.sides) next ∙ ap (λ (s : Sides). (step_on s event).next) stands ∙ sym (after_by-push step_on start events event) ∙ ap (after_by step_on start) (sym e)
+pub stands_more : (k : Mechanism) (start : Sides) (events more : List Event) (event : Event) (old new : DuetNow) → new ≡ stepped k old event → more ≡ events ++ event ∷ []
+    → old.sides ≡ after_by (step_on k) start events → new.sides ≡ after_by (step_on k) start more
+stands_more k start events more event old new next e stands =
+    ap (λ (d : DuetNow). d.sides) next ∙ ap (λ (s : Sides). (step_on k s event).next) stands ∙ sym (after_by-push (step_on k) start events event) ∙ ap (after_by (step_on k) start) (sym e)
 
 -- the lines so far, and then those of one event more
-pub wrote_more : (told mid new : Option (List ℕ)) (start : Sides) (events more : List Event) (event : Event) (sides : Sides) → new ≡ appended mid (reply_of event (step_on sides event))
-    → more ≡ events ++ event ∷ [] → sides ≡ after_by step_on start events → mid ≡ appended told (lines_by step_on start events) → new ≡ appended told (lines_by step_on start more)
-wrote_more told mid new start events more event sides wrote e stands so_far =
-    took_line told mid new step_on start events event so_far (wrote ∙ ap (λ (s : Sides). appended mid (reply_of event (step_on s event))) stands)
-    ∙ ap (λ es. appended told (lines_by step_on start es)) (sym e)
+pub wrote_more : (k : Mechanism) (told mid new : Option (List ℕ)) (start : Sides) (events more : List Event) (event : Event) (sides : Sides) → new ≡ appended mid (reply_of event (step_on k sides event))
+    → more ≡ events ++ event ∷ [] → sides ≡ after_by (step_on k) start events → mid ≡ appended told (lines_by (step_on k) start events) → new ≡ appended told (lines_by (step_on k) start more)
+wrote_more k told mid new start events more event sides wrote e stands so_far =
+    took_line told mid new (step_on k) start events event so_far (wrote ∙ ap (λ (s : Sides). appended mid (reply_of event (step_on k s event))) stands)
+    ∙ ap (λ es. appended told (lines_by (step_on k) start es)) (sym e)
 
 -- the lines so far, and then a beginning of those of the next event
-pub wrote_part : (told mid new : Option (List ℕ)) (start : Sides) (events others all : List Event) (event : Event) (sides : Sides) → TookBeginning mid new (reply_of event (step_on sides event))
-    → all ≡ (events ++ event ∷ []) ++ others → sides ≡ after_by step_on start events → mid ≡ appended told (lines_by step_on start events) → TookBeginning told new (lines_by step_on start all)
-wrote_part told mid new start events others all event sides part e stands so_far =
-    subst (λ es. TookBeginning told new (lines_by step_on start es)) (sym e)
-    (took_until told mid new step_on start events event others so_far
-    (subst (λ (s : Sides). TookBeginning mid new (reply_of event (step_on s event))) stands part))
+pub wrote_part : (k : Mechanism) (told mid new : Option (List ℕ)) (start : Sides) (events others all : List Event) (event : Event) (sides : Sides) → TookBeginning mid new (reply_of event (step_on k sides event))
+    → all ≡ (events ++ event ∷ []) ++ others → sides ≡ after_by (step_on k) start events → mid ≡ appended told (lines_by (step_on k) start events) → TookBeginning told new (lines_by (step_on k) start all)
+wrote_part k told mid new start events others all event sides part e stands so_far =
+    subst (λ es. TookBeginning told new (lines_by (step_on k) start es)) (sym e)
+    (took_until told mid new (step_on k) start events event others so_far
+    (subst (λ (s : Sides). TookBeginning mid new (reply_of event (step_on k s event))) stands part))

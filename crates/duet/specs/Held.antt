@@ -1,23 +1,49 @@
 -- Both sides, as the code holds them.
-use Rattle.std.specs.Prelude.{ℕ, List, []}
+use Rattle.std.specs.Prelude.{ℕ, List, [], None}
+use Rattle.dr_base.specs.declared.position.Position.{Position}
+use Rattle.dr_base.specs.declared.position.Side.{Side}
+use Rattle.dr_base.specs.declared.position.Side.TheVariants.{First, Second}
 use Rattle.boxes.specs.Items.{Item}
-use Rattle.dr_model.specs.Events.{Event, shows_inbox}
-use Rattle.dr_model.specs.Sides.{Sides, step_on}
-use Rattle.dr_model.specs.States.{Sending, Receiving}
+use Rattle.dr_model.specs.Clients.{Client, SaidText, Sides, TakenPacket, client_of, step_on}
+use Rattle.dr_model.specs.Steps.{Step}
+use Rattle.dr_model.specs.Events.{Draws, Event, shows_inbox}
+use Rattle.dr_model.specs.Sessions.{opening_state}
+use Rattle.dr_model.specs.Turns.{Mechanism}
+
+-- a side at the beginning of a conversation
+abbrev pub opening_client : Mechanism → List ℕ → Side → Client
+opening_client k key side = record { state = opening_state k key side; inbox = []; outbox = [] }
+
+abbrev pub said_text : Item → Client → SaidText
+said_text post next = record { post = post; next = next }
+
+abbrev pub taken_packet : Position → Client → TakenPacket
+taken_packet position next = record { position = position; next = next }
 
 -- the sides, and how many packets the network has room for
 pub record DuetNow : Type 0 where
   pub sides : Sides
   pub room : ℕ
 
-abbrev pub duet_now : Sending → Receiving → List Item → ℕ → DuetNow
-duet_now second first posts room = record { sides = record { second = second; first = first; posts = posts }; room = room }
+abbrev pub duet_now : List ℕ → Client → Client → List Item → Draws → ℕ → DuetNow
+duet_now key first second posts draws room = record {
+  sides = record { key = key; first = first; second = second; posts = posts; draws = draws };
+  room = room;
+}
 
--- what is held after an event
-abbrev pub stepped : DuetNow → Event → DuetNow
-stepped duet event = record duet { sides = (step_on duet.sides event).next }
+-- both sides at the beginning of a conversation
+abbrev pub opening_duet : Mechanism → List ℕ → ℕ → DuetNow
+opening_duet k key room =
+    duet_now key (opening_client k key First) (opening_client k key Second) [] (record { made = 0; given = None }) room
+
+-- what is held after a step
+abbrev pub after : DuetNow → Step Sides → DuetNow
+after duet made = record duet { sides = made.next }
+
+abbrev pub stepped : Mechanism → DuetNow → Event → DuetNow
+stepped k duet event = after duet (step_on k duet.sides event)
 
 -- the texts that an event shows
 abbrev pub shown : Event → Sides → List Item
-shown shows_inbox s = s.first.inbox
+shown (shows_inbox side) s = (client_of s side).inbox
 shown _ s = []

@@ -1,9 +1,7 @@
 pub mod Faults
-pub mod Held
-pub mod Keys
 pub mod Lines
 pub mod Number
 pub mod Script
 pub mod Seen
 pub mod Trace
-pub mod Ways
+pub mod Held

@@ -2,15 +2,18 @@
 use Rattle.std.specs.Prelude.{ℕ, Bool, ◌==◌, ◌&&◌, ◌||◌, not, nat_le, List, [], ◌∷◌, ◌++◌, flat_map, codes, decimal, if◌then◌else◌}
 use Rattle.hex.specs.Hex.{encode_lower}
 use Rattle.dr_base.specs.declared.position.Position.{Position}
+use Rattle.dr_base.specs.declared.position.Side.{Side}
+use Rattle.dr_base.specs.declared.position.Side.TheVariants.{First, Second}
 use Rattle.packet.specs.declared.fault.Kind.{Kind}
 use Rattle.packet.specs.declared.fault.Kind.TheVariants.{Version, Epoch, Previous, Index, Agreement, Text, Short, Long}
 use Rattle.boxes.specs.Items.{Item}
 use Rattle.dr_model.specs.declared.answer.Answer.{Answer}
-use Rattle.dr_model.specs.declared.answer.Answer.TheVariants.{Said, Opened, Sent, Done, Inbox, State, Nothing, Refused}
+use Rattle.dr_model.specs.declared.answer.Answer.TheVariants.{Said, Opened, Sent, Done, Inbox, State, Seeded, Nothing, Refused}
 use Rattle.dr_model.specs.declared.answer.Refusal.{Refusal}
-use Rattle.dr_model.specs.declared.answer.Refusal.TheVariants.{TextTooLong, OutboxFull, EpochFull, Malformed, OtherSession, OwnPacket, Ahead, Spent, SkipLimit, BadTag, InboxFull, Fewer}
+use Rattle.dr_model.specs.declared.answer.Refusal.TheVariants.{TextTooLong, OutboxFull, EpochFull, LastEpoch, NoPair, Malformed, OtherSession, OwnPacket, Ahead, Spent, Count, SkipLimit, BadTag, InboxFull, Fewer}
 use Rattle.dr_model.specs.declared.answer.Summary.{Summary}
-use Rattle.dr_model.specs.Events.{Event, says, drops_sent, Step}
+use Rattle.dr_model.specs.Steps.{Step}
+use Rattle.dr_model.specs.Events.{Event, seeds, says, takes, takes_nth, flips, takes_bytes, drops_sent, drops_done, shows_inbox, shows_state}
 
 -- `epoch.index`
 unfoldable pub position_text : Position → List ℕ
@@ -32,11 +35,14 @@ unfoldable pub refusal_text : Refusal → List ℕ
 refusal_text (TextTooLong len) = codes "TextTooLong " ++ decimal len
 refusal_text OutboxFull = codes "OutboxFull"
 refusal_text EpochFull = codes "EpochFull"
+refusal_text LastEpoch = codes "LastEpoch"
+refusal_text NoPair = codes "NoPair"
 refusal_text (Malformed fault) = codes "Malformed " ++ kind_text fault.kind ++ codes " " ++ decimal fault.at
 refusal_text OtherSession = codes "OtherSession"
 refusal_text (OwnPacket epoch) = codes "OwnPacket " ++ decimal epoch
 refusal_text (Ahead epoch reached) = codes "Ahead " ++ decimal epoch ++ codes " " ++ decimal reached
 refusal_text (Spent p) = codes "Spent " ++ position_text p
+refusal_text (Count claimed known) = codes "Count " ++ decimal claimed ++ codes " " ++ decimal known
 refusal_text (SkipLimit would) = codes "SkipLimit " ++ decimal would
 refusal_text BadTag = codes "BadTag"
 refusal_text InboxFull = codes "InboxFull"
@@ -56,18 +62,32 @@ answer_text (Sent n) = codes "sent " ++ decimal n
 answer_text (Done n) = codes "done " ++ decimal n
 answer_text (Inbox n) = codes "inbox " ++ decimal n
 answer_text (State s) = codes "state " ++ summary_text s
+answer_text Seeded = []
 answer_text Nothing = codes "nothing"
 answer_text (Refused r) = codes "refused " ++ refusal_text r
 
--- the side whose event it is
-abbrev pub side_text : Event → List ℕ
-side_text (says text) = codes "second "
-side_text (drops_sent amount) = codes "second "
-side_text _ = codes "first "
+-- a side
+unfoldable pub side_text : Side → List ℕ
+side_text First = codes "first "
+side_text Second = codes "second "
 
--- the line of an event with its answer
-unfoldable pub reply_line : Event → Answer → List ℕ
-reply_line event answer = side_text event ++ answer_text answer ++ codes "\n"
+-- the side whose event it is
+abbrev pub side_of : Event → Side
+side_of (seeds seed) = First
+side_of (says side text) = side
+side_of (takes side p) = side
+side_of (takes_nth side nth) = side
+side_of (flips side p bit) = side
+side_of (takes_bytes side bytes) = side
+side_of (drops_sent side amount) = side
+side_of (drops_done side amount) = side
+side_of (shows_inbox side) = side
+side_of (shows_state side) = side
+
+-- the line of a side's event with its answer; a seed has none
+unfoldable pub reply_line : Side → Answer → List ℕ
+reply_line side Seeded = []
+reply_line side answer = side_text side ++ answer_text answer ++ codes "\n"
 
 -- a printable byte, but for the quote and the backslash
 abbrev pub is_plain : ℕ → Bool
@@ -77,10 +97,10 @@ is_plain byte = (nat_le 32 byte && nat_le byte 126) && not (byte == 34 || byte =
 unfoldable pub escaped : ℕ → List ℕ
 escaped byte = if is_plain byte then byte ∷ [] else codes "\\x" ++ encode_lower (byte ∷ [])
 
--- the line of a text in First's inbox
-unfoldable pub entry_line : Item → List ℕ
-entry_line item = codes "first " ++ position_text item.position ++ codes " \"" ++ flat_map escaped item.bytes ++ codes "\"\n"
+-- the line of a text in a side's inbox
+unfoldable pub entry_line : Side → Item → List ℕ
+entry_line side item = side_text side ++ position_text item.position ++ codes " \"" ++ flat_map escaped item.bytes ++ codes "\"\n"
 
 -- what an event is answered with, in lines
 unfoldable pub reply_of : {S : Type 0} → Event → Step S → List ℕ
-reply_of event step = reply_line event step.answer ++ flat_map entry_line step.entries
+reply_of event step = reply_line (side_of event) step.answer ++ flat_map (entry_line (side_of event)) step.entries

@@ -1,10 +1,11 @@
 -- The trace of a script.
 use Rattle.std.specs.Prelude.{List, ℕ, [], ◌∷◌, ◌++◌}
-use Rattle.dr_model.specs.Events.{Event, Step}
-use Rattle.dr_model.specs.Machine.{IsFairRun, step_of}
-use Rattle.dr_model.specs.Sides.{Sides, step_on}
-use Rattle.dr_model.specs.Standing.{sides_of}
-use Rattle.dr_model.specs.Worlds.{opening}
+use Rattle.dr_model.specs.Clients.{Sides, step_on}
+use Rattle.dr_model.specs.Steps.{Step}
+use Rattle.dr_model.specs.Events.{Event}
+use Rattle.dr_model.specs.Machine.{opening_world, step_of}
+use Rattle.dr_model.specs.Standing.{IsFairRun, sides_of}
+use Rattle.dr_model.specs.Turns.{Mechanism}
 use Rattle.duet.specs.Lines.{reply_of}
 use Rattle.duet.specs.Script.{Scripted}
 
@@ -19,17 +20,17 @@ after_by act s [] = s
 after_by act s (event ∷ events) = after_by act (act s event).next events
 
 -- both sides at the beginning of a script
-abbrev pub beginning : Scripted → Sides
-beginning script = sides_of (opening script.key)
+abbrev pub beginning : Mechanism → Scripted → Sides
+beginning k script = sides_of k (opening_world script.key)
 
 -- the lines that both sides answer to a script
-unfoldable pub played : Scripted → List ℕ
-played script = lines_by step_on (beginning script) script.events
+unfoldable pub played : Mechanism → Scripted → List ℕ
+played k script = lines_by (step_on k) (beginning k script) script.events
 
 -- the lines that the machine answers to a script
-unfoldable pub trace_of : Scripted → List ℕ
-trace_of script = lines_by step_of (opening script.key) script.events
+unfoldable pub trace_of : Mechanism → Scripted → List ℕ
+trace_of k script = lines_by (step_of k) (opening_world script.key) script.events
 
 -- no packet that the script makes up has a forged tag
-abbrev pub IsFairScript : Scripted → Type 0
-IsFairScript script = IsFairRun (opening script.key) script.events
+abbrev pub IsFairScript : Mechanism → Scripted → Type 0
+IsFairScript k script = IsFairRun k (opening_world script.key) script.events

@@ -1,7 +1,7 @@
 //! Amounts of a box.
 
 ghost use Rattle.std.specs.Prelude.{◌≡◌};
-ghost use Rattle.dr_model.specs.Events.{amount_of};
+ghost use Rattle.dr_model.specs.Steps.{amount_of};
 
 use dr_model::Amount;
 

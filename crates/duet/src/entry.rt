@@ -4,9 +4,9 @@ ghost use Rattle.std.specs.Prelude.{◌≡◌, ℕ, ◌+◌, ◌≤◌, List, �
 ghost use Rattle.boxes.specs.Items.{item_at};
 ghost use Rattle.duet.specs.Lines.{entry_line, escaped, is_plain};
 
-use crate::reply::put_position;
+use crate::reply::{put_position, side_name};
 use arrayvec::ArrayVec;
-use dr_base::Position;
+use dr_base::{Position, Side};
 use dr_ports::OutputLine;
 
 /// The line of a text: each of its 1,024 bytes takes four at most.
@@ -36,14 +36,14 @@ fn put_escaped(line: &mut EntryLine, byte: u8)
     line.try_extend_from_slice(&digits).unwrap();
 }
 
-/// The line of a text in First's inbox.
+/// The line of a text in a side's inbox.
 #[tactic(auto, unfolding(crate::specs::Lines::entry_line))]
-pub fn entry_line(position: Position, text: &[u8]) -> EntryLine
+pub fn entry_line(side: Side, position: Position, text: &[u8]) -> EntryLine
     requires { length text.now ≤ 1024 }
-    ensures { result.items ≡ entry_line (item_at position text.now) }
+    ensures { result.items ≡ entry_line side (item_at position text.now) }
 {
     let mut head = OutputLine::new();
-    head.text(b"first ");
+    head.text(side_name(side));
     put_position(&mut head, position);
     head.text(b" \"");
     let mut line = EntryLine::new();

@@ -1,4 +1,4 @@
-//! Scripts of a conversation: their text, and the machine that plays them for both sides.
+//! Scripts of a conversation: their text, and both sides that play them.
 #![tactic(auto)]
 
 pub use laws::played_is_the_trace;
@@ -6,16 +6,14 @@ pub use playing::{PlayError, play};
 pub use script::{Line, Script, ScriptError};
 
 mod amount;
+mod client;
+mod draws;
 mod entry;
-mod keys;
+mod hexed;
 mod laws;
-mod message;
 mod network;
 mod playing;
 mod post;
-mod receiver;
 mod reply;
-mod schedule;
 mod script;
-mod sender;
 mod sides;

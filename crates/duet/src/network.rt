@@ -1,25 +1,43 @@
 //! The network: it holds every packet that it got, and may change a bit of one.
 
 ghost use Rattle.std.specs.Prelude.{◌≡◌, ℕ, ◌%◌, ◌^◌, ◌<◌, ◌≤◌, bit_xor, length, option_copied, option_map, slice_index, slice_set, IfSome};
-ghost use Rattle.dr_model.specs.Events.{flipped, held};
+ghost use Rattle.dr_model.specs.Steps.{flipped};
+ghost use Rattle.dr_model.specs.Events.{flipped_at, held_at, held_nth};
 
-use crate::post::{Packet, Post};
+use crate::post::{Packet, Post, packet_of};
+use dr_base::{Position, Side};
 
 /// The value of each bit of a byte, the lowest first.
 const BITS: [u8; 8] = [1, 2, 4, 8, 16, 32, 64, 128];
 
-/// The packet of an index.
-pub fn held(posts: &[Post], index: u32) -> Option<&[u8]>
-    ensures packet { option_copied result ≡ held posts.now index }
-    ensures fits { IfSome result (λ bytes. length bytes.now ≤ 1089) }
+/// The packet of a position.
+pub fn held_at(posts: &[Post], position: Position) -> Option<&[u8]>
+    ensures packet { option_copied result ≡ held_at posts.now position }
+    ensures fits { IfSome result (λ bytes. length bytes.now ≤ 3286) }
 {
-    if index == 0 {
-        return None;
+    'posts: for post in posts {
+        if post.is_at(position) {
+            return Some(post.packet());
+        }
     }
-    match posts.get(index as usize - 1) {
-        Some(post) => Some(post.packet()),
-        None => None,
+    None
+}
+
+/// The packet that the other side than this made, counted from 1.
+pub fn held_nth(posts: &[Post], side: Side, nth: u32) -> Option<&[u8]>
+    ensures packet { option_copied result ≡ held_nth posts.now side nth }
+    ensures fits { IfSome result (λ bytes. length bytes.now ≤ 3286) }
+{
+    let mut left = nth;
+    'posts: for post in posts {
+        if post.is_from_peer(side) {
+            if left == 1 {
+                return Some(post.packet());
+            }
+            left = left.saturating_sub(1);
+        }
     }
+    None
 }
 
 /// The value of a bit.
@@ -37,20 +55,10 @@ fn flip_at(bytes: &mut [u8], at: usize, value: u8)
     bytes[at] ^= value;
 }
 
-/// A copy of these bytes.
-fn packet_of(bytes: &[u8]) -> Packet
-    requires { length bytes.now ≤ 1089 }
-    ensures { result.items ≡ bytes.now }
-{
-    let mut packet = Packet::new();
-    packet.try_extend_from_slice(bytes).unwrap();
-    packet
-}
-
 /// A copy of these bytes with one bit changed, counted from the lowest of the first byte, if they have that bit.
-#[tactic(auto, unfolding(dr_model::specs::Events::flipped))]
-pub fn flipped(bit: u32, bytes: &[u8]) -> Option<Packet>
-    requires { length bytes.now ≤ 1089 }
+#[tactic(auto, unfolding(dr_model::specs::Steps::flipped))]
+fn flipped(bit: u32, bytes: &[u8]) -> Option<Packet>
+    requires { length bytes.now ≤ 3286 }
     ensures { option_map (λ packet. packet.items) result ≡ flipped bit bytes.now }
 {
     let at = (bit / 8) as usize;
@@ -60,4 +68,25 @@ pub fn flipped(bit: u32, bytes: &[u8]) -> Option<Packet>
     let mut packet = packet_of(bytes);
     flip_at(packet.as_mut_slice(), at, bit_value(bit));
     Some(packet)
+}
+
+/// A copy of a packet, if there is one.
+pub fn copied(bytes: Option<&[u8]>) -> Option<Packet>
+    requires { IfSome bytes (λ bytes. length bytes.now ≤ 3286) }
+    ensures { option_map (λ packet. packet.items) result ≡ option_copied bytes.entry }
+{
+    match bytes {
+        Some(bytes) => Some(packet_of(bytes)),
+        None => None,
+    }
+}
+
+/// A copy of the packet of a position with one bit changed, if it has that bit.
+pub fn held_flipped(posts: &[Post], position: Position, bit: u32) -> Option<Packet>
+    ensures { option_map (λ packet. packet.items) result ≡ flipped_at posts.now position bit }
+{
+    match held_at(posts, position) {
+        Some(bytes) => flipped(bit, bytes),
+        None => None,
+    }
 }

@@ -1,11 +1,9 @@
 //! The lines of a trace.
 
 ghost use Rattle.std.specs.Prelude.{◌≡◌, ℕ, ◌+◌, ◌≤◌, List, ◌++◌, length, codes, decimal};
-ghost use Rattle.duet.specs.Seen.{event_of};
 ghost use Rattle.duet.specs.Lines.{position_text, kind_text, refusal_text, summary_text, answer_text, side_text, reply_line};
 
-use crate::script::Line;
-use dr_base::Position;
+use dr_base::{Position, Side};
 use dr_model::{Answer, Refusal, Summary};
 use dr_ports::{OutputLine, ROOM};
 use packet::{Kind, Malformed};
@@ -73,6 +71,8 @@ pub fn put_refusal(line: &mut OutputLine, refusal: Refusal)
         Refusal::TextTooLong(len) => put_named(line, b"TextTooLong ", len as u64),
         Refusal::OutboxFull => line.text(b"OutboxFull"),
         Refusal::EpochFull => line.text(b"EpochFull"),
+        Refusal::LastEpoch => line.text(b"LastEpoch"),
+        Refusal::NoPair => line.text(b"NoPair"),
         Refusal::Malformed(fault) => put_fault(line, fault),
         Refusal::OtherSession => line.text(b"OtherSession"),
         Refusal::OwnPacket(epoch) => put_named(line, b"OwnPacket ", u64::from(epoch)),
@@ -83,6 +83,10 @@ pub fn put_refusal(line: &mut OutputLine, refusal: Refusal)
         Refusal::Spent(position) => {
             line.text(b"Spent ");
             put_position(line, position);
+        }
+        Refusal::Count(claimed, known) => {
+            put_named(line, b"Count ", u64::from(claimed));
+            put_named(line, b" ", u64::from(known));
         }
         Refusal::SkipLimit(would) => put_named(line, b"SkipLimit ", u64::from(would)),
         Refusal::BadTag => line.text(b"BadTag"),
@@ -127,6 +131,7 @@ fn put_answer(line: &mut OutputLine, answer: Answer)
             line.text(b"state ");
             put_summary(line, summary);
         }
+        Answer::Seeded => {}
         Answer::Nothing => line.text(b"nothing"),
         Answer::Refused(refusal) => {
             line.text(b"refused ");
@@ -135,24 +140,28 @@ fn put_answer(line: &mut OutputLine, answer: Answer)
     }
 }
 
-/// The side whose event it is, and a space.
-fn side_name(event: &Line<'_>) -> &'static [u8]
-    ensures name { result.now ≡ side_text (event_of event.now) }
+/// A side, and a space.
+#[tactic(auto, unfolding(crate::specs::Lines::side_text))]
+pub fn side_name(side: Side) -> &'static [u8]
+    ensures name { result.now ≡ side_text side }
     ensures short { length result.now ≤ 7 }
 {
-    match event {
-        Line::Say(_) | Line::Sent(_) => b"second ",
-        _ => b"first ",
+    match side {
+        Side::First => b"first ",
+        Side::Second => b"second ",
     }
 }
 
-/// The line of an event with its answer.
+/// The line of a side's event with its answer; a seed has none.
 #[tactic(auto, unfolding(crate::specs::Lines::reply_line))]
-pub fn reply(event: &Line<'_>, answer: Answer) -> OutputLine
-    ensures { result ≡ reply_line (event_of event.now) answer }
+pub fn reply(side: Side, answer: Answer) -> OutputLine
+    ensures { result ≡ reply_line side answer }
 {
     let mut line = OutputLine::new();
-    line.text(side_name(event));
+    if matches!(answer, Answer::Seeded) {
+        return line;
+    }
+    line.text(side_name(side));
     put_answer(&mut line, answer);
     line.text(b"\n");
     line

@@ -16,6 +16,7 @@ use std::alloc::{AllocFailed, Global};
 mod line;
 mod number;
 mod split;
+mod words;
 
 /// What a script says: the key of both sessions, and its events in order.
 #[derive(Drop)]

@@ -1,71 +1,117 @@
 //! Both sides of a conversation, with the network between them.
 
-ghost use Rattle.std.specs.Prelude.{◌≡◌, ℕ, ◌<◌, [], length, vec_capacity, IfOk};
-ghost use Rattle.dr_model.specs.Events.{says, takes, flips, drops_sent, drops_done};
-ghost use Rattle.dr_model.specs.Sides.{step_on};
-ghost use Rattle.dr_model.specs.Standing.{sides_of};
-ghost use Rattle.dr_model.specs.Worlds.{opening};
-ghost use Rattle.duet.specs.Held.{DuetNow, stepped};
+ghost use Rattle.std.specs.Prelude.{◌≡◌, ◌-◌, ◌^◌, ◌<◌, length, Ok, IfOk, IsErrOf, IsNone, IsSome, is_some, option_map};
+ghost use Rattle.dr_model.specs.Clients.{client_of, say_check, say_on, said_on, step_on, summary_of, taken_on};
+ghost use Rattle.dr_model.specs.Events.{drops_done, drops_sent, says, takes_bytes};
+ghost use Rattle.dr_model.specs.Turns.{agreement_seed};
+ghost use Rattle.duet.specs.Held.{after, opening_duet, stepped};
+ghost use Rattle.ratchet.specs.Seen.{mechanism, seed_bytes};
 
-use crate::network::{flipped, held};
-use crate::post::Post;
-use crate::receiver::Receiver;
-use crate::schedule::begin;
+use crate::client::{BeginError, Client};
+use crate::draws::Draws;
+use crate::hexed::bytes_of;
+use crate::network::{copied, held_at, held_flipped, held_nth};
+use crate::post::{Packet, Post};
 use crate::script::Line;
-use crate::sender::Sender;
 use boxes::Inbox;
-use dr_base::Key32;
-use dr_model::{Amount, Answer, Refusal};
-use std::alloc::{AllocError, Global};
+use dr_base::{Key32, Side};
+use dr_model::{Amount, Answer, Refusal, Summary};
+use kem_laws::Kem;
+use std::alloc::Global;
 use std::marker::Model;
 
-/// Both sides. The network holds every packet that stood in Second's outbox.
+/// Both sides. The network holds every packet that stood in an outbox.
 #[derive(Drop)]
-pub struct Duet {
-    second: Sender,
-    first: Receiver,
+pub struct Duet<K: Kem> {
+    key: Key32,
+    first: Client<K>,
+    second: Client<K>,
     posts: Vec<Post>,
+    draws: Draws,
 }
 
-impl Model for Duet {
+impl<K: Kem> Model for Duet<K> {
     ghost use Rattle.std.specs.Prelude.{vec_capacity};
     ghost use Rattle.duet.specs.Held.{DuetNow, duet_now};
 
     ghost Value = { DuetNow };
 
-    ghost view = { λ d. duet_now d.second d.first d.posts.items (vec_capacity d.posts) };
+    ghost view = { λ d. duet_now d.key.bytes d.first d.second d.posts.items d.draws (vec_capacity d.posts) };
 }
 
-impl Duet {
+impl<K: Kem> Duet<K> {
     ghost use Rattle.duet.specs.Seen.{event_of};
 
     /// Both sides before the first event, and room in the network for so many packets. It takes all memory that the
     /// events need.
-    pub fn new(alloc: Global, key: &Key32, room: usize) -> Result<Self, AllocError>
-        ensures { IfOk result (λ duet. duet ≡ record { sides = sides_of (opening key.now.bytes); room = room }) }
+    pub fn new(
+        alloc: Global,
+        work: &mut K::Work,
+        key: &Key32,
+        room: usize,
+    ) -> Result<Self, BeginError>
+        ensures ok { IfOk result (λ duet. duet ≡ opening_duet (mechanism K.meaning K.PUBLIC K.SECRET K.CIPHERTEXT) key.now.bytes room) }
+        ensures few { IfOk result (λ _. room < 2 ^ 32 - 1) }
+        ensures pair { IfOk result (λ _. IsSome (K.meaning.pair_of (agreement_seed key.now.bytes))) }
+        ensures none { IsErrOf result BeginError.NoPair → IsNone (K.meaning.pair_of (agreement_seed key.now.bytes)) }
     {
-        let beginning = begin(key);
-        Ok(Duet {
-            second: Sender::new(alloc, beginning.session, beginning.stream)?,
-            first: Receiver::new(alloc, beginning.session, beginning.stream)?,
-            posts: Vec::with_capacity(alloc, room)?,
-        })
+        // No memory has room for the packets of so many events.
+        if room >= u32::MAX as usize {
+            return Err(BeginError::Memory);
+        }
+        let Ok(posts) = Vec::with_capacity(alloc, room) else {
+            return Err(BeginError::Memory);
+        };
+        let first = match Client::begin(alloc, work, Side::First, key) {
+            Ok(first) => first,
+            Err(error) => return Err(error),
+        };
+        match Client::begin(alloc, work, Side::Second, key) {
+            Ok(second) => Ok(Duet {
+                key: Key32 { bytes: key.bytes },
+                first,
+                second,
+                posts,
+                draws: Draws::new(),
+            }),
+            Err(error) => Err(error),
+        }
     }
 
-    /// First's inbox.
-    pub fn inbox(&self) -> &Inbox
-        ensures { result.now ≡ self.now.sides.first.inbox }
+    /// A side's inbox.
+    pub fn inbox(&self, side: Side) -> &Inbox
+        ensures { result.now ≡ (client_of self.now.sides side).inbox }
     {
-        self.first.inbox()
+        match side {
+            Side::First => self.first.inbox(),
+            Side::Second => self.second.inbox(),
+        }
     }
 
-    /// Second says a text, whose packet the network gets.
-    fn say(&mut self, text: &[u8]) -> Answer
-        requires { length self.old.sides.posts < self.old.room }
-        ensures answer { result ≡ (step_on self.old.sides (says text.now)).answer }
-        ensures next { self.new ≡ stepped self.old (says text.now) }
+    /// Whether a side may say a text of this length, and then whether that needs a seed.
+    fn say_check(&self, side: Side, len: usize) -> Result<bool, Refusal>
+        ensures { result ≡ say_check (client_of self.now.sides side) len }
     {
-        match self.second.say(text) {
+        match side {
+            Side::First => self.first.say_check(len),
+            Side::Second => self.second.say_check(len),
+        }
+    }
+
+    /// A side says a text that it may say, and the network gets its packet.
+    fn speak(&mut self, work: &mut K::Work, side: Side, text: &[u8], seed: Option<Key32>) -> Answer
+        requires room { length self.old.sides.posts < self.old.room }
+        requires checked { say_check (client_of self.old.sides side) (length text.now) ≡ Ok (is_some seed) }
+        ensures answer { let k = mechanism K.meaning K.PUBLIC K.SECRET K.CIPHERTEXT in
+            result ≡ (said_on self.old.sides side (say_on k (client_of self.old.sides side) text.now (seed_bytes seed))).answer }
+        ensures next { let k = mechanism K.meaning K.PUBLIC K.SECRET K.CIPHERTEXT in
+            self.new ≡ after self.old (said_on self.old.sides side (say_on k (client_of self.old.sides side) text.now (seed_bytes seed))) }
+    {
+        let said = match side {
+            Side::First => self.first.say(work, text, seed),
+            Side::Second => self.second.say(work, text, seed),
+        };
+        match said {
             Ok(post) => {
                 let position = post.position();
                 self.posts.push_reserved(post);
@@ -75,73 +121,121 @@ impl Duet {
         }
     }
 
-    /// First takes the packet of an index.
-    fn take(&mut self, index: u32) -> Answer
-        ensures answer { result ≡ (step_on self.old.sides (takes index)).answer }
-        ensures next { self.new ≡ stepped self.old (takes index) }
+    /// A side says a text. A draw is made only where the text may be said and needs a seed.
+    fn say(&mut self, work: &mut K::Work, side: Side, text: &[u8]) -> Answer
+        requires room { length self.old.sides.posts < self.old.room }
+        requires draws { self.old.sides.draws.made < 2 ^ 32 - 1 }
+        ensures answer { let k = mechanism K.meaning K.PUBLIC K.SECRET K.CIPHERTEXT in result ≡ (step_on k self.old.sides (says side text.now)).answer }
+        ensures next { let k = mechanism K.meaning K.PUBLIC K.SECRET K.CIPHERTEXT in self.new ≡ stepped k self.old (says side text.now) }
     {
-        match held(self.posts.as_slice(), index) {
-            None => Answer::Nothing,
-            Some(bytes) => match self.first.take(bytes) {
-                Ok(position) => Answer::Opened(position),
-                Err(refusal) => Answer::Refused(refusal),
-            },
+        match self.say_check(side, text.len()) {
+            Err(refusal) => Answer::Refused(refusal),
+            Ok(false) => self.speak(work, side, text, None),
+            Ok(true) => {
+                let seed = self.draws.next(&self.key);
+                self.speak(work, side, text, Some(seed))
+            }
         }
     }
 
-    /// First takes the packet of an index with one bit changed.
-    fn flip(&mut self, index: u32, bit: u32) -> Answer
-        ensures answer { result ≡ (step_on self.old.sides (flips index bit)).answer }
-        ensures next { self.new ≡ stepped self.old (flips index bit) }
+    /// A side takes bytes.
+    fn take_bytes(&mut self, work: &mut K::Work, side: Side, bytes: &[u8]) -> Answer
+        ensures answer { let k = mechanism K.meaning K.PUBLIC K.SECRET K.CIPHERTEXT in result ≡ (step_on k self.old.sides (takes_bytes side bytes.now)).answer }
+        ensures next { let k = mechanism K.meaning K.PUBLIC K.SECRET K.CIPHERTEXT in self.new ≡ stepped k self.old (takes_bytes side bytes.now) }
     {
-        match held(self.posts.as_slice(), index) {
-            None => Answer::Nothing,
-            Some(bytes) => match flipped(bit, bytes) {
-                None => Answer::Nothing,
-                Some(packet) => match self.first.take(packet.as_slice()) {
-                    Ok(position) => Answer::Opened(position),
-                    Err(refusal) => Answer::Refused(refusal),
-                },
-            },
+        let taken = match side {
+            Side::First => self.first.take(work, bytes),
+            Side::Second => self.second.take(work, bytes),
+        };
+        match taken {
+            Ok(position) => Answer::Opened(position),
+            Err(refusal) => Answer::Refused(refusal),
         }
     }
 
-    /// Second's oldest packets leave the outbox.
-    fn drop_sent(&mut self, amount: Amount) -> Answer
-        ensures answer { result ≡ (step_on self.old.sides (drops_sent amount)).answer }
-        ensures next { self.new ≡ stepped self.old (drops_sent amount) }
+    /// A side takes a packet, if the network has it to give.
+    fn take_packet(&mut self, work: &mut K::Work, side: Side, packet: Option<Packet>) -> Answer
+        ensures answer { let k = mechanism K.meaning K.PUBLIC K.SECRET K.CIPHERTEXT in
+            result ≡ (taken_on k self.old.sides side (option_map (λ packet. packet.items) packet)).answer }
+        ensures next { let k = mechanism K.meaning K.PUBLIC K.SECRET K.CIPHERTEXT in
+            self.new ≡ after self.old (taken_on k self.old.sides side (option_map (λ packet. packet.items) packet)) }
     {
-        match self.second.drop_sent(amount) {
+        match packet {
+            Some(packet) => self.take_bytes(work, side, packet.as_slice()),
+            None => Answer::Nothing,
+        }
+    }
+
+    /// A side's oldest packets leave its outbox.
+    fn drop_sent(&mut self, side: Side, amount: Amount) -> Answer
+        ensures answer { let k = mechanism K.meaning K.PUBLIC K.SECRET K.CIPHERTEXT in result ≡ (step_on k self.old.sides (drops_sent side amount)).answer }
+        ensures next { let k = mechanism K.meaning K.PUBLIC K.SECRET K.CIPHERTEXT in self.new ≡ stepped k self.old (drops_sent side amount) }
+    {
+        let dropped = match side {
+            Side::First => self.first.drop_sent(amount),
+            Side::Second => self.second.drop_sent(amount),
+        };
+        match dropped {
             Ok(n) => Answer::Sent(n),
             Err(refusal) => Answer::Refused(refusal),
         }
     }
 
-    /// First's oldest texts leave the inbox.
-    fn drop_done(&mut self, amount: Amount) -> Answer
-        ensures answer { result ≡ (step_on self.old.sides (drops_done amount)).answer }
-        ensures next { self.new ≡ stepped self.old (drops_done amount) }
+    /// A side's oldest texts leave its inbox.
+    fn drop_done(&mut self, side: Side, amount: Amount) -> Answer
+        ensures answer { let k = mechanism K.meaning K.PUBLIC K.SECRET K.CIPHERTEXT in result ≡ (step_on k self.old.sides (drops_done side amount)).answer }
+        ensures next { let k = mechanism K.meaning K.PUBLIC K.SECRET K.CIPHERTEXT in self.new ≡ stepped k self.old (drops_done side amount) }
     {
-        match self.first.drop_done(amount) {
+        let dropped = match side {
+            Side::First => self.first.drop_done(amount),
+            Side::Second => self.second.drop_done(amount),
+        };
+        match dropped {
             Ok(n) => Answer::Done(n),
             Err(refusal) => Answer::Refused(refusal),
         }
     }
 
+    /// What a side holds, in numbers.
+    fn summary(&self, side: Side) -> Summary
+        ensures { result ≡ summary_of (client_of self.now.sides side) }
+    {
+        match side {
+            Side::First => self.first.summary(),
+            Side::Second => self.second.summary(),
+        }
+    }
+
     /// One event. An inbox is answered with how many texts stand in it.
-    pub fn step(&mut self, line: &Line<'_>) -> Answer
-        requires { length self.old.sides.posts < self.old.room }
-        ensures answer { result ≡ (step_on self.old.sides (event_of line.now)).answer }
-        ensures next { self.new ≡ stepped self.old (event_of line.now) }
+    pub fn step(&mut self, work: &mut K::Work, line: &Line<'_>) -> Answer
+        requires room { length self.old.sides.posts < self.old.room }
+        requires draws { self.old.sides.draws.made < 2 ^ 32 - 1 }
+        ensures answer { let k = mechanism K.meaning K.PUBLIC K.SECRET K.CIPHERTEXT in result ≡ (step_on k self.old.sides (event_of line.now)).answer }
+        ensures next { let k = mechanism K.meaning K.PUBLIC K.SECRET K.CIPHERTEXT in self.new ≡ stepped k self.old (event_of line.now) }
     {
         match line {
-            Line::Say(text) => self.say(text),
-            Line::Take(index) => self.take(*index),
-            Line::Flip(index, bit) => self.flip(*index, *bit),
-            Line::Sent(amount) => self.drop_sent(*amount),
-            Line::Done(amount) => self.drop_done(*amount),
-            Line::Inbox => Answer::Inbox(self.first.inbox().len()),
-            Line::State => Answer::State(self.first.summary()),
+            Line::Seed(seed) => {
+                self.draws.give(seed);
+                Answer::Seeded
+            }
+            Line::Say(side, text) => self.say(work, *side, text),
+            Line::Take(side, position) => {
+                let packet = copied(held_at(self.posts.as_slice(), *position));
+                self.take_packet(work, *side, packet)
+            }
+            Line::TakeNth(side, nth) => {
+                let packet = copied(held_nth(self.posts.as_slice(), *side, *nth));
+                self.take_packet(work, *side, packet)
+            }
+            Line::Flip(side, position, bit) => {
+                let packet = held_flipped(self.posts.as_slice(), *position, *bit);
+                self.take_packet(work, *side, packet)
+            }
+            Line::Bytes(side, digits) => self.take_bytes(work, *side, bytes_of(digits).as_slice()),
+            Line::Sent(side, amount) => self.drop_sent(*side, *amount),
+            Line::Done(side, amount) => self.drop_done(*side, *amount),
+            Line::Inbox(side) => Answer::Inbox(self.inbox(*side).len()),
+            Line::State(side) => Answer::State(self.summary(*side)),
         }
     }
 }

@@ -1,1 +1,4 @@
 mod Difference
+pub mod Places
+pub mod Tables
+pub mod Streams

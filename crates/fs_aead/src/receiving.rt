@@ -2,7 +2,7 @@
 
 ghost use Rattle.std.specs.Prelude.{◌≡◌, ℕ, ◌+◌, ◌-◌, ◌^◌, ◌<◌, ◌≤◌, ◌++◌, length};
 ghost use Rattle.etm_aead.specs.Chain.{chain_message_key, chain_of, next_chain};
-ghost use Rattle.fs_aead.specs.Table.{AllBefore, shelved};
+ghost use Rattle.etm_aead.specs.Table.{AllBefore, shelved};
 
 use crate::chain::step;
 use crate::table::Skipped;

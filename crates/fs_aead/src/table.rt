@@ -1,7 +1,7 @@
 // The table of the keys that were passed over.
 
 ghost use Rattle.std.specs.Prelude.{◌≡◌, ℕ, ◌+◌, ◌^◌, ◌<◌, ◌≤◌, ◌↔◌, [], ◌∷◌, ◌++◌, length, IsTrue, IsOk, IfErr, IfNone, position as position_of};
-ghost use Rattle.fs_aead.specs.Table.{AllBefore, IsAscending, is_at, kept_key, without};
+ghost use Rattle.etm_aead.specs.Table.{AllBefore, IsAscending, is_at, kept_key, without};
 
 use arrayvec::ArrayVec;
 use dr_base::{Kept, Key32, Position};
@@ -29,7 +29,7 @@ pub struct Skipped {
 impl Model for Skipped {
     ghost use Rattle.std.specs.Prelude.{List};
     ghost use Rattle.dr_base.specs.declared.key.Kept.{Kept};
-    ghost use Rattle.fs_aead.specs.Table.{IsAscending};
+    ghost use Rattle.etm_aead.specs.Table.{IsAscending};
 
     ghost Value = { List Kept };
 

@@ -29,7 +29,7 @@ pub trait Kem {
     const CIPHERTEXT: usize;
 
     /// The room that the mechanism works in. What stands in it at a call doesn't matter.
-    type Work;
+    type Work: Drop;
 
     // The same three lengths, for clauses.
     ghost PUBLIC: { ℕ };

@@ -1,9 +1,11 @@
 -- A last line behind the lines of the work.
-use Rattle.std.proofs.Common.{◌≡◌, ℕ, ◌≤◌, List, [], Option, ◌∙◌, ap, arith, inl, inr}
-use Rattle.dr_ports.specs.Ports.{appended}
+use Rattle.std.proofs.Common.{◌≡◌, ℕ, ◌≤◌, List, [], Option, None, Some, refl, sym, subst, ◌∙◌, ap, append-nil, arith, inl, inr}
+use Rattle.dr_ports.specs.Ports.{Rose, appended}
+use Rattle.dr_ports.specs.Writing.{TookBeginning}
 use Rattle.dr_ports.proofs.Told.{appended-appended}
 use Rattle.dr_ports.proofs.WritingLemmas.{took_of_second}
 use Rattle.messenger_cli.specs.declared.ending.Ending.{Ending}
+use Rattle.messenger_cli.specs.declared.ending.Ending.TheVariants.{Done}
 use Rattle.messenger_cli.specs.Ending.{last_line}
 use Rattle.messenger_cli.specs.Ends.{Ends}
 
@@ -17,4 +19,18 @@ ends_behind ending lines old mid new before middle now code e later (inr cut) = 
   code_is = cut.code_is;
   wrote = took_of_second old mid new lines (last_line ending) e cut.wrote;
   rose = omega (arith, cut.rose);
+})
+
+-- no lines change nothing
+pub nothing_taken : (told : Option (List ℕ)) → told ≡ appended told []
+nothing_taken None = refl
+nothing_taken (Some xs) = ap Some (sym (append-nil xs))
+
+-- work that a failed write cut off
+pub ends_cut : (lines : List ℕ) (old new : Option (List ℕ)) (before now : ℕ) → TookBeginning old new lines → Rose before now → Ends Done lines old new before now 5
+unfolding last_line
+ends_cut lines old new before now wrote rose = inr (record {
+  code_is = refl;
+  wrote = subst (λ text. TookBeginning old new text) (sym (append-nil lines)) wrote;
+  rose = rose;
 })

@@ -17,6 +17,8 @@ pub enum Ending {
     InputTooLong,
     /// The script's first bad line, from 1.
     BadLine(u32),
+    /// The shared key gives no first pair.
+    NoPair,
     /// A read of the source failed.
     ReadFault,
     /// There was no memory.
@@ -33,6 +35,7 @@ impl Ending {
             Ending::Usage => 2,
             Ending::InputTooLong => 3,
             Ending::BadLine(_) => 3,
+            Ending::NoPair => 3,
             Ending::ReadFault => 4,
             Ending::NoMemory => 13,
         }

@@ -11,6 +11,7 @@ use crate::status::{Status, finish};
 use crate::words::is_duet;
 use dr_ports::{Failed, InputError, Sink, Source, read_whole};
 use duet::{PlayError, Script, ScriptError, play};
+use kem_laws::OpenKem;
 use std::alloc::Global;
 
 /// Reads a script from the source and plays it.
@@ -32,9 +33,10 @@ fn work<S: Source, O: Sink>(alloc: Global, source: &mut S, out: &mut O) -> Resul
         Err(ScriptError::Memory) => return Ok(Ending::NoMemory),
         Err(ScriptError::Line(number)) => return Ok(Ending::BadLine(number)),
     };
-    match play(alloc, &script, out) {
+    match play::<OpenKem, O>(alloc, &script, out) {
         Ok(()) => Ok(Ending::Done),
         Err(PlayError::Memory) => Ok(Ending::NoMemory),
+        Err(PlayError::NoPair) => Ok(Ending::NoPair),
         Err(PlayError::Write) => Err(Failed),
     }
 }

@@ -28,6 +28,7 @@ fn closing(ending: Ending) -> OutputLine
             line.number(u64::from(number));
             line.text(b"\n");
         }
+        Ending::NoPair => line.text(b"refused: NoPair\n"),
         Ending::ReadFault => line.text(b"fault: read\n"),
         Ending::NoMemory => line.text(b"no memory\n"),
     }

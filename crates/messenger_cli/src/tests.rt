@@ -48,7 +48,7 @@ fn answers(alloc: Global, lines: &[u8], expected: &[u8]) -> Result<bool, AllocEr
 #[test]
 fn plays_scripts(rt: HostRuntime) -> Result<(), Fail> {
     let alloc = rt.alloc();
-    let cases: [(&[u8], &[u8]); 8] = [
+    let cases: [(&[u8], &[u8]); 14] = [
         (
             b"second say\nsecond say \nfirst take 0.2\nfirst take 0.3\nfirst take 0.0\nfirst take 0.1",
             b"second said 0.1\nsecond said 0.2\nfirst opened 0.2\nfirst nothing\nfirst nothing\nfirst opened 0.1\n",
@@ -62,6 +62,34 @@ fn plays_scripts(rt: HostRuntime) -> Result<(), Fail> {
         (
             b"second say hi\nfirst flip 0.1 216\nfirst flip 0.1 217\nfirst flip 0.1 208\n",
             b"second said 0.1\nfirst refused BadTag\nfirst refused SkipLimit 512\nfirst refused Malformed Index 25\n",
+        ),
+        // Second learns of a turn, and keeps the key that it passed
+        (
+            b"first say a\nfirst say b\nsecond take 1.2\nsecond state\n",
+            b"first said 1.1\nfirst said 1.2\nsecond opened 1.2\nsecond state epoch 1 missing 1 inbox 1 outbox 0\n",
+        ),
+        // a turn each way
+        (
+            b"first say a\nsecond say b\nsecond take 1.1\nfirst take 0.1\nsecond say c\nfirst take 2.1\nfirst state\n",
+            b"first said 1.1\nsecond said 0.1\nsecond opened 1.1\nfirst opened 0.1\nsecond said 2.1\nfirst opened 2.1\nfirst state epoch 2 missing 0 inbox 2 outbox 1\n",
+        ),
+        (
+            b"first say a\nfirst take 1.1\nsecond flip 1.1 161\nsecond flip 1.1 192\n",
+            b"first said 1.1\nfirst refused OwnPacket 1\nsecond refused Ahead 3 0\nsecond refused Malformed Previous 21\n",
+        ),
+        // the packet 2.1 says that 3 texts went before it, and a changed one 2
+        (
+            b"second say a\nsecond say b\nsecond say c\nfirst take 0.3\nfirst say d\nsecond take 1.1\nsecond say e\nfirst flip 2.1 192\nfirst take 2.1\nfirst state\nfirst take 0.1\n",
+            b"second said 0.1\nsecond said 0.2\nsecond said 0.3\nfirst opened 0.3\nfirst said 1.1\nsecond opened 1.1\nsecond said 2.1\nfirst refused Count 2 3\nfirst opened 2.1\nfirst state epoch 2 missing 2 inbox 2 outbox 1\nfirst opened 0.1\n",
+        ),
+        // a seed without a pair is used up, and none is drawn where none is needed
+        (
+            b"seed ffffffffffffffffffffffffffffffffffffffffffffffffffffffffffffffff\nsecond say a\nfirst say b\nfirst say b\n",
+            b"second said 0.1\nfirst refused NoPair\nfirst said 1.1\n",
+        ),
+        (
+            b"first take #1\nsecond say a\nfirst take #0\nfirst take #2\nfirst take #1\nsecond take #1\nfirst bytes\nfirst bytes 02\nsecond take 4294967295.0\n",
+            b"first nothing\nsecond said 0.1\nfirst nothing\nfirst nothing\nfirst opened 0.1\nsecond nothing\nfirst refused Malformed Short 0\nfirst refused Malformed Version 0\nsecond nothing\n",
         ),
         // the epochs 2 and 65
         (
@@ -95,16 +123,20 @@ fn plays_scripts(rt: HostRuntime) -> Result<(), Fail> {
 #[test]
 fn refuses_bad_lines(rt: HostRuntime) -> Result<(), Fail> {
     let alloc = rt.alloc();
-    let cases: [(&[u8], &[u8]); 14] = [
+    let cases: [(&[u8], &[u8]); 18] = [
         (b"", b"refused: Script 1\n"),
         (b"kem open\n", b"refused: Script 2\n"),
         (b"kem sntrup761\n", b"refused: Script 1\n"),
         (b"kem open\nkey 00\n", b"refused: Script 2\n"),
         (b"second say a\nfirst take 0.01\n", b"refused: Script 4\n"),
-        (b"first say a\n", b"refused: Script 3\n"),
+        (b"third say a\n", b"refused: Script 3\n"),
         (b"\n", b"refused: Script 3\n"),
-        (b"second take 0.1\n", b"refused: Script 3\n"),
-        (b"first take 1.1\n", b"refused: Script 3\n"),
+        (b"second take 0\n", b"refused: Script 3\n"),
+        (b"first take 1.1.1\n", b"refused: Script 3\n"),
+        (b"first take #\n", b"refused: Script 3\n"),
+        (b"seed 00\n", b"refused: Script 3\n"),
+        (b"first bytes 0\n", b"refused: Script 3\n"),
+        (b"first sync\n", b"refused: Script 3\n"),
         (b"first flip 0.1\n", b"refused: Script 3\n"),
         (b"first flip 0.1  2\n", b"refused: Script 3\n"),
         (b"first inbox \n", b"refused: Script 3\n"),

@@ -1,171 +1,118 @@
 //! The lines of a script behind its key.
 
-ghost use Rattle.std.specs.Prelude.{◌≡◌, ℕ, option_map};
-ghost use Rattle.dr_model.specs.Events.{says, drops_sent, drops_done};
+ghost use Rattle.std.specs.Prelude.{◌≡◌, option_map};
+ghost use Rattle.duet.specs.Lines.{side_of};
+ghost use Rattle.duet.specs.Script.{line_of, seed_of, words_of};
 ghost use Rattle.duet.specs.Seen.{event_of};
-ghost use Rattle.duet.specs.Script.{amount_read, line_of, first_of, second_of, say_of, sent_of, take_of, flip_of, done_of, view_of};
 
-use crate::script::number::number;
-use crate::script::split::{after, halves};
+use crate::script::split::after;
+use crate::script::words::{
+    parse_bytes, parse_done, parse_flip, parse_look, parse_say, parse_sent, parse_take,
+};
+use dr_base::{Position, Side};
 use dr_model::Amount;
+use hex::FromHex;
 
 /// What one line says.
 #[derive(Clone, Copy, Debug, PartialEq, Eq)]
 pub enum Line<'a> {
-    /// Second says this text.
-    Say(&'a [u8]),
-    /// First takes the packet of this index of epoch 0.
-    Take(u32),
-    /// First takes the packet of the index, with the bit of the second number changed.
-    Flip(u32, u32),
-    /// So many of the oldest packets leave Second's outbox.
-    Sent(Amount),
-    /// So many of the oldest texts leave First's inbox.
-    Done(Amount),
-    /// First shows its inbox.
-    Inbox,
-    /// First shows what it holds, in numbers.
-    State,
+    /// The next draw is this seed.
+    Seed([u8; 32]),
+    /// A side says this text.
+    Say(Side, &'a [u8]),
+    /// A side takes the packet of this position.
+    Take(Side, Position),
+    /// A side takes the packet that the other side made, counted from 1.
+    TakeNth(Side, u32),
+    /// A side takes the packet of the position, with the bit of the number changed.
+    Flip(Side, Position, u32),
+    /// A side takes the bytes that these hex digits say.
+    Bytes(Side, &'a [u8]),
+    /// So many of the oldest packets leave a side's outbox.
+    Sent(Side, Amount),
+    /// So many of the oldest texts leave a side's inbox.
+    Done(Side, Amount),
+    /// A side shows its inbox.
+    Inbox(Side),
+    /// A side shows what it holds, in numbers.
+    State(Side),
 }
 
 impl<'a> Line<'a> {
-    /// Reads a line: the side, a space, and what it does.
+    /// Reads a line: a seed, or a side, a space, and what it does.
     #[tactic(auto, unfolding(crate::specs::Script::line_of))]
     pub fn parse(line: &'a [u8]) -> Option<Self>
         ensures { option_map event_of result ≡ line_of line.entry.now }
     {
-        if let Some(words) = after(line, b"second ") {
-            if let Some(found) = parse_second(words) {
+        if let Some(found) = parse_seed(line) {
+            return Some(found);
+        }
+        if let Some(words) = after(line, b"first ") {
+            if let Some(found) = parse_words(Side::First, words) {
                 return Some(found);
             }
         }
-        match after(line, b"first ") {
-            Some(words) => parse_first(words),
+        match after(line, b"second ") {
+            Some(words) => parse_words(Side::Second, words),
             None => None,
+        }
+    }
+
+    /// The side whose event it is; a seed is no side's, and counts as First's.
+    pub fn side(&self) -> Side
+        ensures { result ≡ side_of (event_of self.now) }
+    {
+        match self {
+            Line::Seed(_) => Side::First,
+            Line::Say(side, _) => *side,
+            Line::Take(side, _) => *side,
+            Line::TakeNth(side, _) => *side,
+            Line::Flip(side, _, _) => *side,
+            Line::Bytes(side, _) => *side,
+            Line::Sent(side, _) => *side,
+            Line::Done(side, _) => *side,
+            Line::Inbox(side) => *side,
+            Line::State(side) => *side,
         }
     }
 }
 
-/// Reads what stands behind `second`.
-#[tactic(auto, unfolding(crate::specs::Script::second_of))]
-fn parse_second(words: &[u8]) -> Option<Line<'_>>
-    ensures { option_map event_of result ≡ second_of words.entry.now }
+/// Reads `seed` and 64 hex digits of either case.
+#[tactic(auto, unfolding(crate::specs::Script::seed_of))]
+fn parse_seed(line: &[u8]) -> Option<Line<'_>>
+    ensures { option_map event_of result ≡ seed_of line.entry.now }
 {
-    if let Some(found) = parse_say(words) {
-        return Some(found);
-    }
-    parse_sent(words)
-}
-
-/// Reads what stands behind `first`.
-#[tactic(auto, unfolding(crate::specs::Script::first_of))]
-fn parse_first(words: &[u8]) -> Option<Line<'_>>
-    ensures { option_map event_of result ≡ first_of words.entry.now }
-{
-    if let Some(found) = parse_take(words) {
-        return Some(found);
-    }
-    if let Some(found) = parse_flip(words) {
-        return Some(found);
-    }
-    if let Some(found) = parse_done(words) {
-        return Some(found);
-    }
-    parse_view(words)
-}
-
-/// Reads `say` and a text behind a space, which an empty text may lack.
-#[tactic(auto, unfolding(crate::specs::Script::say_of))]
-fn parse_say(words: &[u8]) -> Option<Line<'_>>
-    ensures { option_map event_of result ≡ say_of words.entry.now }
-{
-    if let Some(text) = after(words, b"say ") {
-        return Some(Line::Say(text));
-    }
-    if words == b"say".as_slice() {
-        return Some(Line::Say(&words[..0]));
-    }
-    None
-}
-
-/// Reads `sent` and an amount.
-#[tactic(auto, unfolding(crate::specs::Script::sent_of))]
-fn parse_sent(words: &[u8]) -> Option<Line<'_>>
-    ensures { option_map event_of result ≡ sent_of words.entry.now }
-{
-    match after(words, b"sent ") {
-        Some(amount) => match parse_amount(amount) {
-            Some(amount) => Some(Line::Sent(amount)),
-            None => None,
+    match after(line, b"seed ") {
+        Some(digits) => match <[u8; 32] as FromHex>::from_hex(digits) {
+            Ok(seed) => Some(Line::Seed(seed)),
+            Err(_) => None,
         },
         None => None,
     }
 }
 
-/// Reads `take 0.` and an index.
-#[tactic(auto, unfolding(crate::specs::Script::take_of))]
-fn parse_take(words: &[u8]) -> Option<Line<'_>>
-    ensures { option_map event_of result ≡ take_of words.entry.now }
+/// Reads what stands behind a side.
+#[tactic(auto, unfolding(crate::specs::Script::words_of))]
+fn parse_words(side: Side, words: &[u8]) -> Option<Line<'_>>
+    ensures { option_map event_of result ≡ words_of side words.entry.now }
 {
-    match after(words, b"take 0.") {
-        Some(digits) => match number(digits) {
-            Some(index) => Some(Line::Take(index)),
-            None => None,
-        },
-        None => None,
+    if let Some(found) = parse_say(side, words) {
+        return Some(found);
     }
-}
-
-/// Reads `flip 0.`, an index, a space, and the number of a bit.
-#[tactic(auto, unfolding(crate::specs::Script::flip_of))]
-fn parse_flip(words: &[u8]) -> Option<Line<'_>>
-    ensures { option_map event_of result ≡ flip_of words.entry.now }
-{
-    let numbers = after(words, b"flip 0.")?;
-    let (index, bit) = halves(numbers)?;
-    let index = number(index)?;
-    let bit = number(bit)?;
-    Some(Line::Flip(index, bit))
-}
-
-/// Reads `done` and an amount.
-#[tactic(auto, unfolding(crate::specs::Script::done_of))]
-fn parse_done(words: &[u8]) -> Option<Line<'_>>
-    ensures { option_map event_of result ≡ done_of words.entry.now }
-{
-    match after(words, b"done ") {
-        Some(amount) => match parse_amount(amount) {
-            Some(amount) => Some(Line::Done(amount)),
-            None => None,
-        },
-        None => None,
+    if let Some(found) = parse_take(side, words) {
+        return Some(found);
     }
-}
-
-/// Reads `inbox` or `state`.
-#[tactic(auto, unfolding(crate::specs::Script::view_of))]
-fn parse_view(words: &[u8]) -> Option<Line<'_>>
-    ensures { option_map event_of result ≡ view_of words.entry.now }
-{
-    if words == b"inbox".as_slice() {
-        return Some(Line::Inbox);
+    if let Some(found) = parse_flip(side, words) {
+        return Some(found);
     }
-    if words == b"state".as_slice() {
-        return Some(Line::State);
+    if let Some(found) = parse_bytes(side, words) {
+        return Some(found);
     }
-    None
-}
-
-/// Reads `all` or a number.
-#[tactic(auto, unfolding(crate::specs::Script::amount_read))]
-fn parse_amount(text: &[u8]) -> Option<Amount>
-    ensures { result ≡ amount_read text.now }
-{
-    if text == b"all".as_slice() {
-        return Some(Amount::All);
+    if let Some(found) = parse_sent(side, words) {
+        return Some(found);
     }
-    match number(text) {
-        Some(n) => Some(Amount::Exactly(n)),
-        None => None,
+    if let Some(found) = parse_done(side, words) {
+        return Some(found);
     }
+    parse_look(side, words)
 }

@@ -45,11 +45,20 @@ pub fn after<'a>(text: &'a [u8], prefix: &[u8]) -> Option<&'a [u8]>
 }
 
 /// The text before the first space, and the text behind it.
-#[tactic(auto, unfolding(crate::specs::Script::halves_of))]
-pub fn halves(text: &[u8]) -> Option<(&[u8], &[u8])>
-    ensures { option_map (λ halves. (halves.0.now, halves.1.now)) result ≡ halves_of text.entry.now }
+pub fn at_space(text: &[u8]) -> Option<(&[u8], &[u8])>
+    ensures { option_map (λ halves. (halves.0.now, halves.1.now)) result ≡ halves_of 32 text.entry.now }
 {
     match text.iter().position(|byte| *byte == b' ') {
+        Some(at) => Some((&text[..at], &text[at + 1..])),
+        None => None,
+    }
+}
+
+/// The text before the first point, and the text behind it.
+pub fn at_point(text: &[u8]) -> Option<(&[u8], &[u8])>
+    ensures { option_map (λ halves. (halves.0.now, halves.1.now)) result ≡ halves_of 46 text.entry.now }
+{
+    match text.iter().position(|byte| *byte == b'.') {
         Some(at) => Some((&text[..at], &text[at + 1..])),
         None => None,
     }

@@ -1,19 +1,18 @@
-use Rattle.std.proofs.Common.{arith}
-use Rattle.dr_model.specs.Worlds.{opening}
-use Rattle.dr_model.proofs.History.{kept}
-use Rattle.dr_model.proofs.Runs.{first_arrival, too_far, inbox_full, stands, opened, stays_opened, stays_once, repeats, refusal_changes_nothing}
+use Rattle.dr_model.proofs.SaidStays.{packets_stay, texts_stay}
+use Rattle.dr_model.proofs.Runs.{first_arrival, too_far, inbox_full, stands, opened, stays, once, repeats, refusal_changes_nothing}
 use Rattle.dr_model.proofs.laws.headline.Goals as goal
 
 pub returns : goal.returns
-returns c = record {
-  first_arrival = first_arrival;
-  too_far = too_far;
-  inbox_full = inbox_full;
-  stands = stands;
-  opened = opened;
-  stays = stays_opened;
-  kept = kept;
-  once = λ key events index. stays_once (opening key) events index (omega arith);
-  repeats = repeats;
-  refusal_changes_nothing = refusal_changes_nothing;
+returns c = λ k. record {
+  first_arrival = first_arrival k;
+  too_far = too_far k;
+  inbox_full = inbox_full k;
+  stands = stands k;
+  opened = opened k;
+  stays = stays k;
+  once = once k;
+  repeats = repeats k;
+  refusal_changes_nothing = refusal_changes_nothing k;
+  packets_stay = packets_stay k;
+  texts_stay = texts_stay k;
 }

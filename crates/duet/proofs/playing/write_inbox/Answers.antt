@@ -1,7 +1,6 @@
 use Rattle.std.proofs.Common.{◌<◌, ◌≤◌, [], length, take_all, arith, ◌∙◌, ap}
 use Rattle.std.specs.Prelude.{flat_map}
 use Rattle.boxes.specs.Items.{Item, item_at}
-use Rattle.dr_model.specs.Packets.{position}
 use Rattle.dr_ports.specs.Ports.{appended}
 use Rattle.duet.specs.Lines.{entry_line}
 use Rattle.duet.proofs.Entries.{took_entry, cut_in_entries}
@@ -9,19 +8,19 @@ use Rattle.duet.proofs.playing.write_inbox.Goals as goal
 
 -- what a place past the end gives
 abbrev some : Item
-some = item_at (position 0) []
+some = item_at (record { epoch = 0; index = 0 }) []
 
 pub returns-in-Err : goal.returns-in-Err
 returns-in-Err g c =
     let below : c.texts.at < length c.args.inbox.now = omega (arith, c.len-at-end.ensures.value) in
-    cut_in_entries _ _ _ _ _ _ c.args.inbox.now c.texts.at some _ below c.texts.invariant.written c.texts.invariant.later (c.in-Err.ensures some)
+    cut_in_entries c.args.side _ _ _ _ _ _ c.args.inbox.now c.texts.at some _ below c.texts.invariant.written c.texts.invariant.later (c.in-Err.ensures some)
 
 pub texts-preserved : goal.texts-preserved
 texts-preserved g c =
     let below : c.texts.at < length c.args.inbox.now = omega (arith, c.len-at-end.ensures.value) in
     let writes = c.in-Ok.ensures some in
     record {
-      written = took_entry _ _ _ c.args.inbox.now c.texts.at some below c.texts.invariant.written writes.whole;
+      written = took_entry c.args.side _ _ _ c.args.inbox.now c.texts.at some below c.texts.invariant.written writes.whole;
       later = omega (arith, c.texts.invariant.later, writes.cause.later);
     }
 
@@ -29,7 +28,7 @@ pub returns : goal.returns
 returns g c =
     let all : length c.args.inbox.now ≤ c.texts.at = omega (arith, c.len-at-end.ensures.value) in
     record {
-      whole = c.texts.invariant.written ∙ ap (λ items. appended (g.O.Sink.taken c.args.out.now) (flat_map entry_line items)) (take_all c.texts.at c.args.inbox.now all);
+      whole = c.texts.invariant.written ∙ ap (λ items. appended (g.O.Sink.taken c.args.out.now) (flat_map (entry_line c.args.side) items)) (take_all c.texts.at c.args.inbox.now all);
       part = tt;
       cause = record { later = c.texts.invariant.later; failed = tt };
     }

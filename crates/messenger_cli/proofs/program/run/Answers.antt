@@ -1,4 +1,5 @@
-use Rattle.messenger_cli.proofs.Endings.{ends_behind}
+use Rattle.messenger_cli.specs.declared.ending.Ending.TheVariants.{Done}
+use Rattle.messenger_cli.proofs.Endings.{ends_behind, ends_cut}
 use Rattle.messenger_cli.proofs.program.run.Goals as goal
 
 pub returns-in-Ok-clause-duet : goal.returns-in-Ok-clause-duet
@@ -9,4 +10,14 @@ returns-in-Ok-clause-duet g c _ =
       lines = works.lines;
       reason = works.reason;
       ends = ends_behind c.in-Ok.ending works.lines _ _ _ _ _ _ _ works.wrote c.in-Ok.ensures.writes c.finish-in-Ok.ensures.ends;
+    }
+
+pub returns-in-Err-clause-duet : goal.returns-in-Err-clause-duet
+returns-in-Err-clause-duet g c _ =
+    let cut = c.in-Err.ensures.cut in
+    record {
+      ending = Done;
+      lines = cut.lines;
+      reason = cut.reason;
+      ends = ends_cut cut.lines _ _ _ _ cut.wrote cut.rose;
     }

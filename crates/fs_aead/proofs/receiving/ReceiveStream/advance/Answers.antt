@@ -1,9 +1,9 @@
 use Rattle.std.proofs.Common.{◌≡◌, ℕ, subst, ◌+◌, ◌++◌, ◌∷◌, [], refl, length, length-append, append-nil, append_assoc, sym, ap, ◌∙◌, arith}
 use Rattle.etm_aead.specs.Chain.{chain_of, next_chain, chain_message_key}
 use Rattle.fs_aead.specs.Stream.{Stream}
-use Rattle.fs_aead.specs.Table.{AllBefore, shelved}
+use Rattle.etm_aead.specs.Table.{AllBefore, shelved}
 use Rattle.dr_base.specs.declared.key.Kept.{Kept}
-use Rattle.fs_aead.proofs.Streams.{chain_of-suc, length-shelved, shelved-suc, table-before}
+use Rattle.etm_aead.proofs.Streams.{chain_of-suc, length-shelved, shelved-suc, table-before}
 use Rattle.fs_aead.proofs.receiving.ReceiveStream.advance.Goals as goal
 
 pub keys-init : goal.keys-init

@@ -1,7 +1,7 @@
 use Rattle.std.proofs.Common.{◌≡◌, length, Some, None, sym, ap, ◌∙◌, arith}
 use Rattle.std.specs.Prelude.{position}
-use Rattle.fs_aead.specs.Table.{is_at}
-use Rattle.fs_aead.proofs.Tables.{position-below, kept_key-at, kept_key-none, without-at, without-none, IsAscending-remove}
+use Rattle.etm_aead.specs.Table.{is_at}
+use Rattle.etm_aead.proofs.Tables.{position-below, kept_key-at, kept_key-none, without-at, without-none, IsAscending-remove}
 use Rattle.fs_aead.proofs.table.Skipped.take.Goals as goal
 
 pub invariant_of-self : goal.invariant_of-self

@@ -1,0 +1,64 @@
+-- The packets of lawful states have lawful fields, and keys have 32 bytes.
+use Rattle.std.proofs.Common.{◌≡◌, ℕ, ◌+◌, ◌-◌, ◌^◌, ◌<◌, ◌≤◌, Bool, true, false, nat_eq, List, ◌++◌, length, Option, Some, None, refl, ◌∙◌, ap, arith}
+use Rattle.std.specs.Prelude.{option_map, if◌then◌else◌}
+use Rattle.std.proofs.lemmas.Bool.Decides.{nat_tests}
+use Rattle.std.proofs.lemmas.List.{length-append}
+use Rattle.dr_base.specs.declared.position.Position.{Position}
+use Rattle.etm_aead.specs.Chain.{next_chain}
+use Rattle.etm_aead.specs.Undoing.{length-ciphertext_of, length-tag_of}
+use Rattle.hmac_hkdf.proofs.Lengths.{length-hmac_of}
+use Rattle.kem_laws.specs.Meaning.{Meaning, IsPairOf, IsMechanism}
+use Rattle.cka.specs.Agreement.{turn_of}
+use Rattle.packet.specs.Packet.{IsLawful, agreement_len}
+use Rattle.dr_model.specs.Posts.{sealing}
+use Rattle.ratchet.proofs.Parity.{passed_over}
+
+-- a length that is right in epoch 0 is right as its own measure
+own_measure : (b : Bool) (len n : ℕ) → len ≡ (if b then 0 else n) → len ≡ (if b then 0 else len)
+own_measure true len n h = h
+own_measure false len n h = refl
+
+-- a text's packet has lawful fields
+pub lawful_sealing : (session : List ℕ) (p : Position) (previous : ℕ) (agreement key text : List ℕ) (n : ℕ) → length session ≡ 16
+    → p.epoch < 2 ^ 32 - 1 → previous ≤ 65535 → (p.epoch ≤ 1 → previous ≡ 0) → 1 ≤ p.index → p.index ≤ 65535
+    → length agreement ≡ agreement_len n p.epoch → length text ≤ 1024
+    → IsLawful (length agreement) (sealing session p previous agreement key text)
+lawful_sealing session p previous agreement key text n s e fits none one most long short = record {
+  session_len = s;
+  epoch_fits = e;
+  previous_fits = omega arith;
+  previous_none = none;
+  index_from_one = one;
+  index_fits = omega arith;
+  agreement_is = own_measure (nat_eq p.epoch 0) (length agreement) n long;
+  text_fits = omega (arith, length-ciphertext_of key text);
+  tag_len = length-tag_of _ _ _;
+}
+
+-- a chain key has 32 bytes
+pub length-next_chain : (chain : List ℕ) → length (next_chain chain) ≡ 32
+unfolding next_chain
+length-next_chain chain = length-hmac_of _ _
+
+-- what a turn gave comes from a pair
+of_pair : (f : List ℕ × List ℕ → List ℕ × List ℕ × List ℕ) (o : Option (List ℕ × List ℕ)) (t : List ℕ × List ℕ × List ℕ)
+    → option_map f o ≡ Some t → (pair : List ℕ × List ℕ) × (o ≡ Some pair) × (t ≡ f pair)
+of_pair f None t e = absurd (cc e)
+of_pair f (Some pair) t e = (pair, refl, cc e)
+
+-- the agreement message of a turn is a ciphertext and a public key
+pub length-agreement : (meaning : Meaning) (p s c : ℕ) (public seed secret agreement key : List ℕ) → IsMechanism meaning p s c → length public ≡ p
+    → length seed ≡ 32 → turn_of meaning public seed ≡ Some (secret, agreement, key) → length agreement ≡ c + p
+length-agreement meaning p s c public seed secret agreement key m long seed_long turned =
+    let Out : Type 0 = List ℕ × List ℕ × List ℕ in
+    let sealed : List ℕ × List ℕ = meaning.encap_of public seed in
+    let found = of_pair (λ pair. (pair.1, sealed.0 ++ pair.0, sealed.1)) (meaning.pair_of seed) (secret, agreement, key) turned in
+    let agreement_is : agreement ≡ sealed.0 ++ found.0.0 = ap (λ (t : Out). t.1) found.2 in
+    let pair : IsPairOf meaning seed found.0.0 found.0.1 = record { long = seed_long; gives = found.1 } in
+    let cipher_long : length sealed.0 ≡ c = m.ciphertext_long public seed sealed.0 sealed.1 long seed_long refl in
+    let next_long : length found.0.0 ≡ p = m.public_long seed found.0.0 found.0.1 pair in
+    ap length agreement_is ∙ length-append sealed.0 found.0.0 ∙ omega (arith, cipher_long, next_long)
+
+-- behind epoch 0 each agreement message has the full length
+pub agreement_later : (n epoch : ℕ) → agreement_len n (epoch + 1) ≡ n
+agreement_later n epoch = passed_over (nat_eq (epoch + 1) 0) 0 n (grind (arith, nat_tests))

@@ -1,0 +1,43 @@
+-- A turn leads from a lawful state to a lawful one.
+use Rattle.std.proofs.Common.{◌≡◌, ℕ, ◌+◌, ◌-◌, ◌^◌, ◌<◌, ◌≤◌, true, false, List, length, sym, ◌∙◌, ap, subst, arith}
+use Rattle.std.specs.Prelude.{not}
+use Rattle.dr_model.specs.Conversation.{is_own}
+use Rattle.dr_model.specs.Sessions.{Own, in_own, in_peers, State, IsLawfulOwn, IsLawfulPhase, IsLawfulPrevious, IsLawfulReception, IsLawfulState}
+use Rattle.dr_model.specs.Turns.{Mechanism}
+use Rattle.ratchet.proofs.Parity.{own_turns, latest-turn}
+
+-- what is lawful in a peer's epoch
+pub in_peers_phase : (k : Mechanism) (s : State) (public : List ℕ) → IsLawfulState k s → s.phase ≡ in_peers public
+    → (is_own s.side s.epoch ≡ false) × (length public ≡ k.public)
+in_peers_phase k s public l e = subst (IsLawfulPhase k s.side s.epoch) e l.phase
+
+pub in_peers_previous : (k : Mechanism) (s : State) (public : List ℕ) → IsLawfulState k s → s.phase ≡ in_peers public
+    → (s.previous ≤ 65535) × (s.epoch ≡ 0 → s.previous ≡ 0)
+in_peers_previous k s public l e = subst (IsLawfulPrevious s.previous s.epoch) e l.previous
+
+-- what is lawful in an own epoch
+pub in_own_phase : (k : Mechanism) (s : State) (own : Own) → IsLawfulState k s → s.phase ≡ in_own own
+    → (is_own s.side s.epoch ≡ true) × IsLawfulOwn k s.epoch own
+in_own_phase k s own l e = subst (IsLawfulPhase k s.side s.epoch) e l.phase
+
+pub in_own_previous : (k : Mechanism) (s : State) (own : Own) → IsLawfulState k s → s.phase ≡ in_own own
+    → (s.previous ≤ 65535) × (s.epoch ≤ 1 → s.previous ≡ 0)
+in_own_previous k s own l e = subst (IsLawfulPrevious s.previous s.epoch) e l.previous
+
+-- the next own epoch with what it keeps
+pub lawful_turn : (k : Mechanism) (s : State) (public root : List ℕ) (own : Own) → IsLawfulState k s → s.phase ≡ in_peers public → s.epoch < 2 ^ 32 - 2
+    → length root ≡ 32 → IsLawfulOwn k (s.epoch + 1) own → IsLawfulState k (record s { root = root; epoch = s.epoch + 1; phase = in_own own })
+lawful_turn k s public root own l e more long next =
+    let peers : is_own s.side s.epoch ≡ false = (in_peers_phase k s public l e).0 in
+    let before = in_peers_previous k s public l e in
+    let none : s.epoch + 1 ≤ 1 → s.previous ≡ 0 = λ h. let first : s.epoch ≡ 0 = omega arith in before.1 first in
+    record {
+      session_long = l.session_long;
+      root_long = long;
+      epoch_fits = omega arith;
+      phase = (own_turns s.side s.epoch ∙ ap not peers, next);
+      previous = (before.0, none);
+      receiving = subst (IsLawfulReception s.kept s.receiving) (sym (latest-turn s.side s.epoch peers)) l.receiving;
+      kept = l.kept;
+      few = l.few;
+    }

@@ -1,0 +1,51 @@
+//! The double ratchet of one side (Alwen, Coretti, Dodis, "The Double Ratchet", Eurocrypt 2019), over any key
+//! encapsulation mechanism: a session, and drafts of what it would say or take. A draft changes nothing until it is
+//! accepted.
+//!
+//! A text of an own epoch is sealed with the next key of its stream. The first text after the peer's is a turn: it
+//! begins the next epoch with new keys, and takes a seed. A packet is opened along the stream of its epoch, by a key
+//! that was kept when its index was passed, or as the first one of the next epoch. No memory is allocated.
+//!
+//! ```rust
+//! use dr_base::{Key32, Side};
+//! use kem_laws::OpenKem;
+//! use packet::parse;
+//! use ratchet::{NoPairFor, Session};
+//!
+//! let key = Key32 { bytes: [7; 32] };
+//! let mut first = Session::<OpenKem>::begin(&mut (), Side::First, &key)?;
+//! let mut second = Session::<OpenKem>::begin(&mut (), Side::Second, &key)?;
+//!
+//! // A text in an epoch of Second's own needs no seed.
+//! if let Ok(false) = second.send_check(5) {
+//!     match second.draft_send(&mut (), b"hello", None) {
+//!         Ok(said) => {
+//!             if let Ok(view) = parse(said.packet(), 64) {
+//!                 match first.draft_receive(&mut (), &view) {
+//!                     Ok(taken) => taken.accept(&mut first),
+//!                     Err(_) => {}
+//!                 }
+//!             }
+//!             said.accept(&mut second);
+//!         }
+//!         Err(NoPairFor { seed: _ }) => {}
+//!     }
+//! }
+//! ```
+#![tactic(auto)]
+
+pub use receiving::ReceiveDraft;
+pub use sending::{NoPairFor, SendDraft};
+pub use session::Session;
+
+mod beginning;
+mod drafting;
+mod entering;
+mod message;
+mod receiving;
+mod sealing;
+mod sending;
+mod session;
+#[cfg(test)]
+mod tests;
+mod way;

@@ -1,0 +1,152 @@
+//! A conversation over the stand-in.
+
+ghost use Rattle.std.specs.Prelude.{◌≡◌, ◌≤◌, length, is_some};
+
+use crate::message::{Message, message_of};
+use crate::sealing::Packet;
+use crate::{NoPairFor, Session};
+use arrayvec::ArrayVec;
+use cka::{Agreement, PublicText, SecretText};
+use dr_base::{Key32, Position, Side};
+use dr_model::Refusal;
+use kem_laws::{NoPair, OpenKem};
+use packet::parse;
+use session_record::{Own, Phase, Reception, SessionPart};
+use std::marker::PhantomData;
+use std::test::Fail;
+
+/// A seed of equal bytes, if one is asked for.
+fn seed_of(asked: bool, byte: u8) -> Option<Key32>
+    ensures { is_some result ≡ asked }
+{
+    if asked {
+        Some(Key32 { bytes: [byte; 32] })
+    } else {
+        None
+    }
+}
+
+/// A second copy of a packet.
+fn packet_of(bytes: &[u8]) -> Packet
+    requires { length bytes.now ≤ 3286 }
+{
+    let mut packet = Packet::new();
+    packet.try_extend_from_slice(bytes).unwrap();
+    packet
+}
+
+/// Says a text, and answers its packet.
+fn say(session: &mut Session<OpenKem>, text: &[u8], byte: u8) -> Result<Packet, Refusal> {
+    let asked = session.send_check(text.len())?;
+    let seed = seed_of(asked, byte);
+    match session.draft_send(&mut (), text, seed) {
+        Err(NoPairFor { seed: _ }) => Err(Refusal::NoPair),
+        Ok(draft) => {
+            let packet = packet_of(draft.packet());
+            draft.accept(session);
+            Ok(packet)
+        }
+    }
+}
+
+/// Takes a packet, and answers its text.
+fn take(session: &mut Session<OpenKem>, packet: &Packet) -> Result<Message, Refusal> {
+    match parse(packet.as_slice(), 64) {
+        Err(fault) => Err(Refusal::Malformed(fault)),
+        Ok(view) => match session.draft_receive(&mut (), &view) {
+            Err(refusal) => Err(refusal),
+            Ok(draft) => {
+                let text = message_of(draft.text());
+                draft.accept(session);
+                Ok(text)
+            }
+        },
+    }
+}
+
+/// What both sides begin with.
+fn sessions() -> Result<(Session<OpenKem>, Session<OpenKem>), NoPair> {
+    let key = Key32 { bytes: [7; 32] };
+    let first = Session::begin(&mut (), Side::First, &key)?;
+    let second = Session::begin(&mut (), Side::Second, &key)?;
+    Ok((first, second))
+}
+
+#[test]
+fn texts_come_once_and_in_every_order(rt: HostRuntime) -> Result<(), Fail> {
+    let (mut first, mut second) = sessions()?;
+    let hello = say(&mut second, b"hello", 0)?;
+    assert_eq!(rt; take(&mut first, &hello)?.as_slice(), b"hello".as_slice());
+    let late = say(&mut first, b"late", 1)?;
+    let soon = say(&mut first, b"soon", 0)?;
+    assert_eq!(rt; take(&mut second, &soon)?.as_slice(), b"soon".as_slice());
+    assert_eq!(rt; take(&mut second, &late)?.as_slice(), b"late".as_slice());
+    let spent = Refusal::Spent(Position { epoch: 1, index: 1 });
+    assert_eq!(rt; take(&mut second, &late).err(), Some(spent));
+    let answer = say(&mut second, b"answer", 2)?;
+    assert_eq!(rt; take(&mut first, &answer)?.as_slice(), b"answer".as_slice());
+    Ok(())
+}
+
+#[test]
+fn what_has_no_pair_is_handed_back(rt: HostRuntime) -> Result<(), Fail> {
+    let (mut first, mut second) = sessions()?;
+    let hello = say(&mut second, b"hello", 0)?;
+    let _text = take(&mut first, &hello)?;
+    assert_eq!(rt; say(&mut first, b"lost", 255).err(), Some(Refusal::NoPair));
+    let answer = say(&mut first, b"answer", 1)?;
+    assert_eq!(rt;
+        take(&mut second, &answer)?.as_slice(),
+        b"answer".as_slice()
+    );
+    Ok(())
+}
+
+/// Second, which said all texts that its epoch 0 holds.
+fn full_session() -> Session<OpenKem> {
+    let mut secret = SecretText::new();
+    secret.try_extend_from_slice(&[1; 32]).unwrap();
+    Session::resume(SessionPart {
+        side: Side::Second,
+        session: [2; 16],
+        root: Key32 { bytes: [3; 32] },
+        epoch: 0,
+        phase: Phase::Own(Own {
+            secret,
+            agreement: Agreement::new(),
+            chain: Key32 { bytes: [4; 32] },
+            sent: 65535,
+        }),
+        previous: 0,
+        receiving: None,
+        kept: ArrayVec::new(),
+        mechanism: PhantomData,
+    })
+}
+
+/// First in the last epoch, which is Second's.
+fn last_session() -> Session<OpenKem> {
+    let mut public = PublicText::new();
+    public.try_extend_from_slice(&[1; 32]).unwrap();
+    Session::resume(SessionPart {
+        side: Side::First,
+        session: [2; 16],
+        root: Key32 { bytes: [3; 32] },
+        epoch: 4294967294,
+        phase: Phase::Peers(public),
+        previous: 0,
+        receiving: Some(Reception {
+            chain: Key32 { bytes: [4; 32] },
+            reach: 0,
+        }),
+        kept: ArrayVec::new(),
+        mechanism: PhantomData,
+    })
+}
+
+#[test]
+fn ends_are_refused(rt: HostRuntime) -> Result<(), Fail> {
+    assert_eq!(rt; full_session().send_check(1), Err(Refusal::EpochFull));
+    assert_eq!(rt; last_session().send_check(1), Err(Refusal::LastEpoch));
+    Ok(())
+}
