@@ -14,7 +14,7 @@ drop_front : (n : ℕ) (xs ys : List ℕ) → length xs ≡ n → drop n (xs ++ 
 drop_front n xs ys e = ap (λ k. drop k (xs ++ ys)) (sym e) ∙ drop-append_seam xs ys
 
 -- what a turn gave comes from a pair
-of_pair : (f : List ℕ × List ℕ → List ℕ × List ℕ × List ℕ) (o : Option (List ℕ × List ℕ)) (t : List ℕ × List ℕ × List ℕ)
+pub of_pair : (f : List ℕ × List ℕ → List ℕ × List ℕ × List ℕ) (o : Option (List ℕ × List ℕ)) (t : List ℕ × List ℕ × List ℕ)
     → option_map f o ≡ Some t → (pair : List ℕ × List ℕ) × (o ≡ Some pair) × (t ≡ f pair)
 of_pair f None t e = absurd (cc e)
 of_pair f (Some pair) t e = (pair, refl, cc e)

@@ -1,18 +1,16 @@
 -- The machine: what becomes of a conversation and of both sides' views, event by event.
-use Rattle.std.specs.Prelude.{◌≡◌, ◌≢◌, ⊤, ℕ, ◌+◌, ◌-◌, ◌^◌, Bool, true, false, not, nat_eq, nat_le, nat_lt, List, [], ◌∷◌, length, filter, find, slice_get, Option, Some, None, option_map, Result, Ok, Err, IfSome, is_none, if◌then◌else◌}
+use Rattle.std.specs.Prelude.{ℕ, ◌+◌, ◌-◌, ◌^◌, Bool, true, false, not, nat_eq, nat_le, nat_lt, List, [], ◌∷◌, length, filter, find, slice_get, Option, Some, None, option_map, Result, Ok, Err, is_none, if◌then◌else◌}
 use Rattle.std.specs.Cmp.Lexicographic.{pointwise}
 use Rattle.dr_base.specs.declared.position.Position.{Position}
 use Rattle.dr_base.specs.declared.position.Side.{Side}
 use Rattle.dr_base.specs.declared.position.Side.TheVariants.{First, Second}
-use Rattle.etm_aead.specs.Seal.{tag_of}
 use Rattle.packet.specs.declared.fault.Malformed.{Malformed}
-use Rattle.packet.specs.Packet.{Fields, ad_of}
+use Rattle.packet.specs.Packet.{Fields}
 use Rattle.packet.specs.Reading.{read_packet}
 use Rattle.boxes.specs.Items.{Item}
 use Rattle.dr_model.specs.declared.answer.Answer.TheVariants.{Said, Opened, Sent, Done, Inbox, State as InNumbers, Seeded}
 use Rattle.dr_model.specs.declared.answer.Refusal.{Refusal}
 use Rattle.dr_model.specs.declared.answer.Refusal.TheVariants.{TextTooLong, OutboxFull, EpochFull, LastEpoch, NoPair, Malformed as Unreadable, OwnPacket, Spent, SkipLimit, BadTag, InboxFull, Fewer}
-use Rattle.dr_model.specs.Clients.{Client, Sides}
 use Rattle.dr_model.specs.Conversation.{Conversation, is_own, is_said, count_of, next_position, positions, with_text, with_turn}
 use Rattle.dr_model.specs.Drafts.{Way, way_of}
 use Rattle.dr_model.specs.Steps.{Step, step, settled, nothing, amount_of}
@@ -107,7 +105,7 @@ abbrev pub nth_of_peer : Conversation → Side → ℕ → Option Position
 nth_of_peer c side nth =
     if nat_le 1 nth then slice_get (filter (λ p. not (is_own side p.epoch)) (positions c)) (nth - 1) else None
 
--- the first reason against a packet; where there is a way to its key, the tag differs: `IsUnforged`, below, says so
+-- the first reason against a packet; where there is a way to its key, the tag differs (`IsUnforged` in `Standing`)
 abbrev pub way_refusal : Result Way Refusal → Refusal
 way_refusal (Err refusal) = refusal
 way_refusal (Ok way) = BadTag

@@ -1,5 +1,5 @@
 -- Both sides before the first event.
-use Rattle.std.proofs.Common.{◌≡◌, ℕ, List, [], length, refl, sym, ◌∙◌, ap, ap₂}
+use Rattle.std.proofs.Common.{◌≡◌, ℕ, List, [], sym, ap₂}
 use Rattle.dr_base.specs.declared.position.Side.TheVariants.{First, Second}
 use Rattle.dr_model.specs.Clients.{Client, Sides}
 use Rattle.dr_model.specs.Conversation.{positions_behind}
@@ -7,7 +7,7 @@ use Rattle.dr_model.specs.Machine.{opening_world}
 use Rattle.dr_model.specs.Standing.{sides_of}
 use Rattle.dr_model.specs.Turns.{Mechanism}
 use Rattle.dr_model.proofs.OpeningWorlds.{opening_client}
-use Rattle.duet.specs.Held.{DuetNow, opening_duet}
+use Rattle.duet.specs.Held.{opening_duet}
 
 -- what both keep in an opening world
 pub opening_sides : (k : Mechanism) (key : List ℕ) (room : ℕ) → (opening_duet k key room).sides ≡ sides_of k (opening_world key)

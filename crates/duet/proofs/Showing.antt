@@ -1,11 +1,11 @@
 -- What an event shows, and what it adds to the network and to the draws.
-use Rattle.std.proofs.Common.{◌≡◌, ℕ, ◌+◌, ◌<◌, ◌≤◌, Bool, true, false, List, [], ◌∷◌, ◌++◌, length, Option, Some, None, Result, Ok, Err, refl, sym, ◌∙◌, ap, arith, length-append}
+use Rattle.std.proofs.Common.{◌≡◌, ℕ, ◌+◌, ◌≤◌, Bool, true, false, List, [], ◌∷◌, ◌++◌, length, Option, Some, None, Result, Ok, Err, refl, sym, ◌∙◌, ap, arith, length-append}
 use Rattle.dr_base.specs.declared.position.Side.{Side}
 use Rattle.dr_base.specs.declared.position.Side.TheVariants.{First, Second}
 use Rattle.boxes.specs.Items.{Item}
 use Rattle.dr_model.specs.declared.answer.Refusal.{Refusal}
-use Rattle.dr_model.specs.Clients.{Client, SaidText, Sides, TakenPacket, client_of, done_on, dropped_of, opened_on, said_on, say_check, say_on, saying_on, sent_on, step_on, take_on, taken_on, with_client}
-use Rattle.dr_model.specs.Steps.{Step, step, settled, amount_of}
+use Rattle.dr_model.specs.Clients.{SaidText, Sides, TakenPacket, client_of, done_on, dropped_of, opened_on, said_on, say_check, say_on, saying_on, sent_on, step_on, take_on, taken_on}
+use Rattle.dr_model.specs.Steps.{Step, amount_of}
 use Rattle.dr_model.specs.Events.{Draws, Event, seeds, says, takes, takes_nth, flips, takes_bytes, drops_sent, drops_done, shows_inbox, shows_state, after_draw, flipped_at, held_at, held_nth, next_seed}
 use Rattle.dr_model.specs.Turns.{Mechanism}
 use Rattle.duet.specs.Held.{DuetNow, shown, stepped}

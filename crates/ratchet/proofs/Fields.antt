@@ -1,6 +1,6 @@
 -- The packets of lawful states have lawful fields, and keys have 32 bytes.
-use Rattle.std.proofs.Common.{◌≡◌, ℕ, ◌+◌, ◌-◌, ◌^◌, ◌<◌, ◌≤◌, Bool, true, false, nat_eq, List, ◌++◌, length, Option, Some, None, refl, ◌∙◌, ap, arith}
-use Rattle.std.specs.Prelude.{option_map, if◌then◌else◌}
+use Rattle.std.proofs.Common.{◌≡◌, ℕ, ◌+◌, ◌-◌, ◌^◌, ◌<◌, ◌≤◌, Bool, true, false, nat_eq, List, ◌++◌, length, Some, refl, ◌∙◌, ap, arith}
+use Rattle.std.specs.Prelude.{if◌then◌else◌}
 use Rattle.std.proofs.lemmas.Bool.Decides.{nat_tests}
 use Rattle.std.proofs.lemmas.List.{length-append}
 use Rattle.dr_base.specs.declared.position.Position.{Position}
@@ -9,6 +9,7 @@ use Rattle.etm_aead.specs.Undoing.{length-ciphertext_of, length-tag_of}
 use Rattle.hmac_hkdf.proofs.Lengths.{length-hmac_of}
 use Rattle.kem_laws.specs.Meaning.{Meaning, IsPairOf, IsMechanism}
 use Rattle.cka.specs.Agreement.{turn_of}
+use Rattle.cka.proofs.Agreement.{of_pair}
 use Rattle.packet.specs.Packet.{IsLawful, agreement_len}
 use Rattle.dr_model.specs.Posts.{sealing}
 use Rattle.ratchet.proofs.Parity.{passed_over}
@@ -39,12 +40,6 @@ lawful_sealing session p previous agreement key text n s e fits none one most lo
 pub length-next_chain : (chain : List ℕ) → length (next_chain chain) ≡ 32
 unfolding next_chain
 length-next_chain chain = length-hmac_of _ _
-
--- what a turn gave comes from a pair
-of_pair : (f : List ℕ × List ℕ → List ℕ × List ℕ × List ℕ) (o : Option (List ℕ × List ℕ)) (t : List ℕ × List ℕ × List ℕ)
-    → option_map f o ≡ Some t → (pair : List ℕ × List ℕ) × (o ≡ Some pair) × (t ≡ f pair)
-of_pair f None t e = absurd (cc e)
-of_pair f (Some pair) t e = (pair, refl, cc e)
 
 -- the agreement message of a turn is a ciphertext and a public key
 pub length-agreement : (meaning : Meaning) (p s c : ℕ) (public seed secret agreement key : List ℕ) → IsMechanism meaning p s c → length public ≡ p

@@ -1,4 +1,4 @@
-use Rattle.std.proofs.Common.{◌≡◌, true, Some, None, sym, ◌∙◌, ap}
+use Rattle.std.proofs.Common.{Some, sym, ◌∙◌, ap}
 use Rattle.boxes.specs.Items.{Item}
 use Rattle.dr_model.specs.Events.{is_from_peer}
 use Rattle.duet.proofs.Finding.{nth_here, too_few}

@@ -1,6 +1,6 @@
-use Rattle.std.proofs.Common.{◌≡◌, ◌+◌, ◌<◌, ◌≤◌, length, take_all, arith, map, take, drop, sym, ◌∙◌, ap}
+use Rattle.std.proofs.Common.{◌≡◌, ◌+◌, ◌≤◌, length, take_all, arith, map, take, drop, sym, ◌∙◌, ap}
 use Rattle.dr_ports.specs.Ports.{appended}
-use Rattle.dr_model.specs.Clients.{Sides, step_on}
+use Rattle.dr_model.specs.Clients.{step_on}
 use Rattle.ratchet.specs.Seen.{mechanism}
 use Rattle.duet.specs.Held.{DuetNow}
 use Rattle.duet.specs.Seen.{event_of, seen_script}

@@ -1,4 +1,4 @@
-use Rattle.std.proofs.Common.{rules, ◌≡◌, ◌≤◌, [], length, arith, refl, sym, ◌∙◌, ap}
+use Rattle.std.proofs.Common.{rules, ◌≤◌, [], length, arith, refl, sym, ◌∙◌, ap}
 use Rattle.duet.specs.Script.{script_of}
 use Rattle.duet.specs.Seen.{seen_script}
 use Rattle.duet.specs.Trace.{played}
