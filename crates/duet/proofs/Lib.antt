@@ -9,3 +9,4 @@ pub mod Entries
 pub mod Following
 pub mod Showing
 pub mod Trace
+pub mod Seeds

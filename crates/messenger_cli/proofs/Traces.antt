@@ -7,6 +7,7 @@ use Rattle.dr_model.specs.Turns.{agreement_seed}
 use Rattle.duet.specs.Script.{Scripted, script_of}
 use Rattle.duet.specs.Trace.{played}
 use Rattle.duet.proofs.Following.{follows}
+use Rattle.duet.proofs.Seeds.{whole_seeds}
 use Rattle.messenger_cli.specs.declared.ending.TheConstants.{SCRIPT_LIMIT}
 use Rattle.messenger_cli.specs.Runs.{IsTraceOf, HasNoPair, stand_in}
 
@@ -19,7 +20,7 @@ is_trace (Some text) read script same fits reads pairs = record {
   read = ap script_of (sym same) ∙ reads;
   pairs = pairs;
   lines_are = refl;
-  trace_is = follows stand_in script open_mechanism pairs;
+  trace_is = follows stand_in script open_mechanism pairs (whole_seeds read script reads);
 }
 is_trace None read script same fits reads pairs = tt
 
