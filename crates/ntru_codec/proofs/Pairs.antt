@@ -5,7 +5,7 @@ use Rattle.ntru_codec.proofs.Places.{fill_more}
 use Rattle.ntru_codec.specs.Numbers.{number_of, low_bytes, limit_after, bytes_out}
 use Rattle.ntru_codec.specs.Levels.{pair_bytes, pair_length, next_values, next_limits, pair_values}
 
--- the entries 2 i and 2 i + 1, and those behind them
+-- the entries 2 i and 2 i + 1, and those after them
 pub drop-two : (xs : List ℕ) (i : ℕ) → 2 * i + 1 < length xs → drop (2 * i) xs ≡ get_or xs (2 * i) 0 ∷ get_or xs (2 * i + 1) 0 ∷ drop (2 * (i + 1)) xs
 drop-two xs i h =
     let next : 2 * i + 1 + 1 ≡ 2 * (i + 1) = omega arith in
@@ -32,7 +32,7 @@ pub next_values-more : (values limits : List ℕ) (i : ℕ) → 2 * i + 1 < leng
 unfolding next_values
 next_values-more values limits i h k = rw (drop-two values i h, drop-two limits i k) refl
 
--- behind the pairs there is one entry at most
+-- after the pairs there is one entry at most
 pub next_limits-last : (limits : List ℕ) → length limits ≤ 1 → next_limits limits ≡ limits
 unfolding next_limits
 next_limits-last [] h = refl
@@ -69,11 +69,11 @@ carried next new xs whole n i long e new-is front =
     let count : n - n / 2 ≡ n / 2 + (length xs - 2 * (n / 2)) = omega arith in
     rw count (new-is ∙ (rw (← e) front))
 
--- at most one entry lies behind the pairs
+-- at most one entry lies after the pairs
 pub rest-short : (xs : List ℕ) (i : ℕ) → i ≡ length xs / 2 → length (drop (2 * i) xs) ≤ 1
 rest-short xs i e = rw length-drop (omega arith)
 
--- bytes that were written whole, with what lies behind them
+-- bytes that were written whole, with what lies after them
 pub written_all : (out old rest whole : List ℕ) (at n : ℕ) → at ≡ n → rest ≡ [] → take at out ++ rest ≡ whole → drop at out ≡ drop at old → out ≡ whole ++ drop n old
 written_all out old rest whole at n e none written kept =
     let front : take at out ≡ whole = sym (append-nil (take at out)) ∙ ap (λ t. take at out ++ t) (sym none) ∙ written in
@@ -108,7 +108,7 @@ fill_two xs i v w rest rest' whole h front e =
     let there : 2 * i + 1 < length (set xs (2 * i) v) = rw length-set h in
     rw next (fill_more (set xs (2 * i) v) (2 * i + 1) w (w ∷ rest') rest' whole there (fill_more xs (2 * i) v rest (w ∷ rest') whole (omega arith) front e) refl)
 
--- the front of a list of pairs behind which the last entry was carried over
+-- the front of a list of pairs after which the last entry was carried over
 pub carried_pairs : (out new next whole : List ℕ) (n i : ℕ) → length next ≡ n - n / 2 → i ≡ n / 2 →
     take (2 * (n / 2) + (length next - n / 2)) new ≡ take (2 * (n / 2)) out ++ drop (n / 2) next → take (2 * i) out ++ drop i next ≡ whole → take n new ≡ whole
 carried_pairs out new next whole n i long e new-is front =

@@ -77,7 +77,7 @@ append_more xs ys bs at n rest rest' whole written few h front e =
     let long : length (take at xs ++ bs) ≡ at + n = rw (length-append, length-take-le at xs (omega arith)) (omega arith) in
     rw (written, take_at (take at xs ++ bs) (drop (at + n) xs) (at + n) long, append_assoc) (ap (λ t. take at xs ++ t) (sym e) ∙ front)
 
--- what lies behind bytes that were written
+-- what lies after bytes that were written
 pub behind_more : (xs ys bs old : List ℕ) (at n : ℕ) → ys ≡ take at xs ++ bs ++ drop (at + n) xs → length bs ≡ n → at + n ≤ length xs → drop at xs ≡ drop at old → drop (at + n) ys ≡ drop (at + n) old
 behind_more xs ys bs old at n written few h kept =
     let long : length (take at xs ++ bs) ≡ at + n = rw (length-append, length-take-le at xs (omega arith)) (omega arith) in

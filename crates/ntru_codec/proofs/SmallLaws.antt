@@ -138,7 +138,7 @@ pub first_bad-none : (bytes : List ℕ) → ((j : ℕ) → j < 191 → is_bad j 
 unfolding first_bad
 first_bad-none bytes h = find-none (λ k. is_bad k (get_or bytes k 0)) 191 0 (λ j l u. h j (omega arith))
 
--- a byte written behind those that are written
+-- a byte written after those that are written
 pub bytes-more : (a : List ℤ) (bytes : List ℕ) (k n : ℕ) → k < length bytes → n ≡ small_byte a k → ((j : ℕ) → j < k → get_or bytes j 0 ≡ small_byte a j) → (j : ℕ) → j < k + 1 → get_or (set bytes k n) j 0 ≡ small_byte a j
 bytes-more a bytes k n h e before = subst (λ (m : ℕ). (j : ℕ) → j < k + 1 → get_or (set bytes k m) j 0 ≡ small_byte a j) (sym e) (fill_by_more (small_byte a) bytes k 0 h before)
 
@@ -167,7 +167,7 @@ pub small_encoded-all : (a : List ℤ) (bytes : List ℕ) → length bytes ≡ 1
 unfolding small_encoded
 small_encoded-all a bytes long h = fill_by_all (small_byte a) bytes 191 0 long h
 
--- a coefficient written behind those that are written
+-- a coefficient written after those that are written
 pub coefficients-more : (bytes : List ℕ) (a : List ℤ) (i : ℕ) (c : ℤ) → i < length a → c ≡ small_coefficient bytes i → ((j : ℕ) → j < i → get_or a j (pos 0) ≡ small_coefficient bytes j) → (j : ℕ) → j < i + 1 → get_or (set a i c) j (pos 0) ≡ small_coefficient bytes j
 coefficients-more bytes a i c h e before = subst (λ (m : ℤ). (j : ℕ) → j < i + 1 → get_or (set a i m) j (pos 0) ≡ small_coefficient bytes j) (sym e) (fill_by_more (small_coefficient bytes) a i (pos 0) h before)
 
@@ -179,6 +179,6 @@ pub coefficient-is : (bytes : List ℕ) (i n : ℕ) (z : ℤ) → IsWithin 1 z �
 unfolding small_coefficient
 coefficient-is bytes i n z w e f = stored 1 z w (omega arith) ∙ f ∙ ap (λ m. pos m -ℤ pos 1) e
 
--- bytes, and 0 behind them
+-- bytes, and 0 after them
 pub bytes-fit : (bytes : List ℕ) → All (λ b. b < 256) bytes → (i : ℕ) → get_or bytes i 0 < 256
 bytes-fit bytes h i = elim (cases_lt i (length bytes)) [ inl here ↦ h i 0 here | inr past ↦ let e = get_or_past bytes i 0 past in omega arith ]

@@ -27,7 +27,7 @@ length_in (suc levels) limits = pair_length limits + length_in levels (next_limi
 unfoldable pub encoded_length : List ℕ → ℕ
 encoded_length limits = length_in (length limits) limits
 
--- the pairs of the next list, which is decoded from the bytes behind this level's; a single entry is its bytes' number
+-- the pairs of the next list, which is decoded from the bytes after this level's; a single entry is its bytes' number
 unfoldable pub decoded_in : ℕ → List ℕ → List ℕ → List ℕ
 decoded_in zero bytes limits = []
 decoded_in (suc levels) bytes [] = []

@@ -8,7 +8,7 @@ use Rattle.std.specs.List.{range_with_len}
 unfoldable pub digit : ℤ → ℕ
 digit c = unsigned_abs (c +ℤ pos 1)
 
--- the digit at the place i, which is 0 behind the last coefficient
+-- the digit at the place i, which is 0 after the last coefficient
 abbrev pub digit_at : List ℤ → ℕ → ℕ
 digit_at a i = slice_index (map digit a) i
 

@@ -5,7 +5,7 @@ ghost use Rattle.ntru_codec.specs.Levels.{pair_length, next_limits};
 
 use crate::numbers::shrink_pair;
 
-/// How many entries the list behind one of `count` entries has.
+/// How many entries the list after one of `count` entries has.
 pub(crate) fn next_count(count: usize) -> usize
     ensures { result ≡ count - count / 2 }
 {

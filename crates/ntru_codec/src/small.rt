@@ -5,9 +5,11 @@ ghost use Rattle.ntru_ring.specs.Reduction.{IsWithin};
 ghost use Rattle.ntru_ring.specs.declared.modulo_three.R3.{R3};
 
 use ntru_ring::R3;
+use thiserror::Error;
 
 /// No small element has these bytes.
-#[derive(Debug, Clone, Copy, PartialEq, Eq)]
+#[derive(Clone, Copy, Debug, PartialEq, Eq, Error)]
+#[error("no small element has the byte at {at}")]
 pub struct BadSmall {
     /// The place of the first byte that no element has there.
     pub at: usize,

@@ -1,4 +1,4 @@
-// Rows worked by hand, and rows of an implementation of the specification in another language.
+//! Rows worked by hand, and rows of an implementation of the specification in another language.
 
 use crate::{
     BadSmall, decode, encode, rounded_decode, rounded_encode, rq_decode, rq_encode, small_decode,

@@ -1,11 +1,11 @@
 -- The representative in -h..h of an integer modulo 2h + 1.
-use Rattle.std.proofs.Common.{◌≡◌, ℕ, ◌+◌, ◌-◌, ◌*◌, ◌/◌, ◌%◌, ◌<◌, ℤ, pos, ◌+ℤ◌, ◌-ℤ◌, ◌*ℤ◌, refl, sym, ap, ◌∙◌, arith}
+use Rattle.std.proofs.Common.{◌≡◌, ℕ, ◌+◌, ◌-◌, ◌*◌, ◌/◌, ◌%◌, ◌<◌, ℤ, pos, negsuc, neg_ℤ, ◌+ℤ◌, ◌-ℤ◌, ◌*ℤ◌, refl, sym, ap, ◌∙◌, arith}
 use Rattle.std.proofs.lemmas.Int.{ints, int_rem_euclid_is}
 use Rattle.std.proofs.Math.Nat.{div-add-mod, mod-eq_of_lt}
 use Rattle.std.proofs.Math.IntN.{*ℤ_comm, +ℤ_comm}
 use borrow.Author.Differences.{up, down}
 use Rattle.ntru_ring.specs.Reduction.{centred, IsWithin}
-use Rattle.ntru_ring.proofs.Integers.{*ℤ-+ℤ}
+use Rattle.ntru_ring.proofs.Integers.{*ℤ-+ℤ, minus_one}
 
 -- the representative, by a natural m that differs from z + h by a multiple
 pub centred_is : (h : ℕ) (z : ℤ) (k m : ℕ) → z +ℤ pos h +ℤ pos (k * (2 * h + 1)) ≡ pos m → centred h z ≡ pos (m % (2 * h + 1)) -ℤ pos h
@@ -81,3 +81,6 @@ centred-times_right h c x =
 
 pub centred-times_left : (h : ℕ) (c x : ℤ) → centred h (centred h c *ℤ x) ≡ centred h (c *ℤ x)
 centred-times_left h c x = ap (centred h) (*ℤ_comm (centred h c) x) ∙ centred-times_right h x c ∙ ap (centred h) (*ℤ_comm x c)
+
+pub centred-neg_ℤ : (h : ℕ) (x : ℤ) → centred h (neg_ℤ (centred h x)) ≡ centred h (neg_ℤ x)
+centred-neg_ℤ h x = ap (centred h) (minus_one (centred h x)) ∙ centred-times_right h (negsuc 0) x ∙ ap (centred h) (sym (minus_one x))

@@ -1,11 +1,11 @@
 -- Congruent elements: two elements are congruent where `reduced h` makes them equal. The operations respect it.
-use Rattle.std.proofs.Common.{◌≡◌, ℕ, List, [], ◌∷◌, length, map, ℤ, pos, ◌+ℤ◌, refl, sym, ap, ◌∙◌, All}
+use Rattle.std.proofs.Common.{◌≡◌, ℕ, List, [], ◌∷◌, length, map, ℤ, pos, neg_ℤ, ◌+ℤ◌, refl, sym, ap, ◌∙◌, All}
 use Rattle.std.proofs.lemmas.List.{length-map}
 use Rattle.std.proofs.lemmas.List.Elements.{All-head, All-tail, All-cons, All-nil}
 use Rattle.ntru_ring.specs.Ring.{plus, scale, last, behind, shift, times}
 use Rattle.ntru_ring.specs.Reduction.{centred, reduced, IsWithin}
 use Rattle.ntru_ring.proofs.Algebra.{plus_comm}
-use Rattle.ntru_ring.proofs.Centred.{centred-centred, centred_keeps, centred_within, centred-plus_left, centred-plus_right, centred-times_left, centred-times_right}
+use Rattle.ntru_ring.proofs.Centred.{centred-centred, centred_keeps, centred_within, centred-plus_left, centred-plus_right, centred-times_left, centred-times_right, centred-neg_ℤ}
 
 pub length-reduced : (h : ℕ) (a : List ℤ) → length (reduced h a) ≡ length a
 unfolding reduced
@@ -95,3 +95,8 @@ pub times_same : (h : ℕ) (a b c d : List ℤ) → reduced h a ≡ reduced h b 
 times_same h a b c d e f =
     sym (reduced-times_left h a c) ∙ sym (reduced-times_right h (reduced h a) c) ∙ ap (λ t. reduced h (times t (reduced h c))) e
     ∙ ap (λ t. reduced h (times (reduced h b) t)) f ∙ reduced-times_right h (reduced h b) d ∙ reduced-times_left h b d
+
+pub reduced-subtracted : (h : ℕ) (c : ℤ) (a b : List ℤ) → reduced h (plus a (scale (neg_ℤ (centred h c)) b)) ≡ reduced h (plus a (scale (neg_ℤ c) b))
+reduced-subtracted h c a b =
+    reduced-plus h a a (scale (neg_ℤ (centred h c)) b) (scale (neg_ℤ c) b) refl
+    (sym (reduced-scale_by h (neg_ℤ (centred h c)) b) ∙ ap (λ t. reduced h (scale t b)) (centred-neg_ℤ h c) ∙ reduced-scale_by h (neg_ℤ c) b)

@@ -4,7 +4,9 @@ use Rattle.std.proofs.lemmas.Int.{ints}
 use Rattle.std.proofs.lemmas.Bool.{cases_lt}
 use Rattle.ntru_ring.specs.Ring.{plus, scale, coefficient}
 use Rattle.ntru_ring.proofs.Algebra.{length-plus, length-scale}
-use Rattle.ntru_ring.proofs.Places.{same_places, coefficient-plus, coefficient-scale}
+use Rattle.ntru_ring.specs.Reduction.{centred, reduced}
+use Rattle.ntru_ring.proofs.Congruence.{length-reduced}
+use Rattle.ntru_ring.proofs.Places.{same_places, coefficient-plus, coefficient-scale, coefficient-reduced}
 
 -- `new` is `old` with `by` times `row` added at the places from `from` to below `k`
 pub record IsAdded (old new row : List ℤ) (by : ℤ) (from k : ℕ) : Type 0 where
@@ -76,3 +78,30 @@ IsFilling-more whole xs k v l e a = record {
 
 pub IsFilling-all : (whole xs : List ℤ) (k : ℕ) → length whole ≤ k → IsFilling whole xs k → xs ≡ whole
 IsFilling-all whole xs k l a = same_places xs whole a.length (λ j p. a.done j (omega (arith, a.length)))
+
+-- the first k places are those of `whole`, the others those of `old`
+pub record IsReplaced (whole old xs : List ℤ) (k : ℕ) : Type 0 where
+  pub filling : IsFilling whole xs k
+  pub rest : (j : ℕ) → k ≤ j → coefficient xs j ≡ coefficient old j
+
+pub IsReplaced-none : (whole old : List ℤ) → length old ≡ length whole → IsReplaced whole old old 0
+IsReplaced-none whole old e = record { filling = IsFilling-none whole old e; rest = λ j l. refl }
+
+pub IsReplaced-more : (whole old xs : List ℤ) (k : ℕ) (v : ℤ) → k < length whole → v ≡ coefficient whole k → IsReplaced whole old xs k → IsReplaced whole old (set xs k v) (k + 1)
+IsReplaced-more whole old xs k v l e a = record {
+  filling = IsFilling-more whole xs k v l e a.filling;
+  rest = λ j p. let ne : ¬ (j ≡ k) = omega arith in get_or-set_other xs k j v (pos 0) ne ∙ a.rest j (omega arith);
+}
+
+pub IsReplaced-all : (whole old xs : List ℤ) (k : ℕ) → length whole ≤ k → IsReplaced whole old xs k → xs ≡ whole
+IsReplaced-all whole old xs k l a = IsFilling-all whole xs k l a.filling
+
+-- a row with c times another, reduced
+pub coefficient_added : (h : ℕ) (a b : List ℤ) (c : ℤ) (k : ℕ) → length a ≡ length b → coefficient (reduced h (plus a (scale c b))) k ≡ centred h (coefficient a k +ℤ c *ℤ coefficient b k)
+coefficient_added h a b c k e =
+    coefficient-reduced h (plus a (scale c b)) k
+    ∙ ap (centred h) (coefficient-plus a (scale c b) k (e ∙ sym (length-scale c b)) ∙ ap (λ t. coefficient a k +ℤ t) (coefficient-scale c b k))
+
+pub length_added : (h : ℕ) (a b : List ℤ) (c : ℤ) → length a ≡ length b → length (reduced h (plus a (scale c b))) ≡ length b
+length_added h a b c e =
+    length-reduced h (plus a (scale c b)) ∙ length-plus a (scale c b) (e ∙ sym (length-scale c b)) ∙ length-scale c b

@@ -4,7 +4,8 @@ use Rattle.ntru_ring.specs.Ring.{coefficient}
 use Rattle.ntru_ring.proofs.Moves.{IsMovedUp, IsMovedUp-from_sets, one_not_zero}
 use Rattle.ntru_ring.specs.Reduction.{IsWithin, centred}
 use Rattle.ntru_ring.proofs.Centred.{centred_within}
-use Rattle.ntru_ring.proofs.Ranges.{within_fits, within_product, within_sum, within_word, wider, stored, fits_along}
+use Rattle.ntru_ring.proofs.Integers.{minus_product}
+use Rattle.ntru_ring.proofs.Ranges.{within_fits, within_product, within_sum, within_neg, within_word, wider, stored, fits_along}
 use Rattle.std.proofs.lemmas.Int.{ints, to_z-of_z}
 use mir.Syntax.{w16, w32}
 use mir.Val.{SFits}
@@ -56,7 +57,7 @@ lead_stored s t u e v w =
     to_z-of_z w32 (to_z w32 (of_z w32 t) +ℤ u) (lead_fits s t u e v w) ∙ ap (λ x. to_z w32 (of_z w32 x) +ℤ u) e ∙ ap (λ x. x +ℤ u) (stored w32 2142216622 s v (lit< tt)) ∙ ap (λ x. x +ℤ u) (sym e)
 
 -- the place 1 before the last coefficient is added
-second_is : (sums xs : List ℤ) (last : ℤ) → ((j : ℕ) → 1 ≤ j → j < 761 → coefficient xs j ≡ coefficient sums (j - 1)) → coefficient (set xs 0 last) 1 ≡ coefficient sums 0
+pub second_is : (sums xs : List ℤ) (last : ℤ) → ((j : ℕ) → 1 ≤ j → j < 761 → coefficient xs j ≡ coefficient sums (j - 1)) → coefficient (set xs 0 last) 1 ≡ coefficient sums 0
 second_is sums xs last done = get_or-set_other xs 0 1 last (pos 0) one_not_zero ∙ done 1 (lit≤ tt) (lit< tt)
 
 pub moved_fits : (sums xs : List ℤ) (q r : ℤ) → ((j : ℕ) → 1 ≤ j → j < 761 → coefficient xs j ≡ coefficient sums (j - 1))
@@ -108,3 +109,28 @@ pub negated : (q z : ℤ) → IsWithin 2295 q → q ≡ centred 2295 z → to_z 
 negated q z w e =
     let n : to_z w16 (of_z w16 (pos 0 -ℤ to_z w16 (of_z w16 q))) ≡ neg_ℤ q = omega (arith, ints, w.low, w.high) in
     n ∙ ap neg_ℤ e
+
+pub negated_twice : (q : ℤ) → IsWithin 2295 q → neg_ℤ (to_z w16 (of_z w16 (pos 0 -ℤ to_z w16 (of_z w16 q)))) ≡ q
+negated_twice q w = omega (arith, ints, w.low, w.high)
+
+-- ---- x - f * y
+module _ (x f y r s t : ℤ) (v : IsWithin 2295 x) (w : IsWithin 2295 f) (u : IsWithin 2295 y) (e : r ≡ to_z w16 (of_z w16 x)) (g : s ≡ to_z w16 (of_z w16 f)) (h : t ≡ to_z w16 (of_z w16 y)) where
+  difference_is : to_z w32 (of_z w32 r) -ℤ to_z w32 (of_z w32 (to_z w32 (of_z w32 s) *ℤ to_z w32 (of_z w32 t))) ≡ x +ℤ neg_ℤ f *ℤ y
+  difference_is =
+      ap (λ a. a -ℤ to_z w32 (of_z w32 (to_z w32 (of_z w32 s) *ℤ to_z w32 (of_z w32 t)))) (factor r x v e)
+      ∙ ap (λ a. x -ℤ a) (stored_product f y s t (within_fits w16 2295 f w (lit< tt)) u g h) ∙ minus_product x f y
+
+  difference_within : IsWithin (2295 + 2295 * 2295) (x +ℤ neg_ℤ f *ℤ y)
+  difference_within = within_sum 2295 (2295 * 2295) x (neg_ℤ f *ℤ y) v (within_product 2295 2295 (neg_ℤ f) y (within_neg 2295 f w) u)
+
+  pub difference_fits : SFits w32 (to_z w32 (of_z w32 r) -ℤ to_z w32 (of_z w32 (to_z w32 (of_z w32 s) *ℤ to_z w32 (of_z w32 t))))
+  difference_fits = fits_along w32 _ _ difference_is (within_fits w32 (2295 + 2295 * 2295) (x +ℤ neg_ℤ f *ℤ y) difference_within (lit< tt))
+
+  difference_stored : to_z w32 (of_z w32 (to_z w32 (of_z w32 r) -ℤ to_z w32 (of_z w32 (to_z w32 (of_z w32 s) *ℤ to_z w32 (of_z w32 t))))) ≡ x +ℤ neg_ℤ f *ℤ y
+  difference_stored = to_z-of_z w32 _ difference_fits ∙ difference_is
+
+  pub difference_in : IsWithin 2147479273 (to_z w32 (of_z w32 (to_z w32 (of_z w32 r) -ℤ to_z w32 (of_z w32 (to_z w32 (of_z w32 s) *ℤ to_z w32 (of_z w32 t))))))
+  difference_in = subst (IsWithin 2147479273) (sym difference_stored) (wider (2295 + 2295 * 2295) 2147479273 (lit≤ tt) (x +ℤ neg_ℤ f *ℤ y) difference_within)
+
+  pub difference_centred : (q : ℤ) → q ≡ centred 2295 (to_z w32 (of_z w32 (to_z w32 (of_z w32 r) -ℤ to_z w32 (of_z w32 (to_z w32 (of_z w32 s) *ℤ to_z w32 (of_z w32 t)))))) → to_z w16 (of_z w16 q) ≡ centred 2295 (x +ℤ neg_ℤ f *ℤ y)
+  difference_centred q k = stored_centred q _ k ∙ ap (centred 2295) difference_stored

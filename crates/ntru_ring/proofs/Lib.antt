@@ -14,7 +14,15 @@ pub mod Lanes3
 pub mod Sums
 pub mod Units
 pub mod Products
+pub mod Powers
 pub mod Elimination
 pub mod Inverses
 pub mod Pivots
 pub mod Uniqueness
+pub mod Words
+pub mod Planes
+pub mod Shifts
+pub mod WordsQ
+pub mod VectorsQ
+pub mod Representatives
+pub mod Blocks

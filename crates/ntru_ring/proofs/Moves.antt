@@ -3,7 +3,7 @@ use Rattle.std.proofs.Common.{◌≡◌, ℕ, zero, suc, ◌+◌, ◌-◌, ◌<�
 use Rattle.ntru_ring.specs.Ring.{shift, coefficient}
 use Rattle.ntru_ring.specs.Reduction.{centred, reduced, IsWithin}
 use Rattle.ntru_ring.proofs.Algebra.{length-shift}
-use Rattle.ntru_ring.proofs.Centred.{centred-centred, centred_within, centred-plus_right}
+use Rattle.ntru_ring.proofs.Centred.{centred-centred, centred_keeps, centred_within, centred-plus_right}
 use Rattle.ntru_ring.proofs.Congruence.{length-reduced}
 use Rattle.ntru_ring.proofs.Ranges.{wider, within_sum}
 use Rattle.ntru_ring.proofs.Places.{same_places, within_places, coefficient_within, coefficient-reduced, coefficient-shift_first, coefficient-shift_second, coefficient-shift_rest}
@@ -67,3 +67,32 @@ moved_within h n b old new m w (suc (suc k)) l =
 
 pub IsMovedUp-within : (h n b : ℕ) (old new : List ℤ) → IsMovedUp h n old new → All (IsWithin b) old → All (IsWithin (b + h)) new
 IsMovedUp-within h n b old new m w = within_places (b + h) new (λ k l. moved_within h n b old new m w k (omega (arith, m.length)))
+
+-- x times a reduced element, by its places
+pub shift_places : (h n : ℕ) (old new : List ℤ) → length old ≡ suc (suc n) → All (IsWithin h) old → length new ≡ suc (suc n) → coefficient new 0 ≡ coefficient old (suc n)
+    → coefficient new 1 ≡ centred h (coefficient old 0 +ℤ coefficient old (suc n)) → ((k : ℕ) → suc (suc k) < suc (suc n) → coefficient new (suc (suc k)) ≡ coefficient old (suc k)) → new ≡ reduced h (shift old)
+shift_places h n old new e w f first second rest =
+    same_places new (reduced h (shift old)) (f ∙ sym (length-reduced h (shift old) ∙ length-shift old ∙ e)) (λ k l. shift_place k (omega (arith, f)))
+  where
+    kept : (k : ℕ) → coefficient old k ≡ centred h (coefficient old k)
+    kept k = sym (centred_keeps h (coefficient old k) (coefficient_within h old k w))
+
+    shift_place : (k : ℕ) → k < suc (suc n) → coefficient new k ≡ coefficient (reduced h (shift old)) k
+    shift_place zero l = first ∙ kept (suc n) ∙ sym (coefficient-reduced h (shift old) 0 ∙ ap (centred h) (coefficient-shift_first old (suc n) e))
+    shift_place (suc zero) l = second ∙ sym (coefficient-reduced h (shift old) 1 ∙ ap (centred h) (coefficient-shift_second old n e))
+    shift_place (suc (suc k)) l = rest k l ∙ kept (suc k) ∙ sym (coefficient-reduced h (shift old) (suc (suc k)) ∙ ap (centred h) (coefficient-shift_rest old k (omega arith)))
+
+-- the same, as the code makes it
+pub moved_reduced : (h n : ℕ) (old xs : List ℤ) (last second : ℤ) → length old ≡ suc (suc n) → All (IsWithin h) old → length xs ≡ suc (suc n)
+    → ((j : ℕ) → 1 ≤ j → j < suc (suc n) → coefficient xs j ≡ coefficient old (j - 1))
+    → last ≡ coefficient old (suc n) → second ≡ centred h (coefficient old 0 +ℤ coefficient old (suc n)) → set (set xs 0 last) 1 second ≡ reduced h (shift old)
+moved_reduced h n old xs last second e w f done g s =
+    let ys = set xs 0 last in
+    let m : length ys ≡ suc (suc n) = length-set xs 0 last ∙ f in
+    shift_places h n old (set ys 1 second) e w (length-set ys 1 second ∙ m) (get_or-set_other ys 1 0 second (pos 0) zero_not_one ∙ get_or-set_same xs 0 last (pos 0) (omega arith) ∙ g)
+    (get_or-set_same ys 1 second (pos 0) (omega arith) ∙ s)
+    (λ k l.
+    let a : ¬ (suc (suc k) ≡ 1) = omega arith in
+    let b : ¬ (suc (suc k) ≡ 0) = omega arith in
+    let d : suc (suc k) - 1 ≡ suc k = omega arith in
+    get_or-set_other ys 1 (suc (suc k)) second (pos 0) a ∙ get_or-set_other xs 0 (suc (suc k)) last (pos 0) b ∙ done (suc (suc k)) (omega arith) l ∙ ap (coefficient old) d)

@@ -1,8 +1,9 @@
 -- Elements by their coefficients.
-use Rattle.std.proofs.Common.{◌≡◌, ℕ, zero, suc, ◌<◌, List, [], ◌∷◌, length, ℤ, pos, ◌+ℤ◌, ◌*ℤ◌, refl, sym, ap, ◌∙◌, arith, All}
+use Rattle.std.proofs.Common.{◌≡◌, ℕ, zero, suc, ◌<◌, List, [], ◌∷◌, length, drop, ℤ, pos, ◌+ℤ◌, ◌*ℤ◌, refl, sym, ap, ◌∙◌, arith, All}
 use Rattle.std.proofs.lemmas.Int.{ints}
 use Rattle.std.proofs.lemmas.List.{ext_get_or, length-map}
-use Rattle.std.proofs.lemmas.List.Elements.{All-from_get_or}
+use Rattle.std.proofs.lemmas.List.Elements.{All-from_get_or, All-take, All-drop}
+use lib.Lanes.{chunk}
 use Rattle.ntru_ring.specs.Ring.{plus, scale, last, behind, shift, zero_of, coefficient}
 use Rattle.ntru_ring.specs.Reduction.{centred, reduced, IsWithin}
 use Rattle.ntru_ring.specs.Small.{nearest, rounded}
@@ -14,6 +15,9 @@ same_places a b e h = ext_get_or (pos 0) a b e h
 
 pub within_places : (h : ℕ) (a : List ℤ) → ((k : ℕ) → k < length a → IsWithin h (coefficient a k)) → All (IsWithin h) a
 within_places h a w = All-from_get_or (IsWithin h) a (pos 0) w
+
+pub chunk_within : (h i n : ℕ) (a : List ℤ) → All (IsWithin h) a → All (IsWithin h) (chunk i n a)
+chunk_within h i n a w = All-take (IsWithin h) n (drop i a) (All-drop (IsWithin h) i a w)
 
 pub coefficient_within : (h : ℕ) (a : List ℤ) (k : ℕ) → All (IsWithin h) a → IsWithin h (coefficient a k)
 coefficient_within h [] k w = within_zero h

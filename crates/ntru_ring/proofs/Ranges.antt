@@ -1,5 +1,5 @@
 -- Numbers within a range: they fit their type, and sums and products of them are within a range again.
-use Rattle.std.proofs.Common.{◌≡◌, ℕ, suc, ◌+◌, ◌*◌, ◌^◌, ◌<◌, ◌≤◌, ℤ, pos, negsuc, nat_abs, ◌+ℤ◌, ◌*ℤ◌, arith, to_z, of_z}
+use Rattle.std.proofs.Common.{◌≡◌, ℕ, suc, ◌+◌, ◌*◌, ◌^◌, ◌<◌, ◌≤◌, ℤ, pos, negsuc, nat_abs, neg_ℤ, ◌+ℤ◌, ◌*ℤ◌, arith, to_z, of_z}
 use Rattle.std.proofs.lemmas.Int.{ints, to_z-of_z}
 use Rattle.std.proofs.Math.Nat.{mul-le-mul_left}
 use Rattle.ntru_ring.specs.Reduction.{IsWithin}
@@ -15,6 +15,9 @@ within_zero h = record { low = omega (arith, ints); high = omega (arith, ints) }
 
 pub within_sum : (m n : ℕ) (x y : ℤ) → IsWithin m x → IsWithin n y → IsWithin (m + n) (x +ℤ y)
 within_sum m n x y v w = record { low = omega (arith, ints, v.low, w.low); high = omega (arith, ints, v.high, w.high) }
+
+pub within_neg : (h : ℕ) (z : ℤ) → IsWithin h z → IsWithin h (neg_ℤ z)
+within_neg h z w = record { low = omega (arith, ints, w.high); high = omega (arith, ints, w.low) }
 
 scaled_le : (n a b : ℕ) → a ≤ b → n * a ≤ n * b
 scaled_le n a b h = mul-le-mul_left n h

@@ -5,3 +5,4 @@ pub mod Elimination
 pub mod RowsQ
 pub mod Units
 pub mod Rows3
+pub mod Planes

@@ -25,3 +25,8 @@ IsInverse h g v = reduced h (times g v) ≡ one_of (length g)
 pub record Annihilates (h : ℕ) (g z : List ℤ) : Type 0 where
   pub nonzero : z ≢ zero_of (length z)
   pub product : reduced h (times g z) ≡ zero_of (length g)
+
+-- z lies so near to -2295..2295 that adding 4591 twice or subtracting it once takes it there
+pub record IsNear (z : ℤ) : Type 0 where
+  pub low : neg_ℤ (pos 6967) ≤ℤ z
+  pub high : z ≤ℤ pos 2376

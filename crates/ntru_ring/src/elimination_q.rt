@@ -11,6 +11,7 @@ ghost use Rattle.ntru_ring.specs.Elimination.{IsMultiple, IsCombined};
 ghost use Rattle.ntru_ring.specs.RowsQ.{IsEchelonQ, AreMultiplesQ};
 ghost use Rattle.ntru_ring.specs.declared.rows_q.RowQ.{RowQ};
 
+use crate::candidate_q::candidate_q;
 use crate::groups::{group_end, group_start};
 use crate::modulo_q::Rq;
 use crate::rows_q::{PairQ, RowQ};
@@ -49,7 +50,7 @@ fn clear(rows: &[RowQ], count: usize, a: &Rq, b: &Rq) -> PairQ
 }
 
 /// The place of the first coefficient that isn't zero, or 761.
-fn lead(a: &Rq) -> usize
+pub(crate) fn lead(a: &Rq) -> usize
     ensures within { result ≤ 761 }
     ensures before { (k : ℕ) → k < result → coefficient a.now.coefficients k ≡ pos 0 }
     ensures there { result < 761 → coefficient a.now.coefficients result ≢ pos 0 }
@@ -83,8 +84,8 @@ fn row_of(pair: &PairQ, pivot: usize, top: usize) -> RowQ
     }
 }
 
-/// The inverse of `f` in R/q, or an element that shows that there is none.
-pub fn inverse_q(work: &mut Workspace, f: &Rq) -> Result<Rq, AnnihilatedQ>
+/// The inverse of `f`, or an annihilator, by all rows.
+pub(crate) fn inverse_by_rows(work: &mut Workspace, f: &Rq) -> Result<Rq, AnnihilatedQ>
     ensures { MatchResult result (λ v. IsInverse 2295 f.now.coefficients v.coefficients) (λ e. Annihilates 2295 f.now.coefficients e.z.coefficients) }
 {
     let mut power = *f;
@@ -98,4 +99,17 @@ pub fn inverse_q(work: &mut Workspace, f: &Rq) -> Result<Rq, AnnihilatedQ>
         power = power.shift();
     }
     Ok(clear(&work.rows_q, 761, &Rq::monomial(0, -1), &Rq::zero()).b)
+}
+
+/// The inverse of `f` in R/q, or an element that shows that there is none.
+pub fn inverse_q(work: &mut Workspace, f: &Rq) -> Result<Rq, AnnihilatedQ>
+    ensures { MatchResult result (λ v. IsInverse 2295 f.now.coefficients v.coefficients) (λ e. Annihilates 2295 f.now.coefficients e.z.coefficients) }
+{
+    let candidate = candidate_q(f);
+    // Where f has an inverse, the candidate was it whenever it was tried; the rows answer where it has none, and the
+    // clause stands on the trial and on the rows alone.
+    if f.mul(&candidate) == Rq::monomial(0, 1) {
+        return Ok(candidate);
+    }
+    inverse_by_rows(work, f)
 }

@@ -11,6 +11,7 @@ ghost use Rattle.ntru_ring.specs.Elimination.{IsMultiple, IsCombined};
 ghost use Rattle.ntru_ring.specs.Rows3.{IsEchelon3, AreMultiples3};
 ghost use Rattle.ntru_ring.specs.declared.rows_three.Row3.{Row3};
 
+use crate::candidate_three::candidate_three;
 use crate::groups::{group_end, group_start};
 use crate::modulo_three::R3;
 use crate::rows_three::{Pair3, Row3};
@@ -82,8 +83,8 @@ fn row_of(pair: &Pair3, pivot: usize, top: usize) -> Row3
     }
 }
 
-/// The inverse of `g` in R/3, or an element that shows that there is none.
-pub fn inverse3(work: &mut Workspace, g: &R3) -> Result<R3, Annihilated3>
+/// The inverse of `g`, or an annihilator, by all rows.
+pub(crate) fn inverse_by_rows(work: &mut Workspace, g: &R3) -> Result<R3, Annihilated3>
     ensures { MatchResult result (λ v. IsInverse 1 g.now.coefficients v.coefficients) (λ e. Annihilates 1 g.now.coefficients e.z.coefficients) }
 {
     let mut power = *g;
@@ -97,4 +98,17 @@ pub fn inverse3(work: &mut Workspace, g: &R3) -> Result<R3, Annihilated3>
         power = power.shift();
     }
     Ok(clear(&work.rows_three, 761, &R3::monomial(0, -1), &R3::zero()).b)
+}
+
+/// The inverse of `g` in R/3, or an element that shows that there is none.
+pub fn inverse3(work: &mut Workspace, g: &R3) -> Result<R3, Annihilated3>
+    ensures { MatchResult result (λ v. IsInverse 1 g.now.coefficients v.coefficients) (λ e. Annihilates 1 g.now.coefficients e.z.coefficients) }
+{
+    let candidate = candidate_three(g);
+    // Where g has an inverse, the candidate was it whenever it was tried; the rows answer where it has none, and the
+    // clause stands on the trial and on the rows alone.
+    if g.mul(&candidate) == R3::monomial(0, 1) {
+        return Ok(candidate);
+    }
+    inverse_by_rows(work, g)
 }

@@ -4,26 +4,35 @@
 //! An element is its 761 coefficients, that of x^0 first, each by its representative next to zero. [`R3`] and [`Rq`] keep
 //! the range in their types, so sums, products and inverses ask for nothing more. [`inverse3`] and [`inverse_q`] work in a
 //! [`Workspace`] that is taken once: they answer with the inverse, or with an element that shows that there is none.
-//! [`laws`] states the algebra that a caller's proofs stand on.
+//! [`Planes3`] holds an element of R/3 as two bits for each coefficient, for sums of 64 coefficients at a time. [`laws`]
+//! states the algebra that a caller's proofs stand on.
 #![tactic(auto)]
 
+mod candidate_q;
+mod candidate_three;
 mod elimination_q;
 mod elimination_three;
 mod groups;
+mod lanes_q;
 mod modulo_q;
 mod modulo_three;
+mod planes_three;
+mod powers_q;
 mod rows_q;
 mod rows_three;
 mod sums_q;
+mod sums_small;
 mod sums_three;
 mod theory;
 mod units_q;
+mod words_three;
 mod working;
 
 pub use elimination_q::{AnnihilatedQ, inverse_q};
 pub use elimination_three::{Annihilated3, inverse3};
 pub use modulo_q::Rq;
 pub use modulo_three::R3;
+pub use planes_three::{Planes3, planes_of, r3_of};
 pub use theory::laws;
 pub use working::Workspace;
 

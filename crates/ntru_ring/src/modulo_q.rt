@@ -1,11 +1,14 @@
 //! Elements of R/q.
-ghost use Rattle.std.specs.Prelude.{◌≡◌, ◌<◌, ℕ, length, All, pos, slice_set};
+ghost use Rattle.std.specs.Prelude.{◌≡◌, ◌<◌, ℕ, length, All, pos, neg_ℤ, slice_set};
 ghost use Rattle.ntru_ring.specs.Reduction.{centred, reduced, IsWithin};
 ghost use Rattle.ntru_ring.specs.Ring.{plus, scale, shift, times, zero_of};
 ghost use Rattle.ntru_ring.specs.Small.{nearest, rounded};
 
+use crate::lanes_q::subtract_multiple;
 use crate::modulo_three::{R3, centred_three};
+use crate::powers_q::Powers;
 use crate::sums_q::{SumsQ, centred_q};
+use crate::sums_small::SumsSmall;
 
 /// An element of R/q, q = 4591: the coefficients of x^0 to x^760, each in -2295..2295.
 #[derive(Clone, Copy, PartialEq, Eq)]
@@ -95,6 +98,18 @@ impl Rq {
     pub fn mul(&self, o: &Rq) -> Rq
         ensures { result.coefficients ≡ reduced 2295 (times self.now.coefficients o.now.coefficients) }
     {
+        let mut product = Rq::zero();
+        for k in 0..761 {
+            product = product.shift();
+            product.subtract_row(o, -self.coefficients[760 - k]);
+        }
+        product
+    }
+
+    /// The product in R/q, by rows that are reduced late.
+    pub fn mul_plain(&self, o: &Rq) -> Rq
+        ensures { result.coefficients ≡ reduced 2295 (times self.now.coefficients o.now.coefficients) }
+    {
         let mut sums = SumsQ::of(&Rq::zero());
         for k in 0..761 {
             sums.shift();
@@ -103,13 +118,44 @@ impl Rq {
         sums.settled()
     }
 
+    /// The product in R/q with a small factor.
+    pub fn mul_small(&self, small: &R3) -> Rq
+        ensures { result.coefficients ≡ reduced 2295 (times self.now.coefficients small.now.coefficients) }
+    {
+        let mut powers = Powers::of(self);
+        let mut sums = SumsSmall::of(&Rq::zero());
+        for k in 0..761 {
+            sums.add(small.coefficients[k], powers.row());
+            powers.shift();
+        }
+        sums.settled()
+    }
+
+    /// Subtracts `factor` times `other`, in R/q.
+    pub fn subtract_row(&mut self, other: &Rq, factor: i16)
+        ensures { self.new.coefficients ≡ reduced 2295 (plus self.old.coefficients (scale (neg_ℤ factor) other.now.coefficients)) }
+    {
+        subtract_multiple(
+            &mut self.coefficients,
+            &other.coefficients,
+            centred_q(i32::from(factor)),
+        );
+    }
+
     /// x times the element.
     pub(crate) fn shift(&self) -> Rq
         ensures { result.coefficients ≡ reduced 2295 (shift self.now.coefficients) }
     {
-        let mut sums = SumsQ::of(self);
-        sums.shift();
-        sums.settled()
+        let last = self.coefficients[760];
+        let mut moved = [0; 761];
+        for k in 1..761 {
+            moved[k] = self.coefficients[k - 1];
+        }
+        moved[0] = last;
+        moved[1] = centred_q(i32::from(moved[1]) + i32::from(last));
+        Rq {
+            coefficients: moved,
+        }
     }
 
     /// 0.

@@ -1,7 +1,11 @@
 //! Worked rows of the ring.
 ghost use Rattle.ntru_ring.specs.Reduction.{IsWithin};
 
-use crate::{R3, Rq, Workspace, inverse_q, inverse3};
+use crate::candidate_q::candidate_q;
+use crate::candidate_three::candidate_three;
+use crate::{
+    R3, Rq, Workspace, elimination_q, elimination_three, inverse_q, inverse3, planes_of, r3_of,
+};
 use std::process::Abort;
 use std::test::Fail;
 
@@ -50,5 +54,53 @@ fn inverts_x(rt: HostRuntime) -> Result<(), Fail> {
     let inverse = Rq::monomial(760, 1).add(&Rq::monomial(0, -1));
     assert!(rt; inverse_q(&mut work, &Rq::monomial(1, 1)) == Ok(inverse));
     assert!(rt; inverse_q(&mut work, &Rq::zero()).is_err());
+    Ok(())
+}
+
+#[test]
+fn subtracts_and_multiplies_rows(rt: HostRuntime) {
+    let mut row = Rq::monomial(0, 2295);
+    row.subtract_row(&Rq::monomial(0, 1), -1);
+    assert!(rt; row == Rq::monomial(0, -2295));
+    let mut last = Rq::monomial(760, 1);
+    last.subtract_row(&Rq::monomial(760, 2), 3);
+    assert!(rt; last == Rq::monomial(760, -5));
+    let x = Rq::monomial(1, 1);
+    let sum = x.add(&Rq::monomial(0, 1));
+    assert!(rt; x.mul_plain(&Rq::monomial(760, 1)) == sum);
+    assert!(rt; x.mul_small(&R3::monomial(760, 1)) == sum);
+    assert!(rt; Rq::monomial(760, 2295).mul_small(&R3::monomial(1, -1)) == sum.scale(-2295));
+}
+
+#[test]
+fn keeps_two_bits_for_each_coefficient(rt: HostRuntime) {
+    let g = R3::monomial(760, 1).add(&R3::monomial(0, -1));
+    let planes = planes_of(&g);
+    assert!(rt; planes.nonzero[0] == 1);
+    assert!(rt; planes.nonzero[11] == 1 << 56);
+    assert!(rt; planes.negative[0] == 1);
+    assert!(rt; planes.negative[11] == 0);
+    assert!(rt; r3_of(&planes) == g);
+    assert!(rt; r3_of(&planes.shift()) == R3::monomial(0, 1));
+    assert!(rt; r3_of(&planes.add(&planes)) == R3::monomial(760, -1).add(&R3::monomial(0, 1)));
+    assert!(rt; planes.sub(&planes) == planes_of(&R3::zero()));
+    assert!(rt; planes.at(760) == 1);
+}
+
+/// The shift elimination's candidates against the inverses by the whole elimination.
+fn agrees(rt: &impl Abort, work: &mut Workspace, g: &R3) {
+    let f = g.lift();
+    assert!(rt; elimination_three::inverse_by_rows(work, g) == Ok(candidate_three(g)));
+    assert!(rt; elimination_q::inverse_by_rows(work, &f) == Ok(candidate_q(&f)));
+}
+
+#[test]
+fn finds_the_inverses_of_the_whole_elimination(rt: HostRuntime) -> Result<(), Fail> {
+    let mut work = Workspace::new(rt.alloc())?;
+    for place in 1..4 {
+        let g = R3::monomial(place, 1).add(&R3::monomial(0, 1));
+        agrees(&rt, &mut work, &g);
+        agrees(&rt, &mut work, &candidate_three(&g));
+    }
     Ok(())
 }

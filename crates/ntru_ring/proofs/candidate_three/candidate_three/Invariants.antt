@@ -1,0 +1,5 @@
+use Rattle.std.proofs.Common.{◌<◌}
+use Rattle.ntru_ring.proofs.candidate_three.candidate_three.Given as goal
+
+abbrev pub invariant-loop : goal.invariant-loop
+invariant-loop l = l.gap < 761

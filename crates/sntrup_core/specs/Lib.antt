@@ -1,0 +1,4 @@
+pub mod Sampling
+pub mod Inverse
+pub mod Core
+pub mod Tries
