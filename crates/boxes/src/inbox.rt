@@ -5,7 +5,7 @@ ghost use Rattle.boxes.specs.Items.{item_at};
 
 use crate::errors::{Fewer, Full};
 use crate::row::Row;
-use dr_base::Position;
+use dr_base::{INBOX_LIMIT, Position, TEXT_LIMIT};
 use std::alloc::{AllocError, Global};
 use std::marker::Model;
 
@@ -18,10 +18,10 @@ pub struct Entry<'a> {
 
 /// The texts that came in. A contract sees the list of them, the oldest first.
 ///
-/// It has room for 64 texts of 1,024 bytes, taken when it is made.
+/// It has room for `INBOX_LIMIT` texts of `TEXT_LIMIT` bytes, taken when it is made.
 #[derive(Drop)]
 pub struct Inbox {
-    row: Row<64, 1024>,
+    row: Row<INBOX_LIMIT, TEXT_LIMIT>,
 }
 
 impl Model for Inbox {
@@ -46,10 +46,10 @@ impl Inbox {
 
     /// Appends a text under its position.
     pub fn push(&mut self, position: Position, text: &[u8]) -> Result<(), Full>
-        requires { length text.now ≤ 1024 }
-        ensures variant { IsOk result ↔ (length self.old < 64) }
+        requires { length text.now ≤ TEXT_LIMIT }
+        ensures variant { IsOk result ↔ (length self.old < INBOX_LIMIT) }
         ensures ok { OnOk result (self.new ≡ self.old ++ item_at position text.now ∷ []) }
-        ensures full { OnErr result (length self.old ≡ 64) }
+        ensures full { OnErr result (length self.old ≡ INBOX_LIMIT) }
         ensures err { OnErr result (self.new ≡ self.old) }
     {
         self.row.push(position, text)
@@ -59,7 +59,7 @@ impl Inbox {
     pub fn at(&self, at: usize) -> Option<Entry<'_>>
         ensures variant { IsSome result ↔ (at < length self.now) }
         ensures entry { option_map entry_item result ≡ slice_get self.now at }
-        ensures fits { IfSome result (λ entry. length entry.text.now ≤ 1024) }
+        ensures fits { IfSome result (λ entry. length entry.text.now ≤ TEXT_LIMIT) }
     {
         match self.row.at(at) {
             Some(stored) => Some(Entry {
@@ -73,12 +73,12 @@ impl Inbox {
     /// How many texts stand.
     pub fn len(&self) -> u32
         ensures value { result ≡ length self.now }
-        ensures limit { result ≤ 64 }
+        ensures limit { result ≤ INBOX_LIMIT }
     {
         self.row.len() as u32
     }
 
-    /// Drops the oldest texts, so many.
+    /// Drops the `n` oldest texts.
     pub fn drop_first(&mut self, n: u32) -> Result<(), Fewer>
         ensures variant { IsOk result ↔ (n ≤ length self.old) }
         ensures ok { OnOk result (self.new ≡ drop n self.old) }

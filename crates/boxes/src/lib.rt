@@ -1,7 +1,8 @@
 //! The two boxes of a client: the texts that came in, and the packets that wait to go out.
 //!
 //! Each box is a list with a limit, the oldest first. All its memory is taken when it is made, room for as
-//! many items as it may hold, each of the greatest size: no later call allocates.
+//! many items as it may hold, each of the greatest size: no later call allocates. `Row` is such a list at any
+//! limit and any greatest size.
 //!
 //! ```rust
 //! use boxes::{Fewer, Inbox};
@@ -20,6 +21,7 @@
 pub use errors::{Fewer, Full};
 pub use inbox::{Entry, Inbox};
 pub use outbox::Outbox;
+pub use row::{Row, Stored};
 
 mod errors;
 mod inbox;

@@ -5,16 +5,16 @@ ghost use Rattle.boxes.specs.Items.{item_at};
 
 use crate::errors::{Fewer, Full};
 use crate::row::Row;
-use dr_base::Position;
+use dr_base::{OUTBOX_LIMIT, PACKET_LIMIT, Position};
 use std::alloc::{AllocError, Global};
 use std::marker::Model;
 
 /// The packets that wait to go out. A contract sees the list of them, the oldest first.
 ///
-/// It has room for 32 packets of 3,286 bytes, taken when it is made.
+/// It has room for `OUTBOX_LIMIT` packets of `PACKET_LIMIT` bytes, taken when it is made.
 #[derive(Drop)]
 pub struct Outbox {
-    row: Row<32, 3286>,
+    row: Row<OUTBOX_LIMIT, PACKET_LIMIT>,
 }
 
 impl Model for Outbox {
@@ -37,10 +37,10 @@ impl Outbox {
 
     /// Appends a packet under its position.
     pub fn push(&mut self, position: Position, packet: &[u8]) -> Result<(), Full>
-        requires { length packet.now ≤ 3286 }
-        ensures variant { IsOk result ↔ (length self.old < 32) }
+        requires { length packet.now ≤ PACKET_LIMIT }
+        ensures variant { IsOk result ↔ (length self.old < OUTBOX_LIMIT) }
         ensures ok { OnOk result (self.new ≡ self.old ++ item_at position packet.now ∷ []) }
-        ensures full { OnErr result (length self.old ≡ 32) }
+        ensures full { OnErr result (length self.old ≡ OUTBOX_LIMIT) }
         ensures err { OnErr result (self.new ≡ self.old) }
     {
         self.row.push(position, packet)
@@ -50,7 +50,7 @@ impl Outbox {
     pub fn at(&self, at: usize) -> Option<(Position, &[u8])>
         ensures variant { IsSome result ↔ (at < length self.now) }
         ensures packet { option_map (λ pair. item_at pair.0 pair.1.now) result ≡ slice_get self.now at }
-        ensures fits { IfSome result (λ pair. length pair.1.now ≤ 3286) }
+        ensures fits { IfSome result (λ pair. length pair.1.now ≤ PACKET_LIMIT) }
     {
         match self.row.at(at) {
             Some(stored) => Some((stored.position(), stored.bytes())),
@@ -61,12 +61,12 @@ impl Outbox {
     /// How many packets stand.
     pub fn len(&self) -> u32
         ensures value { result ≡ length self.now }
-        ensures limit { result ≤ 32 }
+        ensures limit { result ≤ OUTBOX_LIMIT }
     {
         self.row.len() as u32
     }
 
-    /// Drops the oldest packets, so many.
+    /// Drops the `n` oldest packets.
     pub fn drop_first(&mut self, n: u32) -> Result<(), Fewer>
         ensures variant { IsOk result ↔ (n ≤ length self.old) }
         ensures ok { OnOk result (self.new ≡ drop n self.old) }

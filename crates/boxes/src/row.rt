@@ -1,17 +1,17 @@
-//! A row of at most LIMIT items, the oldest first, each of at most ROOM bytes, in memory that is taken once.
+//! A row of at most `LIMIT` items, the oldest first, each of at most `ROOM` bytes, in memory that is taken once.
 
-ghost use Rattle.std.specs.Prelude.{◌≡◌, ◌^◌, ◌<◌, ◌≤◌, ◌↔◌, [], ◌∷◌, ◌++◌, length, drop, option_copied, slice_get, IsSome, IsOk, IfOk, OnOk, OnErr, IfErr};
+ghost use Rattle.std.specs.Prelude.{◌≡◌, ◌^◌, ◌<◌, ◌≤◌, ◌↔◌, [], ◌∷◌, ◌++◌, length, drop, All, option_copied, slice_get, IsSome, IsOk, IfOk, OnOk, OnErr, IfErr};
 ghost use Rattle.boxes.specs.Items.{item_at};
 
 use crate::errors::{Fewer, Full};
 use arrayvec::ArrayVec;
-use dr_base::Position;
+use dr_base::{Position, in_room};
 use std::alloc::{AllocError, Global};
 use std::marker::Model;
 
-/// One item: a position, and bytes in room of their own.
+/// One item of a row: a position, and at most `ROOM` bytes in room of their own.
 #[derive(Drop)]
-pub(crate) struct Stored<const ROOM: usize> {
+pub struct Stored<const ROOM: usize> {
     position: Position,
     bytes: ArrayVec<u8, ROOM>,
 }
@@ -30,23 +30,21 @@ impl<const ROOM: usize> Stored<ROOM> {
         requires { length bytes.now ≤ ROOM }
         ensures { result ≡ item_at position bytes.now }
     {
-        let mut own = ArrayVec::new();
-        own.try_extend_from_slice(bytes).unwrap();
         Stored {
             position,
-            bytes: own,
+            bytes: in_room(bytes),
         }
     }
 
     /// The position under which the item stands.
-    pub(crate) fn position(&self) -> Position
+    pub fn position(&self) -> Position
         ensures { result ≡ self.now.position }
     {
         self.position
     }
 
     /// The bytes of the item.
-    pub(crate) fn bytes(&self) -> &[u8]
+    pub fn bytes(&self) -> &[u8]
         ensures value { result.now ≡ self.now.bytes }
         ensures fits { length result.now ≤ ROOM }
     {
@@ -54,42 +52,45 @@ impl<const ROOM: usize> Stored<ROOM> {
     }
 }
 
-/// The items of a box. A contract sees the list of them.
+/// A list of at most `LIMIT` items, the oldest first, each of at most `ROOM` bytes. A contract sees the list of them.
+/// All its memory is taken when it is made: no later call allocates.
 #[derive(Drop)]
-pub(crate) struct Row<const LIMIT: usize, const ROOM: usize> {
+pub struct Row<const LIMIT: usize, const ROOM: usize> {
     items: Vec<Stored<ROOM>>,
 }
 
 impl<const LIMIT: usize, const ROOM: usize> Model for Row<LIMIT, ROOM> {
-    ghost use Rattle.std.specs.Prelude.{◌≤◌, List, vec_len, vec_capacity};
+    ghost use Rattle.std.specs.Prelude.{◌≤◌, List, All, length, vec_len, vec_capacity};
     ghost use Rattle.boxes.specs.Items.{Item};
 
     ghost Value = { List Item };
 
     ghost view = { λ r. r.items.items };
 
-    ghost invariant = { λ r. (vec_len r.items ≤ LIMIT) × (LIMIT ≤ vec_capacity r.items) };
+    ghost invariant = { λ r.
+        (vec_len r.items ≤ LIMIT) × (LIMIT ≤ vec_capacity r.items) × All (λ item. length item.bytes ≤ ROOM) r.items.items };
 }
 
 impl<const LIMIT: usize, const ROOM: usize> Row<LIMIT, ROOM> {
-    /// An empty row, with its memory.
-    pub(crate) fn new(alloc: Global) -> Result<Self, AllocError>
+    /// An empty row, with all the memory that it will ever use. An error comes only where there is too little memory.
+    pub fn new(alloc: Global) -> Result<Self, AllocError>
         ensures { IfOk result (λ row. row ≡ []) }
     {
         let items = Vec::with_capacity(alloc, LIMIT)?;
         Ok(Row { items })
     }
 
-    /// How many items stand.
-    pub(crate) fn len(&self) -> usize
+    /// How many items stand. None of them has more than `ROOM` bytes.
+    pub fn len(&self) -> usize
         ensures value { result ≡ length self.now }
         ensures limit { result ≤ LIMIT }
+        ensures room { All (λ item. length item.bytes ≤ ROOM) self.now }
     {
         self.items.len()
     }
 
-    /// Appends an item of these bytes under a position.
-    pub(crate) fn push(&mut self, position: Position, bytes: &[u8]) -> Result<(), Full>
+    /// Appends an item of these bytes under a position. A full row stays as it was.
+    pub fn push(&mut self, position: Position, bytes: &[u8]) -> Result<(), Full>
         requires { length bytes.now ≤ ROOM }
         ensures variant { IsOk result ↔ (length self.old < LIMIT) }
         ensures ok { OnOk result (self.new ≡ self.old ++ item_at position bytes.now ∷ []) }
@@ -104,15 +105,15 @@ impl<const LIMIT: usize, const ROOM: usize> Row<LIMIT, ROOM> {
     }
 
     /// The item at a place, from 0, the oldest first.
-    pub(crate) fn at(&self, at: usize) -> Option<&Stored<ROOM>>
+    pub fn at(&self, at: usize) -> Option<&Stored<ROOM>>
         ensures variant { IsSome result ↔ (at < length self.now) }
         ensures item { option_copied result ≡ slice_get self.now at }
     {
         self.items.get(at)
     }
 
-    /// Drops the oldest items, so many.
-    pub(crate) fn drop_first(&mut self, n: u32) -> Result<(), Fewer>
+    /// Drops the `n` oldest items. Where fewer stand, the row stays as it was, and the error says how many stand.
+    pub fn drop_first(&mut self, n: u32) -> Result<(), Fewer>
         requires { LIMIT < 2 ^ 32 }
         ensures variant { IsOk result ↔ (n ≤ length self.old) }
         ensures ok { OnOk result (self.new ≡ drop n self.old) }

@@ -1,12 +1,12 @@
 //! The side whose turn it is.
 
 ghost use Rattle.std.specs.Prelude.{◌≡◌, ◌++◌, length, Some, None, IfOk, IfErr};
-ghost use Rattle.kem_laws.specs.Meaning.{IsLawful};
-ghost use Rattle.cka.specs.Agreement.{turn_of};
+ghost use Rattle.kem_laws.specs.Mechanism.{IsLawful};
+ghost use Rattle.cka.specs.Agreement.{agreement_size, turn_of};
 
 use crate::holder::Holder;
-use crate::texts::{Agreement, PublicText, append, text_of};
-use dr_base::Key32;
+use crate::texts::{Agreement, PublicText, append};
+use dr_base::{Key32, in_room};
 use kem_laws::{Kem, NoPair, laws};
 use std::marker::{Model, PhantomData};
 
@@ -25,18 +25,18 @@ impl<K: Kem> Model for Caller<K> {
 
     ghost view = { λ c. c.public.items };
 
-    ghost invariant = { λ c. length c.public.items ≡ K.PUBLIC };
+    ghost invariant = { λ c. length c.public.items ≡ K.mechanism.public };
 }
 
 impl<K: Kem> Caller<K> {
     /// The side with this public key.
     pub fn resume(public: &[u8]) -> Caller<K>
-        requires { length public.now ≡ K.PUBLIC }
+        requires { length public.now ≡ K.mechanism.public }
         ensures { result ≡ public.now }
     {
         laws::<K>();
         Caller {
-            public: text_of(public),
+            public: in_room(public),
             mechanism: PhantomData,
         }
     }
@@ -51,9 +51,10 @@ impl<K: Kem> Caller<K> {
         seed: &Key32,
     ) -> Result<(Holder<K>, Agreement, Key32), Caller<K>>
         ensures turned { IfOk result (λ t.
-            turn_of K.meaning self seed.now.bytes ≡ Some (t.0, t.1.items, t.2.bytes)) }
+            turn_of K.mechanism self seed.now.bytes ≡ Some (t.0, t.1.items, t.2.bytes)) }
+        ensures long { IfOk result (λ t. length t.1.items ≡ agreement_size K.mechanism) }
         ensures same { IfErr result (λ c. c ≡ self) }
-        ensures without_pair { IfErr result (λ _. K.meaning.pair_of seed.now.bytes ≡ None) }
+        ensures without_pair { IfErr result (λ _. K.mechanism.meaning.pair_of seed.now.bytes ≡ None) }
     {
         laws::<K>();
         // The proof takes the length of the seed from this.
@@ -78,7 +79,7 @@ impl<K: Kem> Caller<K> {
                     seed,
                     &mut ciphertext[..K::CIPHERTEXT],
                 );
-                let mut agreement = text_of(&ciphertext[..K::CIPHERTEXT]);
+                let mut agreement = in_room(&ciphertext[..K::CIPHERTEXT]);
                 append(&mut agreement, &public[..K::PUBLIC]);
                 Ok((Holder::resume(&secret[..K::SECRET]), agreement, key))
             }
@@ -92,7 +93,7 @@ impl<K: Kem> Caller<K> {
     /// Gives the public key back, to be kept until it is resumed.
     pub fn rest(self) -> PublicText
         ensures value { result.items ≡ self }
-        ensures long { length self ≡ K.PUBLIC }
+        ensures long { length self ≡ K.mechanism.public }
     {
         let Caller {
             public,

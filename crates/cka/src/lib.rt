@@ -23,7 +23,7 @@
 pub use caller::Caller;
 pub use holder::Holder;
 pub use texts::{Agreement, PublicText, SecretText};
-pub use theory::agreement_holds;
+pub use theory::{agreement_holds, agreement_length};
 
 mod caller;
 mod holder;

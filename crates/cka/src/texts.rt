@@ -10,7 +10,7 @@ pub type PublicText = ArrayVec<u8, 1158>;
 /// A secret, in room for that of any mechanism.
 pub type SecretText = ArrayVec<u8, 1763>;
 
-/// A message: a ciphertext, and behind it a public key for the answer.
+/// A message: a ciphertext, and after it a public key for the answer.
 pub type Agreement = ArrayVec<u8, 2197>;
 
 /// Appends bytes that have room.
@@ -19,14 +19,4 @@ pub(crate) fn append<const N: usize>(text: &mut ArrayVec<u8, N>, bytes: &[u8])
     ensures { text.new.items ≡ text.old.items ++ bytes.now }
 {
     let _appended = text.try_extend_from_slice(bytes);
-}
-
-/// The text of these bytes.
-pub(crate) fn text_of<const N: usize>(bytes: &[u8]) -> ArrayVec<u8, N>
-    requires { length bytes.now ≤ N }
-    ensures { result.items ≡ bytes.now }
-{
-    let mut text = ArrayVec::new();
-    append(&mut text, bytes);
-    text
 }

@@ -1,2 +1,3 @@
 pub mod Position
 pub mod Buffer
+pub mod Causes

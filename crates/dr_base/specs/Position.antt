@@ -1,5 +1,6 @@
--- Whose turn an epoch is.
-use Rattle.std.specs.Prelude.{ℕ, ◌%◌, ◌==◌, if◌then◌else◌}
+-- Whose turn an epoch is, and where a text stands.
+use Rattle.std.specs.Prelude.{ℕ, ◌%◌, ◌==◌, ◌&&◌, Bool, if◌then◌else◌}
+use Rattle.dr_base.specs.declared.position.Position.{Position}
 use Rattle.dr_base.specs.declared.position.Side.{Side}
 use Rattle.dr_base.specs.declared.position.Side.TheVariants.{First, Second}
 
@@ -11,3 +12,12 @@ peer_of Second = First
 -- odd epochs are First's, even ones Second's
 abbrev pub side_of : ℕ → Side
 side_of epoch = if epoch % 2 == 1 then First else Second
+
+-- an epoch is one of a side's own
+abbrev pub is_own : Side → ℕ → Bool
+is_own First epoch = epoch % 2 == 1
+is_own Second epoch = epoch % 2 == 0
+
+-- two positions are the same
+abbrev pub is_at : Position → Position → Bool
+is_at p q = (q.epoch == p.epoch) && (q.index == p.index)

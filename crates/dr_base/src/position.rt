@@ -1,10 +1,10 @@
 //! Who speaks, and where a text stands in the conversation.
 
 ghost use Rattle.std.specs.Prelude.{◌≡◌, ◌%◌, ◌↔◌, IsTrue};
-ghost use Rattle.dr_base.specs.Position.{side_of, peer_of};
+ghost use Rattle.dr_base.specs.Position.{is_own, side_of, peer_of};
 
 /// One of the two parties. First says its texts in odd epochs, Second in even ones.
-#[derive(Clone, Copy, Debug, PartialEq, Eq, Hash)]
+#[derive(Clone, Copy, Debug, PartialEq, Eq)]
 pub enum Side {
     First,
     Second,
@@ -21,6 +21,16 @@ impl Side {
         }
     }
 
+    /// Whether an epoch is one of the party's own, which holds its texts.
+    pub fn owns(self, epoch: u32) -> bool
+        ensures { result ≡ is_own self epoch }
+    {
+        match self {
+            Side::First => epoch % 2 == 1,
+            Side::Second => epoch % 2 == 0,
+        }
+    }
+
     /// The party whose texts an epoch holds.
     pub fn of_epoch(epoch: u32) -> Side
         ensures { result ≡ side_of epoch }
@@ -34,7 +44,7 @@ impl Side {
 }
 
 /// The place of a text: its epoch, and its index in the epoch, which begins at 1. It prints as `epoch.index`.
-#[derive(Clone, Copy, Debug, Default, PartialEq, Eq, Hash)]
+#[derive(Clone, Copy, Debug, Default, PartialEq, Eq)]
 pub struct Position {
     pub epoch: u32,
     pub index: u32,

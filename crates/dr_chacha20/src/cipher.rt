@@ -1,4 +1,4 @@
-// The key stream and the encryption (RFC 8439, 2.4).
+//! The key stream and the encryption (RFC 8439, 2.4).
 
 ghost use Rattle.std.specs.Prelude.{◌≡◌, ℕ, ◌+◌, ◌*◌, ◌/◌, ◌^◌, ◌<◌, ◌≤◌, ◌++◌, List, length};
 ghost use Rattle.dr_chacha20.specs.Block.{block_of};

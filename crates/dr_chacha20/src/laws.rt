@@ -1,4 +1,4 @@
-// What holds of every encryption, for callers to cite.
+//! What holds of every encryption, for callers to cite.
 
 ghost use Rattle.std.specs.Prelude.{◌≡◌, ℕ, List, length};
 ghost use Rattle.dr_chacha20.specs.Stream.{encrypted};

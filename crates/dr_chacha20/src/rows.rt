@@ -1,5 +1,5 @@
-// The block function on a state of four rows (RFC 8439, 2.3). A column round is one quarter round of
-// the rows, word by word. A diagonal round is one too, with the last three rows turned.
+//! The block function on a state of four rows (RFC 8439, 2.3). A column round is one quarter round of
+//! the rows, word by word. A diagonal round is one too, with the last three rows turned.
 
 ghost use Rattle.std.specs.Prelude.{◌≡◌, ℕ, ◌+◌, ◌*◌, ◌%◌, ◌<◌, ◌≤◌, length, slice_index};
 ghost use Rattle.std.specs.Simd.Lanes.{zip2};

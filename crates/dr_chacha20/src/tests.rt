@@ -1,4 +1,4 @@
-// The vectors of RFC 8439.
+//! The vectors of RFC 8439.
 
 use crate::{block, xor_in_place};
 

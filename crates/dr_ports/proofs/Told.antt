@@ -1,7 +1,8 @@
 -- Bytes that a port tells of, in pieces.
-use Rattle.std.proofs.Common.{◌≡◌, ℕ, ◌+◌, List, ◌++◌, take, drop, Option, None, Some, refl, sym, ◌∙◌, ap, append_assoc}
+use Rattle.std.proofs.Common.{◌≡◌, ℕ, ◌+◌, ◌≤◌, List, ◌++◌, take, drop, Option, None, Some, refl, sym, ◌∙◌, ap, append_assoc, arith, length-take}
 use Rattle.std.proofs.Math.Seq.{take-add}
 use Rattle.dr_ports.specs.Ports.{appended, prepended}
+use Rattle.dr_ports.specs.Reading.{GaveAtMost}
 
 -- two pieces taken in turn are one
 pub appended-appended : (told : Option (List ℕ)) (a b : List ℕ) → appended (appended told a) b ≡ appended told (a ++ b)
@@ -26,3 +27,11 @@ gave_more old mid new before now done more e same f =
     e ∙ ap (λ b. prepended b mid) (sym same) ∙ ap (prepended (take done now)) f
     ∙ prepended-prepended new (take done now) (take more (drop done now))
     ∙ ap (λ b. prepended b new) (sym (take-add done more now))
+
+-- a source that gave the first bytes of a piece, and no more where a read failed
+pub gave_first : (old mid new : Option (List ℕ)) (piece : List ℕ) (done most : ℕ) → done ≤ most → old ≡ prepended (take done piece) mid → new ≡ mid → GaveAtMost most old new
+gave_first old mid new piece done most within e same = record {
+  given = take done piece;
+  few = omega (arith, length-take done piece);
+  gave = e ∙ ap (prepended (take done piece)) (sym same);
+}

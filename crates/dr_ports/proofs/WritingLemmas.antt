@@ -1,5 +1,5 @@
 -- Writes in turn.
-use Rattle.std.proofs.Common.{◌≡◌, ℕ, ◌≤◌, List, ◌++◌, take, drop, Option, Result, Ok, Err, sym, ◌∙◌, ap, append_assoc, arith}
+use Rattle.std.proofs.Common.{◌≡◌, ℕ, List, ◌++◌, take, drop, Option, Result, Ok, Err, sym, ◌∙◌, ap, append_assoc, arith}
 use Rattle.std.proofs.lemmas.List.{take-append-drop}
 use Rattle.dr_ports.specs.Ports.{appended}
 use Rattle.dr_ports.specs.Writing.{TookBeginning, Writes}
@@ -28,17 +28,17 @@ took_of_second old mid new a b e t = record {
 }
 
 -- a write behind one that passed
-pub writes_behind : {T E : Type 0} (old mid new : Option (List ℕ)) (before middle now : ℕ) (a b : List ℕ) (result : Result T E) → mid ≡ appended old a → before ≤ middle
+pub writes_behind : {T E : Type 0} (old mid new : Option (List ℕ)) (before middle now : ℕ) (a b : List ℕ) (result : Result T E) → mid ≡ appended old a → middle ≡ before
     → Writes mid new middle now b result → Writes old new before now (a ++ b) result
-writes_behind old mid new before middle now a b (Ok x) e later w = record {
+writes_behind old mid new before middle now a b (Ok x) e same w = record {
   whole = w.whole ∙ ap (λ m. appended m b) e ∙ appended-appended old a b;
   part = w.part;
-  cause = record { later = omega (arith, w.cause.later); failed = w.cause.failed };
+  cause = record { later = omega (arith, w.cause.later); failed = w.cause.failed; passed = w.cause.passed ∙ same };
 }
-writes_behind old mid new before middle now a b (Err x) e later w = record {
+writes_behind old mid new before middle now a b (Err x) e same w = record {
   whole = w.whole;
   part = took_of_second old mid new a b e w.part;
-  cause = record { later = omega (arith, w.cause.later); failed = omega (arith, w.cause.failed) };
+  cause = record { later = omega (arith, w.cause.later); failed = omega (arith, w.cause.failed); passed = tt };
 }
 
 -- a write that failed, and what was to be written behind it

@@ -1,8 +1,11 @@
-//! Adapters over std's reader and writer. They tell nothing of content, and count each error.
+//! Adapters over std's reader and writer and over a source of random bytes. They tell nothing of content, and count
+//! each error.
 
 ghost use Rattle.std.specs.Prelude.{◌≡◌, ℕ, None};
 
-use crate::port::{Failed, Sink, Source};
+use crate::port::{Draws, Sink, Source};
+use dr_base::{Failed, Key32};
+use rand_core::TryRng;
 use std::io::{Read, Write};
 use std::marker::Model;
 
@@ -76,6 +79,45 @@ impl<W: Write> Sink for WriterSink<W> {
         match self.writer.write(bytes) {
             Ok(count) if count > 0 || bytes.is_empty() => Ok(count),
             _ => {
+                self.faults = self.faults.saturating_add(1);
+                Err(Failed)
+            }
+        }
+    }
+}
+
+/// Draws from a source of random bytes, as the system's is. A contract sees its count of faults.
+#[derive(Drop)]
+pub struct RandomDraws<R> {
+    source: R,
+    faults: u64,
+}
+
+impl<R> Model for RandomDraws<R> {
+    ghost Value = { ℕ };
+
+    ghost view = { λ d. d.faults };
+}
+
+impl<R: TryRng> RandomDraws<R> {
+    /// Draws from this source, with no fault so far.
+    pub fn new(source: R) -> Self
+        ensures { result ≡ 0 }
+    {
+        RandomDraws { source, faults: 0 }
+    }
+}
+
+impl<R: TryRng> Draws for RandomDraws<R> {
+    ghost coming = { λ _. None };
+
+    ghost faults = { λ d. d };
+
+    fn draw(&mut self) -> Result<Key32, Failed> {
+        let mut seed = Key32::default();
+        match self.source.try_fill_bytes(&mut seed.bytes) {
+            Ok(()) => Ok(seed),
+            Err(_) => {
                 self.faults = self.faults.saturating_add(1);
                 Err(Failed)
             }

@@ -1,11 +1,10 @@
 //! The traits of the ports.
 
-ghost use Rattle.std.specs.Prelude.{◌≡◌, ℕ, ◌<◌, ◌≤◌, List, [], length, take, Option, IfOk, OnErr, IfSome};
+ghost use Rattle.std.specs.Prelude.{◌≡◌, ℕ, ◌<◌, ◌≤◌, List, [], ◌∷◌, length, take, Option, IfOk, OnErr, IfSome};
 ghost use Rattle.dr_ports.specs.Ports.{HasCause, appended, prepended};
+ghost use Rattle.dr_ports.specs.Seeds.{Seeds, drawn};
 
-/// A call on a port failed. The port's count of faults rose in that call.
-#[derive(Clone, Copy, Debug, PartialEq, Eq, Hash)]
-pub struct Failed;
+use dr_base::{Failed, Key32};
 
 /// Where bytes come from.
 pub trait Source {
@@ -42,5 +41,20 @@ pub trait Sink {
         ensures content { IfOk result (λ count.
             taken self.new ≡ appended (taken self.old) (take count bytes.now)) }
         ensures err { OnErr result (taken self.new ≡ taken self.old) }
+        ensures cause { HasCause (faults self.old) (faults self.new) result };
+}
+
+/// Where fresh seeds come from.
+pub trait Draws {
+    /// The seeds to come, where the source tells them.
+    ghost coming: { Self → Option Seeds };
+
+    /// How often a call has failed.
+    ghost faults: { Self → ℕ };
+
+    /// The next seed.
+    fn draw(&mut self) -> Result<Key32, Failed>
+        ensures seed { IfOk result (λ seed. coming self.old ≡ drawn (seed.bytes ∷ []) (coming self.new)) }
+        ensures err { OnErr result (coming self.new ≡ coming self.old) }
         ensures cause { HasCause (faults self.old) (faults self.new) result };
 }

@@ -1,20 +1,26 @@
 //! Reading a source to its end, or to one byte past a limit.
 
-ghost use Rattle.std.specs.Prelude.{◌≡◌, ℕ, ◌+◌, ◌^◌, ◌<◌, ◌≤◌, List, [], vec_len, length, take, drop, IfOk, IfSome, IsErrOf};
+ghost use Rattle.std.specs.Prelude.{◌≡◌, ℕ, ◌+◌, ◌^◌, ◌<◌, ◌≤◌, List, [], vec_len, length, take, drop, option_map, IfOk, OnErr, IfSome, IsErrOf};
 ghost use Rattle.dr_ports.specs.Ports.{Rose, HasCause, prepended};
+ghost use Rattle.dr_ports.specs.Reading.{GaveAtMost};
 ghost use Rattle.dr_ports.specs.declared.reading.InputError.TheVariants.{Memory};
 
-use crate::port::{Failed, Source};
+use crate::port::Source;
+use dr_base::Failed;
 use std::alloc::{AllocError, Global};
+use thiserror::Error;
 
 /// Why a source wasn't read whole.
-#[derive(Clone, Copy, Debug, PartialEq, Eq, Hash)]
+#[derive(Clone, Copy, Debug, PartialEq, Eq, Error)]
 pub enum InputError {
     /// There was no memory for the bytes.
+    #[error("there was no memory for the bytes")]
     Memory,
     /// The source holds more than the limit.
+    #[error("the source holds more than the limit")]
     TooLong,
     /// A read failed.
+    #[error("a read failed")]
     Fault,
 }
 
@@ -34,6 +40,7 @@ fn read_at<S: Source>(source: &mut S, into: &mut [u8], at: usize) -> Result<usiz
     ensures content { IfOk result (λ count.
         S.left source.old ≡ prepended (take count (drop at into.new)) (S.left source.new)) }
     ensures end { IfOk result (λ count. count ≡ 0 → IfSome (S.left source.new) (λ bytes. bytes ≡ [])) }
+    ensures err { OnErr result (S.left source.new ≡ S.left source.old) }
     ensures cause { HasCause (S.faults source.old) (S.faults source.new) result }
 {
     source.read(&mut into[at..])
@@ -46,6 +53,7 @@ fn fill<S: Source>(source: &mut S, into: &mut [u8]) -> Result<usize, Failed>
         S.left source.old ≡ prepended (take count into.new) (S.left source.new)) }
     ensures end { IfOk result (λ count. count < length into.old →
         IfSome (S.left source.new) (λ bytes. bytes ≡ [])) }
+    ensures part { OnErr result (GaveAtMost (length into.old) (S.left source.old) (S.left source.new)) }
     ensures cause { HasCause (S.faults source.old) (S.faults source.new) result }
 {
     let mut count = 0;
@@ -59,7 +67,7 @@ fn fill<S: Source>(source: &mut S, into: &mut [u8]) -> Result<usize, Failed>
     Ok(count)
 }
 
-/// Reads a source to its end. It takes all its memory first, room for one byte past the limit.
+/// Reads a source to its end. It takes all its memory first, room for one byte past the limit, and reads no further.
 pub fn read_whole<S: Source>(
     alloc: Global,
     source: &mut S,
@@ -71,7 +79,15 @@ pub fn read_whole<S: Source>(
     ensures too_long { IsErrOf result InputError.TooLong →
         IfSome (S.left source.old) (λ left. limit < length left) }
     ensures fault { IsErrOf result InputError.Fault → Rose (S.faults source.old) (S.faults source.new) }
+    ensures quiet { (IsErrOf result InputError.Fault → ⊥) → S.faults source.new ≡ S.faults source.old }
     ensures later { S.faults source.old ≤ S.faults source.new }
+
+    // What is left in the source: nothing; or all behind one byte past the limit; or, where a read failed, all behind
+    // what came before; or, for want of memory, all.
+    ensures drained { IfOk result (λ _. IfSome (S.left source.new) (λ left. left ≡ [])) }
+    ensures past { IsErrOf result InputError.TooLong → S.left source.new ≡ option_map (drop (limit + 1)) (S.left source.old) }
+    ensures part { IsErrOf result InputError.Fault → GaveAtMost (limit + 1) (S.left source.old) (S.left source.new) }
+    ensures unread { IsErrOf result InputError.Memory → source.new ≡ source.old }
 {
     let mut bytes = vec![in alloc; 0; limit + 1]?;
     match fill(source, bytes.as_mut_slice()) {

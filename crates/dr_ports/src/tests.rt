@@ -1,40 +1,48 @@
 //! Each port once: what it gives with ample memory, and a fault where one is planned.
 
 use crate::{
-    Failed, InputError, MemorySink, MemorySource, NullSink, ReaderSource, Sink, SteadySource,
-    WriterSink, read_whole, write_all,
+    Draws, Failed, InputError, MemoryDraws, MemorySink, MemorySource, NullSink, RandomDraws,
+    ReaderSource, Sink, SteadyDraws, SteadySource, WriterSink, read_whole, write_all,
 };
+use dr_base::Key32;
+use rand::rngs::SysRng;
 use std::io::Cursor;
 use std::test::Fail;
 
 #[test]
-fn reads_whole_or_says_why_not(rt: HostRuntime) -> Result<(), Fail> {
+fn reads_and_writes(rt: HostRuntime) -> Result<(), Fail> {
     let alloc = rt.alloc();
     let mut steady = SteadySource::new(alloc, b"text")?;
     let text = read_whole(alloc, &mut steady, 4)?;
     assert_eq!(rt; text.as_slice(), b"text".as_slice());
-    let mut long = MemorySource::new(alloc, b"texts", &[])?;
-    assert_eq!(rt;
-        read_whole(alloc, &mut long, 4).err(),
-        Some(InputError::TooLong)
-    );
-    let mut failing = MemorySource::new(alloc, b"text", &[2])?;
-    assert_eq!(rt;
-        read_whole(alloc, &mut failing, 9).err(),
-        Some(InputError::Fault)
-    );
-    Ok(())
-}
-
-#[test]
-fn writes_until_a_fault(rt: HostRuntime) -> Result<(), Fail> {
-    let alloc = rt.alloc();
+    let cases: [(&[u64], usize, InputError); 3] = [
+        (&[], 3, InputError::TooLong),
+        (&[1], 4, InputError::Fault),
+        (&[2], 4, InputError::Fault),
+    ];
+    for (fails, limit, error) in cases {
+        let mut source = MemorySource::new(alloc, b"text", fails)?;
+        assert_eq!(rt; read_whole(alloc, &mut source, limit).err(), Some(error));
+    }
     let mut sink = MemorySink::new(alloc, 5, &[2])?;
     assert_eq!(rt; write_all(&mut sink, b"one"), Ok(()));
     assert_eq!(rt; write_all(&mut sink, b"two"), Err(Failed));
     assert_eq!(rt; write_all(&mut sink, b"two"), Err(Failed));
     assert_eq!(rt; sink.taken(), b"onetw".as_slice());
     assert_eq!(rt; NullSink::new().write(b"lost"), Ok(4));
+    Ok(())
+}
+
+#[test]
+fn draws_in_turn(rt: HostRuntime) -> Result<(), Fail> {
+    let alloc = rt.alloc();
+    let seeds = [Key32 { bytes: [1; 32] }, Key32 { bytes: [2; 32] }];
+    let mut steady = SteadyDraws::new(alloc, &seeds)?;
+    let mut draws = MemoryDraws::new(alloc, &seeds, &[2])?;
+    for (steadily, drawn) in [(1, Ok(1)), (2, Err(Failed)), (1, Ok(2)), (2, Ok(1))] {
+        assert_eq!(rt; steady.draw().map(|seed| seed.bytes), Ok([steadily; 32]));
+        assert_eq!(rt; draws.draw().map(|seed| seed.bytes[31]), drawn);
+    }
     Ok(())
 }
 
@@ -47,5 +55,7 @@ fn adapts_std(rt: HostRuntime) -> Result<(), Fail> {
     let mut bytes = [0; 3];
     let mut sink = WriterSink::new(Cursor::new(bytes.as_mut_slice()));
     assert_eq!(rt; write_all(&mut sink, b"four"), Err(Failed));
+    let mut draws = RandomDraws::new(SysRng::new(&rt));
+    assert!(rt; draws.draw()?.bytes != draws.draw()?.bytes);
     Ok(())
 }

@@ -4,7 +4,8 @@ ghost use Rattle.std.specs.Prelude.{◌≡◌, ℕ, ◌+◌, ◌<◌, ◌≤◌,
 ghost use Rattle.dr_ports.specs.Ports.{HasCause, appended};
 ghost use Rattle.dr_ports.specs.Writing.{Writes};
 
-use crate::port::{Failed, Sink};
+use crate::port::Sink;
+use dr_base::Failed;
 
 /// Writes once, a piece from a place on.
 fn write_from<O: Sink>(out: &mut O, bytes: &[u8], at: usize) -> Result<usize, Failed>

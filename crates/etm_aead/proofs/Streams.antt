@@ -25,7 +25,7 @@ message_key-suc stream n =
     let same : n + 1 - 1 ≡ n = omega arith in
     ap (λ k. chain_message_key (chain_of stream k)) same
 
--- the steps behind m steps
+-- the steps after m steps
 pub chain_of-add : (stream : List ℕ) (m n : ℕ) → chain_of (chain_of stream m) n ≡ chain_of stream (m + n)
 unfolding chain_of
 chain_of-add stream m zero =
@@ -35,7 +35,7 @@ chain_of-add stream m (suc n) =
     let same : suc (m + n) ≡ m + suc n = omega arith in
     ap next_chain (chain_of-add stream m n) ∙ ap (chain_of stream) same
 
--- the keys behind m steps
+-- the keys after m steps
 pub message_key-add : (stream : List ℕ) (m n : ℕ) → message_key (chain_of stream m) (n + 1) ≡ message_key stream (m + n + 1)
 message_key-add stream m n =
     message_key-suc (chain_of stream m) n ∙ ap chain_message_key (chain_of-add stream m n) ∙ sym (message_key-suc stream (m + n))

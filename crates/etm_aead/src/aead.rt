@@ -1,4 +1,4 @@
-// Authenticated encryption as a trait, and the one of this crate.
+//! Authenticated encryption as a trait, and the one of this crate.
 
 ghost use Rattle.std.specs.Prelude.{◌≡◌, ℕ, ◌-◌, ◌*◌, ◌^◌, ◌≤◌, List, length, Option, Some, None, is_ok, OnErr, if◌then◌else◌};
 ghost use Rattle.etm_aead.specs.Aead.{Sealed, opened_of, sealed_of};

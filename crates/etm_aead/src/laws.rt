@@ -1,4 +1,4 @@
-// What holds of every sealed message, for callers to cite.
+//! What holds of every sealed message, for callers to cite.
 
 ghost use Rattle.std.specs.Prelude.{◌≡◌, ℕ, List, length};
 ghost use Rattle.etm_aead.specs.Seal.{ciphertext_of, tag_of};

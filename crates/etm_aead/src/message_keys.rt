@@ -1,4 +1,4 @@
-// The keys that a message key is expanded to.
+//! The keys that a message key is expanded to.
 
 ghost use Rattle.std.specs.Prelude.{◌≡◌, take, drop};
 ghost use Rattle.etm_aead.specs.Seal.{cipher_key_of, message_keys, nonce_of, tag_key_of};

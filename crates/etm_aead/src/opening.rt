@@ -1,4 +1,4 @@
-// The key that opens one message.
+//! The key that opens one message.
 
 ghost use Rattle.std.specs.Prelude.{◌≡◌, ℕ, ◌-◌, ◌*◌, ◌^◌, ◌≤◌, ◌↔◌, List, length, IsOk, OnOk, OnErr};
 ghost use Rattle.etm_aead.specs.Seal.{ciphertext_of, tag_of};
@@ -8,9 +8,11 @@ use crate::tag::{compute_tag, is_equal};
 use dr_base::Key32;
 use dr_chacha20::xor_in_place;
 use std::marker::Model;
+use thiserror::Error;
 
 /// The tag isn't that of the ciphertext and of what came along in the clear, under this key.
-#[derive(Clone, Copy, Debug, PartialEq, Eq, Hash)]
+#[derive(Clone, Copy, Debug, PartialEq, Eq, Error)]
+#[error("the tag isn't that of the ciphertext under this key")]
 pub struct BadTag;
 
 /// The key that opens one message. A contract sees it as the 32 bytes of the message key.

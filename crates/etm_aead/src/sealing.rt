@@ -1,4 +1,4 @@
-// The key that seals one message.
+//! The key that seals one message.
 
 ghost use Rattle.std.specs.Prelude.{◌≡◌, ℕ, ◌-◌, ◌*◌, ◌^◌, ◌≤◌, List, length};
 ghost use Rattle.etm_aead.specs.Seal.{ciphertext_of, tag_of};

@@ -1,4 +1,4 @@
-// The tag of a ciphertext, and the comparison of two tags.
+//! The tag of a ciphertext, and the comparison of two tags.
 
 ghost use Rattle.std.specs.Prelude.{◌≡◌, ◌++◌, ◌↔◌, IsTrue, length};
 ghost use Rattle.std.specs.Int.{w64, to_le_bytes};

@@ -1,10 +1,10 @@
-// One step of a chain of keys.
+//! One step of a chain of keys.
 
 ghost use Rattle.std.specs.Prelude.{◌≡◌};
 ghost use Rattle.etm_aead.specs.Chain.{chain_message_key, next_chain};
 
 use dr_base::Key32;
-use hmac_hkdf::hmac;
+use hmac_hkdf::KeyedMac;
 
 // What a chain key gives: the chain key after it, and one message key.
 #[derive(Drop)]
@@ -13,18 +13,19 @@ pub struct NextKeys {
     pub message: Key32,
 }
 
-// The step that spends a chain key.
+// The step that spends a chain key, which is hashed once for both keys.
 #[tactic(auto, unfolding(etm_aead::specs::Chain::next_chain, etm_aead::specs::Chain::chain_message_key))]
 pub fn step(chain: Key32) -> NextKeys
     ensures chain { result.chain.bytes ≡ next_chain chain.bytes }
     ensures message { result.message.bytes ≡ chain_message_key chain.bytes }
 {
+    let keyed = KeyedMac::new(&chain.bytes);
     NextKeys {
         chain: Key32 {
-            bytes: hmac(&chain.bytes, &[2]),
+            bytes: keyed.hmac(&[2]),
         },
         message: Key32 {
-            bytes: hmac(&chain.bytes, &[1]),
+            bytes: keyed.hmac(&[1]),
         },
     }
 }

@@ -1,5 +1,5 @@
-// What holds of streams and tables, for callers to cite. These functions have no code: a caller that needs
-// the facts calls them.
+//! What holds of streams and tables, for callers to cite. These functions have no code: a caller that needs
+//! the facts calls them.
 
 ghost use Rattle.std.specs.Prelude.{◌≡◌, ◌≢◌, ℕ, ◌+◌, List, ◌++◌, length, Some, None, Contains, IsSome};
 ghost use Rattle.dr_base.specs.declared.key.Kept.{Kept};
@@ -8,7 +8,7 @@ ghost use Rattle.etm_aead.specs.Chain.{chain_message_key, chain_of, message_key,
 ghost use Rattle.etm_aead.specs.Table.{AllBefore, IsAscending, kept_key, shelved, without};
 
 /// By these, the n-th `next` of a stream gives the message key of the index n. A stream that was resumed
-/// behind m steps goes on as the whole one.
+/// after m steps goes on as the whole one.
 pub fn streams_give_each_key()
     ensures start { (stream : List ℕ) → chain_of stream 0 ≡ stream }
     ensures step { (stream : List ℕ) (n : ℕ) → chain_of stream (n + 1) ≡ next_chain (chain_of stream n) }

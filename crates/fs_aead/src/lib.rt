@@ -4,6 +4,8 @@
 //! gone then: no later chain key leads back to an earlier message key. One stream seals, and one opens. A
 //! stream can't be copied, and each step takes it, so that no key is given twice. Where texts come out of
 //! order, the keys that were passed over wait in a table of fixed room, each for the text of its position.
+//! `Skipped` is such a table; one that stands in a larger value is worked on in place, by `copy_keys_into`,
+//! `room_for`, `take_key` and `ReceiveStream::advance_into`.
 //!
 //! ```rust
 //! use dr_base::{Key32, Position};
@@ -24,12 +26,14 @@
 //! ```
 #![tactic(auto)]
 
+pub use kept::{SkipLimit, copy_keys_into, copy_of_keys, room_for, take_key};
 pub use laws::{keys_are_taken_once, passed_keys_ascend, streams_give_each_key};
 pub use receiving::ReceiveStream;
 pub use sending::SendStream;
-pub use table::{SkipLimit, Skipped};
+pub use table::Skipped;
 
 mod chain;
+mod kept;
 mod laws;
 mod receiving;
 mod sending;

@@ -1,4 +1,4 @@
-// The stream of the keys that open.
+//! The stream of the keys that open.
 
 ghost use Rattle.std.specs.Prelude.{◌≡◌, ℕ, ◌+◌, ◌-◌, ◌^◌, ◌<◌, ◌≤◌, ◌++◌, length};
 ghost use Rattle.etm_aead.specs.Chain.{chain_message_key, chain_of, next_chain};
@@ -6,6 +6,7 @@ ghost use Rattle.etm_aead.specs.Table.{AllBefore, shelved};
 
 use crate::chain::step;
 use crate::table::Skipped;
+use arrayvec::ArrayVec;
 use dr_base::{Kept, Key32, Position};
 use etm_aead::OpenKey;
 use std::marker::Model;
@@ -29,14 +30,14 @@ impl Model for ReceiveStream {
 }
 
 impl ReceiveStream {
-    /// The stream of a chain key that stands behind the key of the index `reach`.
+    /// The stream of a chain key that stands after the key of the index `reach`.
     pub fn resume(chain: Key32, reach: u32) -> ReceiveStream
         ensures { result ≡ record { chain = chain.bytes; count = reach } }
     {
         ReceiveStream { chain, reach }
     }
 
-    /// The key of the next index, and the stream behind it.
+    /// The key of the next index, and the stream after it.
     pub fn next(self) -> (ReceiveStream, OpenKey)
         requires { self.count < 2 ^ 32 - 1 }
         ensures stream { result.0 ≡ record { chain = next_chain self.chain; count = self.count + 1 } }
@@ -51,8 +52,8 @@ impl ReceiveStream {
         (later, OpenKey::from_message(keys.message))
     }
 
-    /// Puts the keys up to the index `to` into the table, each under its position in the epoch, and answers
-    /// the stream behind them. `Skipped::room_for` tells whether they have room.
+    /// Puts the keys up to the index `to` after those of the table, each under its position in the epoch, and answers
+    /// the stream after them. `Skipped::room_for` tells whether they have room.
     pub fn advance(self, epoch: u32, skipped: &mut Skipped, to: u32) -> ReceiveStream
         requires from { self.count ≤ to }
         requires room { length skipped.old + (to - self.count) ≤ 256 }
@@ -60,12 +61,24 @@ impl ReceiveStream {
         ensures stream { result ≡ record { chain = chain_of self.chain (to - self.count); count = to } }
         ensures shelved { skipped.new ≡ skipped.old ++ shelved epoch self.chain self.count (to - self.count) }
     {
+        self.advance_into(epoch, &mut skipped.keys, to)
+    }
+
+    /// As `advance`, in a table that stands in a larger value. `room_for` tells whether the keys have room. Where the
+    /// table ascends and its positions come before that of the first key, it ascends afterwards too, by
+    /// `passed_keys_ascend`.
+    pub fn advance_into(self, epoch: u32, table: &mut ArrayVec<Kept, 256>, to: u32) -> ReceiveStream
+        requires from { self.count ≤ to }
+        requires room { length table.old.items + (to - self.count) ≤ 256 }
+        ensures stream { result ≡ record { chain = chain_of self.chain (to - self.count); count = to } }
+        ensures shelved { table.new.items ≡ table.old.items ++ shelved epoch self.chain self.count (to - self.count) }
+    {
         let reach = self.reach;
         let mut stream = self;
         'keys: for passed in 0..to - reach {
             let (later, key) = stream.next();
             stream = later;
-            skipped.shelve(Kept {
+            table.push(Kept {
                 position: Position {
                     epoch,
                     index: reach + passed + 1,

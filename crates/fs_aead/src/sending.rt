@@ -1,4 +1,4 @@
-// The stream of the keys that seal.
+//! The stream of the keys that seal.
 
 ghost use Rattle.std.specs.Prelude.{◌≡◌, ℕ, ◌+◌, ◌-◌, ◌^◌, ◌<◌};
 ghost use Rattle.etm_aead.specs.Chain.{chain_message_key, next_chain};
@@ -38,7 +38,7 @@ impl SendStream {
         SendStream { chain, sent }
     }
 
-    /// The key of the next index, and the stream behind it.
+    /// The key of the next index, and the stream after it.
     pub fn next(self) -> (SendStream, SealKey)
         requires { self.count < 2 ^ 32 - 1 }
         ensures stream { result.0 ≡ record { chain = next_chain self.chain; count = self.count + 1 } }

@@ -1,21 +1,13 @@
-// The table of the keys that were passed over.
+//! The table of the keys that were passed over.
 
-ghost use Rattle.std.specs.Prelude.{◌≡◌, ℕ, ◌+◌, ◌^◌, ◌<◌, ◌≤◌, ◌↔◌, [], ◌∷◌, ◌++◌, length, IsTrue, IsOk, IfErr, IfNone, position as position_of};
-ghost use Rattle.etm_aead.specs.Table.{AllBefore, IsAscending, is_at, kept_key, without};
+ghost use Rattle.std.specs.Prelude.{◌≡◌, ◌+◌, ◌^◌, ◌<◌, ◌≤◌, ◌↔◌, [], length, IsTrue, IsOk, IfErr, IfNone};
+ghost use Rattle.etm_aead.specs.Table.{IsAscending, kept_key, without};
 
+use crate::kept::{SkipLimit, copy_of_keys, room_for, take_key};
 use arrayvec::ArrayVec;
-use dr_base::{Kept, Key32, Position};
+use dr_base::{Kept, Position};
 use etm_aead::OpenKey;
 use std::marker::Model;
-
-// How many keys have room.
-const LIMIT: usize = 256;
-
-/// So many keys have no room: `would` is how many there would be.
-#[derive(Clone, Copy, Debug, PartialEq, Eq, Hash)]
-pub struct SkipLimit {
-    pub would: u32,
-}
 
 /// The keys that were passed over, each for a text that is still to come. A contract sees the list of them,
 /// which ascends by epoch and index.
@@ -23,7 +15,7 @@ pub struct SkipLimit {
 /// It has room for 256 keys, in the value itself: it allocates nothing.
 #[derive(Drop)]
 pub struct Skipped {
-    keys: ArrayVec<Kept, 256>,
+    pub(crate) keys: ArrayVec<Kept, 256>,
 }
 
 impl Model for Skipped {
@@ -46,27 +38,6 @@ impl Default for Skipped {
     }
 }
 
-// A second copy of a kept key.
-fn copied(kept: &Kept) -> Kept
-    ensures { result ≡ kept.now }
-{
-    Kept {
-        position: kept.position,
-        key: Key32 {
-            bytes: kept.key.bytes,
-        },
-    }
-}
-
-// Where the key of a position stands.
-fn place_of(keys: &[Kept], position: Position) -> Option<usize>
-    ensures { result ≡ position_of (is_at position) keys.now }
-{
-    keys.iter().position(|kept| {
-        kept.position.epoch == position.epoch && kept.position.index == position.index
-    })
-}
-
 impl Skipped {
     /// An empty table.
     pub fn new() -> Skipped
@@ -83,11 +54,9 @@ impl Skipped {
         requires room { length keys.now ≤ 256 }
         ensures { result ≡ keys.now }
     {
-        let mut table = ArrayVec::new();
-        'keys: for kept in keys {
-            table.push(copied(kept));
+        Skipped {
+            keys: copy_of_keys(keys),
         }
-        Skipped { keys: table }
     }
 
     /// The keys, in ascending order of their positions.
@@ -120,20 +89,7 @@ impl Skipped {
         ensures ok { IsOk result ↔ (length self.now + n ≤ 256) }
         ensures err { IfErr result (λ limit. limit.would ≡ length self.now + n) }
     {
-        let would = self.len() as u32 + n;
-        if would as usize > LIMIT {
-            return Err(SkipLimit { would });
-        }
-        Ok(())
-    }
-
-    // Appends a key whose position is above those that are kept.
-    pub(crate) fn shelve(&mut self, kept: Kept)
-        requires room { length self.old < 256 }
-        requires above { AllBefore self.old kept.position }
-        ensures { self.new ≡ self.old ++ kept ∷ [] }
-    {
-        self.keys.push(kept);
+        room_for(self.kept(), n)
     }
 
     /// Takes the key of a position out of the table, if it is kept there.
@@ -142,12 +98,6 @@ impl Skipped {
         ensures rest { self.new ≡ without self.old position }
         ensures none { IfNone result (self.new ≡ self.old) }
     {
-        match place_of(self.kept(), position) {
-            Some(place) => {
-                let Kept { position: _, key } = self.keys.remove(place);
-                Some(OpenKey::from_message(key))
-            }
-            None => None,
-        }
+        take_key(&mut self.keys, position)
     }
 }

@@ -1,6 +1,6 @@
-// The values are those of Python's modules `hashlib` and `hmac`.
+//! The values are those of Python's modules `hashlib` and `hmac`.
 
-use crate::{ReceiveStream, SendStream, SkipLimit, Skipped};
+use crate::{ReceiveStream, SendStream, SkipLimit, Skipped, copy_of_keys, room_for, take_key};
 use dr_base::{Key32, Position};
 use etm_aead::OpenKey;
 
@@ -47,7 +47,7 @@ const TAGS: [[u8; 32]; 3] = [
     ],
 ];
 
-// The chain key behind them.
+// The chain key after them.
 const CHAIN_BEHIND: [u8; 32] = [
     0x04, 0x42, 0x8b, 0x81, 0x36, 0x75, 0x03, 0x6c, 0x07, 0x23, 0x3e, 0xdd, 0x0b, 0xe1, 0x3b, 0x7c,
     0x42, 0x26, 0x10, 0xa8, 0xc3, 0xd6, 0xec, 0xc7, 0xc8, 0xfb, 0xd8, 0x56, 0x71, 0xe4, 0x7a, 0x13,
@@ -92,20 +92,15 @@ fn takes_a_passed_key_once(rt: HostRuntime) {
     assert_eq!(rt; shelved(resumed.take(second)), Some(KEYS[1]));
     assert_eq!(rt; shelved(resumed.take(second)), None);
     assert_eq!(rt; resumed.len(), 2);
+    let mut table = copy_of_keys(skipped.kept());
+    assert_eq!(rt; shelved(take_key(&mut table, second)), Some(KEYS[1]));
+    assert_eq!(rt; room_for(table.as_slice(), 254), Ok(()));
+    assert_eq!(rt;
+        room_for(table.as_slice(), 255),
+        Err(SkipLimit { would: 257 })
+    );
     for (kept, index) in resumed.kept().iter().zip([1, 3]) {
         assert_eq!(rt; kept.position, Position { epoch: 1, index });
         assert_eq!(rt; kept.key.bytes, KEYS[index as usize - 1]);
     }
-}
-
-#[test]
-fn has_room_for_256_keys(rt: HostRuntime) {
-    let mut skipped = Skipped::new();
-    assert_eq!(rt; skipped.room_for(256), Ok(()));
-    assert_eq!(rt; skipped.room_for(257), Err(SkipLimit { would: 257 }));
-    let stream = ReceiveStream::resume(chain(), 0).advance(1, &mut skipped, 256);
-    let (_chain, _reach) = stream.rest();
-    assert_eq!(rt; skipped.len(), 256);
-    assert_eq!(rt; skipped.room_for(0), Ok(()));
-    assert_eq!(rt; skipped.room_for(1), Err(SkipLimit { would: 257 }));
 }

@@ -1,9 +1,10 @@
 -- HMAC with SHA-256 (RFC 2104) as functions on lists of bytes. B, the length of a block of SHA-256, is
 -- 64. Section numbers are the RFC's.
-use Rattle.std.specs.Prelude.{ℕ, ◌-◌, List, ◌++◌, length, map, replicate, bit_xor, nat_lt, if◌then◌else◌}
+use Rattle.std.specs.Prelude.{ℕ, ◌-◌, List, [], ◌++◌, length, map, replicate, bit_xor, nat_lt, if◌then◌else◌}
 use Rattle.sha2.specs.Sha256.{sha256}
 use Rattle.sha2.specs.Hashers.{Holds256}
 use Rattle.hmac_hkdf.specs.declared.mac.Mac.{Mac}
+use Rattle.hmac_hkdf.specs.declared.keyed.KeyedMac.{KeyedMac}
 
 -- a key longer than B bytes is hashed first (2)
 abbrev pub short_key : List ℕ → List ℕ
@@ -29,3 +30,7 @@ hmac_of key m = sha256 (padded 0x5c key ++ sha256 (padded 0x36 key ++ m))
 unfoldable pub MacHolds : Mac → List ℕ → List ℕ → Type 0
 MacHolds mac key message =
     Holds256 mac.inner (padded 0x36 key ++ message) × Holds256 mac.outer (padded 0x5c key)
+
+-- the key was taken in, and no message yet
+abbrev pub IsKeyed : KeyedMac → List ℕ → Type 0
+IsKeyed keyed key = MacHolds keyed.mac key []

@@ -1,11 +1,12 @@
-// HKDF with SHA-256: a key is extracted from what is at hand, and then expanded to as many bytes as are
-// needed (RFC 5869, 2).
+//! HKDF with SHA-256: a key is extracted from what is at hand, and then expanded to as many bytes as are
+//! needed (RFC 5869, 2).
 
 ghost use Rattle.std.specs.Prelude.{◌≡◌, ℕ, ◌+◌, ◌-◌, ◌≤◌, List, [], ◌∷◌, ◌++◌, drop, length, take};
-ghost use Rattle.hmac_hkdf.specs.Hmac.{MacHolds, hmac_of};
+ghost use Rattle.hmac_hkdf.specs.Hmac.{IsKeyed, hmac_of};
 ghost use Rattle.hmac_hkdf.specs.Hkdf.{expand_of, extract_of};
 
-use crate::mac::{Mac, hmac};
+use crate::keyed::KeyedMac;
+use crate::mac::hmac;
 
 // The length of a digest, in bytes.
 const HASH_LEN: usize = 32;
@@ -19,11 +20,11 @@ pub fn extract(salt: &[u8], ikm: &[u8]) -> [u8; 32]
 }
 
 // The block with this number, after the block `previous`.
-fn next_block(keyed: &Mac, previous: &[u8], info: &[u8], number: u8) -> [u8; 32]
-    ensures { (key : List ℕ) → MacHolds keyed.now key []
+fn next_block(keyed: &KeyedMac, previous: &[u8], info: &[u8], number: u8) -> [u8; 32]
+    ensures { (key : List ℕ) → IsKeyed keyed.now key
         → result ≡ hmac_of key (previous.now ++ info.now ++ number ∷ []) }
 {
-    let mut mac = keyed.copied();
+    let mut mac = keyed.begin();
     mac.update(previous);
     mac.update(info);
     mac.update(&[number]);
@@ -45,7 +46,7 @@ pub fn expand_into(prk: &[u8; 32], info: &[u8], out: &mut [u8])
     requires { length out.old ≤ 8160 }
     ensures { out.new ≡ expand_of prk.now info.now (length out.old) }
 {
-    let keyed = Mac::new(prk);
+    let keyed = KeyedMac::new(prk);
     let mut block = [0u8; HASH_LEN];
     let count = out.len().div_ceil(HASH_LEN);
     'output: for i in 0..count {

@@ -1,4 +1,4 @@
-// HMAC with SHA-256, on a message taken in piece by piece (RFC 2104, 2).
+//! HMAC with SHA-256, on a message taken in piece by piece (RFC 2104, 2).
 
 ghost use Rattle.std.specs.Prelude.{◌≡◌, ℕ, ◌≤◌, List, [], ◌++◌, drop, length, map, bit_xor};
 ghost use Rattle.hmac_hkdf.specs.Hmac.{MacHolds, block_key, hmac_of, padded};
@@ -50,7 +50,7 @@ fn xored(block: &[u8; 64], pad: u8) -> [u8; 64]
 #[derive(Drop)]
 pub struct Mac {
     inner: Sha256,
-    // The key under the outer pad is hashed at once, so that a copy of a keyed `Mac` saves both.
+    // The key under the outer pad is hashed at once, so that a copy of a `Mac` saves the hashing of both pads.
     outer: Sha256,
 }
 

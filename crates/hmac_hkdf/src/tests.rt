@@ -1,4 +1,4 @@
-use crate::{Mac, expand_into, extract, hmac};
+use crate::{KeyedMac, Mac, expand_into, extract, hmac};
 
 // `N` bytes that count up from `first`.
 fn counting<const N: usize>(first: u8) -> [u8; N] {
@@ -94,6 +94,7 @@ fn hmac_vectors(rt: HostRuntime) {
             mac.update(piece);
         }
         assert_eq!(rt; mac.finish(), expected);
+        assert_eq!(rt; KeyedMac::new(key).hmac(message), expected);
     }
 }
 

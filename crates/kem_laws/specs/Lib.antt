@@ -1,3 +1,3 @@
-pub mod Meaning
+pub mod Mechanism
 pub mod Open
 pub mod OpenLaw

@@ -3,7 +3,7 @@
 use Rattle.std.specs.Prelude.{ℕ, List, ◌++◌, replicate, codes, Option, Some, None, if◌then◌else◌}
 use Rattle.std.specs.Str.{bytes_eq}
 use Rattle.sha2.specs.Sha256.{sha256}
-use Rattle.kem_laws.specs.Meaning.{Meaning}
+use Rattle.kem_laws.specs.Mechanism.{Meaning, Mechanism}
 
 -- the public key of a seed
 unfoldable pub open_public : List ℕ → List ℕ
@@ -29,3 +29,7 @@ open_meaning = record {
   decap_of = λ secret ciphertext. open_shared (open_public secret) ciphertext;
   bad_byte = λ _. None;
 }
+
+-- with its sizes
+abbrev pub open_kem : Mechanism
+open_kem = record { meaning = open_meaning; public = 32; secret = 32; ciphertext = 32 }

@@ -3,8 +3,8 @@ use Rattle.std.proofs.Common.{◌≡◌, ℕ, List, length, Some, None, Bool, tr
 use Rattle.std.specs.Prelude.{replicate}
 use Rattle.std.specs.Str.{bytes_eq}
 use Rattle.sha2.proofs.Facts256.{length-sha256}
-use Rattle.kem_laws.specs.Meaning.{IsPairOf, IsMechanism}
-use Rattle.kem_laws.specs.Open.{open_public, open_pair, open_ciphertext, open_shared, open_meaning}
+use Rattle.kem_laws.specs.Mechanism.{IsPairOf, IsLawfulMechanism}
+use Rattle.kem_laws.specs.Open.{open_public, open_pair, open_ciphertext, open_shared, open_meaning, open_kem}
 
 -- a value that stands where a test fails
 given_else : {A : Type 0} (b : Bool) (x y : A) → cond b None (Some x) ≡ Some y → x ≡ y
@@ -41,8 +41,8 @@ unfolding open_shared
 length-open_shared public ciphertext = length-sha256 _
 
 -- the law
-pub open_mechanism : IsMechanism open_meaning 32 32 32
-open_mechanism = record {
+pub open_law : IsLawfulMechanism open_kem
+open_law = record {
   public_fits = omega arith;
   secret_fits = omega arith;
   ciphertext_fits = omega arith;

@@ -1,17 +1,17 @@
 //! The trait of key encapsulation mechanisms.
 
 ghost use Rattle.std.specs.Prelude.{◌≡◌, ℕ, length, Some, None, is_ok, OnErr, MatchResult, if◌then◌else◌};
-ghost use Rattle.kem_laws.specs.Meaning.{Meaning, IsLawful, IsMechanism};
+ghost use Rattle.kem_laws.specs.Mechanism.{Mechanism, IsLawful, IsLawfulMechanism, HasSizes};
 
 use dr_base::Key32;
 use std::alloc::{AllocError, Global};
 
 /// The seed gives no pair of keys.
-#[derive(Clone, Copy, Debug, PartialEq, Eq, Hash)]
+#[derive(Clone, Copy, Debug, PartialEq, Eq)]
 pub struct NoPair;
 
 /// No pair has a secret of these bytes.
-#[derive(Clone, Copy, Debug, PartialEq, Eq, Hash)]
+#[derive(Clone, Copy, Debug, PartialEq, Eq)]
 pub struct BadSecret {
     /// The place of the first byte that no secret has there.
     pub at: usize,
@@ -38,8 +38,8 @@ pub trait Kem {
 
     ghost CIPHERTEXT: { ℕ };
 
-    // What the mechanism gives, as functions on lists of bytes.
-    ghost meaning: { Meaning };
+    // What the mechanism gives, as functions on lists of bytes, and its sizes.
+    ghost mechanism: { Mechanism };
 
     /// Takes the room to work in. No other call takes memory.
     fn work(alloc: Global) -> Result<Self::Work, AllocError>;
@@ -51,32 +51,35 @@ pub trait Kem {
         public: &mut [u8],
         secret: &mut [u8],
     ) -> Result<(), NoPair>
-        requires public_size { length public.old ≡ PUBLIC }
-        requires secret_size { length secret.old ≡ SECRET }
-        ensures exact { meaning.pair_of seed.now.bytes ≡ (if is_ok result then Some (public.new, secret.new) else None) }
+        requires public_size { length public.old ≡ mechanism.public }
+        requires secret_size { length secret.old ≡ mechanism.secret }
+        ensures exact { mechanism.meaning.pair_of seed.now.bytes ≡ (if is_ok result then Some (public.new, secret.new) else None) }
         ensures err_public { OnErr result (public.new ≡ public.old) }
         ensures err_secret { OnErr result (secret.new ≡ secret.old) };
 
     /// Makes the ciphertext of a seed for a public key, and answers the shared key.
     fn encap(work: &mut Self::Work, public: &[u8], seed: &Key32, ciphertext: &mut [u8]) -> Key32
-        requires public_size { length public.now ≡ PUBLIC }
-        requires ciphertext_size { length ciphertext.old ≡ CIPHERTEXT }
-        ensures { meaning.encap_of public.now seed.now.bytes ≡ (ciphertext.new, result.bytes) };
+        requires public_size { length public.now ≡ mechanism.public }
+        requires ciphertext_size { length ciphertext.old ≡ mechanism.ciphertext }
+        ensures { mechanism.meaning.encap_of public.now seed.now.bytes ≡ (ciphertext.new, result.bytes) };
 
     /// Whether bytes are a lawful secret, or else where the first bad byte stands.
     fn is_secret(bytes: &[u8]) -> Result<(), BadSecret>
-        requires { length bytes.now ≡ SECRET }
+        requires { length bytes.now ≡ mechanism.secret }
         ensures { MatchResult result
-            (λ _. IsLawful meaning bytes.now)
-            (λ bad. meaning.bad_byte bytes.now ≡ Some bad.at) };
+            (λ _. IsLawful mechanism.meaning bytes.now)
+            (λ bad. mechanism.meaning.bad_byte bytes.now ≡ Some bad.at) };
 
     /// The shared key of a ciphertext, by a lawful secret.
     fn decap(work: &mut Self::Work, secret: &[u8], ciphertext: &[u8]) -> Key32
-        requires secret_size { length secret.now ≡ SECRET }
-        requires lawful { IsLawful meaning secret.now }
-        requires ciphertext_size { length ciphertext.now ≡ CIPHERTEXT }
-        ensures { result.bytes ≡ meaning.decap_of secret.now ciphertext.now };
+        requires secret_size { length secret.now ≡ mechanism.secret }
+        requires lawful { IsLawful mechanism.meaning secret.now }
+        requires ciphertext_size { length ciphertext.now ≡ mechanism.ciphertext }
+        ensures { result.bytes ≡ mechanism.meaning.decap_of secret.now ciphertext.now };
 
     // The mechanism's law: sizes, and that what is encapsulated to a pair's public key is decapsulated by its secret.
-    ghost mechanism: { IsMechanism meaning PUBLIC SECRET CIPHERTEXT };
+    ghost law: { IsLawfulMechanism mechanism };
+
+    // The constants are the mechanism's sizes.
+    ghost sizes: { HasSizes mechanism PUBLIC SECRET CIPHERTEXT };
 }

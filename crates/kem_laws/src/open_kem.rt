@@ -1,9 +1,9 @@
 //! A mechanism without secrecy.
 
-ghost use Rattle.std.specs.Prelude.{◌≡◌, ◌++◌, length, codes};
+ghost use Rattle.std.specs.Prelude.{◌≡◌, ◌++◌, length, codes, refl};
 ghost use Rattle.sha2.specs.Sha256.{sha256};
-ghost use Rattle.kem_laws.specs.Open.{open_public, open_ciphertext, open_shared, open_meaning};
-ghost use Rattle.kem_laws.specs.OpenLaw.{open_mechanism};
+ghost use Rattle.kem_laws.specs.Open.{open_public, open_ciphertext, open_shared, open_kem};
+ghost use Rattle.kem_laws.specs.OpenLaw.{open_law};
 
 use crate::kem::{BadSecret, Kem, NoPair};
 use dr_base::Key32;
@@ -72,9 +72,11 @@ impl Kem for OpenKem {
 
     ghost CIPHERTEXT = { 32 };
 
-    ghost meaning = { open_meaning };
+    ghost mechanism = { open_kem };
 
-    ghost mechanism = { open_mechanism };
+    ghost law = { open_law };
+
+    ghost sizes = { record { public_is = refl; secret_is = refl; ciphertext_is = refl } };
 
     fn work(_: Global) -> Result<(), AllocError> {
         Ok(())

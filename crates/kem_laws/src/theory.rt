@@ -1,10 +1,11 @@
 //! The law of a mechanism, for callers that reason about any of them.
 
-ghost use Rattle.kem_laws.specs.Meaning.{IsMechanism};
+ghost use Rattle.kem_laws.specs.Mechanism.{IsLawfulMechanism, HasSizes};
 
 use crate::kem::Kem;
 
-/// Does nothing: its clause is the law of the mechanism. Call it first in a function that takes any mechanism.
+/// Does nothing: its clauses are the law of the mechanism, and that the constants are its sizes. Call it first in a function that takes any mechanism.
 pub fn laws<K: Kem>()
-    ensures { IsMechanism K.meaning K.PUBLIC K.SECRET K.CIPHERTEXT }
+    ensures law { IsLawfulMechanism K.mechanism }
+    ensures sizes { HasSizes K.mechanism K.PUBLIC K.SECRET K.CIPHERTEXT }
 {}

@@ -4,3 +4,9 @@ pub mod Printed
 pub mod Read
 pub mod Viewed
 pub mod Putting
+mod Pieces
+mod Standing
+mod Sample
+mod TextFaults
+pub mod Faulty
+pub mod Halves

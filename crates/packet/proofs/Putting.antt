@@ -1,4 +1,4 @@
--- Bytes put behind bytes that were put.
+-- Bytes put after bytes that were put.
 use Rattle.std.proofs.Common.{◌≡◌, ℕ, List, ◌++◌, length, take, drop, sym, ap, ◌∙◌, append_assoc, arith}
 use Rattle.std.proofs.lemmas.List.{drop-drop, length-append}
 use Rattle.dr_base.specs.Buffer.{Puts}

@@ -11,7 +11,7 @@ use Rattle.packet.specs.Reading.{lawful, field, read_packet, is_version, is_epoc
 use Rattle.packet.proofs.Steps.{exact8, exact16, exact32, by_step, passed, field_read, number_read}
 use Rattle.packet.proofs.Printed.{grouped, packet_of-grouped}
 
--- one text behind another
+-- one text after another
 onto : (front : List ℕ) (a b c : List ℕ) → a ≡ front ++ b → b ≡ c → a ≡ front ++ c
 onto front a b c e rest = e ∙ ap (λ (t : List ℕ). front ++ t) rest
 

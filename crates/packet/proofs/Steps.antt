@@ -29,13 +29,21 @@ AreBytes-drop n bytes small k d inside =
     rw (get_or-drop n bytes k d) (small _ d (omega arith))
 
 -- the value of a step without a fault
-pub step : {A B : Type 0} (r : Result A Malformed) (next : A → Result B Malformed) (y : B) → (r >>= next) ≡ Ok y → (x : A) × (r ≡ Ok x) × (next x ≡ Ok y)
+pub step : {A B : Type 0} (r : Result A Malformed) (next : A → Result B Malformed) (y : B) → (r >>= next) ≡ Ok y →
+    (x : A) × (r ≡ Ok x) × (next x ≡ Ok y)
 step (Ok x) next y e = (x, refl, e)
 step (Err fault) next y e = absurd cc
 
 -- what follows from the value of a step without a fault
-pub by_step : {A B : Type 0} {P : Type 0} (r : Result A Malformed) (next : A → Result B Malformed) (y : B) → (r >>= next) ≡ Ok y → ((x : A) → r ≡ Ok x → next x ≡ Ok y → P) → P
+pub by_step : {A B : Type 0} {P : Type 0} (r : Result A Malformed) (next : A → Result B Malformed) (y : B) →
+    (r >>= next) ≡ Ok y → ((x : A) → r ≡ Ok x → next x ≡ Ok y → P) → P
 by_step r next y e so = let x = step r next y e in so x.0 x.1 x.2
+
+-- a fault of a step, or of what follows it
+pub by_fault : {A B : Type 0} {P : Type 0} (r : Result A Malformed) (next : A → Result B Malformed) (e : Malformed) →
+    (r >>= next) ≡ Err e → (r ≡ Err e → P) → ((x : A) → r ≡ Ok x → next x ≡ Err e → P) → P
+by_fault (Ok x) next e is here behind = behind x refl is
+by_fault (Err f) next e is here behind = here cc
 
 -- a test that was passed
 pub passed : {A : Type 0} (b : Bool) (x y : A) (e : Malformed) → cond b (Ok x) (Err e) ≡ Ok y → (b ≡ true) × (x ≡ y)
@@ -54,7 +62,8 @@ pub record IsField (bytes front rest : List ℕ) : Type 0 where
   pub front_small : AreBytes front
   pub rest_small : AreBytes rest
 
-pub field_read : (at size : ℕ) (bytes : List ℕ) (x : List ℕ × List ℕ) → AreBytes bytes → field at size bytes ≡ Ok x → IsField bytes x.0 x.1 × (length x.0 ≡ size)
+pub field_read : (at size : ℕ) (bytes : List ℕ) (x : List ℕ × List ℕ) → AreBytes bytes → field at size bytes ≡ Ok x
+    → IsField bytes x.0 x.1 × (length x.0 ≡ size)
 unfolding field
 field_read at size bytes x small e =
     let p = passed (nat_le size (length bytes)) (take size bytes, drop size bytes) x _ e in
@@ -67,7 +76,8 @@ field_read at size bytes x small e =
     let len : length (take size bytes) ≡ size = omega (arith, length-take size bytes) in
     subst (λ (y : List ℕ × List ℕ). IsField bytes y.0 y.1 × (length y.0 ≡ size)) p.1 (whole, len)
 
-pub field_again : (at size : ℕ) (front rest : List ℕ) → length front ≡ size → field at size (front ++ rest) ≡ Ok (front, rest)
+pub field_again : (at size : ℕ) (front rest : List ℕ) → length front ≡ size → field at size (front ++ rest) ≡ Ok
+    (front, rest)
 unfolding field
 field_again at size front rest len =
     let inside : nat_le size (length (front ++ rest)) ≡ true = le-leb _ _ (omega (arith, length-append front rest)) in
@@ -78,6 +88,7 @@ pub record IsExact (w : Width) (limit : ℕ) : Type 0 where
   pub len : (n : ℕ) → length (to_be_bytes w n) ≡ byte_len w
   pub back : (bytes : List ℕ) → length bytes ≡ byte_len w → AreBytes bytes → to_be_bytes w (from_be_bytes w bytes) ≡ bytes
   pub again : (n : ℕ) → n < limit → from_be_bytes w (to_be_bytes w n) ≡ n
+  pub fits : (bytes : List ℕ) → AreBytes bytes → from_be_bytes w bytes < limit
 
 one_byte : (bytes : List ℕ) → length bytes ≡ 1 → AreBytes bytes → (get_or bytes 0 0 % 256) ∷ [] ≡ bytes
 one_byte [] len small = absurd (omega arith)
@@ -89,6 +100,7 @@ exact8 = record {
   len = λ n. refl;
   back = λ bytes len small. one_byte bytes len small;
   again = λ n fits. mod-eq_of_lt fits;
+  fits = λ bytes small. small_at bytes 0 small;
 }
 
 pub exact16 : IsExact w16 (2 ^ 16)
@@ -96,6 +108,7 @@ exact16 = record {
   len = λ n. refl;
   back = λ bytes len small. be_bytes_2 bytes _ len (λ i. small_at bytes i small) refl;
   again = λ n fits. from_be_bytes-to_be_bytes_2 n fits;
+  fits = λ bytes small. omega (arith, small_at bytes 0 small, small_at bytes 1 small);
 }
 
 pub exact32 : IsExact w32 (2 ^ 32)
@@ -103,15 +116,19 @@ exact32 = record {
   len = λ n. refl;
   back = λ bytes len small. be_bytes_4 bytes _ len (λ i. small_at bytes i small) refl;
   again = λ n fits. from_be_bytes-to_be_bytes_4 n fits;
+  fits = λ bytes small. omega
+      (arith, small_at bytes 0 small, small_at bytes 1 small, small_at bytes 2 small, small_at bytes 3 small);
 }
 
 -- a lawful number's bytes and the rest
-pub record IsNumber (w : Width) (test : ℕ → Bool) (bytes : List ℕ) (n : ℕ) (rest : List ℕ) : Type 0 where
+pub record IsNumber (w : Width) (limit : ℕ) (test : ℕ → Bool) (bytes : List ℕ) (n : ℕ) (rest : List ℕ) : Type 0 where
   pub parts : bytes ≡ to_be_bytes w n ++ rest
   pub rest_small : AreBytes rest
+  pub fits : n < limit
   pub passes : test n ≡ true
 
-pub number_read : (w : Width) (limit : ℕ) → IsExact w limit → (at : ℕ) (kind : Kind) (test : ℕ → Bool) (bytes : List ℕ) (x : ℕ × List ℕ) → AreBytes bytes → lawful w at kind test bytes ≡ Ok x → IsNumber w test bytes x.0 x.1
+pub number_read : (w : Width) (limit : ℕ) → IsExact w limit → (at : ℕ) (kind : Kind) (test : ℕ → Bool) (bytes : List ℕ)
+    (x : ℕ × List ℕ) → AreBytes bytes → lawful w at kind test bytes ≡ Ok x → IsNumber w limit test bytes x.0 x.1
 unfolding lawful number
 number_read w limit exact at kind test bytes x small e =
     let n = step (number w at bytes) _ x e in
@@ -121,14 +138,16 @@ number_read w limit exact at kind test bytes x small e =
     let made : ℕ × List ℕ = (from_be_bytes w f.0.0, f.0.1) in
     let is : made ≡ n.0 = passed_on made n.0 f.2 in
     let back : to_be_bytes w made.0 ≡ f.0.0 = exact.back f.0.0 front.1 front.0.front_small in
-    let found : IsNumber w test bytes made.0 made.1 = record {
+    let found : IsNumber w limit test bytes made.0 made.1 = record {
       parts = front.0.parts ∙ ap (λ (t : List ℕ). t ++ f.0.1) (sym back);
       rest_small = front.0.rest_small;
+      fits = exact.fits f.0.0 front.0.front_small;
       passes = subst (λ (y : ℕ × List ℕ). test y.0 ≡ true) (sym is) p.0;
     } in
-    subst (λ (y : ℕ × List ℕ). IsNumber w test bytes y.0 y.1) (is ∙ p.1) found
+    subst (λ (y : ℕ × List ℕ). IsNumber w limit test bytes y.0 y.1) (is ∙ p.1) found
 
-pub number_again : (w : Width) (limit : ℕ) → IsExact w limit → (at : ℕ) (kind : Kind) (test : ℕ → Bool) (n : ℕ) (rest : List ℕ) → n < limit → test n ≡ true → lawful w at kind test (to_be_bytes w n ++ rest) ≡ Ok (n, rest)
+pub number_again : (w : Width) (limit : ℕ) → IsExact w limit → (at : ℕ) (kind : Kind) (test : ℕ → Bool) (n : ℕ)
+    (rest : List ℕ) → n < limit → test n ≡ true → lawful w at kind test (to_be_bytes w n ++ rest) ≡ Ok (n, rest)
 unfolding lawful number
 number_again w limit exact at kind test n rest fits passes =
     rw (field_again at (byte_len w) (to_be_bytes w n) rest (exact.len n), exact.again n fits, passes) refl

@@ -1,3 +1,5 @@
 pub mod Packet
 pub mod Reading
 pub mod Parts
+pub mod Faults
+pub mod Halves

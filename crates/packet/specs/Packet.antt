@@ -29,7 +29,7 @@ pub record IsLawful (agreement : ℕ) (f : Fields) : Type 0 where
   pub text_fits : length f.ciphertext ≤ 1024
   pub tag_len : length f.tag ≡ 32
 
--- all before the ciphertext: version 1, session id, epoch, previous count, index, the agreement message behind
+-- all before the ciphertext: version 1, session id, epoch, previous count, index, the agreement message after
 -- its length, and the length of the text
 unfoldable pub header_of : List ℕ → ℕ → ℕ → ℕ → List ℕ → ℕ → List ℕ
 header_of session epoch previous index agreement text_len =

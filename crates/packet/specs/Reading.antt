@@ -1,4 +1,4 @@
--- Reading a packet from left to right. A field is its value and the bytes behind it, or the first fault.
+-- Reading a packet from left to right. A field is its value and the bytes after it, or the first fault.
 use Rattle.std.specs.Prelude.{◌≡◌, ℕ, ◌+◌, ◌-◌, ◌^◌, ◌==◌, ◌&&◌, ◌||◌, Bool, nat_lt, nat_le, List, length, take, drop, Result, Ok, Err, if◌then◌else◌}
 use Rattle.std.specs.Int.{Width, w8, w16, w32, byte_len, from_be_bytes}
 use Rattle.packet.specs.declared.fault.Kind.{Kind}
@@ -16,7 +16,7 @@ abbrev pub ◌>>=◌ : {A B : Type 0} → Result A Malformed → (A → Result B
 abbrev pub fault : {A : Type 0} → ℕ → Kind → Result A Malformed
 fault at kind = Err (record { at = at; kind = kind })
 
--- a field of so many bytes, at a place, unless the bytes end inside it
+-- a field of this many bytes, at a place, unless the bytes end inside it
 unfoldable pub field : ℕ → ℕ → List ℕ → Result (List ℕ × List ℕ) Malformed
 field at size bytes = if nat_le size (length bytes) then Ok (take size bytes, drop size bytes) else fault at Short
 
@@ -52,7 +52,7 @@ is_index n = nat_le 1 n && nat_lt n (2 ^ 16)
 abbrev pub is_text_len : ℕ → Bool
 is_text_len n = nat_le n 1024
 
--- nothing may stand behind the tag
+-- nothing may stand after the tag
 abbrev pub ended : ℕ → List ℕ → Fields → Result Fields Malformed
 ended at rest f = if length rest == 0 then Ok f else fault at Long
 

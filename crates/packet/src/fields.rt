@@ -1,4 +1,4 @@
-//! Readers of one field each: its value, and the bytes behind it.
+//! Readers of one field each: its value, and the bytes after it.
 
 ghost use Rattle.std.specs.Prelude.{◌≡◌, ◌==◌};
 ghost use Rattle.std.specs.Int.{w8, w16, w32};
@@ -67,7 +67,7 @@ fn u32_at(bytes: &[u8], at: usize) -> Result<(u32, &[u8]), Malformed>
     Ok((read_u32(front, 0), rest))
 }
 
-/// The version, which is 1: only the bytes behind it.
+/// The version, which is 1: only the bytes after it.
 #[tactic(auto, unfolding(crate::specs::Reading::field, crate::specs::Reading::number, crate::specs::Reading::lawful))]
 pub fn version(bytes: &[u8]) -> Result<&[u8], Malformed>
     ensures { Gives (λ x. (1, x.now)) result (lawful w8 0 Version is_version bytes.now) }

@@ -1,8 +1,8 @@
 //! Packets: the bytes that carry a text, stated by a printer from lawful fields to bytes and a reader that finds
-//! the first fault.
+//! the first fault. `grammar` says that the two belong together, and in the printer's words what a fault is.
 //!
 //! The fields are, in order: version (1 byte, 01), session id (16), epoch (4), previous count (4), index (4), the
-//! agreement message behind its length (2), the ciphertext behind its length (2), and the tag (32). Numbers are
+//! agreement message after its length (2), the ciphertext after its length (2), and the tag (32). Numbers are
 //! big-endian.
 #![tactic(auto)]
 

@@ -1,10 +1,21 @@
 //! All fields of a packet.
 
+ghost use Rattle.packet.specs.Halves.{head_of, read_head, read_body};
 ghost use Rattle.packet.specs.Parts.{fields_of};
 ghost use Rattle.packet.specs.Reading.{Gives, read_packet};
 
 use crate::fault::{Kind, Malformed};
 use crate::fields;
+
+/// The numbers before the agreement message: its length is `size`.
+#[derive(Drop)]
+pub struct Head<'a> {
+    pub session: &'a [u8; 16],
+    pub epoch: u32,
+    pub previous: u32,
+    pub index: u32,
+    pub size: u16,
+}
 
 /// The fields, the long ones lent from the bytes that were read.
 #[derive(Drop)]
@@ -18,10 +29,10 @@ pub struct Parts<'a> {
     pub tag: &'a [u8; 32],
 }
 
-/// Reads the fields in order, up to the first fault.
-#[tactic(auto, unfolding(crate::specs::Reading::read_packet))]
-pub fn read(bytes: &[u8], agreement: usize) -> Result<Parts<'_>, Malformed>
-    ensures { Gives fields_of result (read_packet agreement bytes.now) }
+/// Reads the numbers in order, up to the first fault.
+#[tactic(auto, unfolding(crate::specs::Halves::read_head))]
+fn read_head(bytes: &[u8], agreement: usize) -> Result<(Head<'_>, &[u8]), Malformed>
+    ensures { Gives (λ x. (head_of x.0, x.1.now)) result (read_head agreement bytes.now) }
 {
     let rest = fields::version(bytes)?;
     let (session, rest) = fields::array_at(rest, 1)?;
@@ -29,8 +40,23 @@ pub fn read(bytes: &[u8], agreement: usize) -> Result<Parts<'_>, Malformed>
     let (previous, rest) = fields::previous(rest, epoch)?;
     let (index, rest) = fields::index(rest)?;
     let (size, rest) = fields::agreement_len(rest, agreement, epoch)?;
-    let size = usize::from(size);
-    let (message, rest) = fields::bytes_at(rest, 31, size)?;
+    let head = Head {
+        session,
+        epoch,
+        previous,
+        index,
+        size,
+    };
+    Ok((head, rest))
+}
+
+/// Reads what comes after these numbers, up to the first fault.
+#[tactic(auto, unfolding(crate::specs::Halves::read_body))]
+fn read_body<'a>(head: &Head<'a>, bytes: &'a [u8]) -> Result<Parts<'a>, Malformed>
+    ensures { Gives fields_of result (read_body (head_of head.now) bytes.now) }
+{
+    let size = usize::from(head.size);
+    let (message, rest) = fields::bytes_at(bytes, 31, size)?;
     let (text_len, rest) = fields::text_len(rest, 31 + size)?;
     let text_len = usize::from(text_len);
     let (ciphertext, rest) = fields::bytes_at(rest, 33 + size, text_len)?;
@@ -42,12 +68,22 @@ pub fn read(bytes: &[u8], agreement: usize) -> Result<Parts<'_>, Malformed>
         });
     }
     Ok(Parts {
-        session,
-        epoch,
-        previous,
-        index,
+        session: head.session,
+        epoch: head.epoch,
+        previous: head.previous,
+        index: head.index,
         agreement: message,
         ciphertext,
         tag,
     })
+}
+
+/// Reads the fields in order, up to the first fault.
+pub fn read(bytes: &[u8], agreement: usize) -> Result<Parts<'_>, Malformed>
+    ensures { Gives fields_of result (read_packet agreement bytes.now) }
+{
+    match read_head(bytes, agreement) {
+        Ok((head, rest)) => read_body(&head, rest),
+        Err(fault) => Err(fault),
+    }
 }

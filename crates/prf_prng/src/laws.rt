@@ -1,4 +1,4 @@
-// What holds of every root, for callers to cite.
+//! What holds of every root, for callers to cite.
 
 ghost use Rattle.std.specs.Prelude.{◌≡◌, ℕ, List, length};
 ghost use Rattle.prf_prng.specs.Root.{next_root, root_key};

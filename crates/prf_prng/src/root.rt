@@ -1,13 +1,13 @@
-// The state that each input raises.
+//! The state that each input raises.
 
 ghost use Rattle.std.specs.Prelude.{◌≡◌, ℕ, List, take, drop};
 ghost use Rattle.prf_prng.specs.Root.{next_root, root_key};
 
-use dr_base::Key32;
+use dr_base::{Key32, array_at};
 use hmac_hkdf::{expand_into, extract};
 use std::marker::Model;
 
-// The label of this use of the state.
+/// The label of this use of the state.
 const LABEL: &[u8; 7] = b"dr root";
 
 /// The root of a conversation. A contract sees it as the 32 bytes of its state.
@@ -29,15 +29,13 @@ impl Model for Root {
     ghost view = { λ r. r.state.bytes };
 }
 
-// The parts of the expanded bytes, in their order: the next state, and the key.
+/// The parts of the expanded bytes, in their order: the next state, and the key.
 fn split(bytes: &[u8; 64]) -> (Key32, Key32)
     ensures next { result.0.bytes ≡ take 32 bytes.now }
     ensures key { result.1.bytes ≡ take 32 (drop 32 bytes.now) }
 {
-    let mut next = [0; 32];
-    next.copy_from_slice(&bytes[..32]);
-    let mut key = [0; 32];
-    key.copy_from_slice(&bytes[32..64]);
+    let next = array_at(bytes, 0);
+    let key = array_at(bytes, 32);
     (Key32 { bytes: next }, Key32 { bytes: key })
 }
 
@@ -49,7 +47,7 @@ impl Root {
         Root { state }
     }
 
-    /// Takes an input in: the root behind it, and the key that the state and the input give together.
+    /// Takes an input in: the root after it, and the key that the state and the input give together.
     #[tactic(auto, unfolding(crate::specs::Root::raised))]
     pub fn up(self, input: &Key32) -> (Root, Key32)
         ensures root { result.0 ≡ next_root self input.now.bytes }

@@ -5,7 +5,8 @@ ghost use Rattle.dr_ports.specs.Ports.{HasCause, one_more, appended};
 ghost use Rattle.dr_ports.specs.Memory.{Plan, Taking, IsDue, IsFull};
 
 use crate::memory::plan::CallPlan;
-use crate::port::{Failed, Sink};
+use crate::port::Sink;
+use dr_base::Failed;
 use std::alloc::{AllocError, Global};
 use std::marker::Model;
 
@@ -82,7 +83,7 @@ impl Sink for MemorySink {
 }
 
 /// A sink that never fails and keeps nothing.
-#[derive(Clone, Copy, Debug, PartialEq, Eq, Hash)]
+#[derive(Clone, Copy, Debug, PartialEq, Eq)]
 pub struct NullSink;
 
 impl NullSink {

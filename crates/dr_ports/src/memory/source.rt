@@ -5,7 +5,8 @@ ghost use Rattle.dr_ports.specs.Ports.{HasCause, one_more, prepended};
 ghost use Rattle.dr_ports.specs.Memory.{Plan, Holding, IsDue};
 
 use crate::memory::plan::CallPlan;
-use crate::port::{Failed, Source};
+use crate::port::Source;
+use dr_base::Failed;
 use std::alloc::{AllocError, Global};
 use std::marker::Model;
 

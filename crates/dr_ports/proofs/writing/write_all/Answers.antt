@@ -8,8 +8,9 @@ returns-in-Err g c = record {
   whole = tt;
   part = took_first _ _ _ c.pieces.done (c.in-Err.ensures.err ∙ c.pieces.invariant.content);
   cause = record {
-    later = omega (arith, c.in-Err.ensures.cause.later);
-    failed = omega (arith, c.in-Err.ensures.cause.failed, c.in-Err.ensures.cause.later);
+    later = omega (arith, c.in-Err.ensures.cause.later, c.pieces.invariant.quiet);
+    failed = omega (arith, c.in-Err.ensures.cause.failed, c.pieces.invariant.quiet);
+    passed = tt;
   };
 }
 
@@ -17,5 +18,5 @@ pub pieces-preserved : goal.pieces-preserved
 pieces-preserved g c = record {
   within = c.in-Ok.ensures.bound;
   content = took_more _ _ _ _ c.pieces.done c.in-Ok.count c.pieces.invariant.content c.in-Ok.ensures.content;
-  later = omega (arith, c.in-Ok.ensures.cause.later);
+  quiet = c.in-Ok.ensures.cause.passed ∙ c.pieces.invariant.quiet;
 }

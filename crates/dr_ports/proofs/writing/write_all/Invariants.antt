@@ -6,7 +6,7 @@ abbrev pub invariant-pieces : goal.invariant-pieces
 invariant-pieces g l = record {
   within : l.done ≤ length l.bytes;
   content : g.O.Sink.taken l.out ≡ appended (g.O.Sink.taken l.initial.out) (take l.done l.bytes);
-  later : g.O.Sink.faults l.initial.out ≤ g.O.Sink.faults l.out;
+  quiet : g.O.Sink.faults l.out ≡ g.O.Sink.faults l.initial.out;
 }
 
 abbrev pub decreases-pieces : goal.decreases-pieces

@@ -1,51 +1,9 @@
-use Rattle.std.proofs.Common.{◌≡◌, ℕ, subst, ◌+◌, ◌++◌, ◌∷◌, [], refl, length, length-append, append-nil, append_assoc, sym, ap, ◌∙◌, arith}
-use Rattle.etm_aead.specs.Chain.{chain_of, next_chain, chain_message_key}
-use Rattle.fs_aead.specs.Stream.{Stream}
-use Rattle.etm_aead.specs.Table.{AllBefore, shelved}
-use Rattle.dr_base.specs.declared.key.Kept.{Kept}
-use Rattle.etm_aead.proofs.Streams.{chain_of-suc, length-shelved, shelved-suc, table-before}
+use Rattle.std.proofs.Common.{◌-◌}
+use Rattle.etm_aead.proofs.Streams.{shelved-ascending}
 use Rattle.fs_aead.proofs.receiving.ReceiveStream.advance.Goals as goal
 
-pub keys-init : goal.keys-init
-unfolding chain_of shelved
-keys-init c =
-    let reach = ap (λ (s : Stream). s.count) c.self.view_is in
-    record {
-      chain = refl;
-      count = omega arith;
-      kept = sym (append-nil c.args.skipped.now);
-    }
-
-pub shelve-requires-in-keys-clause-room : goal.shelve-requires-in-keys-clause-room
-shelve-requires-in-keys-clause-room c =
-    let keys = shelved c.args.epoch c.args.self.chain c.self.inside.reach c.keys.passed in
-    let passed = length-shelved c.args.epoch c.args.self.chain c.self.inside.reach c.keys.passed in
-    let reach = ap (λ (s : Stream). s.count) c.self.view_is in
-    let len = ap length c.keys.invariant.kept ∙ length-append c.args.skipped.now keys in
-    omega arith
-
-pub shelve-requires-in-keys-clause-above : goal.shelve-requires-in-keys-clause-above
-shelve-requires-in-keys-clause-above c =
-    let reach = ap (λ (s : Stream). s.count) c.self.view_is in
-    let above : ℕ → Type 0 = λ i. AllBefore c.args.skipped.now (record { epoch = c.args.epoch; index = i + 1 }) in
-    rw c.keys.invariant.kept
-    (table-before c.args.epoch c.args.self.chain c.self.inside.reach c.keys.passed c.args.skipped.now (subst above (sym reach) c.requires.below))
-
-pub keys-preserved : goal.keys-preserved
-keys-preserved c =
-    let key : c.shelve.result.bytes ≡ chain_message_key (chain_of c.args.self.chain c.keys.passed) =
-    c.shelve.ensures ∙ c.next-later.ensures.key ∙ ap chain_message_key c.keys.invariant.chain in
-    let passed : Kept = record {
-      position = record { epoch = c.args.epoch; index = c.self.inside.reach + c.keys.passed + 1 };
-      key = c.shelve.result;
-    } in
-    let keys = shelved c.args.epoch c.args.self.chain c.self.inside.reach c.keys.passed in
-    let last = shelved-suc c.args.epoch c.args.self.chain c.self.inside.reach c.keys.passed passed refl refl key in
-    let count = ap (λ (s : Stream). s.count) c.next-later.ensures.stream in
-    record {
-      chain = ap (λ (s : Stream). s.chain) c.next-later.ensures.stream ∙ ap next_chain c.keys.invariant.chain
-          ∙ sym (chain_of-suc c.args.self.chain c.keys.passed);
-      count = omega arith;
-      kept = c.shelve-in-keys.ensures ∙ ap (λ t. t ++ passed ∷ []) c.keys.invariant.kept
-          ∙ append_assoc c.args.skipped.now keys (passed ∷ []) ∙ ap (λ t. c.args.skipped.now ++ t) last;
-    }
+pub invariant_of-skipped : goal.invariant_of-skipped
+invariant_of-skipped c =
+    rw c.advance_into.ensures.shelved
+    (shelved-ascending c.args.epoch c.args.self.chain c.args.self.count (c.args.to - c.args.self.count) c.skipped.inside.keys.items c.skipped.invariant
+    (rw c.skipped.view_is c.requires.below))

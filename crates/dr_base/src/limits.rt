@@ -1,0 +1,34 @@
+//! The limits of the product. Code and definitions cite these names.
+
+/// The longest text, in bytes.
+pub const TEXT_LIMIT: usize = 1024;
+
+/// The greatest index in an epoch, and so the most texts that one has.
+pub const INDEX_LIMIT: u32 = 65535;
+
+/// The last epoch.
+pub const LAST_EPOCH: u32 = 4294967294;
+
+/// The most message keys that are kept for texts which are still to come.
+pub const KEPT_LIMIT: usize = 256;
+
+/// The most texts in an inbox.
+pub const INBOX_LIMIT: usize = 64;
+
+/// The most packets in an outbox.
+pub const OUTBOX_LIMIT: usize = 32;
+
+/// The longest public key of a mechanism, in bytes.
+pub const PUBLIC_LIMIT: usize = 1158;
+
+/// The longest secret of a mechanism, in bytes.
+pub const SECRET_LIMIT: usize = 1763;
+
+/// The longest ciphertext of a mechanism, in bytes.
+pub const CIPHERTEXT_LIMIT: usize = 1039;
+
+/// The longest agreement message, in bytes: a ciphertext and a public key.
+pub const AGREEMENT_LIMIT: usize = 2197;
+
+/// The longest packet, in bytes: 65, an agreement message and a text.
+pub const PACKET_LIMIT: usize = 3286;

@@ -1,0 +1,90 @@
+//! The keys that were passed over, in an array of fixed room: copied, counted, and taken out in place.
+
+ghost use Rattle.std.specs.Prelude.{◌≡◌, ◌+◌, ◌^◌, ◌<◌, ◌≤◌, ◌↔◌, length, IsOk, IfErr, IfNone, position as position_of};
+ghost use Rattle.etm_aead.specs.Table.{IsAscending, is_at, kept_key, without};
+
+use arrayvec::ArrayVec;
+use dr_base::{Kept, Key32, Position};
+use etm_aead::OpenKey;
+use thiserror::Error;
+
+/// How many keys have room.
+const LIMIT: usize = 256;
+
+/// Too many keys were passed: `would` is how many there would be in a table with room for 256.
+#[derive(Clone, Copy, Debug, PartialEq, Eq, Error)]
+#[error("{would} keys would be kept, more than 256")]
+pub struct SkipLimit {
+    pub would: u32,
+}
+
+/// A second copy of a kept key.
+fn copied(kept: &Kept) -> Kept
+    ensures { result ≡ kept.now }
+{
+    Kept {
+        position: kept.position,
+        key: Key32 {
+            bytes: kept.key.bytes,
+        },
+    }
+}
+
+/// Makes a table a copy of these keys, in its own room. What stood in it is gone.
+pub fn copy_keys_into(keys: &[Kept], table: &mut ArrayVec<Kept, 256>)
+    requires { length keys.now ≤ 256 }
+    ensures { table.new.items ≡ keys.now }
+{
+    table.clear();
+    'keys: for kept in keys {
+        table.push(copied(kept));
+    }
+}
+
+/// A second copy of kept keys. It fills the whole room of a table once; `copy_keys_into` does not.
+pub fn copy_of_keys(keys: &[Kept]) -> ArrayVec<Kept, 256>
+    requires { length keys.now ≤ 256 }
+    ensures { result.items ≡ keys.now }
+{
+    let mut copy = ArrayVec::new();
+    copy_keys_into(keys, &mut copy);
+    copy
+}
+
+/// Whether `n` more keys have room beside these.
+pub fn room_for(keys: &[Kept], n: u32) -> Result<(), SkipLimit>
+    requires { length keys.now + n < 2 ^ 32 }
+    ensures ok { IsOk result ↔ (length keys.now + n ≤ 256) }
+    ensures err { IfErr result (λ limit. limit.would ≡ length keys.now + n) }
+{
+    let would = keys.len() as u32 + n;
+    if would as usize > LIMIT {
+        return Err(SkipLimit { would });
+    }
+    Ok(())
+}
+
+/// Where the key of a position stands.
+fn place_of(keys: &[Kept], position: Position) -> Option<usize>
+    ensures { result ≡ position_of (is_at position) keys.now }
+{
+    keys.iter().position(|kept| {
+        kept.position.epoch == position.epoch && kept.position.index == position.index
+    })
+}
+
+/// Takes the key of a position out of a table, if it is kept there. Only the keys after it move.
+pub fn take_key(table: &mut ArrayVec<Kept, 256>, position: Position) -> Option<OpenKey>
+    requires { IsAscending table.old.items }
+    ensures key { result ≡ kept_key table.old.items position }
+    ensures rest { table.new.items ≡ without table.old.items position }
+    ensures none { IfNone result (table.new ≡ table.old) }
+{
+    match place_of(table.as_slice(), position) {
+        Some(place) => {
+            let Kept { position: _, key } = table.remove(place);
+            Some(OpenKey::from_message(key))
+        }
+        None => None,
+    }
+}
