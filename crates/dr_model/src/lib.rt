@@ -2,8 +2,9 @@
 //! The definitions stand in specs/; the functions here have empty bodies, and their contracts are the laws.
 #![tactic(auto)]
 
-pub use answer::{Amount, Answer, Refusal, Summary};
-pub use laws::{both_sides_follow, headline};
+pub use laws::{
+    acts_follow, both_sides_follow, erasure, headline, one_draft_is_accepted, sessions_agree,
+    views_have_worlds,
+};
 
-mod answer;
 mod laws;

@@ -1,17 +1,13 @@
 -- The packets of lawful states have lawful fields, and keys have 32 bytes.
-use Rattle.std.proofs.Common.{◌≡◌, ℕ, ◌+◌, ◌-◌, ◌^◌, ◌<◌, ◌≤◌, Bool, true, false, nat_eq, List, ◌++◌, length, Some, refl, ◌∙◌, ap, arith}
+use Rattle.std.proofs.Common.{◌≡◌, ℕ, ◌+◌, ◌-◌, ◌^◌, ◌<◌, ◌≤◌, Bool, true, false, nat_eq, List, length, refl, arith}
 use Rattle.std.specs.Prelude.{if◌then◌else◌}
 use Rattle.std.proofs.lemmas.Bool.Decides.{nat_tests}
-use Rattle.std.proofs.lemmas.List.{length-append}
 use Rattle.dr_base.specs.declared.position.Position.{Position}
 use Rattle.etm_aead.specs.Chain.{next_chain}
 use Rattle.etm_aead.specs.Undoing.{length-ciphertext_of, length-tag_of}
 use Rattle.hmac_hkdf.proofs.Lengths.{length-hmac_of}
-use Rattle.kem_laws.specs.Meaning.{Meaning, IsPairOf, IsMechanism}
-use Rattle.cka.specs.Agreement.{turn_of}
-use Rattle.cka.proofs.Agreement.{of_pair}
 use Rattle.packet.specs.Packet.{IsLawful, agreement_len}
-use Rattle.dr_model.specs.Posts.{sealing}
+use Rattle.session_model.specs.Sealing.{sealing}
 use Rattle.ratchet.proofs.Parity.{passed_over}
 
 -- a length that is right in epoch 0 is right as its own measure
@@ -41,19 +37,6 @@ pub length-next_chain : (chain : List ℕ) → length (next_chain chain) ≡ 32
 unfolding next_chain
 length-next_chain chain = length-hmac_of _ _
 
--- the agreement message of a turn is a ciphertext and a public key
-pub length-agreement : (meaning : Meaning) (p s c : ℕ) (public seed secret agreement key : List ℕ) → IsMechanism meaning p s c → length public ≡ p
-    → length seed ≡ 32 → turn_of meaning public seed ≡ Some (secret, agreement, key) → length agreement ≡ c + p
-length-agreement meaning p s c public seed secret agreement key m long seed_long turned =
-    let Out : Type 0 = List ℕ × List ℕ × List ℕ in
-    let sealed : List ℕ × List ℕ = meaning.encap_of public seed in
-    let found = of_pair (λ pair. (pair.1, sealed.0 ++ pair.0, sealed.1)) (meaning.pair_of seed) (secret, agreement, key) turned in
-    let agreement_is : agreement ≡ sealed.0 ++ found.0.0 = ap (λ (t : Out). t.1) found.2 in
-    let pair : IsPairOf meaning seed found.0.0 found.0.1 = record { long = seed_long; gives = found.1 } in
-    let cipher_long : length sealed.0 ≡ c = m.ciphertext_long public seed sealed.0 sealed.1 long seed_long refl in
-    let next_long : length found.0.0 ≡ p = m.public_long seed found.0.0 found.0.1 pair in
-    ap length agreement_is ∙ length-append sealed.0 found.0.0 ∙ omega (arith, cipher_long, next_long)
-
--- behind epoch 0 each agreement message has the full length
+-- after epoch 0 each agreement message has the full length
 pub agreement_later : (n epoch : ℕ) → agreement_len n (epoch + 1) ≡ n
 agreement_later n epoch = passed_over (nat_eq (epoch + 1) 0) 0 n (grind (arith, nat_tests))

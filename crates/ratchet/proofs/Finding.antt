@@ -5,11 +5,11 @@ use Rattle.std.specs.Cmp.Lexicographic.{pointwise}
 use Rattle.std.proofs.lemmas.Bool.Decides.{nat_tests}
 use Rattle.dr_base.specs.declared.position.Side.{Side}
 use Rattle.packet.specs.Packet.{Fields}
-use Rattle.dr_model.specs.declared.answer.Refusal.TheVariants.{OtherSession, OwnPacket, Ahead}
-use Rattle.dr_model.specs.Conversation.{is_own}
-use Rattle.dr_model.specs.Drafts.{epoch_way, known_way, next_way, position_of, way_of}
-use Rattle.dr_model.specs.Sessions.{Own, in_own, State}
-use Rattle.dr_model.specs.Turns.{Mechanism}
+use Rattle.session_model.specs.declared.answer.Refusal.TheVariants.{OtherSession, OwnPacket, Ahead}
+use Rattle.dr_base.specs.Position.{is_own}
+use Rattle.session_model.specs.Ways.{epoch_way, known_way, next_way, position_of, way_of}
+use Rattle.session_model.specs.States.{Own, in_own, State}
+use Rattle.kem_laws.specs.Mechanism.{Mechanism}
 use Rattle.ratchet.proofs.Parity.{chosen, passed_over}
 
 -- a test that was turned round
@@ -36,7 +36,7 @@ pub leads_back : (k : Mechanism) (s : State) (f : Fields) → pointwise nat_eq f
 unfolding way_of
 leads_back k s f h o = passed_over (not (pointwise nat_eq f.session s.session)) _ _ (ap not h) ∙ chosen (is_own s.side f.epoch) _ _ o
 
--- of an epoch behind the next
+-- of an epoch after the next
 pub leads_ahead : (k : Mechanism) (s : State) (f : Fields) → pointwise nat_eq f.session s.session ≡ true → is_own s.side f.epoch ≡ false
     → s.epoch + 1 < f.epoch → way_of k s f ≡ Err (Ahead f.epoch s.epoch)
 unfolding way_of

@@ -2,30 +2,37 @@
 use Rattle.std.proofs.Common.{◌≡◌, ℕ, ◌≤◌, List, [], ◌++◌, length, take, Option, Some, None, refl, sym, ◌∙◌, ap, subst, arith}
 use Rattle.std.proofs.Math.Seq.{take-append_seam}
 use Rattle.std.proofs.lemmas.List.Elements.{All-nil}
-use Rattle.arrayvec.specs.ArrayVec.{ArrayVec}
 use Rattle.dr_base.specs.declared.key.Kept.{Kept}
-use Rattle.dr_base.specs.declared.key.Key32.{Key32}
 use Rattle.dr_base.specs.declared.position.Side.{Side}
 use Rattle.dr_base.specs.declared.position.Side.TheVariants.{First, Second}
-use Rattle.kem_laws.specs.Meaning.{IsLawful}
-use Rattle.dr_model.specs.Sessions.{IsLawfulState}
-use Rattle.dr_model.specs.Turns.{Mechanism}
-use Rattle.session_record.specs.declared.part.Own.{Own}
-use Rattle.session_record.specs.declared.part.Phase.{Phase}
-use Rattle.session_record.specs.declared.part.Phase.TheVariants.{Own as InOwn, Peers}
-use Rattle.session_record.specs.declared.part.Reception.{Reception}
-use Rattle.ratchet.specs.Seen.{seen}
-use Rattle.ratchet.proofs.Seeing.{seen_is}
+use Rattle.kem_laws.specs.Mechanism.{IsLawful, Mechanism}
+use Rattle.session_model.specs.LawfulStates.{IsLawfulState}
+use Rattle.session_model.specs.States.{Own, Phase, Reception, State, in_own, in_peers}
+
+-- what a session begins with, in equal parts
+abbrev pub opening : Side → List ℕ → List ℕ → Phase → Option Reception → List Kept → State
+opening side session root phase receiving kept = record {
+  side = side;
+  session = session;
+  root = root;
+  epoch = 0;
+  phase = phase;
+  previous = 0;
+  receiving = receiving;
+  kept = kept;
+}
+
+opening_is : {side side₁ : Side} (session root : List ℕ) {phase phase₁ : Phase} {receiving receiving₁ : Option Reception} {kept kept₁ : List Kept}
+    → side ≡ side₁ → phase ≡ phase₁ → receiving ≡ receiving₁ → kept ≡ kept₁ → opening side session root phase receiving kept ≡ opening side₁ session root phase₁ receiving₁ kept₁
+opening_is session root a b c d = cc
 
 -- First has the public key, and the stream of epoch 0
-pub opens_first : (k : Mechanism) (side : Side) (session : List ℕ) (root : Key32) (parts : Phase × Option Reception) (kept : List Kept)
-    (public : ArrayVec ℕ) (chain : Key32) → side ≡ First → parts ≡ (Peers public, Some (record { chain = chain; reach = 0 })) → kept ≡ []
-    → length session ≡ 16 → length root.bytes ≡ 32 → length chain.bytes ≡ 32 → length public.items ≡ k.public
-    → IsLawfulState k (seen side session root 0 parts.0 0 parts.1 kept)
-opens_first k side session root parts kept public chain s p e session_long root_long chain_long public_long =
-    let Parts : Type 0 = Phase × Option Reception in
+pub opens_first : (k : Mechanism) (side : Side) (session root : List ℕ) (phase : Phase) (receiving : Option Reception) (kept : List Kept) (public chain : List ℕ)
+    → side ≡ First → phase ≡ in_peers public → receiving ≡ Some (record { chain = chain; reach = 0 }) → kept ≡ []
+    → length session ≡ 16 → length root ≡ 32 → length chain ≡ 32 → length public ≡ k.public → IsLawfulState k (opening side session root phase receiving kept)
+opens_first k side session root phase receiving kept public chain s p r e session_long root_long chain_long public_long =
     let small : 0 ≤ 65535 = omega arith in
-    let begun : IsLawfulState k (seen First session root 0 (Peers public) 0 (Some (record { chain = chain; reach = 0 })) []) = record {
+    let begun : IsLawfulState k (opening First session root (in_peers public) (Some (record { chain = chain; reach = 0 })) []) = record {
       session_long = session_long;
       root_long = root_long;
       epoch_fits = omega arith;
@@ -33,19 +40,19 @@ opens_first k side session root parts kept public chain s p e session_long root_
       previous = (small, λ _. refl);
       receiving = (chain_long, small, All-nil _);
       kept = λ i j d lt below. absurd (omega arith);
+      each = All-nil _;
       few = omega arith;
     } in
-    subst (IsLawfulState k) (sym (seen_is s refl refl refl (ap (λ (x : Parts). x.0) p) refl (ap (λ (x : Parts). x.1) p) e)) begun
+    subst (IsLawfulState k) (sym (opening_is session root s p r e)) begun
 
 -- Second has the secret, and the stream of epoch 0
-pub opens_second : (k : Mechanism) (side : Side) (session : List ℕ) (root : Key32) (parts : Phase × Option Reception) (kept : List Kept)
-    (own : Own) → side ≡ Second → parts ≡ (InOwn own, None) → kept ≡ []
-    → length session ≡ 16 → length root.bytes ≡ 32 → length own.chain.bytes ≡ 32 → length own.secret.items ≡ k.secret → IsLawful k.meaning own.secret.items
-    → own.agreement.items ≡ [] → own.sent ≡ 0 → IsLawfulState k (seen side session root 0 parts.0 0 parts.1 kept)
-opens_second k side session root parts kept own s p e session_long root_long chain_long secret_long lawful message none =
-    let Parts : Type 0 = Phase × Option Reception in
+pub opens_second : (k : Mechanism) (side : Side) (session root : List ℕ) (phase : Phase) (receiving : Option Reception) (kept : List Kept) (own : Own)
+    → side ≡ Second → phase ≡ in_own own → receiving ≡ None → kept ≡ []
+    → length session ≡ 16 → length root ≡ 32 → length own.chain ≡ 32 → length own.secret ≡ k.secret → IsLawful k.meaning own.secret
+    → own.agreement ≡ [] → own.sent ≡ 0 → IsLawfulState k (opening side session root phase receiving kept)
+opens_second k side session root phase receiving kept own s p r e session_long root_long chain_long secret_long lawful message none =
     let small : 0 ≤ 65535 = omega arith in
-    let begun : IsLawfulState k (seen Second session root 0 (InOwn own) 0 None []) = record {
+    let begun : IsLawfulState k (opening Second session root (in_own own) None []) = record {
       session_long = session_long;
       root_long = root_long;
       epoch_fits = omega arith;
@@ -53,10 +60,11 @@ opens_second k side session root parts kept own s p e session_long root_long cha
       previous = (small, λ _. refl);
       receiving = refl;
       kept = λ i j d lt below. absurd (omega arith);
+      each = All-nil _;
       few = omega arith;
     } in
-    subst (IsLawfulState k) (sym (seen_is s refl refl refl (ap (λ (x : Parts). x.0) p) refl (ap (λ (x : Parts). x.1) p) e)) begun
+    subst (IsLawfulState k) (sym (opening_is session root s p r e)) begun
 
 -- the front of a buffer
-pub front_of : (n : ℕ) (part behind text : List ℕ) → length part ≡ n → text ≡ take n (part ++ behind) → text ≡ part
-front_of n part behind text long e = e ∙ ap (λ k. take k (part ++ behind)) (sym long) ∙ take-append_seam part behind
+pub front_of : (n : ℕ) (part after text : List ℕ) → length part ≡ n → text ≡ take n (part ++ after) → text ≡ part
+front_of n part after text long e = e ∙ ap (λ k. take k (part ++ after)) (sym long) ∙ take-append_seam part after

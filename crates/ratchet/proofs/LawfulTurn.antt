@@ -1,10 +1,12 @@
 -- A turn leads from a lawful state to a lawful one.
 use Rattle.std.proofs.Common.{◌≡◌, ℕ, ◌+◌, ◌-◌, ◌^◌, ◌<◌, ◌≤◌, true, false, List, length, sym, ◌∙◌, ap, subst, arith}
 use Rattle.std.specs.Prelude.{not}
-use Rattle.dr_model.specs.Conversation.{is_own}
-use Rattle.dr_model.specs.Sessions.{Own, in_own, in_peers, State, IsLawfulOwn, IsLawfulPhase, IsLawfulPrevious, IsLawfulReception, IsLawfulState}
-use Rattle.dr_model.specs.Turns.{Mechanism}
-use Rattle.ratchet.proofs.Parity.{own_turns, latest-turn}
+use Rattle.dr_base.specs.Position.{is_own}
+use Rattle.session_model.specs.States.{Own, in_own, in_peers, State}
+use Rattle.session_model.specs.LawfulStates.{IsLawfulOwn, IsLawfulPhase, IsLawfulPrevious, IsLawfulReception, IsLawfulState}
+use Rattle.kem_laws.specs.Mechanism.{Mechanism}
+use Rattle.dr_base.proofs.Parity.{own_next}
+use Rattle.ratchet.proofs.Parity.{latest-turn}
 
 -- what is lawful in a peer's epoch
 pub in_peers_phase : (k : Mechanism) (s : State) (public : List ℕ) → IsLawfulState k s → s.phase ≡ in_peers public
@@ -35,9 +37,10 @@ lawful_turn k s public root own l e more long next =
       session_long = l.session_long;
       root_long = long;
       epoch_fits = omega arith;
-      phase = (own_turns s.side s.epoch ∙ ap not peers, next);
+      phase = (own_next s.side s.epoch ∙ ap not peers, next);
       previous = (before.0, none);
       receiving = subst (IsLawfulReception s.kept s.receiving) (sym (latest-turn s.side s.epoch peers)) l.receiving;
       kept = l.kept;
+      each = l.each;
       few = l.few;
     }

@@ -1,11 +1,11 @@
 pub mod Parity
 pub mod Fields
+pub mod Printing
 pub mod LawfulOpening
 pub mod LawfulTurn
 pub mod LawfulKept
 pub mod LawfulNext
 pub mod Saying
-pub mod Seeing
 pub mod Turning
 pub mod Finding
 pub mod Ways

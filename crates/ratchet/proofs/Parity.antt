@@ -1,16 +1,11 @@
--- Whose epochs are whose, and which is the latest one of the peer.
+-- Which is the latest epoch of the peer.
 use Rattle.std.proofs.Common.{◌≡◌, ℕ, ◌+◌, ◌-◌, ◌≤◌, Bool, true, false, nat_eq, Some, None, refl, sym, ◌∙◌, ap, arith}
 use Rattle.std.specs.Prelude.{not, if◌then◌else◌}
 use Rattle.std.proofs.lemmas.Bool.Decides.{nat_tests}
 use Rattle.dr_base.specs.declared.position.Side.{Side}
-use Rattle.dr_base.specs.declared.position.Side.TheVariants.{First, Second}
-use Rattle.dr_model.specs.Conversation.{is_own}
-use Rattle.dr_model.specs.Sessions.{receiving_epoch}
-
--- the epoch behind an own one is the peer's, and the other way round
-pub own_turns : (side : Side) (epoch : ℕ) → is_own side (epoch + 1) ≡ not (is_own side epoch)
-own_turns First epoch = grind (arith, nat_tests)
-own_turns Second epoch = grind (arith, nat_tests)
+use Rattle.dr_base.specs.Position.{is_own}
+use Rattle.dr_base.proofs.Parity.{own_next}
+use Rattle.session_model.specs.States.{receiving_epoch}
 
 -- a choice by a test
 pub chosen : {A : Type 0} (b : Bool) (x y : A) → b ≡ true → (if b then x else y) ≡ x
@@ -30,13 +25,29 @@ pub latest-own : (side : Side) (epoch : ℕ) → is_own side epoch ≡ true → 
 latest-own side epoch h one =
     chosen (is_own side epoch) _ _ h ∙ passed_over (nat_eq epoch 0) None (Some (epoch - 1)) (grind (arith, nat_tests))
 
--- in epoch 0 there is none before
-pub latest-first : (side : Side) → is_own side 0 ≡ true → receiving_epoch side 0 ≡ None
-latest-first side h = chosen (is_own side 0) _ _ h
+-- it is one of the peer's
+not_true : (b : Bool) → true ≡ not b → b ≡ false
+not_true true h = cc
+not_true false h = refl
+
+latest_choice : (side : Side) (epoch it : ℕ) (own first : Bool) → is_own side epoch ≡ own → nat_eq epoch 0 ≡ first
+    → (if own then (if first then None else Some (epoch - 1)) else Some epoch) ≡ Some it → is_own side it ≡ false
+latest_choice side epoch it true true o f h = absurd (cc h)
+latest_choice side epoch it true false o f h =
+    let is : epoch - 1 ≡ it = cc in
+    let some : 1 ≤ epoch = grind (arith, nat_tests) in
+    let back : it + 1 ≡ epoch = omega arith in
+    not_true (is_own side it) (sym o ∙ ap (is_own side) (sym back) ∙ own_next side it)
+latest_choice side epoch it false first o f h =
+    let is : epoch ≡ it = cc in
+    ap (is_own side) (sym is) ∙ o
+
+pub latest_is-peers : (side : Side) (epoch it : ℕ) → receiving_epoch side epoch ≡ Some it → is_own side it ≡ false
+latest_is-peers side epoch it h = latest_choice side epoch it (is_own side epoch) (nat_eq epoch 0) refl refl h
 
 -- a turn keeps the latest peer's epoch
 pub latest-turn : (side : Side) (epoch : ℕ) → is_own side epoch ≡ false → receiving_epoch side (epoch + 1) ≡ receiving_epoch side epoch
 latest-turn side epoch h =
-    let own : is_own side (epoch + 1) ≡ true = own_turns side epoch ∙ ap not h in
+    let own : is_own side (epoch + 1) ≡ true = own_next side epoch ∙ ap not h in
     let back : epoch + 1 - 1 ≡ epoch = omega arith in
     latest-own side (epoch + 1) own (omega arith) ∙ ap (λ e. Some e) back ∙ sym (latest-peers side epoch h)

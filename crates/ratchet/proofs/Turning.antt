@@ -7,10 +7,9 @@ use Rattle.etm_aead.specs.Table.{shelved}
 use Rattle.fs_aead.specs.Stream.{Stream}
 use Rattle.prf_prng.specs.Root.{next_root, root_key}
 use Rattle.packet.specs.Packet.{Fields}
-use Rattle.dr_model.specs.Drafts.{Way}
-use Rattle.dr_model.specs.Sessions.{Own, in_peers, State}
-use Rattle.dr_model.specs.Turns.{Mechanism}
-use Rattle.ratchet.specs.Seen.{turned}
+use Rattle.session_model.specs.Ways.{Way, turned}
+use Rattle.session_model.specs.States.{Own, in_peers, State}
+use Rattle.kem_laws.specs.Mechanism.{Mechanism}
 use Rattle.ratchet.proofs.Ways.{Went, went_chain, went_key, went_keys, went_reach}
 
 -- the keys of a stream from its beginning
@@ -37,10 +36,10 @@ way_is : (s : State) (own : Own) {key key₁ root root₁ public public₁ chain
 way_is s own a b c d e f g = cc
 
 -- what the calls of a turn come to
-pub turns : (k : Mechanism) (s : State) (own : Own) (f : Fields) (kept table : List Kept) (secret agreement shared held raised first public key chain : List ℕ)
+pub turns : (k : Mechanism) (s : State) (own : Own) (f : Fields) (table : List Kept) (secret agreement shared held raised first public key chain : List ℕ)
     (epoch index reach : ℕ) (resumed advanced stream : Stream) → secret ≡ own.secret → agreement ≡ f.agreement
     → shared ≡ k.meaning.decap_of secret (take k.ciphertext agreement) → public ≡ drop k.ciphertext agreement → held ≡ s.root → raised ≡ next_root held shared
-    → first ≡ root_key held shared → epoch ≡ f.epoch → index ≡ f.index → 0 < index → Went epoch index first 0 kept resumed advanced stream table
+    → first ≡ root_key held shared → epoch ≡ f.epoch → index ≡ f.index → 0 < index → Went epoch index first 0 s.kept resumed advanced stream table
     → key ≡ chain_message_key advanced.chain → chain ≡ stream.chain → reach ≡ stream.count
     → record {
       key = key;
@@ -52,16 +51,16 @@ pub turns : (k : Mechanism) (s : State) (own : Own) (f : Fields) (kept table : L
         receiving = Some (record { chain = chain; reach = reach });
         kept = table;
       };
-    } ≡ turned k s own f kept
-turns k s own f kept table secret agreement shared held raised first public key chain epoch index reach resumed advanced stream sec agr sh pub_is root up out ep ix above w m c n =
+    } ≡ turned k s own f s.kept
+turns k s own f table secret agreement shared held raised first public key chain epoch index reach resumed advanced stream sec agr sh pub_is root up out ep ix above w m c n =
     let given : List ℕ = k.meaning.decap_of own.secret (take k.ciphertext f.agreement) in
     let shared_is : shared ≡ given = sh ∙ ap₂ (λ a b. k.meaning.decap_of a (take k.ciphertext b)) sec agr in
     let first_is : first ≡ root_key s.root given = out ∙ ap₂ root_key root shared_is in
     let all : index - 0 ≡ f.index = omega arith in
     let before : index - 1 ≡ f.index - 1 = omega arith in
-    way_is s own (m ∙ went_key epoch index first 0 kept resumed advanced stream table above w ∙ ap₂ message_key first_is all)
+    way_is s own (m ∙ went_key epoch index first 0 s.kept resumed advanced stream table above w ∙ ap₂ message_key first_is all)
     (up ∙ ap₂ next_root root shared_is) (pub_is ∙ ap (λ a. drop k.ciphertext a) agr)
-    (c ∙ went_chain epoch index first 0 kept resumed advanced stream table above w ∙ ap₂ chain_of first_is all)
-    ep (n ∙ went_reach epoch index first 0 kept resumed advanced stream table above w ∙ ix)
-    (went_first epoch index first kept resumed advanced stream table w
-    ∙ ap (λ e. kept ++ shelved e first 0 (index - 1)) ep ∙ ap₂ (λ a n. kept ++ shelved f.epoch a 0 n) first_is before)
+    (c ∙ went_chain epoch index first 0 s.kept resumed advanced stream table above w ∙ ap₂ chain_of first_is all)
+    ep (n ∙ went_reach epoch index first 0 s.kept resumed advanced stream table above w ∙ ix)
+    (went_first epoch index first s.kept resumed advanced stream table w
+    ∙ ap (λ e. s.kept ++ shelved e first 0 (index - 1)) ep ∙ ap₂ (λ a n. s.kept ++ shelved f.epoch a 0 n) first_is before)

@@ -8,8 +8,8 @@ use Rattle.etm_aead.specs.Chain.{chain_of, next_chain, message_key, chain_messag
 use Rattle.etm_aead.specs.Table.{shelved}
 use Rattle.etm_aead.proofs.Streams.{chain_of-suc, message_key-suc}
 use Rattle.fs_aead.specs.Stream.{Stream}
-use Rattle.dr_model.specs.Drafts.{Way, chain_way, within_limit}
-use Rattle.dr_model.specs.Sessions.{Reception, State}
+use Rattle.session_model.specs.Ways.{Way, chain_way, within_limit}
+use Rattle.session_model.specs.States.{Reception, State}
 use Rattle.ratchet.proofs.Parity.{passed_over}
 
 -- a stream that was advanced to just before an index, and went on
@@ -19,14 +19,14 @@ pub record Went (epoch index : ℕ) (chain : List ℕ) (reach : ℕ) (kept : Lis
   pub next : stream ≡ record { chain = next_chain advanced.chain; count = advanced.count + 1 }
   pub keys : table ≡ kept ++ shelved epoch resumed.chain resumed.count (index - 1 - resumed.count)
 
--- the chain key behind the steps before the index
+-- the chain key after the steps before the index
 went_before : (epoch index : ℕ) (chain : List ℕ) (reach : ℕ) (kept : List Kept) (resumed advanced stream : Stream) (table : List Kept)
     → Went epoch index chain reach kept resumed advanced stream table → advanced.chain ≡ chain_of chain (index - reach - 1)
 went_before epoch index chain reach kept resumed advanced stream table w =
     let same : index - 1 - reach ≡ index - reach - 1 = omega arith in
     ap (λ (x : Stream). x.chain) w.passed ∙ ap (λ (x : Stream). chain_of x.chain (index - 1 - x.count)) w.from ∙ ap (chain_of chain) same
 
--- the chain key behind it
+-- the chain key after it
 pub went_chain : (epoch index : ℕ) (chain : List ℕ) (reach : ℕ) (kept : List Kept) (resumed advanced stream : Stream) (table : List Kept) → reach < index
     → Went epoch index chain reach kept resumed advanced stream table → stream.chain ≡ chain_of chain (index - reach)
 went_chain epoch index chain reach kept resumed advanced stream table above w =

@@ -1,49 +1,18 @@
 -- What the types of the code stand for.
-use Rattle.std.specs.Prelude.{ℕ, ◌-◌, List, [], ◌++◌, take, drop, Option, Some, None, option_map}
-use Rattle.dr_base.specs.declared.key.Kept.{Kept}
+use Rattle.std.specs.Prelude.{ℕ, List, [], Option, Some, None, Result, Ok, Err}
 use Rattle.dr_base.specs.declared.key.Key32.{Key32}
 use Rattle.dr_base.specs.declared.position.Position.{Position}
-use Rattle.dr_base.specs.declared.position.Side.{Side}
-use Rattle.etm_aead.specs.Chain.{chain_of, message_key}
-use Rattle.etm_aead.specs.Table.{shelved}
-use Rattle.prf_prng.specs.Root.{next_root, root_key}
 use Rattle.packet.specs.Packet.{Fields}
 use Rattle.boxes.specs.Items.{Item}
-use Rattle.kem_laws.specs.Meaning.{Meaning}
-use Rattle.dr_model.specs.Drafts.{ReceiveDraft, SendDraft, Way}
-use Rattle.dr_model.specs.Sessions.{Own, Phase, in_own, in_peers, Reception, State}
-use Rattle.dr_model.specs.Turns.{Mechanism}
-use Rattle.session_record.specs.declared.part.Own.{Own as CodeOwn}
-use Rattle.session_record.specs.declared.part.Phase.{Phase as CodePhase}
-use Rattle.session_record.specs.declared.part.Phase.TheVariants.{Own as InOwn, Peers as InPeers}
-use Rattle.session_record.specs.declared.part.Reception.{Reception as CodeReception}
-
--- a mechanism from its meaning and its sizes
-abbrev pub mechanism : Meaning → ℕ → ℕ → ℕ → Mechanism
-mechanism meaning public secret ciphertext = record { meaning = meaning; public = public; secret = secret; ciphertext = ciphertext }
-
-abbrev pub own_seen : CodeOwn → Own
-own_seen own = record { secret = own.secret.items; agreement = own.agreement.items; chain = own.chain.bytes; sent = own.sent }
-
-abbrev pub phase_seen : CodePhase → Phase
-phase_seen (InOwn own) = in_own (own_seen own)
-phase_seen (InPeers public) = in_peers public.items
-
-abbrev pub reception_seen : CodeReception → Reception
-reception_seen r = record { chain = r.chain.bytes; reach = r.reach }
-
--- the state of a session's fields
-abbrev pub seen : Side → List ℕ → Key32 → ℕ → CodePhase → ℕ → Option CodeReception → List Kept → State
-seen side session root epoch phase previous receiving kept = record {
-  side = side;
-  session = session;
-  root = root.bytes;
-  epoch = epoch;
-  phase = phase_seen phase;
-  previous = previous;
-  receiving = option_map reception_seen receiving;
-  kept = kept;
-}
+use Rattle.session_model.specs.Taking.{ReceiveDraft}
+use Rattle.session_model.specs.Saying.{SendDraft}
+use Rattle.session_model.specs.Ways.{Way, position_of}
+use Rattle.session_model.specs.States.{State}
+use Rattle.session_model.specs.Refusals.{receive_refusal}
+use Rattle.session_model.specs.declared.answer.Refusal.{Refusal}
+use Rattle.session_model.specs.declared.refusals.ReceiveRefusal.{ReceiveRefusal}
+use Rattle.session_model.specs.declared.part.Phase.{Phase as CodePhase}
+use Rattle.session_model.specs.declared.part.Phase.TheVariants.{Own as InOwn, Peers as InPeers}
 
 -- the bytes of a seed, none where none is given
 abbrev pub seed_bytes : Option Key32 → List ℕ
@@ -59,19 +28,17 @@ received position text next = record { position = position; text = text; next = 
 abbrev pub on_way : List ℕ → State → Way
 on_way key next = record { key = key; next = next }
 
--- the way into the next epoch, where these keys are kept already
-abbrev pub turned : Mechanism → State → Own → Fields → List Kept → Way
-turned k s own f kept =
-    let key = k.meaning.decap_of own.secret (take k.ciphertext f.agreement) in
-    let stream = root_key s.root key in
-    record {
-      key = message_key stream f.index;
-      next = record s {
-        root = next_root s.root key;
-        epoch = f.epoch;
-        phase = in_peers (drop k.ciphertext f.agreement);
-        previous = own.sent;
-        receiving = Some (record { chain = chain_of stream f.index; reach = f.index });
-        kept = kept ++ shelved f.epoch stream 0 (f.index - 1);
-      };
-    }
+-- the way that a key and what is kept then make, or why there is none
+abbrev pub way_found : Result (List ℕ) ReceiveRefusal → State → Result Way Refusal
+way_found (Ok key) next = Ok (on_way key next)
+way_found (Err e) next = Err (receive_refusal e)
+
+-- an own epoch whose stream went on
+abbrev pub went_on : CodePhase → Key32 → ℕ → CodePhase
+went_on (InOwn own) chain sent = InOwn (record own { chain = chain; sent = sent })
+went_on (InPeers public) chain sent = InPeers public
+
+-- the draft that an opened text and what is kept then make, or why there is none
+abbrev pub opened : Result Unit ReceiveRefusal → Fields → List ℕ → State → Result ReceiveDraft Refusal
+opened (Ok done) f text next = Ok (received (position_of f) text next)
+opened (Err e) f text next = Err (receive_refusal e)

@@ -1,10 +1,9 @@
 //! What both sides begin with.
 
 ghost use Rattle.std.specs.Prelude.{◌≡◌, take, drop};
-ghost use Rattle.dr_model.specs.Schedule.{begun, session_of, stream_of};
-ghost use Rattle.dr_model.specs.Turns.{agreement_seed, root_of};
+ghost use Rattle.session_model.specs.Schedule.{begun, session_of, stream_of, agreement_seed, root_of};
 
-use dr_base::Key32;
+use dr_base::{Key32, array_at};
 use hmac_hkdf::{expand_into, extract};
 
 /// The label under which a conversation begins.
@@ -26,24 +25,22 @@ fn split(bytes: &[u8; 112]) -> Beginning
     ensures seed { result.seed.bytes ≡ take 32 (drop 64 bytes.now) }
     ensures session { result.session ≡ take 16 (drop 96 bytes.now) }
 {
-    let mut root = [0; 32];
-    root.copy_from_slice(&bytes[..32]);
-    let mut stream = [0; 32];
-    stream.copy_from_slice(&bytes[32..64]);
-    let mut seed = [0; 32];
-    seed.copy_from_slice(&bytes[64..96]);
-    let mut session = [0; 16];
-    session.copy_from_slice(&bytes[96..112]);
     Beginning {
-        root: Key32 { bytes: root },
-        stream: Key32 { bytes: stream },
-        seed: Key32 { bytes: seed },
-        session,
+        root: Key32 {
+            bytes: array_at(bytes, 0),
+        },
+        stream: Key32 {
+            bytes: array_at(bytes, 32),
+        },
+        seed: Key32 {
+            bytes: array_at(bytes, 64),
+        },
+        session: array_at(bytes, 96),
     }
 }
 
 /// What a shared key gives.
-#[tactic(auto, unfolding(dr_model::specs::Schedule::begun))]
+#[tactic(auto, unfolding(session_model::specs::Schedule::begun))]
 pub fn begin(key: &Key32) -> Beginning
     ensures root { result.root.bytes ≡ root_of key.now.bytes }
     ensures stream { result.stream.bytes ≡ stream_of key.now.bytes }

@@ -1,20 +1,23 @@
 //! Drafts of texts that are said.
 
-ghost use Rattle.std.specs.Prelude.{◌≡◌, ◌-◌, ◌^◌, ◌<◌, ◌≤◌, length, Some, None, Ok, is_some, option_map, IfOk, IfErr, OnErr};
+ghost use Rattle.std.specs.Prelude.{◌≡◌, ◌+◌, ◌-◌, ◌^◌, ◌<◌, ◌≤◌, length, take, Some, None, Ok, is_some, option_map, IfOk, IfErr, OnErr};
 ghost use Rattle.cka.specs.Agreement.{turn_of};
-ghost use Rattle.dr_model.specs.Drafts.{draft_own, draft_send, draft_turn, send_check};
-ghost use Rattle.dr_model.specs.Sessions.{in_own, in_peers};
-ghost use Rattle.ratchet.specs.Seen.{mechanism, own_seen, seed_bytes};
+ghost use Rattle.boxes.specs.Items.{item_at};
+ghost use Rattle.session_model.specs.Drafts.{IsSendDraft};
+ghost use Rattle.session_model.specs.Saying.{draft_own, draft_send, draft_turn, send_check};
+ghost use Rattle.session_model.specs.Seen.{own_seen, phase_seen};
+ghost use Rattle.session_model.specs.States.{in_own, in_peers};
+ghost use Rattle.ratchet.specs.Seen.{drafted, seed_bytes, went_on};
 
 use crate::sealing::seal_packet;
 use crate::sending::{NoPairFor, SendDraft};
 use crate::session::Session;
 use cka::{Caller, PublicText};
-use dr_base::{Key32, Position};
+use dr_base::{Key32, PACKET_LIMIT, Position};
 use fs_aead::SendStream;
 use kem_laws::{Kem, laws};
 use prf_prng::Root;
-use session_record::{Own, Phase, copy_of_key};
+use session_model::{Own, Phase, SessionPart, copy_of_key};
 
 impl<K: Kem> Session<K> {
     /// Drafts a text that `send_check` allows, with a seed exactly where it asks for one.
@@ -25,95 +28,155 @@ impl<K: Kem> Session<K> {
         seed: Option<Key32>,
     ) -> Result<SendDraft<K>, NoPairFor>
         requires { send_check self.now (length text.now) ≡ Ok (is_some seed) }
-        ensures ok { IfOk result (λ draft.
-            draft_send (mechanism K.meaning K.PUBLIC K.SECRET K.CIPHERTEXT) self.now text.now (seed_bytes seed) ≡ Some draft) }
-        ensures err { OnErr result (draft_send (mechanism K.meaning K.PUBLIC K.SECRET K.CIPHERTEXT) self.now text.now (seed_bytes seed) ≡ None) }
+        ensures ok { IfOk result (λ draft. draft_send K.mechanism self.now text.now (seed_bytes seed) ≡ Some draft) }
+        ensures draft { IfOk result (λ draft. IsSendDraft K.mechanism self.now draft) }
+        ensures err { OnErr result (draft_send K.mechanism self.now text.now (seed_bytes seed) ≡ None) }
         ensures seed { IfErr result (λ e. seed ≡ Some e.seed) }
     {
-        match &self.part.phase {
-            Phase::Own(own) => Ok(self.draft_own(own, text)),
+        let part = &self.part;
+        let mut draft = SendDraft {
+            position: Position::default(),
+            room: [0; PACKET_LIMIT],
+            len: 0,
+            part: part.copy(),
+        };
+        match &part.phase {
+            Phase::Own(own) => {
+                let (position, len) = say_on(own, &mut draft.part, text, &mut draft.room);
+                draft.position = position;
+                draft.len = len;
+                Ok(draft)
+            }
             Phase::Peers(public) => match seed {
-                Some(seed) => self.draft_turn(work, public, text, seed),
-                // `send_check` asks for a seed here
-                None => Err(NoPairFor {
-                    seed: Key32::default(),
-                }),
+                Some(seed) => match say_first(
+                    public,
+                    &mut draft.part,
+                    work,
+                    text,
+                    seed,
+                    &mut draft.room,
+                ) {
+                    Ok((position, len)) => {
+                        draft.position = position;
+                        draft.len = len;
+                        Ok(draft)
+                    }
+                    Err(none) => {
+                        draft.discard();
+                        Err(none)
+                    }
+                },
+                None => {
+                    draft.discard();
+                    // `send_check` asks for a seed here
+                    Err(NoPairFor {
+                        seed: Key32::default(),
+                    })
+                }
             },
         }
     }
+}
 
-    /// Drafts the next text of an own epoch.
-    fn draft_own(&self, own: &Own, text: &[u8]) -> SendDraft<K>
-        requires held { self.now.phase ≡ in_own (own_seen own.now) }
-        requires few { own.now.sent < 65535 }
-        requires short { length text.now ≤ 1024 }
-        ensures { result ≡ draft_own self.now (own_seen own.now) text.now }
-    {
-        let part = &self.part;
-        let position = Position {
-            epoch: part.epoch,
-            index: own.sent + 1,
-        };
-        let (stream, key) = SendStream::resume(copy_of_key(&own.chain), own.sent).next();
-        let packet = seal_packet(part, position, own.agreement.as_slice(), key, text);
-        let (chain, sent) = stream.rest();
-        let mut next = own.copy();
-        next.chain = chain;
-        next.sent = sent;
-        SendDraft {
-            position,
-            packet,
-            part: part.with_phase(Phase::Own(next)),
+/// An own epoch whose stream went on.
+fn go_on(phase: &mut Phase, chain: Key32, sent: u32)
+    ensures { phase.new ≡ went_on phase.old chain sent }
+{
+    match phase {
+        Phase::Own(own) => {
+            own.chain = chain;
+            own.sent = sent;
         }
+        Phase::Peers(_) => {}
     }
+}
 
-    /// Drafts the first text of the next own epoch, which a turn begins.
-    fn draft_turn(
-        &self,
-        work: &mut K::Work,
-        public: &PublicText,
-        text: &[u8],
-        seed: Key32,
-    ) -> Result<SendDraft<K>, NoPairFor>
-        requires held { self.now.phase ≡ in_peers public.now.items }
-        requires more { self.now.epoch < 2 ^ 32 - 2 }
-        requires short { length text.now ≤ 1024 }
-        ensures ok { IfOk result (λ draft. option_map (draft_turn self.now text.now) (turn_of K.meaning public.now.items seed.bytes) ≡ Some draft) }
-        ensures err { OnErr result (option_map (draft_turn self.now text.now) (turn_of K.meaning public.now.items seed.bytes) ≡ None) }
-        ensures seed { IfErr result (λ e. e.seed ≡ seed) }
-    {
-        laws::<K>();
-        // The proof takes the length of the seed from this.
-        let _bytes = &seed.bytes;
-        let part = &self.part;
-        match Caller::<K>::resume(public.as_slice()).turn(work, &seed) {
-            Err(caller) => {
-                let _public = caller.rest();
-                Err(NoPairFor { seed })
-            }
-            Ok((holder, agreement, shared)) => {
-                let (root, stream) = Root::resume(copy_of_key(&part.root)).up(&shared);
-                let (stream, key) = SendStream::resume(stream, 0).next();
-                let position = Position {
-                    epoch: part.epoch + 1,
-                    index: 1,
-                };
-                let packet = seal_packet(part, position, agreement.as_slice(), key, text);
-                let (chain, sent) = stream.rest();
-                let mut next = part.with_phase(Phase::Own(Own {
-                    secret: holder.rest(),
-                    agreement,
-                    chain,
-                    sent,
-                }));
-                next.root = root.rest();
-                next.epoch = position.epoch;
-                Ok(SendDraft {
-                    position,
-                    packet,
-                    part: next,
-                })
-            }
+/// Says the next text of an own epoch.
+fn say_on<K: Kem>(
+    own: &Own,
+    next: &mut SessionPart<K>,
+    text: &[u8],
+    room: &mut [u8; PACKET_LIMIT],
+) -> (Position, usize)
+    requires held { next.old.phase ≡ in_own (own_seen own.now) }
+    requires few { own.now.sent < 65535 }
+    requires short { length text.now ≤ 1024 }
+    ensures draft { drafted (item_at result.0 (take result.1 room.new)) next.new ≡ draft_own next.old (own_seen own.now) text.now }
+    ensures fits { result.1 ≤ 3286 }
+{
+    let position = Position {
+        epoch: next.epoch,
+        index: own.sent + 1,
+    };
+    let previous = next.previous;
+    let (stream, key) = SendStream::resume(copy_of_key(&own.chain), own.sent).next();
+    let len = seal_packet(
+        &next.session,
+        position,
+        previous,
+        own.agreement.as_slice(),
+        key,
+        text,
+        room,
+    );
+    let (chain, sent) = stream.rest();
+    go_on(&mut next.phase, chain, sent);
+    (position, len)
+}
+
+/// Says the first text of the next own epoch, which a turn begins.
+fn say_first<K: Kem>(
+    public: &PublicText,
+    next: &mut SessionPart<K>,
+    work: &mut K::Work,
+    text: &[u8],
+    seed: Key32,
+    room: &mut [u8; PACKET_LIMIT],
+) -> Result<(Position, usize), NoPairFor>
+    requires held { next.old.phase ≡ in_peers public.now.items }
+    requires more { next.old.epoch < 2 ^ 32 - 2 }
+    requires short { length text.now ≤ 1024 }
+    ensures ok { IfOk result (λ said.
+        option_map (draft_turn next.old text.now) (turn_of K.mechanism public.now.items seed.bytes)
+        ≡ Some (drafted (item_at said.0 (take said.1 room.new)) next.new)) }
+    ensures fits { IfOk result (λ said. said.1 ≤ 3286) }
+    ensures err { OnErr result (option_map (draft_turn next.old text.now) (turn_of K.mechanism public.now.items seed.bytes) ≡ None) }
+    ensures seed { IfErr result (λ e. e.seed ≡ seed) }
+{
+    laws::<K>();
+    // The proof takes the length of the seed from this.
+    let _bytes = &seed.bytes;
+    let position = Position {
+        epoch: next.epoch + 1,
+        index: 1,
+    };
+    match Caller::<K>::resume(public.as_slice()).turn(work, &seed) {
+        Err(caller) => {
+            let _public = caller.rest();
+            Err(NoPairFor { seed })
+        }
+        Ok((holder, agreement, shared)) => {
+            let (root, stream) = Root::resume(copy_of_key(&next.root)).up(&shared);
+            let (stream, key) = SendStream::resume(stream, 0).next();
+            let len = seal_packet(
+                &next.session,
+                position,
+                next.previous,
+                agreement.as_slice(),
+                key,
+                text,
+                room,
+            );
+            let (chain, sent) = stream.rest();
+            next.root = root.rest();
+            next.epoch = position.epoch;
+            next.phase = Phase::Own(Own {
+                secret: holder.rest(),
+                agreement,
+                chain,
+                sent,
+            });
+            Ok((position, len))
         }
     }
 }

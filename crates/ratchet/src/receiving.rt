@@ -1,18 +1,22 @@
 //! Drafts of packets that are taken.
 
-ghost use Rattle.std.specs.Prelude.{◌≡◌, ◌+◌, ◌≤◌, length};
+ghost use Rattle.std.specs.Prelude.{◌≡◌, ◌≤◌, length, IfOk};
+ghost use Rattle.cka.specs.Agreement.{agreement_size};
 ghost use Rattle.packet.specs.Packet.{IsLawful};
-ghost use Rattle.dr_model.specs.Drafts.{ReceiveDraft as Received, draft_receive, opening_on};
-ghost use Rattle.ratchet.specs.Seen.{mechanism, seen};
+ghost use Rattle.session_model.specs.Drafts.{IsReceiveDraft};
+ghost use Rattle.session_model.specs.Refusals.{receive_refusal, refused_as};
+ghost use Rattle.session_model.specs.Taking.{draft_receive, opening_on};
+ghost use Rattle.session_model.specs.States.{State};
+ghost use Rattle.ratchet.specs.Seen.{on_way, opened};
 
-use crate::message::{Message, message_of, open};
+use crate::message::{Message, open};
 use crate::session::Session;
-use crate::way::Way;
-use dr_base::Position;
-use dr_model::Refusal;
+use crate::way::find_key;
+use dr_base::{Position, in_room};
+use etm_aead::OpenKey;
 use kem_laws::Kem;
 use packet::View;
-use session_record::SessionPart;
+use session_model::{ReceiveRefusal, SessionPart};
 use std::marker::Model;
 
 /// A packet that opens: its text, and what the session would keep. It changes nothing until it is accepted.
@@ -25,17 +29,12 @@ pub struct ReceiveDraft<K: Kem> {
 }
 
 impl<K: Kem> Model for ReceiveDraft<K> {
-    ghost use Rattle.dr_model.specs.Drafts.{ReceiveDraft as Received};
-    ghost use Rattle.dr_model.specs.Sessions.{IsLawfulState};
-    ghost use Rattle.ratchet.specs.Seen.{mechanism, received, seen};
+    ghost use Rattle.session_model.specs.Taking.{ReceiveDraft as Received};
+    ghost use Rattle.ratchet.specs.Seen.{received};
 
     ghost Value = { Received };
 
-    ghost view = { λ d. received d.position d.text.items
-        (seen d.part.side d.part.session d.part.root d.part.epoch d.part.phase d.part.previous d.part.receiving d.part.kept.items) };
-
-    ghost invariant = { λ d. IsLawfulState (mechanism K.meaning K.PUBLIC K.SECRET K.CIPHERTEXT)
-        (seen d.part.side d.part.session d.part.root d.part.epoch d.part.phase d.part.previous d.part.receiving d.part.kept.items) };
+    ghost view = { λ d. received d.position d.text.items d.part };
 }
 
 impl<K: Kem> ReceiveDraft<K> {
@@ -56,13 +55,14 @@ impl<K: Kem> ReceiveDraft<K> {
 
     /// What the session would keep.
     pub fn part(&self) -> &SessionPart<K>
-        ensures { self.now.next ≡ seen result.now.side result.now.session result.now.root result.now.epoch result.now.phase result.now.previous result.now.receiving result.now.kept.items }
+        ensures { result.now ≡ self.now.next }
     {
         &self.part
     }
 
-    /// Makes it the session's. The session is the one that it was drafted from.
+    /// Makes it the session's, which still has the state that it was drafted from.
     pub fn accept(self, session: &mut Session<K>)
+        requires { IsReceiveDraft K.mechanism session.old self }
         ensures { session.new ≡ self.next }
     {
         let ReceiveDraft {
@@ -83,39 +83,49 @@ impl<K: Kem> ReceiveDraft<K> {
     }
 }
 
-/// Opens a packet on the way to its key, if its tag is the one under that key.
-fn open_on<K: Kem>(way: Way<K>, view: &View<'_>) -> Result<ReceiveDraft<K>, Refusal>
-    ensures { result ≡ opening_on view.now way }
+/// Opens the ciphertext of a packet in place with the key that was found for it, if its tag is the one under that key.
+fn open_text(key: OpenKey, view: &View<'_>, text: &mut Message) -> Result<(), ReceiveRefusal>
+    requires { text.old.items ≡ view.now.ciphertext }
+    ensures { (next : State) → opened result view.now text.new.items next ≡ opening_on view.now (on_way key next) }
 {
-    let Way { key, part } = way;
-    let mut text = message_of(view.ciphertext());
-    match open(key, view.ad(), &mut text, view.tag()) {
-        Err(_) => Err(Refusal::BadTag),
-        Ok(()) => Ok(ReceiveDraft {
-            position: Position {
-                epoch: view.epoch(),
-                index: view.index(),
-            },
-            text,
-            part,
-        }),
+    match open(key, view.ad(), text, view.tag()) {
+        Err(_) => Err(ReceiveRefusal::BadTag),
+        Ok(()) => Ok(()),
     }
 }
 
 impl<K: Kem> Session<K> {
     /// Drafts the taking of a packet, or answers why it is refused.
-    #[tactic(auto, unfolding(dr_model::specs::Drafts::draft_receive))]
+    #[tactic(auto, unfolding(session_model::specs::Taking::draft_receive))]
     pub fn draft_receive(
         &self,
         work: &mut K::Work,
         view: &View<'_>,
-    ) -> Result<ReceiveDraft<K>, Refusal>
-        requires { IsLawful (K.CIPHERTEXT + K.PUBLIC) view.now }
-        ensures { result ≡ draft_receive (mechanism K.meaning K.PUBLIC K.SECRET K.CIPHERTEXT) self.now view.now }
+    ) -> Result<ReceiveDraft<K>, ReceiveRefusal>
+        requires { IsLawful (agreement_size K.mechanism) view.now }
+        ensures exact { refused_as receive_refusal result ≡ draft_receive K.mechanism self.now view.now }
+        ensures draft { IfOk result (λ draft. IsReceiveDraft K.mechanism self.now draft) }
     {
-        match self.find_way(work, view) {
-            Err(refusal) => Err(refusal),
-            Ok(way) => open_on(way, view),
+        let mut draft = ReceiveDraft {
+            position: Position {
+                epoch: view.epoch(),
+                index: view.index(),
+            },
+            text: in_room(view.ciphertext()),
+            part: self.part.copy(),
+        };
+        match find_key(&self.part, &mut draft.part, work, view) {
+            Err(refusal) => {
+                draft.discard();
+                Err(refusal)
+            }
+            Ok(key) => match open_text(key, view, &mut draft.text) {
+                Err(refusal) => {
+                    draft.discard();
+                    Err(refusal)
+                }
+                Ok(()) => Ok(draft),
+            },
         }
     }
 }

@@ -1,13 +1,12 @@
 //! A text that would be said.
 
 ghost use Rattle.std.specs.Prelude.{◌≡◌, ◌≤◌, length};
-ghost use Rattle.ratchet.specs.Seen.{mechanism, seen};
+ghost use Rattle.session_model.specs.Drafts.{IsSendDraft};
 
-use crate::sealing::Packet;
 use crate::session::Session;
-use dr_base::{Key32, Position};
+use dr_base::{Key32, PACKET_LIMIT, Position};
 use kem_laws::Kem;
-use session_record::SessionPart;
+use session_model::SessionPart;
 use std::marker::Model;
 
 /// This seed gives no pair of keys: no turn was made.
@@ -22,24 +21,23 @@ pub struct NoPairFor {
 /// It can't be copied, and it has to be spent: by `accept`, or by `discard`.
 pub struct SendDraft<K: Kem> {
     pub(crate) position: Position,
-    pub(crate) packet: Packet,
+    /// The packet stands in the front, which has this length.
+    pub(crate) room: [u8; PACKET_LIMIT],
+    pub(crate) len: usize,
     pub(crate) part: SessionPart<K>,
 }
 
 impl<K: Kem> Model for SendDraft<K> {
-    ghost use Rattle.boxes.specs.Items.{Item, item_at};
-    ghost use Rattle.cka.specs.Agreement.{turn_of};
-    ghost use Rattle.dr_model.specs.Drafts.{SendDraft as Drafted};
-    ghost use Rattle.dr_model.specs.Sessions.{IsLawfulState};
-    ghost use Rattle.ratchet.specs.Seen.{drafted, mechanism, seen};
+    ghost use Rattle.std.specs.Prelude.{◌≤◌, take};
+    ghost use Rattle.boxes.specs.Items.{item_at};
+    ghost use Rattle.session_model.specs.Saying.{SendDraft as Drafted};
+    ghost use Rattle.ratchet.specs.Seen.{drafted};
 
     ghost Value = { Drafted };
 
-    ghost view = { λ d. drafted (item_at d.position d.packet.items)
-        (seen d.part.side d.part.session d.part.root d.part.epoch d.part.phase d.part.previous d.part.receiving d.part.kept.items) };
+    ghost view = { λ d. drafted (item_at d.position (take d.len d.room)) d.part };
 
-    ghost invariant = { λ d. IsLawfulState (mechanism K.meaning K.PUBLIC K.SECRET K.CIPHERTEXT)
-        (seen d.part.side d.part.session d.part.root d.part.epoch d.part.phase d.part.previous d.part.receiving d.part.kept.items) };
+    ghost invariant = { λ d. d.len ≤ 3286 };
 }
 
 impl<K: Kem> SendDraft<K> {
@@ -55,23 +53,25 @@ impl<K: Kem> SendDraft<K> {
         ensures value { result.now ≡ self.now.post.bytes }
         ensures fits { length result.now ≤ 3286 }
     {
-        self.packet.as_slice()
+        &self.room[..self.len]
     }
 
     /// What the session would keep.
     pub fn part(&self) -> &SessionPart<K>
-        ensures { self.now.next ≡ seen result.now.side result.now.session result.now.root result.now.epoch result.now.phase result.now.previous result.now.receiving result.now.kept.items }
+        ensures { result.now ≡ self.now.next }
     {
         &self.part
     }
 
-    /// Makes it the session's. The session is the one that it was drafted from.
+    /// Makes it the session's, which still has the state that it was drafted from.
     pub fn accept(self, session: &mut Session<K>)
+        requires { IsSendDraft K.mechanism session.old self }
         ensures { session.new ≡ self.next }
     {
         let SendDraft {
             position: _,
-            packet: _,
+            room: _,
+            len: _,
             part,
         } = self;
         session.part = part;
@@ -81,7 +81,8 @@ impl<K: Kem> SendDraft<K> {
     pub fn discard(self) {
         let SendDraft {
             position: _,
-            packet: _,
+            room: _,
+            len: _,
             part: _,
         } = self;
     }

@@ -1,28 +1,20 @@
 //! A session: what one side keeps of a conversation.
 
 ghost use Rattle.std.specs.Prelude.{◌≡◌, ◌↔◌, ◌≤◌, length, IsSome, IsOk, IfOk};
-ghost use Rattle.dr_model.specs.Drafts.{send_check};
-ghost use Rattle.dr_model.specs.Sessions.{IsLawfulState, opening_state};
-ghost use Rattle.dr_model.specs.Turns.{agreement_seed};
-ghost use Rattle.ratchet.specs.Seen.{mechanism, seen};
+ghost use Rattle.session_model.specs.Refusals.{refused_as, send_refusal};
+ghost use Rattle.session_model.specs.Saying.{send_check};
+ghost use Rattle.session_model.specs.States.{opening_state};
+ghost use Rattle.session_model.specs.Schedule.{agreement_seed};
 
 use crate::beginning::begin;
-use arrayvec::ArrayVec;
-use cka::{Agreement, PublicText, SecretText};
-use dr_base::{Key32, Side};
-use dr_model::Refusal;
+use cka::Agreement;
+use dr_base::{
+    INDEX_LIMIT, Key32, LAST_EPOCH, PUBLIC_LIMIT, SECRET_LIMIT, Side, TEXT_LIMIT, in_room,
+};
+use fs_aead::Skipped;
 use kem_laws::{Kem, NoPair, laws};
-use session_record::{Own, Phase, Reception, SessionPart};
+use session_model::{Own, Phase, Reception, SendRefusal, SessionPart};
 use std::marker::{Model, PhantomData};
-
-/// The longest text, in bytes.
-const TEXT_LIMIT: usize = 1024;
-
-/// How many texts an epoch holds.
-const EPOCH_LIMIT: u32 = 65535;
-
-/// The last epoch.
-const LAST_EPOCH: u32 = 4294967294;
 
 /// One side of a conversation. A contract sees its state.
 #[derive(Drop)]
@@ -31,38 +23,24 @@ pub struct Session<K: Kem> {
 }
 
 impl<K: Kem> Model for Session<K> {
-    ghost use Rattle.dr_model.specs.Sessions.{State, IsLawfulState};
-    ghost use Rattle.ratchet.specs.Seen.{mechanism, seen};
+    ghost use Rattle.session_model.specs.States.{State};
 
     ghost Value = { State };
 
-    ghost view = { λ s. seen s.part.side s.part.session s.part.root s.part.epoch s.part.phase s.part.previous s.part.receiving s.part.kept.items };
-
-    ghost invariant = { λ s. IsLawfulState (mechanism K.meaning K.PUBLIC K.SECRET K.CIPHERTEXT)
-        (seen s.part.side s.part.session s.part.root s.part.epoch s.part.phase s.part.previous s.part.receiving s.part.kept.items) };
-}
-
-/// The first bytes of a buffer, in fixed room.
-fn text_of<const N: usize>(bytes: &[u8]) -> ArrayVec<u8, N>
-    requires { length bytes.now ≤ N }
-    ensures { result.items ≡ bytes.now }
-{
-    let mut text = ArrayVec::new();
-    let _whole = text.try_extend_from_slice(bytes);
-    text
+    ghost view = { λ s. s.part };
 }
 
 impl<K: Kem> Session<K> {
     /// A side's session at the beginning of a conversation. `NoPair` where the agreement seed that follows from the
     /// shared key has no pair.
     pub fn begin(work: &mut K::Work, side: Side, key: &Key32) -> Result<Session<K>, NoPair>
-        ensures ok { IfOk result (λ s. s ≡ opening_state (mechanism K.meaning K.PUBLIC K.SECRET K.CIPHERTEXT) key.now.bytes side) }
-        ensures variant { IsOk result ↔ IsSome (K.meaning.pair_of (agreement_seed key.now.bytes)) }
+        ensures ok { IfOk result (λ s. s ≡ opening_state K.mechanism key.now.bytes side) }
+        ensures variant { IsOk result ↔ IsSome (K.mechanism.meaning.pair_of (agreement_seed key.now.bytes)) }
     {
         laws::<K>();
         let beginning = begin(key);
-        let mut public = [0; 1158];
-        let mut secret = [0; 1763];
+        let mut public = [0; PUBLIC_LIMIT];
+        let mut secret = [0; SECRET_LIMIT];
         match K::pair(
             work,
             &beginning.seed,
@@ -73,7 +51,7 @@ impl<K: Kem> Session<K> {
             Ok(()) => {
                 let (phase, receiving) = match side {
                     Side::First => (
-                        Phase::Peers(text_of(&public[..K::PUBLIC])),
+                        Phase::Peers(in_room(&public[..K::PUBLIC])),
                         Some(Reception {
                             chain: beginning.stream,
                             reach: 0,
@@ -81,7 +59,7 @@ impl<K: Kem> Session<K> {
                     ),
                     Side::Second => (
                         Phase::Own(Own {
-                            secret: text_of(&secret[..K::SECRET]),
+                            secret: in_room(&secret[..K::SECRET]),
                             agreement: Agreement::new(),
                             chain: beginning.stream,
                             sent: 0,
@@ -98,7 +76,7 @@ impl<K: Kem> Session<K> {
                         phase,
                         previous: 0,
                         receiving,
-                        kept: ArrayVec::new(),
+                        kept: Skipped::new(),
                         mechanism: PhantomData,
                     },
                 })
@@ -108,37 +86,36 @@ impl<K: Kem> Session<K> {
 
     /// The session of these parts.
     pub fn resume(part: SessionPart<K>) -> Session<K>
-        requires { IsLawfulState (mechanism K.meaning K.PUBLIC K.SECRET K.CIPHERTEXT)
-            (seen part.side part.session part.root part.epoch part.phase part.previous part.receiving part.kept.items) }
-        ensures { result ≡ seen part.side part.session part.root part.epoch part.phase part.previous part.receiving part.kept.items }
+        ensures { result ≡ part }
     {
         Session { part }
     }
 
     /// The session's parts.
     pub fn part(&self) -> &SessionPart<K>
-        ensures { self.now ≡ seen result.now.side result.now.session result.now.root result.now.epoch result.now.phase result.now.previous result.now.receiving result.now.kept.items }
+        ensures { result.now ≡ self.now }
     {
         &self.part
     }
 
     /// Whether a text of this length may be said, and then whether that needs a seed.
-    pub fn send_check(&self, len: usize) -> Result<bool, Refusal>
-        ensures { result ≡ send_check self.now len }
+    pub fn send_check(&self, len: usize) -> Result<bool, SendRefusal>
+        ensures { refused_as send_refusal result ≡ send_check self.now len }
     {
         if len > TEXT_LIMIT {
-            return Err(Refusal::TextTooLong(len));
+            return Err(SendRefusal::TextTooLong { len });
         }
-        match &self.part.phase {
+        let part = &self.part;
+        match &part.phase {
             Phase::Own(own) => {
-                if own.sent >= EPOCH_LIMIT {
-                    return Err(Refusal::EpochFull);
+                if own.sent >= INDEX_LIMIT {
+                    return Err(SendRefusal::EpochFull);
                 }
                 Ok(false)
             }
             Phase::Peers(_) => {
-                if self.part.epoch >= LAST_EPOCH {
-                    return Err(Refusal::LastEpoch);
+                if part.epoch >= LAST_EPOCH {
+                    return Err(SendRefusal::LastEpoch);
                 }
                 Ok(true)
             }

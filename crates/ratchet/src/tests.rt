@@ -2,16 +2,15 @@
 
 ghost use Rattle.std.specs.Prelude.{◌≡◌, ◌≤◌, length, is_some};
 
-use crate::message::{Message, message_of};
-use crate::sealing::Packet;
+use crate::message::Message;
 use crate::{NoPairFor, Session};
 use arrayvec::ArrayVec;
 use cka::{Agreement, PublicText, SecretText};
-use dr_base::{Key32, Position, Side};
-use dr_model::Refusal;
+use dr_base::{Key32, PACKET_LIMIT, Position, Side, in_room};
+use fs_aead::Skipped;
 use kem_laws::{NoPair, OpenKem};
 use packet::parse;
-use session_record::{Own, Phase, Reception, SessionPart};
+use session_model::{Own, Phase, Reception, Refusal, SendRefusal, SessionPart};
 use std::marker::PhantomData;
 use std::test::Fail;
 
@@ -26,14 +25,8 @@ fn seed_of(asked: bool, byte: u8) -> Option<Key32>
     }
 }
 
-/// A second copy of a packet.
-fn packet_of(bytes: &[u8]) -> Packet
-    requires { length bytes.now ≤ 3286 }
-{
-    let mut packet = Packet::new();
-    packet.try_extend_from_slice(bytes).unwrap();
-    packet
-}
+/// A packet in room of its own.
+type Packet = ArrayVec<u8, PACKET_LIMIT>;
 
 /// Says a text, and answers its packet.
 fn say(session: &mut Session<OpenKem>, text: &[u8], byte: u8) -> Result<Packet, Refusal> {
@@ -42,7 +35,7 @@ fn say(session: &mut Session<OpenKem>, text: &[u8], byte: u8) -> Result<Packet, 
     match session.draft_send(&mut (), text, seed) {
         Err(NoPairFor { seed: _ }) => Err(Refusal::NoPair),
         Ok(draft) => {
-            let packet = packet_of(draft.packet());
+            let packet = in_room(draft.packet());
             draft.accept(session);
             Ok(packet)
         }
@@ -54,9 +47,9 @@ fn take(session: &mut Session<OpenKem>, packet: &Packet) -> Result<Message, Refu
     match parse(packet.as_slice(), 64) {
         Err(fault) => Err(Refusal::Malformed(fault)),
         Ok(view) => match session.draft_receive(&mut (), &view) {
-            Err(refusal) => Err(refusal),
+            Err(refusal) => Err(refusal.into()),
             Ok(draft) => {
-                let text = message_of(draft.text());
+                let text = in_room(draft.text());
                 draft.accept(session);
                 Ok(text)
             }
@@ -85,6 +78,28 @@ fn texts_come_once_and_in_every_order(rt: HostRuntime) -> Result<(), Fail> {
     assert_eq!(rt; take(&mut second, &late).err(), Some(spent));
     let answer = say(&mut second, b"answer", 2)?;
     assert_eq!(rt; take(&mut first, &answer)?.as_slice(), b"answer".as_slice());
+    Ok(())
+}
+
+/// How many texts a packet says that its side's last epoch has.
+fn previous_of(packet: &Packet) -> Option<u32> {
+    match parse(packet.as_slice(), 64) {
+        Ok(view) => Some(view.previous()),
+        Err(_) => None,
+    }
+}
+
+#[test]
+fn texts_that_cross_are_counted(rt: HostRuntime) -> Result<(), Fail> {
+    let (mut first, mut second) = sessions()?;
+    let a = say(&mut first, b"a", 1)?;
+    let b = say(&mut second, b"b", 0)?;
+    assert_eq!(rt; take(&mut second, &a)?.as_slice(), b"a".as_slice());
+    assert_eq!(rt; take(&mut first, &b)?.as_slice(), b"b".as_slice());
+    let c = say(&mut second, b"c", 2)?;
+    // the packet 2.1, before which Second said one text
+    assert_eq!(rt; previous_of(&c), Some(1));
+    assert_eq!(rt; take(&mut first, &c)?.as_slice(), b"c".as_slice());
     Ok(())
 }
 
@@ -119,7 +134,7 @@ fn full_session() -> Session<OpenKem> {
         }),
         previous: 0,
         receiving: None,
-        kept: ArrayVec::new(),
+        kept: Skipped::new(),
         mechanism: PhantomData,
     })
 }
@@ -139,14 +154,14 @@ fn last_session() -> Session<OpenKem> {
             chain: Key32 { bytes: [4; 32] },
             reach: 0,
         }),
-        kept: ArrayVec::new(),
+        kept: Skipped::new(),
         mechanism: PhantomData,
     })
 }
 
 #[test]
 fn ends_are_refused(rt: HostRuntime) -> Result<(), Fail> {
-    assert_eq!(rt; full_session().send_check(1), Err(Refusal::EpochFull));
-    assert_eq!(rt; last_session().send_check(1), Err(Refusal::LastEpoch));
+    assert_eq!(rt; full_session().send_check(1), Err(SendRefusal::EpochFull));
+    assert_eq!(rt; last_session().send_check(1), Err(SendRefusal::LastEpoch));
     Ok(())
 }

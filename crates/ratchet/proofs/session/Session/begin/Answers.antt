@@ -1,22 +1,28 @@
-use Rattle.std.proofs.Common.{◌∙◌, rules, ap, length, refl, sym}
-use Rattle.kem_laws.specs.Meaning.{IsPairOf}
+use Rattle.std.proofs.Common.{◌∙◌, rules, ap, length, Option, refl, sym}
+use Rattle.std.specs.Prelude.{option_map}
+use Rattle.kem_laws.specs.Mechanism.{IsPairOf}
+use Rattle.session_model.specs.Seen.{phase_seen, reception_seen}
+use Rattle.session_model.specs.declared.part.Phase.{Phase}
+use Rattle.session_model.specs.declared.part.Reception.{Reception}
 use Rattle.ratchet.proofs.LawfulOpening.{opens_first, opens_second, front_of}
 use Rattle.ratchet.proofs.session.Session.begin.Goals as goal
 use Rattle.ratchet.proofs.session.Session.begin.Goals.{in-First, in-Second}
 
 pub invariant_of-result : goal.invariant_of-result
 invariant_of-result g c =
-    let pair : IsPairOf g.K.Kem.meaning c.begin-beginning.result.seed.bytes c.pair.new.public c.pair.new.secret =
+    let pair : IsPairOf g.K.Kem.mechanism.meaning c.begin-beginning.result.seed.bytes c.pair.new.public c.pair.new.secret =
     record { long = search rules; gives = c.in-Ok.ensures.exact } in
-    let public_long = c.laws.ensures.public_long _ _ _ pair in
-    let secret_long = c.laws.ensures.secret_long _ _ _ pair in
+    let public_long = c.laws.ensures.law.public_long _ _ _ pair in
+    let secret_long = c.laws.ensures.law.secret_long _ _ _ pair in
     elim c.match-side.branch [
       | in-First w ↦
-          let public = front_of w.PUBLIC-in-First.result c.pair.new.public _ _ (public_long ∙ sym w.PUBLIC-in-First.ensures) w.text_of.ensures in
-          opens_first _ _ _ _ c.match-side.phase _ w.text_of.result c.begin-beginning.result.stream w.in-First.is w.phase-is c.new-in-Ok.ensures
+          let public = front_of w.PUBLIC-in-First.result c.pair.new.public _ _ (public_long ∙ sym (w.PUBLIC-in-First.ensures ∙ c.laws.ensures.sizes.public_is)) w.in_room.ensures in
+          opens_first _ _ _ _ _ _ _ w.in_room.result.items c.begin-beginning.result.stream.bytes w.in-First.is (ap (λ (x : Phase × Option Reception). phase_seen x.0) w.phase-is)
+          (ap (λ (x : Phase × Option Reception). option_map reception_seen x.1) w.phase-is) c.new-in-Ok.ensures
           (search rules) (search rules) (search rules) (ap length public ∙ public_long)
       | in-Second w ↦
-          let secret = front_of w.SECRET-in-Second.result c.pair.new.secret _ _ (secret_long ∙ sym w.SECRET-in-Second.ensures) w.text_of-in-Second.ensures in
-          opens_second _ _ _ _ c.match-side.phase _ _ w.in-Second.is w.phase-is c.new-in-Ok.ensures (search rules) (search rules) (search rules)
-          (ap length secret ∙ secret_long) (ap g.K.Kem.meaning.bad_byte secret ∙ c.laws.ensures.lawful _ _ _ pair) w.new.ensures refl
+          let secret = front_of w.SECRET-in-Second.result c.pair.new.secret _ _ (secret_long ∙ sym (w.SECRET-in-Second.ensures ∙ c.laws.ensures.sizes.secret_is)) w.in_room-in-Second.ensures in
+          opens_second _ _ _ _ _ _ _ _ w.in-Second.is (ap (λ (x : Phase × Option Reception). phase_seen x.0) w.phase-is)
+          (ap (λ (x : Phase × Option Reception). option_map reception_seen x.1) w.phase-is) c.new-in-Ok.ensures (search rules) (search rules) (search rules)
+          (ap length secret ∙ secret_long) (ap g.K.Kem.mechanism.meaning.bad_byte secret ∙ c.laws.ensures.law.lawful _ _ _ pair) w.new.ensures refl
     ]

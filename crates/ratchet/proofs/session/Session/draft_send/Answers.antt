@@ -1,17 +1,28 @@
 use Rattle.std.proofs.Common.{◌∙◌, sym, ap}
-use Rattle.dr_model.specs.Sessions.{State}
-use Rattle.ratchet.specs.Seen.{phase_seen}
-use Rattle.ratchet.proofs.Saying.{says_own, says_turn-ok, says_turn-err}
+use Rattle.session_model.specs.Saying.{draft_own}
+use Rattle.session_model.specs.States.{State}
+use Rattle.session_model.specs.Seen.{own_seen, phase_seen}
+use Rattle.ratchet.proofs.Saying.{says_own, says_turn}
 use Rattle.ratchet.proofs.session.Session.draft_send.Goals as goal
 
 pub returns-in-Own-clause-ok : goal.returns-in-Own-clause-ok
 returns-in-Own-clause-ok g c =
-    says_own _ _ _ _ _ _ (sym (ap (λ (s : State). s.phase) c.self.view_is) ∙ ap phase_seen c.in-Own.is) c.draft_own.ensures
+    let now = sym (ap (λ (s : State). s.phase) (c.part.view_is ∙ c.self.view_is)) in
+    says_own _ _ _ _ _ _ (now ∙ ap phase_seen c.in-Own.is)
+    (c.say_on-len.ensures.draft ∙ ap (λ s. draft_own s (own_seen c.in-Own.own) c.args.text.now) (c.copy.ensures ∙ c.self.view_is))
 
-pub returns-in-Some-clause-ok : goal.returns-in-Some-clause-ok
-returns-in-Some-clause-ok g c =
-    says_turn-ok _ _ _ _ _ _ _ (sym (ap (λ (s : State). s.phase) c.self.view_is) ∙ ap phase_seen c.in-Peers.is) c.in-Some.is c.draft_turn.ensures.ok
+pub returns-in-Own-clause-draft : goal.returns-in-Own-clause-draft
+returns-in-Own-clause-draft g c = record { text = c.args.text.now; seed = _; gives = returns-in-Own-clause-ok g c }
 
-pub returns-in-Some-clause-err : goal.returns-in-Some-clause-err
-returns-in-Some-clause-err g c =
-    says_turn-err _ _ _ _ _ _ _ (sym (ap (λ (s : State). s.phase) c.self.view_is) ∙ ap phase_seen c.in-Peers.is) c.in-Some.is c.draft_turn.ensures.err
+pub returns-in-Ok-clause-ok : goal.returns-in-Ok-clause-ok
+returns-in-Ok-clause-ok g c =
+    let now = sym (ap (λ (s : State). s.phase) (c.part.view_is ∙ c.self.view_is)) in
+    says_turn _ _ _ _ _ _ _ _ (c.copy.ensures ∙ c.self.view_is) (now ∙ ap phase_seen c.in-Peers.is) c.in-Some.is c.in-Ok.ensures.ok
+
+pub returns-in-Ok-clause-draft : goal.returns-in-Ok-clause-draft
+returns-in-Ok-clause-draft g c = record { text = c.args.text.now; seed = _; gives = returns-in-Ok-clause-ok g c }
+
+pub returns-in-Err-clause-err : goal.returns-in-Err-clause-err
+returns-in-Err-clause-err g c =
+    let now = sym (ap (λ (s : State). s.phase) (c.part.view_is ∙ c.self.view_is)) in
+    says_turn _ _ _ _ _ _ _ _ (c.copy.ensures ∙ c.self.view_is) (now ∙ ap phase_seen c.in-Peers.is) c.in-Some.is c.in-Err.ensures.err

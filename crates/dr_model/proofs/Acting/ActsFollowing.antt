@@ -1,0 +1,133 @@
+-- What a side makes of an act is what the machine does.
+use Rattle.std.proofs.Common.{◌≡◌, ℕ, true, List, length, Option, Some, None, refl, sym, ◌∙◌, ap}
+use Rattle.std.specs.Prelude.{is_some}
+use Rattle.dr_base.specs.Position.{peer_of}
+use Rattle.dr_base.specs.declared.position.Side.{Side}
+use Rattle.dr_base.specs.declared.position.Side.TheVariants.{First, Second}
+use Rattle.kem_laws.specs.Mechanism.{IsLawfulMechanism, Mechanism}
+use Rattle.session_model.specs.Clients.{Client, dropped_of, say_check, take_on}
+use Rattle.dr_model.specs.Machines.Acts.{Act, act_in, act_on, event_of, finishing, kept_by, needs_seed, saying, sending, taking, with_draw, world_for}
+use Rattle.dr_model.specs.Machines.Sides.{Sides, client_of, step_on}
+use Rattle.dr_model.specs.Machines.Steps.{Step, settled}
+use Rattle.dr_model.specs.Machines.WorldSides.{kept_in, sides_of}
+use Rattle.dr_model.specs.Machines.Worlds.{World}
+use Rattle.dr_model.specs.Theorems.Acting.{IsDrawn, IsFairAct}
+use Rattle.dr_model.specs.Theorems.Fairness.{IsFair}
+use Rattle.dr_model.specs.Theorems.LawfulWorlds.{IsLawfulWorld}
+use Rattle.dr_model.proofs.Acting.Keeping.{Leaves, done_kept, done_leaves, kept_on, saying_kept, saying_leaves, sent_kept, sent_leaves, taken_kept, taken_leaves}
+use Rattle.dr_model.proofs.Saying.SayingChecks.{same_check}
+use Rattle.dr_model.proofs.Worlds.Following.{step_follows}
+use Rattle.dr_model.proofs.Worlds.LawfulWorlds.{lawful_next}
+use Rattle.dr_model.proofs.Worlds.WorldViews.{client_of-kept}
+
+-- ---- the event of an act
+
+-- with the draw for it the world is lawful
+lawful_draw : (k : Mechanism) (w : World) (side : Side) (len : ℕ) (draw : Option (List ℕ)) → IsLawfulWorld k w
+    → IsDrawn k w side len draw → IsLawfulWorld k (with_draw w draw)
+lawful_draw k w side len None lawful drawn = lawful
+lawful_draw k w side len (Some seed) lawful drawn = record {
+  conversation = lawful.conversation;
+  first = lawful.first;
+  second = lawful.second;
+  given = drawn.whole;
+}
+
+lawful_for : (k : Mechanism) (w : World) (side : Side) (act : Act) → IsLawfulWorld k w → IsFairAct k w side act
+    → IsLawfulWorld k (world_for w act)
+lawful_for k w side (saying text draw) lawful fair = lawful_draw k w side (length text) draw lawful fair
+lawful_for k w side (taking bytes) lawful fair = lawful
+lawful_for k w side (finishing n) lawful fair = lawful
+lawful_for k w side (sending n) lawful fair = lawful
+
+-- and the event is fair
+fair_event : (k : Mechanism) (w : World) (side : Side) (act : Act) → IsFairAct k w side act
+    → IsFair k (world_for w act) (event_of side act)
+fair_event k w side (saying text draw) fair = record { unforged = tt; whole = tt }
+fair_event k w side (taking bytes) fair = record { unforged = fair; whole = tt }
+fair_event k w side (finishing n) fair = record { unforged = tt; whole = tt }
+fair_event k w side (sending n) fair = record { unforged = tt; whole = tt }
+
+pub lawful_act : (k : Mechanism) (w : World) (side : Side) (act : Act) → IsLawfulWorld k w → IsFairAct k w side act
+    → IsLawfulWorld k (act_in k w side act).next
+lawful_act k w side act lawful fair =
+    lawful_next k (world_for w act) (event_of side act) (lawful_for k w side act lawful fair) (fair_event k w side act fair).whole
+
+-- ---- what a side keeps
+
+-- whatever was drawn
+draw_keeps : (k : Mechanism) (w : World) (side : Side) (draw : Option (List ℕ))
+    → kept_in k (with_draw w draw) side ≡ kept_in k w side
+draw_keeps k w side None = refl
+draw_keeps k w First (Some seed) = refl
+draw_keeps k w Second (Some seed) = refl
+
+act_keeps : (k : Mechanism) (w : World) (side : Side) (act : Act)
+    → client_of (sides_of k (world_for w act)) side ≡ kept_in k w side
+act_keeps k w side (saying text draw) = client_of-kept k (with_draw w draw) side ∙ draw_keeps k w side draw
+act_keeps k w side (taking bytes) = client_of-kept k w side
+act_keeps k w side (finishing n) = client_of-kept k w side
+act_keeps k w side (sending n) = client_of-kept k w side
+
+-- the draw is the next one
+draw_given : (k : Mechanism) (w : World) (draw : Option (List ℕ)) → is_some draw ≡ true
+    → (sides_of k (with_draw w draw)).draws.given ≡ draw
+draw_given k w (Some seed) some = refl
+draw_given k w None some = cc
+
+-- whether a text needs a seed doesn't depend on it
+same_need : (k : Mechanism) (w : World) (side : Side) (len : ℕ) (draw : Option (List ℕ)) → IsLawfulWorld k w
+    → IsDrawn k w side len draw
+    → is_some draw ≡ needs_seed (say_check (client_of (sides_of k (with_draw w draw)) side) len)
+same_need k w side len draw lawful drawn =
+    drawn.needed ∙ sym (ap needs_seed (same_check k w side len lawful))
+    ∙ sym (ap (λ (client : Client). needs_seed (say_check client len))
+    (client_of-kept k (with_draw w draw) side ∙ draw_keeps k w side draw ∙ sym (client_of-kept k w side)))
+
+-- what the side makes of the event
+acted : (k : Mechanism) (w : World) (side : Side) (act : Act) → IsLawfulWorld k w → IsFairAct k w side act
+    → kept_on side (step_on k (sides_of k (world_for w act)) (event_of side act))
+    ≡ settled (client_of (sides_of k (world_for w act)) side) (act_on k (client_of (sides_of k (world_for w act)) side) act)
+acted k w side (saying text draw) lawful fair =
+    let s = sides_of k (with_draw w draw) in
+    saying_kept k s side text draw (say_check (client_of s side) (length text))
+    (same_need k w side (length text) draw lawful fair) (draw_given k w draw)
+acted k w side (taking bytes) lawful fair = taken_kept (sides_of k w) side (take_on k (client_of (sides_of k w) side) bytes)
+acted k w side (finishing n) lawful fair =
+    done_kept (sides_of k w) side n (dropped_of n (client_of (sides_of k w) side).inbox)
+acted k w side (sending n) lawful fair =
+    sent_kept (sides_of k w) side n (dropped_of n (client_of (sides_of k w) side).outbox)
+
+pub act_follows : (k : Mechanism) (w : World) (side : Side) (act : Act) → IsLawfulMechanism k → IsLawfulWorld k w
+    → IsFairAct k w side act
+    → settled (kept_in k w side) (act_on k (kept_in k w side) act) ≡ kept_by k side (act_in k w side act)
+act_follows k w side act law lawful fair =
+    sym (ap (λ (client : Client). settled client (act_on k client act)) (act_keeps k w side act))
+    ∙ sym (acted k w side act lawful fair)
+    ∙ ap (kept_on side) (step_follows k (world_for w act) (event_of side act) law (lawful_for k w side act lawful fair)
+    (fair_event k w side act fair))
+    ∙ ap (λ (client : Client). record {
+      answer = (act_in k w side act).answer;
+      entries = (act_in k w side act).entries;
+      next = client;
+    })
+    (client_of-kept k (act_in k w side act).next side)
+
+-- ---- what the other side keeps
+
+event_leaves : (k : Mechanism) (s : Sides) (side : Side) (act : Act) → Leaves side s (step_on k s (event_of side act))
+event_leaves k s side (saying text draw) = saying_leaves k s side text (say_check (client_of s side) (length text))
+event_leaves k s side (taking bytes) = taken_leaves s side (take_on k (client_of s side) bytes)
+event_leaves k s side (finishing n) = done_leaves s side n (dropped_of n (client_of s side).inbox)
+event_leaves k s side (sending n) = sent_leaves s side n (dropped_of n (client_of s side).outbox)
+
+pub act_leaves : (k : Mechanism) (w : World) (side : Side) (act : Act) → IsLawfulMechanism k → IsLawfulWorld k w
+    → IsFairAct k w side act
+    → kept_in k (act_in k w side act).next (peer_of side) ≡ kept_in k w (peer_of side)
+act_leaves k w side act law lawful fair =
+    sym (client_of-kept k (act_in k w side act).next (peer_of side))
+    ∙ sym (ap (λ (made : Step Sides). client_of made.next (peer_of side))
+    (step_follows k (world_for w act) (event_of side act) law (lawful_for k w side act lawful fair)
+    (fair_event k w side act fair)))
+    ∙ event_leaves k (sides_of k (world_for w act)) side act
+    ∙ act_keeps k w (peer_of side) act

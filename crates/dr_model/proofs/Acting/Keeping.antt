@@ -1,0 +1,102 @@
+-- A step on both sides, as one side keeps it.
+use Rattle.std.proofs.Common.{◌≡◌, ℕ, Bool, true, false, List, [], Option, Some, None, Result, Ok, Err, refl, ◌∙◌, ap, ap₂}
+use Rattle.std.specs.Prelude.{is_some}
+use Rattle.boxes.specs.Items.{Item}
+use Rattle.dr_base.specs.Position.{peer_of}
+use Rattle.dr_base.specs.declared.position.Side.{Side}
+use Rattle.dr_base.specs.declared.position.Side.TheVariants.{First, Second}
+use Rattle.kem_laws.specs.Mechanism.{Mechanism}
+use Rattle.session_model.specs.Clients.{Client, SaidText, TakenPacket, say_on}
+use Rattle.session_model.specs.declared.answer.Answer.TheVariants.{Done, Opened, Sent}
+use Rattle.session_model.specs.declared.answer.Refusal.{Refusal}
+use Rattle.dr_model.specs.Machines.Acts.{finished_by, needs_seed, said_by, saying_by, sent_by, taken_by}
+use Rattle.dr_model.specs.Machines.Draws.{Draws, after_draw, drawn, given_or, next_seed}
+use Rattle.dr_model.specs.Machines.Sides.{Sides, client_of, done_on, opened_on, said_on, saying_on, sent_on, with_client}
+use Rattle.dr_model.specs.Machines.Steps.{Step, settled, step}
+
+-- what the side then keeps, and whether the other side keeps what it kept
+abbrev pub kept_on : Side → Step Sides → Step Client
+kept_on side made = record { answer = made.answer; entries = made.entries; next = client_of made.next side }
+
+abbrev pub Leaves : Side → Sides → Step Sides → Type 0
+Leaves side s made = client_of made.next (peer_of side) ≡ client_of s (peer_of side)
+
+mine : (s : Sides) (side : Side) (client : Client) → client_of (with_client s side client) side ≡ client
+mine s First client = refl
+mine s Second client = refl
+
+others : (s : Sides) (side : Side) (client : Client)
+    → client_of (with_client s side client) (peer_of side) ≡ client_of s (peer_of side)
+others s First client = refl
+others s Second client = refl
+
+-- a packet is taken
+pub taken_kept : (s : Sides) (side : Side) (r : Result TakenPacket Refusal)
+    → kept_on side (opened_on s side r) ≡ settled (client_of s side) (taken_by r)
+taken_kept s side (Ok taken) = ap (λ (c : Client). step (Opened taken.position) c) (mine s side taken.next)
+taken_kept s side (Err refusal) = refl
+
+pub taken_leaves : (s : Sides) (side : Side) (r : Result TakenPacket Refusal) → Leaves side s (opened_on s side r)
+taken_leaves s side (Ok taken) = others s side taken.next
+taken_leaves s side (Err refusal) = refl
+
+-- items leave a box
+pub done_kept : (s : Sides) (side : Side) (n : ℕ) (r : Result (List Item) Refusal)
+    → kept_on side (done_on s side n r) ≡ settled (client_of s side) (finished_by (client_of s side) n r)
+done_kept s side n (Ok inbox) =
+    ap (λ (c : Client). step (Done n) c) (mine s side (record (client_of s side) { inbox = inbox }))
+done_kept s side n (Err refusal) = refl
+
+pub done_leaves : (s : Sides) (side : Side) (n : ℕ) (r : Result (List Item) Refusal) → Leaves side s (done_on s side n r)
+done_leaves s side n (Ok inbox) = others s side (record (client_of s side) { inbox = inbox })
+done_leaves s side n (Err refusal) = refl
+
+pub sent_kept : (s : Sides) (side : Side) (n : ℕ) (r : Result (List Item) Refusal)
+    → kept_on side (sent_on s side n r) ≡ settled (client_of s side) (sent_by (client_of s side) n r)
+sent_kept s side n (Ok outbox) =
+    ap (λ (c : Client). step (Sent n) c) (mine s side (record (client_of s side) { outbox = outbox }))
+sent_kept s side n (Err refusal) = refl
+
+pub sent_leaves : (s : Sides) (side : Side) (n : ℕ) (r : Result (List Item) Refusal) → Leaves side s (sent_on s side n r)
+sent_leaves s side n (Ok outbox) = others s side (record (client_of s side) { outbox = outbox })
+sent_leaves s side n (Err refusal) = refl
+
+-- a text is said
+said_kept : (s : Sides) (side : Side) (r : Result SaidText Refusal)
+    → kept_on side (said_on s side r) ≡ settled (client_of s side) (said_by r)
+said_kept s First (Ok said) = refl
+said_kept s Second (Ok said) = refl
+said_kept s side (Err refusal) = refl
+
+said_leaves : (s : Sides) (side : Side) (r : Result SaidText Refusal) → Leaves side s (said_on s side r)
+said_leaves s First (Ok said) = refl
+said_leaves s Second (Ok said) = refl
+said_leaves s side (Err refusal) = refl
+
+-- once a draw was made
+drawn_client : (s : Sides) (side : Side) (draws : Draws) → client_of (record s { draws = draws }) side ≡ client_of s side
+drawn_client s First draws = refl
+drawn_client s Second draws = refl
+
+-- with the seed that was drawn for it, where one is needed
+pub saying_kept : (k : Mechanism) (s : Sides) (side : Side) (text : List ℕ) (draw : Option (List ℕ))
+    (r : Result Bool Refusal) → is_some draw ≡ needs_seed r
+    → (is_some draw ≡ true → s.draws.given ≡ draw)
+    → kept_on side (saying_on k s side text r) ≡ settled (client_of s side) (saying_by k (client_of s side) text draw r)
+saying_kept k s side text draw (Err refusal) needed given = refl
+saying_kept k s side text None (Ok false) needed given = said_kept s side (say_on k (client_of s side) text [])
+saying_kept k s side text (Some seed) (Ok false) needed given = cc
+saying_kept k s side text None (Ok true) needed given = cc
+saying_kept k s side text (Some seed) (Ok true) needed given =
+    said_kept (record s { draws = after_draw s.draws }) side (say_on k (client_of s side) text (next_seed s.key s.draws))
+    ∙ ap₂ (λ (client : Client) seed. settled client (said_by (say_on k (client_of s side) text seed)))
+    (drawn_client s side (after_draw s.draws))
+    (ap (given_or (drawn s.key s.draws.made)) (given refl))
+
+pub saying_leaves : (k : Mechanism) (s : Sides) (side : Side) (text : List ℕ) (r : Result Bool Refusal)
+    → Leaves side s (saying_on k s side text r)
+saying_leaves k s side text (Err refusal) = refl
+saying_leaves k s side text (Ok false) = said_leaves s side (say_on k (client_of s side) text [])
+saying_leaves k s side text (Ok true) =
+    said_leaves (record s { draws = after_draw s.draws }) side (say_on k (client_of s side) text (next_seed s.key s.draws))
+    ∙ drawn_client s (peer_of side) (after_draw s.draws)

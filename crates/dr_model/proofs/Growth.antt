@@ -1,0 +1,11 @@
+pub mod BoxSizes
+pub mod Growing
+pub mod GrowingLawful
+pub mod GrowingStates
+pub mod GrowingViews
+pub mod TurnGrowth
+pub mod TurnedViews
+pub mod WorldGrowth
+pub mod PeerStates
+pub mod SaidStays
+pub mod Texts

@@ -1,0 +1,24 @@
+-- How many items stand in the boxes of a view.
+use Rattle.std.proofs.Common.{◌≡◌, ℕ, ◌+◌, ◌-◌, ◌<◌, ◌≤◌, Bool, true, false, [], ◌∷◌, length, refl, ◌∙◌, ap, arith, if◌then◌else◌}
+use Rattle.std.proofs.lemmas.List.{length-drop, length-map}
+use Rattle.boxes.specs.Items.{Item}
+use Rattle.kem_laws.specs.Mechanism.{Mechanism}
+use Rattle.dr_model.specs.Conversations.Conversation.{Conversation}
+use Rattle.dr_model.specs.Conversations.Posts.{posts_of}
+use Rattle.dr_model.specs.Conversations.Views.{View, entry_at, history_of, inbox_of, outbox_of}
+
+-- the texts that arrived but for those that left
+pub length-inbox_of : (c : Conversation) (v : View) → length (inbox_of c v) ≡ length v.arrived - v.done
+length-inbox_of c v = length-drop v.done (history_of c v) ∙ ap (λ n. n - v.done) (length-map v.arrived (entry_at c))
+
+-- the packets that were made but for those that left
+pub length-outbox_of : (k : Mechanism) (c : Conversation) (v : View)
+    → length (outbox_of k c v) ≡ length (posts_of k c v.side) - v.dropped
+length-outbox_of k c v = length-drop v.dropped (posts_of k c v.side)
+
+-- a box within its limit stays so with one item more, where it had room
+pub one_more_fits : (items more gone most : ℕ) (x : Item) (new : Bool) → more ≡ items + length (if new then x ∷ [] else [])
+    → items - gone ≤ most
+    → (new ≡ true → items - gone < most) → more - gone ≤ most
+one_more_fits items more gone most x true e few room = let h = room refl in omega arith
+one_more_fits items more gone most x false e few room = omega arith

@@ -1,0 +1,138 @@
+-- A conversation with one text more: what was said stays.
+use Rattle.std.proofs.Common.{◌≡◌, ◌≢◌, ℕ, ◌+◌, ◌-◌, ◌≤◌, ◌&&◌, Bool, true, false, nat_le, List, [], ◌∷◌, ◌++◌, length, filter, refl, sym, ◌∙◌, ap, append-nil, append_assoc, length-append, subst, if◌then◌else◌, arith}
+use Rattle.std.specs.Prelude.{All, slice_index_or}
+use Rattle.std.proofs.lemmas.Bool.Decides.{nat_tests}
+use Rattle.std.proofs.lemmas.List.Elements.{All-nil, All-cons, filter-append}
+use Rattle.boxes.specs.Items.{item_at}
+use Rattle.dr_base.specs.Position.{is_own}
+use Rattle.dr_base.specs.declared.position.Position.{Position}
+use Rattle.dr_base.specs.declared.position.Side.{Side}
+use Rattle.dr_model.specs.Conversations.Conversation.{Said, Conversation, texts_of, count_of, previous_of, text_at, is_said, next_position, positions_after, positions}
+use Rattle.dr_model.specs.Conversations.Views.{entry_at}
+use Rattle.dr_model.proofs.Growth.Texts.{saying_of, texts_of-append, texts_of-first, texts_of-other, count-grows, text-stays, text-new, epoch-most}
+
+-- a conversation with one text more, and these seeds
+abbrev pub grown : Conversation → List (List ℕ) → ℕ → List ℕ → Conversation
+grown c seeds epoch text = record { key = c.key; seeds = seeds; said = c.said ++ saying_of epoch text ∷ [] }
+
+-- ---- one position
+
+-- a greater count
+said_still : (i n m : ℕ) → n ≤ m → (nat_le 1 i && nat_le i n) ≡ true → (nat_le 1 i && nat_le i m) ≡ true
+said_still i n m le h = grind (arith, nat_tests)
+
+-- what was said is said
+pub is_said-grown : (c : Conversation) (seeds : List (List ℕ)) (epoch : ℕ) (text : List ℕ) (p : Position)
+    → is_said c p ≡ true
+    → is_said (grown c seeds epoch text) p ≡ true
+is_said-grown c seeds epoch text p said =
+    said_still p.index (count_of c p.epoch) (count_of (grown c seeds epoch text) p.epoch)
+    (count-grows c.said epoch text p.epoch) said
+
+-- its index is from 1 to the count
+pub said_from : (i n : ℕ) → (nat_le 1 i && nat_le i n) ≡ true → 1 ≤ i
+said_from i n h = grind (arith, nat_tests)
+
+pub said_to : (i n : ℕ) → (nat_le 1 i && nat_le i n) ≡ true → i ≤ n
+said_to i n h = grind (arith, nat_tests)
+
+pub said_so : (i n : ℕ) → 1 ≤ i → i ≤ n → (nat_le 1 i && nat_le i n) ≡ true
+said_so i n one most = grind (arith, nat_tests)
+
+-- its text
+pub text_at-grown : (c : Conversation) (seeds : List (List ℕ)) (epoch : ℕ) (text : List ℕ) (p : Position)
+    → is_said c p ≡ true
+    → text_at (grown c seeds epoch text) p ≡ text_at c p
+text_at-grown c seeds epoch text p said =
+    text-stays c.said epoch text p.epoch (p.index - 1)
+    (omega (arith, said_from p.index (count_of c p.epoch) said, said_to p.index (count_of c p.epoch) said))
+
+pub entry_at-grown : (c : Conversation) (seeds : List (List ℕ)) (epoch : ℕ) (text : List ℕ) (p : Position)
+    → is_said c p ≡ true
+    → entry_at (grown c seeds epoch text) p ≡ entry_at c p
+entry_at-grown c seeds epoch text p said = ap (item_at p) (text_at-grown c seeds epoch text p said)
+
+-- the text that is new
+pub text_at-new : (c : Conversation) (seeds : List (List ℕ)) (epoch : ℕ) (text : List ℕ)
+    → text_at (grown c seeds epoch text) (next_position c.said epoch) ≡ text
+text_at-new c seeds epoch text =
+    let step : count_of c epoch + 1 - 1 ≡ count_of c epoch = omega arith in
+    ap (λ i. slice_index_or (texts_of (grown c seeds epoch text).said epoch) i []) step
+    ∙ text-new c.said epoch text
+
+-- the count of another epoch
+pub count-grown : (c : Conversation) (seeds : List (List ℕ)) (epoch : ℕ) (text : List ℕ) (t : ℕ) → t ≢ epoch
+    → count_of (grown c seeds epoch text) t ≡ count_of c t
+count-grown c seeds epoch text t other = ap length (texts_of-other c.said epoch text t other)
+
+-- and the count two before, up to the epoch after
+previous_by : (m n : ℕ) (late : Bool) → (late ≡ true → m ≡ n) → (if late then m else 0) ≡ (if late then n else 0)
+previous_by m n true same = same refl
+previous_by m n false same = refl
+
+earlier : (t epoch : ℕ) → nat_le 2 t ≡ true → t ≤ epoch + 1 → t - 2 ≢ epoch
+earlier t epoch late near same = let two : 2 ≤ t = grind (arith, nat_tests) in omega arith
+
+pub previous-grown : (c : Conversation) (seeds : List (List ℕ)) (epoch : ℕ) (text : List ℕ) (t : ℕ) → t ≤ epoch + 1
+    → previous_of (grown c seeds epoch text) t ≡ previous_of c t
+previous-grown c seeds epoch text t near =
+    previous_by (count_of (grown c seeds epoch text) (t - 2)) (count_of c (t - 2)) (nat_le 2 t)
+    (λ late. count-grown c seeds epoch text (t - 2) (earlier t epoch late near))
+
+-- ---- all positions
+
+-- one position more, at the end
+positions_after-push : (before rest : List Said) (s : Said)
+    → positions_after before (rest ++ s ∷ []) ≡ positions_after before rest ++ next_position (before ++ rest) s.epoch ∷ []
+unfolding positions_after
+positions_after-push before [] s = ap (λ said. next_position said s.epoch ∷ []) (sym (append-nil before))
+positions_after-push before (r ∷ rest) s =
+    ap (λ ps. next_position before r.epoch ∷ ps)
+    (positions_after-push (before ++ r ∷ []) rest s
+    ∙ ap (λ said. positions_after (before ++ r ∷ []) rest ++ next_position said s.epoch ∷ [])
+    (append_assoc before (r ∷ []) rest))
+
+pub positions-grown : (c : Conversation) (seeds : List (List ℕ)) (epoch : ℕ) (text : List ℕ)
+    → positions (grown c seeds epoch text) ≡ positions c ++ next_position c.said epoch ∷ []
+positions-grown c seeds epoch text = positions_after-push [] c.said (saying_of epoch text)
+
+-- those of a side
+pub own_positions-grown : (c : Conversation) (seeds : List (List ℕ)) (epoch : ℕ) (text : List ℕ) (side : Side)
+    → filter (λ p. is_own side p.epoch) (positions (grown c seeds epoch text))
+    ≡ filter (λ p. is_own side p.epoch) (positions c) ++ (if is_own side epoch then next_position c.said epoch ∷ [] else [])
+own_positions-grown c seeds epoch text side =
+    ap (filter (λ (p : Position). is_own side p.epoch)) (positions-grown c seeds epoch text)
+    ∙ filter-append (λ (p : Position). is_own side p.epoch) (positions c) (next_position c.said epoch ∷ [])
+
+-- each is one of a text
+abbrev pub IsSaidIn : List Said → Position → Type 0
+IsSaidIn said p = (nat_le 1 p.index && nat_le p.index (length (texts_of said p.epoch))) ≡ true
+
+next_said : (before rest : List Said) (s : Said) → IsSaidIn (before ++ s ∷ rest) (next_position before s.epoch)
+next_said before rest s =
+    said_so (length (texts_of before s.epoch) + 1) (length (texts_of (before ++ s ∷ rest) s.epoch)) (omega arith)
+    (omega (
+      arith,
+      ap length (texts_of-append before (s ∷ rest) s.epoch),
+      length-append (texts_of before s.epoch) (texts_of (s ∷ rest) s.epoch),
+      ap length (texts_of-first s rest),
+    ))
+
+positions_after-said : (before rest : List Said) → All (IsSaidIn (before ++ rest)) (positions_after before rest)
+unfolding positions_after
+positions_after-said before [] = All-nil (IsSaidIn (before ++ []))
+positions_after-said before (s ∷ rest) =
+    All-cons (IsSaidIn (before ++ s ∷ rest)) (next_position before s.epoch) (positions_after (before ++ s ∷ []) rest)
+    (next_said before rest s)
+    (subst (λ said. All (IsSaidIn said) (positions_after (before ++ s ∷ []) rest)) (append_assoc before (s ∷ []) rest)
+    (positions_after-said (before ++ s ∷ []) rest))
+
+pub positions-said : (c : Conversation) → All (λ p. is_said c p ≡ true) (positions c)
+positions-said c = positions_after-said [] c.said
+
+-- what was said has an epoch up to the last
+pub said-begun : (c : Conversation) (last : ℕ) (p : Position) → All (λ s. s.epoch ≤ last) c.said → is_said c p ≡ true
+    → p.epoch ≤ last
+said-begun c last p begun said =
+    epoch-most c.said last p.epoch begun
+    (omega (arith, said_from p.index (count_of c p.epoch) said, said_to p.index (count_of c p.epoch) said))

@@ -1,0 +1,158 @@
+-- A packet and its text stay, whatever happens.
+use Rattle.std.proofs.Common.{◌≡◌, ℕ, ◌+◌, ◌≤◌, true, false, Bool, nat_le, nat_lt, List, [], ◌++◌, ◌∷◌, length, Option, Some, None, Result, Ok, Err, refl, sym, subst, arith, if◌then◌else◌}
+use Rattle.std.specs.Prelude.{All, is_none}
+use Rattle.dr_base.specs.Position.{is_own}
+use Rattle.dr_base.specs.declared.position.Position.{Position}
+use Rattle.dr_base.specs.declared.position.Side.{Side}
+use Rattle.dr_base.specs.declared.position.Side.TheVariants.{First, Second}
+use Rattle.kem_laws.specs.Mechanism.{Mechanism}
+use Rattle.session_model.specs.declared.answer.Answer.TheVariants.{Opened, Sent, Done}
+use Rattle.session_model.specs.declared.answer.Refusal.{Refusal}
+use Rattle.session_model.specs.declared.answer.Refusal.TheVariants.{NoPair, OwnPacket, Spent, SkipLimit, InboxFull, Fewer}
+use Rattle.dr_model.specs.Conversations.Conversation.{Conversation, is_said, with_text, with_turn}
+use Rattle.dr_model.specs.Conversations.Posts.{post_at, posts}
+use Rattle.dr_model.specs.Conversations.Views.{View, has_opened, after_opening, missing_of, entry_at}
+use Rattle.dr_model.specs.Machines.Draws.{next_seed}
+use Rattle.dr_model.specs.Machines.Events.{Event, seeds, says, takes, takes_nth, flips, takes_bytes, drops_sent, drops_done, shows_inbox, shows_state}
+use Rattle.dr_model.specs.Machines.Network.{flipped_at}
+use Rattle.dr_model.specs.Machines.Steps.{Step, step, settled, amount_of}
+use Rattle.dr_model.specs.Machines.Worlds.{World, view_of, with_view, inbox_in, outbox_in, may_say, said_next, saying_in, taking_in, taking_at, said_at, nth_of_peer, made_at, taking_made, taking_given, sent_in, done_in, step_of}
+use Rattle.dr_model.specs.Theorems.LawfulWorlds.{IsLawfulWorld}
+use Rattle.dr_model.proofs.Growth.Growing.{grown, is_said-grown, entry_at-grown, said-begun}
+use Rattle.dr_model.proofs.Growth.TurnGrowth.{SameTurns, post_at-grown, turns_same, turns_stay}
+use Rattle.dr_model.proofs.Saying.SayingFollows.{drawn_in}
+use Rattle.dr_model.proofs.Worlds.WorldViews.{view_lawful}
+
+-- ---- what happens to the conversation
+
+-- a step that leaves it
+abbrev Leaves : World → Step World → Type 0
+Leaves w made = made.next.conversation ≡ w.conversation
+
+with_view_leaves : (w : World) (side : Side) (v : View) → (with_view w side v).conversation ≡ w.conversation
+with_view_leaves w First v = refl
+with_view_leaves w Second v = refl
+
+-- a refusal does, and so does what comes where no test refuses
+steps_leave : (w : World) (a b c d : Bool) (p q r s : Refusal) (made : Step World) → Leaves w made
+    → Leaves w (settled w (if a then Err p else (if b then Err q else (if c then Err r else (if d then Err s else Ok made)))))
+steps_leave w true b c d p q r s made h = refl
+steps_leave w false true c d p q r s made h = refl
+steps_leave w false false true d p q r s made h = refl
+steps_leave w false false false true p q r s made h = refl
+steps_leave w false false false false p q r s made h = h
+
+leave_leaves : (w : World) (enough : Bool) (refusal : Refusal) (made : Step World) → Leaves w made
+    → Leaves w (settled w (if enough then Ok made else Err refusal))
+leave_leaves w true refusal made h = h
+leave_leaves w false refusal made h = refl
+
+-- packets are taken
+taking_leaves : (w : World) (side : Side) (p : Position) → Leaves w (settled w (taking_in w side p))
+taking_leaves w side p =
+    let opened = after_opening (view_of w side) p in
+    let missing = length (missing_of w.conversation opened) in
+    steps_leave w (is_own side p.epoch) (has_opened (view_of w side) p) (nat_lt 256 missing)
+    (nat_le 64 (length (inbox_in w side)))
+    (OwnPacket p.epoch) (Spent p) (SkipLimit missing) InboxFull (step (Opened p) (with_view w side opened))
+    (with_view_leaves w side opened)
+
+at_leaves : (w : World) (side : Side) (p : Option Position) → Leaves w (taking_at w side p)
+at_leaves w side (Some p) = taking_leaves w side p
+at_leaves w side None = refl
+
+made_leaves : (k : Mechanism) (w : World) (side : Side) (bytes : List ℕ) (p : Option Position)
+    → Leaves w (settled w (taking_made k w side bytes p))
+made_leaves k w side bytes (Some p) = taking_leaves w side p
+made_leaves k w side bytes None = refl
+
+given_leaves : (k : Mechanism) (w : World) (side : Side) (bytes : Option (List ℕ)) → Leaves w (taking_given k w side bytes)
+given_leaves k w side (Some bytes) = made_leaves k w side bytes (made_at k w bytes)
+given_leaves k w side None = refl
+
+-- items leave a box
+sent_leaves : (k : Mechanism) (w : World) (side : Side) (n : ℕ) → Leaves w (settled w (sent_in k w side n))
+sent_leaves k w side n =
+    let v = view_of w side in
+    let after = record v { dropped = v.dropped + n } in
+    leave_leaves w (nat_le n (length (outbox_in k w side))) (Fewer (length (outbox_in k w side)))
+    (step (Sent n) (with_view w side after)) (with_view_leaves w side after)
+
+done_leaves : (w : World) (side : Side) (n : ℕ) → Leaves w (settled w (done_in w side n))
+done_leaves w side n =
+    let v = view_of w side in
+    let after = record v { done = v.done + n } in
+    leave_leaves w (nat_le n (length (inbox_in w side))) (Fewer (length (inbox_in w side)))
+    (step (Done n) (with_view w side after)) (with_view_leaves w side after)
+
+-- a text is said, or refused
+next_keeps : (w : World) (side : Side) (seed text : List ℕ) (none : Bool) (P : Conversation → Type 0) → P w.conversation
+    → P (with_turn w.conversation seed ((view_of w side).epoch + 1) text)
+    → P (if none then settled (drawn_in w) (Err NoPair) else said_next (drawn_in w) side seed text).next.conversation
+next_keeps w side seed text true P still next = still
+next_keeps w First seed text false P still next = next
+next_keeps w Second seed text false P still next = next
+
+saying_keeps : (k : Mechanism) (w : World) (side : Side) (text : List ℕ) (r : Result Bool Refusal)
+    (P : Conversation → Type 0) → P w.conversation
+    → P (with_text w.conversation (view_of w side).epoch text)
+    → ((seed : List ℕ) → P (with_turn w.conversation seed ((view_of w side).epoch + 1) text))
+    → P (saying_in k w side text r).next.conversation
+saying_keeps k w side text (Err refusal) P still here next = still
+saying_keeps k w side text (Ok false) P still here next = here
+saying_keeps k w side text (Ok true) P still here next =
+    let seed = next_seed w.conversation.key w.draws in
+    next_keeps w side seed text (is_none (k.meaning.pair_of seed)) P still (next seed)
+
+-- so a property of the conversation holds after a step, if one text more keeps it
+pub step_keeps : (k : Mechanism) (w : World) (h : Event) (P : Conversation → Type 0) → P w.conversation
+    → ((side : Side) (text : List ℕ) → P (with_text w.conversation (view_of w side).epoch text))
+    → ((side : Side) (seed text : List ℕ) → P (with_turn w.conversation seed ((view_of w side).epoch + 1) text))
+    → P (step_of k w h).next.conversation
+step_keeps k w (seeds seed) P still here next = still
+step_keeps k w (says side text) P still here next =
+    saying_keeps k w side text (may_say k w side (length text)) P still (here side text) (λ seed. next side seed text)
+step_keeps k w (takes side p) P still here next = subst P (sym (at_leaves w side (said_at w.conversation p))) still
+step_keeps k w (takes_nth side nth) P still here next =
+    subst P (sym (at_leaves w side (nth_of_peer w.conversation side nth))) still
+step_keeps k w (flips side p bit) P still here next =
+    subst P (sym (given_leaves k w side (flipped_at (posts k w.conversation) p bit))) still
+step_keeps k w (takes_bytes side bytes) P still here next = subst P (sym (given_leaves k w side (Some bytes))) still
+step_keeps k w (drops_sent side amount) P still here next =
+    subst P (sym (sent_leaves k w side (amount_of amount (length (outbox_in k w side))))) still
+step_keeps k w (drops_done side amount) P still here next =
+    subst P (sym (done_leaves w side (amount_of amount (length (inbox_in w side))))) still
+step_keeps k w (shows_inbox side) P still here next = still
+step_keeps k w (shows_state side) P still here next = still
+
+-- ---- what was said
+
+pub texts_stay : (k : Mechanism) (w : World) (h : Event) (p : Position) → is_said w.conversation p ≡ true
+    → entry_at (step_of k w h).next.conversation p ≡ entry_at w.conversation p
+texts_stay k w h p said =
+    let c = w.conversation in
+    step_keeps k w h (λ d. entry_at d p ≡ entry_at c p) refl
+    (λ side text. entry_at-grown c c.seeds (view_of w side).epoch text p said)
+    (λ side seed text. entry_at-grown c (c.seeds ++ seed ∷ []) ((view_of w side).epoch + 1) text p said)
+
+-- a packet is said and stays
+pub post_keeps : (k : Mechanism) (c : Conversation) (more : List (List ℕ)) (epoch : ℕ) (text : List ℕ) (p : Position)
+    → SameTurns k c.key c.seeds more
+    → length c.seeds ≤ epoch + 1 → All (λ s. s.epoch ≤ length c.seeds) c.said → is_said c p ≡ true
+    → (is_said (grown c more epoch text) p ≡ true) × (post_at k (grown c more epoch text) p ≡ post_at k c p)
+post_keeps k c more epoch text p same late begun said = (
+  is_said-grown c more epoch text p said,
+  post_at-grown k c more epoch text p same late (said-begun c (length c.seeds) p begun said) said,
+)
+
+pub packets_stay : (k : Mechanism) (w : World) (h : Event) (p : Position) → IsLawfulWorld k w
+    → is_said w.conversation p ≡ true
+    → (is_said (step_of k w h).next.conversation p ≡ true) × (post_at k (step_of k w h).next.conversation p ≡ post_at k w.conversation p)
+packets_stay k w h p lawful said =
+    let c = w.conversation in
+    step_keeps k w h (λ d. (is_said d p ≡ true) × (post_at k d p ≡ post_at k c p)) (said, refl)
+    (λ side text. post_keeps k c c.seeds (view_of w side).epoch text p (turns_same k c.key c.seeds)
+    (view_lawful k w side lawful).near_end lawful.conversation.begun said)
+    (λ side seed text. post_keeps k c (c.seeds ++ seed ∷ []) ((view_of w side).epoch + 1) text p
+    (turns_stay k c.key c.seeds seed)
+    (let view = view_lawful k w side lawful in omega arith) lawful.conversation.begun said)

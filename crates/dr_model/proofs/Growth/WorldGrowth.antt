@@ -1,0 +1,181 @@
+-- What happens to the views of a world.
+use Rattle.std.proofs.Common.{◌≡◌, ℕ, ◌+◌, Bool, true, false, List, [], ◌∷◌, ◌++◌, length, Option, Some, None, Result, Ok, Err, refl}
+use Rattle.std.specs.List.{list_any}
+use Rattle.std.specs.Prelude.{if◌then◌else◌, nat_le, nat_lt, is_none}
+use Rattle.std.proofs.lemmas.Bool.{cond_both}
+use Rattle.boxes.specs.Items.{Item}
+use Rattle.dr_base.specs.Position.{is_own, is_at}
+use Rattle.dr_base.specs.declared.position.Position.{Position}
+use Rattle.dr_base.specs.declared.position.Side.{Side}
+use Rattle.dr_base.specs.declared.position.Side.TheVariants.{First, Second}
+use Rattle.kem_laws.specs.Mechanism.{Mechanism}
+use Rattle.session_model.specs.declared.answer.Answer.{Answer}
+use Rattle.session_model.specs.declared.answer.Answer.TheVariants.{Opened, Sent, Done, Nothing, Refused}
+use Rattle.session_model.specs.declared.answer.Refusal.{Refusal}
+use Rattle.session_model.specs.declared.answer.Refusal.TheVariants.{NoPair, OwnPacket, Spent, SkipLimit, InboxFull, Fewer}
+use Rattle.dr_model.specs.Conversations.Conversation.{Conversation, with_text}
+use Rattle.dr_model.specs.Conversations.Posts.{posts}
+use Rattle.dr_model.specs.Conversations.ViewStates.{state_of}
+use Rattle.dr_model.specs.Conversations.Views.{View, has_opened, after_opening, missing_of}
+use Rattle.dr_model.specs.Machines.Draws.{Draws, next_seed, after_draw}
+use Rattle.dr_model.specs.Machines.Events.{Event, seeds, says, takes, takes_nth, flips, takes_bytes, drops_sent, drops_done, shows_inbox, shows_state}
+use Rattle.dr_model.specs.Machines.Network.{flipped_at}
+use Rattle.dr_model.specs.Machines.Steps.{Step, step, settled, amount_of}
+use Rattle.dr_model.specs.Machines.Worlds.{World, view_of, with_view, inbox_in, outbox_in, may_say, said_here, said_next, saying_in, taking_in, taking_at, said_at, nth_of_peer, made_at, refusal_of, taking_made, taking_given, sent_in, done_in, step_of}
+use Rattle.dr_model.proofs.Saying.SayingFollows.{drawn_in}
+
+-- the second list is the first, or has at its end one position more, which wasn't among them
+pub data Gains (ps qs : List Position) : Type 0 where
+  same : qs ≡ ps → Gains ps qs
+  more : (p : Position) → list_any (is_at p) ps ≡ false → qs ≡ ps ++ p ∷ [] → Gains ps qs
+
+-- the conversation and both views are as they were
+abbrev pub IsUnchanged : World → World → Type 0
+IsUnchanged w next = (next.conversation ≡ w.conversation) × (next.first ≡ w.first) × (next.second ≡ w.second)
+
+-- with a step a side opens at most one position, a new one, and a refusal changes nothing
+pub record IsSound (w : World) (made : Step World) : Type 0 where
+  pub gains : (side : Side) → Gains (view_of w side).arrived (view_of made.next side).arrived
+  pub refused : (refusal : Refusal) → made.answer ≡ Refused refusal → IsUnchanged w made.next
+
+-- the same of a result, once it is settled
+abbrev IsSettled : World → Result (Step World) Refusal → Type 0
+IsSettled w r = IsSound w (settled w r)
+
+-- a step that leaves the world is sound
+still_sound : (w : World) (answer : Answer) (entries : List Item)
+    → IsSound w (record { answer = answer; entries = entries; next = w })
+still_sound w answer entries = record { gains = λ side. same refl; refused = λ _ _. (refl, refl, refl) }
+
+-- and so is a refusal
+err_sound : (w : World) (refusal : Refusal) → IsSettled w (Err refusal)
+err_sound w refusal = still_sound w (Refused refusal) []
+
+-- a test that refuses is sound, if what comes where it fails is
+unless_sound : (w : World) (test : Bool) (refusal : Refusal) (r : Result (Step World) Refusal)
+    → (test ≡ false → IsSettled w r) → IsSettled w (if test then Err refusal else r)
+unless_sound w test refusal r sound = cond_both test (Err refusal) r (IsSettled w) (λ _. err_sound w refusal) sound
+
+-- a test that is asked for is sound, if what comes where it passes is
+enough_sound : (w : World) (test : Bool) (refusal : Refusal) (made : Step World) → IsSound w made
+    → IsSettled w (if test then Ok made else Err refusal)
+enough_sound w test refusal made sound =
+    cond_both test (Ok made) (Err refusal) (IsSettled w) (λ _. sound) (λ _. err_sound w refusal)
+
+-- ---- one side's view changes
+
+-- with the one view that changes
+with_view_gains : (w : World) (side : Side) (v : View) (other : Side) → Gains (view_of w side).arrived v.arrived
+    → Gains (view_of w other).arrived (view_of (with_view w side v) other).arrived
+with_view_gains w First v First gains = gains
+with_view_gains w First v Second gains = same refl
+with_view_gains w Second v First gains = same refl
+with_view_gains w Second v Second gains = gains
+
+-- packets leave the outbox
+sent_sound : (k : Mechanism) (w : World) (side : Side) (n : ℕ) → IsSettled w (sent_in k w side n)
+sent_sound k w side n =
+    let v = view_of w side in
+    let after = record v { dropped = v.dropped + n } in
+    enough_sound w (nat_le n (length (outbox_in k w side))) (Fewer (length (outbox_in k w side)))
+    (step (Sent n) (with_view w side after))
+    (record { gains = λ other. with_view_gains w side after other (same refl); refused = λ refusal e. cc })
+
+-- texts leave the inbox
+done_sound : (w : World) (side : Side) (n : ℕ) → IsSettled w (done_in w side n)
+done_sound w side n =
+    let v = view_of w side in
+    let after = record v { done = v.done + n } in
+    enough_sound w (nat_le n (length (inbox_in w side))) (Fewer (length (inbox_in w side)))
+    (step (Done n) (with_view w side after))
+    (record { gains = λ other. with_view_gains w side after other (same refl); refused = λ refusal e. cc })
+
+-- ---- a packet is taken
+
+-- the packet of a position is opened
+opened_sound : (w : World) (side : Side) (p : Position) → has_opened (view_of w side) p ≡ false
+    → IsSettled w (Ok (step (Opened p) (with_view w side (after_opening (view_of w side) p))))
+opened_sound w side p new = record {
+  gains = λ other. with_view_gains w side (after_opening (view_of w side) p) other (more p new refl);
+  refused = λ refusal e. cc;
+}
+
+-- or refused
+taking_sound : (w : World) (side : Side) (p : Position) → IsSettled w (taking_in w side p)
+taking_sound w side p =
+    let missing = length (missing_of w.conversation (after_opening (view_of w side) p)) in
+    unless_sound w (is_own side p.epoch) (OwnPacket p.epoch) _
+    (λ _. unless_sound w (has_opened (view_of w side) p) (Spent p) _
+    (λ new. unless_sound w (nat_lt 256 missing) (SkipLimit missing) _
+    (λ _. unless_sound w (nat_le 64 (length (inbox_in w side))) InboxFull _ (λ _. opened_sound w side p new))))
+
+-- or the network holds no such packet
+at_sound : (w : World) (side : Side) (p : Option Position) → IsSound w (taking_at w side p)
+at_sound w side (Some p) = taking_sound w side p
+at_sound w side None = still_sound w Nothing []
+
+-- bytes are taken
+made_sound : (k : Mechanism) (w : World) (side : Side) (bytes : List ℕ) (p : Option Position)
+    → IsSettled w (taking_made k w side bytes p)
+made_sound k w side bytes (Some p) = taking_sound w side p
+made_sound k w side bytes None = err_sound w (refusal_of k (state_of k w.conversation (view_of w side)) bytes)
+
+-- or the network has none to give
+given_sound : (k : Mechanism) (w : World) (side : Side) (bytes : Option (List ℕ)) → IsSound w (taking_given k w side bytes)
+given_sound k w side (Some bytes) = made_sound k w side bytes (made_at k w bytes)
+given_sound k w side None = still_sound w Nothing []
+
+-- ---- a text is said
+
+-- nothing arrives in another conversation, and where draws are made
+talk_gains : (w : World) (conversation : Conversation) (draws : Draws) (side : Side)
+    → Gains (view_of w side).arrived (view_of (record w { conversation = conversation; draws = draws }) side).arrived
+talk_gains w conversation draws First = same refl
+talk_gains w conversation draws Second = same refl
+
+-- nor where a side begins its next epoch
+turn_gains : (w : World) (side : Side) (seed text : List ℕ) (other : Side)
+    → Gains (view_of w other).arrived (view_of (said_next (drawn_in w) side seed text).next other).arrived
+turn_gains w First seed text First = same refl
+turn_gains w First seed text Second = same refl
+turn_gains w Second seed text First = same refl
+turn_gains w Second seed text Second = same refl
+
+-- in the side's epoch
+here_sound : (w : World) (side : Side) (text : List ℕ) → IsSound w (said_here w side text)
+here_sound w side text = record {
+  gains = talk_gains w (with_text w.conversation (view_of w side).epoch text) w.draws;
+  refused = λ refusal e. cc;
+}
+
+-- in its next one, with a draw
+next_sound : (w : World) (side : Side) (seed text : List ℕ) (none : Bool)
+    → IsSound w (if none then settled (drawn_in w) (Err NoPair) else said_next (drawn_in w) side seed text)
+next_sound w side seed text none =
+    cond_both none (settled (drawn_in w) (Err NoPair)) (said_next (drawn_in w) side seed text) (IsSound w)
+    (λ _. record { gains = talk_gains w w.conversation (after_draw w.draws); refused = λ _ _. (refl, refl, refl) })
+    (λ _. record { gains = turn_gains w side seed text; refused = λ refusal e. cc })
+
+-- or refused
+saying_sound : (k : Mechanism) (w : World) (side : Side) (text : List ℕ) (r : Result Bool Refusal)
+    → IsSound w (saying_in k w side text r)
+saying_sound k w side text (Err refusal) = err_sound w refusal
+saying_sound k w side text (Ok false) = here_sound w side text
+saying_sound k w side text (Ok true) =
+    let seed = next_seed w.conversation.key w.draws in next_sound w side seed text (is_none (k.meaning.pair_of seed))
+
+-- ---- any event
+
+-- each is sound
+pub step_sound : (k : Mechanism) (w : World) (h : Event) → IsSound w (step_of k w h)
+step_sound k w (seeds seed) =
+    record { gains = talk_gains w w.conversation (record w.draws { given = Some seed }); refused = λ refusal e. cc }
+step_sound k w (says side text) = saying_sound k w side text (may_say k w side (length text))
+step_sound k w (takes side p) = at_sound w side (said_at w.conversation p)
+step_sound k w (takes_nth side nth) = at_sound w side (nth_of_peer w.conversation side nth)
+step_sound k w (flips side p bit) = given_sound k w side (flipped_at (posts k w.conversation) p bit)
+step_sound k w (takes_bytes side bytes) = given_sound k w side (Some bytes)
+step_sound k w (drops_sent side amount) = sent_sound k w side (amount_of amount (length (outbox_in k w side)))
+step_sound k w (drops_done side amount) = done_sound w side (amount_of amount (length (inbox_in w side)))
+step_sound k w (shows_inbox side) = still_sound w _ (inbox_in w side)
+step_sound k w (shows_state side) = still_sound w _ []

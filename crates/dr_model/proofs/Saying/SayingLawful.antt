@@ -1,0 +1,168 @@
+-- A world stays lawful where a side says a text.
+use Rattle.std.proofs.Common.{◌≡◌, ℕ, ◌+◌, ◌-◌, ◌^◌, ◌<◌, ◌≤◌, true, false, Bool, not, List, [], ◌∷◌, ◌++◌, length, Option, Some, None, Result, Ok, Err, refl, sym, ◌∙◌, ap, if◌then◌else◌, arith}
+use Rattle.std.specs.Prelude.{IfSome, is_none, is_some}
+use Rattle.std.proofs.lemmas.Bool.{leb-false}
+use Rattle.std.proofs.lemmas.List.{length_push}
+use Rattle.dr_base.specs.Position.{is_own, peer_of}
+use Rattle.dr_base.specs.declared.position.Side.{Side}
+use Rattle.dr_base.specs.declared.position.Side.TheVariants.{First, Second}
+use Rattle.dr_base.proofs.Parity.{own_after, own_peer}
+use Rattle.hmac_hkdf.proofs.Lengths.{length-hmac_of}
+use Rattle.kem_laws.specs.Mechanism.{Mechanism}
+use Rattle.session_model.specs.declared.answer.Refusal.{Refusal}
+use Rattle.session_model.specs.declared.answer.Refusal.TheVariants.{NoPair}
+use Rattle.dr_model.specs.Conversations.Conversation.{Conversation, count_of, with_text, with_turn}
+use Rattle.dr_model.specs.Conversations.Lawful.{IsSeed, IsLawfulConversation, IsLawfulView}
+use Rattle.dr_model.specs.Conversations.Views.{View, after_turn, outbox_of}
+use Rattle.dr_model.specs.Machines.Draws.{Draws, drawn, given_or, next_seed}
+use Rattle.dr_model.specs.Machines.Events.{says}
+use Rattle.dr_model.specs.Machines.Steps.{settled}
+use Rattle.dr_model.specs.Machines.Worlds.{World, view_of, outbox_in, may_say, said_here, said_next, saying_in, step_of}
+use Rattle.dr_model.specs.Theorems.LawfulWorlds.{IsLawfulWorld}
+use Rattle.dr_model.proofs.Growth.GrowingLawful.{HasRoom, lawful_text, lawful_turn, view-grown, view-turned}
+use Rattle.dr_model.proofs.Growth.TurnGrowth.{turns_same, turns_stay}
+use Rattle.dr_model.proofs.Saying.SayingChecks.{MaySay, own_where, may_say-where}
+use Rattle.dr_model.proofs.Saying.SayingFollows.{drawn_in}
+use Rattle.dr_model.proofs.Worlds.WorldViews.{own_in, at_last, peer_at_last}
+
+-- ---- the seed of a turn has 32 bytes
+
+length-drawn : (key : List ℕ) (number : ℕ) → length (drawn key number) ≡ 32
+unfolding drawn
+length-drawn key number = length-hmac_of key _
+
+length-given_or : (seed : List ℕ) (given : Option (List ℕ)) → length seed ≡ 32 → IfSome given (λ seed. length seed ≡ 32)
+    → length (given_or seed given) ≡ 32
+length-given_or seed None long h = long
+length-given_or seed (Some given) long h = h
+
+pub length-next_seed : (key : List ℕ) (draws : Draws) → IfSome draws.given (λ seed. length seed ≡ 32)
+    → length (next_seed key draws) ≡ 32
+length-next_seed key draws h = length-given_or (drawn key draws.made) draws.given (length-drawn key draws.made) h
+
+-- ---- in the epoch that stands
+
+-- any view
+view_text : (k : Mechanism) (c : Conversation) (side : Side) (v : View) (epoch : ℕ) (text : List ℕ)
+    → IsLawfulConversation k c → IsLawfulView k c side v
+    → HasRoom k c side v epoch → length c.seeds ≤ epoch + 1 → IsLawfulView k (with_text c epoch text) side v
+view_text k c side v epoch text world lawful room late =
+    view-grown k c c.seeds epoch text side v (turns_same k c.key c.seeds) late world.begun lawful room
+    (omega (arith, lawful.reached))
+    lawful.reached lawful.near_end lawful.waits
+
+-- an epoch of one side's isn't the other's
+no_other : (k : Mechanism) (c : Conversation) (side : Side) (u : View) (epoch : ℕ) → is_own side epoch ≡ true
+    → HasRoom k c (peer_of side) u epoch
+no_other k c side u epoch own other = absurd (let e : true ≡ false = sym other ∙ own_peer side epoch ∙ ap not own in cc)
+
+here_lawful : (k : Mechanism) (w : World) (side : Side) (text : List ℕ) → IsLawfulWorld k w
+    → is_own side (view_of w side).epoch ≡ true
+    → MaySay w.conversation (view_of w side).epoch (length (outbox_in k w side)) (length text) false
+    → IsLawfulWorld k (said_here w side text).next
+here_lawful k w First text lawful own may =
+    let c = w.conversation in
+    let e = w.first.epoch in
+    record {
+      conversation = lawful_text k c e text lawful.conversation lawful.first.reached may.short
+          (leb-false 65535 (count_of c e) may.room);
+      first = view_text k c First w.first e text lawful.conversation lawful.first (λ _. may.free) lawful.first.near_end;
+      second = view_text k c Second w.second e text lawful.conversation lawful.second
+          (no_other k c First w.second e own) lawful.first.near_end;
+      given = lawful.given;
+    }
+here_lawful k w Second text lawful own may =
+    let c = w.conversation in
+    let e = w.second.epoch in
+    record {
+      conversation = lawful_text k c e text lawful.conversation lawful.second.reached may.short
+          (leb-false 65535 (count_of c e) may.room);
+      first = view_text k c First w.first e text lawful.conversation lawful.first
+          (no_other k c Second w.first e own) lawful.second.near_end;
+      second = view_text k c Second w.second e text lawful.conversation lawful.second (λ _. may.free) lawful.second.near_end;
+      given = lawful.given;
+    }
+
+-- ---- in an epoch that begins
+
+-- the side that begins it
+mine_turned : (k : Mechanism) (c : Conversation) (side : Side) (v : View) (seed text : List ℕ) → IsLawfulConversation k c
+    → IsLawfulView k c side v
+    → is_own side v.epoch ≡ false → length (outbox_of k c v) < 32
+    → IsLawfulView k (with_turn c seed (v.epoch + 1) text) side (after_turn v)
+mine_turned k c side v seed text world lawful peers room =
+    let last = at_last k c side v lawful peers in
+    view-turned k c (c.seeds ++ seed ∷ []) text side v (turns_stay k c.key c.seeds seed) world.begun lawful
+    (own_in k c side v v.epoch false lawful peers) room (omega arith) (omega (arith, length_push c.seeds seed))
+
+-- and the other, which waits for it
+peer_turned : (k : Mechanism) (c : Conversation) (side : Side) (v u : View) (seed text : List ℕ) → IsLawfulConversation k c
+    → IsLawfulView k c side v
+    → IsLawfulView k c (peer_of side) u → is_own side v.epoch ≡ false
+    → IsLawfulView k (with_turn c seed (v.epoch + 1) text) (peer_of side) u
+peer_turned k c side v u seed text world lawful other peers =
+    let last = at_last k c side v lawful peers in
+    let reached : u.epoch ≡ length c.seeds =
+    peer_at_last k c (peer_of side) u other (ap (is_own (peer_of side)) (sym last) ∙ own_peer side v.epoch ∙ ap not peers) in
+    let more : length (c.seeds ++ seed ∷ []) ≡ length c.seeds + 1 = length_push c.seeds seed in
+    let same : u.epoch ≡ v.epoch = omega arith in
+    view-grown k c (c.seeds ++ seed ∷ []) (v.epoch + 1) text (peer_of side) u (turns_stay k c.key c.seeds seed)
+    (omega arith) world.begun other
+    (no_other k c side u (v.epoch + 1) (own_after side v.epoch peers)) (omega arith)
+    (omega arith) (omega arith)
+    (λ _. ap (λ t. is_own (peer_of side) (t + 1)) same ∙ own_peer side (v.epoch + 1) ∙ ap not (own_after side v.epoch peers))
+
+next_lawful : (k : Mechanism) (w : World) (side : Side) (seed text : List ℕ) → IsLawfulWorld k w
+    → is_own side (view_of w side).epoch ≡ false → IsSeed k seed
+    → length text ≤ 1024 → length (outbox_in k w side) < 32 → (view_of w side).epoch < 2 ^ 32 - 2
+    → IsLawfulWorld k (said_next (drawn_in w) side seed text).next
+next_lawful k w First seed text lawful peers pairs short free room = record {
+  conversation = lawful_turn k w.conversation seed w.first.epoch text lawful.conversation
+      (at_last k w.conversation First w.first lawful.first peers) pairs short room;
+  first = mine_turned k w.conversation First w.first seed text lawful.conversation lawful.first peers free;
+  second = peer_turned k w.conversation First w.first w.second seed text lawful.conversation lawful.first lawful.second peers;
+  given = tt;
+}
+next_lawful k w Second seed text lawful peers pairs short free room = record {
+  conversation = lawful_turn k w.conversation seed w.second.epoch text lawful.conversation
+      (at_last k w.conversation Second w.second lawful.second peers) pairs short room;
+  first = peer_turned k w.conversation Second w.second w.first seed text lawful.conversation lawful.second lawful.first peers;
+  second = mine_turned k w.conversation Second w.second seed text lawful.conversation lawful.second peers free;
+  given = tt;
+}
+
+-- whether the seed has a pair or not: a draw was made
+turn_lawful : (k : Mechanism) (w : World) (side : Side) (seed text : List ℕ) (pair : Option (List ℕ × List ℕ))
+    → IsLawfulWorld k w
+    → is_own side (view_of w side).epoch ≡ false → length seed ≡ 32 → k.meaning.pair_of seed ≡ pair → length text ≤ 1024
+    → length (outbox_in k w side) < 32
+    → (view_of w side).epoch < 2 ^ 32 - 2
+    → IsLawfulWorld k (if is_none pair then settled (drawn_in w) (Err NoPair) else said_next (drawn_in w) side seed text).next
+turn_lawful k w side seed text None lawful peers long is short free room = record {
+  conversation = lawful.conversation;
+  first = lawful.first;
+  second = lawful.second;
+  given = tt;
+}
+turn_lawful k w side seed text (Some pair) lawful peers long is short free room =
+    next_lawful k w side seed text lawful peers (record { long = long; pairs = ap is_some is }) short free room
+
+-- ---- the answer
+
+saying_lawful : (k : Mechanism) (w : World) (side : Side) (text : List ℕ) (r : Result Bool Refusal) → IsLawfulWorld k w
+    → may_say k w side (length text) ≡ r
+    → IsLawfulWorld k (saying_in k w side text r).next
+saying_lawful k w side text (Err refusal) lawful is = lawful
+saying_lawful k w side text (Ok false) lawful is =
+    here_lawful k w side text lawful (own_where k w side (length text) false is)
+    (may_say-where k w side (length text) false is)
+saying_lawful k w side text (Ok true) lawful is =
+    let may = may_say-where k w side (length text) true is in
+    let seed = next_seed w.conversation.key w.draws in
+    turn_lawful k w side seed text (k.meaning.pair_of seed) lawful (own_where k w side (length text) true is)
+    (length-next_seed w.conversation.key w.draws lawful.given) refl may.short may.free
+    (leb-false (2 ^ 32 - 2) (view_of w side).epoch may.room)
+
+pub lawful_says : (k : Mechanism) (w : World) (side : Side) (text : List ℕ) → IsLawfulWorld k w
+    → IsLawfulWorld k (step_of k w (says side text)).next
+lawful_says k w side text lawful = saying_lawful k w side text (may_say k w side (length text)) lawful refl

@@ -1,0 +1,142 @@
+-- A side says a text in an epoch of its own.
+use Rattle.std.proofs.Common.{◌≡◌, ℕ, ◌+◌, ◌-◌, ◌≤◌, true, false, nat_le, List, [], ◌∷◌, ◌++◌, length, drop, Some, Ok, refl, sym, ◌∙◌, ap, ap₂, if◌then◌else◌, arith}
+use Rattle.std.specs.Prelude.{All}
+use Rattle.std.proofs.lemmas.Bool.{cond-true, cond-false}
+use Rattle.std.proofs.lemmas.List.{drop-append-le}
+use Rattle.boxes.specs.Items.{Item}
+use Rattle.dr_base.specs.Position.{is_own}
+use Rattle.etm_aead.specs.Chain.{chain_of, next_chain, message_key}
+use Rattle.etm_aead.proofs.Streams.{chain_of-suc, message_key-suc}
+use Rattle.kem_laws.specs.Mechanism.{Mechanism}
+use Rattle.session_model.specs.Clients.{Client, accept_send, say_on}
+use Rattle.session_model.specs.Saying.{draft_own, draft_phase, draft_send}
+use Rattle.session_model.specs.Schedule.{session_of}
+use Rattle.session_model.specs.Sealing.{posted}
+use Rattle.session_model.specs.States.{in_own, in_peers, State}
+use Rattle.session_model.specs.Turns.{Turn}
+use Rattle.dr_model.specs.Conversations.Conversation.{Conversation, count_of, next_position, previous_of, with_text}
+use Rattle.dr_model.specs.Conversations.Lawful.{HasArrived}
+use Rattle.dr_model.specs.Conversations.Posts.{post_at, posts_of, turn_of_epoch}
+use Rattle.dr_model.specs.Conversations.ViewStates.{client_at, own_of, phase_of, previous_in, state_of}
+use Rattle.dr_model.specs.Conversations.Views.{View, outbox_of}
+use Rattle.dr_model.proofs.Growth.Growing.{grown, previous-grown, text_at-new}
+use Rattle.dr_model.proofs.Growth.GrowingStates.{inbox-grown, own_with, same_state}
+use Rattle.dr_model.proofs.Growth.GrowingViews.{kept-grown, receiving-grown}
+use Rattle.dr_model.proofs.Growth.Texts.{count-here}
+use Rattle.dr_model.proofs.Growth.TurnGrowth.{SameTurns, posts_of-grown, turns_same}
+
+-- what a side holds of an own epoch, and of a peer's
+pub phase_own : (k : Mechanism) (c : Conversation) (v : View) → is_own v.side v.epoch ≡ true
+    → phase_of k c v ≡ in_own (own_of k c v)
+phase_own k c v own =
+    cond-true (is_own v.side v.epoch) (in_own (own_of k c v)) (in_peers (turn_of_epoch k c v.epoch).public) own
+
+pub phase_peers : (k : Mechanism) (c : Conversation) (v : View) → is_own v.side v.epoch ≡ false
+    → phase_of k c v ≡ in_peers (turn_of_epoch k c v.epoch).public
+phase_peers k c v peers =
+    cond-false (is_own v.side v.epoch) (in_own (own_of k c v)) (in_peers (turn_of_epoch k c v.epoch).public) peers
+
+-- how many texts its last own epoch had, in an own epoch and in a peer's
+pub previous_own : (c : Conversation) (v : View) → is_own v.side v.epoch ≡ true → previous_in c v ≡ previous_of c v.epoch
+previous_own c v own =
+    cond-true (is_own v.side v.epoch) (previous_of c v.epoch) (if nat_le 1 v.epoch then count_of c (v.epoch - 1) else 0) own
+
+pub previous_peers : (c : Conversation) (v : View) → is_own v.side v.epoch ≡ false
+    → previous_in c v ≡ (if nat_le 1 v.epoch then count_of c (v.epoch - 1) else 0)
+previous_peers c v peers =
+    cond-false (is_own v.side v.epoch) (previous_of c v.epoch)
+    (if nat_le 1 v.epoch then count_of c (v.epoch - 1) else 0) peers
+
+-- ---- what it keeps then
+
+-- one key more was given
+own_next : (turn : Turn) (n m : ℕ) → m ≡ n + 1
+    → own_with turn m
+    ≡ record { secret = turn.secret; agreement = turn.agreement; chain = next_chain (chain_of turn.stream n); sent = n + 1 }
+own_next turn n m more =
+    ap (own_with turn) more
+    ∙ ap (λ (chain : List ℕ). record { secret = turn.secret; agreement = turn.agreement; chain = chain; sent = n + 1 })
+    (chain_of-suc turn.stream n)
+
+state_own : (k : Mechanism) (c : Conversation) (v : View) (text : List ℕ) → is_own v.side v.epoch ≡ true
+    → v.epoch ≤ length c.seeds
+    → (draft_own (state_of k c v) (own_of k c v) text).next ≡ state_of k (with_text c v.epoch text) v
+state_own k c v text own within =
+    let d = with_text c v.epoch text in
+    let same = turns_same k c.key c.seeds in
+    sym (same_state v.side (session_of c.key) v.epoch _ _ _ _ _ _ _ _ _ _
+    refl
+    (phase_own k d v own ∙ ap in_own
+    (own_next (turn_of_epoch k c v.epoch) (count_of c v.epoch) (count_of d v.epoch) (count-here c.said v.epoch text)))
+    (previous_own d v own ∙ previous-grown c c.seeds v.epoch text v.epoch (omega arith) ∙ sym (previous_own c v own))
+    (receiving-grown k c c.seeds v.epoch text v same (omega arith) within)
+    (kept-grown k c c.seeds v.epoch text v same (omega arith) within))
+
+-- ---- its packet
+
+post_own : (k : Mechanism) (c : Conversation) (v : View) (text : List ℕ) → is_own v.side v.epoch ≡ true
+    → (draft_own (state_of k c v) (own_of k c v) text).post ≡ post_at k (with_text c v.epoch text)
+    (next_position c.said v.epoch)
+post_own k c v text own =
+    let d = with_text c v.epoch text in
+    let turn = turn_of_epoch k c v.epoch in
+    let make : ℕ → List ℕ → List ℕ → Item = λ previous key said. posted (session_of c.key)
+    (next_position c.said v.epoch) previous turn.agreement key said in
+    ap₂ (λ previous key. make previous key text)
+    (previous_own c v own ∙ sym (previous-grown c c.seeds v.epoch text v.epoch (omega arith)))
+    (sym (message_key-suc turn.stream (count_of c v.epoch)))
+    ∙ ap (make (previous_of d v.epoch) (message_key turn.stream (count_of c v.epoch + 1)))
+    (sym (text_at-new c c.seeds v.epoch text))
+
+-- it stands in the outbox
+pub outbox_own : (k : Mechanism) (c : Conversation) (seeds : List (List ℕ)) (epoch : ℕ) (text : List ℕ) (v : View)
+    → SameTurns k c.key c.seeds seeds
+    → length c.seeds ≤ epoch + 1 → All (λ s. s.epoch ≤ length c.seeds) c.said → is_own v.side epoch ≡ true
+    → v.dropped ≤ length (posts_of k c v.side)
+    → outbox_of k (grown c seeds epoch text) v ≡ outbox_of k c v ++ post_at k (grown c seeds epoch text)
+    (next_position c.said epoch) ∷ []
+outbox_own k c seeds epoch text v same late begun own fits =
+    let d = grown c seeds epoch text in
+    let post = post_at k d (next_position c.said epoch) in
+    ap (drop v.dropped)
+    (posts_of-grown k c seeds epoch text v.side same late begun
+    ∙ ap (λ ps. posts_of k c v.side ++ ps) (cond-true (is_own v.side epoch) (post ∷ []) [] own))
+    ∙ drop-append-le v.dropped (posts_of k c v.side) (post ∷ []) fits
+
+-- ---- what its session drafts, and its client answers
+
+pub draft_send-own : (k : Mechanism) (c : Conversation) (v : View) (text seed : List ℕ) → is_own v.side v.epoch ≡ true
+    → v.epoch ≤ length c.seeds
+    → draft_send k (state_of k c v) text seed
+    ≡ Some (record {
+      post = post_at k (with_text c v.epoch text) (next_position c.said v.epoch);
+      next = state_of k (with_text c v.epoch text) v;
+    })
+unfolding draft_send
+draft_send-own k c v text seed own within =
+    ap (draft_phase k (state_of k c v) text seed) (phase_own k c v own)
+    ∙ ap₂ (λ (post : Item) (next : State). Some (record { post = post; next = next })) (post_own k c v text own)
+    (state_own k c v text own within)
+
+-- a draft that is accepted
+pub accepted : (client : Client) (post : Item) (state : State) (inbox outbox : List Item) → client.inbox ≡ inbox
+    → outbox ≡ client.outbox ++ post ∷ []
+    → accept_send client (Some (record { post = post; next = state }))
+    ≡ Ok (record { post = post; next = record { state = state; inbox = inbox; outbox = outbox } })
+accepted client post state inbox outbox i o =
+    ap₂ (λ a b. Ok (record { post = post; next = record { state = state; inbox = a; outbox = b } })) i (sym o)
+
+pub say_on-own : (k : Mechanism) (c : Conversation) (v : View) (text : List ℕ) → is_own v.side v.epoch ≡ true
+    → v.epoch ≤ length c.seeds
+    → length c.seeds ≤ v.epoch + 1 → All (λ s. s.epoch ≤ length c.seeds) c.said → All (HasArrived c v) v.arrived
+    → v.dropped ≤ length (posts_of k c v.side)
+    → say_on k (client_at k c v) text []
+    ≡ Ok (record {
+      post = post_at k (with_text c v.epoch text) (next_position c.said v.epoch);
+      next = client_at k (with_text c v.epoch text) v;
+    })
+say_on-own k c v text own within late begun arrivals fits =
+    ap (accept_send (client_at k c v)) (draft_send-own k c v text [] own within)
+    ∙ accepted (client_at k c v) _ _ _ _
+    (sym (inbox-grown c c.seeds v.epoch text v arrivals))
+    (outbox_own k c c.seeds v.epoch text v (turns_same k c.key c.seeds) late begun own fits)

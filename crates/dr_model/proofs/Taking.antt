@@ -1,0 +1,14 @@
+pub mod AllPositions
+pub mod AlongChain
+pub mod ArrivingLawful
+pub mod ArrivingPacket
+pub mod KnownEpoch
+pub mod LatestEpoch
+pub mod NextEpoch
+pub mod NextWay
+pub mod PacketAnswers
+pub mod PacketFields
+pub mod PacketsApart
+pub mod ForeignBytes
+pub mod MadePositions
+pub mod NetworkPosts

@@ -1,0 +1,172 @@
+-- The packet of a position as a session reads it.
+use Rattle.std.proofs.Common.{◌≡◌, ℕ, ◌+◌, ◌-◌, ◌^◌, ◌<◌, ◌≤◌, Bool, true, false, not, nat_eq, nat_le, nat_lt, List, [], ◌∷◌, length, map, slice_index_or, Ok, Err, refl, sym, ◌∙◌, ap, arith, if◌then◌else◌}
+use Rattle.std.specs.Cmp.Lexicographic.{pointwise}
+use Rattle.std.specs.Prelude.{All, filter}
+use Rattle.std.proofs.lemmas.Bool.{cond-true, cond-false, lt-leb, le-ltb}
+use Rattle.std.proofs.lemmas.Bool.Decides.{nat_tests}
+use Rattle.std.proofs.lemmas.List.{length-map, get_or-map}
+use Rattle.std.proofs.lemmas.List.Elements.{All-head, All-tail, All-filter}
+use Rattle.std.proofs.lemmas.Slice.Eq.{bytes_eq-Decides}
+use Rattle.cka.specs.Agreement.{agreement_size}
+use Rattle.dr_base.specs.Position.{is_own}
+use Rattle.dr_base.specs.declared.position.Position.{Position}
+use Rattle.etm_aead.specs.Chain.{message_key}
+use Rattle.etm_aead.specs.Seal.{ciphertext_of, tag_of}
+use Rattle.etm_aead.specs.Undoing.{ciphertext_of-ciphertext_of, length-ciphertext_of, length-tag_of}
+use Rattle.kem_laws.specs.Mechanism.{Mechanism, IsLawfulMechanism}
+use Rattle.packet.specs.Packet.{Fields, IsLawful, header_of, ad_of}
+use Rattle.packet.specs.Reading.{read_packet}
+use Rattle.packet.proofs.Printed.{printed_is_read}
+use Rattle.session_model.specs.Schedule.{session_of}
+use Rattle.session_model.specs.Sealing.{posted}
+use Rattle.session_model.specs.States.{State}
+use Rattle.session_model.specs.Taking.{opened_by}
+use Rattle.session_model.specs.Ways.{Way, epoch_way, known_way, position_of, way_of}
+use Rattle.session_model.specs.declared.answer.Refusal.TheVariants.{OtherSession, OwnPacket, Ahead, BadTag}
+use Rattle.dr_model.specs.Conversations.Conversation.{Conversation, Said, is_said, count_of, previous_of, text_at, texts_of}
+use Rattle.dr_model.specs.Conversations.Lawful.{IsLawfulConversation}
+use Rattle.dr_model.specs.Conversations.Posts.{fields_at, post_at, turn_of_epoch}
+use Rattle.dr_model.proofs.Growth.Growing.{said_from, said_to}
+use Rattle.dr_model.proofs.Worlds.TurnSizes.{turn_sizes, length-session_of}
+
+-- ---- a position of a text
+
+-- the text of an epoch shows that it began
+epoch_first : (b : Bool) (s : Said) (rest : List Said) (epoch n : ℕ) → (b ≡ true → epoch ≤ n)
+    → (1 ≤ length (map (λ (t : Said). t.text) rest) → epoch ≤ n)
+    → 1 ≤ length (map (λ (t : Said). t.text) (if b then s ∷ rest else rest)) → epoch ≤ n
+epoch_first true s rest epoch n here later h = here refl
+epoch_first false s rest epoch n here later h = later h
+
+same_epoch : (e epoch n : ℕ) → e ≤ n → nat_eq e epoch ≡ true → epoch ≤ n
+same_epoch e epoch n le h = grind (arith, nat_tests)
+
+begun_epoch : (said : List Said) (epoch n : ℕ) → All (λ s. s.epoch ≤ n) said → 1 ≤ length (texts_of said epoch) → epoch ≤ n
+begun_epoch [] epoch n all h = absurd (omega arith)
+begun_epoch (s ∷ rest) epoch n all h =
+    epoch_first (nat_eq s.epoch epoch) s (filter (λ t. nat_eq t.epoch epoch) rest) epoch n
+    (same_epoch s.epoch epoch n (All-head (λ (t : Said). t.epoch ≤ n) s rest all))
+    (begun_epoch rest epoch n (All-tail (λ (t : Said). t.epoch ≤ n) s rest all)) h
+
+-- what is known of the position of a text
+pub record IsPlace (c : Conversation) (p : Position) : Type 0 where
+  pub one : 1 ≤ p.index
+  pub most : p.index ≤ count_of c p.epoch
+  pub few : p.index ≤ 65535
+  pub began : p.epoch ≤ length c.seeds
+  pub short : length (text_at c p) ≤ 1024
+
+-- a text of an epoch fits a packet
+short_text : (k : Mechanism) (c : Conversation) (epoch n : ℕ) → IsLawfulConversation k c → n < count_of c epoch
+    → length (slice_index_or (texts_of c.said epoch) n []) ≤ 1024
+short_text k c epoch n lawful h =
+    let none : Said = record { epoch = 0; text = [] } in
+    let said = filter (λ (s : Said). nat_eq s.epoch epoch) c.said in
+    let below : n < length said = omega (arith, length-map said (λ (s : Said). s.text)) in
+    let short : length (slice_index_or said n none).text ≤ 1024 =
+    All-filter (λ (s : Said). nat_eq s.epoch epoch) (λ (s : Said). length s.text ≤ 1024) c.said lawful.short n none below in
+    let same = ap length (get_or-map (λ (s : Said). s.text) said n none [] below) in
+    omega arith
+
+pub is_place : (k : Mechanism) (c : Conversation) (p : Position) → IsLawfulConversation k c → is_said c p ≡ true
+    → IsPlace c p
+is_place k c p lawful said =
+    let one : 1 ≤ p.index = said_from p.index (count_of c p.epoch) said in
+    let most : p.index ≤ count_of c p.epoch = said_to p.index (count_of c p.epoch) said in
+    record {
+      one = one;
+      most = most;
+      few = omega (arith, lawful.few p.epoch);
+      began = begun_epoch c.said p.epoch (length c.seeds) lawful.begun (omega arith);
+      short = short_text k c p.epoch (p.index - 1) lawful (omega arith);
+    }
+
+-- ---- its packet
+
+-- the epoch two before has few texts
+few_previous : (b : Bool) (n : ℕ) → n ≤ 65535 → (if b then n else 0) < 2 ^ 16
+few_previous true n h = omega arith
+few_previous false n h = omega arith
+
+-- the fields are lawful
+pub IsLawful-fields : (k : Mechanism) (c : Conversation) (p : Position) → IsLawfulMechanism k → IsLawfulConversation k c
+    → IsPlace c p → IsLawful (agreement_size k) (fields_at k c p)
+IsLawful-fields k c p law lawful place = record {
+  session_len = length-session_of c.key;
+  epoch_fits = omega (arith, place.began, lawful.few_turns);
+  previous_fits = few_previous (nat_le 2 p.epoch) (count_of c (p.epoch - 2)) (lawful.few (p.epoch - 2));
+  previous_none = λ first. cond-false (nat_le 2 p.epoch) (count_of c (p.epoch - 2)) 0 (lt-leb 2 p.epoch (omega arith));
+  index_from_one = place.one;
+  index_fits = omega (arith, place.few);
+  agreement_is = (turn_sizes k c p.epoch law lawful place.began).agreement_long;
+  text_fits = omega (
+    arith,
+    place.short,
+    length-ciphertext_of (message_key (turn_of_epoch k c p.epoch).stream p.index) (text_at c p),
+  );
+  tag_len = length-tag_of _ _ _;
+}
+
+-- its bytes are read to them
+pub read-post : (k : Mechanism) (c : Conversation) (p : Position) → IsLawfulMechanism k → IsLawfulConversation k c
+    → IsPlace c p
+    → read_packet (agreement_size k) (post_at k c p).bytes ≡ Ok (fields_at k c p)
+unfolding posted
+read-post k c p law lawful place =
+    printed_is_read (agreement_size k) (fields_at k c p) (omega (arith, law.public_fits, law.ciphertext_fits))
+    (IsLawful-fields k c p law lawful place)
+
+-- ---- the way to the key
+
+-- a list equals itself
+pub same_bytes : (xs : List ℕ) → pointwise nat_eq xs xs ≡ true
+same_bytes xs = (bytes_eq-Decides xs xs).1 refl
+
+-- an own packet has none
+pub way_of-own : (k : Mechanism) (s : State) (f : Fields) → f.session ≡ s.session → is_own s.side f.epoch ≡ true
+    → way_of k s f ≡ Err (OwnPacket f.epoch)
+unfolding way_of
+way_of-own k s f session own =
+    cond-false (not (pointwise nat_eq f.session s.session)) (Err OtherSession) _
+    (ap not (ap (λ id. pointwise nat_eq id s.session) session ∙ same_bytes s.session))
+    ∙ cond-true (is_own s.side f.epoch) (Err (OwnPacket f.epoch)) _ own
+
+-- the way of a peer's packet, in a known epoch or in the next one
+pub way_of-peers : (k : Mechanism) (s : State) (f : Fields) → f.session ≡ s.session → is_own s.side f.epoch ≡ false
+    → f.epoch ≤ s.epoch + 1
+    → way_of k s f
+    ≡ (if nat_eq f.epoch (s.epoch + 1) then epoch_way k s f s.phase else known_way s (position_of f) s.receiving)
+unfolding way_of
+way_of-peers k s f session own near =
+    cond-false (not (pointwise nat_eq f.session s.session)) (Err OtherSession) _
+    (ap not (ap (λ id. pointwise nat_eq id s.session) session ∙ same_bytes s.session))
+    ∙ cond-false (is_own s.side f.epoch) (Err (OwnPacket f.epoch)) _ own
+    ∙ cond-false (nat_lt (s.epoch + 1) f.epoch) (Err (Ahead f.epoch s.epoch)) _ (le-ltb (s.epoch + 1) f.epoch near)
+
+-- ---- its key opens it
+
+-- the tag covers the length of the text, which is that of the ciphertext
+tag-fields : (k : Mechanism) (c : Conversation) (p : Position) (key : List ℕ)
+    → key ≡ message_key (turn_of_epoch k c p.epoch).stream p.index
+    → (fields_at k c p).tag ≡ tag_of key (ad_of (fields_at k c p)) (fields_at k c p).ciphertext
+tag-fields k c p key same =
+    let own_key = message_key (turn_of_epoch k c p.epoch).stream p.index in
+    ap (λ n. tag_of own_key
+    (header_of (session_of c.key) p.epoch (previous_of c p.epoch) p.index (turn_of_epoch k c p.epoch).agreement n)
+    (ciphertext_of own_key (text_at c p)))
+    (sym (length-ciphertext_of own_key (text_at c p)))
+    ∙ ap (λ key. tag_of key (ad_of (fields_at k c p)) (fields_at k c p).ciphertext) (sym same)
+
+-- its key opens it to the text that was said
+pub opened_by-key : (k : Mechanism) (c : Conversation) (p : Position) (way : Way)
+    → way.key ≡ message_key (turn_of_epoch k c p.epoch).stream p.index
+    → opened_by (fields_at k c p) (Ok way) ≡ Ok (record { position = p; text = text_at c p; next = way.next })
+opened_by-key k c p way same =
+    let f = fields_at k c p in
+    let tag = tag_of way.key (ad_of f) f.ciphertext in
+    let tagged : pointwise nat_eq f.tag tag ≡ true = ap (λ t. pointwise nat_eq f.tag t) (sym (tag-fields k c p way.key same))
+    ∙ same_bytes f.tag in
+    cond-true (pointwise nat_eq f.tag tag) _ (Err BadTag) tagged
+    ∙ ap (λ text. Ok (record { position = p; text = text; next = way.next }))
+    (ap (λ key. ciphertext_of key f.ciphertext) same
+    ∙ ciphertext_of-ciphertext_of (message_key (turn_of_epoch k c p.epoch).stream p.index) (text_at c p))

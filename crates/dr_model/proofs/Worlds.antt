@@ -1,0 +1,12 @@
+pub mod Following
+pub mod LawfulWorlds
+pub mod OpeningWorlds
+pub mod Runs
+pub mod SeenWorlds
+pub mod WorldViews
+pub mod StateLawful
+pub mod TurnSizes
+pub mod Counted
+pub mod Passes
+pub mod FullViews
+pub mod LastingPackets

@@ -1,0 +1,78 @@
+-- Where a world begins.
+use Rattle.std.proofs.Common.{◌≡◌, ℕ, ◌≤◌, true, List, [], length, refl, ap, arith}
+use Rattle.std.specs.Prelude.{is_some}
+use Rattle.std.proofs.lemmas.List.Elements.{All-nil}
+use Rattle.dr_base.specs.declared.position.Side.{Side}
+use Rattle.dr_base.specs.declared.position.Side.TheVariants.{First, Second}
+use Rattle.etm_aead.specs.Chain.{chain_of}
+use Rattle.kem_laws.specs.Mechanism.{Mechanism}
+use Rattle.session_model.specs.Schedule.{agreement_seed}
+use Rattle.session_model.specs.States.{opening_state}
+use Rattle.session_model.specs.Turns.{turn_at}
+use Rattle.dr_model.specs.Conversations.Conversation.{Said, opening_conversation, positions_after}
+use Rattle.dr_model.specs.Conversations.Indices.{missing_to, reach}
+use Rattle.dr_model.specs.Conversations.Lawful.{IsSeed, IsLawfulConversation, HasArrived, IsLawfulView}
+use Rattle.dr_model.specs.Conversations.ViewStates.{client_at}
+use Rattle.dr_model.specs.Conversations.Views.{opening_view, missing_below, missing_of, outbox_of}
+use Rattle.dr_model.specs.Machines.Worlds.{opening_world}
+use Rattle.dr_model.specs.Theorems.LawfulWorlds.{IsLawfulWorld}
+use Rattle.dr_model.proofs.Growth.BoxSizes.{length-inbox_of}
+
+lawful_opening_conversation : (k : Mechanism) (key : List ℕ) → is_some (k.meaning.pair_of (agreement_seed key)) ≡ true
+    → IsLawfulConversation k (opening_conversation key)
+lawful_opening_conversation k key some = record {
+  begins = some;
+  turns = All-nil (IsSeed k);
+  few_turns = omega arith;
+  short = All-nil (λ (s : Said). length s.text ≤ 1024);
+  begun = All-nil (λ (s : Said). s.epoch ≤ 0);
+  few = λ epoch. omega arith;
+  some = λ epoch one last. absurd (omega arith);
+}
+
+-- nothing is missing
+opening_missing : (key : List ℕ) (side : Side) → missing_of (opening_conversation key) (opening_view side) ≡ []
+unfolding missing_below missing_to reach
+opening_missing key First = refl
+opening_missing key Second = refl
+
+-- no packet stands in the outbox
+opening_packets : (k : Mechanism) (key : List ℕ) (side : Side)
+    → length (outbox_of k (opening_conversation key) (opening_view side)) ≤ 32
+unfolding positions_after
+opening_packets k key First = omega arith
+opening_packets k key Second = omega arith
+
+opening_lawful : (k : Mechanism) (key : List ℕ) (side : Side)
+    → IsLawfulView k (opening_conversation key) side (opening_view side)
+opening_lawful k key side = record {
+  side_is = refl;
+  reached = omega arith;
+  near_end = omega arith;
+  waits = λ next. absurd (omega arith);
+  arrivals = All-nil (HasArrived (opening_conversation key) (opening_view side));
+  once = λ p. omega arith;
+  some = λ epoch one most peers. absurd (omega arith);
+  near = omega (arith, ap length (opening_missing key side));
+  done_fits = omega arith;
+  dropped_fits = omega arith;
+  few_texts = omega (arith, length-inbox_of (opening_conversation key) (opening_view side));
+  few_packets = opening_packets k key side;
+}
+
+pub lawful_opening : (k : Mechanism) (key : List ℕ) → is_some (k.meaning.pair_of (agreement_seed key)) ≡ true
+    → IsLawfulWorld k (opening_world key)
+lawful_opening k key some = record {
+  conversation = lawful_opening_conversation k key some;
+  first = opening_lawful k key First;
+  second = opening_lawful k key Second;
+  given = tt;
+}
+
+-- what a client keeps there
+pub opening_client : (k : Mechanism) (key : List ℕ) (side : Side)
+    → client_at k (opening_conversation key) (opening_view side)
+    ≡ record { state = opening_state k key side; inbox = []; outbox = [] }
+unfolding missing_below missing_to reach turn_at chain_of positions_after
+opening_client k key First = refl
+opening_client k key Second = refl

@@ -1,0 +1,6 @@
+pub mod Conversation
+pub mod Indices
+pub mod Posts
+pub mod Views
+pub mod ViewStates
+pub mod Lawful

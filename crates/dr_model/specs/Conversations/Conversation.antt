@@ -1,0 +1,62 @@
+-- A conversation: all that both sides have said so far, and the seeds of their turns.
+use Rattle.std.specs.Prelude.{Bool, List, [], filter, if◌then◌else◌, length, map, nat_le, slice_index_or, ℕ, ◌&&◌, ◌++◌, ◌+◌, ◌-◌, ◌==◌, ◌∷◌}
+use Rattle.dr_base.specs.declared.position.Position.{Position}
+
+-- a text, in the epoch in which it was said
+pub record Said : Type 0 where
+  pub epoch : ℕ
+  pub text : List ℕ
+
+pub record Conversation : Type 0 where
+  -- the shared key
+  pub key : List ℕ
+  -- the seeds of the turns that began the epochs 1, 2, and so on
+  pub seeds : List (List ℕ)
+  -- the texts, in the order that they were said
+  pub said : List Said
+
+-- where a conversation begins
+abbrev pub opening_conversation : List ℕ → Conversation
+opening_conversation key = record { key = key; seeds = []; said = [] }
+
+-- the texts of an epoch
+abbrev pub texts_of : List Said → ℕ → List (List ℕ)
+texts_of said epoch = map (λ s. s.text) (filter (λ s. s.epoch == epoch) said)
+
+-- how many texts an epoch has
+abbrev pub count_of : Conversation → ℕ → ℕ
+count_of c epoch = length (texts_of c.said epoch)
+
+-- how many texts the epoch two before has, the last one of the same side
+abbrev pub previous_of : Conversation → ℕ → ℕ
+previous_of c epoch = if nat_le 2 epoch then count_of c (epoch - 2) else 0
+
+-- the text of a position
+abbrev pub text_at : Conversation → Position → List ℕ
+text_at c p = slice_index_or (texts_of c.said p.epoch) (p.index - 1) []
+
+-- a text was said at this position
+abbrev pub is_said : Conversation → Position → Bool
+is_said c p = nat_le 1 p.index && nat_le p.index (count_of c p.epoch)
+
+-- the position of the next text of an epoch
+abbrev pub next_position : List Said → ℕ → Position
+next_position said epoch = record { epoch = epoch; index = length (texts_of said epoch) + 1 }
+
+-- the positions of texts, in the order that they were said, where others were said before
+unfoldable pub positions_after : List Said → List Said → List Position
+positions_after before [] = []
+positions_after before (s ∷ rest) = next_position before s.epoch ∷ positions_after (before ++ s ∷ []) rest
+
+-- the positions of all texts, in the order that they were said
+abbrev pub positions : Conversation → List Position
+positions c = positions_after [] c.said
+
+-- one text more, in the epoch that stands
+abbrev pub with_text : Conversation → ℕ → List ℕ → Conversation
+with_text c epoch text = record c { said = c.said ++ record { epoch = epoch; text = text } ∷ [] }
+
+-- one turn more, and the first text of its epoch
+abbrev pub with_turn : Conversation → List ℕ → ℕ → List ℕ → Conversation
+with_turn c seed epoch text =
+    record c { seeds = c.seeds ++ seed ∷ []; said = c.said ++ record { epoch = epoch; text = text } ∷ [] }

@@ -1,0 +1,47 @@
+-- The packets of a conversation.
+use Rattle.std.specs.Prelude.{List, [], filter, map, slice_index_or, suc, zero, ℕ}
+use Rattle.boxes.specs.Items.{Item}
+use Rattle.dr_base.specs.Position.{is_own}
+use Rattle.dr_base.specs.declared.key.Kept.{Kept}
+use Rattle.dr_base.specs.declared.position.Position.{Position}
+use Rattle.dr_base.specs.declared.position.Side.{Side}
+use Rattle.etm_aead.specs.Chain.{message_key}
+use Rattle.kem_laws.specs.Mechanism.{Mechanism}
+use Rattle.packet.specs.Packet.{Fields}
+use Rattle.session_model.specs.Schedule.{agreement_seed, session_of}
+use Rattle.session_model.specs.Sealing.{posted, sealing}
+use Rattle.session_model.specs.Turns.{Turn, turn_at}
+use Rattle.dr_model.specs.Conversations.Conversation.{Conversation, positions, previous_of, text_at}
+
+-- the keys of an epoch of a conversation
+abbrev pub turn_of_epoch : Mechanism → Conversation → ℕ → Turn
+turn_of_epoch k c epoch = turn_at k c.key c.seeds epoch
+
+-- the seed of the pair of an epoch
+abbrev pub pair_seed : Conversation → ℕ → List ℕ
+pair_seed c zero = agreement_seed c.key
+pair_seed c (suc epoch) = slice_index_or c.seeds epoch []
+
+-- the message key of a position, under it
+abbrev pub key_of : Mechanism → Conversation → Position → Kept
+key_of k c p = record { position = p; key = record { bytes = message_key (turn_of_epoch k c p.epoch).stream p.index } }
+
+-- the fields of the packet of a position
+abbrev pub fields_at : Mechanism → Conversation → Position → Fields
+fields_at k c p =
+    sealing (session_of c.key) p (previous_of c p.epoch) (turn_of_epoch k c p.epoch).agreement
+    (message_key (turn_of_epoch k c p.epoch).stream p.index) (text_at c p)
+
+-- the packet of a position
+abbrev pub post_at : Mechanism → Conversation → Position → Item
+post_at k c p =
+    posted (session_of c.key) p (previous_of c p.epoch) (turn_of_epoch k c p.epoch).agreement
+    (message_key (turn_of_epoch k c p.epoch).stream p.index) (text_at c p)
+
+-- all packets, in the order that the texts were said; the network holds them all
+abbrev pub posts : Mechanism → Conversation → List Item
+posts k c = map (post_at k c) (positions c)
+
+-- the packets of a side
+abbrev pub posts_of : Mechanism → Conversation → Side → List Item
+posts_of k c side = map (post_at k c) (filter (λ p. is_own side p.epoch) (positions c))

@@ -1,0 +1,81 @@
+-- How far a side has come in a conversation.
+use Rattle.std.specs.List.{list_any}
+use Rattle.std.specs.Prelude.{Bool, List, [], count_by, drop, filter, if◌then◌else◌, map, max, nat_le, suc, zero, ℕ, ◌++◌, ◌+◌, ◌==◌, ◌∷◌}
+use Rattle.boxes.specs.Items.{Item, item_at}
+use Rattle.dr_base.specs.Position.{is_at, is_own}
+use Rattle.dr_base.specs.declared.position.Position.{Position}
+use Rattle.dr_base.specs.declared.position.Side.{Side}
+use Rattle.kem_laws.specs.Mechanism.{Mechanism}
+use Rattle.dr_model.specs.Conversations.Conversation.{Conversation, count_of, text_at}
+use Rattle.dr_model.specs.Conversations.Indices.{missing_to, reach}
+use Rattle.dr_model.specs.Conversations.Posts.{posts_of}
+
+pub record View : Type 0 where
+  pub side : Side
+  -- the greatest epoch that the side has reached
+  pub epoch : ℕ
+  -- the positions that it has opened, in the order that their packets arrived
+  pub arrived : List Position
+  -- how many of the oldest texts have left its inbox
+  pub done : ℕ
+  -- how many of the oldest packets have left its outbox
+  pub dropped : ℕ
+
+-- where a conversation begins
+abbrev pub opening_view : Side → View
+opening_view side = record { side = side; epoch = 0; arrived = []; done = 0; dropped = 0 }
+
+-- the side has opened the packet of this position
+abbrev pub has_opened : View → Position → Bool
+has_opened v p = list_any (is_at p) v.arrived
+
+-- how often it has opened it
+abbrev pub times_opened : View → Position → ℕ
+times_opened v p = count_by (is_at p) v.arrived
+
+-- the view once the side has opened the packet of a position
+abbrev pub after_opening : View → Position → View
+after_opening v p = record v { arrived = v.arrived ++ p ∷ []; epoch = max v.epoch p.epoch }
+
+-- the view once the side has begun an epoch of its own
+abbrev pub after_turn : View → View
+after_turn v = record v { epoch = v.epoch + 1 }
+
+-- the indices of an epoch among positions
+abbrev pub indices_in : List Position → ℕ → List ℕ
+indices_in arrived epoch = map (λ p. p.index) (filter (λ p. p.epoch == epoch) arrived)
+
+-- How far a peer's epoch was read: the latest one up to the greatest index that was opened, earlier ones to their end,
+-- which the side learns when the next begins. The latest is the reached epoch or the one before it.
+abbrev pub reach_in : Conversation → View → ℕ → ℕ
+reach_in c v epoch = if nat_le v.epoch (epoch + 1) then reach (indices_in v.arrived epoch) else count_of c epoch
+
+-- the positions of a peer's epoch that were passed and not opened
+abbrev pub missing_in : Conversation → View → ℕ → List Position
+missing_in c v epoch =
+    map (λ index. record { epoch = epoch; index = index }) (missing_to (indices_in v.arrived epoch) (reach_in c v epoch))
+
+-- those of all peer's epochs below one, in ascending order
+unfoldable pub missing_below : Conversation → View → ℕ → List Position
+missing_below c v zero = []
+missing_below c v (suc epoch) = missing_below c v epoch ++ (if is_own v.side epoch then [] else missing_in c v epoch)
+
+-- the positions of peer's epochs up to the reached one that were passed and not opened
+abbrev pub missing_of : Conversation → View → List Position
+missing_of c v = missing_below c v (v.epoch + 1)
+
+-- the text of a position, under it
+abbrev pub entry_at : Conversation → Position → Item
+entry_at c p = item_at p (text_at c p)
+
+-- all texts that the side has opened, in the order of their arrival
+abbrev pub history_of : Conversation → View → List Item
+history_of c v = map (entry_at c) v.arrived
+
+-- the texts that stand in its inbox, the oldest first
+abbrev pub inbox_of : Conversation → View → List Item
+inbox_of c v = drop v.done (history_of c v)
+
+-- the packets that stand in its outbox, the oldest first
+abbrev pub outbox_of : Mechanism → Conversation → View → List Item
+outbox_of k c v = drop v.dropped (posts_of k c v.side)

@@ -1,0 +1,32 @@
+-- What comes of an event.
+use Rattle.std.specs.Prelude.{Err, List, Ok, Result, [], ℕ}
+use Rattle.boxes.specs.Items.{Item}
+use Rattle.session_model.specs.declared.answer.Amount.{Amount}
+use Rattle.session_model.specs.declared.answer.Amount.TheVariants.{All, Exactly}
+use Rattle.session_model.specs.declared.answer.Answer.{Answer}
+use Rattle.session_model.specs.declared.answer.Answer.TheVariants.{Nothing, Refused}
+use Rattle.session_model.specs.declared.answer.Refusal.{Refusal}
+
+-- an event's answer, the texts that it shows, and what stands after it
+pub record Step (S : Type 0) : Type 0 where
+  pub answer : Answer
+  pub entries : List Item
+  pub next : S
+
+-- a step that shows no text
+abbrev pub step : {S : Type 0} → Answer → S → Step S
+step answer next = record { answer = answer; entries = []; next = next }
+
+-- a step that was made, or a refusal, which changes nothing
+abbrev pub settled : {S : Type 0} → S → Result (Step S) Refusal → Step S
+settled s (Ok made) = made
+settled s (Err refusal) = step (Refused refusal) s
+
+-- the network holds no such packet
+abbrev pub nothing : {S : Type 0} → S → Step S
+nothing s = step Nothing s
+
+-- how many items an amount is, where this many stand
+abbrev pub amount_of : Amount → ℕ → ℕ
+amount_of All standing = standing
+amount_of (Exactly n) standing = n

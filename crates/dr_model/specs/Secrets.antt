@@ -1,0 +1,4 @@
+pub mod Secret
+pub mod Held
+pub mod Made
+pub mod Scheduled

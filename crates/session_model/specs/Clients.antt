@@ -1,0 +1,74 @@
+-- One side with its boxes.
+use Rattle.std.specs.Prelude.{Bool, Err, List, None, Ok, Option, Result, Some, [], drop, if◌then◌else◌, length, nat_le, nat_lt, ℕ, ◌++◌, ◌∷◌}
+use Rattle.boxes.specs.Items.{Item, item_at}
+use Rattle.cka.specs.Agreement.{agreement_size}
+use Rattle.dr_base.specs.declared.position.Position.{Position}
+use Rattle.kem_laws.specs.Mechanism.{Mechanism}
+use Rattle.packet.specs.Packet.{Fields}
+use Rattle.packet.specs.Reading.{read_packet}
+use Rattle.packet.specs.declared.fault.Malformed.{Malformed}
+use Rattle.session_model.specs.Saying.{SendDraft, draft_send, send_check}
+use Rattle.session_model.specs.States.{State}
+use Rattle.session_model.specs.Taking.{ReceiveDraft, draft_receive}
+use Rattle.session_model.specs.declared.answer.Refusal.{Refusal}
+use Rattle.session_model.specs.declared.answer.Refusal.TheVariants.{Fewer, InboxFull, Malformed as Unreadable, NoPair, OutboxFull, TextTooLong}
+use Rattle.session_model.specs.declared.answer.Summary.{Summary}
+
+pub record Client : Type 0 where
+  pub state : State
+  pub inbox : List Item
+  pub outbox : List Item
+
+-- whether a text of this length may be said, and then whether that needs a seed
+abbrev pub say_check : Client → ℕ → Result Bool Refusal
+say_check client len =
+    if nat_lt 1024 len then Err (TextTooLong len)
+    else (if nat_le 32 (length client.outbox) then Err OutboxFull else send_check client.state len)
+
+-- a text that was said: its packet stands in the outbox
+pub record SaidText : Type 0 where
+  pub post : Item
+  pub next : Client
+
+abbrev pub accept_send : Client → Option SendDraft → Result SaidText Refusal
+accept_send client None = Err NoPair
+accept_send client (Some draft) =
+    Ok (record { post = draft.post; next = record client { state = draft.next; outbox = client.outbox ++ draft.post ∷ [] } })
+
+-- what a client answers to a text that passed the check
+abbrev pub say_on : Mechanism → Client → List ℕ → List ℕ → Result SaidText Refusal
+say_on k client text seed = accept_send client (draft_send k client.state text seed)
+
+-- a packet that was taken: its text stands in the inbox
+pub record TakenPacket : Type 0 where
+  pub position : Position
+  pub next : Client
+
+abbrev pub accept_receive : Client → Result ReceiveDraft Refusal → Result TakenPacket Refusal
+accept_receive client (Err refusal) = Err refusal
+accept_receive client (Ok draft) =
+    if nat_le 64 (length client.inbox) then Err InboxFull
+    else Ok (record {
+      position = draft.position;
+      next = record client { state = draft.next; inbox = client.inbox ++ item_at draft.position draft.text ∷ [] };
+    })
+
+abbrev pub take_read : Mechanism → Client → Result Fields Malformed → Result TakenPacket Refusal
+take_read k client (Err fault) = Err (Unreadable fault)
+take_read k client (Ok f) = accept_receive client (draft_receive k client.state f)
+
+-- what a client answers to bytes
+unfoldable pub take_on : Mechanism → Client → List ℕ → Result TakenPacket Refusal
+take_on k client bytes = take_read k client (read_packet (agreement_size k) bytes)
+
+-- the oldest items of a box are dropped
+abbrev pub dropped_of : ℕ → List Item → Result (List Item) Refusal
+dropped_of n items = if nat_le n (length items) then Ok (drop n items) else Err (Fewer (length items))
+
+abbrev pub summary_of : Client → Summary
+summary_of client = record {
+  epoch = client.state.epoch;
+  missing = length client.state.kept;
+  inbox = length client.inbox;
+  outbox = length client.outbox;
+}

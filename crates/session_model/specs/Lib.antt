@@ -1,0 +1,12 @@
+pub mod Schedule
+pub mod Turns
+pub mod Sealing
+pub mod States
+pub mod LawfulStates
+pub mod Saying
+pub mod Ways
+pub mod Taking
+pub mod Clients
+pub mod Seen
+pub mod Refusals
+pub mod Drafts

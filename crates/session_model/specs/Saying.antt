@@ -1,0 +1,52 @@
+-- What a session answers to a text, and what it keeps once the text is said.
+use Rattle.std.specs.Prelude.{Bool, Err, List, Ok, Option, Result, Some, false, if◌then◌else◌, nat_le, nat_lt, option_map, true, ℕ, ◌+◌, ◌-◌, ◌^◌}
+use Rattle.boxes.specs.Items.{Item}
+use Rattle.cka.specs.Agreement.{turn_of}
+use Rattle.etm_aead.specs.Chain.{chain_message_key, next_chain}
+use Rattle.kem_laws.specs.Mechanism.{Mechanism}
+use Rattle.prf_prng.specs.Root.{next_root, root_key}
+use Rattle.session_model.specs.Sealing.{posted}
+use Rattle.session_model.specs.States.{Own, Phase, State, in_own, in_peers}
+use Rattle.session_model.specs.declared.answer.Refusal.{Refusal}
+use Rattle.session_model.specs.declared.answer.Refusal.TheVariants.{EpochFull, LastEpoch, TextTooLong}
+
+-- whether a text of this length may be said, and then whether that needs a seed
+abbrev pub phase_check : ℕ → Phase → Result Bool Refusal
+phase_check epoch (in_own own) = if nat_le 65535 own.sent then Err EpochFull else Ok false
+phase_check epoch (in_peers public) = if nat_le (2 ^ 32 - 2) epoch then Err LastEpoch else Ok true
+
+abbrev pub send_check : State → ℕ → Result Bool Refusal
+send_check s len = if nat_lt 1024 len then Err (TextTooLong len) else phase_check s.epoch s.phase
+
+-- a text's packet under its position, and what the session keeps once it is said
+pub record SendDraft : Type 0 where
+  pub post : Item
+  pub next : State
+
+-- in an own epoch: the next key of the stream, and the epoch's agreement message again
+abbrev pub draft_own : State → Own → List ℕ → SendDraft
+draft_own s own text = record {
+  post = posted s.session (record { epoch = s.epoch; index = own.sent + 1 }) s.previous own.agreement
+      (chain_message_key own.chain) text;
+  next = record s { phase = in_own (record own { chain = next_chain own.chain; sent = own.sent + 1 }) };
+}
+
+-- in a peer's epoch: a turn, which begins the next own epoch with the first key of its stream
+abbrev pub draft_turn : State → List ℕ → List ℕ × List ℕ × List ℕ → SendDraft
+draft_turn s text turn = record {
+  post = posted s.session (record { epoch = s.epoch + 1; index = 1 }) s.previous turn.1
+      (chain_message_key (root_key s.root turn.2)) text;
+  next = record s {
+    root = next_root s.root turn.2;
+    epoch = s.epoch + 1;
+    phase = in_own (record { secret = turn.0; agreement = turn.1; chain = next_chain (root_key s.root turn.2); sent = 1 });
+  };
+}
+
+abbrev pub draft_phase : Mechanism → State → List ℕ → List ℕ → Phase → Option SendDraft
+draft_phase k s text seed (in_own own) = Some (draft_own s own text)
+draft_phase k s text seed (in_peers public) = option_map (draft_turn s text) (turn_of k public seed)
+
+-- the draft of a text that passed the check, or nothing where the seed has no pair
+unfoldable pub draft_send : Mechanism → State → List ℕ → List ℕ → Option SendDraft
+draft_send k s text seed = draft_phase k s text seed s.phase

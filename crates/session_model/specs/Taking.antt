@@ -1,0 +1,32 @@
+-- What a session answers to a packet, and what it keeps once the packet is taken.
+use Rattle.std.specs.Cmp.Lexicographic.{pointwise}
+use Rattle.std.specs.Prelude.{Err, List, Ok, Result, if◌then◌else◌, nat_eq, ℕ}
+use Rattle.dr_base.specs.declared.position.Position.{Position}
+use Rattle.etm_aead.specs.Seal.{ciphertext_of, tag_of}
+use Rattle.kem_laws.specs.Mechanism.{Mechanism}
+use Rattle.packet.specs.Packet.{Fields, ad_of}
+use Rattle.session_model.specs.States.{State}
+use Rattle.session_model.specs.Ways.{Way, position_of, way_of}
+use Rattle.session_model.specs.declared.answer.Refusal.{Refusal}
+use Rattle.session_model.specs.declared.answer.Refusal.TheVariants.{BadTag}
+
+-- a packet that opens: its position, its text, and what the session keeps once it is taken
+pub record ReceiveDraft : Type 0 where
+  pub position : Position
+  pub text : List ℕ
+  pub next : State
+
+-- on the way to a packet's key: whether its tag is the one under that key
+abbrev pub opening_on : Fields → Way → Result ReceiveDraft Refusal
+opening_on f way =
+    if pointwise nat_eq f.tag (tag_of way.key (ad_of f) f.ciphertext)
+    then Ok (record { position = position_of f; text = ciphertext_of way.key f.ciphertext; next = way.next })
+    else Err BadTag
+
+abbrev pub opened_by : Fields → Result Way Refusal → Result ReceiveDraft Refusal
+opened_by f (Ok way) = opening_on f way
+opened_by f (Err refusal) = Err refusal
+
+-- the draft of a packet, or why it is refused
+unfoldable pub draft_receive : Mechanism → State → Fields → Result ReceiveDraft Refusal
+draft_receive k s f = opened_by f (way_of k s f)

@@ -1,0 +1,85 @@
+//! What an event is answered with.
+
+use dr_base::Position;
+use packet::Malformed;
+
+/// The answer to an event of the conversation.
+#[derive(Clone, Copy, Debug, PartialEq, Eq)]
+pub enum Answer {
+    /// The text has this position, and its packet is in the outbox.
+    Said(Position),
+    /// The packet of this position was opened.
+    Opened(Position),
+    /// This many packets were taken out of the outbox.
+    Sent(u32),
+    /// This many texts were taken out of the inbox.
+    Done(u32),
+    /// This many texts stand in the inbox.
+    Inbox(u32),
+    /// What a side holds.
+    State(Summary),
+    /// The next draw is a given seed; this has no line.
+    Seeded,
+    /// The network holds no such packet.
+    Nothing,
+    /// Nothing changed, for this reason.
+    Refused(Refusal),
+}
+
+/// What a side holds, in numbers.
+#[derive(Clone, Copy, Debug, PartialEq, Eq)]
+pub struct Summary {
+    /// The greatest epoch that the side has reached.
+    pub epoch: u32,
+    /// How many message keys wait for texts that haven't come.
+    pub missing: u32,
+    /// How many texts stand in the inbox.
+    pub inbox: u32,
+    /// How many packets stand in the outbox.
+    pub outbox: u32,
+}
+
+/// Why an event changed nothing.
+#[derive(Clone, Copy, Debug, PartialEq, Eq)]
+pub enum Refusal {
+    /// The text has more than 1,024 bytes, namely this many.
+    TextTooLong(usize),
+    /// 32 packets stand in the outbox.
+    OutboxFull,
+    /// 65,535 texts were said in the epoch.
+    EpochFull,
+    /// No epoch follows.
+    LastEpoch,
+    /// The seed of the turn gives no pair of keys.
+    NoPair,
+    /// The bytes are no packet.
+    Malformed(Malformed),
+    /// The packet is of another session.
+    OtherSession,
+    /// The packet is of an epoch of the taker's own.
+    OwnPacket(u32),
+    /// The packet's epoch, the first number, comes after the next one that may begin; the second number is the
+    /// greatest epoch that is reached.
+    Ahead(u32, u32),
+    /// The packet of this position was opened before.
+    Spent(Position),
+    /// The packet claims that the peer's last epoch has this many texts, the first number, fewer than are known.
+    Count(u32, u32),
+    /// This many message keys would have to be kept, which is more than 256.
+    SkipLimit(u32),
+    /// The packet's tag differs from the one under its key.
+    BadTag,
+    /// 64 texts stand in the inbox.
+    InboxFull,
+    /// Only this many stand, fewer than were to be taken out.
+    Fewer(u32),
+}
+
+/// How many of the oldest items are taken out of a box.
+#[derive(Clone, Copy, Debug, PartialEq, Eq)]
+pub enum Amount {
+    /// All that stand.
+    All,
+    /// Just this many.
+    Exactly(u32),
+}

@@ -1,0 +1,11 @@
+//! One side of a conversation as plain values: what a session keeps, what it answers to a text or a packet, and its
+//! boxes. The definitions stand in specs/; the code's share is the enums of answers and refusals.
+#![tactic(auto)]
+
+pub use answer::{Amount, Answer, Refusal, Summary};
+pub use part::{Own, Phase, Reception, SessionPart, copy_of_key};
+pub use refusals::{ReceiveRefusal, SendRefusal};
+
+mod answer;
+mod part;
+mod refusals;

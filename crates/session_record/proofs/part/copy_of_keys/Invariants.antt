@@ -1,5 +1,0 @@
-use Rattle.std.proofs.Common.{◌≡◌, take}
-use Rattle.session_record.proofs.part.copy_of_keys.Given as goal
-
-abbrev pub invariant-keys : goal.invariant-keys
-invariant-keys l = l.copy.items ≡ take l.kept-index l.keys
