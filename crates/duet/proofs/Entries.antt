@@ -1,5 +1,5 @@
 -- The lines of a side's inbox, one text after another.
-use Rattle.std.proofs.Common.{◌≡◌, ℕ, ◌+◌, ◌<◌, ◌≤◌, List, [], ◌∷◌, ◌++◌, length, take, drop, get_or, Option, Err, sym, ◌∙◌, ap, subst, append-nil}
+use Rattle.std.proofs.Common.{◌≡◌, ℕ, ◌+◌, ◌<◌, List, [], ◌∷◌, ◌++◌, length, take, drop, get_or, Option, Err, sym, ◌∙◌, ap, subst, append-nil}
 use Rattle.std.specs.Prelude.{flat_map}
 use Rattle.std.proofs.lemmas.Grind.{flat_map-append}
 use Rattle.std.proofs.lemmas.List.{take-append-drop, take_more}
@@ -9,7 +9,7 @@ use Rattle.dr_ports.specs.Ports.{appended}
 use Rattle.dr_ports.specs.Writing.{Writes}
 use Rattle.dr_ports.proofs.Told.{appended-appended}
 use Rattle.dr_ports.proofs.WritingLemmas.{writes_behind, writes_first}
-use Rattle.duet.specs.Lines.{entry_line}
+use Rattle.duet.specs.Replies.{entry_line}
 
 one_line : (side : Side) (item : Item) → flat_map (entry_line side) (item ∷ []) ≡ entry_line side item
 one_line side item = append-nil (entry_line side item)
@@ -36,9 +36,9 @@ took_entry side old mid new items i d h e f =
 
 -- a sink that took the lines so far, and failed in the next
 pub cut_in_entries : {T E : Type 0} (side : Side) (old mid new : Option (List ℕ)) (before middle now : ℕ) (items : List Item) (i : ℕ) (d : Item) (e : E) → i < length items
-    → mid ≡ appended old (flat_map (entry_line side) (take i items)) → before ≤ middle → Writes {T = T} mid new middle now (entry_line side (get_or items i d)) (Err e)
+    → mid ≡ appended old (flat_map (entry_line side) (take i items)) → middle ≡ before → Writes {T = T} mid new middle now (entry_line side (get_or items i d)) (Err e)
     → Writes {T = T} old new before now (flat_map (entry_line side) items) (Err e)
-cut_in_entries {T} {E} side old mid new before middle now items i d e h so_far later w =
+cut_in_entries {T} {E} side old mid new before middle now items i d e h so_far same w =
     subst (λ lines. Writes {T = T} old new before now lines (Err e)) (sym (lines_whole side items i d h))
     (writes_first old new before now (flat_map (entry_line side) (take i items) ++ entry_line side (get_or items i d)) (flat_map (entry_line side) (drop (i + 1) items)) e
-    (writes_behind old mid new before middle now (flat_map (entry_line side) (take i items)) (entry_line side (get_or items i d)) (Err e) so_far later w))
+    (writes_behind old mid new before middle now (flat_map (entry_line side) (take i items)) (entry_line side (get_or items i d)) (Err e) so_far same w))

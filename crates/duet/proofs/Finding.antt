@@ -7,7 +7,7 @@ use Rattle.std.proofs.lemmas.List.Elements.{filter-append}
 use Rattle.std.proofs.lemmas.Option.{slice_get_past}
 use Rattle.dr_base.specs.declared.position.Side.{Side}
 use Rattle.boxes.specs.Items.{Item}
-use Rattle.dr_model.specs.Events.{held_nth, is_from_peer}
+use Rattle.dr_model.specs.Machines.Network.{held_nth, is_from_peer}
 
 module _ {X : Type 0} (p : X → Bool) where
   pass : (b : Bool) (x : Option X) (y z : X) → cond b (Some y) x ≡ None → b ≡ false

@@ -1,7 +1,7 @@
 -- Bytes in hex.
 use Rattle.std.proofs.Common.{◌≡◌, [], refl}
 use Rattle.hex.specs.Hex.{decode_pairs}
-use Rattle.duet.specs.Script.{hex_read}
+use Rattle.duet.specs.Words.{hex_read}
 use Rattle.duet.specs.Seen.{bytes_of_hex}
 
 -- no digits are no bytes

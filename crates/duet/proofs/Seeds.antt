@@ -8,10 +8,12 @@ use Rattle.hex.specs.Hex.{decode_sized}
 use Rattle.hex.proofs.HexLemmas.{decode_of-ok, decode_sized-ok, decode_sized-twice}
 use Rattle.dr_base.specs.declared.position.Side.{Side}
 use Rattle.dr_base.specs.declared.position.Side.TheVariants.{First, Second}
-use Rattle.dr_model.specs.Events.{Event, seeds, says, takes, takes_nth, flips, takes_bytes, drops_sent, drops_done, shows_inbox, shows_state}
-use Rattle.duet.specs.Script.{after_prefix, amount_read, bytes_of, done_of, events_of, flip_of, flip_read, halves_of, hex_read, is_text, key_of, keyed, after_kem, line_of, lines_of, look_of, or_bad, packet_read, position_read, say_of, script_of, script_of_lines, scripted, Scripted, seed_of, sent_of, take_of, with_event, words_of}
-use Rattle.duet.specs.Number.{number_of}
-use Rattle.duet.specs.Trace.{IsSeedWhole}
+use Rattle.dr_model.specs.Machines.Events.{Event, seeds, says, takes, takes_nth, flips, takes_bytes, drops_sent, drops_done, shows_inbox, shows_state}
+use Rattle.duet.specs.Words.{after_prefix, amount_read, bytes_words, done_words, flip_words, flip_read, halves_of, hex_read, is_text, line_read, look_words, packet_read, position_read, say_words, seed_read, sent_words, take_words, side_words}
+use Rattle.duet.specs.Script.{events_of, kem_read, key_read, keyed, after_kem, lines_of, or_bad, script_of, script_of_lines, scripted, Scripted, with_event}
+use Rattle.duet.specs.Number.{number_read}
+use Rattle.dr_model.specs.Theorems.Fairness.{IsSeedWhole}
+use Rattle.duet.specs.declared.script.KemName.{KemName}
 
 -- ---- choices
 
@@ -50,8 +52,8 @@ found (Some digits) = decoded digits (decode_sized digits 32) refl
 
 -- ---- a side's line
 
-whole_say : (side : Side) (words : List ℕ) → IfSome (say_of side words) IsSeedWhole
-unfolding say_of
+whole_say : (side : Side) (words : List ℕ) → IfSome (say_words side words) IsSeedWhole
+unfolding say_words
 whole_say side words =
     whole_or (option_map (says side) (after_prefix (codes "say ") words)) (if is_text (codes "say") words then Some (says side []) else None)
     (whole_map (says side) (after_prefix (codes "say ") words) (λ _. tt))
@@ -59,62 +61,62 @@ whole_say side words =
 
 whole_packet : (side : Side) (text : List ℕ) → IfSome (packet_read side text) IsSeedWhole
 whole_packet side text =
-    whole_or (option_map (takes_nth side) (option_and_then number_of (after_prefix (codes "#") text))) (option_map (takes side) (position_read text))
-    (whole_map (takes_nth side) (option_and_then number_of (after_prefix (codes "#") text)) (λ _. tt))
+    whole_or (option_map (takes_nth side) (option_and_then number_read (after_prefix (codes "#") text))) (option_map (takes side) (position_read text))
+    (whole_map (takes_nth side) (option_and_then number_read (after_prefix (codes "#") text)) (λ _. tt))
     (whole_map (takes side) (position_read text) (λ _. tt))
 
-whole_take : (side : Side) (words : List ℕ) → IfSome (take_of side words) IsSeedWhole
-unfolding take_of
+whole_take : (side : Side) (words : List ℕ) → IfSome (take_words side words) IsSeedWhole
+unfolding take_words
 whole_take side words = whole_then (packet_read side) (after_prefix (codes "take ") words) (whole_packet side)
 
-whole_flip : (side : Side) (words : List ℕ) → IfSome (flip_of side words) IsSeedWhole
-unfolding flip_of
+whole_flip : (side : Side) (words : List ℕ) → IfSome (flip_words side words) IsSeedWhole
+unfolding flip_words
 whole_flip side words =
     whole_then (flip_read side) (option_and_then (halves_of 32) (after_prefix (codes "flip ") words))
-    (λ halves. whole_then (λ p. option_map (flips side p) (number_of halves.1)) (position_read halves.0)
-    (λ p. whole_map (flips side p) (number_of halves.1) (λ _. tt)))
+    (λ halves. whole_then (λ p. option_map (flips side p) (number_read halves.1)) (position_read halves.0)
+    (λ p. whole_map (flips side p) (number_read halves.1) (λ _. tt)))
 
-whole_bytes : (side : Side) (words : List ℕ) → IfSome (bytes_of side words) IsSeedWhole
-unfolding bytes_of
+whole_bytes : (side : Side) (words : List ℕ) → IfSome (bytes_words side words) IsSeedWhole
+unfolding bytes_words
 whole_bytes side words =
     whole_or (option_map (takes_bytes side) (option_and_then hex_read (after_prefix (codes "bytes ") words)))
     (if is_text (codes "bytes") words then Some (takes_bytes side []) else None)
     (whole_map (takes_bytes side) (option_and_then hex_read (after_prefix (codes "bytes ") words)) (λ _. tt))
     (whole_if (is_text (codes "bytes") words) (Some (takes_bytes side [])) None tt tt)
 
-whole_sent : (side : Side) (words : List ℕ) → IfSome (sent_of side words) IsSeedWhole
-unfolding sent_of
+whole_sent : (side : Side) (words : List ℕ) → IfSome (sent_words side words) IsSeedWhole
+unfolding sent_words
 whole_sent side words = whole_map (drops_sent side) (option_and_then amount_read (after_prefix (codes "sent ") words)) (λ _. tt)
 
-whole_done : (side : Side) (words : List ℕ) → IfSome (done_of side words) IsSeedWhole
-unfolding done_of
+whole_done : (side : Side) (words : List ℕ) → IfSome (done_words side words) IsSeedWhole
+unfolding done_words
 whole_done side words = whole_map (drops_done side) (option_and_then amount_read (after_prefix (codes "done ") words)) (λ _. tt)
 
-whole_look : (side : Side) (words : List ℕ) → IfSome (look_of side words) IsSeedWhole
-unfolding look_of
+whole_look : (side : Side) (words : List ℕ) → IfSome (look_words side words) IsSeedWhole
+unfolding look_words
 whole_look side words =
     whole_if (is_text (codes "inbox") words) (Some (shows_inbox side)) (if is_text (codes "state") words then Some (shows_state side) else None) tt
     (whole_if (is_text (codes "state") words) (Some (shows_state side)) None tt tt)
 
-whole_words : (side : Side) (words : List ℕ) → IfSome (words_of side words) IsSeedWhole
-unfolding words_of
+whole_words : (side : Side) (words : List ℕ) → IfSome (side_words side words) IsSeedWhole
+unfolding side_words
 whole_words side words =
     let look = whole_look side words in
-    let done = whole_or (done_of side words) (look_of side words) (whole_done side words) look in
-    let sent = whole_or (sent_of side words) (option_or (done_of side words) (look_of side words)) (whole_sent side words) done in
-    let bytes = whole_or (bytes_of side words) (option_or (sent_of side words) (option_or (done_of side words) (look_of side words))) (whole_bytes side words) sent in
-    let flip = whole_or (flip_of side words) (option_or (bytes_of side words) (option_or (sent_of side words) (option_or (done_of side words) (look_of side words)))) (whole_flip side words) bytes in
-    let packet = whole_or (take_of side words) (option_or (flip_of side words) (option_or (bytes_of side words) (option_or (sent_of side words) (option_or (done_of side words) (look_of side words))))) (whole_take side words) flip in
-    whole_or (say_of side words) (option_or (take_of side words) (option_or (flip_of side words) (option_or (bytes_of side words) (option_or (sent_of side words) (option_or (done_of side words) (look_of side words)))))) (whole_say side words) packet
+    let done = whole_or (done_words side words) (look_words side words) (whole_done side words) look in
+    let sent = whole_or (sent_words side words) (option_or (done_words side words) (look_words side words)) (whole_sent side words) done in
+    let bytes = whole_or (bytes_words side words) (option_or (sent_words side words) (option_or (done_words side words) (look_words side words))) (whole_bytes side words) sent in
+    let flip = whole_or (flip_words side words) (option_or (bytes_words side words) (option_or (sent_words side words) (option_or (done_words side words) (look_words side words)))) (whole_flip side words) bytes in
+    let packet = whole_or (take_words side words) (option_or (flip_words side words) (option_or (bytes_words side words) (option_or (sent_words side words) (option_or (done_words side words) (look_words side words))))) (whole_take side words) flip in
+    whole_or (say_words side words) (option_or (take_words side words) (option_or (flip_words side words) (option_or (bytes_words side words) (option_or (sent_words side words) (option_or (done_words side words) (look_words side words)))))) (whole_say side words) packet
 
-whole_line : (line : List ℕ) → IfSome (line_of line) IsSeedWhole
-unfolding line_of seed_of
+whole_line : (line : List ℕ) → IfSome (line_read line) IsSeedWhole
+unfolding line_read seed_read
 whole_line line =
-    whole_or (seed_of line) (option_or (option_and_then (words_of First) (after_prefix (codes "first ") line)) (option_and_then (words_of Second) (after_prefix (codes "second ") line)))
+    whole_or (seed_read line) (option_or (option_and_then (side_words First) (after_prefix (codes "first ") line)) (option_and_then (side_words Second) (after_prefix (codes "second ") line)))
     (whole_seed (option_and_then (λ digits. result_ok (decode_sized digits 32)) (after_prefix (codes "seed ") line)) (found (after_prefix (codes "seed ") line)))
-    (whole_or (option_and_then (words_of First) (after_prefix (codes "first ") line)) (option_and_then (words_of Second) (after_prefix (codes "second ") line))
-    (whole_then (words_of First) (after_prefix (codes "first ") line) (whole_words First))
-    (whole_then (words_of Second) (after_prefix (codes "second ") line) (whole_words Second)))
+    (whole_or (option_and_then (side_words First) (after_prefix (codes "first ") line)) (option_and_then (side_words Second) (after_prefix (codes "second ") line))
+    (whole_then (side_words First) (after_prefix (codes "first ") line) (whole_words First))
+    (whole_then (side_words Second) (after_prefix (codes "second ") line) (whole_words Second)))
 
 -- ---- a script
 
@@ -129,27 +131,25 @@ whole_or_bad (Some event) number others h i = whole_with event others h i
 whole_events : (number : ℕ) (lines : List (List ℕ)) → IfOk (events_of number lines) (All IsSeedWhole)
 unfolding events_of
 whole_events number [] = All-nil IsSeedWhole
-whole_events number (line ∷ lines) = whole_or_bad (line_of line) number (events_of (suc number) lines) (whole_line line) (whole_events (suc number) lines)
+whole_events number (line ∷ lines) = whole_or_bad (line_read line) number (events_of (suc number) lines) (whole_line line) (whole_events (suc number) lines)
 
-whole_scripted : (key : List ℕ) (events : Result (List Event) ℕ) → IfOk events (All IsSeedWhole) → IfOk (scripted key events) (λ script. All IsSeedWhole script.events)
-whole_scripted key (Err bad) h = tt
-whole_scripted key (Ok events) h = h
+whole_scripted : (kem : KemName) (key : List ℕ) (events : Result (List Event) ℕ) → IfOk events (All IsSeedWhole)
+    → IfOk (scripted kem key events) (λ script. All IsSeedWhole script.events)
+whole_scripted kem key (Err bad) h = tt
+whole_scripted kem key (Ok events) h = h
 
-whole_keyed : (key : Option (List ℕ)) (lines : List (List ℕ)) → IfOk (keyed key lines) (λ script. All IsSeedWhole script.events)
-whole_keyed None lines = tt
-whole_keyed (Some key) lines = whole_scripted key (events_of 3 lines) (whole_events 3 lines)
+whole_keyed : (kem : KemName) (key : Option (List ℕ)) (lines : List (List ℕ)) → IfOk (keyed kem key lines) (λ script. All IsSeedWhole script.events)
+whole_keyed kem None lines = tt
+whole_keyed kem (Some key) lines = whole_scripted kem key (events_of 3 lines) (whole_events 3 lines)
 
-whole_after : (lines : List (List ℕ)) → IfOk (after_kem lines) (λ script. All IsSeedWhole script.events)
-whole_after [] = tt
-whole_after (line ∷ lines) = whole_keyed (key_of line) lines
-
-when_kem : (b : Bool) (lines : List (List ℕ)) → IfOk (if b then after_kem lines else Err 1) (λ script. All IsSeedWhole script.events)
-when_kem true lines = whole_after lines
-when_kem false lines = tt
+whole_after : (kem : Option KemName) (lines : List (List ℕ)) → IfOk (after_kem kem lines) (λ script. All IsSeedWhole script.events)
+whole_after None lines = tt
+whole_after (Some kem) [] = tt
+whole_after (Some kem) (line ∷ lines) = whole_keyed kem (key_read line) lines
 
 whole_lines : (lines : List (List ℕ)) → IfOk (script_of_lines lines) (λ script. All IsSeedWhole script.events)
 whole_lines [] = tt
-whole_lines (line ∷ lines) = when_kem (is_text (codes "kem open") line) lines
+whole_lines (line ∷ lines) = whole_after (kem_read line) lines
 
 -- the seeds of a script that was read
 pub whole_seeds : (text : List ℕ) (script : Scripted) → script_of text ≡ Ok script → All IsSeedWhole script.events

@@ -3,11 +3,14 @@ use Rattle.std.proofs.Common.{◌≡◌, ℕ, ◌+◌, ◌≤◌, Bool, true, fa
 use Rattle.dr_base.specs.declared.position.Side.{Side}
 use Rattle.dr_base.specs.declared.position.Side.TheVariants.{First, Second}
 use Rattle.boxes.specs.Items.{Item}
-use Rattle.dr_model.specs.declared.answer.Refusal.{Refusal}
-use Rattle.dr_model.specs.Clients.{SaidText, Sides, TakenPacket, client_of, done_on, dropped_of, opened_on, said_on, say_check, say_on, saying_on, sent_on, step_on, take_on, taken_on}
-use Rattle.dr_model.specs.Steps.{Step, amount_of}
-use Rattle.dr_model.specs.Events.{Draws, Event, seeds, says, takes, takes_nth, flips, takes_bytes, drops_sent, drops_done, shows_inbox, shows_state, after_draw, flipped_at, held_at, held_nth, next_seed}
-use Rattle.dr_model.specs.Turns.{Mechanism}
+use Rattle.session_model.specs.declared.answer.Refusal.{Refusal}
+use Rattle.session_model.specs.Clients.{SaidText, TakenPacket, dropped_of, say_check, say_on, take_on}
+use Rattle.dr_model.specs.Machines.Sides.{Sides, client_of, done_on, opened_on, said_on, saying_on, sent_on, step_on, taken_on}
+use Rattle.dr_model.specs.Machines.Steps.{Step, amount_of}
+use Rattle.dr_model.specs.Machines.Draws.{Draws, after_draw, next_seed}
+use Rattle.dr_model.specs.Machines.Events.{Event, seeds, says, takes, takes_nth, flips, takes_bytes, drops_sent, drops_done, shows_inbox, shows_state}
+use Rattle.dr_model.specs.Machines.Network.{flipped_at, held_at, held_nth}
+use Rattle.kem_laws.specs.Mechanism.{Mechanism}
 use Rattle.duet.specs.Held.{DuetNow, shown, stepped}
 
 -- a step that shows no text, adds at most one packet to the network, and makes at most one draw

@@ -3,7 +3,8 @@ use Rattle.std.proofs.Common.{◌≡◌, ◌≢◌, ℕ, zero, suc, ◌+◌, ◌
 use Rattle.std.specs.Prelude.{◌==◌, Option, Some, None, option_map, position, if◌then◌else◌}
 use Rattle.std.proofs.lemmas.Bool.{eq-eqb, eqb-true}
 use Rattle.std.proofs.lemmas.List.{take_all}
-use Rattle.duet.specs.Script.{lines_of, with_byte, halves_of}
+use Rattle.duet.specs.Words.{halves_of}
+use Rattle.duet.specs.Script.{lines_of, with_byte}
 
 choose : (b : Bool) (x xs : List (List ℕ)) → b ≡ true → (if b then x else xs) ≡ x
 choose true x xs h = refl

@@ -5,12 +5,12 @@ use Rattle.dr_ports.specs.Ports.{appended}
 use Rattle.dr_ports.specs.Writing.{TookBeginning}
 use Rattle.dr_ports.proofs.Told.{appended-appended}
 use Rattle.dr_ports.proofs.WritingLemmas.{took_of_first, took_of_second}
-use Rattle.dr_model.specs.Steps.{Step}
-use Rattle.dr_model.specs.Events.{Event}
-use Rattle.dr_model.specs.Clients.{Sides, step_on}
-use Rattle.dr_model.specs.Turns.{Mechanism}
+use Rattle.dr_model.specs.Machines.Steps.{Step}
+use Rattle.dr_model.specs.Machines.Events.{Event}
+use Rattle.dr_model.specs.Machines.Sides.{Sides, step_on}
+use Rattle.kem_laws.specs.Mechanism.{Mechanism}
 use Rattle.duet.specs.Held.{DuetNow, stepped}
-use Rattle.duet.specs.Lines.{reply_of}
+use Rattle.duet.specs.Replies.{reply_of}
 use Rattle.duet.specs.Seen.{event_of}
 use Rattle.duet.specs.Trace.{lines_by, after_by}
 use Rattle.duet.specs.declared.script.line.Line.{Line}

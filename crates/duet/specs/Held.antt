@@ -4,11 +4,13 @@ use Rattle.dr_base.specs.declared.position.Position.{Position}
 use Rattle.dr_base.specs.declared.position.Side.{Side}
 use Rattle.dr_base.specs.declared.position.Side.TheVariants.{First, Second}
 use Rattle.boxes.specs.Items.{Item}
-use Rattle.dr_model.specs.Clients.{Client, SaidText, Sides, TakenPacket, client_of, step_on}
-use Rattle.dr_model.specs.Steps.{Step}
-use Rattle.dr_model.specs.Events.{Draws, Event, shows_inbox}
-use Rattle.dr_model.specs.Sessions.{opening_state}
-use Rattle.dr_model.specs.Turns.{Mechanism}
+use Rattle.session_model.specs.Clients.{Client, SaidText, TakenPacket}
+use Rattle.dr_model.specs.Machines.Sides.{Sides, client_of, step_on}
+use Rattle.dr_model.specs.Machines.Steps.{Step}
+use Rattle.dr_model.specs.Machines.Draws.{Draws}
+use Rattle.dr_model.specs.Machines.Events.{Event, shows_inbox}
+use Rattle.session_model.specs.States.{opening_state}
+use Rattle.kem_laws.specs.Mechanism.{Mechanism}
 
 -- a side at the beginning of a conversation
 abbrev pub opening_client : Mechanism → List ℕ → Side → Client

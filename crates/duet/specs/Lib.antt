@@ -1,7 +1,10 @@
 pub mod Faults
-pub mod Lines
+pub mod Replies
 pub mod Number
+pub mod Printed
+pub mod Words
 pub mod Script
 pub mod Seen
 pub mod Trace
+pub mod Tally
 pub mod Held

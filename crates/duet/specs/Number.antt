@@ -15,5 +15,5 @@ abbrev pub is_number : List ℕ → Bool
 is_number text = is_unpadded text && (list_all is_ascii_digit text && nat_lt (digits_value 10 text) (2 ^ 32))
 
 -- the number that a text says
-unfoldable pub number_of : List ℕ → Option ℕ
-number_of text = if is_number text then Some (digits_value 10 text) else None
+unfoldable pub number_read : List ℕ → Option ℕ
+number_read text = if is_number text then Some (digits_value 10 text) else None

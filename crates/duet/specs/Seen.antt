@@ -1,10 +1,9 @@
 -- What the types of the code stand for.
-use Rattle.std.specs.Prelude.{ℕ, List, [], map, Option, Some, None}
-use Rattle.dr_model.specs.Events.{Event, seeds, says, takes, takes_nth, flips, takes_bytes, drops_sent, drops_done, shows_inbox, shows_state}
-use Rattle.duet.specs.Script.{Scripted, hex_read}
+use Rattle.std.specs.Prelude.{ℕ, List, [], Option, Some, None}
+use Rattle.dr_model.specs.Machines.Events.{Event, seeds, says, takes, takes_nth, flips, takes_bytes, drops_sent, drops_done, shows_inbox, shows_state}
+use Rattle.duet.specs.Words.{hex_read}
 use Rattle.duet.specs.declared.script.line.Line.{Line}
 use Rattle.duet.specs.declared.script.line.Line.TheVariants.{Seed, Say, Take, TakeNth, Flip, Bytes, Sent, Done, Inbox, State}
-use Rattle.duet.specs.declared.script.Script.{Script}
 
 -- bytes that were written in hex, none where the digits aren't such
 abbrev pub or_empty : Option (List ℕ) → List ℕ
@@ -26,7 +25,3 @@ event_of (Sent side amount) = drops_sent side amount
 event_of (Done side amount) = drops_done side amount
 event_of (Inbox side) = shows_inbox side
 event_of (State side) = shows_state side
-
--- what a script says
-abbrev pub seen_script : Script → Scripted
-seen_script script = record { key = script.key.bytes; events = map event_of script.lines.items }

@@ -1,28 +1,23 @@
 //! One side: its session and its boxes.
 
 ghost use Rattle.std.specs.Prelude.{◌≡◌, ◌≤◌, length, Ok, Err, IfOk, OnErr, IsNone, IsSome, IsErrOf, MatchResult, is_some};
-ghost use Rattle.dr_model.specs.Clients.{accept_receive, dropped_of, say_check, say_on, summary_of, take_on};
-ghost use Rattle.dr_model.specs.Steps.{amount_of};
-ghost use Rattle.dr_model.specs.Turns.{agreement_seed};
-ghost use Rattle.ratchet.specs.Seen.{mechanism, seed_bytes};
+ghost use Rattle.session_model.specs.Drafts.{IsReceiveDraft};
+ghost use Rattle.session_model.specs.Clients.{accept_receive, dropped_of, say_check, say_on, summary_of, take_on};
+ghost use Rattle.dr_model.specs.Machines.Steps.{amount_of};
+ghost use Rattle.session_model.specs.Schedule.{agreement_seed};
+ghost use Rattle.ratchet.specs.Seen.{seed_bytes};
 ghost use Rattle.duet.specs.Held.{opening_client, said_text, taken_packet};
 
-use crate::amount::number_of;
+use crate::amount::items_in;
 use crate::post::Post;
 use boxes::{Inbox, Outbox};
-use dr_base::{Key32, Position, Side};
-use dr_model::{Amount, Refusal, Summary};
+use dr_base::{Key32, OUTBOX_LIMIT, Position, Side, TEXT_LIMIT};
 use kem_laws::{Kem, NoPair};
 use packet::parse;
 use ratchet::{ReceiveDraft, Session};
+use session_model::{Amount, Refusal, Summary};
 use std::alloc::{AllocError, Global};
 use std::marker::Model;
-
-/// The longest text, in bytes.
-const TEXT_LIMIT: usize = 1024;
-
-/// How many packets the outbox holds.
-const OUTBOX_LIMIT: u32 = 32;
 
 /// A side of a conversation.
 #[derive(Drop)]
@@ -33,7 +28,7 @@ pub struct Client<K: Kem> {
 }
 
 impl<K: Kem> Model for Client<K> {
-    ghost use Rattle.dr_model.specs.Clients.{Client as ClientNow};
+    ghost use Rattle.session_model.specs.Clients.{Client as ClientNow};
 
     ghost Value = { ClientNow };
 
@@ -41,7 +36,7 @@ impl<K: Kem> Model for Client<K> {
 }
 
 /// Why a side couldn't begin.
-#[derive(Clone, Copy, Debug, PartialEq, Eq, Hash)]
+#[derive(Clone, Copy, Debug, PartialEq, Eq)]
 pub enum BeginError {
     /// There was no memory for the boxes.
     Memory,
@@ -57,9 +52,9 @@ impl<K: Kem> Client<K> {
         side: Side,
         key: &Key32,
     ) -> Result<Self, BeginError>
-        ensures ok { IfOk result (λ c. c ≡ opening_client (mechanism K.meaning K.PUBLIC K.SECRET K.CIPHERTEXT) key.now.bytes side) }
-        ensures pair { IfOk result (λ _. IsSome (K.meaning.pair_of (agreement_seed key.now.bytes))) }
-        ensures none { IsErrOf result BeginError.NoPair → IsNone (K.meaning.pair_of (agreement_seed key.now.bytes)) }
+        ensures ok { IfOk result (λ c. c ≡ opening_client K.mechanism key.now.bytes side) }
+        ensures pair { IfOk result (λ _. IsSome (K.mechanism.meaning.pair_of (agreement_seed key.now.bytes))) }
+        ensures none { IsErrOf result BeginError.NoPair → IsNone (K.mechanism.meaning.pair_of (agreement_seed key.now.bytes)) }
     {
         let Ok(inbox) = Inbox::new(alloc) else {
             return Err(BeginError::Memory);
@@ -104,10 +99,13 @@ impl<K: Kem> Client<K> {
         if len > TEXT_LIMIT {
             return Err(Refusal::TextTooLong(len));
         }
-        if self.outbox.len() >= OUTBOX_LIMIT {
+        if self.outbox.len() as usize >= OUTBOX_LIMIT {
             return Err(Refusal::OutboxFull);
         }
-        self.session.send_check(len)
+        match self.session.send_check(len) {
+            Ok(needs_seed) => Ok(needs_seed),
+            Err(refusal) => Err(refusal.into()),
+        }
     }
 
     /// Says a text that `say_check` allows, with a seed exactly where it asks for one, and puts its packet into the
@@ -120,8 +118,8 @@ impl<K: Kem> Client<K> {
     ) -> Result<Post, Refusal>
         requires { say_check self.old (length text.now) ≡ Ok (is_some seed) }
         ensures answer { MatchResult result
-            (λ post. say_on (mechanism K.meaning K.PUBLIC K.SECRET K.CIPHERTEXT) self.old text.now (seed_bytes seed) ≡ Ok (said_text post self.new))
-            (λ e. say_on (mechanism K.meaning K.PUBLIC K.SECRET K.CIPHERTEXT) self.old text.now (seed_bytes seed) ≡ Err e) }
+            (λ post. say_on K.mechanism self.old text.now (seed_bytes seed) ≡ Ok (said_text post self.new))
+            (λ e. say_on K.mechanism self.old text.now (seed_bytes seed) ≡ Err e) }
         ensures refused { OnErr result (self.new ≡ self.old) }
     {
         match self.session.draft_send(work, text, seed) {
@@ -136,17 +134,17 @@ impl<K: Kem> Client<K> {
     }
 
     /// Opens the packet that the bytes are, and puts its text into the inbox. A refusal leaves all as it was.
-    #[tactic(auto, unfolding(dr_model::specs::Clients::take_on))]
+    #[tactic(auto, unfolding(session_model::specs::Clients::take_on))]
     pub fn take(&mut self, work: &mut K::Work, bytes: &[u8]) -> Result<Position, Refusal>
         ensures answer { MatchResult result
-            (λ p. take_on (mechanism K.meaning K.PUBLIC K.SECRET K.CIPHERTEXT) self.old bytes.now ≡ Ok (taken_packet p self.new))
-            (λ e. take_on (mechanism K.meaning K.PUBLIC K.SECRET K.CIPHERTEXT) self.old bytes.now ≡ Err e) }
+            (λ p. take_on K.mechanism self.old bytes.now ≡ Ok (taken_packet p self.new))
+            (λ e. take_on K.mechanism self.old bytes.now ≡ Err e) }
         ensures refused { OnErr result (self.new ≡ self.old) }
     {
         match parse(bytes, K::CIPHERTEXT + K::PUBLIC) {
             Err(fault) => Err(Refusal::Malformed(fault)),
             Ok(view) => match self.session.draft_receive(work, &view) {
-                Err(refusal) => Err(refusal),
+                Err(refusal) => Err(refusal.into()),
                 Ok(draft) => self.receive(draft),
             },
         }
@@ -154,7 +152,8 @@ impl<K: Kem> Client<K> {
 
     /// Accepts a packet that opens, if the inbox has room for its text.
     fn receive(&mut self, draft: ReceiveDraft<K>) -> Result<Position, Refusal>
-        requires { length draft.text ≤ 1024 }
+        requires short { length draft.text ≤ TEXT_LIMIT }
+        requires draft { IsReceiveDraft K.mechanism self.old.state draft }
         ensures answer { MatchResult result
             (λ p. accept_receive self.old (Ok draft) ≡ Ok (taken_packet p self.new))
             (λ e. accept_receive self.old (Ok draft) ≡ Err e) }
@@ -180,7 +179,7 @@ impl<K: Kem> Client<K> {
             (λ e. dropped_of n self.old.outbox ≡ Err e) }
         ensures refused { OnErr result (self.new ≡ self.old) }
     {
-        let n = number_of(amount, self.outbox.len());
+        let n = items_in(amount, self.outbox.len());
         match self.outbox.drop_first(n) {
             Ok(()) => Ok(n),
             Err(fewer) => Err(Refusal::Fewer(fewer.held)),
@@ -194,7 +193,7 @@ impl<K: Kem> Client<K> {
             (λ e. dropped_of n self.old.inbox ≡ Err e) }
         ensures refused { OnErr result (self.new ≡ self.old) }
     {
-        let n = number_of(amount, self.inbox.len());
+        let n = items_in(amount, self.inbox.len());
         match self.inbox.drop_first(n) {
             Ok(()) => Ok(n),
             Err(fewer) => Err(Refusal::Fewer(fewer.held)),

@@ -1,7 +1,7 @@
 //! The draws of a script.
 
 ghost use Rattle.std.specs.Prelude.{◌≡◌, ℕ, ◌^◌, ◌<◌, ◌-◌, Some, None};
-ghost use Rattle.dr_model.specs.Events.{after_draw, drawn, next_seed};
+ghost use Rattle.dr_model.specs.Machines.Draws.{after_draw, drawn, next_seed};
 
 use dr_base::Key32;
 use hmac_hkdf::Mac;
@@ -19,7 +19,7 @@ pub struct Draws {
 
 impl Model for Draws {
     ghost use Rattle.std.specs.Prelude.{option_map};
-    ghost use Rattle.dr_model.specs.Events.{Draws as DrawsNow};
+    ghost use Rattle.dr_model.specs.Machines.Draws.{Draws as DrawsNow};
 
     ghost Value = { DrawsNow };
 
@@ -27,7 +27,7 @@ impl Model for Draws {
 }
 
 /// A draw without a given seed: the HMAC of its number under the script's key.
-#[tactic(auto, unfolding(dr_model::specs::Events::drawn))]
+#[tactic(auto, unfolding(dr_model::specs::Machines::Draws::drawn))]
 fn draw(key: &Key32, number: u32) -> Key32
     ensures { result.bytes ≡ drawn key.now.bytes number }
 {

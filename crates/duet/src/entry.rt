@@ -2,7 +2,7 @@
 
 ghost use Rattle.std.specs.Prelude.{◌≡◌, ℕ, ◌+◌, ◌≤◌, List, ◌++◌, length};
 ghost use Rattle.boxes.specs.Items.{item_at};
-ghost use Rattle.duet.specs.Lines.{entry_line, escaped, is_plain};
+ghost use Rattle.duet.specs.Replies.{entry_line, escaped, is_plain};
 
 use crate::reply::{put_position, side_name};
 use arrayvec::ArrayVec;
@@ -37,7 +37,7 @@ fn put_escaped(line: &mut EntryLine, byte: u8)
 }
 
 /// The line of a text in a side's inbox.
-#[tactic(auto, unfolding(crate::specs::Lines::entry_line))]
+#[tactic(auto, unfolding(crate::specs::Replies::entry_line))]
 pub fn entry_line(side: Side, position: Position, text: &[u8]) -> EntryLine
     requires { length text.now ≤ 1024 }
     ensures { result.items ≡ entry_line side (item_at position text.now) }

@@ -10,8 +10,8 @@ use hex::decode_to_slice;
 pub const DIGIT_LIMIT: usize = 8000;
 
 /// The bytes of these digits, none where they aren't at most 4,000 bytes in hex.
-#[tactic(auto, unfolding(crate::specs::Script::hex_read))]
-pub fn bytes_of(digits: &[u8]) -> ArrayVec<u8, 4000>
+#[tactic(auto, unfolding(crate::specs::Words::hex_read))]
+pub fn hex_bytes(digits: &[u8]) -> ArrayVec<u8, 4000>
     ensures { result.items ≡ bytes_of_hex digits.now }
 {
     let mut bytes = ArrayVec::new();

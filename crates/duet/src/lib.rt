@@ -1,9 +1,10 @@
 //! Scripts of a conversation: their text, and both sides that play them.
 #![tactic(auto)]
 
-pub use laws::played_is_the_trace;
+pub use laws::{lines_print_back, played_is_the_trace};
 pub use playing::{PlayError, play};
-pub use script::{Line, Script, ScriptError};
+pub use script::{KemName, Line, Lines, Script, ScriptError};
+pub use tally::{SideTally, Tally};
 
 mod amount;
 mod client;
@@ -17,3 +18,4 @@ mod post;
 mod reply;
 mod script;
 mod sides;
+mod tally;

@@ -1,11 +1,10 @@
 //! The network: it holds every packet that it got, and may change a bit of one.
 
 ghost use Rattle.std.specs.Prelude.{◌≡◌, ℕ, ◌%◌, ◌^◌, ◌<◌, ◌≤◌, bit_xor, length, option_copied, option_map, slice_index, slice_set, IfSome};
-ghost use Rattle.dr_model.specs.Steps.{flipped};
-ghost use Rattle.dr_model.specs.Events.{flipped_at, held_at, held_nth};
+ghost use Rattle.dr_model.specs.Machines.Network.{flipped, flipped_at, held_at, held_nth};
 
-use crate::post::{Packet, Post, packet_of};
-use dr_base::{Position, Side};
+use crate::post::{Packet, Post};
+use dr_base::{PACKET_LIMIT, Position, Side, in_room};
 
 /// The value of each bit of a byte, the lowest first.
 const BITS: [u8; 8] = [1, 2, 4, 8, 16, 32, 64, 128];
@@ -13,7 +12,7 @@ const BITS: [u8; 8] = [1, 2, 4, 8, 16, 32, 64, 128];
 /// The packet of a position.
 pub fn held_at(posts: &[Post], position: Position) -> Option<&[u8]>
     ensures packet { option_copied result ≡ held_at posts.now position }
-    ensures fits { IfSome result (λ bytes. length bytes.now ≤ 3286) }
+    ensures fits { IfSome result (λ bytes. length bytes.now ≤ PACKET_LIMIT) }
 {
     'posts: for post in posts {
         if post.is_at(position) {
@@ -26,7 +25,7 @@ pub fn held_at(posts: &[Post], position: Position) -> Option<&[u8]>
 /// The packet that the other side than this made, counted from 1.
 pub fn held_nth(posts: &[Post], side: Side, nth: u32) -> Option<&[u8]>
     ensures packet { option_copied result ≡ held_nth posts.now side nth }
-    ensures fits { IfSome result (λ bytes. length bytes.now ≤ 3286) }
+    ensures fits { IfSome result (λ bytes. length bytes.now ≤ PACKET_LIMIT) }
 {
     let mut left = nth;
     'posts: for post in posts {
@@ -56,27 +55,27 @@ fn flip_at(bytes: &mut [u8], at: usize, value: u8)
 }
 
 /// A copy of these bytes with one bit changed, counted from the lowest of the first byte, if they have that bit.
-#[tactic(auto, unfolding(dr_model::specs::Steps::flipped))]
+#[tactic(auto, unfolding(dr_model::specs::Machines::Network::flipped))]
 fn flipped(bit: u32, bytes: &[u8]) -> Option<Packet>
-    requires { length bytes.now ≤ 3286 }
+    requires { length bytes.now ≤ PACKET_LIMIT }
     ensures { option_map (λ packet. packet.items) result ≡ flipped bit bytes.now }
 {
     let at = (bit / 8) as usize;
     if at >= bytes.len() {
         return None;
     }
-    let mut packet = packet_of(bytes);
+    let mut packet = in_room(bytes);
     flip_at(packet.as_mut_slice(), at, bit_value(bit));
     Some(packet)
 }
 
 /// A copy of a packet, if there is one.
 pub fn copied(bytes: Option<&[u8]>) -> Option<Packet>
-    requires { IfSome bytes (λ bytes. length bytes.now ≤ 3286) }
+    requires { IfSome bytes (λ bytes. length bytes.now ≤ PACKET_LIMIT) }
     ensures { option_map (λ packet. packet.items) result ≡ option_copied bytes.entry }
 {
     match bytes {
-        Some(bytes) => Some(packet_of(bytes)),
+        Some(bytes) => Some(in_room(bytes)),
         None => None,
     }
 }

@@ -1,22 +1,23 @@
 //! A script, played: each event is answered, and its lines are written before the next.
 
-ghost use Rattle.std.specs.Prelude.{◌≡◌, ℕ, ◌+◌, ◌-◌, ◌^◌, ◌<◌, ◌≤◌, length, flat_map, slice_index_or, IsNone, IsSome, OnOk, IsErrOf};
+ghost use Rattle.std.specs.Prelude.{◌≡◌, ℕ, ◌+◌, ◌-◌, ◌^◌, ◌<◌, ◌≤◌, length, flat_map, slice_index_or, IsNone, IsSome, IfOk, OnOk, IsErrOf};
 ghost use Rattle.dr_ports.specs.Ports.{Rose, appended};
 ghost use Rattle.dr_ports.specs.Writing.{TookBeginning, Writes};
 ghost use Rattle.boxes.specs.Items.{Item};
-ghost use Rattle.dr_model.specs.Clients.{step_on};
-ghost use Rattle.dr_model.specs.Turns.{agreement_seed};
+ghost use Rattle.dr_model.specs.Machines.Sides.{step_on};
+ghost use Rattle.session_model.specs.Schedule.{agreement_seed};
 ghost use Rattle.duet.specs.Held.{shown, stepped};
-ghost use Rattle.duet.specs.Lines.{entry_line, reply_of, side_of};
-ghost use Rattle.duet.specs.Seen.{event_of, seen_script};
+ghost use Rattle.duet.specs.Replies.{entry_line, reply_of, acting_side};
+ghost use Rattle.duet.specs.Seen.{event_of};
+ghost use Rattle.duet.specs.Tally.{IsBelow, counted_of, tally_of};
 ghost use Rattle.duet.specs.Trace.{played};
-ghost use Rattle.ratchet.specs.Seen.{mechanism};
 
 use crate::client::BeginError;
 use crate::entry::entry_line;
 use crate::reply::reply;
 use crate::script::{Line, Script};
 use crate::sides::Duet;
+use crate::tally::Tally;
 use boxes::Inbox;
 use dr_base::Side;
 use dr_ports::{Failed, Sink, write_all};
@@ -24,7 +25,7 @@ use kem_laws::Kem;
 use std::alloc::Global;
 
 /// Why a script wasn't played to its end.
-#[derive(Clone, Copy, Debug, PartialEq, Eq, Hash)]
+#[derive(Clone, Copy, Debug, PartialEq, Eq)]
 pub enum PlayError {
     /// There was no memory for the two sides; nothing was written.
     Memory,
@@ -65,7 +66,7 @@ fn write_entries<K: Kem, O: Sink>(
     line: &Line<'_>,
 ) -> Result<(), Failed>
     ensures { Writes (O.taken out.old) (O.taken out.new) (O.faults out.old) (O.faults out.new)
-        (flat_map (entry_line (side_of (event_of line.now))) (shown (event_of line.now) duet.now.sides)) result }
+        (flat_map (entry_line (acting_side (event_of line.now))) (shown (event_of line.now) duet.now.sides)) result }
 {
     match line {
         Line::Inbox(side) => write_inbox(out, *side, duet.inbox(*side)),
@@ -73,56 +74,67 @@ fn write_entries<K: Kem, O: Sink>(
     }
 }
 
-/// Plays one event, and writes its lines.
-#[tactic(auto, unfolding(crate::specs::Lines::reply_of))]
+/// Plays one event, counts its answer, and writes its lines.
+#[tactic(auto, unfolding(crate::specs::Replies::reply_of))]
 fn play_line<K: Kem, O: Sink>(
     duet: &mut Duet<K>,
     work: &mut K::Work,
     line: &Line<'_>,
+    tally: &mut Tally,
     out: &mut O,
 ) -> Result<(), Failed>
     requires room { length duet.old.sides.posts < duet.old.room }
     requires draws { duet.old.sides.draws.made < 2 ^ 32 - 1 }
-    ensures next { duet.new ≡ stepped (mechanism K.meaning K.PUBLIC K.SECRET K.CIPHERTEXT) duet.old (event_of line.now) }
-    ensures writes { let k = mechanism K.meaning K.PUBLIC K.SECRET K.CIPHERTEXT in
+    requires few { IsBelow (2 ^ 32 - 1) tally.old }
+    ensures next { duet.new ≡ stepped K.mechanism duet.old (event_of line.now) }
+    ensures counts { let k = K.mechanism in
+        tally.new ≡ counted_of (acting_side (event_of line.now)) (step_on k duet.old.sides (event_of line.now)).answer tally.old }
+    ensures writes { let k = K.mechanism in
         Writes (O.taken out.old) (O.taken out.new) (O.faults out.old) (O.faults out.new)
         (reply_of (event_of line.now) (step_on k duet.old.sides (event_of line.now))) result }
 {
     let answer = duet.step(work, line);
+    tally.count(line.side(), answer);
     match write_all(out, reply(line.side(), answer).as_bytes()) {
         Err(Failed) => Err(Failed),
         Ok(()) => write_entries(out, duet, line),
     }
 }
 
-/// Plays a script over a mechanism: it writes the lines of each event, with what both sides answer.
+/// Plays a script over a mechanism: it writes the lines of each event, with what both sides answer, and gives the run
+/// in numbers.
 pub fn play<K: Kem, O: Sink>(
     alloc: Global,
-    script: &Script<'_>,
+    script: &Script,
     out: &mut O,
-) -> Result<(), PlayError>
-    ensures ok { OnOk result (O.taken out.new ≡ appended (O.taken out.old) (played (mechanism K.meaning K.PUBLIC K.SECRET K.CIPHERTEXT) (seen_script script.now))) }
-    ensures pair { OnOk result (IsSome (K.meaning.pair_of (agreement_seed script.now.key.bytes))) }
-    ensures none { IsErrOf result PlayError.NoPair → IsNone (K.meaning.pair_of (agreement_seed script.now.key.bytes)) × (O.taken out.new ≡ O.taken out.old) }
+) -> Result<Tally, PlayError>
+    ensures ok { OnOk result (O.taken out.new ≡ appended (O.taken out.old) (played K.mechanism script.now)) }
+    ensures tally { IfOk result (λ tally. tally ≡ tally_of K.mechanism script.now) }
+    ensures pair { OnOk result (IsSome (K.mechanism.meaning.pair_of (agreement_seed script.now.key))) }
+    ensures none { IsErrOf result PlayError.NoPair → IsNone (K.mechanism.meaning.pair_of (agreement_seed script.now.key)) × (O.taken out.new ≡ O.taken out.old) }
     ensures memory { IsErrOf result PlayError.Memory → O.taken out.new ≡ O.taken out.old }
     ensures write { IsErrOf result PlayError.Write
-        → TookBeginning (O.taken out.old) (O.taken out.new) (played (mechanism K.meaning K.PUBLIC K.SECRET K.CIPHERTEXT) (seen_script script.now))
-        × Rose (O.faults out.old) (O.faults out.new) × IsSome (K.meaning.pair_of (agreement_seed script.now.key.bytes)) }
+        → TookBeginning (O.taken out.old) (O.taken out.new) (played K.mechanism script.now)
+        × Rose (O.faults out.old) (O.faults out.new) × IsSome (K.mechanism.meaning.pair_of (agreement_seed script.now.key)) }
+    // No other ending has a fault.
+    ensures quiet { (IsErrOf result PlayError.Write → ⊥) → O.faults out.new ≡ O.faults out.old }
     ensures later { O.faults out.old ≤ O.faults out.new }
 {
     let Ok(mut work) = K::work(alloc) else {
         return Err(PlayError::Memory);
     };
-    let mut duet = match Duet::<K>::new(alloc, &mut work, &script.key, script.lines.len()) {
+    let mut duet = match Duet::<K>::new(alloc, &mut work, script.key(), script.len()) {
         Ok(duet) => duet,
         Err(BeginError::Memory) => return Err(PlayError::Memory),
         Err(BeginError::NoPair) => return Err(PlayError::NoPair),
     };
-    'events: for line in &script.lines {
-        match play_line(&mut duet, &mut work, line, out) {
+    let mut tally = Tally::new();
+    let mut lines = script.lines();
+    'events: while let Some(line) = lines.next() {
+        match play_line(&mut duet, &mut work, &line, &mut tally, out) {
             Err(Failed) => return Err(PlayError::Write),
             Ok(()) => {}
         }
     }
-    Ok(())
+    Ok(duet.reached(tally))
 }

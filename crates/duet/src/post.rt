@@ -2,15 +2,15 @@
 
 ghost use Rattle.std.specs.Prelude.{◌≡◌, ◌≤◌, length, IsTrue, ◌↔◌};
 ghost use Rattle.boxes.specs.Items.{item_at};
-ghost use Rattle.dr_model.specs.Events.{is_from_peer};
-ghost use Rattle.dr_model.specs.Views.{is_at};
+ghost use Rattle.dr_model.specs.Machines.Network.{is_from_peer};
+ghost use Rattle.dr_base.specs.Position.{is_at};
 
 use arrayvec::ArrayVec;
-use dr_base::{Position, Side};
+use dr_base::{PACKET_LIMIT, Position, Side, in_room};
 use std::marker::Model;
 
 /// The bytes of a packet.
-pub type Packet = ArrayVec<u8, 3286>;
+pub type Packet = ArrayVec<u8, PACKET_LIMIT>;
 
 /// A packet, as the network holds it.
 #[derive(Drop)]
@@ -27,25 +27,15 @@ impl Model for Post {
     ghost view = { λ post. item_at post.position post.packet.items };
 }
 
-/// A packet of these bytes.
-pub fn packet_of(bytes: &[u8]) -> Packet
-    requires { length bytes.now ≤ 3286 }
-    ensures { result.items ≡ bytes.now }
-{
-    let mut packet = Packet::new();
-    packet.try_extend_from_slice(bytes).unwrap();
-    packet
-}
-
 impl Post {
     /// The packet of these bytes under a position.
     pub fn new(position: Position, bytes: &[u8]) -> Post
-        requires { length bytes.now ≤ 3286 }
+        requires { length bytes.now ≤ PACKET_LIMIT }
         ensures { result ≡ item_at position bytes.now }
     {
         Post {
             position,
-            packet: packet_of(bytes),
+            packet: in_room(bytes),
         }
     }
 
@@ -59,7 +49,7 @@ impl Post {
     /// The bytes of the packet.
     pub fn packet(&self) -> &[u8]
         ensures value { result.now ≡ self.now.bytes }
-        ensures fits { length result.now ≤ 3286 }
+        ensures fits { length result.now ≤ PACKET_LIMIT }
     {
         self.packet.as_slice()
     }
@@ -75,10 +65,6 @@ impl Post {
     pub fn is_from_peer(&self, side: Side) -> bool
         ensures { result ≡ is_from_peer side self.now }
     {
-        let is_odd = self.position.epoch % 2 == 1;
-        match side {
-            Side::First => !is_odd,
-            Side::Second => is_odd,
-        }
+        !side.owns(self.position.epoch)
     }
 }

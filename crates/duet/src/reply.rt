@@ -1,12 +1,12 @@
 //! The lines of a trace.
 
 ghost use Rattle.std.specs.Prelude.{◌≡◌, ℕ, ◌+◌, ◌≤◌, List, ◌++◌, length, codes, decimal};
-ghost use Rattle.duet.specs.Lines.{position_text, kind_text, refusal_text, summary_text, answer_text, side_text, reply_line};
+ghost use Rattle.duet.specs.Replies.{position_text, kind_text, refusal_text, summary_text, answer_text, side_text, reply_line};
 
 use dr_base::{Position, Side};
-use dr_model::{Answer, Refusal, Summary};
 use dr_ports::{OutputLine, ROOM};
 use packet::{Kind, Malformed};
+use session_model::{Answer, Refusal, Summary};
 
 /// Puts a name and a number behind what stands.
 fn put_named(line: &mut OutputLine, name: &[u8], number: u64)
@@ -19,7 +19,7 @@ fn put_named(line: &mut OutputLine, name: &[u8], number: u64)
 }
 
 /// Puts a position behind what stands, as `epoch.index`.
-#[tactic(auto, unfolding(crate::specs::Lines::position_text))]
+#[tactic(auto, unfolding(crate::specs::Replies::position_text))]
 pub fn put_position(line: &mut OutputLine, position: Position)
     requires { length line.old + 41 ≤ ROOM }
     ensures bytes { line.new ≡ line.old ++ position_text position }
@@ -31,7 +31,7 @@ pub fn put_position(line: &mut OutputLine, position: Position)
 }
 
 /// The name of a fault's kind.
-#[tactic(auto, unfolding(crate::specs::Lines::kind_text))]
+#[tactic(auto, unfolding(crate::specs::Replies::kind_text))]
 fn kind_name(kind: Kind) -> &'static [u8]
     ensures name { result.now ≡ kind_text kind }
     ensures short { length result.now ≤ 9 }
@@ -61,7 +61,7 @@ fn put_fault(line: &mut OutputLine, fault: Malformed)
 }
 
 /// Puts a refusal's name and values behind what stands.
-#[tactic(auto, unfolding(crate::specs::Lines::refusal_text))]
+#[tactic(auto, unfolding(crate::specs::Replies::refusal_text))]
 pub fn put_refusal(line: &mut OutputLine, refusal: Refusal)
     requires { length line.old + 60 ≤ ROOM }
     ensures bytes { line.new ≡ line.old ++ refusal_text refusal }
@@ -96,7 +96,7 @@ pub fn put_refusal(line: &mut OutputLine, refusal: Refusal)
 }
 
 /// Puts what a side holds behind what stands.
-#[tactic(auto, unfolding(crate::specs::Lines::summary_text))]
+#[tactic(auto, unfolding(crate::specs::Replies::summary_text))]
 fn put_summary(line: &mut OutputLine, summary: Summary)
     requires { length line.old + 110 ≤ ROOM }
     ensures bytes { line.new ≡ line.old ++ summary_text summary }
@@ -109,7 +109,7 @@ fn put_summary(line: &mut OutputLine, summary: Summary)
 }
 
 /// Puts an answer in words behind what stands.
-#[tactic(auto, unfolding(crate::specs::Lines::answer_text))]
+#[tactic(auto, unfolding(crate::specs::Replies::answer_text))]
 fn put_answer(line: &mut OutputLine, answer: Answer)
     requires { length line.old + 116 ≤ ROOM }
     ensures bytes { line.new ≡ line.old ++ answer_text answer }
@@ -141,7 +141,7 @@ fn put_answer(line: &mut OutputLine, answer: Answer)
 }
 
 /// A side, and a space.
-#[tactic(auto, unfolding(crate::specs::Lines::side_text))]
+#[tactic(auto, unfolding(crate::specs::Replies::side_text))]
 pub fn side_name(side: Side) -> &'static [u8]
     ensures name { result.now ≡ side_text side }
     ensures short { length result.now ≤ 7 }
@@ -153,7 +153,7 @@ pub fn side_name(side: Side) -> &'static [u8]
 }
 
 /// The line of a side's event with its answer; a seed has none.
-#[tactic(auto, unfolding(crate::specs::Lines::reply_line))]
+#[tactic(auto, unfolding(crate::specs::Replies::reply_line))]
 pub fn reply(side: Side, answer: Answer) -> OutputLine
     ensures { result ≡ reply_line side answer }
 {

@@ -1,32 +1,56 @@
 //! A script's text, read whole before its first line runs. Its first line names the mechanism, its second the
 //! key of both sessions; each later line is an event.
 
-ghost use Rattle.std.specs.Prelude.{◌≡◌, ℕ, ◌+◌, ◌<◌, ◌^◌, length, Ok, IfOk, IfErr, option_map, map, codes};
-ghost use Rattle.duet.specs.Script.{script_of, events_of, lines_of, is_text, key_of};
+ghost use Rattle.std.specs.Prelude.{◌≡◌, ◌+◌, ◌<◌, ◌^◌, length, Ok, Err, IfOk, IfErr, option_map};
 ghost use Rattle.duet.specs.Faults.{IsFaultOf};
-ghost use Rattle.duet.specs.Seen.{event_of};
-ghost use Rattle.duet.specs.declared.script.ScriptError.TheVariants.{Memory};
+ghost use Rattle.duet.specs.Script.{AreCounted, events_of, kem_read, key_read, lines_of, script_of};
 
 use dr_base::Key32;
 use hex::FromHex;
 pub use line::Line;
-use split::{after, split_line};
-use std::alloc::{AllocFailed, Global};
+pub use lines::Lines;
+use split::{after_prefix, split_line};
+use std::alloc::Global;
+use std::marker::Model;
 
 mod line;
+mod lines;
 mod number;
 mod split;
 mod words;
 
-/// What a script says: the key of both sessions, and its events in order.
+/// A key encapsulation mechanism, as a script names it.
+#[derive(Clone, Copy, Debug, PartialEq, Eq)]
+pub enum KemName {
+    /// `kem open`: the stand-in without secrecy.
+    Open,
+    /// `kem sntrup761`: Streamlined NTRU Prime.
+    Sntrup761,
+}
+
+/// A script that was read: a mechanism, the key of both sessions, and the events in order. It owns its text.
 #[derive(Drop)]
-pub struct Script<'a> {
-    pub key: Key32,
-    pub lines: Vec<Line<'a>>,
+pub struct Script {
+    kem: KemName,
+    key: Key32,
+    /// The lines after the key, none of which is bad.
+    text: Vec<u8>,
+    /// How many lines these are.
+    count: usize,
+}
+
+impl Model for Script {
+    ghost use Rattle.duet.specs.Script.{AreCounted, Scripted, events_in};
+
+    ghost Value = { Scripted };
+
+    ghost view = { λ s. record { kem = s.kem; key = s.key.bytes; events = events_in s.text.items } };
+
+    ghost invariant = { λ s. AreCounted s.text.items s.count };
 }
 
 /// Why a text is no script.
-#[derive(Clone, Copy, Debug, PartialEq, Eq, Hash)]
+#[derive(Clone, Copy, Debug, PartialEq, Eq)]
 pub enum ScriptError {
     /// There was no memory for the lines.
     Memory,
@@ -34,54 +58,90 @@ pub enum ScriptError {
     Line(u32),
 }
 
-impl<T: Drop> From<AllocFailed<T>> for ScriptError {
-    ghost from_gives = { λ _ e. e ≡ Memory };
-
-    fn from(_: AllocFailed<T>) -> Self {
-        ScriptError::Memory
-    }
-}
-
-impl<'a> Script<'a> {
-    ghost use Rattle.duet.specs.Seen.{seen_script};
-
+impl Script {
     /// Reads a text as a script.
-    #[tactic(auto, unfolding(crate::specs::Script::script_of))]
-    pub fn parse(alloc: Global, text: &'a [u8]) -> Result<Self, ScriptError>
+    #[tactic(auto, unfolding(crate::specs::Script::script_of, crate::specs::Script::events_in))]
+    pub fn parse(alloc: Global, text: &[u8]) -> Result<Self, ScriptError>
         requires { length text.now < 2 ^ 31 }
-        ensures ok { IfOk result (λ script. script_of text.entry.now ≡ Ok (seen_script script)) }
-        ensures err { IfErr result (IsFaultOf (script_of text.entry.now)) }
+        ensures ok { IfOk result (λ script. script_of text.now ≡ Ok script) }
+        ensures err { IfErr result (IsFaultOf (script_of text.now)) }
     {
-        let Some((kem, rest)) = split_line(text) else {
+        let Some((line, rest)) = split_line(text) else {
             return Err(ScriptError::Line(1));
         };
-        if !is_kem(kem) {
+        let Some(kem) = parse_kem(line) else {
             return Err(ScriptError::Line(1));
-        }
+        };
         let Some((line, rest)) = split_line(rest) else {
             return Err(ScriptError::Line(2));
         };
         let Some(key) = parse_key(line) else {
             return Err(ScriptError::Line(2));
         };
-        let lines = parse_lines(alloc, rest)?;
-        Ok(Script { key, lines })
+        let count = match count_lines(rest) {
+            Ok(count) => count,
+            Err(number) => return Err(ScriptError::Line(number)),
+        };
+        let Ok(text) = Vec::from_slice(alloc, rest) else {
+            return Err(ScriptError::Memory);
+        };
+        Ok(Script {
+            kem,
+            key,
+            text,
+            count,
+        })
+    }
+
+    /// The mechanism that the first line names.
+    pub fn kem(&self) -> KemName
+        ensures { result ≡ self.now.kem }
+    {
+        self.kem
+    }
+
+    /// The key of both sessions.
+    pub fn key(&self) -> &Key32
+        ensures { result.now.bytes ≡ self.now.key }
+    {
+        &self.key
+    }
+
+    /// How many events there are.
+    pub fn len(&self) -> usize
+        ensures { result ≡ length self.now.events }
+    {
+        self.count
+    }
+
+    /// The events from the first on.
+    pub fn lines(&self) -> Lines<'_>
+        ensures { result ≡ self.now.events }
+    {
+        Lines::new(self.text.as_slice())
     }
 }
 
-/// Whether a line names the stand-in mechanism.
-fn is_kem(line: &[u8]) -> bool
-    ensures { result ≡ is_text (codes "kem open") line.now }
+/// The mechanism that a line names.
+#[tactic(auto, unfolding(crate::specs::Script::kem_read))]
+fn parse_kem(line: &[u8]) -> Option<KemName>
+    ensures { result ≡ kem_read line.now }
 {
-    line == b"kem open".as_slice()
+    if line == b"kem open".as_slice() {
+        return Some(KemName::Open);
+    }
+    if line == b"kem sntrup761".as_slice() {
+        return Some(KemName::Sntrup761);
+    }
+    None
 }
 
 /// The key of a line `key` and 64 hex digits of either case.
-#[tactic(auto, unfolding(crate::specs::Script::key_of))]
+#[tactic(auto, unfolding(crate::specs::Script::key_read))]
 fn parse_key(line: &[u8]) -> Option<Key32>
-    ensures { option_map (λ key. key.bytes) result ≡ key_of line.now }
+    ensures { option_map (λ key. key.bytes) result ≡ key_read line.now }
 {
-    match after(line, b"key ") {
+    match after_prefix(line, b"key ") {
         Some(digits) => match <[u8; 32] as FromHex>::from_hex(digits) {
             Ok(bytes) => Some(Key32 { bytes }),
             Err(_) => None,
@@ -90,22 +150,20 @@ fn parse_key(line: &[u8]) -> Option<Key32>
     }
 }
 
-/// Reads the lines behind the key, of which the first is the script's third.
-fn parse_lines(alloc: Global, text: &[u8]) -> Result<Vec<Line<'_>>, ScriptError>
+/// How many lines stand after the key, of which the first is the script's third, or the number of the first bad one.
+fn count_lines(text: &[u8]) -> Result<usize, u32>
     requires { length text.now < 2 ^ 31 }
-    ensures ok { IfOk result (λ lines. events_of 3 (lines_of text.entry.now) ≡ Ok (map event_of lines.items)) }
-    ensures err { IfErr result (IsFaultOf (events_of 3 (lines_of text.entry.now))) }
+    ensures ok { IfOk result (AreCounted text.now) }
+    ensures err { IfErr result (λ number. events_of 3 (lines_of text.now) ≡ Err number) }
 {
-    let mut lines = Vec::new(alloc);
     let mut rest = text;
     let mut number = 3;
     'lines: while let Some((line, next)) = split_line(rest) {
-        let Some(line) = Line::parse(line) else {
-            return Err(ScriptError::Line(number));
-        };
-        lines.push(line)?;
+        if Line::parse(line).is_none() {
+            return Err(number);
+        }
         rest = next;
         number += 1;
     }
-    Ok(lines)
+    Ok(number as usize - 3)
 }

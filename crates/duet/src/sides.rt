@@ -1,22 +1,25 @@
 //! Both sides of a conversation, with the network between them.
 
 ghost use Rattle.std.specs.Prelude.{◌≡◌, ◌-◌, ◌^◌, ◌<◌, length, Ok, IfOk, IsErrOf, IsNone, IsSome, is_some, option_map};
-ghost use Rattle.dr_model.specs.Clients.{client_of, say_check, say_on, said_on, step_on, summary_of, taken_on};
-ghost use Rattle.dr_model.specs.Events.{drops_done, drops_sent, says, takes_bytes};
-ghost use Rattle.dr_model.specs.Turns.{agreement_seed};
+ghost use Rattle.dr_model.specs.Machines.Sides.{client_of, said_on, step_on, taken_on};
+ghost use Rattle.session_model.specs.Clients.{say_check, say_on, summary_of};
+ghost use Rattle.dr_model.specs.Machines.Events.{drops_done, drops_sent, says, takes_bytes};
+ghost use Rattle.session_model.specs.Schedule.{agreement_seed};
 ghost use Rattle.duet.specs.Held.{after, opening_duet, stepped};
-ghost use Rattle.ratchet.specs.Seen.{mechanism, seed_bytes};
+ghost use Rattle.duet.specs.Tally.{both_reached};
+ghost use Rattle.ratchet.specs.Seen.{seed_bytes};
 
 use crate::client::{BeginError, Client};
 use crate::draws::Draws;
-use crate::hexed::bytes_of;
+use crate::hexed::hex_bytes;
 use crate::network::{copied, held_at, held_flipped, held_nth};
 use crate::post::{Packet, Post};
 use crate::script::Line;
+use crate::tally::{SideTally, Tally};
 use boxes::Inbox;
 use dr_base::{Key32, Side};
-use dr_model::{Amount, Answer, Refusal, Summary};
 use kem_laws::Kem;
+use session_model::{Amount, Answer, Refusal, Summary};
 use std::alloc::Global;
 use std::marker::Model;
 
@@ -50,10 +53,10 @@ impl<K: Kem> Duet<K> {
         key: &Key32,
         room: usize,
     ) -> Result<Self, BeginError>
-        ensures ok { IfOk result (λ duet. duet ≡ opening_duet (mechanism K.meaning K.PUBLIC K.SECRET K.CIPHERTEXT) key.now.bytes room) }
+        ensures ok { IfOk result (λ duet. duet ≡ opening_duet K.mechanism key.now.bytes room) }
         ensures few { IfOk result (λ _. room < 2 ^ 32 - 1) }
-        ensures pair { IfOk result (λ _. IsSome (K.meaning.pair_of (agreement_seed key.now.bytes))) }
-        ensures none { IsErrOf result BeginError.NoPair → IsNone (K.meaning.pair_of (agreement_seed key.now.bytes)) }
+        ensures pair { IfOk result (λ _. IsSome (K.mechanism.meaning.pair_of (agreement_seed key.now.bytes))) }
+        ensures none { IsErrOf result BeginError.NoPair → IsNone (K.mechanism.meaning.pair_of (agreement_seed key.now.bytes)) }
     {
         // No memory has room for the packets of so many events.
         if room >= u32::MAX as usize {
@@ -102,9 +105,9 @@ impl<K: Kem> Duet<K> {
     fn speak(&mut self, work: &mut K::Work, side: Side, text: &[u8], seed: Option<Key32>) -> Answer
         requires room { length self.old.sides.posts < self.old.room }
         requires checked { say_check (client_of self.old.sides side) (length text.now) ≡ Ok (is_some seed) }
-        ensures answer { let k = mechanism K.meaning K.PUBLIC K.SECRET K.CIPHERTEXT in
+        ensures answer { let k = K.mechanism in
             result ≡ (said_on self.old.sides side (say_on k (client_of self.old.sides side) text.now (seed_bytes seed))).answer }
-        ensures next { let k = mechanism K.meaning K.PUBLIC K.SECRET K.CIPHERTEXT in
+        ensures next { let k = K.mechanism in
             self.new ≡ after self.old (said_on self.old.sides side (say_on k (client_of self.old.sides side) text.now (seed_bytes seed))) }
     {
         let said = match side {
@@ -125,8 +128,8 @@ impl<K: Kem> Duet<K> {
     fn say(&mut self, work: &mut K::Work, side: Side, text: &[u8]) -> Answer
         requires room { length self.old.sides.posts < self.old.room }
         requires draws { self.old.sides.draws.made < 2 ^ 32 - 1 }
-        ensures answer { let k = mechanism K.meaning K.PUBLIC K.SECRET K.CIPHERTEXT in result ≡ (step_on k self.old.sides (says side text.now)).answer }
-        ensures next { let k = mechanism K.meaning K.PUBLIC K.SECRET K.CIPHERTEXT in self.new ≡ stepped k self.old (says side text.now) }
+        ensures answer { let k = K.mechanism in result ≡ (step_on k self.old.sides (says side text.now)).answer }
+        ensures next { let k = K.mechanism in self.new ≡ stepped k self.old (says side text.now) }
     {
         match self.say_check(side, text.len()) {
             Err(refusal) => Answer::Refused(refusal),
@@ -140,8 +143,8 @@ impl<K: Kem> Duet<K> {
 
     /// A side takes bytes.
     fn take_bytes(&mut self, work: &mut K::Work, side: Side, bytes: &[u8]) -> Answer
-        ensures answer { let k = mechanism K.meaning K.PUBLIC K.SECRET K.CIPHERTEXT in result ≡ (step_on k self.old.sides (takes_bytes side bytes.now)).answer }
-        ensures next { let k = mechanism K.meaning K.PUBLIC K.SECRET K.CIPHERTEXT in self.new ≡ stepped k self.old (takes_bytes side bytes.now) }
+        ensures answer { let k = K.mechanism in result ≡ (step_on k self.old.sides (takes_bytes side bytes.now)).answer }
+        ensures next { let k = K.mechanism in self.new ≡ stepped k self.old (takes_bytes side bytes.now) }
     {
         let taken = match side {
             Side::First => self.first.take(work, bytes),
@@ -155,9 +158,9 @@ impl<K: Kem> Duet<K> {
 
     /// A side takes a packet, if the network has it to give.
     fn take_packet(&mut self, work: &mut K::Work, side: Side, packet: Option<Packet>) -> Answer
-        ensures answer { let k = mechanism K.meaning K.PUBLIC K.SECRET K.CIPHERTEXT in
+        ensures answer { let k = K.mechanism in
             result ≡ (taken_on k self.old.sides side (option_map (λ packet. packet.items) packet)).answer }
-        ensures next { let k = mechanism K.meaning K.PUBLIC K.SECRET K.CIPHERTEXT in
+        ensures next { let k = K.mechanism in
             self.new ≡ after self.old (taken_on k self.old.sides side (option_map (λ packet. packet.items) packet)) }
     {
         match packet {
@@ -168,8 +171,8 @@ impl<K: Kem> Duet<K> {
 
     /// A side's oldest packets leave its outbox.
     fn drop_sent(&mut self, side: Side, amount: Amount) -> Answer
-        ensures answer { let k = mechanism K.meaning K.PUBLIC K.SECRET K.CIPHERTEXT in result ≡ (step_on k self.old.sides (drops_sent side amount)).answer }
-        ensures next { let k = mechanism K.meaning K.PUBLIC K.SECRET K.CIPHERTEXT in self.new ≡ stepped k self.old (drops_sent side amount) }
+        ensures answer { let k = K.mechanism in result ≡ (step_on k self.old.sides (drops_sent side amount)).answer }
+        ensures next { let k = K.mechanism in self.new ≡ stepped k self.old (drops_sent side amount) }
     {
         let dropped = match side {
             Side::First => self.first.drop_sent(amount),
@@ -183,8 +186,8 @@ impl<K: Kem> Duet<K> {
 
     /// A side's oldest texts leave its inbox.
     fn drop_done(&mut self, side: Side, amount: Amount) -> Answer
-        ensures answer { let k = mechanism K.meaning K.PUBLIC K.SECRET K.CIPHERTEXT in result ≡ (step_on k self.old.sides (drops_done side amount)).answer }
-        ensures next { let k = mechanism K.meaning K.PUBLIC K.SECRET K.CIPHERTEXT in self.new ≡ stepped k self.old (drops_done side amount) }
+        ensures answer { let k = K.mechanism in result ≡ (step_on k self.old.sides (drops_done side amount)).answer }
+        ensures next { let k = K.mechanism in self.new ≡ stepped k self.old (drops_done side amount) }
     {
         let dropped = match side {
             Side::First => self.first.drop_done(amount),
@@ -206,12 +209,32 @@ impl<K: Kem> Duet<K> {
         }
     }
 
+    /// A run in numbers, with how far each side has come.
+    pub fn reached(&self, tally: Tally) -> Tally
+        ensures { result ≡ both_reached self.now.sides tally }
+    {
+        let (first, second) = (self.first.summary(), self.second.summary());
+        Tally {
+            rounds: tally.rounds,
+            first: SideTally {
+                epoch: first.epoch,
+                missing: first.missing,
+                ..tally.first
+            },
+            second: SideTally {
+                epoch: second.epoch,
+                missing: second.missing,
+                ..tally.second
+            },
+        }
+    }
+
     /// One event. An inbox is answered with how many texts stand in it.
     pub fn step(&mut self, work: &mut K::Work, line: &Line<'_>) -> Answer
         requires room { length self.old.sides.posts < self.old.room }
         requires draws { self.old.sides.draws.made < 2 ^ 32 - 1 }
-        ensures answer { let k = mechanism K.meaning K.PUBLIC K.SECRET K.CIPHERTEXT in result ≡ (step_on k self.old.sides (event_of line.now)).answer }
-        ensures next { let k = mechanism K.meaning K.PUBLIC K.SECRET K.CIPHERTEXT in self.new ≡ stepped k self.old (event_of line.now) }
+        ensures answer { let k = K.mechanism in result ≡ (step_on k self.old.sides (event_of line.now)).answer }
+        ensures next { let k = K.mechanism in self.new ≡ stepped k self.old (event_of line.now) }
     {
         match line {
             Line::Seed(seed) => {
@@ -231,7 +254,7 @@ impl<K: Kem> Duet<K> {
                 let packet = held_flipped(self.posts.as_slice(), *position, *bit);
                 self.take_packet(work, *side, packet)
             }
-            Line::Bytes(side, digits) => self.take_bytes(work, *side, bytes_of(digits).as_slice()),
+            Line::Bytes(side, digits) => self.take_bytes(work, *side, hex_bytes(digits).as_slice()),
             Line::Sent(side, amount) => self.drop_sent(*side, *amount),
             Line::Done(side, amount) => self.drop_done(*side, *amount),
             Line::Inbox(side) => Answer::Inbox(self.inbox(*side).len()),

@@ -1,3 +1,5 @@
+pub mod Behind
 pub mod Endings
+pub mod Given
 pub mod OneWord
 pub mod Traces

@@ -5,10 +5,11 @@ use Rattle.dr_ports.specs.Writing.{TookBeginning}
 use Rattle.messenger_cli.specs.declared.ending.Ending.{Ending}
 use Rattle.messenger_cli.specs.Ending.{code_of, last_line}
 
--- all the lines were written and the ending's last line behind them, and the status is the ending's
-pub record WroteAll (ending : Ending) (lines : List ℕ) (old new : Option (List ℕ)) (code : ℕ) : Type 0 where
+-- all the lines were written and the ending's last line behind them, no write failed, and the status is the ending's
+pub record WroteAll (ending : Ending) (lines : List ℕ) (old new : Option (List ℕ)) (before now code : ℕ) : Type 0 where
   pub code_is : code ≡ code_of ending
   pub wrote : new ≡ appended old (lines ++ last_line ending)
+  pub quiet : now ≡ before
 
 -- a write failed: a beginning of that was written, and the status is 5
 pub record WasCut (ending : Ending) (lines : List ℕ) (old new : Option (List ℕ)) (before now code : ℕ) : Type 0 where
@@ -18,4 +19,4 @@ pub record WasCut (ending : Ending) (lines : List ℕ) (old new : Option (List �
 
 -- a run with these lines and this ending, up to a write that failed
 abbrev pub Ends : Ending → List ℕ → Option (List ℕ) → Option (List ℕ) → ℕ → ℕ → ℕ → Type 0
-Ends ending lines old new before now code = WroteAll ending lines old new code ⊎ WasCut ending lines old new before now code
+Ends ending lines old new before now code = WroteAll ending lines old new before now code ⊎ WasCut ending lines old new before now code

@@ -2,35 +2,32 @@
 use Rattle.std.specs.Prelude.{◌≡◌, ℕ, ◌<◌, ◌≤◌, List, [], length, Option, Ok, Err, IfSome, IsSome, IsNone}
 use Rattle.dr_ports.specs.Ports.{Rose, appended}
 use Rattle.dr_ports.specs.Writing.{TookBeginning}
-use Rattle.kem_laws.specs.Open.{open_meaning}
-use Rattle.dr_model.specs.Turns.{Mechanism, agreement_seed}
+use Rattle.session_model.specs.Schedule.{agreement_seed}
 use Rattle.duet.specs.Script.{Scripted, script_of}
 use Rattle.duet.specs.Trace.{IsFairScript, played, trace_of}
 use Rattle.messenger_cli.specs.declared.ending.Ending.{Ending}
 use Rattle.messenger_cli.specs.declared.ending.Ending.TheVariants.{Done, Usage, InputTooLong, BadLine, NoPair, ReadFault, NoMemory}
 use Rattle.messenger_cli.specs.declared.ending.TheConstants.{SCRIPT_LIMIT}
 use Rattle.messenger_cli.specs.Ends.{Ends}
+use Rattle.messenger_cli.specs.Mechanisms.{mechanism_of}
+use Rattle.messenger_cli.specs.Reads.{Leaves, CountsReads}
 
--- the mechanism that scripts name `open`
-abbrev pub stand_in : Mechanism
-stand_in = record { meaning = open_meaning; public = 32; secret = 32; ciphertext = 32 }
-
--- the source's text is a script, and these lines are what both sides answer to it: where no packet that the script
--- makes up has a forged tag, the machine's trace
+-- the source's text is a script, and these lines are what both sides answer to it over the mechanism that it names:
+-- where no packet that the script makes up has a forged tag, the machine's trace
 pub record IsTraceOf (text lines : List ℕ) : Type 0 where
   pub script : Scripted
   pub fits : length text ≤ SCRIPT_LIMIT
   pub read : script_of text ≡ Ok script
-  pub pairs : IsSome (open_meaning.pair_of (agreement_seed script.key))
-  pub lines_are : lines ≡ played stand_in script
-  pub trace_is : IsFairScript stand_in script → lines ≡ trace_of stand_in script
+  pub pairs : IsSome ((mechanism_of script.kem).meaning.pair_of (agreement_seed script.key))
+  pub lines_are : lines ≡ played (mechanism_of script.kem) script
+  pub trace_is : IsFairScript (mechanism_of script.kem) script → lines ≡ trace_of (mechanism_of script.kem) script
 
 -- the source's text is a script whose key gives no first pair
 pub record HasNoPair (text : List ℕ) : Type 0 where
   pub script : Scripted
   pub fits : length text ≤ SCRIPT_LIMIT
   pub read : script_of text ≡ Ok script
-  pub none : IsNone (open_meaning.pair_of (agreement_seed script.key))
+  pub none : IsNone ((mechanism_of script.kem).meaning.pair_of (agreement_seed script.key))
 
 -- the text's first bad line
 pub record HasBadLine (text : List ℕ) (number : ℕ) : Type 0 where
@@ -39,30 +36,38 @@ pub record HasBadLine (text : List ℕ) (number : ℕ) : Type 0 where
 
 -- Why the command ended so, behind these lines, where the source tells what it holds: its work is the trace of the
 -- script, every other ending comes before the first line and has its cause.
-abbrev pub HasReason : Option (List ℕ) → ℕ → ℕ → Ending → List ℕ → Type 0
-HasReason left before now Done lines = IfSome left (λ text. IsTraceOf text lines)
-HasReason left before now InputTooLong lines = (lines ≡ []) × IfSome left (λ text. SCRIPT_LIMIT < length text)
-HasReason left before now (BadLine number) lines = (lines ≡ []) × IfSome left (λ text. HasBadLine text number)
-HasReason left before now NoPair lines = (lines ≡ []) × IfSome left HasNoPair
-HasReason left before now ReadFault lines = (lines ≡ []) × Rose before now
-HasReason left before now NoMemory lines = lines ≡ []
-HasReason left before now Usage lines = ⊥
+abbrev pub HasReason : Option (List ℕ) → Ending → List ℕ → Type 0
+HasReason left Done lines = IfSome left (λ text. IsTraceOf text lines)
+HasReason left InputTooLong lines = (lines ≡ []) × IfSome left (λ text. SCRIPT_LIMIT < length text)
+HasReason left (BadLine number) lines = (lines ≡ []) × IfSome left (λ text. HasBadLine text number)
+HasReason left NoPair lines = (lines ≡ []) × IfSome left HasNoPair
+HasReason left ReadFault lines = lines ≡ []
+HasReason left NoMemory lines = lines ≡ []
+HasReason left Usage lines = ⊥
 
--- The run of `duet`: an ending with its reason, the lines before it, and what was written of them.
-pub record RunsDuet (left : Option (List ℕ)) (reads_before reads_now : ℕ) (old new : Option (List ℕ)) (before now code : ℕ) : Type 0 where
+-- The run of `duet`: an ending with its reason, the lines before it, what was read of the source, and what was written
+-- of the lines. The source had `from` and has `left`.
+pub record RunsDuet (from left : Option (List ℕ)) (reads_before reads_now : ℕ) (old new : Option (List ℕ)) (before now code : ℕ) : Type 0 where
   pub ending : Ending
   pub lines : List ℕ
-  pub reason : HasReason left reads_before reads_now ending lines
+  pub reason : HasReason from ending lines
+  pub leaves : Leaves ending from left
+  pub reads : CountsReads ending reads_before reads_now
   pub ends : Ends ending lines old new before now code
 
 -- What the work of `duet` did before the last line: it wrote the lines and gives the ending, or a write failed.
-pub record Works (left : Option (List ℕ)) (reads_before reads_now : ℕ) (old new : Option (List ℕ)) (ending : Ending) : Type 0 where
+pub record Works (from left : Option (List ℕ)) (reads_before reads_now : ℕ) (old new : Option (List ℕ)) (before now : ℕ) (ending : Ending) : Type 0 where
   pub lines : List ℕ
-  pub reason : HasReason left reads_before reads_now ending lines
+  pub reason : HasReason from ending lines
+  pub leaves : Leaves ending from left
+  pub reads : CountsReads ending reads_before reads_now
   pub wrote : new ≡ appended old lines
+  pub quiet : now ≡ before
 
-pub record IsCutOff (left : Option (List ℕ)) (reads_before reads_now : ℕ) (old new : Option (List ℕ)) (before now : ℕ) : Type 0 where
+pub record IsCutOff (from left : Option (List ℕ)) (reads_before reads_now : ℕ) (old new : Option (List ℕ)) (before now : ℕ) : Type 0 where
   pub lines : List ℕ
-  pub reason : HasReason left reads_before reads_now Done lines
+  pub reason : HasReason from Done lines
+  pub leaves : Leaves Done from left
+  pub reads : CountsReads Done reads_before reads_now
   pub wrote : TookBeginning old new lines
   pub rose : Rose before now

@@ -7,7 +7,7 @@ ghost use Rattle.messenger_cli.specs.Ending.{code_of};
 pub const SCRIPT_LIMIT: usize = 65536;
 
 /// How a command ended, but for a write that failed.
-#[derive(Clone, Copy, Debug, PartialEq, Eq, Hash)]
+#[derive(Clone, Copy, Debug, PartialEq, Eq)]
 pub enum Ending {
     /// It did its work.
     Done,

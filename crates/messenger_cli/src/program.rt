@@ -7,17 +7,18 @@ ghost use Rattle.messenger_cli.specs.Words.{IsDuet};
 ghost use Rattle.messenger_cli.specs.declared.ending.Ending.TheVariants.{Usage};
 
 use crate::ending::{Ending, SCRIPT_LIMIT};
+use crate::mechanisms::play_named;
 use crate::status::{Status, finish};
 use crate::words::is_duet;
 use dr_ports::{Failed, InputError, Sink, Source, read_whole};
-use duet::{PlayError, Script, ScriptError, play};
-use kem_laws::OpenKem;
+use duet::{PlayError, Script, ScriptError};
 use std::alloc::Global;
 
 /// Reads a script from the source and plays it.
 fn work<S: Source, O: Sink>(alloc: Global, source: &mut S, out: &mut O) -> Result<Ending, Failed>
-    ensures ended { IfOk result (Works (S.left source.old) (S.faults source.old) (S.faults source.new) (O.taken out.old) (O.taken out.new)) }
-    ensures cut { OnErr result (IsCutOff (S.left source.old) (S.faults source.old) (S.faults source.new)
+    ensures ended { IfOk result (Works (S.left source.old) (S.left source.new) (S.faults source.old) (S.faults source.new)
+        (O.taken out.old) (O.taken out.new) (O.faults out.old) (O.faults out.new)) }
+    ensures cut { OnErr result (IsCutOff (S.left source.old) (S.left source.new) (S.faults source.old) (S.faults source.new)
         (O.taken out.old) (O.taken out.new) (O.faults out.old) (O.faults out.new)) }
     ensures reads { S.faults source.old ≤ S.faults source.new }
     ensures writes { O.faults out.old ≤ O.faults out.new }
@@ -33,8 +34,8 @@ fn work<S: Source, O: Sink>(alloc: Global, source: &mut S, out: &mut O) -> Resul
         Err(ScriptError::Memory) => return Ok(Ending::NoMemory),
         Err(ScriptError::Line(number)) => return Ok(Ending::BadLine(number)),
     };
-    match play::<OpenKem, O>(alloc, &script, out) {
-        Ok(()) => Ok(Ending::Done),
+    match play_named(alloc, &script, out) {
+        Ok(_) => Ok(Ending::Done),
         Err(PlayError::Memory) => Ok(Ending::NoMemory),
         Err(PlayError::NoPair) => Ok(Ending::NoPair),
         Err(PlayError::Write) => Err(Failed),
@@ -49,16 +50,20 @@ pub fn run<S: Source, O: Sink>(
     source: &mut S,
     out: &mut O,
 ) -> Status
-    // Other words are answered with how the program is used, and nothing else is done.
+    // Other words are answered with how the program is used, and the source is left as it was.
     ensures usage { (IsDuet words.now → ⊥) → Ends Usage [] (O.taken out.old) (O.taken out.new) (O.faults out.old) (O.faults out.new) result.code }
+    ensures unread { (IsDuet words.now → ⊥) → source.new ≡ source.old }
 
     // The headline: what is written is what both sides answer to the script's events, up to a write that fails, and
     // that is what the machine answers, where no packet that the script makes up has a forged tag. Each ending has
-    // its cause.
-    ensures duet { IsDuet words.now → RunsDuet (S.left source.old) (S.faults source.old) (S.faults source.new)
+    // its cause, leaves its part of the source, and counts no fault but the one that it names.
+    ensures duet { IsDuet words.now → RunsDuet (S.left source.old) (S.left source.new) (S.faults source.old) (S.faults source.new)
         (O.taken out.old) (O.taken out.new) (O.faults out.old) (O.faults out.new) result.code }
     ensures reads { S.faults source.old ≤ S.faults source.new }
     ensures writes { O.faults out.old ≤ O.faults out.new }
+
+    // Status 0 says that no read and no write failed.
+    ensures quiet { result.code ≡ 0 → (S.faults source.new ≡ S.faults source.old) × (O.faults out.new ≡ O.faults out.old) }
 {
     if !is_duet(words) {
         return finish(out, Ending::Usage);

@@ -8,7 +8,7 @@ use crate::ending::Ending;
 use dr_ports::{Failed, OutputLine, Sink, write_all};
 
 /// What the program ends with.
-#[derive(Clone, Copy, Debug, PartialEq, Eq, Hash)]
+#[derive(Clone, Copy, Debug, PartialEq, Eq)]
 pub struct Status {
     pub code: u8,
 }

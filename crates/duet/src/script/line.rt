@@ -1,17 +1,17 @@
 //! The lines of a script behind its key.
 
 ghost use Rattle.std.specs.Prelude.{◌≡◌, option_map};
-ghost use Rattle.duet.specs.Lines.{side_of};
-ghost use Rattle.duet.specs.Script.{line_of, seed_of, words_of};
+ghost use Rattle.duet.specs.Replies.{acting_side};
+ghost use Rattle.duet.specs.Words.{line_read, seed_read, side_words};
 ghost use Rattle.duet.specs.Seen.{event_of};
 
-use crate::script::split::after;
+use crate::script::split::after_prefix;
 use crate::script::words::{
     parse_bytes, parse_done, parse_flip, parse_look, parse_say, parse_sent, parse_take,
 };
 use dr_base::{Position, Side};
-use dr_model::Amount;
 use hex::FromHex;
+use session_model::Amount;
 
 /// What one line says.
 #[derive(Clone, Copy, Debug, PartialEq, Eq)]
@@ -40,19 +40,19 @@ pub enum Line<'a> {
 
 impl<'a> Line<'a> {
     /// Reads a line: a seed, or a side, a space, and what it does.
-    #[tactic(auto, unfolding(crate::specs::Script::line_of))]
+    #[tactic(auto, unfolding(crate::specs::Words::line_read))]
     pub fn parse(line: &'a [u8]) -> Option<Self>
-        ensures { option_map event_of result ≡ line_of line.entry.now }
+        ensures { option_map event_of result ≡ line_read line.entry.now }
     {
         if let Some(found) = parse_seed(line) {
             return Some(found);
         }
-        if let Some(words) = after(line, b"first ") {
+        if let Some(words) = after_prefix(line, b"first ") {
             if let Some(found) = parse_words(Side::First, words) {
                 return Some(found);
             }
         }
-        match after(line, b"second ") {
+        match after_prefix(line, b"second ") {
             Some(words) => parse_words(Side::Second, words),
             None => None,
         }
@@ -60,7 +60,7 @@ impl<'a> Line<'a> {
 
     /// The side whose event it is; a seed is no side's, and counts as First's.
     pub fn side(&self) -> Side
-        ensures { result ≡ side_of (event_of self.now) }
+        ensures { result ≡ acting_side (event_of self.now) }
     {
         match self {
             Line::Seed(_) => Side::First,
@@ -78,11 +78,11 @@ impl<'a> Line<'a> {
 }
 
 /// Reads `seed` and 64 hex digits of either case.
-#[tactic(auto, unfolding(crate::specs::Script::seed_of))]
+#[tactic(auto, unfolding(crate::specs::Words::seed_read))]
 fn parse_seed(line: &[u8]) -> Option<Line<'_>>
-    ensures { option_map event_of result ≡ seed_of line.entry.now }
+    ensures { option_map event_of result ≡ seed_read line.entry.now }
 {
-    match after(line, b"seed ") {
+    match after_prefix(line, b"seed ") {
         Some(digits) => match <[u8; 32] as FromHex>::from_hex(digits) {
             Ok(seed) => Some(Line::Seed(seed)),
             Err(_) => None,
@@ -92,9 +92,9 @@ fn parse_seed(line: &[u8]) -> Option<Line<'_>>
 }
 
 /// Reads what stands behind a side.
-#[tactic(auto, unfolding(crate::specs::Script::words_of))]
+#[tactic(auto, unfolding(crate::specs::Words::side_words))]
 fn parse_words(side: Side, words: &[u8]) -> Option<Line<'_>>
-    ensures { option_map event_of result ≡ words_of side words.entry.now }
+    ensures { option_map event_of result ≡ side_words side words.entry.now }
 {
     if let Some(found) = parse_say(side, words) {
         return Some(found);

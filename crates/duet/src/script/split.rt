@@ -1,7 +1,8 @@
 //! A text taken apart: its first line, and what follows a prefix.
 
 ghost use Rattle.std.specs.Prelude.{◌≡◌, ◌≢◌, ℕ, ◌+◌, ◌<◌, ◌≤◌, List, [], ◌∷◌, length, slice_index, take, drop, option_copied, option_map, MatchOption, IfSome};
-ghost use Rattle.duet.specs.Script.{lines_of, after_prefix, halves_of};
+ghost use Rattle.duet.specs.Words.{after_prefix, halves_of};
+ghost use Rattle.duet.specs.Script.{lines_of};
 
 /// The place of the first line feed, or the end of the text.
 fn line_end(text: &[u8]) -> usize
@@ -34,8 +35,8 @@ pub fn split_line(text: &[u8]) -> Option<(&[u8], &[u8])>
 }
 
 /// What follows a prefix.
-#[tactic(auto, unfolding(crate::specs::Script::after_prefix))]
-pub fn after<'a>(text: &'a [u8], prefix: &[u8]) -> Option<&'a [u8]>
+#[tactic(auto, unfolding(crate::specs::Words::after_prefix))]
+pub fn after_prefix<'a>(text: &'a [u8], prefix: &[u8]) -> Option<&'a [u8]>
     ensures { option_copied result ≡ after_prefix prefix.entry.now text.entry.now }
 {
     if text.starts_with(prefix) {

@@ -1,24 +1,24 @@
 //! What a side does in a line.
 
 ghost use Rattle.std.specs.Prelude.{◌≡◌, [], Some, None, codes, option_map, if◌then◌else◌};
-ghost use Rattle.dr_model.specs.Events.{takes_bytes};
-ghost use Rattle.duet.specs.Script.{amount_read, bytes_of, done_of, flip_of, hex_read, is_text, look_of, packet_read, position_read, say_of, sent_of, take_of};
+ghost use Rattle.dr_model.specs.Machines.Events.{takes_bytes};
+ghost use Rattle.duet.specs.Words.{amount_read, bytes_words, done_words, flip_words, hex_read, is_text, look_words, packet_read, position_read, say_words, sent_words, take_words};
 ghost use Rattle.duet.specs.Seen.{bytes_of_hex, event_of};
 
 use crate::hexed::DIGIT_LIMIT;
 use crate::script::line::Line;
 use crate::script::number::number;
-use crate::script::split::{after, at_point, at_space};
+use crate::script::split::{after_prefix, at_point, at_space};
 use dr_base::{Position, Side};
-use dr_model::Amount;
 use hex::decode_to_slice;
+use session_model::Amount;
 
 /// Reads `say` and a text behind a space, which an empty text may lack.
-#[tactic(auto, unfolding(crate::specs::Script::say_of))]
+#[tactic(auto, unfolding(crate::specs::Words::say_words))]
 pub fn parse_say(side: Side, words: &[u8]) -> Option<Line<'_>>
-    ensures { option_map event_of result ≡ say_of side words.entry.now }
+    ensures { option_map event_of result ≡ say_words side words.entry.now }
 {
-    if let Some(text) = after(words, b"say ") {
+    if let Some(text) = after_prefix(words, b"say ") {
         return Some(Line::Say(side, text));
     }
     if words == b"say".as_slice() {
@@ -28,11 +28,11 @@ pub fn parse_say(side: Side, words: &[u8]) -> Option<Line<'_>>
 }
 
 /// Reads `take` and a packet.
-#[tactic(auto, unfolding(crate::specs::Script::take_of))]
+#[tactic(auto, unfolding(crate::specs::Words::take_words))]
 pub fn parse_take(side: Side, words: &[u8]) -> Option<Line<'_>>
-    ensures { option_map event_of result ≡ take_of side words.entry.now }
+    ensures { option_map event_of result ≡ take_words side words.entry.now }
 {
-    match after(words, b"take ") {
+    match after_prefix(words, b"take ") {
         Some(packet) => parse_packet(side, packet),
         None => None,
     }
@@ -42,7 +42,7 @@ pub fn parse_take(side: Side, words: &[u8]) -> Option<Line<'_>>
 fn parse_packet(side: Side, text: &[u8]) -> Option<Line<'_>>
     ensures { option_map event_of result ≡ packet_read side text.entry.now }
 {
-    if let Some(digits) = after(text, b"#") {
+    if let Some(digits) = after_prefix(text, b"#") {
         if let Some(nth) = number(digits) {
             return Some(Line::TakeNth(side, nth));
         }
@@ -54,7 +54,7 @@ fn parse_packet(side: Side, text: &[u8]) -> Option<Line<'_>>
 }
 
 /// Reads an epoch, a point and an index.
-#[tactic(auto, unfolding(crate::specs::Script::position_read))]
+#[tactic(auto, unfolding(crate::specs::Words::position_read))]
 fn parse_position(text: &[u8]) -> Option<Position>
     ensures { result ≡ position_read text.now }
 {
@@ -65,11 +65,11 @@ fn parse_position(text: &[u8]) -> Option<Position>
 }
 
 /// Reads `flip`, a position, a space, and the number of a bit.
-#[tactic(auto, unfolding(crate::specs::Script::flip_of))]
+#[tactic(auto, unfolding(crate::specs::Words::flip_words))]
 pub fn parse_flip(side: Side, words: &[u8]) -> Option<Line<'_>>
-    ensures { option_map event_of result ≡ flip_of side words.entry.now }
+    ensures { option_map event_of result ≡ flip_words side words.entry.now }
 {
-    let text = after(words, b"flip ")?;
+    let text = after_prefix(words, b"flip ")?;
     let (position, bit) = at_space(text)?;
     let position = parse_position(position)?;
     let bit = number(bit)?;
@@ -77,7 +77,7 @@ pub fn parse_flip(side: Side, words: &[u8]) -> Option<Line<'_>>
 }
 
 /// Whether a text is at most 4,000 bytes in hex.
-#[tactic(auto, unfolding(crate::specs::Script::hex_read))]
+#[tactic(auto, unfolding(crate::specs::Words::hex_read))]
 fn is_hex(text: &[u8]) -> bool
     ensures { hex_read text.now ≡ (if result then Some (bytes_of_hex text.now) else None) }
 {
@@ -89,11 +89,11 @@ fn is_hex(text: &[u8]) -> bool
 }
 
 /// Reads `bytes` and bytes in hex behind a space, which no bytes may lack.
-#[tactic(auto, unfolding(crate::specs::Script::bytes_of))]
+#[tactic(auto, unfolding(crate::specs::Words::bytes_words))]
 pub fn parse_bytes(side: Side, words: &[u8]) -> Option<Line<'_>>
-    ensures { option_map event_of result ≡ bytes_of side words.entry.now }
+    ensures { option_map event_of result ≡ bytes_words side words.entry.now }
 {
-    if let Some(hex) = after(words, b"bytes ") {
+    if let Some(hex) = after_prefix(words, b"bytes ") {
         if is_hex(hex) {
             return Some(Line::Bytes(side, hex));
         }
@@ -113,11 +113,11 @@ fn parse_no_bytes(side: Side, words: &[u8]) -> Option<Line<'_>>
 }
 
 /// Reads `sent` and an amount.
-#[tactic(auto, unfolding(crate::specs::Script::sent_of))]
+#[tactic(auto, unfolding(crate::specs::Words::sent_words))]
 pub fn parse_sent(side: Side, words: &[u8]) -> Option<Line<'_>>
-    ensures { option_map event_of result ≡ sent_of side words.entry.now }
+    ensures { option_map event_of result ≡ sent_words side words.entry.now }
 {
-    match after(words, b"sent ") {
+    match after_prefix(words, b"sent ") {
         Some(amount) => match parse_amount(amount) {
             Some(amount) => Some(Line::Sent(side, amount)),
             None => None,
@@ -127,11 +127,11 @@ pub fn parse_sent(side: Side, words: &[u8]) -> Option<Line<'_>>
 }
 
 /// Reads `done` and an amount.
-#[tactic(auto, unfolding(crate::specs::Script::done_of))]
+#[tactic(auto, unfolding(crate::specs::Words::done_words))]
 pub fn parse_done(side: Side, words: &[u8]) -> Option<Line<'_>>
-    ensures { option_map event_of result ≡ done_of side words.entry.now }
+    ensures { option_map event_of result ≡ done_words side words.entry.now }
 {
-    match after(words, b"done ") {
+    match after_prefix(words, b"done ") {
         Some(amount) => match parse_amount(amount) {
             Some(amount) => Some(Line::Done(side, amount)),
             None => None,
@@ -141,9 +141,9 @@ pub fn parse_done(side: Side, words: &[u8]) -> Option<Line<'_>>
 }
 
 /// Reads `inbox` or `state`.
-#[tactic(auto, unfolding(crate::specs::Script::look_of))]
+#[tactic(auto, unfolding(crate::specs::Words::look_words))]
 pub fn parse_look(side: Side, words: &[u8]) -> Option<Line<'_>>
-    ensures { option_map event_of result ≡ look_of side words.entry.now }
+    ensures { option_map event_of result ≡ look_words side words.entry.now }
 {
     if words == b"inbox".as_slice() {
         return Some(Line::Inbox(side));
@@ -155,7 +155,7 @@ pub fn parse_look(side: Side, words: &[u8]) -> Option<Line<'_>>
 }
 
 /// Reads `all` or a number.
-#[tactic(auto, unfolding(crate::specs::Script::amount_read))]
+#[tactic(auto, unfolding(crate::specs::Words::amount_read))]
 fn parse_amount(text: &[u8]) -> Option<Amount>
     ensures { result ≡ amount_read text.now }
 {

@@ -1,6 +1,6 @@
 use Rattle.std.proofs.Common.{◌++◌, codes, ◌∙◌, ap}
 use Rattle.hmac_hkdf.specs.Hmac.{hmac_of}
-use Rattle.dr_model.specs.Events.{drawn}
+use Rattle.dr_model.specs.Machines.Draws.{drawn}
 use Rattle.duet.proofs.draws.draw.Goals as goal
 
 pub returns : goal.returns

@@ -1,6 +1,6 @@
 use Rattle.std.proofs.Common.{◌≡◌, ◌+◌, ◌*◌, ◌≤◌, ◌++◌, length, take, codes}
 use Rattle.std.specs.Prelude.{flat_map}
-use Rattle.duet.specs.Lines.{position_text, side_text, escaped}
+use Rattle.duet.specs.Replies.{position_text, side_text, escaped}
 use Rattle.duet.proofs.entry.entry_line.Given as goal
 
 abbrev pub invariant-bytes : goal.invariant-bytes

@@ -1,7 +1,7 @@
 use Rattle.std.proofs.Common.{arith, sym, ◌∙◌, ◌≡◌, ◌++◌, [], ◌∷◌, codes}
 use Rattle.std.proofs.lemmas.Grind.{common_steps}
 use Rattle.hex.specs.Hex.{encode_lower}
-use Rattle.duet.specs.Lines.{escaped}
+use Rattle.duet.specs.Replies.{escaped}
 use Rattle.duet.proofs.Escaping.{other_byte}
 use Rattle.duet.proofs.entry.put_escaped.Goals as goal
 

@@ -1,7 +1,7 @@
 use Rattle.std.proofs.Common.{Some, sym, ◌∙◌, ap}
 use Rattle.std.specs.Prelude.{option_map}
 use Rattle.boxes.specs.Items.{Item}
-use Rattle.dr_model.specs.Views.{is_at}
+use Rattle.dr_base.specs.Position.{is_at}
 use Rattle.duet.proofs.Finding.{found_here, none_more}
 use Rattle.duet.proofs.network.held_at.Goals as goal
 

@@ -1,6 +1,6 @@
 use Rattle.std.proofs.Common.{◌≡◌, take, None}
 use Rattle.std.specs.Prelude.{find}
-use Rattle.dr_model.specs.Views.{is_at}
+use Rattle.dr_base.specs.Position.{is_at}
 use Rattle.duet.proofs.network.held_at.Given as goal
 
 abbrev pub invariant-posts : goal.invariant-posts

@@ -1,6 +1,6 @@
 use Rattle.std.proofs.Common.{Some, sym, ◌∙◌, ap}
 use Rattle.boxes.specs.Items.{Item}
-use Rattle.dr_model.specs.Events.{is_from_peer}
+use Rattle.dr_model.specs.Machines.Network.{is_from_peer}
 use Rattle.duet.proofs.Finding.{nth_here, too_few}
 use Rattle.duet.proofs.network.held_nth.Goals as goal
 

@@ -1,6 +1,6 @@
 use Rattle.std.proofs.Common.{◌≡◌, ◌-◌, ◌≤◌, length, take}
 use Rattle.std.specs.Prelude.{filter}
-use Rattle.dr_model.specs.Events.{is_from_peer}
+use Rattle.dr_model.specs.Machines.Network.{is_from_peer}
 use Rattle.duet.proofs.network.held_nth.Given as goal
 
 abbrev pub invariant-posts : goal.invariant-posts

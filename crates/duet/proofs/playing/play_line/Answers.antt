@@ -1,12 +1,11 @@
 use Rattle.std.proofs.Common.{Err, ◌∙◌, ap, ap₂, subst}
 use Rattle.std.specs.Prelude.{flat_map}
-use Rattle.dr_model.specs.Clients.{step_on}
-use Rattle.ratchet.specs.Seen.{mechanism}
+use Rattle.dr_model.specs.Machines.Sides.{step_on}
 use Rattle.dr_ports.specs.Ports.{appended}
 use Rattle.dr_ports.specs.Writing.{Writes}
 use Rattle.dr_ports.proofs.WritingLemmas.{writes_behind, writes_first}
 use Rattle.duet.specs.Held.{DuetNow, shown}
-use Rattle.duet.specs.Lines.{entry_line, reply_line, reply_of, side_of}
+use Rattle.duet.specs.Replies.{entry_line, reply_line, reply_of, acting_side}
 use Rattle.duet.specs.Seen.{event_of}
 use Rattle.duet.proofs.Showing.{shown-entries}
 use Rattle.duet.proofs.playing.play_line.Goals as goal
@@ -14,23 +13,23 @@ use Rattle.duet.proofs.playing.play_line.Goals as goal
 pub returns-in-Ok-clause-writes : goal.returns-in-Ok-clause-writes
 unfolding reply_of
 returns-in-Ok-clause-writes g c =
-    let k = mechanism g.K.Kem.meaning g.K.Kem.PUBLIC g.K.Kem.SECRET g.K.Kem.CIPHERTEXT in
+    let k = g.K.Kem.mechanism in
     let event = event_of c.args.line.now in
     let sides = c.args.duet.now.sides in
-    let line = c.as_bytes.ensures ∙ c.reply.ensures ∙ ap₂ reply_line c.side.ensures c.step-answer.ensures.answer in
+    let line = c.as_bytes.ensures ∙ c.reply.ensures ∙ ap₂ reply_line c.side-2.ensures c.step-answer.ensures.answer in
     let texts = ap (λ (d : DuetNow). shown event d.sides) c.step-answer.ensures.next ∙ shown-entries k sides event in
-    writes_behind _ _ _ _ _ _ (reply_line (side_of event) (step_on k sides event).answer) (flat_map (entry_line (side_of event)) (step_on k sides event).entries) _
-    (c.in-Ok.ensures.whole ∙ ap (appended (g.O.Sink.taken c.args.out.now)) line) c.in-Ok.ensures.cause.later
+    writes_behind _ _ _ _ _ _ (reply_line (acting_side event) (step_on k sides event).answer) (flat_map (entry_line (acting_side event)) (step_on k sides event).entries) _
+    (c.in-Ok.ensures.whole ∙ ap (appended (g.O.Sink.taken c.args.out.now)) line) c.in-Ok.ensures.cause.passed
     (subst (λ bytes. Writes (g.O.Sink.taken c.write_all.new.out) (g.O.Sink.taken c.write_entries.new.out) (g.O.Sink.faults c.write_all.new.out) (g.O.Sink.faults c.write_entries.new.out) bytes c.write_entries.result)
-    (ap (flat_map (entry_line (side_of event))) texts) c.write_entries.ensures)
+    (ap (flat_map (entry_line (acting_side event))) texts) c.write_entries.ensures)
 
 pub returns-in-Err-clause-writes : goal.returns-in-Err-clause-writes
 unfolding reply_of
 returns-in-Err-clause-writes g c =
-    let k = mechanism g.K.Kem.meaning g.K.Kem.PUBLIC g.K.Kem.SECRET g.K.Kem.CIPHERTEXT in
+    let k = g.K.Kem.mechanism in
     let event = event_of c.args.line.now in
     let sides = c.args.duet.now.sides in
-    let line = c.as_bytes.ensures ∙ c.reply.ensures ∙ ap₂ reply_line c.side.ensures c.step-answer.ensures.answer in
-    writes_first _ _ _ _ (reply_line (side_of event) (step_on k sides event).answer) (flat_map (entry_line (side_of event)) (step_on k sides event).entries) _
+    let line = c.as_bytes.ensures ∙ c.reply.ensures ∙ ap₂ reply_line c.side-2.ensures c.step-answer.ensures.answer in
+    writes_first _ _ _ _ (reply_line (acting_side event) (step_on k sides event).answer) (flat_map (entry_line (acting_side event)) (step_on k sides event).entries) _
     (subst (λ bytes. Writes (g.O.Sink.taken c.args.out.now) (g.O.Sink.taken c.write_all.new.out) (g.O.Sink.faults c.args.out.now) (g.O.Sink.faults c.write_all.new.out) bytes (Err c.in-Err.field-0))
     line c.in-Err.ensures)

@@ -2,7 +2,7 @@ use Rattle.std.proofs.Common.{◌<◌, ◌≤◌, [], length, take_all, arith, �
 use Rattle.std.specs.Prelude.{flat_map}
 use Rattle.boxes.specs.Items.{Item, item_at}
 use Rattle.dr_ports.specs.Ports.{appended}
-use Rattle.duet.specs.Lines.{entry_line}
+use Rattle.duet.specs.Replies.{entry_line}
 use Rattle.duet.proofs.Entries.{took_entry, cut_in_entries}
 use Rattle.duet.proofs.playing.write_inbox.Goals as goal
 
@@ -13,7 +13,7 @@ some = item_at (record { epoch = 0; index = 0 }) []
 pub returns-in-Err : goal.returns-in-Err
 returns-in-Err g c =
     let below : c.texts.at < length c.args.inbox.now = omega (arith, c.len-at-end.ensures.value) in
-    cut_in_entries c.args.side _ _ _ _ _ _ c.args.inbox.now c.texts.at some _ below c.texts.invariant.written c.texts.invariant.later (c.in-Err.ensures some)
+    cut_in_entries c.args.side _ _ _ _ _ _ c.args.inbox.now c.texts.at some _ below c.texts.invariant.written c.texts.invariant.quiet (c.in-Err.ensures some)
 
 pub texts-preserved : goal.texts-preserved
 texts-preserved g c =
@@ -21,7 +21,7 @@ texts-preserved g c =
     let writes = c.in-Ok.ensures some in
     record {
       written = took_entry c.args.side _ _ _ c.args.inbox.now c.texts.at some below c.texts.invariant.written writes.whole;
-      later = omega (arith, c.texts.invariant.later, writes.cause.later);
+      quiet = writes.cause.passed ∙ c.texts.invariant.quiet;
     }
 
 pub returns : goal.returns
@@ -30,5 +30,5 @@ returns g c =
     record {
       whole = c.texts.invariant.written ∙ ap (λ items. appended (g.O.Sink.taken c.args.out.now) (flat_map (entry_line c.args.side) items)) (take_all c.texts.at c.args.inbox.now all);
       part = tt;
-      cause = record { later = c.texts.invariant.later; failed = tt };
+      cause = record { later = omega (arith, c.texts.invariant.quiet); failed = tt; passed = c.texts.invariant.quiet };
     }

@@ -1,5 +1,5 @@
 use Rattle.std.proofs.Common.{ap, sym, ◌∙◌, append_assoc, ◌++◌, codes, decimal}
-use Rattle.duet.specs.Lines.{refusal_text}
+use Rattle.duet.specs.Replies.{refusal_text}
 use Rattle.duet.proofs.reply.put_refusal.Goals as goal
 
 pub returns-in-TextTooLong-clause-bytes : goal.returns-in-TextTooLong-clause-bytes

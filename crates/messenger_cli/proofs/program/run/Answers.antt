@@ -9,7 +9,9 @@ returns-in-Ok-clause-duet g c _ =
       ending = c.in-Ok.ending;
       lines = works.lines;
       reason = works.reason;
-      ends = ends_behind c.in-Ok.ending works.lines _ _ _ _ _ _ _ works.wrote c.in-Ok.ensures.writes c.finish-in-Ok.ensures.ends;
+      leaves = works.leaves;
+      reads = works.reads;
+      ends = ends_behind c.in-Ok.ending works.lines _ _ _ _ _ _ _ works.wrote works.quiet c.finish-in-Ok.ensures.ends;
     }
 
 pub returns-in-Err-clause-duet : goal.returns-in-Err-clause-duet
@@ -19,5 +21,7 @@ returns-in-Err-clause-duet g c _ =
       ending = Done;
       lines = cut.lines;
       reason = cut.reason;
+      leaves = cut.leaves;
+      reads = cut.reads;
       ends = ends_cut cut.lines _ _ _ _ cut.wrote cut.rose;
     }

@@ -1,0 +1,5 @@
+use Rattle.duet.proofs.PrintedLines.{line_back}
+use Rattle.duet.proofs.laws.lines_print_back.Goals as goal
+
+pub returns : goal.returns
+returns c = line_back

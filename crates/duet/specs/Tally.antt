@@ -1,0 +1,65 @@
+-- A run in numbers.
+use Rattle.std.specs.Prelude.{ℕ, ◌+◌, ◌<◌, List, [], ◌∷◌, length}
+use Rattle.dr_base.specs.declared.position.Side.{Side}
+use Rattle.dr_base.specs.declared.position.Side.TheVariants.{First, Second}
+use Rattle.session_model.specs.declared.answer.Answer.{Answer}
+use Rattle.session_model.specs.declared.answer.Answer.TheVariants.{Said, Opened, Nothing, Refused}
+use Rattle.session_model.specs.Clients.{Client}
+use Rattle.dr_model.specs.Machines.Sides.{Sides, step_on}
+use Rattle.dr_model.specs.Machines.Events.{Event}
+use Rattle.dr_model.specs.Machines.Steps.{Step}
+use Rattle.kem_laws.specs.Mechanism.{Mechanism}
+use Rattle.duet.specs.Replies.{acting_side}
+use Rattle.duet.specs.Script.{Scripted}
+use Rattle.duet.specs.Trace.{after_by, beginning}
+use Rattle.duet.specs.declared.tally.SideTally.{SideTally}
+use Rattle.duet.specs.declared.tally.Tally.{Tally}
+
+abbrev pub no_tally : SideTally
+no_tally = record { said = 0; opened = 0; refused = 0; epoch = 0; missing = 0 }
+
+-- nothing was counted yet
+abbrev pub opening_tally : Tally
+opening_tally = record { rounds = 0; first = no_tally; second = no_tally }
+
+-- one answer more: what the network doesn't hold counts as refused
+abbrev pub counted : Answer → SideTally → SideTally
+counted (Said p) t = record t { said = t.said + 1 }
+counted (Opened p) t = record t { opened = t.opened + 1 }
+counted Nothing t = record t { refused = t.refused + 1 }
+counted (Refused refusal) t = record t { refused = t.refused + 1 }
+counted _ t = t
+
+-- one answer of a side more
+abbrev pub counted_of : Side → Answer → Tally → Tally
+counted_of First answer t = record t { first = counted answer t.first }
+counted_of Second answer t = record t { second = counted answer t.second }
+
+-- the answers to events, each by a step from what stands
+unfoldable pub counted_by : {S : Type 0} → (S → Event → Step S) → S → Tally → List Event → Tally
+counted_by act s t [] = t
+counted_by act s t (event ∷ events) =
+    counted_by act (act s event).next (counted_of (acting_side event) (act s event).answer t) events
+
+-- how far a side has come
+abbrev pub reached : Client → SideTally → SideTally
+reached client t = record t { epoch = client.state.epoch; missing = length client.state.kept }
+
+abbrev pub both_reached : Sides → Tally → Tally
+both_reached s t = record t { first = reached s.first t.first; second = reached s.second t.second }
+
+-- a script that was played, in numbers
+unfoldable pub tally_of : Mechanism → Scripted → Tally
+tally_of k script =
+    both_reached (after_by (step_on k) (beginning k script) script.events)
+    (counted_by (step_on k) (beginning k script) opening_tally script.events)
+
+-- no count has come to a number
+pub record IsSideBelow (n : ℕ) (t : SideTally) : Type 0 where
+  pub said : t.said < n
+  pub opened : t.opened < n
+  pub refused : t.refused < n
+
+pub record IsBelow (n : ℕ) (t : Tally) : Type 0 where
+  pub first : IsSideBelow n t.first
+  pub second : IsSideBelow n t.second

@@ -1,0 +1,50 @@
+//! The lines of a script that was read, one after another.
+
+ghost use Rattle.std.specs.Prelude.{◌≡◌, [], ◌∷◌, MatchOption};
+ghost use Rattle.duet.specs.Script.{AreRead, events_in};
+ghost use Rattle.duet.specs.Seen.{event_of};
+
+use crate::script::line::Line;
+use crate::script::split::split_line;
+use std::marker::Model;
+
+/// The lines that are left. A contract sees them as their events.
+#[derive(Drop)]
+pub struct Lines<'a> {
+    rest: &'a [u8],
+}
+
+impl<'a> Model for Lines<'a> {
+    ghost use Rattle.std.specs.Prelude.{List};
+    ghost use Rattle.dr_model.specs.Machines.Events.{Event};
+    ghost use Rattle.duet.specs.Script.{AreRead, events_in};
+
+    ghost Value = { List Event };
+
+    ghost view = { λ l. events_in l.rest.now };
+
+    ghost invariant = { λ l. AreRead l.rest.now };
+}
+
+impl<'a> Lines<'a> {
+    /// The lines of a text in which no line is bad.
+    pub fn new(text: &'a [u8]) -> Lines<'a>
+        requires { AreRead text.now }
+        ensures { result ≡ events_in text.entry.now }
+    {
+        Lines { rest: text }
+    }
+
+    /// The next line, if there is one.
+    pub fn next(&mut self) -> Option<Line<'a>>
+        ensures { MatchOption result (self.old ≡ []) (λ line. self.old ≡ event_of line ∷ self.new) }
+    {
+        match split_line(self.rest) {
+            None => None,
+            Some((line, rest)) => {
+                self.rest = rest;
+                Line::parse(line)
+            }
+        }
+    }
+}

@@ -1,0 +1,33 @@
+//! Scripts over the mechanism that they name.
+
+ghost use Rattle.std.specs.Prelude.{◌≡◌, ◌≤◌, IsErrOf, IsNone, IsSome, OnOk};
+ghost use Rattle.dr_ports.specs.Ports.{Rose, appended};
+ghost use Rattle.dr_ports.specs.Writing.{TookBeginning};
+ghost use Rattle.session_model.specs.Schedule.{agreement_seed};
+ghost use Rattle.duet.specs.Trace.{played};
+ghost use Rattle.messenger_cli.specs.Mechanisms.{mechanism_of};
+
+use dr_ports::Sink;
+use duet::{KemName, PlayError, Script, Tally, play};
+use kem_laws::OpenKem;
+use sntrup761::Sntrup761;
+use std::alloc::Global;
+
+/// Plays a script over the mechanism that its first line names.
+pub fn play_named<O: Sink>(alloc: Global, script: &Script, out: &mut O) -> Result<Tally, PlayError>
+    ensures ok { OnOk result (O.taken out.new ≡ appended (O.taken out.old) (played (mechanism_of script.now.kem) script.now)) }
+    ensures pair { OnOk result (IsSome ((mechanism_of script.now.kem).meaning.pair_of (agreement_seed script.now.key))) }
+    ensures none { IsErrOf result PlayError.NoPair
+        → IsNone ((mechanism_of script.now.kem).meaning.pair_of (agreement_seed script.now.key)) × (O.taken out.new ≡ O.taken out.old) }
+    ensures memory { IsErrOf result PlayError.Memory → O.taken out.new ≡ O.taken out.old }
+    ensures write { IsErrOf result PlayError.Write
+        → TookBeginning (O.taken out.old) (O.taken out.new) (played (mechanism_of script.now.kem) script.now)
+        × Rose (O.faults out.old) (O.faults out.new) × IsSome ((mechanism_of script.now.kem).meaning.pair_of (agreement_seed script.now.key)) }
+    ensures quiet { (IsErrOf result PlayError.Write → ⊥) → O.faults out.new ≡ O.faults out.old }
+    ensures later { O.faults out.old ≤ O.faults out.new }
+{
+    match script.kem() {
+        KemName::Open => play::<OpenKem, O>(alloc, script, out),
+        KemName::Sntrup761 => play::<Sntrup761, O>(alloc, script, out),
+    }
+}
