@@ -1,0 +1,9 @@
+pub mod Steps
+pub mod Fields
+pub mod Combined
+pub mod Choices
+pub mod Lists
+pub mod Whole
+pub mod Loops
+pub mod Printing
+pub mod Putting

@@ -1,0 +1,4 @@
+pub mod Reader
+pub mod Printer
+pub mod Grammar
+pub mod Standing

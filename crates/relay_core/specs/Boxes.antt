@@ -1,0 +1,108 @@
+-- The boxes of a relay, and what they reply.
+use Rattle.std.specs.Prelude.{◌≡◌, ◌<◌, take, slice_get, ℕ, ◌+◌, ◌-◌, ◌^◌, ◌==◌, ◌||◌, not, Bool, true, false, nat_le, List, [], ◌∷◌, ◌++◌, length, filter, Option, Some, None, option_map, Result, Ok, Err, if◌then◌else◌}
+use Rattle.std.specs.List.{list_any}
+use Rattle.std.specs.Str.{bytes_eq}
+use Rattle.relay_core.specs.declared.limits.TheConstants.{BOX_LIMIT}
+use Rattle.relay_wire.specs.Requests.{Asking, posts, fetches, acks, Asked}
+use Rattle.relay_wire.specs.Replies.{Replied, stored, item, empty, acked, box_full, unknown, absent, bad}
+
+-- a packet that a box keeps, under its number
+pub record Kept : Type 0 where
+  pub number : ℕ
+  pub packet : List ℕ
+
+-- a box: its name, the last number that it gave (0 before the first), and the packets that stand, the oldest first
+pub record Box : Type 0 where
+  pub name : List ℕ
+  pub last : ℕ
+  pub packets : List Kept
+
+-- a box that nothing was posted to
+abbrev pub empty_box : List ℕ → Box
+empty_box name = record { name = name; last = 0; packets = [] }
+
+-- ---- one box
+
+-- what a box replies, what it is then, and whether that is another
+pub record Answer : Type 0 where
+  pub reply : Replied
+  pub next : Box
+  pub changed : Bool
+
+abbrev pub stays : Replied → Box → Answer
+stays reply box = record { reply = reply; next = box; changed = false }
+
+abbrev pub becomes : Replied → Box → Answer
+becomes reply box = record { reply = reply; next = box; changed = true }
+
+-- a box keeps no further packet where BOX_LIMIT stand, or where no number is left
+abbrev pub is_full : Box → Bool
+is_full box = nat_le BOX_LIMIT (length box.packets) || box.last == 2 ^ 64 - 1
+
+-- the box with one packet more, under the next number
+abbrev pub with_packet : Box → List ℕ → Box
+with_packet box packet = record box {
+  last = box.last + 1;
+  packets = box.packets ++ record { number = box.last + 1; packet = packet } ∷ [];
+}
+
+abbrev pub has_number : ℕ → List Kept → Bool
+has_number number packets = list_any (λ kept. kept.number == number) packets
+
+-- the box without the packet of a number
+abbrev pub without : Box → ℕ → Box
+without box number = record box { packets = filter (λ kept. not (kept.number == number)) box.packets }
+
+abbrev pub oldest : List Kept → Replied
+oldest [] = empty
+oldest (kept ∷ more) = item kept.number kept.packet
+
+-- a post keeps the packet, a fetch shows the oldest one, an acknowledgement drops the one of its number
+unfoldable pub answer_of : Box → Asking → Answer
+answer_of box (posts packet) =
+    if is_full box then stays box_full box else becomes (stored (box.last + 1)) (with_packet box packet)
+answer_of box fetches = stays (oldest box.packets) box
+answer_of box (acks number) =
+    if has_number number box.packets then becomes acked (without box number) else stays (absent number) box
+
+-- ---- all boxes
+
+abbrev pub is_named : List ℕ → Box → Bool
+is_named name box = bytes_eq box.name name
+
+-- what the relay replies, what its boxes are then, and the place of the one that is another
+pub record Answers : Type 0 where
+  pub reply : Replied
+  pub next : List Box
+  pub changed : Option ℕ
+
+abbrev pub of_first : Answer → List Box → Answers
+of_first a boxes = record { reply = a.reply; next = a.next ∷ boxes; changed = if a.changed then Some 0 else None }
+
+abbrev pub behind : Box → Answers → Answers
+behind box a = record { reply = a.reply; next = box ∷ a.next; changed = option_map (λ k. k + 1) a.changed }
+
+-- the first box of the name answers; where none has it, the name is unknown
+unfoldable pub answers_of : List Box → Asked → Answers
+answers_of [] asked = record { reply = unknown; next = []; changed = None }
+answers_of (box ∷ boxes) asked =
+    if is_named asked.name box then of_first (answer_of box asked.ask) boxes else behind box (answers_of boxes asked)
+
+-- a frame that is no request is answered by the kind of what is wrong with it
+abbrev pub answers_read : List Box → Result Asked ℕ → Answers
+answers_read boxes (Ok asked) = answers_of boxes asked
+answers_read boxes (Err kind) = record { reply = bad kind; next = boxes; changed = None }
+
+-- the box of a name
+abbrev pub box_of : List ℕ → List Box → Option Box
+box_of name [] = None
+box_of name (box ∷ boxes) = if is_named name box then Some box else box_of name boxes
+
+-- ---- places
+
+-- the place of the first box of a name, or nothing where no box has it
+abbrev pub IsPlaced : List ℕ → List Box → Option ℕ → Type 0
+IsPlaced name boxes None = list_any (is_named name) boxes ≡ false
+IsPlaced name boxes (Some k) =
+    (k < length boxes) × (list_any (is_named name) (take k boxes) ≡ false)
+    × ((box : Box) → slice_get boxes k ≡ Some box → is_named name box ≡ true)

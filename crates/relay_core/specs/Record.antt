@@ -1,0 +1,93 @@
+-- The record of a box: version 01 (1 byte), the name behind its length (1), the last number (8), the count of packets (1);
+-- then for each packet its number (8), and the packet behind its length (2).
+use Rattle.std.specs.Prelude.{ℕ, ◌+◌, ◌≤◌, ◌==◌, ◌&&◌, Bool, nat_le, nat_lt, List, ◌++◌, length, Result, Ok, Err}
+use Rattle.std.specs.Int.{w8, w16, w64, to_be_bytes}
+use Rattle.grammar.specs.Reader.{Reader, number, checked, mapped, both, sized, items, whole}
+use Rattle.grammar.specs.Standing.{Standing}
+use Rattle.grammar.specs.Printer.{print_items, print_sized}
+use Rattle.relay_core.specs.declared.reading.Head.{Head}
+use Rattle.relay_core.specs.declared.limits.TheConstants.{BOX_LIMIT}
+use Rattle.relay_core.specs.Boxes.{Kept, Box}
+use Rattle.relay_core.specs.Lawful.{last_number}
+use Rattle.relay_wire.specs.declared.limits.TheConstants.{NAME_LIMIT, PACKET_LIMIT}
+use Rattle.relay_wire.specs.Names.{is_name, is_packet}
+
+-- ---- what stands before the packets
+
+abbrev pub HeadParts : Type 0
+HeadParts = ℕ × (List ℕ × (ℕ × ℕ))
+
+abbrev pub is_version : ℕ → Bool
+is_version n = n == 1
+
+abbrev pub is_name_size : ℕ → Bool
+is_name_size n = nat_le 1 n && nat_le n NAME_LIMIT
+
+abbrev pub is_count : ℕ → Bool
+is_count n = nat_le n BOX_LIMIT
+
+unfoldable pub name_field : Reader (List ℕ)
+name_field = sized w8 is_name_size is_name
+
+-- version, name, last number, count of packets
+unfoldable pub head_fields : Reader HeadParts
+head_fields =
+    both (checked is_version (number w8)) (λ _.
+    both name_field (λ _.
+    both (number w64) (λ _.
+    checked is_count (number w8))))
+
+-- ---- packets, each with a number above that of the one before, and not above the last that was given
+
+abbrev pub is_number : ℕ → ℕ → ℕ → Bool
+is_number low last n = nat_lt low n && nat_le n last
+
+abbrev pub is_packet_size : ℕ → Bool
+is_packet_size n = nat_le 1 n && nat_le n PACKET_LIMIT
+
+unfoldable pub packet_field : Reader (List ℕ)
+packet_field = sized w16 is_packet_size is_packet
+
+abbrev pub kept_of : ℕ × List ℕ → Kept
+kept_of e = record { number = e.0; packet = e.1 }
+
+unfoldable pub kept_field : ℕ → ℕ → Reader Kept
+kept_field low last = mapped kept_of (both (checked (is_number low last) (number w64)) (λ _. packet_field))
+
+-- the packet behind those before it
+abbrev pub next_kept : ℕ → List Kept → Reader Kept
+next_kept last before = kept_field (last_number 0 before) last
+
+-- ---- the record
+
+abbrev pub box_of_parts : HeadParts × List Kept → Box
+box_of_parts e = record { name = e.0.1.0; last = e.0.1.1.0; packets = e.1 }
+
+unfoldable pub box_fields : Reader Box
+box_fields = mapped box_of_parts (both head_fields (λ h. items (next_kept h.1.1.0) h.1.1.1))
+
+-- the box that a text is the record of, or the place of the first fault
+unfoldable pub box_read : List ℕ → Result Box ℕ
+box_read = whole box_fields
+
+-- ---- printed
+
+abbrev pub head_text : List ℕ → ℕ → ℕ → List ℕ
+head_text name last count = to_be_bytes w8 1 ++ (print_sized w8 name ++ (to_be_bytes w64 last ++ to_be_bytes w8 count))
+
+abbrev pub kept_text : Kept → List ℕ
+kept_text kept = to_be_bytes w64 kept.number ++ print_sized w16 kept.packet
+
+unfoldable pub box_text : Box → List ℕ
+box_text box = head_text box.name box.last (length box.packets) ++ print_items kept_text box.packets
+
+-- ---- what code read
+
+-- what stands before the packets, as it was lent
+abbrev pub head_seen : Head → HeadParts
+head_seen head = (1, (head.name.now, (head.last, head.count)))
+
+-- reading went on by at most so many bytes, and so did a fault
+abbrev pub EndsWithin : {X : Type 0} → ℕ → Standing → Standing → Result X ℕ → Type 0
+EndsWithin most old new (Ok x) = new.at ≤ old.at + most
+EndsWithin most old new (Err at) = at ≤ old.at + most

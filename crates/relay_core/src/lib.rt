@@ -1,0 +1,31 @@
+//! The boxes of a relay: lists of packets under numbers that rise, what they reply to requests, and their records.
+//!
+//! `specs/Boxes` says what a box replies and what it is then, `specs/Streams` what a whole stream is answered,
+//! `specs/Record` the bytes of a box's record. All memory is taken when a relay is made.
+//!
+//! ```rust
+//! use relay_core::Relay;
+//! use relay_wire::{Name, Packet, Request};
+//!
+//! let mut relay = Relay::new(alloc, &names)?;
+//! // Stored(1), and the place of the box that changed
+//! let (reply, changed) = relay.answer(&Request::post(name, packet));
+//! ```
+#![tactic(auto)]
+
+pub use checking::check_box;
+pub use law::{changes, isolation, lawfulness, records};
+pub use limits::{BOX_LIMIT, EXCHANGE_LIMIT, RECORD_LIMIT, RELAY_LIMIT};
+pub use loading::Loaded;
+pub use relay::Relay;
+
+mod checking;
+mod law;
+mod limits;
+mod loading;
+mod mailbox;
+mod reading;
+mod relay;
+#[cfg(test)]
+mod tests;
+mod writing;

@@ -1,0 +1,86 @@
+//! Taking a box from its record.
+
+ghost use Rattle.std.specs.Prelude.{◌≡◌, ◌<◌, ◌≤◌, [], length, vec_capacity, IfOk, IsOk};
+ghost use Rattle.grammar.specs.Reader.{items};
+ghost use Rattle.grammar.specs.Standing.{Reads};
+ghost use Rattle.relay_core.specs.declared.limits.TheConstants.{BOX_LIMIT};
+ghost use Rattle.relay_core.specs.Record.{box_read, next_kept};
+
+use crate::mailbox::{KeptPacket, Mailbox};
+use crate::reading::{read_head, read_kept};
+use crate::relay::Relay;
+use grammar::Cursor;
+use relay_wire::Packet;
+
+/// What became of a record that was to be loaded.
+#[derive(Clone, Copy, Debug, PartialEq, Eq)]
+pub enum Loaded {
+    /// The box is the record's now.
+    Taken,
+    /// The record has another name than the box, which is as it was.
+    OtherName,
+}
+
+/// Takes so many packets, with numbers up to `last`.
+fn take_packets(
+    packets: &mut Vec<KeptPacket>,
+    cursor: &mut Cursor<'_>,
+    last: u64,
+    count: u8,
+) -> Result<(), usize>
+    requires empty { packets.old.items ≡ [] }
+    requires few { count ≤ BOX_LIMIT }
+    requires room { BOX_LIMIT ≤ vec_capacity packets.old }
+    ensures reads { Reads (λ _. packets.new.items) (items (next_kept last) count) cursor.old cursor.new result }
+    ensures room_stays { BOX_LIMIT ≤ vec_capacity packets.new }
+{
+    let mut low = 0;
+    'packets: for _ in 0..count {
+        let kept = read_kept(cursor, low, last)?;
+        low = kept.0;
+        let packet = Packet::new(kept.1).unwrap();
+        packets.push(KeptPacket::new(low, packet)).unwrap();
+    }
+    Ok(())
+}
+
+impl Mailbox {
+    ghost use Rattle.relay_core.specs.Loading.{LoadsBox};
+
+    /// Becomes the box of a record, where that has its name.
+    #[tactic(auto, unfolding(crate::specs::Record::box_read, crate::specs::Record::box_fields))]
+    fn load(&mut self, text: &[u8]) -> Loaded
+        requires { IsOk (box_read text.now) }
+        ensures { IfOk (box_read text.now) (λ box. LoadsBox self.old self.new box result) }
+    {
+        let mut cursor = Cursor::new(text);
+        let Ok(head) = read_head(&mut cursor) else {
+            unreachable!();
+        };
+        if head.name != self.name.bytes() {
+            return Loaded::OtherName;
+        }
+        self.packets.clear();
+        let Ok(()) = take_packets(&mut self.packets, &mut cursor, head.last, head.count) else {
+            unreachable!();
+        };
+        self.last = head.last;
+        Loaded::Taken
+    }
+}
+
+impl Relay {
+    ghost use Rattle.relay_core.specs.Loading.{Loads};
+
+    /// Takes the box at a place from a record that `check_box` accepts; nothing changes where that has another name.
+    pub fn load(&mut self, place: usize, text: &[u8]) -> Loaded
+        requires inside { place < length self.old }
+        requires record { IsOk (box_read text.now) }
+        ensures loads { IfOk (box_read text.now) (λ box. Loads self.old self.new place box result) }
+        ensures count { length self.new ≡ length self.old }
+    {
+        let mailbox = &mut self.boxes[place];
+        let loaded = mailbox.load(text);
+        loaded
+    }
+}

@@ -1,0 +1,65 @@
+//! All boxes of a relay.
+
+ghost use Rattle.std.specs.Prelude.{◌≡◌, map, IfOk};
+ghost use Rattle.relay_core.specs.Boxes.{IsPlaced, answers_of, empty_box};
+ghost use Rattle.relay_wire.specs.Seen.{replied_of};
+
+use crate::mailbox::Mailbox;
+use relay_wire::{Name, Reply, Request};
+use std::alloc::{AllocError, Global};
+use std::marker::Model;
+
+/// The boxes of a relay, in the order of the names that it was made with. A contract sees the list of them.
+///
+/// Each has room for 64 packets of 4,000 bytes, taken when the relay is made.
+#[derive(Drop)]
+pub struct Relay {
+    pub(crate) boxes: Vec<Mailbox>,
+}
+
+impl Model for Relay {
+    ghost use Rattle.std.specs.Prelude.{List};
+    ghost use Rattle.relay_core.specs.Boxes.{Box};
+
+    ghost Value = { List Box };
+
+    ghost view = { λ r. r.boxes.items };
+}
+
+impl Relay {
+    /// Empty boxes of these names, with all the memory that they will ever use. A relay has up to 16, no two alike.
+    pub fn new(alloc: Global, names: &[Name]) -> Result<Relay, AllocError>
+        ensures { IfOk result (λ relay. relay ≡ map empty_box names.now) }
+    {
+        let mut boxes = Vec::new(alloc);
+        for name in names {
+            boxes.push(Mailbox::new(alloc, name.copied())?)?;
+        }
+        Ok(Relay { boxes })
+    }
+
+    /// The place of the first box of a name.
+    fn place_of(&self, name: &Name) -> Option<usize>
+        ensures { IsPlaced name.now self.now result }
+    {
+        for (place, mailbox) in self.boxes.iter().enumerate() {
+            if mailbox.name().bytes() == name.bytes() {
+                return Some(place);
+            }
+        }
+        None
+    }
+
+    /// Answers a request, and tells the place of the box that changed: exactly where the reply is Stored or Acked.
+    pub fn answer(&mut self, request: &Request) -> (Reply, Option<usize>)
+        ensures { answers_of self.old request.now
+            ≡ record { reply = replied_of result.0; next = self.new; changed = result.1 } }
+    {
+        let Some(place) = self.place_of(request.name()) else {
+            return (Reply::Unknown, None);
+        };
+        let mailbox = &mut self.boxes[place];
+        let (reply, changed) = mailbox.answer(request.ask());
+        (reply, if changed { Some(place) } else { None })
+    }
+}

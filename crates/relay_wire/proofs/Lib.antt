@@ -1,0 +1,5 @@
+pub mod Choices
+pub mod Splitting
+pub mod Feeding
+pub mod Asked
+pub mod Replied

@@ -1,0 +1,41 @@
+-- What the values of the code stand for.
+use Rattle.std.specs.Prelude.{◌≡◌, ℕ, Result, Ok, Err}
+use Rattle.relay_wire.specs.declared.request.Ask.{Ask}
+use Rattle.relay_wire.specs.declared.request.Ask.TheVariants.{Post, Fetch, Ack}
+use Rattle.relay_wire.specs.declared.request.Bad.{Bad}
+use Rattle.relay_wire.specs.declared.reply.BadReply.{BadReply}
+use Rattle.relay_wire.specs.declared.reply.Reply.{Reply}
+use Rattle.relay_wire.specs.declared.reply.Reply.TheVariants.{Stored, Item, Empty, Acked, BoxFull, Unknown, Absent, Bad as BadKind}
+use Rattle.relay_wire.specs.Requests.{Asked, Asking, posts, fetches, acks}
+use Rattle.relay_wire.specs.Replies.{Replied, stored, item, empty, acked, box_full, unknown, absent, bad}
+
+-- what is asked
+abbrev pub asking_of : Ask → Asking
+asking_of (Post packet) = posts packet
+asking_of Fetch = fetches
+asking_of (Ack number) = acks number
+
+-- what is replied
+abbrev pub replied_of : Reply → Replied
+replied_of (Stored number) = stored number
+replied_of (Item number packet) = item number packet
+replied_of Empty = empty
+replied_of Acked = acked
+replied_of BoxFull = box_full
+replied_of Unknown = unknown
+replied_of (Absent number) = absent number
+replied_of (BadKind kind) = bad kind
+
+-- ---- what code parsed is what a reader reads
+
+abbrev pub ParsesAsk : Result Ask Bad → Result Asking ℕ → Type 0
+ParsesAsk (Ok ask) read = read ≡ Ok (asking_of ask)
+ParsesAsk (Err e) read = read ≡ Err e.kind
+
+abbrev pub ParsesRequest : Result Asked Bad → Result Asked ℕ → Type 0
+ParsesRequest (Ok asked) read = read ≡ Ok asked
+ParsesRequest (Err e) read = read ≡ Err e.kind
+
+abbrev pub ParsesReply : Result Reply BadReply → Result Replied BadReply → Type 0
+ParsesReply (Ok reply) read = read ≡ Ok (replied_of reply)
+ParsesReply (Err e) read = read ≡ Err e

@@ -1,0 +1,64 @@
+//! Writing requests and replies.
+
+ghost use Rattle.std.specs.Prelude.{◌+◌, ◌≤◌, ◌∷◌, ◌++◌, length};
+ghost use Rattle.dr_base.specs.Buffer.{Puts};
+ghost use Rattle.relay_wire.specs.Frames.{HasRoom, framed};
+ghost use Rattle.relay_wire.specs.Replies.{reply_body};
+ghost use Rattle.relay_wire.specs.Requests.{request_body};
+ghost use Rattle.relay_wire.specs.Seen.{replied_of};
+ghost use Rattle.relay_wire.specs.declared.limits.TheConstants.{BODY_LIMIT, FRAME_LIMIT};
+
+use crate::reply::Reply;
+use crate::reply_reading::{ABSENT, ACKED, BAD, BOX_FULL, EMPTY, ITEM, STORED, UNKNOWN};
+use crate::request::{Ask, Request};
+use crate::request_reading::{ACK, FETCH, POST};
+use dr_base::{put, put_u16};
+
+/// Writes the frame of a first byte and three parts behind it.
+fn put_frame(out: &mut [u8], first: u8, one: &[u8], two: &[u8], three: &[u8]) -> usize
+    requires fits { 1 + length one.now + length two.now + length three.now ≤ BODY_LIMIT }
+    requires room { HasRoom FRAME_LIMIT (framed (first ∷ (one.now ++ (two.now ++ three.now)))) (length out.old) }
+    ensures { Puts out.old out.new 0 (framed (first ∷ (one.now ++ (two.now ++ three.now)))) result }
+{
+    let size = 1 + one.len() + two.len() + three.len();
+    let at_first = put_u16(out, 0, size as u16);
+    let at_one = put(out, at_first, &[first]);
+    let at_two = put(out, at_one, one);
+    let at_three = put(out, at_two, two);
+    put(out, at_three, three)
+}
+
+/// Writes the frame of a request at the beginning, and answers how many bytes it has. A buffer of 4,098 bytes holds any.
+#[tactic(auto, unfolding(crate::specs::Requests::request_body))]
+pub fn write_request(request: &Request, out: &mut [u8]) -> usize
+    requires { HasRoom FRAME_LIMIT (framed (request_body request.now)) (length out.old) }
+    ensures { Puts out.old out.new 0 (framed (request_body request.now)) result }
+{
+    let name = request.name().bytes();
+    let size = [name.len() as u8];
+    match request.ask() {
+        Ask::Post(packet) => put_frame(out, POST, &size, name, packet.bytes()),
+        Ask::Fetch => put_frame(out, FETCH, &size, name, &[]),
+        Ask::Ack(number) => put_frame(out, ACK, &size, name, &number.to_be_bytes()),
+    }
+}
+
+/// Writes the frame of a reply at the beginning, and answers how many bytes it has. A buffer of 4,098 bytes holds any.
+#[tactic(auto, unfolding(crate::specs::Replies::reply_body))]
+pub fn write_reply(reply: &Reply, out: &mut [u8]) -> usize
+    requires { HasRoom FRAME_LIMIT (framed (reply_body (replied_of reply.now))) (length out.old) }
+    ensures { Puts out.old out.new 0 (framed (reply_body (replied_of reply.now))) result }
+{
+    match reply {
+        Reply::Stored(number) => put_frame(out, STORED, &[], &number.to_be_bytes(), &[]),
+        Reply::Item(number, packet) => {
+            put_frame(out, ITEM, &[], &number.to_be_bytes(), packet.bytes())
+        }
+        Reply::Empty => put_frame(out, EMPTY, &[], &[], &[]),
+        Reply::Acked => put_frame(out, ACKED, &[], &[], &[]),
+        Reply::BoxFull => put_frame(out, BOX_FULL, &[], &[], &[]),
+        Reply::Unknown => put_frame(out, UNKNOWN, &[], &[], &[]),
+        Reply::Absent(number) => put_frame(out, ABSENT, &[], &number.to_be_bytes(), &[]),
+        Reply::Bad(kind) => put_frame(out, BAD, &[], &[*kind], &[]),
+    }
+}
