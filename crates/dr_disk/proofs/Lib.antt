@@ -1,0 +1,11 @@
+pub mod Overwrites
+pub mod Ranges
+pub mod Tears
+pub mod Filled
+pub mod Passing
+pub mod Steps
+pub mod WrittenAndSynced
+pub mod Fresh
+pub mod Writes
+pub mod Replays
+pub mod Recordings

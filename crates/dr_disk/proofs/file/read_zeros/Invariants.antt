@@ -1,0 +1,8 @@
+use Rattle.std.proofs.Common.{◌-◌, ◌≤◌, length}
+use Rattle.dr_disk.proofs.file.read_zeros.Given as goal
+
+abbrev pub invariant-pieces : goal.invariant-pieces
+invariant-pieces l = l.done ≤ length l.into
+
+abbrev pub decreases-pieces : goal.decreases-pieces
+decreases-pieces l = length l.into - l.done

@@ -1,0 +1,12 @@
+pub mod Bytes
+pub mod State
+pub mod Spans
+pub mod Calls
+pub mod Memory
+pub mod MemoryLaws
+pub mod MemoryDisks
+pub mod SteadyDisks
+pub mod Untold
+pub mod Recorded
+pub mod RecordedLaws
+pub mod RecordingDisks

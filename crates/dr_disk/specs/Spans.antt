@@ -1,0 +1,51 @@
+-- What may have happened on a disk between two moments.
+use Rattle.std.specs.Prelude.{◌≡◌, ◌⊎◌, ℕ, ◌+◌, ◌≤◌, List, Some}
+use Rattle.dr_disk.specs.declared.call.Call.{Call}
+use Rattle.dr_disk.specs.Bytes.{Torn}
+use Rattle.dr_disk.specs.State.{DiskState, some_pass}
+
+-- the count of writes and syncs that passed doesn't fall, where it is told
+abbrev pub HavePassedAtLeast : DiskState → DiskState → Type 0
+HavePassedAtLeast a b = (m : ℕ) → b.passed ≡ Some m → (l : ℕ) × (a.passed ≡ Some l) × (l ≤ m)
+
+-- where n more writes and syncs are told to pass at a: how many are left at b, and that the others have passed
+pub record Gone (n : ℕ) (a b : DiskState) : Type 0 where
+  pub left : ℕ
+  pub fate : b.fate ≡ some_pass left
+  pub counted : (l m : ℕ) → a.passed ≡ Some l → b.passed ≡ Some m → m + left ≡ l + n
+
+abbrev pub HaveGone : DiskState → DiskState → Type 0
+HaveGone a b = (n : ℕ) → a.fate ≡ some_pass n → Gone n a b
+
+-- From a on until b: a crash at each moment leaves what has P, or what one at a might have left. The size stays,
+-- no count falls, and the clock doesn't go back.
+pub record Span (a b : DiskState) (P : List ℕ → Type 0) : Type 0 where
+  pub size : b.size ≡ a.size
+  pub counts : (call : Call) → a.faults call ≤ b.faults call
+  pub later : a.moment ≤ b.moment
+  pub passes : HavePassedAtLeast a b
+  pub keeps : b.keeps ≡ a.keeps
+  pub fates : HaveGone a b
+  pub each : (t : ℕ) (c : List ℕ) → t ≤ a.moment → b.since t c → a.since t c ⊎ P c
+  -- also for a disk that tells nothing of moments past
+  pub last : (c : List ℕ) → b.image c → a.image c ⊎ P c
+
+-- one call goes by: no crash meanwhile leaves anything but what one before it, or one after it, might leave
+abbrev pub GoesBy : DiskState → DiskState → Type 0
+GoesBy a b = Span a b b.image
+
+-- no call between the two moments failed
+abbrev pub IsQuiet : DiskState → DiskState → Type 0
+IsQuiet a b = (call : Call) → b.faults call ≡ a.faults call
+
+-- so many writes and syncs passed between the two moments
+abbrev pub HavePassed : ℕ → DiskState → DiskState → Type 0
+HavePassed n a b = (m : ℕ) → b.passed ≡ Some m → (l : ℕ) × (a.passed ≡ Some l) × (m ≡ l + n)
+
+-- outside a range the bytes are those of an image of that moment
+abbrev pub Frame : DiskState → ℕ → ℕ → List ℕ → Type 0
+Frame start at n c = (d : List ℕ) × start.image d × Torn at n d c
+
+-- outside a range a read gives what it gave
+abbrev pub ReadsOutside : ℕ → ℕ → DiskState → DiskState → Type 0
+ReadsOutside at n a b = (s : List ℕ) → b.seen ≡ Some s → (r : List ℕ) × (a.seen ≡ Some r) × Torn at n r s

@@ -1,0 +1,45 @@
+-- What a disk tells of itself at one moment.
+use Rattle.std.specs.Prelude.{◌≡◌, ℕ, List, length, Option, Some, Bool}
+use Rattle.dr_disk.specs.declared.call.Call.{Call}
+use Rattle.dr_disk.specs.declared.call.Mode.{Mode}
+
+-- how the next writes and syncs go, where it is told: all pass, or so many, and then every call fails
+pub data Fate : Type 0 where
+  untold_fate : Fate
+  all_pass : Fate
+  some_pass : ℕ → Fate
+
+-- A disk that tells nothing of its content has `seen` None, and `image` and `since` hold of nothing.
+pub record DiskState : Type 1 where
+  pub size : ℕ
+  -- what a read gives
+  pub seen : Option (List ℕ)
+  -- what a crash now may leave
+  pub image : List ℕ → Type 0
+  -- a clock, and what a crash at some moment from that one on might have left
+  pub moment : ℕ
+  pub since : ℕ → List ℕ → Type 0
+  -- how often a call of each kind has failed
+  pub faults : Call → ℕ
+  -- what a crash of each kind would leave now, where it is told
+  pub leaves : Mode → Option (List ℕ)
+  -- how many writes and syncs have passed, where it is told
+  pub passed : Option ℕ
+  -- a write that fails leaves what reads give
+  pub keeps : Bool
+  pub fate : Fate
+
+-- What holds of every disk: each image has the disk's size, and what a read gives is an image.
+pub record IsLawful (disk : DiskState) : Type 0 where
+  pub sized : (c : List ℕ) → disk.image c → length c ≡ disk.size
+  pub seen_now : (s : List ℕ) → disk.seen ≡ Some s → disk.image s
+  pub only_now : (c : List ℕ) → disk.since disk.moment c → disk.image c
+  pub leaves_now : (mode : Mode) (c : List ℕ) → disk.leaves mode ≡ Some c → disk.image c
+
+-- each image has P
+abbrev pub Always : (List ℕ → Type 0) → DiskState → Type 0
+Always P disk = (c : List ℕ) → disk.image c → P c
+
+-- a crash leaves what a read gives
+abbrev pub IsSettled : DiskState → Type 0
+IsSettled disk = (c : List ℕ) → disk.image c → disk.seen ≡ Some c

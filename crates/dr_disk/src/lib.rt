@@ -1,0 +1,23 @@
+//! A disk that may stop inside any write: what a read gives, what a crash may leave, and how often its calls
+//! failed. The disks in memory tell all of it, and one of them fails where it is told to.
+#![tactic(auto)]
+
+pub use call::{Call, Mode};
+pub use disk::Disk;
+pub use file::{FileDisk, Sharing};
+pub use memory::MemoryDisk;
+pub use recording::RecordingDisk;
+pub use steady::SteadyDisk;
+pub use synced::write_synced;
+
+mod call;
+mod disk;
+mod file;
+mod memory;
+mod platter;
+mod recording;
+mod steady;
+mod synced;
+mod tape;
+#[cfg(test)]
+mod tests;

@@ -1,0 +1,158 @@
+//! The bytes of a disk in memory: as read, as the last good sync left them, and as last asked for.
+
+ghost use Rattle.std.specs.Prelude.{◌≡◌, ℕ, ◌+◌, ◌≤◌, List, Bool, false, length, replicate, slice_range, IfOk, if◌then◌else◌};
+ghost use Rattle.dr_disk.specs.Bytes.{overwritten};
+ghost use Rattle.dr_disk.specs.Memory.{IsImage, filled, left_by, marked};
+
+use crate::call::Mode;
+use std::alloc::{AllocError, Global};
+
+/// The bytes of a disk in memory, and which of them no good sync has reached.
+#[derive(Drop)]
+pub(crate) struct Platter {
+    pub(crate) bytes: Vec<u8>,
+    pub(crate) durable: Vec<u8>,
+    pub(crate) asked: Vec<u8>,
+    pub(crate) marks: Vec<bool>,
+    ghost agrees: { IsImage durable.items marks.items bytes.items },
+    ghost asks: { IsImage durable.items marks.items asked.items },
+    ghost one_mark_each: { length marks.items ≡ length durable.items },
+}
+
+fn put(bytes: &mut Vec<u8>, at: usize, new: &[u8])
+    requires { at + length new.now ≤ length bytes.old.items }
+    ensures { bytes.new.items ≡ overwritten bytes.old.items at new.now }
+{
+    bytes[at..at + new.len()].copy_from_slice(new);
+}
+
+fn mark(marks: &mut Vec<bool>, at: usize, n: usize)
+    requires { at + n ≤ length marks.old.items }
+    ensures { marks.new.items ≡ marked marks.old.items at n }
+{
+    marks[at..at + n].fill(true);
+}
+
+fn unmark(marks: &mut Vec<bool>)
+    ensures { marks.new.items ≡ replicate (length marks.old.items) false }
+{
+    marks.fill(false);
+}
+
+fn choose(is_first: bool, first: u8, second: u8) -> u8
+    ensures { result ≡ (if is_first then first else second) }
+{
+    if is_first { first } else { second }
+}
+
+/// Puts a byte into each marked place.
+fn fill_marked(bytes: &mut Vec<u8>, marks: &Vec<bool>, byte: u8)
+    requires { length marks.now.items ≡ length bytes.old.items }
+    ensures bytes { bytes.new.items ≡ filled byte bytes.old.items marks.now.items }
+    ensures size { length bytes.new.items ≡ length bytes.old.items }
+{
+    'places: for at in 0..bytes.len() {
+        bytes[at] = choose(marks[at], byte, bytes[at]);
+    }
+}
+
+/// Makes what a crash of a kind leaves of the durable bytes.
+fn leave(durable: &mut Vec<u8>, asked: &Vec<u8>, marks: &Vec<bool>, mode: Mode)
+    requires asked { length asked.now.items ≡ length durable.old.items }
+    requires marks { length marks.now.items ≡ length durable.old.items }
+    ensures bytes { durable.new.items ≡ left_by durable.old.items asked.now.items marks.now.items mode }
+    ensures size { length durable.new.items ≡ length durable.old.items }
+{
+    match mode {
+        Mode::Old => {}
+        Mode::New => durable.copy_from_slice(asked),
+        Mode::Fill(byte) => fill_marked(durable, marks, byte),
+    }
+}
+
+impl Platter {
+    /// All zeros, none of them unsynced.
+    pub(crate) fn new(alloc: Global, size: usize) -> Result<Platter, AllocError>
+        ensures bytes { IfOk result (λ platter. platter.bytes.items ≡ replicate size 0) }
+        ensures durable { IfOk result (λ platter. platter.durable.items ≡ replicate size 0) }
+        ensures asked { IfOk result (λ platter. platter.asked.items ≡ replicate size 0) }
+        ensures marks { IfOk result (λ platter. platter.marks.items ≡ replicate size false) }
+    {
+        Ok(Platter {
+            bytes: vec![in alloc; 0; size]?,
+            durable: vec![in alloc; 0; size]?,
+            asked: vec![in alloc; 0; size]?,
+            marks: vec![in alloc; false; size]?,
+        })
+    }
+
+    /// Fills `into` with the bytes from a place on.
+    pub(crate) fn read(&self, at: usize, into: &mut [u8])
+        requires { at + length into.old ≤ length self.now.bytes.items }
+        ensures { into.new ≡ slice_range self.now.bytes.items at (at + length into.old) }
+    {
+        into.copy_from_slice(&self.bytes[at..at + into.len()]);
+    }
+
+    /// A write is asked for: whether or not it passes, its range is unsynced.
+    pub(crate) fn ask(&mut self, at: usize, bytes: &[u8])
+        requires { at + length bytes.now ≤ length self.old.durable.items }
+        ensures asked { self.new.asked.items ≡ overwritten self.old.asked.items at bytes.now }
+        ensures marks { self.new.marks.items ≡ marked self.old.marks.items at (length bytes.now) }
+        ensures bytes { self.new.bytes.items ≡ self.old.bytes.items }
+        ensures durable { self.new.durable.items ≡ self.old.durable.items }
+    {
+        put(&mut self.asked, at, bytes);
+        mark(&mut self.marks, at, bytes.len());
+    }
+
+    /// The same, and the write passes.
+    pub(crate) fn write(&mut self, at: usize, bytes: &[u8])
+        requires { at + length bytes.now ≤ length self.old.durable.items }
+        ensures asked { self.new.asked.items ≡ overwritten self.old.asked.items at bytes.now }
+        ensures marks { self.new.marks.items ≡ marked self.old.marks.items at (length bytes.now) }
+        ensures bytes { self.new.bytes.items ≡ overwritten self.old.bytes.items at bytes.now }
+        ensures durable { self.new.durable.items ≡ self.old.durable.items }
+    {
+        put(&mut self.asked, at, bytes);
+        put(&mut self.bytes, at, bytes);
+        mark(&mut self.marks, at, bytes.len());
+    }
+
+    /// A good sync: what reads give is durable, and nothing else is asked for.
+    pub(crate) fn settle(&mut self)
+        ensures bytes { self.new.bytes.items ≡ self.old.bytes.items }
+        ensures durable { self.new.durable.items ≡ self.old.bytes.items }
+        ensures asked { self.new.asked.items ≡ self.old.bytes.items }
+        ensures marks { self.new.marks.items ≡ replicate (length self.old.marks.items) false }
+    {
+        self.durable.copy_from_slice(&self.bytes);
+        self.asked.copy_from_slice(&self.bytes);
+        unmark(&mut self.marks);
+    }
+
+    /// What a crash of a kind leaves.
+    pub(crate) fn crash(self, mode: Mode) -> Platter
+        ensures bytes { result.bytes.items ≡ left_by self.durable.items self.asked.items self.marks.items mode }
+        ensures durable { result.durable.items ≡ left_by self.durable.items self.asked.items self.marks.items mode }
+        ensures asked { result.asked.items ≡ left_by self.durable.items self.asked.items self.marks.items mode }
+        ensures marks { result.marks.items ≡ replicate (length self.marks.items) false }
+    {
+        let Platter {
+            mut bytes,
+            mut durable,
+            mut asked,
+            mut marks,
+        } = self;
+        leave(&mut durable, &asked, &marks, mode);
+        bytes.copy_from_slice(&durable);
+        asked.copy_from_slice(&durable);
+        unmark(&mut marks);
+        Platter {
+            bytes,
+            durable,
+            asked,
+            marks,
+        }
+    }
+}

@@ -1,0 +1,13 @@
+use Rattle.slot_store.proofs.Opened.{opened_content, settled_rests, was_read, zeros_of}
+use Rattle.slot_store.proofs.opening.settle.Goals as goal
+
+pub tidy-requires-clause-read : goal.tidy-requires-clause-read
+tidy-requires-clause-read g c = λ s told.
+    was_read c.args.area _ c.args.other_gate c.args.other.items s _ c.requires.other_long c.blank_out-blank.ensures.blank (c.requires.beside s told)
+
+pub returns-in-Ok-clause-content : goal.returns-in-Ok-clause-content
+returns-in-Ok-clause-content g c = opened_content _ c.args.body.items c.args.area.slot c.store_of.ensures.slot c.requires.laid
+
+pub returns-in-Ok-clause-at_rest : goal.returns-in-Ok-clause-at_rest
+returns-in-Ok-clause-at_rest g c =
+    settled_rests _ c.args.area c.args.second _ (g.D.Disk.state c.args.disk.now) (g.D.Disk.state c.tidy.new.disk) c.store_of.ensures.area c.store_of.ensures.second c.store_of.ensures.slot c.requires.current c.in-Ok.ensures.done

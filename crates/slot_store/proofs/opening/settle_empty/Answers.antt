@@ -1,0 +1,21 @@
+use Rattle.std.proofs.Common.{◌∙◌}
+use Rattle.slot_store.proofs.Opened.{both_moment, empty_content, empty_rests, wiped_of, zeros_of}
+use Rattle.slot_store.proofs.opening.settle_empty.Goals as goal
+
+pub returns-in-Err-tidy-clause-any_moment : goal.returns-in-Err-tidy-clause-any_moment
+returns-in-Err-tidy-clause-any_moment g c =
+    both_moment c.args.area (g.D.Disk.state c.args.disk.now) (g.D.Disk.state c.tidy.new.disk) (g.met.D.Disk.lawful c.tidy.new.disk) c.in-Ok.ensures.done (g.D.Disk.state c.tidy-2.new.disk) c.tidy.ensures.any_moment c.tidy-2.ensures.any_moment
+
+pub returns-in-Ok-tidy-clause-any_moment : goal.returns-in-Ok-tidy-clause-any_moment
+returns-in-Ok-tidy-clause-any_moment g c =
+    both_moment c.args.area (g.D.Disk.state c.args.disk.now) (g.D.Disk.state c.tidy.new.disk) (g.met.D.Disk.lawful c.tidy.new.disk) c.in-Ok.ensures.done (g.D.Disk.state c.tidy-2.new.disk) c.tidy.ensures.any_moment c.tidy-2.ensures.any_moment
+
+pub returns-in-Ok-tidy-clause-content : goal.returns-in-Ok-tidy-clause-content
+returns-in-Ok-tidy-clause-content g c = empty_content c.store_of.result _ c.store_of.ensures.slot
+
+pub returns-in-Ok-tidy-clause-at_rest : goal.returns-in-Ok-tidy-clause-at_rest
+returns-in-Ok-tidy-clause-at_rest g c =
+    empty_rests c.args.area (g.D.Disk.state c.args.disk.now) (g.D.Disk.state c.tidy.new.disk) (g.met.D.Disk.lawful c.tidy.new.disk) c.in-Ok.ensures.done (g.D.Disk.state c.tidy-2.new.disk) c.store_of.result
+    c.store_of.ensures.area c.store_of.ensures.second
+    (c.store_of.ensures.slot ∙ wiped_of c.args.area.slot _ (zeros_of c.args.area.slot _ c.args.first.items c.blank_out-first_blank.ensures.zeros c.requires.first_long))
+    c.in-Ok-tidy.ensures.done

@@ -1,0 +1,60 @@
+use Rattle.std.proofs.Common.{◌≡◌, ℕ, List, Some, refl, sym, ◌∙◌, ap, subst}
+use Rattle.slot_store.specs.Judged.{verdict_seen}
+use Rattle.slot_store.specs.Reading.{damaged, faulty, newer, none_open, number_of, reading}
+use Rattle.slot_store.proofs.Opened.{damaged_read, newer_text, read_newer, reading_by, reads_like, same_text, shut_read, verdict_at, whole}
+use Rattle.slot_store.proofs.store.SlotStore.open.Goals as goal
+
+pub settle_empty-requires-clause-shut : goal.settle_empty-requires-clause-shut
+settle_empty-requires-clause-shut g c = λ s told.
+    let verdict = verdict_at g.G.Grammar.fault_at c.args.area.slot c.in-Ok-read_slots.gates.0 c.in-Ok-read_slots.gates.1 _ c.read_slots.new.first.items _ c.read_slots.new.second.items _ none_open
+    c.deref.ensures.value c.deref-2.ensures.value c.judge_slots.ensures.verdict (ap verdict_seen c.in-NoContent.is) in
+    shut_read g.G.Grammar.fault_at c.args.area s _ _ (c.in-Ok-read_slots.ensures.first s (sym c.read_slots.ensures.unwritten.seen ∙ told)) (c.in-Ok-read_slots.ensures.second s (sym c.read_slots.ensures.unwritten.seen ∙ told)) verdict
+
+pub returns-in-Damaged-clause-damaged : goal.returns-in-Damaged-clause-damaged
+returns-in-Damaged-clause-damaged g c = λ slot at is.
+    let verdict = verdict_at g.G.Grammar.fault_at c.args.area.slot c.in-Ok-read_slots.gates.0 c.in-Ok-read_slots.gates.1 _ c.read_slots.new.first.items _ c.read_slots.new.second.items _ (faulty c.in-Damaged.second c.in-Damaged.at)
+    c.deref.ensures.value c.deref-2.ensures.value c.judge_slots.ensures.verdict (ap verdict_seen c.in-Damaged.is) in
+    (c.read_slots.ensures.unwritten, c.in-Ok-read_slots.ensures.quiet, c.in-Ok-read_slots.ensures.passed, λ s told. reading_by g.G.Grammar.fault_at c.args.area s _ _ _ (c.in-Ok-read_slots.ensures.first s told) (c.in-Ok-read_slots.ensures.second s told) verdict ∙ damaged_read (number_of c.in-Damaged.second) slot c.in-Damaged.at at _ c.number.ensures is)
+
+pub returns-in-Ok-settle_empty-clause-read : goal.returns-in-Ok-settle_empty-clause-read
+returns-in-Ok-settle_empty-clause-read g c = λ s told.
+    let verdict = verdict_at g.G.Grammar.fault_at c.args.area.slot c.in-Ok-read_slots.gates.0 c.in-Ok-read_slots.gates.1 _ c.read_slots.new.first.items _ c.read_slots.new.second.items _ none_open
+    c.deref.ensures.value c.deref-2.ensures.value c.judge_slots.ensures.verdict (ap verdict_seen c.in-NoContent.is) in
+    reading_by g.G.Grammar.fault_at c.args.area s _ _ none_open (c.in-Ok-read_slots.ensures.first s told) (c.in-Ok-read_slots.ensures.second s told) verdict
+
+pub returns-in-Ok-settle_newer-clause-read : goal.returns-in-Ok-settle_newer-clause-read
+returns-in-Ok-settle_newer-clause-read g c = λ s told.
+    let verdict = verdict_at g.G.Grammar.fault_at c.args.area.slot c.in-Ok-read_slots.gates.0 c.in-Ok-read_slots.gates.1 _ c.read_slots.new.first.items _ c.read_slots.new.second.items _ (newer c.in-Content.is_second)
+    c.deref.ensures.value c.deref-2.ensures.value c.judge_slots.ensures.verdict (ap verdict_seen c.in-Content.is) in
+    read_newer g.G.Grammar.fault_at c.args.area s _ _ c.in-Content.is_second _ (c.in-Ok-read_slots.ensures.first s told) (c.in-Ok-read_slots.ensures.second s told) verdict c.in-Ok-settle_newer.ensures.content
+
+pub returns-in-Ok-settle_newer-clause-text : goal.returns-in-Ok-settle_newer-clause-text
+returns-in-Ok-settle_newer-clause-text g c = λ text is.
+    let verdict = verdict_at g.G.Grammar.fault_at c.args.area.slot c.in-Ok-read_slots.gates.0 c.in-Ok-read_slots.gates.1 _ c.read_slots.new.first.items _ c.read_slots.new.second.items _ (newer c.in-Content.is_second)
+    c.deref.ensures.value c.deref-2.ensures.value c.judge_slots.ensures.verdict (ap verdict_seen c.in-Content.is) in
+    let text_is = newer_text g.G.Grammar.fault_at c.args.area.slot _ _ c.in-Content.is_second verdict in
+    same_text g.G.Grammar.fault_at _ text _ c.in-Ok-settle_newer.ensures.content is text_is
+
+pub returns-in-Ok-settle_empty-clause-any_moment : goal.returns-in-Ok-settle_empty-clause-any_moment
+returns-in-Ok-settle_empty-clause-any_moment g c = whole c.args.area (g.D.Disk.state c.args.disk.now) (g.D.Disk.state c.read_slots.new.disk) (g.D.Disk.state c.settle_empty.new.disk) c.read_slots.ensures.any_moment c.read_slots.ensures.unwritten.seen c.settle_empty.ensures.any_moment
+
+pub returns-in-Ok-settle_empty-clause-reads : goal.returns-in-Ok-settle_empty-clause-reads
+returns-in-Ok-settle_empty-clause-reads g c = reads_like c.args.area (g.D.Disk.state c.args.disk.now) (g.D.Disk.state c.read_slots.new.disk) (g.D.Disk.state c.settle_empty.new.disk) c.read_slots.ensures.any_moment c.read_slots.ensures.unwritten.seen (g.met.D.Disk.lawful c.settle_empty.new.disk) c.in-Ok-read_slots.ensures.settled c.settle_empty.ensures.any_moment
+
+pub returns-in-Err-settle_empty-clause-any_moment : goal.returns-in-Err-settle_empty-clause-any_moment
+returns-in-Err-settle_empty-clause-any_moment g c = whole c.args.area (g.D.Disk.state c.args.disk.now) (g.D.Disk.state c.read_slots.new.disk) (g.D.Disk.state c.settle_empty.new.disk) c.read_slots.ensures.any_moment c.read_slots.ensures.unwritten.seen c.settle_empty.ensures.any_moment
+
+pub returns-in-Err-settle_empty-clause-reads : goal.returns-in-Err-settle_empty-clause-reads
+returns-in-Err-settle_empty-clause-reads g c = reads_like c.args.area (g.D.Disk.state c.args.disk.now) (g.D.Disk.state c.read_slots.new.disk) (g.D.Disk.state c.settle_empty.new.disk) c.read_slots.ensures.any_moment c.read_slots.ensures.unwritten.seen (g.met.D.Disk.lawful c.settle_empty.new.disk) c.in-Ok-read_slots.ensures.settled c.settle_empty.ensures.any_moment
+
+pub returns-in-Ok-settle_newer-clause-any_moment : goal.returns-in-Ok-settle_newer-clause-any_moment
+returns-in-Ok-settle_newer-clause-any_moment g c = whole c.args.area (g.D.Disk.state c.args.disk.now) (g.D.Disk.state c.read_slots.new.disk) (g.D.Disk.state c.settle_newer.new.disk) c.read_slots.ensures.any_moment c.read_slots.ensures.unwritten.seen c.settle_newer.ensures.any_moment
+
+pub returns-in-Ok-settle_newer-clause-reads : goal.returns-in-Ok-settle_newer-clause-reads
+returns-in-Ok-settle_newer-clause-reads g c = reads_like c.args.area (g.D.Disk.state c.args.disk.now) (g.D.Disk.state c.read_slots.new.disk) (g.D.Disk.state c.settle_newer.new.disk) c.read_slots.ensures.any_moment c.read_slots.ensures.unwritten.seen (g.met.D.Disk.lawful c.settle_newer.new.disk) c.in-Ok-read_slots.ensures.settled c.settle_newer.ensures.any_moment
+
+pub returns-in-Err-settle_newer-clause-any_moment : goal.returns-in-Err-settle_newer-clause-any_moment
+returns-in-Err-settle_newer-clause-any_moment g c = whole c.args.area (g.D.Disk.state c.args.disk.now) (g.D.Disk.state c.read_slots.new.disk) (g.D.Disk.state c.settle_newer.new.disk) c.read_slots.ensures.any_moment c.read_slots.ensures.unwritten.seen c.settle_newer.ensures.any_moment
+
+pub returns-in-Err-settle_newer-clause-reads : goal.returns-in-Err-settle_newer-clause-reads
+returns-in-Err-settle_newer-clause-reads g c = reads_like c.args.area (g.D.Disk.state c.args.disk.now) (g.D.Disk.state c.read_slots.new.disk) (g.D.Disk.state c.settle_newer.new.disk) c.read_slots.ensures.any_moment c.read_slots.ensures.unwritten.seen (g.met.D.Disk.lawful c.settle_newer.new.disk) c.in-Ok-read_slots.ensures.settled c.settle_newer.ensures.any_moment

@@ -1,0 +1,30 @@
+-- What holds of the words that callers see.
+use Rattle.std.specs.Prelude.{◌≡◌, ℕ, ◌+◌, ◌≤◌, ◌<◌, List, length, slice_index, Option, Some, None}
+use Rattle.slot_store.specs.declared.area.Area.{Area}
+use Rattle.slot_store.specs.declared.store.SlotStore.{SlotStore}
+use Rattle.slot_store.specs.Slots.{recovered}
+use Rattle.slot_store.specs.Store.{Rests, content, mark}
+use Rattle.slot_store.specs.Reading.{holds, no_content, reading}
+
+-- bytes that are the same within an area
+pub record SameWithin (area : Area) (c d : List ℕ) : Type 0 where
+  pub size : length c ≡ length d
+  pub bytes : (i : ℕ) → area.start ≤ i → i < area.start + (area.slot + area.slot) → slice_index c i ≡ slice_index d i
+
+-- At rest an area has the store's record, and no byte of it says more than the record and the mark.
+pub record IsResting : Type 0 where
+  pub record_of : (store : SlotStore) (c : List ℕ) → Rests store c → recovered store.area c ≡ content store
+  pub same_bytes : (store other : SlotStore) (c d : List ℕ) → 1 ≤ store.area.slot → store.area ≡ other.area → mark store ≡ mark other → content store ≡ content other
+      → length c ≡ length d → store.area.start + (store.area.slot + store.area.slot) ≤ length c → Rests store c → Rests other d → SameWithin store.area c d
+
+-- What a store says of bytes, it says of those within its area alone.
+pub record IsLocal : Type 0 where
+  pub record_of : (area : Area) (c d : List ℕ) → 1 ≤ area.slot → SameWithin area c d → recovered area c ≡ recovered area d
+  pub rests : (store : SlotStore) (c d : List ℕ) → 1 ≤ store.area.slot → SameWithin store.area c d → Rests store d → Rests store c
+  pub reads : (fault_at : List ℕ → Option ℕ) (area : Area) (c d : List ℕ) → 1 ≤ area.slot → SameWithin area c d → reading fault_at area c ≡ reading fault_at area d
+
+-- Bytes that are read without damage stand for what was read.
+pub record IsRead : Type 0 where
+  pub content : (fault_at : List ℕ → Option ℕ) (area : Area) (c text : List ℕ) → reading fault_at area c ≡ holds text → recovered area c ≡ Some text
+  pub fits_grammar : (fault_at : List ℕ → Option ℕ) (area : Area) (c text : List ℕ) → reading fault_at area c ≡ holds text → fault_at text ≡ None
+  pub none : (fault_at : List ℕ → Option ℕ) (area : Area) (c : List ℕ) → reading fault_at area c ≡ no_content → recovered area c ≡ None

@@ -1,0 +1,10 @@
+pub mod Slots
+pub mod Layout
+pub mod Store
+pub mod Stops
+pub mod Reading
+pub mod Tidying
+pub mod Laws
+pub mod Kept
+pub mod Judged
+pub mod Found

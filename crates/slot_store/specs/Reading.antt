@@ -1,0 +1,81 @@
+-- What an area reads as: no record, the newer slot's record, or damage.
+use Rattle.std.specs.Prelude.{◌≡◌, ◌⊎◌, ℕ, ◌+◌, ◌==◌, Bool, true, false, nat_le, List, [], ◌∷◌, drop, Option, Some, None, if◌then◌else◌}
+use Rattle.dr_disk.specs.Bytes.{Torn}
+use Rattle.dr_disk.specs.State.{DiskState}
+use Rattle.slot_store.specs.declared.area.Area.{Area}
+use Rattle.slot_store.specs.Slots.{Slot, is_open, length_of, next_turn, record_of, recovered, slot_at, turn_of}
+
+-- the place of the first byte that isn't zero, counted from `at`
+abbrev pub nonzero_from : ℕ → List ℕ → Option ℕ
+nonzero_from at [] = None
+nonzero_from at (b ∷ rest) = if b == 0 then nonzero_from (at + 1) rest else Some at
+
+-- the first fault of a slot's record, or else of the zeros behind it
+abbrev pub fault_from : Slot → Option ℕ → Option ℕ
+fault_from slot (Some at) = Some (6 + at)
+fault_from slot None = nonzero_from (6 + length_of slot) (drop (5 + length_of slot) slot.body)
+
+-- the first place of a slot of n bytes that no record's slot has: 2 where the length passes the slot's end
+unfoldable pub slot_fault : (List ℕ → Option ℕ) → ℕ → Slot → Option ℕ
+slot_fault fault_at n slot =
+    if nat_le (6 + length_of slot) n then fault_from slot (fault_at (record_of slot)) else Some 2
+
+-- no slot is open; the newer open slot has a record (slot 1, or slot 0); or which slot is faulty, and where
+pub data Verdict : Type 0 where
+  none_open : Verdict
+  newer : Bool → Verdict
+  faulty : Bool → ℕ → Verdict
+
+abbrev pub judged : Bool → Option ℕ → Verdict
+judged second None = newer second
+judged second (Some at) = faulty second at
+
+-- by whether each slot is open and whether its turn follows the other's
+abbrev pub judged_by : Bool → Bool → Bool → Bool → Option ℕ → Option ℕ → Verdict
+judged_by true true true before first second = judged true second
+judged_by true true false true first second = judged false first
+judged_by true true false false first second = faulty true 1
+judged_by true false after before first second = judged false first
+judged_by false true after before first second = judged true second
+judged_by false false after before first second = none_open
+
+unfoldable pub verdict_of : (List ℕ → Option ℕ) → ℕ → Slot → Slot → Verdict
+verdict_of fault_at n first second =
+    judged_by (is_open first) (is_open second) (turn_of second == next_turn (turn_of first)) (turn_of first == next_turn (turn_of second)) (slot_fault fault_at n first) (slot_fault fault_at n second)
+
+-- no record; a record; or the number of the damaged slot, and the place in it
+pub data Reading : Type 0 where
+  no_content : Reading
+  holds : List ℕ → Reading
+  damaged : ℕ → ℕ → Reading
+
+abbrev pub number_of : Bool → ℕ
+number_of false = 0
+number_of true = 1
+
+abbrev pub seen_as : Verdict → Slot → Slot → Reading
+seen_as none_open first second = no_content
+seen_as (newer false) first second = holds (record_of first)
+seen_as (newer true) first second = holds (record_of second)
+seen_as (faulty slot at) first second = damaged (number_of slot) at
+
+-- slot 1, or slot 0
+abbrev pub chosen : Bool → Slot → Slot → Slot
+chosen false first second = first
+chosen true first second = second
+
+-- what these bytes are read as, under a grammar's place of the first fault
+unfoldable pub reading : (List ℕ → Option ℕ) → Area → List ℕ → Reading
+reading fault_at area c =
+    seen_as (verdict_of fault_at area.slot (slot_at area false c) (slot_at area true c)) (slot_at area false c) (slot_at area true c)
+
+-- the record is that of what was read at that moment, and so is all outside the area
+pub record IsLikeRead (area : Area) (start : DiskState) (c : List ℕ) : Type 0 where
+  pub read : List ℕ
+  pub told : start.seen ≡ Some read
+  pub same : recovered area c ≡ recovered area read
+  pub outside : Torn area.start (area.slot + area.slot) read c
+
+-- an image of that moment, or one like what was read then
+abbrev pub IsEntryOrLike : Area → DiskState → List ℕ → Type 0
+IsEntryOrLike area start c = start.image c ⊎ IsLikeRead area start c

@@ -1,0 +1,49 @@
+-- What callers see of a store: its record, and the bytes that it rests on.
+use Rattle.std.specs.Prelude.{◌≡◌, ◌⊎◌, ℕ, ◌+◌, ◌≤◌, Bool, List, Option}
+use Rattle.dr_disk.specs.Bytes.{Torn}
+use Rattle.dr_disk.specs.State.{DiskState}
+use Rattle.dr_disk.specs.Spans.{Frame, ReadsOutside}
+use Rattle.slot_store.specs.declared.area.Area.{Area}
+use Rattle.slot_store.specs.declared.store.SlotStore.{SlotStore}
+use Rattle.slot_store.specs.Slots.{Slot, content_of, recovered, turn_of}
+use Rattle.slot_store.specs.Layout.{IsLaidOut, IsPut, Mark}
+
+-- the store's current slot
+abbrev pub slot_of : SlotStore → Slot
+slot_of store = record { gate = store.gate; body = store.body.items }
+
+-- the record opened or put last
+unfoldable pub content : SlotStore → Option (List ℕ)
+content store = content_of (slot_of store)
+
+-- where that record lies
+unfoldable pub mark : SlotStore → Mark
+mark store = record { second = store.second; turn = turn_of (slot_of store) }
+
+-- the last put replaced a record, which retiring wipes
+unfoldable pub has_replaced : SlotStore → Bool
+has_replaced store = store.replaced
+
+-- these bytes are at rest for the store's record
+unfoldable pub Rests : SlotStore → List ℕ → Type 0
+Rests store c = IsLaidOut store.area (mark store) (content store) c
+
+-- these bytes have the store's record, which was put and not yet retired
+unfoldable pub Awaits : SlotStore → List ℕ → Type 0
+Awaits store c = IsPut store.area (mark store) (content store) (has_replaced store) c
+
+abbrev pub IsWithin : Area → DiskState → Type 0
+IsWithin area disk = area.start + (area.slot + area.slot) ≤ disk.size
+
+-- outside the area these bytes are those of an image of that moment
+abbrev pub KeepsOutside : Area → DiskState → List ℕ → Type 0
+KeepsOutside area start = Frame start area.start (area.slot + area.slot)
+
+-- outside the area a read gives what it gave
+abbrev pub ReadsOutsideArea : Area → DiskState → DiskState → Type 0
+ReadsOutsideArea area start now = ReadsOutside area.start (area.slot + area.slot) start now
+
+-- the record is the old one or the new one, and nothing outside the area has changed
+pub record IsOldOrNew (start : DiskState) (area : Area) (old new : Option (List ℕ)) (c : List ℕ) : Type 0 where
+  pub either : (recovered area c ≡ old) ⊎ (recovered area c ≡ new)
+  pub frame : KeepsOutside area start c

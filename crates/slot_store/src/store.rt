@@ -1,0 +1,191 @@
+//! A store that is open: its record is put into the slot that isn't current, and then the old slot is wiped.
+
+ghost use Rattle.std.specs.Prelude.{◌≡◌, ◌≢◌, ◌≤◌, ◌<◌, ◌+◌, ◌-◌, ℕ, Bool, false, length, replicate, slice_index, is_some, not, Option, IfErr, IsOk, OnOk, OnErr};
+ghost use Rattle.dr_base.specs.Causes.{Rose};
+ghost use Rattle.dr_disk.specs.State.{Always, Fate};
+ghost use Rattle.dr_disk.specs.Spans.{HavePassed, IsQuiet, Span};
+ghost use Rattle.slot_store.specs.Slots.{Comes, record_of, recovered, wiped};
+ghost use Rattle.slot_store.specs.Layout.{IsRecord, next_mark};
+ghost use Rattle.slot_store.specs.Stops.{IsStopped, calls_of, retiring};
+
+use crate::area::{Area, other_place, place};
+use crate::errors::StoreFault;
+use crate::layout::{lay_out_in, next_of, record_in};
+use dr_disk::{Disk, write_synced};
+
+/// The gate of an open slot.
+pub(crate) const OPEN: u8 = 0xa5;
+
+/// A store over an area of a disk, in memory that was taken at opening.
+#[derive(Drop)]
+pub struct SlotStore {
+    pub(crate) area: Area,
+    /// The current slot is slot 1.
+    pub(crate) second: bool,
+    /// The current slot: its gate, a5 or 0, and all behind it.
+    pub(crate) gate: u8,
+    pub(crate) body: Vec<u8>,
+    /// The last put replaced a record, which stands until it is retired.
+    pub(crate) replaced: bool,
+    pub(crate) zeros: Vec<u8>,
+    ghost zero: { zeros.items ≡ replicate (area.slot - 1) 0 },
+    ghost size: { length body.items + 1 ≡ area.slot },
+    ghost least: { 6 ≤ area.slot },
+    ghost ends: { area.start + (area.slot + area.slot) < 18446744073709551616 },
+    ghost laid: { gate ≡ 165 → IsRecord (record { gate = gate; body = body.items }) area.slot },
+    ghost blank: { gate ≢ 165 → record { gate = gate; body = body.items } ≡ wiped area.slot },
+}
+
+impl SlotStore {
+    ghost use Rattle.slot_store.specs.Store.{content, mark, has_replaced, Rests, Awaits, IsWithin, KeepsOutside, ReadsOutsideArea, IsOldOrNew, slot_of};
+    ghost use Rattle.slot_store.specs.Kept.{content_or_empty};
+
+    /// The record that was opened or put last; empty where there is none.
+    pub fn content(&self) -> &[u8]
+        ensures { result.now ≡ content_or_empty (content self.now) }
+    {
+        if self.gate != OPEN {
+            return &self.body[..0];
+        }
+        record_in(&self.body)
+    }
+
+    /// Lays out the slot that is to come.
+    fn stage(&mut self, text: &[u8])
+        requires { 6 + length text.now ≤ self.old.area.slot }
+        ensures area { self.new.area ≡ self.old.area }
+        ensures place { self.new.second ≡ not self.old.second }
+        ensures gate { self.new.gate ≡ 165 }
+        ensures size { length self.new.body.items ≡ length self.old.body.items }
+        ensures comes { Comes (slot_of self.old) (slot_of self.new) }
+        ensures text { record_of (slot_of self.new) ≡ text.now }
+        ensures holds { content self.new ≡ Option.Some text.now }
+        ensures mark { mark self.new ≡ next_mark (content self.old) (mark self.old) }
+        ensures replaced { has_replaced self.new ≡ is_some (content self.old) }
+    {
+        let _slot = self.area.slot;
+        let turn = next_of(self.gate, &self.body);
+        lay_out_in(&mut self.body, turn, text);
+        self.second = !self.second;
+        self.replaced = self.gate == OPEN;
+        self.gate = OPEN;
+    }
+
+    /// Puts a record into the slot that isn't current, behind a closed gate, and then opens the gate.
+    pub fn put<D: Disk>(&mut self, disk: &mut D, text: &[u8]) -> Result<(), StoreFault>
+        requires fits { 6 + length text.now ≤ self.old.area.slot }
+        requires within { IsWithin self.old.area (D.state disk.old) }
+        requires at_rest { Always (Rests self.old) (D.state disk.old) }
+
+        // Each crash meanwhile leaves the old record or the new; once it is done, the new one.
+        ensures any_moment { Span (D.state disk.old) (D.state disk.new)
+            (IsOldOrNew (D.state disk.old) self.old.area (content self.old) (Option.Some text.now)) }
+        ensures done { OnOk result (Always (λ c. Awaits self.new c
+            × (recovered self.new.area c ≡ Option.Some text.now)
+            × KeepsOutside self.old.area (D.state disk.old) c) (D.state disk.new)) }
+        ensures reads { ReadsOutsideArea self.old.area (D.state disk.old) (D.state disk.new) }
+        ensures holds { OnOk result (content self.new ≡ Option.Some text.now) }
+        ensures mark { mark self.new ≡ next_mark (content self.old) (mark self.old) }
+        ensures replaced { has_replaced self.new ≡ is_some (content self.old) }
+        ensures same { self.new.area ≡ self.old.area }
+
+        // Which calls passed, and what stands where one failed.
+        ensures passed { OnOk result (HavePassed 4 (D.state disk.old) (D.state disk.new)) }
+        ensures stopped { OnErr result (IsStopped self.old.area (content self.old) (Option.Some text.now)
+            (D.state disk.old) (D.state disk.new)) }
+        ensures ended { OnErr result ((n : ℕ) →
+            (D.state disk.old).fate ≡ Fate.some_pass n → (D.state disk.new).fate ≡ Fate.some_pass 0) }
+        ensures few { OnErr result ((l m : ℕ) → (D.state disk.old).passed ≡ Option.Some l →
+            (D.state disk.new).passed ≡ Option.Some m → m < l + 4) }
+        ensures fate { (D.state disk.old).fate ≡ Fate.all_pass → IsOk result × ((D.state disk.new).fate ≡ Fate.all_pass) }
+        ensures fault { IfErr result (λ e. Rose ((D.state disk.old).faults e.call) ((D.state disk.new).faults e.call)) }
+        ensures quiet { OnOk result (IsQuiet (D.state disk.old) (D.state disk.new)) }
+    {
+        self.stage(text);
+        let place = place(self.area, self.second);
+        if let Err(call) = write_synced(disk, place + 1, &self.body) {
+            return Err(StoreFault { call });
+        }
+        if let Err(call) = write_synced(disk, place, &[OPEN]) {
+            return Err(StoreFault { call });
+        }
+        Ok(())
+    }
+
+    /// Closes the gate of the slot whose record was replaced, if there is one, and then wipes all behind it.
+    pub fn retire<D: Disk>(&mut self, disk: &mut D) -> Result<(), StoreFault>
+        requires within { IsWithin self.old.area (D.state disk.old) }
+        requires awaits { Always (Awaits self.old) (D.state disk.old) }
+
+        // Each crash meanwhile leaves the record; once it is done, the area is at rest.
+        ensures any_moment { Span (D.state disk.old) (D.state disk.new)
+            (λ c. (recovered self.old.area c ≡ content self.old)
+            × KeepsOutside self.old.area (D.state disk.old) c) }
+        ensures at_rest { OnOk result (Always (λ c. Rests self.new c
+            × (recovered self.new.area c ≡ content self.new)
+            × KeepsOutside self.old.area (D.state disk.old) c) (D.state disk.new)) }
+        ensures reads { ReadsOutsideArea self.old.area (D.state disk.old) (D.state disk.new) }
+        ensures same { self.new ≡ self.old }
+
+        // Which calls passed. No image has another record where one failed.
+        ensures passed { OnOk result (HavePassed (retiring (has_replaced self.old)) (D.state disk.old) (D.state disk.new)) }
+        ensures ended { OnErr result ((n : ℕ) →
+            (D.state disk.old).fate ≡ Fate.some_pass n → (D.state disk.new).fate ≡ Fate.some_pass 0) }
+        ensures few { OnErr result ((l m : ℕ) → (D.state disk.old).passed ≡ Option.Some l →
+            (D.state disk.new).passed ≡ Option.Some m → m < l + retiring (has_replaced self.old)) }
+        ensures fate { (D.state disk.old).fate ≡ Fate.all_pass → IsOk result × ((D.state disk.new).fate ≡ Fate.all_pass) }
+        ensures fault { IfErr result (λ e. Rose ((D.state disk.old).faults e.call) ((D.state disk.new).faults e.call)) }
+        ensures quiet { OnOk result (IsQuiet (D.state disk.old) (D.state disk.new)) }
+    {
+        if !self.replaced {
+            return Ok(());
+        }
+        let place = other_place(self.area, self.second);
+        if let Err(call) = write_synced(disk, place, &[0]) {
+            return Err(StoreFault { call });
+        }
+        if let Err(call) = write_synced(disk, place + 1, &self.zeros) {
+            return Err(StoreFault { call });
+        }
+        Ok(())
+    }
+
+    /// Replaces the record: a put, and then a retire.
+    pub fn replace<D: Disk>(&mut self, disk: &mut D, text: &[u8]) -> Result<(), StoreFault>
+        requires fits { 6 + length text.now ≤ self.old.area.slot }
+        requires within { IsWithin self.old.area (D.state disk.old) }
+        requires at_rest { Always (Rests self.old) (D.state disk.old) }
+
+        // Each crash meanwhile leaves the old record or the new; once it is done, the area is at rest.
+        ensures any_moment { Span (D.state disk.old) (D.state disk.new)
+            (IsOldOrNew (D.state disk.old) self.old.area (content self.old) (Option.Some text.now)) }
+        ensures done { OnOk result (Always (λ c. Rests self.new c
+            × (recovered self.new.area c ≡ Option.Some text.now)
+            × KeepsOutside self.old.area (D.state disk.old) c) (D.state disk.new)) }
+        ensures reads { ReadsOutsideArea self.old.area (D.state disk.old) (D.state disk.new) }
+        ensures holds { OnOk result (content self.new ≡ Option.Some text.now) }
+        ensures mark { mark self.new ≡ next_mark (content self.old) (mark self.old) }
+        ensures same { self.new.area ≡ self.old.area }
+
+        // Which calls passed, and what stands where one failed.
+        ensures passed { OnOk result (HavePassed (calls_of (content self.old) (Option.Some text.now))
+            (D.state disk.old) (D.state disk.new)) }
+        ensures stopped { OnErr result (IsStopped self.old.area (content self.old) (Option.Some text.now)
+            (D.state disk.old) (D.state disk.new)) }
+        ensures ended { OnErr result ((n : ℕ) →
+            (D.state disk.old).fate ≡ Fate.some_pass n → (D.state disk.new).fate ≡ Fate.some_pass 0) }
+        ensures few { OnErr result ((l m : ℕ) → (D.state disk.old).passed ≡ Option.Some l →
+            (D.state disk.new).passed ≡ Option.Some m → m < l + calls_of (content self.old) (Option.Some text.now)) }
+        ensures fate { (D.state disk.old).fate ≡ Fate.all_pass → IsOk result × ((D.state disk.new).fate ≡ Fate.all_pass) }
+        ensures fault { IfErr result (λ e. Rose ((D.state disk.old).faults e.call) ((D.state disk.new).faults e.call)) }
+        ensures quiet { OnOk result (IsQuiet (D.state disk.old) (D.state disk.new)) }
+    {
+        if let Err(fault) = self.put(disk, text) {
+            return Err(fault);
+        }
+        if let Err(fault) = self.retire(disk) {
+            return Err(fault);
+        }
+        Ok(())
+    }
+}
