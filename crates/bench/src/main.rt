@@ -1,5 +1,5 @@
 //! Measures the messenger: medians of many runs. The word `run` measures the path of a text, the word `ring` the
-//! arithmetic of the key encapsulation. Without a word it prints one fixed line.
+//! arithmetic of the key encapsulation and a turn, the word `store` a record on a file. Without a word it prints one fixed line.
 #![tactic(auto)]
 
 use dr_ports::NullSink;
@@ -7,9 +7,13 @@ use std::{env, io};
 
 mod cipher;
 mod clock;
+mod mechanism;
 mod message;
+mod relay;
 mod ring;
 mod script;
+mod store;
+mod turn;
 
 fn main(rt: HostRuntime) -> io::Result<()> {
     let mut args = env::args(&rt)?;
@@ -18,9 +22,15 @@ fn main(rt: HostRuntime) -> io::Result<()> {
         Some(word) if word.as_str() == "run" => {
             cipher::report(&rt)?;
             message::report(&rt)?;
+            relay::report(&rt)?;
             script::report(&rt, &mut NullSink::new())
         }
-        Some(word) if word.as_str() == "ring" => ring::report(&rt),
-        _ => println!(rt; "bench: give the word run or ring, and wait some seconds"),
+        Some(word) if word.as_str() == "ring" => {
+            ring::report(&rt)?;
+            mechanism::report(&rt)?;
+            turn::report(&rt)
+        }
+        Some(word) if word.as_str() == "store" => store::report(&rt),
+        _ => println!(rt; "bench: give the word run, ring or store, and wait some seconds"),
     }
 }

@@ -57,6 +57,30 @@ fn time_product<R: Clock + AllocGlobal>(rt: &R, f: &Rq) -> io::Result<u64> {
     Ok(times.median()? / 1000)
 }
 
+/// The median time of a product in R/q with a small factor, each of the one before.
+fn time_small_product<R: Clock + AllocGlobal>(rt: &R, f: &Rq, g: &R3) -> io::Result<u64> {
+    let mut product = *f;
+    let mut times = Times::new(rt.alloc());
+    for _ in 0..RUNS {
+        let start = Instant::now(rt)?;
+        product = product.mul_small(g);
+        times.add(rt, start)?;
+    }
+    Ok(times.median()? / 1000)
+}
+
+/// The median time of a product in R/3, each of the one before.
+fn time_product3<R: Clock + AllocGlobal>(rt: &R, g: &R3) -> io::Result<u64> {
+    let mut product = *g;
+    let mut times = Times::new(rt.alloc());
+    for _ in 0..RUNS {
+        let start = Instant::now(rt)?;
+        product = product.mul(g);
+        times.add(rt, start)?;
+    }
+    Ok(times.median()? / 1000)
+}
+
 /// Prints a line for each.
 pub fn report<R: Clock + Print + AllocGlobal>(rt: &R) -> io::Result<()> {
     let g = element();
@@ -65,7 +89,10 @@ pub fn report<R: Clock + Print + AllocGlobal>(rt: &R) -> io::Result<()> {
     let in_q = time_inverse_q(rt, &mut work, &f)?;
     let in_three = time_inverse3(rt, &mut work, &g)?;
     let product = time_product(rt, &f)?;
+    let small = time_small_product(rt, &f, &g)?;
+    let three = time_product3(rt, &g)?;
+    println!(rt; "an inverse in R/q: {in_q} us, in R/3: {in_three} us")?;
     println!(rt;
-        "an inverse in R/q: {in_q} us, in R/3: {in_three} us; a product in R/q: {product} us"
+        "a product in R/q: {product} us, with a small factor: {small} us, in R/3: {three} us"
     )
 }

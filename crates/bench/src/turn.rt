@@ -1,0 +1,154 @@
+//! A text that one side says and the other takes, in memory: in an epoch, and with a turn.
+
+ghost use Rattle.std.specs.Prelude.{◌≡◌, is_some};
+
+use crate::clock::Times;
+use arrayvec::ArrayVec;
+use boxes::{Inbox, Outbox};
+use cka::agreement_length;
+use dr_base::{Key32, PACKET_LIMIT, Side, in_room};
+use kem_laws::{Kem, OpenKem};
+use packet::parse;
+use ratchet::Session;
+use sntrup761::Sntrup761;
+use std::alloc::{AllocError, Global};
+use std::io;
+use std::io::{Error, ErrorKind};
+use std::rt::Clock;
+use std::time::Instant;
+
+/// How often each thing is measured.
+const RUNS: usize = 201;
+
+/// A packet in room of its own.
+type Packet = ArrayVec<u8, PACKET_LIMIT>;
+
+/// One side: its session and its boxes.
+#[derive(Drop)]
+struct Party<K: Kem> {
+    session: Session<K>,
+    inbox: Inbox,
+    outbox: Outbox,
+}
+
+/// A seed of equal bytes, if one is asked for.
+fn seed_of(asked: bool, byte: u8) -> Option<Key32>
+    ensures { is_some result ≡ asked }
+{
+    if asked {
+        Some(Key32 { bytes: [byte; 32] })
+    } else {
+        None
+    }
+}
+
+/// A side at the beginning of a conversation, if the key has a pair.
+fn begun<K: Kem>(
+    alloc: Global,
+    work: &mut K::Work,
+    side: Side,
+) -> Result<Option<Party<K>>, AllocError> {
+    let inbox = Inbox::new(alloc)?;
+    let outbox = Outbox::new(alloc)?;
+    match Session::begin(work, side, &Key32 { bytes: [7; 32] }) {
+        Err(_) => Ok(None),
+        Ok(session) => Ok(Some(Party {
+            session,
+            inbox,
+            outbox,
+        })),
+    }
+}
+
+/// A side says a text of 100 bytes, and sends its packet.
+fn say<K: Kem>(party: &mut Party<K>, work: &mut K::Work, byte: u8) -> Option<Packet> {
+    let Ok(asked) = party.session.send_check(100) else {
+        return None;
+    };
+    let seed = seed_of(asked, byte);
+    match party.session.draft_send(work, &[byte; 100], seed) {
+        Err(_) => None,
+        Ok(draft) => {
+            let packet = in_room(draft.packet());
+            let _pushed = party.outbox.push(draft.position(), draft.packet());
+            draft.accept(&mut party.session);
+            let _sent = party.outbox.drop_first(1);
+            Some(packet)
+        }
+    }
+}
+
+/// The other side takes the packet, and is done with its text.
+fn take<K: Kem>(party: &mut Party<K>, work: &mut K::Work, packet: &Packet) -> bool {
+    match parse(packet.as_slice(), agreement_length::<K>()) {
+        Err(_) => false,
+        Ok(view) => match party.session.draft_receive(work, &view) {
+            Err(_) => false,
+            Ok(draft) => {
+                let _pushed = party.inbox.push(draft.position(), draft.text());
+                draft.accept(&mut party.session);
+                let _done = party.inbox.drop_first(1);
+                true
+            }
+        },
+    }
+}
+
+/// Both sides at the beginning of a conversation.
+fn parties<K: Kem>(alloc: Global, work: &mut K::Work) -> io::Result<(Party<K>, Party<K>)> {
+    let first = begun(alloc, work, Side::First)?;
+    let second = begun(alloc, work, Side::Second)?;
+    match (first, second) {
+        (Some(first), Some(second)) => Ok((first, second)),
+        _ => Err(Error::from(ErrorKind::InvalidData)),
+    }
+}
+
+/// The median time of a text in an epoch, said by one side and taken by the other, in nanoseconds.
+fn time_text<K: Kem, R: Clock + AllocGlobal>(rt: &R, work: &mut K::Work) -> io::Result<u64> {
+    let (mut first, mut second) = parties::<K>(rt.alloc(), work)?;
+    let mut times = Times::new(rt.alloc());
+    for _ in 0..RUNS {
+        let start = Instant::now(rt)?;
+        if let Some(packet) = say(&mut second, work, 1) {
+            let _taken = take(&mut first, work, &packet);
+        }
+        times.add(rt, start)?;
+    }
+    times.median()
+}
+
+/// The median time of a text that begins an epoch, said by one side and taken by the other, in nanoseconds.
+fn time_turn<K: Kem, R: Clock + AllocGlobal>(rt: &R, work: &mut K::Work) -> io::Result<u64> {
+    let (mut first, mut second) = parties::<K>(rt.alloc(), work)?;
+    let mut times = Times::new(rt.alloc());
+    for run in 0..RUNS {
+        let byte = (run % 128) as u8;
+        let start = Instant::now(rt)?;
+        let packet = if run % 2 == 0 {
+            say(&mut first, work, byte)
+        } else {
+            say(&mut second, work, byte)
+        };
+        if let Some(packet) = packet {
+            let _taken = if run % 2 == 0 {
+                take(&mut second, work, &packet)
+            } else {
+                take(&mut first, work, &packet)
+            };
+        }
+        times.add(rt, start)?;
+    }
+    times.median()
+}
+
+/// Prints a line for each.
+pub fn report<R: Clock + Print + AllocGlobal>(rt: &R) -> io::Result<()> {
+    let mut work = Sntrup761::work(rt.alloc())?;
+    let text = time_text::<OpenKem, R>(rt, &mut ())?;
+    let stand_in = time_turn::<OpenKem, R>(rt, &mut ())?;
+    let turn = time_turn::<Sntrup761, R>(rt, &mut work)?;
+    println!(rt;
+        "said and taken: a text in an epoch {text} ns; a turn {stand_in} ns with the stand-in, {turn} ns with sntrup761"
+    )
+}
