@@ -6,7 +6,7 @@ ghost use Rattle.cka.specs.Agreement.{agreement_size, turn_of};
 
 use crate::holder::Holder;
 use crate::texts::{Agreement, PublicText, append};
-use dr_base::{Key32, in_room};
+use dr_base::{CIPHERTEXT_LIMIT, Key32, PUBLIC_LIMIT, SECRET_LIMIT, in_room};
 use kem_laws::{Kem, NoPair, laws};
 use std::marker::{Model, PhantomData};
 
@@ -63,8 +63,8 @@ impl<K: Kem> Caller<K> {
             public: held,
             mechanism,
         } = self;
-        let mut public = [0; 1158];
-        let mut secret = [0; 1763];
+        let mut public = [0; PUBLIC_LIMIT];
+        let mut secret = [0; SECRET_LIMIT];
         match K::pair(
             work,
             seed,
@@ -72,7 +72,7 @@ impl<K: Kem> Caller<K> {
             &mut secret[..K::SECRET],
         ) {
             Ok(()) => {
-                let mut ciphertext = [0; 1039];
+                let mut ciphertext = [0; CIPHERTEXT_LIMIT];
                 let key = K::encap(
                     work,
                     held.as_slice(),

@@ -3,15 +3,16 @@
 ghost use Rattle.std.specs.Prelude.{◌≡◌, ◌+◌, ◌≤◌, ◌++◌, length};
 
 use arrayvec::ArrayVec;
+use dr_base::{AGREEMENT_LIMIT, PUBLIC_LIMIT, SECRET_LIMIT};
 
 /// A public key, in room for that of any mechanism.
-pub type PublicText = ArrayVec<u8, 1158>;
+pub type PublicText = ArrayVec<u8, PUBLIC_LIMIT>;
 
 /// A secret, in room for that of any mechanism.
-pub type SecretText = ArrayVec<u8, 1763>;
+pub type SecretText = ArrayVec<u8, SECRET_LIMIT>;
 
 /// A message: a ciphertext, and after it a public key for the answer.
-pub type Agreement = ArrayVec<u8, 2197>;
+pub type Agreement = ArrayVec<u8, AGREEMENT_LIMIT>;
 
 /// Appends bytes that have room.
 pub(crate) fn append<const N: usize>(text: &mut ArrayVec<u8, N>, bytes: &[u8])

@@ -2,13 +2,14 @@
 
 ghost use Rattle.std.specs.Prelude.{◌≡◌, ◌≤◌};
 ghost use Rattle.cka.specs.Agreement.{Agrees, agreement_size};
+ghost use Rattle.dr_base.specs.declared.limits.TheConstants.{AGREEMENT_LIMIT};
 
 use kem_laws::{Kem, laws};
 
 /// How long an agreement message is, in bytes: a ciphertext and a public key.
 pub fn agreement_length<K: Kem>() -> usize
     ensures value { result ≡ agreement_size K.mechanism }
-    ensures fits { result ≤ 2197 }
+    ensures fits { result ≤ AGREEMENT_LIMIT }
 {
     laws::<K>();
     K::CIPHERTEXT + K::PUBLIC

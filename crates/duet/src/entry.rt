@@ -6,7 +6,7 @@ ghost use Rattle.duet.specs.Replies.{entry_line, escaped, is_plain};
 
 use crate::reply::{put_position, side_name};
 use arrayvec::ArrayVec;
-use dr_base::{Position, Side};
+use dr_base::{Position, Side, TEXT_LIMIT};
 use dr_ports::OutputLine;
 
 /// The line of a text: each of its 1,024 bytes takes four at most.
@@ -39,7 +39,7 @@ fn put_escaped(line: &mut EntryLine, byte: u8)
 /// The line of a text in a side's inbox.
 #[tactic(auto, unfolding(crate::specs::Replies::entry_line))]
 pub fn entry_line(side: Side, position: Position, text: &[u8]) -> EntryLine
-    requires { length text.now ≤ 1024 }
+    requires { length text.now ≤ TEXT_LIMIT }
     ensures { result.items ≡ entry_line side (item_at position text.now) }
 {
     let mut head = OutputLine::new();

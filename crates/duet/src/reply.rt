@@ -76,7 +76,7 @@ pub fn put_refusal(line: &mut OutputLine, refusal: Refusal)
         Refusal::Malformed(fault) => put_fault(line, fault),
         Refusal::OtherSession => line.text(b"OtherSession"),
         Refusal::OwnPacket(epoch) => put_named(line, b"OwnPacket ", u64::from(epoch)),
-        Refusal::Ahead(epoch, reached) => {
+        Refusal::Ahead { epoch, reached } => {
             put_named(line, b"Ahead ", u64::from(epoch));
             put_named(line, b" ", u64::from(reached));
         }
@@ -84,7 +84,7 @@ pub fn put_refusal(line: &mut OutputLine, refusal: Refusal)
             line.text(b"Spent ");
             put_position(line, position);
         }
-        Refusal::Count(claimed, known) => {
+        Refusal::Count { claimed, known } => {
             put_named(line, b"Count ", u64::from(claimed));
             put_named(line, b" ", u64::from(known));
         }

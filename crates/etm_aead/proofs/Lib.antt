@@ -1,4 +1,1 @@
 mod Difference
-pub mod Places
-pub mod Tables
-pub mod Streams

@@ -1,5 +1,3 @@
-pub mod Chain
 pub mod Seal
 pub mod Aead
 pub mod Undoing
-pub mod Table

@@ -3,6 +3,7 @@
 ghost use Rattle.std.specs.Prelude.{◌≡◌, take, drop};
 ghost use Rattle.etm_aead.specs.Seal.{cipher_key_of, message_keys, nonce_of, tag_key_of};
 
+use dr_base::array_at;
 use hmac_hkdf::expand_into;
 
 // The label of this use of the message key.
@@ -22,13 +23,11 @@ fn split(bytes: &[u8; 76]) -> MessageKeys
     ensures tag { result.tag ≡ take 32 (drop 32 bytes.now) }
     ensures nonce { result.nonce ≡ take 12 (drop 64 bytes.now) }
 {
-    let mut cipher = [0; 32];
-    cipher.copy_from_slice(&bytes[..32]);
-    let mut tag = [0; 32];
-    tag.copy_from_slice(&bytes[32..64]);
-    let mut nonce = [0; 12];
-    nonce.copy_from_slice(&bytes[64..76]);
-    MessageKeys { cipher, tag, nonce }
+    MessageKeys {
+        cipher: array_at(bytes, 0),
+        tag: array_at(bytes, 32),
+        nonce: array_at(bytes, 64),
+    }
 }
 
 // The keys of the message with this key.

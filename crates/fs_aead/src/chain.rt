@@ -1,7 +1,7 @@
 //! One step of a chain of keys.
 
 ghost use Rattle.std.specs.Prelude.{◌≡◌};
-ghost use Rattle.etm_aead.specs.Chain.{chain_message_key, next_chain};
+ghost use Rattle.fs_aead.specs.Chain.{chain_message_key, next_chain};
 
 use dr_base::Key32;
 use hmac_hkdf::KeyedMac;
@@ -14,7 +14,7 @@ pub struct NextKeys {
 }
 
 // The step that spends a chain key, which is hashed once for both keys.
-#[tactic(auto, unfolding(etm_aead::specs::Chain::next_chain, etm_aead::specs::Chain::chain_message_key))]
+#[tactic(auto, unfolding(crate::specs::Chain::next_chain, crate::specs::Chain::chain_message_key))]
 pub fn step(chain: Key32) -> NextKeys
     ensures chain { result.chain.bytes ≡ next_chain chain.bytes }
     ensures message { result.message.bytes ≡ chain_message_key chain.bytes }

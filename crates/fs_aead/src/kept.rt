@@ -1,19 +1,16 @@
 //! The keys that were passed over, in an array of fixed room: copied, counted, and taken out in place.
 
 ghost use Rattle.std.specs.Prelude.{◌≡◌, ◌+◌, ◌^◌, ◌<◌, ◌≤◌, ◌↔◌, length, IsOk, IfErr, IfNone, position as position_of};
-ghost use Rattle.etm_aead.specs.Table.{IsAscending, is_at, kept_key, without};
+ghost use Rattle.fs_aead.specs.Table.{IsAscending, is_kept_at, kept_key, without};
 
 use arrayvec::ArrayVec;
-use dr_base::{Kept, Key32, Position};
+use dr_base::{KEPT_LIMIT, Kept, Key32, Position};
 use etm_aead::OpenKey;
 use thiserror::Error;
 
-/// How many keys have room.
-const LIMIT: usize = 256;
-
-/// Too many keys were passed: `would` is how many there would be in a table with room for 256.
+/// Too many keys were passed: `would` is how many there would be in the table, which has room for `KEPT_LIMIT`.
 #[derive(Clone, Copy, Debug, PartialEq, Eq, Error)]
-#[error("{would} keys would be kept, more than 256")]
+#[error("{would} keys would be kept, more than {KEPT_LIMIT}")]
 pub struct SkipLimit {
     pub would: u32,
 }
@@ -31,8 +28,8 @@ fn copied(kept: &Kept) -> Kept
 }
 
 /// Makes a table a copy of these keys, in its own room. What stood in it is gone.
-pub fn copy_keys_into(keys: &[Kept], table: &mut ArrayVec<Kept, 256>)
-    requires { length keys.now ≤ 256 }
+pub fn copy_keys_into(keys: &[Kept], table: &mut ArrayVec<Kept, KEPT_LIMIT>)
+    requires { length keys.now ≤ KEPT_LIMIT }
     ensures { table.new.items ≡ keys.now }
 {
     table.clear();
@@ -42,8 +39,8 @@ pub fn copy_keys_into(keys: &[Kept], table: &mut ArrayVec<Kept, 256>)
 }
 
 /// A second copy of kept keys. It fills the whole room of a table once; `copy_keys_into` does not.
-pub fn copy_of_keys(keys: &[Kept]) -> ArrayVec<Kept, 256>
-    requires { length keys.now ≤ 256 }
+pub fn copy_of_keys(keys: &[Kept]) -> ArrayVec<Kept, KEPT_LIMIT>
+    requires { length keys.now ≤ KEPT_LIMIT }
     ensures { result.items ≡ keys.now }
 {
     let mut copy = ArrayVec::new();
@@ -54,11 +51,11 @@ pub fn copy_of_keys(keys: &[Kept]) -> ArrayVec<Kept, 256>
 /// Whether `n` more keys have room beside these.
 pub fn room_for(keys: &[Kept], n: u32) -> Result<(), SkipLimit>
     requires { length keys.now + n < 2 ^ 32 }
-    ensures ok { IsOk result ↔ (length keys.now + n ≤ 256) }
+    ensures ok { IsOk result ↔ (length keys.now + n ≤ KEPT_LIMIT) }
     ensures err { IfErr result (λ limit. limit.would ≡ length keys.now + n) }
 {
     let would = keys.len() as u32 + n;
-    if would as usize > LIMIT {
+    if would as usize > KEPT_LIMIT {
         return Err(SkipLimit { would });
     }
     Ok(())
@@ -66,7 +63,7 @@ pub fn room_for(keys: &[Kept], n: u32) -> Result<(), SkipLimit>
 
 /// Where the key of a position stands.
 fn place_of(keys: &[Kept], position: Position) -> Option<usize>
-    ensures { result ≡ position_of (is_at position) keys.now }
+    ensures { result ≡ position_of (is_kept_at position) keys.now }
 {
     keys.iter().position(|kept| {
         kept.position.epoch == position.epoch && kept.position.index == position.index
@@ -74,7 +71,7 @@ fn place_of(keys: &[Kept], position: Position) -> Option<usize>
 }
 
 /// Takes the key of a position out of a table, if it is kept there. Only the keys after it move.
-pub fn take_key(table: &mut ArrayVec<Kept, 256>, position: Position) -> Option<OpenKey>
+pub fn take_key(table: &mut ArrayVec<Kept, KEPT_LIMIT>, position: Position) -> Option<OpenKey>
     requires { IsAscending table.old.items }
     ensures key { result ≡ kept_key table.old.items position }
     ensures rest { table.new.items ≡ without table.old.items position }

@@ -4,8 +4,8 @@
 ghost use Rattle.std.specs.Prelude.{◌≡◌, ◌≢◌, ℕ, ◌+◌, List, ◌++◌, length, Some, None, Contains, IsSome};
 ghost use Rattle.dr_base.specs.declared.key.Kept.{Kept};
 ghost use Rattle.dr_base.specs.declared.position.Position.{Position};
-ghost use Rattle.etm_aead.specs.Chain.{chain_message_key, chain_of, message_key, next_chain};
-ghost use Rattle.etm_aead.specs.Table.{AllBefore, IsAscending, kept_key, shelved, without};
+ghost use Rattle.fs_aead.specs.Chain.{chain_message_key, chain_of, message_key, next_chain};
+ghost use Rattle.fs_aead.specs.Table.{AllBefore, IsAscending, kept_key, shelved, without};
 
 /// By these, the n-th `next` of a stream gives the message key of the index n. A stream that was resumed
 /// after m steps goes on as the whole one.

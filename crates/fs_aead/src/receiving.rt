@@ -1,13 +1,13 @@
 //! The stream of the keys that open.
 
 ghost use Rattle.std.specs.Prelude.{◌≡◌, ℕ, ◌+◌, ◌-◌, ◌^◌, ◌<◌, ◌≤◌, ◌++◌, length};
-ghost use Rattle.etm_aead.specs.Chain.{chain_message_key, chain_of, next_chain};
-ghost use Rattle.etm_aead.specs.Table.{AllBefore, shelved};
+ghost use Rattle.fs_aead.specs.Chain.{chain_message_key, chain_of, next_chain};
+ghost use Rattle.fs_aead.specs.Table.{AllBefore, shelved};
 
 use crate::chain::step;
 use crate::table::Skipped;
 use arrayvec::ArrayVec;
-use dr_base::{Kept, Key32, Position};
+use dr_base::{KEPT_LIMIT, Kept, Key32, Position};
 use etm_aead::OpenKey;
 use std::marker::Model;
 
@@ -56,7 +56,7 @@ impl ReceiveStream {
     /// the stream after them. `Skipped::room_for` tells whether they have room.
     pub fn advance(self, epoch: u32, skipped: &mut Skipped, to: u32) -> ReceiveStream
         requires from { self.count ≤ to }
-        requires room { length skipped.old + (to - self.count) ≤ 256 }
+        requires room { length skipped.old + (to - self.count) ≤ KEPT_LIMIT }
         requires below { AllBefore skipped.old (record { epoch = epoch; index = self.count + 1 }) }
         ensures stream { result ≡ record { chain = chain_of self.chain (to - self.count); count = to } }
         ensures shelved { skipped.new ≡ skipped.old ++ shelved epoch self.chain self.count (to - self.count) }
@@ -67,9 +67,9 @@ impl ReceiveStream {
     /// As `advance`, in a table that stands in a larger value. `room_for` tells whether the keys have room. Where the
     /// table ascends and its positions come before that of the first key, it ascends afterwards too, by
     /// `passed_keys_ascend`.
-    pub fn advance_into(self, epoch: u32, table: &mut ArrayVec<Kept, 256>, to: u32) -> ReceiveStream
+    pub fn advance_into(self, epoch: u32, table: &mut ArrayVec<Kept, KEPT_LIMIT>, to: u32) -> ReceiveStream
         requires from { self.count ≤ to }
-        requires room { length table.old.items + (to - self.count) ≤ 256 }
+        requires room { length table.old.items + (to - self.count) ≤ KEPT_LIMIT }
         ensures stream { result ≡ record { chain = chain_of self.chain (to - self.count); count = to } }
         ensures shelved { table.new.items ≡ table.old.items ++ shelved epoch self.chain self.count (to - self.count) }
     {

@@ -1,7 +1,7 @@
 //! The stream of the keys that seal.
 
 ghost use Rattle.std.specs.Prelude.{◌≡◌, ℕ, ◌+◌, ◌-◌, ◌^◌, ◌<◌};
-ghost use Rattle.etm_aead.specs.Chain.{chain_message_key, next_chain};
+ghost use Rattle.fs_aead.specs.Chain.{chain_message_key, next_chain};
 
 use crate::chain::step;
 use dr_base::Key32;

@@ -1,27 +1,27 @@
 //! The table of the keys that were passed over.
 
 ghost use Rattle.std.specs.Prelude.{◌≡◌, ◌+◌, ◌^◌, ◌<◌, ◌≤◌, ◌↔◌, [], length, IsTrue, IsOk, IfErr, IfNone};
-ghost use Rattle.etm_aead.specs.Table.{IsAscending, kept_key, without};
+ghost use Rattle.fs_aead.specs.Table.{IsAscending, kept_key, without};
 
 use crate::kept::{SkipLimit, copy_of_keys, room_for, take_key};
 use arrayvec::ArrayVec;
-use dr_base::{Kept, Position};
+use dr_base::{KEPT_LIMIT, Kept, Position};
 use etm_aead::OpenKey;
 use std::marker::Model;
 
 /// The keys that were passed over, each for a text that is still to come. A contract sees the list of them,
 /// which ascends by epoch and index.
 ///
-/// It has room for 256 keys, in the value itself: it allocates nothing.
+/// It has room for `KEPT_LIMIT` keys, in the value itself: it allocates nothing.
 #[derive(Drop)]
 pub struct Skipped {
-    pub(crate) keys: ArrayVec<Kept, 256>,
+    pub(crate) keys: ArrayVec<Kept, KEPT_LIMIT>,
 }
 
 impl Model for Skipped {
     ghost use Rattle.std.specs.Prelude.{List};
     ghost use Rattle.dr_base.specs.declared.key.Kept.{Kept};
-    ghost use Rattle.etm_aead.specs.Table.{IsAscending};
+    ghost use Rattle.fs_aead.specs.Table.{IsAscending};
 
     ghost Value = { List Kept };
 
@@ -51,7 +51,7 @@ impl Skipped {
     /// The table of these keys.
     pub fn resume(keys: &[Kept]) -> Skipped
         requires ascending { IsAscending keys.now }
-        requires room { length keys.now ≤ 256 }
+        requires room { length keys.now ≤ KEPT_LIMIT }
         ensures { result ≡ keys.now }
     {
         Skipped {
@@ -63,7 +63,7 @@ impl Skipped {
     pub fn kept(&self) -> &[Kept]
         ensures keys { result.now ≡ self.now }
         ensures ascending { IsAscending self.now }
-        ensures room { length self.now ≤ 256 }
+        ensures room { length self.now ≤ KEPT_LIMIT }
     {
         self.keys.as_slice()
     }
@@ -71,7 +71,7 @@ impl Skipped {
     /// How many keys are kept.
     pub fn len(&self) -> usize
         ensures value { result ≡ length self.now }
-        ensures room { result ≤ 256 }
+        ensures room { result ≤ KEPT_LIMIT }
     {
         self.keys.len()
     }
@@ -86,7 +86,7 @@ impl Skipped {
     /// Whether `n` more keys have room.
     pub fn room_for(&self, n: u32) -> Result<(), SkipLimit>
         requires { length self.now + n < 2 ^ 32 }
-        ensures ok { IsOk result ↔ (length self.now + n ≤ 256) }
+        ensures ok { IsOk result ↔ (length self.now + n ≤ KEPT_LIMIT) }
         ensures err { IfErr result (λ limit. limit.would ≡ length self.now + n) }
     {
         room_for(self.kept(), n)

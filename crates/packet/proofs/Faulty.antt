@@ -2,7 +2,7 @@
 use Rattle.std.proofs.Common.{◌≡◌, ℕ, ◌+◌, ◌^◌, ◌<◌, true, List, [], ◌∷◌, ◌++◌, length, Err, refl, sym, ap, subst, ◌∙◌, arith}
 use Rattle.std.specs.Prelude.{nat_eq, get_or}
 use Rattle.std.specs.Int.{w8, w16, w32, to_be_bytes}
-use Rattle.std.proofs.lemmas.Bool.{ltb-true, lt-ltb, eqb-true, eq-eqb}
+use Rattle.std.proofs.lemmas.Bool.{leb-true, le-leb, eqb-true, eq-eqb}
 use Rattle.packet.specs.declared.fault.Kind.TheVariants.{Version, Epoch, Previous, Index, Agreement, Text}
 use Rattle.packet.specs.declared.fault.Malformed.{Malformed}
 use Rattle.packet.specs.Packet.{AreBytes, agreement_len}
@@ -112,12 +112,12 @@ fault_is_first agreement bytes fault small e =
     by_fault (lawful w32 17 Epoch is_epoch session.1) _ fault e2
     (λ here. number_fault agreement bytes 2 17 _ session.1 w32 (2 ^ 32) Epoch is_epoch fault (λ g. g.epoch) s2
     (omega arith) exact32 (λ g. refl)
-    (λ g g_lawful fits same. (omega (arith, g_lawful.epoch_fits), lt-ltb _ _ g_lawful.epoch_fits)) (λ x. x) here)
+    (λ g g_lawful fits same. (omega (arith, g_lawful.epoch_fits), le-leb _ _ g_lawful.epoch_fits)) (λ x. x) here)
     (λ epoch epoch_is e3.
     let t = number_read w32 (2 ^ 32) exact32 17 Epoch is_epoch session.1 epoch s.0.rest_small epoch_is in
     let head3 : IsHead session.0 epoch.0 0 1 = record {
       session_len = head2.session_len;
-      epoch_fits = ltb-true _ _ t.passes;
+      epoch_fits = leb-true _ _ t.passes;
       previous_fits = head2.previous_fits;
       previous_none = λ h. refl;
       index_from_one = head2.index_from_one;

@@ -5,6 +5,7 @@ use Rattle.std.specs.Int.{w8, w16, w32, to_be_bytes}
 use Rattle.std.proofs.lemmas.Bool.{lt-ltb, le-leb, eq-eqb}
 use Rattle.std.proofs.lemmas.Bool.Decides.{nat_tests}
 use Rattle.std.proofs.lemmas.List.{append-nil}
+use Rattle.dr_base.specs.declared.limits.TheConstants.{INDEX_LIMIT}
 use Rattle.packet.specs.declared.fault.Kind.TheVariants.{Version, Epoch, Previous, Index, Agreement, Text}
 use Rattle.packet.specs.Packet.{Fields, IsLawful, agreement_len, header_of, packet_of}
 use Rattle.packet.specs.Reading.{read_packet, is_version, is_epoch, is_previous, is_index, is_text_len}
@@ -20,10 +21,10 @@ pub packet_of-grouped : (f : Fields) → packet_of f ≡ grouped f
 unfolding packet_of header_of
 packet_of-grouped f = simp (append_assoc, append-nil)
 
-pub previous_again : (epoch n : ℕ) → n < 2 ^ 16 → (epoch ≤ 1 → n ≡ 0) → is_previous epoch n ≡ true
+pub previous_again : (epoch n : ℕ) → n ≤ INDEX_LIMIT → (epoch ≤ 1 → n ≡ 0) → is_previous epoch n ≡ true
 previous_again epoch n fits none = grind (arith, nat_tests)
 
-pub index_again : (n : ℕ) → 1 ≤ n → n < 2 ^ 16 → is_index n ≡ true
+pub index_again : (n : ℕ) → 1 ≤ n → n ≤ INDEX_LIMIT → is_index n ≡ true
 index_again n from_one fits = grind (arith, nat_tests)
 
 agreement_len_fits : (agreement epoch : ℕ) → agreement < 2 ^ 16 → agreement_len agreement epoch < 2 ^ 16
@@ -48,7 +49,7 @@ printed_is_read agreement f fits lawful =
       packet_of-grouped f,
       number_again w8 (2 ^ 8) exact8 0 Version is_version 1 after_version (omega arith) refl,
       field_again 1 16 f.session after_session lawful.session_len,
-      number_again w32 (2 ^ 32) exact32 17 Epoch is_epoch f.epoch after_epoch (omega (arith, lawful.epoch_fits)) (lt-ltb _ _ lawful.epoch_fits),
+      number_again w32 (2 ^ 32) exact32 17 Epoch is_epoch f.epoch after_epoch (omega (arith, lawful.epoch_fits)) (le-leb _ _ lawful.epoch_fits),
       number_again w32 (2 ^ 32) exact32 21 Previous (is_previous f.epoch) f.previous after_previous (omega (arith, lawful.previous_fits)) (previous_again f.epoch f.previous lawful.previous_fits lawful.previous_none),
       number_again w32 (2 ^ 32) exact32 25 Index is_index f.index after_index (omega (arith, lawful.index_fits)) (index_again f.index lawful.index_from_one lawful.index_fits),
       number_again w16 (2 ^ 16) exact16 29 Agreement (λ n. nat_eq n (agreement_len agreement f.epoch)) (length f.agreement) after_size (agreement_fits agreement f fits lawful) (eq-eqb _ _ lawful.agreement_is),

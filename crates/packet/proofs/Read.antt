@@ -5,6 +5,7 @@ use Rattle.std.specs.Int.{w8, w16, w32, to_be_bytes}
 use Rattle.std.proofs.lemmas.Bool.{ltb-true, leb-true, eqb-true}
 use Rattle.std.proofs.lemmas.Bool.Decides.{nat_tests}
 use Rattle.std.proofs.lemmas.List.{nil_from_length}
+use Rattle.dr_base.specs.declared.limits.TheConstants.{INDEX_LIMIT}
 use Rattle.packet.specs.declared.fault.Kind.TheVariants.{Version, Epoch, Previous, Index, Agreement, Text}
 use Rattle.packet.specs.Packet.{Fields, IsLawful, AreBytes, agreement_len, packet_of}
 use Rattle.packet.specs.Reading.{lawful, field, read_packet, is_version, is_epoch, is_previous, is_index, is_text_len}
@@ -15,7 +16,7 @@ use Rattle.packet.proofs.Printed.{grouped, packet_of-grouped}
 onto : (front : List ℕ) (a b c : List ℕ) → a ≡ front ++ b → b ≡ c → a ≡ front ++ c
 onto front a b c e rest = e ∙ ap (λ (t : List ℕ). front ++ t) rest
 
-pub previous_fits : (epoch n : ℕ) → is_previous epoch n ≡ true → n < 2 ^ 16
+pub previous_fits : (epoch n : ℕ) → is_previous epoch n ≡ true → n ≤ INDEX_LIMIT
 previous_fits epoch n passes = grind (arith, nat_tests)
 
 pub previous_none : (epoch n : ℕ) → is_previous epoch n ≡ true → epoch ≤ 1 → n ≡ 0
@@ -24,7 +25,7 @@ previous_none epoch n passes early = grind (arith, nat_tests)
 pub index_from_one : (n : ℕ) → is_index n ≡ true → 1 ≤ n
 index_from_one n passes = grind (arith, nat_tests)
 
-pub index_fits : (n : ℕ) → is_index n ≡ true → n < 2 ^ 16
+pub index_fits : (n : ℕ) → is_index n ≡ true → n ≤ INDEX_LIMIT
 index_fits n passes = grind (arith, nat_tests)
 
 -- fields that were printed
@@ -58,7 +59,7 @@ read_was_printed agreement bytes f small e =
     let end = passed (nat_eq (length tag.1) 0) made f _ e10 in
     let made_lawful : IsLawful agreement made = record {
       session_len = s.1;
-      epoch_fits = ltb-true _ _ t.passes;
+      epoch_fits = leb-true _ _ t.passes;
       previous_fits = previous_fits epoch.0 previous.0 p.passes;
       previous_none = previous_none epoch.0 previous.0 p.passes;
       index_from_one = index_from_one index.0 i.passes;

@@ -5,6 +5,7 @@ use Rattle.std.specs.List.{concat}
 use Rattle.std.specs.Int.{w16, w32, to_be_bytes}
 use Rattle.std.proofs.lemmas.Bool.{leb-true, le-leb, eqb-false}
 use Rattle.std.proofs.lemmas.List.{length-append, take_at}
+use Rattle.dr_base.specs.declared.limits.TheConstants.{TEXT_LIMIT}
 use Rattle.packet.specs.declared.fault.Kind.TheVariants.{Text}
 use Rattle.packet.specs.declared.fault.Malformed.{Malformed}
 use Rattle.packet.specs.Packet.{Fields, agreement_len}
@@ -45,7 +46,7 @@ fault_in_text agreement bytes fault session epoch previous index message rest he
     (λ text_len text_len_is e8.
     let n = number_read w16 (2 ^ 16) exact16
     (31 + length message) Text is_text_len rest text_len s7.small text_len_is in
-    let text_fits : text_len.0 ≤ 1024 = leb-true _ _ n.passes in
+    let text_fits : text_len.0 ≤ TEXT_LIMIT = leb-true _ _ n.passes in
     let zero_len : length (zeros text_len.0) ≡ text_len.0 = zeros_len text_len.0 in
     let s8 = one_more agreement bytes 7 (31 + length message) (33 + length message) _
     (made session epoch previous index message (zeros text_len.0) (zeros 32)) rest text_len.1 s7 (omega arith)

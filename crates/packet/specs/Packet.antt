@@ -1,6 +1,7 @@
 -- A packet as a printer from its fields to bytes. Numbers are big-endian.
 use Rattle.std.specs.Prelude.{◌≡◌, ℕ, ◌-◌, ◌^◌, ◌<◌, ◌≤◌, ◌==◌, List, ◌∷◌, ◌++◌, length, All, if◌then◌else◌}
 use Rattle.std.specs.Int.{w16, w32, to_be_bytes}
+use Rattle.dr_base.specs.declared.limits.TheConstants.{TEXT_LIMIT, INDEX_LIMIT, LAST_EPOCH}
 
 -- what a packet says
 pub record Fields : Type 0 where
@@ -19,14 +20,14 @@ agreement_len agreement epoch = if epoch == 0 then 0 else agreement
 -- fields that a packet may have, where agreement messages have this length
 pub record IsLawful (agreement : ℕ) (f : Fields) : Type 0 where
   pub session_len : length f.session ≡ 16
-  pub epoch_fits : f.epoch < 2 ^ 32 - 1
-  pub previous_fits : f.previous < 2 ^ 16
+  pub epoch_fits : f.epoch ≤ LAST_EPOCH
+  pub previous_fits : f.previous ≤ INDEX_LIMIT
   -- epochs 0 and 1 are the first of each side: none of its texts went before
   pub previous_none : f.epoch ≤ 1 → f.previous ≡ 0
   pub index_from_one : 1 ≤ f.index
-  pub index_fits : f.index < 2 ^ 16
+  pub index_fits : f.index ≤ INDEX_LIMIT
   pub agreement_is : length f.agreement ≡ agreement_len agreement f.epoch
-  pub text_fits : length f.ciphertext ≤ 1024
+  pub text_fits : length f.ciphertext ≤ TEXT_LIMIT
   pub tag_len : length f.tag ≡ 32
 
 -- all before the ciphertext: version 1, session id, epoch, previous count, index, the agreement message after

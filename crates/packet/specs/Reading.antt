@@ -1,6 +1,7 @@
 -- Reading a packet from left to right. A field is its value and the bytes after it, or the first fault.
 use Rattle.std.specs.Prelude.{◌≡◌, ℕ, ◌+◌, ◌-◌, ◌^◌, ◌==◌, ◌&&◌, ◌||◌, Bool, nat_lt, nat_le, List, length, take, drop, Result, Ok, Err, if◌then◌else◌}
 use Rattle.std.specs.Int.{Width, w8, w16, w32, byte_len, from_be_bytes}
+use Rattle.dr_base.specs.declared.limits.TheConstants.{TEXT_LIMIT, INDEX_LIMIT, LAST_EPOCH}
 use Rattle.packet.specs.declared.fault.Kind.{Kind}
 use Rattle.packet.specs.declared.fault.Kind.TheVariants.{Version, Epoch, Previous, Index, Agreement, Text, Short, Long}
 use Rattle.packet.specs.declared.fault.Malformed.{Malformed}
@@ -38,19 +39,19 @@ is_version n = n == 1
 
 -- an epoch is any number but the greatest
 abbrev pub is_epoch : ℕ → Bool
-is_epoch n = nat_lt n (2 ^ 32 - 1)
+is_epoch n = nat_le n LAST_EPOCH
 
--- a previous count is at most 65,535, and 0 in the first epoch of each side
+-- a previous count is at most that of an epoch, and 0 in the first epoch of each side
 abbrev pub is_previous : ℕ → ℕ → Bool
-is_previous epoch n = nat_lt n (2 ^ 16) && (nat_lt 1 epoch || n == 0)
+is_previous epoch n = nat_le n INDEX_LIMIT && (nat_lt 1 epoch || n == 0)
 
--- an index is from 1 to 65,535
+-- an index is from 1 to the greatest
 abbrev pub is_index : ℕ → Bool
-is_index n = nat_le 1 n && nat_lt n (2 ^ 16)
+is_index n = nat_le 1 n && nat_le n INDEX_LIMIT
 
--- a text has at most 1,024 bytes
+-- a text has at most as many bytes as the longest
 abbrev pub is_text_len : ℕ → Bool
-is_text_len n = nat_le n 1024
+is_text_len n = nat_le n TEXT_LIMIT
 
 -- nothing may stand after the tag
 abbrev pub ended : ℕ → List ℕ → Fields → Result Fields Malformed

@@ -7,7 +7,7 @@ ghost use Rattle.packet.specs.Packet.{agreement_len};
 ghost use Rattle.packet.specs.Reading.{Gives, field, number, lawful, is_version, is_epoch, is_previous, is_index, is_text_len};
 
 use crate::fault::{Kind, Malformed};
-use dr_base::{read_u16, read_u32};
+use dr_base::{INDEX_LIMIT, LAST_EPOCH, TEXT_LIMIT, read_u16, read_u32};
 
 /// The version of the format.
 pub const VERSION: u8 = 1;
@@ -88,7 +88,7 @@ pub fn epoch(bytes: &[u8]) -> Result<(u32, &[u8]), Malformed>
     ensures { Gives (λ x. (x.0, x.1.now)) result (lawful w32 17 Epoch is_epoch bytes.now) }
 {
     let (epoch, rest) = u32_at(bytes, EPOCH_AT)?;
-    if epoch == u32::MAX {
+    if epoch > LAST_EPOCH {
         return Err(Malformed {
             at: EPOCH_AT,
             kind: Kind::Epoch,
@@ -104,7 +104,7 @@ pub fn previous(bytes: &[u8], epoch: u32) -> Result<(u32, &[u8]), Malformed>
         Gives (λ x. (x.0, x.1.now)) result read }
 {
     let (previous, rest) = u32_at(bytes, PREVIOUS_AT)?;
-    if previous > 65_535 || (epoch <= 1 && previous != 0) {
+    if previous > INDEX_LIMIT || (epoch <= 1 && previous != 0) {
         return Err(Malformed {
             at: PREVIOUS_AT,
             kind: Kind::Previous,
@@ -119,7 +119,7 @@ pub fn index(bytes: &[u8]) -> Result<(u32, &[u8]), Malformed>
     ensures { Gives (λ x. (x.0, x.1.now)) result (lawful w32 25 Index is_index bytes.now) }
 {
     let (index, rest) = u32_at(bytes, INDEX_AT)?;
-    if index == 0 || index > 65_535 {
+    if index == 0 || index > INDEX_LIMIT {
         return Err(Malformed {
             at: INDEX_AT,
             kind: Kind::Index,
@@ -145,13 +145,13 @@ pub fn agreement_len(bytes: &[u8], agreement: usize, epoch: u32) -> Result<(u16,
     Ok((len, rest))
 }
 
-/// The length of the text, at most 1,024.
+/// The length of the text, at most that of the longest.
 #[tactic(auto, unfolding(crate::specs::Reading::lawful))]
 pub fn text_len(bytes: &[u8], at: usize) -> Result<(u16, &[u8]), Malformed>
     ensures { Gives (λ x. (x.0, x.1.now)) result (lawful w16 at Text is_text_len bytes.now) }
 {
     let (len, rest) = u16_at(bytes, at)?;
-    if len > 1024 {
+    if usize::from(len) > TEXT_LIMIT {
         return Err(Malformed {
             at,
             kind: Kind::Text,

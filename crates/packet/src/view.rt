@@ -5,6 +5,7 @@ ghost use Rattle.packet.specs.Packet.{Fields, IsLawful, ad_of, packet_of};
 ghost use Rattle.packet.specs.Parts.{fields_of, IsViewed};
 ghost use Rattle.packet.specs.Reading.{read_packet};
 
+use dr_base::{INDEX_LIMIT, LAST_EPOCH, TEXT_LIMIT};
 use crate::fault::Malformed;
 use crate::parts::{self, Parts};
 use std::marker::Model;
@@ -46,7 +47,7 @@ impl View<'_> {
     /// The epoch of the text.
     pub fn epoch(&self) -> u32
         ensures value { result ≡ self.now.epoch }
-        ensures fits { result < 2 ^ 32 - 1 }
+        ensures fits { result ≤ LAST_EPOCH }
     {
         self.parts.epoch
     }
@@ -54,7 +55,7 @@ impl View<'_> {
     /// The number of texts of the sender's epoch before.
     pub fn previous(&self) -> u32
         ensures value { result ≡ self.now.previous }
-        ensures fits { result < 2 ^ 16 }
+        ensures fits { result ≤ INDEX_LIMIT }
         ensures none { self.now.epoch ≤ 1 → result ≡ 0 }
     {
         self.parts.previous
@@ -64,7 +65,7 @@ impl View<'_> {
     pub fn index(&self) -> u32
         ensures value { result ≡ self.now.index }
         ensures from_one { 1 ≤ result }
-        ensures fits { result < 2 ^ 16 }
+        ensures fits { result ≤ INDEX_LIMIT }
     {
         self.parts.index
     }
@@ -87,7 +88,7 @@ impl View<'_> {
     /// The ciphertext, as long as its text.
     pub fn ciphertext(&self) -> &[u8]
         ensures value { result.now ≡ self.now.ciphertext }
-        ensures fits { length result.now ≤ 1024 }
+        ensures fits { length result.now ≤ TEXT_LIMIT }
     {
         self.parts.ciphertext
     }

@@ -7,7 +7,7 @@ ghost use Rattle.packet.specs.Packet.{IsLawful, header_of, packet_of};
 ghost use Rattle.packet.specs.Parts.{fields_at};
 
 use crate::fields::VERSION;
-use dr_base::{Position, put, put_u32};
+use dr_base::{Position, TEXT_LIMIT, put, put_u32};
 
 /// Puts the two low bytes of a length at a place.
 fn put_len(out: &mut [u8], at: usize, len: usize) -> usize
@@ -50,7 +50,7 @@ pub fn write_ad(
     out: &mut [u8],
 ) -> usize
     requires agreement_fits { length agreement.now < 2 ^ 16 }
-    requires text_fits { text_len ≤ 1024 }
+    requires text_fits { text_len ≤ TEXT_LIMIT }
     requires room { 33 + length agreement.now ≤ length out.old }
     ensures len { let header = header_of session.now position.epoch previous position.index agreement.now text_len in
         result ≡ length header }

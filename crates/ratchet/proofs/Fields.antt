@@ -2,8 +2,9 @@
 use Rattle.std.proofs.Common.{◌≡◌, ℕ, ◌+◌, ◌-◌, ◌^◌, ◌<◌, ◌≤◌, Bool, true, false, nat_eq, List, length, refl, arith}
 use Rattle.std.specs.Prelude.{if◌then◌else◌}
 use Rattle.std.proofs.lemmas.Bool.Decides.{nat_tests}
+use Rattle.dr_base.specs.declared.limits.TheConstants.{TEXT_LIMIT, INDEX_LIMIT, LAST_EPOCH}
 use Rattle.dr_base.specs.declared.position.Position.{Position}
-use Rattle.etm_aead.specs.Chain.{next_chain}
+use Rattle.fs_aead.specs.Chain.{next_chain}
 use Rattle.etm_aead.specs.Undoing.{length-ciphertext_of, length-tag_of}
 use Rattle.hmac_hkdf.proofs.Lengths.{length-hmac_of}
 use Rattle.packet.specs.Packet.{IsLawful, agreement_len}
@@ -17,8 +18,8 @@ own_measure false len n h = refl
 
 -- a text's packet has lawful fields
 pub lawful_sealing : (session : List ℕ) (p : Position) (previous : ℕ) (agreement key text : List ℕ) (n : ℕ) → length session ≡ 16
-    → p.epoch < 2 ^ 32 - 1 → previous ≤ 65535 → (p.epoch ≤ 1 → previous ≡ 0) → 1 ≤ p.index → p.index ≤ 65535
-    → length agreement ≡ agreement_len n p.epoch → length text ≤ 1024
+    → p.epoch ≤ LAST_EPOCH → previous ≤ INDEX_LIMIT → (p.epoch ≤ 1 → previous ≡ 0) → 1 ≤ p.index → p.index ≤ INDEX_LIMIT
+    → length agreement ≡ agreement_len n p.epoch → length text ≤ TEXT_LIMIT
     → IsLawful (length agreement) (sealing session p previous agreement key text)
 lawful_sealing session p previous agreement key text n s e fits none one most long short = record {
   session_len = s;

@@ -4,11 +4,12 @@ use Rattle.std.specs.Prelude.{All, not}
 use Rattle.std.proofs.lemmas.List.{length-append}
 use Rattle.std.proofs.lemmas.List.Elements.{All-filter, All-weaker}
 use Rattle.std.proofs.lemmas.List.Filters.{length-filter_both}
+use Rattle.dr_base.specs.declared.limits.TheConstants.{INDEX_LIMIT, KEPT_LIMIT}
 use Rattle.dr_base.specs.declared.key.Kept.{Kept}
 use Rattle.dr_base.specs.declared.position.Position.{Position}
-use Rattle.etm_aead.specs.Table.{AllBefore, IsAscending, IsBefore, is_at, without, shelved}
-use Rattle.etm_aead.proofs.Streams.{length-shelved, shelved-ascending, table-before}
-use Rattle.etm_aead.proofs.Tables.{IsAscending-without}
+use Rattle.fs_aead.specs.Table.{AllBefore, IsAscending, IsBefore, is_kept_at, without, shelved}
+use Rattle.fs_aead.proofs.Streams.{length-shelved, shelved-ascending, table-before}
+use Rattle.fs_aead.proofs.Tables.{IsAscending-without}
 use Rattle.session_model.specs.States.{Reception, State, receiving_epoch}
 use Rattle.session_model.specs.LawfulStates.{IsLawfulKept, IsLawfulReception, IsLawfulState}
 use Rattle.session_model.proofs.LawfulKept.{lawful_kept-table, lawful_kept-without}
@@ -22,12 +23,12 @@ reception_without kept p None None h = ap (λ keys. without keys p) h
 reception_without kept p None (Some epoch) h = absurd h
 reception_without kept p (Some r) None h = absurd h
 reception_without kept p (Some r) (Some epoch) h =
-    (h.0, h.1, All-filter (λ k. not (is_at p k)) (λ k. IsBefore k.position (record { epoch = epoch; index = r.reach + 1 })) kept h.2)
+    (h.0, h.1, All-filter (λ k. not (is_kept_at p k)) (λ k. IsBefore k.position (record { epoch = epoch; index = r.reach + 1 })) kept h.2)
 
 length-without : (kept : List Kept) (p : Position) → length (without kept p) ≤ length kept
 unfolding without
 length-without kept p =
-    let both = length-filter_both (is_at p) (λ k. not (is_at p k)) (λ k. refl) kept in
+    let both = length-filter_both (is_kept_at p) (λ k. not (is_kept_at p k)) (λ k. refl) kept in
     omega arith
 
 -- a state with a kept key less
@@ -53,14 +54,14 @@ lawful_without k s p table l is = subst (λ keys. IsLawfulState k (record s { ke
 
 -- the stream of the latest peer's epoch
 pub known_reception : (k : Mechanism) (s : State) (r : Reception) (epoch : ℕ) → IsLawfulState k s → s.receiving ≡ Some r → receiving_epoch s.side s.epoch ≡ Some epoch
-    → (length r.chain ≡ 32) × (r.reach ≤ 65535) × AllBefore s.kept (record { epoch = epoch; index = r.reach + 1 })
+    → (length r.chain ≡ 32) × (r.reach ≤ INDEX_LIMIT) × AllBefore s.kept (record { epoch = epoch; index = r.reach + 1 })
 known_reception k s r epoch l e f =
     subst (IsLawfulReception s.kept (Some r)) f (subst (λ o. IsLawfulReception s.kept o (receiving_epoch s.side s.epoch)) e l.receiving)
 
 -- a stream that goes on, with the keys that it passed
 pub lawful_along : (k : Mechanism) (s : State) (r : Reception) (epoch n : ℕ) (chain : List ℕ) (reach : ℕ) (table : List Kept) → IsLawfulState k s
-    → s.receiving ≡ Some r → receiving_epoch s.side s.epoch ≡ Some epoch → length chain ≡ 32 → r.reach + n ≤ reach → reach ≤ 65535
-    → length s.kept + n ≤ 256 → table ≡ s.kept ++ shelved epoch r.chain r.reach n
+    → s.receiving ≡ Some r → receiving_epoch s.side s.epoch ≡ Some epoch → length chain ≡ 32 → r.reach + n ≤ reach → reach ≤ INDEX_LIMIT
+    → length s.kept + n ≤ KEPT_LIMIT → table ≡ s.kept ++ shelved epoch r.chain r.reach n
     → IsLawfulState k (record s { receiving = Some (record { chain = chain; reach = reach }); kept = table })
 lawful_along k s r epoch n chain reach table l e f long place most room is =
     let kept : List Kept = s.kept ++ shelved epoch r.chain r.reach n in

@@ -3,13 +3,14 @@ use Rattle.std.proofs.Common.{◌≡◌, ℕ, ◌+◌, ◌-◌, ◌^◌, ◌<◌
 use Rattle.std.specs.Prelude.{All, not, if◌then◌else◌}
 use Rattle.std.proofs.lemmas.List.{length-append}
 use Rattle.std.proofs.lemmas.List.Elements.{All-nil, All-weaker}
+use Rattle.dr_base.specs.declared.limits.TheConstants.{INDEX_LIMIT, LAST_EPOCH, KEPT_LIMIT}
 use Rattle.dr_base.specs.declared.key.Kept.{Kept}
 use Rattle.dr_base.specs.declared.position.Position.{Position}
 use Rattle.dr_base.specs.declared.position.Side.{Side}
 use Rattle.dr_base.specs.Position.{is_own}
 use Rattle.dr_base.proofs.Parity.{own_next}
-use Rattle.etm_aead.specs.Table.{AllBefore, IsAscending, IsBefore, shelved}
-use Rattle.etm_aead.proofs.Streams.{length-shelved, shelved-ascending, table-before}
+use Rattle.fs_aead.specs.Table.{AllBefore, IsAscending, IsBefore, shelved}
+use Rattle.fs_aead.proofs.Streams.{length-shelved, shelved-ascending, table-before}
 use Rattle.session_model.specs.States.{Own, in_own, in_peers, Reception, State, receiving_epoch}
 use Rattle.session_model.specs.LawfulStates.{IsLawfulKept, IsLawfulReception, IsLawfulState}
 use Rattle.session_model.proofs.LawfulKept.{lawful_kept-table}
@@ -47,8 +48,8 @@ kept_before k s next l e =
 
 -- the peer's next epoch, up to an index
 pub lawful_next : (k : Mechanism) (s : State) (own : Own) (epoch index reach : ℕ) (root public chain stream : List ℕ) (table : List Kept) → IsLawfulState k s
-    → s.phase ≡ in_own own → epoch ≡ s.epoch + 1 → epoch < 2 ^ 32 - 1 → 1 ≤ index → index < 65536 → length root ≡ 32 → length public ≡ k.public → length chain ≡ 32
-    → reach ≡ index → length s.kept + (index - 1) ≤ 256 → table ≡ s.kept ++ shelved epoch stream 0 (index - 1)
+    → s.phase ≡ in_own own → epoch ≡ s.epoch + 1 → epoch ≤ LAST_EPOCH → 1 ≤ index → index ≤ INDEX_LIMIT → length root ≡ 32 → length public ≡ k.public → length chain ≡ 32
+    → reach ≡ index → length s.kept + (index - 1) ≤ KEPT_LIMIT → table ≡ s.kept ++ shelved epoch stream 0 (index - 1)
     → IsLawfulState k (record s {
       root = root;
       epoch = epoch;
@@ -69,9 +70,9 @@ lawful_next k s own epoch index reach root public chain stream table l e next fi
     All-weaker (λ q. IsBefore q.position last) (λ q. IsBefore q.position after) later all (table-before epoch stream 0 (index - 1) s.kept below) in
     let size : length table ≡ length s.kept + (index - 1) =
     ap length is ∙ length-append s.kept (shelved epoch stream 0 (index - 1)) ∙ ap (λ x. length s.kept + x) (length-shelved epoch stream 0 (index - 1)) in
-    let sent : own.sent ≤ 65535 = was.1.few in
+    let sent : own.sent ≤ INDEX_LIMIT = was.1.few in
     let none : epoch ≡ 0 → own.sent ≡ 0 = λ h. absurd (omega arith) in
-    let reached : reach ≤ 65535 = omega arith in
+    let reached : reach ≤ INDEX_LIMIT = omega arith in
     record {
       session_long = l.session_long;
       root_long = root_long;

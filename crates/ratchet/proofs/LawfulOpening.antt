@@ -2,6 +2,7 @@
 use Rattle.std.proofs.Common.{◌≡◌, ℕ, ◌≤◌, List, [], ◌++◌, length, take, Option, Some, None, refl, sym, ◌∙◌, ap, subst, arith}
 use Rattle.std.proofs.Math.Seq.{take-append_seam}
 use Rattle.std.proofs.lemmas.List.Elements.{All-nil}
+use Rattle.dr_base.specs.declared.limits.TheConstants.{INDEX_LIMIT}
 use Rattle.dr_base.specs.declared.key.Kept.{Kept}
 use Rattle.dr_base.specs.declared.position.Side.{Side}
 use Rattle.dr_base.specs.declared.position.Side.TheVariants.{First, Second}
@@ -31,7 +32,7 @@ pub opens_first : (k : Mechanism) (side : Side) (session root : List ℕ) (phase
     → side ≡ First → phase ≡ in_peers public → receiving ≡ Some (record { chain = chain; reach = 0 }) → kept ≡ []
     → length session ≡ 16 → length root ≡ 32 → length chain ≡ 32 → length public ≡ k.public → IsLawfulState k (opening side session root phase receiving kept)
 opens_first k side session root phase receiving kept public chain s p r e session_long root_long chain_long public_long =
-    let small : 0 ≤ 65535 = omega arith in
+    let small : 0 ≤ INDEX_LIMIT = omega arith in
     let begun : IsLawfulState k (opening First session root (in_peers public) (Some (record { chain = chain; reach = 0 })) []) = record {
       session_long = session_long;
       root_long = root_long;
@@ -51,7 +52,7 @@ pub opens_second : (k : Mechanism) (side : Side) (session root : List ℕ) (phas
     → length session ≡ 16 → length root ≡ 32 → length own.chain ≡ 32 → length own.secret ≡ k.secret → IsLawful k.meaning own.secret
     → own.agreement ≡ [] → own.sent ≡ 0 → IsLawfulState k (opening side session root phase receiving kept)
 opens_second k side session root phase receiving kept own s p r e session_long root_long chain_long secret_long lawful message none =
-    let small : 0 ≤ 65535 = omega arith in
+    let small : 0 ≤ INDEX_LIMIT = omega arith in
     let begun : IsLawfulState k (opening Second session root (in_own own) None []) = record {
       session_long = session_long;
       root_long = root_long;

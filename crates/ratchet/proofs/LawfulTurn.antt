@@ -1,6 +1,7 @@
 -- A turn leads from a lawful state to a lawful one.
 use Rattle.std.proofs.Common.{◌≡◌, ℕ, ◌+◌, ◌-◌, ◌^◌, ◌<◌, ◌≤◌, true, false, List, length, sym, ◌∙◌, ap, subst, arith}
 use Rattle.std.specs.Prelude.{not}
+use Rattle.dr_base.specs.declared.limits.TheConstants.{INDEX_LIMIT, LAST_EPOCH}
 use Rattle.dr_base.specs.Position.{is_own}
 use Rattle.session_model.specs.States.{Own, in_own, in_peers, State}
 use Rattle.session_model.specs.LawfulStates.{IsLawfulOwn, IsLawfulPhase, IsLawfulPrevious, IsLawfulReception, IsLawfulState}
@@ -14,7 +15,7 @@ pub in_peers_phase : (k : Mechanism) (s : State) (public : List ℕ) → IsLawfu
 in_peers_phase k s public l e = subst (IsLawfulPhase k s.side s.epoch) e l.phase
 
 pub in_peers_previous : (k : Mechanism) (s : State) (public : List ℕ) → IsLawfulState k s → s.phase ≡ in_peers public
-    → (s.previous ≤ 65535) × (s.epoch ≡ 0 → s.previous ≡ 0)
+    → (s.previous ≤ INDEX_LIMIT) × (s.epoch ≡ 0 → s.previous ≡ 0)
 in_peers_previous k s public l e = subst (IsLawfulPrevious s.previous s.epoch) e l.previous
 
 -- what is lawful in an own epoch
@@ -23,11 +24,11 @@ pub in_own_phase : (k : Mechanism) (s : State) (own : Own) → IsLawfulState k s
 in_own_phase k s own l e = subst (IsLawfulPhase k s.side s.epoch) e l.phase
 
 pub in_own_previous : (k : Mechanism) (s : State) (own : Own) → IsLawfulState k s → s.phase ≡ in_own own
-    → (s.previous ≤ 65535) × (s.epoch ≤ 1 → s.previous ≡ 0)
+    → (s.previous ≤ INDEX_LIMIT) × (s.epoch ≤ 1 → s.previous ≡ 0)
 in_own_previous k s own l e = subst (IsLawfulPrevious s.previous s.epoch) e l.previous
 
 -- the next own epoch with what it keeps
-pub lawful_turn : (k : Mechanism) (s : State) (public root : List ℕ) (own : Own) → IsLawfulState k s → s.phase ≡ in_peers public → s.epoch < 2 ^ 32 - 2
+pub lawful_turn : (k : Mechanism) (s : State) (public root : List ℕ) (own : Own) → IsLawfulState k s → s.phase ≡ in_peers public → s.epoch < LAST_EPOCH
     → length root ≡ 32 → IsLawfulOwn k (s.epoch + 1) own → IsLawfulState k (record s { root = root; epoch = s.epoch + 1; phase = in_own own })
 lawful_turn k s public root own l e more long next =
     let peers : is_own s.side s.epoch ≡ false = (in_peers_phase k s public l e).0 in

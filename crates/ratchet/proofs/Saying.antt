@@ -3,7 +3,7 @@ use Rattle.std.proofs.Common.{◌≡◌, ℕ, ◌+◌, List, length, Option, Som
 use Rattle.std.specs.Prelude.{option_map}
 use Rattle.dr_base.specs.declared.key.Key32.{Key32}
 use Rattle.fs_aead.specs.Stream.{Stream}
-use Rattle.etm_aead.specs.Chain.{next_chain}
+use Rattle.fs_aead.specs.Chain.{next_chain}
 use Rattle.kem_laws.specs.Mechanism.{IsLawful, Mechanism}
 use Rattle.cka.specs.Agreement.{turn_of, agreement_size}
 use Rattle.session_model.specs.Saying.{SendDraft, draft_own, draft_phase, draft_send, draft_turn}

@@ -2,8 +2,8 @@
 use Rattle.std.proofs.Common.{◌≡◌, ℕ, ◌-◌, ◌<◌, ◌++◌, List, Some, ◌∙◌, ap, ap₂, arith}
 use Rattle.std.specs.Prelude.{take, drop}
 use Rattle.dr_base.specs.declared.key.Kept.{Kept}
-use Rattle.etm_aead.specs.Chain.{chain_of, message_key, chain_message_key}
-use Rattle.etm_aead.specs.Table.{shelved}
+use Rattle.fs_aead.specs.Chain.{chain_of, message_key, chain_message_key}
+use Rattle.fs_aead.specs.Table.{shelved}
 use Rattle.fs_aead.specs.Stream.{Stream}
 use Rattle.prf_prng.specs.Root.{next_root, root_key}
 use Rattle.packet.specs.Packet.{Fields}

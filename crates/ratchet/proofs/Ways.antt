@@ -2,11 +2,12 @@
 use Rattle.std.proofs.Common.{◌≡◌, ℕ, ◌+◌, ◌-◌, ◌<◌, ◌≤◌, ◌++◌, List, length, Some, Ok, sym, ◌∙◌, ap, ap₂, arith}
 use Rattle.std.specs.Prelude.{nat_lt}
 use Rattle.std.proofs.lemmas.Bool.Decides.{nat_tests}
+use Rattle.dr_base.specs.declared.limits.TheConstants.{KEPT_LIMIT}
 use Rattle.dr_base.specs.declared.key.Kept.{Kept}
 use Rattle.dr_base.specs.declared.position.Position.{Position}
-use Rattle.etm_aead.specs.Chain.{chain_of, next_chain, message_key, chain_message_key}
-use Rattle.etm_aead.specs.Table.{shelved}
-use Rattle.etm_aead.proofs.Streams.{chain_of-suc, message_key-suc}
+use Rattle.fs_aead.specs.Chain.{chain_of, next_chain, message_key, chain_message_key}
+use Rattle.fs_aead.specs.Table.{shelved}
+use Rattle.fs_aead.proofs.Streams.{chain_of-suc, message_key-suc}
 use Rattle.fs_aead.specs.Stream.{Stream}
 use Rattle.session_model.specs.Ways.{Way, chain_way, within_limit}
 use Rattle.session_model.specs.States.{Reception, State}
@@ -58,12 +59,12 @@ went_keys epoch index chain reach kept resumed advanced stream table w =
     w.keys ∙ ap (λ (x : Stream). kept ++ shelved epoch x.chain x.count (index - 1 - x.count)) w.from ∙ ap (λ n. kept ++ shelved epoch chain reach n) same
 
 -- a way within the limit
-pub has_room : (would : ℕ) (way : Way) → would ≤ 256 → within_limit would way ≡ Ok way
-has_room would way few = passed_over (nat_lt 256 would) _ _ (grind (arith, nat_tests))
+pub has_room : (would : ℕ) (way : Way) → would ≤ KEPT_LIMIT → within_limit would way ≡ Ok way
+has_room would way few = passed_over (nat_lt KEPT_LIMIT would) _ _ (grind (arith, nat_tests))
 
 -- the way along the chain
 pub goes_along : (s : State) (r : Reception) (p : Position) (resumed advanced stream : Stream) (key chain : List ℕ) (reach : ℕ) (table : List Kept) → r.reach < p.index
-    → length s.kept + (p.index - r.reach - 1) ≤ 256 → Went p.epoch p.index r.chain r.reach s.kept resumed advanced stream table
+    → length s.kept + (p.index - r.reach - 1) ≤ KEPT_LIMIT → Went p.epoch p.index r.chain r.reach s.kept resumed advanced stream table
     → key ≡ chain_message_key advanced.chain → chain ≡ stream.chain → reach ≡ stream.count
     → Ok (record { key = key; next = record s { receiving = Some (record { chain = chain; reach = reach }); kept = table } }) ≡ chain_way s r p
 goes_along s r p resumed advanced stream key chain reach table above few w k c n =

@@ -13,7 +13,7 @@ use crate::sealing::seal_packet;
 use crate::sending::{NoPairFor, SendDraft};
 use crate::session::Session;
 use cka::{Caller, PublicText};
-use dr_base::{Key32, PACKET_LIMIT, Position};
+use dr_base::{INDEX_LIMIT, Key32, LAST_EPOCH, PACKET_LIMIT, Position, TEXT_LIMIT};
 use fs_aead::SendStream;
 use kem_laws::{Kem, laws};
 use prf_prng::Root;
@@ -99,10 +99,10 @@ fn say_on<K: Kem>(
     room: &mut [u8; PACKET_LIMIT],
 ) -> (Position, usize)
     requires held { next.old.phase ≡ in_own (own_seen own.now) }
-    requires few { own.now.sent < 65535 }
-    requires short { length text.now ≤ 1024 }
+    requires few { own.now.sent < INDEX_LIMIT }
+    requires short { length text.now ≤ TEXT_LIMIT }
     ensures draft { drafted (item_at result.0 (take result.1 room.new)) next.new ≡ draft_own next.old (own_seen own.now) text.now }
-    ensures fits { result.1 ≤ 3286 }
+    ensures fits { result.1 ≤ PACKET_LIMIT }
 {
     let position = Position {
         epoch: next.epoch,
@@ -134,12 +134,12 @@ fn say_first<K: Kem>(
     room: &mut [u8; PACKET_LIMIT],
 ) -> Result<(Position, usize), NoPairFor>
     requires held { next.old.phase ≡ in_peers public.now.items }
-    requires more { next.old.epoch < 2 ^ 32 - 2 }
-    requires short { length text.now ≤ 1024 }
+    requires more { next.old.epoch < LAST_EPOCH }
+    requires short { length text.now ≤ TEXT_LIMIT }
     ensures ok { IfOk result (λ said.
         option_map (draft_turn next.old text.now) (turn_of K.mechanism public.now.items seed.bytes)
         ≡ Some (drafted (item_at said.0 (take said.1 room.new)) next.new)) }
-    ensures fits { IfOk result (λ said. said.1 ≤ 3286) }
+    ensures fits { IfOk result (λ said. said.1 ≤ PACKET_LIMIT) }
     ensures err { OnErr result (option_map (draft_turn next.old text.now) (turn_of K.mechanism public.now.items seed.bytes) ≡ None) }
     ensures seed { IfErr result (λ e. e.seed ≡ seed) }
 {

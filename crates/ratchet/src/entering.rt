@@ -2,8 +2,9 @@
 
 ghost use Rattle.std.specs.Prelude.{◌≡◌, ◌+◌, ◌-◌, ◌≤◌, ◌++◌, length, Some, option_map};
 ghost use Rattle.cka.specs.Agreement.{agreement_size};
-ghost use Rattle.etm_aead.specs.Chain.{chain_of};
-ghost use Rattle.etm_aead.specs.Table.{shelved};
+ghost use Rattle.dr_base.specs.declared.limits.TheConstants.{INDEX_LIMIT, KEPT_LIMIT};
+ghost use Rattle.fs_aead.specs.Chain.{chain_of};
+ghost use Rattle.fs_aead.specs.Table.{shelved};
 ghost use Rattle.packet.specs.Packet.{IsLawful};
 ghost use Rattle.session_model.specs.Seen.{own_seen, reception_seen};
 ghost use Rattle.session_model.specs.Ways.{next_way, turned};
@@ -61,8 +62,8 @@ fn keep_to_end<K: Kem>(reception: &Reception, next: &mut SessionPart<K>, epoch: 
     requires held { next.old.receiving ≡ Some (reception_seen reception.now) }
     requires latest { receiving_epoch next.old.side next.old.epoch ≡ Some epoch }
     requires from { reception.now.reach ≤ end }
-    requires most { end ≤ 65535 }
-    requires room { length next.old.kept + (end - reception.now.reach) ≤ 256 }
+    requires most { end ≤ INDEX_LIMIT }
+    requires room { length next.old.kept + (end - reception.now.reach) ≤ KEPT_LIMIT }
     ensures { next.new ≡ record next.old {
       receiving = Some (record { chain = chain_of reception.now.chain.bytes (end - reception.now.reach); reach = end });
       kept = next.old.kept ++ shelved epoch reception.now.chain.bytes reception.now.reach (end - reception.now.reach);
@@ -83,7 +84,7 @@ fn turn<K: Kem>(
     requires held { next.old.phase ≡ in_own (own_seen own.now) }
     requires next { view.now.epoch ≡ next.old.epoch + 1 }
     requires lawful { IsLawful (agreement_size K.mechanism) view.now }
-    requires room { length next.old.kept + (view.now.index - 1) ≤ 256 }
+    requires room { length next.old.kept + (view.now.index - 1) ≤ KEPT_LIMIT }
     ensures { on_way result next.new ≡ turned K.mechanism next.old (own_seen own.now) view.now next.old.kept }
 {
     laws::<K>();

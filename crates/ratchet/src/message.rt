@@ -4,10 +4,11 @@ ghost use Rattle.std.specs.Prelude.{◌≡◌, ◌↔◌, ℕ, ◌≤◌, length
 ghost use Rattle.etm_aead.specs.Seal.{ciphertext_of, tag_of};
 
 use arrayvec::ArrayVec;
+use dr_base::TEXT_LIMIT;
 use etm_aead::{BadTag, OpenKey};
 
-/// The bytes of a message: at most 1,024.
-pub type Message = ArrayVec<u8, 1024>;
+/// The bytes of a message.
+pub type Message = ArrayVec<u8, TEXT_LIMIT>;
 
 /// Opens a ciphertext in place, if the tag is right.
 pub fn open(key: OpenKey, ad: &[u8], message: &mut Message, tag: &[u8; 32]) -> Result<(), BadTag>

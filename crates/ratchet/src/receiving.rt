@@ -12,7 +12,7 @@ ghost use Rattle.ratchet.specs.Seen.{on_way, opened};
 use crate::message::{Message, open};
 use crate::session::Session;
 use crate::way::find_key;
-use dr_base::{Position, in_room};
+use dr_base::{Position, TEXT_LIMIT, in_room};
 use etm_aead::OpenKey;
 use kem_laws::Kem;
 use packet::View;
@@ -48,7 +48,7 @@ impl<K: Kem> ReceiveDraft<K> {
     /// The text.
     pub fn text(&self) -> &[u8]
         ensures value { result.now ≡ self.now.text }
-        ensures fits { length result.now ≤ 1024 }
+        ensures fits { length result.now ≤ TEXT_LIMIT }
     {
         self.text.as_slice()
     }

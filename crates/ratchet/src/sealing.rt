@@ -6,7 +6,7 @@ ghost use Rattle.etm_aead.specs.Seal.{ciphertext_of, tag_of};
 ghost use Rattle.packet.specs.Packet.{IsLawful};
 ghost use Rattle.session_model.specs.Sealing.{posted, sealing};
 
-use dr_base::{PACKET_LIMIT, Position, put};
+use dr_base::{AGREEMENT_LIMIT, PACKET_LIMIT, Position, TEXT_LIMIT, put};
 use etm_aead::SealKey;
 use packet::write_ad;
 
@@ -14,7 +14,7 @@ use packet::write_ad;
 /// tag.
 fn seal_from(key: SealKey, bytes: &mut [u8], at: usize) -> [u8; 32]
     requires within { at ≤ length bytes.old }
-    requires short { length bytes.old ≤ at + 1024 }
+    requires short { length bytes.old ≤ at + TEXT_LIMIT }
     ensures sealed { bytes.new ≡ take at bytes.old ++ ciphertext_of key (drop at bytes.old) }
     ensures tag { result ≡ tag_of key (take at bytes.old) (ciphertext_of key (drop at bytes.old)) }
 {
@@ -34,11 +34,11 @@ pub fn seal_packet(
     text: &[u8],
     room: &mut [u8; PACKET_LIMIT],
 ) -> usize
-    requires agreement_fits { length agreement.now ≤ 2197 }
-    requires short { length text.now ≤ 1024 }
+    requires agreement_fits { length agreement.now ≤ AGREEMENT_LIMIT }
+    requires short { length text.now ≤ TEXT_LIMIT }
     requires lawful { IsLawful (length agreement.now) (sealing session.now position previous agreement.now key text.now) }
     ensures packet { item_at position (take result room.new) ≡ posted session.now position previous agreement.now key text.now }
-    ensures fits { result ≤ 3286 }
+    ensures fits { result ≤ PACKET_LIMIT }
 {
     let at_text = write_ad(session, position, previous, agreement, text.len(), room);
     let at_tag = put(room, at_text, text);

@@ -30,6 +30,7 @@ pub struct SendDraft<K: Kem> {
 impl<K: Kem> Model for SendDraft<K> {
     ghost use Rattle.std.specs.Prelude.{◌≤◌, take};
     ghost use Rattle.boxes.specs.Items.{item_at};
+    ghost use Rattle.dr_base.specs.declared.limits.TheConstants.{PACKET_LIMIT};
     ghost use Rattle.session_model.specs.Saying.{SendDraft as Drafted};
     ghost use Rattle.ratchet.specs.Seen.{drafted};
 
@@ -37,7 +38,7 @@ impl<K: Kem> Model for SendDraft<K> {
 
     ghost view = { λ d. drafted (item_at d.position (take d.len d.room)) d.part };
 
-    ghost invariant = { λ d. d.len ≤ 3286 };
+    ghost invariant = { λ d. d.len ≤ PACKET_LIMIT };
 }
 
 impl<K: Kem> SendDraft<K> {
@@ -51,7 +52,7 @@ impl<K: Kem> SendDraft<K> {
     /// The bytes of its packet.
     pub fn packet(&self) -> &[u8]
         ensures value { result.now ≡ self.now.post.bytes }
-        ensures fits { length result.now ≤ 3286 }
+        ensures fits { length result.now ≤ PACKET_LIMIT }
     {
         &self.room[..self.len]
     }

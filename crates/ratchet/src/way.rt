@@ -3,7 +3,7 @@
 ghost use Rattle.std.specs.Prelude.{◌≡◌, ◌+◌, ◌<◌, ◌≤◌, false, Some, option_map};
 ghost use Rattle.cka.specs.Agreement.{agreement_size};
 ghost use Rattle.dr_base.specs.Position.{is_own};
-ghost use Rattle.etm_aead.specs.Table.{kept_key};
+ghost use Rattle.fs_aead.specs.Table.{kept_key};
 ghost use Rattle.packet.specs.Packet.{IsLawful};
 ghost use Rattle.session_model.specs.Seen.{reception_seen};
 ghost use Rattle.session_model.specs.Ways.{chain_way, kept_way, known_way, way_of};
@@ -11,7 +11,7 @@ ghost use Rattle.session_model.specs.States.{receiving_epoch};
 ghost use Rattle.ratchet.specs.Seen.{way_found};
 
 use crate::entering::enter;
-use dr_base::Position;
+use dr_base::{INDEX_LIMIT, Position};
 use etm_aead::OpenKey;
 use fs_aead::ReceiveStream;
 use kem_laws::Kem;
@@ -65,7 +65,7 @@ fn find_known<K: Kem>(
     requires receiving { next.old.receiving ≡ option_map reception_seen receiving.now }
     requires peers { is_own next.old.side position.epoch ≡ false }
     requires known { position.epoch ≤ next.old.epoch }
-    requires most { position.index < 65536 }
+    requires most { position.index ≤ INDEX_LIMIT }
     ensures { way_found result next.new ≡ known_way next.old position next.old.receiving }
 {
     match receiving {
@@ -102,7 +102,7 @@ fn go_along<K: Kem>(
     requires held { next.old.receiving ≡ Some (reception_seen reception.now) }
     requires latest { receiving_epoch next.old.side next.old.epoch ≡ Some position.epoch }
     requires above { reception.now.reach < position.index }
-    requires most { position.index < 65536 }
+    requires most { position.index ≤ INDEX_LIMIT }
     ensures { way_found result next.new ≡ chain_way next.old (reception_seen reception.now) position }
 {
     if let Err(limit) = next.kept.room_for(position.index - reception.reach - 1) {

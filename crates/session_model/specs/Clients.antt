@@ -1,5 +1,6 @@
 -- One side with its boxes.
 use Rattle.std.specs.Prelude.{Bool, Err, List, None, Ok, Option, Result, Some, [], drop, if◌then◌else◌, length, nat_le, nat_lt, ℕ, ◌++◌, ◌∷◌}
+use Rattle.dr_base.specs.declared.limits.TheConstants.{TEXT_LIMIT, INBOX_LIMIT, OUTBOX_LIMIT}
 use Rattle.boxes.specs.Items.{Item, item_at}
 use Rattle.cka.specs.Agreement.{agreement_size}
 use Rattle.dr_base.specs.declared.position.Position.{Position}
@@ -22,8 +23,8 @@ pub record Client : Type 0 where
 -- whether a text of this length may be said, and then whether that needs a seed
 abbrev pub say_check : Client → ℕ → Result Bool Refusal
 say_check client len =
-    if nat_lt 1024 len then Err (TextTooLong len)
-    else (if nat_le 32 (length client.outbox) then Err OutboxFull else send_check client.state len)
+    if nat_lt TEXT_LIMIT len then Err (TextTooLong len)
+    else (if nat_le OUTBOX_LIMIT (length client.outbox) then Err OutboxFull else send_check client.state len)
 
 -- a text that was said: its packet stands in the outbox
 pub record SaidText : Type 0 where
@@ -47,7 +48,7 @@ pub record TakenPacket : Type 0 where
 abbrev pub accept_receive : Client → Result ReceiveDraft Refusal → Result TakenPacket Refusal
 accept_receive client (Err refusal) = Err refusal
 accept_receive client (Ok draft) =
-    if nat_le 64 (length client.inbox) then Err InboxFull
+    if nat_le INBOX_LIMIT (length client.inbox) then Err InboxFull
     else Ok (record {
       position = draft.position;
       next = record client { state = draft.next; inbox = client.inbox ++ item_at draft.position draft.text ∷ [] };

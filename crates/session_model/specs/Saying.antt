@@ -1,8 +1,9 @@
 -- What a session answers to a text, and what it keeps once the text is said.
 use Rattle.std.specs.Prelude.{Bool, Err, List, Ok, Option, Result, Some, false, if◌then◌else◌, nat_le, nat_lt, option_map, true, ℕ, ◌+◌, ◌-◌, ◌^◌}
+use Rattle.dr_base.specs.declared.limits.TheConstants.{TEXT_LIMIT, INDEX_LIMIT, LAST_EPOCH}
 use Rattle.boxes.specs.Items.{Item}
 use Rattle.cka.specs.Agreement.{turn_of}
-use Rattle.etm_aead.specs.Chain.{chain_message_key, next_chain}
+use Rattle.fs_aead.specs.Chain.{chain_message_key, next_chain}
 use Rattle.kem_laws.specs.Mechanism.{Mechanism}
 use Rattle.prf_prng.specs.Root.{next_root, root_key}
 use Rattle.session_model.specs.Sealing.{posted}
@@ -12,11 +13,11 @@ use Rattle.session_model.specs.declared.answer.Refusal.TheVariants.{EpochFull, L
 
 -- whether a text of this length may be said, and then whether that needs a seed
 abbrev pub phase_check : ℕ → Phase → Result Bool Refusal
-phase_check epoch (in_own own) = if nat_le 65535 own.sent then Err EpochFull else Ok false
-phase_check epoch (in_peers public) = if nat_le (2 ^ 32 - 2) epoch then Err LastEpoch else Ok true
+phase_check epoch (in_own own) = if nat_le INDEX_LIMIT own.sent then Err EpochFull else Ok false
+phase_check epoch (in_peers public) = if nat_le LAST_EPOCH epoch then Err LastEpoch else Ok true
 
 abbrev pub send_check : State → ℕ → Result Bool Refusal
-send_check s len = if nat_lt 1024 len then Err (TextTooLong len) else phase_check s.epoch s.phase
+send_check s len = if nat_lt TEXT_LIMIT len then Err (TextTooLong len) else phase_check s.epoch s.phase
 
 -- a text's packet under its position, and what the session keeps once it is said
 pub record SendDraft : Type 0 where

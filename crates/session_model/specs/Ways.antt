@@ -1,11 +1,12 @@
 -- The way to the message key of a packet.
 use Rattle.std.specs.Cmp.Lexicographic.{pointwise}
 use Rattle.std.specs.Prelude.{Err, List, None, Ok, Option, Result, Some, [], drop, if◌then◌else◌, length, nat_eq, nat_le, nat_lt, not, take, ℕ, ◌&&◌, ◌++◌, ◌+◌, ◌-◌, ◌==◌}
+use Rattle.dr_base.specs.declared.limits.TheConstants.{KEPT_LIMIT}
 use Rattle.dr_base.specs.Position.{is_own}
 use Rattle.dr_base.specs.declared.key.Kept.{Kept}
 use Rattle.dr_base.specs.declared.position.Position.{Position}
-use Rattle.etm_aead.specs.Chain.{chain_of, message_key}
-use Rattle.etm_aead.specs.Table.{kept_key, shelved, without}
+use Rattle.fs_aead.specs.Chain.{chain_of, message_key}
+use Rattle.fs_aead.specs.Table.{kept_key, shelved, without}
 use Rattle.kem_laws.specs.Mechanism.{Mechanism}
 use Rattle.packet.specs.Packet.{Fields}
 use Rattle.prf_prng.specs.Root.{next_root, root_key}
@@ -25,7 +26,7 @@ kept_way s p (Some key) = Ok (record { key = key; next = record s { kept = witho
 
 -- a way that keeps this many keys
 abbrev pub within_limit : ℕ → Way → Result Way Refusal
-within_limit would way = if nat_lt 256 would then Err (SkipLimit would) else Ok way
+within_limit would way = if nat_lt KEPT_LIMIT would then Err (SkipLimit would) else Ok way
 
 -- along the chain: the keys between are kept, and the chain goes on after the index
 abbrev pub chain_way : State → Reception → Position → Result Way Refusal

@@ -42,11 +42,11 @@ pub struct Summary {
 /// Why an event changed nothing.
 #[derive(Clone, Copy, Debug, PartialEq, Eq)]
 pub enum Refusal {
-    /// The text has more than 1,024 bytes, namely this many.
+    /// The text has more bytes than the longest may have, namely this many.
     TextTooLong(usize),
-    /// 32 packets stand in the outbox.
+    /// The outbox is full.
     OutboxFull,
-    /// 65,535 texts were said in the epoch.
+    /// As many texts were said in the epoch as it may have.
     EpochFull,
     /// No epoch follows.
     LastEpoch,
@@ -58,18 +58,17 @@ pub enum Refusal {
     OtherSession,
     /// The packet is of an epoch of the taker's own.
     OwnPacket(u32),
-    /// The packet's epoch, the first number, comes after the next one that may begin; the second number is the
-    /// greatest epoch that is reached.
-    Ahead(u32, u32),
+    /// The packet's epoch comes after the next one that may begin; `reached` is the greatest epoch that is reached.
+    Ahead { epoch: u32, reached: u32 },
     /// The packet of this position was opened before.
     Spent(Position),
-    /// The packet claims that the peer's last epoch has this many texts, the first number, fewer than are known.
-    Count(u32, u32),
-    /// This many message keys would have to be kept, which is more than 256.
+    /// The packet claims that the peer's last epoch has fewer texts than are known.
+    Count { claimed: u32, known: u32 },
+    /// This many message keys would have to be kept, which is more than the table has room for.
     SkipLimit(u32),
     /// The packet's tag differs from the one under its key.
     BadTag,
-    /// 64 texts stand in the inbox.
+    /// The inbox is full.
     InboxFull,
     /// Only this many stand, fewer than were to be taken out.
     Fewer(u32),

@@ -1,17 +1,17 @@
 //! Why a session refuses a text or a packet.
 
 use crate::answer::Refusal;
-use dr_base::Position;
+use dr_base::{INDEX_LIMIT, KEPT_LIMIT, Position, TEXT_LIMIT};
 use thiserror::Error;
 
 /// Why a session says no text.
 #[derive(Clone, Copy, Debug, PartialEq, Eq, Error)]
 pub enum SendRefusal {
-    /// The text has more than 1,024 bytes.
-    #[error("the text has {len} bytes, more than 1,024")]
+    /// The text has more bytes than the longest may have.
+    #[error("the text has {len} bytes, more than {TEXT_LIMIT}")]
     TextTooLong { len: usize },
-    /// 65,535 texts were said in the epoch.
-    #[error("65,535 texts were said in the epoch")]
+    /// As many texts were said in the epoch as it may have.
+    #[error("{INDEX_LIMIT} texts were said in the epoch")]
     EpochFull,
     /// No epoch follows.
     #[error("no epoch follows")]
@@ -36,8 +36,8 @@ pub enum ReceiveRefusal {
     /// The packet claims that the peer's last epoch has fewer texts than are known.
     #[error("the packet claims {claimed} texts of an epoch, fewer than the {known} known")]
     Count { claimed: u32, known: u32 },
-    /// This many message keys would have to be kept, which is more than 256.
-    #[error("{would} keys would be kept, more than 256")]
+    /// This many message keys would have to be kept, which is more than the table has room for.
+    #[error("{would} keys would be kept, more than {KEPT_LIMIT}")]
     SkipLimit { would: u32 },
     /// The packet's tag differs from the one under its key.
     #[error("the packet's tag is wrong")]
@@ -69,9 +69,9 @@ impl From<ReceiveRefusal> for Refusal {
         match refusal {
             ReceiveRefusal::OtherSession => Refusal::OtherSession,
             ReceiveRefusal::OwnPacket { epoch } => Refusal::OwnPacket(epoch),
-            ReceiveRefusal::Ahead { epoch, reached } => Refusal::Ahead(epoch, reached),
+            ReceiveRefusal::Ahead { epoch, reached } => Refusal::Ahead { epoch, reached },
             ReceiveRefusal::Spent { position } => Refusal::Spent(position),
-            ReceiveRefusal::Count { claimed, known } => Refusal::Count(claimed, known),
+            ReceiveRefusal::Count { claimed, known } => Refusal::Count { claimed, known },
             ReceiveRefusal::SkipLimit { would } => Refusal::SkipLimit(would),
             ReceiveRefusal::BadTag => Refusal::BadTag,
         }

@@ -4,6 +4,7 @@ use Rattle.std.specs.Prelude.{All}
 use Rattle.std.proofs.lemmas.Bool.{cases_eq, cases_lt}
 use Rattle.std.proofs.lemmas.List.{length_push}
 use Rattle.std.proofs.lemmas.List.Elements.{All-push, All-weaker}
+use Rattle.dr_base.specs.declared.limits.TheConstants.{TEXT_LIMIT, INDEX_LIMIT, LAST_EPOCH, OUTBOX_LIMIT}
 use Rattle.dr_base.specs.Position.{is_own}
 use Rattle.dr_base.specs.declared.position.Side.{Side}
 use Rattle.dr_base.proofs.Parity.{own_after}
@@ -23,24 +24,24 @@ use Rattle.dr_model.proofs.Saying.SayingTurn.{first_count, none_yet}
 -- ---- the conversation
 
 -- no epoch has too many texts, if its own hadn't
-few-grown : (c : Conversation) (seeds : List (List ℕ)) (epoch : ℕ) (text : List ℕ) → ((t : ℕ) → count_of c t ≤ 65535)
-    → count_of c epoch < 65535
-    → (t : ℕ) → count_of (grown c seeds epoch text) t ≤ 65535
+few-grown : (c : Conversation) (seeds : List (List ℕ)) (epoch : ℕ) (text : List ℕ) → ((t : ℕ) → count_of c t ≤ INDEX_LIMIT)
+    → count_of c epoch < INDEX_LIMIT
+    → (t : ℕ) → count_of (grown c seeds epoch text) t ≤ INDEX_LIMIT
 few-grown c seeds epoch text few room t =
-    elim (cases_eq t epoch) as (λ _. count_of (grown c seeds epoch text) t ≤ 65535) [
+    elim (cases_eq t epoch) as (λ _. count_of (grown c seeds epoch text) t ≤ INDEX_LIMIT) [
       | inl here ↦ omega (arith, ap (count_of (grown c seeds epoch text)) here, count-here c.said epoch text)
       | inr other ↦ omega (arith, count-grown c seeds epoch text t other, few t)
     ]
 
 -- in the epoch that stands
 pub lawful_text : (k : Mechanism) (c : Conversation) (epoch : ℕ) (text : List ℕ) → IsLawfulConversation k c
-    → epoch ≤ length c.seeds → length text ≤ 1024
-    → count_of c epoch < 65535 → IsLawfulConversation k (with_text c epoch text)
+    → epoch ≤ length c.seeds → length text ≤ TEXT_LIMIT
+    → count_of c epoch < INDEX_LIMIT → IsLawfulConversation k (with_text c epoch text)
 lawful_text k c epoch text lawful within short room = record {
   begins = lawful.begins;
   turns = lawful.turns;
   few_turns = lawful.few_turns;
-  short = All-push (λ (s : Said). length s.text ≤ 1024) c.said (saying_of epoch text) lawful.short short;
+  short = All-push (λ (s : Said). length s.text ≤ TEXT_LIMIT) c.said (saying_of epoch text) lawful.short short;
   begun = All-push (λ (s : Said). s.epoch ≤ length c.seeds) c.said (saying_of epoch text) lawful.begun within;
   few = few-grown c c.seeds epoch text lawful.few room;
   some = λ t one last. omega (arith, lawful.some t one last, count-grows c.said epoch text t);
@@ -66,15 +67,15 @@ one_more n m all most last more below = omega arith
 -- in an epoch that begins
 pub lawful_turn : (k : Mechanism) (c : Conversation) (seed : List ℕ) (n : ℕ) (text : List ℕ) → IsLawfulConversation k c
     → n ≡ length c.seeds → IsSeed k seed
-    → length text ≤ 1024 → n < 2 ^ 32 - 2 → IsLawfulConversation k (with_turn c seed (n + 1) text)
+    → length text ≤ TEXT_LIMIT → n < LAST_EPOCH → IsLawfulConversation k (with_turn c seed (n + 1) text)
 lawful_turn k c seed n text lawful last pairs short room =
     let seeds = c.seeds ++ seed ∷ [] in
     let more : length seeds ≡ length c.seeds + 1 = length_push c.seeds seed in
     record {
       begins = lawful.begins;
       turns = All-push (IsSeed k) c.seeds seed lawful.turns pairs;
-      few_turns = one_more n (length c.seeds) (length seeds) (2 ^ 32 - 2) last more room;
-      short = All-push (λ (s : Said). length s.text ≤ 1024) c.said (saying_of (n + 1) text) lawful.short short;
+      few_turns = one_more n (length c.seeds) (length seeds) LAST_EPOCH last more room;
+      short = All-push (λ (s : Said). length s.text ≤ TEXT_LIMIT) c.said (saying_of (n + 1) text) lawful.short short;
       begun = All-push (λ (s : Said). s.epoch ≤ length seeds) c.said (saying_of (n + 1) text)
           (All-weaker (λ (s : Said). s.epoch ≤ length c.seeds) (λ s. s.epoch ≤ length seeds)
           (λ s h. omega arith) c.said lawful.begun) (omega arith);
@@ -99,7 +100,7 @@ arrived-grown c seeds epoch text v u side further arrivals =
 
 -- where a text is the side's own, its outbox has room for the packet
 abbrev pub HasRoom : Mechanism → Conversation → Side → View → ℕ → Type 0
-HasRoom k c side v epoch = is_own side epoch ≡ true → length (outbox_of k c v) < 32
+HasRoom k c side v epoch = is_own side epoch ≡ true → length (outbox_of k c v) < OUTBOX_LIMIT
 
 -- no packet goes
 posts-more : (k : Mechanism) (c : Conversation) (seeds : List (List ℕ)) (epoch : ℕ) (text : List ℕ) (side : Side)
@@ -175,7 +176,7 @@ before_turn side n epoch own most peers =
 pub view-turned : (k : Mechanism) (c : Conversation) (seeds : List (List ℕ)) (text : List ℕ) (side : Side) (v : View)
     → SameTurns k c.key c.seeds seeds
     → All (λ s. s.epoch ≤ length c.seeds) c.said → IsLawfulView k c side v → is_own v.side v.epoch ≡ false
-    → length (outbox_of k c v) < 32 → length c.seeds ≤ v.epoch + 2
+    → length (outbox_of k c v) < OUTBOX_LIMIT → length c.seeds ≤ v.epoch + 2
     → length seeds ≡ v.epoch + 1 → IsLawfulView k (grown c seeds (v.epoch + 1) text) side (after_turn v)
 view-turned k c seeds text side v same begun lawful peers room late last = record {
   side_is = lawful.side_is;

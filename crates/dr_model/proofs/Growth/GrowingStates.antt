@@ -8,7 +8,7 @@ use Rattle.dr_base.specs.Position.{is_own}
 use Rattle.dr_base.specs.declared.key.Kept.{Kept}
 use Rattle.dr_base.specs.declared.position.Side.{Side}
 use Rattle.dr_base.proofs.Parity.{own_before, own_other}
-use Rattle.etm_aead.specs.Chain.{chain_of}
+use Rattle.fs_aead.specs.Chain.{chain_of}
 use Rattle.kem_laws.specs.Mechanism.{Mechanism}
 use Rattle.session_model.specs.Clients.{Client}
 use Rattle.session_model.specs.Schedule.{session_of}

@@ -6,7 +6,7 @@ use Rattle.std.proofs.lemmas.List.Elements.{All-append, All-map, All-nil, All-we
 use Rattle.dr_base.specs.Position.{is_own}
 use Rattle.dr_base.specs.declared.position.Position.{Position}
 use Rattle.dr_base.specs.declared.position.Side.{Side}
-use Rattle.etm_aead.specs.Chain.{chain_of}
+use Rattle.fs_aead.specs.Chain.{chain_of}
 use Rattle.kem_laws.specs.Mechanism.{Mechanism}
 use Rattle.session_model.specs.States.{Reception, receiving_epoch}
 use Rattle.session_model.specs.Turns.{Turn}

@@ -1,6 +1,7 @@
 -- A packet and its text stay, whatever happens.
 use Rattle.std.proofs.Common.{◌≡◌, ℕ, ◌+◌, ◌≤◌, true, false, Bool, nat_le, nat_lt, List, [], ◌++◌, ◌∷◌, length, Option, Some, None, Result, Ok, Err, refl, sym, subst, arith, if◌then◌else◌}
 use Rattle.std.specs.Prelude.{All, is_none}
+use Rattle.dr_base.specs.declared.limits.TheConstants.{KEPT_LIMIT, INBOX_LIMIT}
 use Rattle.dr_base.specs.Position.{is_own}
 use Rattle.dr_base.specs.declared.position.Position.{Position}
 use Rattle.dr_base.specs.declared.position.Side.{Side}
@@ -52,8 +53,8 @@ taking_leaves : (w : World) (side : Side) (p : Position) → Leaves w (settled w
 taking_leaves w side p =
     let opened = after_opening (view_of w side) p in
     let missing = length (missing_of w.conversation opened) in
-    steps_leave w (is_own side p.epoch) (has_opened (view_of w side) p) (nat_lt 256 missing)
-    (nat_le 64 (length (inbox_in w side)))
+    steps_leave w (is_own side p.epoch) (has_opened (view_of w side) p) (nat_lt KEPT_LIMIT missing)
+    (nat_le INBOX_LIMIT (length (inbox_in w side)))
     (OwnPacket p.epoch) (Spent p) (SkipLimit missing) InboxFull (step (Opened p) (with_view w side opened))
     (with_view_leaves w side opened)
 

@@ -7,7 +7,7 @@ use Rattle.boxes.specs.Items.{Item}
 use Rattle.dr_base.specs.Position.{is_own}
 use Rattle.dr_base.specs.declared.position.Position.{Position}
 use Rattle.dr_base.specs.declared.position.Side.{Side}
-use Rattle.etm_aead.specs.Chain.{message_key}
+use Rattle.fs_aead.specs.Chain.{message_key}
 use Rattle.kem_laws.specs.Mechanism.{Mechanism}
 use Rattle.session_model.specs.Schedule.{session_of}
 use Rattle.session_model.specs.Sealing.{posted}

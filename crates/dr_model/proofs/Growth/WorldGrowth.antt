@@ -3,6 +3,7 @@ use Rattle.std.proofs.Common.{◌≡◌, ℕ, ◌+◌, Bool, true, false, List, 
 use Rattle.std.specs.List.{list_any}
 use Rattle.std.specs.Prelude.{if◌then◌else◌, nat_le, nat_lt, is_none}
 use Rattle.std.proofs.lemmas.Bool.{cond_both}
+use Rattle.dr_base.specs.declared.limits.TheConstants.{KEPT_LIMIT, INBOX_LIMIT}
 use Rattle.boxes.specs.Items.{Item}
 use Rattle.dr_base.specs.Position.{is_own, is_at}
 use Rattle.dr_base.specs.declared.position.Position.{Position}
@@ -106,8 +107,8 @@ taking_sound w side p =
     let missing = length (missing_of w.conversation (after_opening (view_of w side) p)) in
     unless_sound w (is_own side p.epoch) (OwnPacket p.epoch) _
     (λ _. unless_sound w (has_opened (view_of w side) p) (Spent p) _
-    (λ new. unless_sound w (nat_lt 256 missing) (SkipLimit missing) _
-    (λ _. unless_sound w (nat_le 64 (length (inbox_in w side))) InboxFull _ (λ _. opened_sound w side p new))))
+    (λ new. unless_sound w (nat_lt KEPT_LIMIT missing) (SkipLimit missing) _
+    (λ _. unless_sound w (nat_le INBOX_LIMIT (length (inbox_in w side))) InboxFull _ (λ _. opened_sound w side p new))))
 
 -- or the network holds no such packet
 at_sound : (w : World) (side : Side) (p : Option Position) → IsSound w (taking_at w side p)

@@ -6,7 +6,7 @@ use Rattle.std.proofs.lemmas.List.Elements.{All-append, All-cons, All-filter, Al
 use Rattle.std.proofs.lemmas.List.Kept.{AllPairs-cons}
 use Rattle.dr_base.specs.Position.{is_own}
 use Rattle.dr_base.specs.declared.position.Position.{Position}
-use Rattle.etm_aead.specs.Table.{IsBefore}
+use Rattle.fs_aead.specs.Table.{IsBefore}
 use Rattle.dr_model.specs.Conversations.Conversation.{Conversation, count_of}
 use Rattle.dr_model.specs.Conversations.Indices.{is_among, missing_to, reach}
 use Rattle.dr_model.specs.Conversations.Lawful.{HasArrived}

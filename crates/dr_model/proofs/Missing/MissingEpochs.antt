@@ -9,7 +9,7 @@ use Rattle.std.proofs.lemmas.List.Elements.{filter-append}
 use Rattle.dr_base.specs.Position.{is_own}
 use Rattle.dr_base.specs.declared.key.Kept.{Kept}
 use Rattle.dr_base.specs.declared.position.Position.{Position}
-use Rattle.etm_aead.specs.Table.{is_at, kept_key, without}
+use Rattle.fs_aead.specs.Table.{is_kept_at, kept_key, without}
 use Rattle.kem_laws.specs.Mechanism.{Mechanism}
 use Rattle.dr_model.specs.Conversations.Conversation.{Conversation}
 use Rattle.dr_model.specs.Conversations.Indices.{missing_to}
@@ -99,7 +99,7 @@ keys_below-same k c v next (suc n) side same =
 -- ---- a key that is asked for
 
 other_epoch : (p : Position) (epoch : ℕ) (stream : List ℕ) (i : ℕ) → (epoch ≡ p.epoch → ⊥)
-    → is_at p (key_in epoch stream i) ≡ false
+    → is_kept_at p (key_in epoch stream i) ≡ false
 other_epoch p epoch stream i ne = grind (arith, nat_tests)
 
 -- the keys of another epoch aren't it
@@ -109,7 +109,7 @@ unfolding kept_key
 find_other p epoch stream [] ne = refl
 find_other p epoch stream (i ∷ rest) ne =
     ap (λ (b : Bool). option_map (λ (kept : Kept). kept.key.bytes)
-    (if b then Some (key_in epoch stream i) else find (is_at p)
+    (if b then Some (key_in epoch stream i) else find (is_kept_at p)
     (map (key_in epoch stream) rest))) (other_epoch p epoch stream i ne)
     ∙ find_other p epoch stream rest ne
 
@@ -196,7 +196,7 @@ without-below k c v next p zero side taken =
     ap (λ keys. without keys p) (keys_below-zero k c v) ∙ sym (keys_below-zero k c next)
 without-below k c v next p (suc n) side taken =
     ap (λ keys. without keys p) (keys_below-suc k c v n)
-    ∙ filter-append (λ kept. not (is_at p kept)) (keys_below k c v n) (unless_own (is_own v.side n) (epoch_keys k c v n))
+    ∙ filter-append (λ kept. not (is_kept_at p kept)) (keys_below k c v n) (unless_own (is_own v.side n) (epoch_keys k c v n))
     ∙ ap₂ (λ a b. a ++ b)
     (without-below k c v next p n side (λ epoch low. taken epoch (omega arith)))
     (without_unless (is_own v.side n) p (epoch_keys k c v n) (epoch_keys k c next n) (taken n (omega arith))

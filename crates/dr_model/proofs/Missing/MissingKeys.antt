@@ -9,8 +9,8 @@ use Rattle.std.proofs.lemmas.List.Elements.{filter-append}
 use Rattle.std.proofs.lemmas.List.Folds.{find-append}
 use Rattle.dr_base.specs.declared.key.Kept.{Kept}
 use Rattle.dr_base.specs.declared.position.Position.{Position}
-use Rattle.etm_aead.specs.Chain.{message_key}
-use Rattle.etm_aead.specs.Table.{is_at, kept_key, without}
+use Rattle.fs_aead.specs.Chain.{message_key}
+use Rattle.fs_aead.specs.Table.{is_kept_at, kept_key, without}
 use Rattle.dr_model.specs.Conversations.Indices.{is_among, missing_to}
 use Rattle.dr_model.proofs.Missing.Arrived.{is_among-last, is_among-other}
 use Rattle.dr_model.proofs.Missing.MissingIndices.{missing_to-suc, unless_among, unless, unless_not}
@@ -38,12 +38,12 @@ keys_in-suc epoch stream arrived n =
 -- ---- a key that is asked for
 
 -- a key of another index
-is_at-other : (epoch : ℕ) (stream : List ℕ) (i k : ℕ) → k ≢ i → is_at (at_index epoch i) (key_in epoch stream k) ≡ false
-is_at-other epoch stream i k other = grind (arith, nat_tests)
+is_kept_at-other : (epoch : ℕ) (stream : List ℕ) (i k : ℕ) → k ≢ i → is_kept_at (at_index epoch i) (key_in epoch stream k) ≡ false
+is_kept_at-other epoch stream i k other = grind (arith, nat_tests)
 
 -- the key of that index
-is_at-same : (epoch : ℕ) (stream : List ℕ) (i : ℕ) → is_at (at_index epoch i) (key_in epoch stream i) ≡ true
-is_at-same epoch stream i = grind (arith, nat_tests)
+is_kept_at-same : (epoch : ℕ) (stream : List ℕ) (i : ℕ) → is_kept_at (at_index epoch i) (key_in epoch stream i) ≡ true
+is_kept_at-same epoch stream i = grind (arith, nat_tests)
 
 -- other keys are not found
 find_other : (epoch : ℕ) (stream : List ℕ) (i k : ℕ) (b : Bool) → (b ≡ false → k ≢ i)
@@ -52,7 +52,7 @@ unfolding kept_key
 find_other epoch stream i k true h = refl
 find_other epoch stream i k false h =
     ap (λ b. option_map (λ (kept : Kept). kept.key.bytes) (if b then Some (key_in epoch stream k) else None))
-    (is_at-other epoch stream i k (h refl))
+    (is_kept_at-other epoch stream i k (h refl))
 
 -- the key itself is
 find_same : (epoch : ℕ) (stream : List ℕ) (i : ℕ)
@@ -60,7 +60,7 @@ find_same : (epoch : ℕ) (stream : List ℕ) (i : ℕ)
 unfolding kept_key
 find_same epoch stream i =
     ap (λ b. option_map (λ (kept : Kept). kept.key.bytes) (if b then Some (key_in epoch stream i) else None))
-    (is_at-same epoch stream i)
+    (is_kept_at-same epoch stream i)
 
 -- the first of two, under a function
 or_mapped : (f : Kept → List ℕ) (a b : Option Kept)
@@ -73,7 +73,7 @@ pub kept_key-append : (front behind : List Kept) (p : Position)
     → kept_key (front ++ behind) p ≡ option_or (kept_key front p) (kept_key behind p)
 unfolding kept_key
 kept_key-append front behind p =
-    ap (option_map (λ (kept : Kept). kept.key.bytes)) (find-append (is_at p) front behind)
+    ap (option_map (λ (kept : Kept). kept.key.bytes)) (find-append (is_kept_at p) front behind)
     ∙ or_mapped (λ (kept : Kept). kept.key.bytes) _ _
 
 -- an index that isn't missing has no key
@@ -121,7 +121,7 @@ gone : (epoch : ℕ) (stream : List ℕ) (i : ℕ) (b : Bool)
     → without (map (key_in epoch stream) (if b then [] else i ∷ [])) (at_index epoch i) ≡ []
 unfolding without
 gone epoch stream i true = refl
-gone epoch stream i false = ap (λ b. if not b then key_in epoch stream i ∷ [] else []) (is_at-same epoch stream i)
+gone epoch stream i false = ap (λ b. if not b then key_in epoch stream i ∷ [] else []) (is_kept_at-same epoch stream i)
 
 -- the others stay
 stays : (epoch : ℕ) (stream : List ℕ) (i k : ℕ) (b : Bool) → k ≢ i
@@ -130,7 +130,7 @@ stays : (epoch : ℕ) (stream : List ℕ) (i k : ℕ) (b : Bool) → k ≢ i
 unfolding without
 stays epoch stream i k true other = refl
 stays epoch stream i k false other =
-    ap (λ b. if not b then key_in epoch stream k ∷ [] else []) (is_at-other epoch stream i k other)
+    ap (λ b. if not b then key_in epoch stream k ∷ [] else []) (is_kept_at-other epoch stream i k other)
 
 -- the key that one index more may have
 without_step : (epoch : ℕ) (stream arrived : List ℕ) (i k : ℕ)
@@ -156,7 +156,7 @@ unfolding missing_to without
 without-arrived epoch stream arrived i zero = refl
 without-arrived epoch stream arrived i (suc n) =
     ap (λ keys. without keys (at_index epoch i)) (keys_in-suc epoch stream arrived n)
-    ∙ filter-append (λ kept. not (is_at (at_index epoch i) kept)) (keys_in epoch stream arrived n)
+    ∙ filter-append (λ kept. not (is_kept_at (at_index epoch i) kept)) (keys_in epoch stream arrived n)
     (map (key_in epoch stream) (unless_among arrived (suc n)))
     ∙ ap₂ (λ a b. a ++ b) (without-arrived epoch stream arrived i n) (without_step epoch stream arrived i (suc n))
     ∙ sym (keys_in-suc epoch stream (arrived ++ i ∷ []) n)

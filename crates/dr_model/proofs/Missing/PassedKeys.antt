@@ -1,9 +1,9 @@
 -- The keys of an epoch that are passed after the greatest index that arrived.
 use Rattle.std.proofs.Common.{◌≡◌, ℕ, zero, suc, ◌+◌, ◌-◌, ◌<◌, ◌≤◌, false, List, [], ◌∷◌, ◌++◌, map, sym, ap, ap₂, ◌∙◌, add-one, append_assoc, append-nil, arith}
 use Rattle.dr_base.specs.declared.key.Kept.{Kept}
-use Rattle.etm_aead.specs.Chain.{chain_of, message_key}
-use Rattle.etm_aead.specs.Table.{shelved}
-use Rattle.etm_aead.proofs.Streams.{chain_of-zero, message_key-add}
+use Rattle.fs_aead.specs.Chain.{chain_of, message_key}
+use Rattle.fs_aead.specs.Table.{shelved}
+use Rattle.fs_aead.proofs.Streams.{chain_of-zero, message_key-add}
 use Rattle.dr_model.specs.Conversations.Indices.{is_among, missing_to, reach}
 use Rattle.dr_model.proofs.Missing.Arrived.{is_among-last, is_among-other, is_among-beyond}
 use Rattle.dr_model.proofs.Missing.MissingIndices.{unless_among, unless, unless_not, missing_to-after}

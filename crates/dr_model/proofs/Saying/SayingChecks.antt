@@ -1,6 +1,7 @@
 -- Whether a side may say a text, as its client checks.
 use Rattle.std.proofs.Common.{◌≡◌, ℕ, ◌-◌, ◌^◌, ◌<◌, ◌≤◌, true, false, Bool, not, nat_le, nat_lt, List, length, Ok, Err, refl, ◌∙◌, ap, if◌then◌else◌}
 use Rattle.std.proofs.lemmas.Bool.{leb-false, ltb-false}
+use Rattle.dr_base.specs.declared.limits.TheConstants.{TEXT_LIMIT, INDEX_LIMIT, LAST_EPOCH, OUTBOX_LIMIT}
 use Rattle.dr_base.specs.Position.{is_own}
 use Rattle.dr_base.specs.declared.position.Side.{Side}
 use Rattle.dr_base.specs.declared.position.Side.TheVariants.{First, Second}
@@ -25,8 +26,8 @@ check_by : (len epoch : ℕ) (long full own : Bool) (o : Own) (public : List ℕ
     → (if long then Err (TextTooLong len) else (if full then Err OutboxFull else (if long then Err (TextTooLong len) else phase_check epoch (if own then in_own o else in_peers public))))
     ≡ (if long then Err (TextTooLong len) else
     (if full then Err OutboxFull else
-    (if own then (if nat_le 65535 o.sent then Err EpochFull else Ok false) else
-    (if nat_le (2 ^ 32 - 2) epoch then Err LastEpoch else Ok true))))
+    (if own then (if nat_le INDEX_LIMIT o.sent then Err EpochFull else Ok false) else
+    (if nat_le LAST_EPOCH epoch then Err LastEpoch else Ok true))))
 check_by len epoch true full own o public = refl
 check_by len epoch false true own o public = refl
 check_by len epoch false false true o public = refl
@@ -35,16 +36,16 @@ check_by len epoch false false false o public = refl
 -- as its client checks
 check_view : (k : Mechanism) (c : Conversation) (v : View) (side : Side) (len : ℕ) → v.side ≡ side
     → say_check (client_at k c v) len
-    ≡ (if nat_lt 1024 len then Err (TextTooLong len) else (if nat_le 32 (length (outbox_of k c v)) then Err OutboxFull
-    else (if is_own side v.epoch then (if nat_le 65535 (count_of c v.epoch) then Err EpochFull else Ok false) else
-    (if nat_le (2 ^ 32 - 2) v.epoch then Err LastEpoch else Ok true))))
+    ≡ (if nat_lt TEXT_LIMIT len then Err (TextTooLong len) else (if nat_le OUTBOX_LIMIT (length (outbox_of k c v)) then Err OutboxFull
+    else (if is_own side v.epoch then (if nat_le INDEX_LIMIT (count_of c v.epoch) then Err EpochFull else Ok false) else
+    (if nat_le LAST_EPOCH v.epoch then Err LastEpoch else Ok true))))
 check_view k c v side len is =
-    check_by len v.epoch (nat_lt 1024 len) (nat_le 32 (length (outbox_of k c v))) (is_own v.side v.epoch) (own_of k c v)
+    check_by len v.epoch (nat_lt TEXT_LIMIT len) (nat_le OUTBOX_LIMIT (length (outbox_of k c v))) (is_own v.side v.epoch) (own_of k c v)
     (turn_of_epoch k c v.epoch).public
-    ∙ ap (λ s. if nat_lt 1024 len then Err (TextTooLong len) else
-    (if nat_le 32 (length (outbox_of k c v)) then Err OutboxFull
-    else (if is_own s v.epoch then (if nat_le 65535 (count_of c v.epoch) then Err EpochFull else Ok false) else
-    (if nat_le (2 ^ 32 - 2) v.epoch then Err LastEpoch else Ok true)))) is
+    ∙ ap (λ s. if nat_lt TEXT_LIMIT len then Err (TextTooLong len) else
+    (if nat_le OUTBOX_LIMIT (length (outbox_of k c v)) then Err OutboxFull
+    else (if is_own s v.epoch then (if nat_le INDEX_LIMIT (count_of c v.epoch) then Err EpochFull else Ok false) else
+    (if nat_le LAST_EPOCH v.epoch then Err LastEpoch else Ok true)))) is
 
 pub same_check : (k : Mechanism) (w : World) (side : Side) (len : ℕ) → IsLawfulWorld k w
     → say_check (client_of (sides_of k w) side) len ≡ may_say k w side len
@@ -55,8 +56,8 @@ same_check k w Second len lawful = check_view k w.conversation w.second Second l
 session_by : (len epoch : ℕ) (long own : Bool) (o : Own) (public : List ℕ)
     → (if long then Err (TextTooLong len) else phase_check epoch (if own then in_own o else in_peers public))
     ≡ (if long then Err (TextTooLong len) else
-    (if own then (if nat_le 65535 o.sent then Err EpochFull else Ok false) else
-    (if nat_le (2 ^ 32 - 2) epoch then Err LastEpoch else Ok true)))
+    (if own then (if nat_le INDEX_LIMIT o.sent then Err EpochFull else Ok false) else
+    (if nat_le LAST_EPOCH epoch then Err LastEpoch else Ok true)))
 session_by len epoch true own o public = refl
 session_by len epoch false true o public = refl
 session_by len epoch false false o public = refl
@@ -64,7 +65,7 @@ session_by len epoch false false o public = refl
 pub session_check : (k : Mechanism) (c : Conversation) (v : View) (len : ℕ)
     → send_check (state_of k c v) len ≡ checked_in c v len
 session_check k c v len =
-    session_by len v.epoch (nat_lt 1024 len) (is_own v.side v.epoch) (own_of k c v) (turn_of_epoch k c v.epoch).public
+    session_by len v.epoch (nat_lt TEXT_LIMIT len) (is_own v.side v.epoch) (own_of k c v) (turn_of_epoch k c v.epoch).public
 
 -- whose epoch it is, by the answer
 own_by : (p q r s : Refusal) (long full own used last : Bool) (turns : Bool)
@@ -81,9 +82,9 @@ own_by p q r s false false false used false false h = cc
 pub own_where : (k : Mechanism) (w : World) (side : Side) (len : ℕ) (turns : Bool) → may_say k w side len ≡ Ok turns
     → is_own side (view_of w side).epoch ≡ not turns
 own_where k w side len turns h =
-    own_by (TextTooLong len) OutboxFull EpochFull LastEpoch (nat_lt 1024 len) (nat_le 32 (length (outbox_in k w side)))
+    own_by (TextTooLong len) OutboxFull EpochFull LastEpoch (nat_lt TEXT_LIMIT len) (nat_le OUTBOX_LIMIT (length (outbox_in k w side)))
     (is_own side (view_of w side).epoch)
-    (nat_le 65535 (count_of w.conversation (view_of w side).epoch)) (nat_le (2 ^ 32 - 2) (view_of w side).epoch) turns h
+    (nat_le INDEX_LIMIT (count_of w.conversation (view_of w side).epoch)) (nat_le LAST_EPOCH (view_of w side).epoch) turns h
 
 -- the tests that failed
 tests_by : (p q r s : Refusal) (long full own used last : Bool) (turns : Bool)
@@ -100,15 +101,15 @@ tests_by p q r s false false false used false false h = cc
 
 -- a text that may be said is short, and there is room in the outbox and in the epoch, or for one epoch more
 pub record MaySay (c : Conversation) (epoch packets len : ℕ) (turns : Bool) : Type 0 where
-  pub short : len ≤ 1024
+  pub short : len ≤ TEXT_LIMIT
   pub free : packets < 32
-  pub room : (if turns then nat_le (2 ^ 32 - 2) epoch else nat_le 65535 (count_of c epoch)) ≡ false
+  pub room : (if turns then nat_le LAST_EPOCH epoch else nat_le INDEX_LIMIT (count_of c epoch)) ≡ false
 
 pub may_say-where : (k : Mechanism) (w : World) (side : Side) (len : ℕ) (turns : Bool) → may_say k w side len ≡ Ok turns
     → MaySay w.conversation (view_of w side).epoch (length (outbox_in k w side)) len turns
 may_say-where k w side len turns h =
     let tests =
-    tests_by (TextTooLong len) OutboxFull EpochFull LastEpoch (nat_lt 1024 len) (nat_le 32 (length (outbox_in k w side)))
+    tests_by (TextTooLong len) OutboxFull EpochFull LastEpoch (nat_lt TEXT_LIMIT len) (nat_le OUTBOX_LIMIT (length (outbox_in k w side)))
     (is_own side (view_of w side).epoch)
-    (nat_le 65535 (count_of w.conversation (view_of w side).epoch)) (nat_le (2 ^ 32 - 2) (view_of w side).epoch) turns h in
-    record { short = ltb-false 1024 len tests.0; free = leb-false 32 (length (outbox_in k w side)) tests.1; room = tests.2 }
+    (nat_le INDEX_LIMIT (count_of w.conversation (view_of w side).epoch)) (nat_le LAST_EPOCH (view_of w side).epoch) turns h in
+    record { short = ltb-false TEXT_LIMIT len tests.0; free = leb-false OUTBOX_LIMIT (length (outbox_in k w side)) tests.1; room = tests.2 }

@@ -3,6 +3,7 @@ use Rattle.std.proofs.Common.{◌≡◌, ℕ, ◌+◌, ◌-◌, ◌^◌, ◌<◌
 use Rattle.std.specs.Prelude.{IfSome, is_none, is_some}
 use Rattle.std.proofs.lemmas.Bool.{leb-false}
 use Rattle.std.proofs.lemmas.List.{length_push}
+use Rattle.dr_base.specs.declared.limits.TheConstants.{TEXT_LIMIT, INDEX_LIMIT, LAST_EPOCH, OUTBOX_LIMIT}
 use Rattle.dr_base.specs.Position.{is_own, peer_of}
 use Rattle.dr_base.specs.declared.position.Side.{Side}
 use Rattle.dr_base.specs.declared.position.Side.TheVariants.{First, Second}
@@ -65,7 +66,7 @@ here_lawful k w First text lawful own may =
     let e = w.first.epoch in
     record {
       conversation = lawful_text k c e text lawful.conversation lawful.first.reached may.short
-          (leb-false 65535 (count_of c e) may.room);
+          (leb-false INDEX_LIMIT (count_of c e) may.room);
       first = view_text k c First w.first e text lawful.conversation lawful.first (λ _. may.free) lawful.first.near_end;
       second = view_text k c Second w.second e text lawful.conversation lawful.second
           (no_other k c First w.second e own) lawful.first.near_end;
@@ -76,7 +77,7 @@ here_lawful k w Second text lawful own may =
     let e = w.second.epoch in
     record {
       conversation = lawful_text k c e text lawful.conversation lawful.second.reached may.short
-          (leb-false 65535 (count_of c e) may.room);
+          (leb-false INDEX_LIMIT (count_of c e) may.room);
       first = view_text k c First w.first e text lawful.conversation lawful.first
           (no_other k c Second w.first e own) lawful.second.near_end;
       second = view_text k c Second w.second e text lawful.conversation lawful.second (λ _. may.free) lawful.second.near_end;
@@ -88,7 +89,7 @@ here_lawful k w Second text lawful own may =
 -- the side that begins it
 mine_turned : (k : Mechanism) (c : Conversation) (side : Side) (v : View) (seed text : List ℕ) → IsLawfulConversation k c
     → IsLawfulView k c side v
-    → is_own side v.epoch ≡ false → length (outbox_of k c v) < 32
+    → is_own side v.epoch ≡ false → length (outbox_of k c v) < OUTBOX_LIMIT
     → IsLawfulView k (with_turn c seed (v.epoch + 1) text) side (after_turn v)
 mine_turned k c side v seed text world lawful peers room =
     let last = at_last k c side v lawful peers in
@@ -114,7 +115,7 @@ peer_turned k c side v u seed text world lawful other peers =
 
 next_lawful : (k : Mechanism) (w : World) (side : Side) (seed text : List ℕ) → IsLawfulWorld k w
     → is_own side (view_of w side).epoch ≡ false → IsSeed k seed
-    → length text ≤ 1024 → length (outbox_in k w side) < 32 → (view_of w side).epoch < 2 ^ 32 - 2
+    → length text ≤ TEXT_LIMIT → length (outbox_in k w side) < OUTBOX_LIMIT → (view_of w side).epoch < LAST_EPOCH
     → IsLawfulWorld k (said_next (drawn_in w) side seed text).next
 next_lawful k w First seed text lawful peers pairs short free room = record {
   conversation = lawful_turn k w.conversation seed w.first.epoch text lawful.conversation
@@ -134,9 +135,9 @@ next_lawful k w Second seed text lawful peers pairs short free room = record {
 -- whether the seed has a pair or not: a draw was made
 turn_lawful : (k : Mechanism) (w : World) (side : Side) (seed text : List ℕ) (pair : Option (List ℕ × List ℕ))
     → IsLawfulWorld k w
-    → is_own side (view_of w side).epoch ≡ false → length seed ≡ 32 → k.meaning.pair_of seed ≡ pair → length text ≤ 1024
-    → length (outbox_in k w side) < 32
-    → (view_of w side).epoch < 2 ^ 32 - 2
+    → is_own side (view_of w side).epoch ≡ false → length seed ≡ 32 → k.meaning.pair_of seed ≡ pair → length text ≤ TEXT_LIMIT
+    → length (outbox_in k w side) < OUTBOX_LIMIT
+    → (view_of w side).epoch < LAST_EPOCH
     → IsLawfulWorld k (if is_none pair then settled (drawn_in w) (Err NoPair) else said_next (drawn_in w) side seed text).next
 turn_lawful k w side seed text None lawful peers long is short free room = record {
   conversation = lawful.conversation;
@@ -161,7 +162,7 @@ saying_lawful k w side text (Ok true) lawful is =
     let seed = next_seed w.conversation.key w.draws in
     turn_lawful k w side seed text (k.meaning.pair_of seed) lawful (own_where k w side (length text) true is)
     (length-next_seed w.conversation.key w.draws lawful.given) refl may.short may.free
-    (leb-false (2 ^ 32 - 2) (view_of w side).epoch may.room)
+    (leb-false LAST_EPOCH (view_of w side).epoch may.room)
 
 pub lawful_says : (k : Mechanism) (w : World) (side : Side) (text : List ℕ) → IsLawfulWorld k w
     → IsLawfulWorld k (step_of k w (says side text)).next

@@ -5,8 +5,8 @@ use Rattle.std.proofs.lemmas.Bool.{cond-true, cond-false}
 use Rattle.std.proofs.lemmas.List.{drop-append-le}
 use Rattle.boxes.specs.Items.{Item}
 use Rattle.dr_base.specs.Position.{is_own}
-use Rattle.etm_aead.specs.Chain.{chain_of, next_chain, message_key}
-use Rattle.etm_aead.proofs.Streams.{chain_of-suc, message_key-suc}
+use Rattle.fs_aead.specs.Chain.{chain_of, next_chain, message_key}
+use Rattle.fs_aead.proofs.Streams.{chain_of-suc, message_key-suc}
 use Rattle.kem_laws.specs.Mechanism.{Mechanism}
 use Rattle.session_model.specs.Clients.{Client, accept_send, say_on}
 use Rattle.session_model.specs.Saying.{draft_own, draft_phase, draft_send}

@@ -6,8 +6,8 @@ use Rattle.boxes.specs.Items.{Item}
 use Rattle.dr_base.specs.Position.{is_own}
 use Rattle.dr_base.specs.declared.position.Position.{Position}
 use Rattle.dr_base.proofs.Parity.{own_after}
-use Rattle.etm_aead.specs.Chain.{next_chain, chain_message_key, message_key}
-use Rattle.etm_aead.proofs.Streams.{chain_of-zero, chain_of-suc, message_key-suc}
+use Rattle.fs_aead.specs.Chain.{next_chain, chain_message_key, message_key}
+use Rattle.fs_aead.proofs.Streams.{chain_of-zero, chain_of-suc, message_key-suc}
 use Rattle.kem_laws.specs.Mechanism.{Mechanism}
 use Rattle.session_model.specs.Clients.{accept_send, say_on}
 use Rattle.session_model.specs.Saying.{SendDraft, draft_turn, draft_phase, draft_send}

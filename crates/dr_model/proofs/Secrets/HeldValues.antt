@@ -4,7 +4,7 @@ use Rattle.std.specs.Prelude.{option_map}
 use Rattle.std.proofs.lemmas.List.Elements.{All-contains, All-map}
 use Rattle.dr_base.specs.Position.{is_own}
 use Rattle.dr_base.specs.declared.key.Kept.{Kept}
-use Rattle.etm_aead.specs.Chain.{chain_of, message_key}
+use Rattle.fs_aead.specs.Chain.{chain_of, message_key}
 use Rattle.kem_laws.specs.Mechanism.{Mechanism}
 use Rattle.session_model.specs.States.{Own, Reception, in_own, in_peers, receiving_epoch}
 use Rattle.dr_model.specs.Conversations.Conversation.{Conversation}

@@ -1,6 +1,6 @@
 -- The rules by which secrets give others are steps of the key schedule.
 use Rattle.std.proofs.Common.{◌≡◌, ℕ, zero, suc, ◌+◌, refl, sym, ◌∙◌, ap, add-one}
-use Rattle.etm_aead.proofs.Streams.{chain_of-suc, chain_of-zero, message_key-suc}
+use Rattle.fs_aead.proofs.Streams.{chain_of-suc, chain_of-zero, message_key-suc}
 use Rattle.kem_laws.specs.Mechanism.{IsLawfulMechanism, Mechanism}
 use Rattle.prf_prng.specs.Root.{next_root, root_key}
 use Rattle.session_model.specs.Turns.{Turn, next_turn, pair_at, turn_at}

@@ -4,9 +4,9 @@ use Rattle.std.proofs.lemmas.Bool.{and_from, cond-true, le-leb, lt-ltb}
 use Rattle.std.proofs.lemmas.List.{length-map}
 use Rattle.dr_base.specs.declared.key.Kept.{Kept}
 use Rattle.dr_base.specs.declared.position.Position.{Position}
-use Rattle.etm_aead.specs.Chain.{chain_of, message_key}
-use Rattle.etm_aead.specs.Table.{kept_key, shelved}
-use Rattle.etm_aead.proofs.Streams.{chain_of-add, length-shelved, message_key-add}
+use Rattle.fs_aead.specs.Chain.{chain_of, message_key}
+use Rattle.fs_aead.specs.Table.{kept_key, shelved}
+use Rattle.fs_aead.proofs.Streams.{chain_of-add, length-shelved, message_key-add}
 use Rattle.kem_laws.specs.Mechanism.{Mechanism}
 use Rattle.session_model.specs.States.{Reception, State}
 use Rattle.session_model.specs.Ways.{chain_way, kept_way, known_way, within_limit}

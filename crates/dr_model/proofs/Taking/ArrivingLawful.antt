@@ -5,6 +5,7 @@ use Rattle.std.proofs.lemmas.Bool.{cases_eq, leb-false}
 use Rattle.std.proofs.lemmas.Bool.Decides.{nat_tests}
 use Rattle.std.proofs.lemmas.List.{length_push}
 use Rattle.std.proofs.lemmas.List.Elements.{All-push, All-weaker}
+use Rattle.dr_base.specs.declared.limits.TheConstants.{KEPT_LIMIT, INBOX_LIMIT}
 use Rattle.dr_base.specs.Position.{is_at, is_own}
 use Rattle.dr_base.specs.declared.position.Position.{Position}
 use Rattle.dr_base.specs.declared.position.Side.{Side}
@@ -37,8 +38,8 @@ still_arrived c v p q arrived = record {
 pub record IsTakeable (c : Conversation) (side : Side) (v : View) (p : Position) : Type 0 where
   pub peers : is_own side p.epoch ≡ false
   pub unopened : has_opened v p ≡ false
-  pub near : length (missing_of c (after_opening v p)) ≤ 256
-  pub room : length (inbox_of c v) < 64
+  pub near : length (missing_of c (after_opening v p)) ≤ KEPT_LIMIT
+  pub room : length (inbox_of c v) < INBOX_LIMIT
 
 -- each peer's epoch that is reached then has one that arrived
 some_after : (k : Mechanism) (c : Conversation) (side : Side) (v : View) (p : Position) (epoch : ℕ)
@@ -105,7 +106,7 @@ taken_lawful k w false false false true p q r t next lawful h = lawful
 taken_lawful k w false false false false p q r t next lawful h = h refl refl refl refl
 
 -- few enough are missing
-few_missing : (n : ℕ) → nat_lt 256 n ≡ false → n ≤ 256
+few_missing : (n : ℕ) → nat_lt KEPT_LIMIT n ≡ false → n ≤ KEPT_LIMIT
 few_missing n h = grind (arith, nat_tests)
 
 -- a side takes the packet of a text
@@ -115,8 +116,8 @@ lawful_taking k w side p lawful said =
     let c = w.conversation in
     let opened = after_opening (view_of w side) p in
     let missing = length (missing_of c opened) in
-    taken_lawful k w (is_own side p.epoch) (has_opened (view_of w side) p) (nat_lt 256 missing)
-    (nat_le 64 (length (inbox_in w side))) (OwnPacket p.epoch) (Spent p) (SkipLimit missing) InboxFull
+    taken_lawful k w (is_own side p.epoch) (has_opened (view_of w side) p) (nat_lt KEPT_LIMIT missing)
+    (nat_le INBOX_LIMIT (length (inbox_in w side))) (OwnPacket p.epoch) (Spent p) (SkipLimit missing) InboxFull
     (step (Opened p) (with_view w side opened)) lawful
     (λ peers new near room. with_lawful k w side opened lawful
     (lawful_after k c side (view_of w side) p lawful.conversation (view_lawful k w side lawful) said
@@ -124,5 +125,5 @@ lawful_taking k w side p lawful said =
       peers = peers;
       unopened = new;
       near = few_missing missing near;
-      room = leb-false 64 (length (inbox_in w side)) room;
+      room = leb-false INBOX_LIMIT (length (inbox_in w side)) room;
     })))

@@ -1,6 +1,7 @@
 -- What a side makes of the packet of a text that was said, and what it keeps then.
 use Rattle.std.proofs.Common.{◌≡◌, Bool, true, false, nat_le, nat_lt, List, [], ◌∷◌, ◌++◌, length, drop, Result, Ok, Err, refl, sym, ap, ap₂, ◌∙◌, arith, if◌then◌else◌}
 use Rattle.std.proofs.lemmas.List.{drop-append-le, length-map, map_push}
+use Rattle.dr_base.specs.declared.limits.TheConstants.{KEPT_LIMIT, INBOX_LIMIT}
 use Rattle.boxes.specs.Items.{Item}
 use Rattle.dr_base.specs.Position.{is_own}
 use Rattle.dr_base.specs.declared.position.Position.{Position}
@@ -71,14 +72,14 @@ answered : (k : Mechanism) (c : Conversation) (side : Side) (v : View) (p : Posi
     → take_on k (client_at k c v) (post_at k c p).bytes
     ≡ (let missing = length (missing_of c (after_opening v p)) in
     if is_own v.side p.epoch then Err (OwnPacket p.epoch) else (if has_opened v p then Err (Spent p)
-    else (if nat_lt 256 missing then Err (SkipLimit missing) else
-    (if nat_le 64 (length (inbox_of c v)) then Err InboxFull else Ok (taken_at k c v p)))))
+    else (if nat_lt KEPT_LIMIT missing then Err (SkipLimit missing) else
+    (if nat_le INBOX_LIMIT (length (inbox_of c v)) then Err InboxFull else Ok (taken_at k c v p)))))
 unfolding take_on
 answered k c side v p law lawful view said =
     let missing = length (missing_of c (after_opening v p)) in
     ap (take_read k (client_at k c v)) (read-post k c p law lawful (is_place k c p lawful said))
     ∙ ap (accept_receive (client_at k c v)) (received k c side v p law lawful view said)
-    ∙ accept_by (client_at k c v) (is_own v.side p.epoch) (has_opened v p) (nat_lt 256 missing) (OwnPacket p.epoch) (Spent p)
+    ∙ accept_by (client_at k c v) (is_own v.side p.epoch) (has_opened v p) (nat_lt KEPT_LIMIT missing) (OwnPacket p.epoch) (Spent p)
     (SkipLimit missing)
     (record { position = p; text = text_at c p; next = state_of k c (after_opening v p) })
 
@@ -116,10 +117,10 @@ arrival k w side p law lawful said =
     ∙ ap (opened_on (sides_of k w) side) (answered k c side v p law lawful.conversation view said)
     ∙ ap₂ (λ s (taken : TakenPacket). opened_on (sides_of k w) side
     (if is_own s p.epoch then Err (OwnPacket p.epoch) else (if has_opened v p then Err (Spent p)
-    else (if nat_lt 256 missing then Err (SkipLimit missing) else
-    (if nat_le 64 (length (inbox_of c v)) then Err InboxFull else Ok taken)))))
+    else (if nat_lt KEPT_LIMIT missing then Err (SkipLimit missing) else
+    (if nat_le INBOX_LIMIT (length (inbox_of c v)) then Err InboxFull else Ok taken)))))
     view.side_is (taken_after k c side v p view)
-    ∙ seen_world-by k w side (is_own side p.epoch) (has_opened v p) (nat_lt 256 missing) (nat_le 64 (length (inbox_of c v)))
+    ∙ seen_world-by k w side (is_own side p.epoch) (has_opened v p) (nat_lt KEPT_LIMIT missing) (nat_le INBOX_LIMIT (length (inbox_of c v)))
     (OwnPacket p.epoch) (Spent p) (SkipLimit missing) InboxFull
     (record { position = p; next = client_at k c (after_opening v p) })
     (step (Opened p) (with_view w side (after_opening v p)))

@@ -7,8 +7,8 @@ use Rattle.std.proofs.lemmas.List.Sums.{count_by-le-length, length-filter}
 use Rattle.dr_base.specs.Position.{is_own}
 use Rattle.dr_base.specs.declared.key.Kept.{Kept}
 use Rattle.dr_base.specs.declared.position.Position.{Position}
-use Rattle.etm_aead.specs.Chain.{chain_of, message_key}
-use Rattle.etm_aead.specs.Table.{is_at, kept_key, without}
+use Rattle.fs_aead.specs.Chain.{chain_of, message_key}
+use Rattle.fs_aead.specs.Table.{is_kept_at, kept_key, without}
 use Rattle.kem_laws.specs.Mechanism.{Mechanism}
 use Rattle.session_model.specs.States.{Reception, State}
 use Rattle.session_model.specs.Ways.{chain_way, kept_way, known_way}
@@ -180,7 +180,7 @@ length-kept k c v p late =
     let taken : without keys p ≡ keys_below k c next (v.epoch + 1) = without-below k c v next p (v.epoch + 1) refl
     (λ epoch low own. without-epoch k c v p epoch late) in
     let fewer : length (without keys p) ≤ length keys = omega
-    (arith, length-filter (λ kept. not (is_at p kept)) keys, count_by-le-length (λ kept. not (is_at p kept)) keys) in
+    (arith, length-filter (λ kept. not (is_kept_at p kept)) keys, count_by-le-length (λ kept. not (is_kept_at p kept)) keys) in
     let before : length keys ≡ length (missing_of c v) = length-map (missing_of c v) (key_of k c) in
     let after : length (keys_below k c next (v.epoch + 1)) ≡ length (missing_of c next) = length-map (missing_of c next)
     (key_of k c) in

@@ -5,9 +5,9 @@ use Rattle.std.proofs.lemmas.Bool.{cond-true, cond-false, le-leb}
 use Rattle.std.proofs.lemmas.List.{drop_at, length-map, take_at}
 use Rattle.dr_base.specs.Position.{is_own}
 use Rattle.dr_base.specs.declared.key.Kept.{Kept}
-use Rattle.etm_aead.specs.Chain.{chain_of, message_key}
-use Rattle.etm_aead.specs.Table.{shelved}
-use Rattle.etm_aead.proofs.Streams.{length-shelved}
+use Rattle.fs_aead.specs.Chain.{chain_of, message_key}
+use Rattle.fs_aead.specs.Table.{shelved}
+use Rattle.fs_aead.proofs.Streams.{length-shelved}
 use Rattle.kem_laws.specs.Mechanism.{Mechanism, IsLawfulMechanism}
 use Rattle.prf_prng.specs.Root.{next_root, root_key}
 use Rattle.session_model.specs.States.{Phase, in_own, in_peers, Reception, State}

@@ -3,9 +3,9 @@ use Rattle.std.proofs.Common.{◌≡◌, ℕ, zero, suc, ◌+◌, ◌-◌, ◌<�
 use Rattle.std.specs.Prelude.{All, option_map}
 use Rattle.std.proofs.lemmas.Bool.{cond-true, cond-false, eq-eqb, le-leb, le-ltb}
 use Rattle.dr_base.specs.Position.{is_own}
-use Rattle.etm_aead.specs.Chain.{chain_of, message_key}
-use Rattle.etm_aead.specs.Table.{shelved}
-use Rattle.etm_aead.proofs.Streams.{length-shelved}
+use Rattle.fs_aead.specs.Chain.{chain_of, message_key}
+use Rattle.fs_aead.specs.Table.{shelved}
+use Rattle.fs_aead.proofs.Streams.{length-shelved}
 use Rattle.kem_laws.specs.Mechanism.{Mechanism}
 use Rattle.session_model.specs.States.{in_own, in_peers, receiving_epoch}
 use Rattle.session_model.specs.Ways.{epoch_way, next_way, turn_way, within_limit}

@@ -2,11 +2,12 @@
 use Rattle.std.proofs.Common.{◌≡◌, ℕ, ◌+◌, ◌<◌, ◌≤◌, Bool, true, false, nat_eq, nat_lt, length, Result, Ok, Err, refl, sym, ap, ◌∙◌, inl, inr, subst, arith, if◌then◌else◌}
 use Rattle.std.specs.Prelude.{All}
 use Rattle.std.proofs.lemmas.Bool.{not-false, cases_Bool, cases_eq, cases_lt, cond-true, cond-false, eq-eqb, ne_eqb, le-ltb}
+use Rattle.dr_base.specs.declared.limits.TheConstants.{KEPT_LIMIT}
 use Rattle.dr_base.specs.Position.{is_own}
 use Rattle.dr_base.specs.declared.position.Position.{Position}
 use Rattle.dr_base.specs.declared.position.Side.{Side}
 use Rattle.dr_base.proofs.Parity.{own_next}
-use Rattle.etm_aead.specs.Chain.{message_key}
+use Rattle.fs_aead.specs.Chain.{message_key}
 use Rattle.kem_laws.specs.Mechanism.{Mechanism, IsLawfulMechanism}
 use Rattle.packet.specs.Packet.{Fields}
 use Rattle.session_model.specs.Taking.{ReceiveDraft, draft_receive, opened_by}
@@ -36,7 +37,7 @@ opens_at k c next p = Ok (record { position = p; text = text_at c p; next = stat
 -- unless too many would be missing
 abbrev far_at : Mechanism → Conversation → View → Position → Result ReceiveDraft Refusal
 far_at k c next p =
-    if nat_lt 256 (length (missing_of c next)) then Err (SkipLimit (length (missing_of c next))) else opens_at k c next p
+    if nat_lt KEPT_LIMIT (length (missing_of c next)) then Err (SkipLimit (length (missing_of c next))) else opens_at k c next p
 
 -- a way within the limit
 answer_within : (f : Fields) (b : Bool) (n : ℕ) (way : Way) (opened : Result ReceiveDraft Refusal)
@@ -50,14 +51,14 @@ answer_limit : (k : Mechanism) (c : Conversation) (next : View) (p : Position)
     ≡ far_at k c next p
 answer_limit k c next p =
     let way : Way = record { key = message_key (turn_of_epoch k c p.epoch).stream p.index; next = state_of k c next } in
-    answer_within (fields_at k c p) (nat_lt 256 (length (missing_of c next))) (length (missing_of c next)) way
+    answer_within (fields_at k c p) (nat_lt KEPT_LIMIT (length (missing_of c next))) (length (missing_of c next)) way
     (opens_at k c next p)
     (opened_by-key k c p way refl)
 
 -- ---- a known epoch
 
 -- by a kept key, which leaves no more missing
-answer_late : (k : Mechanism) (c : Conversation) (v : View) (p : Position) → length (missing_of c v) ≤ 256
+answer_late : (k : Mechanism) (c : Conversation) (v : View) (p : Position) → length (missing_of c v) ≤ KEPT_LIMIT
     → p.index ≤ reach_in c v p.epoch
     → opened_by (fields_at k c p) (Ok (record { key = message_key (turn_of_epoch k c p.epoch).stream p.index; next = state_of k c (opened_here v p) }))
     ≡ far_at k c (opened_here v p) p
@@ -67,13 +68,13 @@ answer_late k c v p near late =
       key = message_key (turn_of_epoch k c p.epoch).stream p.index;
       next = state_of k c next;
     }) refl
-    ∙ sym (cond-false (nat_lt 256 (length (missing_of c next))) (Err (SkipLimit (length (missing_of c next))))
+    ∙ sym (cond-false (nat_lt KEPT_LIMIT (length (missing_of c next))) (Err (SkipLimit (length (missing_of c next))))
     (opens_at k c next p)
-    (le-ltb 256 (length (missing_of c next)) (omega (arith, length-kept k c v p late))))
+    (le-ltb KEPT_LIMIT (length (missing_of c next)) (omega (arith, length-kept k c v p late))))
 
 -- the index comes after the reach, or its key is kept
 answer_new : (k : Mechanism) (c : Conversation) (v : View) (p : Position) (latest : ℕ) → IsPlace c p
-    → IsLatest v.side v.epoch latest → length (missing_of c v) ≤ 256
+    → IsLatest v.side v.epoch latest → length (missing_of c v) ≤ KEPT_LIMIT
     → is_own v.side p.epoch ≡ false → p.epoch ≤ v.epoch → has_opened v p ≡ false
     → opened_by (fields_at k c p) (known_way (state_of k c v) p (state_of k c v).receiving) ≡ far_at k c (opened_here v p) p
 answer_new k c v p latest place at near own known new =
@@ -91,7 +92,7 @@ answer_new k c v p latest place at near own known new =
     ]
 
 -- opened before, or not
-answer_known : (k : Mechanism) (c : Conversation) (v : View) (p : Position) → IsPlace c p → length (missing_of c v) ≤ 256
+answer_known : (k : Mechanism) (c : Conversation) (v : View) (p : Position) → IsPlace c p → length (missing_of c v) ≤ KEPT_LIMIT
     → is_own v.side p.epoch ≡ false → p.epoch ≤ v.epoch
     → opened_by (fields_at k c p) (known_way (state_of k c v) p (state_of k c v).receiving)
     ≡ (if has_opened v p then Err (Spent p) else far_at k c (after_opening v p) p)

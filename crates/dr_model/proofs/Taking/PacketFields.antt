@@ -7,10 +7,11 @@ use Rattle.std.proofs.lemmas.Bool.Decides.{nat_tests}
 use Rattle.std.proofs.lemmas.List.{length-map, get_or-map}
 use Rattle.std.proofs.lemmas.List.Elements.{All-head, All-tail, All-filter}
 use Rattle.std.proofs.lemmas.Slice.Eq.{bytes_eq-Decides}
+use Rattle.dr_base.specs.declared.limits.TheConstants.{TEXT_LIMIT, INDEX_LIMIT}
 use Rattle.cka.specs.Agreement.{agreement_size}
 use Rattle.dr_base.specs.Position.{is_own}
 use Rattle.dr_base.specs.declared.position.Position.{Position}
-use Rattle.etm_aead.specs.Chain.{message_key}
+use Rattle.fs_aead.specs.Chain.{message_key}
 use Rattle.etm_aead.specs.Seal.{ciphertext_of, tag_of}
 use Rattle.etm_aead.specs.Undoing.{ciphertext_of-ciphertext_of, length-ciphertext_of, length-tag_of}
 use Rattle.kem_laws.specs.Mechanism.{Mechanism, IsLawfulMechanism}
@@ -52,19 +53,19 @@ begun_epoch (s ∷ rest) epoch n all h =
 pub record IsPlace (c : Conversation) (p : Position) : Type 0 where
   pub one : 1 ≤ p.index
   pub most : p.index ≤ count_of c p.epoch
-  pub few : p.index ≤ 65535
+  pub few : p.index ≤ INDEX_LIMIT
   pub began : p.epoch ≤ length c.seeds
-  pub short : length (text_at c p) ≤ 1024
+  pub short : length (text_at c p) ≤ TEXT_LIMIT
 
 -- a text of an epoch fits a packet
 short_text : (k : Mechanism) (c : Conversation) (epoch n : ℕ) → IsLawfulConversation k c → n < count_of c epoch
-    → length (slice_index_or (texts_of c.said epoch) n []) ≤ 1024
+    → length (slice_index_or (texts_of c.said epoch) n []) ≤ TEXT_LIMIT
 short_text k c epoch n lawful h =
     let none : Said = record { epoch = 0; text = [] } in
     let said = filter (λ (s : Said). nat_eq s.epoch epoch) c.said in
     let below : n < length said = omega (arith, length-map said (λ (s : Said). s.text)) in
-    let short : length (slice_index_or said n none).text ≤ 1024 =
-    All-filter (λ (s : Said). nat_eq s.epoch epoch) (λ (s : Said). length s.text ≤ 1024) c.said lawful.short n none below in
+    let short : length (slice_index_or said n none).text ≤ TEXT_LIMIT =
+    All-filter (λ (s : Said). nat_eq s.epoch epoch) (λ (s : Said). length s.text ≤ TEXT_LIMIT) c.said lawful.short n none below in
     let same = ap length (get_or-map (λ (s : Said). s.text) said n none [] below) in
     omega arith
 
@@ -84,7 +85,7 @@ is_place k c p lawful said =
 -- ---- its packet
 
 -- the epoch two before has few texts
-few_previous : (b : Bool) (n : ℕ) → n ≤ 65535 → (if b then n else 0) < 2 ^ 16
+few_previous : (b : Bool) (n : ℕ) → n ≤ INDEX_LIMIT → (if b then n else 0) ≤ INDEX_LIMIT
 few_previous true n h = omega arith
 few_previous false n h = omega arith
 

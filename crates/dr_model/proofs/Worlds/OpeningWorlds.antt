@@ -2,9 +2,10 @@
 use Rattle.std.proofs.Common.{◌≡◌, ℕ, ◌≤◌, true, List, [], length, refl, ap, arith}
 use Rattle.std.specs.Prelude.{is_some}
 use Rattle.std.proofs.lemmas.List.Elements.{All-nil}
+use Rattle.dr_base.specs.declared.limits.TheConstants.{TEXT_LIMIT}
 use Rattle.dr_base.specs.declared.position.Side.{Side}
 use Rattle.dr_base.specs.declared.position.Side.TheVariants.{First, Second}
-use Rattle.etm_aead.specs.Chain.{chain_of}
+use Rattle.fs_aead.specs.Chain.{chain_of}
 use Rattle.kem_laws.specs.Mechanism.{Mechanism}
 use Rattle.session_model.specs.Schedule.{agreement_seed}
 use Rattle.session_model.specs.States.{opening_state}
@@ -24,7 +25,7 @@ lawful_opening_conversation k key some = record {
   begins = some;
   turns = All-nil (IsSeed k);
   few_turns = omega arith;
-  short = All-nil (λ (s : Said). length s.text ≤ 1024);
+  short = All-nil (λ (s : Said). length s.text ≤ TEXT_LIMIT);
   begun = All-nil (λ (s : Said). s.epoch ≤ 0);
   few = λ epoch. omega arith;
   some = λ epoch one last. absurd (omega arith);

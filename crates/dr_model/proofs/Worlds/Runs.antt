@@ -5,6 +5,7 @@ use Rattle.std.specs.Prelude.{◌||◌, nat_le, nat_lt}
 use Rattle.std.proofs.lemmas.Bool.{or_left, or_right, cond-true, cond-false, le-ltb, lt-ltb, le-leb, lt-leb}
 use Rattle.std.proofs.lemmas.List.{map_push}
 use Rattle.std.proofs.lemmas.List.Folds.{list_any-append}
+use Rattle.dr_base.specs.declared.limits.TheConstants.{KEPT_LIMIT, INBOX_LIMIT}
 use Rattle.dr_base.specs.Position.{is_own, is_at}
 use Rattle.dr_base.specs.declared.position.Position.{Position}
 use Rattle.dr_base.specs.declared.position.Side.{Side}
@@ -83,12 +84,12 @@ opened_within : (k : Mechanism) (w : World) (side : Side) (p : Position) → IsN
     → step_of k w (takes side p) ≡ step (Opened p) (with_view w side (after_opening (view_of w side) p))
 opened_within k w side p new within =
     let missing = length (missing_of w.conversation (after_opening (view_of w side) p)) in
-    let near : nat_lt 256 missing ≡ false = le-ltb 256 missing within.near in
-    let room : nat_le 64 (length (inbox_in w side)) ≡ false = lt-leb 64 (length (inbox_in w side)) within.room in
+    let near : nat_lt KEPT_LIMIT missing ≡ false = le-ltb KEPT_LIMIT missing within.near in
+    let room : nat_le INBOX_LIMIT (length (inbox_in w side)) ≡ false = lt-leb INBOX_LIMIT (length (inbox_in w side)) within.room in
     taken k w side p new.said
     ∙ ap (settled w) (cond-false (is_own side p.epoch) (Err (OwnPacket p.epoch)) _ new.peers
-    ∙ none_passes (has_opened (view_of w side) p) (nat_lt 256 missing)
-    (nat_le 64 (length (inbox_in w side))) _ _ _ _ new.unopened near room)
+    ∙ none_passes (has_opened (view_of w side) p) (nat_lt KEPT_LIMIT missing)
+    (nat_le INBOX_LIMIT (length (inbox_in w side))) _ _ _ _ new.unopened near room)
 
 -- it is answered so
 pub first_arrival : (k : Mechanism) (w : World) (side : Side) (p : Position) → IsNew w side p → IsWithinLimits w side p
@@ -143,27 +144,27 @@ repeats k w side p said peers before =
 
 -- too far ahead it is refused
 pub too_far : (k : Mechanism) (w : World) (side : Side) (p : Position) → IsNew w side p
-    → 256 < length (missing_of w.conversation (after_opening (view_of w side) p))
+    → KEPT_LIMIT < length (missing_of w.conversation (after_opening (view_of w side) p))
     → (step_of k w (takes side p)).answer
     ≡ Refused (SkipLimit (length (missing_of w.conversation (after_opening (view_of w side) p))))
 too_far k w side p new far =
     let missing = length (missing_of w.conversation (after_opening (view_of w side) p)) in
-    let over : nat_lt 256 missing ≡ true = lt-ltb 256 missing far in
+    let over : nat_lt KEPT_LIMIT missing ≡ true = lt-ltb KEPT_LIMIT missing far in
     ap (λ (made : Step World). made.answer)
     (taken k w side p new.said
     ∙ ap (settled w) (third_passes (is_own side p.epoch) (has_opened (view_of w side) p)
-    (nat_lt 256 missing) _ _ _ _ new.peers new.unopened over))
+    (nat_lt KEPT_LIMIT missing) _ _ _ _ new.peers new.unopened over))
 
 -- and so it is where the inbox is full
 pub inbox_full : (k : Mechanism) (w : World) (side : Side) (p : Position) → IsNew w side p
-    → length (missing_of w.conversation (after_opening (view_of w side) p)) ≤ 256
-    → 64 ≤ length (inbox_in w side) → (step_of k w (takes side p)).answer ≡ Refused InboxFull
+    → length (missing_of w.conversation (after_opening (view_of w side) p)) ≤ KEPT_LIMIT
+    → INBOX_LIMIT ≤ length (inbox_in w side) → (step_of k w (takes side p)).answer ≡ Refused InboxFull
 inbox_full k w side p new near full =
     let missing = length (missing_of w.conversation (after_opening (view_of w side) p)) in
-    let under : nat_lt 256 missing ≡ false = le-ltb 256 missing near in
-    let filled : nat_le 64 (length (inbox_in w side)) ≡ true = le-leb 64 (length (inbox_in w side)) full in
+    let under : nat_lt KEPT_LIMIT missing ≡ false = le-ltb KEPT_LIMIT missing near in
+    let filled : nat_le INBOX_LIMIT (length (inbox_in w side)) ≡ true = le-leb INBOX_LIMIT (length (inbox_in w side)) full in
     ap (λ (made : Step World). made.answer)
     (taken k w side p new.said
     ∙ ap (settled w) (cond-false (is_own side p.epoch) (Err (OwnPacket p.epoch)) _ new.peers
-    ∙ third_passes (has_opened (view_of w side) p) (nat_lt 256 missing)
-    (nat_le 64 (length (inbox_in w side))) _ _ _ _ new.unopened under filled))
+    ∙ third_passes (has_opened (view_of w side) p) (nat_lt KEPT_LIMIT missing)
+    (nat_le INBOX_LIMIT (length (inbox_in w side))) _ _ _ _ new.unopened under filled))

@@ -5,13 +5,14 @@ use Rattle.std.proofs.lemmas.Bool.{cond-true, eqb-true}
 use Rattle.std.proofs.lemmas.Bool.Decides.{nat_tests}
 use Rattle.std.proofs.lemmas.List.{length-map}
 use Rattle.std.proofs.lemmas.List.Elements.{All-map, All-weaker}
+use Rattle.dr_base.specs.declared.limits.TheConstants.{INDEX_LIMIT, LAST_EPOCH}
 use Rattle.dr_base.specs.Position.{is_own}
 use Rattle.dr_base.specs.declared.key.Kept.{Kept}
 use Rattle.dr_base.specs.declared.position.Position.{Position}
 use Rattle.dr_base.specs.declared.position.Side.{Side}
 use Rattle.dr_base.proofs.Parity.{own_other}
-use Rattle.etm_aead.specs.Chain.{chain_of, next_chain}
-use Rattle.etm_aead.specs.Table.{AllBefore, IsAscending, IsBefore}
+use Rattle.fs_aead.specs.Chain.{chain_of, next_chain}
+use Rattle.fs_aead.specs.Table.{AllBefore, IsAscending, IsBefore}
 use Rattle.hmac_hkdf.proofs.Lengths.{length-hmac_of}
 use Rattle.kem_laws.specs.Mechanism.{Mechanism, IsLawfulMechanism}
 use Rattle.session_model.specs.LawfulStates.{IsLawfulKept, IsLawfulPhase, IsLawfulPrevious, IsLawfulReception, IsLawfulState}
@@ -42,7 +43,7 @@ length-chain_of stream (suc n) h = length-hmac_of (chain_of stream n) (2 ∷ [])
 
 lawful_phase : (k : Mechanism) (side : Side) (epoch : ℕ) (seed : List ℕ) (turn : Turn) (sent : ℕ) (own : Bool)
     → is_own side epoch ≡ own → IsTurn k seed epoch turn
-    → sent ≤ 65535 → IsLawfulPhase k side epoch (phase_with own turn sent)
+    → sent ≤ INDEX_LIMIT → IsLawfulPhase k side epoch (phase_with own turn sent)
 lawful_phase k side epoch seed turn sent true is sizes few = (
   is,
   record {
@@ -56,7 +57,7 @@ lawful_phase k side epoch seed turn sent true is sizes few = (
 lawful_phase k side epoch seed turn sent false is sizes few = (is, sizes.public_long)
 
 -- how many texts it said before
-counted : (n : ℕ) (later : Bool) → n ≤ 65535 → (if later then n else 0) ≤ 65535
+counted : (n : ℕ) (later : Bool) → n ≤ INDEX_LIMIT → (if later then n else 0) ≤ INDEX_LIMIT
 counted n true h = h
 counted n false h = omega arith
 
@@ -66,7 +67,7 @@ none_before epoch n h = grind (arith, nat_tests)
 none_first : (epoch n : ℕ) → epoch ≡ 0 → (if nat_le 1 epoch then n else 0) ≡ 0
 none_first epoch n h = grind (arith, nat_tests)
 
-lawful_previous : (epoch m n : ℕ) (turn : Turn) (sent : ℕ) (own : Bool) → m ≤ 65535 → n ≤ 65535
+lawful_previous : (epoch m n : ℕ) (turn : Turn) (sent : ℕ) (own : Bool) → m ≤ INDEX_LIMIT → n ≤ INDEX_LIMIT
     → IsLawfulPrevious (if own then (if nat_le 2 epoch then m else 0) else (if nat_le 1 epoch then n else 0)) epoch
     (phase_with own turn sent)
 lawful_previous epoch m n turn sent true few_m few_n = (counted m (nat_le 2 epoch) few_m, none_before epoch m)
@@ -93,7 +94,7 @@ kept-lawful k c side v world lawful =
     (λ p missed. record {
       peers = missed.peers;
       one = missed.one;
-      most = within_both p.index (count_of c p.epoch) 65535
+      most = within_both p.index (count_of c p.epoch) INDEX_LIMIT
           (within_both p.index (reach_in c v p.epoch) (count_of c p.epoch) missed.most
           (reach_in-most c v p.epoch lawful.arrivals)) (world.few p.epoch);
     })
@@ -173,7 +174,7 @@ state_lawful k c side v law world lawful =
     record {
       session_long = length-session_of c.key;
       root_long = sizes.root_long;
-      epoch_fits = within_both v.epoch (length c.seeds) (2 ^ 32 - 2) lawful.reached world.few_turns;
+      epoch_fits = within_both v.epoch (length c.seeds) LAST_EPOCH lawful.reached world.few_turns;
       phase = lawful_phase k v.side v.epoch (pair_seed c v.epoch) (turn_of_epoch k c v.epoch)
           (count_of c v.epoch) own refl sizes (world.few v.epoch);
       previous = lawful_previous v.epoch (count_of c (v.epoch - 2)) (count_of c (v.epoch - 1)) (turn_of_epoch k c v.epoch)

@@ -1,5 +1,6 @@
 -- Lawful conversations and views, which events lead to.
 use Rattle.std.specs.Prelude.{All, List, false, is_some, length, true, ℕ, ◌+◌, ◌-◌, ◌^◌, ◌≡◌, ◌≤◌}
+use Rattle.dr_base.specs.declared.limits.TheConstants.{TEXT_LIMIT, INDEX_LIMIT, LAST_EPOCH, KEPT_LIMIT, INBOX_LIMIT, OUTBOX_LIMIT}
 use Rattle.dr_base.specs.Position.{is_own}
 use Rattle.dr_base.specs.declared.position.Position.{Position}
 use Rattle.dr_base.specs.declared.position.Side.{Side}
@@ -18,11 +19,11 @@ pub record IsLawfulConversation (k : Mechanism) (c : Conversation) : Type 0 wher
   -- the first pair and all turns have pairs
   pub begins : is_some (k.meaning.pair_of (agreement_seed c.key)) ≡ true
   pub turns : All (IsSeed k) c.seeds
-  pub few_turns : length c.seeds ≤ 2 ^ 32 - 2
+  pub few_turns : length c.seeds ≤ LAST_EPOCH
   -- texts have at most 1,024 bytes, an epoch at most 65,535 texts and, from epoch 1 on, one at least
-  pub short : All (λ s. length s.text ≤ 1024) c.said
+  pub short : All (λ s. length s.text ≤ TEXT_LIMIT) c.said
   pub begun : All (λ s. s.epoch ≤ length c.seeds) c.said
-  pub few : (epoch : ℕ) → count_of c epoch ≤ 65535
+  pub few : (epoch : ℕ) → count_of c epoch ≤ INDEX_LIMIT
   pub some : (epoch : ℕ) → 1 ≤ epoch → epoch ≤ length c.seeds → 1 ≤ count_of c epoch
 
 -- what a view may hold of an arrived position
@@ -42,10 +43,10 @@ pub record IsLawfulView (k : Mechanism) (c : Conversation) (side : Side) (v : Vi
   pub once : (p : Position) → times_opened v p ≤ 1
   pub some : (epoch : ℕ) → 1 ≤ epoch → epoch ≤ v.epoch → is_own side epoch ≡ false → 1 ≤ length (indices_in v.arrived epoch)
   -- at most 256 are missing
-  pub near : length (missing_of c v) ≤ 256
+  pub near : length (missing_of c v) ≤ KEPT_LIMIT
   -- only what stands leaves a box
   pub done_fits : v.done ≤ length v.arrived
   pub dropped_fits : v.dropped ≤ length (posts_of k c side)
   -- at most 64 texts stand in the inbox, and at most 32 packets in the outbox
-  pub few_texts : length (inbox_of c v) ≤ 64
-  pub few_packets : length (outbox_of k c v) ≤ 32
+  pub few_texts : length (inbox_of c v) ≤ INBOX_LIMIT
+  pub few_packets : length (outbox_of k c v) ≤ OUTBOX_LIMIT

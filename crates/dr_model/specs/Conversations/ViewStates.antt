@@ -1,7 +1,7 @@
 -- What a session keeps in a view of a conversation.
 use Rattle.std.specs.Prelude.{if◌then◌else◌, map, nat_le, option_map, ℕ, ◌-◌}
 use Rattle.dr_base.specs.Position.{is_own}
-use Rattle.etm_aead.specs.Chain.{chain_of}
+use Rattle.fs_aead.specs.Chain.{chain_of}
 use Rattle.kem_laws.specs.Mechanism.{Mechanism}
 use Rattle.session_model.specs.Clients.{Client}
 use Rattle.session_model.specs.Schedule.{session_of}

@@ -1,6 +1,7 @@
 -- The machine: what becomes of a conversation and of both sides' views, event by event.
 use Rattle.std.specs.Cmp.Lexicographic.{pointwise}
 use Rattle.std.specs.Prelude.{Bool, Err, List, None, Ok, Option, Result, Some, [], false, filter, find, if◌then◌else◌, is_none, length, nat_eq, nat_le, nat_lt, not, option_map, slice_get, true, ℕ, ◌+◌, ◌-◌, ◌^◌, ◌∷◌}
+use Rattle.dr_base.specs.declared.limits.TheConstants.{TEXT_LIMIT, INDEX_LIMIT, LAST_EPOCH, KEPT_LIMIT, INBOX_LIMIT, OUTBOX_LIMIT}
 use Rattle.boxes.specs.Items.{Item}
 use Rattle.cka.specs.Agreement.{agreement_size}
 use Rattle.dr_base.specs.Position.{is_own}
@@ -59,10 +60,10 @@ outbox_in k w side = outbox_of k w.conversation (view_of w side)
 abbrev pub may_say : Mechanism → World → Side → ℕ → Result Bool Refusal
 may_say k w side len =
     let v = view_of w side in
-    if nat_lt 1024 len then Err (TextTooLong len)
-    else (if nat_le 32 (length (outbox_in k w side)) then Err OutboxFull
-    else (if is_own side v.epoch then (if nat_le 65535 (count_of w.conversation v.epoch) then Err EpochFull else Ok false)
-    else (if nat_le (2 ^ 32 - 2) v.epoch then Err LastEpoch else Ok true)))
+    if nat_lt TEXT_LIMIT len then Err (TextTooLong len)
+    else (if nat_le OUTBOX_LIMIT (length (outbox_in k w side)) then Err OutboxFull
+    else (if is_own side v.epoch then (if nat_le INDEX_LIMIT (count_of w.conversation v.epoch) then Err EpochFull else Ok false)
+    else (if nat_le LAST_EPOCH v.epoch then Err LastEpoch else Ok true)))
 
 -- the next text of the side's epoch
 abbrev pub said_here : World → Side → List ℕ → Step World
@@ -92,9 +93,9 @@ taking_in w side p =
     let opened = after_opening v p in
     if is_own side p.epoch then Err (OwnPacket p.epoch)
     else (if has_opened v p then Err (Spent p)
-    else (if nat_lt 256 (length (missing_of w.conversation opened)) then Err
+    else (if nat_lt KEPT_LIMIT (length (missing_of w.conversation opened)) then Err
     (SkipLimit (length (missing_of w.conversation opened)))
-    else (if nat_le 64 (length (inbox_in w side)) then Err InboxFull
+    else (if nat_le INBOX_LIMIT (length (inbox_in w side)) then Err InboxFull
     else Ok (step (Opened p) (with_view w side opened)))))
 
 -- a side takes the packet of a position, if the network holds it

@@ -1,6 +1,6 @@
 -- Each rule by which secrets give others is a step of the key schedule.
 use Rattle.std.specs.Prelude.{length, take, ℕ, ◌+◌, ◌<◌, ◌≡◌}
-use Rattle.etm_aead.specs.Chain.{chain_message_key, next_chain}
+use Rattle.fs_aead.specs.Chain.{chain_message_key, next_chain}
 use Rattle.kem_laws.specs.Mechanism.{Mechanism}
 use Rattle.prf_prng.specs.Root.{next_root, root_key}
 use Rattle.session_model.specs.Turns.{pair_at}

@@ -1,6 +1,6 @@
 -- The secrets of a conversation, by name.
 use Rattle.std.specs.Prelude.{List, ℕ}
-use Rattle.etm_aead.specs.Chain.{chain_of, message_key}
+use Rattle.fs_aead.specs.Chain.{chain_of, message_key}
 use Rattle.kem_laws.specs.Mechanism.{Mechanism}
 use Rattle.dr_model.specs.Conversations.Conversation.{Conversation}
 use Rattle.dr_model.specs.Conversations.Posts.{pair_seed, turn_of_epoch}

@@ -1,5 +1,6 @@
 -- What holds in every run of the machine.
 use Rattle.std.specs.Prelude.{All, List, Some, [], false, length, option_map, true, ℕ, ◌++◌, ◌<◌, ◌∷◌, ◌≡◌, ◌≤◌}
+use Rattle.dr_base.specs.declared.limits.TheConstants.{KEPT_LIMIT, INBOX_LIMIT}
 use Rattle.dr_base.specs.Position.{is_own}
 use Rattle.dr_base.specs.declared.position.Position.{Position}
 use Rattle.dr_base.specs.declared.position.Side.{Side}
@@ -22,8 +23,8 @@ would_miss w side p = length (missing_of w.conversation (after_opening (view_of 
 
 -- a packet within the limits: at most 256 keys are kept once it is opened, and the inbox has room
 pub record IsWithinLimits (w : World) (side : Side) (p : Position) : Type 0 where
-  pub near : would_miss w side p ≤ 256
-  pub room : length (inbox_in w side) < 64
+  pub near : would_miss w side p ≤ KEPT_LIMIT
+  pub room : length (inbox_in w side) < INBOX_LIMIT
 
 -- the peer has said a text at this position, and the side hasn't opened its packet
 pub record IsNew (w : World) (side : Side) (p : Position) : Type 0 where
@@ -44,10 +45,10 @@ pub record Headline (k : Mechanism) : Type 0 where
   -- in any world, a side's answer to a packet of the peer's that it hasn't opened
   pub first_arrival : (w : World) (side : Side) (p : Position) → IsNew w side p → IsWithinLimits w side p
       → (step_of k w (takes side p)).answer ≡ Opened p
-  pub too_far : (w : World) (side : Side) (p : Position) → IsNew w side p → 256 < would_miss w side p
+  pub too_far : (w : World) (side : Side) (p : Position) → IsNew w side p → KEPT_LIMIT < would_miss w side p
       → (step_of k w (takes side p)).answer ≡ Refused (SkipLimit (would_miss w side p))
-  pub inbox_full : (w : World) (side : Side) (p : Position) → IsNew w side p → would_miss w side p ≤ 256
-      → 64 ≤ length (inbox_in w side) → (step_of k w (takes side p)).answer ≡ Refused InboxFull
+  pub inbox_full : (w : World) (side : Side) (p : Position) → IsNew w side p → would_miss w side p ≤ KEPT_LIMIT
+      → INBOX_LIMIT ≤ length (inbox_in w side) → (step_of k w (takes side p)).answer ≡ Refused InboxFull
   -- what was opened stands in the history, with the text that was said
   pub stands : (w : World) (side : Side) (p : Position) → IsNew w side p → IsWithinLimits w side p
       → let next = (step_of k w (takes side p)).next in

@@ -1,5 +1,6 @@
 -- The ratchet end to end: what a session that stands in a view of a conversation answers, and what it keeps then.
 use Rattle.std.specs.Prelude.{Bool, Err, List, None, Ok, Result, Some, false, if◌then◌else◌, is_some, length, nat_le, nat_lt, true, ℕ, ◌+◌, ◌-◌, ◌^◌, ◌≡◌}
+use Rattle.dr_base.specs.declared.limits.TheConstants.{TEXT_LIMIT, INDEX_LIMIT, LAST_EPOCH, KEPT_LIMIT}
 use Rattle.cka.specs.Agreement.{agreement_size}
 use Rattle.dr_base.specs.Position.{is_own, peer_of}
 use Rattle.dr_base.specs.declared.position.Position.{Position}
@@ -24,16 +25,16 @@ received_in k c v p =
     let opened = after_opening v p in
     if is_own v.side p.epoch then Err (OwnPacket p.epoch)
     else (if has_opened v p then Err (Spent p)
-    else (if nat_lt 256 (length (missing_of c opened)) then Err (SkipLimit (length (missing_of c opened)))
+    else (if nat_lt KEPT_LIMIT (length (missing_of c opened)) then Err (SkipLimit (length (missing_of c opened)))
     else Ok (record { position = p; text = text_at c p; next = state_of k c opened })))
 
 -- whether a session may draft a text of this length, and then whether that needs a seed: as the machine says, but for the
 -- outbox, which is its client's
 abbrev pub checked_in : Conversation → View → ℕ → Result Bool Refusal
 checked_in c v len =
-    if nat_lt 1024 len then Err (TextTooLong len)
-    else (if is_own v.side v.epoch then (if nat_le 65535 (count_of c v.epoch) then Err EpochFull else Ok false)
-    else (if nat_le (2 ^ 32 - 2) v.epoch then Err LastEpoch else Ok true))
+    if nat_lt TEXT_LIMIT len then Err (TextTooLong len)
+    else (if is_own v.side v.epoch then (if nat_le INDEX_LIMIT (count_of c v.epoch) then Err EpochFull else Ok false)
+    else (if nat_le LAST_EPOCH v.epoch then Err LastEpoch else Ok true))
 
 -- a draft of the packet of a position, after which the session stands in this view
 abbrev pub drafted_in : Mechanism → Conversation → View → Position → SendDraft

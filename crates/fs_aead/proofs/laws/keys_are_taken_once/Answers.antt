@@ -1,4 +1,4 @@
-use Rattle.etm_aead.proofs.Tables.{kept_key-without, kept_key-without_other, kept_key-Contains, Contains-kept_key, length-without, IsAscending-without}
+use Rattle.fs_aead.proofs.Tables.{kept_key-without, kept_key-without_other, kept_key-Contains, Contains-kept_key, length-without, IsAscending-without}
 use Rattle.fs_aead.proofs.laws.keys_are_taken_once.Goals as goal
 
 pub returns-clause-gone : goal.returns-clause-gone

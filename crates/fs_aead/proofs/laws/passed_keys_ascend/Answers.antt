@@ -1,4 +1,4 @@
-use Rattle.etm_aead.proofs.Streams.{length-shelved, table-before, shelved-ascending}
+use Rattle.fs_aead.proofs.Streams.{length-shelved, table-before, shelved-ascending}
 use Rattle.fs_aead.proofs.laws.passed_keys_ascend.Goals as goal
 
 pub returns-clause-len : goal.returns-clause-len

@@ -1,4 +1,4 @@
-use Rattle.etm_aead.proofs.Streams.{chain_of-zero, chain_of-suc, message_key-suc, chain_of-add, message_key-add}
+use Rattle.fs_aead.proofs.Streams.{chain_of-zero, chain_of-suc, message_key-suc, chain_of-add, message_key-add}
 use Rattle.fs_aead.proofs.laws.streams_give_each_key.Goals as goal
 
 pub returns-clause-start : goal.returns-clause-start

@@ -1,4 +1,5 @@
 use Rattle.std.proofs.Common.{◌≡◌, ◌∙◌, ◌+◌, ◌-◌, ◌^◌, ◌<◌, ◌≤◌, rules, ap, length, sym, arith}
+use Rattle.dr_base.specs.declared.limits.TheConstants.{INDEX_LIMIT, LAST_EPOCH}
 use Rattle.fs_aead.specs.Stream.{Stream}
 use Rattle.session_model.specs.States.{State}
 use Rattle.ratchet.proofs.Fields.{lawful_sealing, agreement_later}
@@ -17,9 +18,9 @@ seal_packet-len-requires-clause-lawful g c =
     let before = in_peers_previous _ _ _ c.next.invariant held in
     let epoch : c.next.inside.epoch ≡ c.args.next.now.epoch = ap (λ (s : State). s.epoch) c.next.view_is in
     let more = c.requires.more in
-    let fits : c.next.inside.epoch + 1 < 2 ^ 32 - 1 = omega (arith, more, epoch) in
+    let fits : c.next.inside.epoch + 1 ≤ LAST_EPOCH = omega (arith, more, epoch) in
     let one : 1 ≤ 1 = omega arith in
-    let most : 1 ≤ 65535 = omega arith in
+    let most : 1 ≤ INDEX_LIMIT = omega arith in
     lawful_sealing _ _ _ _ _ _ _ c.next.invariant.session_long fits before.0 (λ h. before.1 (omega (arith, h))) one most
     (ap length c.as_slice-in-Ok.ensures.value ∙ c.in-Ok.ensures.long ∙ sym (agreement_later _ _)) c.requires.short
 

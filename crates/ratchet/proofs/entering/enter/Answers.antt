@@ -1,7 +1,8 @@
 use Rattle.std.proofs.Common.{◌≡◌, ◌∙◌, ◌+◌, ◌-◌, ◌≤◌, ap, length, refl, arith}
 use Rattle.std.proofs.lemmas.List.{length-append}
-use Rattle.etm_aead.specs.Table.{shelved}
-use Rattle.etm_aead.proofs.Streams.{length-shelved}
+use Rattle.dr_base.specs.declared.limits.TheConstants.{KEPT_LIMIT}
+use Rattle.fs_aead.specs.Table.{shelved}
+use Rattle.fs_aead.proofs.Streams.{length-shelved}
 use Rattle.session_model.specs.States.{State}
 use Rattle.ratchet.proofs.entering.enter.Goals as goal
 
@@ -9,7 +10,7 @@ pub turn-requires-in-Ok-room_for-clause-room : goal.turn-requires-in-Ok-room_for
 turn-requires-in-Ok-room_for-clause-room g c =
     let reception = c.in-Some.reception in
     let passed = shelved (c.epoch.result - 2) reception.chain.bytes reception.reach (c.previous-previous.result - reception.reach) in
-    let few : length c.next-in-Some.inside.kept + (c.previous-previous.result - reception.reach + (c.index-index.result - 1)) ≤ 256 =
+    let few : length c.next-in-Some.inside.kept + (c.previous-previous.result - reception.reach + (c.index-index.result - 1)) ≤ KEPT_LIMIT =
     c.in-Ok-room_for.ensures.ok.0 refl in
     let kept : length c.next-in-Some.inside.kept ≡ length c.args.next.now.kept = ap (λ (s : State). length s.kept) c.next-in-Some.view_is in
     let long : length c.keep_to_end.new.next.kept ≡ length c.args.next.now.kept + (c.previous-previous.result - reception.reach) =

@@ -1,7 +1,7 @@
 use Rattle.std.proofs.Common.{◌≡◌, ◌∙◌, ◌-◌, ◌++◌, ℕ, rules, ap, length, arith}
 use Rattle.dr_base.specs.declared.key.Key32.{Key32}
 use Rattle.fs_aead.specs.Stream.{Stream}
-use Rattle.etm_aead.specs.Table.{shelved}
+use Rattle.fs_aead.specs.Table.{shelved}
 use Rattle.session_model.specs.Seen.{reception_seen}
 use Rattle.session_model.specs.States.{State, receiving_epoch}
 use Rattle.ratchet.proofs.LawfulKept.{lawful_along}

@@ -1,4 +1,5 @@
 use Rattle.std.proofs.Common.{◌∙◌, ◌+◌, ◌-◌, ◌≤◌, ℕ, ap, length, refl, arith}
+use Rattle.dr_base.specs.declared.limits.TheConstants.{KEPT_LIMIT}
 use Rattle.dr_base.specs.declared.key.Key32.{Key32}
 use Rattle.fs_aead.specs.Stream.{Stream}
 use Rattle.session_model.specs.Seen.{reception_seen, seen}
@@ -31,7 +32,7 @@ invariant_of-next g c =
     let latest = ap (λ (s : State). receiving_epoch s.side s.epoch) c.next.view_is ∙ c.requires.latest in
     let above = c.requires.above in
     let most = c.requires.most in
-    let few : length c.next.inside.kept + (c.args.position.index - c.args.reception.now.reach - 1) ≤ 256 = c.in_default.ensures.ok.0 refl in
+    let few : length c.next.inside.kept + (c.args.position.index - c.args.reception.now.reach - 1) ≤ KEPT_LIMIT = c.in_default.ensures.ok.0 refl in
     let place = c.rest-reach.ensures.reach ∙ went_reach _ _ _ _ _ _ _ _ _ above (went g c) in
     lawful_along _ _ (reception_seen c.args.reception.now) _ _ _ _ _ c.next.invariant held latest
     (ap length (c.rest-reach.ensures.chain ∙ ap (λ (x : Stream). x.chain) c.next-stream.ensures.stream) ∙ length-next_chain _)
@@ -39,7 +40,7 @@ invariant_of-next g c =
 
 pub returns : goal.returns
 returns g c =
-    let few : length c.next.inside.kept + (c.args.position.index - c.args.reception.now.reach - 1) ≤ 256 = c.in_default.ensures.ok.0 refl in
+    let few : length c.next.inside.kept + (c.args.position.index - c.args.reception.now.reach - 1) ≤ KEPT_LIMIT = c.in_default.ensures.ok.0 refl in
     goes_along (seen c.next.inside) (reception_seen c.args.reception.now) c.args.position _ _ _ _ _ _ _
     c.requires.above few (went g c) c.next-stream.ensures.key c.rest-reach.ensures.chain c.rest-reach.ensures.reach
     ∙ ap (λ s. chain_way s (reception_seen c.args.reception.now) c.args.position) c.next.view_is

@@ -1,5 +1,5 @@
 use Rattle.std.proofs.Common.{◌-◌}
-use Rattle.etm_aead.proofs.Streams.{shelved-ascending}
+use Rattle.fs_aead.proofs.Streams.{shelved-ascending}
 use Rattle.fs_aead.proofs.receiving.ReceiveStream.advance.Goals as goal
 
 pub invariant_of-skipped : goal.invariant_of-skipped

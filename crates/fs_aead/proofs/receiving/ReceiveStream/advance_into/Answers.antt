@@ -1,9 +1,9 @@
 use Rattle.std.proofs.Common.{◌≡◌, ◌+◌, ◌++◌, ◌∷◌, [], refl, length, length-append, append-nil, append_assoc, sym, ap, ◌∙◌, arith}
-use Rattle.etm_aead.specs.Chain.{chain_of, next_chain, chain_message_key}
+use Rattle.fs_aead.specs.Chain.{chain_of, next_chain, chain_message_key}
 use Rattle.fs_aead.specs.Stream.{Stream}
-use Rattle.etm_aead.specs.Table.{shelved}
+use Rattle.fs_aead.specs.Table.{shelved}
 use Rattle.dr_base.specs.declared.key.Kept.{Kept}
-use Rattle.etm_aead.proofs.Streams.{chain_of-suc, length-shelved, shelved-suc}
+use Rattle.fs_aead.proofs.Streams.{chain_of-suc, length-shelved, shelved-suc}
 use Rattle.fs_aead.proofs.receiving.ReceiveStream.advance_into.Goals as goal
 
 pub keys-init : goal.keys-init

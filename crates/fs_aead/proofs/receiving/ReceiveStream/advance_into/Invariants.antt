@@ -1,6 +1,6 @@
 use Rattle.std.proofs.Common.{◌≡◌, ◌+◌, ◌++◌}
-use Rattle.etm_aead.specs.Chain.{chain_of}
-use Rattle.etm_aead.specs.Table.{shelved}
+use Rattle.fs_aead.specs.Chain.{chain_of}
+use Rattle.fs_aead.specs.Table.{shelved}
 use Rattle.fs_aead.proofs.receiving.ReceiveStream.advance_into.Given as goal
 
 abbrev pub invariant-keys : goal.invariant-keys

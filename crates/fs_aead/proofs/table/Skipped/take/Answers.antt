@@ -1,4 +1,4 @@
-use Rattle.etm_aead.proofs.Tables.{IsAscending-without}
+use Rattle.fs_aead.proofs.Tables.{IsAscending-without}
 use Rattle.fs_aead.proofs.table.Skipped.take.Goals as goal
 
 pub invariant_of-self : goal.invariant_of-self

@@ -5,8 +5,8 @@ use Rattle.std.proofs.lemmas.List.Elements.{All-push, All-append, All-weaker, Al
 use Rattle.std.proofs.lemmas.List.Quantifiers.{all_pairs_push}
 use Rattle.dr_base.specs.declared.key.Kept.{Kept}
 use Rattle.dr_base.specs.declared.position.Position.{Position}
-use Rattle.etm_aead.specs.Chain.{chain_message_key, chain_of, message_key, next_chain}
-use Rattle.etm_aead.specs.Table.{AllBefore, IsAscending, IsBefore, shelved}
+use Rattle.fs_aead.specs.Chain.{chain_message_key, chain_of, message_key, next_chain}
+use Rattle.fs_aead.specs.Table.{AllBefore, IsAscending, IsBefore, shelved}
 
 -- no step
 pub chain_of-zero : (stream : List ℕ) → chain_of stream 0 ≡ stream
