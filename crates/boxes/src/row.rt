@@ -26,7 +26,7 @@ impl<const ROOM: usize> Model for Stored<ROOM> {
 
 impl<const ROOM: usize> Stored<ROOM> {
     /// An item of these bytes under a position.
-    fn new(position: Position, bytes: &[u8]) -> Self
+    pub fn new(position: Position, bytes: &[u8]) -> Self
         requires { length bytes.now ≤ ROOM }
         ensures { result ≡ item_at position bytes.now }
     {

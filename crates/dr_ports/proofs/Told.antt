@@ -1,8 +1,13 @@
 -- Bytes that a port tells of, in pieces.
-use Rattle.std.proofs.Common.{◌≡◌, ℕ, ◌+◌, ◌≤◌, List, ◌++◌, take, drop, Option, None, Some, refl, sym, ◌∙◌, ap, append_assoc, arith, length-take}
+use Rattle.std.proofs.Common.{◌≡◌, ℕ, ◌+◌, ◌≤◌, List, [], ◌++◌, take, drop, Option, None, Some, refl, sym, ◌∙◌, ap, append_assoc, append-nil, arith, length-take}
 use Rattle.std.proofs.Math.Seq.{take-add}
 use Rattle.dr_ports.specs.Ports.{appended, prepended}
 use Rattle.dr_ports.specs.Reading.{GaveAtMost}
+
+-- no bytes change nothing
+pub appended-none : (told : Option (List ℕ)) → told ≡ appended told []
+appended-none None = refl
+appended-none (Some xs) = ap Some (sym (append-nil xs))
 
 -- two pieces taken in turn are one
 pub appended-appended : (told : Option (List ℕ)) (a b : List ℕ) → appended (appended told a) b ≡ appended told (a ++ b)

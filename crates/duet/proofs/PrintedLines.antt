@@ -11,6 +11,7 @@ use Rattle.std.proofs.lemmas.Iterator.Adapters.{position_from-zero}
 use Rattle.std.proofs.lemmas.Fmt.{decimal_digit, decimal_is_IsNumeral, decimal_nonempty, first_decimal}
 use Rattle.std.proofs.lemmas.List.{length-append}
 use Rattle.std.proofs.Math.Seq.{take-append_seam, drop-append_seam}
+use Rattle.std.proofs.lemmas.Bool.{cond-true, cond-false}
 use Rattle.hex.specs.Hex.{IsBytes, decode_sized, encode_lower, lower_digits}
 use Rattle.hex.proofs.HexLemmas.{decode_sized-encode_lower, length-encode_with}
 use Rattle.dr_base.specs.declared.position.Position.{Position}
@@ -69,14 +70,6 @@ number_back n h =
 
 -- ---- halves
 
-chosen : {A : Type 0} (b : Bool) (x y : A) → b ≡ true → cond b x y ≡ x
-chosen true x y h = refl
-chosen false x y h = cc h
-
-passed : {A : Type 0} (b : Bool) (x y : A) → b ≡ false → cond b x y ≡ y
-passed true x y h = cc h
-passed false x y h = refl
-
 -- no byte is a mark
 abbrev Without : ℕ → List ℕ → Type 0
 Without mark [] = ⊤
@@ -96,8 +89,8 @@ both_without (c ∷ cs) ys mark h k = (h.0, both_without cs ys mark h.1 k)
 
 -- bytes, then a mark: it stands after them
 mark_after : (ds rest : List ℕ) (mark i : ℕ) → Without mark ds → position_from (λ byte. byte == mark) i (ds ++ mark ∷ rest) ≡ Some (i + length ds)
-mark_after [] rest mark i h = chosen (mark == mark) (Some i) _ (grind (arith, nat_tests)) ∙ ap Some (omega arith)
-mark_after (c ∷ cs) rest mark i h = passed (c == mark) (Some i) _ h.0 ∙ mark_after cs rest mark (i + 1) h.1 ∙ ap Some (omega arith)
+mark_after [] rest mark i h = cond-true (mark == mark) (Some i) _ (grind (arith, nat_tests)) ∙ ap Some (omega arith)
+mark_after (c ∷ cs) rest mark i h = cond-false (c == mark) (Some i) _ h.0 ∙ mark_after cs rest mark (i + 1) h.1 ∙ ap Some (omega arith)
 
 drop_past : (ds rest : List ℕ) (mark : ℕ) → drop (suc (length ds)) (ds ++ mark ∷ rest) ≡ rest
 drop_past [] rest mark = refl
@@ -152,7 +145,7 @@ not_all (c ∷ cs) h = no_letter (c == 97) _ (let to = digit_to c h.0 in grind (
 pub amount_back : (amount : Amount) → IsAmount amount → amount_read (amount_text amount) ≡ Some amount
 unfolding amount_read amount_text
 amount_back All h = refl
-amount_back (Exactly n) h = passed (is_text (codes "all") (decimal n)) _ _ (not_all (decimal n) (digits_of n h)) ∙ ap (option_map Exactly) (number_back n h)
+amount_back (Exactly n) h = cond-false (is_text (codes "all") (decimal n)) _ _ (not_all (decimal n) (digits_of n h)) ∙ ap (option_map Exactly) (number_back n h)
 
 encoded_len : (bytes : List ℕ) → length (encode_lower bytes) ≡ 2 * length bytes
 encoded_len bytes = length-encode_with lower_digits bytes
@@ -162,7 +155,7 @@ unfolding hex_read
 hex_back bytes short are =
     let long = encoded_len bytes in
     let half : length (encode_lower bytes) / 2 ≡ length bytes = omega (arith, long) in
-    chosen (nat_le (length (encode_lower bytes)) 8000) _ None (grind (arith, nat_tests))
+    cond-true (nat_le (length (encode_lower bytes)) 8000) _ None (grind (arith, nat_tests))
     ∙ ap (λ n. result_ok (decode_sized (encode_lower bytes) n)) half
     ∙ ap result_ok (decode_sized-encode_lower bytes (length bytes) refl are)
 
@@ -172,7 +165,7 @@ hex_back bytes short are =
 no_hash : (ds rest : List ℕ) → 0 < length ds → AllDigits 10 ds → after_prefix (codes "#") (ds ++ rest) ≡ None
 unfolding after_prefix
 no_hash [] rest some h = absurd (omega arith)
-no_hash (c ∷ cs) rest some h = passed (starts_with nat_eq (c ∷ (cs ++ rest)) (codes "#")) _ None (no_letter (35 == c) _ (let from = digit_from c h.0 in grind (arith, nat_tests)))
+no_hash (c ∷ cs) rest some h = cond-false (starts_with nat_eq (c ∷ (cs ++ rest)) (codes "#")) _ None (no_letter (35 == c) _ (let from = digit_from c h.0 in grind (arith, nat_tests)))
 
 position_hashless : (p : Position) → IsNumbered p → after_prefix (codes "#") (position_text p) ≡ None
 unfolding position_text

@@ -3,7 +3,7 @@ use Rattle.std.proofs.Common.{◌≡◌, ℕ, ◌+◌, ◌<◌, List, [], ◌∷
 use Rattle.std.proofs.lemmas.List.{map-append, take-append-drop, take_more}
 use Rattle.dr_ports.specs.Ports.{appended}
 use Rattle.dr_ports.specs.Writing.{TookBeginning}
-use Rattle.dr_ports.proofs.Told.{appended-appended}
+use Rattle.dr_ports.proofs.Told.{appended-appended, appended-none}
 use Rattle.dr_ports.proofs.WritingLemmas.{took_of_first, took_of_second}
 use Rattle.dr_model.specs.Machines.Steps.{Step}
 use Rattle.dr_model.specs.Machines.Events.{Event}
@@ -61,8 +61,7 @@ took_until old mid new act s events event others e t =
 -- nothing was taken yet
 pub no_lines_yet : {S : Type 0} (told : Option (List ℕ)) (act : S → Event → Step S) (s : S) → told ≡ appended told (lines_by act s [])
 unfolding lines_by
-no_lines_yet None act s = refl
-no_lines_yet (Some xs) act s = ap Some (sym (append-nil xs))
+no_lines_yet told act s = appended-none told
 
 -- the events of the lines so far, with one line more
 pub events_more : (items seen : List Line) (i : ℕ) (d : Line) → seen ≡ items → i < length seen → map event_of (take (i + 1) items) ≡ map event_of (take i items) ++ event_of (get_or seen i d) ∷ []

@@ -126,7 +126,7 @@ impl<K: Kem> Client<K> {
             Err(_) => Err(Refusal::NoPair),
             Ok(draft) => {
                 let post = Post::new(draft.position(), draft.packet());
-                self.outbox.push(post.position(), post.packet()).unwrap();
+                self.outbox.push(post.position(), post.bytes()).unwrap();
                 draft.accept(&mut self.session);
                 Ok(post)
             }

@@ -3,7 +3,7 @@
 ghost use Rattle.std.specs.Prelude.{◌≡◌, ℕ, ◌%◌, ◌^◌, ◌<◌, ◌≤◌, bit_xor, length, option_copied, option_map, slice_index, slice_set, IfSome};
 ghost use Rattle.dr_model.specs.Machines.Network.{flipped, flipped_at, held_at, held_nth};
 
-use crate::post::{Packet, Post};
+use crate::post::{Packet, Post, is_at, is_from_peer};
 use dr_base::{PACKET_LIMIT, Position, Side, in_room};
 
 /// The value of each bit of a byte, the lowest first.
@@ -15,8 +15,8 @@ pub fn held_at(posts: &[Post], position: Position) -> Option<&[u8]>
     ensures fits { IfSome result (λ bytes. length bytes.now ≤ PACKET_LIMIT) }
 {
     'posts: for post in posts {
-        if post.is_at(position) {
-            return Some(post.packet());
+        if is_at(post, position) {
+            return Some(post.bytes());
         }
     }
     None
@@ -29,9 +29,9 @@ pub fn held_nth(posts: &[Post], side: Side, nth: u32) -> Option<&[u8]>
 {
     let mut left = nth;
     'posts: for post in posts {
-        if post.is_from_peer(side) {
+        if is_from_peer(post, side) {
             if left == 1 {
-                return Some(post.packet());
+                return Some(post.bytes());
             }
             left = left.saturating_sub(1);
         }

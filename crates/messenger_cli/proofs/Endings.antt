@@ -22,11 +22,6 @@ ends_behind ending lines old mid new before middle now code e same (inr cut) = i
   rose = omega (arith, cut.rose);
 })
 
--- no lines change nothing
-pub nothing_taken : (told : Option (List ℕ)) → told ≡ appended told []
-nothing_taken None = refl
-nothing_taken (Some xs) = ap Some (sym (append-nil xs))
-
 -- work that a failed write cut off
 pub ends_cut : (lines : List ℕ) (old new : Option (List ℕ)) (before now : ℕ) → TookBeginning old new lines → Rose before now → Ends Done lines old new before now 5
 unfolding last_line

@@ -5,9 +5,9 @@ ghost use Rattle.packet.specs.Packet.{Fields, IsLawful, ad_of, packet_of};
 ghost use Rattle.packet.specs.Parts.{fields_of, IsViewed};
 ghost use Rattle.packet.specs.Reading.{read_packet};
 
-use dr_base::{INDEX_LIMIT, LAST_EPOCH, TEXT_LIMIT};
 use crate::fault::Malformed;
 use crate::parts::{self, Parts};
+use dr_base::{INDEX_LIMIT, LAST_EPOCH, TEXT_LIMIT};
 use std::marker::Model;
 
 /// The fields of a packet, lent from the bytes that were parsed.

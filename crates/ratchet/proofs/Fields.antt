@@ -2,6 +2,7 @@
 use Rattle.std.proofs.Common.{◌≡◌, ℕ, ◌+◌, ◌-◌, ◌^◌, ◌<◌, ◌≤◌, Bool, true, false, nat_eq, List, length, refl, arith}
 use Rattle.std.specs.Prelude.{if◌then◌else◌}
 use Rattle.std.proofs.lemmas.Bool.Decides.{nat_tests}
+use Rattle.std.proofs.lemmas.Bool.{cond-false}
 use Rattle.dr_base.specs.declared.limits.TheConstants.{TEXT_LIMIT, INDEX_LIMIT, LAST_EPOCH}
 use Rattle.dr_base.specs.declared.position.Position.{Position}
 use Rattle.fs_aead.specs.Chain.{next_chain}
@@ -9,7 +10,6 @@ use Rattle.etm_aead.specs.Undoing.{length-ciphertext_of, length-tag_of}
 use Rattle.hmac_hkdf.proofs.Lengths.{length-hmac_of}
 use Rattle.packet.specs.Packet.{IsLawful, agreement_len}
 use Rattle.session_model.specs.Sealing.{sealing}
-use Rattle.ratchet.proofs.Parity.{passed_over}
 
 -- a length that is right in epoch 0 is right as its own measure
 own_measure : (b : Bool) (len n : ℕ) → len ≡ (if b then 0 else n) → len ≡ (if b then 0 else len)
@@ -40,4 +40,4 @@ length-next_chain chain = length-hmac_of _ _
 
 -- after epoch 0 each agreement message has the full length
 pub agreement_later : (n epoch : ℕ) → agreement_len n (epoch + 1) ≡ n
-agreement_later n epoch = passed_over (nat_eq (epoch + 1) 0) 0 n (grind (arith, nat_tests))
+agreement_later n epoch = cond-false (nat_eq (epoch + 1) 0) 0 n (grind (arith, nat_tests))

@@ -3,6 +3,7 @@ use Rattle.std.proofs.Common.{◌≡◌, ℕ, ◌+◌, ◌<◌, ◌≤◌, Bool,
 use Rattle.std.specs.Prelude.{nat_lt, not}
 use Rattle.std.specs.Cmp.Lexicographic.{pointwise}
 use Rattle.std.proofs.lemmas.Bool.Decides.{nat_tests}
+use Rattle.std.proofs.lemmas.Bool.{cond-true, cond-false}
 use Rattle.dr_base.specs.declared.position.Side.{Side}
 use Rattle.packet.specs.Packet.{Fields}
 use Rattle.session_model.specs.declared.answer.Refusal.TheVariants.{OtherSession, OwnPacket, Ahead}
@@ -10,7 +11,6 @@ use Rattle.dr_base.specs.Position.{is_own}
 use Rattle.session_model.specs.Ways.{epoch_way, known_way, next_way, position_of, way_of}
 use Rattle.session_model.specs.States.{Own, in_own, State}
 use Rattle.kem_laws.specs.Mechanism.{Mechanism}
-use Rattle.ratchet.proofs.Parity.{chosen, passed_over}
 
 -- a test that was turned round
 not_of : (b c : Bool) → c ≡ not b → b ≡ not c
@@ -28,29 +28,29 @@ asked side mine epoch its own e f h = ap₂ is_own (sym e) (sym f) ∙ sym h
 -- a packet of another session
 pub leads_elsewhere : (k : Mechanism) (s : State) (f : Fields) → pointwise nat_eq f.session s.session ≡ false → way_of k s f ≡ Err OtherSession
 unfolding way_of
-leads_elsewhere k s f h = chosen (not (pointwise nat_eq f.session s.session)) _ _ (ap not h)
+leads_elsewhere k s f h = cond-true (not (pointwise nat_eq f.session s.session)) _ _ (ap not h)
 
 -- of an own epoch
 pub leads_back : (k : Mechanism) (s : State) (f : Fields) → pointwise nat_eq f.session s.session ≡ true → is_own s.side f.epoch ≡ true
     → way_of k s f ≡ Err (OwnPacket f.epoch)
 unfolding way_of
-leads_back k s f h o = passed_over (not (pointwise nat_eq f.session s.session)) _ _ (ap not h) ∙ chosen (is_own s.side f.epoch) _ _ o
+leads_back k s f h o = cond-false (not (pointwise nat_eq f.session s.session)) _ _ (ap not h) ∙ cond-true (is_own s.side f.epoch) _ _ o
 
 -- of an epoch after the next
 pub leads_ahead : (k : Mechanism) (s : State) (f : Fields) → pointwise nat_eq f.session s.session ≡ true → is_own s.side f.epoch ≡ false
     → s.epoch + 1 < f.epoch → way_of k s f ≡ Err (Ahead f.epoch s.epoch)
 unfolding way_of
 leads_ahead k s f h o lt =
-    passed_over (not (pointwise nat_eq f.session s.session)) _ _ (ap not h) ∙ passed_over (is_own s.side f.epoch) _ _ o
-    ∙ chosen (nat_lt (s.epoch + 1) f.epoch) _ _ (grind (arith, nat_tests))
+    cond-false (not (pointwise nat_eq f.session s.session)) _ _ (ap not h) ∙ cond-false (is_own s.side f.epoch) _ _ o
+    ∙ cond-true (nat_lt (s.epoch + 1) f.epoch) _ _ (grind (arith, nat_tests))
 
 -- of the next epoch
 pub leads_next : (k : Mechanism) (s : State) (f : Fields) → pointwise nat_eq f.session s.session ≡ true → is_own s.side f.epoch ≡ false
     → f.epoch ≡ s.epoch + 1 → way_of k s f ≡ epoch_way k s f s.phase
 unfolding way_of
 leads_next k s f h o e =
-    passed_over (not (pointwise nat_eq f.session s.session)) _ _ (ap not h) ∙ passed_over (is_own s.side f.epoch) _ _ o
-    ∙ passed_over (nat_lt (s.epoch + 1) f.epoch) _ _ (grind (arith, nat_tests)) ∙ chosen (nat_eq f.epoch (s.epoch + 1)) _ _ (grind (arith, nat_tests))
+    cond-false (not (pointwise nat_eq f.session s.session)) _ _ (ap not h) ∙ cond-false (is_own s.side f.epoch) _ _ o
+    ∙ cond-false (nat_lt (s.epoch + 1) f.epoch) _ _ (grind (arith, nat_tests)) ∙ cond-true (nat_eq f.epoch (s.epoch + 1)) _ _ (grind (arith, nat_tests))
 
 -- of the next epoch, in an own one
 pub leads_on : (k : Mechanism) (s : State) (f : Fields) (own : Own) → pointwise nat_eq f.session s.session ≡ true → is_own s.side f.epoch ≡ false
@@ -62,5 +62,5 @@ pub leads_known : (k : Mechanism) (s : State) (f : Fields) → pointwise nat_eq 
     → f.epoch ≤ s.epoch → way_of k s f ≡ known_way s (position_of f) s.receiving
 unfolding way_of
 leads_known k s f h o le =
-    passed_over (not (pointwise nat_eq f.session s.session)) _ _ (ap not h) ∙ passed_over (is_own s.side f.epoch) _ _ o
-    ∙ passed_over (nat_lt (s.epoch + 1) f.epoch) _ _ (grind (arith, nat_tests)) ∙ passed_over (nat_eq f.epoch (s.epoch + 1)) _ _ (grind (arith, nat_tests))
+    cond-false (not (pointwise nat_eq f.session s.session)) _ _ (ap not h) ∙ cond-false (is_own s.side f.epoch) _ _ o
+    ∙ cond-false (nat_lt (s.epoch + 1) f.epoch) _ _ (grind (arith, nat_tests)) ∙ cond-false (nat_eq f.epoch (s.epoch + 1)) _ _ (grind (arith, nat_tests))

@@ -2,28 +2,20 @@
 use Rattle.std.proofs.Common.{◌≡◌, ℕ, ◌+◌, ◌-◌, ◌≤◌, Bool, true, false, nat_eq, Some, None, refl, sym, ◌∙◌, ap, arith}
 use Rattle.std.specs.Prelude.{not, if◌then◌else◌}
 use Rattle.std.proofs.lemmas.Bool.Decides.{nat_tests}
+use Rattle.std.proofs.lemmas.Bool.{cond-true, cond-false}
 use Rattle.dr_base.specs.declared.position.Side.{Side}
 use Rattle.dr_base.specs.Position.{is_own}
 use Rattle.dr_base.proofs.Parity.{own_next}
 use Rattle.session_model.specs.States.{receiving_epoch}
 
--- a choice by a test
-pub chosen : {A : Type 0} (b : Bool) (x y : A) → b ≡ true → (if b then x else y) ≡ x
-chosen true x y h = refl
-chosen false x y h = cc
-
-pub passed_over : {A : Type 0} (b : Bool) (x y : A) → b ≡ false → (if b then x else y) ≡ y
-passed_over true x y h = cc
-passed_over false x y h = refl
-
 -- in an epoch of the peer's it is that one
 pub latest-peers : (side : Side) (epoch : ℕ) → is_own side epoch ≡ false → receiving_epoch side epoch ≡ Some epoch
-latest-peers side epoch h = passed_over (is_own side epoch) _ _ h
+latest-peers side epoch h = cond-false (is_own side epoch) _ _ h
 
 -- in an own epoch it is the one before
 pub latest-own : (side : Side) (epoch : ℕ) → is_own side epoch ≡ true → 1 ≤ epoch → receiving_epoch side epoch ≡ Some (epoch - 1)
 latest-own side epoch h one =
-    chosen (is_own side epoch) _ _ h ∙ passed_over (nat_eq epoch 0) None (Some (epoch - 1)) (grind (arith, nat_tests))
+    cond-true (is_own side epoch) _ _ h ∙ cond-false (nat_eq epoch 0) None (Some (epoch - 1)) (grind (arith, nat_tests))
 
 -- it is one of the peer's
 not_true : (b : Bool) → true ≡ not b → b ≡ false

@@ -2,6 +2,7 @@
 use Rattle.std.proofs.Common.{◌≡◌, ℕ, ◌+◌, ◌-◌, ◌<◌, ◌≤◌, ◌++◌, List, length, Some, Ok, sym, ◌∙◌, ap, ap₂, arith}
 use Rattle.std.specs.Prelude.{nat_lt}
 use Rattle.std.proofs.lemmas.Bool.Decides.{nat_tests}
+use Rattle.std.proofs.lemmas.Bool.{cond-false}
 use Rattle.dr_base.specs.declared.limits.TheConstants.{KEPT_LIMIT}
 use Rattle.dr_base.specs.declared.key.Kept.{Kept}
 use Rattle.dr_base.specs.declared.position.Position.{Position}
@@ -11,7 +12,6 @@ use Rattle.fs_aead.proofs.Streams.{chain_of-suc, message_key-suc}
 use Rattle.fs_aead.specs.Stream.{Stream}
 use Rattle.session_model.specs.Ways.{Way, chain_way, within_limit}
 use Rattle.session_model.specs.States.{Reception, State}
-use Rattle.ratchet.proofs.Parity.{passed_over}
 
 -- a stream that was advanced to just before an index, and went on
 pub record Went (epoch index : ℕ) (chain : List ℕ) (reach : ℕ) (kept : List Kept) (resumed advanced stream : Stream) (table : List Kept) : Type 0 where
@@ -60,7 +60,7 @@ went_keys epoch index chain reach kept resumed advanced stream table w =
 
 -- a way within the limit
 pub has_room : (would : ℕ) (way : Way) → would ≤ KEPT_LIMIT → within_limit would way ≡ Ok way
-has_room would way few = passed_over (nat_lt KEPT_LIMIT would) _ _ (grind (arith, nat_tests))
+has_room would way few = cond-false (nat_lt KEPT_LIMIT would) _ _ (grind (arith, nat_tests))
 
 -- the way along the chain
 pub goes_along : (s : State) (r : Reception) (p : Position) (resumed advanced stream : Stream) (key chain : List ℕ) (reach : ℕ) (table : List Kept) → r.reach < p.index

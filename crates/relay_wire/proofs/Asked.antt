@@ -2,14 +2,14 @@
 use Rattle.std.proofs.Common.{◌≡◌, ℕ, ◌≤◌, true, false, List, [], ◌∷◌, ◌++◌, length, take, drop, Result, Ok, Err, refl, sym, ◌∙◌, ap, ap₂, subst, arith}
 use Rattle.std.specs.Prelude.{◌&&◌, ◌==◌, nat_le, if◌then◌else◌}
 use Rattle.std.specs.Int.{w64, to_be_bytes, from_be_bytes}
-use Rattle.std.proofs.lemmas.Bool.{le-leb, leb-true, eqb-true}
+use Rattle.std.proofs.lemmas.Bool.{le-leb, leb-true, eqb-true, cond-true}
 use Rattle.std.proofs.lemmas.Bool.Decides.{nat_tests}
 use Rattle.std.proofs.lemmas.List.{take_at, drop_at, take-append-drop, length-append, length-take, nil_from_length}
 use Rattle.grammar.specs.Grammar.{AreBytes}
 use Rattle.grammar.proofs.Fields.{AreBytes-drop, exact64}
 use Rattle.relay_wire.specs.Names.{is_name, is_packet}
 use Rattle.relay_wire.specs.Requests.{Asking, posts, fetches, acks, Asked, is_ask_byte, IsLawfulAsking, IsLawfulAsked, ask_byte, ask_rest, request_body, read_rest, of_name, read_named, read_request}
-use Rattle.relay_wire.proofs.Choices.{chosen, and_true, both_true, from_choice, by_number}
+use Rattle.relay_wire.proofs.Choices.{and_true, both_true, from_choice, by_number}
 
 -- ---- what was printed is read
 
@@ -19,14 +19,14 @@ named first name rest is =
     let front = take_at name rest (length name) refl in
     let fits : nat_le (length name) (length (name ++ rest)) ≡ true = le-leb _ _ (omega (arith, length-append name rest)) in
     let test = and_true _ _ fits (ap is_name front ∙ is) in
-    chosen _ _ _ test ∙ ap₂ (λ (n r : List ℕ). of_name n (read_rest first r)) front (drop_at name rest (length name) refl)
+    cond-true _ _ _ test ∙ ap₂ (λ (n r : List ℕ). of_name n (read_rest first r)) front (drop_at name rest (length name) refl)
 
 pub request : (a : Asked) → IsLawfulAsked a → read_request (request_body a) ≡ Ok a
 unfolding read_request request_body read_rest
 request a lawful = by_ask a.ask lawful.1
   where
     by_ask : (ask : Asking) → IsLawfulAsking ask → read_request (request_body (record { name = a.name; ask = ask })) ≡ Ok (record { name = a.name; ask = ask })
-    by_ask (posts packet) is = named 1 a.name packet lawful.0 ∙ ap (of_name a.name) (chosen (is_packet packet) (Ok (posts packet)) (Err 4) is)
+    by_ask (posts packet) is = named 1 a.name packet lawful.0 ∙ ap (of_name a.name) (cond-true (is_packet packet) (Ok (posts packet)) (Err 4) is)
     by_ask fetches is = named 2 a.name [] lawful.0
     by_ask (acks n) is = named 3 a.name (to_be_bytes w64 n) lawful.0 ∙ ap (λ (m : ℕ). Ok (record { name = a.name; ask = acks m })) (exact64.read n is)
 

@@ -4,14 +4,6 @@ use Rattle.std.specs.Prelude.{◌&&◌, ◌==◌, nat_le, if◌then◌else◌}
 use Rattle.std.proofs.lemmas.Bool.{eqb-true}
 use Rattle.std.proofs.lemmas.Bool.Decides.{nat_tests}
 
-pub chosen : {A : Type 0} (test : Bool) (x y : A) → test ≡ true → (if test then x else y) ≡ x
-chosen true x y is = refl
-chosen false x y is = absurd (let e : false ≡ true = is in cc)
-
-pub not_chosen : {A : Type 0} (test : Bool) (x y : A) → test ≡ false → (if test then x else y) ≡ y
-not_chosen true x y is = absurd (let e : true ≡ false = is in cc)
-not_chosen false x y is = refl
-
 pub and_true : (a b : Bool) → a ≡ true → b ≡ true → (a && b) ≡ true
 and_true a b is then_is = rw (is, then_is) refl
 

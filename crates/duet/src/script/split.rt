@@ -45,21 +45,11 @@ pub fn after_prefix<'a>(text: &'a [u8], prefix: &[u8]) -> Option<&'a [u8]>
     None
 }
 
-/// The text before the first space, and the text behind it.
-pub fn at_space(text: &[u8]) -> Option<(&[u8], &[u8])>
-    ensures { option_map (λ halves. (halves.0.now, halves.1.now)) result ≡ halves_of 32 text.entry.now }
+/// The text before the first of these bytes, and the text behind it.
+pub fn cut_at(text: &[u8], mark: u8) -> Option<(&[u8], &[u8])>
+    ensures { option_map (λ halves. (halves.0.now, halves.1.now)) result ≡ halves_of mark text.entry.now }
 {
-    match text.iter().position(|byte| *byte == b' ') {
-        Some(at) => Some((&text[..at], &text[at + 1..])),
-        None => None,
-    }
-}
-
-/// The text before the first point, and the text behind it.
-pub fn at_point(text: &[u8]) -> Option<(&[u8], &[u8])>
-    ensures { option_map (λ halves. (halves.0.now, halves.1.now)) result ≡ halves_of 46 text.entry.now }
-{
-    match text.iter().position(|byte| *byte == b'.') {
+    match text.iter().position(|byte| *byte == mark) {
         Some(at) => Some((&text[..at], &text[at + 1..])),
         None => None,
     }

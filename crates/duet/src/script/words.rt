@@ -8,7 +8,7 @@ ghost use Rattle.duet.specs.Seen.{bytes_of_hex, event_of};
 use crate::hexed::DIGIT_LIMIT;
 use crate::script::line::Line;
 use crate::script::number::number;
-use crate::script::split::{after_prefix, at_point, at_space};
+use crate::script::split::{after_prefix, cut_at};
 use dr_base::{Position, Side};
 use hex::decode_to_slice;
 use session_model::Amount;
@@ -58,7 +58,7 @@ fn parse_packet(side: Side, text: &[u8]) -> Option<Line<'_>>
 fn parse_position(text: &[u8]) -> Option<Position>
     ensures { result ≡ position_read text.now }
 {
-    let (epoch, index) = at_point(text)?;
+    let (epoch, index) = cut_at(text, b'.')?;
     let epoch = number(epoch)?;
     let index = number(index)?;
     Some(Position { epoch, index })
@@ -70,7 +70,7 @@ pub fn parse_flip(side: Side, words: &[u8]) -> Option<Line<'_>>
     ensures { option_map event_of result ≡ flip_words side words.entry.now }
 {
     let text = after_prefix(words, b"flip ")?;
-    let (position, bit) = at_space(text)?;
+    let (position, bit) = cut_at(text, b' ')?;
     let position = parse_position(position)?;
     let bit = number(bit)?;
     Some(Line::Flip(side, position, bit))

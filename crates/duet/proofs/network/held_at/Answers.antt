@@ -8,7 +8,7 @@ use Rattle.duet.proofs.network.held_at.Goals as goal
 pub returns-then-is_at-clause-packet : goal.returns-then-is_at-clause-packet
 returns-then-is_at-clause-packet c =
     let here = ap (λ (post : Item). is_at c.args.position post.position) (sym c.post-item.is) ∙ sym c.is_at.ensures ∙ c.if-is_at.true in
-    ap Some (c.packet.ensures.value ∙ ap (λ (post : Item). post.bytes) c.post-item.is)
+    ap Some (c.bytes.ensures.value ∙ ap (λ (post : Item). post.bytes) c.post-item.is)
     ∙ sym (ap (option_map (λ (post : Item). post.bytes)) (found_here (λ post. is_at c.args.position post.position) c.args.posts.now c.posts.post-index c.post-item.result c.posts-test.true c.posts.invariant here))
 
 pub posts-preserved : goal.posts-preserved

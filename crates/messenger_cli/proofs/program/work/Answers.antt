@@ -2,7 +2,7 @@ use Rattle.std.proofs.Common.{rules, ◌≤◌, [], length, arith, refl, sym, �
 use Rattle.duet.specs.Script.{script_of}
 use Rattle.duet.specs.Trace.{played}
 use Rattle.messenger_cli.specs.Mechanisms.{mechanism_of}
-use Rattle.messenger_cli.proofs.Endings.{nothing_taken}
+use Rattle.dr_ports.proofs.Told.{appended-none}
 use Rattle.messenger_cli.proofs.Traces.{is_trace, has_no_pair}
 use Rattle.messenger_cli.proofs.program.work.Goals as goal
 
@@ -40,6 +40,6 @@ returns-in-Err-NoPair-clause-ended g c =
       reason = (refl, has_no_pair _ _ _ c.in-Ok.ensures.whole fits (ap script_of (sym c.as_slice.ensures.value) ∙ c.in-Ok-parse.ensures.ok) none.0);
       leaves = c.in-Ok.ensures.drained;
       reads = c.in-Ok.ensures.quiet (λ h. cc);
-      wrote = none.1 ∙ nothing_taken _;
+      wrote = none.1 ∙ appended-none _;
       quiet = c.in-Err-NoPair.ensures.quiet (λ h. cc);
     }
