@@ -1,6 +1,6 @@
 -- Rows over R/q, eight places at a time.
-use Rattle.std.proofs.Common.{◌≡◌, inl, inr, ℕ, ◌+◌, ◌-◌, ◌<◌, ◌≤◌, List, [], ◌∷◌, length, map, ℤ, pos, ◌+ℤ◌, ◌*ℤ◌, to_z, of_z, refl, sym, ap, ◌∙◌, arith, All, subst}
-use Rattle.std.proofs.lemmas.List.Elements.{All-head, All-tail, All-weaker}
+use Rattle.std.proofs.Common.{◌≡◌, inl, inr, ℕ, zero, suc, ◌+◌, ◌-◌, ◌<◌, ◌≤◌, List, [], ◌∷◌, length, map, ℤ, pos, ◌+ℤ◌, ◌*ℤ◌, to_z, of_z, refl, sym, ap, ◌∙◌, arith, All, subst}
+use Rattle.std.proofs.lemmas.List.Elements.{All-head, All-tail, All-cons, All-weaker}
 use lib.Lanes.{chunk, put_chunk}
 use Rattle.std.proofs.lemmas.Bool.{cases_lt}
 use Rattle.std.proofs.lemmas.Simd.{length-chunk, get_or-chunk, length-put_chunk, get_or-put_chunk_below, get_or-put_chunk_at, get_or-put_chunk_above}
@@ -20,6 +20,15 @@ kept_lanes h (x ∷ z) l w = cc (stored w16 h x (All-head (IsWithin h) x z w) l,
 
 pub near_all : (z : List ℤ) → All IsNear z → All (IsWithin 6967) z
 near_all z w = All-weaker IsNear (IsWithin 6967) near_within z w
+
+-- a block put at a place
+pub put_within : (at : ℕ) (a block : List ℤ) → All (IsWithin 2295) a → All (IsWithin 2295) block → All (IsWithin 2295) (put_chunk at a block)
+put_within at [] block v w = v
+put_within zero (x ∷ a) [] v w = v
+put_within zero (x ∷ a) (y ∷ block) v w =
+    All-cons (IsWithin 2295) y (put_chunk 0 a block) (All-head (IsWithin 2295) y block w) (put_within 0 a block (All-tail (IsWithin 2295) x a v) (All-tail (IsWithin 2295) y block w))
+put_within (suc at) (x ∷ a) block v w =
+    All-cons (IsWithin 2295) x (put_chunk at a block) (All-head (IsWithin 2295) x a v) (put_within at a block (All-tail (IsWithin 2295) x a v) w)
 
 -- a block of eight more places
 module _ (c : ℤ) (old b xs : List ℤ) (k : ℕ) (e : length old ≡ 761) (f : length b ≡ 761) (l : k + 8 ≤ 761) (r : IsReplaced (reduced 2295 (plus old (scale c b))) old xs k) where

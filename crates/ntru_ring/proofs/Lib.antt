@@ -21,6 +21,7 @@ pub mod Pivots
 pub mod Uniqueness
 pub mod Words
 pub mod Planes
+pub mod Elements
 pub mod Shifts
 pub mod WordsQ
 pub mod VectorsQ

@@ -1,17 +1,18 @@
 -- Elements of R/3 by their planes.
-use Rattle.std.proofs.Common.{◌≡◌, ◌≢◌, inl, inr, ℕ, ◌+◌, ◌*◌, ◌/◌, ◌%◌, ◌^◌, ◌<◌, ◌≤◌, List, length, get_or, set, ℤ, pos, negsuc, ◌+ℤ◌, ◌*ℤ◌, sym, ap, ◌∙◌, arith, All, subst, get_or-set_same, get_or-set_other}
+use Rattle.std.proofs.Common.{◌≡◌, ◌≢◌, inl, inr, ℕ, ◌+◌, ◌*◌, ◌/◌, ◌%◌, ◌^◌, ◌<◌, ◌≤◌, List, length, get_or, set, ℤ, pos, negsuc, ◌+ℤ◌, ◌*ℤ◌, sym, ap, ◌∙◌, arith, All, subst, replicate, get_or-set_same, get_or-set_other}
 use Rattle.std.proofs.lemmas.Bool.{cases_lt, cases_eq}
 use Rattle.std.proofs.lemmas.Int.{ints}
 use Rattle.std.proofs.lemmas.List.FromFn.{get_or-map-range_with_len, length-map-range_with_len}
 use Rattle.std.proofs.lemmas.Nat.Bits.{bit_at-lt, bit_at-zero, bit_at_above}
+use Rattle.std.proofs.lemmas.List.{get_or-replicate}
 use Rattle.std.proofs.Math.ListN.{get_or-eq_default}
 use Rattle.std.specs.Int.{bit_at}
-use Rattle.ntru_ring.specs.Ring.{plus, scale, coefficient}
+use Rattle.ntru_ring.specs.Ring.{plus, scale, zero_of, coefficient}
 use Rattle.ntru_ring.specs.Reduction.{centred, reduced, IsWithin}
 use Rattle.ntru_ring.specs.Planes.{bit_of, from_bits, element_of}
-use Rattle.ntru_ring.proofs.Algebra.{length-plus, length-scale}
+use Rattle.ntru_ring.proofs.Algebra.{length-plus, length-scale, length-zero_of}
 use Rattle.ntru_ring.proofs.Congruence.{length-reduced}
-use Rattle.ntru_ring.proofs.Places.{same_places, within_places, coefficient-plus, coefficient-scale, coefficient-reduced}
+use Rattle.ntru_ring.proofs.Places.{same_places, within_places, coefficient-plus, coefficient-scale, coefficient-reduced, coefficient-zero_of}
 use Rattle.ntru_ring.proofs.Integers.{minus_one}
 use Rattle.ntru_ring.proofs.Words.{from_bits_within, from_bits_zero, put_same, put_other, opposite_inside, opposite_value}
 use Rattle.std.specs.Int.RustNames.{bit_or, bit_xor}
@@ -151,3 +152,29 @@ module _ (m x y : List ℕ) (e : length y ≡ 12) (h : (i : ℕ) → i < 12 → 
       coefficient-element_of m y k i ∙ ap (from_bits (bit_of m k)) (bit_there k (omega arith))
       ∙ opposite_value (get_or m (k / 64) 0) (get_or x (k / 64) 0) (k % 64) (inside k) ∙ minus_one (from_bits (bit_of m k) (bit_of x k))
       ∙ ap (λ t. negsuc 0 *ℤ t) (sym (coefficient-element_of m x k i)) ∙ sym (coefficient-scale (negsuc 0) (element_of m x) k))
+
+-- ---- no bit at all
+no_bit : (k : ℕ) → k < 761 → bit_of (replicate 12 0) k ≡ 0
+no_bit k l = ap (λ t. bit_at t (k % 64)) (get_or-replicate 12 (k / 64) 0 0 (omega arith)) ∙ bit_at-zero (k % 64)
+
+pub element_of_zero : element_of (replicate 12 0) (replicate 12 0) ≡ zero_of 761
+element_of_zero =
+    let z = replicate 12 0 in
+    same_places (element_of z z) (zero_of 761) (length-element_of z z ∙ sym (length-zero_of 761))
+    (λ k l. let h : k < 761 = omega (arith, length-element_of z z) in
+    coefficient-element_of z z k h ∙ ap (λ t. from_bits t (bit_of z k)) (no_bit k h) ∙ ap (from_bits 0) (no_bit k h) ∙ sym (coefficient-zero_of 761 k))
+
+-- ---- the first coefficient that isn't zero
+pub zero_at : (m x : List ℕ) (k : ℕ) → k < 761 → ((j : ℕ) → bit_of x j ≤ bit_of m j) → bit_of m k ≡ 0 → coefficient (element_of m x) k ≡ pos 0
+zero_at m x k l i e = let z : from_bits (bit_of m k) (bit_of x k) ≡ pos 0 = omega (arith, ints, i k, e) in coefficient-element_of m x k l ∙ z
+
+pub nonzero_at : (m x : List ℕ) (k : ℕ) → k < 761 → ((j : ℕ) → bit_of x j ≤ bit_of m j) → bit_of m k ≡ 1 → coefficient (element_of m x) k ≢ pos 0
+nonzero_at m x k l i e z =
+    absurd (omega (arith, e, from_bits_zero (bit_of m k) (bit_of x k) (bit_at-lt _ _) (i k) (sym (coefficient-element_of m x k l) ∙ z)))
+
+-- before the lowest bit t of the first word w that isn't zero
+pub below_lead : (m : List ℕ) (w t k : ℕ) → ((i : ℕ) → i < w → get_or m i 0 ≡ 0) → ((j : ℕ) → j < t → bit_at (get_or m w 0) j ≡ 0) → t < 64 → k < 64 * w + t → bit_of m k ≡ 0
+below_lead m w t k none low h l = elim (cases_lt (k / 64) w) [
+  | inl q ↦ ap (λ n. bit_at n (k % 64)) (none (k / 64) q) ∙ bit_at-zero (k % 64)
+  | inr q ↦ let e : k / 64 ≡ w = omega arith in ap (λ n. bit_at (get_or m n 0) (k % 64)) e ∙ low (k % 64) (omega arith)
+]

@@ -6,3 +6,4 @@ pub mod RowsQ
 pub mod Units
 pub mod Rows3
 pub mod Planes
+pub mod Elements

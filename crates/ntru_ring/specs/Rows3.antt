@@ -1,11 +1,12 @@
 -- The rows over R/3.
 use Rattle.std.specs.Prelude.{ℕ, List, ℤ}
 use Rattle.ntru_ring.specs.declared.rows_three.Row3.{Row3}
+use Rattle.ntru_ring.specs.Elements.{element}
 use Rattle.ntru_ring.specs.Elimination.{Parts, IsEchelon, AreMultiples}
 
 -- the parts of a row
 abbrev pub parts_3 : Parts Row3
-parts_3 = record { a = λ r. r.a.coefficients; b = λ r. r.b.coefficients; pivot = λ r. r.pivot; top = λ r. r.top }
+parts_3 = record { a = λ r. element r.a; b = λ r. element r.b; pivot = λ r. r.pivot; top = λ r. r.top }
 
 -- each of the first n rows is zero at the pivots of those before it
 abbrev pub IsEchelon3 : List Row3 → ℕ → Type 0

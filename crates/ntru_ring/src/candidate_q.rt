@@ -2,21 +2,38 @@
 //!
 //! Row k is a multiple a = g * b, where b has degree k, and a is zero at the pivots of the rows before it. x times this
 //! row is the next one but for two things. The last coefficient comes round as a multiple of 1 + x: `aim`, a multiple
-//! that is 1 + x at every pivot, clears it. And a pivot that no pivot stands before takes what the row has there: `kept`,
-//! which is 1 at this pivot and 0 at all others, clears that. At the end `aim` is 1 + x everywhere. Since the rows begin
-//! with g * (1 + x) in place of g, its b is the inverse of g.
+//! less 1 + x that is zero at every pivot, clears it. And a pivot that no pivot stands before takes what the row has
+//! there: `kept`, which is 1 at this pivot and 0 at all others, clears that. At the end `aim` is zero everywhere. Since
+//! the rows begin with g * (1 + x) in place of g, its b is the inverse of g.
+//!
+//! All of these are zero at the places before the first one that is no pivot, and each b is zero behind x^k. So a step
+//! goes over half of the places.
 //!
 //! No clause says what the candidate is: whoever asks for it tries it by a product. It isn't the inverse where g has none,
 //! and might not be where two such pivots stand at a time.
-ghost use Rattle.std.specs.Prelude.{◌<◌, ◌≤◌, ◌≡◌, ◌≢◌, pos};
-ghost use Rattle.ntru_ring.specs.Ring.{coefficient};
+ghost use Rattle.std.specs.Prelude.{◌<◌, ◌≤◌, ◌≡◌, ◌+◌};
 ghost use Rattle.ntru_ring.specs.Reduction.{IsWithin};
 
-use crate::elimination_q::lead;
 use crate::modulo_q::Rq;
+use crate::powers_q::Powers;
 use crate::rows_q::PairQ;
 use crate::sums_q::centred_q;
 use crate::units_q::inverse_of;
+
+/// The row, which moves up through its room.
+#[derive(Drop)]
+struct Row {
+    a: Powers,
+    b: Powers,
+}
+
+/// The blocks of eight places that may be other than zero: of each a those from `low` on, of each b those before `high`.
+#[derive(Clone, Copy)]
+struct Part {
+    low: usize,
+    high: usize,
+    ghost high_in: { high ≤ 95 },
+}
 
 /// The product modulo 4591.
 fn product(x: i16, y: i16) -> i16
@@ -27,67 +44,118 @@ fn product(x: i16, y: i16) -> i16
     centred_q(i32::from(x) * i32::from(y))
 }
 
-/// Subtracts a multiple of `row`, so that `pair.a` has the coefficient `wanted` at a place where `unit` is the inverse of
-/// the row's coefficient.
-fn settle(pair: &mut PairQ, row: &PairQ, place: usize, unit: i16, wanted: i16)
-    requires place { place < 761 }
-    requires unit { IsWithin 2295 unit }
-    requires wanted { IsWithin 2295 wanted }
+/// Subtracts `factor` times `row`.
+fn lower(pair: &mut PairQ, row: &Row, factor: i16, part: Part)
+    requires { IsWithin 2295 factor }
 {
-    let excess = centred_q(i32::from(pair.a.coefficients[place]) - i32::from(wanted));
-    let factor = product(excess, unit);
-    pair.a.subtract_row(&row.a, factor);
-    pair.b.subtract_row(&row.b, factor);
+    row.a.subtract_from(&mut pair.a, factor, part.low, 95);
+    row.b.subtract_from(&mut pair.b, factor, 0, part.high);
 }
 
-/// x times `row`, cleared by `aim` at the pivots.
-fn moved(row: &PairQ, aim: &PairQ) -> PairQ {
-    let mut next = PairQ {
-        a: row.a.shift(),
-        b: row.b.shift(),
+/// Subtracts a multiple of `row`, so that `pair.a` is zero at a place where `unit` is the inverse of the row's coefficient.
+fn clear(pair: &mut PairQ, row: &Row, place: usize, unit: i16, part: Part)
+    requires place { place < 761 }
+    requires unit { IsWithin 2295 unit }
+{
+    let factor = product(pair.a.coefficients[place], unit);
+    lower(pair, row, factor, part);
+}
+
+/// The row scaled by `unit`.
+fn scaled(row: &Row, unit: i16, part: Part) -> PairQ
+    requires { IsWithin 2295 unit }
+{
+    let mut pair = PairQ {
+        a: Rq::zero(),
+        b: Rq::zero(),
     };
-    let last = row.a.coefficients[760];
-    next.a.subtract_row(&aim.a, last);
-    next.b.subtract_row(&aim.b, last);
-    next
+    lower(&mut pair, row, -unit, part);
+    pair
+}
+
+impl Row {
+    /// Subtracts `factor` times a pair.
+    fn subtract(&mut self, pair: &PairQ, factor: i16, part: Part)
+        requires { IsWithin 2295 factor }
+        ensures a { self.new.a.start ≡ self.old.a.start }
+        ensures b { self.new.b.start ≡ self.old.b.start }
+    {
+        self.a.subtract(&pair.a, factor, part.low, 95);
+        self.b.subtract(&pair.b, factor, 0, part.high);
+    }
+
+    /// Goes on to the next row, which `aim` clears at the pivots, and `kept` at the place `gap`, unless that is 0.
+    fn go_on(&mut self, aim: &PairQ, kept: &PairQ, gap: usize, part: Part)
+        requires gap { gap < 761 }
+        requires a { 1 ≤ self.old.a.start }
+        requires b { 1 ≤ self.old.b.start }
+        ensures a { self.new.a.start + 1 ≡ self.old.a.start }
+        ensures b { self.new.b.start + 1 ≡ self.old.b.start }
+    {
+        let last = self.a.at(760);
+        self.a.rise();
+        self.b.rise();
+        self.subtract(aim, last, part);
+        if gap > 0 {
+            let there = self.a.at(gap);
+            self.subtract(kept, there, part);
+        }
+    }
+}
+
+/// The first place from `from` on that no pivot has, or 761.
+fn first_free(taken: &[bool; 761], from: usize) -> usize
+    ensures { result ≤ 761 }
+{
+    for place in from..761 {
+        if !taken[place] {
+            return place;
+        }
+    }
+    761
 }
 
 /// What is the inverse of `g`, unless the caller's trial shows that it isn't.
 pub fn candidate_q(g: &Rq) -> Rq {
-    let none = PairQ {
-        a: Rq::zero(),
+    let mut row = Row {
+        a: Powers::of(&g.add(&g.shift())),
+        b: Powers::of(&Rq::monomial(0, 1)),
+    };
+    let mut aim = PairQ {
+        a: Rq::monomial(0, -1).add(&Rq::monomial(1, -1)),
         b: Rq::zero(),
     };
-    let mut row = PairQ {
-        a: g.add(&g.shift()),
-        b: Rq::monomial(0, 1),
-    };
-    let mut aim = none;
-    let mut kept = none;
+    let mut kept = aim;
     let mut gap: usize = 0;
     let mut taken = [false; 761];
-    for _ in 0..761 {
-        let pivot = lead(&row.a);
+    let mut low: usize = 0;
+    for step in 0..761 {
+        let pivot = row.a.lead(low);
         if pivot == 761 {
-            return row.b;
+            return aim.b;
         }
-        let unit = inverse_of(row.a.coefficients[pivot]);
-        settle(&mut aim, &row, pivot, unit, if pivot < 2 { 1 } else { 0 });
-        let mut next = moved(&row, &aim);
+        let part = Part {
+            low: low / 8,
+            high: 95.min(step / 8 + 1),
+        };
+        let unit = inverse_of(row.a.at(pivot));
+        clear(&mut aim, &row, pivot, unit, part);
         if gap > 0 {
-            settle(&mut kept, &row, pivot, unit, 0);
-            settle(&mut next, &kept, gap, 1, 0);
+            clear(&mut kept, &row, pivot, unit, part);
         }
         taken[pivot] = true;
-        if gap > 0 && taken[gap - 1] {
-            gap = 0;
-        }
         if pivot > 0 && !taken[pivot - 1] {
-            kept = none;
-            settle(&mut kept, &row, pivot, unit, 1);
+            let next_kept = scaled(&row, unit, part);
+            row.go_on(&aim, &kept, gap, part);
+            kept = next_kept;
             gap = pivot;
+        } else {
+            row.go_on(&aim, &kept, gap, part);
+            if gap > 0 && taken[gap - 1] {
+                gap = 0;
+            }
         }
-        row = next;
+        low = first_free(&taken, low);
     }
     aim.b
 }

@@ -5,8 +5,8 @@
 //! scaled so that it is 1 there. The 761 pivots differ, so they are all the places, and the rows clear -1 too: what was
 //! added up on the way is the inverse.
 ghost use Rattle.std.specs.Prelude.{◌≡◌, ◌≢◌, ◌≤◌, ◌<◌, ℕ, ℤ, List, length, pos, slice_index_or, MatchResult};
-ghost use Rattle.ntru_ring.specs.Ring.{coefficient};
-ghost use Rattle.ntru_ring.specs.Reduction.{IsInverse, Annihilates};
+ghost use Rattle.ntru_ring.specs.Ring.{coefficient, times};
+ghost use Rattle.ntru_ring.specs.Reduction.{reduced, IsInverse, Annihilates};
 ghost use Rattle.ntru_ring.specs.Elimination.{IsMultiple, IsCombined};
 ghost use Rattle.ntru_ring.specs.RowsQ.{IsEchelonQ, AreMultiplesQ};
 ghost use Rattle.ntru_ring.specs.declared.rows_q.RowQ.{RowQ};
@@ -14,6 +14,8 @@ ghost use Rattle.ntru_ring.specs.declared.rows_q.RowQ.{RowQ};
 use crate::candidate_q::candidate_q;
 use crate::groups::{group_end, group_start};
 use crate::modulo_q::Rq;
+use crate::modulo_three::R3;
+use crate::planes_three::planes_of;
 use crate::rows_q::{PairQ, RowQ};
 use crate::sums_q::SumsQ;
 use crate::units_q::inverse_of;
@@ -50,7 +52,7 @@ fn clear(rows: &[RowQ], count: usize, a: &Rq, b: &Rq) -> PairQ
 }
 
 /// The place of the first coefficient that isn't zero, or 761.
-pub(crate) fn lead(a: &Rq) -> usize
+fn lead(a: &Rq) -> usize
     ensures within { result ≤ 761 }
     ensures before { (k : ℕ) → k < result → coefficient a.now.coefficients k ≡ pos 0 }
     ensures there { result < 761 → coefficient a.now.coefficients result ≢ pos 0 }
@@ -101,6 +103,17 @@ pub(crate) fn inverse_by_rows(work: &mut Workspace, f: &Rq) -> Result<Rq, Annihi
     Ok(clear(&work.rows_q, 761, &Rq::monomial(0, -1), &Rq::zero()).b)
 }
 
+/// The product in R/q of `f` and a candidate, by planes where `f` is small.
+fn trial(f: &Rq, candidate: &Rq) -> Rq
+    ensures { result.coefficients ≡ reduced 2295 (times f.now.coefficients candidate.now.coefficients) }
+{
+    if f.is_small() {
+        candidate.mul_small(&planes_of(&R3::new(&f.coefficients)))
+    } else {
+        f.mul(candidate)
+    }
+}
+
 /// The inverse of `f` in R/q, or an element that shows that there is none.
 pub fn inverse_q(work: &mut Workspace, f: &Rq) -> Result<Rq, AnnihilatedQ>
     ensures { MatchResult result (λ v. IsInverse 2295 f.now.coefficients v.coefficients) (λ e. Annihilates 2295 f.now.coefficients e.z.coefficients) }
@@ -108,7 +121,7 @@ pub fn inverse_q(work: &mut Workspace, f: &Rq) -> Result<Rq, AnnihilatedQ>
     let candidate = candidate_q(f);
     // Where f has an inverse, the candidate was it whenever it was tried; the rows answer where it has none, and the
     // clause stands on the trial and on the rows alone.
-    if f.mul(&candidate) == Rq::monomial(0, 1) {
+    if trial(f, &candidate) == Rq::monomial(0, 1) {
         return Ok(candidate);
     }
     inverse_by_rows(work, f)

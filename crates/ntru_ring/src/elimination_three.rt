@@ -8,14 +8,14 @@ ghost use Rattle.std.specs.Prelude.{◌≡◌, ◌≢◌, ◌≤◌, ◌<◌, �
 ghost use Rattle.ntru_ring.specs.Ring.{coefficient};
 ghost use Rattle.ntru_ring.specs.Reduction.{IsInverse, Annihilates};
 ghost use Rattle.ntru_ring.specs.Elimination.{IsMultiple, IsCombined};
+ghost use Rattle.ntru_ring.specs.Elements.{element};
 ghost use Rattle.ntru_ring.specs.Rows3.{IsEchelon3, AreMultiples3};
 ghost use Rattle.ntru_ring.specs.declared.rows_three.Row3.{Row3};
 
 use crate::candidate_three::candidate_three;
-use crate::groups::{group_end, group_start};
 use crate::modulo_three::R3;
+use crate::planes_three::{Planes3, planes_of, r3_of};
 use crate::rows_three::{Pair3, Row3};
-use crate::sums_three::Sums3;
 use crate::working::Workspace;
 
 /// An element without an inverse: its product with `z`, which isn't zero, is zero.
@@ -26,58 +26,43 @@ pub struct Annihilated3 {
 }
 
 /// Clears `a` at the pivots of the first `count` rows, and does to `b` what it does to `a`.
-fn clear(rows: &[Row3], count: usize, a: &R3, b: &R3) -> Pair3
+fn clear(rows: &[Row3], count: usize, a: &Planes3, b: &Planes3) -> Pair3
     requires long { count ≤ length rows.now }
     requires echelon { IsEchelon3 rows.now count }
     ensures combined { (g t : List ℤ) → AreMultiples3 g rows.now count
-        → IsCombined 1 g t a.now.coefficients b.now.coefficients → IsCombined 1 g t result.a.coefficients result.b.coefficients }
-    ensures cleared { (i : ℕ) (d : Row3) → i < count → coefficient result.a.coefficients (slice_index_or rows.now i d).pivot ≡ pos 0 }
-    ensures kept { (k : ℕ) → count ≤ k → coefficient result.b.coefficients k ≡ coefficient b.now.coefficients k }
+        → IsCombined 1 g t (element a.now) (element b.now) → IsCombined 1 g t (element result.a) (element result.b) }
+    ensures cleared { (i : ℕ) (d : Row3) → i < count → coefficient (element result.a) (slice_index_or rows.now i d).pivot ≡ pos 0 }
+    ensures kept { (k : ℕ) → count ≤ k → coefficient (element result.b) k ≡ coefficient (element b.now) k }
 {
-    let mut sums_a = Sums3::of(a);
-    let mut sums_b = Sums3::of(b);
+    let mut pair = Pair3 { a: *a, b: *b };
     for j in 0..count {
         let row = &rows[j];
-        let by = -sums_a.at(row.pivot);
-        sums_a.add(by, &row.a, group_start(row.pivot), 761);
-        sums_b.add(by, &row.b, 0, group_end(row.top));
+        let by = -pair.a.at(row.pivot);
+        pair = Pair3 {
+            a: pair.a.add_multiple(by, &row.a),
+            b: pair.b.add_multiple(by, &row.b),
+        };
     }
-    Pair3 {
-        a: sums_a.settled(),
-        b: sums_b.settled(),
-    }
-}
-
-/// The place of the first coefficient that isn't zero, or 761.
-fn lead(a: &R3) -> usize
-    ensures within { result ≤ 761 }
-    ensures before { (k : ℕ) → k < result → coefficient a.now.coefficients k ≡ pos 0 }
-    ensures there { result < 761 → coefficient a.now.coefficients result ≢ pos 0 }
-{
-    for k in 0..761 {
-        if a.coefficients[k] != 0 {
-            return k;
-        }
-    }
-    761
+    pair
 }
 
 /// The pair scaled so that `a` begins with 1 at `pivot`.
 fn row_of(pair: &Pair3, pivot: usize, top: usize) -> Row3
     requires pivot { pivot < 761 }
-    requires nonzero { coefficient pair.now.a.coefficients pivot ≢ pos 0 }
-    requires leading { (k : ℕ) → k < pivot → coefficient pair.now.a.coefficients k ≡ pos 0 }
+    requires nonzero { coefficient (element pair.now.a) pivot ≢ pos 0 }
+    requires leading { (k : ℕ) → k < pivot → coefficient (element pair.now.a) k ≡ pos 0 }
     requires top { top ≤ 761 }
-    requires trailing { (k : ℕ) → top ≤ k → coefficient pair.now.b.coefficients k ≡ pos 0 }
+    requires trailing { (k : ℕ) → top ≤ k → coefficient (element pair.now.b) k ≡ pos 0 }
     ensures pivot { result.pivot ≡ pivot }
     ensures top { result.top ≡ top }
-    ensures multiple { (g : List ℤ) → IsMultiple 1 g pair.now.a.coefficients pair.now.b.coefficients → IsMultiple 1 g result.a.coefficients result.b.coefficients }
-    ensures zeros { (k : ℕ) → coefficient pair.now.a.coefficients k ≡ pos 0 → coefficient result.a.coefficients k ≡ pos 0 }
+    ensures multiple { (g : List ℤ) → IsMultiple 1 g (element pair.now.a) (element pair.now.b) → IsMultiple 1 g (element result.a) (element result.b) }
+    ensures zeros { (k : ℕ) → coefficient (element pair.now.a) k ≡ pos 0 → coefficient (element result.a) k ≡ pos 0 }
 {
-    let by = pair.a.coefficients[pivot];
+    let by = pair.a.at(pivot);
+    let none = Planes3::zero();
     Row3 {
-        a: pair.a.scale(by),
-        b: pair.b.scale(by),
+        a: none.add_multiple(by, &pair.a),
+        b: none.add_multiple(by, &pair.b),
         pivot,
         top,
     }
@@ -87,28 +72,31 @@ fn row_of(pair: &Pair3, pivot: usize, top: usize) -> Row3
 pub(crate) fn inverse_by_rows(work: &mut Workspace, g: &R3) -> Result<R3, Annihilated3>
     ensures { MatchResult result (λ v. IsInverse 1 g.now.coefficients v.coefficients) (λ e. Annihilates 1 g.now.coefficients e.z.coefficients) }
 {
-    let mut power = *g;
+    let mut power = planes_of(g);
     for k in 0..761 {
-        let pair = clear(&work.rows_three, k, &power, &R3::monomial(k, 1));
-        let pivot = lead(&pair.a);
+        let unit = planes_of(&R3::monomial(k, 1));
+        let pair = clear(&work.rows_three, k, &power, &unit);
+        let pivot = pair.a.lead();
         if pivot == 761 {
-            return Err(Annihilated3 { z: pair.b });
+            return Err(Annihilated3 { z: r3_of(&pair.b) });
         }
         work.rows_three[k] = row_of(&pair, pivot, k + 1);
         power = power.shift();
     }
-    Ok(clear(&work.rows_three, 761, &R3::monomial(0, -1), &R3::zero()).b)
+    let minus_one = planes_of(&R3::monomial(0, -1));
+    Ok(r3_of(&clear(&work.rows_three, 761, &minus_one, &Planes3::zero()).b))
 }
 
 /// The inverse of `g` in R/3, or an element that shows that there is none.
 pub fn inverse3(work: &mut Workspace, g: &R3) -> Result<R3, Annihilated3>
     ensures { MatchResult result (λ v. IsInverse 1 g.now.coefficients v.coefficients) (λ e. Annihilates 1 g.now.coefficients e.z.coefficients) }
 {
-    let candidate = candidate_three(g);
+    let small = planes_of(g);
+    let candidate = candidate_three(&small);
     // Where g has an inverse, the candidate was it whenever it was tried; the rows answer where it has none, and the
     // clause stands on the trial and on the rows alone.
-    if g.mul(&candidate) == R3::monomial(0, 1) {
-        return Ok(candidate);
+    if small.mul(&candidate) == planes_of(&R3::monomial(0, 1)) {
+        return Ok(r3_of(&candidate));
     }
     inverse_by_rows(work, g)
 }

@@ -75,17 +75,17 @@ fn store(row: &mut [i16], at: usize, lanes: i16x8)
     lanes.copy_to_slice(&mut row[at..]);
 }
 
-/// Subtracts `factor` times `b` from `a` at the eight places from `at` on.
-fn subtract_block(a: &mut [i16], b: &[i16], at: usize, factor: i16, quotient: i16)
+/// Subtracts `factor` times the eight places of `b` from `from` on from those of `a` from `at` on.
+fn subtract_block(a: &mut [i16], at: usize, b: &[i16], from: usize, factor: i16, quotient: i16)
     requires a_place { at + 8 ≤ length a.old }
-    requires b_place { at + 8 ≤ length b.now }
+    requires b_place { from + 8 ≤ length b.now }
     requires a_within { All (IsWithin 2295) a.old }
     requires b_within { All (IsWithin 2295) b.now }
     requires factor_within { IsWithin 2295 factor }
     requires quotient { IsWithin 2295 (pos 4591 *ℤ quotient -ℤ pos 65536 *ℤ factor) }
-    ensures { a.new ≡ put_chunk at a.old (reduced 2295 (plus (chunk at 8 a.old) (scale (neg_ℤ factor) (chunk at 8 b.now)))) }
+    ensures { a.new ≡ put_chunk at a.old (reduced 2295 (plus (chunk at 8 a.old) (scale (neg_ℤ factor) (chunk from 8 b.now)))) }
 {
-    let lanes = estimated(load(a, at), load(b, at), factor, quotient);
+    let lanes = estimated(load(a, at), load(b, from), factor, quotient);
     store(a, at, centred_lanes(lanes));
 }
 
@@ -98,9 +98,35 @@ pub fn subtract_multiple(a: &mut [i16; 761], b: &[i16; 761], factor: i16)
 {
     let quotient = quotient_of(factor);
     for block in 0..95 {
-        subtract_block(a, b, 8 * block, factor, quotient);
+        subtract_block(a, 8 * block, b, 8 * block, factor, quotient);
     }
     for k in 760..761 {
         a[k] = difference(a[k], factor, b[k]);
     }
+}
+
+/// Subtracts `factor` times 761 places of `b` from `from` on from those of `a` from `at` on: of these the last one, and
+/// eight for each block from `first` on and before `last`.
+pub fn subtract_part(
+    a: &mut [i16],
+    at: usize,
+    b: &[i16],
+    from: usize,
+    factor: i16,
+    first: usize,
+    last: usize,
+)
+    requires a_place { at + 761 ≤ length a.old }
+    requires b_place { from + 761 ≤ length b.now }
+    requires last { last ≤ 95 }
+    requires factor_within { IsWithin 2295 factor }
+    requires a_within { All (IsWithin 2295) a.old }
+    requires b_within { All (IsWithin 2295) b.now }
+    ensures { All (IsWithin 2295) a.new }
+{
+    let quotient = quotient_of(factor);
+    for block in first..last {
+        subtract_block(a, at + 8 * block, b, from + 8 * block, factor, quotient);
+    }
+    a[at + 760] = difference(a[at + 760], factor, b[from + 760]);
 }

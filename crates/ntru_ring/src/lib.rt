@@ -22,7 +22,6 @@ mod rows_q;
 mod rows_three;
 mod sums_q;
 mod sums_small;
-mod sums_three;
 mod theory;
 mod units_q;
 mod words_three;

@@ -1,11 +1,13 @@
 //! Elements of R/q.
-ghost use Rattle.std.specs.Prelude.{◌≡◌, ◌<◌, ℕ, length, All, pos, neg_ℤ, slice_set};
+ghost use Rattle.std.specs.Prelude.{◌≡◌, ◌<◌, ◌↔◌, IsTrue, ℕ, length, All, pos, neg_ℤ, slice_set};
 ghost use Rattle.ntru_ring.specs.Reduction.{centred, reduced, IsWithin};
 ghost use Rattle.ntru_ring.specs.Ring.{plus, scale, shift, times, zero_of};
 ghost use Rattle.ntru_ring.specs.Small.{nearest, rounded};
+ghost use Rattle.ntru_ring.specs.Elements.{element};
 
 use crate::lanes_q::subtract_multiple;
 use crate::modulo_three::{R3, centred_three};
+use crate::planes_three::Planes3;
 use crate::powers_q::Powers;
 use crate::sums_q::{SumsQ, centred_q};
 use crate::sums_small::SumsSmall;
@@ -42,6 +44,18 @@ impl Rq {
         ensures { result.now ≡ self.now.coefficients }
     {
         &self.coefficients
+    }
+
+    /// Whether all coefficients are -1, 0 or 1.
+    pub(crate) fn is_small(&self) -> bool
+        ensures { IsTrue result ↔ All (IsWithin 1) self.now.coefficients }
+    {
+        for k in 0..761 {
+            if self.coefficients[k] < -1 || self.coefficients[k] > 1 {
+                return false;
+            }
+        }
+        true
     }
 
     /// Each coefficient's representative modulo 3.
@@ -118,14 +132,14 @@ impl Rq {
         sums.settled()
     }
 
-    /// The product in R/q with a small factor.
-    pub fn mul_small(&self, small: &R3) -> Rq
-        ensures { result.coefficients ≡ reduced 2295 (times self.now.coefficients small.now.coefficients) }
+    /// The product in R/q with a small factor, whose planes say whether a power of x is added and with which sign.
+    pub fn mul_small(&self, small: &Planes3) -> Rq
+        ensures { result.coefficients ≡ reduced 2295 (times self.now.coefficients (element small.now)) }
     {
         let mut powers = Powers::of(self);
         let mut sums = SumsSmall::of(&Rq::zero());
         for k in 0..761 {
-            sums.add(small.coefficients[k], powers.row());
+            sums.add(small.at(k), powers.row());
             powers.shift();
         }
         sums.settled()

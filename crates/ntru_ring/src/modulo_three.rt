@@ -1,11 +1,11 @@
 //! Elements of R/3.
 ghost use Rattle.std.specs.Prelude.{◌≡◌, ◌<◌, length, All, slice_set};
 ghost use Rattle.ntru_ring.specs.Reduction.{centred, reduced, IsWithin};
-ghost use Rattle.ntru_ring.specs.Ring.{plus, scale, shift, times, zero_of};
+ghost use Rattle.ntru_ring.specs.Ring.{plus, times, zero_of};
 ghost use Rattle.ntru_ring.specs.Small.{weight};
 
 use crate::modulo_q::Rq;
-use crate::sums_three::Sums3;
+use crate::planes_three::{planes_of, r3_of};
 
 /// An element of R/3: the coefficients of x^0 to x^760, each -1, 0 or 1.
 #[derive(Clone, Copy, PartialEq, Eq)]
@@ -62,39 +62,11 @@ impl R3 {
         R3 { coefficients: sum }
     }
 
-    /// The product in R/3.
+    /// The product in R/3, on planes.
     pub fn mul(&self, o: &R3) -> R3
         ensures { result.coefficients ≡ reduced 1 (times self.now.coefficients o.now.coefficients) }
     {
-        let mut sums = Sums3::of(&R3::zero());
-        for k in 0..761 {
-            sums.shift();
-            sums.add(self.coefficients[760 - k], o, 0, 761);
-        }
-        sums.settled()
-    }
-
-    /// `by` times each coefficient.
-    pub(crate) fn scale(&self, by: i16) -> R3
-        requires { IsWithin 1 by }
-        ensures { result.coefficients ≡ reduced 1 (scale by self.now.coefficients) }
-    {
-        let mut scaled = [0; 761];
-        for k in 0..761 {
-            scaled[k] = centred_three(by * self.coefficients[k]);
-        }
-        R3 {
-            coefficients: scaled,
-        }
-    }
-
-    /// x times the element.
-    pub(crate) fn shift(&self) -> R3
-        ensures { result.coefficients ≡ reduced 1 (shift self.now.coefficients) }
-    {
-        let mut sums = Sums3::of(self);
-        sums.shift();
-        sums.settled()
+        r3_of(&planes_of(self).mul(&planes_of(o)))
     }
 
     /// 0.

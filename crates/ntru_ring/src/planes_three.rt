@@ -1,8 +1,8 @@
 //! Elements of R/3 as planes of bits: whether a coefficient isn't zero, and whether it is negative.
-ghost use Rattle.std.specs.Prelude.{◌≡◌, ◌≢◌, ◌≤◌, ◌<◌, ◌+◌, ◌*◌, ℕ, slice_index_or, negsuc, ◌/◌, ◌%◌};
+ghost use Rattle.std.specs.Prelude.{◌≡◌, ◌≢◌, ◌≤◌, ◌<◌, ◌+◌, ◌*◌, ℕ, pos, slice_index_or, negsuc, ◌/◌, ◌%◌};
 ghost use Rattle.std.specs.Int.{bit_at};
 ghost use Rattle.ntru_ring.specs.Reduction.{reduced, IsWithin};
-ghost use Rattle.ntru_ring.specs.Ring.{plus, scale, shift, coefficient};
+ghost use Rattle.ntru_ring.specs.Ring.{plus, scale, shift, times, zero_of, coefficient};
 ghost use Rattle.ntru_ring.specs.Planes.{bit_of, element_of, IsMoved};
 
 use crate::modulo_three::R3;
@@ -72,6 +72,16 @@ pub fn r3_of(planes: &Planes3) -> R3
 }
 
 impl Planes3 {
+    /// 0.
+    pub(crate) fn zero() -> Planes3
+        ensures { element_of result.nonzero result.negative ≡ zero_of 761 }
+    {
+        Planes3 {
+            nonzero: [0; 12],
+            negative: [0; 12],
+        }
+    }
+
     /// The coefficient of x^place.
     pub fn at(&self, place: usize) -> i16
         requires { place < 761 }
@@ -115,6 +125,47 @@ impl Planes3 {
             ≡ reduced 1 (plus (element_of self.now.nonzero self.now.negative) (scale (negsuc 0) (element_of o.now.nonzero o.now.negative))) }
     {
         self.add(&o.opposite())
+    }
+
+    /// The sum with `by` times another, in R/3.
+    pub(crate) fn add_multiple(&self, by: i16, o: &Planes3) -> Planes3
+        requires { IsWithin 1 by }
+        ensures { element_of result.nonzero result.negative
+            ≡ reduced 1 (plus (element_of self.now.nonzero self.now.negative) (scale by (element_of o.now.nonzero o.now.negative))) }
+    {
+        if by == 0 {
+            *self
+        } else if by == 1 {
+            self.add(o)
+        } else {
+            self.sub(o)
+        }
+    }
+
+    /// The product in R/3.
+    pub(crate) fn mul(&self, o: &Planes3) -> Planes3
+        ensures { element_of result.nonzero result.negative
+            ≡ reduced 1 (times (element_of self.now.nonzero self.now.negative) (element_of o.now.nonzero o.now.negative)) }
+    {
+        let mut product = Planes3::zero();
+        for k in 0..761 {
+            product = product.shift().add_multiple(self.at(760 - k), o);
+        }
+        product
+    }
+
+    /// The place of the first coefficient that isn't zero, or 761.
+    pub(crate) fn lead(&self) -> usize
+        ensures within { result ≤ 761 }
+        ensures before { (k : ℕ) → k < result → coefficient (element_of self.now.nonzero self.now.negative) k ≡ pos 0 }
+        ensures there { result < 761 → coefficient (element_of self.now.nonzero self.now.negative) result ≢ pos 0 }
+    {
+        for k in 0..12 {
+            if self.nonzero[k] != 0 {
+                return 64 * k + self.nonzero[k].trailing_zeros() as usize;
+            }
+        }
+        761
     }
 
     /// Each coefficient's opposite.

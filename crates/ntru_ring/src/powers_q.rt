@@ -1,9 +1,10 @@
 //! An element of R/q times x, x^2 and so on, in place.
-ghost use Rattle.std.specs.Prelude.{◌≡◌, ◌≤◌, ◌+◌, length, All};
+ghost use Rattle.std.specs.Prelude.{◌≡◌, ◌≢◌, ◌≤◌, ◌<◌, ◌+◌, length, All, pos};
 ghost use Rattle.ntru_ring.specs.Reduction.{reduced, IsWithin};
-ghost use Rattle.ntru_ring.specs.Ring.{shift};
+ghost use Rattle.ntru_ring.specs.Ring.{coefficient, shift};
 ghost use lib.Lanes.{chunk};
 
+use crate::lanes_q::subtract_part;
 use crate::modulo_q::Rq;
 use crate::sums_q::centred_q;
 
@@ -49,5 +50,70 @@ impl Powers {
         self.places[at + 1] = centred_q(i32::from(self.places[at + 1]) + i32::from(last));
         self.places[at] = last;
         self.start = at;
+    }
+
+    /// The coefficient of x^place.
+    pub fn at(&self, place: usize) -> i16
+        requires { place < 761 }
+        ensures value { result ≡ coefficient self.now.places (self.now.start + place) }
+        ensures within { IsWithin 2295 result }
+    {
+        self.places[self.start + place]
+    }
+
+    /// The place of the first coefficient from `from` on that isn't zero, or 761.
+    pub fn lead(&self, from: usize) -> usize
+        ensures within { result ≤ 761 }
+        ensures there { result < 761 → coefficient self.now.places (self.now.start + result) ≢ pos 0 }
+    {
+        for k in from..761 {
+            if self.places[self.start + k] != 0 {
+                return k;
+            }
+        }
+        761
+    }
+
+    /// Goes on to x times the element, but for its last coefficient, which leaves.
+    pub fn rise(&mut self)
+        requires { 1 ≤ self.old.start }
+        ensures { self.new.start + 1 ≡ self.old.start }
+    {
+        self.start = self.start - 1;
+        self.places[self.start] = 0;
+    }
+
+    /// Subtracts `factor` times the blocks of `other` from `first` on and before `last`, and its last coefficient.
+    pub fn subtract(&mut self, other: &Rq, factor: i16, first: usize, last: usize)
+        requires last { last ≤ 95 }
+        requires factor { IsWithin 2295 factor }
+        ensures { self.new.start ≡ self.old.start }
+    {
+        let start = self.start;
+        subtract_part(
+            &mut self.places,
+            start,
+            &other.coefficients,
+            0,
+            factor,
+            first,
+            last,
+        );
+    }
+
+    /// Subtracts `factor` times these blocks, and the last coefficient, from `other`.
+    pub fn subtract_from(&self, other: &mut Rq, factor: i16, first: usize, last: usize)
+        requires last { last ≤ 95 }
+        requires factor { IsWithin 2295 factor }
+    {
+        subtract_part(
+            &mut other.coefficients,
+            0,
+            &self.places,
+            self.start,
+            factor,
+            first,
+            last,
+        );
     }
 }

@@ -68,8 +68,9 @@ fn subtracts_and_multiplies_rows(rt: HostRuntime) {
     let x = Rq::monomial(1, 1);
     let sum = x.add(&Rq::monomial(0, 1));
     assert!(rt; x.mul_plain(&Rq::monomial(760, 1)) == sum);
-    assert!(rt; x.mul_small(&R3::monomial(760, 1)) == sum);
-    assert!(rt; Rq::monomial(760, 2295).mul_small(&R3::monomial(1, -1)) == sum.scale(-2295));
+    assert!(rt; x.mul_small(&planes_of(&R3::monomial(760, 1))) == sum);
+    let minus_x = planes_of(&R3::monomial(1, -1));
+    assert!(rt; Rq::monomial(760, 2295).mul_small(&minus_x) == sum.scale(-2295));
 }
 
 #[test]
@@ -90,7 +91,8 @@ fn keeps_two_bits_for_each_coefficient(rt: HostRuntime) {
 /// The shift elimination's candidates against the inverses by the whole elimination.
 fn agrees(rt: &impl Abort, work: &mut Workspace, g: &R3) {
     let f = g.lift();
-    assert!(rt; elimination_three::inverse_by_rows(work, g) == Ok(candidate_three(g)));
+    let in_three = r3_of(&candidate_three(&planes_of(g)));
+    assert!(rt; elimination_three::inverse_by_rows(work, g) == Ok(in_three));
     assert!(rt; elimination_q::inverse_by_rows(work, &f) == Ok(candidate_q(&f)));
 }
 
@@ -100,7 +102,7 @@ fn finds_the_inverses_of_the_whole_elimination(rt: HostRuntime) -> Result<(), Fa
     for place in 1..4 {
         let g = R3::monomial(place, 1).add(&R3::monomial(0, 1));
         agrees(&rt, &mut work, &g);
-        agrees(&rt, &mut work, &candidate_three(&g));
+        agrees(&rt, &mut work, &r3_of(&candidate_three(&planes_of(&g))));
     }
     Ok(())
 }

@@ -3,6 +3,7 @@ ghost use Rattle.std.specs.Prelude.{◌≡◌, vec_len};
 
 use crate::modulo_q::Rq;
 use crate::modulo_three::R3;
+use crate::planes_three::{Planes3, planes_of};
 use crate::rows_q::RowQ;
 use crate::rows_three::Row3;
 use std::alloc::{AllocError, Global};
@@ -17,7 +18,7 @@ pub struct Workspace {
 }
 
 impl Workspace {
-    /// Takes all the memory that the inverses need, 4.7 MB.
+    /// Takes all the memory that the inverses need, 2.6 MB.
     pub fn new(alloc: Global) -> Result<Workspace, AllocError> {
         let row_q = RowQ {
             a: Rq::monomial(0, 1),
@@ -26,8 +27,8 @@ impl Workspace {
             top: 0,
         };
         let row_three = Row3 {
-            a: R3::monomial(0, 1),
-            b: R3::zero(),
+            a: planes_of(&R3::monomial(0, 1)),
+            b: Planes3::zero(),
             pivot: 0,
             top: 0,
         };

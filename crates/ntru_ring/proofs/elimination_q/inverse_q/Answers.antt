@@ -7,5 +7,5 @@ use Rattle.ntru_ring.proofs.elimination_q.inverse_q.Goals as goal
 
 pub returns-then-eq : goal.returns-then-eq
 returns-then-eq c =
-    let same = (slice_eq-Decides Decides-int_eq c.mul.result.coefficients c.monomial.result.coefficients c.eq.result c.eq.ensures).0 c.if-eq.true in
-    sym c.mul.ensures ∙ same ∙ c.monomial.ensures ∙ unit_is 760 ∙ ap one_of (sym c.args.f.now.length)
+    let same = (slice_eq-Decides Decides-int_eq c.trial.result.coefficients c.monomial.result.coefficients c.eq.result c.eq.ensures).0 c.if-eq.true in
+    sym c.trial.ensures ∙ same ∙ c.monomial.ensures ∙ unit_is 760 ∙ ap one_of (sym c.args.f.now.length)

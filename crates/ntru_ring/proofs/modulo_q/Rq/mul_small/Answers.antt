@@ -1,11 +1,13 @@
 use Rattle.std.proofs.Common.{sym, ap, ◌∙◌, arith, lit<, subst, All, length, refl}
 use Rattle.std.proofs.lemmas.Simd.{length-chunk}
 use lib.Lanes.{chunk}
-use Rattle.ntru_ring.specs.Ring.{coefficient, plus, scale, shift, times, zero_of}
+use Rattle.ntru_ring.specs.Ring.{plus, scale, shift, times, zero_of}
+use Rattle.ntru_ring.specs.Elements.{element}
 use Rattle.ntru_ring.specs.Reduction.{reduced, IsWithin}
 use Rattle.ntru_ring.proofs.Algebra.{length-times}
 use Rattle.ntru_ring.proofs.Congruence.{reduced-reduced}
-use Rattle.ntru_ring.proofs.Places.{coefficient_within, chunk_within}
+use Rattle.ntru_ring.proofs.Elements.{length-element}
+use Rattle.ntru_ring.proofs.Places.{chunk_within}
 use Rattle.ntru_ring.proofs.Products.{small_more, small_all}
 use Rattle.ntru_ring.proofs.Ranges.{stored}
 use Rattle.ntru_ring.proofs.Unit.{times_comm, zero_of-plus}
@@ -14,7 +16,7 @@ use Rattle.ntru_ring.proofs.modulo_q.Rq.mul_small.Goals as goal
 
 pub loop-k-init : goal.loop-k-init
 loop-k-init c =
-    let s = c.args.small.now.coefficients in
+    let s = element c.args.small.now in
     let a = c.args.self.now in
     let p = c.of-powers in
     let e = ap (λ t. chunk t 761 p.result.places) p.ensures.start ∙ p.ensures.row in
@@ -32,26 +34,27 @@ add-requires-clause-row_within c = let p = c.loop-k.powers in subst (All (IsWith
 
 pub loop-k-preserved : goal.loop-k-preserved
 loop-k-preserved c =
-    let s = c.args.small.now in
+    let s = element c.args.small.now in
     let k = c.loop-k.k in
     let p = c.loop-k.powers in
     let q = c.shift.new.self in
-    let x = coefficient s.coefficients k in
-    let f = stored w16 1 x (coefficient_within 1 s.coefficients k s.within) (lit< tt) in
+    let x = c.at.result in
+    let f = stored w16 1 x c.at.ensures.within (lit< tt) in
     let sums = c.loop-k.sums.terms in
     record {
       start = omega (arith, c.shift.ensures.start, c.loop-k.invariant.start);
-      sum = small_more 2295 s.coefficients _ sums c.add.new.self.terms (chunk p.start 761 p.places) (chunk q.start 761 q.places) k x (omega (arith, s.length)) (refl)
+      sum = small_more 2295 s _ sums c.add.new.self.terms (chunk p.start 761 p.places) (chunk q.start 761 q.places) k x (omega (arith, length-element c.args.small.now)) c.at.ensures.value
           (c.add.ensures ∙ ap (λ t. reduced 2295 (plus sums (scale t c.row.result.now))) f ∙ ap (λ t. reduced 2295 (plus sums (scale x t))) c.row.ensures)
           (ap (reduced 2295) c.shift.ensures.row ∙ reduced-reduced 2295 (shift (chunk p.start 761 p.places))) c.loop-k.invariant.sum;
     }
 
 pub returns : goal.returns
 returns c =
-    let s = c.args.small.now in
+    let s = element c.args.small.now in
     let a = c.args.self.now in
+    let long = length-element c.args.small.now in
     let p = c.loop-k.powers in
     let sums = c.loop-k.sums in
     c.settled.ensures
-    ∙ ap (reduced 2295) (sym (small_all s.coefficients sums.terms (chunk p.start 761 p.places) c.loop-k.k (omega (arith, s.length)) (sums.length ∙ sym (length-chunk p.start 761 p.places (omega (arith, p.length, p.start_in))))))
-    ∙ c.loop-k.invariant.sum ∙ ap (reduced 2295) (times_comm s.coefficients a.coefficients (s.length ∙ sym a.length))
+    ∙ ap (reduced 2295) (sym (small_all s sums.terms (chunk p.start 761 p.places) c.loop-k.k (omega (arith, long)) (sums.length ∙ sym (length-chunk p.start 761 p.places (omega (arith, p.length, p.start_in))))))
+    ∙ c.loop-k.invariant.sum ∙ ap (reduced 2295) (times_comm s a.coefficients (long ∙ sym a.length))
