@@ -1,5 +1,5 @@
 -- One coefficient of a sum over R/q, as the code computes it in 16 bits.
-use Rattle.std.proofs.Common.{◌≡◌, true, false, ℤ, pos, neg_ℤ, ◌≤ℤ◌, ◌+ℤ◌, ◌-ℤ◌, ◌*ℤ◌, sym, ap, ◌∙◌, to_z, of_z, lit<, subst, arith}
+use Rattle.std.proofs.Common.{◌≡◌, true, false, ℤ, pos, negsuc, neg_ℤ, ◌≤ℤ◌, ◌+ℤ◌, ◌-ℤ◌, ◌*ℤ◌, sym, ap, ◌∙◌, to_z, of_z, lit<, subst, arith}
 use Rattle.std.proofs.lemmas.Int.{ints, to_z-of_z, by_lt_z}
 use borrow.Author.Differences.{up, down}
 use lib.Dec.{T}
@@ -12,32 +12,42 @@ use Rattle.ntru_ring.proofs.Integers.{shr_low, shr_high}
 use Rattle.ntru_ring.proofs.LanesQ.{stored_centred, widened_word}
 use Rattle.ntru_ring.proofs.Ranges.{within_fits, within_product, within_sum, within_word, stored, fits_along}
 
--- ---- sums in 16 bits of rows with factors -1, 0 and 1
+-- ---- sums in 16 bits of rows that are added or subtracted
 pub read_word : (q x : ℤ) → SFits w16 x → q ≡ centred 2295 (to_z w16 (of_z w16 x)) → to_z w16 (of_z w16 q) ≡ centred 2295 x
 read_word q x f e = stored_centred q (to_z w16 (of_z w16 x)) e ∙ ap (centred 2295) (to_z-of_z w16 x f)
 
-module _ (by r s t : ℤ) (v : IsWithin 1 by) (w : IsWithin 2295 r) (f : t ≡ s) (u : IsWithin 29835 s) where
-  small_product : to_z w16 (of_z w16 by) *ℤ to_z w16 (of_z w16 r) ≡ by *ℤ r
-  small_product = ap (λ x. x *ℤ to_z w16 (of_z w16 r)) (stored w16 1 by v (lit< tt)) ∙ ap (λ x. by *ℤ x) (stored w16 2295 r w (lit< tt))
+module _ (r s t : ℤ) (w : IsWithin 2295 r) (f : t ≡ s) (u : IsWithin 29835 s) where
+  read_sum : to_z w16 (of_z w16 t) ≡ s
+  read_sum = ap (λ x. to_z w16 (of_z w16 x)) f ∙ stored w16 29835 s u (lit< tt)
 
-  pub small_product_fits : SFits w16 (to_z w16 (of_z w16 by) *ℤ to_z w16 (of_z w16 r))
-  small_product_fits = fits_along w16 _ _ small_product (within_fits w16 2295 (by *ℤ r) (within_product 1 2295 by r v w) (lit< tt))
+  row_sum : to_z w16 (of_z w16 t) +ℤ to_z w16 (of_z w16 r) ≡ s +ℤ r
+  row_sum = ap (λ x. x +ℤ to_z w16 (of_z w16 r)) read_sum ∙ ap (λ x. s +ℤ x) (stored w16 2295 r w (lit< tt))
 
-  small_sum : to_z w16 (of_z w16 t) +ℤ to_z w16 (of_z w16 (to_z w16 (of_z w16 by) *ℤ to_z w16 (of_z w16 r))) ≡ s +ℤ by *ℤ r
-  small_sum =
-      ap (λ x. to_z w16 (of_z w16 x) +ℤ to_z w16 (of_z w16 (to_z w16 (of_z w16 by) *ℤ to_z w16 (of_z w16 r)))) f
-      ∙ ap (λ x. x +ℤ to_z w16 (of_z w16 (to_z w16 (of_z w16 by) *ℤ to_z w16 (of_z w16 r)))) (stored w16 29835 s u (lit< tt))
-      ∙ ap (λ x. s +ℤ x) (to_z-of_z w16 _ small_product_fits ∙ small_product)
+  pub row_sum_fits : SFits w16 (to_z w16 (of_z w16 t) +ℤ to_z w16 (of_z w16 r))
+  row_sum_fits = fits_along w16 _ _ row_sum (within_fits w16 32130 (s +ℤ r) (within_sum 29835 2295 s r u w) (lit< tt))
 
-  total_within : IsWithin 32130 (s +ℤ by *ℤ r)
-  total_within = within_sum 29835 2295 s (by *ℤ r) u (within_product 1 2295 by r v w)
+  pub row_sum_stored : to_z w16 (of_z w16 (to_z w16 (of_z w16 t) +ℤ to_z w16 (of_z w16 r))) ≡ t +ℤ pos 1 *ℤ r
+  row_sum_stored =
+      let e : s +ℤ r ≡ t +ℤ pos 1 *ℤ r = ap (λ x. x +ℤ r) (sym f) ∙ once t r in
+      to_z-of_z w16 _ row_sum_fits ∙ row_sum ∙ e
+    where
+      once : (t r : ℤ) → t +ℤ r ≡ t +ℤ pos 1 *ℤ r
+      once t r = omega (arith, ints)
 
-  pub small_sum_fits : SFits w16 (to_z w16 (of_z w16 t) +ℤ to_z w16 (of_z w16 (to_z w16 (of_z w16 by) *ℤ to_z w16 (of_z w16 r))))
-  small_sum_fits = fits_along w16 _ _ small_sum (within_fits w16 32130 (s +ℤ by *ℤ r) total_within (lit< tt))
+  row_difference : to_z w16 (of_z w16 t) -ℤ to_z w16 (of_z w16 r) ≡ s -ℤ r
+  row_difference = ap (λ x. x -ℤ to_z w16 (of_z w16 r)) read_sum ∙ ap (λ x. s -ℤ x) (stored w16 2295 r w (lit< tt))
 
-  pub small_sum_stored : to_z w16 (of_z w16 (to_z w16 (of_z w16 t) +ℤ to_z w16 (of_z w16 (to_z w16 (of_z w16 by) *ℤ to_z w16 (of_z w16 r))))) ≡ t +ℤ to_z w16 (of_z w16 by) *ℤ r
-  small_sum_stored =
-      to_z-of_z w16 _ small_sum_fits ∙ small_sum ∙ ap (λ x. x +ℤ by *ℤ r) (sym f) ∙ ap (λ x. t +ℤ x *ℤ r) (sym (stored w16 1 by v (lit< tt)))
+  difference_within : IsWithin 32130 (s -ℤ r)
+  difference_within = record { low = omega (arith, ints, u.low, w.high); high = omega (arith, ints, u.high, w.low) }
+
+  pub row_difference_fits : SFits w16 (to_z w16 (of_z w16 t) -ℤ to_z w16 (of_z w16 r))
+  row_difference_fits = fits_along w16 _ _ row_difference (within_fits w16 32130 (s -ℤ r) difference_within (lit< tt))
+
+  pub row_difference_stored : to_z w16 (of_z w16 (to_z w16 (of_z w16 t) -ℤ to_z w16 (of_z w16 r))) ≡ t +ℤ negsuc 0 *ℤ r
+  row_difference_stored = to_z-of_z w16 _ row_difference_fits ∙ row_difference ∙ ap (λ x. x -ℤ r) (sym f) ∙ opposite t r
+    where
+      opposite : (t r : ℤ) → t -ℤ r ≡ t +ℤ negsuc 0 *ℤ r
+      opposite t r = omega (arith, ints)
 
 -- ---- a 16-bit number reduced
 abbrev pub rest_of : ℤ → ℤ → ℤ

@@ -1,5 +1,5 @@
 //! Sums of rows over R/q with factors -1, 0 and 1, reduced late: coefficients as `i16`.
-ghost use Rattle.std.specs.Prelude.{◌≡◌, ◌≤◌, ◌*◌, length, All};
+ghost use Rattle.std.specs.Prelude.{◌≡◌, ◌≢◌, ◌≤◌, ◌*◌, length, All, pos, negsuc};
 ghost use Rattle.ntru_ring.specs.Reduction.{centred, reduced, IsWithin};
 ghost use Rattle.ntru_ring.specs.Ring.{plus, scale};
 
@@ -18,28 +18,53 @@ fn centred_word(z: i16) -> i16
     rest
 }
 
-/// Each coefficient by its representative.
-fn settled(sums: &[i16; 761]) -> [i16; 761]
-    ensures value { result ≡ reduced 2295 sums.now }
-    ensures within { All (IsWithin 2295) result }
+/// Puts each coefficient's representative in its place.
+fn settle(sums: &mut [i16; 761])
+    ensures value { sums.new ≡ reduced 2295 sums.old }
+    ensures within { All (IsWithin 2295) sums.new }
 {
-    let mut settled = [0; 761];
     for k in 0..761 {
-        settled[k] = centred_word(sums[k]);
+        sums[k] = centred_word(sums[k]);
     }
-    settled
 }
 
-/// Adds `by` times `row`.
+/// Adds `row`.
+fn add_row(sums: &mut [i16; 761], row: &[i16])
+    requires row_length { length row.now ≡ 761 }
+    requires row_within { All (IsWithin 2295) row.now }
+    requires room { All (IsWithin 29835) sums.old }
+    ensures { sums.new ≡ plus sums.old (scale (pos 1) row.now) }
+{
+    for k in 0..761 {
+        sums[k] = sums[k] + row[k];
+    }
+}
+
+/// Subtracts `row`.
+fn subtract_row(sums: &mut [i16; 761], row: &[i16])
+    requires row_length { length row.now ≡ 761 }
+    requires row_within { All (IsWithin 2295) row.now }
+    requires room { All (IsWithin 29835) sums.old }
+    ensures { sums.new ≡ plus sums.old (scale (negsuc 0) row.now) }
+{
+    for k in 0..761 {
+        sums[k] = sums[k] - row[k];
+    }
+}
+
+/// Adds `by` times `row`, where `by` is 1 or -1.
 fn add_multiple(sums: &mut [i16; 761], by: i16, row: &[i16])
     requires by_within { IsWithin 1 by }
+    requires nonzero { by ≢ pos 0 }
     requires row_length { length row.now ≡ 761 }
     requires row_within { All (IsWithin 2295) row.now }
     requires room { All (IsWithin 29835) sums.old }
     ensures { sums.new ≡ plus sums.old (scale by row.now) }
 {
-    for k in 0..761 {
-        sums[k] = sums[k] + by * row[k];
+    if by == 1 {
+        add_row(sums, row);
+    } else {
+        subtract_row(sums, row);
     }
 }
 
@@ -69,7 +94,9 @@ impl SumsSmall {
     pub fn settled(&self) -> Rq
         ensures { result.coefficients ≡ reduced 2295 self.now.terms }
     {
-        Rq::new(&settled(&self.terms))
+        let mut terms = self.terms;
+        settle(&mut terms);
+        Rq::new(&terms)
     }
 
     /// Makes room for one more row.
@@ -78,7 +105,7 @@ impl SumsSmall {
         ensures room { self.new.count ≤ 13 }
     {
         if self.count > 13 {
-            self.terms = settled(&self.terms);
+            settle(&mut self.terms);
             self.count = 1;
         }
     }

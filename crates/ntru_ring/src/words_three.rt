@@ -20,19 +20,9 @@ impl Word3 {
         ensures small { result.nonzero < 2 }
         ensures within { result.negative ≤ result.nonzero }
     {
-        match c {
-            0 => Word3 {
-                nonzero: 0,
-                negative: 0,
-            },
-            1 => Word3 {
-                nonzero: 1,
-                negative: 0,
-            },
-            _ => Word3 {
-                nonzero: 1,
-                negative: 1,
-            },
+        Word3 {
+            nonzero: (c != 0) as u64,
+            negative: (c < 0) as u64,
         }
     }
 

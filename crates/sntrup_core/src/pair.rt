@@ -2,7 +2,7 @@
 
 ghost use Rattle.sntrup_core.specs.Tries.{IsTry};
 
-use ntru_ring::{Annihilated3, AnnihilatedQ, R3, Rq, Workspace, inverse_q, inverse3};
+use ntru_ring::{Annihilated3, AnnihilatedQ, R3, Rq, Workspace, inverse_q, inverse3, planes_of};
 
 /// What a try of key generation gives.
 #[derive(Clone, Copy)]
@@ -28,7 +28,7 @@ pub fn pair_try(work: &mut Workspace, g: &R3, f: &R3) -> PairTry
     };
     match inverse_q(work, &f.lift()) {
         Ok(inverse) => PairTry::Pair {
-            h: inverse.mul_small(g).scale(THIRD),
+            h: inverse.mul_small(&planes_of(g)).scale(THIRD),
             v,
         },
         Err(AnnihilatedQ { z }) => PairTry::NoInverseF(z),

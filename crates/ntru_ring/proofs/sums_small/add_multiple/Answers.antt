@@ -1,46 +1,16 @@
-use Rattle.std.proofs.Common.{◌≡◌, arith, lit<, pos}
-use Rattle.std.proofs.Math.ListN.{get_or-eq_default}
-use Rattle.ntru_ring.specs.Ring.{coefficient}
-use Rattle.ntru_ring.proofs.Ranges.{stored}
-use Rattle.ntru_ring.proofs.Places.{coefficient_within}
-use Rattle.ntru_ring.proofs.Kernels.{IsAdded-none, IsAdded-more, IsAdded-all, IsAdded-at}
-use Rattle.ntru_ring.proofs.WordsQ.{small_product_fits, small_sum_fits, small_sum_stored}
-use mir.Syntax.{w16}
+use Rattle.std.proofs.Common.{◌≡◌, arith, pos, negsuc, sym, ap, ◌∙◌}
+use Rattle.std.proofs.lemmas.Int.{ints}
+use Rattle.ntru_ring.specs.Ring.{plus, scale}
 use Rattle.ntru_ring.proofs.sums_small.add_multiple.Goals as goal
 
-pub overflow_mul-sums : goal.overflow_mul-sums
-overflow_mul-sums c =
-    let row = c.args.row.now in
-    let old = c.args.sums.now in
-    let k = c.loop-k.k in
-    small_product_fits c.args.by (coefficient row k) (coefficient old k) (coefficient c.loop-k.sums k) c.requires.by_within (coefficient_within 2295 row k c.requires.row_within)
-    (c.loop-k.invariant.after k (omega arith)) (coefficient_within 29835 old k c.requires.room)
+pub returns-then-by-eq1 : goal.returns-then-by-eq1
+returns-then-by-eq1 c =
+    let w = c.requires.by_within in
+    let z : c.args.by ≡ pos 1 = omega (arith, ints, w.low, w.high, c.if-by-eq1.true) in
+    c.add_row.ensures ∙ ap (λ t. plus c.args.sums.now (scale t c.args.row.now)) (sym z)
 
-pub overflow_add-sums : goal.overflow_add-sums
-overflow_add-sums c =
-    let row = c.args.row.now in
-    let old = c.args.sums.now in
-    let k = c.loop-k.k in
-    small_sum_fits c.args.by (coefficient row k) (coefficient old k) (coefficient c.loop-k.sums k) c.requires.by_within (coefficient_within 2295 row k c.requires.row_within)
-    (c.loop-k.invariant.after k (omega arith)) (coefficient_within 29835 old k c.requires.room)
-
-pub loop-k-init : goal.loop-k-init
-loop-k-init c = IsAdded-none c.args.sums.now c.args.row.now _ 0
-
-pub loop-k-preserved : goal.loop-k-preserved
-loop-k-preserved c =
-    let row = c.args.row.now in
-    let old = c.args.sums.now in
-    let k = c.loop-k.k in
-    IsAdded-more old c.loop-k.sums row _ 0 k _ (omega arith) (omega (arith, c.told-sums))
-    (small_sum_stored c.args.by (coefficient row k) (coefficient old k) (coefficient c.loop-k.sums k) c.requires.by_within (coefficient_within 2295 row k c.requires.row_within)
-    (c.loop-k.invariant.after k (omega arith)) (coefficient_within 29835 old k c.requires.room))
-    c.loop-k.invariant
-
-pub returns : goal.returns
-returns c =
-    let row = c.args.row.now in
-    let k : c.loop-k.k ≡ 761 = omega arith in
-    let b = stored w16 1 c.args.by c.requires.by_within (lit< tt) in
-    IsAdded-all c.args.sums.now c.loop-k.sums row c.args.by 0 761 (omega (arith, c.told-sums, c.requires.row_length)) (λ j l. absurd (omega arith)) (λ j l. get_or-eq_default row (pos 0) {n = j} (omega (arith, c.requires.row_length)))
-    (IsAdded-at c.args.sums.now c.loop-k.sums row _ c.args.by 0 c.loop-k.k 761 b k c.loop-k.invariant)
+pub returns-else-by-eq1 : goal.returns-else-by-eq1
+returns-else-by-eq1 c =
+    let w = c.requires.by_within in
+    let z : c.args.by ≡ negsuc 0 = omega (arith, ints, w.low, w.high, c.requires.nonzero, c.if-by-eq1.false) in
+    c.subtract_row.ensures ∙ ap (λ t. plus c.args.sums.now (scale t c.args.row.now)) (sym z)

@@ -1,6 +1,7 @@
-use Rattle.std.proofs.Common.{refl, sym, subst, List, ℤ, Option}
+use Rattle.std.proofs.Common.{refl, sym, subst, ap, ◌∙◌, List, ℤ, Option}
 use Rattle.std.specs.Prelude.{IsSome}
-use Rattle.ntru_ring.specs.Reduction.{Annihilates}
+use Rattle.ntru_ring.specs.Ring.{times}
+use Rattle.ntru_ring.specs.Reduction.{reduced, Annihilates}
 use Rattle.sntrup_core.proofs.InverseLaws.{inverse-found, inverse-none}
 use Rattle.sntrup_core.proofs.Quotients.{made-pair}
 use Rattle.sntrup_core.proofs.pair.pair_try.Goals as goal
@@ -23,7 +24,7 @@ returns-in-Ok-inverse_q c =
     made-pair 760 g.coefficients f.coefficients c.lift.result.coefficients v.coefficients w.coefficients
     c.mul_small.result.coefficients c.scale.result.coefficients
     g.length f.length v.length w.length g.within v.within w.within c.in-Ok.ensures c.lift.ensures
-    c.in-Ok-inverse_q.ensures c.mul_small.ensures c.scale.ensures
+    c.in-Ok-inverse_q.ensures (c.mul_small.ensures ∙ ap (λ t. reduced 2295 (times w.coefficients t)) c.planes_of.ensures) c.scale.ensures
 
 pub returns-in-Err-inverse_q : goal.returns-in-Err-inverse_q
 returns-in-Err-inverse_q c =

@@ -1,6 +1,0 @@
-use Rattle.ntru_ring.specs.Reduction.{reduced}
-use Rattle.ntru_ring.proofs.Kernels.{IsFilling}
-use Rattle.ntru_ring.proofs.sums_small.settled.Given as goal
-
-abbrev pub invariant-loop-k : goal.invariant-loop-k
-invariant-loop-k l = IsFilling (reduced 2295 l.sums) l.settled l.k
