@@ -2,6 +2,7 @@ pub mod Steps
 pub mod Network
 pub mod Draws
 pub mod Events
+pub mod EventCodes
 pub mod Sides
 pub mod Worlds
 pub mod WorldSides

@@ -6,7 +6,7 @@ use Rattle.dr_base.specs.declared.position.Side.TheVariants.{First, Second}
 use Rattle.dr_ports.specs.Ports.{appended}
 use Rattle.dr_ports.specs.Writing.{TookBeginning}
 use Rattle.session_model.specs.declared.answer.Answer.{Answer}
-use Rattle.session_model.specs.declared.answer.Answer.TheVariants.{Said, Opened, Sent, Done, Inbox, State, Seeded, Nothing, Refused}
+use Rattle.session_model.specs.declared.answer.Answer.TheVariants.{Said, Opened, Sent, Done, Inbox, State, Seeded, Stopped, Nothing, Refused}
 use Rattle.dr_model.specs.Machines.Sides.{Sides, step_on}
 use Rattle.dr_model.specs.Machines.Events.{Event}
 use Rattle.dr_model.specs.Machines.Steps.{Step}
@@ -52,6 +52,7 @@ side_more n (Done m) t b = side_wider n (n + 1) t (omega arith) b
 side_more n (Inbox m) t b = side_wider n (n + 1) t (omega arith) b
 side_more n (State summary) t b = side_wider n (n + 1) t (omega arith) b
 side_more n Seeded t b = side_wider n (n + 1) t (omega arith) b
+side_more n Stopped t b = side_wider n (n + 1) t (omega arith) b
 
 one_more : (n : ℕ) (side : Side) (answer : Answer) (t : Tally) → IsBelow n t → IsBelow (n + 1) (counted_of side answer t)
 one_more n First answer t b = record { first = side_more n answer t.first b.first; second = side_wider n (n + 1) t.second (omega arith) b.second }

@@ -19,7 +19,7 @@ use Rattle.dr_base.specs.declared.position.Side.{Side}
 use Rattle.dr_base.specs.declared.position.Side.TheVariants.{First, Second}
 use Rattle.session_model.specs.declared.answer.Amount.{Amount}
 use Rattle.session_model.specs.declared.answer.Amount.TheVariants.{All, Exactly}
-use Rattle.dr_model.specs.Machines.Events.{Event, seeds, says, takes, takes_nth, flips, takes_bytes, drops_sent, drops_done, shows_inbox, shows_state}
+use Rattle.dr_model.specs.Machines.Events.{Event, seeds, says, takes, takes_nth, flips, takes_bytes, drops_sent, drops_done, shows_inbox, shows_state, cuts}
 use Rattle.duet.specs.Number.{is_number, is_unpadded, number_read}
 use Rattle.duet.specs.Printed.{IsAmount, IsNumbered, IsSayable, amount_text, line_text, words_text}
 use Rattle.duet.specs.Replies.{acting_side, position_text, side_text}
@@ -219,6 +219,7 @@ words_back (drops_sent side amount) h other = ap (λ o. option_or (option_map (d
 words_back (drops_done side amount) h other = ap (λ o. option_or (option_map (drops_done side) o) None) (amount_back amount h)
 words_back (shows_inbox side) h other = refl
 words_back (shows_state side) h other = refl
+words_back (cuts took event) h other = absurd h
 
 pub line_back : (event : Event) → IsSayable event → line_read (line_text event) ≡ Some event
 unfolding line_text line_read seed_read after_prefix
@@ -232,3 +233,4 @@ line_back (drops_sent side amount) h = of_side side _ _ (words_back (drops_sent 
 line_back (drops_done side amount) h = of_side side _ _ (words_back (drops_done side amount) h (λ seed e. cc e))
 line_back (shows_inbox side) h = of_side side _ _ (words_back (shows_inbox side) h (λ seed e. cc e))
 line_back (shows_state side) h = of_side side _ _ (words_back (shows_state side) h (λ seed e. cc e))
+line_back (cuts took event) h = absurd h

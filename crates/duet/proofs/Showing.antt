@@ -1,14 +1,15 @@
 -- What an event shows, and what it adds to the network and to the draws.
-use Rattle.std.proofs.Common.{◌≡◌, ℕ, ◌+◌, ◌≤◌, Bool, true, false, List, [], ◌∷◌, ◌++◌, length, Option, Some, None, Result, Ok, Err, refl, sym, ◌∙◌, ap, arith, length-append}
+use Rattle.std.proofs.Common.{◌≡◌, ℕ, ◌+◌, ◌≤◌, Bool, true, false, List, [], ◌∷◌, ◌++◌, length, Option, Some, None, Result, Ok, Err, if◌then◌else◌, refl, sym, ◌∙◌, ap, arith, length-append}
 use Rattle.dr_base.specs.declared.position.Side.{Side}
 use Rattle.dr_base.specs.declared.position.Side.TheVariants.{First, Second}
 use Rattle.boxes.specs.Items.{Item}
+use Rattle.session_model.specs.declared.answer.Answer.TheVariants.{Stopped}
 use Rattle.session_model.specs.declared.answer.Refusal.{Refusal}
 use Rattle.session_model.specs.Clients.{SaidText, TakenPacket, dropped_of, say_check, say_on, take_on}
 use Rattle.dr_model.specs.Machines.Sides.{Sides, client_of, done_on, opened_on, said_on, saying_on, sent_on, step_on, taken_on}
-use Rattle.dr_model.specs.Machines.Steps.{Step, amount_of}
+use Rattle.dr_model.specs.Machines.Steps.{Step, amount_of, cut_step, has_effect, step}
 use Rattle.dr_model.specs.Machines.Draws.{Draws, after_draw, next_seed}
-use Rattle.dr_model.specs.Machines.Events.{Event, seeds, says, takes, takes_nth, flips, takes_bytes, drops_sent, drops_done, shows_inbox, shows_state}
+use Rattle.dr_model.specs.Machines.Events.{Event, seeds, says, takes, takes_nth, flips, takes_bytes, drops_sent, drops_done, shows_inbox, shows_state, cuts}
 use Rattle.dr_model.specs.Machines.Network.{flipped_at, held_at, held_nth}
 use Rattle.kem_laws.specs.Mechanism.{Mechanism}
 use Rattle.duet.specs.Held.{DuetNow, shown, stepped}
@@ -55,6 +56,30 @@ done_quiet s First n (Ok inbox) = still_quiet s _ refl refl refl
 done_quiet s Second n (Ok inbox) = still_quiet s _ refl refl refl
 done_quiet s side n (Err refusal) = still_quiet s _ refl refl refl
 
+-- ---- a step that was cut off
+
+uncut : (k : Mechanism) (s before : Sides) (took : Bool) (made : Step Sides) (effect : Bool) → has_effect made.answer ≡ effect
+    → has_effect (if effect then step Stopped (if took then made.next else before) else made).answer ≡ true → ⊥
+uncut k s before took made true e h = cc
+uncut k s before took made false e h = cc
+
+-- an event that took effect shows no text
+effect_shows_none : (k : Mechanism) (s t : Sides) (event : Event) → has_effect (step_on k s event).answer ≡ true
+    → shown event t ≡ []
+effect_shows_none k s t (seeds seed) h = refl
+effect_shows_none k s t (says side text) h = refl
+effect_shows_none k s t (takes side p) h = refl
+effect_shows_none k s t (takes_nth side nth) h = refl
+effect_shows_none k s t (flips side p bit) h = refl
+effect_shows_none k s t (takes_bytes side bytes) h = refl
+effect_shows_none k s t (drops_sent side amount) h = refl
+effect_shows_none k s t (drops_done side amount) h = refl
+effect_shows_none k s t (shows_inbox side) h = cc
+effect_shows_none k s t (shows_state side) h = refl
+effect_shows_none k s t (cuts took event) h =
+    let made = step_on k s event in
+    absurd (uncut k s (record s { draws = made.next.draws }) took made (has_effect made.answer) refl h)
+
 -- a step that shows just what the event shows, adds at most one packet, and makes at most one draw
 record IsShown (s : Sides) (event : Event) (made : Step Sides) : Type 0 where
   entries : shown event made.next ≡ made.entries
@@ -63,6 +88,16 @@ record IsShown (s : Sides) (event : Event) (made : Step Sides) : Type 0 where
 
 from_quiet : (s : Sides) (event : Event) (made : Step Sides) → shown event made.next ≡ [] → IsQuiet s made → IsShown s event made
 from_quiet s event made nothing quiet = record { entries = nothing ∙ sym quiet.none; posts = quiet.posts; draws = quiet.draws }
+
+-- a step that was cut off shows what it shows uncut, or no text
+cut_shown : (s : Sides) (event : Event) (took : Bool) (made : Step Sides) (effect : Bool) → has_effect made.answer ≡ effect
+    → ((t : Sides) → has_effect made.answer ≡ true → shown event t ≡ []) → IsShown s event made
+    → IsShown s (cuts took event)
+    (if effect then step Stopped (if took then made.next else record s { draws = made.next.draws }) else made)
+cut_shown s event true made true e none all = record { entries = none made.next e; posts = all.posts; draws = all.draws }
+cut_shown s event false made true e none all =
+    record { entries = none (record s { draws = made.next.draws }) e; posts = omega arith; draws = all.draws }
+cut_shown s event took made false e none all = record { entries = all.entries; posts = all.posts; draws = all.draws }
 
 shows : (k : Mechanism) (s : Sides) (event : Event) → IsShown s event (step_on k s event)
 shows k s (seeds seed) = record { entries = refl; posts = omega arith; draws = omega arith }
@@ -79,6 +114,9 @@ shows k s (drops_done side amount) =
     from_quiet s (drops_done side amount) _ refl (done_quiet s side n (dropped_of n (client_of s side).inbox))
 shows k s (shows_inbox side) = record { entries = refl; posts = omega arith; draws = omega arith }
 shows k s (shows_state side) = record { entries = refl; posts = omega arith; draws = omega arith }
+shows k s (cuts took event) =
+    let made = step_on k s event in
+    cut_shown s event took made (has_effect made.answer) refl (λ t. effect_shows_none k s t event) (shows k s event)
 
 -- the texts that an event shows
 pub shown-entries : (k : Mechanism) (s : Sides) (event : Event) → shown event (step_on k s event).next ≡ (step_on k s event).entries

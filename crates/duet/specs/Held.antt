@@ -8,7 +8,7 @@ use Rattle.session_model.specs.Clients.{Client, SaidText, TakenPacket}
 use Rattle.dr_model.specs.Machines.Sides.{Sides, client_of, step_on}
 use Rattle.dr_model.specs.Machines.Steps.{Step}
 use Rattle.dr_model.specs.Machines.Draws.{Draws}
-use Rattle.dr_model.specs.Machines.Events.{Event, shows_inbox}
+use Rattle.dr_model.specs.Machines.Events.{Event, cuts, shows_inbox}
 use Rattle.session_model.specs.States.{opening_state}
 use Rattle.kem_laws.specs.Mechanism.{Mechanism}
 
@@ -48,4 +48,5 @@ stepped k duet event = after duet (step_on k duet.sides event)
 -- the texts that an event shows
 abbrev pub shown : Event → Sides → List Item
 shown (shows_inbox side) s = (client_of s side).inbox
+shown (cuts took event) s = shown event s
 shown _ s = []

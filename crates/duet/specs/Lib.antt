@@ -4,6 +4,7 @@ pub mod Number
 pub mod Printed
 pub mod Words
 pub mod Script
+pub mod ScriptCodes
 pub mod Seen
 pub mod Trace
 pub mod Tally

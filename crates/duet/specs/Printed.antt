@@ -4,7 +4,7 @@ use Rattle.hex.specs.Hex.{IsBytes, encode_lower}
 use Rattle.dr_base.specs.declared.position.Position.{Position}
 use Rattle.session_model.specs.declared.answer.Amount.{Amount}
 use Rattle.session_model.specs.declared.answer.Amount.TheVariants.{All, Exactly}
-use Rattle.dr_model.specs.Machines.Events.{Event, seeds, says, takes, takes_nth, flips, takes_bytes, drops_sent, drops_done, shows_inbox, shows_state}
+use Rattle.dr_model.specs.Machines.Events.{Event, seeds, says, takes, takes_nth, flips, takes_bytes, drops_sent, drops_done, shows_inbox, shows_state, cuts}
 use Rattle.duet.specs.Replies.{acting_side, position_text, side_text}
 
 -- `all`, or a number
@@ -24,6 +24,7 @@ words_text (drops_sent side amount) = codes "sent " ++ amount_text amount
 words_text (drops_done side amount) = codes "done " ++ amount_text amount
 words_text (shows_inbox side) = codes "inbox"
 words_text (shows_state side) = codes "state"
+words_text (cuts took event) = []
 
 -- the line that says an event: a seed is no side's
 unfoldable pub line_text : Event → List ℕ
@@ -38,7 +39,8 @@ abbrev pub IsAmount : Amount → Type 0
 IsAmount All = ⊤
 IsAmount (Exactly n) = n < 2 ^ 32
 
--- an event that a line can say: its numbers are below 2^32, a seed has 32 bytes, and given bytes are at most 4,000
+-- an event that a line can say: its numbers are below 2^32, a seed has 32 bytes, and given bytes are at most 4,000; no line
+-- says a cut
 abbrev pub IsSayable : Event → Type 0
 IsSayable (seeds seed) = (length seed ≡ 32) × IsBytes seed
 IsSayable (says side text) = ⊤
@@ -50,3 +52,4 @@ IsSayable (drops_sent side amount) = IsAmount amount
 IsSayable (drops_done side amount) = IsAmount amount
 IsSayable (shows_inbox side) = ⊤
 IsSayable (shows_state side) = ⊤
+IsSayable (cuts took event) = ⊥

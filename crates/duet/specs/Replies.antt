@@ -8,12 +8,12 @@ use Rattle.packet.specs.declared.fault.Kind.{Kind}
 use Rattle.packet.specs.declared.fault.Kind.TheVariants.{Version, Epoch, Previous, Index, Agreement, Text, Short, Long}
 use Rattle.boxes.specs.Items.{Item}
 use Rattle.session_model.specs.declared.answer.Answer.{Answer}
-use Rattle.session_model.specs.declared.answer.Answer.TheVariants.{Said, Opened, Sent, Done, Inbox, State, Seeded, Nothing, Refused}
+use Rattle.session_model.specs.declared.answer.Answer.TheVariants.{Said, Opened, Sent, Done, Inbox, State, Seeded, Stopped, Nothing, Refused}
 use Rattle.session_model.specs.declared.answer.Refusal.{Refusal}
 use Rattle.session_model.specs.declared.answer.Refusal.TheVariants.{TextTooLong, OutboxFull, EpochFull, LastEpoch, NoPair, Malformed, OtherSession, OwnPacket, Ahead, Spent, Count, SkipLimit, BadTag, InboxFull, Fewer}
 use Rattle.session_model.specs.declared.answer.Summary.{Summary}
 use Rattle.dr_model.specs.Machines.Steps.{Step}
-use Rattle.dr_model.specs.Machines.Events.{Event, seeds, says, takes, takes_nth, flips, takes_bytes, drops_sent, drops_done, shows_inbox, shows_state}
+use Rattle.dr_model.specs.Machines.Events.{Event, seeds, says, takes, takes_nth, flips, takes_bytes, drops_sent, drops_done, shows_inbox, shows_state, cuts}
 
 -- `epoch.index`
 unfoldable pub position_text : Position → List ℕ
@@ -63,6 +63,7 @@ answer_text (Done n) = codes "done " ++ decimal n
 answer_text (Inbox n) = codes "inbox " ++ decimal n
 answer_text (State s) = codes "state " ++ summary_text s
 answer_text Seeded = []
+answer_text Stopped = codes "stopped"
 answer_text Nothing = codes "nothing"
 answer_text (Refused r) = codes "refused " ++ refusal_text r
 
@@ -83,6 +84,7 @@ acting_side (drops_sent side amount) = side
 acting_side (drops_done side amount) = side
 acting_side (shows_inbox side) = side
 acting_side (shows_state side) = side
+acting_side (cuts took event) = acting_side event
 
 -- the line of a side's event with its answer; a seed has none
 unfoldable pub reply_line : Side → Answer → List ℕ

@@ -132,6 +132,7 @@ fn put_answer(line: &mut OutputLine, answer: Answer)
             put_summary(line, summary);
         }
         Answer::Seeded => {}
+        Answer::Stopped => line.text(b"stopped"),
         Answer::Nothing => line.text(b"nothing"),
         Answer::Refused(refusal) => {
             line.text(b"refused ");

@@ -41,8 +41,11 @@ pub struct Script {
 
 impl Model for Script {
     ghost use Rattle.duet.specs.Script.{AreCounted, Scripted, events_in};
+    ghost use Rattle.duet.specs.ScriptCodes.{script_code};
 
     ghost Value = { Scripted };
+
+    ghost coded = { script_code };
 
     ghost view = { λ s. record { kem = s.kem; key = s.key.bytes; events = events_in s.text.items } };
 

@@ -20,6 +20,8 @@ pub enum Answer {
     State(Summary),
     /// The next draw is a given seed; this has no line.
     Seeded,
+    /// The side was cut off by a crash or a failing disk, and opened again.
+    Stopped,
     /// The network holds no such packet.
     Nothing,
     /// Nothing changed, for this reason.

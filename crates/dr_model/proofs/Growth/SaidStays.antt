@@ -14,7 +14,7 @@ use Rattle.dr_model.specs.Conversations.Conversation.{Conversation, is_said, wit
 use Rattle.dr_model.specs.Conversations.Posts.{post_at, posts}
 use Rattle.dr_model.specs.Conversations.Views.{View, has_opened, after_opening, missing_of, entry_at}
 use Rattle.dr_model.specs.Machines.Draws.{next_seed}
-use Rattle.dr_model.specs.Machines.Events.{Event, seeds, says, takes, takes_nth, flips, takes_bytes, drops_sent, drops_done, shows_inbox, shows_state}
+use Rattle.dr_model.specs.Machines.Events.{Event, seeds, says, takes, takes_nth, flips, takes_bytes, drops_sent, drops_done, shows_inbox, shows_state, cuts}
 use Rattle.dr_model.specs.Machines.Network.{flipped_at}
 use Rattle.dr_model.specs.Machines.Steps.{Step, step, settled, amount_of}
 use Rattle.dr_model.specs.Machines.Worlds.{World, view_of, with_view, inbox_in, outbox_in, may_say, said_next, saying_in, taking_in, taking_at, said_at, nth_of_peer, made_at, taking_made, taking_given, sent_in, done_in, step_of}
@@ -22,6 +22,7 @@ use Rattle.dr_model.specs.Theorems.LawfulWorlds.{IsLawfulWorld}
 use Rattle.dr_model.proofs.Growth.Growing.{grown, is_said-grown, entry_at-grown, said-begun}
 use Rattle.dr_model.proofs.Growth.TurnGrowth.{SameTurns, post_at-grown, turns_same, turns_stay}
 use Rattle.dr_model.proofs.Saying.SayingFollows.{drawn_in}
+use Rattle.dr_model.proofs.Worlds.CutSteps.{cut_off}
 use Rattle.dr_model.proofs.Worlds.WorldViews.{view_lawful}
 
 -- ---- what happens to the conversation
@@ -125,6 +126,10 @@ step_keeps k w (drops_done side amount) P still here next =
     subst P (sym (done_leaves w side (amount_of amount (length (inbox_in w side))))) still
 step_keeps k w (shows_inbox side) P still here next = still
 step_keeps k w (shows_state side) P still here next = still
+step_keeps k w (cuts took h) P still here next =
+    let kept = step_keeps k w h P still here next in
+    cut_off (λ made. P made.next.conversation) (record w { draws = (step_of k w h).next.draws }) took (step_of k w h) kept
+    still kept
 
 -- ---- what was said
 

@@ -19,11 +19,12 @@ use Rattle.dr_model.specs.Conversations.Posts.{posts}
 use Rattle.dr_model.specs.Conversations.ViewStates.{state_of}
 use Rattle.dr_model.specs.Conversations.Views.{View, has_opened, after_opening, missing_of}
 use Rattle.dr_model.specs.Machines.Draws.{Draws, next_seed, after_draw}
-use Rattle.dr_model.specs.Machines.Events.{Event, seeds, says, takes, takes_nth, flips, takes_bytes, drops_sent, drops_done, shows_inbox, shows_state}
+use Rattle.dr_model.specs.Machines.Events.{Event, seeds, says, takes, takes_nth, flips, takes_bytes, drops_sent, drops_done, shows_inbox, shows_state, cuts}
 use Rattle.dr_model.specs.Machines.Network.{flipped_at}
 use Rattle.dr_model.specs.Machines.Steps.{Step, step, settled, amount_of}
 use Rattle.dr_model.specs.Machines.Worlds.{World, view_of, with_view, inbox_in, outbox_in, may_say, said_here, said_next, saying_in, taking_in, taking_at, said_at, nth_of_peer, made_at, refusal_of, taking_made, taking_given, sent_in, done_in, step_of}
 use Rattle.dr_model.proofs.Saying.SayingFollows.{drawn_in}
+use Rattle.dr_model.proofs.Worlds.CutSteps.{cut_off}
 
 -- the second list is the first, or has at its end one position more, which wasn't among them
 pub data Gains (ps qs : List Position) : Type 0 where
@@ -180,3 +181,10 @@ step_sound k w (drops_sent side amount) = sent_sound k w side (amount_of amount 
 step_sound k w (drops_done side amount) = done_sound w side (amount_of amount (length (inbox_in w side)))
 step_sound k w (shows_inbox side) = still_sound w _ (inbox_in w side)
 step_sound k w (shows_state side) = still_sound w _ []
+step_sound k w (cuts took h) =
+    let sound = step_sound k w h in
+    let draws = (step_of k w h).next.draws in
+    cut_off (IsSound w) (record w { draws = draws }) took (step_of k w h)
+    (record { gains = sound.gains; refused = λ refusal e. cc })
+    (record { gains = talk_gains w w.conversation draws; refused = λ refusal e. cc })
+    sound

@@ -1,7 +1,6 @@
 -- Where a drafted text stands, and where the next one does.
-use Rattle.std.proofs.Common.{◌≡◌, ℕ, ◌+◌, List, Option, Some, None, refl, sym, ◌∙◌, ap, arith}
+use Rattle.std.proofs.Common.{◌≡◌, ℕ, ◌+◌, List, Option, Some, None, sym, ◌∙◌, ap, arith}
 use Rattle.std.specs.Prelude.{option_map}
-use Rattle.dr_base.specs.declared.position.Position.{Position}
 use Rattle.kem_laws.specs.Mechanism.{Mechanism}
 use Rattle.cka.specs.Agreement.{turn_of}
 use Rattle.session_model.specs.Drafts.{IsSendDraft}

@@ -17,10 +17,10 @@ use Rattle.dr_model.specs.Conversations.Conversation.{Conversation, is_said, pos
 use Rattle.dr_model.specs.Conversations.Posts.{post_at, posts, posts_of, key_of}
 use Rattle.dr_model.specs.Conversations.ViewStates.{state_of}
 use Rattle.dr_model.specs.Conversations.Views.{View, history_of, missing_below, missing_in, missing_of}
-use Rattle.dr_model.specs.Machines.Events.{Event, seeds, says, takes, takes_nth, flips, takes_bytes, drops_sent, drops_done, shows_inbox, shows_state}
+use Rattle.dr_model.specs.Machines.Events.{Event, seeds, says, takes, takes_nth, flips, takes_bytes, drops_sent, drops_done, shows_inbox, shows_state, cuts}
 use Rattle.dr_model.specs.Machines.Network.{flipped_at}
 use Rattle.dr_model.specs.Machines.Sides.{Sides, step_on, taken_on, sent_on, done_on, client_of, with_client}
-use Rattle.dr_model.specs.Machines.Steps.{Step, step, settled, amount_of}
+use Rattle.dr_model.specs.Machines.Steps.{Step, step, settled, amount_of, cut_step}
 use Rattle.dr_model.specs.Machines.WorldSides.{sides_of}
 use Rattle.dr_model.specs.Machines.Worlds.{World, step_of, view_of, with_view, taking_at, taking_given, said_at, nth_of_peer, sent_in, done_in, inbox_in, outbox_in}
 use Rattle.dr_model.specs.Theorems.Fairness.{IsFair, IsUnforged}
@@ -30,6 +30,7 @@ use Rattle.dr_model.proofs.Saying.SayingFollows.{says_follows}
 use Rattle.dr_model.proofs.Taking.ArrivingPacket.{arrival}
 use Rattle.dr_model.proofs.Taking.ForeignBytes.{bytes_follow}
 use Rattle.dr_model.proofs.Taking.NetworkPosts.{held_at-posts, held_nth-posts}
+use Rattle.dr_model.proofs.Worlds.CutSteps.{cut_seen}
 use Rattle.dr_model.proofs.Worlds.SeenWorlds.{seen_world}
 
 -- the packet of a position that was said, or none
@@ -174,3 +175,7 @@ step_follows k w (shows_state First) law lawful fair =
     ap (λ n. in_numbers k w First n) (length-map (missing_of w.conversation w.first) (key_of k w.conversation))
 step_follows k w (shows_state Second) law lawful fair =
     ap (λ n. in_numbers k w Second n) (length-map (missing_of w.conversation w.second) (key_of k w.conversation))
+step_follows k w (cuts took h) law lawful fair =
+    let same = step_follows k w h law lawful (record { unforged = fair.unforged; whole = fair.whole }) in
+    ap (λ (made : Step Sides). cut_step (record (sides_of k w) { draws = made.next.draws }) took made) same
+    ∙ cut_seen k w took (step_of k w h)

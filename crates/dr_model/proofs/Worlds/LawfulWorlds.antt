@@ -13,7 +13,7 @@ use Rattle.dr_model.specs.Conversations.Conversation.{Conversation, is_said}
 use Rattle.dr_model.specs.Conversations.Lawful.{HasArrived, IsLawfulView}
 use Rattle.dr_model.specs.Conversations.Posts.{posts, posts_of}
 use Rattle.dr_model.specs.Conversations.Views.{View}
-use Rattle.dr_model.specs.Machines.Events.{Event, seeds, says, takes, takes_nth, flips, takes_bytes, drops_sent, drops_done, shows_inbox, shows_state}
+use Rattle.dr_model.specs.Machines.Events.{Event, seeds, says, takes, takes_nth, flips, takes_bytes, drops_sent, drops_done, shows_inbox, shows_state, cuts}
 use Rattle.dr_model.specs.Machines.Network.{flipped_at}
 use Rattle.dr_model.specs.Machines.Steps.{Step, step, settled, amount_of}
 use Rattle.dr_model.specs.Machines.Worlds.{World, done_in, inbox_in, made_at, nth_of_peer, outbox_in, run_of, said_at, sent_in, step_of, taking_at, taking_given, taking_made, view_of, with_view}
@@ -23,6 +23,7 @@ use Rattle.dr_model.proofs.Growth.BoxSizes.{length-inbox_of, length-outbox_of}
 use Rattle.dr_model.proofs.Saying.SayingLawful.{lawful_says}
 use Rattle.dr_model.proofs.Taking.ArrivingLawful.{lawful_taking, with_lawful}
 use Rattle.dr_model.proofs.Taking.MadePositions.{made_at-is}
+use Rattle.dr_model.proofs.Worlds.CutSteps.{cut_off}
 use Rattle.dr_model.proofs.Worlds.Following.{missing_below-boxes, nth_said, where_said}
 use Rattle.dr_model.proofs.Worlds.WorldViews.{view_lawful}
 
@@ -123,6 +124,10 @@ lawful_next k w (drops_done side amount) lawful whole =
     lawful_done k w side (amount_of amount (length (inbox_in w side))) lawful
 lawful_next k w (shows_inbox side) lawful whole = lawful
 lawful_next k w (shows_state side) lawful whole = lawful
+lawful_next k w (cuts took h) lawful whole =
+    let next = lawful_next k w h lawful whole in
+    cut_off (λ made. IsLawfulWorld k made.next) (record w { draws = (step_of k w h).next.draws }) took (step_of k w h) next
+    (record { conversation = lawful.conversation; first = lawful.first; second = lawful.second; given = next.given }) next
 
 -- and any run
 pub lawful_run : (k : Mechanism) (w : World) (hs : List Event) → IsLawfulWorld k w → All IsSeedWhole hs

@@ -1,5 +1,5 @@
 -- What may happen in a conversation.
-use Rattle.std.specs.Prelude.{List, ℕ}
+use Rattle.std.specs.Prelude.{Bool, List, ℕ}
 use Rattle.dr_base.specs.declared.position.Position.{Position}
 use Rattle.dr_base.specs.declared.position.Side.{Side}
 use Rattle.session_model.specs.declared.answer.Amount.{Amount}
@@ -25,3 +25,6 @@ pub data Event : Type 0 where
   shows_inbox : Side → Event
   -- a side shows what it holds, in numbers
   shows_state : Side → Event
+  -- a crash at any moment of an event, or a failing call on the disk, cuts it off: it took effect or it didn't, which the
+  -- next opening of the side settles
+  cuts : (took : Bool) → Event → Event

@@ -8,9 +8,9 @@ use Rattle.session_model.specs.Clients.{Client, SaidText, TakenPacket, dropped_o
 use Rattle.session_model.specs.declared.answer.Answer.TheVariants.{Done, Inbox, Opened, Said, Seeded, Sent, State as InNumbers}
 use Rattle.session_model.specs.declared.answer.Refusal.{Refusal}
 use Rattle.dr_model.specs.Machines.Draws.{Draws, after_draw, next_seed}
-use Rattle.dr_model.specs.Machines.Events.{Event, drops_done, drops_sent, flips, says, seeds, shows_inbox, shows_state, takes, takes_bytes, takes_nth}
+use Rattle.dr_model.specs.Machines.Events.{Event, cuts, drops_done, drops_sent, flips, says, seeds, shows_inbox, shows_state, takes, takes_bytes, takes_nth}
 use Rattle.dr_model.specs.Machines.Network.{flipped_at, held_at, held_nth}
-use Rattle.dr_model.specs.Machines.Steps.{Step, amount_of, nothing, settled, step}
+use Rattle.dr_model.specs.Machines.Steps.{Step, amount_of, cut_step, nothing, settled, step}
 
 pub record Sides : Type 0 where
   -- the shared key, from which the draws come
@@ -72,3 +72,4 @@ step_on k s (drops_done side amount) =
 step_on k s (shows_inbox side) =
     record { answer = Inbox (length (client_of s side).inbox); entries = (client_of s side).inbox; next = s }
 step_on k s (shows_state side) = step (InNumbers (summary_of (client_of s side))) s
+step_on k s (cuts took h) = let made = step_on k s h in cut_step (record s { draws = made.next.draws }) took made

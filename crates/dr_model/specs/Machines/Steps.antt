@@ -1,10 +1,10 @@
 -- What comes of an event.
-use Rattle.std.specs.Prelude.{Err, List, Ok, Result, [], ℕ}
+use Rattle.std.specs.Prelude.{Bool, Err, List, Ok, Result, [], false, if◌then◌else◌, nat_lt, true, ℕ}
 use Rattle.boxes.specs.Items.{Item}
 use Rattle.session_model.specs.declared.answer.Amount.{Amount}
 use Rattle.session_model.specs.declared.answer.Amount.TheVariants.{All, Exactly}
 use Rattle.session_model.specs.declared.answer.Answer.{Answer}
-use Rattle.session_model.specs.declared.answer.Answer.TheVariants.{Nothing, Refused}
+use Rattle.session_model.specs.declared.answer.Answer.TheVariants.{Done, Nothing, Opened, Refused, Said, Sent, Stopped}
 use Rattle.session_model.specs.declared.answer.Refusal.{Refusal}
 
 -- an event's answer, the texts that it shows, and what stands after it
@@ -30,3 +30,15 @@ nothing s = step Nothing s
 abbrev pub amount_of : Amount → ℕ → ℕ
 amount_of All standing = standing
 amount_of (Exactly n) standing = n
+
+-- an answer by which something changed of what a side keeps
+abbrev pub has_effect : Answer → Bool
+has_effect (Said position) = true
+has_effect (Opened position) = true
+has_effect (Sent n) = nat_lt 0 n
+has_effect (Done n) = nat_lt 0 n
+has_effect _ = false
+
+-- a step that was cut off: with its effect, or as `before`; a step without an effect is never cut off
+abbrev pub cut_step : {S : Type 0} → S → Bool → Step S → Step S
+cut_step before took made = if has_effect made.answer then step Stopped (if took then made.next else before) else made

@@ -22,9 +22,9 @@ use Rattle.dr_model.specs.Conversations.Posts.{posts}
 use Rattle.dr_model.specs.Conversations.ViewStates.{state_of}
 use Rattle.dr_model.specs.Conversations.Views.{View, after_opening, after_turn, has_opened, inbox_of, missing_of, opening_view, outbox_of}
 use Rattle.dr_model.specs.Machines.Draws.{Draws, after_draw, next_seed}
-use Rattle.dr_model.specs.Machines.Events.{Event, drops_done, drops_sent, flips, says, seeds, shows_inbox, shows_state, takes, takes_bytes, takes_nth}
+use Rattle.dr_model.specs.Machines.Events.{Event, cuts, drops_done, drops_sent, flips, says, seeds, shows_inbox, shows_state, takes, takes_bytes, takes_nth}
 use Rattle.dr_model.specs.Machines.Network.{flipped_at}
-use Rattle.dr_model.specs.Machines.Steps.{Step, amount_of, nothing, settled, step}
+use Rattle.dr_model.specs.Machines.Steps.{Step, amount_of, cut_step, nothing, settled, step}
 
 pub record World : Type 0 where
   pub conversation : Conversation
@@ -173,6 +173,7 @@ step_of k w (shows_state side) =
       inbox = length (inbox_in w side);
       outbox = length (outbox_in k w side);
     })) w
+step_of k w (cuts took h) = let made = step_of k w h in cut_step (record w { draws = made.next.draws }) took made
 
 -- what stands after all that happened
 abbrev pub run_of : Mechanism → World → List Event → World

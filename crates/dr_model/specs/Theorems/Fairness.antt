@@ -9,7 +9,7 @@ use Rattle.packet.specs.Reading.{read_packet}
 use Rattle.session_model.specs.Ways.{Way, way_of}
 use Rattle.dr_model.specs.Conversations.Posts.{posts}
 use Rattle.dr_model.specs.Conversations.ViewStates.{state_of}
-use Rattle.dr_model.specs.Machines.Events.{Event, flips, seeds, takes_bytes}
+use Rattle.dr_model.specs.Machines.Events.{Event, cuts, flips, seeds, takes_bytes}
 use Rattle.dr_model.specs.Machines.Network.{flipped_at}
 use Rattle.dr_model.specs.Machines.Worlds.{World, made_at, step_of, view_of}
 
@@ -23,6 +23,7 @@ IsUnforged k w side bytes = made_at k w bytes ≡ None → (f : Fields) (way : W
 abbrev pub IsUnforgedEvent : Mechanism → World → Event → Type 0
 IsUnforgedEvent k w (flips side p bit) = IfSome (flipped_at (posts k w.conversation) p bit) (IsUnforged k w side)
 IsUnforgedEvent k w (takes_bytes side bytes) = IsUnforged k w side bytes
+IsUnforgedEvent k w (cuts took h) = IsUnforgedEvent k w h
 IsUnforgedEvent k w _ = ⊤
 
 -- and so in a run
@@ -33,6 +34,7 @@ IsUnforgedRun k w (h ∷ hs) = IsUnforgedEvent k w h × IsUnforgedRun k (step_of
 -- a given seed has 32 bytes
 abbrev pub IsSeedWhole : Event → Type 0
 IsSeedWhole (seeds seed) = length seed ≡ 32
+IsSeedWhole (cuts took h) = IsSeedWhole h
 IsSeedWhole _ = ⊤
 
 -- the whole premise of an event

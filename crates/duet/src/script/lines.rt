@@ -16,10 +16,14 @@ pub struct Lines<'a> {
 
 impl<'a> Model for Lines<'a> {
     ghost use Rattle.std.specs.Prelude.{List};
+    ghost use Rattle.std.specs.Coded.{coded_list};
+    ghost use Rattle.dr_model.specs.Machines.EventCodes.{event_code};
     ghost use Rattle.dr_model.specs.Machines.Events.{Event};
     ghost use Rattle.duet.specs.Script.{AreRead, events_in};
 
     ghost Value = { List Event };
+
+    ghost coded = { coded_list event_code };
 
     ghost view = { λ l. events_in l.rest.now };
 
