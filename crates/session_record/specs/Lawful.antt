@@ -1,0 +1,41 @@
+-- The clients that have a record.
+use Rattle.std.specs.Prelude.{◌≡◌, ◌^◌, ◌<◌, ◌≤◌, true, false, All, length, Ok}
+use Rattle.boxes.specs.Items.{Item}
+use Rattle.cka.specs.Agreement.{agreement_size}
+use Rattle.dr_base.specs.Position.{is_own}
+use Rattle.dr_base.specs.declared.limits.TheConstants.{INBOX_LIMIT, INDEX_LIMIT, OUTBOX_LIMIT, TEXT_LIMIT}
+use Rattle.kem_laws.specs.Mechanism.{Mechanism}
+use Rattle.packet.specs.Packet.{Fields}
+use Rattle.packet.specs.Reading.{read_packet}
+use Rattle.session_model.specs.Clients.{Client}
+use Rattle.session_model.specs.LawfulStates.{IsLawfulState}
+use Rattle.session_model.specs.States.{State}
+use Rattle.session_model.specs.Ways.{position_of}
+
+-- a text of the peer's, of an epoch that was reached
+pub record IsLawfulEntry (s : State) (item : Item) : Type 0 where
+  pub peers : is_own s.side item.position.epoch ≡ false
+  pub reached : item.position.epoch ≤ s.epoch
+  pub from_one : 1 ≤ item.position.index
+  pub most : item.position.index ≤ INDEX_LIMIT
+  pub short : length item.bytes ≤ TEXT_LIMIT
+
+-- a packet of the session, of an own epoch that was reached, under the position that it names
+pub record IsLawfulPost (k : Mechanism) (s : State) (item : Item) : Type 0 where
+  pub fields : Fields
+  pub reads : read_packet (agreement_size k) item.bytes ≡ Ok fields
+  pub session : fields.session ≡ s.session
+  pub own : is_own s.side fields.epoch ≡ true
+  pub reached : fields.epoch ≤ s.epoch
+  pub place : item.position ≡ position_of fields
+  -- its length stands in two bytes
+  pub fits : length item.bytes < 2 ^ 16
+
+-- a lawful state, and boxes that hold what they may
+pub record IsLawfulClient (k : Mechanism) (c : Client) : Type 0 where
+  pub state : IsLawfulState k c.state
+  pub keys_long : All (λ kept. length kept.key.bytes ≡ 32) c.state.kept
+  pub inbox : All (IsLawfulEntry c.state) c.inbox
+  pub few_entries : length c.inbox ≤ INBOX_LIMIT
+  pub outbox : All (IsLawfulPost k c.state) c.outbox
+  pub few_posts : length c.outbox ≤ OUTBOX_LIMIT

@@ -1,0 +1,5 @@
+pub mod Fields
+pub mod Lists
+pub mod Record
+pub mod Lawful
+pub mod Changes

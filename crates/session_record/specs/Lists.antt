@@ -1,0 +1,134 @@
+-- The lists of a record: kept keys, the inbox, the outbox.
+use Rattle.std.specs.Prelude.{ℕ, ◌+◌, ◌&&◌, ◌||◌, Bool, true, false, not, nat_le, nat_lt, List, [], ◌∷◌, ◌++◌, Option, Some, None, Result, Ok, Err, if◌then◌else◌}
+use Rattle.std.specs.Int.{w8, w16, w32, to_be_bytes}
+use Rattle.std.specs.Str.{bytes_eq}
+use Rattle.boxes.specs.Items.{Item, item_at}
+use Rattle.cka.specs.Agreement.{agreement_size}
+use Rattle.dr_base.specs.Position.{is_own}
+use Rattle.dr_base.specs.declared.key.Kept.{Kept}
+use Rattle.dr_base.specs.declared.limits.TheConstants.{INBOX_LIMIT, INDEX_LIMIT, KEPT_LIMIT, OUTBOX_LIMIT, TEXT_LIMIT}
+use Rattle.dr_base.specs.declared.position.Position.{Position}
+use Rattle.dr_base.specs.declared.position.Side.{Side}
+use Rattle.grammar.specs.Printer.{print_sized}
+use Rattle.grammar.specs.Reader.{Reader, number, piece, checked, mapped, both, counted, sized}
+use Rattle.kem_laws.specs.Mechanism.{Mechanism}
+use Rattle.packet.specs.declared.fault.Malformed.{Malformed}
+use Rattle.packet.specs.Packet.{Fields}
+use Rattle.packet.specs.Reading.{read_packet}
+use Rattle.session_model.specs.States.{Reception}
+use Rattle.session_record.specs.Fields.{up_to}
+
+abbrev pub position_at : ℕ → ℕ → Position
+position_at epoch index = record { epoch = epoch; index = index }
+
+-- ---- kept keys, each above the one before
+
+-- the position of the last key, or of one below all where there is none
+abbrev pub last_of : Position → List Kept → Position
+last_of p [] = p
+last_of p (kept ∷ more) = last_of kept.position more
+
+abbrev pub last_position : List Kept → Position
+last_position kept = last_of (position_at 0 0) kept
+
+-- the epoch of a text of the peer's, not above the one reached
+abbrev pub is_peers : Side → ℕ → ℕ → Bool
+is_peers side epoch t = not (is_own side t) && nat_le t epoch
+
+-- and not below the one before
+abbrev pub is_kept_epoch : Side → ℕ → Position → ℕ → Bool
+is_kept_epoch side epoch last t = is_peers side epoch t && nat_le last.epoch t
+
+abbrev pub reach_of : Option Reception → ℕ
+reach_of None = 0
+reach_of (Some r) = r.reach
+
+-- the greatest index that may be kept: in the latest of the peer's epochs the reach
+abbrev pub most_kept : ℕ → ℕ → ℕ → ℕ
+most_kept epoch reach t = if nat_lt (t + 1) epoch then INDEX_LIMIT else reach
+
+-- in the epoch of the one before, above its index
+abbrev pub is_kept_index : ℕ → ℕ → Position → ℕ → ℕ → Bool
+is_kept_index epoch reach last t n =
+    nat_le 1 n && (nat_le n (most_kept epoch reach t) && (nat_lt last.epoch t || nat_lt last.index n))
+
+abbrev pub kept_of : ℕ × (ℕ × List ℕ) → Kept
+kept_of e = record { position = position_at e.0 e.1.0; key = record { bytes = e.1.1 } }
+
+abbrev pub of_kept : Kept → ℕ × (ℕ × List ℕ)
+of_kept kept = (kept.position.epoch, (kept.position.index, kept.key.bytes))
+
+unfoldable pub kept_behind : Side → ℕ → ℕ → Position → Reader Kept
+kept_behind side epoch reach last =
+    mapped kept_of
+    (both (checked (is_kept_epoch side epoch last) (number w32)) (λ t.
+    both (checked (is_kept_index epoch reach last t) (number w32)) (λ _.
+    piece 32)))
+
+abbrev pub kept_item : Side → ℕ → ℕ → List Kept → Reader Kept
+kept_item side epoch reach before = kept_behind side epoch reach (last_position before)
+
+unfoldable pub kept_field : Side → ℕ → ℕ → Reader (List Kept)
+kept_field side epoch reach = counted w16 (up_to KEPT_LIMIT) (kept_item side epoch reach)
+
+abbrev pub kept_text : Kept → List ℕ
+kept_text kept = to_be_bytes w32 kept.position.epoch ++ (to_be_bytes w32 kept.position.index ++ kept.key.bytes)
+
+-- ---- the inbox: position, and text behind its length
+
+abbrev pub is_index : ℕ → Bool
+is_index n = nat_le 1 n && nat_le n INDEX_LIMIT
+
+abbrev pub any : List ℕ → Bool
+any bytes = true
+
+abbrev pub entry_of : ℕ × (ℕ × List ℕ) → Item
+entry_of e = item_at (position_at e.0 e.1.0) e.1.1
+
+abbrev pub of_entry : Item → ℕ × (ℕ × List ℕ)
+of_entry item = (item.position.epoch, (item.position.index, item.bytes))
+
+unfoldable pub entry_field : Side → ℕ → Reader Item
+entry_field side epoch =
+    mapped entry_of
+    (both (checked (is_peers side epoch) (number w32)) (λ _.
+    both (checked is_index (number w32)) (λ _.
+    sized w16 (up_to TEXT_LIMIT) any)))
+
+unfoldable pub inbox_field : Side → ℕ → Reader (List Item)
+inbox_field side epoch = counted w8 (up_to INBOX_LIMIT) (λ _. entry_field side epoch)
+
+abbrev pub entry_text : Item → List ℕ
+entry_text item =
+    to_be_bytes w32 item.position.epoch ++ (to_be_bytes w32 item.position.index ++ print_sized w16 item.bytes)
+
+-- ---- the outbox: packets, each behind its length
+
+-- a packet of this session, in an own epoch that was reached
+abbrev pub is_posted : List ℕ → Side → ℕ → Result Fields Malformed → Bool
+is_posted session side epoch (Ok f) = bytes_eq f.session session && (is_own side f.epoch && nat_le f.epoch epoch)
+is_posted session side epoch (Err fault) = false
+
+unfoldable pub is_post : Mechanism → List ℕ → Side → ℕ → List ℕ → Bool
+is_post k session side epoch bytes = is_posted session side epoch (read_packet (agreement_size k) bytes)
+
+abbrev pub place_of : Result Fields Malformed → Position
+place_of (Ok f) = position_at f.epoch f.index
+place_of (Err fault) = position_at 0 0
+
+-- a packet stands under its own position
+unfoldable pub post_of : Mechanism → List ℕ → Item
+post_of k bytes = item_at (place_of (read_packet (agreement_size k) bytes)) bytes
+
+-- any length will do: a packet of another one is a fault of the packet
+abbrev pub any_length : ℕ → Bool
+any_length n = true
+
+unfoldable pub post_field : Mechanism → List ℕ → Side → ℕ → Reader Item
+post_field k session side epoch = mapped (post_of k) (sized w16 any_length (is_post k session side epoch))
+
+unfoldable pub outbox_field : Mechanism → List ℕ → Side → ℕ → Reader (List Item)
+outbox_field k session side epoch = counted w8 (up_to OUTBOX_LIMIT) (λ _. post_field k session side epoch)
+
+abbrev pub post_text : Item → List ℕ
+post_text item = print_sized w16 item.bytes
