@@ -1,0 +1,8 @@
+mod Passing
+mod FieldGrammars
+mod ListGrammars
+mod RecordGrammar
+mod Lasts
+mod FromLawful
+mod ToLawful
+mod RecordLaw

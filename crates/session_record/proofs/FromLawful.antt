@@ -1,0 +1,215 @@
+-- A lawful client passes the tests.
+use Rattle.std.proofs.Common.{◌≡◌, ℕ, zero, suc, ◌+◌, ◌-◌, ◌^◌, ◌<◌, ◌≤◌, ◌==◌, Bool, true, false, List, [], length, take, get_or, Option, Some, None, refl, sym, ◌∙◌, ap, subst, arith, inl, inr, if◌then◌else◌}
+use Rattle.std.specs.Prelude.{not, nat_le, nat_lt, ◌&&◌, ◌||◌, All, ◌⊎◌}
+use Rattle.std.proofs.lemmas.Bool.{le-leb, cases_lt}
+use Rattle.std.proofs.lemmas.Bool.Decides.{nat_tests}
+use Rattle.std.proofs.lemmas.List.{take_more}
+use Rattle.std.proofs.lemmas.Slice.Eq.{bytes_eq-Decides}
+use Rattle.dr_base.specs.declared.key.Kept.{Kept}
+use Rattle.dr_base.specs.declared.position.Position.{Position}
+use Rattle.dr_base.specs.declared.position.Side.{Side}
+use Rattle.dr_base.specs.declared.position.Side.TheVariants.{First, Second}
+use Rattle.etm_aead.specs.Table.{AllBefore, IsAscending, IsBefore}
+use Rattle.boxes.specs.Items.{Item, item_at}
+use Rattle.kem_laws.specs.Mechanism.{IsLawful}
+use Rattle.session_model.specs.Clients.{Client}
+use Rattle.dr_base.specs.Position.{is_own}
+use Rattle.session_model.specs.LawfulStates.{IsLawfulKept, IsLawfulPhase, IsLawfulPrevious, IsLawfulReception}
+use Rattle.session_model.specs.States.{Phase, in_own, in_peers, Reception, State}
+use Rattle.dr_base.specs.declared.limits.TheConstants.{LAST_EPOCH}
+use Rattle.kem_laws.specs.Mechanism.{Mechanism}
+use Rattle.grammar.specs.Printer.{AreItems, IsMaybe}
+use Rattle.grammar.proofs.Lists.{items-from}
+use Rattle.session_record.specs.Fields.{is_good, is_previous, up_to}
+use Rattle.session_record.specs.Lists.{is_post, is_posted, last_position, most_kept, place_of, position_at, post_of, reach_of}
+use Rattle.session_record.proofs.Passing.{Passes, PassesEntry, PassesKept, PassesPhase, PassesPost, PassesReception}
+use Rattle.session_record.specs.Lawful.{IsLawfulClient, IsLawfulEntry, IsLawfulPost}
+use Rattle.session_record.proofs.Lasts.{last_of-push}
+
+-- ---- tests that pass
+
+pub and_true : (a b : Bool) → a ≡ true → b ≡ true → (a && b) ≡ true
+and_true true b h i = i
+and_true false b h i = absurd (let e : false ≡ true = h in cc)
+
+pub not_own : (b : Bool) → b ≡ false → not b ≡ true
+not_own false h = refl
+not_own true h = absurd (let e : true ≡ false = h in cc)
+
+-- ---- the last key of those before a place
+
+below_place : (p : Position) → IsBefore (position_at 0 0) p ⊎ (p.index ≡ 0)
+below_place p = elim (cases_lt 0 p.index) [ inl some ↦ inl (omega arith, λ _. some) | inr none ↦ inr (omega arith) ]
+
+last_before : (list : List Kept) (i : ℕ) (d : Kept) → i < length list → 1 ≤ (get_or list i d).position.index → IsAscending list
+    → ((last_position (take i list)).epoch ≤ (get_or list i d).position.epoch)
+    × ((last_position (take i list)).epoch ≡ (get_or list i d).position.epoch → (last_position (take i list)).index < (get_or list i d).position.index)
+last_before list zero d inside one up = (omega arith, λ _. omega arith)
+last_before list (suc i) d inside one up =
+    let below : i < length list = omega arith in
+    let next : suc i ≡ i + 1 = omega arith in
+    let last : last_position (take (suc i) list) ≡ (get_or list i d).position =
+    ap (λ n. last_position (take n list)) next ∙ ap (λ l. last_position l) (take_more list i d below) ∙ last_of-push (position_at 0 0) (take i list) (get_or list i d) in
+    subst (λ (p : Position). (p.epoch ≤ (get_or list (suc i) d).position.epoch) × (p.epoch ≡ (get_or list (suc i) d).position.epoch → p.index < (get_or list (suc i) d).position.index)) (sym last)
+    (up i (suc i) d (omega arith) inside)
+
+-- ---- kept keys
+
+parities : (side : Side) (t u : ℕ) → is_own side t ≡ false → is_own side u ≡ false → t < u → t + 1 < u
+parities First t u a b small = grind (arith, nat_tests)
+parities Second t u a b small = grind (arith, nat_tests)
+
+own_before : (side : Side) (epoch : ℕ) → is_own side (suc epoch) ≡ true → is_own side epoch ≡ false
+own_before First epoch own = grind (arith, nat_tests)
+own_before Second epoch own = grind (arith, nat_tests)
+
+within_latest : (epoch t n reach latest : ℕ) → n ≤ 65535 → epoch ≤ latest + 1 → (t ≡ latest → n < reach + 1) → (t < latest → t + 1 < latest) → t ≤ latest → latest ≤ epoch → nat_le n (most_kept epoch reach t) ≡ true
+within_latest epoch t n reach latest few near below apart most inside = grind (arith, nat_tests)
+
+-- the keys that a table may hold, each of 32 bytes
+record AreKeys (side : Side) (list : List Kept) : Type 0 where
+  each : All (IsLawfulKept side) list
+  long : All (λ kept. length kept.key.bytes ≡ 32) list
+  up : IsAscending list
+
+kept_passes : (side : Side) (epoch reach latest : ℕ) (list : List Kept) → AreKeys side list
+    → is_own side latest ≡ false → epoch ≤ latest + 1 → latest ≤ epoch → epoch ≤ 2 ^ 32 - 2
+    → AllBefore list (record { epoch = latest; index = reach + 1 })
+    → (i : ℕ) (d : Kept) → i < length list → PassesKept side epoch reach (take i list) (get_or list i d)
+kept_passes side epoch reach latest list keys peers near within fits all i d inside =
+    let kept = get_or list i d in
+    let one = keys.each i d inside in
+    let last = last_before list i d inside one.one keys.up in
+    let below = all i d inside in
+    let t = kept.position.epoch in
+    let n = kept.position.index in
+    let l = last_position (take i list) in
+    let above : (nat_lt (last_position (take i list)).epoch (get_or list i d).position.epoch || nat_lt (last_position (take i list)).index (get_or list i d).position.index) ≡ true =
+    above_last l.epoch l.index t n last.0 last.1 in
+    let index = within_latest epoch t n reach latest one.most near below.1 (parities side t latest one.peers peers) below.0 within in
+    record {
+      epoch_is = and_true _ _ (and_true _ _ (not_own _ one.peers) (le-leb _ _ (omega (arith, below.0)))) (le-leb _ _ last.0);
+      epoch_fits = omega (arith, below.0);
+      index_is = and_true _ _ (le-leb 1 n one.one) (and_true _ _ index above);
+      index_fits = omega (arith, one.most);
+      key_long = keys.long i d inside;
+    }
+  where
+    above_last : (e x t n : ℕ) → e ≤ t → (e ≡ t → x < n) → (nat_lt e t || nat_lt x n) ≡ true
+    above_last e x t n most later = grind (arith, nat_tests)
+
+no_key : Kept
+no_key = record { position = position_at 0 0; key = record { bytes = [] } }
+
+record IsReceived (side : Side) (epoch : ℕ) (own : Bool) (receiving : Option Reception) (kept : List Kept) : Type 0 where
+  there : IsMaybe (not own || nat_lt 0 epoch) PassesReception receiving
+  keys : AreItems (PassesKept side epoch (reach_of receiving)) (length kept) kept
+
+part_of : (r : Reception) → length r.chain ≡ 32 → r.reach ≤ 65535 → PassesReception r
+part_of r long few = record { chain_long = long; few = le-leb r.reach 65535 few }
+
+received : (side : Side) (epoch : ℕ) (own : Bool) → is_own side epoch ≡ own → epoch ≤ 2 ^ 32 - 2 → (receiving : Option Reception) (kept : List Kept) → AreKeys side kept
+    → IsLawfulReception kept receiving (if own then (if epoch == 0 then None else Some (epoch - 1)) else Some epoch) → IsReceived side epoch own receiving kept
+received side zero true is fits None kept keys lawful = record {
+  there = refl;
+  keys = items-from (PassesKept side 0 0) kept no_key (λ i d inside. absurd (let none = ap (λ (l : List Kept). length l) lawful in omega arith));
+}
+received side zero true is fits (Some r) kept keys lawful = absurd lawful
+received side (suc epoch) true is fits receiving kept keys lawful =
+    let positive : (suc epoch == 0) ≡ false = grind (arith, nat_tests) in
+    let before : suc epoch - 1 ≡ epoch = omega arith in
+    behind receiving
+    (subst (λ (m : ℕ). IsLawfulReception kept receiving (Some m)) before (subst (λ (b : Bool). IsLawfulReception kept receiving (if b then None else Some (suc epoch - 1))) positive lawful))
+  where
+    behind : (o : Option Reception) → IsLawfulReception kept o (Some epoch) → IsReceived side (suc epoch) true o kept
+    behind None lawful = absurd lawful
+    behind (Some r) lawful = record {
+      there = (some, part_of r lawful.0 lawful.1);
+      keys = items-from (PassesKept side (suc epoch) r.reach) kept no_key
+          (kept_passes side (suc epoch) r.reach epoch kept keys (own_before side epoch is) (omega arith) (omega arith) fits lawful.2);
+    }
+      where
+        some : nat_lt 0 (suc epoch) ≡ true
+        some = grind (arith, nat_tests)
+received side epoch false is fits None kept keys lawful = absurd lawful
+received side epoch false is fits (Some r) kept keys lawful = record {
+  there = (refl, part_of r lawful.0 lawful.1);
+  keys = items-from (PassesKept side epoch r.reach) kept no_key (kept_passes side epoch r.reach epoch kept keys is (omega arith) (omega arith) fits lawful.2);
+}
+
+-- ---- the fields before
+
+good : (k : Mechanism) (secret : List ℕ) → IsLawful k.meaning secret → is_good (k.meaning.bad_byte secret) ≡ true
+good k secret lawful = ap is_good lawful
+
+phase_part : (k : Mechanism) (side : Side) (epoch : ℕ) (phase : Phase) → IsLawfulPhase k side epoch phase
+    → PassesPhase k side epoch phase
+phase_part k side epoch (in_own own) l = (
+  l.0,
+  record {
+    secret_long = l.1.secret_long;
+    secret_good = good k own.secret l.1.secret_lawful;
+    agreement_long = l.1.agreement_long;
+    chain_long = l.1.chain_long;
+    few = le-leb own.sent 65535 l.1.few;
+  },
+)
+phase_part k side epoch (in_peers public) l = l
+
+previous_part : (k : Mechanism) (side : Side) (epoch previous : ℕ) (phase : Phase) → IsLawfulPhase k side epoch phase → IsLawfulPrevious previous epoch phase → is_previous side epoch previous ≡ true
+previous_part k side epoch previous (in_own own) l h = by_side (is_own side epoch) l.0 h.0 h.1
+  where
+    by_side : (b : Bool) → b ≡ true → previous ≤ 65535 → (epoch ≤ 1 → previous ≡ 0) → (nat_le previous 65535 && ((previous == 0) || nat_le (if b then 2 else 1) epoch)) ≡ true
+    by_side true is few none = grind (arith, nat_tests)
+    by_side false is few none = absurd (let e : false ≡ true = is in cc)
+previous_part k side epoch previous (in_peers public) l h = by_side (is_own side epoch) l.0 h.0 h.1
+  where
+    by_side : (b : Bool) → b ≡ false → previous ≤ 65535 → (epoch ≡ 0 → previous ≡ 0) → (nat_le previous 65535 && ((previous == 0) || nat_le (if b then 2 else 1) epoch)) ≡ true
+    by_side false is few none = grind (arith, nat_tests)
+    by_side true is few none = absurd (let e : true ≡ false = is in cc)
+
+epoch_part : (epoch : ℕ) → epoch ≤ 2 ^ 32 - 2 → up_to LAST_EPOCH epoch ≡ true
+epoch_part epoch fits = grind (arith, nat_tests)
+
+-- ---- the boxes
+
+entry_passes : (s : State) (before : List Item) (item : Item) → s.epoch ≤ 2 ^ 32 - 2 → IsLawfulEntry s item → PassesEntry s.side s.epoch before item
+entry_passes s before item fits l = record {
+  epoch_is = and_true _ _ (not_own _ l.peers) (le-leb _ _ l.reached);
+  epoch_fits = omega (arith, l.reached);
+  index_is = and_true _ _ (le-leb 1 item.position.index l.from_one) (le-leb item.position.index 65535 l.most);
+  short = le-leb (length item.bytes) 1024 l.short;
+}
+
+post_passes : (k : Mechanism) (s : State) (before : List Item) (item : Item) → IsLawfulPost k s item → PassesPost k s.session s.side s.epoch before item
+unfolding is_post post_of
+post_passes k s before item l =
+    let same = (bytes_eq-Decides l.fields.session s.session).1 l.session in
+    record {
+      post = ap (is_posted s.session s.side s.epoch) l.reads ∙ and_true _ _ same (and_true _ _ l.own (le-leb _ _ l.reached));
+      fits = l.fits;
+      own_place = ap (λ r. item_at (place_of r) item.bytes) l.reads ∙ ap (λ p. item_at p item.bytes) (sym l.place);
+    }
+
+no_item : Item
+no_item = record { position = position_at 0 0; bytes = [] }
+
+pub passes : (k : Mechanism) (c : Client) → IsLawfulClient k c → Passes k c
+passes k c l =
+    let s = l.state in
+    let keys : AreKeys c.state.side c.state.kept = record { each = s.each; long = l.keys_long; up = s.kept } in
+    let got = received c.state.side c.state.epoch (is_own c.state.side c.state.epoch) refl s.epoch_fits c.state.receiving c.state.kept keys s.receiving in
+    record {
+      session_long = s.session_long;
+      root_long = s.root_long;
+      epoch_fits = epoch_part c.state.epoch s.epoch_fits;
+      phase = phase_part k c.state.side c.state.epoch c.state.phase s.phase;
+      previous = previous_part k c.state.side c.state.epoch c.state.previous c.state.phase s.phase s.previous;
+      receiving = got.there;
+      few_kept = le-leb (length c.state.kept) 256 s.few;
+      kept = got.keys;
+      few_entries = le-leb (length c.inbox) 64 l.few_entries;
+      inbox = items-from (PassesEntry c.state.side c.state.epoch) c.inbox no_item (λ i d inside. entry_passes c.state (take i c.inbox) (get_or c.inbox i d) s.epoch_fits (l.inbox i d inside));
+      few_posts = le-leb (length c.outbox) 32 l.few_posts;
+      outbox = items-from (PassesPost k c.state.session c.state.side c.state.epoch) c.outbox no_item (λ i d inside. post_passes k c.state (take i c.outbox) (get_or c.outbox i d) (l.outbox i d inside));
+    }

@@ -1,0 +1,61 @@
+-- The values that pass the tests of the record's reader, field by field.
+use Rattle.std.specs.Prelude.{◌≡◌, ℕ, ◌^◌, ◌<◌, true, List, length}
+use Rattle.boxes.specs.Items.{Item}
+use Rattle.cka.specs.Agreement.{agreement_size}
+use Rattle.dr_base.specs.Position.{is_own}
+use Rattle.dr_base.specs.declared.key.Kept.{Kept}
+use Rattle.dr_base.specs.declared.limits.TheConstants.{INBOX_LIMIT, INDEX_LIMIT, KEPT_LIMIT, LAST_EPOCH, OUTBOX_LIMIT, TEXT_LIMIT}
+use Rattle.dr_base.specs.declared.position.Side.{Side}
+use Rattle.grammar.specs.Printer.{AreItems, IsEither, IsMaybe}
+use Rattle.kem_laws.specs.Mechanism.{Mechanism}
+use Rattle.packet.specs.Packet.{agreement_len}
+use Rattle.session_model.specs.Clients.{Client}
+use Rattle.session_model.specs.States.{Own, Phase, Reception}
+use Rattle.session_record.specs.Fields.{has_receiving, is_previous, is_secret, of_phase, up_to}
+use Rattle.session_record.specs.Lists.{is_index, is_kept_epoch, is_kept_index, is_peers, is_post, last_position, post_of, reach_of}
+
+pub record PassesOwn (k : Mechanism) (epoch : ℕ) (own : Own) : Type 0 where
+  pub secret_long : length own.secret ≡ k.secret
+  pub secret_good : is_secret k own.secret ≡ true
+  pub agreement_long : length own.agreement ≡ agreement_len (agreement_size k) epoch
+  pub chain_long : length own.chain ≡ 32
+  pub few : up_to INDEX_LIMIT own.sent ≡ true
+
+abbrev pub PassesPhase : Mechanism → Side → ℕ → Phase → Type 0
+PassesPhase k side epoch phase = IsEither (is_own side epoch) (PassesOwn k epoch) (λ public. length public ≡ k.public) (of_phase phase)
+
+pub record PassesReception (r : Reception) : Type 0 where
+  pub chain_long : length r.chain ≡ 32
+  pub few : up_to INDEX_LIMIT r.reach ≡ true
+
+pub record PassesKept (side : Side) (epoch reach : ℕ) (before : List Kept) (kept : Kept) : Type 0 where
+  pub epoch_is : is_kept_epoch side epoch (last_position before) kept.position.epoch ≡ true
+  pub epoch_fits : kept.position.epoch < 2 ^ 32
+  pub index_is : is_kept_index epoch reach (last_position before) kept.position.epoch kept.position.index ≡ true
+  pub index_fits : kept.position.index < 2 ^ 32
+  pub key_long : length kept.key.bytes ≡ 32
+
+pub record PassesEntry (side : Side) (epoch : ℕ) (before : List Item) (item : Item) : Type 0 where
+  pub epoch_is : is_peers side epoch item.position.epoch ≡ true
+  pub epoch_fits : item.position.epoch < 2 ^ 32
+  pub index_is : is_index item.position.index ≡ true
+  pub short : up_to TEXT_LIMIT (length item.bytes) ≡ true
+
+pub record PassesPost (k : Mechanism) (session : List ℕ) (side : Side) (epoch : ℕ) (before : List Item) (item : Item) : Type 0 where
+  pub post : is_post k session side epoch item.bytes ≡ true
+  pub fits : length item.bytes < 2 ^ 16
+  pub own_place : post_of k item.bytes ≡ item
+
+pub record Passes (k : Mechanism) (c : Client) : Type 0 where
+  pub session_long : length c.state.session ≡ 16
+  pub root_long : length c.state.root ≡ 32
+  pub epoch_fits : up_to LAST_EPOCH c.state.epoch ≡ true
+  pub phase : PassesPhase k c.state.side c.state.epoch c.state.phase
+  pub previous : is_previous c.state.side c.state.epoch c.state.previous ≡ true
+  pub receiving : IsMaybe (has_receiving c.state.side c.state.epoch) PassesReception c.state.receiving
+  pub few_kept : up_to KEPT_LIMIT (length c.state.kept) ≡ true
+  pub kept : AreItems (PassesKept c.state.side c.state.epoch (reach_of c.state.receiving)) (length c.state.kept) c.state.kept
+  pub few_entries : up_to INBOX_LIMIT (length c.inbox) ≡ true
+  pub inbox : AreItems (PassesEntry c.state.side c.state.epoch) (length c.inbox) c.inbox
+  pub few_posts : up_to OUTBOX_LIMIT (length c.outbox) ≡ true
+  pub outbox : AreItems (PassesPost k c.state.session c.state.side c.state.epoch) (length c.outbox) c.outbox
