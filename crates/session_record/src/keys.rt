@@ -1,0 +1,134 @@
+//! The fields of a record that hold keys.
+
+ghost use Rattle.std.specs.Prelude.{◌≡◌, ◌≤◌, length, option_map, IfOk};
+ghost use Rattle.grammar.specs.Reader.{checked, piece};
+ghost use Rattle.grammar.specs.Standing.{Reads};
+ghost use Rattle.session_model.specs.Seen.{own_seen, phase_seen, reception_seen};
+ghost use Rattle.session_record.specs.Fields.{is_secret, own_fields, phase_field, reception_fields, receiving_field};
+ghost use Rattle.session_record.specs.Lists.{reach_of};
+
+use crate::numbers::read_count;
+use arrayvec::ArrayVec;
+use cka::SecretText;
+use dr_base::{Key32, Side, in_room};
+use grammar::Cursor;
+use kem_laws::{Kem, laws};
+use session_model::{Own, Phase, Reception};
+
+/// So many bytes, copied.
+pub(crate) fn read_array<const N: usize>(cursor: &mut Cursor<'_>) -> Result<[u8; N], usize>
+    ensures { Reads (λ a. a) (piece N) cursor.old cursor.new result }
+{
+    let bytes = cursor.piece(N)?;
+    let mut array = [0; N];
+    array.copy_from_slice(bytes);
+    Ok(array)
+}
+
+/// A key.
+pub(crate) fn read_key(cursor: &mut Cursor<'_>) -> Result<Key32, usize>
+    ensures { Reads (λ k. k.bytes) (piece 32) cursor.old cursor.new result }
+{
+    let bytes = read_array(cursor)?;
+    Ok(Key32 { bytes })
+}
+
+/// So many bytes, in fixed room.
+fn read_text<const N: usize>(cursor: &mut Cursor<'_>, size: usize) -> Result<ArrayVec<u8, N>, usize>
+    requires { size ≤ N }
+    ensures reads { Reads (λ t. t.items) (piece size) cursor.old cursor.new result }
+    ensures long { IfOk result (λ t. length t.items ≡ size) }
+{
+    let bytes = cursor.piece(size)?;
+    Ok(in_room(bytes))
+}
+
+/// The secret of an own epoch. One that isn't lawful is a fault at its first byte, whatever byte is bad.
+fn read_secret<K: Kem>(cursor: &mut Cursor<'_>) -> Result<SecretText, usize>
+    ensures { Reads (λ t. t.items) (checked (is_secret K.mechanism) (piece K.mechanism.secret)) cursor.old cursor.new result }
+{
+    laws::<K>();
+    let at = cursor.at();
+    let secret = read_text(cursor, K::SECRET)?;
+    if K::is_secret(secret.as_slice()).is_err() {
+        return Err(at);
+    }
+    Ok(secret)
+}
+
+/// What an own epoch holds.
+#[tactic(auto, unfolding(crate::specs::Fields::own_fields))]
+fn read_own<K: Kem>(cursor: &mut Cursor<'_>, epoch: u32) -> Result<Own, usize>
+    ensures { Reads own_seen (own_fields K.mechanism epoch) cursor.old cursor.new result }
+{
+    laws::<K>();
+    let secret = read_secret::<K>(cursor)?;
+    let size = if epoch == 0 {
+        0
+    } else {
+        K::CIPHERTEXT + K::PUBLIC
+    };
+    let agreement = read_text(cursor, size)?;
+    let chain = read_key(cursor)?;
+    let sent = read_count(cursor)?;
+    Ok(Own {
+        secret,
+        agreement,
+        chain,
+        sent,
+    })
+}
+
+/// The keys of the epoch.
+#[tactic(auto, unfolding(crate::specs::Fields::phase_field))]
+pub(crate) fn read_phase<K: Kem>(
+    cursor: &mut Cursor<'_>,
+    side: Side,
+    epoch: u32,
+) -> Result<Phase, usize>
+    ensures { Reads phase_seen (phase_field K.mechanism side epoch) cursor.old cursor.new result }
+{
+    laws::<K>();
+    if side.owns(epoch) {
+        let own = read_own::<K>(cursor, epoch)?;
+        return Ok(Phase::Own(own));
+    }
+    let public = read_text(cursor, K::PUBLIC)?;
+    Ok(Phase::Peers(public))
+}
+
+/// A stream that receives.
+#[tactic(auto, unfolding(crate::specs::Fields::reception_fields))]
+fn read_reception(cursor: &mut Cursor<'_>) -> Result<Reception, usize>
+    ensures { Reads reception_seen reception_fields cursor.old cursor.new result }
+{
+    let chain = read_key(cursor)?;
+    let reach = read_count(cursor)?;
+    Ok(Reception { chain, reach })
+}
+
+/// The stream of the latest peer's epoch.
+#[tactic(auto, unfolding(crate::specs::Fields::receiving_field))]
+pub(crate) fn read_receiving(
+    cursor: &mut Cursor<'_>,
+    side: Side,
+    epoch: u32,
+) -> Result<Option<Reception>, usize>
+    ensures { Reads (λ r. option_map reception_seen r) (receiving_field side epoch) cursor.old cursor.new result }
+{
+    if side.owns(epoch) && epoch == 0 {
+        return Ok(None);
+    }
+    let reception = read_reception(cursor)?;
+    Ok(Some(reception))
+}
+
+/// The reach of a stream, 0 where there is none.
+pub(crate) fn reach_of(receiving: &Option<Reception>) -> u32
+    ensures { result ≡ reach_of (option_map reception_seen receiving.now) }
+{
+    match receiving {
+        Some(reception) => reception.reach,
+        None => 0,
+    }
+}
