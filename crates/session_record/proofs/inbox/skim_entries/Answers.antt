@@ -1,0 +1,23 @@
+use Rattle.std.proofs.Common.{◌∷◌, ◌++◌, [], arith}
+use Rattle.std.proofs.lemmas.Result.{err_from_is_err_and}
+use Rattle.boxes.specs.Seen.{entry_item}
+use Rattle.grammar.proofs.Loops.{items-none, items-more, items-fault}
+use Rattle.session_record.specs.Lists.{entry_field}
+use Rattle.session_record.proofs.inbox.skim_entries.Goals as goal
+
+pub entries-init : goal.entries-init
+entries-init c = ([], items-none (λ _. entry_field c.args.side c.args.epoch) c.args.cursor.now.at c.args.cursor.now.rest)
+
+pub returns-in_err-_one : goal.returns-in_err-_one
+returns-in_err-_one c =
+    let p = err_from_is_err_and c.from_residual.result c.from_residual.ensures.1 in
+    rw (p.1, p.2) (items-fault (λ _. entry_field c.args.side c.args.epoch) c.args.cursor.now.at c.args.cursor.now.rest c.entries.counter
+    (record { value = c.entries.invariant.0; at = c.entries.cursor.at; rest = c.entries.cursor.rest }) c.in_err-_one.field-0.0 c.entries.invariant.1 c.in_err-_one.ensures.reads c.args.count (omega arith))
+
+pub entries-preserved : goal.entries-preserved
+entries-preserved c = (
+  c.entries.invariant.0 ++ (entry_item c.in_ok-_one._one) ∷ [],
+  items-more (λ _. entry_field c.args.side c.args.epoch) c.args.cursor.now.at c.args.cursor.now.rest c.entries.counter
+      (record { value = c.entries.invariant.0; at = c.entries.cursor.at; rest = c.entries.cursor.rest }) (record { value = (entry_item c.in_ok-_one._one); at = c.read_entry.new.cursor.at; rest = c.read_entry.new.cursor.rest })
+      c.entries.invariant.1 c.in_ok-_one.ensures.reads,
+)

@@ -1,0 +1,79 @@
+//! The kept keys of a record.
+
+ghost use Rattle.std.specs.Prelude.{◌≤◌};
+ghost use Rattle.grammar.specs.Reader.{items};
+ghost use Rattle.grammar.specs.Standing.{Reads};
+ghost use Rattle.session_record.specs.Lists.{kept_behind, kept_field, kept_item};
+
+use crate::keys::read_key;
+use arrayvec::ArrayVec;
+use dr_base::{INDEX_LIMIT, KEPT_LIMIT, Kept, Position, Side};
+use grammar::Cursor;
+
+/// A kept key behind the one at a position.
+#[tactic(auto, unfolding(crate::specs::Lists::kept_behind))]
+fn read_one(
+    cursor: &mut Cursor<'_>,
+    side: Side,
+    epoch: u32,
+    reach: u32,
+    last: Position,
+) -> Result<Kept, usize>
+    ensures { Reads (λ k. k) (kept_behind side epoch reach last) cursor.old cursor.new result }
+{
+    let at_epoch = cursor.at();
+    let of = cursor.number32()?;
+    if side.owns(of) || of > epoch || of < last.epoch {
+        return Err(at_epoch);
+    }
+    let at_index = cursor.at();
+    let index = cursor.number32()?;
+    let most = if epoch - of > 1 { INDEX_LIMIT } else { reach };
+    if index == 0 || index > most || (of == last.epoch && index <= last.index) {
+        return Err(at_index);
+    }
+    let key = read_key(cursor)?;
+    Ok(Kept {
+        position: Position { epoch: of, index },
+        key,
+    })
+}
+
+/// So many kept keys.
+fn read_keys(
+    cursor: &mut Cursor<'_>,
+    side: Side,
+    epoch: u32,
+    reach: u32,
+    count: u16,
+) -> Result<ArrayVec<Kept, KEPT_LIMIT>, usize>
+    requires { count ≤ KEPT_LIMIT }
+    ensures { Reads (λ v. v.items) (items (kept_item side epoch reach) count) cursor.old cursor.new result }
+{
+    let mut list = ArrayVec::new();
+    let mut last = Position { epoch: 0, index: 0 };
+    'keys: for _ in 0..count {
+        let one = read_one(cursor, side, epoch, reach, last)?;
+        last = one.position;
+        list.push(one);
+    }
+    Ok(list)
+}
+
+/// The kept keys behind their count.
+#[tactic(auto, unfolding(crate::specs::Lists::kept_field))]
+pub(crate) fn read_kept(
+    cursor: &mut Cursor<'_>,
+    side: Side,
+    epoch: u32,
+    reach: u32,
+) -> Result<ArrayVec<Kept, KEPT_LIMIT>, usize>
+    ensures { Reads (λ v. v.items) (kept_field side epoch reach) cursor.old cursor.new result }
+{
+    let at = cursor.at();
+    let count = cursor.number16()?;
+    if usize::from(count) > KEPT_LIMIT {
+        return Err(at);
+    }
+    read_keys(cursor, side, epoch, reach, count)
+}
