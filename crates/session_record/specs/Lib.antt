@@ -3,3 +3,4 @@ pub mod Lists
 pub mod Record
 pub mod Lawful
 pub mod Changes
+pub mod Seen

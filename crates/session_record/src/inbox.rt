@@ -1,13 +1,14 @@
 //! The inbox of a record.
 
 ghost use Rattle.std.specs.Prelude.{◌≡◌, ◌≤◌, [], length, IfOk};
-ghost use Rattle.std.specs.Int.{w8, w16};
+ghost use Rattle.std.specs.Int.{w16};
 ghost use Rattle.boxes.specs.Seen.{entry_item};
-ghost use Rattle.grammar.specs.Reader.{checked, items, number, sized};
+ghost use Rattle.grammar.specs.Reader.{items, sized};
 ghost use Rattle.grammar.specs.Standing.{Reads, Skims};
 ghost use Rattle.session_record.specs.Fields.{up_to};
 ghost use Rattle.session_record.specs.Lists.{any, entry_field, inbox_field};
 
+use crate::numbers::read_len;
 use boxes::{Entry, Inbox};
 use dr_base::{INBOX_LIMIT, INDEX_LIMIT, Position, Side, TEXT_LIMIT};
 use grammar::Cursor;
@@ -48,19 +49,6 @@ fn read_entry<'a>(cursor: &mut Cursor<'a>, side: Side, epoch: u32) -> Result<Ent
     })
 }
 
-/// The count of texts.
-fn read_len(cursor: &mut Cursor<'_>) -> Result<u8, usize>
-    ensures reads { Reads (λ n. n) (checked (up_to INBOX_LIMIT) (number w8)) cursor.old cursor.new result }
-    ensures few { IfOk result (λ n. n ≤ INBOX_LIMIT) }
-{
-    let at = cursor.at();
-    let count = cursor.number8()?;
-    if usize::from(count) > INBOX_LIMIT {
-        return Err(at);
-    }
-    Ok(count)
-}
-
 /// So many texts, put into the inbox.
 fn read_entries(
     cursor: &mut Cursor<'_>,
@@ -91,7 +79,7 @@ pub(crate) fn read_inbox(
     requires { inbox.old ≡ [] }
     ensures { Reads (λ _. inbox.new) (inbox_field side epoch) cursor.old cursor.new result }
 {
-    let count = read_len(cursor)?;
+    let count = read_len(cursor, INBOX_LIMIT)?;
     read_entries(cursor, side, epoch, count, inbox)
 }
 
@@ -110,6 +98,6 @@ fn skim_entries(cursor: &mut Cursor<'_>, side: Side, epoch: u32, count: u8) -> R
 pub(crate) fn skim_inbox(cursor: &mut Cursor<'_>, side: Side, epoch: u32) -> Result<(), usize>
     ensures { Skims (inbox_field side epoch) cursor.old cursor.new result }
 {
-    let count = read_len(cursor)?;
+    let count = read_len(cursor, INBOX_LIMIT)?;
     skim_entries(cursor, side, epoch, count)
 }

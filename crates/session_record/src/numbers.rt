@@ -1,9 +1,10 @@
 //! The fields of a record that are numbers.
 
+ghost use Rattle.std.specs.Prelude.{◌≤◌, IfOk};
 ghost use Rattle.std.specs.Int.{w8};
 ghost use Rattle.grammar.specs.Reader.{checked, number};
 ghost use Rattle.grammar.specs.Standing.{Reads};
-ghost use Rattle.session_record.specs.Fields.{count_field, epoch_field, is_version, previous_field, side_field};
+ghost use Rattle.session_record.specs.Fields.{count_field, epoch_field, is_version, previous_field, side_field, up_to};
 
 use dr_base::{INDEX_LIMIT, LAST_EPOCH, Side};
 use grammar::Cursor;
@@ -63,11 +64,7 @@ pub(crate) fn read_count(cursor: &mut Cursor<'_>) -> Result<u32, usize>
 
 /// The texts of the own epoch before.
 #[tactic(auto, unfolding(crate::specs::Fields::previous_field))]
-pub(crate) fn read_previous(
-    cursor: &mut Cursor<'_>,
-    side: Side,
-    epoch: u32,
-) -> Result<u32, usize>
+pub(crate) fn read_previous(cursor: &mut Cursor<'_>, side: Side, epoch: u32) -> Result<u32, usize>
     ensures { Reads (λ n. n) (previous_field side epoch) cursor.old cursor.new result }
 {
     let at = cursor.at();
@@ -77,4 +74,17 @@ pub(crate) fn read_previous(
         return Err(at);
     }
     Ok(previous)
+}
+
+/// How many items a box holds: at most `limit`.
+pub(crate) fn read_len(cursor: &mut Cursor<'_>, limit: usize) -> Result<u8, usize>
+    ensures reads { Reads (λ n. n) (checked (up_to limit) (number w8)) cursor.old cursor.new result }
+    ensures few { IfOk result (λ n. n ≤ limit) }
+{
+    let at = cursor.at();
+    let len = cursor.number8()?;
+    if usize::from(len) > limit {
+        return Err(at);
+    }
+    Ok(len)
 }

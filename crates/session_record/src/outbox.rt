@@ -1,13 +1,12 @@
 //! The outbox of a record.
 
 ghost use Rattle.std.specs.Prelude.{◌≡◌, ◌≤◌, [], length, IfOk};
-ghost use Rattle.std.specs.Int.{w8};
 ghost use Rattle.boxes.specs.Items.{item_at};
-ghost use Rattle.grammar.specs.Reader.{checked, items, number};
+ghost use Rattle.grammar.specs.Reader.{items};
 ghost use Rattle.grammar.specs.Standing.{Reads, Skims};
-ghost use Rattle.session_record.specs.Fields.{up_to};
 ghost use Rattle.session_record.specs.Lists.{outbox_field, post_field};
 
+use crate::numbers::read_len;
 use boxes::Outbox;
 use dr_base::{OUTBOX_LIMIT, PACKET_LIMIT, Position, Side};
 use grammar::Cursor;
@@ -46,19 +45,6 @@ fn read_post<'a, K: Kem>(
     }
 }
 
-/// The count of packets.
-fn read_len(cursor: &mut Cursor<'_>) -> Result<u8, usize>
-    ensures reads { Reads (λ n. n) (checked (up_to OUTBOX_LIMIT) (number w8)) cursor.old cursor.new result }
-    ensures few { IfOk result (λ n. n ≤ OUTBOX_LIMIT) }
-{
-    let at = cursor.at();
-    let count = cursor.number8()?;
-    if usize::from(count) > OUTBOX_LIMIT {
-        return Err(at);
-    }
-    Ok(count)
-}
-
 /// So many packets, put into the outbox.
 fn read_posts<K: Kem>(
     cursor: &mut Cursor<'_>,
@@ -91,7 +77,7 @@ pub(crate) fn read_outbox<K: Kem>(
     requires { outbox.old ≡ [] }
     ensures { Reads (λ _. outbox.new) (outbox_field K.mechanism session.now side epoch) cursor.old cursor.new result }
 {
-    let count = read_len(cursor)?;
+    let count = read_len(cursor, OUTBOX_LIMIT)?;
     read_posts::<K>(cursor, session, side, epoch, count, outbox)
 }
 
@@ -121,6 +107,6 @@ pub(crate) fn skim_outbox<K: Kem>(
 ) -> Result<(), usize>
     ensures { Skims (outbox_field K.mechanism session.now side epoch) cursor.old cursor.new result }
 {
-    let count = read_len(cursor)?;
+    let count = read_len(cursor, OUTBOX_LIMIT)?;
     skim_posts::<K>(cursor, session, side, epoch, count)
 }
