@@ -1,6 +1,8 @@
-use Rattle.std.proofs.Common.{◌∷◌, ◌++◌, [], arith}
+use Rattle.std.proofs.Common.{◌∷◌, ◌++◌, [], List, arith}
 use Rattle.std.proofs.lemmas.Result.{err_from_is_err_and}
+use Rattle.boxes.specs.Items.{Item}
 use Rattle.boxes.specs.Seen.{entry_item}
+use Rattle.grammar.specs.Reader.{Read}
 use Rattle.grammar.proofs.Loops.{items-none, items-more, items-fault}
 use Rattle.session_record.specs.Lists.{entry_field}
 use Rattle.session_record.proofs.inbox.skim_entries.Goals as goal
@@ -10,14 +12,24 @@ entries-init c = ([], items-none (λ _. entry_field c.args.side c.args.epoch) c.
 
 pub returns-in_err-_one : goal.returns-in_err-_one
 returns-in_err-_one c =
+    let start = c.args.cursor.now in
+    let here = c.entries.cursor in
+    let before : Read (List Item) = record { value = c.entries.invariant.0; at = here.at; rest = here.rest } in
     let p = err_from_is_err_and c.from_residual.result c.from_residual.ensures.1 in
-    rw (p.1, p.2) (items-fault (λ _. entry_field c.args.side c.args.epoch) c.args.cursor.now.at c.args.cursor.now.rest c.entries.counter
-    (record { value = c.entries.invariant.0; at = c.entries.cursor.at; rest = c.entries.cursor.rest }) c.in_err-_one.field-0.0 c.entries.invariant.1 c.in_err-_one.ensures.reads c.args.count (omega arith))
+    rw (p.1, p.2)
+    (items-fault (λ _. entry_field c.args.side c.args.epoch) start.at start.rest c.entries.counter before c.in_err-_one.field-0.0
+    c.entries.invariant.1 c.in_err-_one.ensures.reads c.args.count (omega arith))
 
 pub entries-preserved : goal.entries-preserved
-entries-preserved c = (
-  c.entries.invariant.0 ++ (entry_item c.in_ok-_one._one) ∷ [],
-  items-more (λ _. entry_field c.args.side c.args.epoch) c.args.cursor.now.at c.args.cursor.now.rest c.entries.counter
-      (record { value = c.entries.invariant.0; at = c.entries.cursor.at; rest = c.entries.cursor.rest }) (record { value = (entry_item c.in_ok-_one._one); at = c.read_entry.new.cursor.at; rest = c.read_entry.new.cursor.rest })
-      c.entries.invariant.1 c.in_ok-_one.ensures.reads,
-)
+entries-preserved c =
+    let start = c.args.cursor.now in
+    let here = c.entries.cursor in
+    let next = c.read_entry.new.cursor in
+    let list = c.entries.invariant.0 in
+    let item = entry_item c.in_ok-_one._one in
+    let before : Read (List Item) = record { value = list; at = here.at; rest = here.rest } in
+    let one : Read Item = record { value = item; at = next.at; rest = next.rest } in
+    (
+      list ++ item ∷ [],
+      items-more (λ _. entry_field c.args.side c.args.epoch) start.at start.rest c.entries.counter before one c.entries.invariant.1 c.in_ok-_one.ensures.reads,
+    )
