@@ -7,3 +7,4 @@ pub mod Whole
 pub mod Loops
 pub mod Printing
 pub mod Putting
+pub mod Within

@@ -6,3 +6,4 @@ mod Lasts
 mod FromLawful
 mod ToLawful
 mod RecordLaw
+mod Places

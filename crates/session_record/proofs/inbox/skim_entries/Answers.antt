@@ -28,8 +28,7 @@ entries-preserved c =
     let list = c.entries.invariant.0 in
     let item = entry_item c.in_ok-_one._one in
     let before : Read (List Item) = record { value = list; at = here.at; rest = here.rest } in
-    let one : Read Item = record { value = item; at = next.at; rest = next.rest } in
-    (
+    let one : Read Item = record { value = item; at = next.at; rest = next.rest } in (
       list ++ item ∷ [],
       items-more (λ _. entry_field c.args.side c.args.epoch) start.at start.rest c.entries.counter before one c.entries.invariant.1 c.in_ok-_one.ensures.reads,
     )
