@@ -9,7 +9,7 @@ use Rattle.dr_base.specs.declared.key.Kept.{Kept}
 use Rattle.dr_base.specs.declared.position.Position.{Position}
 use Rattle.dr_base.specs.declared.position.Side.{Side}
 use Rattle.dr_base.specs.declared.position.Side.TheVariants.{First, Second}
-use Rattle.etm_aead.specs.Table.{AllBefore, IsAscending, IsBefore}
+use Rattle.fs_aead.specs.Table.{AllBefore, IsAscending, IsBefore}
 use Rattle.boxes.specs.Items.{Item, item_at}
 use Rattle.kem_laws.specs.Mechanism.{IsLawful}
 use Rattle.session_model.specs.Clients.{Client}

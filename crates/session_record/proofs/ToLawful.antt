@@ -16,7 +16,7 @@ use Rattle.dr_base.specs.declared.key.Kept.{Kept}
 use Rattle.dr_base.specs.declared.position.Position.{Position}
 use Rattle.dr_base.specs.declared.position.Side.{Side}
 use Rattle.dr_base.specs.declared.position.Side.TheVariants.{First, Second}
-use Rattle.etm_aead.specs.Table.{AllBefore, IsAscending, IsBefore}
+use Rattle.fs_aead.specs.Table.{AllBefore, IsAscending, IsBefore}
 use Rattle.session_model.specs.Clients.{Client}
 use Rattle.dr_base.specs.Position.{is_own}
 use Rattle.session_model.specs.LawfulStates.{IsLawfulKept, IsLawfulPhase, IsLawfulPrevious, IsLawfulReception}
