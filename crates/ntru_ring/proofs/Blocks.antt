@@ -1,12 +1,9 @@
 -- Rows over R/q, eight places at a time.
-use Rattle.std.proofs.Common.{◌≡◌, inl, inr, ℕ, zero, suc, ◌+◌, ◌-◌, ◌<◌, ◌≤◌, List, [], ◌∷◌, length, map, ℤ, pos, ◌+ℤ◌, ◌*ℤ◌, to_z, of_z, refl, sym, ap, ◌∙◌, arith, All, subst}
+use Rattle.std.proofs.Common.{◌≡◌, ℕ, zero, suc, ◌+◌, ◌<◌, ◌≤◌, List, [], ◌∷◌, length, map, ℤ, pos, ◌+ℤ◌, ◌*ℤ◌, to_z, of_z, refl, sym, ap, ◌∙◌, arith, All}
 use Rattle.std.proofs.lemmas.List.Elements.{All-head, All-tail, All-cons, All-weaker}
 use lib.Lanes.{chunk, put_chunk}
-use Rattle.std.proofs.lemmas.Bool.{cases_lt}
-use Rattle.std.proofs.lemmas.Simd.{length-chunk, get_or-chunk, length-put_chunk, get_or-put_chunk_below, get_or-put_chunk_at, get_or-put_chunk_above}
-use Rattle.ntru_ring.proofs.Congruence.{reduced_within}
-use Rattle.ntru_ring.proofs.Kernels.{IsReplaced, coefficient_added, length_added}
-use Rattle.ntru_ring.proofs.Places.{coefficient_within, within_places}
+use Rattle.std.proofs.lemmas.Simd.{length-chunk, get_or-chunk, get_or-put_chunk_below, get_or-put_chunk_at, get_or-put_chunk_above}
+use Rattle.ntru_ring.proofs.Kernels.{coefficient_added, length_added}
 use mir.Syntax.{w16}
 use Rattle.ntru_ring.specs.Ring.{plus, scale, coefficient}
 use Rattle.ntru_ring.specs.Reduction.{centred, reduced, IsWithin, IsNear}
@@ -30,50 +27,28 @@ put_within zero (x ∷ a) (y ∷ block) v w =
 put_within (suc at) (x ∷ a) block v w =
     All-cons (IsWithin 2295) x (put_chunk at a block) (All-head (IsWithin 2295) x a v) (put_within at a block (All-tail (IsWithin 2295) x a v) w)
 
--- a block of eight more places
-module _ (c : ℤ) (old b xs : List ℤ) (k : ℕ) (e : length old ≡ 761) (f : length b ≡ 761) (l : k + 8 ≤ 761) (r : IsReplaced (reduced 2295 (plus old (scale c b))) old xs k) where
-  long : length (reduced 2295 (plus old (scale c b))) ≡ 761
-  long = length_added 2295 old b c (e ∙ sym f) ∙ f
-
+-- a block of eight places to which c times eight others are added
+module _ (c : ℤ) (xs b : List ℤ) (i j : ℕ) (l : i + 8 ≤ length xs) (m : j + 8 ≤ length b) where
   block : List ℤ
-  block = reduced 2295 (plus (chunk k 8 xs) (scale c (chunk k 8 b)))
+  block = reduced 2295 (plus (chunk i 8 xs) (scale c (chunk j 8 b)))
 
-  xs_length : length xs ≡ 761
-  xs_length = r.filling.length ∙ long
-
-  chunks_long : length (chunk k 8 xs) ≡ length (chunk k 8 b)
-  chunks_long = length-chunk k 8 xs (omega (arith, xs_length)) ∙ sym (length-chunk k 8 b (omega (arith, f)))
+  chunks_long : length (chunk i 8 xs) ≡ length (chunk j 8 b)
+  chunks_long = length-chunk i 8 xs l ∙ sym (length-chunk j 8 b m)
 
   block_length : length block ≡ 8
   unfolding block
-  block_length = length_added 2295 (chunk k 8 xs) (chunk k 8 b) c chunks_long ∙ length-chunk k 8 b (omega (arith, f))
+  block_length = length_added 2295 (chunk i 8 xs) (chunk j 8 b) c chunks_long ∙ length-chunk j 8 b m
 
-  block_at : (i : ℕ) → i < 8 → coefficient block i ≡ coefficient (reduced 2295 (plus old (scale c b))) (k + i)
+  pub block_at : (k : ℕ) → k < 8 → coefficient (put_chunk i xs (reduced 2295 (plus (chunk i 8 xs) (scale c (chunk j 8 b))))) (i + k) ≡ centred 2295 (coefficient xs (i + k) +ℤ c *ℤ coefficient b (j + k))
   unfolding block
-  block_at i h =
-      coefficient_added 2295 (chunk k 8 xs) (chunk k 8 b) c i chunks_long
-      ∙ ap (λ t. centred 2295 (t +ℤ c *ℤ coefficient (chunk k 8 b) i)) (get_or-chunk k 8 xs i (pos 0) h ∙ r.rest (k + i) (omega arith))
-      ∙ ap (λ t. centred 2295 (coefficient old (k + i) +ℤ c *ℤ t)) (get_or-chunk k 8 b i (pos 0) h)
-      ∙ sym (coefficient_added 2295 old b c (k + i) (e ∙ sym f))
+  block_at k h =
+      get_or-put_chunk_at i xs block k (pos 0) (omega (arith, block_length)) (omega (arith, block_length, l)) ∙ coefficient_added 2295 (chunk i 8 xs) (chunk j 8 b) c k chunks_long
+      ∙ ap (λ t. centred 2295 (t +ℤ c *ℤ coefficient (chunk j 8 b) k)) (get_or-chunk i 8 xs k (pos 0) h)
+      ∙ ap (λ t. centred 2295 (coefficient xs (i + k) +ℤ c *ℤ t)) (get_or-chunk j 8 b k (pos 0) h)
 
-  pub IsReplaced-block : (m : ℕ) → m ≡ k + 8 → IsReplaced (reduced 2295 (plus old (scale c b))) old (put_chunk k xs (reduced 2295 (plus (chunk k 8 xs) (scale c (chunk k 8 b))))) m
+  pub block_below : (k : ℕ) → k < i → coefficient (put_chunk i xs (reduced 2295 (plus (chunk i 8 xs) (scale c (chunk j 8 b))))) k ≡ coefficient xs k
+  block_below k h = get_or-put_chunk_below i xs _ k (pos 0) h
+
+  pub block_above : (k : ℕ) → i + 8 ≤ k → coefficient (put_chunk i xs (reduced 2295 (plus (chunk i 8 xs) (scale c (chunk j 8 b))))) k ≡ coefficient xs k
   unfolding block
-  IsReplaced-block m g = record {
-    filling = record {
-      length = length-put_chunk k xs block ∙ r.filling.length;
-      done = λ j h. elim (cases_lt j k) [
-        | inl q ↦ get_or-put_chunk_below k xs block j (pos 0) q ∙ r.filling.done j q
-        | inr q ↦
-            let n : k + (j - k) ≡ j = omega arith in
-            ap (coefficient (put_chunk k xs block)) (sym n) ∙ get_or-put_chunk_at k xs block (j - k) (pos 0) (omega (arith, block_length)) (omega (arith, block_length, xs_length))
-            ∙ block_at (j - k) (omega arith) ∙ ap (coefficient (reduced 2295 (plus old (scale c b)))) n
-      ];
-    };
-    rest = λ j h. get_or-put_chunk_above k xs block j (pos 0) (omega (arith, block_length)) ∙ r.rest j (omega arith);
-  }
-
-  pub replaced_within : All (IsWithin 2295) old → All (IsWithin 2295) xs
-  replaced_within w = within_places 2295 xs (λ j h. elim (cases_lt j k) [
-    | inl q ↦ subst (IsWithin 2295) (sym (r.filling.done j q)) (coefficient_within 2295 _ j (reduced_within 2295 (plus old (scale c b))))
-    | inr q ↦ subst (IsWithin 2295) (sym (r.rest j q)) (coefficient_within 2295 old j w)
-  ])
+  block_above k h = get_or-put_chunk_above i xs block k (pos 0) (omega (arith, block_length))

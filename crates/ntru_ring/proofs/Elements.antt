@@ -1,5 +1,5 @@
 -- Elements of R/3 that planes stand for.
-use Rattle.std.proofs.Common.{◌≡◌, ◌≢◌, ◌<◌, ◌≤◌, ℕ, length, sym, ap, ◌∙◌, All, ℤ, pos, negsuc}
+use Rattle.std.proofs.Common.{◌≡◌, length, All}
 use Rattle.ntru_ring.specs.declared.planes_three.Planes3.{Planes3}
 use Rattle.ntru_ring.specs.Elements.{element}
 use Rattle.ntru_ring.specs.Reduction.{reduced, IsWithin}

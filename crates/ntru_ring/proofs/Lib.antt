@@ -27,3 +27,4 @@ pub mod WordsQ
 pub mod VectorsQ
 pub mod Representatives
 pub mod Blocks
+pub mod Sections

@@ -31,8 +31,8 @@ next_power z at last second e w l f g =
     get_or-chunk at 761 new (suc (suc k)) (pos 0) h ∙ get_or-set_other ys at (at + suc (suc k)) last (pos 0) a ∙ get_or-set_other z (at + 1) (at + suc (suc k)) second (pos 0) b
     ∙ ap (coefficient z) same ∙ sym (get_or-chunk (at + 1) 761 z (suc k) (pos 0) (omega arith)))
 
--- the first power
-pub first_power : (z c : List ℤ) → length z ≡ 1522 → length c ≡ 761 → ((j : ℕ) → j < 761 → coefficient z (761 + j) ≡ coefficient c j) → chunk 761 761 z ≡ c
-first_power z c e f h =
-    let l = length-chunk 761 761 z (omega (arith, e)) in
-    same_places (chunk 761 761 z) c (l ∙ sym f) (λ k m. get_or-chunk 761 761 z k (pos 0) (omega (arith, l)) ∙ h k (omega (arith, l)))
+-- the power that starts at a place
+pub power_is : (start : ℕ) (z c : List ℤ) → length z ≡ 1522 → start ≤ 761 → length c ≡ 761 → ((j : ℕ) → j < 761 → coefficient z (start + j) ≡ coefficient c j) → chunk start 761 z ≡ c
+power_is start z c e s f h =
+    let l = length-chunk start 761 z (omega (arith, e)) in
+    same_places (chunk start 761 z) c (l ∙ sym f) (λ k m. get_or-chunk start 761 z k (pos 0) (omega (arith, l)) ∙ h k (omega (arith, l)))

@@ -7,3 +7,4 @@ pub mod Units
 pub mod Rows3
 pub mod Planes
 pub mod Elements
+pub mod Sections

@@ -7,7 +7,7 @@
 //! the rows begin with g * (1 + x) in place of g, its b is the inverse of g.
 //!
 //! All of these are zero at the places before the first one that is no pivot, and each b is zero behind x^k. So a step
-//! goes over half of the places.
+//! goes over half of the places. `kept` is seldom there, and is cleared by whole rows.
 //!
 //! No clause says what the candidate is: whoever asks for it tries it by a product. It isn't the inverse where g has none,
 //! and might not be where two such pivots stand at a time.
@@ -29,9 +29,10 @@ struct Row {
 
 /// The blocks of eight places that may be other than zero: of each a those from `low` on, of each b those before `high`.
 #[derive(Clone, Copy)]
-struct Part {
+struct Section {
     low: usize,
     high: usize,
+    ghost low_in: { low ≤ 95 },
     ghost high_in: { high ≤ 95 },
 }
 
@@ -44,48 +45,47 @@ fn product(x: i16, y: i16) -> i16
     centred_q(i32::from(x) * i32::from(y))
 }
 
-/// Subtracts `factor` times `row`.
-fn lower(pair: &mut PairQ, row: &Row, factor: i16, part: Part)
-    requires { IsWithin 2295 factor }
-{
-    row.a.subtract_from(&mut pair.a, factor, part.low, 95);
-    row.b.subtract_from(&mut pair.b, factor, 0, part.high);
-}
-
 /// Subtracts a multiple of `row`, so that `pair.a` is zero at a place where `unit` is the inverse of the row's coefficient.
-fn clear(pair: &mut PairQ, row: &Row, place: usize, unit: i16, part: Part)
+fn clear(pair: &mut PairQ, row: &Row, place: usize, unit: i16, section: Section)
     requires place { place < 761 }
     requires unit { IsWithin 2295 unit }
 {
     let factor = product(pair.a.coefficients[place], unit);
-    lower(pair, row, factor, part);
+    row.a.subtract_from(&mut pair.a, factor, section.low, 95);
+    row.b.subtract_from(&mut pair.b, factor, 0, section.high);
 }
 
-/// The row scaled by `unit`.
-fn scaled(row: &Row, unit: i16, part: Part) -> PairQ
-    requires { IsWithin 2295 unit }
+/// Does the same by a whole row.
+fn clear_whole(pair: &mut PairQ, row: &PairQ, place: usize, unit: i16)
+    requires place { place < 761 }
+    requires unit { IsWithin 2295 unit }
 {
-    let mut pair = PairQ {
-        a: Rq::zero(),
-        b: Rq::zero(),
-    };
-    lower(&mut pair, row, -unit, part);
-    pair
+    let factor = product(pair.a.coefficients[place], unit);
+    pair.a.subtract_row(&row.a, factor);
+    pair.b.subtract_row(&row.b, factor);
 }
 
 impl Row {
+    /// Both of its elements.
+    fn whole(&self) -> PairQ {
+        PairQ {
+            a: self.a.element(),
+            b: self.b.element(),
+        }
+    }
+
     /// Subtracts `factor` times a pair.
-    fn subtract(&mut self, pair: &PairQ, factor: i16, part: Part)
+    fn subtract(&mut self, pair: &PairQ, factor: i16, section: Section)
         requires { IsWithin 2295 factor }
         ensures a { self.new.a.start ≡ self.old.a.start }
         ensures b { self.new.b.start ≡ self.old.b.start }
     {
-        self.a.subtract(&pair.a, factor, part.low, 95);
-        self.b.subtract(&pair.b, factor, 0, part.high);
+        self.a.subtract(&pair.a, factor, section.low, 95);
+        self.b.subtract(&pair.b, factor, 0, section.high);
     }
 
     /// Goes on to the next row, which `aim` clears at the pivots, and `kept` at the place `gap`, unless that is 0.
-    fn go_on(&mut self, aim: &PairQ, kept: &PairQ, gap: usize, part: Part)
+    fn go_on(&mut self, aim: &PairQ, kept: &PairQ, gap: usize, section: Section)
         requires gap { gap < 761 }
         requires a { 1 ≤ self.old.a.start }
         requires b { 1 ≤ self.old.b.start }
@@ -95,10 +95,10 @@ impl Row {
         let last = self.a.at(760);
         self.a.rise();
         self.b.rise();
-        self.subtract(aim, last, part);
+        self.subtract(aim, last, section);
         if gap > 0 {
             let there = self.a.at(gap);
-            self.subtract(kept, there, part);
+            self.subtract(kept, there, section);
         }
     }
 }
@@ -134,23 +134,26 @@ pub fn candidate_q(g: &Rq) -> Rq {
         if pivot == 761 {
             return aim.b;
         }
-        let part = Part {
+        let section = Section {
             low: low / 8,
             high: 95.min(step / 8 + 1),
         };
         let unit = inverse_of(row.a.at(pivot));
-        clear(&mut aim, &row, pivot, unit, part);
+        clear(&mut aim, &row, pivot, unit, section);
         if gap > 0 {
-            clear(&mut kept, &row, pivot, unit, part);
+            clear_whole(&mut kept, &row.whole(), pivot, unit);
         }
         taken[pivot] = true;
         if pivot > 0 && !taken[pivot - 1] {
-            let next_kept = scaled(&row, unit, part);
-            row.go_on(&aim, &kept, gap, part);
-            kept = next_kept;
+            let whole = row.whole();
+            row.go_on(&aim, &kept, gap, section);
+            kept = PairQ {
+                a: whole.a.scale(unit),
+                b: whole.b.scale(unit),
+            };
             gap = pivot;
         } else {
-            row.go_on(&aim, &kept, gap, part);
+            row.go_on(&aim, &kept, gap, section);
             if gap > 0 && taken[gap - 1] {
                 gap = 0;
             }

@@ -2,6 +2,7 @@
 ghost use Rattle.std.specs.Prelude.{◌≡◌, ◌+ℤ◌, ◌-ℤ◌, ◌*ℤ◌, ◌≤ℤ◌, ◌+◌, ◌≤◌, neg_ℤ, pos, length, All};
 ghost use Rattle.ntru_ring.specs.Reduction.{centred, reduced, IsWithin, IsNear};
 ghost use Rattle.ntru_ring.specs.Ring.{plus, scale};
+ghost use Rattle.ntru_ring.specs.Sections.{IsAddedInSection};
 ghost use lib.Lanes.{chunk, put_chunk};
 
 use crate::sums_q::centred_q;
@@ -89,25 +90,9 @@ fn subtract_block(a: &mut [i16], at: usize, b: &[i16], from: usize, factor: i16,
     store(a, at, centred_lanes(lanes));
 }
 
-/// Subtracts `factor` times `b` from `a`.
-pub fn subtract_multiple(a: &mut [i16; 761], b: &[i16; 761], factor: i16)
-    requires factor_within { IsWithin 2295 factor }
-    requires a_within { All (IsWithin 2295) a.old }
-    requires b_within { All (IsWithin 2295) b.now }
-    ensures { a.new ≡ reduced 2295 (plus a.old (scale (neg_ℤ factor) b.now)) }
-{
-    let quotient = quotient_of(factor);
-    for block in 0..95 {
-        subtract_block(a, 8 * block, b, 8 * block, factor, quotient);
-    }
-    for k in 760..761 {
-        a[k] = difference(a[k], factor, b[k]);
-    }
-}
-
-/// Subtracts `factor` times 761 places of `b` from `from` on from those of `a` from `at` on: of these the last one, and
-/// eight for each block from `first` on and before `last`.
-pub fn subtract_part(
+/// Subtracts `factor` times 761 places of `b` from `from` on from those of `a` from `at` on, in a section: the blocks of
+/// eight places from `first` on and before `last`, and the last place.
+pub fn subtract_section(
     a: &mut [i16],
     at: usize,
     b: &[i16],
@@ -118,15 +103,29 @@ pub fn subtract_part(
 )
     requires a_place { at + 761 ≤ length a.old }
     requires b_place { from + 761 ≤ length b.now }
-    requires last { last ≤ 95 }
+    requires order { first ≤ last }
+    requires end { last ≤ 95 }
     requires factor_within { IsWithin 2295 factor }
     requires a_within { All (IsWithin 2295) a.old }
     requires b_within { All (IsWithin 2295) b.now }
-    ensures { All (IsWithin 2295) a.new }
+    ensures within { All (IsWithin 2295) a.new }
+    ensures section { IsAddedInSection (neg_ℤ factor) a.old at b.now from first last a.new }
 {
     let quotient = quotient_of(factor);
     for block in first..last {
         subtract_block(a, at + 8 * block, b, from + 8 * block, factor, quotient);
     }
-    a[at + 760] = difference(a[at + 760], factor, b[from + 760]);
+    for k in 760..761 {
+        a[at + k] = difference(a[at + k], factor, b[from + k]);
+    }
+}
+
+/// Subtracts `factor` times `b` from `a`.
+pub fn subtract_multiple(a: &mut [i16; 761], b: &[i16; 761], factor: i16)
+    requires factor_within { IsWithin 2295 factor }
+    requires a_within { All (IsWithin 2295) a.old }
+    requires b_within { All (IsWithin 2295) b.now }
+    ensures { a.new ≡ reduced 2295 (plus a.old (scale (neg_ℤ factor) b.now)) }
+{
+    subtract_section(a, 0, b, 0, factor, 0, 95);
 }

@@ -1,10 +1,11 @@
 //! An element of R/q times x, x^2 and so on, in place.
-ghost use Rattle.std.specs.Prelude.{◌≡◌, ◌≢◌, ◌≤◌, ◌<◌, ◌+◌, length, All, pos};
+ghost use Rattle.std.specs.Prelude.{◌≡◌, ◌≢◌, ◌≤◌, ◌<◌, ◌+◌, ℕ, length, All, pos, neg_ℤ};
 ghost use Rattle.ntru_ring.specs.Reduction.{reduced, IsWithin};
 ghost use Rattle.ntru_ring.specs.Ring.{coefficient, shift};
+ghost use Rattle.ntru_ring.specs.Sections.{IsAddedInSection};
 ghost use lib.Lanes.{chunk};
 
-use crate::lanes_q::subtract_part;
+use crate::lanes_q::subtract_section;
 use crate::modulo_q::Rq;
 use crate::sums_q::centred_q;
 
@@ -64,6 +65,7 @@ impl Powers {
     /// The place of the first coefficient from `from` on that isn't zero, or 761.
     pub fn lead(&self, from: usize) -> usize
         ensures within { result ≤ 761 }
+        ensures before { (k : ℕ) → from ≤ k → k < result → coefficient self.now.places (self.now.start + k) ≡ pos 0 }
         ensures there { result < 761 → coefficient self.now.places (self.now.start + result) ≢ pos 0 }
     {
         for k in from..761 {
@@ -74,23 +76,28 @@ impl Powers {
         761
     }
 
-    /// Goes on to x times the element, but for its last coefficient, which leaves.
+    /// Goes on to x times the element without its last coefficient.
     pub fn rise(&mut self)
         requires { 1 ≤ self.old.start }
-        ensures { self.new.start + 1 ≡ self.old.start }
+        ensures start { self.new.start + 1 ≡ self.old.start }
+        ensures first { coefficient self.new.places self.new.start ≡ pos 0 }
+        ensures rest { (k : ℕ) → self.old.start ≤ k → coefficient self.new.places k ≡ coefficient self.old.places k }
     {
         self.start = self.start - 1;
         self.places[self.start] = 0;
     }
 
-    /// Subtracts `factor` times the blocks of `other` from `first` on and before `last`, and its last coefficient.
+    /// Subtracts `factor` times `other` in a section: the blocks of eight places from `first` on and before `last`, and the
+    /// last place.
     pub fn subtract(&mut self, other: &Rq, factor: i16, first: usize, last: usize)
-        requires last { last ≤ 95 }
+        requires order { first ≤ last }
+        requires end { last ≤ 95 }
         requires factor { IsWithin 2295 factor }
-        ensures { self.new.start ≡ self.old.start }
+        ensures start { self.new.start ≡ self.old.start }
+        ensures section { IsAddedInSection (neg_ℤ factor) self.old.places self.old.start other.now.coefficients 0 first last self.new.places }
     {
         let start = self.start;
-        subtract_part(
+        subtract_section(
             &mut self.places,
             start,
             &other.coefficients,
@@ -101,12 +108,14 @@ impl Powers {
         );
     }
 
-    /// Subtracts `factor` times these blocks, and the last coefficient, from `other`.
+    /// Subtracts `factor` times the power from `other` in a section.
     pub fn subtract_from(&self, other: &mut Rq, factor: i16, first: usize, last: usize)
-        requires last { last ≤ 95 }
+        requires order { first ≤ last }
+        requires end { last ≤ 95 }
         requires factor { IsWithin 2295 factor }
+        ensures { IsAddedInSection (neg_ℤ factor) other.old.coefficients 0 self.now.places self.now.start first last other.new.coefficients }
     {
-        subtract_part(
+        subtract_section(
             &mut other.coefficients,
             0,
             &self.places,
@@ -115,5 +124,16 @@ impl Powers {
             first,
             last,
         );
+    }
+
+    /// The power as an element.
+    pub fn element(&self) -> Rq
+        ensures { result.coefficients ≡ chunk self.now.start 761 self.now.places }
+    {
+        let mut coefficients = [0; 761];
+        for k in 0..761 {
+            coefficients[k] = self.places[self.start + k];
+        }
+        Rq { coefficients }
     }
 }

@@ -1,4 +1,4 @@
-use Rattle.std.proofs.Common.{◌≡◌, ◌*ℤ◌, ℤ, sym, ap, ◌∙◌, lit<, length, arith}
+use Rattle.std.proofs.Common.{◌≡◌, ◌*ℤ◌, ℤ, sym, ap, ◌∙◌, lit<}
 use Rattle.ntru_ring.specs.declared.planes_three.Planes3.{Planes3}
 use Rattle.ntru_ring.specs.Elements.{element}
 use Rattle.ntru_ring.specs.Ring.{coefficient, plus, scale, zero_of}

@@ -1,4 +1,4 @@
-use Rattle.std.proofs.Common.{sym, ap, ◌∙◌, arith, lit<, subst, All, length, refl}
+use Rattle.std.proofs.Common.{sym, ap, ◌∙◌, arith, lit<, subst, All, length}
 use Rattle.std.proofs.lemmas.Simd.{length-chunk}
 use lib.Lanes.{chunk}
 use Rattle.ntru_ring.specs.Ring.{plus, scale, shift, times, zero_of}

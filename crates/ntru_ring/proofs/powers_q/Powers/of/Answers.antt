@@ -1,8 +1,8 @@
-use Rattle.std.proofs.Common.{arith, sym, subst, pos}
+use Rattle.std.proofs.Common.{lit≤, arith, sym, subst, pos}
 use Rattle.std.proofs.lemmas.List.{get_or-replicate}
 use Rattle.std.proofs.lemmas.Simd.{length-replicate}
 use Rattle.ntru_ring.specs.Reduction.{IsWithin}
-use Rattle.ntru_ring.proofs.Powers.{first_power}
+use Rattle.ntru_ring.proofs.Powers.{power_is}
 use Rattle.ntru_ring.proofs.Ranges.{within_zero}
 use Rattle.ntru_ring.proofs.powers_q.Powers.of.Goals as goal
 
@@ -14,4 +14,4 @@ loop-k-init c = record {
 }
 
 pub returns-clause-row : goal.returns-clause-row
-returns-clause-row c = first_power c.loop-k.places c.args.element.now.coefficients c.loop-k.invariant.length c.args.element.now.length (λ j l. c.loop-k.invariant.done j (omega arith))
+returns-clause-row c = power_is 761 c.loop-k.places c.args.element.now.coefficients c.loop-k.invariant.length (lit≤ tt) c.args.element.now.length (λ j l. c.loop-k.invariant.done j (omega arith))
