@@ -4,7 +4,7 @@ ghost use Rattle.std.specs.Prelude.{All};
 ghost use Rattle.ntru_ring.specs.Reduction.{IsWithin};
 
 use crate::clock::Times;
-use ntru_ring::{R3, Rq, Workspace, inverse_q, inverse3};
+use ntru_ring::{R3, Rq, Workspace, inverse_q, inverse3, planes_of};
 use std::io;
 use std::rt::Clock;
 use std::time::Instant;
@@ -57,13 +57,13 @@ fn time_product<R: Clock + AllocGlobal>(rt: &R, f: &Rq) -> io::Result<u64> {
     Ok(times.median()? / 1000)
 }
 
-/// The median time of a product in R/q with a small factor, each of the one before.
+/// The median time of a product in R/q with a small factor, whose planes are made for it, each of the one before.
 fn time_small_product<R: Clock + AllocGlobal>(rt: &R, f: &Rq, g: &R3) -> io::Result<u64> {
     let mut product = *f;
     let mut times = Times::new(rt.alloc());
     for _ in 0..RUNS {
         let start = Instant::now(rt)?;
-        product = product.mul_small(g);
+        product = product.mul_small(&planes_of(g));
         times.add(rt, start)?;
     }
     Ok(times.median()? / 1000)
