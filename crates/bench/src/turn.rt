@@ -3,10 +3,9 @@
 ghost use Rattle.std.specs.Prelude.{◌≡◌, is_some};
 
 use crate::clock::Times;
-use arrayvec::ArrayVec;
 use boxes::{Inbox, Outbox};
 use cka::agreement_length;
-use dr_base::{Key32, PACKET_LIMIT, Side, in_room};
+use dr_base::{Key32, Side};
 use kem_laws::{Kem, OpenKem};
 use packet::parse;
 use ratchet::Session;
@@ -19,9 +18,6 @@ use std::time::Instant;
 
 /// How often each thing is measured.
 const RUNS: usize = 201;
-
-/// A packet in room of its own.
-type Packet = ArrayVec<u8, PACKET_LIMIT>;
 
 /// One side: its session and its boxes.
 #[derive(Drop)]
@@ -60,38 +56,37 @@ fn begun<K: Kem>(
     }
 }
 
-/// A side says a text of 100 bytes, and sends its packet.
-fn say<K: Kem>(party: &mut Party<K>, work: &mut K::Work, byte: u8) -> Option<Packet> {
+/// A side says a text of 100 bytes: its packet stands in the outbox.
+fn say<K: Kem>(party: &mut Party<K>, work: &mut K::Work, byte: u8) {
     let Ok(asked) = party.session.send_check(100) else {
-        return None;
+        return;
     };
     let seed = seed_of(asked, byte);
-    match party.session.draft_send(work, &[byte; 100], seed) {
-        Err(_) => None,
-        Ok(draft) => {
-            let packet = in_room(draft.packet());
-            let _pushed = party.outbox.push(draft.position(), draft.packet());
-            draft.accept(&mut party.session);
-            let _sent = party.outbox.drop_first(1);
-            Some(packet)
-        }
+    if let Ok(draft) = party.session.draft_send(work, &[byte; 100], seed) {
+        let _pushed = party.outbox.push(draft.position(), draft.packet());
+        draft.accept(&mut party.session);
     }
 }
 
-/// The other side takes the packet, and is done with its text.
-fn take<K: Kem>(party: &mut Party<K>, work: &mut K::Work, packet: &Packet) -> bool {
-    match parse(packet.as_slice(), agreement_length::<K>()) {
-        Err(_) => false,
-        Ok(view) => match party.session.draft_receive(work, &view) {
-            Err(_) => false,
-            Ok(draft) => {
-                let _pushed = party.inbox.push(draft.position(), draft.text());
-                draft.accept(&mut party.session);
-                let _done = party.inbox.drop_first(1);
-                true
-            }
-        },
+/// A side takes a packet, and is done with its text.
+fn take<K: Kem>(party: &mut Party<K>, work: &mut K::Work, packet: &[u8]) {
+    let Ok(view) = parse(packet, agreement_length::<K>()) else {
+        return;
+    };
+    if let Ok(draft) = party.session.draft_receive(work, &view) {
+        let _pushed = party.inbox.push(draft.position(), draft.text());
+        draft.accept(&mut party.session);
+        let _done = party.inbox.drop_first(1);
     }
+}
+
+/// One side says a text, the other takes its packet, and both boxes are emptied.
+fn pass<K: Kem>(from: &mut Party<K>, to: &mut Party<K>, work: &mut K::Work, byte: u8) {
+    say(from, work, byte);
+    if let Some((_, packet)) = from.outbox.at(0) {
+        take(to, work, packet);
+    }
+    let _sent = from.outbox.drop_first(1);
 }
 
 /// Both sides at the beginning of a conversation.
@@ -110,9 +105,7 @@ fn time_text<K: Kem, R: Clock + AllocGlobal>(rt: &R, work: &mut K::Work) -> io::
     let mut times = Times::new(rt.alloc());
     for _ in 0..RUNS {
         let start = Instant::now(rt)?;
-        if let Some(packet) = say(&mut second, work, 1) {
-            let _taken = take(&mut first, work, &packet);
-        }
+        pass(&mut second, &mut first, work, 1);
         times.add(rt, start)?;
     }
     times.median()
@@ -125,17 +118,10 @@ fn time_turn<K: Kem, R: Clock + AllocGlobal>(rt: &R, work: &mut K::Work) -> io::
     for run in 0..RUNS {
         let byte = (run % 128) as u8;
         let start = Instant::now(rt)?;
-        let packet = if run % 2 == 0 {
-            say(&mut first, work, byte)
+        if run % 2 == 0 {
+            pass(&mut first, &mut second, work, byte);
         } else {
-            say(&mut second, work, byte)
-        };
-        if let Some(packet) = packet {
-            let _taken = if run % 2 == 0 {
-                take(&mut second, work, &packet)
-            } else {
-                take(&mut first, work, &packet)
-            };
+            pass(&mut second, &mut first, work, byte);
         }
         times.add(rt, start)?;
     }

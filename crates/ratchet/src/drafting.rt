@@ -34,45 +34,32 @@ impl<K: Kem> Session<K> {
         ensures seed { IfErr result (λ e. seed ≡ Some e.seed) }
     {
         let part = &self.part;
-        let mut draft = SendDraft {
-            position: Position::default(),
-            room: [0; PACKET_LIMIT],
-            len: 0,
-            part: part.copy(),
-        };
+        let mut next = part.copy();
+        let mut room = [0; PACKET_LIMIT];
         match &part.phase {
             Phase::Own(own) => {
-                let (position, len) = say_on(own, &mut draft.part, text, &mut draft.room);
-                draft.position = position;
-                draft.len = len;
-                Ok(draft)
+                let (position, len) = say_on(own, &mut next, text, &mut room);
+                Ok(SendDraft {
+                    position,
+                    room,
+                    len,
+                    part: next,
+                })
             }
             Phase::Peers(public) => match seed {
-                Some(seed) => match say_first(
-                    public,
-                    &mut draft.part,
-                    work,
-                    text,
-                    seed,
-                    &mut draft.room,
-                ) {
-                    Ok((position, len)) => {
-                        draft.position = position;
-                        draft.len = len;
-                        Ok(draft)
-                    }
-                    Err(none) => {
-                        draft.discard();
-                        Err(none)
-                    }
+                Some(seed) => match say_first(public, &mut next, work, text, seed, &mut room) {
+                    Ok((position, len)) => Ok(SendDraft {
+                        position,
+                        room,
+                        len,
+                        part: next,
+                    }),
+                    Err(none) => Err(none),
                 },
-                None => {
-                    draft.discard();
-                    // `send_check` asks for a seed here
-                    Err(NoPairFor {
-                        seed: Key32::default(),
-                    })
-                }
+                // `send_check` asks for a seed here
+                None => Err(NoPairFor {
+                    seed: Key32::default(),
+                }),
             },
         }
     }

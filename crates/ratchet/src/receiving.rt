@@ -106,25 +106,20 @@ impl<K: Kem> Session<K> {
         ensures exact { refused_as receive_refusal result ≡ draft_receive K.mechanism self.now view.now }
         ensures draft { IfOk result (λ draft. IsReceiveDraft K.mechanism self.now draft) }
     {
-        let mut draft = ReceiveDraft {
-            position: Position {
-                epoch: view.epoch(),
-                index: view.index(),
-            },
-            text: in_room(view.ciphertext()),
-            part: self.part.copy(),
-        };
-        match find_key(&self.part, &mut draft.part, work, view) {
-            Err(refusal) => {
-                draft.discard();
-                Err(refusal)
-            }
-            Ok(key) => match open_text(key, view, &mut draft.text) {
-                Err(refusal) => {
-                    draft.discard();
-                    Err(refusal)
-                }
-                Ok(()) => Ok(draft),
+        let mut text = in_room(view.ciphertext());
+        let mut next = self.part.copy();
+        match find_key(&self.part, &mut next, work, view) {
+            Err(refusal) => Err(refusal),
+            Ok(key) => match open_text(key, view, &mut text) {
+                Err(refusal) => Err(refusal),
+                Ok(()) => Ok(ReceiveDraft {
+                    position: Position {
+                        epoch: view.epoch(),
+                        index: view.index(),
+                    },
+                    text,
+                    part: next,
+                }),
             },
         }
     }
