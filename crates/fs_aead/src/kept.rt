@@ -27,24 +27,15 @@ fn copied(kept: &Kept) -> Kept
     }
 }
 
-/// Makes a table a copy of these keys, in its own room. What stood in it is gone.
-pub fn copy_keys_into(keys: &[Kept], table: &mut ArrayVec<Kept, KEPT_LIMIT>)
-    requires { length keys.now ≤ KEPT_LIMIT }
-    ensures { table.new.items ≡ keys.now }
-{
-    table.clear();
-    'keys: for kept in keys {
-        table.push(copied(kept));
-    }
-}
-
-/// A second copy of kept keys. It fills the whole room of a table once; `copy_keys_into` does not.
+/// A second copy of kept keys.
 pub fn copy_of_keys(keys: &[Kept]) -> ArrayVec<Kept, KEPT_LIMIT>
     requires { length keys.now ≤ KEPT_LIMIT }
     ensures { result.items ≡ keys.now }
 {
     let mut copy = ArrayVec::new();
-    copy_keys_into(keys, &mut copy);
+    'keys: for kept in keys {
+        copy.push(copied(kept));
+    }
     copy
 }
 

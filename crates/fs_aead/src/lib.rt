@@ -26,7 +26,7 @@
 //! ```
 #![tactic(auto)]
 
-pub use kept::{SkipLimit, copy_keys_into, copy_of_keys, room_for, take_key};
+pub use kept::SkipLimit;
 pub use laws::{keys_are_taken_once, passed_keys_ascend, streams_give_each_key};
 pub use receiving::ReceiveStream;
 pub use sending::SendStream;

@@ -67,7 +67,7 @@ impl ReceiveStream {
     /// As `advance`, in a table that stands in a larger value. `room_for` tells whether the keys have room. Where the
     /// table ascends and its positions come before that of the first key, it ascends afterwards too, by
     /// `passed_keys_ascend`.
-    pub fn advance_into(
+    fn advance_into(
         self,
         epoch: u32,
         table: &mut ArrayVec<Kept, KEPT_LIMIT>,

@@ -1,6 +1,6 @@
 //! The values are those of Python's modules `hashlib` and `hmac`.
 
-use crate::{ReceiveStream, SendStream, SkipLimit, Skipped, copy_of_keys, room_for, take_key};
+use crate::{ReceiveStream, SendStream, SkipLimit, Skipped};
 use dr_base::{Key32, Position};
 use etm_aead::OpenKey;
 
@@ -92,13 +92,8 @@ fn takes_a_passed_key_once(rt: HostRuntime) {
     assert_eq!(rt; shelved(resumed.take(second)), Some(KEYS[1]));
     assert_eq!(rt; shelved(resumed.take(second)), None);
     assert_eq!(rt; resumed.len(), 2);
-    let mut table = copy_of_keys(skipped.kept());
-    assert_eq!(rt; shelved(take_key(&mut table, second)), Some(KEYS[1]));
-    assert_eq!(rt; room_for(table.as_slice(), 254), Ok(()));
-    assert_eq!(rt;
-        room_for(table.as_slice(), 255),
-        Err(SkipLimit { would: 257 })
-    );
+    assert_eq!(rt; resumed.room_for(254), Ok(()));
+    assert_eq!(rt; resumed.room_for(255), Err(SkipLimit { would: 257 }));
     for (kept, index) in resumed.kept().iter().zip([1, 3]) {
         assert_eq!(rt; kept.position, Position { epoch: 1, index });
         assert_eq!(rt; kept.key.bytes, KEYS[index as usize - 1]);

@@ -1,5 +1,0 @@
-use Rattle.std.proofs.Common.{◌≡◌, take}
-use Rattle.fs_aead.proofs.kept.copy_keys_into.Given as goal
-
-abbrev pub invariant-keys : goal.invariant-keys
-invariant-keys l = l.table.items ≡ take l.kept-index l.keys
