@@ -73,3 +73,7 @@ all_read a b r goes all = (goes.told true (ap passes_next all), goes.fate ∙ al
 pub stop_fails : {T E : Type 0} (a b : DiskState) (r : Result T E) → Goes a b r → is_ok r ≡ false → (n : ℕ) → a.fate ≡ some_pass n → b.fate ≡ some_pass 0
 stop_fails a b r goes failed zero told = goes.fate ∙ ap after_call told
 stop_fails a b r goes failed (suc n) told = absurd (let e : true ≡ false = sym (goes.told true (ap passes_next told)) ∙ failed in cc)
+
+pub stop_reads : {T E : Type 0} (a b : DiskState) (r : Result T E) → ReadGoes a b r → is_ok r ≡ false → (n : ℕ) → a.fate ≡ some_pass n → b.fate ≡ some_pass 0
+stop_reads a b r goes failed zero told = goes.fate ∙ told
+stop_reads a b r goes failed (suc n) told = absurd (let e : true ≡ false = sym (goes.told true (ap passes_next told)) ∙ failed in cc)

@@ -3,44 +3,12 @@
 ghost use Rattle.std.specs.Prelude.{◌≡◌, ◌≤◌, ◌+◌, length};
 
 use crate::disk::Disk;
+use crate::handle::{Handle, Sharing};
 use crate::memory::count_fault;
 use dr_base::Failed;
-use std::fs::{File, OpenOptions, Permissions};
-use std::io;
-use std::io::{Error, ErrorKind};
+use std::fs::File;
 use std::marker::Model;
-use std::os::unix::fs::{FileExt, OpenOptionsExt, PermissionsExt};
-use std::path::Path;
 use std::rt::Files;
-
-/// What a disk does where another program has the file open.
-#[derive(Clone, Copy, Debug, PartialEq, Eq)]
-pub enum Sharing {
-    /// It waits until the other has ended.
-    InTurn,
-    /// Its calls fail.
-    Alone,
-}
-
-/// How far the file was opened.
-#[derive(Drop)]
-enum Stage {
-    /// No call was made yet.
-    Unopened,
-    /// There is no file.
-    Missing,
-    /// The file stands and is locked. `fresh` until a sync has reached its folder too, if this disk made it.
-    Open { file: File, fresh: bool },
-}
-
-/// A file that is opened when it is first needed.
-#[derive(Drop)]
-struct Handle<'a, R: Files<File = File>> {
-    files: &'a R,
-    path: &'a str,
-    sharing: Sharing,
-    stage: Stage,
-}
 
 /// A disk over a file, of a stated size. The file is looked for at the first call, and locked until the disk is let
 /// go. Where there is none, reads give zeros, and only a write makes it, for its owner alone to read and write. Bytes
@@ -70,125 +38,11 @@ impl<'a, R: Files<File = File>> FileDisk<'a, R> {
         ensures { result ≡ record { size = size; counts = no_faults } }
     {
         FileDisk {
-            handle: Handle {
-                files,
-                path,
-                sharing,
-                stage: Stage::Unopened,
-            },
+            handle: Handle::new(files, path, sharing),
             size,
             reads: 0,
             writes: 0,
             syncs: 0,
-        }
-    }
-}
-
-fn locked(file: File, sharing: Sharing) -> io::Result<File> {
-    match sharing {
-        Sharing::InTurn => file.lock()?,
-        Sharing::Alone => file.try_lock()?,
-    }
-    Ok(file)
-}
-
-/// Looks for the file, unless that was done.
-fn look<R: Files<File = File>>(
-    stage: &mut Stage,
-    files: &R,
-    path: &str,
-    sharing: Sharing,
-) -> io::Result<()> {
-    if let Stage::Unopened = stage {
-        match OpenOptions::new().read(true).write(true).open(files, path) {
-            Ok(file) => {
-                let file = locked(file, sharing)?;
-                *stage = Stage::Open { file, fresh: false };
-            }
-            Err(e) if e.kind() == ErrorKind::NotFound => *stage = Stage::Missing,
-            Err(e) => return Err(e),
-        }
-    }
-    Ok(())
-}
-
-/// Makes the file, which must not have come meanwhile.
-fn make<R: Files<File = File>>(files: &R, path: &str) -> io::Result<File> {
-    let file = OpenOptions::new()
-        .read(true)
-        .write(true)
-        .create_new(true)
-        .mode(0o600)
-        .open(files, path)?;
-    file.try_lock()?;
-    if file.metadata()?.len() != 0 {
-        return Err(Error::from(ErrorKind::AlreadyExists));
-    }
-    file.set_permissions(Permissions::from_mode(0o600))?;
-    Ok(file)
-}
-
-/// Fills `into`, with zeros behind the file's end.
-fn read_zeros(file: &File, at: u64, into: &mut [u8]) -> io::Result<()> {
-    let mut done = 0;
-    'pieces: while done < into.len() {
-        match file.read_at(&mut into[done..], at.wrapping_add(done as u64))? {
-            0 => {
-                into[done..].fill(0);
-                return Ok(());
-            }
-            n => done += n,
-        }
-    }
-    Ok(())
-}
-
-/// Syncs the folder that a file stands in.
-fn sync_folder<R: Files<File = File>>(files: &R, path: &str) -> io::Result<()> {
-    let folder = match Path::new(path).parent() {
-        Some(parent) if !parent.as_str().is_empty() => parent.as_str(),
-        _ => ".",
-    };
-    File::open(files, folder)?.sync_all()
-}
-
-impl<'a, R: Files<File = File>> Handle<'a, R> {
-    fn read(&mut self, at: u64, into: &mut [u8]) -> io::Result<()> {
-        look(&mut self.stage, self.files, self.path, self.sharing)?;
-        match &self.stage {
-            Stage::Open { file, fresh: _ } => read_zeros(file, at, into),
-            _ => {
-                into.fill(0);
-                Ok(())
-            }
-        }
-    }
-
-    fn write(&mut self, at: u64, bytes: &[u8]) -> io::Result<()> {
-        look(&mut self.stage, self.files, self.path, self.sharing)?;
-        if let Stage::Missing = self.stage {
-            let file = make(self.files, self.path)?;
-            self.stage = Stage::Open { file, fresh: true };
-        }
-        match &self.stage {
-            Stage::Open { file, fresh: _ } => file.write_all_at(bytes, at),
-            _ => Err(io::Error::from(io::ErrorKind::NotFound)),
-        }
-    }
-
-    fn sync(&mut self) -> io::Result<()> {
-        look(&mut self.stage, self.files, self.path, self.sharing)?;
-        match &mut self.stage {
-            Stage::Open { file, fresh } => {
-                if *fresh {
-                    file.sync_all()?;
-                    sync_folder(self.files, self.path)?;
-                    *fresh = false;
-                    return Ok(());
-                }
-                file.sync_data()
-            }
-            _ => Ok(()),
         }
     }
 }

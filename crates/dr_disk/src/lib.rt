@@ -4,7 +4,8 @@
 
 pub use call::{Call, Mode};
 pub use disk::Disk;
-pub use file::{FileDisk, Sharing};
+pub use file::FileDisk;
+pub use handle::Sharing;
 pub use memory::MemoryDisk;
 pub use recording::RecordingDisk;
 pub use steady::SteadyDisk;
@@ -13,6 +14,7 @@ pub use synced::write_synced;
 mod call;
 mod disk;
 mod file;
+mod handle;
 mod memory;
 mod platter;
 mod recording;

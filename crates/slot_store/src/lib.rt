@@ -18,6 +18,8 @@ mod judging;
 mod laws;
 mod layout;
 mod opening;
+mod reading;
+mod settling;
 mod store;
 #[cfg(test)]
 mod tests;

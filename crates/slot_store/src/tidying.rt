@@ -1,6 +1,6 @@
 //! A slot that isn't current is wiped.
 
-ghost use Rattle.std.specs.Prelude.{◌≡◌, ◌≢◌, ◌≤◌, ◌<◌, ◌+◌, ◌-◌, List, ℕ, true, replicate, Option, IfErr, IfOk, IsOk, OnOk};
+ghost use Rattle.std.specs.Prelude.{◌≡◌, ◌≢◌, ◌≤◌, ◌<◌, ◌+◌, ◌-◌, List, ℕ, true, replicate, Option, IfErr, IfOk, IsOk, OnOk, OnErr};
 ghost use Rattle.dr_base.specs.Causes.{Rose};
 ghost use Rattle.dr_disk.specs.State.{Always, Fate, IsSettled};
 ghost use Rattle.dr_disk.specs.Spans.{IsQuiet, Span};
@@ -22,6 +22,8 @@ fn write_gate<D: Disk>(disk: &mut D, area: Area, second: bool, gate: u8) -> Resu
     ensures any_moment { Span (D.state disk.old) (D.state disk.new) (IsLikeBut area second HasBody (D.state disk.old)) }
     ensures done { OnOk result (Always (IsLikeBut area second (HasBodyUnder gate) (D.state disk.old)) (D.state disk.new)) }
     ensures settled { OnOk result (IsSettled (D.state disk.new)) }
+    ensures ended { OnErr result ((n : ℕ) →
+        (D.state disk.old).fate ≡ Fate.some_pass n → (D.state disk.new).fate ≡ Fate.some_pass 0) }
     ensures fate { (D.state disk.old).fate ≡ Fate.all_pass → IsOk result × ((D.state disk.new).fate ≡ Fate.all_pass) }
     ensures quiet { OnOk result (IsQuiet (D.state disk.old) (D.state disk.new)) }
     ensures fault { IfErr result (λ call. Rose ((D.state disk.old).faults call) ((D.state disk.new).faults call)) }
@@ -39,6 +41,8 @@ fn write_rest<D: Disk>(disk: &mut D, area: Area, second: bool, zeros: &[u8]) -> 
     ensures any_moment { Span (D.state disk.old) (D.state disk.new) (IsLikeBut area second HasGate (D.state disk.old)) }
     ensures done { OnOk result (Always (IsLikeBut area second (HasZeros area.slot) (D.state disk.old)) (D.state disk.new)) }
     ensures settled { OnOk result (IsSettled (D.state disk.new)) }
+    ensures ended { OnErr result ((n : ℕ) →
+        (D.state disk.old).fate ≡ Fate.some_pass n → (D.state disk.new).fate ≡ Fate.some_pass 0) }
     ensures fate { (D.state disk.old).fate ≡ Fate.all_pass → IsOk result × ((D.state disk.new).fate ≡ Fate.all_pass) }
     ensures quiet { OnOk result (IsQuiet (D.state disk.old) (D.state disk.new)) }
     ensures fault { IfErr result (λ call. Rose ((D.state disk.old).faults call) ((D.state disk.new).faults call)) }
@@ -57,6 +61,8 @@ fn shut<D: Disk>(disk: &mut D, area: Area, second: bool, gate: u8) -> Result<u8,
     ensures done { IfOk result (λ stands. Always (IsLikeBut area second (HasBodyUnder stands) (D.state disk.old)) (D.state disk.new)) }
     ensures shut { IfOk result (λ stands. stands ≢ 165) }
     ensures settled { OnOk result (IsSettled (D.state disk.new)) }
+    ensures ended { OnErr result ((n : ℕ) →
+        (D.state disk.old).fate ≡ Fate.some_pass n → (D.state disk.new).fate ≡ Fate.some_pass 0) }
     ensures fate { (D.state disk.old).fate ≡ Fate.all_pass → IsOk result × ((D.state disk.new).fate ≡ Fate.all_pass) }
     ensures quiet { OnOk result (IsQuiet (D.state disk.old) (D.state disk.new)) }
     ensures fault { IfErr result (λ call. Rose ((D.state disk.old).faults call) ((D.state disk.new).faults call)) }
@@ -87,6 +93,8 @@ fn wipe<D: Disk>(
     ensures any_moment { Span (D.state disk.old) (D.state disk.new) (IsLikeBut area second HasGate (D.state disk.old)) }
     ensures done { OnOk result (Always (IsLikeBut area second (HasZeros area.slot) (D.state disk.old)) (D.state disk.new)) }
     ensures settled { OnOk result (IsSettled (D.state disk.new)) }
+    ensures ended { OnErr result ((n : ℕ) →
+        (D.state disk.old).fate ≡ Fate.some_pass n → (D.state disk.new).fate ≡ Fate.some_pass 0) }
     ensures fate { (D.state disk.old).fate ≡ Fate.all_pass → IsOk result × ((D.state disk.new).fate ≡ Fate.all_pass) }
     ensures quiet { OnOk result (IsQuiet (D.state disk.old) (D.state disk.new)) }
     ensures fault { IfErr result (λ call. Rose ((D.state disk.old).faults call) ((D.state disk.new).faults call)) }
@@ -110,6 +118,8 @@ fn clear<D: Disk>(disk: &mut D, area: Area, second: bool, gate: u8) -> Result<()
     ensures any_moment { Span (D.state disk.old) (D.state disk.new) (IsLikeBut area second HasBody (D.state disk.old)) }
     ensures done { OnOk result (Always (IsLikeBut area second (HasBodyUnder 0) (D.state disk.old)) (D.state disk.new)) }
     ensures settled { OnOk result (IsSettled (D.state disk.new)) }
+    ensures ended { OnErr result ((n : ℕ) →
+        (D.state disk.old).fate ≡ Fate.some_pass n → (D.state disk.new).fate ≡ Fate.some_pass 0) }
     ensures fate { (D.state disk.old).fate ≡ Fate.all_pass → IsOk result × ((D.state disk.new).fate ≡ Fate.all_pass) }
     ensures quiet { OnOk result (IsQuiet (D.state disk.old) (D.state disk.new)) }
     ensures fault { IfErr result (λ call. Rose ((D.state disk.old).faults call) ((D.state disk.new).faults call)) }
@@ -142,6 +152,8 @@ pub(crate) fn tidy<D: Disk>(
     ensures any_moment { Span (D.state disk.old) (D.state disk.new) (IsLikeRead area (D.state disk.old)) }
     ensures done { OnOk result (Always (IsTidied area second (D.state disk.old)) (D.state disk.new)) }
     ensures settled { OnOk result (IsSettled (D.state disk.new)) }
+    ensures ended { OnErr result ((n : ℕ) →
+        (D.state disk.old).fate ≡ Fate.some_pass n → (D.state disk.new).fate ≡ Fate.some_pass 0) }
     ensures fate { (D.state disk.old).fate ≡ Fate.all_pass → IsOk result × ((D.state disk.new).fate ≡ Fate.all_pass) }
     ensures quiet { OnOk result (IsQuiet (D.state disk.old) (D.state disk.new)) }
     ensures fault { IfErr result (λ call. Rose ((D.state disk.old).faults call) ((D.state disk.new).faults call)) }

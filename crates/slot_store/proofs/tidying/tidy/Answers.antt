@@ -50,3 +50,14 @@ returns-in-Err-clear-clause-any_moment g c =
     let b = g.D.Disk.state c.wipe.new.disk in
     let e = g.D.Disk.state c.clear.new.disk in
     clear_moment c.args.area c.args.second start c.args.gate c.args.blank c.requires.least c.requires.passive c.in-Ok.stands c.in-Ok.ensures.shut a (g.met.D.Disk.lawful c.shut.new.disk) c.in-Ok.ensures.done b (g.met.D.Disk.lawful c.wipe.new.disk) c.in-Ok-wipe.ensures.done e (wipe_moment c.args.area c.args.second start c.args.gate c.args.blank c.requires.least c.requires.passive c.in-Ok.stands c.in-Ok.ensures.shut a (g.met.D.Disk.lawful c.shut.new.disk) c.in-Ok.ensures.done b (shut_moment c.args.area c.args.second start c.args.gate c.args.blank c.requires.least c.requires.passive a c.shut.ensures.any_moment) c.wipe.ensures.any_moment) c.clear.ensures.any_moment
+
+pub returns-in-Err-wipe-clause-ended : goal.returns-in-Err-wipe-clause-ended
+returns-in-Err-wipe-clause-ended g c = λ n told.
+    let first = c.shut.ensures.any_moment.fates n told in
+    c.in-Err-wipe.ensures.ended first.left first.fate
+
+pub returns-in-Err-clear-clause-ended : goal.returns-in-Err-clear-clause-ended
+returns-in-Err-clear-clause-ended g c = λ n told.
+    let first = c.shut.ensures.any_moment.fates n told in
+    let second = c.wipe.ensures.any_moment.fates first.left first.fate in
+    c.in-Err-clear.ensures.ended second.left second.fate

@@ -58,3 +58,13 @@ returns-in-Err-settle_newer-clause-any_moment g c = whole c.args.area (g.D.Disk.
 
 pub returns-in-Err-settle_newer-clause-reads : goal.returns-in-Err-settle_newer-clause-reads
 returns-in-Err-settle_newer-clause-reads g c = reads_like c.args.area (g.D.Disk.state c.args.disk.now) (g.D.Disk.state c.read_slots.new.disk) (g.D.Disk.state c.settle_newer.new.disk) c.read_slots.ensures.any_moment c.read_slots.ensures.unwritten.seen (g.met.D.Disk.lawful c.settle_newer.new.disk) c.in-Ok-read_slots.ensures.settled c.settle_newer.ensures.any_moment
+
+pub returns-in-Err-settle_empty-clause-ended : goal.returns-in-Err-settle_empty-clause-ended
+returns-in-Err-settle_empty-clause-ended g c = λ call n is told.
+    let first = c.read_slots.ensures.any_moment.fates n told in
+    c.in-Err-settle_empty.ensures.ended first.left first.fate
+
+pub returns-in-Err-settle_newer-clause-ended : goal.returns-in-Err-settle_newer-clause-ended
+returns-in-Err-settle_newer-clause-ended g c = λ call n is told.
+    let first = c.read_slots.ensures.any_moment.fates n told in
+    c.in-Err-settle_newer.ensures.ended first.left first.fate

@@ -1,5 +1,5 @@
 use Rattle.slot_store.proofs.Opened.{opened_content, settled_rests, was_read, zeros_of}
-use Rattle.slot_store.proofs.opening.settle.Goals as goal
+use Rattle.slot_store.proofs.settling.settle.Goals as goal
 
 pub tidy-requires-clause-read : goal.tidy-requires-clause-read
 tidy-requires-clause-read g c = λ s told.

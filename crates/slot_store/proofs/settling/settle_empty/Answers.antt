@@ -1,6 +1,6 @@
 use Rattle.std.proofs.Common.{◌∙◌}
 use Rattle.slot_store.proofs.Opened.{both_moment, empty_content, empty_rests, wiped_of, zeros_of}
-use Rattle.slot_store.proofs.opening.settle_empty.Goals as goal
+use Rattle.slot_store.proofs.settling.settle_empty.Goals as goal
 
 pub returns-in-Err-tidy-clause-any_moment : goal.returns-in-Err-tidy-clause-any_moment
 returns-in-Err-tidy-clause-any_moment g c =
@@ -19,3 +19,8 @@ returns-in-Ok-tidy-clause-at_rest g c =
     c.store_of.ensures.area c.store_of.ensures.second
     (c.store_of.ensures.slot ∙ wiped_of c.args.area.slot _ (zeros_of c.args.area.slot _ c.args.first.items c.blank_out-first_blank.ensures.zeros c.requires.first_long))
     c.in-Ok-tidy.ensures.done
+
+pub returns-in-Err-tidy-clause-ended : goal.returns-in-Err-tidy-clause-ended
+returns-in-Err-tidy-clause-ended g c = λ n told.
+    let first = c.tidy.ensures.any_moment.fates n told in
+    c.in-Err-tidy.ensures.ended first.left first.fate
