@@ -9,3 +9,4 @@ pub mod Fresh
 pub mod Writes
 pub mod Replays
 pub mod Recordings
+pub mod Bounds

@@ -1,5 +1,5 @@
 -- A new disk that records its calls.
-use Rattle.std.proofs.Common.{◌≡◌, ℕ, Bool, false, List, [], replicate, None, Some, refl, ◌∙◌, ap, if◌then◌else◌}
+use Rattle.std.proofs.Common.{◌≡◌, ℕ, false, [], replicate, None, Some, refl, ◌∙◌, ap, if◌then◌else◌}
 use Rattle.dr_disk.specs.declared.call.Call.TheVariants.{Read, Write, Sync}
 use Rattle.dr_disk.specs.declared.recording.RecordingDisk.{RecordingDisk}
 use Rattle.dr_disk.specs.Memory.{left_by, no_faults, told_count}

@@ -12,7 +12,7 @@ module _ (durable : List ℕ) (marks : List Bool) (at n : ℕ) (fits : at + n �
   fits_marks : at + length (replicate n true) ≤ length marks
   fits_marks = omega (arith, length-replicate n true)
 
-  outside_marks : (i : ℕ) → (i < at) ⊎ (at + n ≤ i) → get_or (marked marks at n) i false ≡ get_or marks i false
+  pub outside_marks : (i : ℕ) → (i < at) ⊎ (at + n ≤ i) → get_or (marked marks at n) i false ≡ get_or marks i false
   outside_marks i out = overwritten_outside marks at (replicate n true) fits_marks i false (⊎_elim (λ lt. inl lt) (λ ge. inr (omega (arith, length-replicate n true))) out)
 
   inside_mark : (i : ℕ) → at ≤ i → i < at + n → get_or (marked marks at n) i false ≡ true

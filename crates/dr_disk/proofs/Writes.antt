@@ -1,5 +1,5 @@
 -- What holds of the images while a range is written and synced, from what holds before.
-use Rattle.std.proofs.Common.{◌≡◌, ℕ, List, length, sym, subst}
+use Rattle.std.proofs.Common.{ℕ, List, sym, subst}
 use Rattle.dr_disk.specs.Bytes.{Torn, overwritten}
 use Rattle.dr_disk.specs.State.{Always, DiskState, IsLawful}
 use Rattle.dr_disk.specs.Spans.{Frame, Span}

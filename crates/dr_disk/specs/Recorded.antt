@@ -1,5 +1,5 @@
 -- The writes and syncs of a disk, and what a crash behind each of them might have left.
-use Rattle.std.specs.Prelude.{◌≡◌, ◌+◌, ◌≤◌, ℕ, Bool, true, false, List, [], ◌∷◌, length, replicate, take, drop, Option, Some, None, if◌then◌else◌}
+use Rattle.std.specs.Prelude.{◌+◌, ◌≤◌, ℕ, Bool, true, false, List, [], ◌∷◌, length, replicate, take, drop, Some, None, if◌then◌else◌}
 use Rattle.dr_disk.specs.declared.tape.Recorded.{Recorded}
 use Rattle.dr_disk.specs.Bytes.{overwritten}
 use Rattle.dr_disk.specs.State.{DiskState, untold_fate}

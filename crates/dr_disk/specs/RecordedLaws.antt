@@ -1,6 +1,6 @@
 -- A disk that records its calls keeps the laws of disks.
-use Rattle.std.specs.Prelude.{◌≡◌, ℕ, Bool, true, false, List, length, take, Option, Some, None, if◌then◌else◌}
-use Rattle.std.proofs.Common.{refl, ap, arith, sym, ◌∙◌, subst, ◌≤◌}
+use Rattle.std.specs.Prelude.{◌≡◌, ℕ, Bool, true, false, List, length, take, Some, None, if◌then◌else◌}
+use Rattle.std.proofs.Common.{sym, ◌∙◌, subst}
 use Rattle.std.proofs.lemmas.List.{take_all}
 use Rattle.dr_disk.specs.declared.call.Mode.{Mode}
 use Rattle.dr_disk.specs.State.{IsLawful}

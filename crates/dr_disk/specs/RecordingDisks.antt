@@ -1,5 +1,5 @@
 -- What a disk that records its calls shows.
-use Rattle.std.specs.Prelude.{◌≡◌, ◌<◌, ◌≤◌, ◌+◌, ℕ, List, [], length, replicate, Some}
+use Rattle.std.specs.Prelude.{◌≡◌, ◌<◌, ◌≤◌, ◌+◌, ℕ, [], length, replicate, Some}
 use Rattle.dr_disk.specs.declared.call.Call.{Call}
 use Rattle.dr_disk.specs.declared.call.Mode.{Mode}
 use Rattle.dr_disk.specs.declared.recording.RecordingDisk.{RecordingDisk}

@@ -1,5 +1,5 @@
 -- A disk that tells its size and its faults alone.
-use Rattle.std.specs.Prelude.{◌≡◌, ℕ, false, List, Option, Some, None}
+use Rattle.std.specs.Prelude.{◌≡◌, ℕ, false, Some, None}
 use Rattle.dr_disk.specs.State.{DiskState, IsLawful, untold_fate}
 use Rattle.dr_disk.specs.Memory.{Counts, count_of}
 

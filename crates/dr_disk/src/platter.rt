@@ -1,6 +1,6 @@
 //! The bytes of a disk in memory: as read, as the last good sync left them, and as last asked for.
 
-ghost use Rattle.std.specs.Prelude.{◌≡◌, ℕ, ◌+◌, ◌≤◌, List, Bool, false, length, replicate, slice_range, IfOk, if◌then◌else◌};
+ghost use Rattle.std.specs.Prelude.{◌≡◌, ℕ, ◌+◌, ◌-◌, ◌≤◌, ◌<◌, List, Bool, false, true, length, get_or, replicate, slice_range, IfOk, if◌then◌else◌};
 ghost use Rattle.dr_disk.specs.Bytes.{overwritten};
 ghost use Rattle.dr_disk.specs.Memory.{IsImage, filled, left_by, marked};
 
@@ -14,9 +14,15 @@ pub(crate) struct Platter {
     pub(crate) durable: Vec<u8>,
     pub(crate) asked: Vec<u8>,
     pub(crate) marks: Vec<bool>,
+    /// All marks lie from here on, and before `high`.
+    pub(crate) low: usize,
+    pub(crate) high: usize,
     ghost agrees: { IsImage durable.items marks.items bytes.items },
     ghost asks: { IsImage durable.items marks.items asked.items },
     ghost one_mark_each: { length marks.items ≡ length durable.items },
+    ghost order: { low ≤ high },
+    ghost end: { high ≤ length durable.items },
+    ghost around: { (i : ℕ) → get_or marks.items i false ≡ true → (low ≤ i) × (i < high) },
 }
 
 fn put(bytes: &mut Vec<u8>, at: usize, new: &[u8])
@@ -33,10 +39,38 @@ fn mark(marks: &mut Vec<bool>, at: usize, n: usize)
     marks[at..at + n].fill(true);
 }
 
-fn unmark(marks: &mut Vec<bool>)
-    ensures { marks.new.items ≡ replicate (length marks.old.items) false }
+fn unmark(marks: &mut Vec<bool>, low: usize, high: usize)
+    requires order { low ≤ high }
+    requires end { high ≤ length marks.old.items }
+    ensures { marks.new.items ≡ overwritten marks.old.items low (replicate (high - low) false) }
 {
-    marks.fill(false);
+    marks[low..high].fill(false);
+}
+
+/// Makes a range of the bytes what `from` has there.
+fn copy_range(bytes: &mut Vec<u8>, from: &Vec<u8>, low: usize, high: usize)
+    requires order { low ≤ high }
+    requires end { high ≤ length bytes.old.items }
+    requires size { length from.now.items ≡ length bytes.old.items }
+    ensures { bytes.new.items ≡ overwritten bytes.old.items low (slice_range from.now.items low high) }
+{
+    bytes[low..high].copy_from_slice(&from[low..high]);
+}
+
+/// The bounds of two ranges together.
+fn around(low: usize, high: usize, at: usize, n: usize) -> (usize, usize)
+    requires order { low ≤ high }
+    requires fits { at + n < 18446744073709551616 }
+    ensures order { result.0 ≤ result.1 }
+    ensures end { (m : ℕ) → high ≤ m → at + n ≤ m → result.1 ≤ m }
+    ensures first { (i : ℕ) → low ≤ i → i < high → (result.0 ≤ i) × (i < result.1) }
+    ensures second { (i : ℕ) → at ≤ i → i < at + n → (result.0 ≤ i) × (i < result.1) }
+{
+    if low == high {
+        (at, at + n)
+    } else {
+        (low.min(at), high.max(at + n))
+    }
 }
 
 fn choose(is_first: bool, first: u8, second: u8) -> u8
@@ -83,6 +117,8 @@ impl Platter {
             durable: vec![in alloc; 0; size]?,
             asked: vec![in alloc; 0; size]?,
             marks: vec![in alloc; false; size]?,
+            low: 0,
+            high: 0,
         })
     }
 
@@ -104,6 +140,9 @@ impl Platter {
     {
         put(&mut self.asked, at, bytes);
         mark(&mut self.marks, at, bytes.len());
+        let (low, high) = around(self.low, self.high, at, bytes.len());
+        self.low = low;
+        self.high = high;
     }
 
     /// The same, and the write passes.
@@ -117,18 +156,23 @@ impl Platter {
         put(&mut self.asked, at, bytes);
         put(&mut self.bytes, at, bytes);
         mark(&mut self.marks, at, bytes.len());
+        let (low, high) = around(self.low, self.high, at, bytes.len());
+        self.low = low;
+        self.high = high;
     }
 
-    /// A good sync: what reads give is durable, and nothing else is asked for.
+    /// A good sync: what reads give is durable, and nothing else is asked for. Only the range that has marks is copied.
     pub(crate) fn settle(&mut self)
         ensures bytes { self.new.bytes.items ≡ self.old.bytes.items }
         ensures durable { self.new.durable.items ≡ self.old.bytes.items }
         ensures asked { self.new.asked.items ≡ self.old.bytes.items }
         ensures marks { self.new.marks.items ≡ replicate (length self.old.marks.items) false }
     {
-        self.durable.copy_from_slice(&self.bytes);
-        self.asked.copy_from_slice(&self.bytes);
-        unmark(&mut self.marks);
+        copy_range(&mut self.durable, &self.bytes, self.low, self.high);
+        copy_range(&mut self.asked, &self.bytes, self.low, self.high);
+        unmark(&mut self.marks, self.low, self.high);
+        self.low = 0;
+        self.high = 0;
     }
 
     /// What a crash of a kind leaves.
@@ -143,16 +187,20 @@ impl Platter {
             mut durable,
             mut asked,
             mut marks,
+            low,
+            high,
         } = self;
         leave(&mut durable, &asked, &marks, mode);
         bytes.copy_from_slice(&durable);
         asked.copy_from_slice(&durable);
-        unmark(&mut marks);
+        unmark(&mut marks, low, high);
         Platter {
             bytes,
             durable,
             asked,
             marks,
+            low: 0,
+            high: 0,
         }
     }
 }

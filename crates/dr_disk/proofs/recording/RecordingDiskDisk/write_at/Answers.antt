@@ -1,4 +1,4 @@
-use Rattle.std.proofs.Common.{◌≡◌, ◌+◌, ◌≤◌, ℕ, Bool, false, List, None, length, refl, sym, ◌∙◌, ap, arith}
+use Rattle.std.proofs.Common.{ℕ, Bool, false, List, None, length, refl, ◌∙◌, ap, arith}
 use Rattle.dr_disk.specs.declared.tape.Recorded.{Recorded}
 use Rattle.dr_disk.specs.Bytes.{overwritten}
 use Rattle.dr_disk.specs.Memory.{marked, no_faults}
