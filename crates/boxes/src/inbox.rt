@@ -1,6 +1,6 @@
 //! The inbox: the texts that came in, each under its position.
 
-ghost use Rattle.std.specs.Prelude.{◌≡◌, ◌<◌, ◌≤◌, ◌↔◌, [], ◌∷◌, ◌++◌, length, drop, option_map, slice_get, IsSome, IsOk, IfOk, OnOk, OnErr, IfErr, IfSome};
+ghost use Rattle.std.specs.Prelude.{◌≡◌, ◌<◌, ◌≤◌, ◌↔◌, [], ◌∷◌, ◌++◌, length, drop, All, option_map, slice_get, IsSome, IsOk, IfOk, OnOk, OnErr, IfErr, IfSome};
 ghost use Rattle.boxes.specs.Items.{item_at};
 
 use crate::errors::{Fewer, Full};
@@ -70,10 +70,11 @@ impl Inbox {
         }
     }
 
-    /// How many texts stand.
+    /// How many texts stand. None of them has more than `TEXT_LIMIT` bytes.
     pub fn len(&self) -> u32
         ensures value { result ≡ length self.now }
         ensures limit { result ≤ INBOX_LIMIT }
+        ensures room { All (λ item. length item.bytes ≤ TEXT_LIMIT) self.now }
     {
         self.row.len() as u32
     }

@@ -1,6 +1,6 @@
 //! The outbox: the packets that wait to go out, each under its position.
 
-ghost use Rattle.std.specs.Prelude.{◌≡◌, ◌<◌, ◌≤◌, ◌↔◌, [], ◌∷◌, ◌++◌, length, drop, option_map, slice_get, IsSome, IsOk, IfOk, OnOk, OnErr, IfErr, IfSome};
+ghost use Rattle.std.specs.Prelude.{◌≡◌, ◌<◌, ◌≤◌, ◌↔◌, [], ◌∷◌, ◌++◌, length, drop, All, option_map, slice_get, IsSome, IsOk, IfOk, OnOk, OnErr, IfErr, IfSome};
 ghost use Rattle.boxes.specs.Items.{item_at};
 
 use crate::errors::{Fewer, Full};
@@ -58,10 +58,11 @@ impl Outbox {
         }
     }
 
-    /// How many packets stand.
+    /// How many packets stand. None of them has more than `PACKET_LIMIT` bytes.
     pub fn len(&self) -> u32
         ensures value { result ≡ length self.now }
         ensures limit { result ≤ OUTBOX_LIMIT }
+        ensures room { All (λ item. length item.bytes ≤ PACKET_LIMIT) self.now }
     {
         self.row.len() as u32
     }

@@ -19,7 +19,7 @@ use Rattle.packet.proofs.Read.{read_was_printed}
 use Rattle.session_record.specs.declared.limits.TheConstants.{RECORD_LIMIT}
 use Rattle.session_record.specs.Fields.{count_field, epoch_field, is_secret, own_fields, phase_field, previous_field, receiving_field, reception_fields, side_field, up_to, own_of, phase_of, reception_of, is_version, is_side, side_at, is_previous, has_receiving}
 use Rattle.session_record.specs.Lists.{any, any_length, entry_field, entry_of, inbox_field, is_index, is_kept_epoch, is_kept_index, is_peers, is_post, is_posted, kept_behind, kept_field, kept_item, kept_of, last_position, outbox_field, post_field, post_of, reach_of}
-use Rattle.session_record.specs.Record.{client_of, record_fields, record_read}
+use Rattle.session_record.specs.Record.{client_of_parts, record_fields, record_read}
 
 -- ---- the fields before the lists
 
@@ -96,10 +96,10 @@ within-outbox k session side epoch law =
 
 -- ---- the record
 
-within-record : (k : Mechanism) → IsLawfulMechanism k → IsWithin RECORD_LIMIT (mapped client_of (record_fields k))
+within-record : (k : Mechanism) → IsLawfulMechanism k → IsWithin RECORD_LIMIT (mapped client_of_parts (record_fields k))
 unfolding record_fields side_field epoch_field previous_field
 within-record k law =
-    within-mapped RECORD_LIMIT client_of (record_fields k)
+    within-mapped RECORD_LIMIT client_of_parts (record_fields k)
     (within-both 1 185725 _ _ (within-checked 1 is_version (number w8) (within-number w8)) (λ _.
     within-both 1 185724 _ _ (within-mapped 1 side_at _ (within-checked 1 is_side (number w8) (within-number w8))) (λ side.
     within-both 16 185708 _ _ (within-piece 16) (λ session.
@@ -125,5 +125,5 @@ pub fault-place : (k : Mechanism) (text : List ℕ) (at : ℕ) → IsLawfulMecha
 unfolding record_read
 fault-place k text at law are is =
     let most : 0 + RECORD_LIMIT ≡ RECORD_LIMIT = omega arith in
-    fault_within RECORD_LIMIT (mapped client_of (record_fields k) 0 text) at
-    (subst (λ n. EndsBy n (mapped client_of (record_fields k) 0 text)) most (within-record k law 0 text are)) is
+    fault_within RECORD_LIMIT (mapped client_of_parts (record_fields k) 0 text) at
+    (subst (λ n. EndsBy n (mapped client_of_parts (record_fields k) 0 text)) most (within-record k law 0 text are)) is

@@ -11,7 +11,7 @@ use Rattle.grammar.proofs.Combined.{both_grammar, mapped_grammar}
 use Rattle.grammar.proofs.Whole.{whole_grammar}
 use Rattle.session_record.specs.Fields.{up_to, is_version}
 use Rattle.session_record.specs.Lists.{reach_of}
-use Rattle.session_record.specs.Record.{Parts, record_fields, client_of, record_read, record_text}
+use Rattle.session_record.specs.Record.{Parts, record_fields, client_of_parts, record_read, record_text}
 use Rattle.session_record.proofs.Passing.{Passes}
 use Rattle.session_record.proofs.FieldGrammars.{version_grammar, side_grammar, epoch_grammar, phase_grammar, previous_grammar, receiving_grammar}
 use Rattle.session_record.proofs.ListGrammars.{kept_list, inbox_list, outbox_list}
@@ -28,7 +28,7 @@ is_one n passes = grind (arith, nat_tests)
 abbrev parts_of : Client → Parts
 parts_of c = (1, (c.state.side, (c.state.session, (c.state.root, (c.state.epoch, (c.state.phase, (c.state.previous, (c.state.receiving, (c.state.kept, (c.inbox, c.outbox))))))))))
 
-fields_grammar : (k : Mechanism) → IsGrammar record_text (Passes k) (mapped client_of (record_fields k))
+fields_grammar : (k : Mechanism) → IsGrammar record_text (Passes k) (mapped client_of_parts (record_fields k))
 unfolding record_fields record_text
 fields_grammar k =
     mapped_grammar _ _ _
@@ -43,7 +43,7 @@ fields_grammar k =
     both_grammar _ _ _ _ _ _ (kept_list side epoch (reach_of receiving)) (λ kept _.
     both_grammar _ _ _ _ _ _ (inbox_list side epoch) (λ inbox _.
     outbox_list k session side epoch)))))))))))
-    (Passes k) client_of parts_of
+    (Passes k) client_of_parts parts_of
     (λ p l. (
       record {
         session_long = l.1.1.0;

@@ -9,7 +9,7 @@ use Rattle.grammar.specs.Printer.{print_maybe, print_counted}
 use Rattle.grammar.specs.Reader.{Reader, number, piece, checked, mapped, both, whole}
 use Rattle.kem_laws.specs.Mechanism.{Mechanism}
 use Rattle.session_model.specs.Clients.{Client}
-use Rattle.session_model.specs.States.{Phase, Reception}
+use Rattle.session_model.specs.States.{Phase, Reception, State}
 use Rattle.session_record.specs.Fields.{is_version, side_field, code_of, epoch_field, phase_field, phase_text, previous_field, receiving_field, reception_text}
 use Rattle.session_record.specs.Lists.{kept_field, reach_of, kept_text, inbox_field, entry_text, outbox_field, post_text}
 
@@ -31,8 +31,8 @@ record_fields k =
     both (inbox_field side epoch) (λ inbox.
     outbox_field k session side epoch))))))))))
 
-abbrev pub client_of : Parts → Client
-client_of p = record {
+abbrev pub client_of_parts : Parts → Client
+client_of_parts p = record {
   state = record {
     side = p.1.0;
     session = p.1.1.0;
@@ -47,10 +47,21 @@ client_of p = record {
   outbox = p.1.1.1.1.1.1.1.1.1.1;
 }
 
+-- a client from its parts in code
+abbrev pub client_of : State → List Item → List Item → Client
+client_of state inbox outbox = record { state = state; inbox = inbox; outbox = outbox }
+
 -- the client that a text is the record of; else the offset of the first field that is cut short or unlawful, or of the
 -- first byte behind the record
 unfoldable pub record_read : Mechanism → List ℕ → Result Client ℕ
-record_read k text = whole (mapped client_of (record_fields k)) text
+record_read k text = whole (mapped client_of_parts (record_fields k)) text
+
+-- ---- printed
+
+-- what stands before the keys
+abbrev pub head_text : Side → List ℕ → List ℕ → ℕ → List ℕ
+head_text side session root epoch =
+    to_be_bytes w8 1 ++ (to_be_bytes w8 (code_of side) ++ (session ++ (root ++ to_be_bytes w32 epoch)))
 
 -- the text of a client's record
 unfoldable pub record_text : Client → List ℕ

@@ -4,7 +4,7 @@ ghost use Rattle.std.specs.Prelude.{◌≡◌, ◌≤◌, [], Ok, Err, IfOk, IfE
 ghost use Rattle.grammar.specs.Standing.{Reads};
 ghost use Rattle.session_model.specs.LawfulStates.{IsLawfulState};
 ghost use Rattle.session_record.specs.Lawful.{IsLawfulClient};
-ghost use Rattle.session_record.specs.Record.{record_fields, record_read};
+ghost use Rattle.session_record.specs.Record.{client_of, record_fields, record_read};
 ghost use Rattle.session_record.specs.Seen.{client_read, parts_read, state_read};
 
 use crate::damaged::Damaged;
@@ -116,9 +116,9 @@ pub fn decode<K: Kem>(
     requires inbox { inbox.old ≡ [] }
     requires outbox { outbox.old ≡ [] }
     ensures exact { MatchResult result
-        (λ part. record_read K.mechanism text.now ≡ Ok (record { state = part; inbox = inbox.new; outbox = outbox.new }))
+        (λ part. record_read K.mechanism text.now ≡ Ok (client_of part inbox.new outbox.new))
         (λ damaged. record_read K.mechanism text.now ≡ Err damaged.at) }
-    ensures lawful { IfOk result (λ part. IsLawfulClient K.mechanism (record { state = part; inbox = inbox.new; outbox = outbox.new })) }
+    ensures lawful { IfOk result (λ part. IsLawfulClient K.mechanism (client_of part inbox.new outbox.new)) }
     ensures empty_inbox { OnErr result (inbox.new ≡ []) }
     ensures empty_outbox { OnErr result (outbox.new ≡ []) }
 {

@@ -1,16 +1,21 @@
 //! The inbox of a record.
 
-ghost use Rattle.std.specs.Prelude.{◌≡◌, ◌≤◌, [], length, IfOk};
-ghost use Rattle.std.specs.Int.{w16};
+ghost use Rattle.std.specs.Prelude.{◌≡◌, ◌+◌, ◌<◌, ◌≤◌, [], ◌∷◌, ◌++◌, length, drop, IfOk};
+ghost use Rattle.std.specs.Int.{w8, w16};
+ghost use Rattle.boxes.specs.Items.{item_at};
 ghost use Rattle.boxes.specs.Seen.{entry_item};
+ghost use Rattle.dr_base.specs.Buffer.{Puts};
+ghost use Rattle.grammar.specs.Printer.{print_counted, print_items};
 ghost use Rattle.grammar.specs.Reader.{items, sized};
 ghost use Rattle.grammar.specs.Standing.{Reads, Skims};
+ghost use Rattle.session_record.specs.Changes.{FitsInbox, inbox_after};
 ghost use Rattle.session_record.specs.Fields.{up_to};
-ghost use Rattle.session_record.specs.Lists.{any, entry_field, inbox_field};
+ghost use Rattle.session_record.specs.Lists.{any, entry_field, entry_text, inbox_field};
 
-use crate::numbers::read_len;
+use crate::change::Change;
+use crate::numbers::{put_byte, read_len};
 use boxes::{Entry, Inbox};
-use dr_base::{INBOX_LIMIT, INDEX_LIMIT, Position, Side, TEXT_LIMIT};
+use dr_base::{INBOX_LIMIT, INDEX_LIMIT, Position, Side, TEXT_LIMIT, put, put_u16, put_u32};
 use grammar::Cursor;
 
 /// A text behind its length.
@@ -100,4 +105,67 @@ pub(crate) fn skim_inbox(cursor: &mut Cursor<'_>, side: Side, epoch: u32) -> Res
 {
     let count = read_len(cursor, INBOX_LIMIT)?;
     skim_entries(cursor, side, epoch, count)
+}
+
+/// Puts a text and its position.
+fn put_entry(out: &mut [u8], at: usize, position: Position, text: &[u8]) -> usize
+    requires short { length text.now ≤ TEXT_LIMIT }
+    requires room { at + length (entry_text (item_at position text.now)) ≤ length out.old }
+    ensures { Puts out.old out.new at (entry_text (item_at position text.now)) result }
+{
+    let at_index = put_u32(out, at, position.epoch);
+    let at_size = put_u32(out, at_index, position.index);
+    let at_text = put_u16(out, at_size, text.len() as u16);
+    put(out, at_text, text)
+}
+
+/// Puts the texts from a place on.
+fn put_entries(out: &mut [u8], at: usize, inbox: &Inbox, from: u32) -> usize
+    requires inside { from ≤ length inbox.now }
+    requires room { at + length (print_items entry_text (drop from inbox.now)) ≤ length out.old }
+    ensures { Puts out.old out.new at (print_items entry_text (drop from inbox.now)) result }
+{
+    let mut next = at;
+    'entries: for i in 0..inbox.len() - from {
+        match inbox.at((from + i) as usize) {
+            Some(entry) => next = put_entry(out, next, entry.position, entry.text),
+            None => unreachable!(),
+        }
+    }
+    next
+}
+
+/// Puts the texts from a place on, behind their count.
+fn put_later(out: &mut [u8], at: usize, inbox: &Inbox, from: u32) -> usize
+    requires inside { from ≤ length inbox.now }
+    requires room { at + length (print_counted w8 entry_text (drop from inbox.now)) ≤ length out.old }
+    ensures { Puts out.old out.new at (print_counted w8 entry_text (drop from inbox.now)) result }
+{
+    let next = put_byte(out, at, (inbox.len() - from) as u8);
+    put_entries(out, next, inbox, from)
+}
+
+/// Puts the texts with one more, behind their count.
+fn put_more(out: &mut [u8], at: usize, inbox: &Inbox, position: Position, text: &[u8]) -> usize
+    requires space { length inbox.now < INBOX_LIMIT }
+    requires short { length text.now ≤ TEXT_LIMIT }
+    requires room { at + length (print_counted w8 entry_text (inbox.now ++ item_at position text.now ∷ [])) ≤ length out.old }
+    ensures { Puts out.old out.new at (print_counted w8 entry_text (inbox.now ++ item_at position text.now ∷ [])) result }
+{
+    let at_first = put_byte(out, at, inbox.len() as u8 + 1);
+    let at_last = put_entries(out, at_first, inbox, 0);
+    put_entry(out, at_last, position, text)
+}
+
+/// Puts the inbox as a change leaves it.
+pub(crate) fn put_inbox(out: &mut [u8], at: usize, inbox: &Inbox, change: &Change<'_>) -> usize
+    requires fits { FitsInbox inbox.now change.now }
+    requires room { at + length (print_counted w8 entry_text (inbox_after inbox.now change.now)) ≤ length out.old }
+    ensures { Puts out.old out.new at (print_counted w8 entry_text (inbox_after inbox.now change.now)) result }
+{
+    match change {
+        Change::Received { position, text } => put_more(out, at, inbox, *position, text),
+        Change::Done { n } => put_later(out, at, inbox, *n),
+        Change::Same | Change::Said { .. } | Change::Sent { .. } => put_later(out, at, inbox, 0),
+    }
 }

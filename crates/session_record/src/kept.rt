@@ -1,13 +1,16 @@
 //! The kept keys of a record.
 
-ghost use Rattle.std.specs.Prelude.{◌≤◌};
+ghost use Rattle.std.specs.Prelude.{◌≡◌, ◌+◌, ◌≤◌, length, All};
+ghost use Rattle.std.specs.Int.{w16};
+ghost use Rattle.dr_base.specs.Buffer.{Puts};
+ghost use Rattle.grammar.specs.Printer.{print_counted, print_items};
 ghost use Rattle.grammar.specs.Reader.{items};
 ghost use Rattle.grammar.specs.Standing.{Reads};
-ghost use Rattle.session_record.specs.Lists.{kept_behind, kept_field, kept_item};
+ghost use Rattle.session_record.specs.Lists.{kept_behind, kept_field, kept_item, kept_text};
 
 use crate::keys::read_key;
 use arrayvec::ArrayVec;
-use dr_base::{INDEX_LIMIT, KEPT_LIMIT, Kept, Position, Side};
+use dr_base::{INDEX_LIMIT, KEPT_LIMIT, Kept, Position, Side, put, put_u16, put_u32};
 use grammar::Cursor;
 
 /// A kept key behind the one at a position.
@@ -76,4 +79,50 @@ pub(crate) fn read_kept(
         return Err(at);
     }
     read_keys(cursor, side, epoch, reach, count)
+}
+
+/// Puts a kept key.
+fn put_one(out: &mut [u8], at: usize, kept: &Kept) -> usize
+    requires { at + length (kept_text kept.now) ≤ length out.old }
+    ensures { Puts out.old out.new at (kept_text kept.now) result }
+{
+    let at_index = put_u32(out, at, kept.position.epoch);
+    let at_key = put_u32(out, at_index, kept.position.index);
+    put(out, at_key, &kept.key.bytes)
+}
+
+/// Puts kept keys.
+fn put_keys(out: &mut [u8], at: usize, keys: &[Kept]) -> usize
+    requires { at + length (print_items kept_text keys.now) ≤ length out.old }
+    ensures { Puts out.old out.new at (print_items kept_text keys.now) result }
+{
+    let mut next = at;
+    'keys: for i in 0..keys.len() {
+        next = put_one(out, next, &keys[i]);
+    }
+    next
+}
+
+/// Puts kept keys behind their count.
+pub(crate) fn put_kept(out: &mut [u8], at: usize, keys: &[Kept]) -> usize
+    requires few { length keys.now ≤ KEPT_LIMIT }
+    requires room { at + length (print_counted w16 kept_text keys.now) ≤ length out.old }
+    ensures { Puts out.old out.new at (print_counted w16 kept_text keys.now) result }
+{
+    let next = put_u16(out, at, keys.len() as u16);
+    put_keys(out, next, keys)
+}
+
+/// A key has 32 bytes.
+fn is_long(key: &[u8; 32])
+    ensures { length key.now ≡ 32 }
+{}
+
+/// Each kept key has 32 bytes, which the proofs learn here.
+pub(crate) fn are_long(keys: &[Kept])
+    ensures { All (λ kept. length kept.key.bytes ≡ 32) keys.now }
+{
+    'keys: for i in 0..keys.len() {
+        is_long(&keys[i].key.bytes);
+    }
 }

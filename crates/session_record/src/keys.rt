@@ -1,16 +1,18 @@
 //! The fields of a record that hold keys.
 
-ghost use Rattle.std.specs.Prelude.{◌≡◌, ◌≤◌, length, option_map, IfOk};
+ghost use Rattle.std.specs.Prelude.{◌≡◌, ◌+◌, ◌≤◌, length, option_map, IfOk};
+ghost use Rattle.dr_base.specs.Buffer.{Puts};
+ghost use Rattle.grammar.specs.Printer.{print_maybe};
 ghost use Rattle.grammar.specs.Reader.{checked, piece};
 ghost use Rattle.grammar.specs.Standing.{Reads};
 ghost use Rattle.session_model.specs.Seen.{own_seen, phase_seen, reception_seen};
-ghost use Rattle.session_record.specs.Fields.{is_secret, own_fields, phase_field, reception_fields, receiving_field};
+ghost use Rattle.session_record.specs.Fields.{is_secret, own_fields, own_text, phase_field, phase_text, reception_fields, reception_text, receiving_field};
 ghost use Rattle.session_record.specs.Lists.{reach_of};
 
 use crate::numbers::read_count;
 use arrayvec::ArrayVec;
 use cka::SecretText;
-use dr_base::{Key32, Side, in_room};
+use dr_base::{Key32, Side, in_room, put, put_u32};
 use grammar::Cursor;
 use kem_laws::{Kem, laws};
 use session_model::{Own, Phase, Reception};
@@ -130,5 +132,41 @@ pub(crate) fn reach_of(receiving: &Option<Reception>) -> u32
     match receiving {
         Some(reception) => reception.reach,
         None => 0,
+    }
+}
+
+/// Puts what an own epoch holds.
+fn put_own(out: &mut [u8], at: usize, own: &Own) -> usize
+    requires { at + length (own_text (own_seen own.now)) ≤ length out.old }
+    ensures { Puts out.old out.new at (own_text (own_seen own.now)) result }
+{
+    let at_agreement = put(out, at, own.secret.as_slice());
+    let at_chain = put(out, at_agreement, own.agreement.as_slice());
+    let at_sent = put(out, at_chain, &own.chain.bytes);
+    put_u32(out, at_sent, own.sent)
+}
+
+/// Puts the keys of the epoch.
+pub(crate) fn put_phase(out: &mut [u8], at: usize, phase: &Phase) -> usize
+    requires { at + length (phase_text (phase_seen phase.now)) ≤ length out.old }
+    ensures { Puts out.old out.new at (phase_text (phase_seen phase.now)) result }
+{
+    match phase {
+        Phase::Own(own) => put_own(out, at, own),
+        Phase::Peers(public) => put(out, at, public.as_slice()),
+    }
+}
+
+/// Puts the stream of the latest peer's epoch.
+pub(crate) fn put_receiving(out: &mut [u8], at: usize, receiving: &Option<Reception>) -> usize
+    requires { at + length (print_maybe reception_text (option_map reception_seen receiving.now)) ≤ length out.old }
+    ensures { Puts out.old out.new at (print_maybe reception_text (option_map reception_seen receiving.now)) result }
+{
+    match receiving {
+        None => at,
+        Some(reception) => {
+            let at_reach = put(out, at, &reception.chain.bytes);
+            put_u32(out, at_reach, reception.reach)
+        }
     }
 }

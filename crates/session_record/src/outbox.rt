@@ -1,14 +1,20 @@
 //! The outbox of a record.
 
-ghost use Rattle.std.specs.Prelude.{◌≡◌, ◌≤◌, [], length, IfOk};
+ghost use Rattle.std.specs.Prelude.{◌≡◌, ℕ, ◌+◌, ◌<◌, ◌≤◌, [], ◌∷◌, ◌++◌, length, drop, IfOk};
+ghost use Rattle.std.specs.Int.{w8};
 ghost use Rattle.boxes.specs.Items.{item_at};
+ghost use Rattle.dr_base.specs.Buffer.{Puts};
+ghost use Rattle.dr_base.specs.declared.position.Position.{Position};
+ghost use Rattle.grammar.specs.Printer.{print_counted, print_items};
 ghost use Rattle.grammar.specs.Reader.{items};
 ghost use Rattle.grammar.specs.Standing.{Reads, Skims};
-ghost use Rattle.session_record.specs.Lists.{outbox_field, post_field};
+ghost use Rattle.session_record.specs.Changes.{FitsOutbox, outbox_after};
+ghost use Rattle.session_record.specs.Lists.{outbox_field, post_field, post_of, post_text};
 
-use crate::numbers::read_len;
+use crate::change::Change;
+use crate::numbers::{put_byte, read_len};
 use boxes::Outbox;
-use dr_base::{OUTBOX_LIMIT, PACKET_LIMIT, Position, Side};
+use dr_base::{OUTBOX_LIMIT, PACKET_LIMIT, Position, Side, put, put_u16};
 use grammar::Cursor;
 use kem_laws::{Kem, laws};
 use packet::{grammar, parse};
@@ -109,4 +115,72 @@ pub(crate) fn skim_outbox<K: Kem>(
 {
     let count = read_len(cursor, OUTBOX_LIMIT)?;
     skim_posts::<K>(cursor, session, side, epoch, count)
+}
+
+/// Puts a packet behind its length, whatever its position.
+fn put_post(out: &mut [u8], at: usize, packet: &[u8]) -> usize
+    requires short { length packet.now ≤ PACKET_LIMIT }
+    requires room { at + 2 + length packet.now ≤ length out.old }
+    ensures { (position : Position) → Puts out.old out.new at (post_text (item_at position packet.now)) result }
+{
+    let at_packet = put_u16(out, at, packet.len() as u16);
+    put(out, at_packet, packet)
+}
+
+/// Puts the packets from a place on.
+fn put_posts(out: &mut [u8], at: usize, outbox: &Outbox, from: u32) -> usize
+    requires inside { from ≤ length outbox.now }
+    requires room { at + length (print_items post_text (drop from outbox.now)) ≤ length out.old }
+    ensures { Puts out.old out.new at (print_items post_text (drop from outbox.now)) result }
+{
+    let mut next = at;
+    'posts: for i in 0..outbox.len() - from {
+        match outbox.at((from + i) as usize) {
+            Some(pair) => next = put_post(out, next, pair.1),
+            None => unreachable!(),
+        }
+    }
+    next
+}
+
+/// Puts the packets from a place on, behind their count.
+fn put_later(out: &mut [u8], at: usize, outbox: &Outbox, from: u32) -> usize
+    requires inside { from ≤ length outbox.now }
+    requires room { at + length (print_counted w8 post_text (drop from outbox.now)) ≤ length out.old }
+    ensures { Puts out.old out.new at (print_counted w8 post_text (drop from outbox.now)) result }
+{
+    let next = put_byte(out, at, (outbox.len() - from) as u8);
+    put_posts(out, next, outbox, from)
+}
+
+/// Puts the packets with one more, behind their count.
+fn put_more<K: Kem>(out: &mut [u8], at: usize, outbox: &Outbox, packet: &[u8]) -> usize
+    requires space { length outbox.now < OUTBOX_LIMIT }
+    requires short { length packet.now ≤ PACKET_LIMIT }
+    requires room { at + length (print_counted w8 post_text (outbox.now ++ post_of K.mechanism packet.now ∷ [])) ≤ length out.old }
+    ensures { Puts out.old out.new at (print_counted w8 post_text (outbox.now ++ post_of K.mechanism packet.now ∷ [])) result }
+{
+    let at_first = put_byte(out, at, outbox.len() as u8 + 1);
+    let at_last = put_posts(out, at_first, outbox, 0);
+    put_post(out, at_last, packet)
+}
+
+/// Puts the outbox as a change leaves it.
+pub(crate) fn put_outbox<K: Kem>(
+    out: &mut [u8],
+    at: usize,
+    outbox: &Outbox,
+    change: &Change<'_>,
+) -> usize
+    requires fits { FitsOutbox outbox.now change.now }
+    requires room { at + length (print_counted w8 post_text (outbox_after K.mechanism outbox.now change.now)) ≤ length out.old }
+    ensures { Puts out.old out.new at (print_counted w8 post_text (outbox_after K.mechanism outbox.now change.now)) result }
+{
+    match change {
+        Change::Said { packet } => put_more::<K>(out, at, outbox, packet),
+        Change::Sent { n } => put_later(out, at, outbox, *n),
+        Change::Same | Change::Received { .. } | Change::Done { .. } => put_later(
+            out, at, outbox, 0,
+        ),
+    }
 }

@@ -1,0 +1,5 @@
+use Rattle.grammar.proofs.Putting.{then_puts}
+use Rattle.session_record.proofs.kept.put_kept.Goals as goal
+
+pub returns : goal.returns
+returns c = then_puts c.put_u16-next.ensures c.put_keys.ensures

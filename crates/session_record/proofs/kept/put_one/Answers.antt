@@ -1,0 +1,5 @@
+use Rattle.grammar.proofs.Putting.{then_puts}
+use Rattle.session_record.proofs.kept.put_one.Goals as goal
+
+pub returns : goal.returns
+returns c = then_puts c.put_u32-at_index.ensures (then_puts c.put_u32-at_key.ensures c.put.ensures)
