@@ -1,6 +1,8 @@
 -- Lists that are printed item by item.
 use Rattle.std.proofs.Common.{◌≡◌, ℕ, ◌+◌, ◌*◌, ◌<◌, ◌≤◌, List, [], ◌∷◌, ◌++◌, length, take, drop, Some, refl, sym, ◌∙◌, ap, arith, append_assoc, append-nil, length-append}
 use Rattle.std.specs.List.{slice_get}
+use Rattle.std.specs.Prelude.{All}
+use Rattle.std.proofs.lemmas.List.Elements.{All-head, All-tail}
 use Rattle.std.proofs.lemmas.List.{take_more, take-append-drop, get_or-drop, length-drop}
 use Rattle.std.proofs.lemmas.Option.{slice_get_within, get_or_from_slice_get, slice_get-get_or}
 use Rattle.grammar.specs.Printer.{print_items}
@@ -46,10 +48,12 @@ module _ {A : Type 0} (print : A → List ℕ) where
       let next = ap (λ (l : List ℕ). length l) (print-next xs i x here) in
       omega (arith, length-append (print_items print (take (i + 1) xs)) (print_items print (drop (i + 1) xs)), length-append (print_items print (take i xs)) (print x))
 
-  -- one item more is so much longer
-  pub size-next : (xs : List A) (i : ℕ) (x : A) (most : ℕ) → slice_get xs i ≡ Some x → length (print x) ≤ most
-      → length (print_items print (take i xs)) ≤ most * i → length (print_items print (take (i + 1) xs)) ≤ most * (i + 1)
-  size-next xs i x most here small before =
-      let next = ap (λ (l : List ℕ). length l) (print-next xs i x here) in
-      let more : most * (i + 1) ≡ most * i + most = grind arith in
-      rw more (omega (arith, next, length-append (print_items print (take i xs)) (print x), small, before))
+  -- items of at most so many bytes each
+  pub size-items : (most : ℕ) (xs : List A) → All (λ x. length (print x) ≤ most) xs → length (print_items print xs) ≤ most * length xs
+  unfolding print_items
+  size-items most [] each = omega arith
+  size-items most (x ∷ xs) each =
+      let first = All-head (λ y. length (print y) ≤ most) x xs each in
+      let behind = size-items most xs (All-tail (λ y. length (print y) ≤ most) x xs each) in
+      let more : most * length (x ∷ xs) ≡ most + most * length xs = grind arith in
+      omega (arith, more, first, behind, length-append (print x) (print_items print xs))

@@ -1,5 +1,5 @@
 -- Printers of fields that are put together, and the values that they print.
-use Rattle.std.specs.Prelude.{◌≡◌, ℕ, zero, suc, ◌⊎◌, Bool, true, false, List, [], ◌∷◌, ◌++◌, length, Option, Some, None}
+use Rattle.std.specs.Prelude.{◌≡◌, ℕ, zero, suc, ◌≤◌, ◌⊎◌, Bool, true, false, List, [], ◌∷◌, ◌++◌, length, Option, Some, None}
 use Rattle.std.proofs.Common.{inl, inr}
 use Rattle.std.specs.Int.{Width, to_be_bytes}
 
@@ -43,3 +43,9 @@ pub data AreItems {A : Type 0} (Lawful : List A → A → Type 0) : ℕ → List
   no_items : AreItems Lawful zero []
   and_item : (n : ℕ) (before : List A) (a : A) → AreItems Lawful n before → Lawful before a
       → AreItems Lawful (suc n) (before ++ a ∷ [])
+
+-- ---- where it is printed
+
+-- a buffer of this size holds a text: it is no shorter, or it holds the longest one
+abbrev pub HasRoom : ℕ → List ℕ → ℕ → Type 0
+HasRoom longest text room = (length text ≤ room) ⊎ (longest ≤ room)

@@ -1,13 +1,14 @@
 -- The record of a box, both ways.
-use Rattle.std.proofs.Common.{◌≡◌, ℕ, suc, ◌*◌, ◌^◌, ◌<◌, ◌≤◌, true, List, [], ◌∷◌, ◌++◌, length, get_or, take, refl, ap₂, arith, inl, inr, length-append}
+use Rattle.std.proofs.Common.{◌≡◌, ℕ, ◌*◌, ◌^◌, ◌<◌, ◌≤◌, true, List, [], ◌++◌, length, get_or, take, refl, ap₂, arith, inl, inr, length-append}
 use Rattle.std.specs.Prelude.{All}
 use Rattle.std.specs.Int.{w8, w16, w64, to_be_bytes}
 use Rattle.std.proofs.lemmas.Bool.Decides.{nat_tests}
 use Rattle.std.proofs.lemmas.List.Elements.{All-push}
-use Rattle.grammar.specs.Printer.{AreItems, no_items, and_item, print_items}
+use Rattle.grammar.specs.Printer.{AreItems, no_items, and_item, HasRoom, print_items}
 use Rattle.grammar.specs.Grammar.{IsGrammar, IsWholeGrammar}
 use Rattle.grammar.proofs.Combined.{both_grammar, checked_grammar, mapped_grammar}
 use Rattle.grammar.proofs.Fields.{exact8, exact16, exact64, number_grammar}
+use Rattle.grammar.proofs.Printing.{size-items}
 use Rattle.grammar.proofs.Lists.{items_grammar, items-from, length-items, sized_grammar}
 use Rattle.grammar.proofs.Whole.{whole_grammar}
 use Rattle.relay_core.specs.declared.limits.TheConstants.{BOX_LIMIT, RECORD_LIMIT}
@@ -16,7 +17,6 @@ use Rattle.relay_core.specs.Lawful.{Rises, last_number, IsLawfulBox}
 use Rattle.relay_core.specs.Record.{HeadParts, is_version, is_name_size, is_count, name_field, head_fields, is_number, is_packet_size, packet_field, kept_of, kept_field, next_kept, box_of_parts, box_fields, box_read, head_text, kept_text, box_text}
 use Rattle.relay_core.proofs.Rising.{rises-append, rises-at}
 use Rattle.relay_wire.proofs.Choices.{both_true}
-use Rattle.relay_wire.specs.Frames.{HasRoom}
 use Rattle.relay_wire.specs.Names.{is_name, is_packet}
 
 -- ---- lengths behind which names and packets stand
@@ -146,12 +146,8 @@ short_box_name name is = most (length name) (both_true _ _ is).0
     most n passes = grind (arith, nat_tests)
 
 packets_size : (list : List Kept) → All (λ (k : Kept). is_packet k.packet ≡ true) list → length (print_items kept_text list) ≤ 4010 * length list
-unfolding print_items
-packets_size [] are = omega arith
-packets_size (kept ∷ more) are =
-    let first = short_kept kept.packet (are 0 kept (omega arith)) in
-    let behind = packets_size more (λ k d inside. are (suc k) d (omega (arith, inside))) in
-    omega (arith, first, behind, length-append (kept_text kept) (print_items kept_text more))
+packets_size list are =
+    size-items kept_text 4010 list (λ k d inside. omega (arith, short_kept (get_or list k d).packet (are k d inside)))
 
 pub record_size : (box : Box) → IsLawfulBox box → length (box_text box) ≤ RECORD_LIMIT
 unfolding box_text

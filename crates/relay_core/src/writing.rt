@@ -4,11 +4,10 @@ ghost use Rattle.std.specs.Prelude.{◌≡◌, ◌+◌, ◌<◌, ◌≤◌, leng
 ghost use Rattle.std.specs.Option.{ForSome};
 ghost use Rattle.std.specs.Int.{w8, to_be_bytes};
 ghost use Rattle.dr_base.specs.Buffer.{Puts};
-ghost use Rattle.grammar.specs.Printer.{print_items};
+ghost use Rattle.grammar.specs.Printer.{HasRoom, print_items};
 ghost use Rattle.relay_core.specs.declared.limits.TheConstants.{BOX_LIMIT, RECORD_LIMIT};
 ghost use Rattle.relay_core.specs.Lawful.{IsLawfulBox};
 ghost use Rattle.relay_core.specs.Record.{box_text, head_text, kept_text};
-ghost use Rattle.relay_wire.specs.Frames.{HasRoom};
 
 use crate::mailbox::{KeptPacket, Mailbox};
 use crate::reading::VERSION;

@@ -1,6 +1,6 @@
 -- Frames. A frame is the length of its body in two bytes, the high one first, and the body. A length that no body may
 -- have is a frame by itself.
-use Rattle.std.specs.Prelude.{◌≡◌, ℕ, zero, suc, ◌+◌, ◌*◌, ◌<◌, ◌≤◌, ◌⊎◌, ◌&&◌, Bool, nat_le, List, [], ◌∷◌, ◌++◌, length, take, drop, flat_map, Option, Some, None, if◌then◌else◌}
+use Rattle.std.specs.Prelude.{◌≡◌, ℕ, zero, suc, ◌+◌, ◌*◌, ◌<◌, ◌&&◌, Bool, nat_le, List, [], ◌∷◌, ◌++◌, length, take, drop, flat_map, Option, Some, None, if◌then◌else◌}
 use Rattle.std.specs.Int.{w16, to_be_bytes}
 use Rattle.std.specs.List.{AllByRecursion}
 use Rattle.relay_wire.specs.declared.limits.TheConstants.{BODY_LIMIT}
@@ -68,9 +68,3 @@ pub record Held : Type 0 where
 abbrev pub Gives : Held → Held → Option Whole → Type 0
 Gives old new (Some frame) = (old.bytes ≡ frame.bytes) × IsFrame frame.bytes × (new.bytes ≡ [])
 Gives old new None = IsPartial old.bytes × (new ≡ old)
-
--- ---- writing
-
--- a buffer of this size holds a text: it is no shorter, or it holds the longest one
-abbrev pub HasRoom : ℕ → List ℕ → ℕ → Type 0
-HasRoom longest text room = (length text ≤ room) ⊎ (longest ≤ room)

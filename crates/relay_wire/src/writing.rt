@@ -2,7 +2,8 @@
 
 ghost use Rattle.std.specs.Prelude.{◌+◌, ◌≤◌, ◌∷◌, ◌++◌, length};
 ghost use Rattle.dr_base.specs.Buffer.{Puts};
-ghost use Rattle.relay_wire.specs.Frames.{HasRoom, framed};
+ghost use Rattle.grammar.specs.Printer.{HasRoom};
+ghost use Rattle.relay_wire.specs.Frames.{framed};
 ghost use Rattle.relay_wire.specs.Replies.{reply_body};
 ghost use Rattle.relay_wire.specs.Requests.{request_body};
 ghost use Rattle.relay_wire.specs.Seen.{replied_of};

@@ -7,3 +7,4 @@ mod FromLawful
 mod ToLawful
 mod RecordLaw
 mod Places
+mod Sizes

@@ -27,7 +27,7 @@ within-count : IsWithin 4 count_field
 unfolding count_field
 within-count = within-checked 4 (up_to INDEX_LIMIT) (number w32) (within-number w32)
 
-message_fits : (agreement epoch : ℕ) → agreement ≤ 2197 → agreement_len agreement epoch ≤ 2197
+pub message_fits : (agreement epoch : ℕ) → agreement ≤ 2197 → agreement_len agreement epoch ≤ 2197
 message_fits agreement epoch fits = grind arith
 
 within-phase : (k : Mechanism) (side : Side) (epoch : ℕ) → IsLawfulMechanism k → IsWithin 3996 (phase_field k side epoch)

@@ -63,6 +63,15 @@ abbrev pub head_text : Side → List ℕ → List ℕ → ℕ → List ℕ
 head_text side session root epoch =
     to_be_bytes w8 1 ++ (to_be_bytes w8 (code_of side) ++ (session ++ (root ++ to_be_bytes w32 epoch)))
 
+-- what stands before the boxes
+abbrev pub state_text : State → List ℕ
+state_text s =
+    head_text s.side s.session s.root s.epoch
+    ++ (phase_text s.phase
+    ++ (to_be_bytes w32 s.previous
+    ++ (print_maybe reception_text s.receiving
+    ++ print_counted w16 kept_text s.kept)))
+
 -- the text of a client's record
 unfoldable pub record_text : Client → List ℕ
 record_text c =

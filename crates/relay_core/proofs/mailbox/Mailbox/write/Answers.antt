@@ -1,14 +1,13 @@
 use Rattle.std.proofs.Common.{◌≡◌, ◌+◌, ◌≤◌, ◌++◌, List, ℕ, length, sym, ap, subst, arith}
 use Rattle.std.proofs.lemmas.List.{length-append}
 use Rattle.dr_base.specs.Buffer.{Puts}
-use Rattle.grammar.specs.Printer.{print_items}
+use Rattle.grammar.specs.Printer.{HasRoom, print_items}
 use Rattle.grammar.proofs.Putting.{then_puts}
 use Rattle.relay_core.specs.declared.limits.TheConstants.{RECORD_LIMIT}
 use Rattle.relay_core.specs.Boxes.{Kept, Box}
 use Rattle.relay_core.specs.Lawful.{IsLawfulBox}
 use Rattle.relay_core.specs.Record.{box_text, head_text, kept_text}
 use Rattle.relay_core.proofs.BoxGrammar.{record_fits}
-use Rattle.relay_wire.specs.Frames.{HasRoom}
 use Rattle.relay_core.proofs.mailbox.Mailbox.write.Goals as goal
 
 -- the parts of the record have room

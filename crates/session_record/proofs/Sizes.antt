@@ -1,0 +1,131 @@
+-- No record is longer than RECORD_LIMIT, also behind a change.
+use Rattle.std.proofs.Common.{◌≡◌, ℕ, ◌+◌, ◌<◌, ◌≤◌, List, [], ◌∷◌, ◌++◌, length, drop, Option, Some, None, sym, ap, arith, append_assoc, length-append}
+use Rattle.std.specs.Prelude.{All}
+use Rattle.std.specs.Int.{w8, w16, w32, to_be_bytes}
+use Rattle.std.proofs.lemmas.List.{length-drop, length_push}
+use Rattle.std.proofs.lemmas.List.Elements.{All-drop, All-push}
+use Rattle.boxes.specs.Items.{Item, item_at}
+use Rattle.cka.specs.Agreement.{agreement_size}
+use Rattle.dr_base.specs.declared.key.Kept.{Kept}
+use Rattle.dr_base.specs.declared.limits.TheConstants.{INBOX_LIMIT, OUTBOX_LIMIT, PACKET_LIMIT, TEXT_LIMIT}
+use Rattle.dr_base.specs.declared.position.Side.{Side}
+use Rattle.grammar.specs.Printer.{print_counted, print_maybe}
+use Rattle.grammar.proofs.Printing.{size-items}
+use Rattle.kem_laws.specs.Mechanism.{IsLawfulMechanism, Mechanism}
+use Rattle.session_model.specs.Clients.{Client}
+use Rattle.session_model.specs.LawfulStates.{IsLawfulPhase, IsLawfulReception, IsLawfulState}
+use Rattle.session_model.specs.States.{Phase, Reception, State, in_own, in_peers, receiving_epoch}
+use Rattle.session_record.specs.declared.change.Change.{Change}
+use Rattle.session_record.specs.declared.change.Change.TheVariants.{Same, Received, Said, Done, Sent}
+use Rattle.session_record.specs.declared.limits.TheConstants.{RECORD_LIMIT}
+use Rattle.session_record.specs.Changes.{FitsInbox, FitsOutbox, inbox_after, outbox_after}
+use Rattle.session_record.specs.Fields.{code_of, phase_text, reception_text}
+use Rattle.session_record.specs.Lists.{entry_text, kept_text, post_of, post_text}
+use Rattle.session_record.specs.Record.{head_text, record_text, state_text}
+use Rattle.session_record.proofs.Places.{message_fits}
+
+-- ---- the pieces of a text
+
+abbrev pub boxes_text : List Item → List Item → List ℕ
+boxes_text inbox outbox = print_counted w8 entry_text inbox ++ print_counted w8 post_text outbox
+
+regrouped : (a b c d e f g h i rest : List ℕ) → ((a ++ (b ++ (c ++ (d ++ e)))) ++ (f ++ (g ++ (h ++ i)))) ++ rest ≡ a ++ (b ++ (c ++ (d ++ (e ++ (f ++ (g ++ (h ++ (i ++ rest))))))))
+regrouped a b c d e f g h i rest = simp append_assoc
+
+pub text_pieces : (c : Client) → record_text c ≡ state_text c.state ++ boxes_text c.inbox c.outbox
+unfolding record_text
+text_pieces c =
+    let s = c.state in
+    sym (regrouped (to_be_bytes w8 1) (to_be_bytes w8 (code_of s.side)) s.session s.root (to_be_bytes w32 s.epoch)
+    (phase_text s.phase) (to_be_bytes w32 s.previous) (print_maybe reception_text s.receiving) (print_counted w16 kept_text s.kept) (boxes_text c.inbox c.outbox))
+
+pub state_size : (s : State) → length (state_text s) ≡ length (head_text s.side s.session s.root s.epoch) + (length (phase_text s.phase) + (4
+    + (length (print_maybe reception_text s.receiving) + length (print_counted w16 kept_text s.kept))))
+state_size s =
+    let head = head_text s.side s.session s.root s.epoch in
+    let phase = phase_text s.phase in
+    let previous = to_be_bytes w32 s.previous in
+    let receiving = print_maybe reception_text s.receiving in
+    let kept = print_counted w16 kept_text s.kept in
+    omega (arith, length-append head (phase ++ (previous ++ (receiving ++ kept))), length-append phase (previous ++ (receiving ++ kept)), length-append previous (receiving ++ kept), length-append receiving kept)
+
+pub text_size : (c : Client) → length (record_text c) ≡ length (state_text c.state) + (length (print_counted w8 entry_text c.inbox) + length (print_counted w8 post_text c.outbox))
+text_size c =
+    let inbox = print_counted w8 entry_text c.inbox in
+    let outbox = print_counted w8 post_text c.outbox in
+    omega (arith, ap (λ (l : List ℕ). length l) (text_pieces c), length-append (state_text c.state) (inbox ++ outbox), length-append inbox outbox)
+
+-- ---- how long each is at most
+
+size-head : (side : Side) (session root : List ℕ) (epoch : ℕ) → length session ≡ 16 → length root ≡ 32 → length (head_text side session root epoch) ≤ 54
+size-head side session root epoch long key =
+    omega (arith, length-append session (root ++ to_be_bytes w32 epoch), length-append root (to_be_bytes w32 epoch), long, key)
+
+size-phase : (k : Mechanism) (side : Side) (epoch : ℕ) (phase : Phase) → IsLawfulMechanism k → IsLawfulPhase k side epoch phase → length (phase_text phase) ≤ 3996
+size-phase k side epoch (in_own own) law l =
+    let message = message_fits (agreement_size k) epoch (omega (arith, law.public_fits, law.ciphertext_fits)) in
+    let sent = to_be_bytes w32 own.sent in
+    omega (arith, length-append own.secret (own.agreement ++ (own.chain ++ sent)), length-append own.agreement (own.chain ++ sent), length-append own.chain sent, l.1.secret_long, l.1.agreement_long, l.1.chain_long, law.secret_fits, message)
+size-phase k side epoch (in_peers public) law l = omega (arith, l.1, law.public_fits)
+
+size-receiving : (kept : List Kept) (receiving : Option Reception) (epoch : Option ℕ) → IsLawfulReception kept receiving epoch → length (print_maybe reception_text receiving) ≤ 36
+size-receiving kept None epoch l = omega arith
+size-receiving kept (Some r) None l = absurd l
+size-receiving kept (Some r) (Some epoch) l = omega (arith, length-append r.chain (to_be_bytes w32 r.reach), l.0)
+
+size-kept : (kept : List Kept) → All (λ (one : Kept). length one.key.bytes ≡ 32) kept → length kept ≤ 256 → length (print_counted w16 kept_text kept) ≤ 10242
+size-kept kept long few =
+    let items = size-items kept_text 40 kept (λ i d inside. omega (arith, long i d inside)) in
+    omega (arith, items, few)
+
+-- a box with no more items than it may hold, each no longer than it may be
+pub record IsRoomy (limit room : ℕ) (box : List Item) : Type 0 where
+  pub few : length box ≤ limit
+  pub short : All (λ (item : Item). length item.bytes ≤ room) box
+
+size-inbox : (inbox : List Item) → IsRoomy INBOX_LIMIT TEXT_LIMIT inbox → length (print_counted w8 entry_text inbox) ≤ 66177
+size-inbox inbox box =
+    let items = size-items entry_text 1034 inbox (λ i d inside. omega (arith, box.short i d inside)) in
+    omega (arith, items, box.few)
+
+size-outbox : (outbox : List Item) → IsRoomy OUTBOX_LIMIT PACKET_LIMIT outbox → length (print_counted w8 post_text outbox) ≤ 105217
+size-outbox outbox box =
+    let items = size-items post_text 3288 outbox (λ i d inside. omega (arith, box.short i d inside)) in
+    omega (arith, items, box.few)
+
+-- a client of which this is known has a text of at most RECORD_LIMIT bytes
+pub text-fits : (k : Mechanism) (c : Client) → IsLawfulMechanism k → IsLawfulState k c.state → All (λ (one : Kept). length one.key.bytes ≡ 32) c.state.kept
+    → IsRoomy INBOX_LIMIT TEXT_LIMIT c.inbox → IsRoomy OUTBOX_LIMIT PACKET_LIMIT c.outbox → length (record_text c) ≤ RECORD_LIMIT
+text-fits k c law l long inbox outbox =
+    let s = c.state in
+    omega (arith, text_size c, state_size s, size-head s.side s.session s.root s.epoch l.session_long l.root_long, size-phase k s.side s.epoch s.phase law l.phase, size-receiving s.kept s.receiving (receiving_epoch s.side s.epoch) l.receiving, size-kept s.kept long l.few, size-inbox c.inbox inbox, size-outbox c.outbox outbox)
+
+-- ---- behind a change
+
+roomy-push : (limit room : ℕ) (box : List Item) (item : Item) → IsRoomy limit room box → length box < limit → length item.bytes ≤ room → IsRoomy limit room (box ++ item ∷ [])
+roomy-push limit room box item before space short = record {
+  few = omega (arith, length_push box item, space);
+  short = All-push (λ (i : Item). length i.bytes ≤ room) box item before.short short;
+}
+
+roomy-drop : (limit room n : ℕ) (box : List Item) → IsRoomy limit room box → IsRoomy limit room (drop n box)
+roomy-drop limit room n box before = record {
+  few = omega (arith, length-drop n box, before.few);
+  short = All-drop (λ (i : Item). length i.bytes ≤ room) n box before.short;
+}
+
+pub roomy-inbox : (inbox : List Item) (change : Change) → IsRoomy INBOX_LIMIT TEXT_LIMIT inbox → FitsInbox inbox change → IsRoomy INBOX_LIMIT TEXT_LIMIT (inbox_after inbox change)
+roomy-inbox inbox (Received position text) before fits = roomy-push INBOX_LIMIT TEXT_LIMIT inbox (item_at position text.now) before fits.0 fits.1
+roomy-inbox inbox (Done n) before fits = roomy-drop INBOX_LIMIT TEXT_LIMIT n inbox before
+roomy-inbox inbox Same before fits = before
+roomy-inbox inbox (Said packet) before fits = before
+roomy-inbox inbox (Sent n) before fits = before
+
+pub roomy-outbox : (k : Mechanism) (outbox : List Item) (change : Change) → IsRoomy OUTBOX_LIMIT PACKET_LIMIT outbox → FitsOutbox outbox change
+    → IsRoomy OUTBOX_LIMIT PACKET_LIMIT (outbox_after k outbox change)
+unfolding post_of
+roomy-outbox k outbox (Said packet) before fits = roomy-push OUTBOX_LIMIT PACKET_LIMIT outbox (post_of k packet.now) before fits.0 fits.1
+roomy-outbox k outbox (Sent n) before fits = roomy-drop OUTBOX_LIMIT PACKET_LIMIT n outbox before
+roomy-outbox k outbox Same before fits = before
+roomy-outbox k outbox (Received position text) before fits = before
+roomy-outbox k outbox (Done n) before fits = before
