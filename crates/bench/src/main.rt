@@ -1,5 +1,5 @@
 //! Measures the messenger: medians of many runs. The word `run` measures the path of a text, the word `ring` the
-//! arithmetic of the key encapsulation and a turn, the word `store` a record on a file. Without a word it prints one fixed line.
+//! arithmetic of the key encapsulation and a turn, the word `store` a record in memory and on a file. Without a word it prints one fixed line.
 #![tactic(auto)]
 
 use dr_ports::NullSink;
@@ -9,6 +9,7 @@ mod cipher;
 mod clock;
 mod mechanism;
 mod message;
+mod record;
 mod relay;
 mod ring;
 mod script;
@@ -30,7 +31,10 @@ fn main(rt: HostRuntime) -> io::Result<()> {
             mechanism::report(&rt)?;
             turn::report(&rt)
         }
-        Some(word) if word.as_str() == "store" => store::report(&rt),
+        Some(word) if word.as_str() == "store" => {
+            record::report(&rt)?;
+            store::report(&rt)
+        }
         _ => println!(rt; "bench: give the word run, ring or store, and wait some seconds"),
     }
 }

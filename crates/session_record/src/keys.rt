@@ -11,7 +11,7 @@ ghost use Rattle.session_record.specs.Lists.{reach_of};
 
 use crate::numbers::read_count;
 use arrayvec::ArrayVec;
-use cka::SecretText;
+use cka::{SecretText, agreement_length};
 use dr_base::{Key32, Side, in_room, put, put_u32};
 use grammar::Cursor;
 use kem_laws::{Kem, laws};
@@ -63,12 +63,11 @@ fn read_secret<K: Kem>(cursor: &mut Cursor<'_>) -> Result<SecretText, usize>
 fn read_own<K: Kem>(cursor: &mut Cursor<'_>, epoch: u32) -> Result<Own, usize>
     ensures { Reads own_seen (own_fields K.mechanism epoch) cursor.old cursor.new result }
 {
-    laws::<K>();
     let secret = read_secret::<K>(cursor)?;
     let size = if epoch == 0 {
         0
     } else {
-        K::CIPHERTEXT + K::PUBLIC
+        agreement_length::<K>()
     };
     let agreement = read_text(cursor, size)?;
     let chain = read_key(cursor)?;

@@ -14,6 +14,7 @@ ghost use Rattle.session_record.specs.Lists.{outbox_field, post_field, post_of, 
 use crate::change::Change;
 use crate::numbers::{put_byte, read_len};
 use boxes::Outbox;
+use cka::agreement_length;
 use dr_base::{OUTBOX_LIMIT, PACKET_LIMIT, Position, Side, put, put_u16};
 use grammar::Cursor;
 use kem_laws::{Kem, laws};
@@ -35,7 +36,7 @@ fn read_post<'a, K: Kem>(
     let size = cursor.number16()?;
     let at = cursor.at();
     let bytes = cursor.piece(usize::from(size))?;
-    match parse(bytes, K::CIPHERTEXT + K::PUBLIC) {
+    match parse(bytes, agreement_length::<K>()) {
         Err(_) => Err(at),
         Ok(view) => {
             let of = view.epoch();
