@@ -114,13 +114,13 @@ stands k w side p new within =
     ∙ map_push (entry_at w.conversation) (view_of w side).arrived p
 
 -- what comes last is among them
-among_last : (ps : List Position) (p : Position) → list_any (is_at p) (ps ++ p ∷ []) ≡ true
+pub among_last : (ps : List Position) (p : Position) → list_any (is_at p) (ps ++ p ∷ []) ≡ true
 among_last ps p =
     list_any-append (is_at p) ps (p ∷ [])
     ∙ or_right (list_any (is_at p) ps) (is_at p p || false) (or_left (is_at p p) false (is_at-itself p))
 
 -- what the view that changed has opened
-opened_with : (w : World) (side : Side) (v : View) (p : Position)
+pub opened_with : (w : World) (side : Side) (v : View) (p : Position)
     → has_opened (view_of (with_view w side v) side) p ≡ has_opened v p
 opened_with w First v p = refl
 opened_with w Second v p = refl

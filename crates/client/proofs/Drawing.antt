@@ -1,0 +1,63 @@
+-- What saying a text does, by whether a seed was drawn for it.
+use Rattle.std.proofs.Common.{Bool, Err, List, None, Ok, Option, Result, Some, [], ap, false, subst, sym, true, ℕ, ◌∙◌, ◌∷◌, ◌≡◌}
+use Rattle.std.specs.Prelude.{is_none, length, ◌&&◌}
+use Rattle.dr_base.specs.Causes.{Rose}
+use Rattle.dr_base.specs.declared.key.Key32.{Key32}
+use Rattle.dr_base.specs.declared.position.Position.{Position}
+use Rattle.dr_disk.specs.State.{DiskState}
+use Rattle.dr_disk.specs.declared.call.Call.{Call}
+use Rattle.dr_model.specs.Machines.Acts.{needs_seed, said_by, saying_by}
+use Rattle.dr_ports.specs.Seeds.{Seeds, drawn}
+use Rattle.kem_laws.specs.Mechanism.{Mechanism}
+use Rattle.session_model.specs.Clients.{say_check, say_on}
+use Rattle.session_model.specs.declared.answer.Refusal.{Refusal}
+use Rattle.client.specs.Clients.{ClientNow}
+use Rattle.client.specs.Outcomes.{Acts, said_as}
+use Rattle.client.specs.Saying.{HandsBack, Says, asks_seed, draw_failed, with_draw, without_draw}
+use Rattle.client.specs.declared.refusals.SayRefusal.{SayRefusal}
+use Rattle.client.specs.declared.refusals.SayRefusal.TheVariants.{Closed, DrawFault, Refused}
+
+-- whether a seed is asked for, by what the check answers
+asks_by : (client : ClientNow) (len : ℕ) (r : Result Bool Refusal) → client.closed ≡ None → say_check client.kept len ≡ r
+    → asks_seed client len ≡ needs_seed r
+asks_by client len r unclosed is =
+    ap (λ closed. is_none closed && needs_seed (say_check client.kept len)) unclosed ∙ ap needs_seed is
+
+module _ {X W : Type 0} (state : X → DiskState) (coming : W → Option Seeds) (faults : W → ℕ) (k : Mechanism)
+    (text : List ℕ) (old new : ClientNow) (start now : X) (source left : W) where
+  abbrev Said : Result Position SayRefusal → Type 0
+  Said = Says state coming faults k text old new start now source left
+
+  pub says_closed : (call : Call) → old.closed ≡ Some call → new ≡ old → now ≡ start → left ≡ source → Said (Err (Closed call))
+  says_closed call closed same stays leaves =
+      without_draw (Err (Closed call))
+      (ap (λ c. is_none c && needs_seed (say_check old.kept (length text))) closed) leaves (closed, same, stays)
+
+  pub says_refused : (refusal : Refusal) → old.closed ≡ None → say_check old.kept (length text) ≡ Err refusal → new ≡ old
+      → now ≡ start → left ≡ source → Said (Err (Refused refusal))
+  says_refused refusal unclosed is same stays leaves =
+      without_draw (Err (Refused refusal)) (asks_by old (length text) (Err refusal) unclosed is) leaves
+      (unclosed, ap (saying_by k old.kept text None) is, same, stays)
+
+  pub says_plain : (result : Result Position SayRefusal) → old.closed ≡ None → say_check old.kept (length text) ≡ Ok false
+      → left ≡ source → Acts state (said_by (say_on k old.kept text [])) old new start now (said_as result)
+      → Said result
+  says_plain result unclosed is leaves acts =
+      without_draw result (asks_by old (length text) (Ok false) unclosed is) leaves
+      (subst (λ made. Acts state made old new start now (said_as result)) (sym (ap (saying_by k old.kept text None) is)) acts)
+
+  pub says_drawn : (result : Result Position SayRefusal) (seed : Key32) → old.closed ≡ None
+      → say_check old.kept (length text) ≡ Ok true → length seed.bytes ≡ 32
+      → coming source ≡ drawn (seed.bytes ∷ []) (coming left) → faults left ≡ faults source
+      → Acts state (said_by (say_on k old.kept text seed.bytes)) old new start now (said_as result)
+      → HandsBack (Some seed) result → Said result
+  says_drawn result seed unclosed is long drew quiet acts back =
+      with_draw result seed (asks_by old (length text) (Ok true) unclosed is) long drew quiet
+      (subst (λ made. Acts state made old new start now (said_as result))
+      (sym (ap (saying_by k old.kept text (Some seed.bytes)) is)) acts)
+      back
+
+  pub says_nothing : old.closed ≡ None → say_check old.kept (length text) ≡ Ok true → Rose (faults source) (faults left)
+      → coming left ≡ coming source → new ≡ old → now ≡ start → Said (Err DrawFault)
+  says_nothing unclosed is rose same stays leaves =
+      draw_failed (asks_by old (length text) (Ok true) unclosed is) rose same stays leaves

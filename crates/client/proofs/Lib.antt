@@ -1,0 +1,9 @@
+mod Drawing
+mod LawfulRecords
+mod Lifted
+mod OnePacket
+mod Replaced
+mod SameRecord
+mod Spending
+mod Spends
+mod Standing

@@ -1,0 +1,67 @@
+-- A record that replaced another, on the disk of a client.
+use Rattle.std.proofs.Common.{List, Option, Some, ap, arith, subst, ℕ, ◌+◌, ◌<◌, ◌∙◌, ◌≡◌}
+use Rattle.std.specs.Prelude.{is_some}
+use Rattle.dr_base.specs.Causes.{Rose}
+use Rattle.dr_disk.specs.Spans.{HavePassed, IsQuiet, Span}
+use Rattle.dr_disk.specs.State.{Always, DiskState, some_pass}
+use Rattle.dr_disk.specs.declared.call.Call.{Call}
+use Rattle.session_model.specs.Clients.{Client}
+use Rattle.session_record.specs.Record.{record_text}
+use Rattle.slot_store.specs.Slots.{recovered}
+use Rattle.slot_store.specs.Stops.{IsStopped, calls_of, retiring}
+use Rattle.slot_store.specs.Store.{IsOldOrNew, KeepsOutside, ReadsOutsideArea, Rests, content}
+use Rattle.slot_store.specs.declared.area.Area.{Area}
+use Rattle.slot_store.specs.declared.store.SlotStore.{SlotStore}
+use Rattle.client.specs.Clients.{IsReady, client_area}
+use Rattle.client.specs.Outcomes.{IsKept, IsLost, IsReplacing}
+
+-- replacing a record takes eight writes and syncs
+eight : (old new : Option (List ℕ)) (was : List ℕ) → old ≡ Some was → calls_of old new ≡ 8
+unfolding calls_of
+eight old new was is = ap (λ o. 4 + retiring (is_some o)) is
+
+module _ (before after : Client) (old : SlotStore) (text : List ℕ) (start now : DiskState) (ready : IsReady before old start)
+    (written : text ≡ record_text after) where
+  replacing : Span start now (IsOldOrNew start old.area (content old) (Some text)) → IsReplacing before after start now
+  replacing span =
+      subst (λ (a : Area). Span start now (IsOldOrNew start a (Some (record_text before)) (Some (record_text after)))) ready.area
+      (subst (λ o. Span start now (IsOldOrNew start old.area o (Some (record_text after)))) ready.holds
+      (subst (λ t. Span start now (IsOldOrNew start old.area (content old) (Some t))) written span))
+
+  reads_in : ReadsOutsideArea old.area start now → ReadsOutsideArea client_area start now
+  reads_in reads = subst (λ (a : Area). ReadsOutsideArea a start now) ready.area reads
+
+  pub kept : (new : SlotStore) → Span start now (IsOldOrNew start old.area (content old) (Some text))
+      → Always (λ c. Rests new c × (recovered new.area c ≡ Some text) × KeepsOutside old.area start c) now
+      → ReadsOutsideArea old.area start now → content new ≡ Some text → new.area ≡ old.area
+      → HavePassed (calls_of (content old) (Some text)) start now → IsQuiet start now → IsKept before after new start now
+  kept new span rest reads holds same passed quiet = record {
+    ready = record {
+      area = same ∙ ready.area;
+      within = omega (arith, ready.within, span.size);
+      holds = holds ∙ ap Some written;
+      rests = λ c left. (rest c left).0;
+    };
+    any_moment = replacing span;
+    reads = reads_in reads;
+    passed = subst (λ n. HavePassed n start now) (eight (content old) (Some text) (record_text before) ready.holds) passed;
+    quiet = quiet;
+  }
+
+  pub lost : (call : Call) → Span start now (IsOldOrNew start old.area (content old) (Some text))
+      → ReadsOutsideArea old.area start now → IsStopped old.area (content old) (Some text) start now
+      → ((l m : ℕ) → start.passed ≡ Some l → now.passed ≡ Some m → m < l + calls_of (content old) (Some text))
+      → ((n : ℕ) → start.fate ≡ some_pass n → now.fate ≡ some_pass 0) → Rose (start.faults call) (now.faults call)
+      → IsLost before after call start now
+  lost call span reads stopped few ended rose = record {
+    any_moment = replacing span;
+    reads = reads_in reads;
+    stopped =
+        subst (λ (a : Area). IsStopped a (Some (record_text before)) (Some (record_text after)) start now) ready.area
+        (subst (λ o. IsStopped old.area o (Some (record_text after)) start now) ready.holds
+        (subst (λ t. IsStopped old.area (content old) (Some t) start now) written stopped));
+    few = λ l m was is.
+        subst (λ n. m < l + n) (eight (content old) (Some text) (record_text before) ready.holds) (few l m was is);
+    ended = ended;
+    rose = rose;
+  }

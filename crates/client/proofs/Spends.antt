@@ -1,0 +1,97 @@
+-- A call that is acknowledged uses up the key of its position.
+use Rattle.std.proofs.Common.{Bool, Err, List, None, Ok, Option, Result, Some, ap, false, inl, inr, sym, true, ℕ, ◌∙◌, ◌≡◌}
+use Rattle.std.specs.Prelude.{IfOk, is_none, length, ◌&&◌}
+use Rattle.dr_base.specs.declared.position.Position.{Position}
+use Rattle.dr_base.specs.declared.position.Side.{Side}
+use Rattle.dr_disk.specs.State.{DiskState}
+use Rattle.dr_model.specs.Machines.Acts.{act_in, act_on, needs_seed, saying, taking}
+use Rattle.dr_model.specs.Machines.Worlds.{World, may_say}
+use Rattle.dr_model.specs.Theorems.Acting.{IsFairAct}
+use Rattle.dr_model.specs.Theorems.Fairness.{IsUnforged}
+use Rattle.dr_model.proofs.Saying.SayingChecks.{same_check}
+use Rattle.dr_model.proofs.Worlds.WorldViews.{client_of-kept}
+use Rattle.dr_ports.specs.Seeds.{Seeds}
+use Rattle.kem_laws.specs.Mechanism.{Mechanism}
+use Rattle.session_model.specs.Clients.{Client, say_check}
+use Rattle.session_model.specs.declared.answer.Answer.TheVariants.{Said}
+use Rattle.client.specs.Clients.{ClientNow, IsReady}
+use Rattle.client.specs.Grounds.{Grounds}
+use Rattle.client.specs.InWorlds.{ActsIn, IsIn}
+use Rattle.client.specs.Outcomes.{IsDone, acknowledged, said_as, taken_as}
+use Rattle.client.specs.Saying.{Says, SaysIn, acted, asks_seed, draw_failed, stayed, with_draw, without_draw}
+use Rattle.client.specs.Spent.{IsSpent}
+use Rattle.client.specs.declared.refusals.SayRefusal.{SayRefusal}
+use Rattle.client.specs.declared.refusals.TakeRefusal.{TakeRefusal}
+use Rattle.client.proofs.Lifted.{lift}
+use Rattle.client.proofs.Spending.{said_used, taken_used, used_erased}
+
+-- ---- a packet that was taken
+
+pub take_spends : (k : Mechanism) (grounds : Grounds k) (packet : List ℕ) (old new : ClientNow) (start now : DiskState)
+    (result : Result Position TakeRefusal)
+    → ((w : World) (side : Side) → IsIn k w side old → IsUnforged k w side packet
+    → ActsIn k w side (taking packet) old new start now (taken_as result))
+    → IfOk result (λ p. (w : World) (side : Side) → IsIn k w side old → IsUnforged k w side packet
+    → IsSpent k (act_in k w side (taking packet)).next side p now)
+take_spends k grounds packet old new start now (Err refusal) acts = tt
+take_spends k grounds packet old new start now (Ok p) acts = λ w side is unforged.
+    let done = acts w side is unforged in
+    let used = inl (taken_used k w side packet p done.0) in
+    record { used = used; erased = used_erased k grounds.erased (act_in k w side (taking packet)).next side p now done.1.lawful done.3 used }
+
+-- ---- a text that was said
+
+-- an unclosed client asks for a seed where the machine needs one
+asked : (k : Mechanism) (w : World) (side : Side) (client : ClientNow) (len : ℕ) (asks : Bool) → IsIn k w side client
+    → asks_seed client len ≡ asks → client.closed ≡ None → asks ≡ needs_seed (may_say k w side len)
+asked k w side client len asks is e unclosed =
+    sym e
+    ∙ ap (λ closed. is_none closed && needs_seed (say_check client.kept len)) unclosed
+    ∙ ap (λ (c : Client). needs_seed (say_check c len)) (is.keeps ∙ sym (client_of-kept k w side))
+    ∙ ap needs_seed (same_check k w side len is.lawful)
+
+module _ (k : Mechanism) (grounds : Grounds k) (w : World) (side : Side) (text : List ℕ) (old new : ClientNow)
+    (is : IsIn k w side old) {X W : Type 0} (state : X → DiskState) (coming : W → Option Seeds) (faults : W → ℕ)
+    (start now : X) (source left : W) (ready : old.closed ≡ None → IsReady old.kept old.store (state start)) where
+  fair_without : asks_seed old (length text) ≡ false → old.closed ≡ None → IsFairAct k w side (saying text None)
+  fair_without none unclosed = record { needed = asked k w side old (length text) false is none unclosed; whole = tt }
+
+  fair_with : (seed : List ℕ) → asks_seed old (length text) ≡ true → length seed ≡ 32 → old.closed ≡ None
+      → IsFairAct k w side (saying text (Some seed))
+  fair_with seed asks long unclosed = record { needed = asked k w side old (length text) true is asks unclosed; whole = long }
+
+  pub says_in : (result : Result Position SayRefusal) → Says state coming faults k text old new start now source left result
+      → SaysIn k w side text old new (state start) (state now) (said_as result)
+  says_in result (without_draw r none same acts) =
+      acted (said_as r) None (fair_without none)
+      (lift k grounds w side (saying text None) old new is state start now ready (fair_without none) (said_as r) acts)
+  says_in result (with_draw r seed asks long drew quiet acts back) =
+      acted (said_as r) (Some seed.bytes) (fair_with seed.bytes asks long)
+      (lift k grounds w side (saying text (Some seed.bytes)) old new is state start now ready
+      (fair_with seed.bytes asks long) (said_as r) acts)
+  says_in result (draw_failed asks rose same stays leaves) = stayed stays
+
+  done_spends : (draw : Option (List ℕ)) (p : Position) → (old.closed ≡ None → IsFairAct k w side (saying text draw))
+      → IsDone (act_on k old.kept (saying text draw)) old new (state start) (state now) (Said p)
+      → IsSpent k (act_in k w side (saying text draw)).next side p (state now)
+  done_spends draw p fair acts =
+      let next = (act_in k w side (saying text draw)).next in
+      let worlds = lift k grounds w side (saying text draw) old new is state start now ready fair (acknowledged (Said p)) acts in
+      let used = inr (said_used k next side old.kept new.kept text draw p acts.made_is worlds.1.lawful worlds.1.keeps) in
+      record { used = used; erased = used_erased k grounds.erased next side p (state now) worlds.1.lawful worlds.3 used }
+
+  pub say_spends : (result : Result Position SayRefusal)
+      → Says state coming faults k text old new start now source left result
+      → IfOk result (λ p. (draw : Option (List ℕ)) × IsSpent k (act_in k w side (saying text draw)).next side p (state now))
+  say_spends result (without_draw (Ok p) none same acts) = (None, done_spends None p (fair_without none) acts)
+  say_spends result (without_draw (Err e) none same acts) = tt
+  say_spends result (with_draw (Ok p) seed asks long drew quiet acts back) =
+      (Some seed.bytes, done_spends (Some seed.bytes) p (fair_with seed.bytes asks long) acts)
+  say_spends result (with_draw (Err e) seed asks long drew quiet acts back) = tt
+  say_spends result (draw_failed asks rose same stays leaves) = tt
+
+pub if_ok : (P : World → Side → Position → Type 0) (Q : World → Side → Type 0) (result : Result Position SayRefusal)
+    → ((w : World) (side : Side) → Q w side → IfOk result (P w side))
+    → IfOk result (λ p. (w : World) (side : Side) → Q w side → P w side p)
+if_ok P Q (Err e) all = tt
+if_ok P Q (Ok p) all = all

@@ -1,0 +1,11 @@
+use Rattle.dr_model.specs.Machines.Acts.{finishing}
+use Rattle.session_model.specs.declared.answer.Answer.TheVariants.{Done}
+use Rattle.client.specs.Outcomes.{dropped_as}
+use Rattle.client.proofs.Lifted.{lift}
+use Rattle.client.proofs.client.Client.done.Goals as goal
+
+pub returns-clause-in_worlds : goal.returns-clause-in_worlds
+returns-clause-in_worlds g c = λ w side is.
+    lift g.K.Kem.mechanism c.grounds.ensures w side (finishing c.args.n) c.args.self.now c.done_exact.new.self is
+    g.D.Disk.state c.args.disk.now c.done_exact.new.disk c.requires (λ _. tt) (dropped_as (Done c.args.n) c.done_exact.result)
+    c.done_exact.ensures.exact

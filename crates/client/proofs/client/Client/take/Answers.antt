@@ -1,0 +1,20 @@
+use Rattle.dr_model.specs.Machines.Acts.{taking}
+use Rattle.client.specs.Outcomes.{taken_as}
+use Rattle.client.proofs.Lifted.{lift}
+use Rattle.client.proofs.Spends.{take_spends}
+use Rattle.client.proofs.client.Client.take.Goals as goal
+
+pub returns-clause-in_worlds : goal.returns-clause-in_worlds
+returns-clause-in_worlds g c = λ w side is unforged.
+    lift g.K.Kem.mechanism c.grounds.ensures w side (taking c.args.packet.now) c.args.self.now c.take_exact.new.self is
+    g.D.Disk.state c.args.disk.now c.take_exact.new.disk c.requires (λ _. unforged) (taken_as c.take_exact.result)
+    c.take_exact.ensures.exact
+
+pub returns-clause-spent : goal.returns-clause-spent
+returns-clause-spent g c =
+    take_spends g.K.Kem.mechanism c.grounds.ensures c.args.packet.now c.args.self.now c.take_exact.new.self
+    (g.D.Disk.state c.args.disk.now) (g.D.Disk.state c.take_exact.new.disk) c.take_exact.result
+    (λ w side is unforged.
+    lift g.K.Kem.mechanism c.grounds.ensures w side (taking c.args.packet.now) c.args.self.now c.take_exact.new.self is
+    g.D.Disk.state c.args.disk.now c.take_exact.new.disk c.requires (λ _. unforged) (taken_as c.take_exact.result)
+    c.take_exact.ensures.exact)

@@ -1,0 +1,18 @@
+use Rattle.session_record.specs.Changes.{changed}
+use Rattle.session_record.specs.Record.{client_of}
+use Rattle.client.proofs.Replaced.{kept, lost}
+use Rattle.client.proofs.keeping.keep.Goals as goal
+
+pub returns-in-Ok-clause-kept : goal.returns-in-Ok-clause-kept
+returns-in-Ok-clause-kept g c = λ before ready.
+    kept before (changed g.K.Kem.mechanism (client_of c.args.part.now c.args.inbox.now c.args.outbox.now) c.args.change.now)
+    c.args.store.now _ (g.D.Disk.state c.args.disk.now) (g.D.Disk.state c.replace.new.disk) ready c.encode-len.ensures.written
+    c.replace.new.self c.replace.ensures.any_moment c.in-Ok.ensures.done c.replace.ensures.reads c.in-Ok.ensures.holds
+    c.replace.ensures.same c.in-Ok.ensures.passed c.in-Ok.ensures.quiet
+
+pub returns-in-Err-clause-lost : goal.returns-in-Err-clause-lost
+returns-in-Err-clause-lost g c = λ before ready.
+    lost before (changed g.K.Kem.mechanism (client_of c.args.part.now c.args.inbox.now c.args.outbox.now) c.args.change.now)
+    c.args.store.now _ (g.D.Disk.state c.args.disk.now) (g.D.Disk.state c.replace.new.disk) ready c.encode-len.ensures.written
+    c.in-Err.fault.call c.replace.ensures.any_moment c.replace.ensures.reads c.in-Err.ensures.stopped c.in-Err.ensures.few
+    c.in-Err.ensures.ended c.in-Err.ensures.fault

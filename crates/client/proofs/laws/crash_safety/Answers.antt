@@ -1,0 +1,5 @@
+use Rattle.client.proofs.Standing.{stands}
+use Rattle.client.proofs.laws.crash_safety.Goals as goal
+
+pub returns : goal.returns
+returns g c = stands g.D.Disk.state c.args.moments.now

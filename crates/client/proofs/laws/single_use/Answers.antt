@@ -1,0 +1,5 @@
+use Rattle.client.proofs.OnePacket.{one_packet}
+use Rattle.client.proofs.laws.single_use.Goals as goal
+
+pub returns : goal.returns
+returns g c = one_packet g.D.Disk.state c.args.moments.now

@@ -1,0 +1,28 @@
+-- A client on a disk.
+use Rattle.std.specs.Prelude.{Option, Some, ◌≡◌}
+use Rattle.dr_disk.specs.State.{Always, DiskState}
+use Rattle.dr_disk.specs.declared.call.Call.{Call}
+use Rattle.session_model.specs.Clients.{Client}
+use Rattle.session_record.specs.Record.{record_text}
+use Rattle.slot_store.specs.Store.{IsWithin, Rests, content}
+use Rattle.slot_store.specs.declared.area.Area.{Area}
+use Rattle.slot_store.specs.declared.store.SlotStore.{SlotStore}
+use Rattle.client.specs.declared.client.TheConstants.{SLOT}
+
+-- where a client lies on its disk
+abbrev pub client_area : Area
+client_area = record { start = 0; slot = SLOT }
+
+pub record ClientNow : Type 0 where
+  -- what it keeps
+  pub kept : Client
+  pub store : SlotStore
+  -- the call on the disk that closed it
+  pub closed : Option Call
+
+-- the disk is at rest for the record of what is kept
+pub record IsReady (kept : Client) (store : SlotStore) (disk : DiskState) : Type 0 where
+  pub area : store.area ≡ client_area
+  pub within : IsWithin client_area disk
+  pub holds : content store ≡ Some (record_text kept)
+  pub rests : Always (Rests store) disk

@@ -1,0 +1,7 @@
+pub mod Clients
+pub mod Outcomes
+pub mod InWorlds
+pub mod Saying
+pub mod Spent
+pub mod Grounds
+pub mod Moments

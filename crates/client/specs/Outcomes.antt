@@ -1,0 +1,123 @@
+-- What a call on a client does, by how it ends.
+use Rattle.std.specs.Prelude.{Err, None, Ok, Result, Some, Bool, true, false, ℕ, ◌+◌, ◌<◌, ◌≡◌}
+use Rattle.dr_base.specs.Causes.{Rose}
+use Rattle.dr_base.specs.declared.position.Position.{Position}
+use Rattle.dr_disk.specs.Spans.{HavePassed, IsQuiet, Span}
+use Rattle.dr_disk.specs.State.{DiskState, all_pass, some_pass}
+use Rattle.dr_disk.specs.declared.call.Call.{Call}
+use Rattle.dr_model.specs.Machines.Steps.{Step, has_effect, step}
+use Rattle.session_model.specs.Clients.{Client}
+use Rattle.session_model.specs.declared.answer.Answer.{Answer}
+use Rattle.session_model.specs.declared.answer.Answer.TheVariants.{Opened, Said}
+use Rattle.session_model.specs.declared.answer.Refusal.{Refusal}
+use Rattle.session_model.specs.declared.answer.Refusal.TheVariants.{Fewer, NoPair}
+use Rattle.session_record.specs.Record.{record_text}
+use Rattle.slot_store.specs.Stops.{IsStopped}
+use Rattle.slot_store.specs.Store.{IsOldOrNew, ReadsOutsideArea}
+use Rattle.slot_store.specs.declared.store.SlotStore.{SlotStore}
+use Rattle.client.specs.Clients.{ClientNow, IsReady, client_area}
+use Rattle.client.specs.declared.refusals.DropRefusal.{DropRefusal}
+use Rattle.client.specs.declared.refusals.DropRefusal.TheVariants.{Closed as DropClosed, Fewer as DropFewer, StoreFault as DropFault}
+use Rattle.client.specs.declared.refusals.SayRefusal.{SayRefusal}
+use Rattle.client.specs.declared.refusals.SayRefusal.TheVariants.{Closed as SayClosed, DrawFault, NoPair as SayNoPair, Refused as SayRefused, StoreFault as SayFault}
+use Rattle.client.specs.declared.refusals.TakeRefusal.{TakeRefusal}
+use Rattle.client.specs.declared.refusals.TakeRefusal.TheVariants.{Closed as TakeClosed, Refused as TakeRefused, StoreFault as TakeFault}
+
+-- how a call ends
+pub data Outcome : Type 0 where
+  -- the client was closed before, by a call of this kind
+  is_closed : (call : Call) → Outcome
+  refused : (refusal : Refusal) → Outcome
+  -- a seed was needed, and none could be drawn
+  undrawn : Outcome
+  acknowledged : (answer : Answer) → Outcome
+  -- a call on the disk failed, of this kind
+  faulted : (call : Call) → Outcome
+
+abbrev pub said_as : Result Position SayRefusal → Outcome
+said_as (Ok position) = acknowledged (Said position)
+said_as (Err (SayClosed call)) = is_closed call
+said_as (Err (SayRefused refusal)) = refused refusal
+said_as (Err DrawFault) = undrawn
+said_as (Err (SayNoPair seed)) = refused NoPair
+said_as (Err (SayFault call)) = faulted call
+
+abbrev pub taken_as : Result Position TakeRefusal → Outcome
+taken_as (Ok position) = acknowledged (Opened position)
+taken_as (Err (TakeClosed call)) = is_closed call
+taken_as (Err (TakeRefused refusal)) = refused refusal
+taken_as (Err (TakeFault call)) = faulted call
+
+abbrev pub dropped_as : Answer → Result Unit DropRefusal → Outcome
+dropped_as answer (Ok done) = acknowledged answer
+dropped_as answer (Err (DropClosed call)) = is_closed call
+dropped_as answer (Err (DropFewer held)) = refused (Fewer held)
+dropped_as answer (Err (DropFault call)) = faulted call
+
+-- ---- what happened to the disk while one record was replaced by another
+
+-- each crash leaves the one or the other, with all outside the area as it was
+abbrev pub IsReplacing : Client → Client → DiskState → DiskState → Type 0
+IsReplacing before after start now =
+    Span start now (IsOldOrNew start client_area (Some (record_text before)) (Some (record_text after)))
+
+-- it was replaced, by eight writes and syncs, and the disk is at rest
+pub record IsKept (before after : Client) (store : SlotStore) (start now : DiskState) : Type 0 where
+  pub ready : IsReady after store now
+  pub any_moment : IsReplacing before after start now
+  pub reads : ReadsOutsideArea client_area start now
+  pub passed : HavePassed 8 start now
+  pub quiet : IsQuiet start now
+
+-- a call on the disk failed meanwhile, of this kind
+pub record IsLost (before after : Client) (call : Call) (start now : DiskState) : Type 0 where
+  pub any_moment : IsReplacing before after start now
+  pub reads : ReadsOutsideArea client_area start now
+  -- by how many writes and syncs passed: which of the two records each crash leaves, and a read gives
+  pub stopped : IsStopped client_area (Some (record_text before)) (Some (record_text after)) start now
+  pub few : (l m : ℕ) → start.passed ≡ Some l → now.passed ≡ Some m → m < l + 8
+  pub ended : (n : ℕ) → start.fate ≡ some_pass n → now.fate ≡ some_pass 0
+  pub rose : Rose (start.faults call) (now.faults call)
+
+-- ---- what a call does, over what its step makes of what the client keeps
+
+-- the step took effect, and its record is on the disk
+pub record IsDone (made : Result (Step Client) Refusal) (old new : ClientNow) (start now : DiskState) (answer : Answer) : Type 0 where
+  pub made_is : made ≡ Ok (step answer new.kept)
+  pub was_open : old.closed ≡ None
+  pub stays_open : new.closed ≡ None
+  pub disk : IsKept old.kept new.kept new.store start now
+
+-- the step changed nothing, and no call on the disk was made
+abbrev pub IsIdle : {X : Type 0} → Result (Step Client) Refusal → ClientNow → ClientNow → X → X → Answer → Type 0
+IsIdle made old new start now answer =
+    (made ≡ Ok (step answer new.kept)) × (old.closed ≡ None) × (new ≡ old) × (now ≡ start)
+
+-- a call on the disk failed: the client is closed, and keeps what it kept
+pub record IsCutOff (made : Result (Step Client) Refusal) (old new : ClientNow) (start now : DiskState) (call : Call) : Type 0 where
+  pub next : Step Client
+  pub made_is : made ≡ Ok next
+  pub was_open : old.closed ≡ None
+  pub closes : new.closed ≡ Some call
+  pub keeps : new.kept ≡ old.kept
+  pub disk : IsLost old.kept next.next call start now
+
+abbrev pub IsEffected : {X : Type 0} → (X → DiskState) → Bool → Result (Step Client) Refusal → ClientNow → ClientNow → X → X → Answer → Type 0
+IsEffected state true made old new start now answer = IsDone made old new (state start) (state now) answer
+IsEffected state false made old new start now answer = IsIdle made old new start now answer
+
+-- Just this: nothing is changed and no call on the disk is made where the client is closed, or the step is refused.
+abbrev pub Acts : {X : Type 0} → (X → DiskState) → Result (Step Client) Refusal → ClientNow → ClientNow → X → X → Outcome → Type 0
+Acts state made old new start now (is_closed call) = (old.closed ≡ Some call) × (new ≡ old) × (now ≡ start)
+Acts state made old new start now (refused refusal) = (old.closed ≡ None) × (made ≡ Err refusal) × (new ≡ old) × (now ≡ start)
+Acts state made old new start now undrawn = ⊥
+Acts state made old new start now (acknowledged answer) = IsEffected state (has_effect answer) made old new start now answer
+Acts state made old new start now (faulted call) = IsCutOff made old new (state start) (state now) call
+
+-- where all calls on the disk pass, none has failed, and all pass from then on
+abbrev pub IsPassed : Outcome → Type 0
+IsPassed (faulted call) = ⊥
+IsPassed outcome = Unit {0}
+
+abbrev pub Passes : DiskState → DiskState → Outcome → Type 0
+Passes start now outcome = start.fate ≡ all_pass → IsPassed outcome × (now.fate ≡ all_pass)

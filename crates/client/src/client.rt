@@ -1,0 +1,81 @@
+//! The client, and what it shows.
+
+ghost use Rattle.std.specs.Prelude.{◌≡◌, ◌↔◌, ◌<◌, length, option_map, slice_get, IsSome};
+
+use boxes::{Entry, Inbox, Outbox};
+use dr_base::Position;
+use dr_disk::Call;
+use kem_laws::Kem;
+use ratchet::Session;
+use session_model::Summary;
+use session_record::RECORD_LIMIT;
+use slot_store::SlotStore;
+use std::marker::Model;
+
+/// The size of a slot of a client's area, in bytes. The area begins at 0 and has two slots.
+pub const SLOT: u32 = 196608;
+
+/// A side of a conversation on a disk, which each call is lent as the last one left it. A contract sees what it keeps,
+/// its store, and the call on the disk that closed it. It takes all its memory when it is begun or opened.
+#[derive(Drop)]
+pub struct Client<K: Kem> {
+    pub(crate) session: Session<K>,
+    pub(crate) inbox: Inbox,
+    pub(crate) outbox: Outbox,
+    pub(crate) store: SlotStore,
+    pub(crate) work: K::Work,
+    /// The room in which a record is put together.
+    pub(crate) text: Vec<u8>,
+    pub(crate) closed: Option<Call>,
+}
+
+impl<K: Kem> Model for Client<K> {
+    ghost use Rattle.std.specs.Prelude.{◌≡◌, length};
+    ghost use Rattle.session_record.specs.declared.limits.TheConstants.{RECORD_LIMIT};
+    ghost use Rattle.client.specs.Clients.{ClientNow};
+
+    ghost Value = { ClientNow };
+
+    ghost view = { λ c. record {
+      kept = record { state = c.session; inbox = c.inbox; outbox = c.outbox };
+      store = c.store;
+      closed = c.closed;
+    } };
+
+    ghost invariant = { λ c. length c.text.items ≡ RECORD_LIMIT };
+}
+
+impl<K: Kem> Client<K> {
+    ghost use Rattle.boxes.specs.Items.{item_at};
+    ghost use Rattle.boxes.specs.Seen.{entry_item};
+    ghost use Rattle.session_model.specs.Clients.{summary_of};
+
+    /// The text of the inbox at a place, from 0, the oldest first.
+    pub fn inbox(&self, at: usize) -> Option<Entry<'_>>
+        ensures variant { IsSome result ↔ (at < length self.now.kept.inbox) }
+        ensures entry { option_map entry_item result ≡ slice_get self.now.kept.inbox at }
+    {
+        self.inbox.at(at)
+    }
+
+    /// The packet of the outbox at a place, from 0, the oldest first. No other call hands a packet out.
+    pub fn outbox(&self, at: usize) -> Option<(Position, &[u8])>
+        ensures variant { IsSome result ↔ (at < length self.now.kept.outbox) }
+        ensures packet { option_map (λ pair. item_at pair.0 pair.1.now) result ≡ slice_get self.now.kept.outbox at }
+    {
+        self.outbox.at(at)
+    }
+
+    /// What the client holds, in numbers.
+    pub fn state(&self) -> Summary
+        ensures { result ≡ summary_of self.now.kept }
+    {
+        let part = self.session.part();
+        Summary {
+            epoch: part.epoch,
+            missing: part.kept.len() as u32,
+            inbox: self.inbox.len(),
+            outbox: self.outbox.len(),
+        }
+    }
+}

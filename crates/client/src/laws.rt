@@ -1,0 +1,60 @@
+//! What holds over whole runs. The functions have no code: a caller that needs a fact calls them.
+
+ghost use Rattle.std.specs.Prelude.{◌≡◌, ◌≤◌, ℕ, Some, slice_get};
+ghost use Rattle.boxes.specs.Items.{Item};
+ghost use Rattle.dr_base.specs.declared.position.Position.{Position};
+ghost use Rattle.dr_base.specs.declared.position.Side.{Side};
+ghost use Rattle.dr_model.specs.Machines.WorldSides.{kept_in};
+ghost use Rattle.dr_model.specs.Machines.Worlds.{World};
+ghost use Rattle.dr_model.specs.Theorems.LawfulWorlds.{IsLawfulWorld};
+ghost use Rattle.kem_laws.specs.Mechanism.{Mechanism};
+ghost use Rattle.client.specs.Grounds.{Grounds};
+ghost use Rattle.client.specs.Moments.{AreLinked, Known, StandsStill};
+ghost use Rattle.client.specs.Spent.{IsErasedOn, IsUsed};
+
+use dr_disk::Disk;
+use dr_model::{acts_follow, erasure};
+use kem_laws::{Kem, laws};
+use session_record::record_law;
+use slot_store::resting;
+
+/// Over acts, failing calls, crashes and openings in any order: at each moment every image of the disk stands for the
+/// world that was acknowledged or opened last, or for the one that the act in doubt would have led to.
+pub fn crash_safety<D: Disk>(moments: &[D])
+    ensures { (k : Mechanism) (side : Side) (first : World) (known : ℕ → Known)
+        → AreLinked D.state moments.now k side first known
+        → (n : ℕ) (a : D) → slice_get moments.now n ≡ Some a → StandsStill k side first (known n) (D.state a) }
+{}
+
+/// Whatever failed, crashed and was opened again between: two packets of one position that stand in the outbox of the
+/// world that was acknowledged or opened last are the same.
+pub fn single_use<D: Disk>(moments: &[D])
+    ensures { (k : Mechanism) (side : Side) (first : World) (known : ℕ → Known)
+        → IsLawfulWorld k first → AreLinked D.state moments.now k side first known
+        → (n m : ℕ) (b : D) → n ≤ m → slice_get moments.now m ≡ Some b → (at again : ℕ) (post later : Item)
+        → slice_get (kept_in k (known n).last side).outbox at ≡ Some post
+        → slice_get (kept_in k (known m).last side).outbox again ≡ Some later
+        → post.position ≡ later.position → later ≡ post }
+{}
+
+/// Whatever failed, crashed and was opened again since: no image of the disk is read as a state that gives the message key
+/// of a position that was used in the world that was acknowledged or opened last.
+pub fn used_keys_stay_erased<D: Disk>(moments: &[D])
+    ensures { (k : Mechanism) (side : Side) (first : World) (known : ℕ → Known)
+        → IsLawfulWorld k first → AreLinked D.state moments.now k side first known
+        → (n m : ℕ) (b : D) → n ≤ m → slice_get moments.now m ≡ Some b
+        → (p : Position) → IsUsed (known n).last side p → IsErasedOn k p (D.state b) }
+{
+    erasure();
+}
+
+/// The laws on which a client's claims rest.
+pub(crate) fn grounds<K: Kem>()
+    ensures { Grounds K.mechanism }
+{
+    laws::<K>();
+    acts_follow();
+    erasure();
+    record_law();
+    resting();
+}

@@ -1,0 +1,17 @@
+//! One side of a conversation, kept on a disk: a session with its boxes, whose whole state is one record in two slots.
+//!
+//! Each call that changes something replaces the record before it answers, so a crash at any moment leaves the state
+//! before the call or the one after it. A call on the disk that fails closes the client, and the disk is opened again.
+#![tactic(auto)]
+
+pub use client::{Client, SLOT};
+pub use laws::{crash_safety, single_use, used_keys_stay_erased};
+pub use refusals::{DropRefusal, SayRefusal, TakeRefusal};
+
+mod client;
+mod dropping;
+mod keeping;
+mod laws;
+mod refusals;
+mod saying;
+mod taking;

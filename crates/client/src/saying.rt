@@ -1,0 +1,166 @@
+//! Texts are said.
+
+ghost use Rattle.std.specs.Prelude.{◌≡◌, ◌<◌, ◌++◌, ◌∷◌, ℕ, List, [], Option, None, Some, Ok, IfOk, is_some, length};
+ghost use Rattle.dr_base.specs.declared.position.Side.{Side};
+ghost use Rattle.dr_model.specs.Machines.Acts.{act_in, said_by, saying};
+ghost use Rattle.dr_model.specs.Machines.Worlds.{World};
+ghost use Rattle.ratchet.specs.Seen.{seed_bytes};
+ghost use Rattle.session_model.specs.Clients.{accept_send, say_check, say_on};
+ghost use Rattle.session_model.specs.Drafts.{IsSendDraft};
+ghost use Rattle.session_record.specs.Record.{client_of};
+ghost use Rattle.client.specs.Clients.{IsReady};
+ghost use Rattle.client.specs.InWorlds.{IsIn};
+ghost use Rattle.client.specs.Outcomes.{Acts, Passes, said_as};
+ghost use Rattle.client.specs.Saying.{HandsBack, Says, SaysIn};
+ghost use Rattle.client.specs.Spent.{IsSpent};
+
+use crate::client::Client;
+use crate::keeping::keep;
+use crate::laws::grounds;
+use crate::refusals::SayRefusal;
+use dr_base::{Key32, OUTBOX_LIMIT, Position, TEXT_LIMIT};
+use dr_disk::Disk;
+use dr_ports::Draws;
+use kem_laws::Kem;
+use ratchet::SendDraft;
+use session_model::Refusal;
+use session_record::Change;
+
+impl<K: Kem> Client<K> {
+    /// Whether a text of this length may be said, and then whether that needs a seed.
+    fn say_check(&self, len: usize) -> Result<bool, Refusal>
+        ensures { result ≡ say_check self.now.kept len }
+    {
+        if len > TEXT_LIMIT {
+            return Err(Refusal::TextTooLong(len));
+        }
+        if self.outbox.len() as usize >= OUTBOX_LIMIT {
+            return Err(Refusal::OutboxFull);
+        }
+        match self.session.send_check(len) {
+            Ok(needs_seed) => Ok(needs_seed),
+            Err(refusal) => Err(refusal.into()),
+        }
+    }
+
+    /// Says a text, with a draw exactly where it needs a seed, and puts its packet into the outbox. `Closed` exactly where
+    /// a call on the disk failed before, then the first reason against a text of this length, then `DrawFault` only where
+    /// the draw failed, then `NoPair` exactly where its seed has no pair. None of these changes anything or calls the
+    /// disk. `StoreFault` only where a call on the disk failed: then the client is closed, and shows what it showed.
+    pub fn say<D: Disk, W: Draws>(
+        &mut self,
+        disk: &mut D,
+        text: &[u8],
+        draws: &mut W,
+    ) -> Result<Position, SayRefusal>
+        requires { self.old.closed ≡ None → IsReady self.old.kept self.old.store (D.state disk.old) }
+        // Exactly what the side makes of it, but for a failing draw or call on the disk.
+        ensures exact { Says D.state W.coming W.faults K.mechanism text.now
+            self.old self.new disk.old disk.new draws.old draws.new result }
+        // In each world that the client stands for, at every moment.
+        ensures in_worlds { (w : World) (side : Side) → IsIn K.mechanism w side self.old
+            → SaysIn K.mechanism w side text.now self.old self.new (D.state disk.old) (D.state disk.new) (said_as result) }
+        // Once it is said, the key of its position is used up, and nothing that a crash leaves gives it.
+        ensures spent { IfOk result (λ position. (w : World) (side : Side) → IsIn K.mechanism w side self.old
+            → (draw : Option (List ℕ))
+            × IsSpent K.mechanism (act_in K.mechanism w side (saying text.now draw)).next side position (D.state disk.new)) }
+        ensures fate { Passes (D.state disk.old) (D.state disk.new) (said_as result) }
+    {
+        grounds::<K>();
+        self.say_exact(disk, text, draws)
+    }
+
+    fn say_exact<D: Disk, W: Draws>(
+        &mut self,
+        disk: &mut D,
+        text: &[u8],
+        draws: &mut W,
+    ) -> Result<Position, SayRefusal>
+        requires { self.old.closed ≡ None → IsReady self.old.kept self.old.store (D.state disk.old) }
+        ensures exact { Says D.state W.coming W.faults K.mechanism text.now
+            self.old self.new disk.old disk.new draws.old draws.new result }
+        ensures fate { Passes (D.state disk.old) (D.state disk.new) (said_as result) }
+    {
+        if let Some(call) = self.closed {
+            return Err(SayRefusal::Closed { call });
+        }
+        match self.say_check(text.len()) {
+            Err(refusal) => Err(SayRefusal::Refused(refusal)),
+            Ok(false) => self.speak(disk, text, None),
+            Ok(true) => match draws.draw() {
+                Err(_) => Err(SayRefusal::DrawFault),
+                Ok(seed) => {
+                    // The proof takes the length of the seed from this.
+                    let _bytes = &seed.bytes;
+                    self.speak(disk, text, Some(seed))
+                }
+            },
+        }
+    }
+
+    /// Says a text that may be said, with a seed exactly where it needs one.
+    fn speak<D: Disk>(
+        &mut self,
+        disk: &mut D,
+        text: &[u8],
+        seed: Option<Key32>,
+    ) -> Result<Position, SayRefusal>
+        requires checked { say_check self.old.kept (length text.now) ≡ Ok (is_some seed) }
+        requires open { self.old.closed ≡ None }
+        requires ready { IsReady self.old.kept self.old.store (D.state disk.old) }
+        ensures exact { Acts D.state (said_by (say_on K.mechanism self.old.kept text.now (seed_bytes seed)))
+            self.old self.new disk.old disk.new (said_as result) }
+        ensures seed { HandsBack seed result }
+        ensures fate { Passes (D.state disk.old) (D.state disk.new) (said_as result) }
+    {
+        match self.session.draft_send(&mut self.work, text, seed) {
+            Err(none) => Err(SayRefusal::NoPair { seed: none.seed }),
+            Ok(draft) => self.send(disk, draft),
+        }
+    }
+
+    /// Keeps a text that was drafted, and then puts its packet into the outbox.
+    fn send<D: Disk>(&mut self, disk: &mut D, draft: SendDraft<K>) -> Result<Position, SayRefusal>
+        requires draft { IsSendDraft K.mechanism self.old.kept.state draft }
+        requires room { length self.old.kept.outbox < OUTBOX_LIMIT }
+        requires open { self.old.closed ≡ None }
+        requires ready { IsReady self.old.kept self.old.store (D.state disk.old) }
+        ensures exact { Acts D.state (said_by (accept_send self.old.kept (Some draft))) self.old self.new disk.old disk.new (said_as result) }
+        ensures fate { Passes (D.state disk.old) (D.state disk.new) (said_as result) }
+    {
+        let position = draft.position();
+        match keep(
+            &mut self.store,
+            disk,
+            &mut self.text,
+            draft.part(),
+            &self.inbox,
+            &self.outbox,
+            &Change::Said {
+                packet: draft.packet(),
+            },
+        ) {
+            Err(call) => {
+                draft.discard();
+                self.closed = Some(call);
+                Err(SayRefusal::StoreFault { call })
+            }
+            Ok(()) => {
+                self.accept_said(draft);
+                Ok(position)
+            }
+        }
+    }
+
+    /// Puts the packet of a draft into the outbox, and accepts the draft.
+    fn accept_said(&mut self, draft: SendDraft<K>)
+        requires draft { IsSendDraft K.mechanism self.old.kept.state draft }
+        requires room { length self.old.kept.outbox < OUTBOX_LIMIT }
+        ensures kept { self.new.kept ≡ client_of draft.next self.old.kept.inbox (self.old.kept.outbox ++ draft.post ∷ []) }
+        ensures store { self.new.store ≡ self.old.store }
+        ensures closed { self.new.closed ≡ self.old.closed }
+    {
+        self.outbox.push(draft.position(), draft.packet()).unwrap();
+        draft.accept(&mut self.session);
+    }
+}

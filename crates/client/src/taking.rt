@@ -1,0 +1,110 @@
+//! Packets are taken.
+
+ghost use Rattle.std.specs.Prelude.{◌≡◌, None, Ok, IfOk};
+ghost use Rattle.dr_base.specs.declared.position.Side.{Side};
+ghost use Rattle.dr_model.specs.Machines.Acts.{act_in, act_on, taken_by, taking};
+ghost use Rattle.dr_model.specs.Machines.Worlds.{World};
+ghost use Rattle.dr_model.specs.Theorems.Fairness.{IsUnforged};
+ghost use Rattle.session_model.specs.Clients.{accept_receive};
+ghost use Rattle.session_model.specs.Drafts.{IsReceiveDraft};
+ghost use Rattle.client.specs.Clients.{IsReady};
+ghost use Rattle.client.specs.InWorlds.{ActsIn, IsIn};
+ghost use Rattle.client.specs.Outcomes.{Acts, Passes, taken_as};
+ghost use Rattle.client.specs.Spent.{IsSpent};
+
+use crate::client::Client;
+use crate::keeping::keep;
+use crate::laws::grounds;
+use crate::refusals::TakeRefusal;
+use dr_base::{INBOX_LIMIT, Position};
+use dr_disk::Disk;
+use kem_laws::Kem;
+use packet::parse;
+use ratchet::ReceiveDraft;
+use session_model::Refusal;
+use session_record::Change;
+
+impl<K: Kem> Client<K> {
+    /// Opens the packet that the bytes are, and puts its text into the inbox. `Closed` exactly where a call on the disk
+    /// failed before, then the first reason against the packet, then a full inbox. None of these changes anything or calls
+    /// the disk. `StoreFault` only where a call on the disk failed: then the client is closed, and shows what it showed.
+    pub fn take<D: Disk>(&mut self, disk: &mut D, packet: &[u8]) -> Result<Position, TakeRefusal>
+        requires { self.old.closed ≡ None → IsReady self.old.kept self.old.store (D.state disk.old) }
+        // Exactly what the side makes of it, but for a failing call on the disk.
+        ensures exact { Acts D.state (act_on K.mechanism self.old.kept (taking packet.now))
+            self.old self.new disk.old disk.new (taken_as result) }
+        // In each world that the client stands for, at every moment, where no tag is forged.
+        ensures in_worlds { (w : World) (side : Side) → IsIn K.mechanism w side self.old
+            → IsUnforged K.mechanism w side packet.now
+            → ActsIn K.mechanism w side (taking packet.now) self.old self.new (D.state disk.old) (D.state disk.new)
+            (taken_as result) }
+        // Once it is opened, the key of its position is used up, and nothing that a crash leaves gives it.
+        ensures spent { IfOk result (λ position. (w : World) (side : Side) → IsIn K.mechanism w side self.old
+            → IsUnforged K.mechanism w side packet.now
+            → IsSpent K.mechanism (act_in K.mechanism w side (taking packet.now)).next side position (D.state disk.new)) }
+        ensures fate { Passes (D.state disk.old) (D.state disk.new) (taken_as result) }
+    {
+        grounds::<K>();
+        self.take_exact(disk, packet)
+    }
+
+    #[tactic(auto, unfolding(session_model::specs::Clients::take_on))]
+    fn take_exact<D: Disk>(&mut self, disk: &mut D, packet: &[u8]) -> Result<Position, TakeRefusal>
+        requires { self.old.closed ≡ None → IsReady self.old.kept self.old.store (D.state disk.old) }
+        ensures exact { Acts D.state (act_on K.mechanism self.old.kept (taking packet.now)) self.old self.new disk.old disk.new (taken_as result) }
+        ensures fate { Passes (D.state disk.old) (D.state disk.new) (taken_as result) }
+    {
+        if let Some(call) = self.closed {
+            return Err(TakeRefusal::Closed { call });
+        }
+        match parse(packet, K::CIPHERTEXT + K::PUBLIC) {
+            Err(fault) => Err(TakeRefusal::Refused(Refusal::Malformed(fault))),
+            Ok(view) => match self.session.draft_receive(&mut self.work, &view) {
+                Err(refusal) => Err(TakeRefusal::Refused(refusal.into())),
+                Ok(draft) => self.receive(disk, draft),
+            },
+        }
+    }
+
+    /// Keeps a packet that opens, if the inbox has room for its text.
+    fn receive<D: Disk>(
+        &mut self,
+        disk: &mut D,
+        draft: ReceiveDraft<K>,
+    ) -> Result<Position, TakeRefusal>
+        requires draft { IsReceiveDraft K.mechanism self.old.kept.state draft }
+        requires open { self.old.closed ≡ None }
+        requires ready { IsReady self.old.kept self.old.store (D.state disk.old) }
+        ensures exact { Acts D.state (taken_by (accept_receive self.old.kept (Ok draft))) self.old self.new disk.old disk.new (taken_as result) }
+        ensures fate { Passes (D.state disk.old) (D.state disk.new) (taken_as result) }
+    {
+        if self.inbox.len() as usize >= INBOX_LIMIT {
+            draft.discard();
+            return Err(TakeRefusal::Refused(Refusal::InboxFull));
+        }
+        let position = draft.position();
+        match keep(
+            &mut self.store,
+            disk,
+            &mut self.text,
+            draft.part(),
+            &self.inbox,
+            &self.outbox,
+            &Change::Received {
+                position,
+                text: draft.text(),
+            },
+        ) {
+            Err(call) => {
+                draft.discard();
+                self.closed = Some(call);
+                Err(TakeRefusal::StoreFault { call })
+            }
+            Ok(()) => {
+                self.inbox.push(position, draft.text()).unwrap();
+                draft.accept(&mut self.session);
+                Ok(position)
+            }
+        }
+    }
+}
