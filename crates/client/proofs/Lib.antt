@@ -2,6 +2,7 @@ mod Drawing
 mod LawfulRecords
 mod Lifted
 mod OnePacket
+mod Openings
 mod Replaced
 mod SameRecord
 mod Spending

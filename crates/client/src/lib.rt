@@ -6,12 +6,14 @@
 
 pub use client::{Client, SLOT};
 pub use laws::{crash_safety, single_use, used_keys_stay_erased};
-pub use refusals::{DropRefusal, SayRefusal, TakeRefusal};
+pub use refusals::{DropRefusal, OpenRefusal, SayRefusal, TakeRefusal};
 
 mod client;
 mod dropping;
 mod keeping;
 mod laws;
+mod opening;
 mod refusals;
+mod room;
 mod saying;
 mod taking;

@@ -1,0 +1,27 @@
+use Rattle.std.proofs.Common.{ap, subst, sym, ◌∙◌}
+use Rattle.slot_store.specs.Found.{found_as}
+use Rattle.slot_store.specs.Store.{content}
+use Rattle.client.specs.Opening.{IsUnopened}
+use Rattle.client.proofs.Openings.{opened, unopened}
+use Rattle.client.proofs.client.Client.open_exact.Goals as goal
+
+pub returns-in-Err-clause-unopened : goal.returns-in-Err-clause-unopened
+returns-in-Err-clause-unopened g c =
+    let k = g.K.Kem.mechanism in
+    subst (IsUnopened g.D.Disk.state k c.args.disk.now c.open.new.disk) (sym c.refusal.ensures)
+    (unopened g.D.Disk.state k c.args.disk.now c.open.new.disk c.in-Err.error c.in-Err.ensures.damaged c.in-Err.ensures.memory
+    c.in-Err.ensures.fault)
+
+pub returns-in-NoContent-clause-unopened : goal.returns-in-NoContent-clause-unopened
+returns-in-NoContent-clause-unopened g c = (
+  λ s told. c.in-Ok-open.ensures.read s told ∙ ap (λ f. found_as f (content c.in-Ok-open.store)) c.in-NoContent.is,
+  c.in-Ok-open.ensures.quiet,
+)
+
+pub returns-in-Content-clause-opened : goal.returns-in-Content-clause-opened
+returns-in-Content-clause-opened g c =
+    opened g.K.Kem.mechanism c.readings.ensures c.in-Ok-open.found c.in-Ok-open.store c.client_in.result
+    (g.D.Disk.state c.args.disk.now) (g.D.Disk.state c.open.new.disk) c.in-Content.is c.client_in.ensures.open
+    c.client_in.ensures.store c.in-Ok-open.ensures.area c.requires c.client_in.ensures.holds c.client_in.ensures.read
+    c.in-Ok-open.ensures.read c.open.ensures.any_moment c.in-Ok-open.ensures.at_rest c.in-Ok-open.ensures.settled
+    c.in-Ok-open.ensures.quiet

@@ -1,0 +1,69 @@
+-- What opening a client, or beginning one, does.
+use Rattle.std.specs.Prelude.{Err, IfOk, List, None, Ok, Option, Result, Some, option_map, ℕ, ◌≡◌, ◌⊎◌}
+use Rattle.dr_base.specs.Causes.{Rose}
+use Rattle.dr_base.specs.declared.position.Side.{Side}
+use Rattle.dr_disk.specs.Spans.{IsQuiet, Span}
+use Rattle.dr_disk.specs.State.{Always, DiskState, IsSettled}
+use Rattle.dr_disk.specs.declared.call.Call.{Call}
+use Rattle.dr_model.specs.Machines.Worlds.{World}
+use Rattle.kem_laws.specs.Mechanism.{Mechanism}
+use Rattle.session_model.specs.Clients.{Client}
+use Rattle.session_record.specs.Record.{record_read}
+use Rattle.slot_store.specs.Reading.{IsLikeRead, Reading, damaged, no_content, reading}
+use Rattle.slot_store.specs.Slots.{recovered}
+use Rattle.slot_store.specs.declared.errors.OpenError.{OpenError}
+use Rattle.slot_store.specs.declared.errors.OpenError.TheVariants.{Damaged as StoreDamaged, Memory as StoreMemory, StoreFault as DiskFault}
+use Rattle.client.specs.Clients.{ClientNow, IsReady, client_area}
+use Rattle.client.specs.InWorlds.{IsIn, StandsFor}
+use Rattle.client.specs.declared.refusals.OpenRefusal.{OpenRefusal}
+use Rattle.client.specs.declared.refusals.OpenRefusal.TheVariants.{Damaged, Memory, NoSession, StoreFault}
+
+-- the place of the first fault of a text that is no record
+abbrev pub fault_of : Result Client ℕ → Option ℕ
+fault_of (Ok client) = None
+fault_of (Err at) = Some at
+
+abbrev pub record_fault : Mechanism → List ℕ → Option ℕ
+record_fault k text = fault_of (record_read k text)
+
+-- what a read gives is read as this
+abbrev pub IsReadAs : Mechanism → DiskState → Reading → Type 0
+IsReadAs k disk verdict = (s : List ℕ) → disk.seen ≡ Some s → reading (record_fault k) client_area s ≡ verdict
+
+-- why a store's opening refuses a client
+abbrev pub open_refusal : OpenError → OpenRefusal
+open_refusal StoreMemory = Memory
+open_refusal (DiskFault call) = StoreFault call
+open_refusal (StoreDamaged slot at) = Damaged slot at
+
+-- A client that was opened keeps what was read. Each image is like what was read, and at rest.
+pub record IsOpened (k : Mechanism) (client : ClientNow) (start now : DiskState) : Type 0 where
+  pub is_open : client.closed ≡ None
+  pub ready : IsReady client.kept client.store now
+  pub read : (s : List ℕ) → start.seen ≡ Some s
+      → option_map (record_read k) (recovered client_area s) ≡ Some (Ok client.kept)
+  pub alike : Always (IsLikeRead client_area start) now
+  pub settled : IsSettled now
+  pub quiet : IsQuiet start now
+
+-- why no client was opened
+abbrev pub IsUnopened : {X : Type 0} → (X → DiskState) → Mechanism → X → X → OpenRefusal → Type 0
+IsUnopened state k start now Memory = now ≡ start
+IsUnopened state k start now (StoreFault call) = Rose ((state start).faults call) ((state now).faults call)
+IsUnopened state k start now (Damaged slot at) = IsReadAs k (state start) (damaged slot at) × IsQuiet (state start) (state now)
+IsUnopened state k start now NoSession = IsReadAs k (state start) no_content × IsQuiet (state start) (state now)
+
+-- what a read gives stands for a side of a world
+pub record Reads (k : Mechanism) (w : World) (side : Side) (disk : DiskState) : Type 0 where
+  pub bytes : List ℕ
+  pub told : disk.seen ≡ Some bytes
+  pub stands : StandsFor k w side bytes
+
+-- Opening a client in the world that a read stands for: the client keeps a side of it, and each image stands for it.
+-- Meanwhile, and in each ending, a crash leaves what one might have left at entry, or what stands for it, and a read gives
+-- what does.
+pub record OpensIn (k : Mechanism) (w : World) (side : Side) (start now : DiskState) (result : Result ClientNow OpenRefusal)
+    : Type 0 where
+  pub client : IfOk result (λ client. IsIn k w side client × Always (StandsFor k w side) now)
+  pub any_moment : Span start now (λ c. start.image c ⊎ StandsFor k w side c)
+  pub reads : (s : List ℕ) → now.seen ≡ Some s → StandsFor k w side s
