@@ -6,7 +6,7 @@ use Rattle.cka.specs.Agreement.{agreement_size}
 use Rattle.dr_base.specs.Position.{is_own}
 use Rattle.dr_base.specs.declared.position.Position.{Position}
 use Rattle.dr_base.specs.declared.position.Side.{Side}
-use Rattle.etm_aead.specs.Chain.{chain_message_key, chain_of, message_key}
+use Rattle.fs_aead.specs.Chain.{chain_message_key, chain_of, message_key}
 use Rattle.hmac_hkdf.proofs.Lengths.{length-hmac_of}
 use Rattle.kem_laws.specs.Mechanism.{IsLawfulMechanism, Mechanism}
 use Rattle.packet.specs.Packet.{agreement_len}
