@@ -1,12 +1,13 @@
 //! Places in groups of 16. Rows are added in whole groups, so that the length of the loop changes once in 16 rows and
 //! not with each: processors guess it then.
-ghost use Rattle.std.specs.Prelude.{◌≤◌};
+ghost use Rattle.std.specs.Prelude.{◌≡◌, ◌≤◌, ◌*◌, ◌/◌};
 
 const GROUP: usize = 16;
 
 /// The first place of the group of a place.
 pub fn group_start(place: usize) -> usize
-    ensures { result ≤ place }
+    ensures before { result ≤ place }
+    ensures group { result ≡ GROUP * (place / GROUP) }
 {
     place - place % GROUP
 }
