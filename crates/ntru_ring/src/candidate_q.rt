@@ -11,7 +11,7 @@
 //!
 //! No clause says what the candidate is: whoever asks for it tries it by a product. It isn't the inverse where g has none,
 //! and might not be where two such pivots stand at a time.
-ghost use Rattle.std.specs.Prelude.{◌<◌, ◌≤◌, ◌≡◌, ◌+◌};
+ghost use Rattle.std.specs.Prelude.{◌<◌, ◌≤◌, ◌≡◌, ◌+◌, ℕ, true, false, slice_index_or};
 ghost use Rattle.ntru_ring.specs.Reduction.{IsWithin};
 
 use crate::modulo_q::Rq;
@@ -105,7 +105,11 @@ impl Row {
 
 /// The first place from `from` on that no pivot has, or 761.
 fn first_free(taken: &[bool; 761], from: usize) -> usize
-    ensures { result ≤ 761 }
+    requires { from ≤ 761 }
+    ensures behind { from ≤ result }
+    ensures within { result ≤ 761 }
+    ensures before { (k : ℕ) → from ≤ k → k < result → slice_index_or taken.now k false ≡ true }
+    ensures free { result < 761 → slice_index_or taken.now result true ≡ false }
 {
     for place in from..761 {
         if !taken[place] {

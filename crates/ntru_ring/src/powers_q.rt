@@ -64,6 +64,8 @@ impl Powers {
 
     /// The place of the first coefficient from `from` on that isn't zero, or 761.
     pub fn lead(&self, from: usize) -> usize
+        requires { from ≤ 761 }
+        ensures behind { from ≤ result }
         ensures within { result ≤ 761 }
         ensures before { (k : ℕ) → from ≤ k → k < result → coefficient self.now.places (self.now.start + k) ≡ pos 0 }
         ensures there { result < 761 → coefficient self.now.places (self.now.start + result) ≢ pos 0 }
