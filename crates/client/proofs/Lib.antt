@@ -1,3 +1,4 @@
+mod Beginnings
 mod Drawing
 mod LawfulRecords
 mod Lifted

@@ -4,5 +4,6 @@ pub mod InWorlds
 pub mod Saying
 pub mod Spent
 pub mod Opening
+pub mod Beginning
 pub mod Grounds
 pub mod Moments

@@ -6,8 +6,9 @@
 
 pub use client::{Client, SLOT};
 pub use laws::{crash_safety, single_use, used_keys_stay_erased};
-pub use refusals::{DropRefusal, OpenRefusal, SayRefusal, TakeRefusal};
+pub use refusals::{BeginRefusal, DropRefusal, OpenRefusal, SayRefusal, TakeRefusal};
 
+mod beginning;
 mod client;
 mod dropping;
 mod keeping;

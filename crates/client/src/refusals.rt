@@ -77,3 +77,23 @@ pub enum OpenRefusal {
     #[error("no session was begun")]
     NoSession,
 }
+
+/// Why no client is begun.
+#[derive(Clone, Copy, Debug, PartialEq, Eq, Error)]
+pub enum BeginRefusal {
+    /// There was no memory. No call on the disk was made.
+    #[error("out of memory")]
+    Memory,
+    /// A call on the disk failed, of this kind.
+    #[error("a call on the disk failed")]
+    StoreFault { call: Call },
+    /// What was read is no client's: the slot, 0 or 1, and the first place in it that no record's slot has.
+    #[error("slot {slot} is damaged at {at}")]
+    Damaged { slot: u32, at: u64 },
+    /// A session was begun before.
+    #[error("a session was begun before")]
+    Exists,
+    /// The agreement seed that follows from the key has no pair.
+    #[error("the key gives no pair of keys")]
+    NoPair,
+}

@@ -1,0 +1,94 @@
+-- A client that is begun, and why none is.
+use Rattle.std.proofs.Common.{Bool, List, None, Option, Some, ◌+◌, ap, false, inl, inr, refl, subst, sym, true, ℕ, ⊎_elim, ◌∙◌, ◌≡◌, ◌⊎◌}
+use Rattle.std.specs.Prelude.{is_some}
+use Rattle.dr_base.specs.Causes.{Rose}
+use Rattle.dr_base.specs.declared.position.Side.{Side}
+use Rattle.dr_base.specs.declared.position.Side.TheVariants.{First, Second}
+use Rattle.dr_model.specs.Machines.WorldSides.{kept_in}
+use Rattle.dr_model.specs.Machines.Worlds.{opening_world}
+use Rattle.dr_model.proofs.Worlds.OpeningWorlds.{opening_client}
+use Rattle.dr_disk.specs.Calls.{Unwritten}
+use Rattle.dr_disk.specs.Spans.{Frame, HavePassed, IsQuiet, Span}
+use Rattle.dr_disk.specs.State.{Always, DiskState, IsLawful}
+use Rattle.dr_disk.specs.declared.call.Call.{Call}
+use Rattle.dr_disk.proofs.Ranges.{frame_twice, torn_twice}
+use Rattle.dr_disk.proofs.Steps.{spans, widen}
+use Rattle.kem_laws.specs.Mechanism.{Mechanism}
+use Rattle.session_model.specs.Clients.{Client}
+use Rattle.session_record.specs.Record.{record_text}
+use Rattle.slot_store.specs.Found.{found_as}
+use Rattle.slot_store.specs.Laws.{IsRead}
+use Rattle.slot_store.specs.Reading.{IsEntryOrLike, IsLikeRead, damaged, holds, no_content, reading}
+use Rattle.slot_store.specs.Slots.{recovered}
+use Rattle.slot_store.specs.Store.{IsOldOrNew, KeepsOutside}
+use Rattle.slot_store.specs.declared.errors.OpenError.{OpenError}
+use Rattle.slot_store.specs.declared.errors.OpenError.TheVariants.{Damaged, Memory, StoreFault}
+use Rattle.slot_store.specs.declared.opening.Found.{Found}
+use Rattle.slot_store.specs.declared.opening.Found.TheVariants.{Content}
+use Rattle.client.specs.Beginning.{IsEntryOrFirst, IsFirst, IsUnbegun, begin_refusal, begun_client}
+use Rattle.client.specs.Clients.{client_area}
+use Rattle.client.specs.Opening.{IsReadAs, record_fault}
+
+-- the store refused
+pub unbegun : {X : Type 0} (state : X → DiskState) (k : Mechanism) (key : List ℕ) (start now : X) (error : OpenError)
+    → ((slot at : ℕ) → error ≡ Damaged slot at → Unwritten (state start) (state now) × IsQuiet (state start) (state now)
+    × HavePassed 1 (state start) (state now)
+    × ((s : List ℕ) → (state start).seen ≡ Some s → reading (record_fault k) client_area s ≡ damaged slot at))
+    → (error ≡ Memory → now ≡ start)
+    → ((call : Call) → error ≡ StoreFault call → Rose ((state start).faults call) ((state now).faults call))
+    → IsUnbegun state k key start now (begin_refusal error)
+unbegun state k key start now Memory hurt memory fault = memory refl
+unbegun state k key start now (StoreFault call) hurt memory fault = fault call refl
+unbegun state k key start now (Damaged slot at) hurt memory fault = let all = hurt slot at refl in (all.3, all.1)
+
+-- a record was found
+pub held : (o : Option (List ℕ)) → is_some o ≡ true
+    → (text : List ℕ) × (found_as Content o ≡ holds text)
+held None some = absurd (cc some)
+held (Some text) some = (text, refl)
+
+module _ (k : Mechanism) (readings : IsRead) (begun : Client) (start mid now : DiskState) (lawful : IsLawful start)
+    (none : IsReadAs k start no_content) (alike : Always (IsLikeRead client_area start) mid)
+    (opening : Span start mid (IsEntryOrLike client_area start))
+    (putting : Span mid now (IsOldOrNew mid client_area None (Some (record_text begun)))) where
+  -- what has no record is like what was read, which had none
+  no_record : (c : List ℕ) → recovered client_area c ≡ None → KeepsOutside client_area mid c → IsLikeRead client_area start c
+  no_record c without kept =
+      let like = alike kept.0 kept.1 in
+      record {
+        read = like.read;
+        told = like.told;
+        same = without ∙ sym (readings.none (record_fault k) client_area like.read (none like.read like.told));
+        outside = torn_twice 0 (client_area.slot + client_area.slot) like.read kept.0 c like.outside kept.2;
+      }
+
+  outside_mid : Always (KeepsOutside client_area start) mid
+  outside_mid d left = let like = alike d left in (like.read, lawful.seen_now like.read like.told, like.outside)
+
+  left_by : (c : List ℕ) → IsOldOrNew mid client_area None (Some (record_text begun)) c
+      → IsLikeRead client_area start c ⊎ IsFirst begun start c
+  left_by c s =
+      ⊎_elim (λ old. inl (no_record c old s.frame))
+      (λ new. inr (new, frame_twice start mid 0 (client_area.slot + client_area.slot) outside_mid c s.frame)) s.either
+
+  pub first_moments : Span start now (IsEntryOrFirst begun start)
+  first_moments =
+      spans start mid now (IsEntryOrFirst begun start)
+      (widen start mid (IsEntryOrLike client_area start) (IsEntryOrFirst begun start) (λ c s. inl s) opening)
+      (widen mid now (IsOldOrNew mid client_area None (Some (record_text begun))) (IsEntryOrFirst begun start)
+      (λ c s. ⊎_elim (λ like. inl (inr like)) (λ first. inr first) (left_by c s)) putting)
+
+  -- each image then is like what was read, or has the first record
+  pub first_left : (c : List ℕ) → now.image c → IsLikeRead client_area start c ⊎ IsFirst begun start c
+  first_left c left = ⊎_elim (λ was. inl (alike c was)) (left_by c) (putting.last c left)
+
+-- where the one is false, so is the other
+pub none_by : (a b : Bool) → (b ≡ true → a ≡ true) → a ≡ false → b ≡ false
+none_by a true from isnt = let so : a ≡ true = from refl in cc (so, isnt)
+none_by a false from isnt = refl
+
+-- ---- the world in which a conversation begins
+
+pub kept_first : (k : Mechanism) (key : List ℕ) (side : Side) → begun_client k key side ≡ kept_in k (opening_world key) side
+kept_first k key First = sym (opening_client k key First)
+kept_first k key Second = sym (opening_client k key Second)

@@ -1,0 +1,111 @@
+use Rattle.std.proofs.Common.{List, None, Some, [], ap, refl, subst, sym, ℕ, ◌∙◌, ◌≡◌}
+use Rattle.dr_disk.specs.Spans.{Span}
+use Rattle.kem_laws.specs.Mechanism.{Mechanism}
+use Rattle.session_model.specs.States.{State}
+use Rattle.session_record.specs.Record.{client_of, record_text}
+use Rattle.slot_store.specs.Found.{found_as, has_content}
+use Rattle.slot_store.specs.Reading.{no_content}
+use Rattle.slot_store.specs.Store.{IsOldOrNew, content}
+use Rattle.client.specs.Beginning.{IsUnbegun, begun_client}
+use Rattle.client.specs.Clients.{client_area}
+use Rattle.client.specs.Opening.{IsReadAs}
+use Rattle.client.proofs.Beginnings.{first_left, first_moments, held, kept_first, none_by, unbegun}
+use Rattle.client.proofs.client.Client.begin.Goals as goal
+
+pub returns-in-Err-clause-unbegun : goal.returns-in-Err-clause-unbegun
+returns-in-Err-clause-unbegun g c =
+    let k = g.K.Kem.mechanism in
+    subst (IsUnbegun g.D.Disk.state k c.args.key.now.bytes c.args.disk.now c.open.new.disk) (sym c.refusal.ensures)
+    (unbegun g.D.Disk.state k c.args.key.now.bytes c.args.disk.now c.open.new.disk c.in-Err.error c.in-Err.ensures.damaged
+    c.in-Err.ensures.memory c.in-Err.ensures.fault)
+
+pub returns-in-Content-clause-unbegun : goal.returns-in-Content-clause-unbegun
+returns-in-Content-clause-unbegun g c =
+    let some = held (content c.in-Ok-open.store) (c.in-Ok-open.ensures.found ∙ ap has_content c.in-Content.is) in (
+      λ s told. (
+        some.0,
+        c.in-Ok-open.ensures.read s told
+            ∙ ap (λ f. found_as f (content c.in-Ok-open.store)) c.in-Content.is ∙ some.1,
+      ),
+      c.in-Ok-open.ensures.quiet,
+    )
+
+pub returns-in-Err-begin-clause-unbegun : goal.returns-in-Err-begin-clause-unbegun
+returns-in-Err-begin-clause-unbegun g c = (
+  λ s told. c.in-Ok-open.ensures.read s told ∙ ap (λ f. found_as f (content c.in-Ok-open.store)) c.in-NoContent.is,
+  none_by _ _ c.in-Err-begin.ensures.variant.1 refl,
+  c.in-Ok-open.ensures.quiet,
+)
+
+pub returns-in-Err-first-clause-any_moment : goal.returns-in-Err-first-clause-any_moment
+returns-in-Err-first-clause-any_moment g c =
+    let k = g.K.Kem.mechanism in
+    let begun = begun_client k c.args.key.now.bytes c.args.side in
+    let start = g.D.Disk.state c.args.disk.now in
+    let mid = g.D.Disk.state c.open.new.disk in
+    let now = g.D.Disk.state c.first.new.disk in
+    let none : IsReadAs k start no_content =
+    λ s told. c.in-Ok-open.ensures.read s told ∙ ap (λ f. found_as f (content c.in-Ok-open.store)) c.in-NoContent.is in
+    let putting : Span mid now (IsOldOrNew mid client_area None (Some (record_text begun))) =
+    subst (λ (s : State). Span mid now (IsOldOrNew mid client_area None (Some (record_text (client_of s [] [])))))
+    c.in-Ok-begin.ensures.ok c.first.ensures.any_moment in
+    first_moments k c.readings.ensures begun start mid now (g.met.D.Disk.lawful c.args.disk.now) none
+    (λ f left. (c.in-Ok-open.ensures.at_rest f left).1) c.open.ensures.any_moment putting
+
+pub returns-in-Err-first-clause-reads : goal.returns-in-Err-first-clause-reads
+returns-in-Err-first-clause-reads g c = λ s seen.
+    let k = g.K.Kem.mechanism in
+    let begun = begun_client k c.args.key.now.bytes c.args.side in
+    let start = g.D.Disk.state c.args.disk.now in
+    let mid = g.D.Disk.state c.open.new.disk in
+    let now = g.D.Disk.state c.first.new.disk in
+    let none : IsReadAs k start no_content =
+    λ s told. c.in-Ok-open.ensures.read s told ∙ ap (λ f. found_as f (content c.in-Ok-open.store)) c.in-NoContent.is in
+    let putting : Span mid now (IsOldOrNew mid client_area None (Some (record_text begun))) =
+    subst (λ (s : State). Span mid now (IsOldOrNew mid client_area None (Some (record_text (client_of s [] [])))))
+    c.in-Ok-begin.ensures.ok c.first.ensures.any_moment in
+    first_left k c.readings.ensures begun start mid now (g.met.D.Disk.lawful c.args.disk.now) none
+    (λ f left. (c.in-Ok-open.ensures.at_rest f left).1) c.open.ensures.any_moment putting
+    s ((g.met.D.Disk.lawful c.first.new.disk).seen_now s seen)
+
+pub returns-in-Ok-first-clause-any_moment : goal.returns-in-Ok-first-clause-any_moment
+returns-in-Ok-first-clause-any_moment g c =
+    let k = g.K.Kem.mechanism in
+    let begun = begun_client k c.args.key.now.bytes c.args.side in
+    let start = g.D.Disk.state c.args.disk.now in
+    let mid = g.D.Disk.state c.open.new.disk in
+    let now = g.D.Disk.state c.first.new.disk in
+    let none : IsReadAs k start no_content =
+    λ s told. c.in-Ok-open.ensures.read s told ∙ ap (λ f. found_as f (content c.in-Ok-open.store)) c.in-NoContent.is in
+    let putting : Span mid now (IsOldOrNew mid client_area None (Some (record_text begun))) =
+    subst (λ (s : State). Span mid now (IsOldOrNew mid client_area None (Some (record_text (client_of s [] [])))))
+    c.in-Ok-begin.ensures.ok c.first.ensures.any_moment in
+    first_moments k c.readings.ensures begun start mid now (g.met.D.Disk.lawful c.args.disk.now) none
+    (λ f left. (c.in-Ok-open.ensures.at_rest f left).1) c.open.ensures.any_moment putting
+
+pub returns-in-Ok-first-clause-reads : goal.returns-in-Ok-first-clause-reads
+returns-in-Ok-first-clause-reads g c = λ s seen.
+    let k = g.K.Kem.mechanism in
+    let begun = begun_client k c.args.key.now.bytes c.args.side in
+    let start = g.D.Disk.state c.args.disk.now in
+    let mid = g.D.Disk.state c.open.new.disk in
+    let now = g.D.Disk.state c.first.new.disk in
+    let none : IsReadAs k start no_content =
+    λ s told. c.in-Ok-open.ensures.read s told ∙ ap (λ f. found_as f (content c.in-Ok-open.store)) c.in-NoContent.is in
+    let putting : Span mid now (IsOldOrNew mid client_area None (Some (record_text begun))) =
+    subst (λ (s : State). Span mid now (IsOldOrNew mid client_area None (Some (record_text (client_of s [] [])))))
+    c.in-Ok-begin.ensures.ok c.first.ensures.any_moment in
+    first_left k c.readings.ensures begun start mid now (g.met.D.Disk.lawful c.args.disk.now) none
+    (λ f left. (c.in-Ok-open.ensures.at_rest f left).1) c.open.ensures.any_moment putting
+    s ((g.met.D.Disk.lawful c.first.new.disk).seen_now s seen)
+
+pub returns-in-Ok-first-clause-in_worlds : goal.returns-in-Ok-first-clause-in_worlds
+returns-in-Ok-first-clause-in_worlds g c =
+    let k = g.K.Kem.mechanism in
+    let key = c.args.key.now.bytes in
+    record {
+      lawful = (c.both_sides_follow.ensures k c.laws.ensures.law).lawful_opening key (c.in-Ok-begin.ensures.variant.0 refl);
+      keeps =
+          c.in-Ok-first.ensures.keeps ∙ ap (λ (s : State). client_of s [] []) c.in-Ok-begin.ensures.ok
+          ∙ kept_first k key c.args.side;
+    }

@@ -1,0 +1,61 @@
+-- What beginning a client does.
+use Rattle.std.specs.Prelude.{IfOk, IsNone, IsSome, List, None, Ok, Option, Result, Some, [], ℕ, ◌≡◌, ◌⊎◌}
+use Rattle.dr_base.specs.Causes.{Rose}
+use Rattle.dr_base.specs.declared.position.Side.{Side}
+use Rattle.dr_disk.specs.Spans.{IsQuiet, Span}
+use Rattle.dr_disk.specs.State.{DiskState}
+use Rattle.kem_laws.specs.Mechanism.{Mechanism}
+use Rattle.session_model.specs.Clients.{Client}
+use Rattle.session_model.specs.Schedule.{agreement_seed}
+use Rattle.session_model.specs.States.{opening_state}
+use Rattle.session_record.specs.Record.{client_of, record_text}
+use Rattle.slot_store.specs.Reading.{IsEntryOrLike, IsLikeRead, damaged, holds, no_content, reading}
+use Rattle.slot_store.specs.Slots.{recovered}
+use Rattle.slot_store.specs.Store.{KeepsOutside}
+use Rattle.slot_store.specs.declared.errors.OpenError.{OpenError}
+use Rattle.slot_store.specs.declared.errors.OpenError.TheVariants.{Damaged as StoreDamaged, Memory as StoreMemory, StoreFault as DiskFault}
+use Rattle.client.specs.Clients.{ClientNow, IsReady, client_area}
+use Rattle.client.specs.Opening.{IsReadAs, record_fault}
+use Rattle.client.specs.declared.refusals.BeginRefusal.{BeginRefusal}
+use Rattle.client.specs.declared.refusals.BeginRefusal.TheVariants.{Damaged, Exists, Memory, NoPair, StoreFault}
+
+-- a side at the beginning of a conversation
+abbrev pub begun_client : Mechanism → List ℕ → Side → Client
+begun_client k key side = client_of (opening_state k key side) [] []
+
+-- bytes with the record of a client, and outside the client's area as they were
+abbrev pub IsFirst : Client → DiskState → List ℕ → Type 0
+IsFirst begun start c = (recovered client_area c ≡ Some (record_text begun)) × KeepsOutside client_area start c
+
+-- what a crash may leave while a client is begun: what one might have left at entry, or what is like what was read, or the
+-- first record
+abbrev pub IsEntryOrFirst : Client → DiskState → List ℕ → Type 0
+IsEntryOrFirst begun start c = IsEntryOrLike client_area start c ⊎ IsFirst begun start c
+
+-- why a store's opening refuses a client that is begun
+abbrev pub begin_refusal : OpenError → BeginRefusal
+begin_refusal StoreMemory = Memory
+begin_refusal (DiskFault call) = StoreFault call
+begin_refusal (StoreDamaged slot at) = Damaged slot at
+
+-- A client that was begun, where no slot was open.
+pub record IsBegun (k : Mechanism) (key : List ℕ) (side : Side) (client : ClientNow) (start now : DiskState) : Type 0 where
+  pub is_open : client.closed ≡ None
+  pub keeps : client.kept ≡ begun_client k key side
+  pub ready : IsReady client.kept client.store now
+  pub read : IsReadAs k start no_content
+  pub pair : IsSome (k.meaning.pair_of (agreement_seed key))
+  pub quiet : IsQuiet start now
+
+-- what a read gives is a record
+abbrev pub HoldsRecord : Mechanism → DiskState → Type 0
+HoldsRecord k disk = (s : List ℕ) → disk.seen ≡ Some s → (text : List ℕ) × (reading (record_fault k) client_area s ≡ holds text)
+
+-- why no client was begun
+abbrev pub IsUnbegun : {X : Type 0} → (X → DiskState) → Mechanism → List ℕ → X → X → BeginRefusal → Type 0
+IsUnbegun state k key start now Memory = now ≡ start
+IsUnbegun state k key start now (StoreFault call) = Rose ((state start).faults call) ((state now).faults call)
+IsUnbegun state k key start now (Damaged slot at) = IsReadAs k (state start) (damaged slot at) × IsQuiet (state start) (state now)
+IsUnbegun state k key start now Exists = HoldsRecord k (state start) × IsQuiet (state start) (state now)
+IsUnbegun state k key start now NoPair =
+    IsReadAs k (state start) no_content × IsNone (k.meaning.pair_of (agreement_seed key)) × IsQuiet (state start) (state now)

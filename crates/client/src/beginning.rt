@@ -1,0 +1,132 @@
+//! A client is begun on a disk that holds none.
+
+ghost use Rattle.std.specs.Prelude.{◌≡◌, ◌≢◌, ◌⊎◌, ℕ, List, [], None, Some, IfOk, IfErr, OnOk, IsOk};
+ghost use Rattle.dr_base.specs.Causes.{Rose};
+ghost use Rattle.dr_disk.specs.Spans.{IsQuiet, Span};
+ghost use Rattle.dr_disk.specs.State.{Always, Fate};
+ghost use Rattle.dr_disk.specs.declared.call.Call.{Call};
+ghost use Rattle.dr_model.specs.Machines.Worlds.{opening_world};
+ghost use Rattle.session_record.specs.Record.{client_of, record_text};
+ghost use Rattle.slot_store.specs.Reading.{IsLikeRead};
+ghost use Rattle.slot_store.specs.Store.{IsOldOrNew, IsWithin, Rests, content};
+ghost use Rattle.client.specs.Beginning.{IsBegun, IsEntryOrFirst, IsFirst, IsUnbegun, begin_refusal, begun_client};
+ghost use Rattle.client.specs.Clients.{IsReady, client_area};
+ghost use Rattle.client.specs.InWorlds.{IsIn};
+
+use crate::client::{Client, SLOT};
+use crate::opening::Records;
+use crate::refusals::BeginRefusal;
+use crate::room::Room;
+use dr_base::{Key32, Side};
+use dr_disk::{Call, Disk};
+use dr_model::both_sides_follow;
+use kem_laws::{Kem, NoPair, laws};
+use ratchet::Session;
+use session_record::{Change, encode};
+use slot_store::{Area, Found, OpenError, SlotStore, readings};
+use std::alloc::Global;
+
+/// Keeps the first record of a session, whose boxes are empty.
+fn first<K: Kem, D: Disk>(
+    room: Room<K>,
+    session: Session<K>,
+    mut store: SlotStore,
+    disk: &mut D,
+) -> Result<Client<K>, Call>
+    requires inbox { room.inbox ≡ [] }
+    requires outbox { room.outbox ≡ [] }
+    requires none { content store ≡ None }
+    requires area { store.area ≡ client_area }
+    requires within { IsWithin client_area (D.state disk.old) }
+    requires rests { Always (Rests store) (D.state disk.old) }
+    ensures open { IfOk result (λ client. client.closed ≡ None) }
+    ensures keeps { IfOk result (λ client. client.kept ≡ client_of session [] []) }
+    ensures ready { IfOk result (λ client. IsReady client.kept client.store (D.state disk.new)) }
+    ensures any_moment { Span (D.state disk.old) (D.state disk.new)
+        (IsOldOrNew (D.state disk.old) client_area None (Some (record_text (client_of session [] [])))) }
+    ensures fate { (D.state disk.old).fate ≡ Fate.all_pass → IsOk result × ((D.state disk.new).fate ≡ Fate.all_pass) }
+    ensures quiet { OnOk result (IsQuiet (D.state disk.old) (D.state disk.new)) }
+    ensures fault { IfErr result (λ call. Rose ((D.state disk.old).faults call) ((D.state disk.new).faults call)) }
+{
+    let Room {
+        inbox,
+        outbox,
+        work,
+        mut text,
+    } = room;
+    let bytes = text.as_mut_slice();
+    let len = encode(session.part(), &inbox, &outbox, &Change::Same, bytes);
+    match store.replace(disk, &bytes[..len]) {
+        Err(fault) => Err(fault.call),
+        Ok(()) => Ok(Client {
+            session,
+            inbox,
+            outbox,
+            store,
+            work,
+            text,
+            closed: None,
+        }),
+    }
+}
+
+/// Why a store's opening refuses a client that is begun.
+fn refusal(error: OpenError) -> BeginRefusal
+    ensures { result ≡ begin_refusal error }
+{
+    match error {
+        OpenError::Memory => BeginRefusal::Memory,
+        OpenError::StoreFault { call } => BeginRefusal::StoreFault { call },
+        OpenError::Damaged { slot, at } => BeginRefusal::Damaged { slot, at },
+    }
+}
+
+impl<K: Kem> Client<K> {
+    /// Begins the session of a side on a disk that holds none: the disk is opened, and the first record is put. `Exists`
+    /// exactly where a slot is open and its record reads, `Damaged` exactly where what was read is no record, `NoPair`
+    /// exactly where the agreement seed of the key has none. `StoreFault` only where a call on the disk failed, and with
+    /// `Memory` none was made.
+    pub fn begin<D: Disk>(
+        alloc: Global,
+        disk: &mut D,
+        side: Side,
+        key: &Key32,
+    ) -> Result<Client<K>, BeginRefusal>
+        requires { IsWithin client_area (D.state disk.old) }
+        ensures begun { IfOk result (λ client. IsBegun K.mechanism key.now.bytes side client (D.state disk.old) (D.state disk.new)) }
+        ensures unbegun { IfErr result (IsUnbegun D.state K.mechanism key.now.bytes disk.old disk.new) }
+        // Meanwhile, and in each ending: what was read, but for what was tidied, or the first record.
+        ensures any_moment { Span (D.state disk.old) (D.state disk.new)
+            (IsEntryOrFirst (begun_client K.mechanism key.now.bytes side) (D.state disk.old)) }
+        ensures reads { (s : List ℕ) → (D.state disk.new).seen ≡ Some s → IsLikeRead client_area (D.state disk.old) s
+            ⊎ IsFirst (begun_client K.mechanism key.now.bytes side) (D.state disk.old) s }
+        // It is a side of the world in which the conversation begins.
+        ensures in_worlds { IfOk result (λ client. IsIn K.mechanism (opening_world key.now.bytes) side client) }
+        ensures fate { (D.state disk.old).fate ≡ Fate.all_pass →
+            IfErr result (λ e. (call : Call) → e ≢ BeginRefusal.StoreFault call) × ((D.state disk.new).fate ≡ Fate.all_pass) }
+    {
+        laws::<K>();
+        both_sides_follow();
+        readings();
+        let Ok(mut room) = Room::<K>::new(alloc) else {
+            return Err(BeginRefusal::Memory);
+        };
+        let area = Area {
+            start: 0,
+            slot: SLOT,
+        };
+        match SlotStore::open::<Records<K>, D>(alloc, disk, area) {
+            Err(error) => Err(refusal(error)),
+            Ok((store, found)) => match found {
+                Found::Content => Err(BeginRefusal::Exists),
+                Found::NoContent => match Session::<K>::begin(&mut room.work, side, key) {
+                    Err(NoPair) => Err(BeginRefusal::NoPair),
+                    Ok(session) => match first(room, session, store, disk) {
+                        Err(call) => Err(BeginRefusal::StoreFault { call }),
+                        Ok(client) => Ok(client),
+                    },
+                },
+            },
+        }
+    }
+}
