@@ -1,3 +1,4 @@
+mod Areas
 mod Beginnings
 mod Drawing
 mod LawfulRecords

@@ -1,6 +1,6 @@
 //! What holds over whole runs. The functions have no code: a caller that needs a fact calls them.
 
-ghost use Rattle.std.specs.Prelude.{◌≡◌, ◌≤◌, ℕ, Some, slice_get};
+ghost use Rattle.std.specs.Prelude.{◌≡◌, ◌≤◌, ℕ, List, Some, slice_get};
 ghost use Rattle.boxes.specs.Items.{Item};
 ghost use Rattle.dr_base.specs.declared.position.Position.{Position};
 ghost use Rattle.dr_base.specs.declared.position.Side.{Side};
@@ -8,6 +8,12 @@ ghost use Rattle.dr_model.specs.Machines.WorldSides.{kept_in};
 ghost use Rattle.dr_model.specs.Machines.Worlds.{World};
 ghost use Rattle.dr_model.specs.Theorems.LawfulWorlds.{IsLawfulWorld};
 ghost use Rattle.kem_laws.specs.Mechanism.{Mechanism};
+ghost use Rattle.session_model.specs.Clients.{Client};
+ghost use Rattle.session_record.specs.Record.{record_text};
+ghost use Rattle.slot_store.specs.Laws.{SameWithin};
+ghost use Rattle.slot_store.specs.Store.{mark};
+ghost use Rattle.slot_store.specs.declared.store.SlotStore.{SlotStore};
+ghost use Rattle.client.specs.Clients.{IsReady, client_area};
 ghost use Rattle.client.specs.Grounds.{Grounds};
 ghost use Rattle.client.specs.Moments.{AreLinked, Known, StandsStill};
 ghost use Rattle.client.specs.Spent.{IsErasedOn, IsUsed};
@@ -46,6 +52,17 @@ pub fn used_keys_stay_erased<D: Disk>(moments: &[D])
         → (p : Position) → IsUsed (known n).last side p → IsErasedOn k p (D.state b) }
 {
     erasure();
+}
+
+/// Between calls a client's whole area is a function of its record, and of the slot and the turn of its store: on two disks
+/// of one size, where these are the same, all that a crash leaves is the same within the area.
+pub fn areas_are_their_records<D: Disk>(first: &D, second: &D)
+    ensures { (kept other : Client) (store again : SlotStore) → IsReady kept store (D.state first.now)
+        → IsReady other again (D.state second.now) → (D.state second.now).size ≡ (D.state first.now).size
+        → record_text other ≡ record_text kept → mark again ≡ mark store
+        → (c d : List ℕ) → (D.state first.now).image c → (D.state second.now).image d → SameWithin client_area c d }
+{
+    resting();
 }
 
 /// The laws on which a client's claims rest.

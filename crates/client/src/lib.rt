@@ -5,7 +5,7 @@
 #![tactic(auto)]
 
 pub use client::{Client, SLOT};
-pub use laws::{crash_safety, single_use, used_keys_stay_erased};
+pub use laws::{areas_are_their_records, crash_safety, single_use, used_keys_stay_erased};
 pub use refusals::{BeginRefusal, DropRefusal, OpenRefusal, SayRefusal, TakeRefusal};
 
 mod beginning;

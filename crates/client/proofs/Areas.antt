@@ -1,0 +1,22 @@
+-- The area of a client at rest.
+use Rattle.std.proofs.Common.{List, arith, ap, subst, sym, ℕ, ◌+◌, ◌∙◌, ◌≡◌, ◌≤◌, Some, length}
+use Rattle.dr_disk.specs.State.{DiskState, IsLawful}
+use Rattle.session_model.specs.Clients.{Client}
+use Rattle.session_record.specs.Record.{record_text}
+use Rattle.slot_store.specs.Laws.{IsResting, SameWithin}
+use Rattle.slot_store.specs.Store.{content, mark}
+use Rattle.slot_store.specs.declared.area.Area.{Area}
+use Rattle.slot_store.specs.declared.store.SlotStore.{SlotStore}
+use Rattle.client.specs.Clients.{IsReady, client_area}
+
+pub same_area : IsResting → (kept other : Client) (store again : SlotStore) (a b : DiskState) → IsLawful a → IsLawful b
+    → IsReady kept store a → IsReady other again b → b.size ≡ a.size → record_text other ≡ record_text kept
+    → mark again ≡ mark store → (c d : List ℕ) → a.image c → b.image d → SameWithin client_area c d
+same_area resting kept other store again a b sound good ready twin size same marks c d left right =
+    let long : length c ≡ length d = sound.sized c left ∙ sym size ∙ sym (good.sized d right) in
+    let least : 1 ≤ store.area.slot = omega (arith, ap (λ (x : Area). x.slot) ready.area) in
+    let inside : store.area.start + (store.area.slot + store.area.slot) ≤ length c =
+    omega (arith, ap (λ (x : Area). x.slot) ready.area, ap (λ (x : Area). x.start) ready.area, ready.within, sound.sized c left) in
+    subst (λ (x : Area). SameWithin x c d) ready.area
+    (resting.same_bytes store again c d least (ready.area ∙ sym twin.area) (sym marks)
+    (ready.holds ∙ sym (twin.holds ∙ ap Some same)) long inside (ready.rests c left) (twin.rests d right))
