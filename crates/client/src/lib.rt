@@ -18,3 +18,5 @@ mod refusals;
 mod room;
 mod saying;
 mod taking;
+#[cfg(test)]
+mod tests;
