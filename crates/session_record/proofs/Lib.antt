@@ -8,3 +8,4 @@ mod ToLawful
 mod RecordLaw
 mod Places
 mod Sizes
+pub mod Said

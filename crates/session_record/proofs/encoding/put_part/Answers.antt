@@ -2,11 +2,11 @@ use Rattle.std.proofs.Common.{subst}
 use Rattle.dr_base.specs.Buffer.{Puts}
 use Rattle.grammar.proofs.Putting.{then_puts}
 use Rattle.session_model.specs.States.{State}
-use Rattle.session_record.specs.Record.{state_text}
+use Rattle.session_record.specs.Record.{head_text, state_text}
 use Rattle.session_record.proofs.encoding.put_part.Goals as goal
 
 pub returns : goal.returns
 returns g c =
     let kept = rw c.kept.ensures.keys at c.put_kept.ensures in
     subst (λ (s : State). Puts c.args.out.now c.put_kept.new.out 0 (state_text s) c.put_kept.result) c.part.view_is
-    (then_puts c.put_head-at_phase.ensures (then_puts c.put_phase-at_previous.ensures (then_puts c.put_u32-at_receiving.ensures (then_puts c.put_receiving-at_kept.ensures kept))))
+    (then_puts {x = head_text c.part.inside.side c.part.inside.session c.part.inside.root.bytes c.part.inside.epoch} c.put_head-at_phase.ensures (then_puts c.put_phase-at_previous.ensures (then_puts c.put_u32-at_receiving.ensures (then_puts c.put_receiving-at_kept.ensures kept))))
