@@ -1,3 +1,5 @@
+pub mod Doors
+pub mod Pieces
 pub mod Told
 pub mod Turning
 pub mod WritingLemmas

@@ -1,5 +1,7 @@
 pub mod Memory
+pub mod MemoryWires
 pub mod Ports
 pub mod Reading
 pub mod Seeds
+pub mod Wires
 pub mod Writing

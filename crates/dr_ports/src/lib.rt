@@ -5,11 +5,15 @@
 
 pub use adapter::{RandomDraws, ReaderSource, WriterSink};
 pub use dr_base::Failed;
+pub use memory::door::MemoryDoor;
 pub use memory::draws::{MemoryDraws, SteadyDraws};
+pub use memory::link::MemoryLink;
+pub use memory::pipe::MemoryPipe;
 pub use memory::plan::CallPlan;
 pub use memory::sink::{MemorySink, NullSink};
 pub use memory::source::{MemorySource, SteadySource};
 pub use output_line::{OutputLine, ROOM};
+pub use pipe::{Door, Link, Part, Pipe};
 pub use port::{Draws, Sink, Source};
 pub use reading::{InputError, read_whole};
 pub use writing::write_all;
@@ -17,6 +21,7 @@ pub use writing::write_all;
 mod adapter;
 mod memory;
 mod output_line;
+mod pipe;
 mod port;
 mod reading;
 #[cfg(test)]

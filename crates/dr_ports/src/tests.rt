@@ -1,8 +1,9 @@
 //! Each port once: what it gives with ample memory, and a fault where one is planned.
 
 use crate::{
-    Draws, Failed, InputError, MemoryDraws, MemorySink, MemorySource, NullSink, RandomDraws,
-    ReaderSource, Sink, SteadyDraws, SteadySource, WriterSink, read_whole, write_all,
+    Door, Draws, Failed, InputError, Link, MemoryDoor, MemoryDraws, MemoryLink, MemoryPipe,
+    MemorySink, MemorySource, NullSink, Pipe, RandomDraws, ReaderSource, Sink, SteadyDraws,
+    SteadySource, WriterSink, read_whole, write_all,
 };
 use dr_base::Key32;
 use rand::rngs::SysRng;
@@ -57,5 +58,54 @@ fn adapts_std(rt: HostRuntime) -> Result<(), Fail> {
     assert_eq!(rt; write_all(&mut sink, b"four"), Err(Failed));
     let mut draws = RandomDraws::new(SysRng::new(&rt));
     assert!(rt; draws.draw()?.bytes != draws.draw()?.bytes);
+    Ok(())
+}
+
+#[test]
+fn gives_and_takes(rt: HostRuntime) -> Result<(), Fail> {
+    let alloc = rt.alloc();
+    let mut piece = [0; 4];
+    let mut pipe = MemoryPipe::new(alloc, b"given", 3, &[2])?;
+    assert_eq!(rt; pipe.receive(&mut piece), Ok(4));
+    assert_eq!(rt; piece, *b"give");
+    assert_eq!(rt; pipe.send(b"sent"), Err(Failed));
+    assert_eq!(rt; pipe.send(b"sent"), Ok(3));
+    assert_eq!(rt; pipe.send(b"t"), Err(Failed));
+    assert_eq!(rt; pipe.receive(&mut piece), Ok(1));
+    assert_eq!(rt; pipe.receive(&mut piece), Ok(0));
+    assert_eq!(rt; pipe.sent(), b"sen".as_slice());
+    let mut link = MemoryLink::new(alloc, b"far", 9, &[1, 3])?;
+    assert_eq!(rt; link.open("host:1"), Err(Failed));
+    assert_eq!(rt; link.open("host:1"), Ok(()));
+    assert_eq!(rt; link.send(b"near"), Err(Failed));
+    assert_eq!(rt; link.send(b"near"), Ok(4));
+    assert_eq!(rt; link.receive(&mut piece), Ok(3));
+    link.shut();
+    assert_eq!(rt; link.sent(), b"near".as_slice());
+    Ok(())
+}
+
+#[test]
+fn accepts_in_turn(rt: HostRuntime) -> Result<(), Fail> {
+    let alloc = rt.alloc();
+    let mut piece = [0; 4];
+    let mut door = MemoryDoor::new(alloc, b"onetwo", &[3, 6], 9, &[1, 4], &[3])?;
+    assert_eq!(rt; door.listen(4000), Err(Failed));
+    assert_eq!(rt; door.listen(4000), Ok(()));
+    assert_eq!(rt; door.receive(&mut piece), Ok(0));
+    assert_eq!(rt; door.accept(), Ok(()));
+    assert_eq!(rt; door.accept(), Err(Failed));
+    assert_eq!(rt; door.send(b"to one"), Ok(6));
+    assert_eq!(rt; door.receive(&mut piece), Err(Failed));
+    assert_eq!(rt; door.receive(&mut piece), Ok(3));
+    assert_eq!(rt; piece, *b"one\0");
+    door.shut();
+    assert_eq!(rt; door.accept(), Ok(()));
+    assert_eq!(rt; door.receive(&mut piece), Ok(3));
+    assert_eq!(rt; piece, *b"two\0");
+    assert_eq!(rt; door.send(b"to two"), Ok(3));
+    assert_eq!(rt; door.accept(), Ok(()));
+    assert_eq!(rt; door.receive(&mut piece), Ok(0));
+    assert_eq!(rt; door.sent(), b"to oneto ".as_slice());
     Ok(())
 }

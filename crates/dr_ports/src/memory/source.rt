@@ -51,7 +51,7 @@ impl SteadySource {
 }
 
 /// Copies `count` bytes from a place on to the beginning of a piece.
-fn copy_part(bytes: &[u8], at: usize, count: usize, into: &mut [u8])
+pub fn copy_part(bytes: &[u8], at: usize, count: usize, into: &mut [u8])
     requires source { at + count ≤ length bytes.now }
     requires room { count ≤ length into.old }
     ensures { take count into.new ≡ take count (drop at bytes.now) }

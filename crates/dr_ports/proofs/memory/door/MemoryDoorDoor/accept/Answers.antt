@@ -1,0 +1,10 @@
+use Rattle.std.proofs.Common.{◌≡◌, option_map, subst}
+use Rattle.dr_ports.specs.Wires.{next_of}
+use Rattle.dr_ports.specs.MemoryWires.{Doorway, door_port_of}
+use Rattle.dr_ports.proofs.Doors.{went_on}
+use Rattle.dr_ports.proofs.memory.door.MemoryDoorDoor.accept.Goals as goal
+
+pub returns-clause-next : goal.returns-clause-next
+returns-clause-next c =
+    subst (λ (d : Doorway). (door_port_of c.go_on.new.self).told ≡ option_map next_of (door_port_of d).told) c.self.view_is
+    (went_on (record { pipe = c.self.inside.pipe; ends = c.self.inside.ends.items; next = c.self.inside.next; plan = c.self.inside.plan }) c.go_on.new.self c.go_on.ensures.pipe c.go_on.ensures.next c.go_on.ensures.ends)

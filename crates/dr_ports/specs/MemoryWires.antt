@@ -1,0 +1,86 @@
+-- What pipes, links and doors in memory show.
+use Rattle.std.specs.Prelude.{◌≡◌, ◌≤◌, ◌<◌, ℕ, zero, suc, ◌+◌, ◌-◌, List, [], ◌∷◌, ◌++◌, length, take, drop, nat_lt, get_or, if◌then◌else◌, Some}
+use Rattle.std.proofs.lemmas.List.{take-append-drop}
+use Rattle.std.proofs.Common.{sym}
+use Rattle.dr_ports.specs.Memory.{Plan}
+use Rattle.dr_ports.specs.declared.pipe.Part.{Part}
+use Rattle.dr_ports.specs.declared.pipe.Part.TheVariants.{Flow, Gate}
+use Rattle.dr_ports.specs.Wires.{Port, IsAhead, Wire, untold_fate}
+
+-- A pipe: the bytes of this connection and how many of them it gave, those that it took before this connection and on it,
+-- its room, and its plan. `all` has the bytes of all connections.
+pub record Flowing : Type 0 where
+  pub all : List ℕ
+  pub held : List ℕ
+  pub at : ℕ
+  pub before : List ℕ
+  pub sent : List ℕ
+  pub room : ℕ
+  pub plan : Plan
+
+-- it has no room for the first of these bytes
+pub record HasNoRoom (pipe : Flowing) (bytes : List ℕ) : Type 0 where
+  pub no_room : length (pipe.before ++ pipe.sent) ≡ pipe.room
+  pub needed : 0 < length bytes
+
+-- counts of faults
+abbrev pub faults_of : ℕ → ℕ → Part → ℕ
+faults_of flow gate Flow = flow
+faults_of flow gate Gate = gate
+
+abbrev pub wire_of : Flowing → Wire
+wire_of f = record { gives = λ sent. f.held; received = take f.at f.held; sent = f.sent; fate = untold_fate }
+
+-- a pipe, behind which this comes, with so many faults at the gate
+abbrev pub port_with : (ℕ → List ℕ → List ℕ) → ℕ → Flowing → Port
+port_with coming gate f = record {
+  told = Some (record { now = wire_of f; before = f.before; coming = coming });
+  faults = faults_of f.plan.faults gate;
+}
+
+abbrev pub nothing_comes : ℕ → List ℕ → List ℕ
+nothing_comes n sent = []
+
+abbrev pub port_of : Flowing → Port
+port_of f = port_with nothing_comes 0 f
+
+-- nobody stands behind it
+abbrev pub nobody : {T : Type 0} → T → List ℕ → Unit {0}
+nobody port sent = tt
+
+pub is_ahead : (f : Flowing) → IsAhead (wire_of f)
+is_ahead f = (drop f.at f.held, sym (take-append-drop f.at f.held))
+
+-- a link: its pipe, whose plan counts its openings too, and how often opening failed
+pub record Linking : Type 0 where
+  pub pipe : Flowing
+  pub faults : ℕ
+
+abbrev pub link_port_of : Linking → Port
+link_port_of l = port_with nothing_comes l.faults l.pipe
+
+-- never falling from here on, and within so many bytes
+abbrev pub AreEnds : ℕ → ℕ → List ℕ → Type 0
+AreEnds size from [] = from ≤ size
+AreEnds size from (end ∷ ends) = (from ≤ end) × AreEnds size end ends
+
+-- where the bytes of a connection begin, and those bytes; past the last of the ends there are none
+abbrev pub start_of : List ℕ → ℕ → ℕ
+start_of ends zero = 0
+start_of ends (suc n) = get_or ends n 0
+
+abbrev pub connection_of : List ℕ → List ℕ → ℕ → List ℕ
+connection_of all ends n = if nat_lt n (length ends) then take (get_or ends n 0 - start_of ends n) (drop (start_of ends n) all) else []
+
+-- a door: its pipe, where the bytes of each connection end, the number of the next one, and the plan of listening and accepting
+pub record Doorway : Type 0 where
+  pub pipe : Flowing
+  pub ends : List ℕ
+  pub next : ℕ
+  pub plan : Plan
+
+abbrev pub coming_to : Doorway → ℕ → List ℕ → List ℕ
+coming_to d n sent = connection_of d.pipe.all d.ends (d.next + n)
+
+abbrev pub door_port_of : Doorway → Port
+door_port_of d = port_with (coming_to d) d.plan.faults d.pipe
