@@ -1,5 +1,5 @@
 -- A client that is begun, and why none is.
-use Rattle.std.proofs.Common.{Bool, List, None, Option, Some, ◌+◌, ap, false, inl, inr, refl, subst, sym, true, ℕ, ⊎_elim, ◌∙◌, ◌≡◌, ◌⊎◌}
+use Rattle.std.proofs.Common.{Bool, List, None, Option, Some, ◌+◌, false, inl, inr, refl, sym, true, ℕ, ⊎_elim, ◌∙◌, ◌≡◌, ◌⊎◌}
 use Rattle.std.specs.Prelude.{is_some}
 use Rattle.dr_base.specs.Causes.{Rose}
 use Rattle.dr_base.specs.declared.position.Side.{Side}
@@ -8,7 +8,7 @@ use Rattle.dr_model.specs.Machines.WorldSides.{kept_in}
 use Rattle.dr_model.specs.Machines.Worlds.{opening_world}
 use Rattle.dr_model.proofs.Worlds.OpeningWorlds.{opening_client}
 use Rattle.dr_disk.specs.Calls.{Unwritten}
-use Rattle.dr_disk.specs.Spans.{Frame, HavePassed, IsQuiet, Span}
+use Rattle.dr_disk.specs.Spans.{HavePassed, IsQuiet, Span}
 use Rattle.dr_disk.specs.State.{Always, DiskState, IsLawful}
 use Rattle.dr_disk.specs.declared.call.Call.{Call}
 use Rattle.dr_disk.proofs.Ranges.{frame_twice, torn_twice}
@@ -23,7 +23,6 @@ use Rattle.slot_store.specs.Slots.{recovered}
 use Rattle.slot_store.specs.Store.{IsOldOrNew, KeepsOutside}
 use Rattle.slot_store.specs.declared.errors.OpenError.{OpenError}
 use Rattle.slot_store.specs.declared.errors.OpenError.TheVariants.{Damaged, Memory, StoreFault}
-use Rattle.slot_store.specs.declared.opening.Found.{Found}
 use Rattle.slot_store.specs.declared.opening.Found.TheVariants.{Content}
 use Rattle.client.specs.Beginning.{IsEntryOrFirst, IsFirst, IsUnbegun, begin_refusal, begun_client}
 use Rattle.client.specs.Clients.{client_area}

@@ -1,15 +1,15 @@
 -- What beginning a client does.
-use Rattle.std.specs.Prelude.{IfOk, IsNone, IsSome, List, None, Ok, Option, Result, Some, [], ℕ, ◌≡◌, ◌⊎◌}
+use Rattle.std.specs.Prelude.{IsNone, IsSome, List, None, Some, [], ℕ, ◌≡◌, ◌⊎◌}
 use Rattle.dr_base.specs.Causes.{Rose}
 use Rattle.dr_base.specs.declared.position.Side.{Side}
-use Rattle.dr_disk.specs.Spans.{IsQuiet, Span}
+use Rattle.dr_disk.specs.Spans.{IsQuiet}
 use Rattle.dr_disk.specs.State.{DiskState}
 use Rattle.kem_laws.specs.Mechanism.{Mechanism}
 use Rattle.session_model.specs.Clients.{Client}
 use Rattle.session_model.specs.Schedule.{agreement_seed}
 use Rattle.session_model.specs.States.{opening_state}
 use Rattle.session_record.specs.Record.{client_of, record_text}
-use Rattle.slot_store.specs.Reading.{IsEntryOrLike, IsLikeRead, damaged, holds, no_content, reading}
+use Rattle.slot_store.specs.Reading.{IsEntryOrLike, damaged, holds, no_content, reading}
 use Rattle.slot_store.specs.Slots.{recovered}
 use Rattle.slot_store.specs.Store.{KeepsOutside}
 use Rattle.slot_store.specs.declared.errors.OpenError.{OpenError}

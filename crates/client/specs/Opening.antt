@@ -4,7 +4,6 @@ use Rattle.dr_base.specs.Causes.{Rose}
 use Rattle.dr_base.specs.declared.position.Side.{Side}
 use Rattle.dr_disk.specs.Spans.{IsQuiet, Span}
 use Rattle.dr_disk.specs.State.{Always, DiskState, IsSettled}
-use Rattle.dr_disk.specs.declared.call.Call.{Call}
 use Rattle.dr_model.specs.Machines.Worlds.{World}
 use Rattle.kem_laws.specs.Mechanism.{Mechanism}
 use Rattle.session_model.specs.Clients.{Client}

@@ -1,6 +1,5 @@
-use Rattle.std.proofs.Common.{List, None, Some, [], ap, refl, subst, sym, ℕ, ◌∙◌, ◌≡◌}
+use Rattle.std.proofs.Common.{None, Some, [], ap, refl, subst, sym, ◌∙◌}
 use Rattle.dr_disk.specs.Spans.{Span}
-use Rattle.kem_laws.specs.Mechanism.{Mechanism}
 use Rattle.session_model.specs.States.{State}
 use Rattle.session_record.specs.Record.{client_of, record_text}
 use Rattle.slot_store.specs.Found.{found_as, has_content}
