@@ -38,7 +38,7 @@ pub unbegun : {X : Type 0} (state : X → DiskState) (k : Mechanism) (key : List
     → IsUnbegun state k key start now (begin_refusal error)
 unbegun state k key start now Memory hurt memory fault = memory refl
 unbegun state k key start now (StoreFault call) hurt memory fault = fault call refl
-unbegun state k key start now (Damaged slot at) hurt memory fault = let all = hurt slot at refl in (all.3, all.1)
+unbegun state k key start now (Damaged slot at) hurt memory fault = let all = hurt slot at refl in (all.3, all.1, all.0)
 
 -- a record was found
 pub held : (o : Option (List ℕ)) → is_some o ≡ true

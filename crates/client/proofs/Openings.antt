@@ -38,7 +38,7 @@ pub unopened : {X : Type 0} (state : X → DiskState) (k : Mechanism) (start now
     → IsUnopened state k start now (open_refusal error)
 unopened state k start now Memory hurt memory fault = memory refl
 unopened state k start now (StoreFault call) hurt memory fault = fault call refl
-unopened state k start now (Damaged slot at) hurt memory fault = let all = hurt slot at refl in (all.3, all.1)
+unopened state k start now (Damaged slot at) hurt memory fault = let all = hurt slot at refl in (all.3, all.1, all.0)
 
 -- what was read without damage, where there is a record
 read_as : (k : Mechanism) → IsRead → (found : Found) (store : SlotStore) (s text : List ℕ) (kept : Client)

@@ -2,6 +2,7 @@
 use Rattle.std.specs.Prelude.{IsNone, IsSome, List, None, Some, [], ℕ, ◌≡◌, ◌⊎◌}
 use Rattle.dr_base.specs.Causes.{Rose}
 use Rattle.dr_base.specs.declared.position.Side.{Side}
+use Rattle.dr_disk.specs.Calls.{Unwritten}
 use Rattle.dr_disk.specs.Spans.{IsQuiet}
 use Rattle.dr_disk.specs.State.{DiskState}
 use Rattle.kem_laws.specs.Mechanism.{Mechanism}
@@ -55,7 +56,8 @@ HoldsRecord k disk = (s : List ℕ) → disk.seen ≡ Some s → (text : List �
 abbrev pub IsUnbegun : {X : Type 0} → (X → DiskState) → Mechanism → List ℕ → X → X → BeginRefusal → Type 0
 IsUnbegun state k key start now Memory = now ≡ start
 IsUnbegun state k key start now (StoreFault call) = Rose ((state start).faults call) ((state now).faults call)
-IsUnbegun state k key start now (Damaged slot at) = IsReadAs k (state start) (damaged slot at) × IsQuiet (state start) (state now)
+IsUnbegun state k key start now (Damaged slot at) =
+    IsReadAs k (state start) (damaged slot at) × IsQuiet (state start) (state now) × Unwritten (state start) (state now)
 IsUnbegun state k key start now Exists = HoldsRecord k (state start) × IsQuiet (state start) (state now)
 IsUnbegun state k key start now NoPair =
     IsReadAs k (state start) no_content × IsNone (k.meaning.pair_of (agreement_seed key)) × IsQuiet (state start) (state now)

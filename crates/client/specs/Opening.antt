@@ -2,6 +2,7 @@
 use Rattle.std.specs.Prelude.{Err, IfOk, List, None, Ok, Option, Result, Some, option_map, ℕ, ◌≡◌, ◌⊎◌}
 use Rattle.dr_base.specs.Causes.{Rose}
 use Rattle.dr_base.specs.declared.position.Side.{Side}
+use Rattle.dr_disk.specs.Calls.{Unwritten}
 use Rattle.dr_disk.specs.Spans.{IsQuiet, Span}
 use Rattle.dr_disk.specs.State.{Always, DiskState, IsSettled}
 use Rattle.dr_model.specs.Machines.Worlds.{World}
@@ -49,7 +50,8 @@ pub record IsOpened (k : Mechanism) (client : ClientNow) (start now : DiskState)
 abbrev pub IsUnopened : {X : Type 0} → (X → DiskState) → Mechanism → X → X → OpenRefusal → Type 0
 IsUnopened state k start now Memory = now ≡ start
 IsUnopened state k start now (StoreFault call) = Rose ((state start).faults call) ((state now).faults call)
-IsUnopened state k start now (Damaged slot at) = IsReadAs k (state start) (damaged slot at) × IsQuiet (state start) (state now)
+IsUnopened state k start now (Damaged slot at) =
+    IsReadAs k (state start) (damaged slot at) × IsQuiet (state start) (state now) × Unwritten (state start) (state now)
 IsUnopened state k start now NoSession = IsReadAs k (state start) no_content × IsQuiet (state start) (state now)
 
 -- what a read gives stands for a side of a world

@@ -98,8 +98,8 @@ fn client_in<K: Kem>(room: Room<K>, store: SlotStore) -> Client<K>
 
 impl<K: Kem> Client<K> {
     /// Opens the client that the disk holds: a sync, the reading of both slots, and the wiping of each slot that isn't
-    /// current. `NoSession` exactly where no slot is open, `Damaged` exactly where what was read is no record. `StoreFault`
-    /// only where a call on the disk failed, and with `Memory` none was made.
+    /// current. `NoSession` exactly where no slot is open, `Damaged` exactly where what was read is no record; then
+    /// nothing was written. `StoreFault` only where a call on the disk failed, and with `Memory` none was made.
     pub fn open<D: Disk>(alloc: Global, disk: &mut D) -> Result<Client<K>, OpenRefusal>
         requires { IsWithin client_area (D.state disk.old) }
         ensures opened { IfOk result (λ client. IsOpened K.mechanism client (D.state disk.old) (D.state disk.new)) }
