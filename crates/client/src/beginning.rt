@@ -83,9 +83,9 @@ fn refusal(error: OpenError) -> BeginRefusal
 
 impl<K: Kem> Client<K> {
     /// Begins the session of a side on a disk that holds none: the disk is opened, and the first record is put. `Exists`
-    /// exactly where a slot is open and its record reads, `Damaged` exactly where what was read is no record (then nothing was written), `NoPair`
-    /// exactly where the agreement seed of the key has none. `StoreFault` only where a call on the disk failed, and with
-    /// `Memory` none was made.
+    /// exactly where a slot is open and its record reads, `Damaged` exactly where what was read is no record; then nothing
+    /// was written. `NoPair` exactly where the agreement seed of the key has none. `StoreFault` only where a call on the
+    /// disk failed, and with `Memory` none was made.
     pub fn begin<D: Disk>(
         alloc: Global,
         disk: &mut D,

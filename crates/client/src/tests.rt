@@ -72,3 +72,57 @@ fn begun_once(rt: HostRuntime) -> Result<(), Fail> {
     assert!(rt; matches!(&again, Err(BeginRefusal::Exists)));
     Ok(())
 }
+
+/// The oldest packet of an outbox.
+fn first_packet(alloc: Global, client: &Client<OpenKem>) -> Result<Vec<u8>, Fail> {
+    match client.outbox(0) {
+        Some((_, packet)) => Ok(packet.to_vec(alloc)?),
+        None => Err(Fail::from("no packet")),
+    }
+}
+
+/// The packet of the text "hi", which Second says.
+fn packet_of_second(alloc: Global) -> Result<Vec<u8>, Fail> {
+    let mut disk = MemoryDisk::new(alloc, SIZE)?;
+    let mut draws = SteadyDraws::new(alloc, &[Key32 { bytes: [9; 32] }])?;
+    if disk.size() < 2 * SLOT as u64 {
+        return Err(Fail::from("no room"));
+    }
+    let mut client = Client::<OpenKem>::begin(
+        alloc,
+        &mut disk,
+        Side::Second,
+        &Key32 { bytes: [7; 32] },
+    )?;
+    let _position = client.say(&mut disk, b"hi", &mut draws)?;
+    first_packet(alloc, &client)
+}
+
+/// First takes a packet, and is done with its text: how many texts stand before and after.
+fn take_and_finish(alloc: Global, packet: &[u8]) -> Result<(u32, u32), Fail> {
+    let mut disk = MemoryDisk::new(alloc, SIZE)?;
+    if disk.size() < 2 * SLOT as u64 {
+        return Err(Fail::from("no room"));
+    }
+    let mut client = Client::<OpenKem>::begin(
+        alloc,
+        &mut disk,
+        Side::First,
+        &Key32 { bytes: [7; 32] },
+    )?;
+    let _position = client.take(&mut disk, packet)?;
+    let before = client.state().inbox;
+    client.done(&mut disk, 1)?;
+    Ok((before, client.state().inbox))
+}
+
+// What one side says the other takes.
+#[test]
+fn said_and_taken(rt: HostRuntime) -> Result<(), Fail> {
+    let alloc = rt.alloc();
+    let packet = packet_of_second(alloc)?;
+    let (before, after) = take_and_finish(alloc, packet.as_slice())?;
+    assert_eq!(rt; before, 1);
+    assert_eq!(rt; after, 0);
+    Ok(())
+}
