@@ -1,6 +1,6 @@
 -- What saying a text does, by whether a seed was drawn for it.
 use Rattle.std.proofs.Common.{Bool, Err, List, None, Ok, Option, Result, Some, [], ap, false, subst, sym, true, ℕ, ◌∙◌, ◌∷◌, ◌≡◌}
-use Rattle.std.specs.Prelude.{is_none, length, ◌&&◌}
+use Rattle.std.specs.Prelude.{OnOk, is_none, length, ◌&&◌}
 use Rattle.dr_base.specs.Causes.{Rose}
 use Rattle.dr_base.specs.declared.key.Key32.{Key32}
 use Rattle.dr_base.specs.declared.position.Position.{Position}
@@ -11,7 +11,7 @@ use Rattle.dr_ports.specs.Seeds.{Seeds, drawn}
 use Rattle.kem_laws.specs.Mechanism.{Mechanism}
 use Rattle.session_model.specs.Clients.{say_check, say_on}
 use Rattle.session_model.specs.declared.answer.Refusal.{Refusal}
-use Rattle.client.specs.Clients.{ClientNow}
+use Rattle.client.specs.Clients.{ClientNow, IsReady}
 use Rattle.client.specs.Outcomes.{Acts, said_as}
 use Rattle.client.specs.Saying.{HandsBack, Says, asks_seed, draw_failed, with_draw, without_draw}
 use Rattle.client.specs.declared.refusals.SayRefusal.{SayRefusal}
@@ -61,3 +61,12 @@ module _ {X W : Type 0} (state : X → DiskState) (coming : W → Option Seeds) 
       → coming left ≡ coming source → new ≡ old → now ≡ start → Said (Err DrawFault)
   says_nothing unclosed is rose same stays leaves =
       draw_failed (asks_by old (length text) (Ok true) unclosed is) rose same stays leaves
+
+  -- a text that was said leaves the client open, and its disk at rest
+  pub ready_after : (result : Result Position SayRefusal) → Said result
+      → OnOk result ((new.closed ≡ None) × IsReady new.kept new.store (state now))
+  ready_after result (without_draw (Ok p) none leaves acts) = (acts.stays_open, acts.disk.ready)
+  ready_after result (without_draw (Err e) none leaves acts) = tt
+  ready_after result (with_draw (Ok p) seed asks long drew quiet acts back) = (acts.stays_open, acts.disk.ready)
+  ready_after result (with_draw (Err e) seed asks long drew quiet acts back) = tt
+  ready_after result (draw_failed asks rose same stays leaves) = tt

@@ -1,6 +1,6 @@
 //! Texts are said.
 
-ghost use Rattle.std.specs.Prelude.{◌≡◌, ◌<◌, ◌++◌, ◌∷◌, ℕ, List, [], Option, None, Some, Ok, IfOk, is_some, length};
+ghost use Rattle.std.specs.Prelude.{◌≡◌, ◌<◌, ◌++◌, ◌∷◌, ℕ, List, [], Option, None, Some, Ok, IfOk, OnOk, is_some, length};
 ghost use Rattle.dr_base.specs.declared.position.Side.{Side};
 ghost use Rattle.dr_model.specs.Machines.Acts.{act_in, said_by, saying};
 ghost use Rattle.dr_model.specs.Machines.Worlds.{World};
@@ -57,6 +57,8 @@ impl<K: Kem> Client<K> {
         // Exactly what the side makes of it, but for a failing draw or call on the disk.
         ensures exact { Says D.state W.coming W.faults K.mechanism text.now
             self.old self.new disk.old disk.new draws.old draws.new result }
+        ensures ready { OnOk result ((self.new.closed ≡ None)
+            × IsReady self.new.kept self.new.store (D.state disk.new)) }
         // In each world that the client stands for, at every moment.
         ensures in_worlds { (w : World) (side : Side) → IsIn K.mechanism w side self.old
             → SaysIn K.mechanism w side text.now self.old self.new (D.state disk.old) (D.state disk.new) (said_as result) }

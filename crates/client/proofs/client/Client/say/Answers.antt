@@ -2,6 +2,7 @@ use Rattle.std.proofs.Common.{List, Option, ℕ}
 use Rattle.dr_model.specs.Machines.Acts.{act_in, saying}
 use Rattle.client.specs.InWorlds.{IsIn}
 use Rattle.client.specs.Spent.{IsSpent}
+use Rattle.client.proofs.Drawing.{ready_after}
 use Rattle.client.proofs.Spends.{if_ok, say_spends, says_in}
 use Rattle.client.proofs.client.Client.say.Goals as goal
 
@@ -21,3 +22,9 @@ returns-clause-spent g c =
     say_spends k c.grounds.ensures w side c.args.text.now c.args.self.now c.say_exact.new.self is
     g.D.Disk.state g.W.Draws.coming g.W.Draws.faults c.args.disk.now c.say_exact.new.disk c.args.draws.now c.say_exact.new.draws
     c.requires c.say_exact.result c.say_exact.ensures.exact)
+
+pub returns-clause-ready : goal.returns-clause-ready
+returns-clause-ready g c =
+    ready_after g.D.Disk.state g.W.Draws.coming g.W.Draws.faults g.K.Kem.mechanism c.args.text.now c.args.self.now
+    c.say_exact.new.self c.args.disk.now c.say_exact.new.disk c.args.draws.now c.say_exact.new.draws c.say_exact.result
+    c.say_exact.ensures.exact
