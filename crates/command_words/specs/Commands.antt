@@ -1,0 +1,74 @@
+-- What the words of a command say.
+use Rattle.std.specs.Prelude.{ℕ, nat_le, List, [], ◌∷◌, Option, Some, None, option_map, option_and_then, codes, find, if◌then◌else◌}
+use Rattle.std.specs.Str.{bytes_eq}
+use Rattle.dr_base.specs.declared.limits.TheConstants.{INBOX_LIMIT, OUTBOX_LIMIT}
+use Rattle.dr_base.specs.declared.position.Side.{Side}
+use Rattle.dr_base.specs.declared.position.Side.TheVariants.{First, Second}
+use Rattle.command_words.specs.Numbers.{number_read}
+use Rattle.command_words.specs.Values.{values_of}
+
+-- the work that a command asks for
+pub data Work : Type 0 where
+  begins : Side → Work
+  says : List ℕ → Work
+  takes : Work
+  shows_inbox : Work
+  drops_done : ℕ → Work
+  drops_sent : ℕ → Work
+  shows_outbox : Work
+  shows_state : Work
+  plays : Work
+
+-- `first` or `second`
+unfoldable pub side_read : List ℕ → Option Side
+side_read word =
+    if bytes_eq word (codes "first") then Some First
+    else (if bytes_eq word (codes "second") then Some Second else None)
+
+-- a number of at most `most`
+unfoldable pub amount_read : ℕ → List ℕ → Option ℕ
+amount_read most word = option_and_then (λ n. if nat_le n most then Some n else None) (number_read word)
+
+-- a command without a value, or one whose value is read so
+pub data Reading : Type 0 where
+  bare : Work → Reading
+  valued : (List ℕ → Option Work) → Reading
+
+-- a command's name, and how what follows it is read
+abbrev pub Row : Type 0
+Row = List ℕ × Reading
+
+abbrev pub rows : List Row
+rows =
+    (codes "begin", valued (λ word. option_map begins (side_read word)))
+    ∷ (codes "say", valued (λ word. Some (says word)))
+    ∷ (codes "take", bare takes)
+    ∷ (codes "inbox", bare shows_inbox)
+    ∷ (codes "done", valued (λ word. option_map drops_done (amount_read INBOX_LIMIT word)))
+    ∷ (codes "sent", valued (λ word. option_map drops_sent (amount_read OUTBOX_LIMIT word)))
+    ∷ (codes "outbox", bare shows_outbox)
+    ∷ (codes "state", bare shows_state)
+    ∷ (codes "duet", bare plays)
+    ∷ []
+
+-- exactly as many values as the command has
+abbrev pub values_read : Reading → List (List ℕ) → Option Work
+values_read (bare work) [] = Some work
+values_read (bare work) (value ∷ more) = None
+values_read (valued read) [] = None
+values_read (valued read) (value ∷ []) = read value
+values_read (valued read) (value ∷ next ∷ more) = None
+
+-- the row of a name
+abbrev pub row_of : List Row → List ℕ → Option Row
+row_of table name = find (λ row. bytes_eq row.0 name) table
+
+-- a name of the table, and behind it the command's values
+abbrev pub command_in : List Row → List (List ℕ) → Option Work
+command_in table [] = None
+command_in table (name ∷ behind) =
+    option_and_then (λ row. option_and_then (values_read row.1) (values_of behind)) (row_of table name)
+
+-- the command that the words are
+unfoldable pub command_of : List (List ℕ) → Option Work
+command_of words = command_in rows words

@@ -1,0 +1,4 @@
+pub mod Values
+pub mod Numbers
+pub mod Commands
+pub mod Seen

@@ -1,0 +1,15 @@
+-- Commands as code holds them.
+use Rattle.command_words.specs.Commands.{Work, begins, says, takes, shows_inbox, drops_done, drops_sent, shows_outbox, shows_state, plays}
+use Rattle.command_words.specs.declared.command.Command.{Command}
+use Rattle.command_words.specs.declared.command.Command.TheVariants.{Begin, Say, Take, Inbox, Done, Sent, Outbox, State, Duet}
+
+abbrev pub work_of : Command → Work
+work_of (Begin side) = begins side
+work_of (Say text) = says text.now
+work_of Take = takes
+work_of Inbox = shows_inbox
+work_of (Done n) = drops_done n
+work_of (Sent n) = drops_sent n
+work_of Outbox = shows_outbox
+work_of State = shows_state
+work_of Duet = plays

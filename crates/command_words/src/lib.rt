@@ -1,0 +1,18 @@
+//! The words of a command: what the program's arguments behind its name ask for.
+//!
+//! `specs/Commands` has the table of the commands, `specs/Values` which of the words behind a name are its values.
+//!
+//! ```rust
+//! use command_words::{Command, parse};
+//!
+//! match parse(alloc, words)? {
+//!     Some(Command::Say(text)) => .. // `say TEXT`
+//!     Some(other) => ..
+//!     None => .. // the words are no command
+//! }
+//! ```
+#![tactic(auto)]
+
+pub use command::Command;
+
+mod command;
