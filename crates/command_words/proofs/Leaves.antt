@@ -12,7 +12,7 @@ use Rattle.clap.specs.Simple.{Shape}
 use Rattle.clap.specs.Faults.{level_fault, turn_fault}
 use Rattle.clap.proofs.OnLiterals.{clap_on_literals}
 use Rattle.command_words.specs.Values.{is_flag, is_separator, values_of}
-use Rattle.command_words.proofs.Application.{built_bare, built_value, built_valued}
+use Rattle.command_words.proofs.Building.{built_bare, built_value, built_valued}
 use Rattle.command_words.proofs.Levels.{end_fault, fault_ends, fault_fails, fault_from, fault_passes, full_holds, full_passes, held_after, past_separator}
 use Rattle.command_words.proofs.Turns.{IsFull, surplus_fails, walk_at}
 use Rattle.command_words.proofs.Values.{one_value, values-plain, values-separator}
@@ -22,23 +22,26 @@ use Rattle.command_words.proofs.WordKinds.{Kind, divides, stands, long, short, k
 abbrev pub leaf_fault : Shape → List Text → Kinds
 leaf_fault s words = level_fault s [] nothing_held words false []
 
+-- the value that was read
+abbrev pub value_found : List Row → Option Text
+value_found rows = first_of (codes "value") rows
+
 -- ---- a command without a value
 
 bare_full : (name : Text) → IsFull (built_bare name) nothing_held 1
 bare_full name = record { by_index = refl; by_long = λ word. refl; by_short = λ x. refl; no_skip = refl }
 
-pub bare_holds : (name : Text) (words : List Text) → leaf_fault (built_bare name) words ≡ [] → values_of words ≡ Some []
-bare_holds name words e = (full_holds (built_bare name) nothing_held 1 words (bare_full name) e).0
+pub bare_holds : (name : Text) (words : List Text) → leaf_fault (built_bare name) words ≡ []
+    → (values_of words ≡ Some []) × (value_found (rows_after [] [] words) ≡ None)
+bare_holds name words e =
+    let full = full_holds (built_bare name) nothing_held 1 words (bare_full name) e in
+    (full.0, ap (λ h. value_found (finished [] h)) full.1)
 
 pub bare_passes : (name : Text) (words : List Text) → values_of words ≡ Some [] → leaf_fault (built_bare name) words ≡ []
 unfolding clap_on_literals
 bare_passes name words e = full_passes (built_bare name) nothing_held 1 words refl e
 
 -- ---- a command with a value
-
--- the value that was read
-abbrev pub value_found : List Row → Option Text
-value_found rows = first_of (codes "value") rows
 
 holding : Text → Held
 holding value = record { rows = []; pending = Some (codes "value", value ∷ []); skip = 0 }

@@ -1,7 +1,11 @@
-pub mod Application
+pub mod Building
 pub mod WordKinds
 pub mod Values
 pub mod Turns
 pub mod Levels
 pub mod Leaves
 pub mod Names
+pub mod Readings
+pub mod NumberTests
+pub mod Rest
+pub mod Answering

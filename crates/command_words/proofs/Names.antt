@@ -1,8 +1,9 @@
 -- What clap makes of a whole line of words, by the row of its first word.
-use Rattle.std.proofs.Common.{◌≡◌, ◌∙◌, ℕ, ◌||◌, ◌&&◌, Bool, true, false, cond, refl, sym, ap, ap₂, subst, List, [], ◌∷◌, map, Option, Some, None, codes}
+use Rattle.std.proofs.Common.{◌==◌, arith, ◌≡◌, ◌∙◌, ℕ, ◌||◌, ◌&&◌, Bool, true, false, cond, refl, sym, ap, ap₂, subst, List, [], ◌∷◌, map, Option, Some, None, codes}
 use Rattle.std.specs.Prelude.{find, fold, is_some}
 use Rattle.std.specs.Option.{option_map, option_map_or}
 use Rattle.std.specs.Str.{bytes_eq}
+use Rattle.std.proofs.lemmas.Bool.Decides.{nat_tests}
 use Rattle.std.proofs.lemmas.Slice.Eq.{bytes_eq-Decides}
 use Rattle.clap.specs.Kinds.{Kinds, or_else}
 use Rattle.clap.specs.Walk.{Held, Names, Row as Found, Text, finished, settled, Walk, answers_to, idle, nothing_held, rows_after, stop_after, subcommand_met, walk, walked}
@@ -14,7 +15,8 @@ use Rattle.clap.proofs.OnLiterals.{clap_on_literals}
 use Rattle.clap.proofs.WalkLemmas.{walk_stopped}
 use Rattle.command_words.specs.Commands.{Reading, bare, valued, Row, row_of}
 use Rattle.command_words.specs.Values.{is_separator}
-use Rattle.command_words.proofs.Application.{application, built_bare, built_for, built_row, built_top, built_valued, subs_are}
+use Rattle.command_words.specs.Application.{application}
+use Rattle.command_words.proofs.Building.{built_bare, built_for, built_row, built_top, built_valued, subs_are}
 use Rattle.command_words.proofs.Leaves.{leaf_fault}
 use Rattle.command_words.proofs.Turns.{IsFull, first_fails, first_none, next_fails, full_fails, surplus_fails, walk_at}
 
@@ -24,12 +26,21 @@ or_false false = refl
 
 -- ---- a name among the subcommands is one of the table
 
-answers : (row : Row) (word : Text) → answers_to word (label_of (built_row row)) ≡ bytes_eq row.0 word
+either_way : (a b : Text) → bytes_eq a b ≡ bytes_eq b a
+either_way [] [] = refl
+either_way [] (y ∷ ys) = refl
+either_way (x ∷ xs) [] = refl
+either_way (x ∷ xs) (y ∷ ys) = ap₂ ◌&&◌ (same x y) (either_way xs ys)
+  where
+    same : (m n : ℕ) → (m == n) ≡ (n == m)
+    same m n = grind (arith, nat_tests)
+
+answers : (row : Row) (word : Text) → answers_to word (label_of (built_row row)) ≡ bytes_eq word row.0
 answers row word = go row.0 row.1
   where
-    go : (name : Text) (reading : Reading) → answers_to word (label_of (built_for name reading)) ≡ bytes_eq name word
-    go name (bare work) = or_false (bytes_eq name word)
-    go name (valued read) = or_false (bytes_eq name word)
+    go : (name : Text) (reading : Reading) → answers_to word (label_of (built_for name reading)) ≡ bytes_eq word name
+    go name (bare work) = or_false (bytes_eq name word) ∙ either_way name word
+    go name (valued read) = or_false (bytes_eq name word) ∙ either_way name word
 
 name_kept : (row : Row) → (built_row row).name ≡ row.0
 name_kept row = go row.0 row.1
@@ -40,7 +51,7 @@ name_kept row = go row.0 row.1
 
 shape_found : (table : List Row) (word : Text) → find (λ s. answers_to word (label_of s)) (map built_row table) ≡ option_map built_row (row_of table word)
 shape_found [] word = refl
-shape_found (row ∷ rest) word = rw (answers row word) (go (bytes_eq row.0 word) (shape_found rest word))
+shape_found (row ∷ rest) word = rw (answers row word) (go (bytes_eq word row.0) (shape_found rest word))
   where
     go : (b : Bool) → find (λ s. answers_to word (label_of s)) (map built_row rest) ≡ option_map built_row (row_of rest word)
         → cond b (Some (built_row row)) (find (λ s. answers_to word (label_of s)) (map built_row rest)) ≡ option_map built_row (cond b (Some row) (row_of rest word))
@@ -52,7 +63,7 @@ names_in table = map label_of (map built_row table)
 
 name_found : (table : List Row) (word : Text) → subcommand_met (names_in table) idle word ≡ option_map (λ row. row.0) (row_of table word)
 name_found [] word = refl
-name_found (row ∷ rest) word = rw (answers row word) (go (bytes_eq row.0 word) (name_found rest word))
+name_found (row ∷ rest) word = rw (answers row word) (go (bytes_eq word row.0) (name_found rest word))
   where
     go : (b : Bool) → subcommand_met (names_in rest) idle word ≡ option_map (λ r. r.0) (row_of rest word)
         → option_map (λ (s : Text × List Text). s.0) (cond b (Some (label_of (built_row row))) (find (answers_to word) (names_in rest)))
@@ -63,12 +74,12 @@ name_found (row ∷ rest) word = rw (answers row word) (go (bytes_eq row.0 word)
 -- the row of a name has that name
 pub row_name : (table : List Row) (word : Text) (row : Row) → row_of table word ≡ Some row → row.0 ≡ word
 row_name [] word row e = cc
-row_name (first ∷ rest) word row e = go (bytes_eq first.0 word) refl (row_name rest word row) e
+row_name (first ∷ rest) word row e = go (bytes_eq word first.0) refl (row_name rest word row) e
   where
-    go : (b : Bool) → bytes_eq first.0 word ≡ b → (row_of rest word ≡ Some row → row.0 ≡ word) → cond b (Some first) (row_of rest word) ≡ Some row → row.0 ≡ word
+    go : (b : Bool) → bytes_eq word first.0 ≡ b → (row_of rest word ≡ Some row → row.0 ≡ word) → cond b (Some first) (row_of rest word) ≡ Some row → row.0 ≡ word
     go true is later e =
         let same : first ≡ row = cc in
-        ap (λ (r : Row). r.0) (sym same) ∙ (bytes_eq-Decides first.0 word).0 is
+        ap (λ (r : Row). r.0) (sym same) ∙ sym ((bytes_eq-Decides word first.0).0 is)
     go false is later e = later e
 
 -- ---- the application as clap builds it

@@ -61,13 +61,16 @@ values_read (valued read) (value ∷ next ∷ more) = None
 
 -- the row of a name
 abbrev pub row_of : List Row → List ℕ → Option Row
-row_of table name = find (λ row. bytes_eq row.0 name) table
+row_of table name = find (λ row. bytes_eq name row.0) table
 
--- a name of the table, and behind it the command's values
+-- a name of the table with these values
+abbrev pub command_named : List Row → List ℕ → List (List ℕ) → Option Work
+command_named table name values = option_and_then (λ row. values_read row.1 values) (row_of table name)
+
+-- a name, and behind it the values
 abbrev pub command_in : List Row → List (List ℕ) → Option Work
 command_in table [] = None
-command_in table (name ∷ behind) =
-    option_and_then (λ row. option_and_then (values_read row.1) (values_of behind)) (row_of table name)
+command_in table (name ∷ behind) = option_and_then (command_named table name) (values_of behind)
 
 -- the command that the words are
 unfoldable pub command_of : List (List ℕ) → Option Work

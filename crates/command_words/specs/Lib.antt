@@ -1,4 +1,5 @@
 pub mod Values
 pub mod Numbers
 pub mod Commands
+pub mod Application
 pub mod Seen

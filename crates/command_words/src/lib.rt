@@ -14,5 +14,9 @@
 #![tactic(auto)]
 
 pub use command::Command;
+pub use words::parse;
 
+mod application;
 mod command;
+mod named;
+mod words;

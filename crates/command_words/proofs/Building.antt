@@ -1,32 +1,11 @@
--- The command line as clap holds it: one subcommand for each row of the table.
+-- The application as clap builds it.
 use Rattle.std.proofs.Common.{◌≡◌, ◌∙◌, ℕ, refl, ap, ap₂, true, false, List, [], ◌∷◌, map, codes}
 use Rattle.clap.specs.Walk.{Rule}
-use Rattle.clap.specs.Simple.{App, Shape, built, filled, new_rule, new_shape, with_index, built_leaf, inherited, with_leaf_noted, marked_built}
+use Rattle.clap.specs.Simple.{App, Shape, built, is_simple, filled, new_rule, new_shape, with_index, built_leaf, inherited, with_leaf_noted, marked_built}
 use Rattle.clap.specs.Faults.{is_simple_and_free}
 use Rattle.clap.proofs.OnLiterals.{clap_on_literals}
+use Rattle.command_words.specs.Application.{application, shape_for, top_shape, value_rule}
 use Rattle.command_words.specs.Commands.{Reading, bare, valued, Row, rows}
-
--- the value of a command that has one
-abbrev pub value_rule : Rule
-value_rule = record (new_rule (codes "value")) { required = true }
-
-abbrev pub shape_for : List ℕ → Reading → Shape
-shape_for name (bare work) = new_shape name
-shape_for name (valued read) = record (new_shape name) { rules = value_rule ∷ [] }
-
-abbrev pub shape_of_row : Row → Shape
-shape_of_row row = shape_for row.0 row.1
-
-abbrev pub top_shape : Shape
-top_shape = record (new_shape (codes "messenger")) {
-  is_leaf = false;
-  no_binary_name = true;
-  disable_help_flag = true;
-  disable_help_subcommand = true;
-}
-
-abbrev pub application : List Row → App
-application table = record { top = top_shape; subs = map shape_of_row table }
 
 -- ---- built
 
@@ -40,7 +19,7 @@ finished_shape s = record s {
 }
 
 abbrev pub built_top : Shape
-built_top = finished_shape top_shape
+built_top = finished_shape (record top_shape { is_leaf = false })
 
 abbrev pub built_value : Rule
 built_value = with_index 1 (filled value_rule)
@@ -65,10 +44,14 @@ pub subs_are : (table : List Row) → (built (application table)).subs ≡ map b
 subs_are [] = refl
 subs_are (row ∷ rest) = ap₂ (λ (s : Shape) (ss : List Shape). s ∷ ss) (go row.0 row.1) (subs_are rest)
   where
-    go : (name : List ℕ) (reading : Reading) → built_leaf (inherited (with_leaf_noted (marked_built top_shape)) (shape_for name reading)) ≡ built_for name reading
+    go : (name : List ℕ) (reading : Reading) → built_leaf (inherited (with_leaf_noted (marked_built (record top_shape { is_leaf = false }))) (shape_for name reading)) ≡ built_for name reading
     go name (bare work) = refl
     go name (valued read) = refl
 
 pub is_simple_and_free_is : is_simple_and_free (application rows) ≡ true
 unfolding clap_on_literals
 is_simple_and_free_is = refl
+
+pub is_simple_is : is_simple (application rows) ≡ true
+unfolding clap_on_literals
+is_simple_is = refl
