@@ -96,13 +96,14 @@ taken_holds : (name word : Text) (rest : List Text) → IsTaken name word false 
 unfolding IsTaken
 taken_holds name word rest taken e =
     let full = full_holds (built_valued name) (holding word) 2 rest (valued_full name word)
-    (sym (fault_passes (built_valued name) (walk_at nothing_held 1 false) (walk_at (holding word) 2 false) word rest taken.0 taken.1) ∙ e) in
-    (full.0, ap (λ w. value_found (finished (built_value ∷ []) (held_after (built_valued name) w rest))) taken.1
-    ∙ ap (λ h. value_found (finished (built_value ∷ []) h)) full.1 ∙ holding_found word)
+    (sym (fault_passes (built_valued name) (walk_at nothing_held 1 false) (walk_at (holding word) 2 false) word rest taken.0 taken.1) ∙ e) in (
+      full.0,
+      ap (λ w. value_found (finished (built_value ∷ []) (held_after (built_valued name) w rest))) taken.1
+          ∙ ap (λ h. value_found (finished (built_value ∷ []) h)) full.1 ∙ holding_found word,
+    )
 
 module _ (name word : Text) (rest : List Text) (utf8 : (value : Text) → value_found (rows_after (built_value ∷ []) [] (word ∷ rest)) ≡ Some value → IsUtf8 value)
     (passes : fault_from (built_valued name) (walk_at nothing_held 1 false) (word ∷ rest) ≡ []) where
-
   plain_holds : is_separator word ≡ false → is_flag word ≡ false → IsTaken name word false → HasValue (word ∷ rest) (rows_after (built_value ∷ []) [] (word ∷ rest))
   plain_holds e f taken =
       let found = taken_holds name word rest taken passes in
@@ -128,9 +129,12 @@ trailing_holds : (name : Text) (word : Text) (rest : List Text) → is_separator
     → HasValue (word ∷ rest) (rows_after (built_value ∷ []) [] (word ∷ rest))
 unfolding clap_on_literals IsTaken
 trailing_holds name word [] is e held = cc
-trailing_holds name word (value ∷ []) is e held =
-    (value, ap (λ h. value_found (finished (built_value ∷ []) h)) held
-    ∙ ap (λ w. value_found (finished (built_value ∷ []) w.held)) (trailing_taken name value).1 ∙ holding_found value, values-separator word (value ∷ []) is)
+trailing_holds name word (value ∷ []) is e held = (
+  value,
+  ap (λ h. value_found (finished (built_value ∷ []) h)) held
+      ∙ ap (λ w. value_found (finished (built_value ∷ []) w.held)) (trailing_taken name value).1 ∙ holding_found value,
+  values-separator word (value ∷ []) is,
+)
 trailing_holds name word (value ∷ next ∷ more) is e held =
     let taken = trailing_taken name value in
     absurd (fault_fails (built_valued name) (walk_at (holding value) 2 true) next more
@@ -143,8 +147,8 @@ unfolding clap_on_literals
 valued_holds name [] utf8 e = cc
 valued_holds name (word ∷ rest) utf8 e = elim (kind_of word) [
   | divides is ↦ (
-    let past = past_separator (built_valued name) nothing_held 1 word rest is in
-    trailing_holds name word rest is (sym past.0 ∙ e) past.1)
+      let past = past_separator (built_valued name) nothing_held 1 word rest is in
+      trailing_holds name word rest is (sym past.0 ∙ e) past.1)
   | stands a f l h ↦ plain_holds name word rest utf8 e a f (plain_taken name word a l h)
   | long a f p l ↦ absurd (long_fails name word rest utf8 e p a l)
   | short a f l y zs h is ↦ absurd (short_fails name word rest utf8 e y zs a l h is)
@@ -154,14 +158,14 @@ pub valued_passes : (name : Text) (words : List Text) (value : Text) → values_
 unfolding IsTaken
 valued_passes name words value e = elim (one_value words value e) [
   | inl (word, is, all) ↦ (
-    let taken = trailing_taken name value in
-    ap (leaf_fault (built_valued name)) all ∙ (past_separator (built_valued name) nothing_held 1 word (value ∷ []) is).0
-    ∙ fault_passes (built_valued name) (walk_at nothing_held 1 true) (walk_at (holding value) 2 true) value [] taken.0 taken.1
-    ∙ fault_ends (built_valued name) (walk_at (holding value) 2 true) ∙ holding_passes name value)
+      let taken = trailing_taken name value in
+      ap (leaf_fault (built_valued name)) all ∙ (past_separator (built_valued name) nothing_held 1 word (value ∷ []) is).0
+      ∙ fault_passes (built_valued name) (walk_at nothing_held 1 true) (walk_at (holding value) 2 true) value [] taken.0 taken.1
+      ∙ fault_ends (built_valued name) (walk_at (holding value) 2 true) ∙ holding_passes name value)
   | inr (rest, apart, plain, all, none) ↦ (
-    let plainly = plain_is value apart plain in
-    let taken = plain_taken name value apart plainly.0 plainly.1 in
-    ap (leaf_fault (built_valued name)) all
-    ∙ fault_passes (built_valued name) (walk_at nothing_held 1 false) (walk_at (holding value) 2 false) value rest taken.0 taken.1
-    ∙ full_passes (built_valued name) (holding value) 2 rest (holding_passes name value) none)
+      let plainly = plain_is value apart plain in
+      let taken = plain_taken name value apart plainly.0 plainly.1 in
+      ap (leaf_fault (built_valued name)) all
+      ∙ fault_passes (built_valued name) (walk_at nothing_held 1 false) (walk_at (holding value) 2 false) value rest taken.0 taken.1
+      ∙ full_passes (built_valued name) (holding value) 2 rest (holding_passes name value) none)
 ]

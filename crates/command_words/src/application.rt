@@ -9,14 +9,22 @@ use clap::{Arg, Command};
 use std::alloc::{AllocError, Global};
 
 /// The application with one more subcommand, which has no value.
-fn with_bare<'a>(alloc: Global, application: Command<'a>, name: &'a str) -> Result<Command<'a>, AllocError>
+fn with_bare<'a>(
+    alloc: Global,
+    application: Command<'a>,
+    name: &'a str,
+) -> Result<Command<'a>, AllocError>
     ensures { IfOk result (λ wider. app_of wider ≡ with_subcommand (app_of application.entry) (new_shape name.now)) }
 {
     application.subcommand(Command::new(alloc, name))
 }
 
 /// The application with one more subcommand, which has a value.
-fn with_valued<'a>(alloc: Global, application: Command<'a>, name: &'a str) -> Result<Command<'a>, AllocError>
+fn with_valued<'a>(
+    alloc: Global,
+    application: Command<'a>,
+    name: &'a str,
+) -> Result<Command<'a>, AllocError>
     ensures { IfOk result (λ wider. app_of wider ≡ with_subcommand (app_of application.entry) (value_shape name.now)) }
 {
     let value = Arg::new(alloc, "value").required(true);

@@ -3,7 +3,7 @@
 use dr_base::Side;
 
 /// A command, with its value.
-#[derive(Clone, Copy, Debug, PartialEq, Eq)]
+#[derive(Clone, Copy, PartialEq, Eq)]
 pub enum Command<'a> {
     /// A session of this side begins.
     Begin(Side),

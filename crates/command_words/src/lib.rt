@@ -19,4 +19,6 @@ pub use words::parse;
 mod application;
 mod command;
 mod named;
+#[cfg(test)]
+mod tests;
 mod words;

@@ -92,7 +92,7 @@ fn with_value<'a>(name: &str, value: &'a str) -> Option<Command<'a>>
 }
 
 /// The command of a name with the value that was given, if one was.
-pub fn command_of<'a>(name: &str, value: Option<&'a str>) -> Option<Command<'a>>
+pub fn command_named<'a>(name: &str, value: Option<&'a str>) -> Option<Command<'a>>
     ensures read { option_map work_of result ≡ command_named rows name.now (option_to_list (option_map (λ s. s.now) value.entry)) }
     ensures text { IfSome value.entry (λ s. IsUtf8 s.now) }
 {

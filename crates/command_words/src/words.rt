@@ -37,7 +37,7 @@ pub fn parse<'a>(alloc: Global, words: &'a [String]) -> Result<Option<Command<'a
         }
     };
     match matches.subcommand() {
-        Some((name, given)) => Ok(named::command_of(name, given.get_str("value"))),
+        Some((name, given)) => Ok(named::command_named(name, given.get_str("value"))),
         None => Ok(None),
     }
 }

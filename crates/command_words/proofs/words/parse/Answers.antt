@@ -9,10 +9,10 @@ returns-in-Err c = failed (app_of c.in_ok-application.field-0) (map string_bytes
     c.in-Err.ensures.kinds (λ memory. true≢false (sym (c.if-is_memory.ensures.1 memory)))
 
 pub returns-in-Some : goal.returns-in-Some
-returns-in-Some c = c.command_of.ensures.read
+returns-in-Some c = c.command_named.ensures.read
     ∙ answered (app_of c.in_ok-application.field-0) (map string_bytes c.args.words.now) c.in_ok-application.ensures c.in-Ok.matches
     c.in-Ok.ensures.kinds c.in-Ok.ensures.matches c.in-Some.given.now c.in-Some.name.now (option_map (λ s. s.now) c.get_str.result)
-    c.in-Some.ensures.name c.in-Some.ensures.rows c.get_str.ensures (text_is c.get_str.result c.command_of.ensures.text)
+    c.in-Some.ensures.name c.in-Some.ensures.rows c.get_str.ensures (text_is c.get_str.result c.command_named.ensures.text)
 
 pub returns : goal.returns
 returns c = unanswered (app_of c.in_ok-application.field-0) (map string_bytes c.args.words.now) c.in_ok-application.ensures c.in-Ok.matches
