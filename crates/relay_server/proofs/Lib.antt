@@ -1,0 +1,5 @@
+pub mod Exits
+pub mod Pulls
+pub mod Replacing
+pub mod Rounds
+pub mod Serve

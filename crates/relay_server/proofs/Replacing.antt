@@ -1,0 +1,162 @@
+-- One record of many is replaced: the other boxes stay.
+use Rattle.std.proofs.Common.{◌≡◌, ◌≢◌, ◌⊎◌, inl, inr, ⊎_elim, ℕ, zero, suc, ◌+◌, ◌*◌, ◌<◌, ◌≤◌, Bool, true, false, List, [], ◌∷◌, length, Option, Some, None, refl, sym, ◌∙◌, ap, subst, arith}
+use Rattle.std.specs.Prelude.{slice_get, slice_index}
+use Rattle.std.proofs.lemmas.Bool.{cases_eq, cases_lt}
+use Rattle.dr_disk.specs.State.{DiskState, Always}
+use Rattle.dr_disk.specs.Spans.{Span, Frame}
+use Rattle.dr_disk.specs.Bytes.{Torn}
+use Rattle.dr_disk.proofs.Steps.{widen}
+use Rattle.slot_store.specs.declared.area.Area.{Area}
+use Rattle.slot_store.specs.declared.store.SlotStore.{SlotStore}
+use Rattle.slot_store.specs.Slots.{recovered}
+use Rattle.slot_store.specs.Store.{IsOldOrNew, IsWithin, Rests, content}
+use Rattle.slot_store.specs.Laws.{IsLocal, SameWithin}
+use Rattle.relay_core.specs.Boxes.{Box, Answers}
+use Rattle.relay_core.specs.Changes.{ChangesOne, IsChange}
+use Rattle.relay_server.specs.Durable.{area_of, ServerNow, StandsFor, IsReady, StandsForEither, IsReplaced}
+
+abbrev pub with_stores : List Box → List SlotStore → ServerNow
+with_stores boxes stores = record { boxes = boxes; stores = stores }
+
+there_is : {X : Type 0} (xs : List X) (k : ℕ) → k < length xs → (x : X) × (slice_get xs k ≡ Some x)
+there_is [] k inside = absurd (omega (arith, inside))
+there_is (x ∷ xs) zero inside = (x, refl)
+there_is (x ∷ xs) (suc k) inside = there_is xs k (omega (arith, inside))
+
+within : {X : Type 0} (xs : List X) (k : ℕ) (x : X) → slice_get xs k ≡ Some x → k < length xs
+within {X} [] k x is = absurd (let e : None ≡ Some x = is in cc)
+within (y ∷ xs) zero x is = omega arith
+within (y ∷ xs) (suc k) x is = let i : k < length xs = within xs k x is in omega (arith, i)
+
+-- what is torn in one area is the same in each other
+apart : (j k : ℕ) (c d : List ℕ) → j ≢ k → Torn (area_of k).start ((area_of k).slot + (area_of k).slot) d c → SameWithin (area_of j) c d
+apart j k c d other torn = record {
+  size = torn.size;
+  bytes = λ i from to. torn.outside i (elim (cases_lt j k) [ inl below ↦ inl (omega (arith, below, to)) | inr above ↦ inr (omega (arith, above, other, from)) ]);
+}
+
+pub record Replacing (text : Box → List ℕ) (boxes next : List Box) (stores news : List SlotStore) (k : ℕ) (t : List ℕ) (start now : DiskState) (done : Bool) : Type 0 where
+  pub ready : IsReady text (with_stores boxes stores) start
+  pub one : ChangesOne k boxes next
+  pub count : length next ≡ length boxes
+  pub stores_count : length news ≡ length stores
+  pub written : (box : Box) → slice_get next k ≡ Some box → t ≡ text box
+  pub others : (j : ℕ) → j ≢ k → slice_get news j ≡ slice_get stores j
+  pub there : (old new : SlotStore) → slice_get stores k ≡ Some old → slice_get news k ≡ Some new → IsReplaced t old new start now done
+  pub local : IsLocal
+  pub resting : (store : SlotStore) (c : List ℕ) → Rests store c → recovered store.area c ≡ content store
+
+module _ (text : Box → List ℕ) (boxes next : List Box) (stores news : List SlotStore) (k : ℕ) (t : List ℕ) (start now : DiskState) (done : Bool) (r : Replacing text boxes next stores news k t start now done) where
+  -- the store of the box, before and after
+  the_old : (s : SlotStore) × (slice_get stores k ≡ Some s)
+  the_old = there_is stores k (omega (arith, r.one.inside, r.ready.count))
+
+  the_new : (s : SlotStore) × (slice_get news k ≡ Some s)
+  the_new = there_is news k (omega (arith, r.one.inside, r.ready.count, r.stores_count))
+
+  is : IsReplaced t the_old.0 the_new.0 start now done
+  is = r.there the_old.0 the_new.0 the_old.1 the_new.1
+
+  old_area : the_old.0.area ≡ area_of k
+  old_area = r.ready.areas k the_old.0 the_old.1
+
+  -- an image at entry stands for the boxes
+  stands_at : (j : ℕ) (box : Box) (d : List ℕ) → slice_get boxes j ≡ Some box → start.image d → recovered (area_of j) d ≡ Some (text box)
+  stands_at j box d there left =
+      let s = there_is stores j (let i : j < length boxes = within boxes j box there in omega (arith, i, r.ready.count)) in
+      ap (λ (a : Area). recovered a d) (sym (r.ready.areas j s.0 s.1)) ∙ r.resting s.0 d (r.ready.rests j s.0 s.1 d left) ∙ r.ready.holds j s.0 box s.1 there
+
+  framed : (c : List ℕ) → Frame start the_old.0.area.start (the_old.0.area.slot + the_old.0.area.slot) c → Frame start (area_of k).start ((area_of k).slot + (area_of k).slot) c
+  framed c f = subst (λ (a : Area). Frame start a.start (a.slot + a.slot) c) old_area f
+
+  -- each other box is as it was
+  other_stands : (j : ℕ) (box : Box) (c : List ℕ) → j ≢ k → slice_get boxes j ≡ Some box → Frame start (area_of k).start ((area_of k).slot + (area_of k).slot) c → recovered (area_of j) c ≡ Some (text box)
+  other_stands j box c other there frame =
+      r.local.record_of (area_of j) c frame.0 (omega arith) (apart j k c frame.0 other frame.2) ∙ stands_at j box frame.0 there frame.1
+
+  each : (c : List ℕ) → IsOldOrNew start the_old.0.area (content the_old.0) (Some t) c → StandsForEither text boxes next c
+  each c o = ⊎_elim
+      (λ old. inl (λ j box there. elim (cases_eq j k) [
+        | inl same ↦
+            let here : slice_get boxes k ≡ Some box = subst (λ (m : ℕ). slice_get boxes m ≡ Some box) same there in
+            ap (λ (m : ℕ). recovered (area_of m) c) same ∙ ap (λ (a : Area). recovered a c) (sym old_area) ∙ old ∙ r.ready.holds k the_old.0 box the_old.1 here
+        | inr other ↦ other_stands j box c other there (framed c o.frame)
+      ]))
+      (λ new. inr (λ j box there. elim (cases_eq j k) [
+        | inl same ↦
+            let here : slice_get next k ≡ Some box = subst (λ (m : ℕ). slice_get next m ≡ Some box) same there in
+            ap (λ (m : ℕ). recovered (area_of m) c) same ∙ ap (λ (a : Area). recovered a c) (sym old_area) ∙ new ∙ ap (λ (x : List ℕ). Some x) (r.written box here)
+        | inr other ↦ other_stands j box c other (sym (r.one.others j other) ∙ there) (framed c o.frame)
+      ]))
+      o.either
+
+  pub any_moment : Span start now (StandsForEither text boxes next)
+  any_moment = widen start now _ _ each is.any_moment
+
+  pub ready_then : done ≡ true → IsReady text (with_stores next news) now
+  ready_then passed = record {
+    count = r.stores_count ∙ r.ready.count ∙ sym r.count;
+    within = λ j inside. let w = r.ready.within j (omega (arith, inside, r.count)) in omega (arith, w, is.any_moment.size);
+    areas = λ j store there. elim (cases_eq j k) [
+      | inl same ↦
+          let e : Some the_new.0 ≡ Some store = sym the_new.1 ∙ subst (λ (m : ℕ). slice_get news m ≡ Some store) same there in
+          let f : the_new.0 ≡ store = cc in
+          ap (λ (s : SlotStore). s.area) (sym f) ∙ is.same ∙ old_area ∙ ap area_of (sym same)
+      | inr other ↦ r.ready.areas j store (sym (r.others j other) ∙ there)
+    ];
+    holds = λ j store box there boxed. elim (cases_eq j k) [
+      | inl same ↦
+          let e : Some the_new.0 ≡ Some store = sym the_new.1 ∙ subst (λ (m : ℕ). slice_get news m ≡ Some store) same there in
+          let f : the_new.0 ≡ store = cc in
+          ap content (sym f) ∙ is.holds passed ∙ ap (λ (x : List ℕ). Some x) (r.written box (subst (λ (m : ℕ). slice_get next m ≡ Some box) same boxed))
+      | inr other ↦ r.ready.holds j store box (sym (r.others j other) ∙ there) (sym (r.one.others j other) ∙ boxed)
+    ];
+    rests = λ j store there c left. elim (cases_eq j k) [
+      | inl same ↦
+          let e : Some the_new.0 ≡ Some store = sym the_new.1 ∙ subst (λ (m : ℕ). slice_get news m ≡ Some store) same there in
+          let f : the_new.0 ≡ store = cc in
+          subst (λ (s : SlotStore). Rests s c) f (is.rests passed c left)
+      | inr other ↦
+          let was : slice_get stores j ≡ Some store = sym (r.others j other) ∙ there in
+          let frame = framed c (is.outside passed c left) in
+          let same = subst (λ (a : Area). SameWithin a c frame.0) (sym (r.ready.areas j store was)) (apart j k c frame.0 other frame.2) in
+          let least : 1 ≤ store.area.slot = subst (λ (a : Area). 1 ≤ a.slot) (sym (r.ready.areas j store was)) (omega arith) in
+          r.local.rests store c frame.0 least same (r.ready.rests j store was frame.0 frame.1)
+    ];
+  }
+
+-- what the code knows where the record of a box is replaced
+pub record Known (text : Box → List ℕ) (server : ServerNow) (boxes next : List Box) (answers : Answers) (stores olds news : List SlotStore) (k : ℕ) (t : List ℕ) (start now : DiskState) (done : Bool) : Type 0 where
+  pub ready : IsReady text server start
+  pub seen : with_stores boxes stores ≡ server
+  pub lent : olds ≡ stores
+  pub change : IsChange boxes answers
+  pub next_is : next ≡ answers.next
+  pub place_is : answers.changed ≡ Some k
+  pub stores_count : length news ≡ length olds
+  pub written : (box : Box) → slice_get next k ≡ Some box → t ≡ text box
+  pub others : (j : ℕ) → j ≢ k → slice_get news j ≡ slice_get olds j
+  pub there : (old new : SlotStore) → slice_get olds k ≡ Some old → slice_get news k ≡ Some new → IsReplaced t old new start now done
+  pub local : IsLocal
+  pub resting : (store : SlotStore) (c : List ℕ) → Rests store c → recovered store.area c ≡ content store
+
+module _ (text : Box → List ℕ) (server : ServerNow) (boxes next : List Box) (answers : Answers) (stores olds news : List SlotStore) (k : ℕ) (t : List ℕ) (start now : DiskState) (done : Bool)
+    (r : Known text server boxes next answers stores olds news k t start now done) where
+  replacing : Replacing text boxes next olds news k t start now done
+  replacing = record {
+    ready = subst (λ (s : ServerNow). IsReady text s start) (sym r.seen ∙ ap (with_stores boxes) (sym r.lent)) r.ready;
+    one = subst (ChangesOne k boxes) (sym r.next_is) (r.change.one k r.place_is);
+    count = ap length r.next_is ∙ r.change.count;
+    stores_count = r.stores_count;
+    written = r.written;
+    others = r.others;
+    there = r.there;
+    local = r.local;
+    resting = r.resting;
+  }
+
+  pub known_moments : Span start now (StandsForEither text server.boxes next)
+  known_moments = subst (λ (s : ServerNow). Span start now (StandsForEither text s.boxes next)) r.seen (any_moment text boxes next olds news k t start now done replacing)
+
+  pub known_ready : done ≡ true → IsReady text (with_stores next news) now
+  known_ready = ready_then text boxes next olds news k t start now done replacing

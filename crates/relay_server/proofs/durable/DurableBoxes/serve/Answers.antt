@@ -1,0 +1,54 @@
+use Rattle.std.proofs.Common.{◌+◌, arith, refl, ◌≡◌, ◌∙◌, sym, []}
+use Rattle.relay_server.proofs.Serve.{nothing_so_far}
+use Rattle.relay_server.proofs.Exits.{exit_fault, exit_end, exit_last, exit_full, goes_on}
+use Rattle.relay_server.proofs.Rounds.{no_call}
+use Rattle.relay_core.specs.Record.{box_text}
+use Rattle.relay_server.specs.Serving.{ReachedIn}
+use Rattle.relay_server.proofs.durable.DurableBoxes.serve.Goals as goal
+
+pub rounds-init : goal.rounds-init
+rounds-init g c = record {
+  so = nothing_so_far box_text 65536 c.args.self.now (g.P.Pipe.port c.args.pipe.now) (g.D.Disk.state c.args.disk.now) (no_call (g.D.Disk.state c.args.disk.now) (ReachedIn box_text 65536 c.args.self.now.boxes []));
+  ready = c.requires.ready;
+  fresh = c.clear.ensures;
+  room = c.requires.room;
+  out_room = c.requires.out_room;
+  piece = refl;
+  out = refl;
+  flow = refl;
+  quiet = λ call. refl;
+}
+
+pub returns-in-Err-clause-served : goal.returns-in-Err-clause-served
+returns-in-Err-clause-served g c =
+    exit_fault box_text c.args.self.now c.rounds.self c.round.new.self (g.P.Pipe.port c.args.pipe.now) (g.P.Pipe.port c.rounds.pipe) (g.P.Pipe.port c.round.new.pipe)
+    (g.D.Disk.state c.args.disk.now) (g.D.Disk.state c.rounds.disk) (g.D.Disk.state c.round.new.disk) c.rounds.answered c.rounds.invariant.so c.rounds-test.true c.in-Err.fault c.in-Err.ensures.rounds
+
+pub returns-in-Ok-AtEnd-clause-served : goal.returns-in-Ok-AtEnd-clause-served
+returns-in-Ok-AtEnd-clause-served g c =
+    exit_end box_text c.args.self.now c.rounds.self c.round.new.self (g.P.Pipe.port c.args.pipe.now) (g.P.Pipe.port c.rounds.pipe) (g.P.Pipe.port c.round.new.pipe)
+    (g.D.Disk.state c.args.disk.now) (g.D.Disk.state c.rounds.disk) (g.D.Disk.state c.round.new.disk) c.rounds.answered c.rounds.invariant.so c.rounds-test.true (record { answered = c.rounds.answered }) refl (rw c.in-Ok-AtEnd.field-0-is at c.in-Ok-AtEnd.ensures.rounds)
+
+pub returns-then-last-clause-served : goal.returns-then-last-clause-served
+returns-then-last-clause-served g c =
+    exit_last box_text c.args.self.now c.rounds.self c.round.new.self (g.P.Pipe.port c.args.pipe.now) (g.P.Pipe.port c.rounds.pipe) (g.P.Pipe.port c.round.new.pipe)
+    (g.D.Disk.state c.args.disk.now) (g.D.Disk.state c.rounds.disk) (g.D.Disk.state c.round.new.disk) c.rounds.answered c.rounds.invariant.so c.rounds-test.true (record { answered = c.rounds.answered + 1 }) c.in-Ok-Answered.last refl c.if-last.true (rw c.in-Ok-Answered.field-0-is at c.in-Ok-Answered.ensures.rounds)
+
+pub rounds-preserved : goal.rounds-preserved
+rounds-preserved g c = let rounds = rw c.in-Ok-Answered.field-0-is at c.in-Ok-Answered.ensures.rounds in record {
+  so = goes_on box_text c.args.self.now c.rounds.self c.round.new.self (g.P.Pipe.port c.args.pipe.now) (g.P.Pipe.port c.rounds.pipe) (g.P.Pipe.port c.round.new.pipe)
+      (g.D.Disk.state c.args.disk.now) (g.D.Disk.state c.rounds.disk) (g.D.Disk.state c.round.new.disk) c.rounds.answered c.rounds.invariant.so c.rounds-test.true c.in-Ok-Answered.last c.if-last.false c.in-Ok-Answered.ensures.later rounds;
+  ready = rounds.3;
+  fresh = c.in-Ok-Answered.ensures.fresh c.in-Ok-Answered.last c.in-Ok-Answered.field-0-is;
+  room = omega (arith, c.in-Ok-Answered.ensures.piece, c.rounds.invariant.room);
+  out_room = omega (arith, c.in-Ok-Answered.ensures.out, c.rounds.invariant.out_room);
+  piece = c.in-Ok-Answered.ensures.piece ∙ c.rounds.invariant.piece;
+  out = c.in-Ok-Answered.ensures.out ∙ c.rounds.invariant.out;
+  flow = c.in-Ok-Answered.ensures.flow ∙ c.rounds.invariant.flow;
+  quiet = λ call. c.in-Ok-Answered.ensures.quiet call ∙ c.rounds.invariant.quiet call;
+}
+
+pub returns-clause-served : goal.returns-clause-served
+returns-clause-served g c =
+    exit_full box_text c.args.self.now c.rounds.self (g.P.Pipe.port c.args.pipe.now) (g.P.Pipe.port c.rounds.pipe) (g.D.Disk.state c.args.disk.now) (g.D.Disk.state c.rounds.disk)
+    c.rounds.answered c.rounds.invariant.so (omega (arith, c.rounds-test.false, c.rounds.auto.answered-end)) c.rounds.invariant.ready (record { answered = 65536 }) refl

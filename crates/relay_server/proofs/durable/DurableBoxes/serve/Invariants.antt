@@ -1,0 +1,21 @@
+use Rattle.std.proofs.Common.{◌≡◌, ◌≤◌, length, []}
+use Rattle.relay_core.specs.Record.{box_text}
+use Rattle.relay_wire.specs.declared.limits.TheConstants.{FRAME_LIMIT}
+use Rattle.dr_ports.specs.declared.pipe.Part.TheVariants.{Flow}
+use Rattle.dr_disk.specs.Spans.{IsQuiet}
+use Rattle.relay_server.specs.Durable.{IsReady}
+use Rattle.relay_server.specs.Serving.{SoFar}
+use Rattle.relay_server.proofs.durable.DurableBoxes.serve.Given as goal
+
+abbrev pub invariant-rounds : goal.invariant-rounds
+invariant-rounds g l = record {
+  so : SoFar box_text 65536 l.fn.self l.self.boxes (g.P.Pipe.port l.fn.pipe) (g.P.Pipe.port l.pipe) (g.D.Disk.state l.fn.disk) (g.D.Disk.state l.disk) l.answered;
+  ready : IsReady box_text l.self (g.D.Disk.state l.disk);
+  fresh : l.reader.bytes ≡ [];
+  room : FRAME_LIMIT ≤ length l.piece;
+  out_room : FRAME_LIMIT ≤ length l.out;
+  piece : length l.piece ≡ length l.fn.piece;
+  out : length l.out ≡ length l.fn.out;
+  flow : (g.P.Pipe.port l.pipe).faults Flow ≡ (g.P.Pipe.port l.fn.pipe).faults Flow;
+  quiet : IsQuiet (g.D.Disk.state l.fn.disk) (g.D.Disk.state l.disk);
+}

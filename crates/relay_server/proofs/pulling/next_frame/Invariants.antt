@@ -1,0 +1,15 @@
+use Rattle.std.proofs.Common.{◌≡◌, ◌≤◌, ◌-◌, length, []}
+use Rattle.relay_wire.specs.declared.limits.TheConstants.{FRAME_LIMIT}
+use Rattle.dr_ports.specs.declared.pipe.Part.TheVariants.{Flow}
+use Rattle.relay_server.specs.Pulling.{Pulled}
+use Rattle.relay_server.proofs.pulling.next_frame.Given as goal
+
+abbrev pub invariant-bytes : goal.invariant-bytes
+invariant-bytes g l = record {
+  pulled : Pulled l.fn.reader l.reader (g.P.Pipe.port l.fn.pipe) (g.P.Pipe.port l.pipe) [];
+  room : FRAME_LIMIT ≤ length l.piece;
+  quiet : (g.P.Pipe.port l.pipe).faults Flow ≡ (g.P.Pipe.port l.fn.pipe).faults Flow;
+}
+
+abbrev pub decreases-bytes : goal.decreases-bytes
+decreases-bytes g l = FRAME_LIMIT - length l.reader.bytes

@@ -1,0 +1,14 @@
+use Rattle.std.proofs.Common.{arith, ◌∙◌, ap}
+use Rattle.std.proofs.lemmas.List.{take-append-drop}
+use Rattle.relay_server.proofs.Pulls.{took_first, took_more}
+use Rattle.relay_server.proofs.pulling.send_all.Goals as goal
+
+pub returns-in-Err-clause-part : goal.returns-in-Err-clause-part
+returns-in-Err-clause-part g c = took_first (g.P.Pipe.port c.args.pipe.now) (g.P.Pipe.port c.pieces.pipe) (g.P.Pipe.port c.send_from.new.pipe) c.args.bytes.now c.pieces.done c.pieces.invariant.content c.in-Err.ensures.err
+
+pub pieces-preserved : goal.pieces-preserved
+pieces-preserved g c = record {
+  within = c.in-Ok.ensures.bound;
+  content = took_more (g.P.Pipe.port c.args.pipe.now) (g.P.Pipe.port c.pieces.pipe) (g.P.Pipe.port c.send_from.new.pipe) c.args.bytes.now c.pieces.done c.in-Ok.count c.pieces.invariant.content c.in-Ok.ensures.content;
+  quiet = c.in-Ok.ensures.cause.passed ∙ c.pieces.invariant.quiet;
+}

@@ -1,0 +1,14 @@
+use Rattle.std.proofs.Common.{length, ◌-◌, ◌≡◌, ◌≤◌, take}
+use Rattle.dr_ports.specs.declared.pipe.Part.TheVariants.{Flow}
+use Rattle.dr_ports.specs.Wires.{Took}
+use Rattle.relay_server.proofs.pulling.send_all.Given as goal
+
+abbrev pub invariant-pieces : goal.invariant-pieces
+invariant-pieces g l = record {
+  within : l.done ≤ length l.bytes;
+  content : Took (take l.done l.bytes) (g.P.Pipe.port l.initial.pipe) (g.P.Pipe.port l.pipe);
+  quiet : (g.P.Pipe.port l.pipe).faults Flow ≡ (g.P.Pipe.port l.initial.pipe).faults Flow;
+}
+
+abbrev pub decreases-pieces : goal.decreases-pieces
+decreases-pieces g l = length l.initial.bytes - l.done

@@ -1,0 +1,107 @@
+-- A connection that is served.
+use Rattle.std.specs.Prelude.{◌≡◌, ◌⊎◌, ◌+◌, ◌-◌, ◌≤◌, ℕ, Bool, List, [], ◌∷◌, ◌++◌, length, drop, flat_map, Option, Some, None, option_map, Result, Ok, Err}
+use Rattle.std.specs.List.{AllByRecursion}
+use Rattle.dr_disk.specs.declared.call.Call.{Call}
+use Rattle.dr_disk.specs.State.{DiskState, Always}
+use Rattle.dr_disk.specs.Spans.{Span}
+use Rattle.dr_ports.specs.Ports.{Rose}
+use Rattle.dr_ports.specs.declared.pipe.Part.TheVariants.{Flow}
+use Rattle.dr_ports.specs.Wires.{Port, Wire, Told, EndsAt}
+use Rattle.relay_wire.specs.Requests.{read_request}
+use Rattle.relay_wire.specs.Replies.{reply_body}
+use Rattle.relay_wire.specs.Frames.{Held, IsFrame, IsPartial, framed, frames_of}
+use Rattle.relay_core.specs.Boxes.{Box, answers_read}
+use Rattle.relay_core.specs.Streams.{Exchange, Served, served, served_within, reply_frame, reply_bytes, is_last}
+use Rattle.relay_server.specs.Durable.{ServerNow, IsReady, StandsFor, StandsForEither}
+use Rattle.relay_server.specs.declared.serving.Ended.{Ended}
+use Rattle.relay_server.specs.declared.serving.Round.{Round}
+use Rattle.relay_server.specs.declared.serving.Round.TheVariants.{AtEnd, Answered}
+use Rattle.relay_server.specs.declared.serving.ServeFault.{ServeFault}
+use Rattle.relay_server.specs.declared.serving.ServeFault.TheVariants.{Read, Write, Store}
+
+-- the pipe gave these bytes and took those
+abbrev pub exchanged : List ℕ → List ℕ → Told → Told
+exchanged got put t = record t { now = record t.now { received = t.now.received ++ got; sent = t.now.sent ++ put } }
+
+abbrev pub Exchanges : List ℕ → List ℕ → Port → Port → Type 0
+Exchanges got put start now = now.told ≡ option_map (exchanged got put) start.told
+
+-- ---- one round: a frame is pulled, answered, and its reply sent
+
+-- no whole frame came
+pub record Idle (got : List ℕ) (old new : List Box) (start now : Port) (dstart dnow : DiskState) : Type 0 where
+  pub exchanges : Exchanges got [] start now
+  pub partial : IsPartial got
+  pub same : new ≡ old
+  pub still : Span dstart dnow (λ c. ⊥)
+
+-- a frame came, and this much was sent
+pub record Came (text : Box → List ℕ) (frame put : List ℕ) (old new : List Box) (start now : Port) (dstart dnow : DiskState) : Type 0 where
+  pub exchanges : Exchanges frame put start now
+  pub whole : IsFrame frame
+  pub next : new ≡ (answers_read old (read_request (drop 2 frame))).next
+  pub during : Span dstart dnow (StandsForEither text old new)
+
+abbrev pub reply_to : List Box → List ℕ → List ℕ
+reply_to boxes frame = framed (reply_body (answers_read boxes (read_request (drop 2 frame))).reply)
+
+abbrev pub Rounds : (Box → List ℕ) → ServerNow → ServerNow → Port → Port → DiskState → DiskState → Result Round ServeFault → Type 0
+Rounds text old new start now dstart dnow (Ok AtEnd) = (got : List ℕ) × Idle got old.boxes new.boxes start now dstart dnow × EndsAt now × IsReady text new dnow
+Rounds text old new start now dstart dnow (Ok (Answered last)) =
+    (frame : List ℕ) × Came text frame (reply_to old.boxes frame) old.boxes new.boxes start now dstart dnow × (last ≡ is_last (read_request (drop 2 frame))) × IsReady text new dnow
+Rounds text old new start now dstart dnow (Err Read) = (got : List ℕ) × Idle got old.boxes new.boxes start now dstart dnow × Rose (start.faults Flow) (now.faults Flow) × IsReady text new dnow
+Rounds text old new start now dstart dnow (Err Write) =
+    (frame : List ℕ) × (put : List ℕ) × (rest : List ℕ) × Came text frame put old.boxes new.boxes start now dstart dnow × (reply_to old.boxes frame ≡ put ++ rest)
+    × Rose (start.faults Flow) (now.faults Flow) × IsReady text new dnow
+Rounds text old new start now dstart dnow (Err (Store call)) = (frame : List ℕ) × Came text frame [] old.boxes new.boxes start now dstart dnow × Rose (dstart.faults call) (dnow.faults call)
+
+-- ---- a whole connection
+
+-- bytes that stand for the boxes after a beginning of the frames
+pub record ReachedIn (text : Box → List ℕ) (most : ℕ) (boxes : List Box) (frames : List (List ℕ)) (c : List ℕ) : Type 0 where
+  pub front : List (List ℕ)
+  pub back : List (List ℕ)
+  pub split : frames ≡ front ++ back
+  pub stands : StandsFor text (served_within most boxes front).next c
+
+abbrev pub Reached : (Box → List ℕ) → List Box → List ℕ → List ℕ → Type 0
+Reached text boxes got = ReachedIn text 65536 boxes (frames_of got)
+
+-- nothing more would be answered, whatever is left
+abbrev pub IsAll : List Box → List ℕ → Port → Type 0
+IsAll boxes got now = (t : Told) (more : List ℕ) → now.told ≡ Some t → t.now.gives t.now.sent ≡ t.now.received ++ more → served boxes (got ++ more) ≡ served boxes got
+
+pub record Answers (boxes next : List Box) (got put : List ℕ) (start now : Port) : Type 0 where
+  pub exchanges : Exchanges got put start now
+  pub next_is : next ≡ (served boxes got).next
+
+abbrev pub Serves : (Box → List ℕ) → ServerNow → ServerNow → Port → Port → DiskState → DiskState → List ℕ → Result Ended ServeFault → Type 0
+Serves text old new start now dstart dnow got (Ok ended) =
+    Answers old.boxes new.boxes got (reply_bytes (served old.boxes got)) start now × IsReady text new dnow × (ended.answered ≡ length (served old.boxes got).exchanges) × IsAll old.boxes got now
+Serves text old new start now dstart dnow got (Err Read) =
+    Answers old.boxes new.boxes got (reply_bytes (served old.boxes got)) start now × IsReady text new dnow × Rose (start.faults Flow) (now.faults Flow)
+Serves text old new start now dstart dnow got (Err Write) =
+    (put : List ℕ) × (rest : List ℕ) × Answers old.boxes new.boxes got put start now × (reply_bytes (served old.boxes got) ≡ put ++ rest) × IsReady text new dnow × Rose (start.faults Flow) (now.faults Flow)
+Serves text old new start now dstart dnow got (Err (Store call)) =
+    (put : List ℕ) × (last : Exchange) × Answers old.boxes new.boxes got put start now × (reply_bytes (served old.boxes got) ≡ put ++ reply_frame last) × Rose (dstart.faults call) (dnow.faults call)
+
+-- all that one call of `serve` did
+pub record IsServed (text : Box → List ℕ) (old new : ServerNow) (start now : Port) (dstart dnow : DiskState) (result : Result Ended ServeFault) : Type 0 where
+  pub got : List ℕ
+  pub during : Span dstart dnow (Reached text old.boxes got)
+  pub serves : Serves text old new start now dstart dnow got result
+
+-- ---- between rounds
+
+abbrev pub prepend : List Exchange → Served → Served
+prepend exchanges served = record { exchanges = exchanges ++ served.exchanges; next = served.next }
+
+pub record SoFar (text : Box → List ℕ) (most : ℕ) (old : ServerNow) (boxes : List Box) (start now : Port) (dstart dnow : DiskState) (n : ℕ) : Type 0 where
+  pub frames : List (List ℕ)
+  pub each : AllByRecursion IsFrame frames
+  pub exs : List Exchange
+  pub exchanges : Exchanges (flat_map (λ frame. frame) frames) (flat_map reply_frame exs) start now
+  pub ahead : (fs : List (List ℕ)) → served_within most old.boxes (frames ++ fs) ≡ prepend exs (served_within (most - n) boxes fs)
+  pub count : length exs ≡ n
+  pub later : start.faults Flow ≤ now.faults Flow
+  pub during : Span dstart dnow (ReachedIn text most old.boxes frames)

@@ -1,0 +1,177 @@
+//! Boxes that stand on a disk.
+
+ghost use Rattle.std.specs.Prelude.{◌≡◌, ◌≢◌, ◌<◌, ◌≤◌, ◌+◌, ℕ, List, length, take, drop, slice_get, Option, OnOk, IfOk, IfErr, is_ok, [], Bool};
+ghost use Rattle.dr_base.specs.Causes.{Rose};
+ghost use Rattle.dr_ports.specs.declared.pipe.Part.TheVariants.{Flow};
+ghost use Rattle.dr_disk.specs.State.{Always};
+ghost use Rattle.dr_disk.specs.Spans.{IsQuiet, Span};
+ghost use Rattle.slot_store.specs.declared.store.SlotStore.{SlotStore};
+ghost use Rattle.slot_store.specs.Store.{IsWithin, Rests};
+ghost use Rattle.relay_wire.specs.Frames.{framed};
+ghost use Rattle.relay_wire.specs.Requests.{read_request};
+ghost use Rattle.relay_wire.specs.Replies.{reply_body};
+ghost use Rattle.relay_wire.specs.declared.limits.TheConstants.{FRAME_LIMIT};
+ghost use Rattle.relay_core.specs.Boxes.{answers_read};
+ghost use Rattle.relay_core.specs.Record.{box_text};
+ghost use Rattle.relay_core.specs.Streams.{is_last};
+ghost use Rattle.relay_server.specs.Durable.{IsReady, IsReplaced, StandsForEither};
+ghost use Rattle.relay_server.specs.Serving.{IsServed, Rounds};
+
+use crate::answering::{answer_frame, write_text};
+use crate::pulling::{next_frame, send_all};
+use crate::serving::{Answered, Ended, Round, ServeFault};
+use dr_disk::{Call, Disk};
+use dr_ports::{Failed, Pipe};
+use relay_core::{Relay, changes};
+use relay_wire::{Frame, FrameReader};
+use slot_store::{SlotStore, locality, resting};
+use std::marker::Model;
+
+/// A relay's boxes, with a store for each. A contract sees both.
+#[derive(Drop)]
+pub struct DurableBoxes {
+    relay: Relay,
+    stores: Vec<SlotStore>,
+    text: Vec<u8>,
+}
+
+impl Model for DurableBoxes {
+    ghost use Rattle.std.specs.Prelude.{◌≡◌, length};
+    ghost use Rattle.relay_core.specs.declared.limits.TheConstants.{RECORD_LIMIT};
+    ghost use Rattle.relay_server.specs.Durable.{ServerNow};
+
+    ghost Value = { ServerNow };
+
+    ghost view = { λ s. record { boxes = s.relay; stores = s.stores.items } };
+
+    ghost invariant = { λ s. length s.text.items ≡ RECORD_LIMIT };
+}
+
+/// Replaces the record of one store.
+fn replace_at<D: Disk>(
+    stores: &mut [SlotStore],
+    place: usize,
+    disk: &mut D,
+    text: &[u8],
+) -> Result<(), Call>
+    requires inside { place < length stores.old }
+    requires ready { (store : SlotStore) → slice_get stores.old place ≡ Option.Some store
+        → (6 + length text.now ≤ store.area.slot) × IsWithin store.area (D.state disk.old) × Always (Rests store) (D.state disk.old) }
+    ensures others { (j : ℕ) → j ≢ place → slice_get stores.new j ≡ slice_get stores.old j }
+    ensures there { (old new : SlotStore) → slice_get stores.old place ≡ Option.Some old → slice_get stores.new place ≡ Option.Some new
+        → IsReplaced text.now old new (D.state disk.old) (D.state disk.new) (is_ok result) }
+    ensures count { length stores.new ≡ length stores.old }
+    ensures fault { IfErr result (λ call. Rose ((D.state disk.old).faults call) ((D.state disk.new).faults call)) }
+    ensures quiet { OnOk result (IsQuiet (D.state disk.old) (D.state disk.new)) }
+{
+    match stores[place].replace(disk, text) {
+        Ok(()) => Ok(()),
+        Err(fault) => Err(fault.call),
+    }
+}
+
+impl DurableBoxes {
+    /// Answers one frame: what a reply says is on the disk before the reply is there.
+    pub fn answer<D: Disk>(
+        &mut self,
+        disk: &mut D,
+        frame: &Frame,
+        out: &mut [u8],
+    ) -> Result<Answered, Call>
+        requires ready { IsReady box_text self.old (D.state disk.old) }
+        requires room { FRAME_LIMIT ≤ length out.old }
+        ensures next { self.new.boxes ≡ (answers_read self.old.boxes (read_request (drop 2 frame.now.bytes))).next }
+        ensures ready { OnOk result (IsReady box_text self.new (D.state disk.new)) }
+        ensures any_moment { Span (D.state disk.old) (D.state disk.new) (StandsForEither box_text self.old.boxes self.new.boxes) }
+        ensures fault { IfErr result (λ call. Rose ((D.state disk.old).faults call) ((D.state disk.new).faults call)) }
+        ensures quiet { OnOk result (IsQuiet (D.state disk.old) (D.state disk.new)) }
+        ensures last { IfOk result (λ a. a.last ≡ is_last (read_request (drop 2 frame.now.bytes))) }
+        ensures len { IfOk result (λ a. a.len ≤ length out.old) }
+        ensures size { length out.new ≡ length out.old }
+        ensures reply { IfOk result (λ a. take a.len out.new ≡ framed (reply_body (answers_read self.old.boxes (read_request (drop 2 frame.now.bytes))).reply)) }
+    {
+        locality();
+        resting();
+        changes();
+        let answered = answer_frame(&mut self.relay, frame, out);
+        if let Some(place) = answered.changed {
+            let len = write_text(&self.relay, place, &mut self.text);
+            if let Err(call) = replace_at(&mut self.stores, place, disk, &self.text[..len]) {
+                return Err(call);
+            }
+        }
+        Ok(answered)
+    }
+
+    // one round: a frame is pulled and answered, and its reply sent
+    fn round<D: Disk, P: Pipe>(
+        &mut self,
+        disk: &mut D,
+        pipe: &mut P,
+        reader: &mut FrameReader,
+        piece: &mut [u8],
+        out: &mut [u8],
+    ) -> Result<Round, ServeFault>
+        requires ready { IsReady box_text self.old (D.state disk.old) }
+        requires fresh { reader.old.bytes ≡ [] }
+        requires room { FRAME_LIMIT ≤ length piece.old }
+        requires out_room { FRAME_LIMIT ≤ length out.old }
+        ensures rounds { Rounds box_text self.old self.new (P.port pipe.old) (P.port pipe.new) (D.state disk.old) (D.state disk.new) result }
+        ensures later { (P.port pipe.old).faults Flow ≤ (P.port pipe.new).faults Flow }
+        ensures flow { OnOk result ((P.port pipe.new).faults Flow ≡ (P.port pipe.old).faults Flow) }
+        ensures quiet { OnOk result (IsQuiet (D.state disk.old) (D.state disk.new)) }
+        ensures fresh { IfOk result (λ r. (last : Bool) → r ≡ Round.Answered last → reader.new.bytes ≡ []) }
+        ensures piece { length piece.new ≡ length piece.old }
+        ensures out { length out.new ≡ length out.old }
+    {
+        let frame = match next_frame(reader, pipe, piece) {
+            Err(Failed) => return Err(ServeFault::Read),
+            Ok(None) => return Ok(Round::AtEnd),
+            Ok(Some(frame)) => frame,
+        };
+        let answered = match self.answer(disk, &frame, out) {
+            Err(call) => return Err(ServeFault::Store(call)),
+            Ok(answered) => answered,
+        };
+        match send_all(pipe, &out[..answered.len]) {
+            Err(Failed) => Err(ServeFault::Write),
+            Ok(()) => Ok(Round::Answered(answered.last)),
+        }
+    }
+
+    /// Serves a connection: answers its frames in order until it ends, until a frame had no lawful length, or until
+    /// 65,536 frames were answered. A frame that the end cuts is dropped.
+    pub fn serve<D: Disk, P: Pipe>(
+        &mut self,
+        disk: &mut D,
+        pipe: &mut P,
+        reader: &mut FrameReader,
+        piece: &mut [u8],
+        out: &mut [u8],
+    ) -> Result<Ended, ServeFault>
+        requires ready { IsReady box_text self.old (D.state disk.old) }
+        requires room { FRAME_LIMIT ≤ length piece.old }
+        requires out_room { FRAME_LIMIT ≤ length out.old }
+        ensures served { IsServed box_text self.old self.new (P.port pipe.old) (P.port pipe.new) (D.state disk.old) (D.state disk.new) result }
+        ensures flow { OnOk result ((P.port pipe.new).faults Flow ≡ (P.port pipe.old).faults Flow) }
+        ensures quiet { OnOk result (IsQuiet (D.state disk.old) (D.state disk.new)) }
+        ensures piece { length piece.new ≡ length piece.old }
+        ensures out { length out.new ≡ length out.old }
+    {
+        reader.clear();
+        'rounds: for answered in 0..65536 {
+            match self.round(disk, pipe, reader, piece, out) {
+                Err(fault) => return Err(fault),
+                Ok(Round::AtEnd) => return Ok(Ended { answered }),
+                Ok(Round::Answered(last)) => {
+                    if last {
+                        return Ok(Ended {
+                            answered: answered + 1,
+                        });
+                    }
+                }
+            }
+        }
+        Ok(Ended { answered: 65536 })
+    }
+}

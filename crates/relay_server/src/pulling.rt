@@ -1,0 +1,73 @@
+//! Frames out of a pipe.
+
+ghost use Rattle.std.specs.Prelude.{◌≡◌, ◌+◌, ◌<◌, ◌≤◌, length, take, drop, IfOk, OnOk, OnErr};
+ghost use Rattle.dr_ports.specs.Ports.{HasCause};
+ghost use Rattle.dr_ports.specs.declared.pipe.Part.TheVariants.{Flow};
+ghost use Rattle.dr_ports.specs.Wires.{EndsAt, Gave, Took};
+ghost use Rattle.relay_server.specs.Pulling.{Pulls, TookBeginning};
+ghost use Rattle.relay_wire.specs.declared.limits.TheConstants.{FRAME_LIMIT};
+
+use dr_ports::{Failed, Pipe};
+use relay_wire::{Frame, FrameReader};
+
+fn receive_some<P: Pipe>(pipe: &mut P, piece: &mut [u8], wanted: usize) -> Result<usize, Failed>
+    requires some { 0 < wanted }
+    requires room { wanted ≤ length piece.old }
+    ensures bound { IfOk result (λ count. count ≤ wanted) }
+    ensures content { IfOk result (λ count. Gave (take count piece.new) (P.port pipe.old) (P.port pipe.new)) }
+    ensures end { IfOk result (λ count. count ≡ 0 → EndsAt (P.port pipe.old)) }
+    ensures err { OnErr result ((P.port pipe.new).told ≡ (P.port pipe.old).told) }
+    ensures cause { HasCause ((P.port pipe.old).faults Flow) ((P.port pipe.new).faults Flow) result }
+{
+    pipe.receive(&mut piece[..wanted])
+}
+
+/// The next whole frame, or nothing at the end of the pipe.
+pub fn next_frame<P: Pipe>(
+    reader: &mut FrameReader,
+    pipe: &mut P,
+    piece: &mut [u8],
+) -> Result<Option<Frame>, Failed>
+    requires { FRAME_LIMIT ≤ length piece.old }
+    ensures pulls { Pulls reader.old reader.new (P.port pipe.old) (P.port pipe.new) result }
+    ensures cause { HasCause ((P.port pipe.old).faults Flow) ((P.port pipe.new).faults Flow) result }
+{
+    'bytes: while reader.wanted() > 0 {
+        let wanted = reader.wanted();
+        match receive_some(pipe, piece, wanted) {
+            Err(Failed) => return Err(Failed),
+            Ok(0) => return Ok(None),
+            Ok(count) => {
+                reader.feed(&piece[..count]);
+            }
+        }
+    }
+    Ok(reader.next())
+}
+
+fn send_from<P: Pipe>(pipe: &mut P, bytes: &[u8], at: usize) -> Result<usize, Failed>
+    requires { at < length bytes.now }
+    ensures bound { IfOk result (λ count. at + count ≤ length bytes.now) }
+    ensures progress { IfOk result (λ count. 0 < count) }
+    ensures content { IfOk result (λ count. Took (take count (drop at bytes.now)) (P.port pipe.old) (P.port pipe.new)) }
+    ensures err { OnErr result ((P.port pipe.new).told ≡ (P.port pipe.old).told) }
+    ensures cause { HasCause ((P.port pipe.old).faults Flow) ((P.port pipe.new).faults Flow) result }
+{
+    pipe.send(&bytes[at..])
+}
+
+/// Sends all the bytes. Where the pipe fails, it has taken a beginning of them.
+pub fn send_all<P: Pipe>(pipe: &mut P, bytes: &[u8]) -> Result<(), Failed>
+    ensures whole { OnOk result (Took bytes.now (P.port pipe.old) (P.port pipe.new)) }
+    ensures part { OnErr result (TookBeginning bytes.now (P.port pipe.old) (P.port pipe.new)) }
+    ensures cause { HasCause ((P.port pipe.old).faults Flow) ((P.port pipe.new).faults Flow) result }
+{
+    let mut done = 0;
+    'pieces: while done < bytes.len() {
+        match send_from(pipe, bytes, done) {
+            Err(Failed) => return Err(Failed),
+            Ok(count) => done += count,
+        }
+    }
+    Ok(())
+}

@@ -1,0 +1,44 @@
+//! What became of a frame, and of a connection.
+
+use dr_disk::Call;
+use thiserror::Error;
+
+/// A frame that was answered.
+#[derive(Clone, Copy)]
+pub struct Answered {
+    /// The place of the box that the request changed.
+    pub changed: Option<usize>,
+    /// The frame had no lawful length: behind it nothing is answered.
+    pub last: bool,
+    /// How many bytes the reply's frame has.
+    pub len: usize,
+}
+
+/// A connection ended, after so many frames were answered.
+#[derive(Clone, Copy, Debug, PartialEq, Eq)]
+pub struct Ended {
+    pub answered: u32,
+}
+
+/// Why a connection broke off.
+#[derive(Clone, Copy, Debug, PartialEq, Eq, Error)]
+pub enum ServeFault {
+    /// Receiving failed.
+    #[error("receiving failed")]
+    Read,
+    /// Sending failed.
+    #[error("sending failed")]
+    Write,
+    /// A call on the disk failed, of this kind. The server has to be opened again.
+    #[error("a call on the disk failed")]
+    Store(Call),
+}
+
+/// One round of a connection.
+#[derive(Clone, Copy)]
+pub enum Round {
+    /// The pipe has ended.
+    AtEnd,
+    /// A frame was answered; behind it nothing is, where this says so.
+    Answered(bool),
+}
