@@ -10,13 +10,14 @@ use Rattle.dr_ports.specs.Wires.{Port}
 use Rattle.relay_wire.specs.Requests.{read_request}
 use Rattle.relay_core.specs.Boxes.{Box}
 use Rattle.relay_core.specs.Streams.{served, reply_frame, reply_bytes, is_last}
+use Rattle.relay_core.proofs.Apart.{isolated}
 use Rattle.relay_server.specs.declared.serving.Ended.{Ended}
 use Rattle.relay_server.specs.declared.serving.ServeFault.{ServeFault}
 use Rattle.relay_server.specs.declared.serving.ServeFault.TheVariants.{Read, Write, Store}
 use Rattle.relay_server.specs.declared.serving.Round.TheVariants.{AtEnd, Answered}
 use Rattle.relay_server.specs.Durable.{ServerNow, IsReady}
 use Rattle.relay_server.specs.Serving.{Exchanges, Rounds, IsServed, SoFar, reply_to, IsAll}
-use Rattle.relay_server.proofs.Serve.{flat, exchange_of, one_more_round, idle_answers, idle_during, idle_count, idle_all, came_during, came_bytes, came_answers, came_count, came_last, full_answers, full_during, full_count, full_all}
+use Rattle.relay_server.proofs.Serve.{flat, exchange_of, one_more_round, idle_answers, idle_during, idle_count, idle_all, came_during, came_bytes, came_answers, came_count, came_last, came_stands, full_answers, full_during, full_count, full_all}
 
 pub rose_since : (a b c : ℕ) → a ≤ b → Rose b c → Rose a c
 rose_since a b c le rose = omega (arith, le, rose)
@@ -28,11 +29,13 @@ module _ (text : Box → List ℕ) (old server new : ServerNow) (start now after
   pub exit_fault : (fault : ServeFault) → Rounds text server new now after dnow dafter (Err fault) → IsServed text old new start after dstart dafter (Err fault)
   exit_fault Read r = record {
     got = flat so.frames ++ r.0;
+    alone = λ name. isolated name old.boxes (flat so.frames ++ r.0);
     during = idle_during text old server.boxes start now dstart dnow n so r.0 new.boxes after dafter r.1;
     serves = (idle_answers text old server.boxes start now dstart dnow n so r.0 new.boxes after dafter r.1, r.3, rose_since _ _ _ so.later r.2);
   }
   exit_fault Write r = record {
     got = flat so.frames ++ r.0;
+    alone = λ name. isolated name old.boxes (flat so.frames ++ r.0);
     during = came_during text old server.boxes start now dstart dnow n so r.0 r.1 new.boxes after dafter under r.3;
     serves = (
       flat_map reply_frame so.exs ++ r.1,
@@ -45,6 +48,7 @@ module _ (text : Box → List ℕ) (old server new : ServerNow) (start now after
   }
   exit_fault (Store call) r = record {
     got = flat so.frames ++ r.0;
+    alone = λ name. isolated name old.boxes (flat so.frames ++ r.0);
     during = came_during text old server.boxes start now dstart dnow n so r.0 [] new.boxes after dafter under r.1;
     serves = (
       flat_map reply_frame so.exs ++ [],
@@ -52,12 +56,14 @@ module _ (text : Box → List ℕ) (old server new : ServerNow) (start now after
       came_answers text old server.boxes start now dstart dnow n so r.0 [] new.boxes after dafter under r.1,
       came_bytes text old server.boxes start now dstart dnow n so r.0 [] new.boxes after dafter under r.1 ∙ ap (λ (p : List ℕ). p ++ reply_to server.boxes r.0) (sym (append-nil (flat_map reply_frame so.exs))),
       disk_rose_since _ _ _ (so.during.counts call) r.2,
+      came_stands text old server.boxes start now dstart dnow n so r.0 [] new.boxes after dafter under r.1 r.3,
     );
   }
 
   pub exit_end : (ended : Ended) → ended.answered ≡ n → Rounds text server new now after dnow dafter (Ok AtEnd) → IsServed text old new start after dstart dafter (Ok ended)
   exit_end ended is r = record {
     got = flat so.frames ++ r.0;
+    alone = λ name. isolated name old.boxes (flat so.frames ++ r.0);
     during = idle_during text old server.boxes start now dstart dnow n so r.0 new.boxes after dafter r.1;
     serves = (
       idle_answers text old server.boxes start now dstart dnow n so r.0 new.boxes after dafter r.1,
@@ -70,6 +76,7 @@ module _ (text : Box → List ℕ) (old server new : ServerNow) (start now after
   pub exit_last : (ended : Ended) (last : Bool) → ended.answered ≡ n + 1 → last ≡ true → Rounds text server new now after dnow dafter (Ok (Answered last)) → IsServed text old new start after dstart dafter (Ok ended)
   exit_last ended last is is_last r = record {
     got = flat so.frames ++ r.0;
+    alone = λ name. isolated name old.boxes (flat so.frames ++ r.0);
     during = came_during text old server.boxes start now dstart dnow n so r.0 (reply_to server.boxes r.0) new.boxes after dafter under r.1;
     serves = (
       record {
@@ -89,6 +96,7 @@ pub exit_full : (text : Box → List ℕ) (old server : ServerNow) (start now : 
     → IsServed text old server start now dstart dnow (Ok ended)
 exit_full text old server start now dstart dnow n so full ready ended is = record {
   got = flat so.frames;
+  alone = λ name. isolated name old.boxes (flat so.frames);
   during = full_during text old server.boxes start now dstart dnow n so full;
   serves = (
     full_answers text old server.boxes start now dstart dnow n so full,

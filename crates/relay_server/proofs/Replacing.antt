@@ -35,6 +35,13 @@ apart j k c d other torn = record {
   bytes = λ i from to. torn.outside i (elim (cases_lt j k) [ inl below ↦ inl (omega (arith, below, to)) | inr above ↦ inr (omega (arith, above, other, from)) ]);
 }
 
+-- at rest the boxes stand in each image
+pub ready_stands : (text : Box → List ℕ) (server : ServerNow) (disk : DiskState) → IsReady text server disk → ((store : SlotStore) (c : List ℕ) → Rests store c → recovered store.area c ≡ content store)
+    → Always (StandsFor text server.boxes) disk
+ready_stands text server disk ready resting c left j box there =
+    let s = there_is server.stores j (let i : j < length server.boxes = within server.boxes j box there in omega (arith, i, ready.count)) in
+    ap (λ (a : Area). recovered a c) (sym (ready.areas j s.0 s.1)) ∙ resting s.0 c (ready.rests j s.0 s.1 c left) ∙ ready.holds j s.0 box s.1 there
+
 pub record Replacing (text : Box → List ℕ) (boxes next : List Box) (stores news : List SlotStore) (k : ℕ) (t : List ℕ) (start now : DiskState) (done : Bool) : Type 0 where
   pub ready : IsReady text (with_stores boxes stores) start
   pub one : ChangesOne k boxes next
@@ -92,6 +99,9 @@ module _ (text : Box → List ℕ) (boxes next : List Box) (stores news : List S
 
   pub any_moment : Span start now (StandsForEither text boxes next)
   any_moment = widen start now _ _ each is.any_moment
+
+  pub now_stands : Always (StandsForEither text boxes next) now
+  now_stands c left = ⊎_elim (λ was. inl (λ j box there. stands_at j box c there was)) (λ p. p) (any_moment.last c left)
 
   pub ready_then : done ≡ true → IsReady text (with_stores next news) now
   ready_then passed = record {
@@ -157,6 +167,9 @@ module _ (text : Box → List ℕ) (server : ServerNow) (boxes next : List Box) 
 
   pub known_moments : Span start now (StandsForEither text server.boxes next)
   known_moments = subst (λ (s : ServerNow). Span start now (StandsForEither text s.boxes next)) r.seen (any_moment text boxes next olds news k t start now done replacing)
+
+  pub known_now : Always (StandsForEither text server.boxes next) now
+  known_now = subst (λ (s : ServerNow). Always (StandsForEither text s.boxes next) now) r.seen (now_stands text boxes next olds news k t start now done replacing)
 
   pub known_ready : done ≡ true → IsReady text (with_stores next news) now
   known_ready = ready_then text boxes next olds news k t start now done replacing

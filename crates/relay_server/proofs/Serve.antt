@@ -3,7 +3,7 @@ use Rattle.std.proofs.Common.{◌≡◌, ◌⊎◌, inl, inr, ⊎_elim, ℕ, zer
 use Rattle.std.specs.Prelude.{option_map, flat_map, IfSome, if◌then◌else◌}
 use Rattle.std.specs.List.{AllByRecursion}
 use Rattle.std.proofs.lemmas.List.{length_push, append_cancel_left, length-append}
-use Rattle.dr_disk.specs.State.{DiskState}
+use Rattle.dr_disk.specs.State.{DiskState, Always}
 use Rattle.dr_disk.specs.Spans.{Span}
 use Rattle.dr_disk.proofs.Steps.{spans, widen}
 use Rattle.dr_ports.specs.declared.pipe.Part.TheVariants.{Flow}
@@ -15,7 +15,7 @@ use Rattle.relay_wire.proofs.Splitting.{only, each}
 use Rattle.relay_core.specs.Boxes.{Box, answers_read}
 use Rattle.relay_core.specs.Streams.{Exchange, Served, and_then, served, served_within, reply_frame, reply_bytes, is_last}
 use Rattle.relay_server.specs.Durable.{ServerNow, IsReady, StandsFor, StandsForEither}
-use Rattle.relay_server.specs.Serving.{exchanged, Exchanges, Idle, Came, reply_to, ReachedIn, Reached, IsAll, Answers, prepend, SoFar}
+use Rattle.relay_server.specs.Serving.{exchanged, Exchanges, Idle, Came, reply_to, ReachedIn, Reached, IsAll, LastOrBefore, Answers, prepend, SoFar}
 
 -- ---- frames
 
@@ -227,6 +227,14 @@ module _ (text : Box → List ℕ) (old : ServerNow) (boxes : List Box) (start n
 
     pub came_during : Span dstart dafter (Reached text old.boxes whole)
     came_during = same_span text old.boxes (so.frames ++ frame ∷ []) whole dstart dafter whole_frames (span_with text 65536 old boxes start now dstart dnow n so frame put next after dafter under came)
+
+    pub came_stands : Always (StandsForEither text boxes next) dafter → LastOrBefore text old.boxes next whole dafter
+    came_stands each = record {
+      front = so.frames;
+      frame = frame;
+      split = whole_frames;
+      each = subst (λ (bs : List Box). Always (StandsForEither text bs next) dafter) (sym (ap (λ (s : Served). s.next) (so_served text 65536 old boxes start now dstart dnow n so))) each;
+    }
 
     -- the replies, up to what was sent of the last
     pub came_bytes : reply_bytes (served old.boxes whole) ≡ flat_map reply_frame so.exs ++ reply_to boxes frame

@@ -10,8 +10,10 @@ use Rattle.dr_ports.specs.Wires.{Port, Wire, Told, EndsAt}
 use Rattle.relay_wire.specs.Requests.{read_request}
 use Rattle.relay_wire.specs.Replies.{reply_body}
 use Rattle.relay_wire.specs.Frames.{Held, IsFrame, IsPartial, framed, frames_of}
-use Rattle.relay_core.specs.Boxes.{Box, answers_read}
-use Rattle.relay_core.specs.Streams.{Exchange, Served, served, served_within, reply_frame, reply_bytes, is_last}
+use Rattle.relay_core.specs.Boxes.{Box, answers_read, box_of}
+use Rattle.relay_core.specs.Streams.{Exchange, Served, served, served_within, reply_frame, reply_bytes, is_last, IsIsolated, asks, told}
+use Rattle.relay_core.specs.Alone.{box_after}
+use Rattle.relay_core.specs.Record.{box_text}
 use Rattle.relay_server.specs.Durable.{ServerNow, IsReady, StandsFor, StandsForEither}
 use Rattle.relay_server.specs.declared.serving.Ended.{Ended}
 use Rattle.relay_server.specs.declared.serving.Round.{Round}
@@ -54,10 +56,11 @@ Rounds text old new start now dstart dnow (Err Write) =
     (frame : List ℕ) × (put : List ℕ) × (rest : List ℕ) × Came text frame put old.boxes new.boxes start now dstart dnow × (reply_to old.boxes frame ≡ put ++ rest)
     × Rose (start.faults Flow) (now.faults Flow) × IsReady text new dnow
 Rounds text old new start now dstart dnow (Err (Store call)) = (frame : List ℕ) × Came text frame [] old.boxes new.boxes start now dstart dnow × Rose (dstart.faults call) (dnow.faults call)
+    × Always (StandsForEither text old.boxes new.boxes) dnow
 
 -- ---- a whole connection
 
--- bytes that stand for the boxes after a beginning of the frames
+-- bytes that stand for the boxes after a beginning of the frames, so each box for what its own requests in that beginning made of it
 pub record ReachedIn (text : Box → List ℕ) (most : ℕ) (boxes : List Box) (frames : List (List ℕ)) (c : List ℕ) : Type 0 where
   pub front : List (List ℕ)
   pub back : List (List ℕ)
@@ -66,6 +69,21 @@ pub record ReachedIn (text : Box → List ℕ) (most : ℕ) (boxes : List Box) (
 
 abbrev pub Reached : (Box → List ℕ) → List Box → List ℕ → List ℕ → Type 0
 Reached text boxes got = ReachedIn text 65536 boxes (frames_of got)
+
+-- Bytes that stand for the boxes behind all frames, or for those before the last one.
+pub record LastOrBefore (text : Box → List ℕ) (boxes next : List Box) (got : List ℕ) (disk : DiskState) : Type 0 where
+  pub front : List (List ℕ)
+  pub frame : List ℕ
+  pub split : frames_of got ≡ front ++ frame ∷ []
+  pub each : Always (StandsForEither text (served_within 65536 boxes front).next next) disk
+
+-- Bytes that stand, box by box, for what the box's own requests in a beginning of the frames made of it.
+pub record StandsForPart (boxes : List Box) (got c : List ℕ) : Type 0 where
+  pub front : List (List ℕ)
+  pub back : List (List ℕ)
+  pub split : frames_of got ≡ front ++ back
+  pub stands : StandsFor box_text (served_within 65536 boxes front).next c
+  pub alone : (name : List ℕ) → box_of name (served_within 65536 boxes front).next ≡ box_after (box_of name boxes) (asks (told name (served_within 65536 boxes front).exchanges))
 
 -- nothing more would be answered, whatever is left
 abbrev pub IsAll : List Box → List ℕ → Port → Type 0
@@ -84,11 +102,13 @@ Serves text old new start now dstart dnow got (Err Write) =
     (put : List ℕ) × (rest : List ℕ) × Answers old.boxes new.boxes got put start now × (reply_bytes (served old.boxes got) ≡ put ++ rest) × IsReady text new dnow × Rose (start.faults Flow) (now.faults Flow)
 Serves text old new start now dstart dnow got (Err (Store call)) =
     (put : List ℕ) × (last : Exchange) × Answers old.boxes new.boxes got put start now × (reply_bytes (served old.boxes got) ≡ put ++ reply_frame last) × Rose (dstart.faults call) (dnow.faults call)
+    × LastOrBefore text old.boxes new.boxes got dnow
 
 -- all that one call of `serve` did
 pub record IsServed (text : Box → List ℕ) (old new : ServerNow) (start now : Port) (dstart dnow : DiskState) (result : Result Ended ServeFault) : Type 0 where
   pub got : List ℕ
   pub during : Span dstart dnow (Reached text old.boxes got)
+  pub alone : (name : List ℕ) → IsIsolated name old.boxes (served old.boxes got)
   pub serves : Serves text old new start now dstart dnow got result
 
 -- ---- between rounds

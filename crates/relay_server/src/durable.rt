@@ -83,6 +83,7 @@ impl DurableBoxes {
         ensures next { self.new.boxes ≡ (answers_read self.old.boxes (read_request (drop 2 frame.now.bytes))).next }
         ensures ready { OnOk result (IsReady box_text self.new (D.state disk.new)) }
         ensures any_moment { Span (D.state disk.old) (D.state disk.new) (StandsForEither box_text self.old.boxes self.new.boxes) }
+        ensures at_return { Always (StandsForEither box_text self.old.boxes self.new.boxes) (D.state disk.new) }
         ensures fault { IfErr result (λ call. Rose ((D.state disk.old).faults call) ((D.state disk.new).faults call)) }
         ensures quiet { OnOk result (IsQuiet (D.state disk.old) (D.state disk.new)) }
         ensures last { IfOk result (λ a. a.last ≡ is_last (read_request (drop 2 frame.now.bytes))) }

@@ -5,10 +5,12 @@
 #![tactic(auto)]
 
 pub use durable::DurableBoxes;
+pub use law::crashes;
 pub use pulling::{next_frame, send_all};
 pub use serving::{Answered, Ended, Round, ServeFault};
 
 mod answering;
 mod durable;
+mod law;
 mod pulling;
 mod serving;

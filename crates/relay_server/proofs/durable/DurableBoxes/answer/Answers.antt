@@ -1,4 +1,4 @@
-use Rattle.std.proofs.Common.{◌≡◌, List, ℕ, ◌+◌, ◌<◌, take, drop, length, true, refl, sym, ◌∙◌, ap, subst, arith}
+use Rattle.std.proofs.Common.{inl, ◌≡◌, List, ℕ, ◌+◌, ◌<◌, take, drop, length, true, refl, sym, ◌∙◌, ap, subst, arith}
 use Rattle.std.specs.Prelude.{slice_get, is_ok}
 use Rattle.std.proofs.lemmas.List.{with_items_is}
 use Rattle.relay_wire.specs.Requests.{read_request}
@@ -6,7 +6,7 @@ use Rattle.relay_core.specs.Boxes.{Box, answers_read}
 use Rattle.relay_core.specs.Record.{box_text}
 use Rattle.slot_store.specs.declared.store.SlotStore.{SlotStore}
 use Rattle.relay_server.specs.Durable.{ServerNow, IsReady}
-use Rattle.relay_server.proofs.Replacing.{Known, known_moments, known_ready}
+use Rattle.relay_server.proofs.Replacing.{Known, known_moments, known_now, known_ready, ready_stands}
 use Rattle.relay_server.proofs.durable.DurableBoxes.answer.Goals as goal
 
 pub returns-in-Err-clause-any_moment : goal.returns-in-Err-clause-any_moment
@@ -31,12 +31,56 @@ returns-in-Err-clause-any_moment g c =
       resting = c.resting.ensures.record_of;
     })
 
+pub returns-in-Err-clause-at_return : goal.returns-in-Err-clause-at_return
+returns-in-Err-clause-at_return g c =
+    let frame = read_request (drop 2 c.args.frame.now.bytes) in
+    let boxes = c.self.inside.relay in
+    let long : length c.write_text-len.new.out ≡ c.self.inside.text.len = c.write_text-len.auto.out ∙ c.deref_mut.ensures.len in
+    known_now box_text c.args.self.now boxes c.answer_frame-answered.new.relay (answers_read boxes frame) c.self.inside.stores.items c.deref_mut-in-Some.result.now c.replace_at.new.stores
+    c.in-Some.place (take c.write_text-len.result c.deref.result.now) (g.D.Disk.state c.args.disk.now) (g.D.Disk.state c.replace_at.new.disk) (is_ok c.replace_at.result)
+    (record {
+      ready = c.requires.ready;
+      seen = c.self.view_is;
+      lent = c.deref_mut-in-Some.ensures.value;
+      change = c.changes.ensures boxes frame;
+      next_is = c.answer_frame-answered.ensures.next;
+      place_is = sym c.answer_frame-answered.ensures.changed ∙ c.in-Some.is;
+      stores_count = c.replace_at.ensures.count;
+      written = λ box there. ap (take c.write_text-len.result) (c.deref.ensures.value ∙ with_items_is c.self.inside.text c.write_text-len.new.out long) ∙ c.write_text-len.ensures.text box there;
+      others = c.replace_at.ensures.others;
+      there = c.replace_at.ensures.there;
+      local = c.locality.ensures;
+      resting = c.resting.ensures.record_of;
+    })
+
 pub returns-in_default-replace_at-clause-any_moment : goal.returns-in_default-replace_at-clause-any_moment
 returns-in_default-replace_at-clause-any_moment g c =
     let frame = read_request (drop 2 c.args.frame.now.bytes) in
     let boxes = c.self.inside.relay in
     let long : length c.write_text-len.new.out ≡ c.self.inside.text.len = c.write_text-len.auto.out ∙ c.deref_mut.ensures.len in
     known_moments box_text c.args.self.now boxes c.answer_frame-answered.new.relay (answers_read boxes frame) c.self.inside.stores.items c.deref_mut-in-Some.result.now c.replace_at.new.stores
+    c.in-Some.place (take c.write_text-len.result c.deref.result.now) (g.D.Disk.state c.args.disk.now) (g.D.Disk.state c.replace_at.new.disk) (is_ok c.replace_at.result)
+    (record {
+      ready = c.requires.ready;
+      seen = c.self.view_is;
+      lent = c.deref_mut-in-Some.ensures.value;
+      change = c.changes.ensures boxes frame;
+      next_is = c.answer_frame-answered.ensures.next;
+      place_is = sym c.answer_frame-answered.ensures.changed ∙ c.in-Some.is;
+      stores_count = c.replace_at.ensures.count;
+      written = λ box there. ap (take c.write_text-len.result) (c.deref.ensures.value ∙ with_items_is c.self.inside.text c.write_text-len.new.out long) ∙ c.write_text-len.ensures.text box there;
+      others = c.replace_at.ensures.others;
+      there = c.replace_at.ensures.there;
+      local = c.locality.ensures;
+      resting = c.resting.ensures.record_of;
+    })
+
+pub returns-in_default-replace_at-clause-at_return : goal.returns-in_default-replace_at-clause-at_return
+returns-in_default-replace_at-clause-at_return g c =
+    let frame = read_request (drop 2 c.args.frame.now.bytes) in
+    let boxes = c.self.inside.relay in
+    let long : length c.write_text-len.new.out ≡ c.self.inside.text.len = c.write_text-len.auto.out ∙ c.deref_mut.ensures.len in
+    known_now box_text c.args.self.now boxes c.answer_frame-answered.new.relay (answers_read boxes frame) c.self.inside.stores.items c.deref_mut-in-Some.result.now c.replace_at.new.stores
     c.in-Some.place (take c.write_text-len.result c.deref.result.now) (g.D.Disk.state c.args.disk.now) (g.D.Disk.state c.replace_at.new.disk) (is_ok c.replace_at.result)
     (record {
       ready = c.requires.ready;
@@ -76,3 +120,6 @@ returns-in_default-replace_at-clause-ready g c =
       local = c.locality.ensures;
       resting = c.resting.ensures.record_of;
     }) (ap is_ok c.in_default-replace_at.is))
+
+pub returns-in_default-clause-at_return : goal.returns-in_default-clause-at_return
+returns-in_default-clause-at_return g c = λ image left. inl (ready_stands box_text c.args.self.now (g.D.Disk.state c.args.disk.now) c.requires.ready c.resting.ensures.record_of image left)
