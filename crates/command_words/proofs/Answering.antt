@@ -1,5 +1,5 @@
 -- From what clap's parse says of its result to the command.
-use Rattle.std.proofs.Common.{◌≡◌, ◌∙◌, ℕ, true, refl, sym, ap, subst, inl, inr, List, [], ◌∷◌, Option, Some, None, IfSome, Result, Ok, Err, codes}
+use Rattle.std.proofs.Common.{◌≡◌, ◌∙◌, true, refl, sym, ap, subst, inl, inr, List, [], Option, Some, None, IfSome, codes}
 use Rattle.std.specs.Prelude.{Box}
 use Rattle.std.specs.Box.{box_value}
 use Rattle.std.specs.Borrow.{Bor}

@@ -1,7 +1,7 @@
 -- The application as clap builds it.
-use Rattle.std.proofs.Common.{◌≡◌, ◌∙◌, ℕ, refl, ap, ap₂, true, false, List, [], ◌∷◌, map, codes}
+use Rattle.std.proofs.Common.{◌≡◌, ℕ, refl, ap₂, true, false, List, [], ◌∷◌, map}
 use Rattle.clap.specs.Walk.{Rule}
-use Rattle.clap.specs.Simple.{App, Shape, built, is_simple, filled, new_rule, new_shape, with_index, built_leaf, inherited, with_leaf_noted, marked_built}
+use Rattle.clap.specs.Simple.{Shape, built, is_simple, filled, new_shape, with_index, built_leaf, inherited, with_leaf_noted, marked_built}
 use Rattle.clap.specs.Faults.{is_simple_and_free}
 use Rattle.clap.proofs.OnLiterals.{clap_on_literals}
 use Rattle.command_words.specs.Application.{application, shape_for, top_shape, value_rule}

@@ -1,5 +1,5 @@
 -- What clap makes of the words behind a command's name.
-use Rattle.std.proofs.Common.{inl, inr, subst, ◌≡◌, ◌∙◌, ℕ, Bool, true, false, refl, sym, ap, ap₂, List, [], ◌∷◌, Option, Some, None, codes}
+use Rattle.std.proofs.Common.{inl, inr, subst, ◌≡◌, ◌∙◌, ℕ, Bool, true, false, refl, sym, ap, List, [], ◌∷◌, Option, Some, None, codes}
 use Rattle.std.specs.Prelude.{slice_get}
 use Rattle.std.specs.Option.{option_map}
 use Rattle.std.specs.Char.{encode_utf8}
@@ -7,7 +7,7 @@ use Rattle.std.specs.Str.{IsUtf8, chars, encode_utf8_all}
 use Rattle.std.proofs.lemmas.Str.{encodes-chars}
 use Rattle.clap.specs.Kinds.{Kinds}
 use Rattle.clap.specs.Lexer.{long_of, short_of}
-use Rattle.clap.specs.Walk.{Held, Row, Text, Walk, finished, first_of, nothing_held, rows_after, walked}
+use Rattle.clap.specs.Walk.{Held, Row, Text, finished, first_of, nothing_held, rows_after, walked}
 use Rattle.clap.specs.Simple.{Shape}
 use Rattle.clap.specs.Faults.{level_fault, turn_fault}
 use Rattle.clap.proofs.OnLiterals.{clap_on_literals}
@@ -16,7 +16,7 @@ use Rattle.command_words.proofs.Building.{built_bare, built_value, built_valued}
 use Rattle.command_words.proofs.Levels.{end_fault, fault_ends, fault_fails, fault_from, fault_passes, full_holds, full_passes, held_after, past_separator}
 use Rattle.command_words.proofs.Turns.{IsFull, surplus_fails, walk_at}
 use Rattle.command_words.proofs.Values.{one_value, values-plain, values-separator}
-use Rattle.command_words.proofs.WordKinds.{Kind, divides, stands, long, short, kind_of, plain_is}
+use Rattle.command_words.proofs.WordKinds.{divides, stands, long, short, kind_of, plain_is}
 
 -- why a subcommand with these words fails
 abbrev pub leaf_fault : Shape → List Text → Kinds

@@ -1,10 +1,10 @@
 -- One level of clap's parse, from a place of its walk on.
-use Rattle.std.proofs.Common.{inl, inr, ◌≡◌, ◌∙◌, ℕ, Bool, true, false, refl, sym, ap, ap₂, List, [], ◌∷◌, Some, None}
+use Rattle.std.proofs.Common.{inl, inr, ◌≡◌, ◌∙◌, ℕ, Bool, true, false, refl, sym, ap, List, [], ◌∷◌, Some}
 use Rattle.std.specs.Prelude.{fold}
 use Rattle.clap.specs.Kinds.{Kinds, or_else}
-use Rattle.clap.specs.Walk.{Held, Row, Text, Walk, finished, settled, walked}
+use Rattle.clap.specs.Walk.{Held, Text, Walk, finished, settled, walked}
 use Rattle.clap.specs.Simple.{Shape}
-use Rattle.clap.specs.Faults.{check_fault, defaults_fault, level_fault, settle_fault, turn_fault, walk_fault}
+use Rattle.clap.specs.Faults.{check_fault, defaults_fault, settle_fault, turn_fault, walk_fault}
 use Rattle.clap.proofs.OnLiterals.{clap_on_literals}
 use Rattle.command_words.specs.Values.{is_separator, values_of}
 use Rattle.command_words.proofs.Turns.{IsFull, first_fails, full_fails, surplus_fails, walk_at}

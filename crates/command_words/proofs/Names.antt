@@ -1,5 +1,5 @@
 -- What clap makes of a whole line of words, by the row of its first word.
-use Rattle.std.proofs.Common.{◌==◌, arith, ◌≡◌, ◌∙◌, ℕ, ◌||◌, ◌&&◌, Bool, true, false, cond, refl, sym, ap, ap₂, subst, List, [], ◌∷◌, map, Option, Some, None, codes}
+use Rattle.std.proofs.Common.{◌==◌, arith, ◌≡◌, ◌∙◌, ℕ, ◌||◌, ◌&&◌, Bool, true, false, cond, refl, sym, ap, ap₂, List, [], ◌∷◌, map, Option, Some, None, codes}
 use Rattle.std.specs.Prelude.{find, fold, is_some}
 use Rattle.std.specs.Option.{option_map, option_map_or}
 use Rattle.std.specs.Str.{bytes_eq}
@@ -16,7 +16,7 @@ use Rattle.clap.proofs.WalkLemmas.{walk_stopped}
 use Rattle.command_words.specs.Commands.{Reading, bare, valued, Row, row_of}
 use Rattle.command_words.specs.Values.{is_separator}
 use Rattle.command_words.specs.Application.{application}
-use Rattle.command_words.proofs.Building.{built_bare, built_for, built_row, built_top, built_valued, subs_are}
+use Rattle.command_words.proofs.Building.{built_for, built_row, built_top, subs_are}
 use Rattle.command_words.proofs.Leaves.{leaf_fault}
 use Rattle.command_words.proofs.Turns.{IsFull, first_fails, first_none, next_fails, full_fails, surplus_fails, walk_at}
 

@@ -1,5 +1,5 @@
 -- Numbers as std's `parse` reads them, by tests.
-use Rattle.std.proofs.Common.{◌≡◌, ◌∙◌, ℕ, ◌<◌, ◌^◌, ◌&&◌, Bool, true, false, cond, refl, sym, ap, List, [], ◌∷◌, length, nat_lt, lt-ltb, ltb-true, Option, Some, None, true≢false}
+use Rattle.std.proofs.Common.{◌≡◌, ℕ, ◌<◌, ◌^◌, ◌&&◌, Bool, true, false, cond, refl, ap, List, [], ◌∷◌, length, lt-ltb, ltb-true, Some, None}
 use Rattle.std.specs.Char.{digit_value, is_digit}
 use Rattle.std.specs.List.{list_all}
 use Rattle.std.specs.Str.Parse.{AllDigits, IsNumeral, digits_value, without_leading_plus}

@@ -1,5 +1,5 @@
 -- What clap makes of the words of a command is what they are.
-use Rattle.std.proofs.Common.{◌≡◌, ◌∙◌, ℕ, refl, sym, ap, subst, List, [], ◌∷◌, Option, Some, None}
+use Rattle.std.proofs.Common.{◌≡◌, ◌∙◌, refl, sym, ap, List, [], ◌∷◌, Option, Some, None}
 use Rattle.std.specs.Option.{option_and_then, option_to_list}
 use Rattle.std.specs.Str.{IsUtf8}
 use Rattle.clap.specs.Walk.{Row as Found, Text, rows_after}
@@ -8,9 +8,9 @@ use Rattle.clap.specs.Faults.{fault_of}
 use Rattle.command_words.specs.Application.{application}
 use Rattle.command_words.specs.Commands.{Reading, Row, Work, bare, command_in, command_named, row_of, valued, values_read}
 use Rattle.command_words.specs.Values.{values_of}
-use Rattle.command_words.proofs.Building.{built_for, built_row, built_value}
+use Rattle.command_words.proofs.Building.{built_for}
 use Rattle.command_words.proofs.Leaves.{bare_holds, bare_passes, leaf_fault, value_found, valued_holds, valued_passes}
-use Rattle.command_words.proofs.Names.{named_fault, named_rows, nothing_entered, row_name, unnamed_entered}
+use Rattle.command_words.proofs.Names.{named_fault, named_rows, nothing_entered, unnamed_entered}
 
 -- what was found is text
 abbrev pub IsText : Option Text → Type 0

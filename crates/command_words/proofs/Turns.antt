@@ -1,16 +1,16 @@
 -- What clap makes of one word, at a place of its walk where nothing waits for a value.
-use Rattle.std.proofs.Common.{◌≡◌, ◌∙◌, ℕ, ◌==◌, Bool, true, false, cond, refl, sym, ap, subst, List, [], ◌∷◌, length, Option, Some, None}
+use Rattle.std.proofs.Common.{◌≡◌, ℕ, Bool, true, false, cond, refl, List, [], ◌∷◌, Option, Some, None}
 use Rattle.std.specs.Prelude.{slice_get}
 use Rattle.std.specs.Str.{chars}
 use Rattle.clap.specs.Lexer.{long_of, short_of}
 use Rattle.clap.specs.declared.error.kind.ErrorKind.TheVariants.{UnknownArgument, InvalidSubcommand}
 use Rattle.clap.specs.Kinds.{Kinds, or_else}
-use Rattle.clap.specs.Walk.{Held, Names, Row, Rule, Text, Walk, arg_by_index, arg_by_long, arg_by_short, idle, nothing_held, subcommand_met}
+use Rattle.clap.specs.Walk.{Held, Names, Text, Walk, arg_by_index, arg_by_long, arg_by_short, idle, subcommand_met}
 use Rattle.clap.specs.Simple.{Shape}
-use Rattle.clap.specs.Faults.{flags_fault, stray_fault, turn_fault}
+use Rattle.clap.specs.Faults.{stray_fault, turn_fault}
 use Rattle.clap.proofs.OnLiterals.{clap_on_literals}
 use Rattle.command_words.specs.Values.{is_separator}
-use Rattle.command_words.proofs.WordKinds.{Kind, divides, stands, long, short, kind_of}
+use Rattle.command_words.proofs.WordKinds.{divides, stands, long, short, kind_of}
 
 -- a place of the walk: what is held, the next position, and whether `--` was met
 abbrev pub walk_at : Held → ℕ → Bool → Walk
