@@ -7,5 +7,4 @@ pub mod Leaves
 pub mod Names
 pub mod Readings
 pub mod NumberTests
-pub mod Rest
 pub mod Answering

@@ -16,12 +16,10 @@ use dr_base::{INBOX_LIMIT, OUTBOX_LIMIT, Side};
 fn side_of(word: &str) -> Option<Side>
     ensures { result ≡ side_read word.now }
 {
-    if word == "first" {
-        Some(Side::First)
-    } else if word == "second" {
-        Some(Side::Second)
-    } else {
-        None
+    match word {
+        "first" => Some(Side::First),
+        "second" => Some(Side::Second),
+        _ => None,
     }
 }
 
@@ -53,22 +51,14 @@ fn amount_of(most: usize, word: &str) -> Option<u32>
 fn without_value<'a>(name: &str) -> Option<Command<'a>>
     ensures { option_map work_of result ≡ command_named rows name.now [] }
 {
-    if name == "take" {
-        return Some(Command::Take);
+    match name {
+        "take" => Some(Command::Take),
+        "inbox" => Some(Command::Inbox),
+        "outbox" => Some(Command::Outbox),
+        "state" => Some(Command::State),
+        "duet" => Some(Command::Duet),
+        _ => None,
     }
-    if name == "inbox" {
-        return Some(Command::Inbox);
-    }
-    if name == "outbox" {
-        return Some(Command::Outbox);
-    }
-    if name == "state" {
-        return Some(Command::State);
-    }
-    if name == "duet" {
-        return Some(Command::Duet);
-    }
-    None
 }
 
 /// The command of a name with this value.
@@ -76,19 +66,13 @@ fn with_value<'a>(name: &str, value: &'a str) -> Option<Command<'a>>
     ensures read { option_map work_of result ≡ command_named rows name.now (value.entry.now ∷ []) }
     ensures text { IsUtf8 value.entry.now }
 {
-    if name == "begin" {
-        return side_of(value).map(|side| Command::Begin(side));
+    match name {
+        "begin" => Some(Command::Begin(side_of(value)?)),
+        "say" => Some(Command::Say(value)),
+        "done" => Some(Command::Done(amount_of(INBOX_LIMIT, value)?)),
+        "sent" => Some(Command::Sent(amount_of(OUTBOX_LIMIT, value)?)),
+        _ => None,
     }
-    if name == "say" {
-        return Some(Command::Say(value));
-    }
-    if name == "done" {
-        return amount_of(INBOX_LIMIT, value).map(|n| Command::Done(n));
-    }
-    if name == "sent" {
-        return amount_of(OUTBOX_LIMIT, value).map(|n| Command::Sent(n));
-    }
-    None
 }
 
 /// The command of a name with the value that was given, if one was.
