@@ -17,6 +17,8 @@ mod opening;
 mod refusals;
 mod room;
 mod saying;
+#[cfg(test)]
+mod stops;
 mod taking;
 #[cfg(test)]
 mod tests;

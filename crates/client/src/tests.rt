@@ -1,59 +1,95 @@
-//! Clients on disks in memory: beginning and opening, and a text whose record is stopped at each write and sync.
+//! Clients on disks in memory: beginning, opening, and each act once.
+
+ghost use Rattle.std.specs.Prelude.{◌≡◌, None, IfOk, OnOk, true};
+ghost use Rattle.dr_disk.specs.MemoryDisks.{state_of};
+ghost use Rattle.client.specs.Clients.{IsReady};
 
 use crate::{BeginRefusal, Client, OpenRefusal, SLOT};
 use dr_base::{Key32, Side};
-use dr_disk::{Disk, MemoryDisk, Mode};
+use dr_disk::{Disk, MemoryDisk};
 use dr_ports::SteadyDraws;
 use kem_laws::OpenKem;
 use std::alloc::Global;
 use std::test::Fail;
 
 /// A new disk that holds a client's area.
-const SIZE: u64 = 393216;
+pub(crate) const SIZE: u64 = 393216;
 
-/// Second says a text, and its disk stops after so many writes and syncs and crashes so. Answers whether the text was
-/// said, and how many packets stand once the disk is opened again.
-fn say_stopped(alloc: Global, k: u64, mode: Mode) -> Result<(bool, u32), Fail> {
-    let mut disk = MemoryDisk::new(alloc, SIZE)?;
-    let mut draws = SteadyDraws::new(alloc, &[Key32 { bytes: [9; 32] }])?;
+/// What a client does.
+#[derive(Clone, Copy)]
+pub(crate) enum Act {
+    Say,
+    Take,
+    Done,
+    Sent,
+}
+
+/// Begins a client.
+pub(crate) fn begin(
+    alloc: Global,
+    side: Side,
+    disk: &mut MemoryDisk,
+) -> Result<Client<OpenKem>, Fail>
+    ensures open { IfOk result (λ client. client.closed ≡ None) }
+    ensures ready { IfOk result (λ client. IsReady client.kept client.store (state_of disk.new)) }
+{
     if disk.size() < 2 * SLOT as u64 {
         return Err(Fail::from("no room"));
     }
-    let mut client = Client::<OpenKem>::begin(
-        alloc,
-        &mut disk,
-        Side::Second,
-        &Key32 { bytes: [7; 32] },
-    )?;
-    disk.stop_after(k);
-    let said = client.say(&mut disk, b"hi", &mut draws).is_ok();
-    let mut left = disk.crash(mode);
-    if left.size() < 2 * SLOT as u64 {
-        return Err(Fail::from("no room"));
-    }
-    let opened = Client::<OpenKem>::open(alloc, &mut left)?;
-    Ok((said, opened.state().outbox))
+    let key = Key32 { bytes: [7; 32] };
+    Ok(Client::<OpenKem>::begin(alloc, disk, side, &key)?)
 }
 
-// From the fourth call on the new record stands; between the second and the fourth it stands where the gate became a5.
-#[test]
-fn stopped_at_each_call(rt: HostRuntime) -> Result<(), Fail> {
-    let alloc = rt.alloc();
-    let rows = [
-        (Mode::Old, 4),
-        (Mode::New, 2),
-        (Mode::Fill(0), 4),
-        (Mode::Fill(0xa5), 2),
-        (Mode::Fill(0xff), 4),
-    ];
-    for (mode, from) in rows {
-        for k in 0u64..10 {
-            let (said, stand) = say_stopped(alloc, k, mode)?;
-            assert_eq!(rt; said, k >= 8);
-            assert_eq!(rt; stand, if k >= from { 1 } else { 0 });
+/// Says the text "hi", takes a packet, or drops the oldest item of a box. Answers whether that was acknowledged.
+pub(crate) fn perform(
+    alloc: Global,
+    act: Act,
+    packet: &[u8],
+    client: &mut Client<OpenKem>,
+    disk: &mut MemoryDisk,
+) -> Result<bool, Fail>
+    requires { client.old.closed ≡ None → IsReady client.old.kept client.old.store (state_of disk.old) }
+    ensures open { IfOk result (λ done. done ≡ true → client.new.closed ≡ None) }
+    ensures ready { IfOk result (λ done. done ≡ true → IsReady client.new.kept client.new.store (state_of disk.new)) }
+{
+    match act {
+        Act::Say => {
+            let mut draws = SteadyDraws::new(alloc, &[Key32 { bytes: [9; 32] }])?;
+            Ok(client.say(disk, b"hi", &mut draws).is_ok())
         }
+        Act::Take => Ok(client.take(disk, packet).is_ok()),
+        Act::Done => Ok(client.done(disk, 1).is_ok()),
+        Act::Sent => Ok(client.sent(disk, 1).is_ok()),
     }
-    Ok(())
+}
+
+/// Does what must be acknowledged.
+pub(crate) fn perform_well(
+    alloc: Global,
+    what: Act,
+    packet: &[u8],
+    client: &mut Client<OpenKem>,
+    disk: &mut MemoryDisk,
+) -> Result<(), Fail>
+    requires { client.old.closed ≡ None → IsReady client.old.kept client.old.store (state_of disk.old) }
+    ensures { OnOk result ((client.new.closed ≡ None) × IsReady client.new.kept client.new.store (state_of disk.new)) }
+{
+    if perform(alloc, what, packet, client, disk)? {
+        Ok(())
+    } else {
+        Err(Fail::from("refused"))
+    }
+}
+
+/// The packet of the text "hi", which Second says.
+pub(crate) fn packet_of_second(alloc: Global) -> Result<Vec<u8>, Fail> {
+    let mut disk = MemoryDisk::new(alloc, SIZE)?;
+    let mut client = begin(alloc, Side::Second, &mut disk)?;
+    perform_well(alloc, Act::Say, &[], &mut client, &mut disk)?;
+    match client.outbox(0) {
+        Some((_, packet)) => Ok(packet.to_vec(alloc)?),
+        None => Err(Fail::from("no packet")),
+    }
 }
 
 // An empty disk has no session, and a session is begun once.
@@ -73,46 +109,13 @@ fn begun_once(rt: HostRuntime) -> Result<(), Fail> {
     Ok(())
 }
 
-/// The oldest packet of an outbox.
-fn first_packet(alloc: Global, client: &Client<OpenKem>) -> Result<Vec<u8>, Fail> {
-    match client.outbox(0) {
-        Some((_, packet)) => Ok(packet.to_vec(alloc)?),
-        None => Err(Fail::from("no packet")),
-    }
-}
-
-/// The packet of the text "hi", which Second says.
-fn packet_of_second(alloc: Global) -> Result<Vec<u8>, Fail> {
-    let mut disk = MemoryDisk::new(alloc, SIZE)?;
-    let mut draws = SteadyDraws::new(alloc, &[Key32 { bytes: [9; 32] }])?;
-    if disk.size() < 2 * SLOT as u64 {
-        return Err(Fail::from("no room"));
-    }
-    let mut client = Client::<OpenKem>::begin(
-        alloc,
-        &mut disk,
-        Side::Second,
-        &Key32 { bytes: [7; 32] },
-    )?;
-    let _position = client.say(&mut disk, b"hi", &mut draws)?;
-    first_packet(alloc, &client)
-}
-
 /// First takes a packet, and is done with its text: how many texts stand before and after.
 fn take_and_finish(alloc: Global, packet: &[u8]) -> Result<(u32, u32), Fail> {
     let mut disk = MemoryDisk::new(alloc, SIZE)?;
-    if disk.size() < 2 * SLOT as u64 {
-        return Err(Fail::from("no room"));
-    }
-    let mut client = Client::<OpenKem>::begin(
-        alloc,
-        &mut disk,
-        Side::First,
-        &Key32 { bytes: [7; 32] },
-    )?;
-    let _position = client.take(&mut disk, packet)?;
+    let mut client = begin(alloc, Side::First, &mut disk)?;
+    perform_well(alloc, Act::Take, packet, &mut client, &mut disk)?;
     let before = client.state().inbox;
-    client.done(&mut disk, 1)?;
+    perform_well(alloc, Act::Done, packet, &mut client, &mut disk)?;
     Ok((before, client.state().inbox))
 }
 
