@@ -8,6 +8,6 @@ use Rattle.client.proofs.stops.stop.Goals as goal
 pub returns : goal.returns
 returns c =
     let ready = c.requires in
-    subst (λ (disk : MemoryDisk). IsReady c.client.now.kept c.client.now.store (state_of disk))
+    subst (λ (disk : MemoryDisk). IsReady c.before.before.args.client.now.kept c.before.before.args.client.now.store (state_of disk))
     (sym c.stop_after.ensures)
     (record { area = ready.area; within = ready.within; holds = ready.holds; rests = ready.rests })
