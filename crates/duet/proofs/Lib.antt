@@ -1,7 +1,5 @@
 pub mod Beginning
 pub mod Digits
-pub mod Entries
-pub mod Escaping
 pub mod Finding
 pub mod Following
 pub mod Hex

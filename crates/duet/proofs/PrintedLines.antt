@@ -22,7 +22,8 @@ use Rattle.session_model.specs.declared.answer.Amount.TheVariants.{All, Exactly}
 use Rattle.dr_model.specs.Machines.Events.{Event, seeds, says, takes, takes_nth, flips, takes_bytes, drops_sent, drops_done, shows_inbox, shows_state, cuts}
 use Rattle.duet.specs.Number.{is_number, is_unpadded, number_read}
 use Rattle.duet.specs.Printed.{IsAmount, IsNumbered, IsSayable, amount_text, line_text, words_text}
-use Rattle.duet.specs.Replies.{acting_side, position_text, side_text}
+use Rattle.answer_lines.specs.Answers.{position_text}
+use Rattle.duet.specs.Replies.{acting_side, side_text}
 use Rattle.duet.specs.Words.{after_prefix, amount_read, bytes_words, done_words, flip_read, flip_words, halves_of, hex_read, is_text, line_read, look_words, numbers_read, packet_read, position_read, say_words, seed_read, sent_words, side_words, take_words}
 
 -- ---- numbers

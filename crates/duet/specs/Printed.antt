@@ -5,7 +5,8 @@ use Rattle.dr_base.specs.declared.position.Position.{Position}
 use Rattle.session_model.specs.declared.answer.Amount.{Amount}
 use Rattle.session_model.specs.declared.answer.Amount.TheVariants.{All, Exactly}
 use Rattle.dr_model.specs.Machines.Events.{Event, seeds, says, takes, takes_nth, flips, takes_bytes, drops_sent, drops_done, shows_inbox, shows_state, cuts}
-use Rattle.duet.specs.Replies.{acting_side, position_text, side_text}
+use Rattle.answer_lines.specs.Answers.{position_text}
+use Rattle.duet.specs.Replies.{acting_side, side_text}
 
 -- `all`, or a number
 unfoldable pub amount_text : Amount → List ℕ

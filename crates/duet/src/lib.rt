@@ -9,7 +9,6 @@ pub use tally::{SideTally, Tally};
 mod amount;
 mod client;
 mod draws;
-mod entry;
 mod hexed;
 mod laws;
 mod network;

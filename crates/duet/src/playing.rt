@@ -13,11 +13,11 @@ ghost use Rattle.duet.specs.Tally.{IsBelow, counted_of, tally_of};
 ghost use Rattle.duet.specs.Trace.{played};
 
 use crate::client::BeginError;
-use crate::entry::entry_line;
-use crate::reply::reply;
+use crate::reply::{reply, side_name};
 use crate::script::{Line, Script};
 use crate::sides::Duet;
 use crate::tally::Tally;
+use answer_lines::text_line;
 use boxes::Inbox;
 use dr_base::Side;
 use dr_ports::{Failed, Sink, write_all};
@@ -41,7 +41,10 @@ fn write_entry<O: Sink>(out: &mut O, side: Side, inbox: &Inbox, at: u32) -> Resu
     ensures { (d : Item) → Writes (O.taken out.old) (O.taken out.new) (O.faults out.old) (O.faults out.new) (entry_line side (slice_index_or inbox.now at d)) result }
 {
     match inbox.at(at as usize) {
-        Some(entry) => write_all(out, entry_line(side, entry.position, entry.text).as_slice()),
+        Some(entry) => write_all(
+            out,
+            text_line(side_name(side), entry.position, entry.text).as_slice(),
+        ),
         None => Ok(()),
     }
 }

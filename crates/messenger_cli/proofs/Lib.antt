@@ -1,5 +1,4 @@
 pub mod Behind
-pub mod Endings
 pub mod Given
 pub mod OneWord
 pub mod Traces

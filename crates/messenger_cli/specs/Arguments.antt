@@ -7,8 +7,8 @@ use Rattle.std.specs.declared.io.ErrorKind.{ErrorKind}
 use Rattle.std.specs.declared.io.ErrorKind.TheVariants.{OutOfMemory}
 use Rattle.std.specs.declared.vec.IntoIter.{IntoIter}
 use Rattle.std.specs.IoError.{error_kind}
-use Rattle.messenger_cli.specs.declared.ending.Ending.{Ending}
-use Rattle.messenger_cli.specs.declared.ending.Ending.TheVariants.{Usage, NoMemory}
+use Rattle.endings.specs.declared.ending.Ending.{Ending}
+use Rattle.endings.specs.declared.ending.Ending.TheVariants.{Usage, NoMemory}
 use Rattle.messenger_cli.specs.Words.{IsDuet}
 
 -- the words stand behind the program's name

@@ -2,9 +2,9 @@
 use Rattle.std.specs.Prelude.{◌≡◌, ◌⊎◌, ℕ, ◌+◌, List, [], drop, Option, option_map, IfSome}
 use Rattle.dr_ports.specs.Ports.{Rose}
 use Rattle.dr_ports.specs.Reading.{GaveAtMost}
-use Rattle.messenger_cli.specs.declared.ending.Ending.{Ending}
-use Rattle.messenger_cli.specs.declared.ending.Ending.TheVariants.{Done, Usage, InputTooLong, BadLine, NoPair, ReadFault, NoMemory}
-use Rattle.messenger_cli.specs.declared.ending.TheConstants.{SCRIPT_LIMIT}
+use Rattle.endings.specs.declared.ending.Ending.{Ending}
+use Rattle.endings.specs.declared.ending.Ending.TheVariants.{Done, Usage, InputTooLong, BadLine, Refused, ReadFault, NoMemory}
+use Rattle.messenger_cli.specs.declared.program.TheConstants.{SCRIPT_LIMIT}
 
 -- nothing is left, where that is told
 abbrev pub IsDrained : Option (List ℕ) → Type 0
@@ -16,18 +16,20 @@ IsDrained left = IfSome left (λ bytes. bytes ≡ [])
 abbrev pub Leaves : Ending → Option (List ℕ) → Option (List ℕ) → Type 0
 Leaves Done old new = IsDrained new
 Leaves Usage old new = new ≡ old
-Leaves InputTooLong old new = new ≡ option_map (drop (SCRIPT_LIMIT + 1)) old
+Leaves (InputTooLong limit) old new = new ≡ option_map (drop (SCRIPT_LIMIT + 1)) old
 Leaves (BadLine number) old new = IsDrained new
-Leaves NoPair old new = IsDrained new
+Leaves (Refused refusal) old new = IsDrained new
 Leaves ReadFault old new = GaveAtMost (SCRIPT_LIMIT + 1) old new
 Leaves NoMemory old new = (new ≡ old) ⊎ IsDrained new
+Leaves _ old new = ⊥
 
 -- the source's count of faults: it rose where the ending says that a read failed, and else is as it was
 abbrev pub CountsReads : Ending → ℕ → ℕ → Type 0
 CountsReads Done before now = now ≡ before
 CountsReads Usage before now = now ≡ before
-CountsReads InputTooLong before now = now ≡ before
+CountsReads (InputTooLong limit) before now = now ≡ before
 CountsReads (BadLine number) before now = now ≡ before
-CountsReads NoPair before now = now ≡ before
+CountsReads (Refused refusal) before now = now ≡ before
 CountsReads ReadFault before now = Rose before now
 CountsReads NoMemory before now = now ≡ before
+CountsReads _ before now = ⊥

@@ -3,12 +3,13 @@ use Rattle.std.specs.Prelude.{◌≡◌, ℕ, ◌<◌, ◌≤◌, List, [], leng
 use Rattle.dr_ports.specs.Ports.{Rose, appended}
 use Rattle.dr_ports.specs.Writing.{TookBeginning}
 use Rattle.session_model.specs.Schedule.{agreement_seed}
+use Rattle.session_model.specs.declared.answer.Refusal.TheVariants.{NoPair}
 use Rattle.duet.specs.Script.{Scripted, script_of}
 use Rattle.duet.specs.Trace.{IsFairScript, played, trace_of}
-use Rattle.messenger_cli.specs.declared.ending.Ending.{Ending}
-use Rattle.messenger_cli.specs.declared.ending.Ending.TheVariants.{Done, Usage, InputTooLong, BadLine, NoPair, ReadFault, NoMemory}
-use Rattle.messenger_cli.specs.declared.ending.TheConstants.{SCRIPT_LIMIT}
-use Rattle.messenger_cli.specs.Ends.{Ends}
+use Rattle.endings.specs.declared.ending.Ending.{Ending}
+use Rattle.endings.specs.declared.ending.Ending.TheVariants.{Done, InputTooLong, BadLine, Refused, ReadFault, NoMemory}
+use Rattle.messenger_cli.specs.declared.program.TheConstants.{SCRIPT_LIMIT}
+use Rattle.endings.specs.Ends.{Ends}
 use Rattle.messenger_cli.specs.Mechanisms.{mechanism_of}
 use Rattle.messenger_cli.specs.Reads.{Leaves, CountsReads}
 
@@ -38,12 +39,12 @@ pub record HasBadLine (text : List ℕ) (number : ℕ) : Type 0 where
 -- script, every other ending comes before the first line and has its cause.
 abbrev pub HasReason : Option (List ℕ) → Ending → List ℕ → Type 0
 HasReason left Done lines = IfSome left (λ text. IsTraceOf text lines)
-HasReason left InputTooLong lines = (lines ≡ []) × IfSome left (λ text. SCRIPT_LIMIT < length text)
+HasReason left (InputTooLong limit) lines = (lines ≡ []) × (limit ≡ SCRIPT_LIMIT) × IfSome left (λ text. SCRIPT_LIMIT < length text)
 HasReason left (BadLine number) lines = (lines ≡ []) × IfSome left (λ text. HasBadLine text number)
-HasReason left NoPair lines = (lines ≡ []) × IfSome left HasNoPair
+HasReason left (Refused refusal) lines = (lines ≡ []) × (refusal ≡ NoPair) × IfSome left HasNoPair
 HasReason left ReadFault lines = lines ≡ []
 HasReason left NoMemory lines = lines ≡ []
-HasReason left Usage lines = ⊥
+HasReason left _ lines = ⊥
 
 -- The run of `duet`: an ending with its reason, the lines before it, what was read of the source, and what was written
 -- of the lines. The source had `from` and has `left`.

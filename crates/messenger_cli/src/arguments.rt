@@ -2,15 +2,14 @@
 
 ghost use Rattle.std.specs.Prelude.{◌≡◌, ◌⊎◌, ◌≤◌, [], IfOk, IfErr};
 ghost use Rattle.messenger_cli.specs.Arguments.{AsksDuet, HasWords, ending_without_words, words_of};
-ghost use Rattle.messenger_cli.specs.Ends.{Ends};
+ghost use Rattle.endings.specs.Ends.{Ends};
 ghost use Rattle.messenger_cli.specs.Runs.{RunsDuet};
 ghost use Rattle.messenger_cli.specs.Words.{IsDuet};
-ghost use Rattle.messenger_cli.specs.declared.ending.Ending.TheVariants.{Usage, NoMemory};
+ghost use Rattle.endings.specs.declared.ending.Ending.TheVariants.{Usage, NoMemory};
 
-use crate::ending::Ending;
 use crate::program::run;
-use crate::status::{Status, finish};
 use dr_ports::{Sink, Source};
+use endings::{Ending, Status, finish};
 use std::alloc::{AllocError, Global};
 use std::env::Args;
 use std::io;

@@ -2,14 +2,12 @@
 #![tactic(auto)]
 
 pub use arguments::run_arguments;
+pub use endings::Status;
 pub use program::run;
-pub use status::Status;
 
 mod arguments;
-mod ending;
 mod mechanisms;
 mod program;
-mod status;
 #[cfg(test)]
 mod tests;
 mod words;

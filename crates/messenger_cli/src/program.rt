@@ -1,18 +1,21 @@
 //! The top call.
 
 ghost use Rattle.std.specs.Prelude.{◌≡◌, ℕ, ◌≤◌, [], IfOk, OnErr};
-ghost use Rattle.messenger_cli.specs.Ends.{Ends};
+ghost use Rattle.endings.specs.Ends.{Ends};
 ghost use Rattle.messenger_cli.specs.Runs.{RunsDuet, Works, IsCutOff};
 ghost use Rattle.messenger_cli.specs.Words.{IsDuet};
-ghost use Rattle.messenger_cli.specs.declared.ending.Ending.TheVariants.{Usage};
+ghost use Rattle.endings.specs.declared.ending.Ending.TheVariants.{Usage};
 
-use crate::ending::{Ending, SCRIPT_LIMIT};
 use crate::mechanisms::play_named;
-use crate::status::{Status, finish};
 use crate::words::is_duet;
 use dr_ports::{Failed, InputError, Sink, Source, read_whole};
 use duet::{PlayError, Script, ScriptError};
+use endings::{Ending, Status, finish};
+use session_model::Refusal;
 use std::alloc::Global;
+
+/// The longest script, in bytes.
+pub const SCRIPT_LIMIT: usize = 65536;
 
 /// Reads a script from the source and plays it.
 fn work<S: Source, O: Sink>(alloc: Global, source: &mut S, out: &mut O) -> Result<Ending, Failed>
@@ -26,7 +29,7 @@ fn work<S: Source, O: Sink>(alloc: Global, source: &mut S, out: &mut O) -> Resul
     let text = match read_whole(alloc, source, SCRIPT_LIMIT) {
         Ok(text) => text,
         Err(InputError::Memory) => return Ok(Ending::NoMemory),
-        Err(InputError::TooLong) => return Ok(Ending::InputTooLong),
+        Err(InputError::TooLong) => return Ok(Ending::InputTooLong(SCRIPT_LIMIT as u32)),
         Err(InputError::Fault) => return Ok(Ending::ReadFault),
     };
     let script = match Script::parse(alloc, text.as_slice()) {
@@ -37,7 +40,7 @@ fn work<S: Source, O: Sink>(alloc: Global, source: &mut S, out: &mut O) -> Resul
     match play_named(alloc, &script, out) {
         Ok(_) => Ok(Ending::Done),
         Err(PlayError::Memory) => Ok(Ending::NoMemory),
-        Err(PlayError::NoPair) => Ok(Ending::NoPair),
+        Err(PlayError::NoPair) => Ok(Ending::Refused(Refusal::NoPair)),
         Err(PlayError::Write) => Err(Failed),
     }
 }

@@ -2,8 +2,8 @@ use Rattle.std.proofs.Common.{◌<◌, ◌≤◌, [], length, take_all, arith, �
 use Rattle.std.specs.Prelude.{flat_map}
 use Rattle.boxes.specs.Items.{Item, item_at}
 use Rattle.dr_ports.specs.Ports.{appended}
+use Rattle.answer_lines.proofs.Items.{took_line, cut_in_lines}
 use Rattle.duet.specs.Replies.{entry_line}
-use Rattle.duet.proofs.Entries.{took_entry, cut_in_entries}
 use Rattle.duet.proofs.playing.write_inbox.Goals as goal
 
 -- what a place past the end gives
@@ -13,14 +13,14 @@ some = item_at (record { epoch = 0; index = 0 }) []
 pub returns-in-Err : goal.returns-in-Err
 returns-in-Err g c =
     let below : c.texts.at < length c.args.inbox.now = omega (arith, c.len-at-end.ensures.value) in
-    cut_in_entries c.args.side _ _ _ _ _ _ c.args.inbox.now c.texts.at some _ below c.texts.invariant.written c.texts.invariant.quiet (c.in-Err.ensures some)
+    cut_in_lines (entry_line c.args.side) _ _ _ _ _ _ c.args.inbox.now c.texts.at some _ below c.texts.invariant.written c.texts.invariant.quiet (c.in-Err.ensures some)
 
 pub texts-preserved : goal.texts-preserved
 texts-preserved g c =
     let below : c.texts.at < length c.args.inbox.now = omega (arith, c.len-at-end.ensures.value) in
     let writes = c.in-Ok.ensures some in
     record {
-      written = took_entry c.args.side _ _ _ c.args.inbox.now c.texts.at some below c.texts.invariant.written writes.whole;
+      written = took_line (entry_line c.args.side) _ _ _ c.args.inbox.now c.texts.at some below c.texts.invariant.written writes.whole;
       quiet = writes.cause.passed ∙ c.texts.invariant.quiet;
     }
 

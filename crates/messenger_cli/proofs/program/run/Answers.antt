@@ -1,5 +1,5 @@
-use Rattle.messenger_cli.specs.declared.ending.Ending.TheVariants.{Done}
-use Rattle.messenger_cli.proofs.Endings.{ends_behind, ends_cut}
+use Rattle.endings.specs.declared.ending.Ending.TheVariants.{Done}
+use Rattle.endings.proofs.Closing.{ends_behind, ends_cut}
 use Rattle.messenger_cli.proofs.program.run.Goals as goal
 
 pub returns-in-Ok-clause-duet : goal.returns-in-Ok-clause-duet

@@ -37,7 +37,7 @@ returns-in-Err-NoPair-clause-ended g c =
     let none = c.in-Err-NoPair.ensures.none (search rules) in
     record {
       lines = [];
-      reason = (refl, has_no_pair _ _ _ c.in-Ok.ensures.whole fits (ap script_of (sym c.as_slice.ensures.value) ∙ c.in-Ok-parse.ensures.ok) none.0);
+      reason = (refl, refl, has_no_pair _ _ _ c.in-Ok.ensures.whole fits (ap script_of (sym c.as_slice.ensures.value) ∙ c.in-Ok-parse.ensures.ok) none.0);
       leaves = c.in-Ok.ensures.drained;
       reads = c.in-Ok.ensures.quiet (λ h. cc);
       wrote = none.1 ∙ appended-none _;

@@ -2,8 +2,8 @@
 use Rattle.std.specs.Prelude.{◌≡◌, ◌⊎◌, ℕ, List, ◌++◌, Option}
 use Rattle.dr_ports.specs.Ports.{Rose, appended}
 use Rattle.dr_ports.specs.Writing.{TookBeginning}
-use Rattle.messenger_cli.specs.declared.ending.Ending.{Ending}
-use Rattle.messenger_cli.specs.Ending.{code_of, last_line}
+use Rattle.endings.specs.declared.ending.Ending.{Ending}
+use Rattle.endings.specs.Ending.{code_of, last_line}
 
 -- all the lines were written and the ending's last line behind them, no write failed, and the status is the ending's
 pub record WroteAll (ending : Ending) (lines : List ℕ) (old new : Option (List ℕ)) (before now code : ℕ) : Type 0 where

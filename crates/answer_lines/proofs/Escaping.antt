@@ -1,7 +1,7 @@
 -- The bytes of a text as an inbox shows them.
 use Rattle.std.proofs.Common.{◌≡◌, ℕ, true, false, [], ◌∷◌, ◌++◌, codes, refl}
 use Rattle.hex.specs.Hex.{encode_lower}
-use Rattle.duet.specs.Replies.{escaped, is_plain}
+use Rattle.answer_lines.specs.Texts.{escaped, is_plain}
 
 -- a plain byte stands for itself
 pub plain_byte : (byte : ℕ) → is_plain byte ≡ true → escaped byte ≡ byte ∷ []

@@ -1,6 +1,6 @@
 use Rattle.std.proofs.Common.{ap, sym, ◌∙◌, append_assoc, ◌++◌, codes, decimal}
-use Rattle.duet.specs.Replies.{refusal_text}
-use Rattle.duet.proofs.reply.put_refusal.Goals as goal
+use Rattle.answer_lines.specs.Answers.{refusal_text}
+use Rattle.answer_lines.proofs.answers.put_refusal.Goals as goal
 
 pub returns-in-TextTooLong-clause-bytes : goal.returns-in-TextTooLong-clause-bytes
 unfolding refusal_text

@@ -4,10 +4,10 @@ use Rattle.dr_ports.specs.Ports.{Rose, appended}
 use Rattle.dr_ports.specs.Writing.{TookBeginning}
 use Rattle.dr_ports.proofs.Told.{appended-appended}
 use Rattle.dr_ports.proofs.WritingLemmas.{took_of_second}
-use Rattle.messenger_cli.specs.declared.ending.Ending.{Ending}
-use Rattle.messenger_cli.specs.declared.ending.Ending.TheVariants.{Done}
-use Rattle.messenger_cli.specs.Ending.{last_line}
-use Rattle.messenger_cli.specs.Ends.{Ends}
+use Rattle.endings.specs.declared.ending.Ending.{Ending}
+use Rattle.endings.specs.declared.ending.Ending.TheVariants.{Done}
+use Rattle.endings.specs.Ending.{last_line}
+use Rattle.endings.specs.Ends.{Ends}
 
 -- what was written behind the lines was written behind all that stood before them
 pub ends_behind : (ending : Ending) (lines : List ℕ) (old mid new : Option (List ℕ)) (before middle now code : ℕ) → mid ≡ appended old lines → middle ≡ before → Ends ending [] mid new middle now code → Ends ending lines old new before now code

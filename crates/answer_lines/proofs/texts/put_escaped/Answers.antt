@@ -1,9 +1,9 @@
 use Rattle.std.proofs.Common.{arith, sym, ◌∙◌, ◌≡◌, ◌++◌, [], ◌∷◌, codes}
 use Rattle.std.proofs.lemmas.Grind.{common_steps}
 use Rattle.hex.specs.Hex.{encode_lower}
-use Rattle.duet.specs.Replies.{escaped}
-use Rattle.duet.proofs.Escaping.{other_byte}
-use Rattle.duet.proofs.entry.put_escaped.Goals as goal
+use Rattle.answer_lines.specs.Texts.{escaped}
+use Rattle.answer_lines.proofs.Escaping.{other_byte}
+use Rattle.answer_lines.proofs.texts.put_escaped.Goals as goal
 
 pub returns-clause-bytes : goal.returns-clause-bytes
 returns-clause-bytes c =

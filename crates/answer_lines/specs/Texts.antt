@@ -1,0 +1,17 @@
+-- Texts of an inbox in lines.
+use Rattle.std.specs.Prelude.{ℕ, Bool, ◌==◌, ◌&&◌, ◌||◌, not, nat_le, List, [], ◌∷◌, ◌++◌, flat_map, codes, if◌then◌else◌}
+use Rattle.hex.specs.Hex.{encode_lower}
+use Rattle.boxes.specs.Items.{Item}
+use Rattle.answer_lines.specs.Answers.{position_text}
+
+-- a printable byte, but for the quote and the backslash
+abbrev pub is_plain : ℕ → Bool
+is_plain byte = (nat_le 32 byte && nat_le byte 126) && not (byte == 34 || byte == 92)
+
+-- a plain byte as it is; every other one as `\x` and two hex digits
+unfoldable pub escaped : ℕ → List ℕ
+escaped byte = if is_plain byte then byte ∷ [] else codes "\\x" ++ encode_lower (byte ∷ [])
+
+-- the line of a text with its position, behind a head
+unfoldable pub text_line : List ℕ → Item → List ℕ
+text_line head item = head ++ position_text item.position ++ codes " \"" ++ flat_map escaped item.bytes ++ codes "\"\n"

@@ -1,0 +1,8 @@
+//! Answers, refusals and texts as lines: what the program and its scripts print of what a client answers.
+#![tactic(auto)]
+
+pub use answers::{put_answer, put_named, put_position, put_refusal, put_summary};
+pub use texts::{HEAD_LIMIT, TextLine, text_line};
+
+mod answers;
+mod texts;

@@ -1,0 +1,62 @@
+//! The lines of an inbox.
+
+ghost use Rattle.std.specs.Prelude.{◌≡◌, ℕ, ◌+◌, ◌≤◌, List, ◌++◌, length};
+ghost use Rattle.boxes.specs.Items.{item_at};
+ghost use Rattle.answer_lines.specs.declared.texts.TheConstants.{HEAD_LIMIT};
+ghost use Rattle.answer_lines.specs.Texts.{escaped, is_plain, text_line};
+
+use crate::answers::put_position;
+use arrayvec::ArrayVec;
+use dr_base::{Position, TEXT_LIMIT};
+use dr_ports::OutputLine;
+
+/// The longest head of a text's line, in bytes.
+pub const HEAD_LIMIT: usize = 16;
+
+/// The line of a text: each of its 1,024 bytes takes four at most.
+pub type TextLine = ArrayVec<u8, 4192>;
+
+/// Whether a byte stands for itself.
+fn is_plain(byte: u8) -> bool
+    ensures { result ≡ is_plain byte }
+{
+    (byte >= b' ' && byte <= b'~') && !(byte == b'"' || byte == b'\\')
+}
+
+/// Puts one byte of a text behind what stands.
+#[tactic(auto, using(crate::proofs::Escaping::plain_byte))]
+fn put_escaped(line: &mut TextLine, byte: u8)
+    requires { length line.old.items + 4 ≤ 4192 }
+    ensures bytes { line.new.items ≡ line.old.items ++ escaped byte }
+    ensures len { length line.new.items ≤ length line.old.items + 4 }
+{
+    if is_plain(byte) {
+        line.push(byte);
+        return;
+    }
+    let mut digits = [0; 2];
+    hex::encode_to_slice([byte], &mut digits).unwrap();
+    line.try_extend_from_slice(b"\\x").unwrap();
+    line.try_extend_from_slice(&digits).unwrap();
+}
+
+/// The line of a text with its position, behind a head, as a side's name: `HEAD t.i "text"`, in which each byte that isn't
+/// printable, a quote or a backslash is `\x` and two hex digits.
+#[tactic(auto, unfolding(crate::specs::Texts::text_line))]
+pub fn text_line(head: &[u8], position: Position, text: &[u8]) -> TextLine
+    requires head { length head.now ≤ HEAD_LIMIT }
+    requires text { length text.now ≤ TEXT_LIMIT }
+    ensures { result.items ≡ text_line head.now (item_at position text.now) }
+{
+    let mut begin = OutputLine::new();
+    begin.text(head);
+    put_position(&mut begin, position);
+    begin.text(b" \"");
+    let mut line = TextLine::new();
+    line.try_extend_from_slice(begin.as_bytes()).unwrap();
+    'bytes: for byte in text {
+        put_escaped(&mut line, *byte);
+    }
+    line.try_extend_from_slice(b"\"\n").unwrap();
+    line
+}

@@ -1,0 +1,99 @@
+//! How a command can end, one row for each.
+
+ghost use Rattle.std.specs.Prelude.{◌≡◌};
+ghost use Rattle.endings.specs.Ending.{code_of};
+
+use session_model::Refusal;
+
+/// What is wrong with the bytes that a relay sent in place of a reply.
+#[derive(Clone, Copy, PartialEq, Eq)]
+pub enum PeerKind {
+    /// A length that no frame has.
+    Frame,
+    /// A first byte that no reply has.
+    Kind,
+    /// A rest that isn't as the first byte asks.
+    Size,
+    /// A reply that doesn't answer the request.
+    Wrong,
+    /// The bytes ended inside a reply.
+    Ended,
+}
+
+/// How a command ended, but for a write that failed.
+#[derive(Clone, Copy)]
+pub enum Ending {
+    /// It did its work.
+    Done,
+    /// The words aren't a command.
+    Usage,
+    /// The source holds more than this many bytes, the most that the command reads.
+    InputTooLong(u32),
+    /// The key isn't 64 hex digits.
+    BadKey,
+    /// The packet isn't an even number of hex digits.
+    NotHex,
+    /// The first name of a box, from 1, that is unlawful, equals one before, or is one too many.
+    BadBox(u32),
+    /// The first box, from 1, whose area holds another name.
+    BoxName(u32),
+    /// The script's first bad line, from 1.
+    BadLine(u32),
+    /// A side refuses.
+    Refused(Refusal),
+    /// The peer's box at the relay is full.
+    BoxFull,
+    /// The relay has no such box.
+    NoBox,
+    /// A read of the source failed.
+    ReadFault,
+    /// A call on a disk failed.
+    DiskFault,
+    /// A call on the link, or the door's listening or accepting, failed.
+    LinkFault,
+    /// No seed could be drawn.
+    DrawFault,
+    /// No session was begun.
+    NoSession,
+    /// A session was begun before.
+    Exists,
+    /// A client's slot, 0 or 1, is damaged at this place.
+    Damaged { slot: u32, at: u64 },
+    /// A slot of a relay's area, from 0, is damaged at this place.
+    DamagedArea { area: u32, slot: u32, at: u64 },
+    /// The relay sent bytes that are no reply, at this place of the reply's frame.
+    Peer { kind: PeerKind, at: u32 },
+    /// There was no memory.
+    NoMemory,
+}
+
+impl Ending {
+    /// The status that the program ends with.
+    pub fn code(self) -> u8
+        ensures { result ≡ code_of self }
+    {
+        match self {
+            Ending::Done => 0,
+            Ending::Usage => 2,
+            Ending::InputTooLong(_) => 3,
+            Ending::BadKey => 3,
+            Ending::NotHex => 3,
+            Ending::BadBox(_) => 3,
+            Ending::BoxName(_) => 3,
+            Ending::BadLine(_) => 3,
+            Ending::Refused(_) => 3,
+            Ending::BoxFull => 3,
+            Ending::NoBox => 3,
+            Ending::ReadFault => 4,
+            Ending::DiskFault => 6,
+            Ending::LinkFault => 7,
+            Ending::DrawFault => 8,
+            Ending::NoSession => 9,
+            Ending::Exists => 10,
+            Ending::Damaged { .. } => 11,
+            Ending::DamagedArea { .. } => 11,
+            Ending::Peer { .. } => 12,
+            Ending::NoMemory => 13,
+        }
+    }
+}

@@ -1,0 +1,8 @@
+//! How a command of the program ends: a row for each way, with its status and its last line, and the writing of that line.
+#![tactic(auto)]
+
+pub use ending::{Ending, PeerKind};
+pub use status::{Status, finish};
+
+mod ending;
+mod status;
