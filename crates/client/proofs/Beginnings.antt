@@ -1,6 +1,6 @@
 -- A client that is begun, and why none is.
 use Rattle.std.proofs.Common.{Bool, List, None, Option, Some, ◌+◌, false, inl, inr, refl, sym, true, ℕ, ⊎_elim, ◌∙◌, ◌≡◌, ◌⊎◌}
-use Rattle.std.specs.Prelude.{is_some}
+use Rattle.std.specs.Prelude.{IsSome, is_some}
 use Rattle.dr_base.specs.Causes.{Rose}
 use Rattle.dr_base.specs.declared.position.Side.{Side}
 use Rattle.dr_base.specs.declared.position.Side.TheVariants.{First, Second}
@@ -14,7 +14,7 @@ use Rattle.dr_disk.specs.declared.call.Call.{Call}
 use Rattle.dr_disk.proofs.Ranges.{frame_twice, torn_twice}
 use Rattle.dr_disk.proofs.Steps.{spans, widen}
 use Rattle.kem_laws.specs.Mechanism.{Mechanism}
-use Rattle.session_model.specs.Clients.{Client}
+use Rattle.session_model.specs.Schedule.{agreement_seed}
 use Rattle.session_record.specs.Record.{record_text}
 use Rattle.slot_store.specs.Found.{found_as}
 use Rattle.slot_store.specs.Laws.{IsRead}
@@ -46,10 +46,10 @@ pub held : (o : Option (List ℕ)) → is_some o ≡ true
 held None some = absurd (cc some)
 held (Some text) some = (text, refl)
 
-module _ (k : Mechanism) (readings : IsRead) (begun : Client) (start mid now : DiskState) (lawful : IsLawful start)
-    (none : IsReadAs k start no_content) (alike : Always (IsLikeRead client_area start) mid)
+module _ (k : Mechanism) (readings : IsRead) (key : List ℕ) (side : Side) (start mid now : DiskState) (lawful : IsLawful start)
+    (none : IsReadAs k start no_content) (pair : IsSome (k.meaning.pair_of (agreement_seed key))) (alike : Always (IsLikeRead client_area start) mid)
     (opening : Span start mid (IsEntryOrLike client_area start))
-    (putting : Span mid now (IsOldOrNew mid client_area None (Some (record_text begun)))) where
+    (putting : Span mid now (IsOldOrNew mid client_area None (Some (record_text (begun_client k key side))))) where
   -- what has no record is like what was read, which had none
   no_record : (c : List ℕ) → recovered client_area c ≡ None → KeepsOutside client_area mid c → IsLikeRead client_area start c
   no_record c without kept =
@@ -64,21 +64,26 @@ module _ (k : Mechanism) (readings : IsRead) (begun : Client) (start mid now : D
   outside_mid : Always (KeepsOutside client_area start) mid
   outside_mid d left = let like = alike d left in (like.read, lawful.seen_now like.read like.told, like.outside)
 
-  left_by : (c : List ℕ) → IsOldOrNew mid client_area None (Some (record_text begun)) c
-      → IsLikeRead client_area start c ⊎ IsFirst begun start c
+  left_by : (c : List ℕ) → IsOldOrNew mid client_area None (Some (record_text (begun_client k key side))) c
+      → IsLikeRead client_area start c ⊎ IsFirst k key side start c
   left_by c s =
       ⊎_elim (λ old. inl (no_record c old s.frame))
-      (λ new. inr (new, frame_twice start mid 0 (client_area.slot + client_area.slot) outside_mid c s.frame)) s.either
+      (λ new. inr (record {
+        none = none;
+        pair = pair;
+        holds = new;
+        outside = frame_twice start mid 0 (client_area.slot + client_area.slot) outside_mid c s.frame;
+      })) s.either
 
-  pub first_moments : Span start now (IsEntryOrFirst begun start)
+  pub first_moments : Span start now (IsEntryOrFirst k key side start)
   first_moments =
-      spans start mid now (IsEntryOrFirst begun start)
-      (widen start mid (IsEntryOrLike client_area start) (IsEntryOrFirst begun start) (λ c s. inl s) opening)
-      (widen mid now (IsOldOrNew mid client_area None (Some (record_text begun))) (IsEntryOrFirst begun start)
+      spans start mid now (IsEntryOrFirst k key side start)
+      (widen start mid (IsEntryOrLike client_area start) (IsEntryOrFirst k key side start) (λ c s. inl s) opening)
+      (widen mid now (IsOldOrNew mid client_area None (Some (record_text (begun_client k key side)))) (IsEntryOrFirst k key side start)
       (λ c s. ⊎_elim (λ like. inl (inr like)) (λ first. inr first) (left_by c s)) putting)
 
   -- each image then is like what was read, or has the first record
-  pub first_left : (c : List ℕ) → now.image c → IsLikeRead client_area start c ⊎ IsFirst begun start c
+  pub first_left : (c : List ℕ) → now.image c → IsLikeRead client_area start c ⊎ IsFirst k key side start c
   first_left c left = ⊎_elim (λ was. inl (alike c was)) (left_by c) (putting.last c left)
 
 -- where the one is false, so is the other

@@ -4,7 +4,8 @@ mod Drawing
 mod LawfulRecords
 mod Lifted
 mod OnePacket
-mod Openings
+pub mod Openings
+mod Readiness
 mod Replaced
 mod SameRecord
 mod Spending

@@ -77,7 +77,7 @@ opened k readings found store client start now is unclosed same area within has 
 -- ---- in a world
 
 -- bytes that are like what was read stand for what was read
-like_stands : (k : Mechanism) (w : World) (side : Side) (start : DiskState) (c : List ℕ) → Reads k w side start
+pub like_stands : (k : Mechanism) (w : World) (side : Side) (start : DiskState) (c : List ℕ) → Reads k w side start
     → IsLikeRead client_area start c → StandsFor k w side c
 like_stands k w side start c reads like =
     let same : like.read ≡ reads.bytes = cc (sym like.told ∙ reads.told) in

@@ -24,14 +24,18 @@ use Rattle.client.specs.declared.refusals.BeginRefusal.TheVariants.{Damaged, Exi
 abbrev pub begun_client : Mechanism → List ℕ → Side → Client
 begun_client k key side = client_of (opening_state k key side) [] []
 
--- bytes with the record of a client, and outside the client's area as they were
-abbrev pub IsFirst : Client → DiskState → List ℕ → Type 0
-IsFirst begun start c = (recovered client_area c ≡ Some (record_text begun)) × KeepsOutside client_area start c
+-- bytes with the first record of a client, which is put only where what was read held none and the key has a pair, and
+-- outside the client's area as they were
+pub record IsFirst (k : Mechanism) (key : List ℕ) (side : Side) (start : DiskState) (c : List ℕ) : Type 0 where
+  pub none : IsReadAs k start no_content
+  pub pair : IsSome (k.meaning.pair_of (agreement_seed key))
+  pub holds : recovered client_area c ≡ Some (record_text (begun_client k key side))
+  pub outside : KeepsOutside client_area start c
 
--- what a crash may leave while a client is begun: what one might have left at entry, or what is like what was read, or the
--- first record
-abbrev pub IsEntryOrFirst : Client → DiskState → List ℕ → Type 0
-IsEntryOrFirst begun start c = IsEntryOrLike client_area start c ⊎ IsFirst begun start c
+-- what a crash may leave while a client is begun: what one might have left at entry, or what is like what was read, or,
+-- where that held no record, the first one
+abbrev pub IsEntryOrFirst : Mechanism → List ℕ → Side → DiskState → List ℕ → Type 0
+IsEntryOrFirst k key side start c = IsEntryOrLike client_area start c ⊎ IsFirst k key side start c
 
 -- why a store's opening refuses a client that is begun
 abbrev pub begin_refusal : OpenError → BeginRefusal

@@ -9,7 +9,7 @@ ghost use Rattle.dr_model.specs.Machines.Worlds.{opening_world};
 ghost use Rattle.session_record.specs.Record.{client_of, record_text};
 ghost use Rattle.slot_store.specs.Reading.{IsLikeRead};
 ghost use Rattle.slot_store.specs.Store.{IsOldOrNew, IsWithin, Rests, content};
-ghost use Rattle.client.specs.Beginning.{IsBegun, IsEntryOrFirst, IsFirst, IsUnbegun, begin_refusal, begun_client};
+ghost use Rattle.client.specs.Beginning.{IsBegun, IsEntryOrFirst, IsFirst, IsUnbegun, begin_refusal};
 ghost use Rattle.client.specs.Clients.{IsReady, client_area};
 ghost use Rattle.client.specs.InWorlds.{IsIn};
 
@@ -95,11 +95,11 @@ impl<K: Kem> Client<K> {
         requires { IsWithin client_area (D.state disk.old) }
         ensures begun { IfOk result (λ client. IsBegun K.mechanism key.now.bytes side client (D.state disk.old) (D.state disk.new)) }
         ensures unbegun { IfErr result (IsUnbegun D.state K.mechanism key.now.bytes disk.old disk.new) }
-        // Meanwhile, and in each ending: what was read, but for what was tidied, or the first record.
+        // Meanwhile, and in each ending: what was read, but for what was tidied, or the first record, where that held none.
         ensures any_moment { Span (D.state disk.old) (D.state disk.new)
-            (IsEntryOrFirst (begun_client K.mechanism key.now.bytes side) (D.state disk.old)) }
+            (IsEntryOrFirst K.mechanism key.now.bytes side (D.state disk.old)) }
         ensures reads { (s : List ℕ) → (D.state disk.new).seen ≡ Some s → IsLikeRead client_area (D.state disk.old) s
-            ⊎ IsFirst (begun_client K.mechanism key.now.bytes side) (D.state disk.old) s }
+            ⊎ IsFirst K.mechanism key.now.bytes side (D.state disk.old) s }
         // It is a side of the world in which the conversation begins.
         ensures in_worlds { IfOk result (λ client. IsIn K.mechanism (opening_world key.now.bytes) side client) }
         ensures fate { (D.state disk.old).fate ≡ Fate.all_pass →

@@ -1,9 +1,10 @@
 //! The client, and what it shows.
 
-ghost use Rattle.std.specs.Prelude.{◌≡◌, ◌↔◌, ◌<◌, length, option_map, slice_get, IsSome};
+ghost use Rattle.std.specs.Prelude.{◌≡◌, ◌↔◌, ◌<◌, ◌≤◌, length, option_map, slice_get, IfSome, IsSome};
+ghost use Rattle.dr_base.specs.declared.limits.TheConstants.{PACKET_LIMIT, TEXT_LIMIT};
 
 use boxes::{Entry, Inbox, Outbox};
-use dr_base::Position;
+use dr_base::{Position, Side};
 use dr_disk::Call;
 use kem_laws::Kem;
 use ratchet::Session;
@@ -50,10 +51,25 @@ impl<K: Kem> Client<K> {
     ghost use Rattle.boxes.specs.Seen.{entry_item};
     ghost use Rattle.session_model.specs.Clients.{summary_of};
 
+    /// Which side of the conversation it is.
+    pub fn side(&self) -> Side
+        ensures { result ≡ self.now.kept.state.side }
+    {
+        self.session.part().side
+    }
+
+    /// The name of the conversation's session.
+    pub fn session(&self) -> &[u8; 16]
+        ensures { result.now ≡ self.now.kept.state.session }
+    {
+        &self.session.part().session
+    }
+
     /// The text of the inbox at a place, from 0, the oldest first.
     pub fn inbox(&self, at: usize) -> Option<Entry<'_>>
         ensures variant { IsSome result ↔ (at < length self.now.kept.inbox) }
         ensures entry { option_map entry_item result ≡ slice_get self.now.kept.inbox at }
+        ensures fits { IfSome result (λ entry. length entry.text.now ≤ TEXT_LIMIT) }
     {
         self.inbox.at(at)
     }
@@ -62,6 +78,7 @@ impl<K: Kem> Client<K> {
     pub fn outbox(&self, at: usize) -> Option<(Position, &[u8])>
         ensures variant { IsSome result ↔ (at < length self.now.kept.outbox) }
         ensures packet { option_map (λ pair. item_at pair.0 pair.1.now) result ≡ slice_get self.now.kept.outbox at }
+        ensures fits { IfSome result (λ pair. length pair.1.now ≤ PACKET_LIMIT) }
     {
         self.outbox.at(at)
     }

@@ -1,6 +1,6 @@
 //! The oldest items of a box are dropped.
 
-ghost use Rattle.std.specs.Prelude.{◌≡◌, ◌≤◌, ◌<◌, None, length};
+ghost use Rattle.std.specs.Prelude.{◌≡◌, ◌≤◌, ◌<◌, None, OnOk, length};
 ghost use Rattle.dr_base.specs.declared.position.Side.{Side};
 ghost use Rattle.dr_model.specs.Machines.Acts.{act_on, finishing, sending};
 ghost use Rattle.dr_model.specs.Machines.Worlds.{World};
@@ -26,6 +26,8 @@ impl<K: Kem> Client<K> {
         // Exactly what the side makes of it, but for a failing call on the disk.
         ensures exact { Acts D.state (act_on K.mechanism self.old.kept (finishing n))
             self.old self.new disk.old disk.new (dropped_as (Done n) result) }
+        ensures ready { OnOk result ((self.new.closed ≡ None)
+            × IsReady self.new.kept self.new.store (D.state disk.new)) }
         // In each world that the client stands for, at every moment.
         ensures in_worlds { (w : World) (side : Side) → IsIn K.mechanism w side self.old
             → ActsIn K.mechanism w side (finishing n) self.old self.new (D.state disk.old) (D.state disk.new)
@@ -91,6 +93,8 @@ impl<K: Kem> Client<K> {
         // Exactly what the side makes of it, but for a failing call on the disk.
         ensures exact { Acts D.state (act_on K.mechanism self.old.kept (sending n))
             self.old self.new disk.old disk.new (dropped_as (Sent n) result) }
+        ensures ready { OnOk result ((self.new.closed ≡ None)
+            × IsReady self.new.kept self.new.store (D.state disk.new)) }
         // In each world that the client stands for, at every moment.
         ensures in_worlds { (w : World) (side : Side) → IsIn K.mechanism w side self.old
             → ActsIn K.mechanism w side (sending n) self.old self.new (D.state disk.old) (D.state disk.new)

@@ -28,7 +28,7 @@ use session_record::Change;
 
 impl<K: Kem> Client<K> {
     /// Whether a text of this length may be said, and then whether that needs a seed.
-    fn say_check(&self, len: usize) -> Result<bool, Refusal>
+    pub fn say_check(&self, len: usize) -> Result<bool, Refusal>
         ensures { result ≡ say_check self.now.kept len }
     {
         if len > TEXT_LIMIT {

@@ -1,6 +1,6 @@
 //! Packets are taken.
 
-ghost use Rattle.std.specs.Prelude.{◌≡◌, None, Ok, IfOk};
+ghost use Rattle.std.specs.Prelude.{◌≡◌, None, Ok, IfOk, OnOk};
 ghost use Rattle.dr_base.specs.declared.position.Side.{Side};
 ghost use Rattle.dr_model.specs.Machines.Acts.{act_in, act_on, taken_by, taking};
 ghost use Rattle.dr_model.specs.Machines.Worlds.{World};
@@ -33,6 +33,8 @@ impl<K: Kem> Client<K> {
         // Exactly what the side makes of it, but for a failing call on the disk.
         ensures exact { Acts D.state (act_on K.mechanism self.old.kept (taking packet.now))
             self.old self.new disk.old disk.new (taken_as result) }
+        ensures ready { OnOk result ((self.new.closed ≡ None)
+            × IsReady self.new.kept self.new.store (D.state disk.new)) }
         // In each world that the client stands for, at every moment, where no tag is forged.
         ensures in_worlds { (w : World) (side : Side) → IsIn K.mechanism w side self.old
             → IsUnforged K.mechanism w side packet.now

@@ -48,7 +48,8 @@ returns-in-Err-first-clause-any_moment g c =
     let putting : Span mid now (IsOldOrNew mid client_area None (Some (record_text begun))) =
     subst (λ (s : State). Span mid now (IsOldOrNew mid client_area None (Some (record_text (client_of s [] [])))))
     c.in-Ok-begin.ensures.ok c.first.ensures.any_moment in
-    first_moments k c.readings.ensures begun start mid now (g.met.D.Disk.lawful c.args.disk.now) none
+    first_moments k c.readings.ensures c.args.key.now.bytes c.args.side start mid now (g.met.D.Disk.lawful c.args.disk.now) none
+    (c.in-Ok-begin.ensures.variant.0 refl)
     (λ f left. (c.in-Ok-open.ensures.at_rest f left).1) c.open.ensures.any_moment putting
 
 pub returns-in-Err-first-clause-reads : goal.returns-in-Err-first-clause-reads
@@ -63,7 +64,8 @@ returns-in-Err-first-clause-reads g c = λ s seen.
     let putting : Span mid now (IsOldOrNew mid client_area None (Some (record_text begun))) =
     subst (λ (s : State). Span mid now (IsOldOrNew mid client_area None (Some (record_text (client_of s [] [])))))
     c.in-Ok-begin.ensures.ok c.first.ensures.any_moment in
-    first_left k c.readings.ensures begun start mid now (g.met.D.Disk.lawful c.args.disk.now) none
+    first_left k c.readings.ensures c.args.key.now.bytes c.args.side start mid now (g.met.D.Disk.lawful c.args.disk.now) none
+    (c.in-Ok-begin.ensures.variant.0 refl)
     (λ f left. (c.in-Ok-open.ensures.at_rest f left).1) c.open.ensures.any_moment putting
     s ((g.met.D.Disk.lawful c.first.new.disk).seen_now s seen)
 
@@ -79,7 +81,8 @@ returns-in-Ok-first-clause-any_moment g c =
     let putting : Span mid now (IsOldOrNew mid client_area None (Some (record_text begun))) =
     subst (λ (s : State). Span mid now (IsOldOrNew mid client_area None (Some (record_text (client_of s [] [])))))
     c.in-Ok-begin.ensures.ok c.first.ensures.any_moment in
-    first_moments k c.readings.ensures begun start mid now (g.met.D.Disk.lawful c.args.disk.now) none
+    first_moments k c.readings.ensures c.args.key.now.bytes c.args.side start mid now (g.met.D.Disk.lawful c.args.disk.now) none
+    (c.in-Ok-begin.ensures.variant.0 refl)
     (λ f left. (c.in-Ok-open.ensures.at_rest f left).1) c.open.ensures.any_moment putting
 
 pub returns-in-Ok-first-clause-reads : goal.returns-in-Ok-first-clause-reads
@@ -94,7 +97,8 @@ returns-in-Ok-first-clause-reads g c = λ s seen.
     let putting : Span mid now (IsOldOrNew mid client_area None (Some (record_text begun))) =
     subst (λ (s : State). Span mid now (IsOldOrNew mid client_area None (Some (record_text (client_of s [] [])))))
     c.in-Ok-begin.ensures.ok c.first.ensures.any_moment in
-    first_left k c.readings.ensures begun start mid now (g.met.D.Disk.lawful c.args.disk.now) none
+    first_left k c.readings.ensures c.args.key.now.bytes c.args.side start mid now (g.met.D.Disk.lawful c.args.disk.now) none
+    (c.in-Ok-begin.ensures.variant.0 refl)
     (λ f left. (c.in-Ok-open.ensures.at_rest f left).1) c.open.ensures.any_moment putting
     s ((g.met.D.Disk.lawful c.first.new.disk).seen_now s seen)
 

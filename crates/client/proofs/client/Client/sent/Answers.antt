@@ -1,7 +1,8 @@
-use Rattle.dr_model.specs.Machines.Acts.{sending}
+use Rattle.dr_model.specs.Machines.Acts.{act_on, sending}
 use Rattle.session_model.specs.declared.answer.Answer.TheVariants.{Sent}
 use Rattle.client.specs.Outcomes.{dropped_as}
 use Rattle.client.proofs.Lifted.{lift}
+use Rattle.client.proofs.Readiness.{dropped_ready}
 use Rattle.client.proofs.client.Client.sent.Goals as goal
 
 pub returns-clause-in_worlds : goal.returns-clause-in_worlds
@@ -9,3 +10,8 @@ returns-clause-in_worlds g c = λ w side is.
     lift g.K.Kem.mechanism c.grounds.ensures w side (sending c.args.n) c.args.self.now c.sent_exact.new.self is
     g.D.Disk.state c.args.disk.now c.sent_exact.new.disk c.requires (λ _. tt) (dropped_as (Sent c.args.n) c.sent_exact.result)
     c.sent_exact.ensures.exact
+
+pub returns-clause-ready : goal.returns-clause-ready
+returns-clause-ready g c =
+    dropped_ready g.D.Disk.state (act_on g.K.Kem.mechanism c.args.self.now.kept (sending c.args.n)) c.args.self.now
+    c.sent_exact.new.self c.args.disk.now c.sent_exact.new.disk c.requires (Sent c.args.n) c.sent_exact.result c.sent_exact.ensures.exact

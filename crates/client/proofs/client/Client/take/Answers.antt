@@ -1,6 +1,7 @@
-use Rattle.dr_model.specs.Machines.Acts.{taking}
+use Rattle.dr_model.specs.Machines.Acts.{act_on, taking}
 use Rattle.client.specs.Outcomes.{taken_as}
 use Rattle.client.proofs.Lifted.{lift}
+use Rattle.client.proofs.Readiness.{taken_ready}
 use Rattle.client.proofs.Spends.{take_spends}
 use Rattle.client.proofs.client.Client.take.Goals as goal
 
@@ -18,3 +19,8 @@ returns-clause-spent g c =
     lift g.K.Kem.mechanism c.grounds.ensures w side (taking c.args.packet.now) c.args.self.now c.take_exact.new.self is
     g.D.Disk.state c.args.disk.now c.take_exact.new.disk c.requires (λ _. unforged) (taken_as c.take_exact.result)
     c.take_exact.ensures.exact)
+
+pub returns-clause-ready : goal.returns-clause-ready
+returns-clause-ready g c =
+    taken_ready g.D.Disk.state (act_on g.K.Kem.mechanism c.args.self.now.kept (taking c.args.packet.now)) c.args.self.now
+    c.take_exact.new.self c.args.disk.now c.take_exact.new.disk c.requires c.take_exact.result c.take_exact.ensures.exact

@@ -1,0 +1,72 @@
+-- A session that was begun, or wasn't.
+use Rattle.std.proofs.Common.{List, None, Ok, Some, [], ap, inl, inr, subst, sym, ℕ, ⊎_elim, ◌∙◌, ◌≡◌, ◌⊎◌}
+use Rattle.std.specs.Prelude.{option_map}
+use Rattle.dr_base.specs.declared.position.Side.{Side}
+use Rattle.dr_disk.specs.Spans.{Span}
+use Rattle.dr_disk.specs.State.{DiskState}
+use Rattle.dr_disk.proofs.Steps.{widen}
+use Rattle.dr_model.specs.Machines.WorldSides.{kept_in}
+use Rattle.dr_model.specs.Machines.Worlds.{World, opening_world}
+use Rattle.endings.specs.declared.ending.Ending.TheVariants.{Done}
+use Rattle.kem_laws.specs.Mechanism.{Mechanism}
+use Rattle.session_model.specs.Clients.{Client}
+use Rattle.session_record.specs.Record.{record_read}
+use Rattle.slot_store.specs.Laws.{IsRead}
+use Rattle.slot_store.specs.Reading.{IsLikeRead}
+use Rattle.slot_store.specs.Slots.{recovered}
+use Rattle.client.specs.Beginning.{IsBegun, IsEntryOrFirst, IsFirst, IsUnbegun}
+use Rattle.client.specs.Clients.{ClientNow, client_area}
+use Rattle.client.specs.InWorlds.{IsIn}
+use Rattle.client.specs.Opening.{Reads, record_fault}
+use Rattle.client.specs.declared.refusals.BeginRefusal.{BeginRefusal}
+use Rattle.client.proofs.Openings.{like_stands}
+use Rattle.session_commands.specs.Beginning.{Began, Begins, was_begun, wasnt_begun}
+use Rattle.session_commands.specs.Disks.{IsAtRest, RunsOn, StandsForOne}
+use Rattle.session_commands.specs.Lines.{session_line}
+use Rattle.session_commands.specs.Opening.{ending_of_begin}
+
+-- where a world was read, no first record was put
+never_first : (k : Mechanism) → IsRead → (key : List ℕ) (side : Side) (w : World) (whose : Side) (start : DiskState) (c : List ℕ)
+    → Reads k w whose start → IsFirst k key side start c → ⊥
+never_first k readings key side w whose start c reads first =
+    let none : recovered client_area reads.bytes ≡ None =
+    readings.none (record_fault k) client_area reads.bytes (first.none reads.bytes reads.told) in
+    let same : None ≡ Some (Ok (kept_in k w whose)) = sym (ap (option_map (record_read k)) none) ∙ reads.stands in cc
+
+module _ {X : Type 0} (state : X → DiskState) (k : Mechanism) (readings : IsRead) (key : List ℕ) (side : Side) (start now : X)
+    (span : Span (state start) (state now) (IsEntryOrFirst k key side (state start)))
+    (seen : (s : List ℕ) → (state now).seen ≡ Some s
+    → IsLikeRead client_area (state start) s ⊎ IsFirst k key side (state start) s) where
+  worlds_stay : (w : World) (whose : Side) → Reads k w whose (state start) → RunsOn k whose w w (state start) (state now)
+  worlds_stay w whose reads = record {
+    any_moment =
+        widen (state start) (state now) (IsEntryOrFirst k key side (state start))
+        (λ c. (state start).image c ⊎ StandsForOne k whose w w c)
+        (λ c s.
+        ⊎_elim
+        (λ left. ⊎_elim (λ was. inl was) (λ like. inr (inl (like_stands k w whose (state start) c reads like))) left)
+        (λ first. absurd (never_first k readings key side w whose (state start) c reads first)) s) span;
+    reads = λ s told.
+        ⊎_elim (λ like. inl (like_stands k w whose (state start) s reads like))
+        (λ first. absurd (never_first k readings key side w whose (state start) s reads first)) (seen s told);
+  }
+
+  pub unbegun_begins : (refusal : BeginRefusal) → IsUnbegun state k key start now refusal
+      → Begins state k key side start now (ending_of_begin refusal) []
+  unbegun_begins refusal why =
+      record { began = wasnt_begun refusal why; any_moment = span; reads = seen; in_worlds = worlds_stay }
+
+  pub begun_begins : (client : ClientNow) → IsBegun k key side client (state start) (state now)
+      → IsIn k (opening_world key) side client
+      → Begins state k key side start now Done (session_line client.kept.state.session)
+  begun_begins client begun is = record {
+    began =
+        subst (λ (kept : Client). Began state k key side start now Done (session_line kept.state.session)) (sym begun.keeps)
+        (was_begun begun.read begun.pair is.lawful
+        (subst (λ (kept : Client). IsAtRest kept (state now)) is.keeps
+        (record { store = client.store; ready = begun.ready }))
+        begun.quiet);
+    any_moment = span;
+    reads = seen;
+    in_worlds = worlds_stay;
+  }

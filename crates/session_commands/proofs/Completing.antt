@@ -1,0 +1,83 @@
+-- That a command does its work.
+use Rattle.std.proofs.Common.{List, inl, inr, refl, sym, ℕ, ◌∙◌, ◌≡◌}
+use Rattle.dr_base.specs.declared.position.Side.{Side}
+use Rattle.dr_disk.specs.State.{DiskState}
+use Rattle.dr_model.specs.Machines.Worlds.{World}
+use Rattle.endings.specs.declared.ending.Ending.{Ending}
+use Rattle.endings.specs.declared.ending.Ending.TheVariants.{Refused}
+use Rattle.kem_laws.specs.Mechanism.{Mechanism}
+use Rattle.session_model.specs.Clients.{Client}
+use Rattle.session_model.specs.declared.answer.Refusal.{Refusal}
+use Rattle.slot_store.specs.Reading.{damaged, holds, no_content}
+use Rattle.client.specs.Opening.{IsUnopened}
+use Rattle.client.specs.declared.refusals.OpenRefusal.{OpenRefusal}
+use Rattle.client.specs.declared.refusals.OpenRefusal.TheVariants.{Damaged as OpenDamaged, Memory as OpenMemory, NoSession as OpenNoSession, StoreFault as OpenFault}
+use Rattle.session_commands.specs.Acting.{Acted, Asked, was_cut, was_done, was_refused, was_undrawn, was_unopened}
+use Rattle.session_commands.specs.Completing.{DidWork, IsAccepted, NoneFailed, ReadsWhole}
+use Rattle.session_commands.specs.InWorlds.{RunsAct, RunsIn, goes_on, is_in_doubt, stays_refused, stays_undrawn, stays_unopened}
+use Rattle.session_commands.specs.Opening.{ending_of_open}
+use Rattle.session_commands.specs.Showing.{RunsShow, Shown, was_shown, wasnt_opened}
+
+-- no client that can't be opened is refused
+no_refusal : (refusal : OpenRefusal) (reason : Refusal) → ending_of_open refusal ≡ Refused reason → ⊥
+no_refusal OpenMemory reason e = cc
+no_refusal (OpenFault call) reason e = cc
+no_refusal (OpenDamaged slot at) reason e = cc
+no_refusal OpenNoSession reason e = cc
+
+-- the machine refuses, where the client does
+refused_in : (k : Mechanism) (w : World) (side : Side) (asked : Asked) (start now : DiskState) (ending : Ending) (lines : List ℕ)
+    (reason : Refusal) → ending ≡ Refused reason → IsAccepted k w side asked
+    → RunsIn k w side asked.chosen start now ending lines → ⊥
+refused_in k w side asked start now ending lines reason e accepted (stays_unopened refusal on) = no_refusal refusal reason e
+refused_in k w side asked start now ending lines reason e accepted (stays_undrawn on rests) = cc
+refused_in k w side asked start now ending lines reason e accepted (stays_refused act refusal chooses fair is on rests) =
+    accepted.accepts act chooses fair refusal is
+refused_in k w side asked start now ending lines reason e accepted (goes_on act chooses fair on rests) = cc
+refused_in k w side asked start now ending lines reason e accepted (is_in_doubt act chooses fair on) = cc
+
+unopened : {X : Type 0} (state : X → DiskState) (k : Mechanism) (w : World) (side : Side) (start now : X) (refusal : OpenRefusal)
+    → ReadsWhole k w side (state start) → NoneFailed (state start) (state now) → IsUnopened state k start now refusal
+    → DidWork (ending_of_open refusal)
+unopened state k w side start now OpenMemory whole none why = inr refl
+unopened state k w side start now (OpenFault call) whole none why = absurd (none call why)
+unopened state k w side start now (OpenDamaged slot at) whole none why =
+    let held = whole.undamaged whole.reads.bytes whole.reads.told in
+    let same : holds held.0 ≡ damaged slot at = sym held.1 ∙ why.0 whole.reads.bytes whole.reads.told in absurd (cc)
+unopened state k w side start now OpenNoSession whole none why =
+    let held = whole.undamaged whole.reads.bytes whole.reads.told in
+    let same : holds held.0 ≡ no_content = sym held.1 ∙ why.0 whole.reads.bytes whole.reads.told in absurd (cc)
+
+acted : {X : Type 0} (state : X → DiskState) (k : Mechanism) (w : World) (side : Side) (asked : Asked) (start now : X)
+    (ending : Ending) (lines : List ℕ) → ReadsWhole k w side (state start) → NoneFailed (state start) (state now)
+    → IsAccepted k w side asked → RunsIn k w side asked.chosen (state start) (state now) ending lines
+    → Acted state k asked start now ending lines → DidWork ending
+acted state k w side asked start now ending lines whole none accepted runs (was_unopened refusal why leaves idle) =
+    unopened state k w side start now refusal whole none why
+acted state k w side asked start now ending lines whole none accepted runs (was_undrawn kept is undrawn leaves) =
+    absurd (accepted.drawn kept undrawn)
+acted state k w side asked start now ending lines whole none accepted runs (was_refused kept act refusal is asks refuses leaves) =
+    absurd (refused_in k w side asked (state start) (state now) _ _ refusal refl accepted runs)
+acted state k w side asked start now ending lines whole none accepted runs (was_done kept act made is asks makes leaves) = inl refl
+acted state k w side asked start now ending lines whole none accepted runs (was_cut kept act made call is asks makes leaves rose) =
+    absurd (none call rose)
+
+pub act_completes : {X : Type 0} (state : X → DiskState) (k : Mechanism) (w : World) (side : Side) (asked : Asked) (start now : X)
+    (ending : Ending) (lines : List ℕ) → ReadsWhole k w side (state start) → NoneFailed (state start) (state now)
+    → IsAccepted k w side asked → RunsAct state k asked start now ending lines → DidWork ending
+act_completes state k w side asked start now ending lines whole none accepted runs =
+    acted state k w side asked start now ending lines whole none accepted
+    (runs.in_worlds w side whole.lawful whole.reads accepted.fair) runs.acted
+
+shown : {X : Type 0} (state : X → DiskState) (k : Mechanism) (w : World) (side : Side) (shows : Client → List ℕ) (start now : X)
+    (ending : Ending) (lines : List ℕ) → ReadsWhole k w side (state start) → NoneFailed (state start) (state now)
+    → Shown state k shows start now ending lines → DidWork ending
+shown state k w side shows start now ending lines whole none (wasnt_opened refusal why leaves) =
+    unopened state k w side start now refusal whole none why
+shown state k w side shows start now ending lines whole none (was_shown kept is leaves) = inl refl
+
+pub show_completes : {X : Type 0} (state : X → DiskState) (k : Mechanism) (w : World) (side : Side) (shows : Client → List ℕ)
+    (start now : X) (ending : Ending) (lines : List ℕ) → ReadsWhole k w side (state start) → NoneFailed (state start) (state now)
+    → RunsShow state k shows start now ending lines → DidWork ending
+show_completes state k w side shows start now ending lines whole none runs =
+    shown state k w side shows start now ending lines whole none runs.shown

@@ -1,0 +1,9 @@
+mod Acts
+mod Beginnings
+mod Completing
+mod Quiet
+mod Says
+mod Shows
+mod Standing
+mod Texts
+mod Unopened

@@ -1,0 +1,49 @@
+-- A command that shows what the client keeps.
+use Rattle.std.proofs.Common.{Err, List, Ok, Option, Result, refl, subst, sym, ℕ, ◌++◌, ◌≡◌}
+use Rattle.dr_base.specs.declared.position.Side.{Side}
+use Rattle.dr_disk.specs.Spans.{Span}
+use Rattle.dr_disk.specs.State.{DiskState, IsLawful}
+use Rattle.dr_ports.specs.Writing.{Writes}
+use Rattle.dr_ports.proofs.WritingLemmas.{writes_behind, writes_first}
+use Rattle.dr_model.specs.Machines.Worlds.{World}
+use Rattle.dr_model.specs.Theorems.LawfulWorlds.{IsLawfulWorld}
+use Rattle.endings.specs.declared.ending.Ending.TheVariants.{Done}
+use Rattle.kem_laws.specs.Mechanism.{Mechanism}
+use Rattle.session_model.specs.Clients.{Client}
+use Rattle.slot_store.specs.Reading.{IsEntryOrLike}
+use Rattle.client.specs.Clients.{ClientNow, client_area}
+use Rattle.client.specs.Opening.{IsOpened, OpensIn, Reads}
+use Rattle.session_commands.specs.Disks.{IsAtRest}
+use Rattle.session_commands.specs.Showing.{RunsShow, ShowsIn, shows_world, was_shown}
+use Rattle.session_commands.proofs.Standing.{stays_on, stood}
+
+pub shown_runs : {X : Type 0} (state : X → DiskState) (k : Mechanism) (shows : Client → List ℕ) (start now : X)
+    → IsLawful (state now) → (client : ClientNow) → IsOpened k client (state start) (state now)
+    → Span (state start) (state now) (IsEntryOrLike client_area (state start))
+    → ((w : World) (side : Side) → IsLawfulWorld k w → Reads k w side (state start)
+    → OpensIn k w side (state start) (state now) (Ok client))
+    → RunsShow state k shows start now Done (shows client.kept)
+shown_runs state k shows start now lawful client opened opening opens = record {
+  shown = was_shown client.kept opened.read (stood state k start now now lawful client opened refl opening);
+  in_worlds = λ w side lawful_world stands.
+      let open_in = opens w side lawful_world stands in
+      subst (λ (kept : Client). ShowsIn k w side shows (state start) (state now) Done (shows kept)) (sym open_in.client.0.keeps)
+      (shows_world (stays_on state k start now now lawful client opened refl side w open_in.any_moment open_in.client.1)
+      (subst (λ (kept : Client). IsAtRest kept (state now)) open_in.client.0.keeps
+      (record { store = client.store; ready = opened.ready })));
+}
+
+-- ---- two pieces, one behind the other
+
+pub cut_in_first : {T E : Type 0} (old new : Option (List ℕ)) (before now : ℕ) (a b first : List ℕ) (e : E) → first ≡ a
+    → Writes {T = T} old new before now first (Err e) → Writes {T = T} old new before now (a ++ b) (Err e)
+cut_in_first {T} {E} old new before now a b first e same w =
+    writes_first old new before now a b e (subst (λ bytes. Writes {T = T} old new before now bytes (Err e)) same w)
+
+pub both_pieces : {T E F : Type 0} (old mid new : Option (List ℕ)) (before middle now : ℕ) (a b first second : List ℕ) (x : T)
+    (result : Result T E) → first ≡ a → second ≡ b → Writes {E = F} old mid before middle first (Ok x)
+    → Writes mid new middle now second result → Writes old new before now (a ++ b) result
+both_pieces {T} {E} {F} old mid new before middle now a b first second x result same_first same_second w next =
+    let one = subst (λ bytes. Writes {E = F} old mid before middle bytes (Ok x)) same_first w in
+    writes_behind old mid new before middle now a b result one.whole one.cause.passed
+    (subst (λ bytes. Writes mid new middle now bytes result) same_second next)

@@ -1,0 +1,27 @@
+use Rattle.std.proofs.Common.{[], refl, subst, sym}
+use Rattle.dr_model.specs.Machines.Acts.{sending}
+use Rattle.session_model.specs.declared.answer.Answer.TheVariants.{Sent}
+use Rattle.client.specs.Outcomes.{dropped_as}
+use Rattle.session_commands.specs.Asking.{asked_drop}
+use Rattle.session_commands.specs.Closing.{ending_by, lines_by}
+use Rattle.session_commands.specs.InWorlds.{RunsAct}
+use Rattle.session_commands.proofs.Acts.{act_runs}
+use Rattle.session_commands.proofs.Unopened.{unopened_runs}
+use Rattle.session_commands.proofs.dropping.drop_packets.Goals as goal
+
+pub returns-in-Err : goal.returns-in-Err
+returns-in-Err g c =
+    let asked = asked_drop (sending c.args.n) in
+    subst (λ e. RunsAct g.D.Disk.state g.K.Kem.mechanism asked c.args.disk.now c.open.new.disk e []) (sym c.unopened.ensures)
+    (unopened_runs g.D.Disk.state g.K.Kem.mechanism c.args.disk.now c.open.new.disk c.in-Err.refusal c.in-Err.ensures.unopened
+    c.open.ensures.any_moment c.open.ensures.reads c.in-Err.ensures.in_worlds asked tt)
+
+pub returns-in-Ok : goal.returns-in-Ok
+returns-in-Ok g c =
+    let asked = asked_drop (sending c.args.n) in
+    subst (λ r. RunsAct g.D.Disk.state g.K.Kem.mechanism asked c.args.disk.now c.sent-acted.new.disk (ending_by r) (lines_by r))
+    (sym c.dropped.ensures)
+    (act_runs g.D.Disk.state g.K.Kem.mechanism c.args.disk.now c.open.new.disk c.sent-acted.new.disk
+    (g.met.D.Disk.lawful c.sent-acted.new.disk) c.in-Ok.client c.sent-acted.new.self c.in-Ok.ensures.opened
+    c.open.ensures.any_moment asked (sending c.args.n) refl refl (λ w side fair. tt) (dropped_as (Sent c.args.n) c.sent-acted.result)
+    c.sent-acted.ensures.exact c.in-Ok.ensures.in_worlds (λ w side is fair. c.sent-acted.ensures.in_worlds w side is))

@@ -1,0 +1,23 @@
+use Rattle.session_commands.specs.Asking.{asked_drop, asked_say, asked_take}
+use Rattle.session_commands.proofs.Completing.{act_completes, show_completes}
+use Rattle.session_commands.proofs.laws.complete.Goals as goal
+
+pub returns-clause-says : goal.returns-clause-says
+returns-clause-says g c = λ k w side text ending lines whole none accepted runs.
+    act_completes g.D.Disk.state k w side
+    (asked_say g.W.Draws.coming g.W.Draws.faults text c.args.draws.now c.args.left.now) c.args.before.now c.args.after.now
+    ending lines whole none accepted runs
+
+pub returns-clause-takes : goal.returns-clause-takes
+returns-clause-takes g c = λ k w side packet ending lines whole none accepted runs.
+    act_completes g.D.Disk.state k w side (asked_take k packet) c.args.before.now c.args.after.now ending lines whole none
+    accepted runs
+
+pub returns-clause-drops : goal.returns-clause-drops
+returns-clause-drops g c = λ k w side act ending lines whole none accepted runs.
+    act_completes g.D.Disk.state k w side (asked_drop act) c.args.before.now c.args.after.now ending lines whole none accepted
+    runs
+
+pub returns-clause-shows : goal.returns-clause-shows
+returns-clause-shows g c = λ k w side shows ending lines whole none runs.
+    show_completes g.D.Disk.state k w side shows c.args.before.now c.args.after.now ending lines whole none runs

@@ -1,0 +1,11 @@
+use Rattle.std.proofs.Common.{[], take, ◌≡◌}
+use Rattle.std.specs.Prelude.{flat_map}
+use Rattle.dr_ports.specs.Ports.{appended}
+use Rattle.answer_lines.specs.Texts.{text_line}
+use Rattle.session_commands.proofs.showing.write_inbox.Given as goal
+
+abbrev pub invariant-texts : goal.invariant-texts
+invariant-texts g l = record {
+  written : g.O.Sink.taken l.out ≡ appended (g.O.Sink.taken l.fn.out) (flat_map (text_line []) (take l.at l.client.kept.inbox));
+  quiet : g.O.Sink.faults l.out ≡ g.O.Sink.faults l.fn.out;
+}

@@ -1,0 +1,11 @@
+use Rattle.std.proofs.Common.{take, ◌≡◌}
+use Rattle.std.specs.Prelude.{flat_map}
+use Rattle.dr_ports.specs.Ports.{appended}
+use Rattle.session_commands.specs.Lines.{packet_line}
+use Rattle.session_commands.proofs.showing.write_outbox.Given as goal
+
+abbrev pub invariant-packets : goal.invariant-packets
+invariant-packets g l = record {
+  written : g.O.Sink.taken l.out ≡ appended (g.O.Sink.taken l.fn.out) (flat_map packet_line (take l.at l.client.kept.outbox));
+  quiet : g.O.Sink.faults l.out ≡ g.O.Sink.faults l.fn.out;
+}

@@ -1,0 +1,49 @@
+-- What the command that begins a session comes to, before its last line.
+use Rattle.std.specs.Prelude.{IsSome, List, Option, Some, [], ℕ, ◌≡◌, ◌⊎◌}
+use Rattle.dr_base.specs.declared.position.Side.{Side}
+use Rattle.dr_disk.specs.Spans.{IsQuiet, Span}
+use Rattle.dr_disk.specs.State.{DiskState}
+use Rattle.dr_model.specs.Machines.WorldSides.{kept_in}
+use Rattle.dr_model.specs.Machines.Worlds.{World, opening_world}
+use Rattle.dr_model.specs.Theorems.LawfulWorlds.{IsLawfulWorld}
+use Rattle.endings.specs.declared.ending.Ending.{Ending}
+use Rattle.endings.specs.declared.ending.Ending.TheVariants.{BadKey, Done}
+use Rattle.kem_laws.specs.Mechanism.{Mechanism}
+use Rattle.session_model.specs.Schedule.{agreement_seed, session_of}
+use Rattle.slot_store.specs.Reading.{IsLikeRead, no_content}
+use Rattle.client.specs.Beginning.{IsEntryOrFirst, IsFirst, IsUnbegun}
+use Rattle.client.specs.Clients.{client_area}
+use Rattle.client.specs.Opening.{IsReadAs, Reads}
+use Rattle.client.specs.declared.refusals.BeginRefusal.{BeginRefusal}
+use Rattle.session_commands.specs.Disks.{IsAtRest, RunsOn}
+use Rattle.session_commands.specs.Inputs.{IsInput, IsNoInput, key_of}
+use Rattle.session_commands.specs.Lines.{session_line}
+use Rattle.session_commands.specs.Opening.{ending_of_begin}
+use Rattle.session_commands.specs.declared.input.TheConstants.{KEY_TEXT_LIMIT}
+
+-- No client was begun; or one was, where what was read held none, and the disk is at rest for it: its side of the world in
+-- which the conversation begins.
+pub data Began {X : Type 0} (state : X → DiskState) (k : Mechanism) (key : List ℕ) (side : Side) (start now : X) : Ending → List ℕ → Type 0 where
+  wasnt_begun : (refusal : BeginRefusal) → IsUnbegun state k key start now refusal
+      → Began state k key side start now (ending_of_begin refusal) []
+  was_begun : IsReadAs k (state start) no_content → IsSome (k.meaning.pair_of (agreement_seed key))
+      → IsLawfulWorld k (opening_world key) → IsAtRest (kept_in k (opening_world key) side) (state now)
+      → IsQuiet (state start) (state now) → Began state k key side start now Done (session_line (session_of key))
+
+-- With what each crash meanwhile leaves and a read gives: what it did, but for what was tidied, or the first record, where
+-- there was none. So a world that the disk reads stays.
+pub record Begins {X : Type 0} (state : X → DiskState) (k : Mechanism) (key : List ℕ) (side : Side) (start now : X) (ending : Ending)
+    (lines : List ℕ) : Type 0 where
+  pub began : Began state k key side start now ending lines
+  pub any_moment : Span (state start) (state now) (IsEntryOrFirst k key side (state start))
+  pub reads : (s : List ℕ) → (state now).seen ≡ Some s
+      → IsLikeRead client_area (state start) s ⊎ IsFirst k key side (state start) s
+  pub in_worlds : (w : World) (whose : Side) → Reads k w whose (state start) → RunsOn k whose w w (state start) (state now)
+
+-- The source holds no key, and the disk is left alone; or the session of the key is begun.
+pub data RunsBegin {X : Type 0} (state : X → DiskState) (k : Mechanism) (side : Side) (from left : Option (List ℕ)) (before after : ℕ)
+    (start now : X) : Ending → List ℕ → Type 0 where
+  had_no_key : (ending : Ending) → IsNoInput KEY_TEXT_LIMIT key_of BadKey from left before after ending → now ≡ start
+      → RunsBegin state k side from left before after start now ending []
+  had_key : (key : List ℕ) (ending : Ending) (lines : List ℕ) → IsInput KEY_TEXT_LIMIT key_of from left before after key
+      → Begins state k key side start now ending lines → RunsBegin state k side from left before after start now ending lines

@@ -1,0 +1,39 @@
+-- That a command does its work, where nothing fails and the machine refuses nothing.
+use Rattle.std.specs.Prelude.{◌≡◌, ◌⊎◌}
+use Rattle.dr_base.specs.Causes.{Rose}
+use Rattle.dr_base.specs.declared.position.Side.{Side}
+use Rattle.dr_disk.specs.State.{DiskState}
+use Rattle.dr_disk.specs.declared.call.Call.{Call}
+use Rattle.dr_model.specs.Machines.Acts.{Act, act_in}
+use Rattle.dr_model.specs.Machines.Worlds.{World}
+use Rattle.dr_model.specs.Theorems.Acting.{IsFairAct}
+use Rattle.dr_model.specs.Theorems.LawfulWorlds.{IsLawfulWorld}
+use Rattle.endings.specs.declared.ending.Ending.{Ending}
+use Rattle.endings.specs.declared.ending.Ending.TheVariants.{Done, NoMemory}
+use Rattle.kem_laws.specs.Mechanism.{Mechanism}
+use Rattle.session_model.specs.Clients.{Client}
+use Rattle.session_model.specs.declared.answer.Answer.TheVariants.{Refused}
+use Rattle.session_model.specs.declared.answer.Refusal.{Refusal}
+use Rattle.client.specs.Beginning.{HoldsRecord}
+use Rattle.client.specs.Opening.{Reads}
+use Rattle.session_commands.specs.Acting.{Asked}
+
+abbrev pub DidWork : Ending → Type 0
+DidWork ending = (ending ≡ Done) ⊎ (ending ≡ NoMemory)
+
+-- no call on the disk failed between two moments
+abbrev pub NoneFailed : DiskState → DiskState → Type 0
+NoneFailed start now = (call : Call) → Rose (start.faults call) (now.faults call) → ⊥
+
+-- the disk reads a side of a lawful world, and nothing of the record's slot is damaged
+pub record ReadsWhole (k : Mechanism) (w : World) (side : Side) (disk : DiskState) : Type 0 where
+  pub lawful : IsLawfulWorld k w
+  pub reads : Reads k w side disk
+  pub undamaged : HoldsRecord k disk
+
+-- the machine refuses no act that the command may be, and no draw failed
+pub record IsAccepted (k : Mechanism) (w : World) (side : Side) (asked : Asked) : Type 0 where
+  pub fair : asked.fair w side
+  pub accepts : (act : Act) → asked.chosen act → IsFairAct k w side act → (refusal : Refusal)
+      → (act_in k w side act).answer ≡ Refused refusal → ⊥
+  pub drawn : (kept : Client) → asked.undrawn kept → ⊥

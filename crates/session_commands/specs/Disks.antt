@@ -1,0 +1,55 @@
+-- What a client's disk holds, before a command and after it.
+use Rattle.std.specs.Prelude.{List, Ok, Some, option_map, ℕ, ◌⊎◌, ◌≡◌}
+use Rattle.dr_base.specs.declared.position.Side.{Side}
+use Rattle.dr_disk.specs.Spans.{IsQuiet, Span}
+use Rattle.dr_disk.specs.State.{DiskState}
+use Rattle.dr_model.specs.Machines.Worlds.{World}
+use Rattle.kem_laws.specs.Mechanism.{Mechanism}
+use Rattle.session_model.specs.Clients.{Client}
+use Rattle.session_record.specs.Record.{record_read, record_text}
+use Rattle.slot_store.specs.Reading.{IsEntryOrLike, IsLikeRead}
+use Rattle.slot_store.specs.Slots.{recovered}
+use Rattle.slot_store.specs.declared.store.SlotStore.{SlotStore}
+use Rattle.client.specs.Clients.{IsReady, client_area}
+use Rattle.client.specs.InWorlds.{StandsFor}
+
+-- what a read gives is read as what a client keeps
+abbrev pub IsKept : Mechanism → DiskState → Client → Type 0
+IsKept k disk kept = (s : List ℕ) → disk.seen ≡ Some s → option_map (record_read k) (recovered client_area s) ≡ Some (Ok kept)
+
+-- each image is at rest for the record of what a client keeps
+pub record IsAtRest (kept : Client) (disk : DiskState) : Type 0 where
+  pub store : SlotStore
+  pub ready : IsReady kept store disk
+
+-- bytes like those that were read, or with the record of one of two clients
+pub data IsLeft (before after : Client) (start : DiskState) (c : List ℕ) : Type 0 where
+  is_like : IsLikeRead client_area start c → IsLeft before after start c
+  is_before : recovered client_area c ≡ Some (record_text before) → IsLeft before after start c
+  is_after : recovered client_area c ≡ Some (record_text after) → IsLeft before after start c
+
+-- Each crash meanwhile leaves what one might have left at entry, or what is like what was read; a read gives such.
+pub record LeavesLike (start now : DiskState) : Type 0 where
+  pub any_moment : Span start now (IsEntryOrLike client_area start)
+  pub reads : (s : List ℕ) → now.seen ≡ Some s → IsLikeRead client_area start s
+
+-- or what has one of two clients' records
+pub record LeavesEither (before after : Client) (start now : DiskState) : Type 0 where
+  pub any_moment : Span start now (λ c. start.image c ⊎ IsLeft before after start c)
+  pub reads : (s : List ℕ) → now.seen ≡ Some s → IsLeft before after start s
+
+-- and then all is at rest for the latter, and no call failed
+pub record Leaves (before after : Client) (start now : DiskState) : Type 0 where
+  pub either : LeavesEither before after start now
+  pub rests : IsAtRest after now
+  pub quiet : IsQuiet start now
+
+-- ---- in worlds
+
+abbrev pub StandsForOne : Mechanism → Side → World → World → List ℕ → Type 0
+StandsForOne k side before after c = StandsFor k before side c ⊎ StandsFor k after side c
+
+-- Each crash meanwhile leaves what one might have left at entry, or what stands for one of two worlds; a read gives what does.
+pub record RunsOn (k : Mechanism) (side : Side) (before after : World) (start now : DiskState) : Type 0 where
+  pub any_moment : Span start now (λ c. start.image c ⊎ StandsForOne k side before after c)
+  pub reads : (s : List ℕ) → now.seen ≡ Some s → StandsForOne k side before after s

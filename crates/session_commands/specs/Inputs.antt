@@ -1,0 +1,48 @@
+-- What a command reads from the source.
+use Rattle.std.specs.Prelude.{Err, IfSome, List, None, Ok, Option, Result, Some, [], drop, get_or, if◌then◌else◌, length, nat_le, option_map, take, ℕ, ◌&&◌, ◌+◌, ◌-◌, ◌/◌, ◌<◌, ◌==◌, ◌≡◌, ◌≤◌}
+use Rattle.dr_base.specs.Causes.{Rose}
+use Rattle.dr_ports.specs.Reading.{GaveAtMost}
+use Rattle.endings.specs.declared.ending.Ending.{Ending}
+use Rattle.endings.specs.declared.ending.Ending.TheVariants.{InputTooLong, NoMemory, ReadFault}
+use Rattle.hex.specs.Hex.{decode_sized}
+
+-- without one line feed at the end
+unfoldable pub stripped : List ℕ → List ℕ
+stripped bytes =
+    if nat_le 1 (length bytes) && (get_or bytes (length bytes - 1) 0 == 10) then take (length bytes - 1) bytes else bytes
+
+-- the bytes, where there are some
+abbrev pub where_ok : {E : Type 0} → Result (List ℕ) E → Option (List ℕ)
+where_ok (Ok bytes) = Some bytes
+where_ok (Err e) = None
+
+-- the packet that the source's text is, in hex digits
+unfoldable pub packet_of : List ℕ → Option (List ℕ)
+packet_of text = where_ok (decode_sized (stripped text) (length (stripped text) / 2))
+
+-- the key that it is
+unfoldable pub key_of : List ℕ → Option (List ℕ)
+key_of text = where_ok (decode_sized (stripped text) 32)
+
+-- All was read, and is this value. The source had `from` and has `left`.
+pub record IsInput (limit : ℕ) (parse : List ℕ → Option (List ℕ)) (from left : Option (List ℕ)) (before now : ℕ) (value : List ℕ) : Type 0 where
+  pub text : IfSome from (λ text. (length text ≤ limit) × (parse text ≡ Some value))
+  pub drained : IfSome left (λ rest. rest ≡ [])
+  pub quiet : now ≡ before
+
+-- Why there is no value, by how the command then ends.
+pub data IsNoInput (limit : ℕ) (parse : List ℕ → Option (List ℕ)) (bad : Ending) (from left : Option (List ℕ)) (before now : ℕ)
+    : Ending → Type 0 where
+  -- nothing was read
+  had_no_memory : left ≡ from → now ≡ before → IsNoInput limit parse bad from left before now NoMemory
+  read_failed : GaveAtMost (limit + 1) from left → Rose before now → IsNoInput limit parse bad from left before now ReadFault
+  -- one byte past the limit was read
+  is_too_long : IfSome from (λ text. limit < length text) → left ≡ option_map (drop (limit + 1)) from → now ≡ before
+      → IsNoInput limit parse bad from left before now (InputTooLong limit)
+  is_bad : IfSome from (λ text. (length text ≤ limit) × (parse text ≡ None)) → IfSome left (λ rest. rest ≡ []) → now ≡ before
+      → IsNoInput limit parse bad from left before now bad
+
+-- the value, or how the command ends
+abbrev pub ReadsInput : {V : Type 0} → (V → List ℕ) → ℕ → (List ℕ → Option (List ℕ)) → Ending → Option (List ℕ) → Option (List ℕ) → ℕ → ℕ → Result V Ending → Type 0
+ReadsInput bytes limit parse bad from left before now (Ok value) = IsInput limit parse from left before now (bytes value)
+ReadsInput bytes limit parse bad from left before now (Err ending) = IsNoInput limit parse bad from left before now ending

@@ -1,0 +1,12 @@
+pub mod Closing
+pub mod Disks
+pub mod Opening
+pub mod Acting
+pub mod InWorlds
+pub mod Inputs
+pub mod Asking
+pub mod Lines
+pub mod Showing
+pub mod Beginning
+pub mod Runs
+pub mod Completing

@@ -1,0 +1,80 @@
+//! The command that begins a session.
+
+ghost use Rattle.std.specs.Prelude.{◌≡◌, ◌≤◌};
+ghost use Rattle.dr_disk.specs.Spans.{IsQuiet};
+ghost use Rattle.slot_store.specs.Store.{IsWithin};
+ghost use Rattle.client.specs.Clients.{client_area};
+ghost use Rattle.session_commands.specs.Beginning.{Begins, RunsBegin};
+ghost use Rattle.session_commands.specs.Closing.{begun_ending, begun_lines};
+ghost use Rattle.session_commands.specs.Runs.{Runs};
+
+use crate::closing::finish_with;
+use crate::endings_of::unbegun;
+use crate::input::read_key;
+use crate::lines::session_line;
+use client::Client;
+use dr_base::{Key32, Side};
+use dr_disk::Disk;
+use dr_ports::{OutputLine, Sink, Source};
+use endings::{Ending, Status, finish};
+use kem_laws::Kem;
+use slot_store::readings;
+use std::alloc::Global;
+
+/// Begins the session of a key, and gives the line of its name.
+fn begin_on<K: Kem, D: Disk>(
+    alloc: Global,
+    side: Side,
+    key: &Key32,
+    disk: &mut D,
+) -> Result<OutputLine, Ending>
+    requires { IsWithin client_area (D.state disk.old) }
+    ensures { Begins D.state K.mechanism key.now.bytes side disk.old disk.new (begun_ending result) (begun_lines result) }
+{
+    readings();
+    match Client::<K>::begin(alloc, disk, side, key) {
+        Err(refusal) => Err(unbegun(refusal)),
+        Ok(client) => Ok(session_line(client.session())),
+    }
+}
+
+/// Reads a key, and begins its session.
+fn read_and_begin<K: Kem, D: Disk, S: Source>(
+    alloc: Global,
+    side: Side,
+    disk: &mut D,
+    source: &mut S,
+) -> Result<OutputLine, Ending>
+    requires { IsWithin client_area (D.state disk.old) }
+    ensures runs { RunsBegin D.state K.mechanism side (S.left source.old) (S.left source.new) (S.faults source.old) (S.faults source.new)
+        disk.old disk.new (begun_ending result) (begun_lines result) }
+    ensures later { S.faults source.old ≤ S.faults source.new }
+{
+    match read_key(alloc, source) {
+        Err(ending) => Err(ending),
+        Ok(key) => begin_on::<K, D>(alloc, side, &key, disk),
+    }
+}
+
+/// Begins the session of the key whose 64 hex digits the source holds, on a disk that holds none, and writes `session S`.
+pub fn begin<K: Kem, D: Disk, S: Source, O: Sink>(
+    alloc: Global,
+    side: Side,
+    disk: &mut D,
+    source: &mut S,
+    out: &mut O,
+) -> Status
+    requires { IsWithin client_area (D.state disk.old) }
+    ensures runs { Runs (RunsBegin D.state K.mechanism side (S.left source.old) (S.left source.new) (S.faults source.old) (S.faults source.new) disk.old disk.new)
+        (O.taken out.old) (O.taken out.new) (O.faults out.old) (O.faults out.new) result.code }
+    // Status 0 says that no call failed.
+    ensures quiet { result.code ≡ 0 → IsQuiet (D.state disk.old) (D.state disk.new)
+        × (O.faults out.new ≡ O.faults out.old) × (S.faults source.new ≡ S.faults source.old) }
+    ensures reads { S.faults source.old ≤ S.faults source.new }
+    ensures later { O.faults out.old ≤ O.faults out.new }
+{
+    match read_and_begin::<K, D, S>(alloc, side, disk, source) {
+        Err(ending) => finish(out, ending),
+        Ok(line) => finish_with(out, line.as_bytes()),
+    }
+}

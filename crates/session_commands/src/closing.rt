@@ -1,0 +1,54 @@
+//! The end of a command: its lines, and its last line.
+
+ghost use Rattle.std.specs.Prelude.{◌≡◌, ◌≤◌, ℕ, List, Option};
+ghost use Rattle.dr_ports.specs.Writing.{Writes};
+ghost use Rattle.endings.specs.Ends.{Ends};
+ghost use Rattle.endings.specs.declared.ending.Ending.TheVariants.{Done};
+ghost use Rattle.session_commands.specs.Closing.{answer_line, ending_by, lines_by};
+
+use answer_lines::put_answer;
+use dr_ports::{Failed, OutputLine, Sink, write_all};
+use endings::{Ending, Status, finish};
+use session_model::Answer;
+
+/// The line of an answer.
+fn answer_line(answer: Answer) -> OutputLine
+    ensures { result ≡ answer_line answer }
+{
+    let mut line = OutputLine::new();
+    put_answer(&mut line, answer);
+    line.text(b"\n");
+    line
+}
+
+/// The status of a command that did its work and whose lines were written, or of which a write failed.
+pub(crate) fn finish_written<O: Sink>(out: &mut O, wrote: Result<(), Failed>) -> Status
+    ensures ends { (lines : List ℕ) (old : Option (List ℕ)) (before : ℕ) → Writes old (O.taken out.old) before (O.faults out.old) lines wrote
+        → Ends Done lines old (O.taken out.new) before (O.faults out.new) result.code }
+    ensures later { O.faults out.old ≤ O.faults out.new }
+{
+    match wrote {
+        Ok(()) => finish(out, Ending::Done),
+        Err(Failed) => Status { code: 5 },
+    }
+}
+
+/// Writes the lines of a command that did its work.
+pub(crate) fn finish_with<O: Sink>(out: &mut O, lines: &[u8]) -> Status
+    ensures ends { Ends Done lines.now (O.taken out.old) (O.taken out.new) (O.faults out.old) (O.faults out.new) result.code }
+    ensures later { O.faults out.old ≤ O.faults out.new }
+{
+    let wrote = write_all(out, lines);
+    finish_written(out, wrote)
+}
+
+/// Writes the line of an answer, or the last line of another ending.
+pub(crate) fn close<O: Sink>(out: &mut O, worked: Result<Answer, Ending>) -> Status
+    ensures ends { Ends (ending_by worked) (lines_by worked) (O.taken out.old) (O.taken out.new) (O.faults out.old) (O.faults out.new) result.code }
+    ensures later { O.faults out.old ≤ O.faults out.new }
+{
+    match worked {
+        Ok(answer) => finish_with(out, answer_line(answer).as_bytes()),
+        Err(ending) => finish(out, ending),
+    }
+}

@@ -1,0 +1,27 @@
+//! The work of the commands on a session, on a source, a sink, a disk and draws: begin, say, take, inbox, done, sent, outbox
+//! and state.
+//!
+//! Each command but `begin` opens the client that the disk holds, lets it act at most once or shows what it keeps, writes its
+//! lines and answers its status. `take` and `begin` read the source first.
+#![tactic(auto)]
+
+pub use beginning::begin;
+pub use dropping::{done, sent};
+pub use input::{KEY_TEXT_LIMIT, PACKET_TEXT_LIMIT};
+pub use laws::complete;
+pub use saying::say;
+pub use showing::{inbox, outbox, state};
+pub use taking::take;
+
+mod beginning;
+mod closing;
+mod dropping;
+mod endings_of;
+mod input;
+mod laws;
+mod lines;
+mod saying;
+mod showing;
+mod taking;
+#[cfg(test)]
+mod tests;

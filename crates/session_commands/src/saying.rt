@@ -1,0 +1,60 @@
+//! The command that says a text.
+
+ghost use Rattle.std.specs.Prelude.{◌≡◌, ◌≤◌};
+ghost use Rattle.dr_disk.specs.Spans.{IsQuiet};
+ghost use Rattle.slot_store.specs.Store.{IsWithin};
+ghost use Rattle.client.specs.Clients.{client_area};
+ghost use Rattle.session_commands.specs.Asking.{asked_say};
+ghost use Rattle.session_commands.specs.Closing.{ending_by, lines_by};
+ghost use Rattle.session_commands.specs.InWorlds.{RunsAct};
+ghost use Rattle.session_commands.specs.Runs.{Runs};
+
+use crate::closing::close;
+use crate::endings_of::{said, unopened};
+use client::Client;
+use dr_disk::Disk;
+use dr_ports::{Draws, Sink};
+use endings::{Ending, Status};
+use kem_laws::Kem;
+use session_model::Answer;
+use std::alloc::Global;
+
+/// Opens the client, which says the text.
+fn say_text<K: Kem, D: Disk, W: Draws>(
+    alloc: Global,
+    text: &[u8],
+    disk: &mut D,
+    draws: &mut W,
+) -> Result<Answer, Ending>
+    requires { IsWithin client_area (D.state disk.old) }
+    ensures { RunsAct D.state K.mechanism (asked_say W.coming W.faults text.now draws.old draws.new) disk.old disk.new
+        (ending_by result) (lines_by result) }
+{
+    match Client::<K>::open(alloc, disk) {
+        Err(refusal) => Err(unopened(refusal)),
+        Ok(mut client) => {
+            let acted = client.say(disk, text, draws);
+            said(acted)
+        }
+    }
+}
+
+/// Says a text, and writes `said E.I`. A seed is drawn exactly where the client is open and the text needs one.
+pub fn say<K: Kem, D: Disk, O: Sink, W: Draws>(
+    alloc: Global,
+    text: &[u8],
+    disk: &mut D,
+    out: &mut O,
+    draws: &mut W,
+) -> Status
+    requires { IsWithin client_area (D.state disk.old) }
+    ensures runs { Runs (RunsAct D.state K.mechanism (asked_say W.coming W.faults text.now draws.old draws.new) disk.old disk.new)
+        (O.taken out.old) (O.taken out.new) (O.faults out.old) (O.faults out.new) result.code }
+    // Status 0 says that no call failed.
+    ensures quiet { result.code ≡ 0 → IsQuiet (D.state disk.old) (D.state disk.new)
+        × (O.faults out.new ≡ O.faults out.old) × (W.faults draws.new ≡ W.faults draws.old) }
+    ensures later { O.faults out.old ≤ O.faults out.new }
+{
+    let worked = say_text::<K, D, W>(alloc, text, disk, draws);
+    close(out, worked)
+}

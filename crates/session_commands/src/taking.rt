@@ -1,0 +1,77 @@
+//! The command that takes a packet.
+
+ghost use Rattle.std.specs.Prelude.{◌≡◌, ◌≤◌};
+ghost use Rattle.dr_disk.specs.Spans.{IsQuiet};
+ghost use Rattle.slot_store.specs.Store.{IsWithin};
+ghost use Rattle.client.specs.Clients.{client_area};
+ghost use Rattle.session_commands.specs.Asking.{asked_take};
+ghost use Rattle.session_commands.specs.Closing.{ending_by, lines_by};
+ghost use Rattle.session_commands.specs.InWorlds.{RunsAct};
+ghost use Rattle.session_commands.specs.Runs.{Runs, RunsTake};
+
+use crate::closing::close;
+use crate::endings_of::{taken, unopened};
+use crate::input::read_packet;
+use client::Client;
+use dr_disk::Disk;
+use dr_ports::{Sink, Source};
+use endings::{Ending, Status};
+use kem_laws::Kem;
+use session_model::Answer;
+use std::alloc::Global;
+
+/// Opens the client, which takes a packet.
+fn take_packet<K: Kem, D: Disk>(
+    alloc: Global,
+    packet: &[u8],
+    disk: &mut D,
+) -> Result<Answer, Ending>
+    requires { IsWithin client_area (D.state disk.old) }
+    ensures { RunsAct D.state K.mechanism (asked_take K.mechanism packet.now) disk.old disk.new (ending_by result) (lines_by result) }
+{
+    match Client::<K>::open(alloc, disk) {
+        Err(refusal) => Err(unopened(refusal)),
+        Ok(mut client) => {
+            let acted = client.take(disk, packet);
+            taken(acted)
+        }
+    }
+}
+
+/// Reads a packet, and takes it.
+fn read_and_take<K: Kem, D: Disk, S: Source>(
+    alloc: Global,
+    disk: &mut D,
+    source: &mut S,
+) -> Result<Answer, Ending>
+    requires { IsWithin client_area (D.state disk.old) }
+    ensures runs { RunsTake D.state K.mechanism (S.left source.old) (S.left source.new) (S.faults source.old) (S.faults source.new)
+        disk.old disk.new (ending_by result) (lines_by result) }
+    ensures later { S.faults source.old ≤ S.faults source.new }
+{
+    match read_packet(alloc, source) {
+        Err(ending) => Err(ending),
+        Ok(packet) => take_packet::<K, D>(alloc, packet.as_slice(), disk),
+    }
+}
+
+/// Takes the packet whose hex digits the source holds, and writes `opened E.I`. Where the source holds none the disk is
+/// left alone.
+pub fn take<K: Kem, D: Disk, S: Source, O: Sink>(
+    alloc: Global,
+    disk: &mut D,
+    source: &mut S,
+    out: &mut O,
+) -> Status
+    requires { IsWithin client_area (D.state disk.old) }
+    ensures runs { Runs (RunsTake D.state K.mechanism (S.left source.old) (S.left source.new) (S.faults source.old) (S.faults source.new) disk.old disk.new)
+        (O.taken out.old) (O.taken out.new) (O.faults out.old) (O.faults out.new) result.code }
+    // Status 0 says that no call failed.
+    ensures quiet { result.code ≡ 0 → IsQuiet (D.state disk.old) (D.state disk.new)
+        × (O.faults out.new ≡ O.faults out.old) × (S.faults source.new ≡ S.faults source.old) }
+    ensures reads { S.faults source.old ≤ S.faults source.new }
+    ensures later { O.faults out.old ≤ O.faults out.new }
+{
+    let worked = read_and_take::<K, D, S>(alloc, disk, source);
+    close(out, worked)
+}
