@@ -1,62 +1,83 @@
 -- From what clap's parse says of its result to the command.
-use Rattle.std.proofs.Common.{◌≡◌, ◌∙◌, true, refl, sym, ap, subst, inl, inr, List, [], Option, Some, None, IfSome, codes}
-use Rattle.std.specs.Prelude.{Box}
-use Rattle.std.specs.Box.{box_value}
+use Rattle.std.proofs.Common.{◌≡◌, ◌∙◌, ◌≤◌, ◌-◌, true, refl, sym, ap, ap₂, arith, subst, length, take, drop, get_or, take_all, inl, inr, List, [], ◌∷◌, ◌++◌, map, String, string_bytes, Option, Some, None, codes}
+use Rattle.std.specs.Prelude.{Box, unwrap_or}
 use Rattle.std.specs.Borrow.{Bor}
+use Rattle.std.specs.Box.{box_value}
 use Rattle.std.specs.Option.{option_map, option_to_list}
-use Rattle.std.specs.Str.{IsUtf8}
+use Rattle.std.proofs.lemmas.Str.{IsUtf8-string_bytes}
 use Rattle.clap.specs.Kinds.{HasKind}
-use Rattle.clap.specs.Matches.{first_value, found_of, subcommand_name_of}
+use Rattle.clap.specs.Matches.{first_value, found_of, matched_of, raw_values, subcommand_name_of}
 use Rattle.clap.specs.Values.{kind_of}
-use Rattle.clap.specs.Walk.{Row as Found, Text, rows_of}
+use Rattle.clap.specs.Walk.{Row, Text, rows_of, texts}
 use Rattle.clap.specs.Simple.{App, HasMatchesOf, is_simple, subcommand_of, subcommand_rows, subcommand_rows_of}
 use Rattle.clap.specs.Faults.{fault_of, is_simple_and_free}
 use Rattle.clap.specs.declared.error.Error.{Error}
 use Rattle.clap.specs.declared.error.kind.ErrorKind.TheVariants.{OutOfMemory}
 use Rattle.clap.specs.declared.parser.matches.ArgMatches.{ArgMatches}
 use Rattle.clap.specs.declared.parser.matches.ArgMatches.TheViews.{out-ArgMatches, out-SubCommand}
+use Rattle.clap.specs.declared.parser.matches.Found.{Found}
 use Rattle.clap.specs.declared.parser.matches.SubCommand.{SubCommand}
-use Rattle.clap.proofs.WalkLemmas.{first_value-rows}
+use Rattle.clap.proofs.WalkLemmas.{first_value-rows, raw_values-rows}
 use Rattle.command_words.specs.Application.{application}
 use Rattle.command_words.specs.Commands.{Work, command_in, command_named, command_of, rows}
+use Rattle.command_words.specs.Values.{values_found}
 use Rattle.command_words.proofs.Building.{is_simple_and_free_is, is_simple_is}
-use Rattle.command_words.proofs.Leaves.{value_found}
-use Rattle.command_words.proofs.Readings.{IsText, command_entered, passes, taken}
+use Rattle.command_words.proofs.Levels.{AreTexts}
+use Rattle.command_words.proofs.Readings.{command_entered, passes, taken}
 
 -- a parse that fails, but not for want of memory, was of no command
-refused : (words : List Text) (e : Error) → HasKind (fault_of (application rows) words) e → (kind_of e ≡ OutOfMemory → ⊥) → None ≡ command_of words
+refused : (words : List Text) → AreTexts words → (e : Error) → HasKind (fault_of (application rows) words) e → (kind_of e ≡ OutOfMemory → ⊥) → None ≡ command_of words
 unfolding command_of
-refused words e has other = go (command_in rows words) refl
+refused words texts e has other = go (command_in rows words) refl
   where
     go : (o : Option Work) → command_in rows words ≡ o → None ≡ o
     go None is = refl
-    go (Some work) is = elim (subst (λ kinds. HasKind kinds e) (passes rows words work is) has) [
+    go (Some work) is = elim (subst (λ kinds. HasKind kinds e) (passes rows words work texts is) has) [
       | inl memory ↦ absurd (other memory)
       | inr among ↦ absurd among
     ]
 
 -- the subcommand that a parse entered, by its name and its rows
 module _ {Z : Type 0} where
-  entered_is : (o : Option (Box SubCommand Z)) (name : Text) (found : List Found) → Some name ≡ option_map (λ b. (out-SubCommand (box_value b)).name.now) o
+  entered_is : (o : Option (Box SubCommand Z)) (name : Text) (found : List Row) → Some name ≡ option_map (λ b. (out-SubCommand (box_value b)).name.now) o
       → Some found ≡ option_map (λ p. p.1) (subcommand_rows o) → subcommand_rows o ≡ Some (name, found)
   entered_is None name found n f = cc
   entered_is (Some b) name found n f = cc
 
-  none_entered : (o : Option (Box SubCommand Z)) → None ≡ option_map (λ (p : Text × List Found). p.1) (subcommand_rows o) → subcommand_rows o ≡ None
+  none_entered : (o : Option (Box SubCommand Z)) → None ≡ option_map (λ (p : Text × List Row). p.1) (subcommand_rows o) → subcommand_rows o ≡ None
   none_entered None f = refl
   none_entered (Some b) f = cc
 
--- a value that is a text
-pub text_is : (o : Option (Bor Text)) → IfSome o (λ s. IsUtf8 s.now) → IsText (option_map (λ s. s.now) o)
-text_is None h value e = cc
-text_is (Some s) h value e =
-    let same : s.now ≡ value = cc in
-    subst IsUtf8 same h
+-- the words of a program are texts
+pub are_texts : {Y : Type 0} (words : List (String Y)) → AreTexts (map string_bytes words)
+are_texts [] = tt
+are_texts (word ∷ words) = (IsUtf8-string_bytes word, are_texts words)
 
-module _ (app : App) (words : List Text) (is : app ≡ application rows) where
+-- the values, each found by its name
+pub all_values : (f : Found) (first second : Option Text) (more : Option (List Text)) (none one two three : List Text) → none ≡ [] → one ≡ none ++ option_to_list first
+    → two ≡ one ++ option_to_list second → three ≡ two ++ unwrap_or more [] → first ≡ first_value f (codes "first") → second ≡ first_value f (codes "second")
+    → more ≡ option_map raw_values (matched_of f (codes "more")) → three ≡ values_found (rows_of f)
+all_values f first second more none one two three empty first_put second_put more_put a b c =
+    let first_is = a ∙ first_value-rows f (codes "first") in
+    let second_is = b ∙ first_value-rows f (codes "second") in
+    let more_is = c ∙ raw_values-rows f (codes "more") in
+    let one_is = first_put ∙ ap₂ (λ xs o. xs ++ option_to_list o) empty first_is in
+    let two_is = second_put ∙ ap₂ (λ xs o. xs ++ option_to_list o) one_is second_is in
+    more_put ∙ ap₂ (λ xs o. xs ++ unwrap_or o []) two_is more_is
+
+-- a third value and those behind it
+pub three_or_more : (xs : List (Bor Text)) (d : Bor Text) → 3 ≤ length xs
+    → (third : Text) × (others : List Text) × (texts (take (length xs - 2) (drop 2 xs)) ≡ third ∷ others) × (texts xs ≡ (get_or xs 0 d).now ∷ (get_or xs 1 d).now ∷ third ∷ others)
+three_or_more [] d h = absurd (omega arith)
+three_or_more (a ∷ []) d h = absurd (omega arith)
+three_or_more (a ∷ b ∷ []) d h = absurd (omega arith)
+three_or_more (a ∷ b ∷ c ∷ rest) d h =
+    (c.now, texts rest, ap texts (take_all (length (a ∷ b ∷ c ∷ rest) - 2) (c ∷ rest) (omega arith)), refl)
+
+module _ (app : App) (words : List Text) (texts : AreTexts words) (is : app ≡ application rows) where
   pub failed : (e : Error) → (is_simple_and_free app ≡ true → HasKind (fault_of app words) e) → (kind_of e ≡ OutOfMemory → ⊥) → None ≡ command_of words
   failed e has other =
-      refused words e (subst (λ a. HasKind (fault_of a words) e) is (has (ap is_simple_and_free is ∙ is_simple_and_free_is))) other
+      refused words texts e (subst (λ a. HasKind (fault_of a words) e) is (has (ap is_simple_and_free is ∙ is_simple_and_free_is))) other
 
   module _ (m : ArgMatches) (free : is_simple_and_free app ≡ true → fault_of app words ≡ []) (has : HasMatchesOf app words m) where
     fault_is : fault_of (application rows) words ≡ []
@@ -65,25 +86,17 @@ module _ (app : App) (words : List Text) (is : app ≡ application rows) where
     rows_are : subcommand_rows_of m ≡ subcommand_of (application rows) words
     rows_are = (has (ap is_simple is ∙ is_simple_is)).1 ∙ ap (λ a. subcommand_of a words) is
 
-    pub unanswered : None ≡ option_map (λ (p : Text × List Found). p.1) (subcommand_rows_of m) → None ≡ command_of words
+    pub unanswered : None ≡ option_map (λ (p : Text × List Row). p.1) (subcommand_rows_of m) → None ≡ command_of words
     unfolding command_of
     unanswered none =
         let entered : subcommand_of (application rows) words ≡ None = sym rows_are ∙ none_entered (out-ArgMatches m).subcommand none in
-        ap (command_entered rows) (sym entered) ∙ taken rows words (λ name found e. absurd (differ (sym entered ∙ e))) fault_is
-      where
-        differ : {X : Type 0} {x : X} → None ≡ Some x → ⊥
-        differ e = cc
+        ap (command_entered rows) (sym entered) ∙ taken rows words texts fault_is
 
-    pub answered : (given : ArgMatches) (name : Text) (value : Option Text) → Some name ≡ subcommand_name_of m
-        → Some (rows_of (found_of given)) ≡ option_map (λ (p : Text × List Found). p.1) (subcommand_rows_of m)
-        → value ≡ first_value (found_of given) (codes "value") → IsText value → command_named rows name (option_to_list value) ≡ command_of words
+    pub answered : (given : ArgMatches) (name : Text) (values : List Text) → Some name ≡ subcommand_name_of m
+        → Some (rows_of (found_of given)) ≡ option_map (λ (p : Text × List Row). p.1) (subcommand_rows_of m)
+        → values ≡ values_found (rows_of (found_of given)) → command_named rows name values ≡ command_of words
     unfolding command_of
-    answered given name value named found read text =
+    answered given name values named found read =
         let entered : subcommand_of (application rows) words ≡ Some (name, rows_of (found_of given)) =
         sym rows_are ∙ entered_is (out-ArgMatches m).subcommand name (rows_of (found_of given)) named found in
-        let value_is : value ≡ value_found (rows_of (found_of given)) = read ∙ first_value-rows (found_of given) (codes "value") in
-        ap (λ v. command_named rows name (option_to_list v)) value_is ∙ ap (command_entered rows) (sym entered)
-        ∙ taken rows words (λ n rs e v is_v. text v (value_is ∙ ap (λ (p : Text × List Found). value_found p.1) (same (sym entered ∙ e)) ∙ is_v)) fault_is
-      where
-        same : {X : Type 0} {x y : X} → Some x ≡ Some y → x ≡ y
-        same e = cc
+        ap (command_named rows name) read ∙ ap (command_entered rows) (sym entered) ∙ taken rows words texts fault_is

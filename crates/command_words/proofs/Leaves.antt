@@ -1,171 +1,133 @@
--- What clap makes of the words behind a command's name.
-use Rattle.std.proofs.Common.{inl, inr, subst, ◌≡◌, ◌∙◌, ℕ, Bool, true, false, refl, sym, ap, List, [], ◌∷◌, Option, Some, None, codes}
-use Rattle.std.specs.Prelude.{slice_get}
-use Rattle.std.specs.Option.{option_map}
-use Rattle.std.specs.Char.{encode_utf8}
-use Rattle.std.specs.Str.{IsUtf8, chars, encode_utf8_all}
-use Rattle.std.proofs.lemmas.Str.{encodes-chars}
+-- What clap makes of a command's values, each taken as a value.
+use Rattle.std.proofs.Common.{◌≡◌, ◌∙◌, true, false, refl, sym, ap, append_assoc, List, [], ◌∷◌, ◌++◌, Option, Some, None, codes}
 use Rattle.clap.specs.Kinds.{Kinds}
-use Rattle.clap.specs.Lexer.{long_of, short_of}
-use Rattle.clap.specs.Walk.{Held, Row, Text, finished, first_of, nothing_held, rows_after, walked}
+use Rattle.clap.specs.Walk.{Held, Row as Found, Text, finished, nothing_held, reading_by, rows_after, walked}
+use Rattle.clap.specs.declared.parser.matches.ValueSource.TheVariants.{CommandLine}
 use Rattle.clap.specs.Simple.{Shape}
 use Rattle.clap.specs.Faults.{level_fault, turn_fault}
 use Rattle.clap.proofs.OnLiterals.{clap_on_literals}
-use Rattle.command_words.specs.Values.{is_flag, is_separator, values_of}
-use Rattle.command_words.proofs.Building.{built_bare, built_value, built_valued}
-use Rattle.command_words.proofs.Levels.{end_fault, fault_ends, fault_fails, fault_from, fault_passes, full_holds, full_passes, held_after, past_separator}
-use Rattle.command_words.proofs.Turns.{IsFull, surplus_fails, walk_at}
-use Rattle.command_words.proofs.Values.{one_value, values-plain, values-separator}
-use Rattle.command_words.proofs.WordKinds.{divides, stands, long, short, kind_of, plain_is}
+use Rattle.command_words.specs.Application.{first_rule}
+use Rattle.command_words.specs.Commands.{Reading, Work, bare, listed, paired, valued, values_read}
+use Rattle.command_words.specs.Values.{values_found, values_of}
+use Rattle.command_words.proofs.Building.{built_for, built_rules}
+use Rattle.command_words.proofs.Levels.{AreTexts, ComesTo, IsFlat, comes_to, fault_from, fault_steps, held_after}
+use Rattle.command_words.proofs.Turns.{Place, start, walk_of}
 
 -- why a subcommand with these words fails
 abbrev pub leaf_fault : Shape → List Text → Kinds
 leaf_fault s words = level_fault s [] nothing_held words false []
 
--- the value that was read
-abbrev pub value_found : List Row → Option Text
-value_found rows = first_of (codes "value") rows
+-- ---- one more value and one more
 
--- ---- a command without a value
+-- the row of an argument's values
+row_for : Text → List Text → Found
+row_for id values = record { id = id; values = values; count = None; source = Some CommandLine; reading = reading_by first_rule }
 
-bare_full : (name : Text) → IsFull (built_bare name) nothing_held 1
-bare_full name = record { by_index = refl; by_long = λ word. refl; by_short = λ x. refl; no_skip = refl }
+rows_for : List Text → List Found
+rows_for [] = []
+rows_for (value ∷ values) = row_for (codes "more") (value ∷ values) ∷ []
 
-pub bare_holds : (name : Text) (words : List Text) → leaf_fault (built_bare name) words ≡ []
-    → (values_of words ≡ Some []) × (value_found (rows_after [] [] words) ≡ None)
-bare_holds name words e =
-    let full = full_holds (built_bare name) nothing_held 1 words (bare_full name) e in
-    (full.0, ap (λ h. value_found (finished [] h)) full.1)
+-- behind the first two: the values seen, and the last, which is read
+collecting : Text → Text → List Text → Text → Held
+collecting a b seen last = record {
+  rows = row_for (codes "first") (a ∷ []) ∷ row_for (codes "second") (b ∷ []) ∷ rows_for seen;
+  pending = Some (codes "more", last ∷ []);
+  skip = 0;
+}
 
-pub bare_passes : (name : Text) (words : List Text) → values_of words ≡ Some [] → leaf_fault (built_bare name) words ≡ []
-unfolding clap_on_literals
-bare_passes name words e = full_passes (built_bare name) nothing_held 1 words refl e
+collecting_at : Text → Text → List Text → Text → Place
+collecting_at a b seen last = record { held = collecting a b seen last; position = 3; several = true }
 
--- ---- a command with a value
+module _ (name a b : Text) (read : Text → Text → List Text → Option Work) where
+  one_more : (seen : List Text) (last word : Text)
+      → (turn_fault (built_for name (listed read)) [] (walk_of (collecting_at a b seen last) true) word ≡ [])
+      × (walked (built_rules (listed read)) [] (walk_of (collecting_at a b seen last) true) word ≡ walk_of (collecting_at a b (seen ++ last ∷ []) word) true)
+  unfolding clap_on_literals row_for rows_for collecting collecting_at
+  one_more [] last word = (refl, refl)
+  one_more (value ∷ values) last word = (refl, refl)
 
-holding : Text → Held
-holding value = record { rows = []; pending = Some (codes "value", value ∷ []); skip = 0 }
+  last_found : (seen : List Text) (last : Text)
+      → (fault_from (built_for name (listed read)) (walk_of (collecting_at a b seen last) true) [] ≡ [])
+      × (values_found (finished (built_rules (listed read)) (collecting a b seen last)) ≡ a ∷ b ∷ seen ++ last ∷ [])
+  unfolding clap_on_literals row_for rows_for collecting collecting_at
+  last_found [] last = (refl, refl)
+  last_found (value ∷ values) last = (refl, refl)
 
-valued_full : (name value : Text) → IsFull (built_valued name) (holding value) 2
-unfolding holding
-valued_full name value = record { by_index = refl; by_long = λ word. refl; by_short = λ x. refl; no_skip = refl }
+  all_found : (seen : List Text) (last : Text) (more : List Text)
+      → (fault_from (built_for name (listed read)) (walk_of (collecting_at a b seen last) true) more ≡ [])
+      × (values_found (finished (built_rules (listed read)) (held_after (built_for name (listed read)) (walk_of (collecting_at a b seen last) true) more)) ≡ a ∷ b ∷ seen ++ last ∷ more)
+  unfolding collecting_at
+  all_found seen last [] = last_found seen last
+  all_found seen last (word ∷ more) =
+      let step = one_more seen last word in
+      let later = all_found (seen ++ last ∷ []) word more in
+      let s = built_for name (listed read) in (
+        fault_steps s (walk_of (collecting_at a b seen last) true) word more ∙ rw (step.0, step.1) later.0,
+        ap (λ w. values_found (finished (built_rules (listed read)) (held_after s w more))) step.1 ∙ later.1
+            ∙ ap (λ vs. a ∷ b ∷ vs) (append_assoc seen (last ∷ []) (word ∷ more)),
+      )
 
-holding_passes : (name value : Text) → end_fault (built_valued name) (holding value) ≡ []
-unfolding clap_on_literals holding
-holding_passes name value = refl
+-- ---- as many values as the command has
 
-holding_found : (value : Text) → value_found (finished (built_value ∷ []) (holding value)) ≡ Some value
-unfolding clap_on_literals holding
-holding_found value = refl
+-- behind `--`, where the parse passes, the values are what it found
+pub values_hold : (name : Text) (reading : Reading) (values : List Text) → fault_from (built_for name reading) (walk_of start true) values ≡ []
+    → values_found (finished (built_rules reading) (held_after (built_for name reading) (walk_of start true) values)) ≡ values
+unfolding clap_on_literals collecting_at collecting row_for rows_for
+values_hold name (bare work) [] e = refl
+values_hold name (bare work) (a ∷ more) e = cc
+values_hold name (valued read) [] e = cc
+values_hold name (valued read) (a ∷ []) e = refl
+values_hold name (valued read) (a ∷ b ∷ more) e = cc
+values_hold name (paired read) [] e = cc
+values_hold name (paired read) (a ∷ []) e = cc
+values_hold name (paired read) (a ∷ b ∷ []) e = refl
+values_hold name (paired read) (a ∷ b ∷ c ∷ more) e = cc
+values_hold name (listed read) [] e = cc
+values_hold name (listed read) (a ∷ []) e = cc
+values_hold name (listed read) (a ∷ b ∷ []) e = cc
+values_hold name (listed read) (a ∷ b ∷ c ∷ more) e = (all_found name a b read [] c more).1
 
--- the word is taken as the value
-IsTaken : (name word : Text) → Bool → Type 0
-IsTaken name word is_trailing = (turn_fault (built_valued name) [] (walk_at nothing_held 1 is_trailing) word ≡ [])
-    × (walked (built_value ∷ []) [] (walk_at nothing_held 1 is_trailing) word ≡ walk_at (holding word) 2 is_trailing)
+pub values_pass : (name : Text) (reading : Reading) (values : List Text) (work : Work) → values_read reading values ≡ Some work
+    → fault_from (built_for name reading) (walk_of start true) values ≡ []
+unfolding clap_on_literals collecting_at collecting row_for rows_for
+values_pass name (bare w) [] work r = refl
+values_pass name (bare w) (a ∷ more) work r = cc
+values_pass name (valued read) [] work r = cc
+values_pass name (valued read) (a ∷ []) work r = refl
+values_pass name (valued read) (a ∷ b ∷ more) work r = cc
+values_pass name (paired read) [] work r = cc
+values_pass name (paired read) (a ∷ []) work r = cc
+values_pass name (paired read) (a ∷ b ∷ []) work r = refl
+values_pass name (paired read) (a ∷ b ∷ c ∷ more) work r = cc
+values_pass name (listed read) [] work r = cc
+values_pass name (listed read) (a ∷ []) work r = cc
+values_pass name (listed read) (a ∷ b ∷ []) work r = cc
+values_pass name (listed read) (a ∷ b ∷ c ∷ more) work r = (all_found name a b read [] c more).0
 
-trailing_taken : (name word : Text) → IsTaken name word true
-unfolding clap_on_literals holding IsTaken
-trailing_taken name word = (refl, refl)
+-- ---- the words
 
-plain_taken : (name word : Text) → is_separator word ≡ false → long_of word ≡ None → short_of word ≡ None → IsTaken name word false
-unfolding clap_on_literals holding IsTaken
-plain_taken name word e l h = (rw (e, l, h) refl, rw (e, l, h) refl)
+flat : (reading : Reading) → IsFlat (built_rules reading)
+flat (bare work) = record { by_long = λ name. refl; by_short = λ x. refl; whole = refl }
+flat (valued read) = record { by_long = λ name. refl; by_short = λ x. refl; whole = refl }
+flat (paired read) = record { by_long = λ name. refl; by_short = λ x. refl; whole = refl }
+flat (listed read) = record { by_long = λ name. refl; by_short = λ x. refl; whole = refl }
 
--- ---- a text that begins with a hyphen is a flag
+module _ (name : Text) (reading : Reading) (words : List Text) (texts : AreTexts words) where
+  comes : ComesTo (built_for name reading) start words (values_of words)
+  comes = comes_to (built_for name reading) (flat reading) start words texts refl
 
-no_first : (xs : List ℕ) → slice_get xs 0 ≡ None → xs ≡ []
-no_first [] e = refl
-no_first (x ∷ xs) e = cc
-
-has_char : (y : ℕ) (zs : List ℕ) → IsUtf8 (45 ∷ y ∷ zs) → slice_get (chars (y ∷ zs)) 0 ≡ None → ⊥
-unfolding chars encode_utf8
-has_char y zs text none =
-    let empty : chars (y ∷ zs) ≡ [] = no_first (chars (y ∷ zs)) none in
-    let same : 45 ∷ [] ≡ 45 ∷ y ∷ zs = ap (λ cs. encode_utf8_all (45 ∷ cs)) (sym empty) ∙ encodes-chars (45 ∷ y ∷ zs) text in
-    cc
-
--- ---- the whole of a command with a value
-
--- one value was given, and it was read
-abbrev pub HasValue : List Text → List Row → Type 0
-HasValue words rows = (value : Text) × (value_found rows ≡ Some value) × (values_of words ≡ Some (value ∷ []))
-
--- where the first word was taken, nothing but the separator follows
-taken_holds : (name word : Text) (rest : List Text) → IsTaken name word false → fault_from (built_valued name) (walk_at nothing_held 1 false) (word ∷ rest) ≡ []
-    → (values_of rest ≡ Some []) × (value_found (rows_after (built_value ∷ []) [] (word ∷ rest)) ≡ Some word)
-unfolding IsTaken
-taken_holds name word rest taken e =
-    let full = full_holds (built_valued name) (holding word) 2 rest (valued_full name word)
-    (sym (fault_passes (built_valued name) (walk_at nothing_held 1 false) (walk_at (holding word) 2 false) word rest taken.0 taken.1) ∙ e) in (
-      full.0,
-      ap (λ w. value_found (finished (built_value ∷ []) (held_after (built_valued name) w rest))) taken.1
-          ∙ ap (λ h. value_found (finished (built_value ∷ []) h)) full.1 ∙ holding_found word,
-    )
-
-module _ (name word : Text) (rest : List Text) (utf8 : (value : Text) → value_found (rows_after (built_value ∷ []) [] (word ∷ rest)) ≡ Some value → IsUtf8 value)
-    (passes : fault_from (built_valued name) (walk_at nothing_held 1 false) (word ∷ rest) ≡ []) where
-  plain_holds : is_separator word ≡ false → is_flag word ≡ false → IsTaken name word false → HasValue (word ∷ rest) (rows_after (built_value ∷ []) [] (word ∷ rest))
-  plain_holds e f taken =
-      let found = taken_holds name word rest taken passes in
-      (word, found.1, values-plain word rest e f ∙ ap (option_map (λ values. word ∷ values)) found.0)
-
-  long_fails : (p : Text × Option Text) → is_separator word ≡ false → long_of word ≡ Some p → ⊥
-  unfolding clap_on_literals
-  long_fails p e l = fault_fails (built_valued name) (walk_at nothing_held 1 false) word rest (rw (e, l) (λ bad. cc)) passes
-
-  short_fails : (y : ℕ) (zs : List ℕ) → is_separator word ≡ false → long_of word ≡ None → short_of word ≡ Some (y ∷ zs) → word ≡ 45 ∷ y ∷ zs → ⊥
-  unfolding clap_on_literals IsTaken holding
-  short_fails y zs e l h is = go (slice_get (chars (y ∷ zs)) 0) refl
+  -- where the parse passes, the values of the words are what it found
+  pub leaf_holds : leaf_fault (built_for name reading) words ≡ [] → values_of words ≡ Some (values_found (rows_after (built_rules reading) [] words))
+  leaf_holds e = go (values_of words) comes
     where
-      go : (o : Option ℕ) → slice_get (chars (y ∷ zs)) 0 ≡ o → ⊥
-      go (Some x) q = fault_fails (built_valued name) (walk_at nothing_held 1 false) word rest (rw (e, l, h, q) (λ bad. cc)) passes
-      go None q =
-          let taken : IsTaken name word false = (rw (e, l, h, q) refl, rw (e, l, h, q) refl) in
-          has_char y zs (subst IsUtf8 is (utf8 word (taken_holds name word rest taken passes).1)) q
+      go : (o : Option (List Text)) → ComesTo (built_for name reading) start words o → o ≡ Some (values_found (rows_after (built_rules reading) [] words))
+      go None later = absurd (later e)
+      go (Some values) later =
+          ap (λ vs. Some vs) (sym (values_hold name reading values (sym later.0 ∙ e))
+          ∙ ap (λ h. values_found (finished (built_rules reading) h)) (sym later.1))
 
--- behind the separator
-trailing_holds : (name : Text) (word : Text) (rest : List Text) → is_separator word ≡ true → fault_from (built_valued name) (walk_at nothing_held 1 true) rest ≡ []
-    → held_after (built_valued name) (walk_at nothing_held 1 false) (word ∷ rest) ≡ held_after (built_valued name) (walk_at nothing_held 1 true) rest
-    → HasValue (word ∷ rest) (rows_after (built_value ∷ []) [] (word ∷ rest))
-unfolding clap_on_literals IsTaken
-trailing_holds name word [] is e held = cc
-trailing_holds name word (value ∷ []) is e held = (
-  value,
-  ap (λ h. value_found (finished (built_value ∷ []) h)) held
-      ∙ ap (λ w. value_found (finished (built_value ∷ []) w.held)) (trailing_taken name value).1 ∙ holding_found value,
-  values-separator word (value ∷ []) is,
-)
-trailing_holds name word (value ∷ next ∷ more) is e held =
-    let taken = trailing_taken name value in
-    absurd (fault_fails (built_valued name) (walk_at (holding value) 2 true) next more
-    (surplus_fails (built_valued name) [] (holding value) 2 next (valued_full name value))
-    (sym (fault_passes (built_valued name) (walk_at nothing_held 1 true) _ value (next ∷ more) taken.0 taken.1) ∙ e))
-
-pub valued_holds : (name : Text) (words : List Text) → ((value : Text) → value_found (rows_after (built_value ∷ []) [] words) ≡ Some value → IsUtf8 value)
-    → leaf_fault (built_valued name) words ≡ [] → HasValue words (rows_after (built_value ∷ []) [] words)
-unfolding clap_on_literals
-valued_holds name [] utf8 e = cc
-valued_holds name (word ∷ rest) utf8 e = elim (kind_of word) [
-  | divides is ↦ (
-      let past = past_separator (built_valued name) nothing_held 1 word rest is in
-      trailing_holds name word rest is (sym past.0 ∙ e) past.1)
-  | stands a f l h ↦ plain_holds name word rest utf8 e a f (plain_taken name word a l h)
-  | long a f p l ↦ absurd (long_fails name word rest utf8 e p a l)
-  | short a f l y zs h is ↦ absurd (short_fails name word rest utf8 e y zs a l h is)
-]
-
-pub valued_passes : (name : Text) (words : List Text) (value : Text) → values_of words ≡ Some (value ∷ []) → leaf_fault (built_valued name) words ≡ []
-unfolding IsTaken
-valued_passes name words value e = elim (one_value words value e) [
-  | inl (word, is, all) ↦ (
-      let taken = trailing_taken name value in
-      ap (leaf_fault (built_valued name)) all ∙ (past_separator (built_valued name) nothing_held 1 word (value ∷ []) is).0
-      ∙ fault_passes (built_valued name) (walk_at nothing_held 1 true) (walk_at (holding value) 2 true) value [] taken.0 taken.1
-      ∙ fault_ends (built_valued name) (walk_at (holding value) 2 true) ∙ holding_passes name value)
-  | inr (rest, apart, plain, all, none) ↦ (
-      let plainly = plain_is value apart plain in
-      let taken = plain_taken name value apart plainly.0 plainly.1 in
-      ap (leaf_fault (built_valued name)) all
-      ∙ fault_passes (built_valued name) (walk_at nothing_held 1 false) (walk_at (holding value) 2 false) value rest taken.0 taken.1
-      ∙ full_passes (built_valued name) (holding value) 2 rest (holding_passes name value) none)
-]
+  -- where the values of the words are the command's, the parse passes
+  pub leaf_passes : (values : List Text) (work : Work) → values_of words ≡ Some values → values_read reading values ≡ Some work → leaf_fault (built_for name reading) words ≡ []
+  leaf_passes values work e r =
+      let later : ComesTo (built_for name reading) start words (Some values) = rw e at comes in
+      later.0 ∙ values_pass name reading values work r

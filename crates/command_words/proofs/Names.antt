@@ -13,12 +13,12 @@ use Rattle.clap.specs.Faults.{built_fault, check_fault, defaults_fault, entered_
 use Rattle.clap.proofs.FaultLemmas.{stopped_fault}
 use Rattle.clap.proofs.OnLiterals.{clap_on_literals}
 use Rattle.clap.proofs.WalkLemmas.{walk_stopped}
-use Rattle.command_words.specs.Commands.{Reading, bare, valued, Row, row_of}
+use Rattle.command_words.specs.Commands.{Row, row_of}
 use Rattle.command_words.specs.Values.{is_separator}
 use Rattle.command_words.specs.Application.{application}
-use Rattle.command_words.proofs.Building.{built_for, built_row, built_top, subs_are}
+use Rattle.command_words.proofs.Building.{built_row, built_top, subs_are}
 use Rattle.command_words.proofs.Leaves.{leaf_fault}
-use Rattle.command_words.proofs.Turns.{IsFull, first_fails, first_none, next_fails, full_fails, surplus_fails, walk_at}
+use Rattle.command_words.proofs.Turns.{IsFull, first_fails, first_none, next_fails, full_fails, surplus_fails, start, walk_of}
 
 or_false : (b : Bool) → (b || false) ≡ b
 or_false true = refl
@@ -36,18 +36,7 @@ either_way (x ∷ xs) (y ∷ ys) = ap₂ ◌&&◌ (same x y) (either_way xs ys)
     same m n = grind (arith, nat_tests)
 
 answers : (row : Row) (word : Text) → answers_to word (label_of (built_row row)) ≡ bytes_eq word row.0
-answers row word = go row.0 row.1
-  where
-    go : (name : Text) (reading : Reading) → answers_to word (label_of (built_for name reading)) ≡ bytes_eq word name
-    go name (bare work) = or_false (bytes_eq name word) ∙ either_way name word
-    go name (valued read) = or_false (bytes_eq name word) ∙ either_way name word
-
-name_kept : (row : Row) → (built_row row).name ≡ row.0
-name_kept row = go row.0 row.1
-  where
-    go : (name : Text) (reading : Reading) → (built_for name reading).name ≡ name
-    go name (bare work) = refl
-    go name (valued read) = refl
+answers row word = or_false (bytes_eq row.0 word) ∙ either_way row.0 word
 
 shape_found : (table : List Row) (word : Text) → find (λ s. answers_to word (label_of s)) (map built_row table) ≡ option_map built_row (row_of table word)
 shape_found [] word = refl
@@ -68,7 +57,7 @@ name_found (row ∷ rest) word = rw (answers row word) (go (bytes_eq word row.0)
     go : (b : Bool) → subcommand_met (names_in rest) idle word ≡ option_map (λ r. r.0) (row_of rest word)
         → option_map (λ (s : Text × List Text). s.0) (cond b (Some (label_of (built_row row))) (find (answers_to word) (names_in rest)))
         ≡ option_map (λ (r : Row). r.0) (cond b (Some row) (row_of rest word))
-    go true e = ap (λ name. Some name) (name_kept row)
+    go true e = refl
     go false e = e
 
 -- the row of a name has that name
@@ -103,14 +92,14 @@ module _ (table : List Row) (word : Text) (row : Row) (found : row_of table word
   met : subcommand_met (names_in table) idle word ≡ Some word
   met = name_found table word ∙ ap (option_map (λ (r : Row). r.0)) found ∙ ap (λ name. Some name) (row_name table word row found)
 
-  entering : walked [] (names_in table) (walk_at nothing_held 1 false) word ≡ record (walk_at nothing_held 1 false) { stopped = Some (word, []) }
+  entering : walked [] (names_in table) (walk_of start false) word ≡ record (walk_of start false) { stopped = Some (word, []) }
   unfolding clap_on_literals
   entering = rw met refl
 
-  walk_is : walk [] (names_in table) nothing_held (word ∷ behind) ≡ record (walk_at nothing_held 1 false) { stopped = Some (word, behind) }
-  walk_is = ap (λ w. fold (walked [] (names_in table)) w behind) entering ∙ sym (walk_stopped [] (names_in table) (walk_at nothing_held 1 false) word [] behind)
+  walk_is : walk [] (names_in table) nothing_held (word ∷ behind) ≡ record (walk_of start false) { stopped = Some (word, behind) }
+  walk_is = ap (λ w. fold (walked [] (names_in table)) w behind) entering ∙ sym (walk_stopped [] (names_in table) (walk_of start false) word [] behind)
 
-  turn_none : turn_fault built_top (names_in table) (walk_at nothing_held 1 false) word ≡ []
+  turn_none : turn_fault built_top (names_in table) (walk_of start false) word ≡ []
   unfolding clap_on_literals
   turn_none = rw met (go (bytes_eq word (codes "help")))
     where
@@ -118,10 +107,10 @@ module _ (table : List Row) (word : Text) (row : Row) (found : row_of table word
       go true = refl
       go false = refl
 
-  walk_none : walk_fault built_top (names_in table) (walk_at nothing_held 1 false) (word ∷ behind) ≡ []
+  walk_none : walk_fault built_top (names_in table) (walk_of start false) (word ∷ behind) ≡ []
   unfolding clap_on_literals
   walk_none = ap₂ or_else turn_none (ap (λ w. walk_fault built_top (names_in table) w behind) entering
-      ∙ stopped_fault built_top (names_in table) (walk_at nothing_held 1 false) (word, []) behind)
+      ∙ stopped_fault built_top (names_in table) (walk_of start false) (word, []) behind)
 
   shape_is : find (λ s. answers_to word (label_of s)) (map built_row table) ≡ Some (built_row row)
   shape_is = shape_found table word ∙ ap (option_map built_row) found
@@ -151,14 +140,14 @@ module _ (table : List Row) (word : Text) (row : Row) (found : row_of table word
   named_rows =
       ap (λ a. subcommand_from a (word ∷ behind)) (built_is table) ∙ ap (λ (w : Walk). entered (built_app table) w.stopped) walk_is
       ∙ ap (option_map (λ s. rows_at s behind)) shape_is
-      ∙ ap (λ name. Some (name, rows_after (built_row row).rules [] behind)) (name_kept row ∙ row_name table word row found)
+      ∙ ap (λ name. Some (name, rows_after (built_row row).rules [] behind)) (row_name table word row found)
 
 -- ---- no words, and a first word that the table lacks
 
 pub nothing_entered : (table : List Row) → subcommand_of (application table) [] ≡ None
 nothing_entered table = ap (λ a. subcommand_from a []) (built_is table)
 
-no_positional : IsFull built_top nothing_held 1
+no_positional : IsFull built_top start
 no_positional = record { by_index = refl; by_long = λ name. refl; by_short = λ x. refl; no_skip = refl }
 
 module _ (table : List Row) (word : Text) (none : row_of table word ≡ None) where
@@ -166,31 +155,31 @@ module _ (table : List Row) (word : Text) (none : row_of table word ≡ None) wh
   unmet = name_found table word ∙ ap (option_map (λ (r : Row). r.0)) none
 
   -- the first word is refused, or is the separator and stands alone
-  refused : (behind : List Text) → is_separator word ≡ false → walk_fault built_top (names_in table) (walk_at nothing_held 1 false) (word ∷ behind) ≡ [] → ⊥
+  refused : (behind : List Text) → is_separator word ≡ false → walk_fault built_top (names_in table) (walk_of start false) (word ∷ behind) ≡ [] → ⊥
   unfolding clap_on_literals
-  refused behind apart = first_fails _ (walk_fault built_top (names_in table) (walked [] (names_in table) (walk_at nothing_held 1 false) word) behind)
-      (full_fails built_top (names_in table) nothing_held 1 word no_positional unmet apart)
+  refused behind apart = first_fails _ (walk_fault built_top (names_in table) (walked [] (names_in table) (walk_of start false) word) behind)
+      (full_fails built_top (names_in table) start word no_positional unmet apart refl)
 
-  separating : is_separator word ≡ true → walked [] (names_in table) (walk_at nothing_held 1 false) word ≡ walk_at nothing_held 1 true
+  separating : is_separator word ≡ true → walked [] (names_in table) (walk_of start false) word ≡ walk_of start true
   unfolding clap_on_literals
   separating is = rw (unmet, is) refl
 
   surplus : (next : Text) (more : List Text) → is_separator word ≡ true
-      → walk_fault built_top (names_in table) (walk_at nothing_held 1 false) (word ∷ next ∷ more) ≡ [] → ⊥
+      → walk_fault built_top (names_in table) (walk_of start false) (word ∷ next ∷ more) ≡ [] → ⊥
   unfolding clap_on_literals
   surplus next more is =
-      rw (separating is) (next_fails (turn_fault built_top (names_in table) (walk_at nothing_held 1 false) word) _
-      (first_fails _ (walk_fault built_top (names_in table) (walked [] (names_in table) (walk_at nothing_held 1 true) next) more)
-      (surplus_fails built_top (names_in table) nothing_held 1 next no_positional)))
+      rw (separating is) (next_fails (turn_fault built_top (names_in table) (walk_of start false) word) _
+      (first_fails _ (walk_fault built_top (names_in table) (walked [] (names_in table) (walk_of start true) next) more)
+      (surplus_fails built_top (names_in table) start next no_positional)))
 
   walk_passes : (behind : List Text) → fault_of (application table) (word ∷ behind) ≡ []
-      → walk_fault built_top (names_in table) (walk_at nothing_held 1 false) (word ∷ behind) ≡ []
+      → walk_fault built_top (names_in table) (walk_of start false) (word ∷ behind) ≡ []
   walk_passes behind e = first_none _ _ (sym (ap (λ a. built_fault a nothing_held (word ∷ behind)) (built_is table)) ∙ e)
 
   pub unnamed_entered : (behind : List Text) → fault_of (application table) (word ∷ behind) ≡ [] → subcommand_of (application table) (word ∷ behind) ≡ None
   unnamed_entered behind e = go (is_separator word) refl behind (walk_passes behind e)
     where
-      go : (b : Bool) → is_separator word ≡ b → (behind : List Text) → walk_fault built_top (names_in table) (walk_at nothing_held 1 false) (word ∷ behind) ≡ []
+      go : (b : Bool) → is_separator word ≡ b → (behind : List Text) → walk_fault built_top (names_in table) (walk_of start false) (word ∷ behind) ≡ []
           → subcommand_of (application table) (word ∷ behind) ≡ None
       go false apart behind e = absurd (refused behind apart e)
       go true is [] e = ap (λ a. subcommand_from a (word ∷ [])) (built_is table) ∙ ap (λ (w : Walk). entered (built_app table) w.stopped) (separating is)

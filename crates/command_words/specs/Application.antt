@@ -1,23 +1,39 @@
--- The application as clap is told it: one subcommand for each row of the table, with a value where the row has one.
-use Rattle.std.specs.Prelude.{ℕ, true, false, List, [], ◌∷◌, map, codes}
+-- The application as clap is told it: one subcommand for each row of the table, with the values that the row has.
+use Rattle.std.specs.Prelude.{ℕ, true, false, List, [], ◌∷◌, Some, map, codes}
+use Rattle.clap.specs.declared.builder.action.ArgAction.TheVariants.{Append}
 use Rattle.clap.specs.Walk.{Rule}
 use Rattle.clap.specs.Simple.{App, Shape, new_rule, new_shape}
-use Rattle.command_words.specs.Commands.{Reading, bare, valued, Row}
+use Rattle.command_words.specs.Commands.{Reading, bare, valued, paired, listed, Row}
 
--- the value of a command that has one
-abbrev pub value_rule : Rule
-value_rule = record (new_rule (codes "value")) { required = true }
+-- a value that is wanted, and one or more such
+abbrev pub wanted : List ℕ → Rule
+wanted id = record (new_rule id) { required = true }
 
--- a subcommand with a value
-abbrev pub value_shape : List ℕ → Shape
-value_shape name = record (new_shape name) { rules = value_rule ∷ [] }
+abbrev pub wanted_each : List ℕ → Rule
+wanted_each id = record (wanted id) { action = Some Append }
 
-abbrev pub shape_for : List ℕ → Reading → Shape
-shape_for name (bare work) = new_shape name
-shape_for name (valued read) = value_shape name
+-- the first value of a command, its second, and those behind them
+abbrev pub first_rule : Rule
+first_rule = wanted (codes "first")
+
+abbrev pub second_rule : Rule
+second_rule = wanted (codes "second")
+
+abbrev pub more_rule : Rule
+more_rule = wanted_each (codes "more")
+
+abbrev pub rules_for : Reading → List Rule
+rules_for (bare work) = []
+rules_for (valued read) = first_rule ∷ []
+rules_for (paired read) = first_rule ∷ second_rule ∷ []
+rules_for (listed read) = first_rule ∷ second_rule ∷ more_rule ∷ []
+
+-- a subcommand with these values
+abbrev pub shape_with : List ℕ → List Rule → Shape
+shape_with name rules = record (new_shape name) { rules = rules }
 
 abbrev pub shape_of_row : Row → Shape
-shape_of_row row = shape_for row.0 row.1
+shape_of_row row = shape_with row.0 (rules_for row.1)
 
 -- words without the program's name, and no help
 abbrev pub top_shape : Shape

@@ -1,9 +1,10 @@
 -- What the words of a command say.
-use Rattle.std.specs.Prelude.{ℕ, nat_le, List, [], ◌∷◌, Option, Some, None, option_map, option_and_then, codes, find, if◌then◌else◌}
+use Rattle.std.specs.Prelude.{ℕ, ◌&&◌, nat_le, List, [], ◌∷◌, Option, Some, None, option_map, option_and_then, codes, find, if◌then◌else◌}
 use Rattle.std.specs.Str.{bytes_eq}
 use Rattle.dr_base.specs.declared.limits.TheConstants.{INBOX_LIMIT, OUTBOX_LIMIT}
 use Rattle.dr_base.specs.declared.position.Side.{Side}
 use Rattle.dr_base.specs.declared.position.Side.TheVariants.{First, Second}
+use Rattle.command_words.specs.declared.limits.TheConstants.{PORT_LIMIT, CONNECTION_LIMIT, ROUND_LIMIT}
 use Rattle.command_words.specs.Numbers.{number_read}
 use Rattle.command_words.specs.Values.{values_of}
 
@@ -17,7 +18,10 @@ pub data Work : Type 0 where
   drops_sent : ℕ → Work
   shows_outbox : Work
   shows_state : Work
+  syncs : List ℕ → Work
+  serves : ℕ → ℕ → List (List ℕ) → Work
   plays : Work
+  plays_made : ℕ → ℕ → Work
 
 -- `first` or `second`
 unfoldable pub side_read : List ℕ → Option Side
@@ -29,10 +33,25 @@ side_read word =
 unfoldable pub amount_read : ℕ → List ℕ → Option ℕ
 amount_read most word = option_and_then (λ n. if nat_le n most then Some n else None) (number_read word)
 
--- a command without a value, or one whose value is read so
+-- a number from 1 to `most`
+unfoldable pub count_read : ℕ → List ℕ → Option ℕ
+count_read most word = option_and_then (λ n. if nat_le 1 n && nat_le n most then Some n else None) (number_read word)
+
+-- a port, a number of connections, and boxes
+unfoldable pub relay_read : List ℕ → List ℕ → List (List ℕ) → Option Work
+relay_read port count boxes =
+    option_and_then (λ p. option_map (λ c. serves p c boxes) (count_read CONNECTION_LIMIT count)) (count_read PORT_LIMIT port)
+
+-- a number of rounds, and the number that the script is made from
+unfoldable pub made_read : List ℕ → List ℕ → Option Work
+made_read rounds number = option_and_then (λ r. option_map (plays_made r) (number_read number)) (count_read ROUND_LIMIT rounds)
+
+-- a command without a value, with one, with two, or with two and one or more behind them, which are read so
 pub data Reading : Type 0 where
   bare : Work → Reading
   valued : (List ℕ → Option Work) → Reading
+  paired : (List ℕ → List ℕ → Option Work) → Reading
+  listed : (List ℕ → List ℕ → List (List ℕ) → Option Work) → Reading
 
 -- a command's name, and how what follows it is read
 abbrev pub Row : Type 0
@@ -48,7 +67,10 @@ rows =
     ∷ (codes "sent", valued (λ word. option_map drops_sent (amount_read OUTBOX_LIMIT word)))
     ∷ (codes "outbox", bare shows_outbox)
     ∷ (codes "state", bare shows_state)
+    ∷ (codes "sync", valued (λ word. Some (syncs word)))
+    ∷ (codes "relay", listed relay_read)
     ∷ (codes "duet", bare plays)
+    ∷ (codes "duet-make", paired made_read)
     ∷ []
 
 -- exactly as many values as the command has
@@ -58,6 +80,14 @@ values_read (bare work) (value ∷ more) = None
 values_read (valued read) [] = None
 values_read (valued read) (value ∷ []) = read value
 values_read (valued read) (value ∷ next ∷ more) = None
+values_read (paired read) [] = None
+values_read (paired read) (value ∷ []) = None
+values_read (paired read) (value ∷ next ∷ []) = read value next
+values_read (paired read) (value ∷ next ∷ third ∷ more) = None
+values_read (listed read) [] = None
+values_read (listed read) (value ∷ []) = None
+values_read (listed read) (value ∷ next ∷ []) = None
+values_read (listed read) (value ∷ next ∷ third ∷ more) = read value next (third ∷ more)
 
 -- the row of a name
 abbrev pub row_of : List Row → List ℕ → Option Row

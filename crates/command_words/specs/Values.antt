@@ -1,7 +1,9 @@
 -- The words behind a command's name, as its values.
-use Rattle.std.specs.Prelude.{◌==◌, ◌++◌, ℕ, Bool, false, List, [], ◌∷◌, Option, Some, None, codes, if◌then◌else◌}
+use Rattle.std.specs.Prelude.{◌==◌, ◌++◌, ℕ, Bool, false, List, [], ◌∷◌, Option, Some, None, codes, unwrap_or, if◌then◌else◌}
 use Rattle.std.specs.List.{list_any, before_first, after_first}
+use Rattle.std.specs.Option.{option_to_list}
 use Rattle.std.specs.Str.{bytes_eq}
+use Rattle.clap.specs.Walk.{Row, all_of, first_of}
 
 abbrev pub is_separator : List ℕ → Bool
 is_separator word = bytes_eq word (codes "--")
@@ -17,3 +19,7 @@ unfoldable pub values_of : List (List ℕ) → Option (List (List ℕ))
 values_of words =
     if list_any is_flag (before_first is_separator words) then None
     else Some (before_first is_separator words ++ after_first is_separator words)
+
+-- the values that clap found, by the names that the application gives them
+abbrev pub values_found : List Row → List (List ℕ)
+values_found rows = option_to_list (first_of (codes "first") rows) ++ option_to_list (first_of (codes "second") rows) ++ unwrap_or (all_of (codes "more") rows) []

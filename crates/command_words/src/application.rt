@@ -1,11 +1,12 @@
-//! The application as clap knows it: one level of subcommands, of which some have a value.
+//! The application as clap knows it: one level of subcommands, with their values.
 
-ghost use Rattle.std.specs.Prelude.{◌≡◌, IfOk};
-ghost use Rattle.clap.specs.Simple.{app_of, with_subcommand, new_shape};
-ghost use Rattle.command_words.specs.Application.{application, empty_application, value_shape};
+ghost use Rattle.std.specs.Prelude.{◌≡◌, [], ◌∷◌, false, IfOk};
+ghost use Rattle.clap.specs.Simple.{app_of, with_rule, with_subcommand};
+ghost use Rattle.clap.specs.declared.builder.command.Command.TheViews.{out-Command as fields_of};
+ghost use Rattle.command_words.specs.Application.{application, empty_application, first_rule, second_rule, more_rule, shape_with, wanted, wanted_each};
 ghost use Rattle.command_words.specs.Commands.{rows};
 
-use clap::{Arg, Command};
+use clap::{Arg, ArgAction, Command};
 use std::alloc::{AllocError, Global};
 
 /// The application with one more subcommand, which has no value.
@@ -14,9 +15,32 @@ fn with_bare<'a>(
     application: Command<'a>,
     name: &'a str,
 ) -> Result<Command<'a>, AllocError>
-    ensures { IfOk result (λ wider. app_of wider ≡ with_subcommand (app_of application.entry) (new_shape name.now)) }
+    ensures { IfOk result (λ wider. app_of wider ≡ with_subcommand (app_of application.entry) (shape_with name.now [])) }
 {
     application.subcommand(Command::new(alloc, name))
+}
+
+/// A command with one more value, which is wanted.
+fn wanting<'a>(alloc: Global, command: Command<'a>, id: &'a str) -> Result<Command<'a>, AllocError>
+    requires { (fields_of command).has_globals ≡ false }
+    ensures shape { IfOk result (λ wider. app_of wider ≡ with_rule (app_of command.entry) (wanted id.now)) }
+    ensures local { IfOk result (λ wider. (fields_of wider).has_globals ≡ false) }
+{
+    command.arg(Arg::new(alloc, id).required(true))
+}
+
+/// A command with one or more values behind those that it has.
+fn wanting_more<'a>(
+    alloc: Global,
+    command: Command<'a>,
+    id: &'a str,
+) -> Result<Command<'a>, AllocError>
+    requires { (fields_of command).has_globals ≡ false }
+    ensures shape { IfOk result (λ wider. app_of wider ≡ with_rule (app_of command.entry) (wanted_each id.now)) }
+    ensures local { IfOk result (λ wider. (fields_of wider).has_globals ≡ false) }
+{
+    let more = Arg::new(alloc, id).required(true).action(ArgAction::Append);
+    command.arg(more)
 }
 
 /// The application with one more subcommand, which has a value.
@@ -25,10 +49,37 @@ fn with_valued<'a>(
     application: Command<'a>,
     name: &'a str,
 ) -> Result<Command<'a>, AllocError>
-    ensures { IfOk result (λ wider. app_of wider ≡ with_subcommand (app_of application.entry) (value_shape name.now)) }
+    ensures { IfOk result (λ wider. app_of wider ≡ with_subcommand (app_of application.entry) (shape_with name.now (first_rule ∷ []))) }
 {
-    let value = Arg::new(alloc, "value").required(true);
-    application.subcommand(Command::new(alloc, name).arg(value)?)
+    let one = wanting(alloc, Command::new(alloc, name), "first")?;
+    application.subcommand(one)
+}
+
+/// The application with one more subcommand, which has two values.
+fn with_paired<'a>(
+    alloc: Global,
+    application: Command<'a>,
+    name: &'a str,
+) -> Result<Command<'a>, AllocError>
+    ensures { IfOk result (λ wider. app_of wider ≡ with_subcommand (app_of application.entry) (shape_with name.now (first_rule ∷ second_rule ∷ []))) }
+{
+    let one = wanting(alloc, Command::new(alloc, name), "first")?;
+    let two = wanting(alloc, one, "second")?;
+    application.subcommand(two)
+}
+
+/// The application with one more subcommand, which has two values, and one or more behind them.
+fn with_listed<'a>(
+    alloc: Global,
+    application: Command<'a>,
+    name: &'a str,
+) -> Result<Command<'a>, AllocError>
+    ensures { IfOk result (λ wider. app_of wider ≡ with_subcommand (app_of application.entry) (shape_with name.now (first_rule ∷ second_rule ∷ more_rule ∷ []))) }
+{
+    let one = wanting(alloc, Command::new(alloc, name), "first")?;
+    let two = wanting(alloc, one, "second")?;
+    let more = wanting_more(alloc, two, "more")?;
+    application.subcommand(more)
 }
 
 /// The application, without subcommands. It has no help of its own.
@@ -54,5 +105,8 @@ pub fn application<'a>(alloc: Global) -> Result<Command<'a>, AllocError>
     let command = with_valued(alloc, command, "sent")?;
     let command = with_bare(alloc, command, "outbox")?;
     let command = with_bare(alloc, command, "state")?;
-    with_bare(alloc, command, "duet")
+    let command = with_valued(alloc, command, "sync")?;
+    let command = with_listed(alloc, command, "relay")?;
+    let command = with_bare(alloc, command, "duet")?;
+    with_paired(alloc, command, "duet-make")
 }

@@ -2,8 +2,8 @@
 
 use dr_base::Side;
 
-/// A command, with its value.
-#[derive(Clone, Copy, PartialEq, Eq)]
+/// A command, with its values.
+#[derive(PartialEq, Eq, Drop)]
 pub enum Command<'a> {
     /// A session of this side begins.
     Begin(Side),
@@ -21,6 +21,19 @@ pub enum Command<'a> {
     Outbox,
     /// The side shows what it holds, in numbers.
     State,
+    /// The side's boxes and those of the relay at this address are brought together.
+    Sync(&'a str),
+    /// A relay serves so many connections at a port, with these boxes, in order.
+    Relay {
+        port: u16,
+        count: u32,
+        boxes: Vec<&'a str>,
+    },
     /// A script plays both sides.
     Duet,
+    /// A script of so many rounds, made from a number, plays both sides.
+    DuetMake {
+        rounds: u32,
+        number: u64,
+    },
 }

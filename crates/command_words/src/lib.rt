@@ -14,10 +14,12 @@
 #![tactic(auto)]
 
 pub use command::Command;
+pub use limits::{CONNECTION_LIMIT, PORT_LIMIT, ROUND_LIMIT};
 pub use words::parse;
 
 mod application;
 mod command;
+mod limits;
 mod named;
 #[cfg(test)]
 mod tests;

@@ -1,15 +1,17 @@
-//! The command of a name and of the value behind it.
+//! The command of a name and of the values behind it.
 
-ghost use Rattle.std.specs.Prelude.{◌≡◌, ◌<◌, ◌^◌, [], ◌∷◌, IfSome, option_map};
-ghost use Rattle.std.specs.Option.{option_to_list};
-ghost use Rattle.std.specs.Str.{IsUtf8};
+ghost use Rattle.std.specs.Prelude.{◌≡◌, ◌<◌, ◌^◌, ℕ, List, [], ◌∷◌, IfOk, option_map};
+ghost use Rattle.clap.specs.Walk.{texts};
 ghost use Rattle.dr_base.specs.declared.limits.TheConstants.{INBOX_LIMIT, OUTBOX_LIMIT};
-ghost use Rattle.command_words.specs.Commands.{amount_read, command_named, rows, side_read};
+ghost use Rattle.command_words.specs.declared.limits.TheConstants.{CONNECTION_LIMIT, PORT_LIMIT, ROUND_LIMIT};
+ghost use Rattle.command_words.specs.Commands.{amount_read, command_named, count_read, made_read, relay_read, rows, side_read};
 ghost use Rattle.command_words.specs.Numbers.{number_read};
 ghost use Rattle.command_words.specs.Seen.{work_of};
 
 use crate::command::Command;
+use crate::limits::{CONNECTION_LIMIT, PORT_LIMIT, ROUND_LIMIT};
 use dr_base::{INBOX_LIMIT, OUTBOX_LIMIT, Side};
+use std::alloc::{AllocError, Global};
 
 /// The side that a word names.
 #[tactic(auto, unfolding(crate::specs::Commands::side_read))]
@@ -47,6 +49,62 @@ fn amount_of(most: usize, word: &str) -> Option<u32>
     }
 }
 
+/// The number from 1 to `most` that a word says.
+#[tactic(auto, unfolding(crate::specs::Commands::count_read))]
+fn count_of(most: u32, word: &str) -> Option<u32>
+    ensures { result ≡ count_read most word.now }
+{
+    let number = number_of(word)?;
+    if number >= 1 && number <= u64::from(most) {
+        Some(number as u32)
+    } else {
+        None
+    }
+}
+
+/// The port that a word says.
+#[tactic(auto, unfolding(crate::specs::Commands::count_read))]
+fn port_of(word: &str) -> Option<u16>
+    ensures { result ≡ count_read PORT_LIMIT word.now }
+{
+    let number = number_of(word)?;
+    if number >= 1 && number <= u64::from(PORT_LIMIT) {
+        Some(number as u16)
+    } else {
+        None
+    }
+}
+
+/// The relay that two words and the boxes behind them say.
+#[tactic(auto, unfolding(crate::specs::Commands::relay_read))]
+fn relay_of<'a>(
+    alloc: Global,
+    port: &str,
+    count: &str,
+    boxes: &[&'a str],
+) -> Result<Option<Command<'a>>, AllocError>
+    ensures { IfOk result (λ found. option_map work_of found ≡ relay_read port.now count.now (texts boxes.now)) }
+{
+    let Some(port) = port_of(port) else {
+        return Ok(None);
+    };
+    let Some(count) = count_of(CONNECTION_LIMIT, count) else {
+        return Ok(None);
+    };
+    let boxes = Vec::from_slice(alloc, boxes)?;
+    Ok(Some(Command::Relay { port, count, boxes }))
+}
+
+/// The made script that two words say.
+#[tactic(auto, unfolding(crate::specs::Commands::made_read))]
+fn made_of<'a>(rounds: &str, number: &str) -> Option<Command<'a>>
+    ensures { option_map work_of result ≡ made_read rounds.now number.now }
+{
+    let rounds = count_of(ROUND_LIMIT, rounds)?;
+    let number = number_of(number)?;
+    Some(Command::DuetMake { rounds, number })
+}
+
 /// The command of a name without a value.
 fn without_value<'a>(name: &str) -> Option<Command<'a>>
     ensures { option_map work_of result ≡ command_named rows name.now [] }
@@ -63,25 +121,57 @@ fn without_value<'a>(name: &str) -> Option<Command<'a>>
 
 /// The command of a name with this value.
 fn with_value<'a>(name: &str, value: &'a str) -> Option<Command<'a>>
-    ensures read { option_map work_of result ≡ command_named rows name.now (value.entry.now ∷ []) }
-    ensures text { IsUtf8 value.entry.now }
+    ensures { option_map work_of result ≡ command_named rows name.now (value.entry.now ∷ []) }
 {
     match name {
         "begin" => Some(Command::Begin(side_of(value)?)),
         "say" => Some(Command::Say(value)),
         "done" => Some(Command::Done(amount_of(INBOX_LIMIT, value)?)),
         "sent" => Some(Command::Sent(amount_of(OUTBOX_LIMIT, value)?)),
+        "sync" => Some(Command::Sync(value)),
         _ => None,
     }
 }
 
-/// The command of a name with the value that was given, if one was.
-pub fn command_named<'a>(name: &str, value: Option<&'a str>) -> Option<Command<'a>>
-    ensures read { option_map work_of result ≡ command_named rows name.now (option_to_list (option_map (λ s. s.now) value.entry)) }
-    ensures text { IfSome value.entry (λ s. IsUtf8 s.now) }
+/// The command of a name with these two values.
+fn with_two<'a>(name: &str, first: &str, second: &str) -> Option<Command<'a>>
+    ensures { option_map work_of result ≡ command_named rows name.now (first.now ∷ second.now ∷ []) }
 {
-    match value {
-        Some(text) => with_value(name, text),
-        None => without_value(name),
+    match name {
+        "duet-make" => made_of(first, second),
+        _ => None,
+    }
+}
+
+/// The command of a name with two values, and more behind them.
+fn with_more<'a>(
+    alloc: Global,
+    name: &str,
+    first: &str,
+    second: &str,
+    more: &[&'a str],
+) -> Result<Option<Command<'a>>, AllocError>
+    ensures { (third : List ℕ) (others : List (List ℕ)) → texts more.now ≡ third ∷ others
+        → IfOk result (λ found. option_map work_of found ≡ command_named rows name.now (first.now ∷ second.now ∷ third ∷ others)) }
+{
+    match name {
+        "relay" => relay_of(alloc, first, second, more),
+        _ => Ok(None),
+    }
+}
+
+/// The command of a name with the values that were given. Its only error is want of memory.
+pub fn command_named<'a>(
+    alloc: Global,
+    name: &str,
+    values: &[&'a str],
+) -> Result<Option<Command<'a>>, AllocError>
+    ensures { IfOk result (λ found. option_map work_of found ≡ command_named rows name.now (texts values.now)) }
+{
+    match values {
+        [] => Ok(without_value(name)),
+        [value] => Ok(with_value(name, value)),
+        [first, second] => Ok(with_two(name, first, second)),
+        [first, second, more @ ..] => with_more(alloc, name, first, second, more),
     }
 }

@@ -21,6 +21,11 @@ fn are(alloc: Global, line: &str, expected: Option<Command<'_>>) -> Result<bool,
     Ok(found == expected)
 }
 
+/// The command that plays a made script.
+fn made<'a>(rounds: u32, number: u64) -> Command<'a> {
+    Command::DuetMake { rounds, number }
+}
+
 #[test]
 fn words_are_commands(rt: HostRuntime) -> Result<(), Fail> {
     let alloc = rt.alloc();
@@ -47,10 +52,37 @@ fn words_are_commands(rt: HostRuntime) -> Result<(), Fail> {
         ("sent|32", Command::Sent(32)),
         ("outbox", Command::Outbox),
         ("state", Command::State),
+        ("sync|127.0.0.1:4000", Command::Sync("127.0.0.1:4000")),
+        ("sync|--|-a", Command::Sync("-a")),
         ("duet", Command::Duet),
+        ("duet-make|1|0", made(1, 0)),
+        ("duet-make|1000|18446744073709551615", made(1000, u64::MAX)),
+        ("duet-make|--|+7|007", made(7, 7)),
     ];
     for (line, command) in commands {
         assert!(rt; are(alloc, line, Some(command))?, "{line}");
+    }
+    Ok(())
+}
+
+#[test]
+fn words_are_relays(rt: HostRuntime) -> Result<(), Fail> {
+    let alloc = rt.alloc();
+    let relays = [
+        ("relay|65535|1000000|a", 65_535, 1_000_000, "a"),
+        ("relay|+4000|007|a|b|c", 4000, 7, "a|b|c"),
+        ("relay|4000|1||a||", 4000, 1, "|a||"),
+        ("relay|4000|1|a|--|-b|--", 4000, 1, "a|-b|--"),
+        ("relay|--|4000|1|--|a", 4000, 1, "--|a"),
+    ];
+    for (line, port, count, names) in relays {
+        let names = words_of(alloc, names)?;
+        let mut boxes = Vec::new(alloc);
+        for name in names.iter() {
+            boxes.push(name.as_str())?;
+        }
+        let relay = Command::Relay { port, count, boxes };
+        assert!(rt; are(alloc, line, Some(relay))?, "{line}");
     }
     Ok(())
 }
@@ -95,7 +127,18 @@ fn other_words_are_none(rt: HostRuntime) -> Result<(), Fail> {
         "done|0x5",
         "done|18446744073709551680",
         "sent|33",
+        "sync",
         "duet|x",
+        "duet-make",
+        "duet-make|0|1",
+        "duet-make|1001|1",
+        "duet-make|1|18446744073709551616",
+        "relay|4000|1",
+        "relay|0|1|a",
+        "relay|65536|1|a",
+        "relay|4000|0|a",
+        "relay|4000|1000001|a",
+        "relay|4000|1|a|-b",
     ];
     for line in lines {
         assert!(rt; are(alloc, line, None)?, "{line}");

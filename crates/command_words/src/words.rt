@@ -1,15 +1,18 @@
 //! Words as a command.
 
-ghost use Rattle.std.specs.Prelude.{◌≡◌, ◌↔◌, IfOk, IsTrue, map, option_map, string_bytes};
+ghost use Rattle.std.specs.Prelude.{◌≡◌, ◌↔◌, [], ◌++◌, IfOk, OnOk, IsTrue, map, option_map, option_to_list, string_bytes, unwrap_or};
+ghost use Rattle.clap.specs.Matches.{found_of};
 ghost use Rattle.clap.specs.Values.{kind_of};
+ghost use Rattle.clap.specs.Walk.{rows_of, texts};
 ghost use Rattle.command_words.specs.Commands.{command_of};
 ghost use Rattle.command_words.specs.Seen.{work_of};
+ghost use Rattle.command_words.specs.Values.{values_found};
 
 use crate::application::application;
 use crate::command::Command;
 use crate::named;
-use clap::Error;
 use clap::error::ErrorKind;
+use clap::{ArgMatches, Error};
 use std::alloc::{AllocError, Global};
 
 /// Whether a parse failed for want of memory.
@@ -20,6 +23,37 @@ fn is_memory(error: &Error) -> bool
         ErrorKind::OutOfMemory => true,
         _ => false,
     }
+}
+
+/// Puts a value behind those that stand, if one was given.
+fn push_one<'a>(values: &mut Vec<&'a str>, value: Option<&'a str>) -> Result<(), AllocError>
+    ensures { OnOk result (texts values.new.items ≡ texts values.old.items ++ option_to_list (option_map (λ word. word.now) value.entry)) }
+{
+    if let Some(word) = value {
+        values.push(word)?;
+    }
+    Ok(())
+}
+
+/// Puts values behind those that stand, if some were given.
+fn push_more<'a>(values: &mut Vec<&'a str>, more: Option<&[&'a str]>) -> Result<(), AllocError>
+    ensures { OnOk result (texts values.new.items ≡ texts values.old.items ++ unwrap_or (option_map (λ words. texts words.now) more.entry) []) }
+{
+    if let Some(words) = more {
+        values.extend_from_slice(words)?;
+    }
+    Ok(())
+}
+
+/// The values that a parse found, in order.
+fn values_given<'a>(alloc: Global, given: &ArgMatches<'a>) -> Result<Vec<&'a str>, AllocError>
+    ensures { IfOk result (λ values. texts values.items ≡ values_found (rows_of (found_of given.now))) }
+{
+    let mut values = Vec::new(alloc);
+    push_one(&mut values, given.get_str("first"))?;
+    push_one(&mut values, given.get_str("second"))?;
+    push_more(&mut values, given.get_strs("more"))?;
+    Ok(values)
 }
 
 /// The command that the words are, which are the program's arguments behind its name, or none. Want of memory is told
@@ -37,7 +71,10 @@ pub fn parse<'a>(alloc: Global, words: &'a [String]) -> Result<Option<Command<'a
         }
     };
     match matches.subcommand() {
-        Some((name, given)) => Ok(named::command_named(name, given.get_str("value"))),
+        Some((name, given)) => {
+            let values = values_given(alloc, given)?;
+            named::command_named(alloc, name, values.as_slice())
+        }
         None => Ok(None),
     }
 }

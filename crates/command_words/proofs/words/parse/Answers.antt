@@ -1,19 +1,22 @@
-use Rattle.std.proofs.Common.{◌∙◌, sym, string_bytes, map, true≢false}
-use Rattle.std.specs.Option.{option_map}
+use Rattle.std.proofs.Common.{◌∙◌, ap, string_bytes, map, sym, true≢false}
 use Rattle.clap.specs.Simple.{app_of}
-use Rattle.command_words.proofs.Answering.{answered, failed, text_is, unanswered}
+use Rattle.std.proofs.lemmas.Result.{IfOk-weaker}
+use Rattle.clap.specs.Walk.{texts}
+use Rattle.command_words.proofs.Answering.{answered, are_texts, failed, unanswered}
 use Rattle.command_words.proofs.words.parse.Goals as goal
 
 pub returns-in-Err : goal.returns-in-Err
-returns-in-Err c = failed (app_of c.in_ok-application.field-0) (map string_bytes c.args.words.now) c.in_ok-application.ensures c.in-Err.error
+returns-in-Err c = failed (app_of c.in_ok-application.field-0) (map string_bytes c.args.words.now) (are_texts c.args.words.now) c.in_ok-application.ensures c.in-Err.error
     c.in-Err.ensures.kinds (λ memory. true≢false (sym (c.if-is_memory.ensures.1 memory)))
 
 pub returns-in-Some : goal.returns-in-Some
-returns-in-Some c = c.command_named.ensures.read
-    ∙ answered (app_of c.in_ok-application.field-0) (map string_bytes c.args.words.now) c.in_ok-application.ensures c.in-Ok.matches
-    c.in-Ok.ensures.kinds c.in-Ok.ensures.matches c.in-Some.given.now c.in-Some.name.now (option_map (λ s. s.now) c.get_str.result)
-    c.in-Some.ensures.name c.in-Some.ensures.rows c.get_str.ensures (text_is c.get_str.result c.command_named.ensures.text)
+returns-in-Some c =
+    let values = ap texts c.as_slice.ensures.value ∙ c.in_ok-values-in-Some.ensures in
+    IfOk-weaker c.command_named.result _ _ (λ found read. read
+    ∙ answered (app_of c.in_ok-application.field-0) (map string_bytes c.args.words.now) (are_texts c.args.words.now) c.in_ok-application.ensures c.in-Ok.matches
+    c.in-Ok.ensures.kinds c.in-Ok.ensures.matches c.in-Some.given.now c.in-Some.name.now (texts c.as_slice.result.now)
+    c.in-Some.ensures.name c.in-Some.ensures.rows values) c.command_named.ensures
 
 pub returns : goal.returns
-returns c = unanswered (app_of c.in_ok-application.field-0) (map string_bytes c.args.words.now) c.in_ok-application.ensures c.in-Ok.matches
+returns c = unanswered (app_of c.in_ok-application.field-0) (map string_bytes c.args.words.now) (are_texts c.args.words.now) c.in_ok-application.ensures c.in-Ok.matches
     c.in-Ok.ensures.kinds c.in-Ok.ensures.matches c.in-None.ensures.rows
