@@ -1,10 +1,15 @@
+pub mod Acted
 pub mod Beginning
+pub mod Blank
 pub mod Digits
 pub mod Finding
 pub mod Following
 pub mod Hex
+pub mod Packets
 pub mod PlayedLines
 pub mod PrintedLines
+pub mod ScriptLines
+pub mod Making
 pub mod Reading
 pub mod Seeds
 pub mod Showing

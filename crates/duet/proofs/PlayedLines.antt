@@ -70,14 +70,14 @@ pub record IsPlaying (k : Mechanism) (script : Scripted) (left : List Event) (du
   pub few : duet.room < 2 ^ 32 - 1
   pub posts : length duet.sides.posts ≤ length events
   pub draws : duet.sides.draws.made ≤ length events
-  pub counts : tally ≡ counted_by (step_on k) (beginning k script) opening_tally events
+  pub counts : tally ≡ counted_by (step_on k) (beginning k script) (opening_tally script.rounds) events
   pub below : IsBelow (length events + 1) tally
   pub written : taken ≡ appended told (lines_by (step_on k) (beginning k script) events)
   pub quiet : now ≡ before
 
 -- before the first
 pub plays_first : (k : Mechanism) (script : Scripted) (left : List Event) (duet : DuetNow) (tally : Tally) (told : Option (List ℕ)) (before room : ℕ)
-    → left ≡ script.events → room ≡ length script.events → duet ≡ opening_duet k script.key room → room < 2 ^ 32 - 1 → tally ≡ opening_tally
+    → left ≡ script.events → room ≡ length script.events → duet ≡ opening_duet k script.key room → room < 2 ^ 32 - 1 → tally ≡ opening_tally script.rounds
     → IsPlaying k script left duet tally told told before before
 unfolding after_by counted_by
 plays_first k script left duet tally told before room all rooms begins few none = record {
@@ -117,7 +117,7 @@ plays_on k script left rest event duet next tally more told taken new before now
       counts = counts
           ∙ ap (λ (s : Sides). counted_of (acting_side event) (step_on k s event).answer tally) p.stands
           ∙ ap (counted_of (acting_side event) (step_on k (after_by (step_on k) start p.events) event).answer) p.counts
-          ∙ sym (counted_by-push (step_on k) start opening_tally p.events event);
+          ∙ sym (counted_by-push (step_on k) start (opening_tally script.rounds) p.events event);
       below = subst (IsBelow _) (sym counts)
           (wider _ _ _ (omega (arith, size)) (one_more (length p.events + 1) (acting_side event) (step_on k duet.sides event).answer tally p.below));
       written = wrote_more k told taken new start p.events (p.events ++ event ∷ []) event duet.sides wrote refl p.stands p.written;
@@ -148,4 +148,4 @@ tallies_last k script left duet tally told taken before now p none =
     let whole : script.events ≡ p.events = p.all ∙ ap (λ es. p.events ++ es) none ∙ append-nil p.events in
     ap (λ (s : Sides). both_reached s tally) p.stands
     ∙ ap (both_reached (after_by (step_on k) (beginning k script) p.events)) p.counts
-    ∙ ap (λ es. both_reached (after_by (step_on k) (beginning k script) es) (counted_by (step_on k) (beginning k script) opening_tally es)) (sym whole)
+    ∙ ap (λ es. both_reached (after_by (step_on k) (beginning k script) es) (counted_by (step_on k) (beginning k script) (opening_tally script.rounds) es)) (sym whole)

@@ -72,7 +72,7 @@ number_back n h =
 -- ---- halves
 
 -- no byte is a mark
-abbrev Without : ℕ → List ℕ → Type 0
+abbrev pub Without : ℕ → List ℕ → Type 0
 Without mark [] = ⊤
 Without mark (c ∷ cs) = ((c == mark) ≡ false) × Without mark cs
 
@@ -80,11 +80,11 @@ Without mark (c ∷ cs) = ((c == mark) ≡ false) × Without mark cs
 not_mark : (c mark : ℕ) → mark < 48 → digit_value c < 10 → (c == mark) ≡ false
 not_mark c mark low h = let from = digit_from c h in grind (arith, nat_tests)
 
-digits_without : (ds : List ℕ) (mark : ℕ) → mark < 48 → AllDigits 10 ds → Without mark ds
+pub digits_without : (ds : List ℕ) (mark : ℕ) → mark < 48 → AllDigits 10 ds → Without mark ds
 digits_without [] mark low h = tt
 digits_without (c ∷ cs) mark low h = (not_mark c mark low h.0, digits_without cs mark low h.1)
 
-both_without : (xs ys : List ℕ) (mark : ℕ) → Without mark xs → Without mark ys → Without mark (xs ++ ys)
+pub both_without : (xs ys : List ℕ) (mark : ℕ) → Without mark xs → Without mark ys → Without mark (xs ++ ys)
 both_without [] ys mark h k = k
 both_without (c ∷ cs) ys mark h k = (h.0, both_without cs ys mark h.1 k)
 
@@ -110,7 +110,7 @@ halves_back ds rest mark h =
     ap (option_map (λ at. (take at text, drop (at + 1) text))) (position_from-zero (λ byte. byte == mark) text ∙ mark_after ds rest mark 0 h ∙ ap Some (none_before (length ds)))
     ∙ ap₂ (λ (a b : List ℕ). Some (a, b)) (take-append_seam ds (mark ∷ rest)) (drop_after ds rest mark)
 
-digits_of : (n : ℕ) → n < 2 ^ 32 → AllDigits 10 (decimal n)
+pub digits_of : (n : ℕ) → n < 2 ^ 32 → AllDigits 10 (decimal n)
 digits_of n h = (decimal_is_IsNumeral n (omega arith)).0.1
 
 -- ---- what stands in a line

@@ -8,4 +8,7 @@ pub mod ScriptCodes
 pub mod Seen
 pub mod Trace
 pub mod Tally
+pub mod Make
+pub mod Summary
 pub mod Held
+pub mod Parties

@@ -1,5 +1,5 @@
 -- The lines of a script, printed: the events that a line can say, and one line that says each.
-use Rattle.std.specs.Prelude.{⊤, ℕ, ◌^◌, ◌<◌, ◌≤◌, ◌≡◌, List, [], ◌++◌, length, codes, decimal}
+use Rattle.std.specs.Prelude.{⊤, ℕ, ◌^◌, ◌<◌, ◌≤◌, ◌≡◌, List, [], ◌++◌, length, codes, decimal, flat_map}
 use Rattle.hex.specs.Hex.{IsBytes, encode_lower}
 use Rattle.dr_base.specs.declared.position.Position.{Position}
 use Rattle.session_model.specs.declared.answer.Amount.{Amount}
@@ -54,3 +54,7 @@ IsSayable (drops_done side amount) = IsAmount amount
 IsSayable (shows_inbox side) = ⊤
 IsSayable (shows_state side) = ⊤
 IsSayable (cuts took event) = ⊥
+
+-- events in lines
+abbrev pub script_text : List Event → List ℕ
+script_text events = flat_map (λ event. line_text event ++ codes "\n") events

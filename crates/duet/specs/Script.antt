@@ -51,11 +51,13 @@ pub record AreCounted (text : List ℕ) (count : ℕ) : Type 0 where
   pub read : AreRead text
   pub count_is : count ≡ length (events_in text)
 
--- what a script says: the mechanism, the key of both sessions, and what happens
+-- what a script says: the mechanism, the key of both sessions, and what happens; and of how many rounds it was made, 0 where
+-- it was read
 pub record Scripted : Type 0 where
   pub kem : KemName
   pub key : List ℕ
   pub events : List Event
+  pub rounds : ℕ
 
 -- the mechanism that the line `kem NAME` names
 unfoldable pub kem_read : List ℕ → Option KemName
@@ -69,7 +71,7 @@ key_read line = option_and_then (λ digits. result_ok (decode_sized digits 32)) 
 
 -- a script from its mechanism, its key and its events
 abbrev pub scripted : KemName → List ℕ → Result (List Event) ℕ → Result Scripted ℕ
-scripted kem key (Ok events) = Ok (record { kem = kem; key = key; events = events })
+scripted kem key (Ok events) = Ok (record { kem = kem; key = key; events = events; rounds = 0 })
 scripted kem key (Err bad) = Err bad
 
 -- a script from its key, if the second line has one, and the lines after it

@@ -24,5 +24,5 @@ kem_code = code_by Bool coded_bool is_open kem_by same_kem
 
 abbrev pub script_code : Coded Scripted
 script_code =
-    code_by (KemName × (List ℕ × List Event)) (coded× kem_code (coded× (coded_list coded_ℕ) (coded_list event_code)))
-    (λ s. (s.kem, (s.key, s.events))) (λ e. record { kem = e.0; key = e.1.0; events = e.1.1 }) (λ _. refl)
+    code_by (KemName × (List ℕ × (List Event × ℕ))) (coded× kem_code (coded× (coded_list coded_ℕ) (coded× (coded_list event_code) coded_ℕ)))
+    (λ s. (s.kem, (s.key, (s.events, s.rounds)))) (λ e. record { kem = e.0; key = e.1.0; events = e.1.1.0; rounds = e.1.1.1 }) (λ _. refl)

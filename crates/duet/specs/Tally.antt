@@ -18,9 +18,9 @@ use Rattle.duet.specs.declared.tally.Tally.{Tally}
 abbrev pub no_tally : SideTally
 no_tally = record { said = 0; opened = 0; refused = 0; epoch = 0; missing = 0 }
 
--- nothing was counted yet
-abbrev pub opening_tally : Tally
-opening_tally = record { rounds = 0; first = no_tally; second = no_tally }
+-- nothing was counted yet of a script of so many rounds
+abbrev pub opening_tally : ℕ → Tally
+opening_tally rounds = record { rounds = rounds; first = no_tally; second = no_tally }
 
 -- one answer more: what the network doesn't hold counts as refused
 abbrev pub counted : Answer → SideTally → SideTally
@@ -52,7 +52,7 @@ both_reached s t = record t { first = reached s.first t.first; second = reached 
 unfoldable pub tally_of : Mechanism → Scripted → Tally
 tally_of k script =
     both_reached (after_by (step_on k) (beginning k script) script.events)
-    (counted_by (step_on k) (beginning k script) opening_tally script.events)
+    (counted_by (step_on k) (beginning k script) (opening_tally script.rounds) script.events)
 
 -- no count has come to a number
 pub record IsSideBelow (n : ℕ) (t : SideTally) : Type 0 where

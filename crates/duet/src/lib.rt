@@ -4,17 +4,23 @@
 pub use laws::{lines_print_back, played_is_the_trace};
 pub use playing::{PlayError, play};
 pub use script::{KemName, Line, Lines, Script, ScriptError};
+pub use summary::{SummaryText, summary_lines};
 pub use tally::{SideTally, Tally};
 
 mod amount;
-mod client;
+mod calls;
 mod draws;
+mod given;
 mod hexed;
 mod laws;
 mod network;
+mod party;
 mod playing;
 mod post;
 mod reply;
 mod script;
 mod sides;
+mod summary;
 mod tally;
+#[cfg(test)]
+mod tests;

@@ -12,13 +12,12 @@ ghost use Rattle.duet.specs.Seen.{event_of};
 ghost use Rattle.duet.specs.Tally.{IsBelow, counted_of, tally_of};
 ghost use Rattle.duet.specs.Trace.{played};
 
-use crate::client::BeginError;
+use crate::party::{BeginError, Party};
 use crate::reply::{reply, side_name};
 use crate::script::{Line, Script};
 use crate::sides::Duet;
 use crate::tally::Tally;
 use answer_lines::text_line;
-use boxes::Inbox;
 use dr_base::Side;
 use dr_ports::{Failed, Sink, write_all};
 use kem_laws::Kem;
@@ -35,12 +34,17 @@ pub enum PlayError {
     Write,
 }
 
-/// Writes the line of the text at a place of an inbox.
-fn write_entry<O: Sink>(out: &mut O, side: Side, inbox: &Inbox, at: u32) -> Result<(), Failed>
-    requires { at < length inbox.now }
-    ensures { (d : Item) → Writes (O.taken out.old) (O.taken out.new) (O.faults out.old) (O.faults out.new) (entry_line side (slice_index_or inbox.now at d)) result }
+/// Writes the line of the text at a place of a side's inbox.
+fn write_entry<K: Kem, O: Sink>(
+    out: &mut O,
+    side: Side,
+    party: &Party<K>,
+    at: u32,
+) -> Result<(), Failed>
+    requires { at < length party.now.inbox }
+    ensures { (d : Item) → Writes (O.taken out.old) (O.taken out.new) (O.faults out.old) (O.faults out.new) (entry_line side (slice_index_or party.now.inbox at d)) result }
 {
-    match inbox.at(at as usize) {
+    match party.inbox_at(at as usize) {
         Some(entry) => write_all(
             out,
             text_line(side_name(side), entry.position, entry.text).as_slice(),
@@ -50,11 +54,11 @@ fn write_entry<O: Sink>(out: &mut O, side: Side, inbox: &Inbox, at: u32) -> Resu
 }
 
 /// Writes the lines of a side's inbox, the oldest text first.
-fn write_inbox<O: Sink>(out: &mut O, side: Side, inbox: &Inbox) -> Result<(), Failed>
-    ensures { Writes (O.taken out.old) (O.taken out.new) (O.faults out.old) (O.faults out.new) (flat_map (entry_line side) inbox.now) result }
+fn write_inbox<K: Kem, O: Sink>(out: &mut O, side: Side, party: &Party<K>) -> Result<(), Failed>
+    ensures { Writes (O.taken out.old) (O.taken out.new) (O.faults out.old) (O.faults out.new) (flat_map (entry_line side) party.now.inbox) result }
 {
-    'texts: for at in 0..inbox.len() {
-        match write_entry(out, side, inbox, at) {
+    'texts: for at in 0..party.inbox_len() {
+        match write_entry(out, side, party, at) {
             Err(Failed) => return Err(Failed),
             Ok(()) => {}
         }
@@ -72,7 +76,7 @@ fn write_entries<K: Kem, O: Sink>(
         (flat_map (entry_line (acting_side (event_of line.now))) (shown (event_of line.now) duet.now.sides)) result }
 {
     match line {
-        Line::Inbox(side) => write_inbox(out, *side, duet.inbox(*side)),
+        Line::Inbox(side) => write_inbox(out, *side, duet.party(*side)),
         _ => Ok(()),
     }
 }
@@ -81,7 +85,6 @@ fn write_entries<K: Kem, O: Sink>(
 #[tactic(auto, unfolding(crate::specs::Replies::reply_of))]
 fn play_line<K: Kem, O: Sink>(
     duet: &mut Duet<K>,
-    work: &mut K::Work,
     line: &Line<'_>,
     tally: &mut Tally,
     out: &mut O,
@@ -96,7 +99,7 @@ fn play_line<K: Kem, O: Sink>(
         Writes (O.taken out.old) (O.taken out.new) (O.faults out.old) (O.faults out.new)
         (reply_of (event_of line.now) (step_on k duet.old.sides (event_of line.now))) result }
 {
-    let answer = duet.step(work, line);
+    let answer = duet.step(line);
     tally.count(line.side(), answer);
     match write_all(out, reply(line.side(), answer).as_bytes()) {
         Err(Failed) => Err(Failed),
@@ -123,18 +126,15 @@ pub fn play<K: Kem, O: Sink>(
     ensures quiet { (IsErrOf result PlayError.Write → ⊥) → O.faults out.new ≡ O.faults out.old }
     ensures later { O.faults out.old ≤ O.faults out.new }
 {
-    let Ok(mut work) = K::work(alloc) else {
-        return Err(PlayError::Memory);
-    };
-    let mut duet = match Duet::<K>::new(alloc, &mut work, script.key(), script.len()) {
+    let mut duet = match Duet::<K>::new(alloc, script.key(), script.len()) {
         Ok(duet) => duet,
         Err(BeginError::Memory) => return Err(PlayError::Memory),
         Err(BeginError::NoPair) => return Err(PlayError::NoPair),
     };
-    let mut tally = Tally::new();
+    let mut tally = Tally::new(script.rounds());
     let mut lines = script.lines();
     'events: while let Some(line) = lines.next() {
-        match play_line(&mut duet, &mut work, &line, &mut tally, out) {
+        match play_line(&mut duet, &line, &mut tally, out) {
             Err(Failed) => return Err(PlayError::Write),
             Ok(()) => {}
         }

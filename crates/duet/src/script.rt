@@ -15,6 +15,7 @@ use std::marker::Model;
 
 mod line;
 mod lines;
+mod make;
 mod number;
 mod split;
 mod words;
@@ -28,7 +29,7 @@ pub enum KemName {
     Sntrup761,
 }
 
-/// A script that was read: a mechanism, the key of both sessions, and the events in order. It owns its text.
+/// A script that was read or made: a mechanism, the key of both sessions, and the events in order. It owns its text.
 #[derive(Drop)]
 pub struct Script {
     kem: KemName,
@@ -37,6 +38,8 @@ pub struct Script {
     text: Vec<u8>,
     /// How many lines these are.
     count: usize,
+    /// The rounds that it was made of; 0 of one that was read.
+    rounds: u32,
 }
 
 impl Model for Script {
@@ -47,7 +50,7 @@ impl Model for Script {
 
     ghost coded = { script_code };
 
-    ghost view = { λ s. record { kem = s.kem; key = s.key.bytes; events = events_in s.text.items } };
+    ghost view = { λ s. record { kem = s.kem; key = s.key.bytes; events = events_in s.text.items; rounds = s.rounds } };
 
     ghost invariant = { λ s. AreCounted s.text.items s.count };
 }
@@ -93,6 +96,7 @@ impl Script {
             key,
             text,
             count,
+            rounds: 0,
         })
     }
 
@@ -115,6 +119,13 @@ impl Script {
         ensures { result ≡ length self.now.events }
     {
         self.count
+    }
+
+    /// The rounds of a script that was made from a number; 0 of one that was read.
+    pub fn rounds(&self) -> u32
+        ensures { result ≡ self.now.rounds }
+    {
+        self.rounds
     }
 
     /// The events from the first on.

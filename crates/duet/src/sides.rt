@@ -9,14 +9,13 @@ ghost use Rattle.duet.specs.Held.{after, opening_duet, stepped};
 ghost use Rattle.duet.specs.Tally.{both_reached};
 ghost use Rattle.ratchet.specs.Seen.{seed_bytes};
 
-use crate::client::{BeginError, Client};
 use crate::draws::Draws;
 use crate::hexed::hex_bytes;
 use crate::network::{copied, held_at, held_flipped, held_nth};
+use crate::party::{BeginError, Party};
 use crate::post::{Packet, Post};
 use crate::script::Line;
 use crate::tally::{SideTally, Tally};
-use boxes::Inbox;
 use dr_base::{Key32, Side};
 use kem_laws::Kem;
 use session_model::{Amount, Answer, Refusal, Summary};
@@ -27,8 +26,8 @@ use std::marker::Model;
 #[derive(Drop)]
 pub struct Duet<K: Kem> {
     key: Key32,
-    first: Client<K>,
-    second: Client<K>,
+    first: Party<K>,
+    second: Party<K>,
     posts: Vec<Post>,
     draws: Draws,
 }
@@ -47,12 +46,7 @@ impl<K: Kem> Duet<K> {
 
     /// Both sides before the first event, and room in the network for so many packets. It takes all memory that the
     /// events need.
-    pub fn new(
-        alloc: Global,
-        work: &mut K::Work,
-        key: &Key32,
-        room: usize,
-    ) -> Result<Self, BeginError>
+    pub fn new(alloc: Global, key: &Key32, room: usize) -> Result<Self, BeginError>
         ensures ok { IfOk result (λ duet. duet ≡ opening_duet K.mechanism key.now.bytes room) }
         ensures few { IfOk result (λ _. room < 2 ^ 32 - 1) }
         ensures pair { IfOk result (λ _. IsSome (K.mechanism.meaning.pair_of (agreement_seed key.now.bytes))) }
@@ -65,11 +59,11 @@ impl<K: Kem> Duet<K> {
         let Ok(posts) = Vec::with_capacity(alloc, room) else {
             return Err(BeginError::Memory);
         };
-        let first = match Client::begin(alloc, work, Side::First, key) {
+        let first = match Party::begin(alloc, Side::First, key) {
             Ok(first) => first,
             Err(error) => return Err(error),
         };
-        match Client::begin(alloc, work, Side::Second, key) {
+        match Party::begin(alloc, Side::Second, key) {
             Ok(second) => Ok(Duet {
                 key: Key32 { bytes: key.bytes },
                 first,
@@ -81,13 +75,13 @@ impl<K: Kem> Duet<K> {
         }
     }
 
-    /// A side's inbox.
-    pub fn inbox(&self, side: Side) -> &Inbox
-        ensures { result.now ≡ (client_of self.now.sides side).inbox }
+    /// A side.
+    pub fn party(&self, side: Side) -> &Party<K>
+        ensures { result.now ≡ client_of self.now.sides side }
     {
         match side {
-            Side::First => self.first.inbox(),
-            Side::Second => self.second.inbox(),
+            Side::First => &self.first,
+            Side::Second => &self.second,
         }
     }
 
@@ -102,7 +96,7 @@ impl<K: Kem> Duet<K> {
     }
 
     /// A side says a text that it may say, and the network gets its packet.
-    fn speak(&mut self, work: &mut K::Work, side: Side, text: &[u8], seed: Option<Key32>) -> Answer
+    fn speak(&mut self, side: Side, text: &[u8], seed: Option<Key32>) -> Answer
         requires room { length self.old.sides.posts < self.old.room }
         requires checked { say_check (client_of self.old.sides side) (length text.now) ≡ Ok (is_some seed) }
         ensures answer { let k = K.mechanism in
@@ -111,8 +105,8 @@ impl<K: Kem> Duet<K> {
             self.new ≡ after self.old (said_on self.old.sides side (say_on k (client_of self.old.sides side) text.now (seed_bytes seed))) }
     {
         let said = match side {
-            Side::First => self.first.say(work, text, seed),
-            Side::Second => self.second.say(work, text, seed),
+            Side::First => self.first.say(text, seed),
+            Side::Second => self.second.say(text, seed),
         };
         match said {
             Ok(post) => {
@@ -125,7 +119,7 @@ impl<K: Kem> Duet<K> {
     }
 
     /// A side says a text. A draw is made only where the text may be said and needs a seed.
-    fn say(&mut self, work: &mut K::Work, side: Side, text: &[u8]) -> Answer
+    fn say(&mut self, side: Side, text: &[u8]) -> Answer
         requires room { length self.old.sides.posts < self.old.room }
         requires draws { self.old.sides.draws.made < 2 ^ 32 - 1 }
         ensures answer { let k = K.mechanism in result ≡ (step_on k self.old.sides (says side text.now)).answer }
@@ -133,22 +127,22 @@ impl<K: Kem> Duet<K> {
     {
         match self.say_check(side, text.len()) {
             Err(refusal) => Answer::Refused(refusal),
-            Ok(false) => self.speak(work, side, text, None),
+            Ok(false) => self.speak(side, text, None),
             Ok(true) => {
                 let seed = self.draws.next(&self.key);
-                self.speak(work, side, text, Some(seed))
+                self.speak(side, text, Some(seed))
             }
         }
     }
 
     /// A side takes bytes.
-    fn take_bytes(&mut self, work: &mut K::Work, side: Side, bytes: &[u8]) -> Answer
+    fn take_bytes(&mut self, side: Side, bytes: &[u8]) -> Answer
         ensures answer { let k = K.mechanism in result ≡ (step_on k self.old.sides (takes_bytes side bytes.now)).answer }
         ensures next { let k = K.mechanism in self.new ≡ stepped k self.old (takes_bytes side bytes.now) }
     {
         let taken = match side {
-            Side::First => self.first.take(work, bytes),
-            Side::Second => self.second.take(work, bytes),
+            Side::First => self.first.take(bytes),
+            Side::Second => self.second.take(bytes),
         };
         match taken {
             Ok(position) => Answer::Opened(position),
@@ -157,14 +151,14 @@ impl<K: Kem> Duet<K> {
     }
 
     /// A side takes a packet, if the network has it to give.
-    fn take_packet(&mut self, work: &mut K::Work, side: Side, packet: Option<Packet>) -> Answer
+    fn take_packet(&mut self, side: Side, packet: Option<Packet>) -> Answer
         ensures answer { let k = K.mechanism in
             result ≡ (taken_on k self.old.sides side (option_map (λ packet. packet.items) packet)).answer }
         ensures next { let k = K.mechanism in
             self.new ≡ after self.old (taken_on k self.old.sides side (option_map (λ packet. packet.items) packet)) }
     {
         match packet {
-            Some(packet) => self.take_bytes(work, side, packet.as_slice()),
+            Some(packet) => self.take_bytes(side, packet.as_slice()),
             None => Answer::Nothing,
         }
     }
@@ -230,7 +224,7 @@ impl<K: Kem> Duet<K> {
     }
 
     /// One event. An inbox is answered with how many texts stand in it.
-    pub fn step(&mut self, work: &mut K::Work, line: &Line<'_>) -> Answer
+    pub fn step(&mut self, line: &Line<'_>) -> Answer
         requires room { length self.old.sides.posts < self.old.room }
         requires draws { self.old.sides.draws.made < 2 ^ 32 - 1 }
         ensures answer { let k = K.mechanism in result ≡ (step_on k self.old.sides (event_of line.now)).answer }
@@ -241,23 +235,23 @@ impl<K: Kem> Duet<K> {
                 self.draws.give(seed);
                 Answer::Seeded
             }
-            Line::Say(side, text) => self.say(work, *side, text),
+            Line::Say(side, text) => self.say(*side, text),
             Line::Take(side, position) => {
                 let packet = copied(held_at(self.posts.as_slice(), *position));
-                self.take_packet(work, *side, packet)
+                self.take_packet(*side, packet)
             }
             Line::TakeNth(side, nth) => {
                 let packet = copied(held_nth(self.posts.as_slice(), *side, *nth));
-                self.take_packet(work, *side, packet)
+                self.take_packet(*side, packet)
             }
             Line::Flip(side, position, bit) => {
                 let packet = held_flipped(self.posts.as_slice(), *position, *bit);
-                self.take_packet(work, *side, packet)
+                self.take_packet(*side, packet)
             }
-            Line::Bytes(side, digits) => self.take_bytes(work, *side, hex_bytes(digits).as_slice()),
+            Line::Bytes(side, digits) => self.take_bytes(*side, hex_bytes(digits).as_slice()),
             Line::Sent(side, amount) => self.drop_sent(*side, *amount),
             Line::Done(side, amount) => self.drop_done(*side, *amount),
-            Line::Inbox(side) => Answer::Inbox(self.inbox(*side).len()),
+            Line::Inbox(side) => Answer::Inbox(self.party(*side).inbox_len()),
             Line::State(side) => Answer::State(self.summary(*side)),
         }
     }

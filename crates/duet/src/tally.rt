@@ -59,12 +59,12 @@ impl SideTally {
 }
 
 impl Tally {
-    /// Nothing was counted yet.
-    pub(crate) fn new() -> Tally
-        ensures { result ≡ opening_tally }
+    /// Nothing was counted yet, of a script of so many rounds.
+    pub(crate) fn new(rounds: u32) -> Tally
+        ensures { result ≡ opening_tally rounds }
     {
         Tally {
-            rounds: 0,
+            rounds,
             first: SideTally::new(),
             second: SideTally::new(),
         }

@@ -1,0 +1,18 @@
+use Rattle.std.proofs.Common.{Err, ap, subst, ◌∙◌, ◌≡◌}
+use Rattle.dr_model.specs.Machines.Acts.{act_on, sending}
+use Rattle.dr_model.specs.Machines.Steps.{amount_of}
+use Rattle.session_model.specs.Clients.{dropped_of}
+use Rattle.session_model.specs.declared.answer.Answer.TheVariants.{Sent}
+use Rattle.session_model.specs.declared.answer.Summary.{Summary}
+use Rattle.duet.proofs.Acted.{refused_as}
+use Rattle.duet.proofs.Packets.{unsent}
+use Rattle.duet.proofs.calls.drop_packets.Goals as goal
+
+pub returns-in-Err-clause-answer : goal.returns-in-Err-clause-answer
+returns-in-Err-clause-answer g c =
+    let kept = c.args.client.now.kept in
+    let n = c.items_in-n.result in
+    let made = refused_as (act_on g.K.Kem.mechanism kept (sending n)) _ _ _ _ _ _ (c.drop_refusal.ensures (Sent n)) c.in-Err.ensures.exact in
+    subst (λ m. dropped_of m kept.outbox ≡ Err c.drop_refusal.result)
+    (c.items_in-n.ensures ∙ ap (λ (s : Summary). amount_of c.args.amount s.outbox) c.state.ensures)
+    (unsent kept n (dropped_of n kept.outbox) _ made.0)

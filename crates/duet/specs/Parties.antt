@@ -1,0 +1,28 @@
+-- One side: a client that is open, on a disk in memory whose calls all pass.
+use Rattle.std.specs.Prelude.{Err, List, None, Ok, Result, ℕ, ⊤, ◌≡◌}
+use Rattle.dr_disk.specs.MemoryDisks.{state_of}
+use Rattle.dr_disk.specs.State.{all_pass}
+use Rattle.dr_disk.specs.declared.memory.MemoryDisk.{MemoryDisk}
+use Rattle.dr_model.specs.Machines.Steps.{Step, step}
+use Rattle.session_model.specs.Clients.{Client}
+use Rattle.session_model.specs.declared.answer.Refusal.{Refusal}
+use Rattle.client.specs.Clients.{ClientNow, IsReady}
+use Rattle.client.specs.Outcomes.{Outcome, acknowledged, faulted, is_closed, refused, undrawn}
+use Rattle.client.specs.declared.refusals.BeginRefusal.{BeginRefusal}
+use Rattle.client.specs.declared.refusals.BeginRefusal.TheVariants.{Memory, NoPair}
+
+pub record IsHeld (client : ClientNow) (disk : MemoryDisk) : Type 0 where
+  pub is_open : client.closed ≡ None
+  pub ready : IsReady client.kept client.store (state_of disk)
+  pub passes : (state_of disk).fate ≡ all_pass
+
+-- the side has a reason of its own
+abbrev pub IsRefused : Outcome → Type 0
+IsRefused (refused refusal) = ⊤
+IsRefused _ = ⊥
+
+-- why no client is begun on a disk of zeros whose calls all pass
+abbrev pub IsFirstRefusal : BeginRefusal → Type 0
+IsFirstRefusal Memory = ⊤
+IsFirstRefusal NoPair = ⊤
+IsFirstRefusal _ = ⊥

@@ -1,0 +1,154 @@
+//! One side: a client, and the disk that it is kept on.
+
+ghost use Rattle.std.specs.Prelude.{◌≡◌, ◌≤◌, ◌↔◌, ◌<◌, length, Ok, Err, IfOk, IfSome, OnErr, IsNone, IsSome, IsErrOf, MatchResult, is_some, option_map, slice_get};
+ghost use Rattle.boxes.specs.Seen.{entry_item};
+ghost use Rattle.session_model.specs.Clients.{dropped_of, say_check, say_on, summary_of, take_on};
+ghost use Rattle.dr_model.specs.Machines.Steps.{amount_of};
+ghost use Rattle.session_model.specs.Schedule.{agreement_seed};
+ghost use Rattle.ratchet.specs.Seen.{seed_bytes};
+ghost use Rattle.duet.specs.Held.{opening_client, said_text, taken_packet};
+ghost use Rattle.duet.specs.Parties.{IsFirstRefusal};
+ghost use Rattle.client.specs.declared.refusals.BeginRefusal.TheVariants.{NoPair as NoFirstPair};
+
+use crate::calls::{drop_packets, drop_texts, say_text, take_bytes};
+use crate::post::Post;
+use boxes::Entry;
+use client::{BeginRefusal, Client, SLOT};
+use dr_base::{Key32, Position, Side, TEXT_LIMIT};
+use dr_disk::MemoryDisk;
+use kem_laws::Kem;
+use session_model::{Amount, Refusal, Summary};
+use std::alloc::Global;
+use std::marker::Model;
+
+/// The size of a side's disk, in bytes: the two slots of a client.
+const DISK_SIZE: u64 = 2 * SLOT as u64;
+
+/// A side of a conversation: a client that is open, on a disk in memory whose calls all pass. A contract sees what the
+/// client keeps.
+#[derive(Drop)]
+pub struct Party<K: Kem> {
+    client: Client<K>,
+    disk: MemoryDisk,
+}
+
+impl<K: Kem> Model for Party<K> {
+    ghost use Rattle.session_model.specs.Clients.{Client as Keeping};
+    ghost use Rattle.duet.specs.Parties.{IsHeld};
+
+    ghost Value = { Keeping };
+
+    ghost view = { λ p. p.client.kept };
+
+    ghost invariant = { λ p. IsHeld p.client p.disk };
+}
+
+/// Why a side couldn't begin.
+#[derive(Clone, Copy, Debug, PartialEq, Eq)]
+pub enum BeginError {
+    /// There was no memory for the client or its disk.
+    Memory,
+    /// The agreement seed that follows from the shared key has no pair.
+    NoPair,
+}
+
+/// Why no client is begun on a new disk.
+fn begin_error(refusal: BeginRefusal) -> BeginError
+    requires { IsFirstRefusal refusal }
+    ensures { result ≡ BeginError.NoPair → refusal ≡ NoFirstPair }
+{
+    match refusal {
+        BeginRefusal::Memory => BeginError::Memory,
+        BeginRefusal::NoPair => BeginError::NoPair,
+        _ => unreachable!(),
+    }
+}
+
+impl<K: Kem> Party<K> {
+    /// A side at the beginning of a conversation, on a disk of its own. It takes all its memory here.
+    pub fn begin(alloc: Global, side: Side, key: &Key32) -> Result<Self, BeginError>
+        ensures ok { IfOk result (λ p. p ≡ opening_client K.mechanism key.now.bytes side) }
+        ensures pair { IfOk result (λ _. IsSome (K.mechanism.meaning.pair_of (agreement_seed key.now.bytes))) }
+        ensures none { IsErrOf result BeginError.NoPair → IsNone (K.mechanism.meaning.pair_of (agreement_seed key.now.bytes)) }
+    {
+        let Ok(mut disk) = MemoryDisk::new(alloc, DISK_SIZE) else {
+            return Err(BeginError::Memory);
+        };
+        match Client::begin(alloc, &mut disk, side, key) {
+            Ok(client) => Ok(Party { client, disk }),
+            Err(refusal) => Err(begin_error(refusal)),
+        }
+    }
+
+    /// How many texts stand.
+    pub fn inbox_len(&self) -> u32
+        ensures { result ≡ length self.now.inbox }
+    {
+        self.client.state().inbox
+    }
+
+    /// The text at a place, from 0, the oldest first.
+    pub fn inbox_at(&self, at: usize) -> Option<Entry<'_>>
+        ensures variant { IsSome result ↔ (at < length self.now.inbox) }
+        ensures entry { option_map entry_item result ≡ slice_get self.now.inbox at }
+        ensures fits { IfSome result (λ entry. length entry.text.now ≤ TEXT_LIMIT) }
+    {
+        self.client.inbox(at)
+    }
+
+    /// What the side holds, in numbers.
+    pub fn summary(&self) -> Summary
+        ensures { result ≡ summary_of self.now }
+    {
+        self.client.state()
+    }
+
+    /// Whether a text of this length may be said, and then whether that needs a seed.
+    pub fn say_check(&self, len: usize) -> Result<bool, Refusal>
+        ensures { result ≡ say_check self.now len }
+    {
+        self.client.say_check(len)
+    }
+
+    /// Says a text that `say_check` allows, with a seed exactly where it asks for one, and answers its packet, which
+    /// stands in the outbox.
+    pub fn say(&mut self, text: &[u8], seed: Option<Key32>) -> Result<Post, Refusal>
+        requires { say_check self.old (length text.now) ≡ Ok (is_some seed) }
+        ensures answer { MatchResult result
+            (λ post. say_on K.mechanism self.old text.now (seed_bytes seed) ≡ Ok (said_text post self.new))
+            (λ e. say_on K.mechanism self.old text.now (seed_bytes seed) ≡ Err e) }
+        ensures refused { OnErr result (self.new ≡ self.old) }
+    {
+        say_text(&mut self.client, &mut self.disk, text, seed)
+    }
+
+    /// Opens the packet that the bytes are, and puts its text into the inbox. A refusal leaves all as it was.
+    pub fn take(&mut self, bytes: &[u8]) -> Result<Position, Refusal>
+        ensures answer { MatchResult result
+            (λ p. take_on K.mechanism self.old bytes.now ≡ Ok (taken_packet p self.new))
+            (λ e. take_on K.mechanism self.old bytes.now ≡ Err e) }
+        ensures refused { OnErr result (self.new ≡ self.old) }
+    {
+        take_bytes(&mut self.client, &mut self.disk, bytes)
+    }
+
+    /// Takes the oldest packets out of the outbox, and answers how many.
+    pub fn drop_sent(&mut self, amount: Amount) -> Result<u32, Refusal>
+        ensures answer { let n = amount_of amount (length self.old.outbox) in MatchResult result
+            (λ m. (m ≡ n) × (dropped_of n self.old.outbox ≡ Ok self.new.outbox) × (self.new ≡ record self.old { outbox = self.new.outbox }))
+            (λ e. dropped_of n self.old.outbox ≡ Err e) }
+        ensures refused { OnErr result (self.new ≡ self.old) }
+    {
+        drop_packets(&mut self.client, &mut self.disk, amount)
+    }
+
+    /// Takes the oldest texts out of the inbox, and answers how many.
+    pub fn drop_done(&mut self, amount: Amount) -> Result<u32, Refusal>
+        ensures answer { let n = amount_of amount (length self.old.inbox) in MatchResult result
+            (λ m. (m ≡ n) × (dropped_of n self.old.inbox ≡ Ok self.new.inbox) × (self.new ≡ record self.old { inbox = self.new.inbox }))
+            (λ e. dropped_of n self.old.inbox ≡ Err e) }
+        ensures refused { OnErr result (self.new ≡ self.old) }
+    {
+        drop_texts(&mut self.client, &mut self.disk, amount)
+    }
+}
