@@ -1,5 +1,6 @@
 //! Measures the messenger: medians of many runs. The word `run` measures the path of a text, the word `ring` the
-//! arithmetic of the key encapsulation and a turn, the word `store` a record in memory and on a file. Without a word it prints one fixed line.
+//! arithmetic of the key encapsulation and a turn, the word `store` a record in memory and on a
+//! file, and a client on a file. Without a word it prints one fixed line.
 #![tactic(auto)]
 
 use dr_ports::NullSink;
@@ -13,6 +14,7 @@ mod record;
 mod relay;
 mod ring;
 mod script;
+mod session;
 mod store;
 mod turn;
 
@@ -33,7 +35,8 @@ fn main(rt: HostRuntime) -> io::Result<()> {
         }
         Some(word) if word.as_str() == "store" => {
             record::report(&rt)?;
-            store::report(&rt)
+            store::report(&rt)?;
+            session::report(&rt)
         }
         _ => println!(rt; "bench: give the word run, ring or store, and wait some seconds"),
     }

@@ -1,8 +1,10 @@
 //! A script of 1,000 lines, through the program's top call.
 
 use crate::clock::Times;
-use dr_ports::{NullSink, SteadySource};
-use messenger_cli::run;
+use dr_base::Key32;
+use dr_disk::SteadyDisk;
+use dr_ports::{NullSink, SteadyDraws, SteadySource};
+use messenger_cli::{DISK_SIZE, run};
 use std::alloc::{AllocError, Global};
 use std::io;
 use std::rt::Clock;
@@ -39,8 +41,17 @@ pub fn report<R: Clock + Print + AllocGlobal>(rt: &R, out: &mut NullSink) -> io:
     let mut times = Times::new(alloc);
     for _ in 0..RUNS {
         let mut source = SteadySource::new(alloc, text.as_slice())?;
+        let mut disk = SteadyDisk::new(alloc, DISK_SIZE)?;
+        let mut draws = SteadyDraws::new(alloc, &[Key32 { bytes: [7; 32] }])?;
         let start = Instant::now(rt)?;
-        let _status = run(alloc, words.as_slice(), &mut source, out);
+        let _status = run(
+            alloc,
+            words.as_slice(),
+            &mut disk,
+            &mut source,
+            out,
+            &mut draws,
+        );
         times.add(rt, start)?;
     }
     let each = times.median()? / LINES;

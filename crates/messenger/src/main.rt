@@ -1,14 +1,26 @@
-//! The messenger: its arguments, standard input and standard output, handed to the top call.
+//! The messenger: its arguments, a file for the session, standard input and output, and the system's random source, handed
+//! to the top call.
 #![tactic(auto)]
 
-use dr_ports::{ReaderSource, WriterSink};
-use messenger_cli::run_arguments;
+use dr_disk::{FileDisk, Sharing};
+use dr_ports::{RandomDraws, ReaderSource, WriterSink};
+use messenger_cli::{DISK_SIZE, run_arguments};
+use rand::rngs::SysRng;
 use std::env;
 use std::process::ExitCode;
 
 fn main(rt: HostRuntime) -> ExitCode {
+    let mut disk = FileDisk::new(&rt, "messenger.state", DISK_SIZE, Sharing::InTurn);
     let mut source = ReaderSource::new(rt.stdin());
     let mut out = WriterSink::new(rt.stdout());
-    let status = run_arguments(rt.alloc(), env::args(&rt), &mut source, &mut out);
+    let mut draws = RandomDraws::new(SysRng::new(&rt));
+    let status = run_arguments(
+        rt.alloc(),
+        env::args(&rt),
+        &mut disk,
+        &mut source,
+        &mut out,
+        &mut draws,
+    );
     ExitCode::from(status.code)
 }

@@ -1,4 +1,2 @@
 pub mod Behind
-pub mod Given
-pub mod OneWord
 pub mod Traces

@@ -9,7 +9,7 @@ use Rattle.duet.specs.Script.{Scripted, script_of}
 use Rattle.duet.specs.Trace.{played}
 use Rattle.duet.proofs.Following.{follows}
 use Rattle.duet.proofs.Seeds.{whole_seeds}
-use Rattle.messenger_cli.specs.declared.program.TheConstants.{SCRIPT_LIMIT}
+use Rattle.messenger_cli.specs.declared.playing.TheConstants.{SCRIPT_LIMIT}
 use Rattle.duet.specs.declared.script.KemName.{KemName}
 use Rattle.duet.specs.declared.script.KemName.TheVariants.{Open, Sntrup761}
 use Rattle.messenger_cli.specs.Mechanisms.{mechanism_of}

@@ -9,16 +9,10 @@ use Rattle.std.specs.declared.vec.IntoIter.{IntoIter}
 use Rattle.std.specs.IoError.{error_kind}
 use Rattle.endings.specs.declared.ending.Ending.{Ending}
 use Rattle.endings.specs.declared.ending.Ending.TheVariants.{Usage, NoMemory}
-use Rattle.messenger_cli.specs.Words.{IsDuet}
 
 -- the words stand behind the program's name
 abbrev pub words_of : IntoIter (String Global) Global → List (String Global)
 words_of arguments = drop 1 (into_iter_items arguments)
-
--- the arguments were read, and their words are the one word `duet`
-abbrev pub AsksDuet : Result (IntoIter (String Global) Global) Error → Type 0
-AsksDuet (Ok arguments) = IsDuet (words_of arguments)
-AsksDuet (Err error) = ⊥
 
 -- how the program ends where its arguments couldn't be read: where that wasn't for want of memory, one of them is no
 -- text, and such words are no command

@@ -2,4 +2,6 @@ pub mod Arguments
 pub mod Reads
 pub mod Mechanisms
 pub mod Runs
-pub mod Words
+pub mod Held
+pub mod Performing
+pub mod Making

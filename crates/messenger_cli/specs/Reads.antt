@@ -4,7 +4,7 @@ use Rattle.dr_ports.specs.Ports.{Rose}
 use Rattle.dr_ports.specs.Reading.{GaveAtMost}
 use Rattle.endings.specs.declared.ending.Ending.{Ending}
 use Rattle.endings.specs.declared.ending.Ending.TheVariants.{Done, Usage, InputTooLong, BadLine, Refused, ReadFault, NoMemory}
-use Rattle.messenger_cli.specs.declared.program.TheConstants.{SCRIPT_LIMIT}
+use Rattle.messenger_cli.specs.declared.playing.TheConstants.{SCRIPT_LIMIT}
 
 -- nothing is left, where that is told
 abbrev pub IsDrained : Option (List ℕ) → Type 0

@@ -8,7 +8,7 @@ use Rattle.duet.specs.Script.{Scripted, script_of}
 use Rattle.duet.specs.Trace.{IsFairScript, played, trace_of}
 use Rattle.endings.specs.declared.ending.Ending.{Ending}
 use Rattle.endings.specs.declared.ending.Ending.TheVariants.{Done, InputTooLong, BadLine, Refused, ReadFault, NoMemory}
-use Rattle.messenger_cli.specs.declared.program.TheConstants.{SCRIPT_LIMIT}
+use Rattle.messenger_cli.specs.declared.playing.TheConstants.{SCRIPT_LIMIT}
 use Rattle.endings.specs.Ends.{Ends}
 use Rattle.messenger_cli.specs.Mechanisms.{mechanism_of}
 use Rattle.messenger_cli.specs.Reads.{Leaves, CountsReads}

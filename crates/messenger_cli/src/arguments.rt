@@ -1,14 +1,16 @@
 //! The call for `main`: the program on its arguments.
 
-ghost use Rattle.std.specs.Prelude.{◌≡◌, ◌⊎◌, ◌≤◌, [], IfOk, IfErr};
-ghost use Rattle.messenger_cli.specs.Arguments.{AsksDuet, HasWords, ending_without_words, words_of};
-ghost use Rattle.endings.specs.Ends.{Ends};
-ghost use Rattle.messenger_cli.specs.Runs.{RunsDuet};
-ghost use Rattle.messenger_cli.specs.Words.{IsDuet};
-ghost use Rattle.endings.specs.declared.ending.Ending.TheVariants.{Usage, NoMemory};
+ghost use Rattle.std.specs.Prelude.{◌≡◌, ◌≤◌, IfOk, IfErr, map, string_bytes};
+ghost use Rattle.slot_store.specs.Store.{IsWithin};
+ghost use Rattle.client.specs.Clients.{client_area};
+ghost use Rattle.command_words.specs.Commands.{command_of};
+ghost use Rattle.messenger_cli.specs.Arguments.{HasWords, ending_without_words, words_of};
+ghost use Rattle.messenger_cli.specs.Held.{held};
+ghost use Rattle.messenger_cli.specs.Performing.{EndsIdle, RunsProgram};
 
 use crate::program::run;
-use dr_ports::{Sink, Source};
+use dr_disk::Disk;
+use dr_ports::{Draws, Sink, Source};
 use endings::{Ending, Status, finish};
 use std::alloc::{AllocError, Global};
 use std::env::Args;
@@ -45,31 +47,28 @@ fn words(alloc: Global, arguments: io::Result<Args>) -> Result<Vec<String>, Endi
 
 /// Runs the program on its arguments, as the system gave them: the first is the program's name, the others are the
 /// words. Where one of them isn't text, the system gives an error in their place.
-pub fn run_arguments<S: Source, O: Sink>(
+pub fn run_arguments<D: Disk, S: Source, O: Sink, W: Draws>(
     alloc: Global,
     arguments: io::Result<Args>,
+    disk: &mut D,
     source: &mut S,
     out: &mut O,
+    draws: &mut W,
 ) -> Status
-    ensures duet { AsksDuet arguments → RunsDuet (S.left source.old) (S.left source.new) (S.faults source.old) (S.faults source.new)
-        (O.taken out.old) (O.taken out.new) (O.faults out.old) (O.faults out.new) result.code }
-
-    // Other words, and arguments that aren't text, are answered with how the program is used; memory may be wanting for
-    // the words. The source is left as it was.
-    ensures words { IfOk arguments (λ given. (IsDuet (words_of given) → ⊥)
-        → Ends Usage [] (O.taken out.old) (O.taken out.new) (O.faults out.old) (O.faults out.new) result.code
-        ⊎ Ends NoMemory [] (O.taken out.old) (O.taken out.new) (O.faults out.old) (O.faults out.new) result.code) }
-    ensures unreadable { IfErr arguments (λ error.
-        Ends (ending_without_words error) [] (O.taken out.old) (O.taken out.new) (O.faults out.old) (O.faults out.new) result.code) }
-    ensures unread { (AsksDuet arguments → ⊥) → source.new ≡ source.old }
-
-    // Status 0 says that no read and no write failed.
-    ensures quiet { result.code ≡ 0 → (S.faults source.new ≡ S.faults source.old) × (O.faults out.new ≡ O.faults out.old) }
+    requires { IsWithin client_area (D.state disk.old) }
+    ensures runs { IfOk arguments (λ given. RunsProgram D.state S.left S.faults W.coming W.faults
+        (command_of (map string_bytes (words_of given)))
+        (held disk.old source.old draws.old (O.taken out.old) (O.faults out.old))
+        (held disk.new source.new draws.new (O.taken out.new) (O.faults out.new)) result.code) }
+    // Arguments that aren't text are no command.
+    ensures unreadable { IfErr arguments (λ error. EndsIdle (ending_without_words error)
+        (held disk.old source.old draws.old (O.taken out.old) (O.faults out.old))
+        (held disk.new source.new draws.new (O.taken out.new) (O.faults out.new)) result.code) }
     ensures reads { S.faults source.old ≤ S.faults source.new }
     ensures writes { O.faults out.old ≤ O.faults out.new }
 {
     match words(alloc, arguments) {
-        Ok(words) => run(alloc, words.as_slice(), source, out),
+        Ok(words) => run(alloc, words.as_slice(), disk, source, out, draws),
         Err(ending) => finish(out, ending),
     }
 }

@@ -3,11 +3,13 @@
 
 pub use arguments::run_arguments;
 pub use endings::Status;
-pub use program::run;
+pub use program::{DISK_SIZE, run};
 
 mod arguments;
+mod making;
 mod mechanisms;
+mod performing;
+mod playing;
 mod program;
 #[cfg(test)]
 mod tests;
-mod words;

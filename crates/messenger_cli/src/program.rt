@@ -1,78 +1,45 @@
 //! The top call.
 
-ghost use Rattle.std.specs.Prelude.{◌≡◌, ℕ, ◌≤◌, [], IfOk, OnErr};
-ghost use Rattle.endings.specs.Ends.{Ends};
-ghost use Rattle.messenger_cli.specs.Runs.{RunsDuet, Works, IsCutOff};
-ghost use Rattle.messenger_cli.specs.Words.{IsDuet};
-ghost use Rattle.endings.specs.declared.ending.Ending.TheVariants.{Usage};
+ghost use Rattle.std.specs.Prelude.{◌≤◌, map, string_bytes};
+ghost use Rattle.slot_store.specs.Store.{IsWithin};
+ghost use Rattle.client.specs.Clients.{client_area};
+ghost use Rattle.command_words.specs.Commands.{command_of};
+ghost use Rattle.messenger_cli.specs.Held.{held};
+ghost use Rattle.messenger_cli.specs.Performing.{RunsProgram};
 
-use crate::mechanisms::play_named;
-use crate::words::is_duet;
-use dr_ports::{Failed, InputError, Sink, Source, read_whole};
-use duet::{PlayError, Script, ScriptError};
+use crate::performing::perform;
+use command_words::parse;
+use dr_disk::Disk;
+use dr_ports::{Draws, Sink, Source};
 use endings::{Ending, Status, finish};
-use session_model::Refusal;
-use std::alloc::Global;
+use std::alloc::{AllocError, Global};
 
-/// The longest script, in bytes.
-pub const SCRIPT_LIMIT: usize = 65536;
+/// The size of the disk of a session, in bytes: two slots of a client.
+pub const DISK_SIZE: u64 = 393216;
 
-/// Reads a script from the source and plays it.
-fn work<S: Source, O: Sink>(alloc: Global, source: &mut S, out: &mut O) -> Result<Ending, Failed>
-    ensures ended { IfOk result (Works (S.left source.old) (S.left source.new) (S.faults source.old) (S.faults source.new)
-        (O.taken out.old) (O.taken out.new) (O.faults out.old) (O.faults out.new)) }
-    ensures cut { OnErr result (IsCutOff (S.left source.old) (S.left source.new) (S.faults source.old) (S.faults source.new)
-        (O.taken out.old) (O.taken out.new) (O.faults out.old) (O.faults out.new)) }
-    ensures reads { S.faults source.old ≤ S.faults source.new }
-    ensures writes { O.faults out.old ≤ O.faults out.new }
-{
-    let text = match read_whole(alloc, source, SCRIPT_LIMIT) {
-        Ok(text) => text,
-        Err(InputError::Memory) => return Ok(Ending::NoMemory),
-        Err(InputError::TooLong) => return Ok(Ending::InputTooLong(SCRIPT_LIMIT as u32)),
-        Err(InputError::Fault) => return Ok(Ending::ReadFault),
-    };
-    let script = match Script::parse(alloc, text.as_slice()) {
-        Ok(script) => script,
-        Err(ScriptError::Memory) => return Ok(Ending::NoMemory),
-        Err(ScriptError::Line(number)) => return Ok(Ending::BadLine(number)),
-    };
-    match play_named(alloc, &script, out) {
-        Ok(_) => Ok(Ending::Done),
-        Err(PlayError::Memory) => Ok(Ending::NoMemory),
-        Err(PlayError::NoPair) => Ok(Ending::Refused(Refusal::NoPair)),
-        Err(PlayError::Write) => Err(Failed),
-    }
-}
-
-/// Runs the program on its words, the arguments behind its name: it reads from `source`, writes to `out`, and
-/// answers the status that the program ends with. The one command is `duet`, which plays a script.
-pub fn run<S: Source, O: Sink>(
+/// Runs the program on its words, the arguments behind its name: the session is kept on `disk`, which is lent as the last
+/// run left it, texts come from `source`, lines go to `out`, and seeds are drawn from `draws`. It answers the status that
+/// the program ends with.
+pub fn run<D: Disk, S: Source, O: Sink, W: Draws>(
     alloc: Global,
     words: &[String],
+    disk: &mut D,
     source: &mut S,
     out: &mut O,
+    draws: &mut W,
 ) -> Status
-    // Other words are answered with how the program is used, and the source is left as it was.
-    ensures usage { (IsDuet words.now → ⊥) → Ends Usage [] (O.taken out.old) (O.taken out.new) (O.faults out.old) (O.faults out.new) result.code }
-    ensures unread { (IsDuet words.now → ⊥) → source.new ≡ source.old }
-
-    // The headline: what is written is what both sides answer to the script's events, up to a write that fails, and
-    // that is what the machine answers, where no packet that the script makes up has a forged tag. Each ending has
-    // its cause, leaves its part of the source, and counts no fault but the one that it names.
-    ensures duet { IsDuet words.now → RunsDuet (S.left source.old) (S.left source.new) (S.faults source.old) (S.faults source.new)
-        (O.taken out.old) (O.taken out.new) (O.faults out.old) (O.faults out.new) result.code }
+    requires { IsWithin client_area (D.state disk.old) }
+    // The headline, command by command: what is written, why it ended so, what every crash meanwhile and a read at the end
+    // stand for, what was read and what was drawn. Memory may be wanting for the words; then nothing was done.
+    ensures runs { RunsProgram D.state S.left S.faults W.coming W.faults (command_of (map string_bytes words.now))
+        (held disk.old source.old draws.old (O.taken out.old) (O.faults out.old))
+        (held disk.new source.new draws.new (O.taken out.new) (O.faults out.new)) result.code }
     ensures reads { S.faults source.old ≤ S.faults source.new }
     ensures writes { O.faults out.old ≤ O.faults out.new }
-
-    // Status 0 says that no read and no write failed.
-    ensures quiet { result.code ≡ 0 → (S.faults source.new ≡ S.faults source.old) × (O.faults out.new ≡ O.faults out.old) }
 {
-    if !is_duet(words) {
-        return finish(out, Ending::Usage);
-    }
-    match work(alloc, source, out) {
-        Ok(ending) => finish(out, ending),
-        Err(Failed) => Status { code: 5 },
+    match parse(alloc, words) {
+        Err(AllocError) => finish(out, Ending::NoMemory),
+        Ok(None) => finish(out, Ending::Usage),
+        Ok(Some(command)) => perform(alloc, command, disk, source, out, draws),
     }
 }

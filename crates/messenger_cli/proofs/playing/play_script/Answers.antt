@@ -1,9 +1,9 @@
 use Rattle.endings.specs.declared.ending.Ending.TheVariants.{Done}
 use Rattle.endings.proofs.Closing.{ends_behind, ends_cut}
-use Rattle.messenger_cli.proofs.program.run.Goals as goal
+use Rattle.messenger_cli.proofs.playing.play_script.Goals as goal
 
-pub returns-in-Ok-clause-duet : goal.returns-in-Ok-clause-duet
-returns-in-Ok-clause-duet g c _ =
+pub returns-in-Ok-clause-runs : goal.returns-in-Ok-clause-runs
+returns-in-Ok-clause-runs g c =
     let works = c.in-Ok.ensures.ended in
     record {
       ending = c.in-Ok.ending;
@@ -11,11 +11,11 @@ returns-in-Ok-clause-duet g c _ =
       reason = works.reason;
       leaves = works.leaves;
       reads = works.reads;
-      ends = ends_behind c.in-Ok.ending works.lines _ _ _ _ _ _ _ works.wrote works.quiet c.finish-in-Ok.ensures.ends;
+      ends = ends_behind c.in-Ok.ending works.lines _ _ _ _ _ _ _ works.wrote works.quiet c.finish.ensures.ends;
     }
 
-pub returns-in-Err-clause-duet : goal.returns-in-Err-clause-duet
-returns-in-Err-clause-duet g c _ =
+pub returns-in-Err-clause-runs : goal.returns-in-Err-clause-runs
+returns-in-Err-clause-runs g c =
     let cut = c.in-Err.ensures.cut in
     record {
       ending = Done;

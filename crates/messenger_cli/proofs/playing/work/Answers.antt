@@ -4,7 +4,7 @@ use Rattle.duet.specs.Trace.{played}
 use Rattle.messenger_cli.specs.Mechanisms.{mechanism_of}
 use Rattle.dr_ports.proofs.Told.{appended-none}
 use Rattle.messenger_cli.proofs.Traces.{is_trace, has_no_pair}
-use Rattle.messenger_cli.proofs.program.work.Goals as goal
+use Rattle.messenger_cli.proofs.playing.work.Goals as goal
 
 pub returns-in-Ok-play_named-clause-ended : goal.returns-in-Ok-play_named-clause-ended
 returns-in-Ok-play_named-clause-ended g c =

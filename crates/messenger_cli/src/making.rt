@@ -1,0 +1,49 @@
+//! The command that plays a script made from a number.
+
+ghost use Rattle.std.specs.Prelude.{◌≡◌, ◌≤◌, [], IfErr, IfOk};
+ghost use Rattle.duet.specs.Make.{made_script};
+ghost use Rattle.duet.specs.Tally.{tally_of};
+ghost use Rattle.kem_laws.specs.Open.{open_kem};
+ghost use Rattle.session_commands.specs.Runs.{Runs};
+ghost use Rattle.messenger_cli.specs.Making.{PlaysMade};
+
+use dr_ports::{Failed, NullSink, Sink, write_all};
+use duet::{PlayError, Script, Tally, play, summary_lines};
+use endings::{Ending, Status, finish};
+use kem_laws::OpenKem;
+use session_model::Refusal;
+use std::alloc::Global;
+
+/// What the script of so many rounds that is made from a number comes to, or how the command ends without it.
+fn tally_made(alloc: Global, rounds: u32, number: u64) -> Result<Tally, Ending>
+    ensures tally { IfOk result (λ tally. tally ≡ tally_of open_kem (made_script rounds number)) }
+    ensures ending { IfErr result (λ ending. PlaysMade rounds number ending []) }
+{
+    let Ok(script) = Script::make(alloc, rounds, number) else {
+        return Err(Ending::NoMemory);
+    };
+    let mut nowhere = NullSink::new();
+    match play::<OpenKem, NullSink>(alloc, &script, &mut nowhere) {
+        Ok(tally) => Ok(tally),
+        Err(PlayError::Memory) => Err(Ending::NoMemory),
+        Err(PlayError::NoPair) => Err(Ending::Refused(Refusal::NoPair)),
+        Err(PlayError::Write) => unreachable!(),
+    }
+}
+
+/// Plays the script of so many rounds that is made from a number, and writes what it comes to in six lines.
+pub(crate) fn play_made<O: Sink>(alloc: Global, rounds: u32, number: u64, out: &mut O) -> Status
+    ensures runs { Runs (PlaysMade rounds number) (O.taken out.old) (O.taken out.new) (O.faults out.old) (O.faults out.new) result.code }
+    ensures writes { O.faults out.old ≤ O.faults out.new }
+    // Status 0 says that no write failed.
+    ensures quiet { result.code ≡ 0 → O.faults out.new ≡ O.faults out.old }
+{
+    let tally = match tally_made(alloc, rounds, number) {
+        Err(ending) => return finish(out, ending),
+        Ok(tally) => tally,
+    };
+    match write_all(out, summary_lines(&tally).as_slice()) {
+        Err(Failed) => Status { code: 5 },
+        Ok(()) => finish(out, Ending::Done),
+    }
+}
