@@ -14,7 +14,7 @@ use Rattle.relay_wire.specs.Requests.{Asked, read_request}
 -- ---- one request
 
 -- the reply is that of the box of the name
-reply_own : (boxes : List Box) (asked : Asked) → (answers_of boxes asked).reply ≡ reply_alone (box_of asked.name boxes) asked.ask
+pub reply_own : (boxes : List Box) (asked : Asked) → (answers_of boxes asked).reply ≡ reply_alone (box_of asked.name boxes) asked.ask
 unfolding answers_of
 reply_own [] asked = refl
 reply_own (box ∷ boxes) asked = by_name (reply_own boxes asked) (is_named asked.name box)
@@ -25,7 +25,7 @@ reply_own (box ∷ boxes) asked = by_name (reply_own boxes asked) (is_named aske
     by_name more false = more
 
 -- the box of the name is what the request makes of it
-next_own : (boxes : List Box) (asked : Asked) (name : List ℕ) → bytes_eq asked.name name ≡ true
+pub next_own : (boxes : List Box) (asked : Asked) (name : List ℕ) → bytes_eq asked.name name ≡ true
     → box_of name (answers_of boxes asked).next ≡ next_alone (box_of name boxes) asked.ask
 unfolding answers_of
 next_own [] asked name same = refl
@@ -43,7 +43,7 @@ next_own (box ∷ boxes) asked name same = by_name (next_own boxes asked name sa
         rw other more
 
 -- every other box stays
-next_other : (boxes : List Box) (asked : Asked) (name : List ℕ) → bytes_eq asked.name name ≡ false → box_of name (answers_of boxes asked).next ≡ box_of name boxes
+pub next_other : (boxes : List Box) (asked : Asked) (name : List ℕ) → bytes_eq asked.name name ≡ false → box_of name (answers_of boxes asked).next ≡ box_of name boxes
 unfolding answers_of
 next_other [] asked name other = refl
 next_other (box ∷ boxes) asked name other = by_name (next_other boxes asked name other) (is_named asked.name box) refl

@@ -1,22 +1,20 @@
 -- How a connection is_last, from the rounds so far and the last one.
-use Rattle.std.proofs.Common.{◌≡◌, ℕ, ◌+◌, ◌<◌, ◌≤◌, Bool, true, false, List, [], ◌∷◌, ◌++◌, length, drop, Ok, Err, refl, sym, ◌∙◌, ap, subst, arith, append_assoc, append-nil}
+use Rattle.std.proofs.Common.{◌≡◌, ℕ, ◌+◌, ◌<◌, ◌≤◌, Bool, true, false, List, [], ◌++◌, Ok, Err, refl, sym, ◌∙◌, ap, subst, arith, append_assoc, append-nil}
 use Rattle.std.specs.Prelude.{flat_map}
-use Rattle.dr_disk.specs.declared.call.Call.{Call}
 use Rattle.dr_disk.specs.State.{DiskState}
-use Rattle.dr_disk.specs.Spans.{Span}
 use Rattle.dr_ports.specs.Ports.{Rose}
 use Rattle.dr_ports.specs.declared.pipe.Part.TheVariants.{Flow}
 use Rattle.dr_ports.specs.Wires.{Port}
-use Rattle.relay_wire.specs.Requests.{read_request}
+use Rattle.relay_core.specs.declared.limits.TheConstants.{EXCHANGE_LIMIT}
 use Rattle.relay_core.specs.Boxes.{Box}
-use Rattle.relay_core.specs.Streams.{served, reply_frame, reply_bytes, is_last}
+use Rattle.relay_core.specs.Streams.{reply_frame, is_last}
 use Rattle.relay_core.proofs.Apart.{isolated}
 use Rattle.relay_server.specs.declared.serving.Ended.{Ended}
 use Rattle.relay_server.specs.declared.serving.ServeFault.{ServeFault}
 use Rattle.relay_server.specs.declared.serving.ServeFault.TheVariants.{Read, Write, Store}
 use Rattle.relay_server.specs.declared.serving.Round.TheVariants.{AtEnd, Answered}
 use Rattle.relay_server.specs.Durable.{ServerNow, IsReady}
-use Rattle.relay_server.specs.Serving.{Exchanges, Rounds, IsServed, SoFar, reply_to, IsAll}
+use Rattle.relay_server.specs.Serving.{Exchanges, Rounds, IsServed, SoFar, reply_to}
 use Rattle.relay_server.proofs.Serve.{flat, exchange_of, one_more_round, idle_answers, idle_during, idle_count, idle_all, came_during, came_bytes, came_answers, came_count, came_last, came_stands, full_answers, full_during, full_count, full_all}
 
 pub rose_since : (a b c : ℕ) → a ≤ b → Rose b c → Rose a c
@@ -25,7 +23,7 @@ rose_since a b c le rose = omega (arith, le, rose)
 disk_rose_since : (a b c : ℕ) → a ≤ b → Rose b c → Rose a c
 disk_rose_since a b c le rose = omega (arith, le, rose)
 
-module _ (text : Box → List ℕ) (old server new : ServerNow) (start now after : Port) (dstart dnow dafter : DiskState) (n : ℕ) (so : SoFar text 65536 old server.boxes start now dstart dnow n) (under : n < 65536) where
+module _ (text : Box → List ℕ) (old server new : ServerNow) (start now after : Port) (dstart dnow dafter : DiskState) (n : ℕ) (so : SoFar text EXCHANGE_LIMIT old server.boxes start now dstart dnow n) (under : n < EXCHANGE_LIMIT) where
   pub exit_fault : (fault : ServeFault) → Rounds text server new now after dnow dafter (Err fault) → IsServed text old new start after dstart dafter (Err fault)
   exit_fault Read r = record {
     got = flat so.frames ++ r.0;
@@ -89,10 +87,10 @@ module _ (text : Box → List ℕ) (old server new : ServerNow) (start now after
     );
   }
 
-  pub goes_on : (last : Bool) → last ≡ false → now.faults Flow ≤ after.faults Flow → Rounds text server new now after dnow dafter (Ok (Answered last)) → SoFar text 65536 old new.boxes start after dstart dafter (n + 1)
-  goes_on last not_last later r = one_more_round text 65536 old server.boxes start now dstart dnow n so r.0 (reply_to server.boxes r.0) new.boxes after dafter under r.1 refl (sym r.2 ∙ not_last) later
+  pub goes_on : (last : Bool) → last ≡ false → now.faults Flow ≤ after.faults Flow → Rounds text server new now after dnow dafter (Ok (Answered last)) → SoFar text EXCHANGE_LIMIT old new.boxes start after dstart dafter (n + 1)
+  goes_on last not_last later r = one_more_round text EXCHANGE_LIMIT old server.boxes start now dstart dnow n so r.0 (reply_to server.boxes r.0) new.boxes after dafter under r.1 refl (sym r.2 ∙ not_last) later
 
-pub exit_full : (text : Box → List ℕ) (old server : ServerNow) (start now : Port) (dstart dnow : DiskState) (n : ℕ) → SoFar text 65536 old server.boxes start now dstart dnow n → n ≡ 65536 → IsReady text server dnow → (ended : Ended) → ended.answered ≡ 65536
+pub exit_full : (text : Box → List ℕ) (old server : ServerNow) (start now : Port) (dstart dnow : DiskState) (n : ℕ) → SoFar text EXCHANGE_LIMIT old server.boxes start now dstart dnow n → n ≡ EXCHANGE_LIMIT → IsReady text server dnow → (ended : Ended) → ended.answered ≡ EXCHANGE_LIMIT
     → IsServed text old server start now dstart dnow (Ok ended)
 exit_full text old server start now dstart dnow n so full ready ended is = record {
   got = flat so.frames;

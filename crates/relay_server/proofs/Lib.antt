@@ -1,5 +1,8 @@
 pub mod Exits
-pub mod Pulls
+pub mod FilledAreas
+pub mod LoadedBoxes
+pub mod OpenedAreas
+pub mod OpenedBoxes
 pub mod Replacing
 pub mod Rounds
 pub mod Serve

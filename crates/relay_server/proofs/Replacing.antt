@@ -1,6 +1,6 @@
 -- One record of many is replaced: the other boxes stay.
-use Rattle.std.proofs.Common.{◌≡◌, ◌≢◌, ◌⊎◌, inl, inr, ⊎_elim, ℕ, zero, suc, ◌+◌, ◌*◌, ◌<◌, ◌≤◌, Bool, true, false, List, [], ◌∷◌, length, Option, Some, None, refl, sym, ◌∙◌, ap, subst, arith}
-use Rattle.std.specs.Prelude.{slice_get, slice_index}
+use Rattle.std.proofs.Common.{◌≡◌, ◌≢◌, inl, inr, ⊎_elim, ℕ, zero, suc, ◌+◌, ◌<◌, ◌≤◌, Bool, true, List, [], ◌∷◌, length, Some, None, refl, sym, ◌∙◌, ap, subst, arith}
+use Rattle.std.specs.Prelude.{slice_get}
 use Rattle.std.proofs.lemmas.Bool.{cases_eq, cases_lt}
 use Rattle.dr_disk.specs.State.{DiskState, Always}
 use Rattle.dr_disk.specs.Spans.{Span, Frame}
@@ -9,7 +9,7 @@ use Rattle.dr_disk.proofs.Steps.{widen}
 use Rattle.slot_store.specs.declared.area.Area.{Area}
 use Rattle.slot_store.specs.declared.store.SlotStore.{SlotStore}
 use Rattle.slot_store.specs.Slots.{recovered}
-use Rattle.slot_store.specs.Store.{IsOldOrNew, IsWithin, Rests, content}
+use Rattle.slot_store.specs.Store.{IsOldOrNew, Rests, content}
 use Rattle.slot_store.specs.Laws.{IsLocal, SameWithin}
 use Rattle.relay_core.specs.Boxes.{Box, Answers}
 use Rattle.relay_core.specs.Changes.{ChangesOne, IsChange}
@@ -18,18 +18,18 @@ use Rattle.relay_server.specs.Durable.{area_of, ServerNow, StandsFor, IsReady, S
 abbrev pub with_stores : List Box → List SlotStore → ServerNow
 with_stores boxes stores = record { boxes = boxes; stores = stores }
 
-there_is : {X : Type 0} (xs : List X) (k : ℕ) → k < length xs → (x : X) × (slice_get xs k ≡ Some x)
+pub there_is : {X : Type 0} (xs : List X) (k : ℕ) → k < length xs → (x : X) × (slice_get xs k ≡ Some x)
 there_is [] k inside = absurd (omega (arith, inside))
 there_is (x ∷ xs) zero inside = (x, refl)
 there_is (x ∷ xs) (suc k) inside = there_is xs k (omega (arith, inside))
 
-within : {X : Type 0} (xs : List X) (k : ℕ) (x : X) → slice_get xs k ≡ Some x → k < length xs
+pub within : {X : Type 0} (xs : List X) (k : ℕ) (x : X) → slice_get xs k ≡ Some x → k < length xs
 within {X} [] k x is = absurd (let e : None ≡ Some x = is in cc)
 within (y ∷ xs) zero x is = omega arith
 within (y ∷ xs) (suc k) x is = let i : k < length xs = within xs k x is in omega (arith, i)
 
 -- what is torn in one area is the same in each other
-apart : (j k : ℕ) (c d : List ℕ) → j ≢ k → Torn (area_of k).start ((area_of k).slot + (area_of k).slot) d c → SameWithin (area_of j) c d
+pub apart : (j k : ℕ) (c d : List ℕ) → j ≢ k → Torn (area_of k).start ((area_of k).slot + (area_of k).slot) d c → SameWithin (area_of j) c d
 apart j k c d other torn = record {
   size = torn.size;
   bytes = λ i from to. torn.outside i (elim (cases_lt j k) [ inl below ↦ inl (omega (arith, below, to)) | inr above ↦ inr (omega (arith, above, other, from)) ]);

@@ -1,20 +1,20 @@
 -- Round behind round.
-use Rattle.std.proofs.Common.{◌≡◌, ◌⊎◌, inl, inr, ⊎_elim, ℕ, zero, suc, ◌+◌, ◌-◌, ◌<◌, ◌≤◌, Bool, true, false, List, [], ◌∷◌, ◌++◌, length, drop, Option, Some, None, Result, Ok, Err, refl, sym, ◌∙◌, ap, ap₂, subst, arith, append_assoc, append-nil}
+use Rattle.std.proofs.Common.{◌≡◌, ⊎_elim, ℕ, zero, suc, ◌+◌, ◌-◌, ◌<◌, ◌≤◌, Bool, true, false, List, [], ◌∷◌, ◌++◌, length, drop, Option, Some, None, refl, sym, ◌∙◌, ap, ap₂, subst, arith, append_assoc, append-nil}
 use Rattle.std.specs.Prelude.{option_map, flat_map, IfSome, if◌then◌else◌}
 use Rattle.std.specs.List.{AllByRecursion}
-use Rattle.std.proofs.lemmas.List.{length_push, append_cancel_left, length-append}
+use Rattle.std.proofs.lemmas.List.{length_push, append_cancel_left}
 use Rattle.dr_disk.specs.State.{DiskState, Always}
 use Rattle.dr_disk.specs.Spans.{Span}
 use Rattle.dr_disk.proofs.Steps.{spans, widen}
 use Rattle.dr_ports.specs.declared.pipe.Part.TheVariants.{Flow}
 use Rattle.dr_ports.specs.Wires.{Port, Told, EndsAt, IsAtEnd}
-use Rattle.relay_wire.specs.Requests.{Asked, read_request}
-use Rattle.relay_wire.specs.Replies.{reply_body}
-use Rattle.relay_wire.specs.Frames.{IsFrame, IsPartial, framed, frames_of, Splits, stream_of}
+use Rattle.relay_wire.specs.Requests.{read_request}
+use Rattle.relay_wire.specs.Frames.{IsFrame, IsPartial, frames_of}
 use Rattle.relay_wire.proofs.Splitting.{only, each}
+use Rattle.relay_core.specs.declared.limits.TheConstants.{EXCHANGE_LIMIT}
 use Rattle.relay_core.specs.Boxes.{Box, answers_read}
 use Rattle.relay_core.specs.Streams.{Exchange, Served, and_then, served, served_within, reply_frame, reply_bytes, is_last}
-use Rattle.relay_server.specs.Durable.{ServerNow, IsReady, StandsFor, StandsForEither}
+use Rattle.relay_server.specs.Durable.{ServerNow, StandsFor, StandsForEither}
 use Rattle.relay_server.specs.Serving.{exchanged, Exchanges, Idle, Came, reply_to, ReachedIn, Reached, IsAll, LastOrBefore, Answers, prepend, SoFar}
 
 -- ---- frames
@@ -159,17 +159,17 @@ module _ (text : Box → List ℕ) (most : ℕ) (old : ServerNow) where
 
 -- ---- the exits
 
-served_is : (boxes : List Box) (frames : List (List ℕ)) (rest : List ℕ) → AllByRecursion IsFrame frames → served boxes (flat frames ++ rest) ≡ served_within 65536 boxes (frames ++ frames_of rest)
+served_is : (boxes : List Box) (frames : List (List ℕ)) (rest : List ℕ) → AllByRecursion IsFrame frames → served boxes (flat frames ++ rest) ≡ served_within EXCHANGE_LIMIT boxes (frames ++ frames_of rest)
 unfolding served
-served_is boxes frames rest whole = ap (served_within 65536 boxes) (frames_join frames rest whole)
+served_is boxes frames rest whole = ap (served_within EXCHANGE_LIMIT boxes) (frames_join frames rest whole)
 
 nothing_left : frames_of [] ≡ []
 nothing_left = no_frames [] (omega arith)
 
-same_span : (text : Box → List ℕ) (boxes : List Box) (frames : List (List ℕ)) (got : List ℕ) (a b : DiskState) → frames_of got ≡ frames → Span a b (ReachedIn text 65536 boxes frames) → Span a b (Reached text boxes got)
-same_span text boxes frames got a b is span = subst (λ (fs : List (List ℕ)). Span a b (ReachedIn text 65536 boxes fs)) (sym is) span
+same_span : (text : Box → List ℕ) (boxes : List Box) (frames : List (List ℕ)) (got : List ℕ) (a b : DiskState) → frames_of got ≡ frames → Span a b (ReachedIn text EXCHANGE_LIMIT boxes frames) → Span a b (Reached text boxes got)
+same_span text boxes frames got a b is span = subst (λ (fs : List (List ℕ)). Span a b (ReachedIn text EXCHANGE_LIMIT boxes fs)) (sym is) span
 
-module _ (text : Box → List ℕ) (old : ServerNow) (boxes : List Box) (start now : Port) (dstart dnow : DiskState) (n : ℕ) (so : SoFar text 65536 old boxes start now dstart dnow n) where
+module _ (text : Box → List ℕ) (old : ServerNow) (boxes : List Box) (start now : Port) (dstart dnow : DiskState) (n : ℕ) (so : SoFar text EXCHANGE_LIMIT old boxes start now dstart dnow n) where
   frames_are : frames_of (flat so.frames) ≡ so.frames
   frames_are = ap frames_of (sym (append-nil (flat so.frames))) ∙ frames_join so.frames [] so.each ∙ ap (λ (fs : List (List ℕ)). so.frames ++ fs) nothing_left ∙ append-nil so.frames
 
@@ -182,8 +182,8 @@ module _ (text : Box → List ℕ) (old : ServerNow) (boxes : List Box) (start n
     total_frames = frames_join so.frames got so.each ∙ ap (λ (fs : List (List ℕ)). so.frames ++ fs) (no_frames got idle.partial) ∙ append-nil so.frames
 
     total_served : served old.boxes total ≡ ended_with so.exs boxes
-    total_served = served_is old.boxes so.frames got so.each ∙ ap (λ (fs : List (List ℕ)). served_within 65536 old.boxes (so.frames ++ fs)) (no_frames got idle.partial)
-        ∙ ap (served_within 65536 old.boxes) (append-nil so.frames) ∙ so_served text 65536 old boxes start now dstart dnow n so
+    total_served = served_is old.boxes so.frames got so.each ∙ ap (λ (fs : List (List ℕ)). served_within EXCHANGE_LIMIT old.boxes (so.frames ++ fs)) (no_frames got idle.partial)
+        ∙ ap (served_within EXCHANGE_LIMIT old.boxes) (append-nil so.frames) ∙ so_served text EXCHANGE_LIMIT old boxes start now dstart dnow n so
 
     pub idle_answers : Answers old.boxes next total (reply_bytes (served old.boxes total)) start after
     idle_answers = record {
@@ -206,15 +206,15 @@ module _ (text : Box → List ℕ) (old : ServerNow) (boxes : List Box) (start n
         ap (λ (m : List ℕ). served old.boxes (total ++ m)) none ∙ ap (served old.boxes) (append-nil total)
 
   -- a frame came
-  module _ (frame put : List ℕ) (next : List Box) (after : Port) (dafter : DiskState) (under : n < 65536) (came : Came text frame put boxes next now after dnow dafter) where
+  module _ (frame put : List ℕ) (next : List Box) (after : Port) (dafter : DiskState) (under : n < EXCHANGE_LIMIT) (came : Came text frame put boxes next now after dnow dafter) where
     abbrev whole : List ℕ
     whole = flat so.frames ++ frame
 
     flat_is : flat (so.frames ++ frame ∷ []) ≡ whole
-    flat_is = flat_with text 65536 old boxes start now dstart dnow n so frame put next after dafter under came
+    flat_is = flat_with text EXCHANGE_LIMIT old boxes start now dstart dnow n so frame put next after dafter under came
 
     all_whole : AllByRecursion IsFrame (so.frames ++ frame ∷ [])
-    all_whole = whole_with text 65536 old boxes start now dstart dnow n so frame put next after dafter under came
+    all_whole = whole_with text EXCHANGE_LIMIT old boxes start now dstart dnow n so frame put next after dafter under came
 
     whole_frames : frames_of whole ≡ so.frames ++ frame ∷ []
     whole_frames = ap frames_of (sym flat_is ∙ sym (append-nil (flat (so.frames ++ frame ∷ [])))) ∙ frames_join (so.frames ++ frame ∷ []) [] all_whole ∙ ap (λ (fs : List (List ℕ)). (so.frames ++ frame ∷ []) ++ fs) nothing_left ∙ append-nil (so.frames ++ frame ∷ [])
@@ -222,18 +222,18 @@ module _ (text : Box → List ℕ) (old : ServerNow) (boxes : List Box) (start n
     whole_served : served old.boxes whole ≡ ended_with (so.exs ++ exchange_of boxes frame ∷ []) next
     whole_served =
         ap (served old.boxes) (sym flat_is ∙ sym (append-nil (flat (so.frames ++ frame ∷ [])))) ∙ served_is old.boxes (so.frames ++ frame ∷ []) [] all_whole
-        ∙ ap (λ (fs : List (List ℕ)). served_within 65536 old.boxes ((so.frames ++ frame ∷ []) ++ fs)) nothing_left ∙ ap (served_within 65536 old.boxes) (append-nil (so.frames ++ frame ∷ []))
-        ∙ with_frame text 65536 old boxes start now dstart dnow n so frame put next after dafter under came
+        ∙ ap (λ (fs : List (List ℕ)). served_within EXCHANGE_LIMIT old.boxes ((so.frames ++ frame ∷ []) ++ fs)) nothing_left ∙ ap (served_within EXCHANGE_LIMIT old.boxes) (append-nil (so.frames ++ frame ∷ []))
+        ∙ with_frame text EXCHANGE_LIMIT old boxes start now dstart dnow n so frame put next after dafter under came
 
     pub came_during : Span dstart dafter (Reached text old.boxes whole)
-    came_during = same_span text old.boxes (so.frames ++ frame ∷ []) whole dstart dafter whole_frames (span_with text 65536 old boxes start now dstart dnow n so frame put next after dafter under came)
+    came_during = same_span text old.boxes (so.frames ++ frame ∷ []) whole dstart dafter whole_frames (span_with text EXCHANGE_LIMIT old boxes start now dstart dnow n so frame put next after dafter under came)
 
     pub came_stands : Always (StandsForEither text boxes next) dafter → LastOrBefore text old.boxes next whole dafter
     came_stands each = record {
       front = so.frames;
       frame = frame;
       split = whole_frames;
-      each = subst (λ (bs : List Box). Always (StandsForEither text bs next) dafter) (sym (ap (λ (s : Served). s.next) (so_served text 65536 old boxes start now dstart dnow n so))) each;
+      each = subst (λ (bs : List Box). Always (StandsForEither text bs next) dafter) (sym (ap (λ (s : Served). s.next) (so_served text EXCHANGE_LIMIT old boxes start now dstart dnow n so))) each;
     }
 
     -- the replies, up to what was sent of the last
@@ -252,14 +252,14 @@ module _ (text : Box → List ℕ) (old : ServerNow) (boxes : List Box) (start n
     pub came_last : is_last (read_request (drop 2 frame)) ≡ true → (more : List ℕ) → served old.boxes (whole ++ more) ≡ served old.boxes whole
     came_last last more =
         ap (λ (w : List ℕ). served old.boxes (w ++ more)) (sym flat_is) ∙ served_is old.boxes (so.frames ++ frame ∷ []) more all_whole
-        ∙ ap (served_within 65536 old.boxes) (append_assoc so.frames (frame ∷ []) (frames_of more)) ∙ so.ahead (frame ∷ frames_of more)
-        ∙ ap (prepend so.exs) (serves_frame 65536 n boxes frame (frames_of more) true under (sym last))
+        ∙ ap (served_within EXCHANGE_LIMIT old.boxes) (append_assoc so.frames (frame ∷ []) (frames_of more)) ∙ so.ahead (frame ∷ frames_of more)
+        ∙ ap (prepend so.exs) (serves_frame EXCHANGE_LIMIT n boxes frame (frames_of more) true under (sym last))
         ∙ ap (ended_with (so.exs ++ exchange_of boxes frame ∷ [])) (sym came.next) ∙ sym whole_served
 
   -- as many frames as may be
-  module _ (full : n ≡ 65536) where
-    none_after : (fs : List (List ℕ)) → served_within 65536 old.boxes (so.frames ++ fs) ≡ ended_with so.exs boxes
-    none_after fs = so.ahead fs ∙ ap (λ (m : ℕ). prepend so.exs (served_within m boxes fs)) (let e : 65536 - n ≡ zero = omega (arith, full) in e) ∙ ap (λ (xs : List Exchange). ended_with xs boxes) (append-nil so.exs)
+  module _ (full : n ≡ EXCHANGE_LIMIT) where
+    none_after : (fs : List (List ℕ)) → served_within EXCHANGE_LIMIT old.boxes (so.frames ++ fs) ≡ ended_with so.exs boxes
+    none_after fs = so.ahead fs ∙ ap (λ (m : ℕ). prepend so.exs (served_within m boxes fs)) (let e : EXCHANGE_LIMIT - n ≡ zero = omega (arith, full) in e) ∙ ap (λ (xs : List Exchange). ended_with xs boxes) (append-nil so.exs)
 
     full_served : (more : List ℕ) → served old.boxes (flat so.frames ++ more) ≡ ended_with so.exs boxes
     full_served more = served_is old.boxes so.frames more so.each ∙ none_after (frames_of more)
@@ -276,7 +276,7 @@ module _ (text : Box → List ℕ) (old : ServerNow) (boxes : List Box) (start n
     pub full_during : Span dstart dnow (Reached text old.boxes (flat so.frames))
     full_during = same_span text old.boxes so.frames (flat so.frames) dstart dnow frames_are so.during
 
-    pub full_count : length (served old.boxes (flat so.frames)).exchanges ≡ 65536
+    pub full_count : length (served old.boxes (flat so.frames)).exchanges ≡ EXCHANGE_LIMIT
     full_count = ap (λ (s : Served). length s.exchanges) full_here ∙ so.count ∙ full
 
     pub full_all : (more : List ℕ) → served old.boxes (flat so.frames ++ more) ≡ served old.boxes (flat so.frames)

@@ -1,5 +1,5 @@
 -- A relay on a disk: its boxes, each a record in an area of its own.
-use Rattle.std.specs.Prelude.{◌≡◌, ◌≢◌, ◌⊎◌, ℕ, ◌+◌, ◌*◌, ◌<◌, ◌≤◌, Bool, true, List, length, slice_get, Option, Some}
+use Rattle.std.specs.Prelude.{◌≡◌, ◌⊎◌, ℕ, ◌+◌, ◌*◌, ◌<◌, Bool, true, List, length, slice_get, Some}
 use Rattle.dr_disk.specs.State.{DiskState, Always}
 use Rattle.dr_disk.specs.Spans.{Span, Frame}
 use Rattle.slot_store.specs.declared.area.Area.{Area}

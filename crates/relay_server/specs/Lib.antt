@@ -1,3 +1,5 @@
 pub mod Durable
-pub mod Pulling
+pub mod Opening
+pub mod Areas
+pub mod Filling
 pub mod Serving

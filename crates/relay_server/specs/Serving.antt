@@ -1,15 +1,16 @@
 -- A connection that is served.
-use Rattle.std.specs.Prelude.{◌≡◌, ◌⊎◌, ◌+◌, ◌-◌, ◌≤◌, ℕ, Bool, List, [], ◌∷◌, ◌++◌, length, drop, flat_map, Option, Some, None, option_map, Result, Ok, Err}
+use Rattle.std.specs.Prelude.{◌≡◌, ◌-◌, ◌≤◌, ℕ, List, [], ◌∷◌, ◌++◌, length, drop, flat_map, Some, Result, Ok, Err}
 use Rattle.std.specs.List.{AllByRecursion}
-use Rattle.dr_disk.specs.declared.call.Call.{Call}
 use Rattle.dr_disk.specs.State.{DiskState, Always}
 use Rattle.dr_disk.specs.Spans.{Span}
 use Rattle.dr_ports.specs.Ports.{Rose}
 use Rattle.dr_ports.specs.declared.pipe.Part.TheVariants.{Flow}
-use Rattle.dr_ports.specs.Wires.{Port, Wire, Told, EndsAt}
+use Rattle.dr_ports.specs.Wires.{Port, Told, EndsAt}
+pub use Rattle.relay_pipe.specs.Exchanging.{exchanged, Exchanges}
 use Rattle.relay_wire.specs.Requests.{read_request}
 use Rattle.relay_wire.specs.Replies.{reply_body}
-use Rattle.relay_wire.specs.Frames.{Held, IsFrame, IsPartial, framed, frames_of}
+use Rattle.relay_wire.specs.Frames.{IsFrame, IsPartial, framed, frames_of}
+use Rattle.relay_core.specs.declared.limits.TheConstants.{EXCHANGE_LIMIT}
 use Rattle.relay_core.specs.Boxes.{Box, answers_read, box_of}
 use Rattle.relay_core.specs.Streams.{Exchange, Served, served, served_within, reply_frame, reply_bytes, is_last, IsIsolated, asks, told}
 use Rattle.relay_core.specs.Alone.{box_after}
@@ -20,13 +21,6 @@ use Rattle.relay_server.specs.declared.serving.Round.{Round}
 use Rattle.relay_server.specs.declared.serving.Round.TheVariants.{AtEnd, Answered}
 use Rattle.relay_server.specs.declared.serving.ServeFault.{ServeFault}
 use Rattle.relay_server.specs.declared.serving.ServeFault.TheVariants.{Read, Write, Store}
-
--- the pipe gave these bytes and took those
-abbrev pub exchanged : List ℕ → List ℕ → Told → Told
-exchanged got put t = record t { now = record t.now { received = t.now.received ++ got; sent = t.now.sent ++ put } }
-
-abbrev pub Exchanges : List ℕ → List ℕ → Port → Port → Type 0
-Exchanges got put start now = now.told ≡ option_map (exchanged got put) start.told
 
 -- ---- one round: a frame is pulled, answered, and its reply sent
 
@@ -68,22 +62,22 @@ pub record ReachedIn (text : Box → List ℕ) (most : ℕ) (boxes : List Box) (
   pub stands : StandsFor text (served_within most boxes front).next c
 
 abbrev pub Reached : (Box → List ℕ) → List Box → List ℕ → List ℕ → Type 0
-Reached text boxes got = ReachedIn text 65536 boxes (frames_of got)
+Reached text boxes got = ReachedIn text EXCHANGE_LIMIT boxes (frames_of got)
 
 -- Bytes that stand for the boxes behind all frames, or for those before the last one.
 pub record LastOrBefore (text : Box → List ℕ) (boxes next : List Box) (got : List ℕ) (disk : DiskState) : Type 0 where
   pub front : List (List ℕ)
   pub frame : List ℕ
   pub split : frames_of got ≡ front ++ frame ∷ []
-  pub each : Always (StandsForEither text (served_within 65536 boxes front).next next) disk
+  pub each : Always (StandsForEither text (served_within EXCHANGE_LIMIT boxes front).next next) disk
 
 -- Bytes that stand, box by box, for what the box's own requests in a beginning of the frames made of it.
 pub record StandsForPart (boxes : List Box) (got c : List ℕ) : Type 0 where
   pub front : List (List ℕ)
   pub back : List (List ℕ)
   pub split : frames_of got ≡ front ++ back
-  pub stands : StandsFor box_text (served_within 65536 boxes front).next c
-  pub alone : (name : List ℕ) → box_of name (served_within 65536 boxes front).next ≡ box_after (box_of name boxes) (asks (told name (served_within 65536 boxes front).exchanges))
+  pub stands : StandsFor box_text (served_within EXCHANGE_LIMIT boxes front).next c
+  pub alone : (name : List ℕ) → box_of name (served_within EXCHANGE_LIMIT boxes front).next ≡ box_after (box_of name boxes) (asks (told name (served_within EXCHANGE_LIMIT boxes front).exchanges))
 
 -- nothing more would be answered, whatever is left
 abbrev pub IsAll : List Box → List ℕ → Port → Type 0

@@ -15,14 +15,15 @@ ghost use Rattle.relay_core.specs.Boxes.{answers_read};
 ghost use Rattle.relay_core.specs.Record.{box_text};
 ghost use Rattle.relay_core.specs.Streams.{is_last};
 ghost use Rattle.relay_server.specs.Durable.{IsReady, IsReplaced, StandsForEither};
+ghost use Rattle.relay_server.specs.Filling.{WasTold};
 ghost use Rattle.relay_server.specs.Serving.{IsServed, Rounds};
 
 use crate::answering::{answer_frame, write_text};
-use crate::pulling::{next_frame, send_all};
 use crate::serving::{Answered, Ended, Round, ServeFault};
 use dr_disk::{Call, Disk};
 use dr_ports::{Failed, Pipe};
-use relay_core::{Relay, changes};
+use relay_core::{EXCHANGE_LIMIT, Relay, changes};
+use relay_pipe::{next_frame, send_all};
 use relay_wire::{Frame, FrameReader};
 use slot_store::{SlotStore, locality, resting};
 use std::marker::Model;
@@ -30,9 +31,9 @@ use std::marker::Model;
 /// A relay's boxes, with a store for each. A contract sees both.
 #[derive(Drop)]
 pub struct DurableBoxes {
-    relay: Relay,
-    stores: Vec<SlotStore>,
-    text: Vec<u8>,
+    pub(crate) relay: Relay,
+    pub(crate) stores: Vec<SlotStore>,
+    pub(crate) text: Vec<u8>,
 }
 
 impl Model for DurableBoxes {
@@ -48,7 +49,7 @@ impl Model for DurableBoxes {
 }
 
 /// Replaces the record of one store.
-fn replace_at<D: Disk>(
+pub(crate) fn replace_at<D: Disk>(
     stores: &mut [SlotStore],
     place: usize,
     disk: &mut D,
@@ -63,6 +64,7 @@ fn replace_at<D: Disk>(
     ensures count { length stores.new ≡ length stores.old }
     ensures fault { IfErr result (λ call. Rose ((D.state disk.old).faults call) ((D.state disk.new).faults call)) }
     ensures quiet { OnOk result (IsQuiet (D.state disk.old) (D.state disk.new)) }
+    ensures told { WasTold (D.state disk.old) (D.state disk.new) }
 {
     match stores[place].replace(disk, text) {
         Ok(()) => Ok(()),
@@ -160,7 +162,7 @@ impl DurableBoxes {
         ensures out { length out.new ≡ length out.old }
     {
         reader.clear();
-        'rounds: for answered in 0..65536 {
+        'rounds: for answered in 0..EXCHANGE_LIMIT as u32 {
             match self.round(disk, pipe, reader, piece, out) {
                 Err(fault) => return Err(fault),
                 Ok(Round::AtEnd) => return Ok(Ended { answered }),
@@ -173,6 +175,8 @@ impl DurableBoxes {
                 }
             }
         }
-        Ok(Ended { answered: 65536 })
+        Ok(Ended {
+            answered: EXCHANGE_LIMIT as u32,
+        })
     }
 }

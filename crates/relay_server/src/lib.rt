@@ -2,15 +2,29 @@
 //!
 //! Each box is a record in an area of its own. A reply that says that something was kept or dropped goes out after the
 //! record that has it is on the disk.
+//!
+//! ```rust
+//! use relay_server::Server;
+//!
+//! let mut server = Server::open(alloc, &mut disk, &names)?;
+//! let ended = server.serve(&mut disk, &mut pipe)?; // how many frames were answered
+//! ```
 #![tactic(auto)]
 
 pub use durable::DurableBoxes;
+pub use errors::ServerOpenError;
 pub use law::crashes;
-pub use pulling::{next_frame, send_all};
+pub use server::Server;
 pub use serving::{Answered, Ended, Round, ServeFault};
 
 mod answering;
+mod areas;
 mod durable;
+mod errors;
+mod filling;
 mod law;
-mod pulling;
+mod opening;
+mod server;
 mod serving;
+#[cfg(test)]
+mod tests;

@@ -1,3 +1,4 @@
+use Rattle.relay_core.specs.declared.limits.TheConstants.{EXCHANGE_LIMIT}
 use Rattle.relay_core.proofs.Apart.{isolated_within}
 use Rattle.relay_server.proofs.law.crashes.Goals as goal
 
@@ -7,5 +8,5 @@ returns c = λ boxes got image r. record {
   back = r.back;
   split = r.split;
   stands = r.stands;
-  alone = λ name. (isolated_within 65536 name boxes r.front).next;
+  alone = λ name. (isolated_within EXCHANGE_LIMIT name boxes r.front).next;
 }

@@ -1,12 +1,12 @@
-use Rattle.std.proofs.Common.{inl, ◌≡◌, List, ℕ, ◌+◌, ◌<◌, take, drop, length, true, refl, sym, ◌∙◌, ap, subst, arith}
-use Rattle.std.specs.Prelude.{slice_get, is_ok}
+use Rattle.std.proofs.Common.{inl, ◌≡◌, List, take, drop, length, sym, ◌∙◌, ap, subst}
+use Rattle.std.specs.Prelude.{is_ok}
 use Rattle.std.proofs.lemmas.List.{with_items_is}
 use Rattle.relay_wire.specs.Requests.{read_request}
-use Rattle.relay_core.specs.Boxes.{Box, answers_read}
+use Rattle.relay_core.specs.Boxes.{answers_read}
 use Rattle.relay_core.specs.Record.{box_text}
 use Rattle.slot_store.specs.declared.store.SlotStore.{SlotStore}
-use Rattle.relay_server.specs.Durable.{ServerNow, IsReady}
-use Rattle.relay_server.proofs.Replacing.{Known, known_moments, known_now, known_ready, ready_stands}
+use Rattle.relay_server.specs.Durable.{IsReady}
+use Rattle.relay_server.proofs.Replacing.{known_moments, known_now, known_ready, ready_stands}
 use Rattle.relay_server.proofs.durable.DurableBoxes.answer.Goals as goal
 
 pub returns-in-Err-clause-any_moment : goal.returns-in-Err-clause-any_moment

@@ -1,4 +1,4 @@
-use Rattle.relay_server.proofs.Rounds.{pulled_part, pulled_frame, gave_exchanges, both_exchanges}
+use Rattle.relay_server.proofs.Rounds.{pulled_part}
 use Rattle.relay_server.proofs.durable.DurableBoxes.round.Goals as goal
 
 pub returns-in-Err-clause-rounds : goal.returns-in-Err-clause-rounds

@@ -1,14 +1,15 @@
-use Rattle.std.proofs.Common.{◌+◌, arith, refl, ◌≡◌, ◌∙◌, sym, []}
+use Rattle.std.proofs.Common.{◌+◌, arith, refl, ◌∙◌, []}
 use Rattle.relay_server.proofs.Serve.{nothing_so_far}
 use Rattle.relay_server.proofs.Exits.{exit_fault, exit_end, exit_last, exit_full, goes_on}
 use Rattle.relay_server.proofs.Rounds.{no_call}
+use Rattle.relay_core.specs.declared.limits.TheConstants.{EXCHANGE_LIMIT}
 use Rattle.relay_core.specs.Record.{box_text}
 use Rattle.relay_server.specs.Serving.{ReachedIn}
 use Rattle.relay_server.proofs.durable.DurableBoxes.serve.Goals as goal
 
 pub rounds-init : goal.rounds-init
 rounds-init g c = record {
-  so = nothing_so_far box_text 65536 c.args.self.now (g.P.Pipe.port c.args.pipe.now) (g.D.Disk.state c.args.disk.now) (no_call (g.D.Disk.state c.args.disk.now) (ReachedIn box_text 65536 c.args.self.now.boxes []));
+  so = nothing_so_far box_text EXCHANGE_LIMIT c.args.self.now (g.P.Pipe.port c.args.pipe.now) (g.D.Disk.state c.args.disk.now) (no_call (g.D.Disk.state c.args.disk.now) (ReachedIn box_text EXCHANGE_LIMIT c.args.self.now.boxes []));
   ready = c.requires.ready;
   fresh = c.clear.ensures;
   room = c.requires.room;
@@ -51,4 +52,4 @@ rounds-preserved g c = let rounds = rw c.in-Ok-Answered.field-0-is at c.in-Ok-An
 pub returns-clause-served : goal.returns-clause-served
 returns-clause-served g c =
     exit_full box_text c.args.self.now c.rounds.self (g.P.Pipe.port c.args.pipe.now) (g.P.Pipe.port c.rounds.pipe) (g.D.Disk.state c.args.disk.now) (g.D.Disk.state c.rounds.disk)
-    c.rounds.answered c.rounds.invariant.so (omega (arith, c.rounds-test.false, c.rounds.auto.answered-end)) c.rounds.invariant.ready (record { answered = 65536 }) refl
+    c.rounds.answered c.rounds.invariant.so (omega (arith, c.rounds-test.false, c.rounds.auto.answered-end)) c.rounds.invariant.ready (record { answered = EXCHANGE_LIMIT }) refl

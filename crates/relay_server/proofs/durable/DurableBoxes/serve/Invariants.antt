@@ -1,4 +1,5 @@
 use Rattle.std.proofs.Common.{◌≡◌, ◌≤◌, length, []}
+use Rattle.relay_core.specs.declared.limits.TheConstants.{EXCHANGE_LIMIT}
 use Rattle.relay_core.specs.Record.{box_text}
 use Rattle.relay_wire.specs.declared.limits.TheConstants.{FRAME_LIMIT}
 use Rattle.dr_ports.specs.declared.pipe.Part.TheVariants.{Flow}
@@ -9,7 +10,7 @@ use Rattle.relay_server.proofs.durable.DurableBoxes.serve.Given as goal
 
 abbrev pub invariant-rounds : goal.invariant-rounds
 invariant-rounds g l = record {
-  so : SoFar box_text 65536 l.fn.self l.self.boxes (g.P.Pipe.port l.fn.pipe) (g.P.Pipe.port l.pipe) (g.D.Disk.state l.fn.disk) (g.D.Disk.state l.disk) l.answered;
+  so : SoFar box_text EXCHANGE_LIMIT l.fn.self l.self.boxes (g.P.Pipe.port l.fn.pipe) (g.P.Pipe.port l.pipe) (g.D.Disk.state l.fn.disk) (g.D.Disk.state l.disk) l.answered;
   ready : IsReady box_text l.self (g.D.Disk.state l.disk);
   fresh : l.reader.bytes ≡ [];
   room : FRAME_LIMIT ≤ length l.piece;

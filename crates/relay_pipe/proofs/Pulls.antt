@@ -1,10 +1,10 @@
 -- A pipe gives one piece behind another.
-use Rattle.std.proofs.Common.{◌≡◌, ℕ, ◌+◌, ◌≤◌, List, [], ◌++◌, take, drop, ap₂, Option, Some, None, refl, sym, ◌∙◌, ap, subst, arith, append_assoc, append-nil}
+use Rattle.std.proofs.Common.{◌≡◌, ℕ, ◌+◌, ◌≤◌, List, [], ◌++◌, take, drop, ap₂, Option, Some, None, refl, sym, ◌∙◌, ap, arith, append_assoc, append-nil}
 use Rattle.std.specs.Prelude.{option_map}
 use Rattle.dr_ports.specs.declared.pipe.Part.TheVariants.{Flow}
-use Rattle.dr_ports.specs.Wires.{Port, Wire, Told, Gave, Took, given, taken}
+use Rattle.dr_ports.specs.Wires.{Port, Told, Gave, Took, given, taken}
 use Rattle.relay_wire.specs.Frames.{Held}
-use Rattle.relay_server.specs.Pulling.{Pulled, TookBeginning}
+use Rattle.relay_pipe.specs.Pulling.{Pulled, TookBeginning}
 use Rattle.std.proofs.lemmas.List.{take-append-drop, take-take, drop-take}
 
 none : (o : Option Told) → o ≡ option_map (given []) o

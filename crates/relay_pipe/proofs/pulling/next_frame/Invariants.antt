@@ -1,8 +1,8 @@
 use Rattle.std.proofs.Common.{◌≡◌, ◌≤◌, ◌-◌, length, []}
 use Rattle.relay_wire.specs.declared.limits.TheConstants.{FRAME_LIMIT}
 use Rattle.dr_ports.specs.declared.pipe.Part.TheVariants.{Flow}
-use Rattle.relay_server.specs.Pulling.{Pulled}
-use Rattle.relay_server.proofs.pulling.next_frame.Given as goal
+use Rattle.relay_pipe.specs.Pulling.{Pulled}
+use Rattle.relay_pipe.proofs.pulling.next_frame.Given as goal
 
 abbrev pub invariant-bytes : goal.invariant-bytes
 invariant-bytes g l = record {

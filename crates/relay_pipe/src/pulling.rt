@@ -4,7 +4,7 @@ ghost use Rattle.std.specs.Prelude.{◌≡◌, ◌+◌, ◌<◌, ◌≤◌, leng
 ghost use Rattle.dr_ports.specs.Ports.{HasCause};
 ghost use Rattle.dr_ports.specs.declared.pipe.Part.TheVariants.{Flow};
 ghost use Rattle.dr_ports.specs.Wires.{EndsAt, Gave, Took};
-ghost use Rattle.relay_server.specs.Pulling.{Pulls, TookBeginning};
+ghost use Rattle.relay_pipe.specs.Pulling.{Pulls, TookBeginning};
 ghost use Rattle.relay_wire.specs.declared.limits.TheConstants.{FRAME_LIMIT};
 
 use dr_ports::{Failed, Pipe};

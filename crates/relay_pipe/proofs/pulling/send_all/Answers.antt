@@ -1,7 +1,6 @@
-use Rattle.std.proofs.Common.{arith, ◌∙◌, ap}
-use Rattle.std.proofs.lemmas.List.{take-append-drop}
-use Rattle.relay_server.proofs.Pulls.{took_first, took_more}
-use Rattle.relay_server.proofs.pulling.send_all.Goals as goal
+use Rattle.std.proofs.Common.{◌∙◌}
+use Rattle.relay_pipe.proofs.Pulls.{took_first, took_more}
+use Rattle.relay_pipe.proofs.pulling.send_all.Goals as goal
 
 pub returns-in-Err-clause-part : goal.returns-in-Err-clause-part
 returns-in-Err-clause-part g c = took_first (g.P.Pipe.port c.args.pipe.now) (g.P.Pipe.port c.pieces.pipe) (g.P.Pipe.port c.send_from.new.pipe) c.args.bytes.now c.pieces.done c.pieces.invariant.content c.in-Err.ensures.err

@@ -1,0 +1,62 @@
+-- A request is sent, and its reply awaited.
+use Rattle.std.specs.Prelude.{◌≡◌, ◌++◌, ℕ, List, length, drop, Result, Ok, Err}
+use Rattle.dr_ports.specs.Ports.{Rose}
+use Rattle.dr_ports.specs.declared.pipe.Part.TheVariants.{Flow}
+use Rattle.dr_ports.specs.Wires.{Port, EndsAt}
+use Rattle.relay_wire.specs.Frames.{IsFrame, IsPartial, framed}
+use Rattle.relay_wire.specs.Requests.{Asked, request_body}
+use Rattle.relay_wire.specs.Replies.{Replied, IsLawfulReplied, read_reply, reply_body}
+use Rattle.relay_wire.specs.Seen.{replied_of}
+use Rattle.relay_wire.specs.declared.reply.BadReply.{BadReply}
+use Rattle.relay_wire.specs.declared.reply.BadReply.TheVariants.{Frame as NoFrame, Kind as NoKind, Size as NoSize}
+use Rattle.relay_wire.specs.declared.reply.Reply.{Reply}
+use Rattle.relay_pipe.specs.Exchanging.{Exchanges}
+use Rattle.relay_pipe.specs.declared.faults.AskFault.{AskFault}
+use Rattle.relay_pipe.specs.declared.faults.AskFault.TheVariants.{Pipe, Peer}
+use Rattle.relay_pipe.specs.declared.faults.PeerFault.{PeerFault}
+use Rattle.relay_pipe.specs.declared.faults.PeerKind.{PeerKind}
+use Rattle.relay_pipe.specs.declared.faults.PeerKind.TheVariants.{Frame, Kind, Size, Ended}
+
+abbrev pub request_frame : Asked → List ℕ
+request_frame asked = framed (request_body asked)
+
+abbrev pub reply_text : Replied → List ℕ
+reply_text reply = framed (reply_body reply)
+
+-- a fault of the peer's, at a place of the reply
+abbrev pub fault_at : ℕ → PeerKind → PeerFault
+fault_at at kind = record { at = at; kind = kind }
+
+-- the fault of a frame that is no reply
+abbrev pub peer_fault : BadReply → PeerFault
+peer_fault NoFrame = fault_at 0 Frame
+peer_fault NoKind = fault_at 2 Kind
+peer_fault NoSize = fault_at 3 Size
+
+-- the reply was read
+pub record IsReplied (asked : Asked) (reply : Replied) (start now : Port) : Type 0 where
+  pub told : Exchanges (reply_text reply) (request_frame asked) start now
+  pub lawful : IsLawfulReplied reply
+  pub quiet : now.faults Flow ≡ start.faults Flow
+
+-- a call on the pipe failed: it took a beginning of the request, and gave less than a frame
+pub record IsBroken (put : List ℕ) (start now : Port) : Type 0 where
+  pub taken : List ℕ
+  pub left : List ℕ
+  pub got : List ℕ
+  pub split : put ≡ taken ++ left
+  pub told : Exchanges got taken start now
+  pub partial : IsPartial got
+  pub rose : Rose (start.faults Flow) (now.faults Flow)
+
+-- a whole frame came that is no reply, or the pipe ended before one was whole
+pub data IsFaulty (put : List ℕ) (start now : Port) : PeerFault → Type 0 where
+  unread : (frame : List ℕ) (bad : BadReply) → Exchanges frame put start now → IsFrame frame
+      → read_reply (drop 2 frame) ≡ Err bad → now.faults Flow ≡ start.faults Flow → IsFaulty put start now (peer_fault bad)
+  cut : (got : List ℕ) → Exchanges got put start now → IsPartial got → EndsAt now → now.faults Flow ≡ start.faults Flow
+      → IsFaulty put start now (fault_at (length got) Ended)
+
+abbrev pub Asks : Asked → Port → Port → Result Reply AskFault → Type 0
+Asks asked start now (Ok reply) = IsReplied asked (replied_of reply) start now
+Asks asked start now (Err Pipe) = IsBroken (request_frame asked) start now
+Asks asked start now (Err (Peer fault)) = IsFaulty (request_frame asked) start now fault

@@ -1,0 +1,210 @@
+-- Boxes that are loaded, and areas that get an empty box's record.
+use Rattle.std.proofs.Common.{◌≡◌, ◌≢◌, inl, inr, ⊎_elim, ℕ, ◌+◌, ◌*◌, ◌<◌, ◌≤◌, Bool, true, List, ◌++◌, length, Option, Some, None, refl, sym, ◌∙◌, ap, subst, arith, length-append}
+use Rattle.std.specs.Prelude.{slice_get}
+use Rattle.std.specs.Int.{w8, w64, to_be_bytes}
+use Rattle.grammar.specs.Printer.{print_items, print_sized}
+use Rattle.slot_store.specs.Kept.{content_or_empty}
+use Rattle.std.proofs.lemmas.Bool.{cases_eq}
+use Rattle.dr_disk.specs.Spans.{Frame, Span}
+use Rattle.dr_disk.specs.State.{Always, DiskState}
+use Rattle.dr_disk.proofs.Ranges.{torn_self, torn_twice, torn_wider}
+use Rattle.dr_disk.proofs.Steps.{spans, widen}
+use Rattle.slot_store.specs.declared.area.Area.{Area}
+use Rattle.slot_store.specs.declared.store.SlotStore.{SlotStore}
+use Rattle.slot_store.specs.Laws.{IsLocal, SameWithin}
+use Rattle.slot_store.specs.Slots.{recovered}
+use Rattle.slot_store.specs.Store.{IsOldOrNew, IsWithin, Rests, content}
+use Rattle.relay_core.specs.declared.limits.TheConstants.{RECORD_LIMIT}
+use Rattle.relay_core.specs.Boxes.{Box, empty_box}
+use Rattle.relay_core.specs.Record.{box_text, head_text, kept_text}
+use Rattle.relay_server.specs.Durable.{IsReady, IsReplaced, area_of}
+use Rattle.relay_server.specs.Filling.{AreFilled, HasBox, IsFilling}
+use Rattle.relay_server.specs.Opening.{StaysOrBegins}
+use Rattle.relay_server.proofs.Replacing.{apart, there_is, within, with_stores}
+use Rattle.relay_server.proofs.OpenedAreas.{other_same}
+
+filling_self : (boxes : List Box) (start : DiskState) (c : List ℕ) → start.image c → IsFilling boxes start c
+filling_self boxes start c left = record { entry = c; image = left; each = λ k box there. inl refl; outside = torn_self 0 (524288 * length boxes) c }
+
+-- stays or begins, twice
+twice : (name : List ℕ) (a b c : Option (List ℕ)) → StaysOrBegins name a b → StaysOrBegins name b c → StaysOrBegins name a c
+twice name a b c first next = ⊎_elim
+    (λ same. ⊎_elim (λ was. inl (same ∙ was)) (λ begun. inr (begun.0, same ∙ begun.1)) first)
+    (λ begins. ⊎_elim (λ was. inr (sym was ∙ begins.0, begins.1)) (λ begun. absurd (let e : None ≡ Some (box_text (empty_box name)) = sym begins.0 ∙ begun.1 in cc)) first)
+    next
+
+-- two calls in turn
+pub filling_on : (boxes : List Box) (start d now : DiskState) → Span start d (IsFilling boxes start) → Span d now (IsFilling boxes d) → Span start now (IsFilling boxes start)
+filling_on boxes start d now first next = spans start d now (IsFilling boxes start) first (widen d now _ _ (λ c is.
+    let was = ⊎_elim (filling_self boxes start is.entry) (λ p. p) (first.last is.entry is.image) in
+    record {
+      entry = was.entry;
+      image = was.image;
+      each = λ k box there. twice box.name _ _ _ (was.each k box there) (is.each k box there);
+      outside = torn_twice 0 (524288 * length boxes) was.entry is.entry c was.outside is.outside;
+    }) next)
+
+-- ---- a record is never empty
+
+first_of : (xs ys : List ℕ) → 1 ≤ length xs → length (xs ++ ys) ≡ 0 → ⊥
+first_of xs ys some is = omega (arith, some, is, length-append {A = ℕ} xs ys)
+
+some_text : (box : Box) → length (box_text box) ≡ 0 → ⊥
+unfolding box_text
+some_text box is =
+    first_of (head_text box.name box.last (length box.packets)) (print_items kept_text box.packets)
+    (let one : length (to_be_bytes w8 1) ≡ 1 = refl in omega (arith, one, length-append {A = ℕ} (to_be_bytes w8 1) (print_sized w8 box.name ++ (to_be_bytes w64 box.last ++ to_be_bytes w8 (length box.packets))))) is
+
+pub none_there : (n k : ℕ) (box : Box) (o : Option (List ℕ)) → HasBox n k box o → length (content_or_empty o) ≡ 0 → o ≡ None
+none_there n k box None has is = refl
+none_there n k box (Some text) has is = absurd (some_text box (ap length (sym has) ∙ is))
+
+-- ---- nothing is put, where a record stands
+
+later_text : (n k : ℕ) (box : Box) (text : Option (List ℕ)) → HasBox n k box text → k ≢ n → HasBox (n + 1) k box text
+later_text n k box None has other = (omega (arith, has.0, other), has.1)
+later_text n k box (Some t) has other = has
+
+stays_text : (n k : ℕ) (box : Box) (text : Option (List ℕ)) (t : List ℕ) → HasBox n k box text → text ≡ Some t → HasBox (n + 1) k box text
+stays_text n k box None t has is = absurd (let e : None ≡ Some t = is in cc)
+stays_text n k box (Some s) t has is = has
+
+-- what a call in one area needs
+pub place_ready : (n : ℕ) (boxes : List Box) (stores : List SlotStore) (d : DiskState) (m : ℕ) → AreFilled n boxes stores d → n < length boxes → m ≤ RECORD_LIMIT → (store : SlotStore) → slice_get stores n ≡ Some store
+    → (6 + m ≤ store.area.slot) × IsWithin store.area d × Always (Rests store) d
+place_ready n boxes stores d m filled inside few store there =
+    let area = filled.areas n store there in
+    (subst (λ (a : Area). 6 + m ≤ a.slot) (sym area) (omega (arith, few)), subst (λ (a : Area). IsWithin a d) (sym area) (omega (arith, inside, filled.within)), filled.rests n store there)
+
+pub stands_on : (n : ℕ) (boxes : List Box) (stores : List SlotStore) (d : DiskState) (store : SlotStore) (t : List ℕ) → AreFilled n boxes stores d → slice_get stores n ≡ Some store → content store ≡ Some t → AreFilled (n + 1) boxes stores d
+stands_on n boxes stores d store t filled here has = record {
+  count = filled.count;
+  within = filled.within;
+  areas = filled.areas;
+  rests = filled.rests;
+  each = λ k other box there boxed. elim (cases_eq k n) [
+    | inl same ↦
+        let e : Some store ≡ Some other = sym here ∙ subst (λ (m : ℕ). slice_get stores m ≡ Some other) same there in
+        let f : store ≡ other = cc in
+        stays_text n k box (content other) t (filled.each k other box there boxed) (ap content (sym f) ∙ has)
+    | inr another ↦ later_text n k box (content other) (filled.each k other box there boxed) another
+  ];
+}
+
+-- ---- an empty box's record is put
+
+pub record Put (n : ℕ) (boxes : List Box) (stores news : List SlotStore) (t : List ℕ) (start now : DiskState) (done : Bool) : Type 0 where
+  pub filled : AreFilled n boxes stores start
+  pub inside : n < length boxes
+  pub none : (store : SlotStore) → slice_get stores n ≡ Some store → content store ≡ None
+  pub stores_count : length news ≡ length stores
+  pub written : (box : Box) → slice_get boxes n ≡ Some box → t ≡ box_text box
+  pub others : (j : ℕ) → j ≢ n → slice_get news j ≡ slice_get stores j
+  pub there : (old new : SlotStore) → slice_get stores n ≡ Some old → slice_get news n ≡ Some new → IsReplaced t old new start now done
+  pub local : IsLocal
+  pub resting : (store : SlotStore) (c : List ℕ) → Rests store c → recovered store.area c ≡ content store
+
+empty_there : (n : ℕ) (box : Box) (text : Option (List ℕ)) → text ≡ None → HasBox n n box text → box ≡ empty_box box.name
+empty_there n box None is has = has.1
+empty_there n box (Some t) is has = absurd (let e : Some t ≡ None = is in cc)
+
+module _ (n : ℕ) (boxes : List Box) (stores news : List SlotStore) (t : List ℕ) (start now : DiskState) (done : Bool) (r : Put n boxes stores news t start now done) where
+  the_old : (s : SlotStore) × (slice_get stores n ≡ Some s)
+  the_old = there_is stores n (omega (arith, r.inside, r.filled.count))
+
+  the_new : (s : SlotStore) × (slice_get news n ≡ Some s)
+  the_new = there_is news n (omega (arith, r.inside, r.filled.count, r.stores_count))
+
+  the_box : (b : Box) × (slice_get boxes n ≡ Some b)
+  the_box = there_is boxes n r.inside
+
+  is : IsReplaced t the_old.0 the_new.0 start now done
+  is = r.there the_old.0 the_new.0 the_old.1 the_new.1
+
+  old_area : the_old.0.area ≡ area_of n
+  old_area = r.filled.areas n the_old.0 the_old.1
+
+  framed : (c : List ℕ) → Frame start the_old.0.area.start (the_old.0.area.slot + the_old.0.area.slot) c → Frame start (area_of n).start ((area_of n).slot + (area_of n).slot) c
+  framed c f = subst (λ (a : Area). Frame start a.start (a.slot + a.slot) c) old_area f
+
+  -- before, the area has no record
+  was_none : (d : List ℕ) → start.image d → recovered (area_of n) d ≡ None
+  was_none d left = ap (λ (a : Area). recovered a d) (sym old_area) ∙ r.resting the_old.0 d (r.filled.rests n the_old.0 the_old.1 d left) ∙ r.none the_old.0 the_old.1
+
+  empty_text : t ≡ box_text (empty_box the_box.0.name)
+  empty_text = r.written the_box.0 the_box.1 ∙ ap box_text (empty_there n the_box.0 (content the_old.0) (r.none the_old.0 the_old.1) (r.filled.each n the_old.0 the_box.0 the_old.1 the_box.1))
+
+  named : (box : Box) → slice_get boxes n ≡ Some box → the_box.0 ≡ box
+  named box there = let e : Some the_box.0 ≡ Some box = sym the_box.1 ∙ there in cc
+
+  either : (c : List ℕ) (box : Box) → slice_get boxes n ≡ Some box → IsOldOrNew start the_old.0.area (content the_old.0) (Some t) c → (d : List ℕ) → start.image d → StaysOrBegins box.name (recovered (area_of n) d) (recovered (area_of n) c)
+  either c box there o d left =
+      let at : recovered (area_of n) c ≡ recovered the_old.0.area c = ap (λ (a : Area). recovered a c) (sym old_area) in
+      ⊎_elim (λ old. inl (at ∙ old ∙ r.none the_old.0 the_old.1 ∙ sym (was_none d left)))
+      (λ new. inr (was_none d left, at ∙ new ∙ ap (λ (x : List ℕ). Some x) (empty_text ∙ ap (λ (b : Box). box_text (empty_box b.name)) (named box there)))) o.either
+
+  each : (c : List ℕ) → IsOldOrNew start the_old.0.area (content the_old.0) (Some t) c → IsFilling boxes start c
+  each c o =
+      let frame = framed c o.frame in
+      record {
+        entry = frame.0;
+        image = frame.1;
+        each = λ k box there. elim (cases_eq k n) [
+          | inl same ↦
+              let here : slice_get boxes n ≡ Some box = subst (λ (m : ℕ). slice_get boxes m ≡ Some box) same there in
+              subst (λ (m : ℕ). StaysOrBegins box.name (recovered (area_of m) frame.0) (recovered (area_of m) c)) (sym same) (either c box here o frame.0 frame.1)
+          | inr other ↦ inl (other_same r.local k n frame.0 c other frame.2)
+        ];
+        outside = torn_wider (area_of n).start ((area_of n).slot + (area_of n).slot) 0 (524288 * length boxes) frame.0 c (omega arith) (omega (arith, r.inside)) frame.2;
+      }
+
+  pub put_moments : Span start now (IsFilling boxes start)
+  put_moments = widen start now _ _ each is.any_moment
+
+  pub put_filled : done ≡ true → AreFilled (n + 1) boxes news now
+  put_filled passed = record {
+    count = r.stores_count ∙ r.filled.count;
+    within = let w = r.filled.within in omega (arith, w, is.any_moment.size);
+    areas = λ j store there. elim (cases_eq j n) [
+      | inl same ↦
+          let e : Some the_new.0 ≡ Some store = sym the_new.1 ∙ subst (λ (m : ℕ). slice_get news m ≡ Some store) same there in
+          let f : the_new.0 ≡ store = cc in
+          ap (λ (s : SlotStore). s.area) (sym f) ∙ is.same ∙ old_area ∙ ap area_of (sym same)
+      | inr other ↦ r.filled.areas j store (sym (r.others j other) ∙ there)
+    ];
+    rests = λ j store there c left. elim (cases_eq j n) [
+      | inl same ↦
+          let e : Some the_new.0 ≡ Some store = sym the_new.1 ∙ subst (λ (m : ℕ). slice_get news m ≡ Some store) same there in
+          let f : the_new.0 ≡ store = cc in
+          subst (λ (s : SlotStore). Rests s c) f (is.rests passed c left)
+      | inr other ↦
+          let was : slice_get stores j ≡ Some store = sym (r.others j other) ∙ there in
+          let frame = framed c (is.outside passed c left) in
+          let area = r.filled.areas j store was in
+          r.local.rests store c frame.0 (subst (λ (a : Area). 1 ≤ a.slot) (sym area) (omega arith))
+          (subst (λ (a : Area). SameWithin a c frame.0) (sym area) (apart j n c frame.0 other frame.2)) (r.filled.rests j store was frame.0 frame.1)
+    ];
+    each = λ j store box there boxed. elim (cases_eq j n) [
+      | inl same ↦
+          let e : Some the_new.0 ≡ Some store = sym the_new.1 ∙ subst (λ (m : ℕ). slice_get news m ≡ Some store) same there in
+          let f : the_new.0 ≡ store = cc in
+          let holds : content store ≡ Some t = ap content (sym f) ∙ is.holds passed in
+          subst (HasBox (n + 1) j box) (sym holds) (r.written box (subst (λ (m : ℕ). slice_get boxes m ≡ Some box) same boxed))
+      | inr other ↦ later_text n j box (content store) (r.filled.each j store box (sym (r.others j other) ∙ there) boxed) other
+    ];
+  }
+
+-- ---- all areas have their boxes
+
+has_text : (n k : ℕ) (box : Box) (text : Option (List ℕ)) → k < n → HasBox n k box text → text ≡ Some (box_text box)
+has_text n k box None less has = absurd (omega (arith, less, has.0))
+has_text n k box (Some t) less has = ap (λ (x : List ℕ). Some x) has
+
+pub filled_ready : (boxes : List Box) (stores : List SlotStore) (disk : DiskState) → AreFilled (length boxes) boxes stores disk → IsReady box_text (with_stores boxes stores) disk
+filled_ready boxes stores disk filled = record {
+  count = filled.count;
+  within = λ k inside. omega (arith, inside, filled.within);
+  areas = filled.areas;
+  holds = λ k store box there boxed. has_text (length boxes) k box (content store) (within boxes k box boxed) (filled.each k store box there boxed);
+  rests = filled.rests;
+}

@@ -1,0 +1,160 @@
+-- Areas that are opened one after the other.
+use Rattle.std.proofs.Common.{◌≡◌, ◌≢◌, ◌⊎◌, inl, inr, ⊎_elim, ℕ, zero, suc, ◌+◌, ◌*◌, ◌<◌, ◌≤◌, true, false, List, [], ◌∷◌, ◌++◌, length, Option, Some, None, refl, sym, ◌∙◌, ap, subst, arith, length-append}
+use Rattle.std.specs.Prelude.{slice_get, is_some}
+use Rattle.std.proofs.lemmas.Bool.{cases_eq}
+use Rattle.dr_disk.specs.Bytes.{Torn}
+use Rattle.dr_disk.specs.Spans.{IsQuiet, Span}
+use Rattle.dr_disk.specs.State.{Always, DiskState, IsLawful}
+use Rattle.dr_disk.proofs.Ranges.{torn_self, torn_twice, torn_wider}
+use Rattle.dr_disk.proofs.Steps.{quiet_twice, spans, stays, widen}
+use Rattle.slot_store.specs.declared.area.Area.{Area}
+use Rattle.slot_store.specs.declared.opening.Found.{Found}
+use Rattle.slot_store.specs.declared.opening.Found.TheVariants.{Content, NoContent}
+use Rattle.slot_store.specs.declared.store.SlotStore.{SlotStore}
+use Rattle.slot_store.specs.Found.{found_as, has_content}
+use Rattle.slot_store.specs.Laws.{IsLocal, SameWithin}
+use Rattle.slot_store.specs.Reading.{IsEntryOrLike, IsLikeRead, damaged}
+use Rattle.slot_store.specs.Slots.{recovered}
+use Rattle.slot_store.specs.Store.{Rests, content}
+use Rattle.relay_server.specs.Areas.{AreOpened, AreRefused, IsAreaOpened, IsAreaRefused, IsLikeEntry, reading_of}
+use Rattle.relay_server.specs.Durable.{area_of}
+use Rattle.relay_server.specs.Opening.{IsFirstDamaged, IsWhole, OfRead, area_read, box_fault}
+use Rattle.relay_server.specs.declared.errors.ServerOpenError.{ServerOpenError}
+use Rattle.relay_server.specs.declared.errors.ServerOpenError.TheVariants.{BoxName, Damaged, Memory, StoreFault}
+use Rattle.relay_server.proofs.Replacing.{apart, there_is, within}
+
+-- a store was read as its record
+pub read_as : (found : Found) (text : Option (List ℕ)) → is_some text ≡ has_content found → found_as found text ≡ reading_of text
+read_as NoContent None is = refl
+read_as NoContent (Some text) is = absurd (let e : true ≡ false = is in cc)
+read_as Content None is = refl
+read_as Content (Some text) is = refl
+
+pub area_opened : (k : ℕ) (store : SlotStore) (found : Found) (start now : DiskState) → store.area ≡ area_of k → ((text : List ℕ) → content store ≡ Some text → box_fault text ≡ None)
+    → is_some (content store) ≡ has_content found → ((s : List ℕ) → start.seen ≡ Some s → area_read k s ≡ found_as found (content store))
+    → Always (λ c. Rests store c × IsLikeRead (area_of k) start c) now → IsQuiet start now → IsAreaOpened k store start now
+area_opened k store found start now area clean has read rest quiet = record {
+  area = area;
+  clean = clean;
+  read = λ s told. read s told ∙ read_as found (content store) has;
+  rests = λ c left. (rest c left).0;
+  alike = λ c left. (rest c left).1;
+  quiet = quiet;
+}
+
+-- a store's record is no damage
+pub whole_of : (text : Option (List ℕ)) → IsWhole (reading_of text)
+whole_of None = tt
+whole_of (Some text) = tt
+
+-- what stands in a list with one more
+pub pushed : {X : Type 0} (xs : List X) (x y : X) (k : ℕ) → slice_get (xs ++ x ∷ []) k ≡ Some y → (slice_get xs k ≡ Some y) ⊎ ((k ≡ length xs) × (x ≡ y))
+pushed [] x y zero is = inr (refl, let e : Some x ≡ Some y = is in cc)
+pushed {X} [] x y (suc k) is = absurd (let e : None ≡ Some y = is in cc)
+pushed (z ∷ xs) x y zero is = inl is
+pushed (z ∷ xs) x y (suc k) is = ⊎_elim (λ old. inl old) (λ new. inr (ap suc new.0, new.1)) (pushed xs x y k is)
+
+-- no area was opened yet
+pub none_opened : (count : ℕ) (start : DiskState) (stores : List SlotStore) → stores ≡ [] → AreOpened 0 count stores start start
+none_opened count start stores is = subst (λ (xs : List SlotStore). AreOpened 0 count xs start start) (sym is) (record {
+  count_is = refl;
+  during = stays start (IsLikeEntry count start);
+  quiet = λ call. refl;
+  areas = λ k store there. absurd (let e : None ≡ Some store = there in cc);
+  clean = λ k store text there. absurd (let e : None ≡ Some store = there in cc);
+  rests = λ k store there. absurd (let e : None ≡ Some store = there in cc);
+  read = λ s r was is k store there. absurd (let e : None ≡ Some store = there in cc);
+  untouched = λ s r was is. let e : s ≡ r = let f : Some s ≡ Some r = sym was ∙ is in cc in subst (Torn 0 0 s) e (torn_self 0 0 s);
+})
+
+pub entry_self : (count : ℕ) (start : DiskState) (c : List ℕ) → start.image c → IsLikeEntry count start c
+entry_self count start c left = record { entry = c; image = left; same = λ k. refl; outside = torn_self 0 (524288 * count) c }
+
+-- what is torn in one area is read in each other as it was
+pub other_same : IsLocal → (j k : ℕ) (d c : List ℕ) → j ≢ k → Torn (area_of k).start ((area_of k).slot + (area_of k).slot) d c → recovered (area_of j) c ≡ recovered (area_of j) d
+other_same local j k d c other torn = local.record_of (area_of j) c d (omega arith) (apart j k c d other torn)
+
+module _ (local : IsLocal) (n count : ℕ) (start d now : DiskState) (stores : List SlotStore) (lawful : IsLawful d) (less : n < count)
+    (so_far : AreOpened n count stores start d) (span : Span d now (IsEntryOrLike (area_of n) d)) where
+  entry_of : (c : List ℕ) → d.image c → IsLikeEntry count start c
+  entry_of c left = ⊎_elim (λ was. entry_self count start c was) (λ is. is) (so_far.during.last c left)
+
+  like_step : (c : List ℕ) → IsEntryOrLike (area_of n) d c → IsLikeEntry count start c
+  like_step c is = ⊎_elim (entry_of c) (λ like.
+      let before = entry_of like.read (lawful.seen_now like.read like.told) in
+      record {
+        entry = before.entry;
+        image = before.image;
+        same = λ k. elim (cases_eq k n) [
+          | inl here ↦ subst (λ (m : ℕ). recovered (area_of m) c ≡ recovered (area_of m) like.read) (sym here) like.same ∙ before.same k
+          | inr other ↦ other_same local k n like.read c other like.outside ∙ before.same k
+        ];
+        outside = torn_twice 0 (524288 * count) before.entry like.read c before.outside
+            (torn_wider (area_of n).start ((area_of n).slot + (area_of n).slot) 0 (524288 * count) like.read c (omega arith) (omega (arith, less)) like.outside);
+      }) is
+
+  pub opening_span : Span start now (IsLikeEntry count start)
+  opening_span = spans start d now (IsLikeEntry count start) so_far.during (widen d now _ _ like_step span)
+
+  -- the area that comes next is read as it was at first
+  unread : (s r : List ℕ) → start.seen ≡ Some s → d.seen ≡ Some r → area_read n s ≡ area_read n r
+  unread s r was is =
+      let torn = so_far.untouched s r was is in
+      local.reads box_fault (area_of n) s r (omega arith)
+      (record { size = sym torn.size; bytes = λ i from to. sym (torn.outside i (inr (omega (arith, from)))) })
+
+  -- ---- it is refused
+
+  damaged_first : (slot at : ℕ) → now.seen ≡ d.seen → ((s : List ℕ) → d.seen ≡ Some s → area_read n s ≡ damaged slot at) → OfRead start now (IsFirstDamaged count n slot at)
+  damaged_first slot at same here s r was is = record {
+    inside = less;
+    before = λ j below.
+        let there = there_is stores j (omega (arith, so_far.count_is, below)) in
+        subst IsWhole (sym (so_far.read s r was (sym same ∙ is) j there.0 there.1)) (whole_of (content there.0));
+    here = unread s r was (sym same ∙ is) ∙ here r (sym same ∙ is);
+  }
+
+  pub refused : (e : ServerOpenError) → IsAreaRefused n d now e → AreRefused count start now e
+  refused Memory is = quiet_twice start d now so_far.quiet is
+  refused (StoreFault call) is = omega (arith, is, so_far.during.counts call)
+  refused (Damaged area slot at) is =
+      (quiet_twice start d now so_far.quiet is.1, subst (λ (k : ℕ). OfRead start now (IsFirstDamaged count k slot at)) (sym is.0) (damaged_first slot at is.2 is.3))
+  refused (BoxName k) is = absurd is
+
+  -- ---- it is opened
+
+  module _ (store : SlotStore) (one : IsAreaOpened n store d now) (reads : (s : List ℕ) → now.seen ≡ Some s → IsLikeRead (area_of n) d s) where
+    -- each earlier store rests on what it rested on
+    old_rests : (k : ℕ) (other : SlotStore) → k ≢ n → slice_get stores k ≡ Some other → Always (Rests other) now
+    old_rests k other apart_from there c left =
+        let like = one.alike c left in
+        let area = so_far.areas k other there in
+        local.rests other c like.read (subst (λ (a : Area). 1 ≤ a.slot) (sym area) (omega arith))
+        (subst (λ (a : Area). SameWithin a c like.read) (sym area) (apart k n c like.read apart_from like.outside))
+        (so_far.rests k other there like.read (lawful.seen_now like.read like.told))
+
+    below_n : (k : ℕ) (other : SlotStore) → slice_get stores k ≡ Some other → k ≢ n
+    below_n k other there same = let inside = within stores k other there in omega (arith, inside, so_far.count_is, same)
+
+    pub one_more : AreOpened (n + 1) count (stores ++ store ∷ []) start now
+    one_more = record {
+      count_is = omega (arith, length-append {A = SlotStore} stores (store ∷ []), so_far.count_is);
+      during = opening_span;
+      quiet = quiet_twice start d now so_far.quiet one.quiet;
+      areas = λ k other there. ⊎_elim (λ old. so_far.areas k other old)
+          (λ new. subst (λ (x : SlotStore). x.area ≡ area_of k) new.1 (one.area ∙ ap area_of (sym (new.0 ∙ so_far.count_is)))) (pushed stores store other k there);
+      clean = λ k other text there has. ⊎_elim (λ old. so_far.clean k other text old has)
+          (λ new. one.clean text (ap content new.1 ∙ has)) (pushed stores store other k there);
+      rests = λ k other there. ⊎_elim (λ old. old_rests k other (below_n k other old) old)
+          (λ new. subst (λ (x : SlotStore). Always (Rests x) now) new.1 one.rests) (pushed stores store other k there);
+      read = λ s r was is k other there.
+          let like = reads r is in
+          ⊎_elim (λ old. so_far.read s like.read was like.told k other old)
+          (λ new. subst (λ (m : ℕ). area_read m s ≡ reading_of (content other)) (sym (new.0 ∙ so_far.count_is))
+          (unread s like.read was like.told ∙ one.read like.read like.told ∙ ap (λ (x : SlotStore). reading_of (content x)) new.1)) (pushed stores store other k there);
+      untouched = λ s r was is.
+          let like = reads r is in
+          torn_twice 0 (524288 * (n + 1)) s like.read r
+          (torn_wider 0 (524288 * n) 0 (524288 * (n + 1)) s like.read (omega arith) (omega arith) (so_far.untouched s like.read was like.told))
+          (torn_wider (area_of n).start ((area_of n).slot + (area_of n).slot) 0 (524288 * (n + 1)) like.read r (omega arith) (omega arith) like.outside);
+    }

@@ -1,0 +1,144 @@
+-- A server that is opened, and why none is.
+use Rattle.std.proofs.Common.{◌≡◌, inl, ⊎_elim, ℕ, zero, suc, ◌*◌, ◌<◌, ◌≤◌, List, [], ◌∷◌, length, map, Option, Some, None, refl, sym, ◌∙◌, ap, subst, arith}
+use Rattle.std.specs.Prelude.{slice_get}
+use Rattle.dr_base.specs.Causes.{Rose}
+use Rattle.dr_disk.specs.declared.call.Call.{Call}
+use Rattle.dr_disk.specs.Spans.{IsQuiet, Span}
+use Rattle.dr_disk.specs.State.{DiskState}
+use Rattle.dr_disk.specs.Bytes.{Torn}
+use Rattle.dr_disk.proofs.Ranges.{torn_self, torn_twice}
+use Rattle.dr_disk.proofs.Steps.{quiet_twice, spans, widen}
+use Rattle.slot_store.specs.declared.store.SlotStore.{SlotStore}
+use Rattle.slot_store.specs.Slots.{recovered}
+use Rattle.slot_store.specs.Store.{content}
+use Rattle.relay_core.specs.Boxes.{Box, empty_box}
+use Rattle.relay_server.specs.Areas.{AreOpened, IsLikeEntry, reading_of}
+use Rattle.relay_server.specs.Durable.{area_of}
+use Rattle.relay_server.specs.Filling.{AreFilled, AreLoaded, HasBox, IsFilling, IsFirstOthers, IsKept, IsOthers, WasTold}
+use Rattle.relay_server.specs.Opening.{GivesBox, HasOtherName, IsOpened, IsOpening, IsUnopened, IsWhole, StaysOrBegins}
+use Rattle.relay_server.specs.declared.errors.ServerOpenError.TheVariants.{BoxName}
+use Rattle.relay_server.proofs.OpenedAreas.{entry_self, whole_of}
+use Rattle.relay_server.proofs.FilledAreas.{filled_ready}
+use Rattle.relay_server.proofs.Replacing.{there_is, within, with_stores}
+
+-- ---- names and the boxes that begin with them
+
+pub length_map : {A B : Type 0} (f : A → B) (xs : List A) → length (map f xs) ≡ length xs
+length_map f [] = refl
+length_map f (x ∷ xs) = ap suc (length_map f xs)
+
+begins_as : (names : List (List ℕ)) (k : ℕ) (name : List ℕ) → slice_get names k ≡ Some name → slice_get (map empty_box names) k ≡ Some (empty_box name)
+begins_as [] k name is = absurd (let e : None ≡ Some name = is in cc)
+begins_as (n ∷ names) zero name is = let e : n ≡ name = let f : Some n ≡ Some name = is in cc in ap (λ (m : List ℕ). Some (empty_box m)) e
+begins_as (n ∷ names) (suc k) name is = begins_as names k name is
+
+-- ---- by the text of one store
+
+gives_of : (name : List ℕ) (box : Box) (text : Option (List ℕ)) → IsKept (empty_box name) box text → GivesBox name box (reading_of text)
+gives_of name box None is = is
+gives_of name box (Some text) is = (is.0, is.1)
+
+name_of : (name : List ℕ) (box : Box) (text : Option (List ℕ)) → IsKept (empty_box name) box text → box.name ≡ name
+name_of name box None is = ap (λ (b : Box). b.name) is
+name_of name box (Some text) is = is.1
+
+has_of : (k : ℕ) (name : List ℕ) (box : Box) (text : Option (List ℕ)) → IsKept (empty_box name) box text → HasBox 0 k box text
+has_of k name box None is = (omega arith, is ∙ ap (λ (b : Box). empty_box b.name) (sym is))
+has_of k name box (Some text) is = is.2
+
+other_of : (name : List ℕ) (text : Option (List ℕ)) → IsOthers (empty_box name) text → HasOtherName name (reading_of text)
+other_of name None is = is
+other_of name (Some text) is = is
+
+-- ---- what a crash leaves
+
+pub opening_self : (names : List (List ℕ)) (start : DiskState) (c : List ℕ) → start.image c → IsOpening names start c
+opening_self names start c left = record { entry = c; image = left; each = λ k name there. inl refl; outside = torn_self 0 (524288 * length names) c }
+
+opening_like : (names : List (List ℕ)) (start : DiskState) (c : List ℕ) → IsLikeEntry (length names) start c → IsOpening names start c
+opening_like names start c like = record { entry = like.entry; image = like.image; each = λ k name there. inl (like.same k); outside = like.outside }
+
+pub areas_moments : (names : List (List ℕ)) (start now : DiskState) → Span start now (IsLikeEntry (length names) start) → Span start now (IsOpening names start)
+areas_moments names start now span = widen start now _ _ (opening_like names start) span
+
+module _ (names : List (List ℕ)) (start mid : DiskState) (stores : List SlotStore) (opened : AreOpened (length names) (length names) stores start mid) where
+  store_at : (k : ℕ) → k < length names → (s : SlotStore) × (slice_get stores k ≡ Some s)
+  store_at k inside = there_is stores k (omega (arith, inside, opened.count_is))
+
+  -- ---- an area has the record of another box
+
+  pub other_name : (k : ℕ) → IsFirstOthers k (map empty_box names) stores → IsUnopened names start mid (BoxName k)
+  other_name k first = (
+    opened.quiet,
+    λ s r was is. record {
+      inside = omega (arith, first.inside, length_map empty_box names);
+      whole = λ j inside. let at = store_at j inside in subst IsWhole (sym (opened.read s r was is j at.0 at.1)) (whole_of (content at.0));
+      before = λ j name less named.
+          let at = store_at j (omega (arith, within names j name named)) in
+          let box = first.before j (empty_box name) at.0 less (begins_as names j name named) at.1 in
+          (box.0, subst (GivesBox name box.0) (sym (opened.read s r was is j at.0 at.1)) (gives_of name box.0 (content at.0) box.1));
+      here = λ name named.
+          let at = store_at k (within names k name named) in
+          subst (HasOtherName name) (sym (opened.read s r was is k at.0 at.1)) (other_of name (content at.0) (first.here (empty_box name) at.0 (begins_as names k name named) at.1));
+    },
+  )
+
+  -- ---- all boxes are loaded
+
+  module _ (boxes : List Box) (loaded : AreLoaded (length (map empty_box names)) (map empty_box names) boxes stores) where
+    count_is : length boxes ≡ length names
+    count_is = loaded.count ∙ length_map empty_box names
+
+    kept_at : (k : ℕ) (name : List ℕ) (box : Box) (store : SlotStore) → slice_get names k ≡ Some name → slice_get boxes k ≡ Some box → slice_get stores k ≡ Some store → IsKept (empty_box name) box (content store)
+    kept_at k name box store named boxed there =
+        loaded.loaded k (empty_box name) box store (omega (arith, within names k name named, length_map empty_box names)) (begins_as names k name named) boxed there
+
+    named_at : (k : ℕ) (name : List ℕ) (box : Box) → slice_get names k ≡ Some name → slice_get boxes k ≡ Some box → box.name ≡ name
+    named_at k name box named boxed =
+        let at = store_at k (within names k name named) in
+        name_of name box (content at.0) (kept_at k name box at.0 named boxed at.1)
+
+    pub to_fill : 524288 * length names ≤ start.size → AreFilled 0 boxes stores mid
+    to_fill fits = record {
+      count = opened.count_is ∙ sym count_is;
+      within = omega (arith, fits, count_is, opened.during.size);
+      areas = opened.areas;
+      rests = opened.rests;
+      each = λ k store box there boxed.
+          let name = there_is names k (omega (arith, within stores k store there, opened.count_is)) in
+          has_of k name.0 box (content store) (kept_at k name.0 box store name.1 boxed there);
+    }
+
+    module _ (now : DiskState) (span : Span mid now (IsFilling boxes mid)) where
+      filling_is : (c : List ℕ) → IsFilling boxes mid c → IsOpening names start c
+      filling_is c is =
+          let like : IsLikeEntry (length names) start is.entry = ⊎_elim (entry_self (length names) start is.entry) (λ p. p) (opened.during.last is.entry is.image) in
+          record {
+            entry = like.entry;
+            image = like.image;
+            each = λ k name named.
+                let box = there_is boxes k (omega (arith, within names k name named, count_is)) in
+                subst (λ (o : Option (List ℕ)). StaysOrBegins name o (recovered (area_of k) c)) (like.same k)
+                (subst (λ (n : List ℕ). StaysOrBegins n (recovered (area_of k) is.entry) (recovered (area_of k) c)) (named_at k name box.0 named box.1) (is.each k box.0 box.1));
+            outside = torn_twice 0 (524288 * length names) like.entry is.entry c like.outside (subst (λ (n : ℕ). Torn 0 (524288 * n) is.entry c) count_is is.outside);
+          }
+
+      pub whole_moments : Span start now (IsOpening names start)
+      whole_moments = spans start mid now (IsOpening names start) (areas_moments names start mid opened.during) (widen mid now _ _ filling_is span)
+
+      -- a call on the disk failed
+      pub fault_then : (call : Call) → Rose (mid.faults call) (now.faults call) → Rose (start.faults call) (now.faults call)
+      fault_then call rose = omega (arith, rose, opened.during.counts call)
+
+      -- all areas have their boxes
+      pub opened_then : (news : List SlotStore) → AreFilled (length boxes) boxes news now → IsQuiet mid now → WasTold mid now → IsOpened names (with_stores boxes news) start now
+      opened_then news filled quiet told = record {
+        ready = filled_ready boxes news now filled;
+        count = count_is;
+        named = named_at;
+        read = λ s r was is k name box named boxed.
+            let before = told r is in
+            let at = store_at k (within names k name named) in
+            subst (GivesBox name box) (sym (opened.read s before.0 was before.1 k at.0 at.1)) (gives_of name box (content at.0) (kept_at k name box at.0 named boxed at.1));
+        quiet = quiet_twice start mid now opened.quiet quiet;
+      }

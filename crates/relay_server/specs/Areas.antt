@@ -1,0 +1,61 @@
+-- The areas of a relay, opened one after the other.
+use Rattle.std.specs.Prelude.{◌≡◌, ℕ, ◌*◌, List, length, slice_get, Option, Some, None}
+use Rattle.dr_base.specs.Causes.{Rose}
+use Rattle.dr_disk.specs.Bytes.{Torn}
+use Rattle.dr_disk.specs.Spans.{IsQuiet, Span}
+use Rattle.dr_disk.specs.State.{DiskState, Always}
+use Rattle.slot_store.specs.declared.store.SlotStore.{SlotStore}
+use Rattle.slot_store.specs.Reading.{IsLikeRead, Reading, damaged, holds, no_content}
+use Rattle.slot_store.specs.Slots.{recovered}
+use Rattle.slot_store.specs.Store.{Rests, content}
+use Rattle.relay_server.specs.Durable.{area_of}
+use Rattle.relay_server.specs.Opening.{IsFirstDamaged, OfRead, area_read, box_fault}
+use Rattle.relay_server.specs.declared.errors.ServerOpenError.{ServerOpenError}
+use Rattle.relay_server.specs.declared.errors.ServerOpenError.TheVariants.{BoxName, Damaged, Memory, StoreFault}
+
+-- what a store was read as
+abbrev pub reading_of : Option (List ℕ) → Reading
+reading_of None = no_content
+reading_of (Some text) = holds text
+
+-- one area was opened
+pub record IsAreaOpened (k : ℕ) (store : SlotStore) (start now : DiskState) : Type 0 where
+  pub area : store.area ≡ area_of k
+  pub clean : (text : List ℕ) → content store ≡ Some text → box_fault text ≡ None
+  pub read : (s : List ℕ) → start.seen ≡ Some s → area_read k s ≡ reading_of (content store)
+  pub rests : Always (Rests store) now
+  pub alike : Always (IsLikeRead (area_of k) start) now
+  pub quiet : IsQuiet start now
+
+-- why one wasn't
+abbrev pub IsAreaRefused : ℕ → DiskState → DiskState → ServerOpenError → Type 0
+IsAreaRefused k start now Memory = IsQuiet start now
+IsAreaRefused k start now (StoreFault call) = Rose (start.faults call) (now.faults call)
+IsAreaRefused k start now (Damaged area slot at) =
+    (area ≡ k) × IsQuiet start now × (now.seen ≡ start.seen) × ((s : List ℕ) → start.seen ≡ Some s → area_read k s ≡ damaged slot at)
+IsAreaRefused k start now (BoxName j) = ⊥
+
+-- Each area has the record that one image of that moment has there. What lies behind so many areas is the same.
+pub record IsLikeEntry (count : ℕ) (start : DiskState) (c : List ℕ) : Type 0 where
+  pub entry : List ℕ
+  pub image : start.image entry
+  pub same : (k : ℕ) → recovered (area_of k) c ≡ recovered (area_of k) entry
+  pub outside : Torn 0 (524288 * count) entry c
+
+-- the first n of so many areas were opened
+pub record AreOpened (n count : ℕ) (stores : List SlotStore) (start now : DiskState) : Type 0 where
+  pub count_is : length stores ≡ n
+  pub during : Span start now (IsLikeEntry count start)
+  pub quiet : IsQuiet start now
+  pub areas : (k : ℕ) (store : SlotStore) → slice_get stores k ≡ Some store → store.area ≡ area_of k
+  pub clean : (k : ℕ) (store : SlotStore) (text : List ℕ) → slice_get stores k ≡ Some store → content store ≡ Some text → box_fault text ≡ None
+  pub rests : (k : ℕ) (store : SlotStore) → slice_get stores k ≡ Some store → Always (Rests store) now
+  pub read : OfRead start now (λ s. (k : ℕ) (store : SlotStore) → slice_get stores k ≡ Some store → area_read k s ≡ reading_of (content store))
+  pub untouched : (s r : List ℕ) → start.seen ≡ Some s → now.seen ≡ Some r → Torn 0 (524288 * n) s r
+
+-- why so many weren't
+abbrev pub AreRefused : ℕ → DiskState → DiskState → ServerOpenError → Type 0
+AreRefused count start now Memory = IsQuiet start now
+AreRefused count start now (StoreFault call) = Rose (start.faults call) (now.faults call)
+AreRefused count start now (Damaged area slot at) = IsQuiet start now × OfRead start now (IsFirstDamaged count area slot at)
+AreRefused count start now (BoxName k) = ⊥

@@ -1,0 +1,93 @@
+-- A relay that is opened from a disk: area by area, then the records are loaded, then each area without one gets an empty
+-- box's.
+use Rattle.std.specs.Prelude.{◌≡◌, ◌≢◌, ◌⊎◌, ℕ, ◌*◌, ◌<◌, List, length, slice_get, Option, Some, None, Result, Ok, Err}
+use Rattle.dr_base.specs.Causes.{Rose}
+use Rattle.dr_disk.specs.Bytes.{Torn}
+use Rattle.dr_disk.specs.Spans.{IsQuiet}
+use Rattle.dr_disk.specs.State.{DiskState}
+use Rattle.slot_store.specs.Reading.{Reading, damaged, holds, no_content, reading}
+use Rattle.slot_store.specs.Slots.{recovered}
+use Rattle.relay_core.specs.Boxes.{Box, empty_box}
+use Rattle.relay_core.specs.Record.{box_read, box_text}
+use Rattle.relay_server.specs.Durable.{IsReady, ServerNow, area_of}
+use Rattle.relay_server.specs.declared.errors.ServerOpenError.{ServerOpenError}
+use Rattle.relay_server.specs.declared.errors.ServerOpenError.TheVariants.{BoxName, Damaged, Memory, StoreFault}
+
+-- ---- what an area is read as
+
+-- the place of the first fault of a text that is no box's record
+abbrev pub fault_of : Result Box ℕ → Option ℕ
+fault_of (Ok box) = None
+fault_of (Err at) = Some at
+
+abbrev pub box_fault : List ℕ → Option ℕ
+box_fault text = fault_of (box_read text)
+
+abbrev pub area_read : ℕ → List ℕ → Reading
+area_read k s = reading box_fault (area_of k) s
+
+-- no damage
+abbrev pub IsWhole : Reading → Type 0
+IsWhole no_content = Unit {0}
+IsWhole (holds text) = Unit {0}
+IsWhole (damaged slot at) = ⊥
+
+-- the box of a name: the record's, or an empty one where no record stands
+abbrev pub GivesBox : List ℕ → Box → Reading → Type 0
+GivesBox name box no_content = box ≡ empty_box name
+GivesBox name box (holds text) = (box_read text ≡ Ok box) × (box.name ≡ name)
+GivesBox name box (damaged slot at) = ⊥
+
+-- the record of a box of another name
+abbrev pub HasOtherName : List ℕ → Reading → Type 0
+HasOtherName name no_content = ⊥
+HasOtherName name (holds text) = (box : Box) × (box_read text ≡ Ok box) × (box.name ≢ name)
+HasOtherName name (damaged slot at) = ⊥
+
+-- of what a read gave at first, on a disk that tells that, and what a read gives now
+abbrev pub OfRead : DiskState → DiskState → (List ℕ → Type 0) → Type 0
+OfRead start now P = (s r : List ℕ) → start.seen ≡ Some s → now.seen ≡ Some r → P s
+
+-- the first of so many areas that is damaged
+pub record IsFirstDamaged (count k slot at : ℕ) (s : List ℕ) : Type 0 where
+  pub inside : k < count
+  pub before : (j : ℕ) → j < k → IsWhole (area_read j s)
+  pub here : area_read k s ≡ damaged slot at
+
+-- no area is damaged, and this is the first whose record has another name
+pub record IsFirstOther (names : List (List ℕ)) (k : ℕ) (s : List ℕ) : Type 0 where
+  pub inside : k < length names
+  pub whole : (j : ℕ) → j < length names → IsWhole (area_read j s)
+  pub before : (j : ℕ) (name : List ℕ) → j < k → slice_get names j ≡ Some name → (box : Box) × GivesBox name box (area_read j s)
+  pub here : (name : List ℕ) → slice_get names k ≡ Some name → HasOtherName name (area_read k s)
+
+-- ---- what a crash leaves meanwhile
+
+-- the record stayed, or an empty box's was put where none stood
+abbrev pub StaysOrBegins : List ℕ → Option (List ℕ) → Option (List ℕ) → Type 0
+StaysOrBegins name old new = (new ≡ old) ⊎ ((old ≡ None) × (new ≡ Some (box_text (empty_box name))))
+
+-- Area by area these bytes are those of an image of that moment, but for empty boxes that were put. What lies behind the
+-- areas is the same.
+pub record IsOpening (names : List (List ℕ)) (start : DiskState) (c : List ℕ) : Type 0 where
+  pub entry : List ℕ
+  pub image : start.image entry
+  pub each : (k : ℕ) (name : List ℕ) → slice_get names k ≡ Some name → StaysOrBegins name (recovered (area_of k) entry) (recovered (area_of k) c)
+  pub outside : Torn 0 (524288 * length names) entry c
+
+-- ---- how it ends
+
+-- The server is ready, with the boxes that were read.
+pub record IsOpened (names : List (List ℕ)) (server : ServerNow) (start now : DiskState) : Type 0 where
+  pub ready : IsReady box_text server now
+  pub count : length server.boxes ≡ length names
+  pub named : (k : ℕ) (name : List ℕ) (box : Box) → slice_get names k ≡ Some name → slice_get server.boxes k ≡ Some box → box.name ≡ name
+  pub read : OfRead start now (λ s. (k : ℕ) (name : List ℕ) (box : Box) → slice_get names k ≡ Some name → slice_get server.boxes k ≡ Some box → GivesBox name box (area_read k s))
+  pub quiet : IsQuiet start now
+
+-- why no server was opened
+abbrev pub IsUnopened : List (List ℕ) → DiskState → DiskState → ServerOpenError → Type 0
+IsUnopened names start now Memory = IsQuiet start now
+IsUnopened names start now (StoreFault call) = Rose (start.faults call) (now.faults call)
+IsUnopened names start now (Damaged area slot at) = IsQuiet start now × OfRead start now (IsFirstDamaged (length names) area slot at)
+IsUnopened names start now (BoxName k) = IsQuiet start now × OfRead start now (IsFirstOther names k)

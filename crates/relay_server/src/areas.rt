@@ -1,0 +1,84 @@
+//! The stores of a relay's areas are opened, one after the other.
+
+ghost use Rattle.std.specs.Prelude.{◌≡◌, ◌<◌, ◌≤◌, ◌*◌, ℕ, List, Option, IfErr, IfOk, length};
+ghost use Rattle.dr_disk.specs.Spans.{Span};
+ghost use Rattle.slot_store.specs.Reading.{IsEntryOrLike, IsLikeRead};
+ghost use Rattle.slot_store.specs.Store.{IsWithin};
+ghost use Rattle.relay_core.specs.declared.limits.TheConstants.{RELAY_LIMIT};
+ghost use Rattle.relay_server.specs.Areas.{AreOpened, AreRefused, IsAreaOpened, IsAreaRefused, IsLikeEntry};
+ghost use Rattle.relay_server.specs.Durable.{area_of};
+ghost use Rattle.relay_server.specs.Opening.{box_fault};
+
+use crate::errors::ServerOpenError;
+use dr_disk::Disk;
+use relay_core::check_box;
+use slot_store::{Area, Grammar, OpenError, SlotStore, locality};
+use std::alloc::Global;
+
+/// How many bytes a slot of a box has.
+const SLOT: u32 = 262_144;
+
+/// How many bytes lie between the beginnings of two areas.
+const AREA: u64 = 524_288;
+
+/// The records of boxes, as a store's grammar.
+struct BoxRecords {}
+
+impl Grammar for BoxRecords {
+    ghost fault_at = { λ text. box_fault text };
+
+    fn check(text: &[u8]) -> Result<(), u32> {
+        check_box(text)
+    }
+}
+
+/// Opens the store of an area.
+fn open_area<D: Disk>(alloc: Global, disk: &mut D, k: usize) -> Result<SlotStore, ServerOpenError>
+    requires few { k < RELAY_LIMIT }
+    requires within { IsWithin (area_of k) (D.state disk.old) }
+    ensures opened { IfOk result (λ store. IsAreaOpened k store (D.state disk.old) (D.state disk.new)) }
+    ensures refused { IfErr result (IsAreaRefused k (D.state disk.old) (D.state disk.new)) }
+    ensures any_moment { Span (D.state disk.old) (D.state disk.new) (IsEntryOrLike (area_of k) (D.state disk.old)) }
+    ensures reads { (s : List ℕ) → (D.state disk.new).seen ≡ Option.Some s → IsLikeRead (area_of k) (D.state disk.old) s }
+{
+    let area = Area {
+        start: AREA * k as u64,
+        slot: SLOT,
+    };
+    match SlotStore::open::<BoxRecords, D>(alloc, disk, area) {
+        Ok((store, _found)) => Ok(store),
+        Err(OpenError::Memory) => Err(ServerOpenError::Memory),
+        Err(OpenError::StoreFault { call }) => Err(ServerOpenError::StoreFault { call }),
+        Err(OpenError::Damaged { slot, at }) => Err(ServerOpenError::Damaged {
+            area: k as u32,
+            slot,
+            at,
+        }),
+    }
+}
+
+/// Opens the stores of so many areas, up to the first one that is refused.
+pub(crate) fn open_areas<D: Disk>(
+    alloc: Global,
+    disk: &mut D,
+    count: usize,
+) -> Result<Vec<SlotStore>, ServerOpenError>
+    requires few { count ≤ RELAY_LIMIT }
+    requires within { 524288 * count ≤ (D.state disk.old).size }
+    ensures opened { IfOk result (λ stores. AreOpened count count stores.items (D.state disk.old) (D.state disk.new)) }
+    ensures refused { IfErr result (AreRefused count (D.state disk.old) (D.state disk.new)) }
+    ensures any_moment { Span (D.state disk.old) (D.state disk.new) (IsLikeEntry count (D.state disk.old)) }
+{
+    locality();
+    let mut stores = Vec::new(alloc);
+    'areas: for k in 0..count {
+        let store = match open_area(alloc, disk, k) {
+            Ok(store) => store,
+            Err(error) => return Err(error),
+        };
+        let Ok(()) = stores.push(store) else {
+            return Err(ServerOpenError::Memory);
+        };
+    }
+    Ok(stores)
+}

@@ -1,0 +1,22 @@
+//! Why no server is opened.
+
+use dr_disk::Call;
+use thiserror::Error;
+
+/// Why no server is opened. Areas and boxes are counted from 0.
+#[derive(Clone, Copy, Debug, PartialEq, Eq, Error)]
+pub enum ServerOpenError {
+    /// There was no memory.
+    #[error("out of memory")]
+    Memory,
+    /// A call on the disk failed, of this kind.
+    #[error("a call on the disk failed")]
+    StoreFault { call: Call },
+    /// What was read of an area is no store's with a box: the slot, 0 or 1, and the first place in it that no record's
+    /// slot has. Nothing was written to this area, nor to those behind it.
+    #[error("slot {slot} of area {area} is damaged at {at}")]
+    Damaged { area: u32, slot: u32, at: u64 },
+    /// The area of this box has the record of a box of another name. No record was put.
+    #[error("the area of box {k} has another box")]
+    BoxName { k: u32 },
+}

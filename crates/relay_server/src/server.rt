@@ -1,0 +1,104 @@
+//! A server: its boxes, and the room for one connection.
+
+ghost use Rattle.std.specs.Prelude.{◌≡◌, ◌≤◌, ◌*◌, length, IfErr, IfOk, OnOk};
+ghost use Rattle.dr_disk.specs.Spans.{IsQuiet, Span};
+ghost use Rattle.dr_ports.specs.declared.pipe.Part.TheVariants.{Flow};
+ghost use Rattle.relay_core.specs.Record.{box_text};
+ghost use Rattle.relay_core.specs.declared.limits.TheConstants.{RELAY_LIMIT};
+ghost use Rattle.relay_server.specs.Durable.{IsReady};
+ghost use Rattle.relay_server.specs.Opening.{IsOpened, IsOpening, IsUnopened};
+ghost use Rattle.relay_server.specs.Serving.{IsServed};
+ghost use Rattle.relay_wire.specs.declared.limits.TheConstants.{FRAME_LIMIT};
+
+use crate::durable::DurableBoxes;
+use crate::errors::ServerOpenError;
+use crate::serving::{Ended, ServeFault};
+use dr_disk::Disk;
+use dr_ports::Pipe;
+use relay_wire::{FRAME_LIMIT, FrameReader, Name};
+use std::alloc::{AllocError, Global};
+use std::marker::Model;
+
+/// A relay's server, with all the memory that it will ever use. A contract sees its boxes, and a store for each.
+#[derive(Drop)]
+pub struct Server {
+    boxes: DurableBoxes,
+    reader: FrameReader,
+    piece: Vec<u8>,
+    out: Vec<u8>,
+}
+
+impl Model for Server {
+    ghost use Rattle.std.specs.Prelude.{◌≡◌, length};
+    ghost use Rattle.relay_wire.specs.declared.limits.TheConstants.{FRAME_LIMIT};
+    ghost use Rattle.relay_server.specs.Durable.{ServerNow};
+
+    ghost Value = { ServerNow };
+
+    ghost view = { λ s. s.boxes };
+
+    ghost invariant = { λ s. (length s.piece.items ≡ FRAME_LIMIT) × (length s.out.items ≡ FRAME_LIMIT) };
+}
+
+/// Room for a frame.
+fn frame_room(alloc: Global) -> Result<Vec<u8>, AllocError>
+    ensures { IfOk result (λ room. length room.items ≡ FRAME_LIMIT) }
+{
+    vec![in alloc; 0; FRAME_LIMIT]
+}
+
+impl Server {
+    /// Opens the server of the boxes of these names, 1 to 16 and no two alike: each lives in the area of its place, two
+    /// slots of 262,144 bytes. The areas are opened in order, and then their records are loaded; once all have their
+    /// names, each area without a record gets an empty box's.
+    ///
+    /// `Damaged` exactly where an area that was read is damaged, and `BoxName` exactly where none is and one has a record
+    /// of another name: the first one, by what was read. `StoreFault` only where a call on the disk failed. Memory may be
+    /// wanting for an area once those before it were opened.
+    pub fn open<D: Disk>(
+        alloc: Global,
+        disk: &mut D,
+        names: &[Name],
+    ) -> Result<Server, ServerOpenError>
+        requires few { length names.now ≤ RELAY_LIMIT }
+        requires within { 524288 * length names.now ≤ (D.state disk.old).size }
+        ensures opened { IfOk result (λ server. IsOpened names.now server (D.state disk.old) (D.state disk.new)) }
+        ensures unopened { IfErr result (IsUnopened names.now (D.state disk.old) (D.state disk.new)) }
+        // Meanwhile, and in each ending.
+        ensures any_moment { Span (D.state disk.old) (D.state disk.new) (IsOpening names.now (D.state disk.old)) }
+    {
+        let Ok(reader) = FrameReader::new(alloc) else {
+            return Err(ServerOpenError::Memory);
+        };
+        let Ok(piece) = frame_room(alloc) else {
+            return Err(ServerOpenError::Memory);
+        };
+        let Ok(out) = frame_room(alloc) else {
+            return Err(ServerOpenError::Memory);
+        };
+        match DurableBoxes::open(alloc, disk, names) {
+            Ok(boxes) => Ok(Server {
+                boxes,
+                reader,
+                piece,
+                out,
+            }),
+            Err(error) => Err(error),
+        }
+    }
+
+    /// Serves a connection: answers its frames in order until it ends, until a frame had no lawful length, or until
+    /// 65,536 frames were answered. A frame that the end cuts is dropped. It takes no memory.
+    pub fn serve<D: Disk, P: Pipe>(
+        &mut self,
+        disk: &mut D,
+        pipe: &mut P,
+    ) -> Result<Ended, ServeFault>
+        requires { IsReady box_text self.old (D.state disk.old) }
+        ensures served { IsServed box_text self.old self.new (P.port pipe.old) (P.port pipe.new) (D.state disk.old) (D.state disk.new) result }
+        ensures flow { OnOk result ((P.port pipe.new).faults Flow ≡ (P.port pipe.old).faults Flow) }
+        ensures quiet { OnOk result (IsQuiet (D.state disk.old) (D.state disk.new)) }
+    {
+        self.boxes.serve(disk, pipe, &mut self.reader, &mut self.piece, &mut self.out)
+    }
+}

@@ -1,0 +1,6 @@
+pub mod Parties
+pub mod Moves
+pub mod Courses
+pub mod Simulation
+pub mod Transfers
+pub mod Carried

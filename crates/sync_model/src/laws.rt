@@ -1,0 +1,23 @@
+//! The laws of a sync. The functions have no code: a caller that needs a fact calls them. They are stated of sides whose
+//! state is a number, as a clause holds no law over every kind of state; the lemmas that prove them do, and stand in
+//! `proofs/Meeting`, `proofs/Carried` and `proofs/Alike`.
+
+ghost use Rattle.std.specs.Prelude.{ℕ};
+ghost use Rattle.sync_model.specs.Carried.{IsMet};
+ghost use Rattle.sync_model.specs.Simulation.{IsSimulation};
+ghost use Rattle.sync_model.specs.Transfers.{IsTransfer};
+
+/// What stands in a box is taken, in order, and what stands in an outbox comes into the peer's box.
+pub fn transfer()
+    ensures { IsTransfer ℕ }
+{}
+
+/// What a link brings that carries a relay's replies is what the relay replies to the sync.
+pub fn carries()
+    ensures { IsMet ℕ }
+{}
+
+/// Two sides that take packets alike read the same replies alike.
+pub fn simulates()
+    ensures { IsSimulation ℕ ℕ }
+{}
