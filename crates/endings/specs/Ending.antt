@@ -27,7 +27,7 @@ code_of NoSession = 9
 code_of Exists = 10
 code_of (Damaged slot at) = 11
 code_of (DamagedArea area slot at) = 11
-code_of (Peer kind at) = 12
+code_of (Peer what at) = 12
 code_of NoMemory = 13
 
 -- what is wrong with a relay's bytes
@@ -60,7 +60,7 @@ ending_text Exists = codes "session exists"
 ending_text (Damaged slot at) = codes "damaged slot " ++ decimal slot ++ codes " at " ++ decimal at
 ending_text (DamagedArea area slot at) =
     codes "damaged area " ++ decimal area ++ codes " slot " ++ decimal slot ++ codes " at " ++ decimal at
-ending_text (Peer kind at) = codes "peer: " ++ peer_kind_text kind ++ codes " at " ++ decimal at
+ending_text (Peer what at) = codes "peer: " ++ peer_kind_text what ++ codes " at " ++ decimal at
 ending_text NoMemory = codes "no memory"
 
 -- the last line: none where the command did its work
