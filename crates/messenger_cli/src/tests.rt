@@ -191,13 +191,13 @@ fn runs_over_std(rt: HostRuntime) -> Result<(), Fail> {
 #[test]
 fn asks_for_words(rt: HostRuntime) -> Result<(), Fail> {
     let alloc = rt.alloc();
-    let mut disk = SteadyDisk::new(alloc, DISK_SIZE)?;
     let mut draws = SteadyDraws::new(alloc, &[Key32 { bytes: [7; 32] }])?;
     let mut source = MemorySource::new(alloc, HELLO, &[])?;
     let mut out = MemorySink::new(alloc, 64, &[])?;
     let cases = [(ErrorKind::InvalidData, 2), (ErrorKind::OutOfMemory, 13)];
     for (kind, status) in cases {
         let unread = Err(io::Error::from(kind));
+        let mut disk = SteadyDisk::new(alloc, DISK_SIZE)?;
         assert_eq!(rt;
             run_arguments(alloc, unread, &mut disk, &mut source, &mut out, &mut draws).code,
             status
