@@ -1,6 +1,7 @@
 //! The call for `main`: the program on its arguments.
 
 ghost use Rattle.std.specs.Prelude.{◌≡◌, ◌≤◌, IfOk, IfErr, map, string_bytes};
+ghost use Rattle.dr_disk.specs.Spans.{IsQuiet};
 ghost use Rattle.slot_store.specs.Store.{IsWithin};
 ghost use Rattle.client.specs.Clients.{client_area};
 ghost use Rattle.command_words.specs.Commands.{command_of};
@@ -66,6 +67,10 @@ pub fn run_arguments<D: Disk, S: Source, O: Sink, W: Draws>(
         (held disk.new source.new draws.new (O.taken out.new) (O.faults out.new)) result.code) }
     ensures reads { S.faults source.old ≤ S.faults source.new }
     ensures writes { O.faults out.old ≤ O.faults out.new }
+    // Status 0 says that no call on the disk, no read, no write and no draw failed.
+    ensures quiet { result.code ≡ 0 → IsQuiet (D.state disk.old) (D.state disk.new)
+        × (S.faults source.new ≡ S.faults source.old) × (O.faults out.new ≡ O.faults out.old)
+        × (W.faults draws.new ≡ W.faults draws.old) }
 {
     match words(alloc, arguments) {
         Ok(words) => run(alloc, words.as_slice(), disk, source, out, draws),

@@ -33,6 +33,10 @@ pub(crate) fn perform<D: Disk, S: Source, O: Sink, W: Draws>(
         (held disk.new source.new draws.new (O.taken out.new) (O.faults out.new)) result.code }
     ensures reads { S.faults source.old ≤ S.faults source.new }
     ensures writes { O.faults out.old ≤ O.faults out.new }
+    // Status 0 says that no call on the disk, no read, no write and no draw failed.
+    ensures quiet { result.code ≡ 0 → IsQuiet (D.state disk.old) (D.state disk.new)
+        × (S.faults source.new ≡ S.faults source.old) × (O.faults out.new ≡ O.faults out.old)
+        × (W.faults draws.new ≡ W.faults draws.old) }
 {
     match command {
         Command::Begin(side) => begin::<Sntrup761, D, S, O>(alloc, side, disk, source, out),

@@ -1,6 +1,7 @@
 //! The top call.
 
-ghost use Rattle.std.specs.Prelude.{◌≤◌, map, string_bytes};
+ghost use Rattle.std.specs.Prelude.{◌≡◌, ◌≤◌, map, string_bytes};
+ghost use Rattle.dr_disk.specs.Spans.{IsQuiet};
 ghost use Rattle.slot_store.specs.Store.{IsWithin};
 ghost use Rattle.client.specs.Clients.{client_area};
 ghost use Rattle.command_words.specs.Commands.{command_of};
@@ -36,6 +37,10 @@ pub fn run<D: Disk, S: Source, O: Sink, W: Draws>(
         (held disk.new source.new draws.new (O.taken out.new) (O.faults out.new)) result.code }
     ensures reads { S.faults source.old ≤ S.faults source.new }
     ensures writes { O.faults out.old ≤ O.faults out.new }
+    // Status 0 says that no call on the disk, no read, no write and no draw failed.
+    ensures quiet { result.code ≡ 0 → IsQuiet (D.state disk.old) (D.state disk.new)
+        × (S.faults source.new ≡ S.faults source.old) × (O.faults out.new ≡ O.faults out.old)
+        × (W.faults draws.new ≡ W.faults draws.old) }
 {
     match parse(alloc, words) {
         Err(AllocError) => finish(out, Ending::NoMemory),
