@@ -90,6 +90,7 @@ fn row_of(pair: &PairQ, pivot: usize, top: usize) -> RowQ
 pub(crate) fn inverse_by_rows(work: &mut Workspace, f: &Rq) -> Result<Rq, AnnihilatedQ>
     ensures { MatchResult result (λ v. IsInverse 2295 f.now.coefficients v.coefficients) (λ e. Annihilates 2295 f.now.coefficients e.z.coefficients) }
 {
+    work.fill_q();
     let mut power = *f;
     for k in 0..761 {
         let pair = clear(&work.rows_q, k, &power, &Rq::monomial(k, 1));

@@ -72,6 +72,7 @@ fn row_of(pair: &Pair3, pivot: usize, top: usize) -> Row3
 pub(crate) fn inverse_by_rows(work: &mut Workspace, g: &R3) -> Result<R3, Annihilated3>
     ensures { MatchResult result (λ v. IsInverse 1 g.now.coefficients v.coefficients) (λ e. Annihilates 1 g.now.coefficients e.z.coefficients) }
 {
+    work.fill_three();
     let mut power = planes_of(g);
     for k in 0..761 {
         let unit = planes_of(&R3::monomial(k, 1));
