@@ -43,6 +43,7 @@ goes_by b b' d d' a a' m m' s s' p p' n n' same reads writes syncs on gone = rec
   passes = λ m told. counted p p' m on told;
   keeps = refl;
   fates = gone;
+  told = λ s is. (b', refl);
   each = λ t c le none. absurd none;
   last = λ c left. inr left;
 }

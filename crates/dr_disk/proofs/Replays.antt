@@ -57,6 +57,7 @@ goes_on size events events' event bytes bytes' durable durable' asked asked' mar
   passes = λ m told. counted passed passed' m on told;
   keeps = refl;
   fates = λ n told. absurd (let e : untold_fate ≡ some_pass n = told in cc);
+  told = λ s is. (bytes', refl);
   each = λ t c le was. ⊎_elim (λ before. inl before) (λ now. inr (subst (λ (d : List ℕ). IsImage d marks' c) (sym kept) (subst (λ (m : List Bool). IsImage (replayed (blank size) events').durable m c) (sym unsynced) now))) (was_image size events events' event t c more was);
   last = λ c left. inr left;
 }
@@ -71,6 +72,7 @@ goes_nowhere size events bytes durable asked marks full full' passed counts coun
   passes = λ m told. (m, told, omega arith);
   keeps = refl;
   fates = λ n told. absurd (let e : untold_fate ≡ some_pass n = told in cc);
+  told = λ s is. (s, is);
   each = λ t c le was. inl was;
   last = λ c left. inr left;
 }

@@ -18,6 +18,7 @@ stays d P = record {
   passes = λ m told. (m, told, omega arith);
   keeps = refl;
   fates = λ n told. record { left = n; fate = told; counted = λ l m was is. let e : l ≡ m = let f : Some l ≡ Some m = sym was ∙ is in cc in omega arith };
+  told = λ s is. (s, is);
   each = λ t c le left. inl left;
   last = λ c left. inl left;
 }
@@ -42,6 +43,7 @@ spans a b c P first next = record {
             let f : m + two.left ≡ mid.0 + one.left = two.counted mid.0 m mid.1 is in
             omega arith;
       };
+  told = λ s is. let mid = first.told s is in next.told mid.0 mid.1;
   each = λ t f le left. ⊎_elim (λ was. first.each t f le was) (λ now. inr now) (next.each t f (omega (arith, first.later)) left);
   last = λ f left. ⊎_elim (λ was. first.last f was) (λ now. inr now) (next.last f left);
 }
@@ -55,6 +57,7 @@ widen a b P Q to span = record {
   passes = span.passes;
   keeps = span.keeps;
   fates = span.fates;
+  told = span.told;
   each = λ t f le left. ⊎_elim (λ was. inl was) (λ is. inr (to f is)) (span.each t f le left);
   last = λ f left. ⊎_elim (λ was. inl was) (λ is. inr (to f is)) (span.last f left);
 }

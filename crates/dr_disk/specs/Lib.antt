@@ -5,6 +5,7 @@ pub mod Calls
 pub mod Memory
 pub mod MemoryLaws
 pub mod MemoryDisks
+pub mod Metered
 pub mod SteadyDisks
 pub mod Untold
 pub mod Recorded

@@ -8,15 +8,15 @@ use Rattle.dr_disk.specs.Memory.{memory_state}
 
 abbrev pub state_of : MemoryDisk → DiskState
 state_of disk = memory_state disk.platter.bytes.items disk.platter.durable.items disk.platter.asked.items disk.platter.marks.items
-    disk.stop disk.passed (record { reads = disk.reads; writes = disk.writes; syncs = disk.syncs })
+    disk.meter.stop disk.meter.passed (record { reads = disk.reads; writes = disk.writes; syncs = disk.syncs })
 
--- so many more writes and syncs pass, and then every call fails
+-- so many more writes and syncs pass, which are counted anew, and then every call fails
 abbrev pub stopped_after : ℕ → MemoryDisk → MemoryDisk
-stopped_after n disk = record disk { stop = Some n }
+stopped_after n disk = record disk { meter = record { stop = Some n; passed = 0 } }
 
 -- no stop stands
 abbrev pub going_on : MemoryDisk → MemoryDisk
-going_on disk = record disk { stop = None }
+going_on disk = record disk { meter = record disk.meter { stop = None } }
 
 -- A disk whose bytes are these, with none unsynced. All its calls will pass.
 pub record IsFresh (bytes : List ℕ) (disk : DiskState) : Type 0 where

@@ -17,8 +17,12 @@ pub record Gone (n : ℕ) (a b : DiskState) : Type 0 where
 abbrev pub HaveGone : DiskState → DiskState → Type 0
 HaveGone a b = (n : ℕ) → a.fate ≡ some_pass n → Gone n a b
 
+-- where it is told what a read gives at a, it is told at b
+abbrev pub StaysTold : DiskState → DiskState → Type 0
+StaysTold a b = (s : List ℕ) → a.seen ≡ Some s → (r : List ℕ) × (b.seen ≡ Some r)
+
 -- From a on until b: a crash at each moment leaves what has P, or what one at a might have left. The size stays,
--- no count falls, and the clock doesn't go back.
+-- no count falls, the clock doesn't go back, and what a read gives stays told.
 pub record Span (a b : DiskState) (P : List ℕ → Type 0) : Type 0 where
   pub size : b.size ≡ a.size
   pub counts : (call : Call) → a.faults call ≤ b.faults call
@@ -26,6 +30,7 @@ pub record Span (a b : DiskState) (P : List ℕ → Type 0) : Type 0 where
   pub passes : HavePassedAtLeast a b
   pub keeps : b.keeps ≡ a.keeps
   pub fates : HaveGone a b
+  pub told : StaysTold a b
   pub each : (t : ℕ) (c : List ℕ) → t ≤ a.moment → b.since t c → a.since t c ⊎ P c
   -- also for a disk that tells nothing of moments past
   pub last : (c : List ℕ) → b.image c → a.image c ⊎ P c

@@ -16,6 +16,7 @@ mod disk;
 mod file;
 mod handle;
 mod memory;
+mod meter;
 mod platter;
 mod recording;
 mod steady;

@@ -2,43 +2,24 @@
 
 ghost use Rattle.std.specs.Prelude.{◌≡◌, ◌≤◌, ◌+◌, ℕ, IfOk, Option, Some, None};
 ghost use Rattle.dr_base.specs.Causes.{one_more};
-ghost use Rattle.dr_disk.specs.Calls.{after_call, passes_next};
-ghost use Rattle.dr_disk.specs.Memory.{fate_of, told_count};
+ghost use Rattle.dr_disk.specs.Memory.{told_count};
 
 use crate::call::Mode;
 use crate::disk::Disk;
+use crate::meter::Meter;
 use crate::platter::Platter;
 use dr_base::Failed;
 use std::alloc::{AllocError, Global};
 
 /// A disk in memory. It tells what reads give, what a crash of each kind would leave, and how many writes and syncs
-/// have passed. No call fails until it is stopped.
+/// have passed since it was made or was last stopped. No call fails until it is stopped.
 #[derive(Drop)]
 pub struct MemoryDisk {
     pub(crate) platter: Platter,
-    stop: Option<u64>,
-    passed: u64,
+    pub(crate) meter: Meter,
     reads: u64,
     writes: u64,
     syncs: u64,
-}
-
-/// Takes a write or a sync off the stop, if there is one. False: the call fails.
-fn passes(stop: &mut Option<u64>) -> bool
-    ensures fate { fate_of stop.new ≡ after_call (fate_of stop.old) }
-    ensures told { passes_next (fate_of stop.old) ≡ Some result }
-{
-    match stop {
-        None => true,
-        Some(left) => {
-            if *left == 0 {
-                false
-            } else {
-                *left -= 1;
-                true
-            }
-        }
-    }
 }
 
 /// Counts a call that failed.
@@ -53,12 +34,14 @@ pub(crate) fn count_fault(count: &mut u64)
 pub(crate) fn count_passed(passed: &mut u64)
     ensures one { (m : ℕ) → told_count passed.new ≡ Some m → (l : ℕ) × (told_count passed.old ≡ Some l) × (m ≡ l + 1) }
     ensures no_less { passed.old ≤ passed.new }
+    ensures no_more { passed.new ≤ passed.old + 1 }
 {
     *passed = passed.saturating_add(1);
 }
 
 impl MemoryDisk {
     ghost use Rattle.dr_disk.specs.MemoryDisks.{IsBlank, IsLeftBy, state_of, stopped_after, going_on};
+    ghost use Rattle.dr_disk.specs.State.{Fate};
 
     /// A disk of so many zeros, with all the memory that it will ever use.
     pub fn new(alloc: Global, size: u64) -> Result<MemoryDisk, AllocError>
@@ -66,44 +49,42 @@ impl MemoryDisk {
     {
         Ok(MemoryDisk {
             platter: Platter::new(alloc, size as usize)?,
-            stop: None,
-            passed: 0,
+            meter: Meter::new(),
             reads: 0,
             writes: 0,
             syncs: 0,
         })
     }
 
-    /// Lets `k` more writes and syncs pass. From then on every call fails.
-    pub fn stop_after(&mut self, k: u64)
+    /// Lets `k` more writes and syncs pass, which are counted anew. From then on every call fails.
+    pub fn stop_after(&mut self, k: u32)
         ensures { self.new ≡ stopped_after k self.old }
     {
-        self.stop = Some(k);
+        self.meter.stop_after(k);
     }
 
     /// Lifts a stop.
     pub fn go_on(&mut self)
         ensures { self.new ≡ going_on self.old }
     {
-        self.stop = None;
+        self.meter.go_on();
     }
 
-    /// The disk behind a crash of this kind. It has no stop.
+    /// The disk behind a crash of this kind. It has no stop. One that was stopped has told how many calls have passed.
     pub fn crash(self, mode: Mode) -> MemoryDisk
-        ensures { IsLeftBy mode (state_of self) (state_of result) }
+        ensures left { IsLeftBy mode (state_of self) (state_of result) }
+        ensures told { (n : ℕ) → (state_of self).fate ≡ Fate.some_pass n → (m : ℕ) × ((state_of self).passed ≡ Some m) }
     {
         let MemoryDisk {
             platter,
-            stop: _,
-            passed,
+            meter,
             reads,
             writes,
             syncs,
         } = self;
         MemoryDisk {
             platter: platter.crash(mode),
-            stop: None,
-            passed,
+            meter: meter.lifted(),
             reads,
             writes,
             syncs,
@@ -119,7 +100,7 @@ impl Disk for MemoryDisk {
     ghost state = { state_of };
 
     ghost lawful = { λ m. memory_lawful m.platter.bytes.items m.platter.durable.items m.platter.asked.items
-        m.platter.marks.items m.stop m.passed (record { reads = m.reads; writes = m.writes; syncs = m.syncs })
+        m.platter.marks.items m.meter.stop m.meter.passed (record { reads = m.reads; writes = m.writes; syncs = m.syncs })
         m.platter.agrees m.platter.asks m.platter.one_mark_each };
 
     fn size(&self) -> u64 {
@@ -127,7 +108,7 @@ impl Disk for MemoryDisk {
     }
 
     fn read(&mut self, at: u64, into: &mut [u8]) -> Result<(), Failed> {
-        if self.stop == Some(0) {
+        if self.meter.is_over() {
             count_fault(&mut self.reads);
             return Err(Failed);
         }
@@ -136,23 +117,21 @@ impl Disk for MemoryDisk {
     }
 
     fn write_at(&mut self, at: u64, bytes: &[u8]) -> Result<(), Failed> {
-        if !passes(&mut self.stop) {
+        if !self.meter.passes() {
             self.platter.ask(at as usize, bytes);
             count_fault(&mut self.writes);
             return Err(Failed);
         }
         self.platter.write(at as usize, bytes);
-        count_passed(&mut self.passed);
         Ok(())
     }
 
     fn sync(&mut self) -> Result<(), Failed> {
-        if !passes(&mut self.stop) {
+        if !self.meter.passes() {
             count_fault(&mut self.syncs);
             return Err(Failed);
         }
         self.platter.settle();
-        count_passed(&mut self.passed);
         Ok(())
     }
 }
