@@ -1,6 +1,7 @@
 //! A request, and its reply.
 
 ghost use Rattle.std.specs.Prelude.{◌≡◌, ◌≤◌, [], Err, IfErr, IfOk, drop, length, take};
+ghost use Rattle.dr_ports.specs.declared.pipe.Part.TheVariants.{Flow, Gate};
 ghost use Rattle.relay_pipe.specs.Asking.{Asks, reply_text, request_frame};
 ghost use Rattle.relay_wire.specs.Replies.{IsLawfulReplied, read_reply};
 ghost use Rattle.relay_wire.specs.Seen.{replied_of};
@@ -46,7 +47,9 @@ fn ask_in<P: Pipe>(
 ) -> Result<Reply, AskFault>
     requires fresh { reader.old.bytes ≡ [] }
     requires room { FRAME_LIMIT ≤ length room.old }
-    ensures { Asks request.now (P.port pipe.old) (P.port pipe.new) result }
+    ensures asks { Asks request.now (P.port pipe.old) (P.port pipe.new) result }
+    ensures later { (P.port pipe.old).faults Flow ≤ (P.port pipe.new).faults Flow }
+    ensures gate { (P.port pipe.new).faults Gate ≡ (P.port pipe.old).faults Gate }
 {
     let size = written(request, room);
     match send_all(pipe, &room[..size]) {
@@ -73,7 +76,9 @@ pub fn ask<P: Pipe>(
     reader: &mut FrameReader,
     request: &Request,
 ) -> Result<Reply, AskFault>
-    ensures { Asks request.now (P.port pipe.old) (P.port pipe.new) result }
+    ensures asks { Asks request.now (P.port pipe.old) (P.port pipe.new) result }
+    ensures later { (P.port pipe.old).faults Flow ≤ (P.port pipe.new).faults Flow }
+    ensures gate { (P.port pipe.new).faults Gate ≡ (P.port pipe.old).faults Gate }
 {
     let mut room = [0; FRAME_LIMIT];
     reader.clear();

@@ -2,7 +2,7 @@
 
 ghost use Rattle.std.specs.Prelude.{◌≡◌, ◌+◌, ◌<◌, ◌≤◌, length, take, drop, IfOk, OnOk, OnErr};
 ghost use Rattle.dr_ports.specs.Ports.{HasCause};
-ghost use Rattle.dr_ports.specs.declared.pipe.Part.TheVariants.{Flow};
+ghost use Rattle.dr_ports.specs.declared.pipe.Part.TheVariants.{Flow, Gate};
 ghost use Rattle.dr_ports.specs.Wires.{EndsAt, Gave, Took};
 ghost use Rattle.relay_pipe.specs.Pulling.{Pulls, TookBeginning};
 ghost use Rattle.relay_wire.specs.declared.limits.TheConstants.{FRAME_LIMIT};
@@ -18,6 +18,7 @@ fn receive_some<P: Pipe>(pipe: &mut P, piece: &mut [u8], wanted: usize) -> Resul
     ensures end { IfOk result (λ count. count ≡ 0 → EndsAt (P.port pipe.old)) }
     ensures err { OnErr result ((P.port pipe.new).told ≡ (P.port pipe.old).told) }
     ensures cause { HasCause ((P.port pipe.old).faults Flow) ((P.port pipe.new).faults Flow) result }
+    ensures gate { (P.port pipe.new).faults Gate ≡ (P.port pipe.old).faults Gate }
 {
     pipe.receive(&mut piece[..wanted])
 }
@@ -31,6 +32,7 @@ pub fn next_frame<P: Pipe>(
     requires { FRAME_LIMIT ≤ length piece.old }
     ensures pulls { Pulls reader.old reader.new (P.port pipe.old) (P.port pipe.new) result }
     ensures cause { HasCause ((P.port pipe.old).faults Flow) ((P.port pipe.new).faults Flow) result }
+    ensures gate { (P.port pipe.new).faults Gate ≡ (P.port pipe.old).faults Gate }
 {
     'bytes: while reader.wanted() > 0 {
         let wanted = reader.wanted();
@@ -52,6 +54,7 @@ fn send_from<P: Pipe>(pipe: &mut P, bytes: &[u8], at: usize) -> Result<usize, Fa
     ensures content { IfOk result (λ count. Took (take count (drop at bytes.now)) (P.port pipe.old) (P.port pipe.new)) }
     ensures err { OnErr result ((P.port pipe.new).told ≡ (P.port pipe.old).told) }
     ensures cause { HasCause ((P.port pipe.old).faults Flow) ((P.port pipe.new).faults Flow) result }
+    ensures gate { (P.port pipe.new).faults Gate ≡ (P.port pipe.old).faults Gate }
 {
     pipe.send(&bytes[at..])
 }
@@ -61,6 +64,7 @@ pub fn send_all<P: Pipe>(pipe: &mut P, bytes: &[u8]) -> Result<(), Failed>
     ensures whole { OnOk result (Took bytes.now (P.port pipe.old) (P.port pipe.new)) }
     ensures part { OnErr result (TookBeginning bytes.now (P.port pipe.old) (P.port pipe.new)) }
     ensures cause { HasCause ((P.port pipe.old).faults Flow) ((P.port pipe.new).faults Flow) result }
+    ensures gate { (P.port pipe.new).faults Gate ≡ (P.port pipe.old).faults Gate }
 {
     let mut done = 0;
     'pieces: while done < bytes.len() {

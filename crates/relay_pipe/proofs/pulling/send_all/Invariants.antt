@@ -1,5 +1,5 @@
 use Rattle.std.proofs.Common.{length, ◌-◌, ◌≡◌, ◌≤◌, take}
-use Rattle.dr_ports.specs.declared.pipe.Part.TheVariants.{Flow}
+use Rattle.dr_ports.specs.declared.pipe.Part.TheVariants.{Flow, Gate}
 use Rattle.dr_ports.specs.Wires.{Took}
 use Rattle.relay_pipe.proofs.pulling.send_all.Given as goal
 
@@ -8,6 +8,7 @@ invariant-pieces g l = record {
   within : l.done ≤ length l.bytes;
   content : Took (take l.done l.bytes) (g.P.Pipe.port l.initial.pipe) (g.P.Pipe.port l.pipe);
   quiet : (g.P.Pipe.port l.pipe).faults Flow ≡ (g.P.Pipe.port l.initial.pipe).faults Flow;
+  gate : (g.P.Pipe.port l.pipe).faults Gate ≡ (g.P.Pipe.port l.initial.pipe).faults Gate;
 }
 
 abbrev pub decreases-pieces : goal.decreases-pieces
