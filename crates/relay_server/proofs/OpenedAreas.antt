@@ -63,7 +63,7 @@ none_opened count start stores is = subst (λ (xs : List SlotStore). AreOpened 0
   areas = λ k store there. absurd (let e : None ≡ Some store = there in cc);
   clean = λ k store text there. absurd (let e : None ≡ Some store = there in cc);
   rests = λ k store there. absurd (let e : None ≡ Some store = there in cc);
-  read = λ s r was is k store there. absurd (let e : None ≡ Some store = there in cc);
+  read = λ s was k store there. absurd (let e : None ≡ Some store = there in cc);
   untouched = λ s r was is. let e : s ≡ r = let f : Some s ≡ Some r = sym was ∙ is in cc in subst (Torn 0 0 s) e (torn_self 0 0 s);
 })
 
@@ -105,20 +105,20 @@ module _ (local : IsLocal) (n count : ℕ) (start d now : DiskState) (stores : L
 
   -- ---- it is refused
 
-  damaged_first : (slot at : ℕ) → now.seen ≡ d.seen → ((s : List ℕ) → d.seen ≡ Some s → area_read n s ≡ damaged slot at) → OfRead start now (IsFirstDamaged count n slot at)
-  damaged_first slot at same here s r was is = record {
+  damaged_first : (slot at : ℕ) → ((s : List ℕ) → d.seen ≡ Some s → area_read n s ≡ damaged slot at) → OfRead start (IsFirstDamaged count n slot at)
+  damaged_first slot at here s was = record {
     inside = less;
     before = λ j below.
         let there = there_is stores j (omega (arith, so_far.count_is, below)) in
-        subst IsWhole (sym (so_far.read s r was (sym same ∙ is) j there.0 there.1)) (whole_of (content there.0));
-    here = unread s r was (sym same ∙ is) ∙ here r (sym same ∙ is);
+        subst IsWhole (sym (so_far.read s was j there.0 there.1)) (whole_of (content there.0));
+    here = let r = so_far.during.told s was in unread s r.0 was r.1 ∙ here r.0 r.1;
   }
 
   pub refused : (e : ServerOpenError) → IsAreaRefused n d now e → AreRefused count start now e
   refused Memory is = quiet_twice start d now so_far.quiet is
   refused (StoreFault call) is = omega (arith, is, so_far.during.counts call)
   refused (Damaged area slot at) is =
-      (quiet_twice start d now so_far.quiet is.1, subst (λ (k : ℕ). OfRead start now (IsFirstDamaged count k slot at)) (sym is.0) (damaged_first slot at is.2 is.3))
+      (omega (arith, less, is.0), quiet_twice start d now so_far.quiet is.1, subst (λ (k : ℕ). OfRead start (IsFirstDamaged count k slot at)) (sym is.0) (damaged_first slot at is.2))
   refused (BoxName k) is = absurd is
 
   -- ---- it is opened
@@ -147,11 +147,11 @@ module _ (local : IsLocal) (n count : ℕ) (start d now : DiskState) (stores : L
           (λ new. one.clean text (ap content new.1 ∙ has)) (pushed stores store other k there);
       rests = λ k other there. ⊎_elim (λ old. old_rests k other (below_n k other old) old)
           (λ new. subst (λ (x : SlotStore). Always (Rests x) now) new.1 one.rests) (pushed stores store other k there);
-      read = λ s r was is k other there.
-          let like = reads r is in
-          ⊎_elim (λ old. so_far.read s like.read was like.told k other old)
+      read = λ s was k other there.
+          let r = so_far.during.told s was in
+          ⊎_elim (λ old. so_far.read s was k other old)
           (λ new. subst (λ (m : ℕ). area_read m s ≡ reading_of (content other)) (sym (new.0 ∙ so_far.count_is))
-          (unread s like.read was like.told ∙ one.read like.read like.told ∙ ap (λ (x : SlotStore). reading_of (content x)) new.1)) (pushed stores store other k there);
+          (unread s r.0 was r.1 ∙ one.read r.0 r.1 ∙ ap (λ (x : SlotStore). reading_of (content x)) new.1)) (pushed stores store other k there);
       untouched = λ s r was is.
           let like = reads r is in
           torn_twice 0 (524288 * (n + 1)) s like.read r

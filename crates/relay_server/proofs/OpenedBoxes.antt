@@ -14,7 +14,7 @@ use Rattle.slot_store.specs.Store.{content}
 use Rattle.relay_core.specs.Boxes.{Box, empty_box}
 use Rattle.relay_server.specs.Areas.{AreOpened, IsLikeEntry, reading_of}
 use Rattle.relay_server.specs.Durable.{area_of}
-use Rattle.relay_server.specs.Filling.{AreFilled, AreLoaded, HasBox, IsFilling, IsFirstOthers, IsKept, IsOthers, WasTold}
+use Rattle.relay_server.specs.Filling.{AreFilled, AreLoaded, HasBox, IsFilling, IsFirstOthers, IsKept, IsOthers}
 use Rattle.relay_server.specs.Opening.{GivesBox, HasOtherName, IsOpened, IsOpening, IsUnopened, IsWhole, StaysOrBegins}
 use Rattle.relay_server.specs.declared.errors.ServerOpenError.TheVariants.{BoxName}
 use Rattle.relay_server.proofs.OpenedAreas.{entry_self, whole_of}
@@ -69,17 +69,18 @@ module _ (names : List (List ℕ)) (start mid : DiskState) (stores : List SlotSt
 
   pub other_name : (k : ℕ) → IsFirstOthers k (map empty_box names) stores → IsUnopened names start mid (BoxName k)
   other_name k first = (
+    omega (arith, first.inside, length_map empty_box names),
     opened.quiet,
-    λ s r was is. record {
+    λ s was. record {
       inside = omega (arith, first.inside, length_map empty_box names);
-      whole = λ j inside. let at = store_at j inside in subst IsWhole (sym (opened.read s r was is j at.0 at.1)) (whole_of (content at.0));
+      whole = λ j inside. let at = store_at j inside in subst IsWhole (sym (opened.read s was j at.0 at.1)) (whole_of (content at.0));
       before = λ j name less named.
           let at = store_at j (omega (arith, within names j name named)) in
           let box = first.before j (empty_box name) at.0 less (begins_as names j name named) at.1 in
-          (box.0, subst (GivesBox name box.0) (sym (opened.read s r was is j at.0 at.1)) (gives_of name box.0 (content at.0) box.1));
+          (box.0, subst (GivesBox name box.0) (sym (opened.read s was j at.0 at.1)) (gives_of name box.0 (content at.0) box.1));
       here = λ name named.
           let at = store_at k (within names k name named) in
-          subst (HasOtherName name) (sym (opened.read s r was is k at.0 at.1)) (other_of name (content at.0) (first.here (empty_box name) at.0 (begins_as names k name named) at.1));
+          subst (HasOtherName name) (sym (opened.read s was k at.0 at.1)) (other_of name (content at.0) (first.here (empty_box name) at.0 (begins_as names k name named) at.1));
     },
   )
 
@@ -131,14 +132,15 @@ module _ (names : List (List ℕ)) (start mid : DiskState) (stores : List SlotSt
       fault_then call rose = omega (arith, rose, opened.during.counts call)
 
       -- all areas have their boxes
-      pub opened_then : (news : List SlotStore) → AreFilled (length boxes) boxes news now → IsQuiet mid now → WasTold mid now → IsOpened names (with_stores boxes news) start now
-      opened_then news filled quiet told = record {
+      pub opened_then : (news : List SlotStore) → AreFilled (length boxes) boxes news now → IsQuiet mid now → IsOpened names (with_stores boxes news) start now
+      opened_then news filled quiet = record {
         ready = filled_ready boxes news now filled;
-        count = count_is;
-        named = named_at;
-        read = λ s r was is k name box named boxed.
-            let before = told r is in
-            let at = store_at k (within names k name named) in
-            subst (GivesBox name box) (sym (opened.read s before.0 was before.1 k at.0 at.1)) (gives_of name box (content at.0) (kept_at k name box at.0 named boxed at.1));
+        boxes = record {
+          count = count_is;
+          named = named_at;
+          read = λ s was k name box named boxed.
+              let at = store_at k (within names k name named) in
+              subst (GivesBox name box) (sym (opened.read s was k at.0 at.1)) (gives_of name box (content at.0) (kept_at k name box at.0 named boxed at.1));
+        };
         quiet = quiet_twice start mid now opened.quiet quiet;
       }

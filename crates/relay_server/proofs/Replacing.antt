@@ -1,10 +1,11 @@
 -- One record of many is replaced: the other boxes stay.
-use Rattle.std.proofs.Common.{◌≡◌, ◌≢◌, inl, inr, ⊎_elim, ℕ, zero, suc, ◌+◌, ◌<◌, ◌≤◌, Bool, true, List, [], ◌∷◌, length, Some, None, refl, sym, ◌∙◌, ap, subst, arith}
+use Rattle.std.proofs.Common.{◌≡◌, ◌≢◌, inl, inr, ⊎_elim, ℕ, zero, suc, ◌+◌, ◌*◌, ◌<◌, ◌≤◌, Bool, true, List, [], ◌∷◌, length, Some, None, refl, sym, ◌∙◌, ap, subst, arith}
 use Rattle.std.specs.Prelude.{slice_get}
 use Rattle.std.proofs.lemmas.Bool.{cases_eq, cases_lt}
 use Rattle.dr_disk.specs.State.{DiskState, Always}
 use Rattle.dr_disk.specs.Spans.{Span, Frame}
 use Rattle.dr_disk.specs.Bytes.{Torn}
+use Rattle.dr_disk.proofs.Ranges.{torn_wider}
 use Rattle.dr_disk.proofs.Steps.{widen}
 use Rattle.slot_store.specs.declared.area.Area.{Area}
 use Rattle.slot_store.specs.declared.store.SlotStore.{SlotStore}
@@ -97,11 +98,17 @@ module _ (text : Box → List ℕ) (boxes next : List Box) (stores news : List S
       ]))
       o.either
 
-  pub any_moment : Span start now (StandsForEither text boxes next)
-  any_moment = widen start now _ _ each is.any_moment
+  -- what lies behind the areas is as it was
+  behind : (c : List ℕ) → Frame start the_old.0.area.start (the_old.0.area.slot + the_old.0.area.slot) c → Frame start 0 (524288 * length boxes) c
+  behind c frame =
+      let f = framed c frame in
+      (f.0, f.1, torn_wider (area_of k).start ((area_of k).slot + (area_of k).slot) 0 (524288 * length boxes) f.0 c (omega arith) (omega (arith, r.one.inside)) f.2)
+
+  pub any_moment : Span start now (λ c. StandsForEither text boxes next c × Frame start 0 (524288 * length boxes) c)
+  any_moment = widen start now _ _ (λ c o. (each c o, behind c o.frame)) is.any_moment
 
   pub now_stands : Always (StandsForEither text boxes next) now
-  now_stands c left = ⊎_elim (λ was. inl (λ j box there. stands_at j box c there was)) (λ p. p) (any_moment.last c left)
+  now_stands c left = ⊎_elim (λ was. inl (λ j box there. stands_at j box c there was)) (λ p. p.0) (any_moment.last c left)
 
   pub ready_then : done ≡ true → IsReady text (with_stores next news) now
   ready_then passed = record {
@@ -165,8 +172,8 @@ module _ (text : Box → List ℕ) (server : ServerNow) (boxes next : List Box) 
     resting = r.resting;
   }
 
-  pub known_moments : Span start now (StandsForEither text server.boxes next)
-  known_moments = subst (λ (s : ServerNow). Span start now (StandsForEither text s.boxes next)) r.seen (any_moment text boxes next olds news k t start now done replacing)
+  pub known_moments : Span start now (λ c. StandsForEither text server.boxes next c × Frame start 0 (524288 * length server.boxes) c)
+  known_moments = subst (λ (s : ServerNow). Span start now (λ c. StandsForEither text s.boxes next c × Frame start 0 (524288 * length s.boxes) c)) r.seen (any_moment text boxes next olds news k t start now done replacing)
 
   pub known_now : Always (StandsForEither text server.boxes next) now
   known_now = subst (λ (s : ServerNow). Always (StandsForEither text s.boxes next) now) r.seen (now_stands text boxes next olds news k t start now done replacing)

@@ -1,10 +1,12 @@
 -- Round behind round.
-use Rattle.std.proofs.Common.{◌≡◌, ⊎_elim, ℕ, zero, suc, ◌+◌, ◌-◌, ◌<◌, ◌≤◌, Bool, true, false, List, [], ◌∷◌, ◌++◌, length, drop, Option, Some, None, refl, sym, ◌∙◌, ap, ap₂, subst, arith, append_assoc, append-nil}
+use Rattle.std.proofs.Common.{◌≡◌, ⊎_elim, ℕ, zero, suc, ◌+◌, ◌-◌, ◌*◌, ◌<◌, ◌≤◌, Bool, true, false, List, [], ◌∷◌, ◌++◌, length, drop, Option, Some, None, refl, sym, ◌∙◌, ap, ap₂, subst, arith, append_assoc, append-nil}
 use Rattle.std.specs.Prelude.{option_map, flat_map, IfSome, if◌then◌else◌}
 use Rattle.std.specs.List.{AllByRecursion}
 use Rattle.std.proofs.lemmas.List.{length_push, append_cancel_left}
 use Rattle.dr_disk.specs.State.{DiskState, Always}
-use Rattle.dr_disk.specs.Spans.{Span}
+use Rattle.dr_disk.specs.Bytes.{Torn}
+use Rattle.dr_disk.specs.Spans.{Frame, Span}
+use Rattle.dr_disk.proofs.Ranges.{torn_twice}
 use Rattle.dr_disk.proofs.Steps.{spans, widen}
 use Rattle.dr_ports.specs.declared.pipe.Part.TheVariants.{Flow}
 use Rattle.dr_ports.specs.Wires.{Port, Told, EndsAt, IsAtEnd}
@@ -14,6 +16,7 @@ use Rattle.relay_wire.proofs.Splitting.{only, each}
 use Rattle.relay_core.specs.declared.limits.TheConstants.{EXCHANGE_LIMIT}
 use Rattle.relay_core.specs.Boxes.{Box, answers_read}
 use Rattle.relay_core.specs.Streams.{Exchange, Served, and_then, served, served_within, reply_frame, reply_bytes, is_last}
+use Rattle.relay_core.proofs.Changed.{change}
 use Rattle.relay_server.specs.Durable.{ServerNow, StandsFor, StandsForEither}
 use Rattle.relay_server.specs.Serving.{exchanged, Exchanges, Idle, Came, reply_to, ReachedIn, Reached, IsAll, LastOrBefore, Answers, prepend, SoFar}
 
@@ -31,7 +34,7 @@ all_append [] b one two = two
 all_append (x ∷ a) b one two = (one.0, all_append a b one.1 two)
 
 -- whole frames in front of a stream are its first frames
-frames_join : (frames : List (List ℕ)) (rest : List ℕ) → AllByRecursion IsFrame frames → frames_of (flat frames ++ rest) ≡ frames ++ frames_of rest
+pub frames_join : (frames : List (List ℕ)) (rest : List ℕ) → AllByRecursion IsFrame frames → frames_of (flat frames ++ rest) ≡ frames ++ frames_of rest
 frames_join frames rest whole =
     let r = each rest in
     only (flat frames ++ rest) (frames ++ frames_of rest) r.0 (record {
@@ -44,7 +47,7 @@ no_frames : (rest : List ℕ) → IsPartial rest → frames_of rest ≡ []
 unfolding frames_of
 no_frames rest partial = only rest [] rest (record { whole = refl; each = tt; partial = partial })
 
-replies_append : (a b : List Exchange) → flat_map reply_frame (a ++ b) ≡ flat_map reply_frame a ++ flat_map reply_frame b
+pub replies_append : (a b : List Exchange) → flat_map reply_frame (a ++ b) ≡ flat_map reply_frame a ++ flat_map reply_frame b
 replies_append [] b = refl
 replies_append (x ∷ a) b = ap (λ (r : List ℕ). reply_frame x ++ r) (replies_append a b) ∙ sym (append_assoc (reply_frame x) (flat_map reply_frame a) (flat_map reply_frame b))
 
@@ -91,7 +94,7 @@ no_exchange (Some t) = ap₂ (λ (r s : List ℕ). Some (record t { now = record
 -- ---- before the first round
 
 module _ (text : Box → List ℕ) (most : ℕ) (old : ServerNow) where
-  pub nothing_so_far : (start : Port) (dstart : DiskState) → Span dstart dstart (ReachedIn text most old.boxes []) → SoFar text most old old.boxes start start dstart dstart 0
+  pub nothing_so_far : (start : Port) (dstart : DiskState) → Span dstart dstart (λ c. ReachedIn text most old.boxes [] c × Frame dstart 0 (524288 * length old.boxes) c) → SoFar text most old old.boxes start start dstart dstart 0
   nothing_so_far start dstart span = record {
     frames = [];
     each = tt;
@@ -101,6 +104,7 @@ module _ (text : Box → List ℕ) (most : ℕ) (old : ServerNow) where
     count = refl;
     later = omega arith;
     during = span;
+    boxes_count = refl;
   }
 
   module _ (boxes : List Box) (start now : Port) (dstart dnow : DiskState) (n : ℕ) (so : SoFar text most old boxes start now dstart dnow n) where
@@ -121,19 +125,31 @@ module _ (text : Box → List ℕ) (most : ℕ) (old : ServerNow) where
           by_end true = refl
           by_end false = ap (and_then (exchange_of boxes frame)) (served_nothing (most - (n + 1)) (next_of boxes frame))
 
-      span_with : Span dstart dafter (ReachedIn text most old.boxes (so.frames ++ frame ∷ []))
+      -- what lies behind the areas, of a moment of this round
+      behind_with : (c : List ℕ) → Frame dnow 0 (524288 * length boxes) c → Frame dstart 0 (524288 * length old.boxes) c
+      behind_with c frame =
+          let sized = subst (λ (n : ℕ). Torn 0 (524288 * n) frame.0 c) so.boxes_count frame.2 in
+          ⊎_elim (λ was. (frame.0, was, sized)) (λ left. (left.1.0, left.1.1, torn_twice 0 (524288 * length old.boxes) left.1.0 frame.0 c left.1.2 sized)) (so.during.last frame.0 frame.1)
+
+      span_with : Span dstart dafter (λ c. ReachedIn text most old.boxes (so.frames ++ frame ∷ []) c × Frame dstart 0 (524288 * length old.boxes) c)
       span_with = spans dstart dnow dafter _
-          (widen dstart dnow _ _ (λ c r. record { front = r.front; back = r.back ++ frame ∷ []; split = ap (λ (fs : List (List ℕ)). fs ++ frame ∷ []) r.split ∙ append_assoc r.front r.back (frame ∷ []); stands = r.stands }) so.during)
-          (widen dnow dafter _ _ (λ c e. ⊎_elim
-          (λ before. record { front = so.frames; back = frame ∷ []; split = refl; stands = subst (λ (bs : List Box). StandsFor text bs c) (sym (ap (λ (s : Served). s.next) so_served)) before })
-          (λ behind. record { front = so.frames ++ frame ∷ []; back = []; split = sym (append-nil (so.frames ++ frame ∷ [])); stands = subst (λ (bs : List Box). StandsFor text bs c) (sym (ap (λ (s : Served). s.next) with_frame)) behind })
-          e) came.during)
+          (widen dstart dnow _ _ (λ c r. (record { front = r.0.front; back = r.0.back ++ frame ∷ []; split = ap (λ (fs : List (List ℕ)). fs ++ frame ∷ []) r.0.split ∙ append_assoc r.0.front r.0.back (frame ∷ []); stands = r.0.stands }, r.1)) so.during)
+          (widen dnow dafter _ _ (λ c e. (
+            ⊎_elim
+                (λ before. record { front = so.frames; back = frame ∷ []; split = refl; stands = subst (λ (bs : List Box). StandsFor text bs c) (sym (ap (λ (s : Served). s.next) so_served)) before })
+                (λ behind. record { front = so.frames ++ frame ∷ []; back = []; split = sym (append-nil (so.frames ++ frame ∷ [])); stands = subst (λ (bs : List Box). StandsFor text bs c) (sym (ap (λ (s : Served). s.next) with_frame)) behind })
+                e.0,
+            behind_with c e.1,
+          )) came.during)
 
       whole_with : AllByRecursion IsFrame (so.frames ++ frame ∷ [])
       whole_with = all_append so.frames (frame ∷ []) so.each (came.whole, tt)
 
       flat_with : flat (so.frames ++ frame ∷ []) ≡ flat so.frames ++ frame
       flat_with = flat_append so.frames (frame ∷ []) ∙ ap (λ (f : List ℕ). flat so.frames ++ f) (append-nil frame)
+
+      count_with : length next ≡ length old.boxes
+      count_with = ap length came.next ∙ (change boxes (read_request (drop 2 frame))).count ∙ so.boxes_count
 
       -- another round may follow
       pub one_more_round : put ≡ reply_to boxes frame → is_last (read_request (drop 2 frame)) ≡ false → now.faults Flow ≤ after.faults Flow → SoFar text most old next start after dstart dafter (n + 1)
@@ -155,6 +171,7 @@ module _ (text : Box → List ℕ) (most : ℕ) (old : ServerNow) where
         count = length_push so.exs (exchange_of boxes frame) ∙ ap (λ (m : ℕ). m + 1) so.count;
         later = omega (arith, so.later, later);
         during = span_with;
+        boxes_count = count_with;
       }
 
 -- ---- the exits
@@ -166,8 +183,8 @@ served_is boxes frames rest whole = ap (served_within EXCHANGE_LIMIT boxes) (fra
 nothing_left : frames_of [] ≡ []
 nothing_left = no_frames [] (omega arith)
 
-same_span : (text : Box → List ℕ) (boxes : List Box) (frames : List (List ℕ)) (got : List ℕ) (a b : DiskState) → frames_of got ≡ frames → Span a b (ReachedIn text EXCHANGE_LIMIT boxes frames) → Span a b (Reached text boxes got)
-same_span text boxes frames got a b is span = subst (λ (fs : List (List ℕ)). Span a b (ReachedIn text EXCHANGE_LIMIT boxes fs)) (sym is) span
+same_span : (text : Box → List ℕ) (boxes : List Box) (frames : List (List ℕ)) (got : List ℕ) (a b : DiskState) → frames_of got ≡ frames → Span a b (λ c. ReachedIn text EXCHANGE_LIMIT boxes frames c × Frame a 0 (524288 * length boxes) c) → Span a b (λ c. Reached text boxes got c × Frame a 0 (524288 * length boxes) c)
+same_span text boxes frames got a b is span = subst (λ (fs : List (List ℕ)). Span a b (λ c. ReachedIn text EXCHANGE_LIMIT boxes fs c × Frame a 0 (524288 * length boxes) c)) (sym is) span
 
 module _ (text : Box → List ℕ) (old : ServerNow) (boxes : List Box) (start now : Port) (dstart dnow : DiskState) (n : ℕ) (so : SoFar text EXCHANGE_LIMIT old boxes start now dstart dnow n) where
   frames_are : frames_of (flat so.frames) ≡ so.frames
@@ -193,8 +210,11 @@ module _ (text : Box → List ℕ) (old : ServerNow) (boxes : List Box) (start n
       next_is = idle.same ∙ ap (λ (s : Served). s.next) (sym total_served);
     }
 
-    pub idle_during : Span dstart dafter (Reached text old.boxes total)
+    pub idle_during : Span dstart dafter (λ c. Reached text old.boxes total c × Frame dstart 0 (524288 * length old.boxes) c)
     idle_during = same_span text old.boxes so.frames total dstart dafter total_frames (spans dstart dnow dafter _ so.during (widen dnow dafter _ _ (λ c none. absurd none) idle.still))
+
+    pub idle_boxes : length next ≡ length old.boxes
+    idle_boxes = ap length idle.same ∙ so.boxes_count
 
     pub idle_count : length (served old.boxes total).exchanges ≡ n
     idle_count = ap (λ (s : Served). length s.exchanges) total_served ∙ so.count
@@ -225,8 +245,11 @@ module _ (text : Box → List ℕ) (old : ServerNow) (boxes : List Box) (start n
         ∙ ap (λ (fs : List (List ℕ)). served_within EXCHANGE_LIMIT old.boxes ((so.frames ++ frame ∷ []) ++ fs)) nothing_left ∙ ap (served_within EXCHANGE_LIMIT old.boxes) (append-nil (so.frames ++ frame ∷ []))
         ∙ with_frame text EXCHANGE_LIMIT old boxes start now dstart dnow n so frame put next after dafter under came
 
-    pub came_during : Span dstart dafter (Reached text old.boxes whole)
+    pub came_during : Span dstart dafter (λ c. Reached text old.boxes whole c × Frame dstart 0 (524288 * length old.boxes) c)
     came_during = same_span text old.boxes (so.frames ++ frame ∷ []) whole dstart dafter whole_frames (span_with text EXCHANGE_LIMIT old boxes start now dstart dnow n so frame put next after dafter under came)
+
+    pub came_boxes : length next ≡ length old.boxes
+    came_boxes = count_with text EXCHANGE_LIMIT old boxes start now dstart dnow n so frame put next after dafter under came
 
     pub came_stands : Always (StandsForEither text boxes next) dafter → LastOrBefore text old.boxes next whole dafter
     came_stands each = record {
@@ -273,7 +296,7 @@ module _ (text : Box → List ℕ) (old : ServerNow) (boxes : List Box) (start n
       next_is = ap (λ (s : Served). s.next) (sym full_here);
     }
 
-    pub full_during : Span dstart dnow (Reached text old.boxes (flat so.frames))
+    pub full_during : Span dstart dnow (λ c. Reached text old.boxes (flat so.frames) c × Frame dstart 0 (524288 * length old.boxes) c)
     full_during = same_span text old.boxes so.frames (flat so.frames) dstart dnow frames_are so.during
 
     pub full_count : length (served old.boxes (flat so.frames)).exchanges ≡ EXCHANGE_LIMIT

@@ -1,5 +1,5 @@
 -- The areas of a relay, opened one after the other.
-use Rattle.std.specs.Prelude.{◌≡◌, ℕ, ◌*◌, List, length, slice_get, Option, Some, None}
+use Rattle.std.specs.Prelude.{◌≡◌, ℕ, ◌*◌, ◌<◌, List, length, slice_get, Option, Some, None}
 use Rattle.dr_base.specs.Causes.{Rose}
 use Rattle.dr_disk.specs.Bytes.{Torn}
 use Rattle.dr_disk.specs.Spans.{IsQuiet, Span}
@@ -32,7 +32,7 @@ abbrev pub IsAreaRefused : ℕ → DiskState → DiskState → ServerOpenError �
 IsAreaRefused k start now Memory = IsQuiet start now
 IsAreaRefused k start now (StoreFault call) = Rose (start.faults call) (now.faults call)
 IsAreaRefused k start now (Damaged area slot at) =
-    (area ≡ k) × IsQuiet start now × (now.seen ≡ start.seen) × ((s : List ℕ) → start.seen ≡ Some s → area_read k s ≡ damaged slot at)
+    (area ≡ k) × IsQuiet start now × ((s : List ℕ) → start.seen ≡ Some s → area_read k s ≡ damaged slot at)
 IsAreaRefused k start now (BoxName j) = ⊥
 
 -- Each area has the record that one image of that moment has there. What lies behind so many areas is the same.
@@ -50,12 +50,12 @@ pub record AreOpened (n count : ℕ) (stores : List SlotStore) (start now : Disk
   pub areas : (k : ℕ) (store : SlotStore) → slice_get stores k ≡ Some store → store.area ≡ area_of k
   pub clean : (k : ℕ) (store : SlotStore) (text : List ℕ) → slice_get stores k ≡ Some store → content store ≡ Some text → box_fault text ≡ None
   pub rests : (k : ℕ) (store : SlotStore) → slice_get stores k ≡ Some store → Always (Rests store) now
-  pub read : OfRead start now (λ s. (k : ℕ) (store : SlotStore) → slice_get stores k ≡ Some store → area_read k s ≡ reading_of (content store))
+  pub read : OfRead start (λ s. (k : ℕ) (store : SlotStore) → slice_get stores k ≡ Some store → area_read k s ≡ reading_of (content store))
   pub untouched : (s r : List ℕ) → start.seen ≡ Some s → now.seen ≡ Some r → Torn 0 (524288 * n) s r
 
 -- why so many weren't
 abbrev pub AreRefused : ℕ → DiskState → DiskState → ServerOpenError → Type 0
 AreRefused count start now Memory = IsQuiet start now
 AreRefused count start now (StoreFault call) = Rose (start.faults call) (now.faults call)
-AreRefused count start now (Damaged area slot at) = IsQuiet start now × OfRead start now (IsFirstDamaged count area slot at)
+AreRefused count start now (Damaged area slot at) = (area < count) × IsQuiet start now × OfRead start (IsFirstDamaged count area slot at)
 AreRefused count start now (BoxName k) = ⊥

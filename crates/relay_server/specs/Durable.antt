@@ -12,6 +12,10 @@ use Rattle.relay_core.specs.Boxes.{Box}
 abbrev pub area_of : ℕ → Area
 area_of k = record { start = 524288 * k; slot = 262144 }
 
+-- what lies behind so many areas is as an image of that moment has it
+abbrev pub IsSameBehind : ℕ → DiskState → List ℕ → Type 0
+IsSameBehind count start = Frame start 0 (524288 * count)
+
 -- a server: its boxes, and a store for each
 pub record ServerNow : Type 0 where
   pub boxes : List Box

@@ -40,10 +40,6 @@ IsLoadedAt k old new text =
 
 -- ---- empty boxes
 
--- a disk that tells what a read gives now told it before
-abbrev pub WasTold : DiskState → DiskState → Type 0
-WasTold start now = (s : List ℕ) → now.seen ≡ Some s → (r : List ℕ) × (start.seen ≡ Some r)
-
 -- a store has its box's record; from the n-th on it may have none, and its box is empty then
 abbrev pub HasBox : ℕ → ℕ → Box → Option (List ℕ) → Type 0
 HasBox n k box None = (n ≤ k) × (box ≡ empty_box box.name)

@@ -44,9 +44,9 @@ HasOtherName name no_content = ⊥
 HasOtherName name (holds text) = (box : Box) × (box_read text ≡ Ok box) × (box.name ≢ name)
 HasOtherName name (damaged slot at) = ⊥
 
--- of what a read gave at first, on a disk that tells that, and what a read gives now
-abbrev pub OfRead : DiskState → DiskState → (List ℕ → Type 0) → Type 0
-OfRead start now P = (s r : List ℕ) → start.seen ≡ Some s → now.seen ≡ Some r → P s
+-- of what a read gives, on a disk that tells that
+abbrev pub OfRead : DiskState → (List ℕ → Type 0) → Type 0
+OfRead start P = (s : List ℕ) → start.seen ≡ Some s → P s
 
 -- the first of so many areas that is damaged
 pub record IsFirstDamaged (count k slot at : ℕ) (s : List ℕ) : Type 0 where
@@ -77,17 +77,21 @@ pub record IsOpening (names : List (List ℕ)) (start : DiskState) (c : List ℕ
 
 -- ---- how it ends
 
+-- A box for each name, as its area is read.
+pub record AreRead (names : List (List ℕ)) (boxes : List Box) (start : DiskState) : Type 0 where
+  pub count : length boxes ≡ length names
+  pub named : (k : ℕ) (name : List ℕ) (box : Box) → slice_get names k ≡ Some name → slice_get boxes k ≡ Some box → box.name ≡ name
+  pub read : OfRead start (λ s. (k : ℕ) (name : List ℕ) (box : Box) → slice_get names k ≡ Some name → slice_get boxes k ≡ Some box → GivesBox name box (area_read k s))
+
 -- The server is ready, with the boxes that were read.
 pub record IsOpened (names : List (List ℕ)) (server : ServerNow) (start now : DiskState) : Type 0 where
   pub ready : IsReady box_text server now
-  pub count : length server.boxes ≡ length names
-  pub named : (k : ℕ) (name : List ℕ) (box : Box) → slice_get names k ≡ Some name → slice_get server.boxes k ≡ Some box → box.name ≡ name
-  pub read : OfRead start now (λ s. (k : ℕ) (name : List ℕ) (box : Box) → slice_get names k ≡ Some name → slice_get server.boxes k ≡ Some box → GivesBox name box (area_read k s))
+  pub boxes : AreRead names server.boxes start
   pub quiet : IsQuiet start now
 
 -- why no server was opened
 abbrev pub IsUnopened : List (List ℕ) → DiskState → DiskState → ServerOpenError → Type 0
 IsUnopened names start now Memory = IsQuiet start now
 IsUnopened names start now (StoreFault call) = Rose (start.faults call) (now.faults call)
-IsUnopened names start now (Damaged area slot at) = IsQuiet start now × OfRead start now (IsFirstDamaged (length names) area slot at)
-IsUnopened names start now (BoxName k) = IsQuiet start now × OfRead start now (IsFirstOther names k)
+IsUnopened names start now (Damaged area slot at) = (area < length names) × IsQuiet start now × OfRead start (IsFirstDamaged (length names) area slot at)
+IsUnopened names start now (BoxName k) = (k < length names) × IsQuiet start now × OfRead start (IsFirstOther names k)

@@ -2,7 +2,7 @@
 use Rattle.std.specs.Prelude.{◌≡◌, ◌-◌, ◌≤◌, ℕ, List, [], ◌∷◌, ◌++◌, length, drop, flat_map, Some, Result, Ok, Err}
 use Rattle.std.specs.List.{AllByRecursion}
 use Rattle.dr_disk.specs.State.{DiskState, Always}
-use Rattle.dr_disk.specs.Spans.{Span}
+use Rattle.dr_disk.specs.Spans.{IsQuiet, Span}
 use Rattle.dr_ports.specs.Ports.{Rose}
 use Rattle.dr_ports.specs.declared.pipe.Part.TheVariants.{Flow}
 use Rattle.dr_ports.specs.Wires.{Port, Told, EndsAt}
@@ -15,7 +15,7 @@ use Rattle.relay_core.specs.Boxes.{Box, answers_read, box_of}
 use Rattle.relay_core.specs.Streams.{Exchange, Served, served, served_within, reply_frame, reply_bytes, is_last, IsIsolated, asks, told}
 use Rattle.relay_core.specs.Alone.{box_after}
 use Rattle.relay_core.specs.Record.{box_text}
-use Rattle.relay_server.specs.Durable.{ServerNow, IsReady, StandsFor, StandsForEither}
+use Rattle.relay_server.specs.Durable.{ServerNow, IsReady, IsSameBehind, StandsFor, StandsForEither}
 use Rattle.relay_server.specs.declared.serving.Ended.{Ended}
 use Rattle.relay_server.specs.declared.serving.Round.{Round}
 use Rattle.relay_server.specs.declared.serving.Round.TheVariants.{AtEnd, Answered}
@@ -36,7 +36,7 @@ pub record Came (text : Box → List ℕ) (frame put : List ℕ) (old new : List
   pub exchanges : Exchanges frame put start now
   pub whole : IsFrame frame
   pub next : new ≡ (answers_read old (read_request (drop 2 frame))).next
-  pub during : Span dstart dnow (StandsForEither text old new)
+  pub during : Span dstart dnow (λ c. StandsForEither text old new c × IsSameBehind (length old) dstart c)
 
 abbrev pub reply_to : List Box → List ℕ → List ℕ
 reply_to boxes frame = framed (reply_body (answers_read boxes (read_request (drop 2 frame))).reply)
@@ -45,10 +45,10 @@ abbrev pub Rounds : (Box → List ℕ) → ServerNow → ServerNow → Port → 
 Rounds text old new start now dstart dnow (Ok AtEnd) = (got : List ℕ) × Idle got old.boxes new.boxes start now dstart dnow × EndsAt now × IsReady text new dnow
 Rounds text old new start now dstart dnow (Ok (Answered last)) =
     (frame : List ℕ) × Came text frame (reply_to old.boxes frame) old.boxes new.boxes start now dstart dnow × (last ≡ is_last (read_request (drop 2 frame))) × IsReady text new dnow
-Rounds text old new start now dstart dnow (Err Read) = (got : List ℕ) × Idle got old.boxes new.boxes start now dstart dnow × Rose (start.faults Flow) (now.faults Flow) × IsReady text new dnow
+Rounds text old new start now dstart dnow (Err Read) = (got : List ℕ) × Idle got old.boxes new.boxes start now dstart dnow × Rose (start.faults Flow) (now.faults Flow) × IsReady text new dnow × IsQuiet dstart dnow
 Rounds text old new start now dstart dnow (Err Write) =
     (frame : List ℕ) × (put : List ℕ) × (rest : List ℕ) × Came text frame put old.boxes new.boxes start now dstart dnow × (reply_to old.boxes frame ≡ put ++ rest)
-    × Rose (start.faults Flow) (now.faults Flow) × IsReady text new dnow
+    × Rose (start.faults Flow) (now.faults Flow) × IsReady text new dnow × IsQuiet dstart dnow
 Rounds text old new start now dstart dnow (Err (Store call)) = (frame : List ℕ) × Came text frame [] old.boxes new.boxes start now dstart dnow × Rose (dstart.faults call) (dnow.faults call)
     × Always (StandsForEither text old.boxes new.boxes) dnow
 
@@ -89,11 +89,11 @@ pub record Answers (boxes next : List Box) (got put : List ℕ) (start now : Por
 
 abbrev pub Serves : (Box → List ℕ) → ServerNow → ServerNow → Port → Port → DiskState → DiskState → List ℕ → Result Ended ServeFault → Type 0
 Serves text old new start now dstart dnow got (Ok ended) =
-    Answers old.boxes new.boxes got (reply_bytes (served old.boxes got)) start now × IsReady text new dnow × (ended.answered ≡ length (served old.boxes got).exchanges) × IsAll old.boxes got now
+    Answers old.boxes new.boxes got (reply_bytes (served old.boxes got)) start now × IsReady text new dnow × IsQuiet dstart dnow × (ended.answered ≡ length (served old.boxes got).exchanges) × IsAll old.boxes got now
 Serves text old new start now dstart dnow got (Err Read) =
-    Answers old.boxes new.boxes got (reply_bytes (served old.boxes got)) start now × IsReady text new dnow × Rose (start.faults Flow) (now.faults Flow)
+    Answers old.boxes new.boxes got (reply_bytes (served old.boxes got)) start now × IsReady text new dnow × IsQuiet dstart dnow × Rose (start.faults Flow) (now.faults Flow)
 Serves text old new start now dstart dnow got (Err Write) =
-    (put : List ℕ) × (rest : List ℕ) × Answers old.boxes new.boxes got put start now × (reply_bytes (served old.boxes got) ≡ put ++ rest) × IsReady text new dnow × Rose (start.faults Flow) (now.faults Flow)
+    (put : List ℕ) × (rest : List ℕ) × Answers old.boxes new.boxes got put start now × (reply_bytes (served old.boxes got) ≡ put ++ rest) × IsReady text new dnow × IsQuiet dstart dnow × Rose (start.faults Flow) (now.faults Flow)
 Serves text old new start now dstart dnow got (Err (Store call)) =
     (put : List ℕ) × (last : Exchange) × Answers old.boxes new.boxes got put start now × (reply_bytes (served old.boxes got) ≡ put ++ reply_frame last) × Rose (dstart.faults call) (dnow.faults call)
     × LastOrBefore text old.boxes new.boxes got dnow
@@ -101,7 +101,8 @@ Serves text old new start now dstart dnow got (Err (Store call)) =
 -- all that one call of `serve` did
 pub record IsServed (text : Box → List ℕ) (old new : ServerNow) (start now : Port) (dstart dnow : DiskState) (result : Result Ended ServeFault) : Type 0 where
   pub got : List ℕ
-  pub during : Span dstart dnow (Reached text old.boxes got)
+  pub during : Span dstart dnow (λ c. Reached text old.boxes got c × IsSameBehind (length old.boxes) dstart c)
+  pub count : length new.boxes ≡ length old.boxes
   pub alone : (name : List ℕ) → IsIsolated name old.boxes (served old.boxes got)
   pub serves : Serves text old new start now dstart dnow got result
 
@@ -118,4 +119,5 @@ pub record SoFar (text : Box → List ℕ) (most : ℕ) (old : ServerNow) (boxes
   pub ahead : (fs : List (List ℕ)) → served_within most old.boxes (frames ++ fs) ≡ prepend exs (served_within (most - n) boxes fs)
   pub count : length exs ≡ n
   pub later : start.faults Flow ≤ now.faults Flow
-  pub during : Span dstart dnow (ReachedIn text most old.boxes frames)
+  pub during : Span dstart dnow (λ c. ReachedIn text most old.boxes frames c × IsSameBehind (length old.boxes) dstart c)
+  pub boxes_count : length boxes ≡ length old.boxes

@@ -2,7 +2,7 @@
 
 ghost use Rattle.std.specs.Prelude.{◌≡◌, ◌≢◌, ◌<◌, ◌≤◌, ◌+◌, ℕ, List, length, take, drop, slice_get, Option, OnOk, IfOk, IfErr, is_ok, [], Bool};
 ghost use Rattle.dr_base.specs.Causes.{Rose};
-ghost use Rattle.dr_ports.specs.declared.pipe.Part.TheVariants.{Flow};
+ghost use Rattle.dr_ports.specs.declared.pipe.Part.TheVariants.{Flow, Gate};
 ghost use Rattle.dr_disk.specs.State.{Always};
 ghost use Rattle.dr_disk.specs.Spans.{IsQuiet, Span};
 ghost use Rattle.slot_store.specs.declared.store.SlotStore.{SlotStore};
@@ -14,8 +14,7 @@ ghost use Rattle.relay_wire.specs.declared.limits.TheConstants.{FRAME_LIMIT};
 ghost use Rattle.relay_core.specs.Boxes.{answers_read};
 ghost use Rattle.relay_core.specs.Record.{box_text};
 ghost use Rattle.relay_core.specs.Streams.{is_last};
-ghost use Rattle.relay_server.specs.Durable.{IsReady, IsReplaced, StandsForEither};
-ghost use Rattle.relay_server.specs.Filling.{WasTold};
+ghost use Rattle.relay_server.specs.Durable.{IsReady, IsReplaced, IsSameBehind, StandsForEither};
 ghost use Rattle.relay_server.specs.Serving.{IsServed, Rounds};
 
 use crate::answering::{answer_frame, write_text};
@@ -64,7 +63,6 @@ pub(crate) fn replace_at<D: Disk>(
     ensures count { length stores.new ≡ length stores.old }
     ensures fault { IfErr result (λ call. Rose ((D.state disk.old).faults call) ((D.state disk.new).faults call)) }
     ensures quiet { OnOk result (IsQuiet (D.state disk.old) (D.state disk.new)) }
-    ensures told { WasTold (D.state disk.old) (D.state disk.new) }
 {
     match stores[place].replace(disk, text) {
         Ok(()) => Ok(()),
@@ -84,7 +82,8 @@ impl DurableBoxes {
         requires room { FRAME_LIMIT ≤ length out.old }
         ensures next { self.new.boxes ≡ (answers_read self.old.boxes (read_request (drop 2 frame.now.bytes))).next }
         ensures ready { OnOk result (IsReady box_text self.new (D.state disk.new)) }
-        ensures any_moment { Span (D.state disk.old) (D.state disk.new) (StandsForEither box_text self.old.boxes self.new.boxes) }
+        ensures any_moment { Span (D.state disk.old) (D.state disk.new)
+            (λ c. StandsForEither box_text self.old.boxes self.new.boxes c × IsSameBehind (length self.old.boxes) (D.state disk.old) c) }
         ensures at_return { Always (StandsForEither box_text self.old.boxes self.new.boxes) (D.state disk.new) }
         ensures fault { IfErr result (λ call. Rose ((D.state disk.old).faults call) ((D.state disk.new).faults call)) }
         ensures quiet { OnOk result (IsQuiet (D.state disk.old) (D.state disk.new)) }
@@ -122,6 +121,7 @@ impl DurableBoxes {
         ensures rounds { Rounds box_text self.old self.new (P.port pipe.old) (P.port pipe.new) (D.state disk.old) (D.state disk.new) result }
         ensures later { (P.port pipe.old).faults Flow ≤ (P.port pipe.new).faults Flow }
         ensures flow { OnOk result ((P.port pipe.new).faults Flow ≡ (P.port pipe.old).faults Flow) }
+        ensures gate { (P.port pipe.new).faults Gate ≡ (P.port pipe.old).faults Gate }
         ensures quiet { OnOk result (IsQuiet (D.state disk.old) (D.state disk.new)) }
         ensures fresh { IfOk result (λ r. (last : Bool) → r ≡ Round.Answered last → reader.new.bytes ≡ []) }
         ensures piece { length piece.new ≡ length piece.old }
@@ -156,7 +156,9 @@ impl DurableBoxes {
         requires room { FRAME_LIMIT ≤ length piece.old }
         requires out_room { FRAME_LIMIT ≤ length out.old }
         ensures served { IsServed box_text self.old self.new (P.port pipe.old) (P.port pipe.new) (D.state disk.old) (D.state disk.new) result }
+        ensures later { (P.port pipe.old).faults Flow ≤ (P.port pipe.new).faults Flow }
         ensures flow { OnOk result ((P.port pipe.new).faults Flow ≡ (P.port pipe.old).faults Flow) }
+        ensures gate { (P.port pipe.new).faults Gate ≡ (P.port pipe.old).faults Gate }
         ensures quiet { OnOk result (IsQuiet (D.state disk.old) (D.state disk.new)) }
         ensures piece { length piece.new ≡ length piece.old }
         ensures out { length out.new ≡ length out.old }

@@ -7,7 +7,7 @@ ghost use Rattle.slot_store.specs.declared.store.SlotStore.{SlotStore};
 ghost use Rattle.slot_store.specs.Store.{content};
 ghost use Rattle.relay_core.specs.Boxes.{Box};
 ghost use Rattle.relay_core.specs.declared.limits.TheConstants.{RECORD_LIMIT, RELAY_LIMIT};
-ghost use Rattle.relay_server.specs.Filling.{AreFilled, AreLoaded, IsFilling, IsFirstOthers, IsLoadedAt, IsOthers, WasTold};
+ghost use Rattle.relay_server.specs.Filling.{AreFilled, AreLoaded, IsFilling, IsFirstOthers, IsLoadedAt, IsOthers};
 ghost use Rattle.relay_server.specs.Opening.{box_fault};
 
 use crate::answering::write_text;
@@ -78,7 +78,6 @@ fn fill_area<D: Disk>(
     ensures any_moment { Span (D.state disk.old) (D.state disk.new) (IsFilling relay.now (D.state disk.old)) }
     ensures fault { IfErr result (λ call. Rose ((D.state disk.old).faults call) ((D.state disk.new).faults call)) }
     ensures quiet { OnOk result (IsQuiet (D.state disk.old) (D.state disk.new)) }
-    ensures told { WasTold (D.state disk.old) (D.state disk.new) }
     ensures size { length text.new ≡ length text.old }
 {
     locality();
@@ -103,7 +102,6 @@ pub(crate) fn fill_areas<D: Disk>(
     ensures any_moment { Span (D.state disk.old) (D.state disk.new) (IsFilling relay.now (D.state disk.old)) }
     ensures fault { IfErr result (λ call. Rose ((D.state disk.old).faults call) ((D.state disk.new).faults call)) }
     ensures quiet { OnOk result (IsQuiet (D.state disk.old) (D.state disk.new)) }
-    ensures told { WasTold (D.state disk.old) (D.state disk.new) }
     ensures size { length text.new ≡ length text.old }
 {
     'boxes: for place in 0..stores.len() {

@@ -2,7 +2,7 @@
 
 ghost use Rattle.std.specs.Prelude.{◌≡◌, ◌≤◌, ◌*◌, length, IfErr, IfOk, OnOk};
 ghost use Rattle.dr_disk.specs.Spans.{IsQuiet, Span};
-ghost use Rattle.dr_ports.specs.declared.pipe.Part.TheVariants.{Flow};
+ghost use Rattle.dr_ports.specs.declared.pipe.Part.TheVariants.{Flow, Gate};
 ghost use Rattle.relay_core.specs.Record.{box_text};
 ghost use Rattle.relay_core.specs.declared.limits.TheConstants.{RELAY_LIMIT};
 ghost use Rattle.relay_server.specs.Durable.{IsReady};
@@ -96,7 +96,9 @@ impl Server {
     ) -> Result<Ended, ServeFault>
         requires { IsReady box_text self.old (D.state disk.old) }
         ensures served { IsServed box_text self.old self.new (P.port pipe.old) (P.port pipe.new) (D.state disk.old) (D.state disk.new) result }
+        ensures later { (P.port pipe.old).faults Flow ≤ (P.port pipe.new).faults Flow }
         ensures flow { OnOk result ((P.port pipe.new).faults Flow ≡ (P.port pipe.old).faults Flow) }
+        ensures gate { (P.port pipe.new).faults Gate ≡ (P.port pipe.old).faults Gate }
         ensures quiet { OnOk result (IsQuiet (D.state disk.old) (D.state disk.new)) }
     {
         self.boxes.serve(disk, pipe, &mut self.reader, &mut self.piece, &mut self.out)

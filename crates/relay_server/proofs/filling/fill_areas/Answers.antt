@@ -12,6 +12,5 @@ boxes-preserved g c = record {
   filled = c.in-Ok.ensures.filled;
   during = filling_on c.args.relay.now (g.D.Disk.state c.args.disk.now) (g.D.Disk.state c.boxes.disk) (g.D.Disk.state c.fill_area.new.disk) c.boxes.invariant.during c.fill_area.ensures.any_moment;
   quiet = quiet_twice (g.D.Disk.state c.args.disk.now) (g.D.Disk.state c.boxes.disk) (g.D.Disk.state c.fill_area.new.disk) c.boxes.invariant.quiet c.in-Ok.ensures.quiet;
-  told = λ s told. let mid = c.fill_area.ensures.told s told in c.boxes.invariant.told mid.0 mid.1;
   room = omega (arith, c.fill_area.ensures.size, c.boxes.invariant.room);
 }

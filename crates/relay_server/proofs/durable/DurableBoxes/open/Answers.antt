@@ -57,4 +57,4 @@ returns-clause-opened g c =
     subst (λ (xs : List SlotStore). IsOpened c.args.names.now (record { boxes = c.load_boxes.new.relay; stores = xs }) (g.D.Disk.state c.args.disk.now) (g.D.Disk.state c.fill_areas.new.disk))
     (sym (with_items_is c.in-Ok-open_areas.stores c.fill_areas.new.stores same))
     (opened_then c.args.names.now (g.D.Disk.state c.args.disk.now) (g.D.Disk.state c.open_areas.new.disk) c.in-Ok-open_areas.stores.items c.in-Ok-open_areas.ensures.opened c.load_boxes.new.relay loaded
-    (g.D.Disk.state c.fill_areas.new.disk) c.fill_areas.ensures.any_moment c.fill_areas.new.stores c.in-Ok-fill_areas.ensures.filled c.in-Ok-fill_areas.ensures.quiet c.fill_areas.ensures.told)
+    (g.D.Disk.state c.fill_areas.new.disk) c.fill_areas.ensures.any_moment c.fill_areas.new.stores c.in-Ok-fill_areas.ensures.filled c.in-Ok-fill_areas.ensures.quiet)

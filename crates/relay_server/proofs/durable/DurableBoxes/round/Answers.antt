@@ -1,3 +1,4 @@
+use Rattle.std.proofs.Common.{refl}
 use Rattle.relay_server.proofs.Rounds.{pulled_part}
 use Rattle.relay_server.proofs.durable.DurableBoxes.round.Goals as goal
 
@@ -7,4 +8,5 @@ returns-in-Err-clause-rounds g c = (
   pulled_part c.args.reader.now c.next_frame.new.reader c.args.self.now.boxes (g.P.Pipe.port c.args.pipe.now) (g.P.Pipe.port c.next_frame.new.pipe) (g.D.Disk.state c.args.disk.now) c.requires.fresh c.in-Err.ensures.pulls.0 c.in-Err.ensures.pulls.1,
   c.in-Err.ensures.pulls.2,
   c.requires.ready,
+  λ call. refl,
 )

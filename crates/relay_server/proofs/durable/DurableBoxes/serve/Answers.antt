@@ -1,7 +1,8 @@
-use Rattle.std.proofs.Common.{◌+◌, arith, refl, ◌∙◌, []}
+use Rattle.std.proofs.Common.{◌+◌, ◌*◌, length, arith, refl, ◌∙◌, []}
 use Rattle.relay_server.proofs.Serve.{nothing_so_far}
 use Rattle.relay_server.proofs.Exits.{exit_fault, exit_end, exit_last, exit_full, goes_on}
 use Rattle.relay_server.proofs.Rounds.{no_call}
+use Rattle.dr_disk.specs.Spans.{Frame}
 use Rattle.relay_core.specs.declared.limits.TheConstants.{EXCHANGE_LIMIT}
 use Rattle.relay_core.specs.Record.{box_text}
 use Rattle.relay_server.specs.Serving.{ReachedIn}
@@ -9,7 +10,7 @@ use Rattle.relay_server.proofs.durable.DurableBoxes.serve.Goals as goal
 
 pub rounds-init : goal.rounds-init
 rounds-init g c = record {
-  so = nothing_so_far box_text EXCHANGE_LIMIT c.args.self.now (g.P.Pipe.port c.args.pipe.now) (g.D.Disk.state c.args.disk.now) (no_call (g.D.Disk.state c.args.disk.now) (ReachedIn box_text EXCHANGE_LIMIT c.args.self.now.boxes []));
+  so = nothing_so_far box_text EXCHANGE_LIMIT c.args.self.now (g.P.Pipe.port c.args.pipe.now) (g.D.Disk.state c.args.disk.now) (no_call (g.D.Disk.state c.args.disk.now) (λ image. ReachedIn box_text EXCHANGE_LIMIT c.args.self.now.boxes [] image × Frame (g.D.Disk.state c.args.disk.now) 0 (524288 * length c.args.self.now.boxes) image));
   ready = c.requires.ready;
   fresh = c.clear.ensures;
   room = c.requires.room;
@@ -17,23 +18,24 @@ rounds-init g c = record {
   piece = refl;
   out = refl;
   flow = refl;
+  gate = refl;
   quiet = λ call. refl;
 }
 
 pub returns-in-Err-clause-served : goal.returns-in-Err-clause-served
 returns-in-Err-clause-served g c =
     exit_fault box_text c.args.self.now c.rounds.self c.round.new.self (g.P.Pipe.port c.args.pipe.now) (g.P.Pipe.port c.rounds.pipe) (g.P.Pipe.port c.round.new.pipe)
-    (g.D.Disk.state c.args.disk.now) (g.D.Disk.state c.rounds.disk) (g.D.Disk.state c.round.new.disk) c.rounds.answered c.rounds.invariant.so c.rounds-test.true c.in-Err.fault c.in-Err.ensures.rounds
+    (g.D.Disk.state c.args.disk.now) (g.D.Disk.state c.rounds.disk) (g.D.Disk.state c.round.new.disk) c.rounds.answered c.rounds.invariant.so c.rounds-test.true c.in-Err.fault c.rounds.invariant.quiet c.in-Err.ensures.rounds
 
 pub returns-in-Ok-AtEnd-clause-served : goal.returns-in-Ok-AtEnd-clause-served
 returns-in-Ok-AtEnd-clause-served g c =
     exit_end box_text c.args.self.now c.rounds.self c.round.new.self (g.P.Pipe.port c.args.pipe.now) (g.P.Pipe.port c.rounds.pipe) (g.P.Pipe.port c.round.new.pipe)
-    (g.D.Disk.state c.args.disk.now) (g.D.Disk.state c.rounds.disk) (g.D.Disk.state c.round.new.disk) c.rounds.answered c.rounds.invariant.so c.rounds-test.true (record { answered = c.rounds.answered }) refl (rw c.in-Ok-AtEnd.field-0-is at c.in-Ok-AtEnd.ensures.rounds)
+    (g.D.Disk.state c.args.disk.now) (g.D.Disk.state c.rounds.disk) (g.D.Disk.state c.round.new.disk) c.rounds.answered c.rounds.invariant.so c.rounds-test.true (record { answered = c.rounds.answered }) refl (λ call. c.in-Ok-AtEnd.ensures.quiet call ∙ c.rounds.invariant.quiet call) (rw c.in-Ok-AtEnd.field-0-is at c.in-Ok-AtEnd.ensures.rounds)
 
 pub returns-then-last-clause-served : goal.returns-then-last-clause-served
 returns-then-last-clause-served g c =
     exit_last box_text c.args.self.now c.rounds.self c.round.new.self (g.P.Pipe.port c.args.pipe.now) (g.P.Pipe.port c.rounds.pipe) (g.P.Pipe.port c.round.new.pipe)
-    (g.D.Disk.state c.args.disk.now) (g.D.Disk.state c.rounds.disk) (g.D.Disk.state c.round.new.disk) c.rounds.answered c.rounds.invariant.so c.rounds-test.true (record { answered = c.rounds.answered + 1 }) c.in-Ok-Answered.last refl c.if-last.true (rw c.in-Ok-Answered.field-0-is at c.in-Ok-Answered.ensures.rounds)
+    (g.D.Disk.state c.args.disk.now) (g.D.Disk.state c.rounds.disk) (g.D.Disk.state c.round.new.disk) c.rounds.answered c.rounds.invariant.so c.rounds-test.true (record { answered = c.rounds.answered + 1 }) c.in-Ok-Answered.last refl c.if-last.true (λ call. c.in-Ok-Answered.ensures.quiet call ∙ c.rounds.invariant.quiet call) (rw c.in-Ok-Answered.field-0-is at c.in-Ok-Answered.ensures.rounds)
 
 pub rounds-preserved : goal.rounds-preserved
 rounds-preserved g c = let rounds = rw c.in-Ok-Answered.field-0-is at c.in-Ok-Answered.ensures.rounds in record {
@@ -46,10 +48,11 @@ rounds-preserved g c = let rounds = rw c.in-Ok-Answered.field-0-is at c.in-Ok-An
   piece = c.in-Ok-Answered.ensures.piece ∙ c.rounds.invariant.piece;
   out = c.in-Ok-Answered.ensures.out ∙ c.rounds.invariant.out;
   flow = c.in-Ok-Answered.ensures.flow ∙ c.rounds.invariant.flow;
+  gate = c.in-Ok-Answered.ensures.gate ∙ c.rounds.invariant.gate;
   quiet = λ call. c.in-Ok-Answered.ensures.quiet call ∙ c.rounds.invariant.quiet call;
 }
 
 pub returns-clause-served : goal.returns-clause-served
 returns-clause-served g c =
     exit_full box_text c.args.self.now c.rounds.self (g.P.Pipe.port c.args.pipe.now) (g.P.Pipe.port c.rounds.pipe) (g.D.Disk.state c.args.disk.now) (g.D.Disk.state c.rounds.disk)
-    c.rounds.answered c.rounds.invariant.so (omega (arith, c.rounds-test.false, c.rounds.auto.answered-end)) c.rounds.invariant.ready (record { answered = EXCHANGE_LIMIT }) refl
+    c.rounds.answered c.rounds.invariant.so (omega (arith, c.rounds-test.false, c.rounds.auto.answered-end)) c.rounds.invariant.ready c.rounds.invariant.quiet (record { answered = EXCHANGE_LIMIT }) refl

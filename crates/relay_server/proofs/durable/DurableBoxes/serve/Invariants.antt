@@ -2,7 +2,7 @@ use Rattle.std.proofs.Common.{◌≡◌, ◌≤◌, length, []}
 use Rattle.relay_core.specs.declared.limits.TheConstants.{EXCHANGE_LIMIT}
 use Rattle.relay_core.specs.Record.{box_text}
 use Rattle.relay_wire.specs.declared.limits.TheConstants.{FRAME_LIMIT}
-use Rattle.dr_ports.specs.declared.pipe.Part.TheVariants.{Flow}
+use Rattle.dr_ports.specs.declared.pipe.Part.TheVariants.{Flow, Gate}
 use Rattle.dr_disk.specs.Spans.{IsQuiet}
 use Rattle.relay_server.specs.Durable.{IsReady}
 use Rattle.relay_server.specs.Serving.{SoFar}
@@ -18,5 +18,6 @@ invariant-rounds g l = record {
   piece : length l.piece ≡ length l.fn.piece;
   out : length l.out ≡ length l.fn.out;
   flow : (g.P.Pipe.port l.pipe).faults Flow ≡ (g.P.Pipe.port l.fn.pipe).faults Flow;
+  gate : (g.P.Pipe.port l.pipe).faults Gate ≡ (g.P.Pipe.port l.fn.pipe).faults Gate;
   quiet : IsQuiet (g.D.Disk.state l.fn.disk) (g.D.Disk.state l.disk);
 }
