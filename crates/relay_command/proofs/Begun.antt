@@ -1,0 +1,49 @@
+-- Before the first connection.
+use Rattle.std.proofs.Common.{◌≡◌, ℕ, List, [], Option, refl, sym, ◌∙◌, ap, subst, arith, append-nil}
+use Rattle.dr_disk.specs.State.{DiskState}
+use Rattle.dr_ports.specs.Ports.{Rose, appended}
+use Rattle.dr_ports.specs.Writing.{TookBeginning}
+use Rattle.dr_ports.specs.Wires.{Port}
+use Rattle.dr_ports.specs.declared.pipe.Part.TheVariants.{Flow, Gate}
+use Rattle.endings.specs.Ends.{Ends}
+use Rattle.endings.specs.declared.ending.Ending.TheVariants.{Done, LinkFault}
+use Rattle.endings.proofs.Closing.{ends_cut}
+use Rattle.relay_core.specs.Record.{box_text}
+use Rattle.relay_server.specs.Durable.{IsReady, ServerNow}
+use Rattle.relay_command.specs.Connections.{HasRisen, Standing, port_line}
+use Rattle.relay_command.specs.Serving.{Runs, WereServed, relay_lines, standing, was_unheard, went_on}
+use Rattle.relay_command.proofs.Rounds.{SoFar, never, nothing_came, rests_as}
+
+module _ (port count : ℕ) (server : ServerNow) (start : DiskState) (from door : Port) (old : Option (List ℕ)) (before : ℕ) (ready : IsReady box_text server start) (told : door.told ≡ from.told) (flow : door.faults Flow ≡ from.faults Flow) where
+  abbrev first : Standing
+  first = standing server.boxes from
+
+  begun : WereServed never first [] start start door
+  begun = rests_as first [] start start door server (nothing_came first start door told flow) tt refl ready (λ call. refl)
+
+  pub unheard : HasRisen (from.faults Gate) (door.faults Gate) → (new : Option (List ℕ)) (after code : ℕ) → Ends LinkFault [] old new before after code → Runs first port count start start from door old new before after code
+  unheard rose new after code ends = record { ending = LinkFault; lines = []; came = was_unheard begun rose; ends = ends }
+
+  pub unwritten : door.faults Gate ≡ from.faults Gate → (new : Option (List ℕ)) (after : ℕ) → TookBeginning old new (port_line port) → Rose before after → Runs first port count start start from door old new before after 5
+  unwritten gate new after took rose = record {
+    ending = Done;
+    lines = relay_lines port first [];
+    came = went_on [] begun (omega arith) (λ zero. absurd (omega arith)) gate;
+    ends = ends_cut (relay_lines port first []) old new before after (subst (λ (l : List ℕ). TookBeginning old new l) (sym (append-nil (port_line port))) took) rose;
+  }
+
+  pub none_yet : door.faults Gate ≡ from.faults Gate → (out : Option (List ℕ)) (middle : ℕ) → out ≡ appended old (port_line port) → middle ≡ before
+      → SoFar first port 0 server start start from door old out before middle
+  none_yet gate out middle wrote writes = record {
+    xs = [];
+    count = refl;
+    come = nothing_came first start door told flow;
+    each = tt;
+    boxes = refl;
+    sized = refl;
+    ready = ready;
+    quiet = λ call. refl;
+    gate = gate;
+    wrote = wrote ∙ ap (appended old) (sym (append-nil (port_line port)));
+    writes = writes;
+  }

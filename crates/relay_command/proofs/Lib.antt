@@ -1,0 +1,9 @@
+pub mod Begun
+pub mod Connections
+pub mod Lifting
+pub mod NamesLemmas
+pub mod Opened
+pub mod Prefixes
+pub mod Rounds
+pub mod Relays
+pub mod Turning

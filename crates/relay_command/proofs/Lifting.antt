@@ -1,0 +1,49 @@
+-- What was served behind an opening.
+use Rattle.std.proofs.Common.{◌≡◌, inl, inr, ⊎_elim, ℕ, ◌*◌, List, [], ◌∷◌, ◌++◌, length, subst, sym, arith}
+use Rattle.dr_disk.specs.Bytes.{Torn}
+use Rattle.dr_disk.specs.Spans.{IsQuiet, Span}
+use Rattle.dr_disk.specs.State.{DiskState}
+use Rattle.dr_disk.proofs.Ranges.{torn_twice}
+use Rattle.dr_disk.proofs.Steps.{quiet_twice, spans, widen}
+use Rattle.dr_ports.specs.Wires.{Port}
+use Rattle.endings.specs.declared.ending.Ending.{Ending}
+use Rattle.relay_server.specs.Durable.{IsSameBehind}
+use Rattle.relay_server.specs.Opening.{IsOpening}
+use Rattle.relay_command.specs.Connections.{Connection, Standing}
+use Rattle.relay_command.specs.Serving.{HaveCome, Serves, WereServed, was_stopped, was_unaccepted, was_unheard, went_on}
+use Rattle.relay_command.proofs.Rounds.{never}
+
+module _ (words : List (List ℕ)) (s : Standing) (start mid now : DiskState) (from door : Port) (sized : length s.boxes ≡ length words) (span : Span start mid (IsOpening words start)) (quiet : IsQuiet start mid) where
+  -- what an opening leaves behind the areas
+  same_behind : (c : List ℕ) → IsOpening words start c → IsSameBehind (length s.boxes) start c
+  same_behind c is = (is.entry, is.image, subst (λ (n : ℕ). Torn 0 (524288 * n) is.entry c) (sym sized) is.outside)
+
+  since_then : (c : List ℕ) → IsSameBehind (length s.boxes) mid c → IsSameBehind (length s.boxes) start c
+  since_then c frame = ⊎_elim
+      (λ was. (frame.0, was, frame.2))
+      (λ is. let first = same_behind frame.0 is in (first.0, first.1, torn_twice 0 (524288 * length s.boxes) first.0 frame.0 c first.2 frame.2))
+      (span.last frame.0 frame.1)
+
+  lift_come : (xs : List Connection) → HaveCome never s xs mid now door → HaveCome (IsOpening words start) s xs start now door
+  lift_come xs come = record {
+    told = come.told;
+    faults = come.faults;
+    during = spans start mid now _
+        (widen start mid _ _ (λ c is. (inl is, same_behind c is)) span)
+        (widen mid now _ _ (λ c is. (⊎_elim (λ none. absurd none) (λ was. inr was) is.0, since_then c is.1)) come.during);
+  }
+
+  lift_served : (xs : List Connection) → WereServed never s xs mid now door → WereServed (IsOpening words start) s xs start now door
+  lift_served xs were = record {
+    come = lift_come xs were.come;
+    each = were.each;
+    rests = were.rests;
+    quiet = quiet_twice start mid now quiet were.quiet;
+  }
+
+  pub lift : (port count code : ℕ) (ending : Ending) (lines : List ℕ) → Serves never s port count mid now from door code ending lines → Serves (IsOpening words start) s port count start now from door code ending lines
+  lift port count code ending lines (was_unheard were rose) = was_unheard (lift_served [] were) rose
+  lift port count code ending lines (was_unaccepted xs were less rose) = was_unaccepted xs (lift_served xs were) less rose
+  lift port count code ending lines (was_stopped xs x call come each stopped less rose gate) =
+      was_stopped xs x call (lift_come (xs ++ x ∷ []) come) each stopped less (let counts = span.counts call in omega (arith, rose, counts)) gate
+  lift port count code ending lines (went_on xs were most full gate) = went_on xs (lift_served xs were) most full gate

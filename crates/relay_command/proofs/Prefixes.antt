@@ -1,0 +1,43 @@
+-- The replies to a stream begin the replies to each longer one.
+use Rattle.std.proofs.Common.{◌≡◌, ℕ, zero, suc, Bool, true, false, List, [], ◌∷◌, ◌++◌, drop, refl, ◌∙◌, ap, append_assoc}
+use Rattle.std.specs.Prelude.{flat_map, if◌then◌else◌}
+use Rattle.relay_wire.specs.Frames.{frames_of}
+use Rattle.relay_wire.specs.Requests.{read_request}
+use Rattle.relay_wire.proofs.Splitting.{each}
+use Rattle.relay_core.specs.declared.limits.TheConstants.{EXCHANGE_LIMIT}
+use Rattle.relay_core.specs.Boxes.{Box}
+use Rattle.relay_core.specs.Streams.{Exchange, Served, and_then, is_last, nothing_served, reply_bytes, reply_frame, served, served_within}
+use Rattle.relay_server.proofs.Serve.{exchange_of, flat, frames_join, next_of, replies_append}
+
+-- more exchanges behind those
+abbrev GoesOn : Served → Served → Type 0
+GoesOn short long = (rest : List Exchange) × (long.exchanges ≡ short.exchanges ++ rest)
+
+within_on : (n : ℕ) (boxes : List Box) (frames more : List (List ℕ)) → GoesOn (served_within n boxes frames) (served_within n boxes (frames ++ more))
+within_on zero boxes frames more = ([], refl)
+within_on (suc n) boxes [] more = ((served_within (suc n) boxes more).exchanges, refl)
+within_on (suc n) boxes (frame ∷ frames) more = by (is_last (read_request (drop 2 frame))) (within_on n (next_of boxes frame) frames more)
+  where
+    by : (last : Bool) → GoesOn (served_within n (next_of boxes frame) frames) (served_within n (next_of boxes frame) (frames ++ more))
+        → GoesOn (and_then (exchange_of boxes frame) (if last then nothing_served (next_of boxes frame) else served_within n (next_of boxes frame) frames))
+        (and_then (exchange_of boxes frame) (if last then nothing_served (next_of boxes frame) else served_within n (next_of boxes frame) (frames ++ more)))
+    by true on = ([], refl)
+    by false on = (on.0, ap (λ (es : List Exchange). exchange_of boxes frame ∷ es) on.1)
+
+-- the frames of a stream are the first of each longer one
+frames_on : (got more : List ℕ) → (fs : List (List ℕ)) × (frames_of (got ++ more) ≡ frames_of got ++ fs)
+frames_on got more =
+    let r = each got in (
+      frames_of (r.0 ++ more),
+      ap (λ (s : List ℕ). frames_of (s ++ more)) r.1.whole ∙ ap frames_of (append_assoc (flat (frames_of got)) r.0 more) ∙ frames_join (frames_of got) (r.0 ++ more) r.1.each,
+    )
+
+pub replies_on : (boxes : List Box) (got more : List ℕ) → (rest : List ℕ) × (reply_bytes (served boxes (got ++ more)) ≡ reply_bytes (served boxes got) ++ rest)
+unfolding served
+replies_on boxes got more =
+    let fs = frames_on got more in
+    let on = within_on EXCHANGE_LIMIT boxes (frames_of got) fs.0 in (
+      flat_map reply_frame on.0,
+      ap (λ (frames : List (List ℕ)). reply_bytes (served_within EXCHANGE_LIMIT boxes frames)) fs.1 ∙ ap (λ (es : List Exchange). flat_map reply_frame es) on.1
+          ∙ replies_append (served_within EXCHANGE_LIMIT boxes (frames_of got)).exchanges on.0,
+    )

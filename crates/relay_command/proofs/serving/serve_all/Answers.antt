@@ -1,0 +1,64 @@
+use Rattle.std.proofs.Common.{List, [], ℕ, ◌+◌, ap, arith, subst, ◌∙◌}
+use Rattle.dr_ports.specs.Ports.{appended}
+use Rattle.dr_ports.specs.Writing.{TookBeginning}
+use Rattle.endings.specs.Ends.{Ends}
+use Rattle.endings.specs.declared.ending.Ending.{Ending}
+use Rattle.relay_command.specs.Turns.{line_of}
+use Rattle.relay_command.proofs.Begun.{none_yet, unheard, unwritten}
+use Rattle.relay_command.proofs.Rounds.{all_served, cut_then, faulty, one_more}
+use Rattle.relay_command.proofs.serving.serve_all.Goals as goal
+
+pub returns-in-Err-clause-runs : goal.returns-in-Err-clause-runs
+returns-in-Err-clause-runs g c =
+    unheard c.args.port c.args.count c.args.server.now (g.A.Disk.state c.args.disk.now) (g.L.Pipe.port c.args.door.now) (g.L.Pipe.port c.listen.new.self) (g.O.Sink.taken c.args.out.now)
+    (g.O.Sink.faults c.args.out.now) c.requires c.in-Err.ensures.told c.in-Err.ensures.flow (c.in-Err.ensures.cause.later, c.in-Err.ensures.cause.failed) (g.O.Sink.taken c.finish.new.out)
+    (g.O.Sink.faults c.finish.new.out) c.finish.result.code c.finish.ensures.ends
+
+pub returns-in-Err-write_all-clause-runs : goal.returns-in-Err-write_all-clause-runs
+returns-in-Err-write_all-clause-runs g c =
+    unwritten c.args.port c.args.count c.args.server.now (g.A.Disk.state c.args.disk.now) (g.L.Pipe.port c.args.door.now) (g.L.Pipe.port c.listen.new.self) (g.O.Sink.taken c.args.out.now)
+    (g.O.Sink.faults c.args.out.now) c.requires c.in-Ok.ensures.told c.in-Ok.ensures.flow c.in-Ok.ensures.cause.passed (g.O.Sink.taken c.write_all.new.out) (g.O.Sink.faults c.write_all.new.out)
+    (subst (λ (l : List ℕ). TookBeginning (g.O.Sink.taken c.args.out.now) (g.O.Sink.taken c.write_all.new.out) l) (c.as_bytes.ensures ∙ c.port_line.ensures) c.in-Err-write_all.ensures.part)
+    c.in-Err-write_all.ensures.cause.failed
+
+pub connections-init : goal.connections-init
+connections-init g c =
+    none_yet c.args.port c.args.count c.args.server.now (g.A.Disk.state c.args.disk.now) (g.L.Pipe.port c.args.door.now) (g.L.Pipe.port c.listen.new.self) (g.O.Sink.taken c.args.out.now)
+    (g.O.Sink.faults c.args.out.now) c.requires c.in-Ok.ensures.told c.in-Ok.ensures.flow c.in-Ok.ensures.cause.passed (g.O.Sink.taken c.write_all.new.out) (g.O.Sink.faults c.write_all.new.out)
+    (c.in-Ok-write_all.ensures.whole ∙ ap (appended (g.O.Sink.taken c.args.out.now)) (c.as_bytes.ensures ∙ c.port_line.ensures)) c.in-Ok-write_all.ensures.cause.passed
+
+pub returns-in-Err-serve_next-clause-runs : goal.returns-in-Err-serve_next-clause-runs
+returns-in-Err-serve_next-clause-runs g c =
+    faulty _ c.args.port c.connections.i c.connections.server (g.A.Disk.state c.args.disk.now) (g.A.Disk.state c.connections.disk) (g.L.Pipe.port c.args.door.now) (g.L.Pipe.port c.connections.door)
+    (g.O.Sink.taken c.args.out.now) (g.O.Sink.taken c.connections.out) (g.O.Sink.faults c.args.out.now) (g.O.Sink.faults c.connections.out) c.connections.invariant c.args.count (omega arith) c.serve_next.new.server
+    (g.A.Disk.state c.serve_next.new.disk) (g.L.Pipe.port c.serve_next.new.door) c.in-Err-serve_next.fault c.in-Err-serve_next.ensures c.finish-in-Err-serve_next.result.code
+    (g.O.Sink.taken c.finish-in-Err-serve_next.new.out) (g.O.Sink.faults c.finish-in-Err-serve_next.new.out)
+    (subst
+    (λ (e : Ending). Ends e [] (g.O.Sink.taken c.connections.out) (g.O.Sink.taken c.finish-in-Err-serve_next.new.out) (g.O.Sink.faults c.connections.out) (g.O.Sink.faults c.finish-in-Err-serve_next.new.out) c.finish-in-Err-serve_next.result.code)
+    c.ending_of.ensures c.finish-in-Err-serve_next.ensures.ends)
+
+pub returns-in-Err-write_all-2-clause-runs : goal.returns-in-Err-write_all-2-clause-runs
+returns-in-Err-write_all-2-clause-runs g c =
+    cut_then _ c.args.port c.connections.i c.connections.server (g.A.Disk.state c.args.disk.now) (g.A.Disk.state c.connections.disk) (g.L.Pipe.port c.args.door.now) (g.L.Pipe.port c.connections.door)
+    (g.O.Sink.taken c.args.out.now) (g.O.Sink.taken c.connections.out) (g.O.Sink.faults c.args.out.now) (g.O.Sink.faults c.connections.out) c.connections.invariant c.serve_next.new.server
+    (g.A.Disk.state c.serve_next.new.disk) (g.L.Pipe.port c.serve_next.new.door) c.in-Ok-serve_next.connected c.in-Ok-serve_next.ensures c.args.count (omega arith)
+    (g.O.Sink.taken c.write_all-in-connections.new.out) (g.O.Sink.faults c.write_all-in-connections.new.out)
+    (subst (λ (l : List ℕ). TookBeginning (g.O.Sink.taken c.connections.out) (g.O.Sink.taken c.write_all-in-connections.new.out) l)
+    (c.as_bytes-in-connections.ensures ∙ c.connection_line.ensures ∙ ap (λ (k : ℕ). line_of (k + 1) c.in-Ok-serve_next.connected) c.from.ensures) c.in-Err-write_all-2.ensures.part)
+    c.in-Err-write_all-2.ensures.cause.failed
+
+pub connections-preserved : goal.connections-preserved
+connections-preserved g c =
+    one_more _ c.args.port c.connections.i c.connections.server (g.A.Disk.state c.args.disk.now) (g.A.Disk.state c.connections.disk) (g.L.Pipe.port c.args.door.now) (g.L.Pipe.port c.connections.door)
+    (g.O.Sink.taken c.args.out.now) (g.O.Sink.taken c.connections.out) (g.O.Sink.faults c.args.out.now) (g.O.Sink.faults c.connections.out) c.connections.invariant c.serve_next.new.server
+    (g.A.Disk.state c.serve_next.new.disk) (g.L.Pipe.port c.serve_next.new.door) c.in-Ok-serve_next.connected c.in-Ok-serve_next.ensures
+    (g.O.Sink.taken c.write_all-in-connections.new.out) (g.O.Sink.faults c.write_all-in-connections.new.out)
+    (c.in-Ok-write_all-2.ensures.whole ∙ ap (appended (g.O.Sink.taken c.connections.out))
+    (c.as_bytes-in-connections.ensures ∙ c.connection_line.ensures ∙ ap (λ (k : ℕ). line_of (k + 1) c.in-Ok-serve_next.connected) c.from.ensures))
+    c.in-Ok-write_all-2.ensures.cause.passed
+
+pub returns-clause-runs : goal.returns-clause-runs
+returns-clause-runs g c =
+    all_served _ c.args.port c.connections.i c.connections.server (g.A.Disk.state c.args.disk.now) (g.A.Disk.state c.connections.disk) (g.L.Pipe.port c.args.door.now) (g.L.Pipe.port c.connections.door)
+    (g.O.Sink.taken c.args.out.now) (g.O.Sink.taken c.connections.out) (g.O.Sink.faults c.args.out.now) (g.O.Sink.faults c.connections.out) c.connections.invariant c.args.count (omega arith)
+    c.finish-2.result.code (g.O.Sink.taken c.finish-2.new.out) (g.O.Sink.faults c.finish-2.new.out) c.finish-2.ensures.ends

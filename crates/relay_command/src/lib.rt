@@ -1,0 +1,13 @@
+//! The command that serves a relay: it opens the boxes of its names on a disk, listens, and serves one connection after the
+//! other, with a line for each.
+#![tactic(auto)]
+
+pub use relaying::relay;
+
+mod connecting;
+mod lines;
+mod names;
+mod relaying;
+mod serving;
+#[cfg(test)]
+mod tests;

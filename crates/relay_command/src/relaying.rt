@@ -1,0 +1,86 @@
+//! The command as a whole.
+
+ghost use Rattle.std.specs.Prelude.{◌≡◌, ◌<◌, ◌≤◌, ℕ, length, map};
+ghost use Rattle.dr_disk.specs.declared.call.Call.{Call};
+ghost use Rattle.dr_disk.specs.Spans.{IsQuiet};
+ghost use Rattle.dr_ports.specs.declared.pipe.Part.{Part};
+ghost use Rattle.dr_ports.specs.declared.pipe.Part.TheVariants.{Gate};
+ghost use Rattle.relay_core.specs.declared.limits.TheConstants.{RELAY_LIMIT};
+ghost use Rattle.relay_command.specs.Names.{AreNames};
+ghost use Rattle.relay_command.specs.Relaying.{Opens, RunsRelay, ending_of_open};
+
+use crate::names::{check_names, names_of};
+use crate::serving::serve_all;
+use dr_disk::Disk;
+use dr_ports::{Door, Sink};
+use endings::{Ending, Status, finish};
+use relay_server::{Server, ServerOpenError};
+use std::alloc::Global;
+
+/// How the command ends where no server was opened. Boxes are counted from 1 here.
+fn unopened(error: ServerOpenError) -> Ending
+    requires { (k : ℕ) → error ≡ ServerOpenError.BoxName k → k < RELAY_LIMIT }
+    ensures { result ≡ ending_of_open error }
+{
+    match error {
+        ServerOpenError::Memory => Ending::NoMemory,
+        ServerOpenError::StoreFault { .. } => Ending::DiskFault,
+        ServerOpenError::Damaged { area, slot, at } => Ending::DamagedArea { area, slot, at },
+        ServerOpenError::BoxName { k } => Ending::BoxName(k + 1),
+    }
+}
+
+/// Opens the server of these boxes.
+fn open<A: Disk>(alloc: Global, boxes: &[&str], disk: &mut A) -> Result<Server, Ending>
+    requires names { AreNames (map (λ word. word.now) boxes.now) }
+    requires few { length boxes.now ≤ RELAY_LIMIT }
+    requires within { 8388608 ≤ (A.state disk.old).size }
+    ensures { Opens (map (λ word. word.now) boxes.now) (A.state disk.old) (A.state disk.new) result }
+{
+    let Ok(names) = names_of(alloc, boxes) else {
+        return Err(Ending::NoMemory);
+    };
+    match Server::open(alloc, disk, names.as_slice()) {
+        Err(error) => Err(unopened(error)),
+        Ok(server) => Ok(server),
+    }
+}
+
+/// Serves a relay with these boxes on so many connections at a port: the line `relay PORT` once it listens, and for the I-th
+/// connection `connection I ended N`, with N the number of its replies, or `connection I failed`, where receiving or sending
+/// failed.
+///
+/// The words are looked at first: `BadBox K` exactly where the K-th, from 1, is the first that is no lawful name, equals one
+/// before it, or is the 17th. Then the boxes are opened: want of memory, `DiskFault`, `DamagedArea` and `BoxName` as
+/// `relay_server::Server::open` tells them, with boxes counted from 1. Only then is the door touched: `LinkFault` where
+/// listening or accepting failed. A store that failed ends the command with `DiskFault`, and a line that couldn't be written
+/// ends it with status 5.
+pub fn relay<A: Disk, L: Door, O: Sink>(
+    alloc: Global,
+    port: u16,
+    count: u32,
+    boxes: &[&str],
+    disk: &mut A,
+    door: &mut L,
+    out: &mut O,
+) -> Status
+    requires { 8388608 ≤ (A.state disk.old).size }
+    ensures runs { RunsRelay A.state L.port (map (λ word. word.now) boxes.now) port count disk.old disk.new door.old door.new
+        (O.taken out.old) (O.taken out.new) (O.faults out.old) (O.faults out.new) result.code }
+    // Status 0 says that no call on the disk failed, nor listening, accepting or writing.
+    ensures quiet { result.code ≡ 0 → IsQuiet (A.state disk.old) (A.state disk.new)
+        × ((L.port door.new).faults Gate ≡ (L.port door.old).faults Gate) × (O.faults out.new ≡ O.faults out.old) }
+    // No count falls.
+    ensures later { O.faults out.old ≤ O.faults out.new }
+    ensures counts { (call : Call) → (A.state disk.old).faults call ≤ (A.state disk.new).faults call }
+    ensures door_counts { (part : Part) → (L.port door.old).faults part ≤ (L.port door.new).faults part }
+{
+    match check_names(boxes) {
+        Err(number) => return finish(out, Ending::BadBox(number)),
+        Ok(()) => {}
+    }
+    match open(alloc, boxes, disk) {
+        Err(ending) => finish(out, ending),
+        Ok(mut server) => serve_all(port, count, &mut server, disk, door, out),
+    }
+}

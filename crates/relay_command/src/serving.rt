@@ -1,0 +1,59 @@
+//! A relay whose boxes were opened listens, and serves its connections.
+
+ghost use Rattle.std.specs.Prelude.{◌≡◌, ◌≤◌};
+ghost use Rattle.relay_core.specs.Record.{box_text};
+ghost use Rattle.relay_server.specs.Durable.{IsReady};
+ghost use Rattle.relay_command.specs.Serving.{Runs, standing};
+ghost use Rattle.relay_command.specs.Turns.{ending_of_fault};
+
+use crate::connecting::{Fault, serve_next};
+use crate::lines::{connection_line, port_line};
+use dr_disk::Disk;
+use dr_ports::{Door, Failed, Sink, write_all};
+use endings::{Ending, Status, finish};
+use relay_server::Server;
+
+/// How the command ends where no connection more is served.
+fn ending_of(fault: Fault) -> Ending
+    ensures { result ≡ ending_of_fault fault }
+{
+    match fault {
+        Fault::Accept => Ending::LinkFault,
+        Fault::Store => Ending::DiskFault,
+    }
+}
+
+/// Listens at a port, writes the line that says so, and serves so many connections, with a line for each.
+pub(crate) fn serve_all<A: Disk, L: Door, O: Sink>(
+    port: u16,
+    count: u32,
+    server: &mut Server,
+    disk: &mut A,
+    door: &mut L,
+    out: &mut O,
+) -> Status
+    requires { IsReady box_text server.old (A.state disk.old) }
+    ensures runs { Runs (standing server.old.boxes (L.port door.old)) port count (A.state disk.old) (A.state disk.new) (L.port door.old) (L.port door.new)
+        (O.taken out.old) (O.taken out.new) (O.faults out.old) (O.faults out.new) result.code }
+    ensures later { O.faults out.old ≤ O.faults out.new }
+{
+    match door.listen(port) {
+        Err(Failed) => return finish(out, Ending::LinkFault),
+        Ok(()) => {}
+    }
+    match write_all(out, port_line(port).as_bytes()) {
+        Err(Failed) => return Status { code: 5 },
+        Ok(()) => {}
+    }
+    'connections: for i in 0..count {
+        let connected = match serve_next(server, disk, door) {
+            Err(fault) => return finish(out, ending_of(fault)),
+            Ok(connected) => connected,
+        };
+        match write_all(out, connection_line(u64::from(i) + 1, connected).as_bytes()) {
+            Err(Failed) => return Status { code: 5 },
+            Ok(()) => {}
+        }
+    }
+    finish(out, Ending::Done)
+}
