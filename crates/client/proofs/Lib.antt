@@ -1,7 +1,10 @@
 mod Areas
 mod Beginnings
 mod Drawing
+mod LawfulPosts
 mod LawfulRecords
+mod LawfulSaying
+mod LawfulTaking
 mod Lifted
 mod OnePacket
 pub mod Openings
@@ -11,3 +14,4 @@ mod SameRecord
 mod Spending
 mod Spends
 mod Standing
+pub mod Syncs

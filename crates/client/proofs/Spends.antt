@@ -18,7 +18,7 @@ use Rattle.client.specs.Clients.{ClientNow, IsReady}
 use Rattle.client.specs.Grounds.{Grounds}
 use Rattle.client.specs.InWorlds.{ActsIn, IsIn}
 use Rattle.client.specs.Outcomes.{IsDone, acknowledged, said_as, taken_as}
-use Rattle.client.specs.Saying.{Says, SaysIn, acted, asks_seed, draw_failed, stayed, with_draw, without_draw}
+use Rattle.client.specs.Saying.{IsDrawn, Says, SaysIn, acted, asks_seed, draw_failed, stayed, was_drawn, was_unasked, with_draw, without_draw}
 use Rattle.client.specs.Spent.{IsSpent}
 use Rattle.client.specs.declared.refusals.SayRefusal.{SayRefusal}
 use Rattle.client.specs.declared.refusals.TakeRefusal.{TakeRefusal}
@@ -61,15 +61,15 @@ module _ (k : Mechanism) (grounds : Grounds k) (w : World) (side : Side) (text :
   fair_with seed asks long unclosed = record { needed = asked k w side old (length text) true is asks unclosed; whole = long }
 
   pub says_in : (result : Result Position SayRefusal) → Says state coming faults k text old new start now source left result
-      → SaysIn k w side text old new (state start) (state now) (said_as result)
+      → SaysIn coming faults k w side text old new (state start) (state now) source left (said_as result)
   says_in result (without_draw r none same acts) =
-      acted (said_as r) None (fair_without none)
+      acted (said_as r) None (was_unasked none same) (fair_without none)
       (lift k grounds w side (saying text None) old new is state start now ready (fair_without none) (said_as r) acts)
   says_in result (with_draw r seed asks long drew quiet acts back) =
-      acted (said_as r) (Some seed.bytes) (fair_with seed.bytes asks long)
+      acted (said_as r) (Some seed.bytes) (was_drawn seed.bytes asks long drew quiet) (fair_with seed.bytes asks long)
       (lift k grounds w side (saying text (Some seed.bytes)) old new is state start now ready
       (fair_with seed.bytes asks long) (said_as r) acts)
-  says_in result (draw_failed asks rose same stays leaves) = stayed stays
+  says_in result (draw_failed asks rose same stays leaves) = stayed asks rose same stays
 
   done_spends : (draw : Option (List ℕ)) (p : Position) → (old.closed ≡ None → IsFairAct k w side (saying text draw))
       → IsDone (act_on k old.kept (saying text draw)) old new (state start) (state now) (Said p)
@@ -82,11 +82,12 @@ module _ (k : Mechanism) (grounds : Grounds k) (w : World) (side : Side) (text :
 
   pub say_spends : (result : Result Position SayRefusal)
       → Says state coming faults k text old new start now source left result
-      → IfOk result (λ p. (draw : Option (List ℕ)) × IsSpent k (act_in k w side (saying text draw)).next side p (state now))
-  say_spends result (without_draw (Ok p) none same acts) = (None, done_spends None p (fair_without none) acts)
+      → IfOk result (λ p. (draw : Option (List ℕ)) × IsDrawn coming faults old (length text) source left draw
+      × IsSpent k (act_in k w side (saying text draw)).next side p (state now))
+  say_spends result (without_draw (Ok p) none same acts) = (None, was_unasked none same, done_spends None p (fair_without none) acts)
   say_spends result (without_draw (Err e) none same acts) = tt
   say_spends result (with_draw (Ok p) seed asks long drew quiet acts back) =
-      (Some seed.bytes, done_spends (Some seed.bytes) p (fair_with seed.bytes asks long) acts)
+      (Some seed.bytes, was_drawn seed.bytes asks long drew quiet, done_spends (Some seed.bytes) p (fair_with seed.bytes asks long) acts)
   say_spends result (with_draw (Err e) seed asks long drew quiet acts back) = tt
   say_spends result (draw_failed asks rose same stays leaves) = tt
 

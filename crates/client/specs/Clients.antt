@@ -1,9 +1,12 @@
 -- A client on a disk.
-use Rattle.std.specs.Prelude.{Option, Some, ◌≡◌}
+use Rattle.std.specs.Prelude.{List, Option, Some, length, ℕ, ◌≡◌}
 use Rattle.dr_disk.specs.State.{Always, DiskState}
 use Rattle.dr_disk.specs.declared.call.Call.{Call}
+use Rattle.kem_laws.specs.Mechanism.{Mechanism}
 use Rattle.session_model.specs.Clients.{Client}
+use Rattle.session_record.specs.Lawful.{IsLawfulClient}
 use Rattle.session_record.specs.Record.{record_text}
+use Rattle.session_record.specs.declared.limits.TheConstants.{RECORD_LIMIT}
 use Rattle.slot_store.specs.Store.{IsWithin, Rests, content}
 use Rattle.slot_store.specs.declared.area.Area.{Area}
 use Rattle.slot_store.specs.declared.store.SlotStore.{SlotStore}
@@ -26,3 +29,8 @@ pub record IsReady (kept : Client) (store : SlotStore) (disk : DiskState) : Type
   pub within : IsWithin client_area disk
   pub holds : content store ≡ Some (record_text kept)
   pub rests : Always (Rests store) disk
+
+-- what is kept is lawful, beside the room in which its record is put together
+pub record IsWhole (k : Mechanism) (kept : Client) (room : List ℕ) : Type 0 where
+  pub lawful : IsLawfulClient k kept
+  pub long : length room ≡ RECORD_LIMIT

@@ -40,7 +40,7 @@ abbrev pub ActsIn : Mechanism → World → Side → Act → ClientNow → Clien
 ActsIn k w side act old new start now (is_closed call) = new ≡ old
 ActsIn k w side act old new start now (refused refusal) =
     ((act_in k w side act).answer ≡ Refused refusal) × (new ≡ old) × IsIn k (act_in k w side act).next side new
-ActsIn k w side act old new start now undrawn = new ≡ old
+ActsIn k w side act old new start now undrawn = ⊥
 ActsIn k w side act old new start now (acknowledged answer) =
     ((act_in k w side act).answer ≡ answer) × IsIn k (act_in k w side act).next side new
     × IsBetween k side w (act_in k w side act).next start now

@@ -7,3 +7,4 @@ pub mod Opening
 pub mod Beginning
 pub mod Grounds
 pub mod Moments
+pub mod Syncing

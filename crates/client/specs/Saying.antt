@@ -42,10 +42,19 @@ pub data Says {X W : Type 0} (state : X → DiskState) (coming : W → Option Se
       → new ≡ old → now ≡ start
       → Says state coming faults k text old new start now source left (Err DrawFault)
 
--- in a world that the client stands for: the act, with a draw exactly where the machine needs one; or nothing
-pub data SaysIn (k : Mechanism) (w : World) (side : Side) (text : List ℕ) (old new : ClientNow) (start now : DiskState)
-    : Outcome → Type 0 where
-  acted : (outcome : Outcome) (draw : Option (List ℕ)) → (old.closed ≡ None → IsFairAct k w side (saying text draw))
+-- Whether a seed was drawn for a text of this length, and which one: just where one is asked for, the next that the source gives.
+pub data IsDrawn {W : Type 0} (coming : W → Option Seeds) (faults : W → ℕ) (client : ClientNow) (len : ℕ) (source left : W)
+    : Option (List ℕ) → Type 0 where
+  was_unasked : asks_seed client len ≡ false → left ≡ source → IsDrawn coming faults client len source left None
+  was_drawn : (seed : List ℕ) → asks_seed client len ≡ true → length seed ≡ 32 → coming source ≡ drawn (seed ∷ []) (coming left)
+      → faults left ≡ faults source → IsDrawn coming faults client len source left (Some seed)
+
+-- in a world that the client stands for: the act, with the seed that the source gave; or nothing, where it gave none
+pub data SaysIn {W : Type 0} (coming : W → Option Seeds) (faults : W → ℕ) (k : Mechanism) (w : World) (side : Side) (text : List ℕ)
+    (old new : ClientNow) (start now : DiskState) (source left : W) : Outcome → Type 0 where
+  acted : (outcome : Outcome) (draw : Option (List ℕ)) → IsDrawn coming faults old (length text) source left draw
+      → (old.closed ≡ None → IsFairAct k w side (saying text draw))
       → ActsIn k w side (saying text draw) old new start now outcome
-      → SaysIn k w side text old new start now outcome
-  stayed : new ≡ old → SaysIn k w side text old new start now undrawn
+      → SaysIn coming faults k w side text old new start now source left outcome
+  stayed : asks_seed old (length text) ≡ true → Rose (faults source) (faults left) → coming left ≡ coming source → new ≡ old
+      → SaysIn coming faults k w side text old new start now source left undrawn

@@ -6,6 +6,7 @@ ghost use Rattle.dr_disk.specs.Spans.{IsQuiet, Span};
 ghost use Rattle.dr_disk.specs.State.{Always, Fate};
 ghost use Rattle.dr_disk.specs.declared.call.Call.{Call};
 ghost use Rattle.dr_model.specs.Machines.Worlds.{opening_world};
+ghost use Rattle.session_record.specs.Lawful.{IsLawfulClient};
 ghost use Rattle.session_record.specs.Record.{client_of, record_text};
 ghost use Rattle.slot_store.specs.Reading.{IsLikeRead};
 ghost use Rattle.slot_store.specs.Store.{IsOldOrNew, IsWithin, Rests, content};
@@ -14,6 +15,7 @@ ghost use Rattle.client.specs.Clients.{IsReady, client_area};
 ghost use Rattle.client.specs.InWorlds.{IsIn};
 
 use crate::client::{Client, SLOT};
+use crate::keeping::lawful_part;
 use crate::opening::Records;
 use crate::refusals::BeginRefusal;
 use crate::room::Room;
@@ -35,6 +37,7 @@ fn first<K: Kem, D: Disk>(
 ) -> Result<Client<K>, Call>
     requires inbox { room.inbox ≡ [] }
     requires outbox { room.outbox ≡ [] }
+    requires lawful { IsLawfulClient K.mechanism (client_of session [] []) }
     requires none { content store ≡ None }
     requires area { store.area ≡ client_area }
     requires within { IsWithin client_area (D.state disk.old) }
@@ -53,6 +56,7 @@ fn first<K: Kem, D: Disk>(
         outbox,
         work,
         mut text,
+        reader,
     } = room;
     let bytes = text.as_mut_slice();
     let len = encode(session.part(), &inbox, &outbox, &Change::Same, bytes);
@@ -65,6 +69,7 @@ fn first<K: Kem, D: Disk>(
             store,
             work,
             text,
+            reader,
             closed: None,
         }),
     }
@@ -121,10 +126,13 @@ impl<K: Kem> Client<K> {
                 Found::Content => Err(BeginRefusal::Exists),
                 Found::NoContent => match Session::<K>::begin(&mut room.work, side, key) {
                     Err(NoPair) => Err(BeginRefusal::NoPair),
-                    Ok(session) => match first(room, session, store, disk) {
-                        Err(call) => Err(BeginRefusal::StoreFault { call }),
-                        Ok(client) => Ok(client),
-                    },
+                    Ok(session) => {
+                        lawful_part(session.part());
+                        match first(room, session, store, disk) {
+                            Err(call) => Err(BeginRefusal::StoreFault { call }),
+                            Ok(client) => Ok(client),
+                        }
+                    }
                 },
             },
         }

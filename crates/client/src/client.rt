@@ -8,6 +8,7 @@ use dr_base::{Position, Side};
 use dr_disk::Call;
 use kem_laws::Kem;
 use ratchet::Session;
+use relay_wire::FrameReader;
 use session_model::Summary;
 use session_record::RECORD_LIMIT;
 use slot_store::SlotStore;
@@ -27,13 +28,13 @@ pub struct Client<K: Kem> {
     pub(crate) work: K::Work,
     /// The room in which a record is put together.
     pub(crate) text: Vec<u8>,
+    /// What has come of a relay's reply.
+    pub(crate) reader: FrameReader,
     pub(crate) closed: Option<Call>,
 }
 
 impl<K: Kem> Model for Client<K> {
-    ghost use Rattle.std.specs.Prelude.{◌≡◌, length};
-    ghost use Rattle.session_record.specs.declared.limits.TheConstants.{RECORD_LIMIT};
-    ghost use Rattle.client.specs.Clients.{ClientNow};
+    ghost use Rattle.client.specs.Clients.{ClientNow, IsWhole};
 
     ghost Value = { ClientNow };
 
@@ -43,13 +44,14 @@ impl<K: Kem> Model for Client<K> {
       closed = c.closed;
     } };
 
-    ghost invariant = { λ c. length c.text.items ≡ RECORD_LIMIT };
+    ghost invariant = { λ c. IsWhole K.mechanism (record { state = c.session; inbox = c.inbox; outbox = c.outbox }) c.text.items };
 }
 
 impl<K: Kem> Client<K> {
     ghost use Rattle.boxes.specs.Items.{item_at};
     ghost use Rattle.boxes.specs.Seen.{entry_item};
     ghost use Rattle.session_model.specs.Clients.{summary_of};
+    ghost use Rattle.session_record.specs.Lawful.{IsLawfulClient};
 
     /// Which side of the conversation it is.
     pub fn side(&self) -> Side
@@ -79,8 +81,16 @@ impl<K: Kem> Client<K> {
         ensures variant { IsSome result ↔ (at < length self.now.kept.outbox) }
         ensures packet { option_map (λ pair. item_at pair.0 pair.1.now) result ≡ slice_get self.now.kept.outbox at }
         ensures fits { IfSome result (λ pair. length pair.1.now ≤ PACKET_LIMIT) }
+        ensures some { IfSome result (λ pair. 1 ≤ length pair.1.now) }
     {
         self.outbox.at(at)
+    }
+
+    /// What the client keeps is lawful, so its record is read as just that. It has no code: a caller that needs this calls it.
+    pub fn lawful(&self)
+        ensures { IsLawfulClient K.mechanism self.now.kept }
+    {
+        let _session = &self.session;
     }
 
     /// What the client holds, in numbers.

@@ -105,7 +105,7 @@ impl<K: Kem> Client<K> {
         self.sent_exact(disk, n)
     }
 
-    fn sent_exact<D: Disk>(&mut self, disk: &mut D, n: u32) -> Result<(), DropRefusal>
+    pub(crate) fn sent_exact<D: Disk>(&mut self, disk: &mut D, n: u32) -> Result<(), DropRefusal>
         requires { self.old.closed ≡ None → IsReady self.old.kept self.old.store (D.state disk.old) }
         ensures exact { Acts D.state (act_on K.mechanism self.old.kept (sending n))
             self.old self.new disk.old disk.new (dropped_as (Sent n) result) }

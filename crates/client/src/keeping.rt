@@ -3,6 +3,7 @@
 ghost use Rattle.std.specs.Prelude.{◌≡◌, length, IsOk, OnOk, IfErr};
 ghost use Rattle.dr_disk.specs.State.{Always, Fate};
 ghost use Rattle.session_model.specs.Clients.{Client};
+ghost use Rattle.session_model.specs.LawfulStates.{IsLawfulState};
 ghost use Rattle.session_record.specs.Changes.{FitsInbox, FitsOutbox, changed};
 ghost use Rattle.session_record.specs.Record.{client_of};
 ghost use Rattle.slot_store.specs.Store.{IsWithin, Rests};
@@ -47,4 +48,11 @@ pub(crate) fn keep<K: Kem, D: Disk>(
         Ok(()) => Ok(()),
         Err(fault) => Err(fault.call),
     }
+}
+
+/// A part is a lawful state: a caller that needs this calls it.
+pub(crate) fn lawful_part<K: Kem>(part: &SessionPart<K>)
+    ensures { IsLawfulState K.mechanism part.now }
+{
+    let _epoch = part.epoch;
 }

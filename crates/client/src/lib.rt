@@ -7,6 +7,7 @@
 pub use client::{Client, SLOT};
 pub use laws::{areas_are_their_records, crash_safety, single_use, used_keys_stay_erased};
 pub use refusals::{BeginRefusal, DropRefusal, OpenRefusal, SayRefusal, TakeRefusal};
+pub use syncing::{SyncFault, SyncRefusal};
 
 mod beginning;
 mod client;
@@ -19,6 +20,7 @@ mod room;
 mod saying;
 #[cfg(test)]
 mod stops;
+mod syncing;
 mod taking;
 #[cfg(test)]
 mod tests;

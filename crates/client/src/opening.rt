@@ -7,6 +7,7 @@ ghost use Rattle.dr_disk.specs.State.{Fate};
 ghost use Rattle.dr_disk.specs.declared.call.Call.{Call};
 ghost use Rattle.dr_model.specs.Machines.Worlds.{World};
 ghost use Rattle.dr_model.specs.Theorems.LawfulWorlds.{IsLawfulWorld};
+ghost use Rattle.session_record.specs.Lawful.{IsLawfulClient};
 ghost use Rattle.session_record.specs.Record.{client_of, record_read, record_text};
 ghost use Rattle.slot_store.specs.Reading.{IsEntryOrLike, IsLikeRead};
 ghost use Rattle.slot_store.specs.Store.{IsWithin, content};
@@ -48,6 +49,7 @@ fn resumed<K: Kem>(text: &[u8], inbox: &mut Inbox, outbox: &mut Outbox) -> Sessi
     requires reads { record_fault K.mechanism text.now ≡ None }
     ensures read { record_read K.mechanism text.now ≡ Ok (client_of result inbox.new outbox.new) }
     ensures text { text.now ≡ record_text (client_of result inbox.new outbox.new) }
+    ensures lawful { IsLawfulClient K.mechanism (client_of result inbox.new outbox.new) }
 {
     record_law();
     match decode::<K>(text, inbox, outbox) {
@@ -83,6 +85,7 @@ fn client_in<K: Kem>(room: Room<K>, store: SlotStore) -> Client<K>
         mut outbox,
         work,
         text,
+        reader,
     } = room;
     let session = resumed::<K>(store.content(), &mut inbox, &mut outbox);
     Client {
@@ -92,6 +95,7 @@ fn client_in<K: Kem>(room: Room<K>, store: SlotStore) -> Client<K>
         store,
         work,
         text,
+        reader,
         closed: None,
     }
 }

@@ -5,6 +5,7 @@ ghost use Rattle.session_record.specs.declared.limits.TheConstants.{RECORD_LIMIT
 
 use boxes::{Inbox, Outbox};
 use kem_laws::Kem;
+use relay_wire::FrameReader;
 use session_record::RECORD_LIMIT;
 use std::alloc::{AllocError, Global};
 
@@ -15,6 +16,7 @@ pub(crate) struct Room<K: Kem> {
     pub(crate) outbox: Outbox,
     pub(crate) work: K::Work,
     pub(crate) text: Vec<u8>,
+    pub(crate) reader: FrameReader,
     ghost size: { length text.items ≡ RECORD_LIMIT },
 }
 
@@ -28,11 +30,13 @@ impl<K: Kem> Room<K> {
         let outbox = Outbox::new(alloc)?;
         let work = K::work(alloc)?;
         let text = vec![in alloc; 0; RECORD_LIMIT]?;
+        let reader = FrameReader::new(alloc)?;
         Ok(Room {
             inbox,
             outbox,
             work,
             text,
+            reader,
         })
     }
 }

@@ -7,21 +7,22 @@ ghost use Rattle.dr_model.specs.Machines.Worlds.{World};
 ghost use Rattle.ratchet.specs.Seen.{seed_bytes};
 ghost use Rattle.session_model.specs.Clients.{accept_send, say_check, say_on};
 ghost use Rattle.session_model.specs.Drafts.{IsSendDraft};
+ghost use Rattle.session_record.specs.Lawful.{IsLawfulClient};
 ghost use Rattle.session_record.specs.Record.{client_of};
 ghost use Rattle.client.specs.Clients.{IsReady};
 ghost use Rattle.client.specs.InWorlds.{IsIn};
 ghost use Rattle.client.specs.Outcomes.{Acts, Passes, said_as};
-ghost use Rattle.client.specs.Saying.{HandsBack, Says, SaysIn};
+ghost use Rattle.client.specs.Saying.{HandsBack, IsDrawn, Says, SaysIn};
 ghost use Rattle.client.specs.Spent.{IsSpent};
 
 use crate::client::Client;
-use crate::keeping::keep;
+use crate::keeping::{keep, lawful_part};
 use crate::laws::grounds;
 use crate::refusals::SayRefusal;
 use dr_base::{Key32, OUTBOX_LIMIT, Position, TEXT_LIMIT};
 use dr_disk::Disk;
 use dr_ports::Draws;
-use kem_laws::Kem;
+use kem_laws::{Kem, laws};
 use ratchet::SendDraft;
 use session_model::Refusal;
 use session_record::Change;
@@ -61,10 +62,11 @@ impl<K: Kem> Client<K> {
             × IsReady self.new.kept self.new.store (D.state disk.new)) }
         // In each world that the client stands for, at every moment.
         ensures in_worlds { (w : World) (side : Side) → IsIn K.mechanism w side self.old
-            → SaysIn K.mechanism w side text.now self.old self.new (D.state disk.old) (D.state disk.new) (said_as result) }
+            → SaysIn W.coming W.faults K.mechanism w side text.now self.old self.new (D.state disk.old) (D.state disk.new)
+            draws.old draws.new (said_as result) }
         // Once it is said, the key of its position is used up, and nothing that a crash leaves gives it.
         ensures spent { IfOk result (λ position. (w : World) (side : Side) → IsIn K.mechanism w side self.old
-            → (draw : Option (List ℕ))
+            → (draw : Option (List ℕ)) × IsDrawn W.coming W.faults self.old (length text.now) draws.old draws.new draw
             × IsSpent K.mechanism (act_in K.mechanism w side (saying text.now draw)).next side position (D.state disk.new)) }
         ensures fate { Passes (D.state disk.old) (D.state disk.new) (said_as result) }
     {
@@ -115,15 +117,21 @@ impl<K: Kem> Client<K> {
         ensures seed { HandsBack seed result }
         ensures fate { Passes (D.state disk.old) (D.state disk.new) (said_as result) }
     {
+        laws::<K>();
         match self.session.draft_send(&mut self.work, text, seed) {
             Err(none) => Err(SayRefusal::NoPair { seed: none.seed }),
-            Ok(draft) => self.send(disk, draft),
+            Ok(draft) => {
+                lawful_part(draft.part());
+                self.send(disk, draft)
+            }
         }
     }
 
     /// Keeps a text that was drafted, and then puts its packet into the outbox.
     fn send<D: Disk>(&mut self, disk: &mut D, draft: SendDraft<K>) -> Result<Position, SayRefusal>
         requires draft { IsSendDraft K.mechanism self.old.kept.state draft }
+        requires lawful { IsLawfulClient K.mechanism
+            (client_of draft.next self.old.kept.inbox (self.old.kept.outbox ++ draft.post ∷ [])) }
         requires room { length self.old.kept.outbox < OUTBOX_LIMIT }
         requires open { self.old.closed ≡ None }
         requires ready { IsReady self.old.kept self.old.store (D.state disk.old) }
@@ -157,6 +165,8 @@ impl<K: Kem> Client<K> {
     /// Puts the packet of a draft into the outbox, and accepts the draft.
     fn accept_said(&mut self, draft: SendDraft<K>)
         requires draft { IsSendDraft K.mechanism self.old.kept.state draft }
+        requires lawful { IsLawfulClient K.mechanism
+            (client_of draft.next self.old.kept.inbox (self.old.kept.outbox ++ draft.post ∷ [])) }
         requires room { length self.old.kept.outbox < OUTBOX_LIMIT }
         ensures kept { self.new.kept ≡ client_of draft.next self.old.kept.inbox (self.old.kept.outbox ++ draft.post ∷ []) }
         ensures store { self.new.store ≡ self.old.store }

@@ -13,7 +13,7 @@ use std::alloc::Global;
 use std::test::Fail;
 
 /// No opening makes so many writes and syncs.
-const MANY: u64 = 6;
+const MANY: u32 = 6;
 
 /// How many texts and packets stand.
 #[derive(Clone, Copy, Debug, PartialEq, Eq)]
@@ -31,7 +31,7 @@ struct Row {
 }
 
 /// From so many writes and syncs on, such a crash leaves what the act made.
-const MODES: [(Mode, u64); 5] = [
+const MODES: [(Mode, u32); 5] = [
     (Mode::Old, 4),
     (Mode::New, 2),
     (Mode::Fill(0), 4),
@@ -45,7 +45,7 @@ fn act_stopped(
     row: Row,
     packet: &[u8],
     disk: &mut MemoryDisk,
-    k: u64,
+    k: u32,
 ) -> Result<bool, Fail> {
     let mut client = begin(alloc, row.side, disk)?;
     if let Some(earlier) = row.earlier {
@@ -56,7 +56,7 @@ fn act_stopped(
 }
 
 /// Stops the disk of a client that is ready.
-fn stop(client: &Client<OpenKem>, disk: &mut MemoryDisk, k: u64)
+pub(crate) fn stop(client: &Client<OpenKem>, disk: &mut MemoryDisk, k: u32)
     requires { IsReady client.now.kept client.now.store (state_of disk.old) }
     ensures { IsReady client.now.kept client.now.store (state_of disk.new) }
 {
@@ -84,7 +84,7 @@ fn stopped_twice(
     alloc: Global,
     row: Row,
     packet: &[u8],
-    (k, j): (u64, u64),
+    (k, j): (u32, u32),
     mode: Mode,
 ) -> Result<(bool, Option<Boxes>), Fail> {
     let mut disk = MemoryDisk::new(alloc, SIZE)?;
@@ -122,7 +122,7 @@ fn acts_stopped(rt: HostRuntime) -> Result<(), Fail> {
     for (side, earlier, act, before, after) in rows {
         let row = Row { side, earlier, act };
         for (mode, from) in MODES {
-            for k in 0u64..10 {
+            for k in 0u32..10 {
                 let (done, boxes) = stopped_twice(alloc, row, packet.as_slice(), (k, MANY), mode)?;
                 assert_eq!(rt; done, k >= 8);
                 assert_eq!(rt; boxes, Some(if k >= from { after } else { before }));
@@ -142,8 +142,8 @@ fn openings_stopped(rt: HostRuntime) -> Result<(), Fail> {
         act: Act::Say,
     };
     for (mode, from) in MODES {
-        for k in 0u64..8 {
-            for j in 0u64..MANY {
+        for k in 0u32..8 {
+            for j in 0u32..MANY {
                 let (_, boxes) = stopped_twice(alloc, row, &[], (k, j), mode)?;
                 let outbox = if k >= from { 1 } else { 0 };
                 assert_eq!(rt; boxes, Some(Boxes { inbox: 0, outbox }));

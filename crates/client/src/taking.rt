@@ -1,19 +1,22 @@
 //! Packets are taken.
 
-ghost use Rattle.std.specs.Prelude.{◌≡◌, None, Ok, IfOk, OnOk};
+ghost use Rattle.std.specs.Prelude.{◌≡◌, ◌<◌, ◌++◌, ◌∷◌, [], None, Ok, IfOk, OnOk, length};
+ghost use Rattle.boxes.specs.Items.{item_at};
 ghost use Rattle.dr_base.specs.declared.position.Side.{Side};
 ghost use Rattle.dr_model.specs.Machines.Acts.{act_in, act_on, taken_by, taking};
 ghost use Rattle.dr_model.specs.Machines.Worlds.{World};
 ghost use Rattle.dr_model.specs.Theorems.Fairness.{IsUnforged};
 ghost use Rattle.session_model.specs.Clients.{accept_receive};
 ghost use Rattle.session_model.specs.Drafts.{IsReceiveDraft};
+ghost use Rattle.session_record.specs.Lawful.{IsLawfulClient};
+ghost use Rattle.session_record.specs.Record.{client_of};
 ghost use Rattle.client.specs.Clients.{IsReady};
 ghost use Rattle.client.specs.InWorlds.{ActsIn, IsIn};
 ghost use Rattle.client.specs.Outcomes.{Acts, Passes, taken_as};
 ghost use Rattle.client.specs.Spent.{IsSpent};
 
 use crate::client::Client;
-use crate::keeping::keep;
+use crate::keeping::{keep, lawful_part};
 use crate::laws::grounds;
 use crate::refusals::TakeRefusal;
 use dr_base::{INBOX_LIMIT, Position};
@@ -51,7 +54,11 @@ impl<K: Kem> Client<K> {
     }
 
     #[tactic(auto, unfolding(session_model::specs::Clients::take_on))]
-    fn take_exact<D: Disk>(&mut self, disk: &mut D, packet: &[u8]) -> Result<Position, TakeRefusal>
+    pub(crate) fn take_exact<D: Disk>(
+        &mut self,
+        disk: &mut D,
+        packet: &[u8],
+    ) -> Result<Position, TakeRefusal>
         requires { self.old.closed ≡ None → IsReady self.old.kept self.old.store (D.state disk.old) }
         ensures exact { Acts D.state (act_on K.mechanism self.old.kept (taking packet.now)) self.old self.new disk.old disk.new (taken_as result) }
         ensures fate { Passes (D.state disk.old) (D.state disk.new) (taken_as result) }
@@ -63,7 +70,10 @@ impl<K: Kem> Client<K> {
             Err(fault) => Err(TakeRefusal::Refused(Refusal::Malformed(fault))),
             Ok(view) => match self.session.draft_receive(&mut self.work, &view) {
                 Err(refusal) => Err(TakeRefusal::Refused(refusal.into())),
-                Ok(draft) => self.receive(disk, draft),
+                Ok(draft) => {
+                    lawful_part(draft.part());
+                    self.receive(disk, draft)
+                }
             },
         }
     }
@@ -75,6 +85,8 @@ impl<K: Kem> Client<K> {
         draft: ReceiveDraft<K>,
     ) -> Result<Position, TakeRefusal>
         requires draft { IsReceiveDraft K.mechanism self.old.kept.state draft }
+        requires lawful { length self.old.kept.inbox < INBOX_LIMIT → IsLawfulClient K.mechanism
+            (client_of draft.next (self.old.kept.inbox ++ item_at draft.position draft.text ∷ []) self.old.kept.outbox) }
         requires open { self.old.closed ≡ None }
         requires ready { IsReady self.old.kept self.old.store (D.state disk.old) }
         ensures exact { Acts D.state (taken_by (accept_receive self.old.kept (Ok draft))) self.old self.new disk.old disk.new (taken_as result) }

@@ -1,0 +1,183 @@
+-- A lawful client is lawful behind a text that it says.
+use Rattle.std.proofs.Common.{Bool, Err, List, None, Ok, Option, Some, [], ap, arith, false, length, refl, subst, sym, true, ℕ, ◌++◌, ◌+◌, ◌<◌, ◌∙◌, ◌∷◌, ◌≡◌, ◌≤◌}
+use Rattle.std.specs.Prelude.{All, if◌then◌else◌, nat_le, nat_lt, option_map}
+use Rattle.std.proofs.lemmas.Bool.Decides.{nat_tests}
+use Rattle.std.proofs.lemmas.List.{length_push}
+use Rattle.std.proofs.lemmas.List.Elements.{All-push, All-weaker}
+use Rattle.boxes.specs.Items.{Item}
+use Rattle.cka.specs.Agreement.{agreement_size, turn_of}
+use Rattle.dr_base.specs.Position.{is_own}
+use Rattle.dr_base.specs.declared.limits.TheConstants.{INDEX_LIMIT, OUTBOX_LIMIT, TEXT_LIMIT}
+use Rattle.dr_base.specs.declared.position.Position.{Position}
+use Rattle.dr_base.specs.declared.position.Side.{Side}
+use Rattle.etm_aead.specs.Undoing.{length-ciphertext_of, length-tag_of}
+use Rattle.fs_aead.specs.Chain.{chain_message_key}
+use Rattle.kem_laws.specs.Mechanism.{IsLawfulMechanism, Mechanism}
+use Rattle.packet.specs.Packet.{IsLawful, agreement_len}
+use Rattle.packet.proofs.Lengths.{length-packet_of}
+use Rattle.packet.proofs.Printed.{printed_is_read}
+use Rattle.session_model.specs.Clients.{Client, say_check}
+use Rattle.session_model.specs.LawfulStates.{IsLawfulPhase, IsLawfulPrevious, IsLawfulState}
+use Rattle.session_model.specs.Saying.{SendDraft, draft_own, draft_phase, draft_send, draft_turn, send_check}
+use Rattle.session_model.specs.Sealing.{posted, sealing}
+use Rattle.session_model.specs.States.{Own, Phase, State, in_own, in_peers}
+use Rattle.session_model.specs.declared.answer.Refusal.TheVariants.{OutboxFull, TextTooLong}
+use Rattle.session_record.specs.Lawful.{IsLawfulClient, IsLawfulEntry, IsLawfulPost}
+use Rattle.session_record.specs.Record.{client_of}
+
+-- ---- what a later state of a session has in common with an earlier one
+
+pub record GoesOn (s next : State) : Type 0 where
+  pub side : next.side ≡ s.side
+  pub session : next.session ≡ s.session
+  pub grows : s.epoch ≤ next.epoch
+
+pub entries_stay : (s next : State) (inbox : List Item) → GoesOn s next → All (IsLawfulEntry s) inbox
+    → All (IsLawfulEntry next) inbox
+entries_stay s next inbox on each =
+    All-weaker (IsLawfulEntry s) (IsLawfulEntry next)
+    (λ item l. record {
+      peers = ap (λ (side : Side). is_own side item.position.epoch) on.side ∙ l.peers;
+      reached = omega (arith, l.reached, on.grows);
+      from_one = l.from_one;
+      most = l.most;
+      short = l.short;
+    }) inbox each
+
+pub posts_stay : (k : Mechanism) (s next : State) (outbox : List Item) → GoesOn s next → All (IsLawfulPost k s) outbox
+    → All (IsLawfulPost k next) outbox
+posts_stay k s next outbox on each =
+    All-weaker (IsLawfulPost k s) (IsLawfulPost k next)
+    (λ item l. record {
+      fields = l.fields;
+      reads = l.reads;
+      session = l.session ∙ sym on.session;
+      own = ap (λ (side : Side). is_own side l.fields.epoch) on.side ∙ l.own;
+      reached = omega (arith, l.reached, on.grows);
+      place = l.place;
+      fits = l.fits;
+    }) outbox each
+
+-- ---- a packet that was sealed
+
+message_fits : (agreement epoch : ℕ) → agreement ≤ 2197 → agreement_len agreement epoch ≤ 2197
+message_fits agreement epoch fits = grind arith
+
+post_lawful : (k : Mechanism) (next : State) (p : Position) (previous : ℕ) (agreement key text : List ℕ) → IsLawfulMechanism k
+    → IsLawfulState k next → p.epoch ≤ next.epoch → is_own next.side p.epoch ≡ true → previous ≤ INDEX_LIMIT
+    → (p.epoch ≤ 1 → previous ≡ 0) → 1 ≤ p.index → p.index ≤ INDEX_LIMIT
+    → length agreement ≡ agreement_len (agreement_size k) p.epoch → length text ≤ TEXT_LIMIT
+    → IsLawfulPost k next (posted next.session p previous agreement key text)
+unfolding posted
+post_lawful k next p previous agreement key text law l reached own few none one most message short =
+    let f = sealing next.session p previous agreement key text in
+    let size : agreement_size k ≤ 2197 = omega (arith, law.public_fits, law.ciphertext_fits) in
+    let text_fits : length f.ciphertext ≤ TEXT_LIMIT = omega (arith, short, length-ciphertext_of key text) in
+    let lawful : IsLawful (agreement_size k) f = record {
+      session_len = l.session_long;
+      epoch_fits = omega (arith, reached, l.epoch_fits);
+      previous_fits = few;
+      previous_none = none;
+      index_from_one = one;
+      index_fits = most;
+      agreement_is = message;
+      text_fits = text_fits;
+      tag_len = length-tag_of _ _ _;
+    } in
+    let long = length-packet_of f lawful.session_len lawful.tag_len in
+    let fits : length agreement ≤ 2197 = omega (arith, message, message_fits (agreement_size k) p.epoch size) in
+    record {
+      fields = f;
+      reads = printed_is_read (agreement_size k) f (omega (arith, size)) lawful;
+      session = refl;
+      own = own;
+      reached = reached;
+      place = refl;
+      fits = omega (arith, long, fits, text_fits);
+    }
+
+-- what is said of a draft: the state goes on with the same kept keys, and the packet is lawful
+record IsSaid (k : Mechanism) (s : State) (draft : SendDraft) : Type 0 where
+  on : GoesOn s draft.next
+  kept : draft.next.kept ≡ s.kept
+  post : IsLawfulPost k draft.next draft.post
+
+own_said : (k : Mechanism) (s : State) (own : Own) (text : List ℕ) → IsLawfulMechanism k → IsLawfulState k s
+    → s.phase ≡ in_own own → IsLawfulState k (draft_own s own text).next → length text ≤ TEXT_LIMIT
+    → IsSaid k s (draft_own s own text)
+own_said k s own text law l held after short =
+    let phase : IsLawfulPhase k s.side s.epoch (in_own own) = subst (IsLawfulPhase k s.side s.epoch) held l.phase in
+    let previous : IsLawfulPrevious s.previous s.epoch (in_own own) =
+    subst (IsLawfulPrevious s.previous s.epoch) held l.previous in
+    record {
+      on = record { side = refl; session = refl; grows = omega arith };
+      kept = refl;
+      post = post_lawful k (draft_own s own text).next (record { epoch = s.epoch; index = own.sent + 1 }) s.previous
+          own.agreement (chain_message_key own.chain) text law after (omega arith) phase.0 previous.0 previous.1 (omega arith)
+          after.phase.1.few phase.1.agreement_long short;
+    }
+
+turn_said : (k : Mechanism) (s : State) (public text : List ℕ) (turn : List ℕ × List ℕ × List ℕ) → IsLawfulMechanism k
+    → IsLawfulState k s → s.phase ≡ in_peers public → IsLawfulState k (draft_turn s text turn).next
+    → length text ≤ TEXT_LIMIT → IsSaid k s (draft_turn s text turn)
+turn_said k s public text turn law l held after short =
+    let previous : IsLawfulPrevious s.previous s.epoch (in_peers public) =
+    subst (IsLawfulPrevious s.previous s.epoch) held l.previous in
+    let one : 1 ≤ INDEX_LIMIT = omega arith in
+    record {
+      on = record { side = refl; session = refl; grows = omega arith };
+      kept = refl;
+      post = post_lawful k (draft_turn s text turn).next (record { epoch = s.epoch + 1; index = 1 }) s.previous turn.1 _ text
+          law after (omega arith) after.phase.0 previous.0 (λ first. previous.1 (omega (arith, first))) (omega arith) one
+          after.phase.1.agreement_long short;
+    }
+
+turned_said : (k : Mechanism) (s : State) (public text : List ℕ) (turn : Option (List ℕ × List ℕ × List ℕ)) (draft : SendDraft)
+    → IsLawfulMechanism k → IsLawfulState k s → s.phase ≡ in_peers public → IsLawfulState k draft.next
+    → length text ≤ TEXT_LIMIT → option_map (draft_turn s text) turn ≡ Some draft → IsSaid k s draft
+turned_said k s public text None draft law l held after short gives = absurd (let no : None ≡ Some draft = gives in cc)
+turned_said k s public text (Some turn) draft law l held after short gives =
+    let is : draft_turn s text turn ≡ draft = cc in
+    subst (IsSaid k s) is
+    (turn_said k s public text turn law l held (subst (λ (d : SendDraft). IsLawfulState k d.next) (sym is) after) short)
+
+phase_said : (k : Mechanism) (s : State) (text seed : List ℕ) (phase : Phase) (draft : SendDraft) → IsLawfulMechanism k
+    → IsLawfulState k s → s.phase ≡ phase → IsLawfulState k draft.next → length text ≤ TEXT_LIMIT
+    → draft_phase k s text seed phase ≡ Some draft → IsSaid k s draft
+phase_said k s text seed (in_own own) draft law l held after short gives =
+    let is : draft_own s own text ≡ draft = cc in
+    subst (IsSaid k s) is
+    (own_said k s own text law l held (subst (λ (d : SendDraft). IsLawfulState k d.next) (sym is) after) short)
+phase_said k s text seed (in_peers public) draft law l held after short gives =
+    turned_said k s public text (turn_of k public seed) draft law l held after short gives
+
+-- ---- the client
+
+pub said_lawful : (k : Mechanism) (c : Client) (text seed : List ℕ) (draft : SendDraft) → IsLawfulMechanism k
+    → IsLawfulClient k c → IsLawfulState k draft.next → length text ≤ TEXT_LIMIT → length c.outbox < OUTBOX_LIMIT
+    → draft_send k c.state text seed ≡ Some draft
+    → IsLawfulClient k (client_of draft.next c.inbox (c.outbox ++ draft.post ∷ []))
+unfolding draft_send
+said_lawful k c text seed draft law l after short room gives =
+    let said = phase_said k c.state text seed c.state.phase draft law l.state refl after short gives in
+    record {
+      state = after;
+      keys_long = subst (All (λ kept. length kept.key.bytes ≡ 32)) (sym said.kept) l.keys_long;
+      inbox = entries_stay c.state draft.next c.inbox said.on l.inbox;
+      few_entries = l.few_entries;
+      outbox = All-push (IsLawfulPost k draft.next) c.outbox draft.post
+          (posts_stay k c.state draft.next c.outbox said.on l.outbox) said.post;
+      few_posts = omega (arith, room, length_push c.outbox draft.post);
+    }
+
+-- a text that passed the check is short, and the outbox has room for its packet
+pub passed_check : (c : Client) (len : ℕ) (needs : Bool) → say_check c len ≡ Ok needs
+    → (len ≤ TEXT_LIMIT) × (length c.outbox < OUTBOX_LIMIT)
+passed_check c len needs is = by_tests (nat_lt TEXT_LIMIT len) refl (nat_le OUTBOX_LIMIT (length c.outbox)) refl is
+  where
+    by_tests : (a : Bool) → nat_lt TEXT_LIMIT len ≡ a → (b : Bool) → nat_le OUTBOX_LIMIT (length c.outbox) ≡ b
+        → (if a then Err (TextTooLong len) else (if b then Err OutboxFull else send_check c.state len)) ≡ Ok needs
+        → (len ≤ TEXT_LIMIT) × (length c.outbox < OUTBOX_LIMIT)
+    by_tests true long b full is = absurd (cc is)
+    by_tests false long true full is = absurd (cc is)
+    by_tests false long false full is = (grind (arith, nat_tests), grind (arith, nat_tests))

@@ -1,0 +1,11 @@
+pub mod Moving
+pub mod Courses
+pub mod Going
+pub mod Ending
+pub mod Turning
+pub mod Collecting
+pub mod Written
+pub mod Naming
+pub mod Oldest
+pub mod Looping
+pub mod Worlds

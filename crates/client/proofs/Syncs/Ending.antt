@@ -1,0 +1,242 @@
+-- A sync ends with a round, or goes on behind it.
+use Rattle.std.proofs.Common.{Err, List, Ok, Option, Result, Some, [], ap, inl, inr, refl, subst, sym, ℕ, ◌++◌, ◌∙◌, ◌∷◌, ◌≡◌, ◌⊎◌, append-nil}
+use Rattle.dr_base.specs.Causes.{Rose}
+use Rattle.dr_disk.specs.declared.call.Call.{Call}
+use Rattle.dr_disk.proofs.Steps.{quiet_twice}
+use Rattle.dr_ports.specs.Wires.{Port}
+use Rattle.dr_ports.specs.declared.pipe.Part.TheVariants.{Flow}
+use Rattle.relay_pipe.specs.Asking.{IsBroken, IsFaulty, IsReplied, cut, unread, fault_at, request_frame}
+use Rattle.relay_pipe.specs.Exchanging.{Exchanges}
+use Rattle.relay_pipe.specs.declared.faults.PeerFault.{PeerFault}
+use Rattle.relay_pipe.specs.declared.faults.PeerKind.{PeerKind}
+use Rattle.relay_pipe.specs.declared.faults.PeerKind.TheVariants.{Wrong}
+use Rattle.relay_pipe.proofs.Exchanged.{both}
+use Rattle.relay_wire.specs.Replies.{Replied}
+use Rattle.relay_wire.specs.Requests.{Asked}
+use Rattle.session_model.specs.Clients.{Client}
+use Rattle.sync_model.specs.Carried.{replied_bytes, request_bytes}
+use Rattle.sync_model.specs.Courses.{all_lines, as_list, course_of, last_line, made_requests}
+use Rattle.sync_model.specs.Moves.{Ending, Wait, asked_in, box_is_full, ended, inbox_full, move, no_such_box, over, wrong}
+use Rattle.sync_model.specs.Parties.{Party}
+use Rattle.sync_model.specs.declared.more.More.{More}
+use Rattle.sync_model.proofs.Reading.{bytes_last, lawful_last}
+use Rattle.client.specs.Syncing.Moments.{BrokenOff, Moment, Moved, Wrote, WroteBeginning}
+use Rattle.client.specs.Syncing.Rounds.{Hears, IsRound, IsStill, Turn, Turns, came_to_end, fault_in, goes_on, heard, stops, was_broken, was_unheard, was_unstored, was_unwritten, went_on}
+use Rattle.client.specs.Syncing.SoFar.{SoFar, Stands}
+use Rattle.client.specs.Syncing.Syncs.{Ends, IsCutOff, IsNoReply, IsOver, IsUnheard, IsUnstored, IsUnwritten, Syncs, is_cut, is_unread}
+use Rattle.client.specs.declared.syncing.faults.SyncFault.{SyncFault}
+use Rattle.client.specs.declared.syncing.faults.SyncFault.TheVariants.{Closed, Link, Peer, Refused, Store, Write}
+use Rattle.client.specs.declared.syncing.faults.SyncRefusal.TheVariants.{BoxFull, InboxFull, Unknown}
+use Rattle.client.proofs.Syncs.Going.{lines_more, on, passed_more, passed_still, stands_more, talked_more, then, wrote_as, wrote_beginning, wrote_more}
+
+some_is : (a b : SyncFault) → Some a ≡ Some b → a ≡ b
+some_is a b h = cc
+
+module _ (p : Party Client) where
+  -- only a sync that did its work has a last line
+  no_last : (ending : Ending) (fault : SyncFault) → fault_in ending ≡ Some fault → last_line p (over ending) ≡ []
+  no_last (ended which) fault is = absurd (cc)
+  no_last inbox_full fault is = refl
+  no_last box_is_full fault is = refl
+  no_last no_such_box fault is = refl
+  no_last wrong fault is = refl
+
+  over_ends : (ending : Ending) (fault : SyncFault) (replies : List Replied) (a b : Moment) (start now : Port) → fault_in ending ≡ Some fault
+      → IsOver p replies ending a b start now → Ends p replies a b start now (Err fault)
+  over_ends (ended which) fault replies a b start now is ends = absurd (cc)
+  over_ends inbox_full fault replies a b start now is ends =
+      subst (λ (f : SyncFault). Ends p replies a b start now (Err f)) (some_is (Refused InboxFull) fault is) (inbox_full, refl, ends)
+  over_ends box_is_full fault replies a b start now is ends =
+      subst (λ (f : SyncFault). Ends p replies a b start now (Err f)) (some_is (Refused BoxFull) fault is) (box_is_full, refl, ends)
+  over_ends no_such_box fault replies a b start now is ends =
+      subst (λ (f : SyncFault). Ends p replies a b start now (Err f)) (some_is (Refused Unknown) fault is) (no_such_box, refl, ends)
+  over_ends wrong fault replies a b start now is ends =
+      subst (λ (f : SyncFault). Ends p replies a b start now (Err f)) (some_is (Peer 2 Wrong) fault is) (inl (wrong, refl, ends))
+
+  -- where a round leaves a sync
+  abbrev pub After : Moment → Moment → Port → Port → Turn → Type 0
+  After a b start now (goes_on wait) = SoFar p a b start now wait
+  After a b start now (stops fault) = Syncs p a b start now (Err fault)
+
+  module _ (a b : Moment) (start mid : Port) (wait : Wait) (far : SoFar p a b start mid wait) (c : Moment) (now : Port) (asked : Asked)
+      (asks : asked_in p b.client.kept wait ≡ Some asked) where
+    -- ---- with a reply
+
+    turned : (reply : Replied) (turn : Turn) → IsReplied asked reply mid now → Turns (move p b.client.kept wait reply) b c turn → After a c start now turn
+    turned reply turn replied (went_on next waits moved wrote) = on p a b start mid wait far c now asked asks reply next replied waits moved wrote
+    turned reply turn replied (came_to_end ending fault waits is moved wrote) =
+        let next = then p a b start mid wait far c now asked asks reply in
+        let waits_so : (course_of p a.client.kept (far.replies ++ reply ∷ [])).wait ≡ over ending = next.wait ∙ waits in
+        record {
+          replies = far.replies ++ reply ∷ [];
+          syncs = record {
+            lawful = lawful_last far.replies reply far.lawful replied.lawful;
+            passed = passed_more p a b start mid wait far reply c (move p b.client.kept wait reply).state next.state moved.during;
+            ends = over_ends ending fault (far.replies ++ reply ∷ []) a c start now is (record {
+              is_over = waits_so;
+              stands = stands_more p a b start mid wait far c now asked asks reply moved;
+              talked = talked_more p a b start mid wait far c now asked asks reply replied;
+              wrote = wrote_as _ _ a c
+                  (sym (append-nil (course_of p a.client.kept (far.replies ++ reply ∷ [])).lines)
+                  ∙ ap (λ (l : List ℕ). (course_of p a.client.kept (far.replies ++ reply ∷ [])).lines ++ l) (sym (ap (last_line p) waits_so ∙ no_last ending fault is)))
+                  (lines_more p a b start mid wait far c now asked asks reply wrote);
+            });
+          };
+        }
+    turned reply turn replied (was_unwritten moved wrote) =
+        let next = then p a b start mid wait far c now asked asks reply in
+        record {
+          replies = far.replies ++ reply ∷ [];
+          syncs = record {
+            lawful = lawful_last far.replies reply far.lawful replied.lawful;
+            passed = passed_more p a b start mid wait far reply c (move p b.client.kept wait reply).state next.state moved.during;
+            ends = record {
+              stands = stands_more p a b start mid wait far c now asked asks reply moved;
+              talked = talked_more p a b start mid wait far c now asked asks reply replied;
+              wrote = subst (λ (l : List ℕ). WroteBeginning (l ++ last_line p (course_of p a.client.kept (far.replies ++ reply ∷ [])).wait) a c) (sym next.lines)
+                  (wrote_beginning (course_of p a.client.kept far.replies).lines (move p b.client.kept wait reply).lines (last_line p (course_of p a.client.kept (far.replies ++ reply ∷ [])).wait) a b c far.wrote wrote);
+            };
+          };
+        }
+    turned reply turn replied (was_unstored call broken wrote) =
+        let next = then p a b start mid wait far c now asked asks reply in
+        record {
+          replies = far.replies ++ reply ∷ [];
+          syncs = record {
+            lawful = lawful_last far.replies reply far.lawful replied.lawful;
+            passed = passed_more p a b start mid wait far reply c (move p b.client.kept wait reply).state next.state broken.during;
+            ends = record {
+              before = far.replies;
+              last = reply;
+              split = refl;
+              keeps = broken.keeps ∙ far.stands.keeps;
+              closes = broken.closes;
+              rose = subst (λ (n : ℕ). Rose n (c.disk.faults call)) (far.stands.quiet call) broken.rose;
+              talked = talked_more p a b start mid wait far c now asked asks reply replied;
+              wrote = still_wrote wrote;
+            };
+          };
+        }
+      where
+        still_wrote : Wrote [] b c → Wrote (course_of p a.client.kept far.replies).lines a c
+        still_wrote w = wrote_as _ _ a c (append-nil (course_of p a.client.kept far.replies).lines) (wrote_more (course_of p a.client.kept far.replies).lines [] a b c far.wrote w)
+
+    -- ---- without one
+
+    stands_still : IsStill b c → Stands p far.replies a c
+    stands_still still = record {
+      keeps = still.0.keeps ∙ far.stands.keeps;
+      is_open = still.0.is_open;
+      ready = still.0.ready;
+      quiet = quiet_twice a.disk b.disk c.disk far.stands.quiet still.0.quiet;
+    }
+
+    wrote_still : IsStill b c → Wrote (course_of p a.client.kept far.replies).lines a c
+    wrote_still still = wrote_as _ _ a c (append-nil (course_of p a.client.kept far.replies).lines) (wrote_more (course_of p a.client.kept far.replies).lines [] a b c far.wrote still.1)
+
+    asks_so : asked_in p (course_of p a.client.kept far.replies).state (course_of p a.client.kept far.replies).wait ≡ Some asked
+    asks_so = ap (λ (s : Client). asked_in p s (course_of p a.client.kept far.replies).wait) (sym far.stands.keeps) ∙ ap (asked_in p b.client.kept) far.waits ∙ asks
+
+    broke : IsBroken (request_frame asked) mid now → IsCutOff p a.client.kept far.replies start now
+    broke is = record {
+      asked = asked;
+      waits = asks_so;
+      put = is.taken;
+      left = is.left;
+      rest = is.got;
+      split = is.split;
+      told = both (replied_bytes far.replies) is.got (request_bytes (course_of p a.client.kept far.replies).requests) is.taken start mid now far.talked.told is.told;
+      partial = is.partial;
+      rose = subst (λ (n : ℕ). Rose n (now.faults Flow)) far.talked.quiet is.rose;
+    }
+
+    told_all : (got : List ℕ) → Exchanges got (request_frame asked) mid now
+        → Exchanges (replied_bytes far.replies ++ got) (request_bytes (made_requests p (course_of p a.client.kept far.replies))) start now
+    told_all got told =
+        subst (λ (q : List ℕ). Exchanges (replied_bytes far.replies ++ got) q start now)
+        (sym (ap (λ (o : Option Asked). request_bytes ((course_of p a.client.kept far.replies).requests ++ as_list o)) asks_so
+        ∙ bytes_last request_frame (course_of p a.client.kept far.replies).requests asked))
+        (both (replied_bytes far.replies) got (request_bytes (course_of p a.client.kept far.replies).requests) (request_frame asked) start mid now far.talked.told told)
+
+    unheard : (fault : PeerFault) → IsFaulty (request_frame asked) mid now fault → IsUnheard p a.client.kept far.replies start now fault
+    unheard fault (unread frame bad told whole reads quiet) = record {
+      asked = asked;
+      waits = asks_so;
+      rest = frame;
+      told = told_all frame told;
+      came = is_unread bad whole reads;
+      quiet = quiet ∙ far.talked.quiet;
+    }
+    unheard fault (cut got told partial end quiet) = record {
+      asked = asked;
+      waits = asks_so;
+      rest = got;
+      told = told_all got told;
+      came = is_cut partial end;
+      quiet = quiet ∙ far.talked.quiet;
+    }
+
+    pub goes_round : (turn : Turn) → IsRound p wait asked b c mid now turn → After a c start now turn
+    goes_round turn (heard reply then replied turns) = turned reply turn replied turns
+    goes_round turn (was_broken broken still) = record {
+      replies = far.replies;
+      syncs = record {
+        lawful = far.lawful;
+        passed = passed_still p a b start mid wait far c still.0.during;
+        ends = (stands_still still, broke broken, wrote_still still);
+      };
+    }
+    goes_round turn (was_unheard at kind faulty still) = record {
+      replies = far.replies;
+      syncs = record {
+        lawful = far.lawful;
+        passed = passed_still p a b start mid wait far c still.0.during;
+        ends = inr (stands_still still, unheard (fault_at at kind) faulty, wrote_still still);
+      };
+    }
+
+  -- ---- behind the last packet
+
+  pub ends_well : (a b c : Moment) (start now : Port) (more : More) → SoFar p a b start now (over (ended more)) → Moved b.client.kept b c
+      → Wrote (p.end_line more) b c → Syncs p a c start now (Ok more)
+  ends_well a b c start now more far moved wrote = record {
+    replies = far.replies;
+    syncs = record {
+      lawful = far.lawful;
+      passed = passed_still p a b start now (over (ended more)) far c moved.during;
+      ends = record {
+        is_over = far.waits;
+        stands = record {
+          keeps = moved.keeps ∙ far.stands.keeps;
+          is_open = moved.is_open;
+          ready = moved.ready;
+          quiet = quiet_twice a.disk b.disk c.disk far.stands.quiet moved.quiet;
+        };
+        talked = far.talked;
+        wrote = wrote_as _ _ a c (ap (λ (w : Wait). (course_of p a.client.kept far.replies).lines ++ last_line p w) (sym far.waits))
+            (wrote_more (course_of p a.client.kept far.replies).lines (p.end_line more) a b c far.wrote wrote);
+      };
+    };
+  }
+
+  pub ends_unwritten : (a b c : Moment) (start now : Port) (more : More) → SoFar p a b start now (over (ended more)) → Moved b.client.kept b c
+      → WroteBeginning (p.end_line more) b c → Syncs p a c start now (Err Write)
+  ends_unwritten a b c start now more far moved wrote = record {
+    replies = far.replies;
+    syncs = record {
+      lawful = far.lawful;
+      passed = passed_still p a b start now (over (ended more)) far c moved.during;
+      ends = record {
+        stands = record {
+          keeps = moved.keeps ∙ far.stands.keeps;
+          is_open = moved.is_open;
+          ready = moved.ready;
+          quiet = quiet_twice a.disk b.disk c.disk far.stands.quiet moved.quiet;
+        };
+        talked = far.talked;
+        wrote = subst (λ (w : Wait). WroteBeginning ((course_of p a.client.kept far.replies).lines ++ last_line p w) a c) (sym far.waits)
+            (subst (λ (l : List ℕ). WroteBeginning l a c) (append-nil ((course_of p a.client.kept far.replies).lines ++ p.end_line more))
+            (wrote_beginning (course_of p a.client.kept far.replies).lines (p.end_line more) [] a b c far.wrote wrote));
+      };
+    };
+  }

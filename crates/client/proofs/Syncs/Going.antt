@@ -1,0 +1,160 @@
+-- A sync goes on by one round, or ends with it.
+use Rattle.std.proofs.Common.{Bool, Err, List, None, Ok, Option, Result, Some, [], ap, ap₂, arith, inl, inr, length, refl, subst, sym, ℕ, ⊎_elim, ◌+◌, ◌++◌, ◌∙◌, ◌∷◌, ◌≡◌, ◌⊎◌, append_assoc, append-nil}
+use Rattle.std.specs.Prelude.{option_map}
+use Rattle.std.specs.List.{AllByRecursion}
+use Rattle.std.proofs.lemmas.List.{length_push}
+use Rattle.dr_base.specs.Causes.{Rose}
+use Rattle.dr_disk.specs.Bytes.{Torn}
+use Rattle.dr_disk.specs.Spans.{IsQuiet, Span}
+use Rattle.dr_disk.specs.State.{DiskState}
+use Rattle.dr_disk.specs.declared.call.Call.{Call}
+use Rattle.dr_disk.proofs.Ranges.{torn_twice}
+use Rattle.dr_disk.proofs.Steps.{quiet_twice, spans, stays, widen}
+use Rattle.dr_ports.specs.Ports.{appended}
+use Rattle.dr_ports.specs.Wires.{Port}
+use Rattle.dr_ports.specs.Writing.{TookBeginning}
+use Rattle.dr_ports.specs.declared.pipe.Part.TheVariants.{Flow}
+use Rattle.relay_pipe.specs.Asking.{IsBroken, IsFaulty, IsReplied, cut, unread, fault_at, request_frame, reply_text}
+use Rattle.relay_pipe.specs.Exchanging.{Exchanges}
+use Rattle.relay_pipe.specs.declared.faults.PeerFault.{PeerFault}
+use Rattle.relay_pipe.proofs.Exchanged.{both, nothing_yet}
+use Rattle.relay_wire.specs.Replies.{IsLawfulReplied, Replied}
+use Rattle.relay_wire.specs.Requests.{Asked}
+use Rattle.session_model.specs.Clients.{Client}
+use Rattle.session_record.specs.Record.{record_text}
+use Rattle.slot_store.specs.Slots.{recovered}
+use Rattle.slot_store.specs.Store.{IsOldOrNew, KeepsOutside}
+use Rattle.sync_model.specs.Carried.{replied_bytes, request_bytes}
+use Rattle.sync_model.specs.Courses.{all_lines, as_list, course_of, made_requests}
+use Rattle.sync_model.specs.Moves.{Ending, Move, Wait, asked_in, ended, fetching, move, over}
+use Rattle.sync_model.specs.Parties.{Party}
+use Rattle.sync_model.specs.declared.more.More.{More}
+use Rattle.sync_model.proofs.Reading.{bytes_last, lawful_last}
+use Rattle.client.specs.Clients.{IsReady, client_area}
+use Rattle.client.specs.Outcomes.{IsReplacing}
+use Rattle.client.specs.Syncing.Moments.{BrokenOff, Moment, Moved, Wrote, WroteBeginning}
+use Rattle.client.specs.Syncing.Rounds.{Hears, IsRound, IsStill, Turn, Turns, came_to_end, fault_in, goes_on, heard, stops, was_broken, was_unheard, was_unstored, was_unwritten, went_on}
+use Rattle.client.specs.Syncing.SoFar.{IsReached, Passed, SoFar, Stands, Talked}
+use Rattle.client.specs.Syncing.Syncs.{Ends, IsCutOff, IsNoReply, IsOver, IsUnheard, IsUnstored, IsUnwritten, Syncs, is_cut, is_unread}
+use Rattle.client.specs.declared.syncing.faults.SyncFault.{SyncFault}
+use Rattle.client.specs.declared.syncing.faults.SyncFault.TheVariants.{Closed, Link, Peer, Refused, Store, Write}
+use Rattle.client.proofs.Syncs.Courses.{IsAfter, after}
+use Rattle.client.proofs.Syncs.Moving.{wrote_nothing}
+
+-- ---- bytes written, one piece behind another
+
+appended_twice : (told : Option (List ℕ)) (x y : List ℕ) → appended (appended told x) y ≡ appended told (x ++ y)
+appended_twice None x y = refl
+appended_twice (Some t) x y = ap (λ (b : List ℕ). Some b) (append_assoc t x y)
+
+pub wrote_more : (x y : List ℕ) (a b c : Moment) → Wrote x a b → Wrote y b c → Wrote (x ++ y) a c
+wrote_more x y a b c one two = record {
+  bytes_are = two.bytes_are ∙ ap (λ (t : Option (List ℕ)). appended t y) one.bytes_are ∙ appended_twice a.taken x y;
+  unfailing = two.unfailing ∙ one.unfailing;
+}
+
+pub wrote_as : (x y : List ℕ) (a b : Moment) → x ≡ y → Wrote x a b → Wrote y a b
+wrote_as x y a b is wrote = subst (λ (z : List ℕ). Wrote z a b) is wrote
+
+pub wrote_beginning : (x y z : List ℕ) (a b c : Moment) → Wrote x a b → WroteBeginning y b c → WroteBeginning ((x ++ y) ++ z) a c
+wrote_beginning x y z a b c one two = record {
+  beginning = record {
+    beginning = x ++ two.beginning.beginning;
+    remainder = two.beginning.remainder ++ z;
+    split = ap (λ (w : List ℕ). (x ++ w) ++ z) two.beginning.split
+        ∙ ap (λ (w : List ℕ). w ++ z) (sym (append_assoc x two.beginning.beginning two.beginning.remainder))
+        ∙ append_assoc (x ++ two.beginning.beginning) two.beginning.remainder z;
+    took = two.beginning.took ∙ ap (λ (t : Option (List ℕ)). appended t two.beginning.beginning) one.bytes_are
+        ∙ appended_twice a.taken x two.beginning.beginning;
+  };
+  rose = subst (λ (n : ℕ). Rose n c.faults) one.unfailing two.rose;
+}
+
+module _ (p : Party Client) where
+  -- ---- before the first reply
+
+  pub begins : (a : Moment) (start : Port) → a.client.closed ≡ None → IsReady a.client.kept a.client.store a.disk → SoFar p a a start start (fetching 0)
+  begins a start is_open ready = record {
+    replies = [];
+    lawful = tt;
+    waits = refl;
+    stands = record { keeps = refl; is_open = is_open; ready = ready; quiet = λ call. refl };
+    talked = record { told = nothing_yet start; waited = refl; quiet = refl };
+    wrote = wrote_nothing a a refl refl;
+    passed = stays a.disk (IsReached p a.client.kept [] a.disk);
+  }
+
+  -- ---- what the disk was meanwhile
+
+  outside_since : (start mid : DiskState) (first : Client) (replies : List Replied) (c : List ℕ) → Span start mid (IsReached p first replies start)
+      → KeepsOutside client_area mid c → KeepsOutside client_area start c
+  outside_since start mid first replies c passed keeps =
+      ⊎_elim (λ was. (keeps.0, was, keeps.2))
+      (λ (r : IsReached p first replies start keeps.0). (r.outside.0, r.outside.1, torn_twice client_area.start (client_area.slot + client_area.slot) r.outside.0 keeps.0 c r.outside.2 keeps.2))
+      (passed.last keeps.0 keeps.1)
+
+  module _ (a b : Moment) (start mid : Port) (wait : Wait) (far : SoFar p a b start mid wait) where
+    abbrev pub first : Client
+    first = a.client.kept
+
+    pub passed_more : (reply : Replied) (c : Moment) (next : Client) → (course_of p first (far.replies ++ reply ∷ [])).state ≡ next
+        → IsReplacing b.client.kept next b.disk c.disk → Passed p (far.replies ++ reply ∷ []) a c
+    passed_more reply c next is replacing =
+        spans a.disk b.disk c.disk (IsReached p first (far.replies ++ reply ∷ []) a.disk)
+        (widen a.disk b.disk (IsReached p first far.replies a.disk) (IsReached p first (far.replies ++ reply ∷ []) a.disk)
+        (λ d r. record { front = r.front; back = r.back ++ reply ∷ []; split = ap (λ (xs : List Replied). xs ++ reply ∷ []) r.split ∙ append_assoc r.front r.back (reply ∷ []); holds = r.holds; outside = r.outside }) far.passed)
+        (widen b.disk c.disk (IsOldOrNew b.disk client_area (Some (record_text b.client.kept)) (Some (record_text next))) (IsReached p first (far.replies ++ reply ∷ []) a.disk)
+        (λ d s. ⊎_elim
+        (λ old. record { front = far.replies; back = reply ∷ []; split = refl; holds = old ∙ ap (λ (x : Client). Some (record_text x)) far.stands.keeps; outside = outside_since a.disk b.disk first far.replies d far.passed s.frame })
+        (λ new. record { front = far.replies ++ reply ∷ []; back = []; split = sym (append-nil (far.replies ++ reply ∷ [])); holds = new ∙ ap (λ (x : Client). Some (record_text x)) (sym is); outside = outside_since a.disk b.disk first far.replies d far.passed s.frame })
+        s.either) replacing)
+
+    pub passed_still : (c : Moment) → IsReplacing b.client.kept b.client.kept b.disk c.disk → Passed p far.replies a c
+    passed_still c replacing =
+        spans a.disk b.disk c.disk (IsReached p first far.replies a.disk) far.passed
+        (widen b.disk c.disk (IsOldOrNew b.disk client_area (Some (record_text b.client.kept)) (Some (record_text b.client.kept))) (IsReached p first far.replies a.disk)
+        (λ d s. record { front = far.replies; back = []; split = sym (append-nil far.replies); holds = ⊎_elim (λ o. o) (λ n. n) s.either ∙ ap (λ (x : Client). Some (record_text x)) far.stands.keeps; outside = outside_since a.disk b.disk first far.replies d far.passed s.frame })
+        replacing)
+
+    module _ (c : Moment) (now : Port) (asked : Asked) (asks : asked_in p b.client.kept wait ≡ Some asked) where
+      abbrev pub at : Replied → Move Client
+      at reply = move p b.client.kept wait reply
+
+      pub then : (reply : Replied) → IsAfter p first far.replies reply asked (at reply)
+      then reply = after p first far.replies reply asked b.client.kept wait far.stands.keeps far.waits asks
+
+      -- ---- a reply was read
+
+      pub talked_more : (reply : Replied) → IsReplied asked reply mid now → Talked p first (far.replies ++ reply ∷ []) start now
+      talked_more reply replied = record {
+        told = subst (λ (g : List ℕ). Exchanges g (request_bytes (course_of p first (far.replies ++ reply ∷ [])).requests) start now) (sym (bytes_last reply_text far.replies reply))
+            (subst (λ (q : List ℕ). Exchanges (replied_bytes far.replies ++ reply_text reply) q start now)
+            (sym (ap request_bytes (then reply).requests ∙ bytes_last request_frame (course_of p first far.replies).requests asked))
+            (both (replied_bytes far.replies) (reply_text reply) (request_bytes (course_of p first far.replies).requests) (request_frame asked) start mid now far.talked.told replied.told));
+        waited = ap length (then reply).requests ∙ length_push (course_of p first far.replies).requests asked ∙ ap (λ (n : ℕ). n + 1) far.talked.waited ∙ sym (length_push far.replies reply);
+        quiet = replied.quiet ∙ far.talked.quiet;
+      }
+
+      pub stands_more : (reply : Replied) → Moved (at reply).state b c → Stands p (far.replies ++ reply ∷ []) a c
+      stands_more reply moved = record {
+        keeps = moved.keeps ∙ sym (then reply).state;
+        is_open = moved.is_open;
+        ready = moved.ready;
+        quiet = quiet_twice a.disk b.disk c.disk far.stands.quiet moved.quiet;
+      }
+
+      pub lines_more : (reply : Replied) → Wrote (at reply).lines b c → Wrote (course_of p first (far.replies ++ reply ∷ [])).lines a c
+      lines_more reply wrote =
+          wrote_as _ _ a c (sym (then reply).lines) (wrote_more (course_of p first far.replies).lines (at reply).lines a b c far.wrote wrote)
+
+      pub on : (reply : Replied) (next : Wait) → IsReplied asked reply mid now → (at reply).wait ≡ next → Moved (at reply).state b c → Wrote (at reply).lines b c
+          → SoFar p a c start now next
+      on reply next replied waits moved wrote = record {
+        replies = far.replies ++ reply ∷ [];
+        lawful = lawful_last far.replies reply far.lawful replied.lawful;
+        waits = (then reply).wait ∙ waits;
+        stands = stands_more reply moved;
+        talked = talked_more reply replied;
+        wrote = lines_more reply wrote;
+        passed = passed_more reply c (at reply).state (then reply).state moved.during;
+      }

@@ -1,0 +1,46 @@
+-- A step of a client, as a sync makes it.
+use Rattle.std.proofs.Common.{Bool, Err, List, None, Ok, Option, Result, Some, [], ap, false, inl, inr, refl, subst, sym, true, ℕ, ◌++◌, ◌∙◌, ◌≡◌, append-nil}
+use Rattle.std.specs.Prelude.{option_map}
+use Rattle.dr_disk.specs.State.{DiskState}
+use Rattle.dr_disk.specs.declared.call.Call.{Call}
+use Rattle.dr_disk.proofs.Steps.{stays}
+use Rattle.dr_model.specs.Machines.Steps.{Step, settled, step}
+use Rattle.dr_ports.specs.Ports.{appended}
+use Rattle.session_model.specs.Clients.{Client}
+use Rattle.session_model.specs.declared.answer.Answer.TheVariants.{Refused}
+use Rattle.session_model.specs.declared.answer.Refusal.{Refusal}
+use Rattle.session_record.specs.Record.{record_text}
+use Rattle.slot_store.specs.Store.{IsOldOrNew}
+use Rattle.client.specs.Clients.{ClientNow, IsReady, client_area}
+use Rattle.client.specs.Syncing.Moments.{IsMoved, IsTaken, Moment, Moved, Wrote}
+
+-- nothing was done
+pub still : (client : ClientNow) (disk : DiskState) → client.closed ≡ None → IsReady client.kept client.store disk
+    → IsMoved client.kept client client disk disk
+still client disk is_open ready = record {
+  keeps = refl;
+  is_open = is_open;
+  ready = ready;
+  during = stays disk (IsOldOrNew disk client_area (Some (record_text client.kept)) (Some (record_text client.kept)));
+  quiet = λ call. refl;
+}
+
+pub nothing_appended : (told : Option (List ℕ)) → told ≡ appended told []
+nothing_appended None = refl
+nothing_appended (Some taken) = ap (λ (b : List ℕ). Some b) (sym (append-nil taken))
+
+-- nothing was written
+pub wrote_nothing : (a b : Moment) → b.taken ≡ a.taken → b.faults ≡ a.faults → Wrote [] a b
+wrote_nothing a b taken faults = record { bytes_are = taken ∙ nothing_appended a.taken; unfailing = faults }
+
+-- a refusal changes nothing
+pub refused_still : {X : Type 0} (state : X → DiskState) (made : Result (Step Client) Refusal) (refusal : Refusal) (old new : ClientNow) (start now : X)
+    → IsReady old.kept old.store (state start) → (old.closed ≡ None) × (made ≡ Err refusal) × (new ≡ old) × (now ≡ start)
+    → IsTaken (settled old.kept made) old new (state start) (state now) (Ok (Refused refusal))
+refused_still state made refusal old new start now ready acts =
+    let same : IsTaken (step (Refused refusal) old.kept) old old (state start) (state start) (Ok (Refused refusal)) = (refl, still old (state start) acts.0 ready) in
+    let there : IsTaken (settled old.kept made) old old (state start) (state start) (Ok (Refused refusal)) =
+    subst (λ (m : Result (Step Client) Refusal). IsTaken (settled old.kept m) old old (state start) (state start) (Ok (Refused refusal))) (sym acts.1) same in
+    let then : IsTaken (settled old.kept made) old new (state start) (state start) (Ok (Refused refusal)) =
+    subst (λ (n : ClientNow). IsTaken (settled old.kept made) old n (state start) (state start) (Ok (Refused refusal))) (sym acts.2) there in
+    subst (λ x. IsTaken (settled old.kept made) old new (state start) (state x) (Ok (Refused refusal))) (sym acts.3) then

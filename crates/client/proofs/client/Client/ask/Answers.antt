@@ -1,0 +1,4 @@
+use Rattle.client.proofs.client.Client.ask.Goals as goal
+
+pub returns-clause-answers : goal.returns-clause-answers
+returns-clause-answers g c = c.heard.ensures c.args.request.now (g.L.Pipe.port c.args.link.now) (g.L.Pipe.port c.ask.new.pipe) c.ask.ensures.asks

@@ -1,0 +1,22 @@
+use Rattle.client.specs.Syncing.Moments.{moment}
+use Rattle.client.specs.Syncing.Parties.{party_of, waiting}
+use Rattle.client.specs.Syncing.SoFar.{SoFar, collecting}
+use Rattle.dr_ports.specs.declared.pipe.Part.TheVariants.{Flow, Gate}
+use Rattle.std.proofs.Common.{◌-◌, ◌≡◌, ◌≤◌}
+use Rattle.sync_model.specs.declared.limits.TheConstants.{ITEM_LIMIT}
+use Rattle.client.proofs.client.Client.collect_all.Given as goal
+
+abbrev pub invariant-items : goal.invariant-items
+invariant-items g l = record {
+  far : SoFar (party_of g.K.Kem.mechanism l.prefix l.names.own l.names.peers)
+      (moment l.fn.self (g.D.Disk.state l.fn.disk) (g.O.Sink.taken l.fn.out) (g.O.Sink.faults l.fn.out))
+      (moment l.self (g.D.Disk.state l.disk) (g.O.Sink.taken l.out) (g.O.Sink.faults l.out))
+      (g.L.Pipe.port l.fn.link) (g.L.Pipe.port l.link) (collecting (waiting l.self.kept) l.count);
+  within : l.count ≤ ITEM_LIMIT;
+  later : g.O.Sink.faults l.fn.out ≤ g.O.Sink.faults l.out;
+  flow : (g.L.Pipe.port l.fn.link).faults Flow ≤ (g.L.Pipe.port l.link).faults Flow;
+  gate : (g.L.Pipe.port l.link).faults Gate ≡ (g.L.Pipe.port l.fn.link).faults Gate;
+}
+
+abbrev pub decreases-items : goal.decreases-items
+decreases-items g l = ITEM_LIMIT - l.count

@@ -1,0 +1,15 @@
+use Rattle.std.proofs.Common.{rules, subst, sym}
+use Rattle.cka.specs.Agreement.{agreement_size}
+use Rattle.packet.specs.Packet.{IsLawful}
+use Rattle.session_model.specs.Clients.{Client}
+use Rattle.session_model.specs.LawfulStates.{IsLawfulState}
+use Rattle.client.proofs.LawfulTaking.{taken_lawful}
+use Rattle.client.proofs.client.Client.take_exact.Goals as goal
+
+pub receive-requires-clause-lawful : goal.receive-requires-clause-lawful
+receive-requires-clause-lawful g c = λ room.
+    let kept : Client = record { state = c.self.inside.session; inbox = c.self.inside.inbox; outbox = c.self.inside.outbox } in
+    let packet : IsLawful (agreement_size g.K.Kem.mechanism) c.in-Ok.view =
+    search rules in
+    taken_lawful g.K.Kem.mechanism kept c.in-Ok.view c.in-Ok-draft_receive.draft packet
+    c.self.invariant.lawful (subst (IsLawfulState g.K.Kem.mechanism) c.part.ensures c.lawful_part.ensures) room (sym c.in-Ok-draft_receive.ensures.exact)

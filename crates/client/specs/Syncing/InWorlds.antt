@@ -1,0 +1,61 @@
+-- A sync in a world that the client stands for.
+use Rattle.std.specs.Prelude.{Err, List, Ok, Result, [], ◌++◌, ◌∷◌, ◌≡◌, ℕ}
+use Rattle.dr_base.specs.declared.position.Side.{Side}
+use Rattle.dr_disk.specs.Spans.{Span}
+use Rattle.dr_disk.specs.State.{Always, DiskState}
+use Rattle.dr_model.specs.Machines.WorldSides.{kept_in}
+use Rattle.dr_model.specs.Machines.Worlds.{World}
+use Rattle.dr_model.specs.Theorems.Fairness.{IsUnforged}
+use Rattle.dr_model.specs.Theorems.LawfulWorlds.{IsLawfulWorld}
+use Rattle.kem_laws.specs.Mechanism.{Mechanism}
+use Rattle.relay_wire.specs.Replies.{Replied}
+use Rattle.session_model.specs.Clients.{Client}
+use Rattle.slot_store.specs.Store.{KeepsOutside}
+use Rattle.sync_model.specs.Courses.{Course, begun, course_of}
+use Rattle.sync_model.specs.Simulation.{AreFairFrom, IsSameCourse}
+use Rattle.sync_model.specs.declared.more.More.{More}
+use Rattle.client.specs.Clients.{client_area}
+use Rattle.client.specs.InWorlds.{IsIn, StandsFor}
+use Rattle.client.specs.declared.syncing.faults.SyncFault.{SyncFault}
+use Rattle.client.specs.declared.syncing.faults.SyncFault.TheVariants.{Store}
+use Rattle.client.specs.Syncing.Moments.{Moment}
+use Rattle.client.specs.Syncing.Parties.{client_party, world_party}
+
+-- what is kept is what a side keeps in a lawful world
+pub record IsKeptIn (k : Mechanism) (side : Side) (kept : Client) (w : World) : Type 0 where
+  pub lawful : IsLawfulWorld k w
+  pub keeps : kept ≡ kept_in k w side
+
+-- the course of a side of a world
+abbrev pub course_in : Mechanism → List ℕ → Side → World → List Replied → Course World
+course_in k prefix side w replies = course_of (world_party k prefix side w) w replies
+
+-- no packet that these replies bring is forged at its turn
+abbrev pub AreUnforged : Mechanism → List ℕ → Side → World → List Replied → Type 0
+AreUnforged k prefix side w replies =
+    AreFairFrom (world_party k prefix side w) (λ turn packet. IsUnforged k turn side packet) (begun (world_party k prefix side w) w) replies
+
+-- bytes that stand for the world that the course reaches behind a beginning of the replies, and are outside the client's area
+-- as they were
+pub record IsReachedIn (k : Mechanism) (prefix : List ℕ) (side : Side) (w : World) (replies : List Replied) (start : DiskState) (c : List ℕ)
+    : Type 0 where
+  pub front : List Replied
+  pub back : List Replied
+  pub split : replies ≡ front ++ back
+  pub stands : StandsFor k (course_in k prefix side w front).state side c
+  pub outside : KeepsOutside client_area start c
+
+-- The client is in the world that the course reaches, and each image stands for it; where a call on the disk failed, it is in
+-- the world before the last reply.
+abbrev pub LeadsTo : Mechanism → List ℕ → Side → World → List Replied → Moment → Result More SyncFault → Type 0
+LeadsTo k prefix side w replies b (Err (Store call)) =
+    (before : List Replied) × (last : Replied) × (replies ≡ before ++ last ∷ []) × IsIn k (course_in k prefix side w before).state side b.client
+LeadsTo k prefix side w replies b _ =
+    IsIn k (course_in k prefix side w replies).state side b.client × Always (StandsFor k (course_in k prefix side w replies).state side) b.disk
+
+-- The course is the client's: the same is asked, printed and waited for. Each crash meanwhile leaves a world of the course.
+pub record SyncsIn (k : Mechanism) (prefix : List ℕ) (side : Side) (w : World) (replies : List Replied) (a b : Moment)
+    (result : Result More SyncFault) : Type 0 where
+  pub same : IsSameCourse (IsKeptIn k side) (course_of (client_party k prefix a.client.kept) a.client.kept replies) (course_in k prefix side w replies)
+  pub leads : LeadsTo k prefix side w replies b result
+  pub passed : Span a.disk b.disk (IsReachedIn k prefix side w replies a.disk)

@@ -1,0 +1,77 @@
+-- What a sync finds and leaves, but for the link.
+use Rattle.std.specs.Prelude.{Bool, Err, List, None, Ok, Option, Result, Some, false, true, ℕ, ◌≡◌}
+use Rattle.dr_base.specs.Causes.{Rose}
+use Rattle.dr_disk.specs.Spans.{IsQuiet}
+use Rattle.dr_disk.specs.State.{DiskState}
+use Rattle.dr_disk.specs.declared.call.Call.{Call}
+use Rattle.dr_ports.specs.Ports.{appended}
+use Rattle.dr_ports.specs.Writing.{TookBeginning}
+use Rattle.dr_model.specs.Machines.Steps.{Step}
+use Rattle.session_model.specs.Clients.{Client}
+use Rattle.session_model.specs.declared.answer.Answer.{Answer}
+use Rattle.client.specs.Clients.{ClientNow, IsReady}
+use Rattle.client.specs.Outcomes.{IsReplacing}
+use Rattle.client.specs.declared.syncing.faults.SyncFault.{SyncFault}
+use Rattle.client.specs.declared.syncing.faults.SyncFault.TheVariants.{Refused, Write}
+use Rattle.client.specs.declared.syncing.faults.SyncRefusal.TheVariants.{InboxFull}
+
+-- at one moment: the client, its disk, and what the sink has taken, where it tells that, with its count of faults
+pub record Moment : Type 1 where
+  pub client : ClientNow
+  pub disk : DiskState
+  pub taken : Option (List ℕ)
+  pub faults : ℕ
+
+abbrev pub moment : ClientNow → DiskState → Option (List ℕ) → ℕ → Moment
+moment client disk taken faults = record { client = client; disk = disk; taken = taken; faults = faults }
+
+-- From one moment to another the client came to keep this, and its disk holds that at rest; meanwhile each crash left the
+-- record of before or this one. No call on the disk failed.
+pub record IsMoved (next : Client) (old new : ClientNow) (start now : DiskState) : Type 0 where
+  pub keeps : new.kept ≡ next
+  pub is_open : new.closed ≡ None
+  pub ready : IsReady new.kept new.store now
+  pub during : IsReplacing old.kept next start now
+  pub quiet : IsQuiet start now
+
+abbrev pub Moved : Client → Moment → Moment → Type 0
+Moved next a b = IsMoved next a.client b.client a.disk b.disk
+
+-- A call on the disk failed, of this kind, before it was known to hold this. The client is closed, and keeps what it kept.
+pub record IsBrokenOff (next : Client) (call : Call) (old new : ClientNow) (start now : DiskState) : Type 0 where
+  pub keeps : new.kept ≡ old.kept
+  pub closes : new.closed ≡ Some call
+  pub during : IsReplacing old.kept next start now
+  pub rose : Rose (start.faults call) (now.faults call)
+
+abbrev pub BrokenOff : Client → Call → Moment → Moment → Type 0
+BrokenOff next call a b = IsBrokenOff next call a.client b.client a.disk b.disk
+
+-- these bytes were written, and no write failed
+pub record Wrote (bytes : List ℕ) (a b : Moment) : Type 0 where
+  pub bytes_are : b.taken ≡ appended a.taken bytes
+  pub unfailing : b.faults ≡ a.faults
+
+-- a write failed: a beginning of them was written
+pub record WroteBeginning (bytes : List ℕ) (a b : Moment) : Type 0 where
+  pub beginning : TookBeginning a.taken b.taken bytes
+  pub rose : Rose a.faults b.faults
+
+-- ---- a step
+
+-- the step was made, with its answer; or a call on the disk failed in it, of this kind
+abbrev pub IsTaken : Step Client → ClientNow → ClientNow → DiskState → DiskState → Result Answer Call → Type 0
+IsTaken made old new start now (Ok answer) = (answer ≡ made.answer) × IsMoved made.next old new start now
+IsTaken made old new start now (Err call) = IsBrokenOff made.next call old new start now
+
+abbrev pub HasGone : Step Client → ClientNow → ClientNow → DiskState → DiskState → Result Unit Call → Type 0
+HasGone made old new start now (Ok u) = IsMoved made.next old new start now
+HasGone made old new start now (Err call) = IsBrokenOff made.next call old new start now
+
+-- ---- a line
+
+-- the answer to a packet was written, where there was room for its text
+pub data IsAnswered (line : List ℕ) (full : Bool) (old new : Option (List ℕ)) (before now : ℕ) : Result Unit SyncFault → Type 0 where
+  was_written : (u : Unit {0}) → full ≡ false → new ≡ appended old line → now ≡ before → IsAnswered line full old new before now (Ok u)
+  was_cut : full ≡ false → TookBeginning old new line → Rose before now → IsAnswered line full old new before now (Err Write)
+  had_no_room : full ≡ true → new ≡ old → now ≡ before → IsAnswered line full old new before now (Err (Refused InboxFull))

@@ -1,0 +1,72 @@
+-- A client as a party of a sync, and a side of a world as one.
+use Rattle.std.specs.Prelude.{Bool, List, false, map, true, ℕ}
+use Rattle.boxes.specs.Items.{Item}
+use Rattle.dr_base.specs.declared.position.Side.{Side}
+use Rattle.dr_model.specs.Machines.Acts.{act_in, act_on, sending, taking}
+use Rattle.dr_model.specs.Machines.Steps.{Step, settled}
+use Rattle.dr_model.specs.Machines.WorldSides.{kept_in}
+use Rattle.dr_model.specs.Machines.Worlds.{World}
+use Rattle.kem_laws.specs.Mechanism.{Mechanism}
+use Rattle.session_model.specs.Clients.{Client}
+use Rattle.session_model.specs.declared.answer.Answer.{Answer}
+use Rattle.session_model.specs.declared.answer.Answer.TheVariants.{Refused}
+use Rattle.session_model.specs.declared.answer.Refusal.{Refusal}
+use Rattle.session_model.specs.declared.answer.Refusal.TheVariants.{InboxFull}
+use Rattle.sync_model.specs.Parties.{Party, Took}
+use Rattle.client.specs.Syncing.Lines.{answer_line, end_line, own_box, peers_box, stored_line}
+
+-- there is no room for the text of a packet
+abbrev pub is_no_room : Refusal → Bool
+is_no_room InboxFull = true
+is_no_room _ = false
+
+abbrev pub is_full : Answer → Bool
+is_full (Refused refusal) = is_no_room refusal
+is_full _ = false
+
+-- a packet was taken, with this answer; a refusal has left all as it was
+abbrev pub took_by : {S : Type 0} → List ℕ → Step S → Took S
+took_by prefix made = record { line = answer_line prefix made.answer; full = is_full made.answer; next = made.next }
+
+-- the packets that wait in an outbox, the oldest first
+abbrev pub waiting : Client → List (List ℕ)
+waiting kept = map (λ (item : Item). item.bytes) kept.outbox
+
+-- ---- on what the client keeps
+
+-- it takes a packet
+abbrev pub taken_step : Mechanism → Client → List ℕ → Step Client
+taken_step k kept packet = settled kept (act_on k kept (taking packet))
+
+-- the oldest packet of the outbox has gone
+abbrev pub sent_step : Mechanism → Client → Step Client
+sent_step k kept = settled kept (act_on k kept (sending 1))
+
+-- with the names of two boxes
+abbrev pub party_of : Mechanism → List ℕ → List ℕ → List ℕ → Party Client
+party_of k prefix own peers = record {
+  own = own;
+  peers = peers;
+  take = λ kept packet. took_by prefix (taken_step k kept packet);
+  outbox = waiting;
+  sent = λ kept. (sent_step k kept).next;
+  stored_line = stored_line prefix;
+  end_line = end_line prefix;
+}
+
+-- a client with its own box and its peer's
+abbrev pub client_party : Mechanism → List ℕ → Client → Party Client
+client_party k prefix first = party_of k prefix (own_box first) (peers_box first)
+
+-- ---- in a world
+
+abbrev pub world_party : Mechanism → List ℕ → Side → World → Party World
+world_party k prefix side first = record {
+  own = own_box (kept_in k first side);
+  peers = peers_box (kept_in k first side);
+  take = λ w packet. took_by prefix (act_in k w side (taking packet));
+  outbox = λ w. waiting (kept_in k w side);
+  sent = λ w. (act_in k w side (sending 1)).next;
+  stored_line = stored_line prefix;
+  end_line = end_line prefix;
+}

@@ -1,0 +1,115 @@
+-- What a sync does, by how it ends.
+use Rattle.std.specs.Prelude.{Err, List, Ok, Result, Some, [], drop, length, ◌++◌, ◌∷◌, ◌≡◌, ◌⊎◌, ℕ}
+use Rattle.std.specs.List.{AllByRecursion}
+use Rattle.dr_base.specs.Causes.{Rose}
+use Rattle.dr_disk.specs.declared.call.Call.{Call}
+use Rattle.dr_ports.specs.Wires.{EndsAt, Port}
+use Rattle.dr_ports.specs.declared.pipe.Part.TheVariants.{Flow}
+use Rattle.relay_pipe.specs.Asking.{fault_at, peer_fault, request_frame}
+use Rattle.relay_pipe.specs.Exchanging.{Exchanges}
+use Rattle.relay_pipe.specs.declared.faults.PeerFault.{PeerFault}
+use Rattle.relay_pipe.specs.declared.faults.PeerKind.{PeerKind}
+use Rattle.relay_pipe.specs.declared.faults.PeerKind.TheVariants.{Ended}
+use Rattle.relay_wire.specs.Frames.{IsFrame, IsPartial}
+use Rattle.relay_wire.specs.Replies.{IsLawfulReplied, Replied, read_reply}
+use Rattle.relay_wire.specs.Requests.{Asked}
+use Rattle.relay_wire.specs.declared.reply.BadReply.{BadReply}
+use Rattle.session_model.specs.Clients.{Client}
+use Rattle.sync_model.specs.Carried.{replied_bytes, request_bytes}
+use Rattle.sync_model.specs.Courses.{Course, all_lines, course_of, made_requests}
+use Rattle.sync_model.specs.Moves.{Ending, asked_in, ended, over, waits_by}
+use Rattle.sync_model.specs.Parties.{Party}
+use Rattle.sync_model.specs.declared.more.More.{More}
+use Rattle.client.specs.declared.syncing.faults.SyncFault.{SyncFault}
+use Rattle.client.specs.declared.syncing.faults.SyncFault.TheVariants.{Closed, Link, Peer, Refused, Store, Write}
+use Rattle.client.specs.Syncing.Moments.{Moment, Wrote, WroteBeginning}
+use Rattle.client.specs.Syncing.Rounds.{fault_in}
+use Rattle.client.specs.Syncing.SoFar.{Passed, SoFar, Stands, Talked}
+
+-- ---- on the link, where the last request has no reply
+
+-- the call that failed took a beginning of the request, and less than a frame came
+pub record IsCutOff (p : Party Client) (first : Client) (replies : List Replied) (start now : Port) : Type 0 where
+  pub asked : Asked
+  pub waits : asked_in p (course_of p first replies).state (course_of p first replies).wait ≡ Some asked
+  pub put : List ℕ
+  pub left : List ℕ
+  pub rest : List ℕ
+  pub split : request_frame asked ≡ put ++ left
+  pub told : Exchanges (replied_bytes replies ++ rest) (request_bytes (course_of p first replies).requests ++ put) start now
+  pub partial : IsPartial rest
+  pub rose : Rose (start.faults Flow) (now.faults Flow)
+
+-- what came in place of a reply: a whole frame that is none, or, where the link ended, less than a frame
+pub data IsNoReply (now : Port) (rest : List ℕ) : PeerFault → Type 0 where
+  is_unread : (bad : BadReply) → IsFrame rest → read_reply (drop 2 rest) ≡ Err bad → IsNoReply now rest (peer_fault bad)
+  is_cut : IsPartial rest → EndsAt now → IsNoReply now rest (fault_at (length rest) Ended)
+
+pub record IsUnheard (p : Party Client) (first : Client) (replies : List Replied) (start now : Port) (fault : PeerFault) : Type 0 where
+  pub asked : Asked
+  pub waits : asked_in p (course_of p first replies).state (course_of p first replies).wait ≡ Some asked
+  pub rest : List ℕ
+  pub told : Exchanges (replied_bytes replies ++ rest) (request_bytes (made_requests p (course_of p first replies))) start now
+  pub came : IsNoReply now rest fault
+  pub quiet : now.faults Flow ≡ start.faults Flow
+
+-- ---- how it ends
+
+-- the course has this end
+pub record IsOver (p : Party Client) (replies : List Replied) (ending : Ending) (a b : Moment) (start now : Port) : Type 0 where
+  pub is_over : (course_of p a.client.kept replies).wait ≡ over ending
+  pub stands : Stands p replies a b
+  pub talked : Talked p a.client.kept replies start now
+  pub wrote : Wrote (all_lines p (course_of p a.client.kept replies)) a b
+
+-- a write failed
+pub record IsUnwritten (p : Party Client) (replies : List Replied) (a b : Moment) (start now : Port) : Type 0 where
+  pub stands : Stands p replies a b
+  pub talked : Talked p a.client.kept replies start now
+  pub wrote : WroteBeginning (all_lines p (course_of p a.client.kept replies)) a b
+
+-- a call on the disk failed, of this kind, in the step that the last reply asks for
+pub record IsUnstored (p : Party Client) (replies : List Replied) (call : Call) (a b : Moment) (start now : Port) : Type 0 where
+  pub before : List Replied
+  pub last : Replied
+  pub split : replies ≡ before ++ last ∷ []
+  pub keeps : b.client.kept ≡ (course_of p a.client.kept before).state
+  pub closes : b.client.closed ≡ Some call
+  pub rose : Rose (a.disk.faults call) (b.disk.faults call)
+  pub talked : Talked p a.client.kept replies start now
+  pub wrote : Wrote (course_of p a.client.kept before).lines a b
+
+abbrev pub Ends : Party Client → List Replied → Moment → Moment → Port → Port → Result More SyncFault → Type 0
+Ends p replies a b start now (Ok more) = IsOver p replies (ended more) a b start now
+Ends p replies a b start now (Err (Refused refusal)) =
+    (ending : Ending) × (fault_in ending ≡ Some (Refused refusal)) × IsOver p replies ending a b start now
+Ends p replies a b start now (Err (Peer at kind)) =
+    ((ending : Ending) × (fault_in ending ≡ Some (Peer at kind)) × IsOver p replies ending a b start now)
+    ⊎ (Stands p replies a b × IsUnheard p a.client.kept replies start now (fault_at at kind)
+    × Wrote (course_of p a.client.kept replies).lines a b)
+Ends p replies a b start now (Err Link) =
+    Stands p replies a b × IsCutOff p a.client.kept replies start now × Wrote (course_of p a.client.kept replies).lines a b
+Ends p replies a b start now (Err Write) = IsUnwritten p replies a b start now
+Ends p replies a b start now (Err (Store call)) = IsUnstored p replies call a b start now
+Ends p replies a b start now (Err (Closed call)) = ⊥
+
+-- An open client syncs, by these replies: how it ends, and what each crash meanwhile leaves.
+pub record SyncsBy (p : Party Client) (replies : List Replied) (a b : Moment) (start now : Port) (result : Result More SyncFault) : Type 0 where
+  pub lawful : AllByRecursion IsLawfulReplied replies
+  pub passed : Passed p replies a b
+  pub ends : Ends p replies a b start now result
+
+-- by the replies that were read
+pub record Syncs (p : Party Client) (a b : Moment) (start now : Port) (result : Result More SyncFault) : Type 0 where
+  pub replies : List Replied
+  pub syncs : SyncsBy p replies a b start now result
+
+-- ---- its two parts
+
+abbrev pub Collects : Party Client → Moment → Moment → Port → Port → Result More SyncFault → Type 0
+Collects p a b start now (Ok more) = SoFar p a b start now (waits_by (p.outbox b.client.kept) more)
+Collects p a b start now (Err fault) = Syncs p a b start now (Err fault)
+
+abbrev pub Posts : Party Client → More → Moment → Moment → Port → Port → Result Unit SyncFault → Type 0
+Posts p which a b start now (Ok u) = SoFar p a b start now (over (ended which))
+Posts p which a b start now (Err fault) = Syncs p a b start now (Err fault)

@@ -1,0 +1,13 @@
+//! A sync of a client with a relay.
+
+pub use faults::{SyncFault, SyncRefusal};
+
+mod collecting;
+mod faults;
+mod lines;
+mod naming;
+mod posting;
+mod steps;
+mod sync;
+#[cfg(test)]
+mod tests;

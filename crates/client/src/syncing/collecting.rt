@@ -1,0 +1,209 @@
+//! The first part of a sync: the packets of the own box are taken.
+
+ghost use Rattle.std.specs.Prelude.{◌≡◌, ◌≤◌, None, ℕ, List};
+ghost use Rattle.dr_ports.specs.declared.pipe.Part.TheVariants.{Flow, Gate};
+ghost use Rattle.relay_wire.specs.Replies.{item};
+ghost use Rattle.relay_wire.specs.Requests.{acks, fetches};
+ghost use Rattle.relay_wire.specs.Seen.{replied_of};
+ghost use Rattle.session_model.specs.Clients.{Client as Kept};
+ghost use Rattle.sync_model.specs.Moves.{acking, acknowledged, fetching, move};
+ghost use Rattle.sync_model.specs.Parties.{Party};
+ghost use Rattle.client.specs.Clients.{IsReady};
+ghost use Rattle.client.specs.Syncing.Moments.{IsAnswered, moment};
+ghost use Rattle.client.specs.Syncing.Parties.{is_full, is_no_room, party_of, waiting};
+ghost use Rattle.client.specs.Syncing.Rounds.{Hears, Idles, IsRound, Turns, fetched_as, turn_of};
+ghost use Rattle.client.specs.Syncing.Lines.{answer_line};
+ghost use Rattle.client.specs.Syncing.Syncs.{Collects};
+
+use super::faults::{SyncFault, SyncRefusal, WRONG};
+use super::lines::write_answer;
+use super::naming::Names;
+use crate::client::Client;
+use dr_disk::Disk;
+use dr_ports::{Failed, Pipe, Sink};
+use kem_laws::Kem;
+use relay_wire::{Packet, Reply, Request};
+use session_model::{Answer, Refusal};
+use sync_model::{ITEM_LIMIT, More};
+
+/// What an acknowledgement is answered with. That the packet is absent counts as that it was dropped.
+fn acknowledged(reply: Reply, number: u64) -> Result<(), SyncFault>
+    ensures { (p : Party Kept) (kept : Kept) (n : ℕ) → Idles p kept (move p kept (acking n number) (replied_of reply))
+        (turn_of (acknowledged p kept n).wait result) }
+{
+    match reply {
+        Reply::Acked => Ok(()),
+        Reply::Absent(other) => { if other == number { Ok(()) } else { Err(WRONG) } }
+        Reply::Unknown => Err(SyncFault::Refused(SyncRefusal::Unknown)),
+        _ => Err(WRONG),
+    }
+}
+
+/// Whether a refusal says that the inbox is full.
+fn is_no_room(refusal: Refusal) -> bool
+    ensures { result ≡ is_no_room refusal }
+{
+    match refusal {
+        Refusal::InboxFull => true,
+        _ => false,
+    }
+}
+
+/// Whether there was no room for the text of a packet.
+fn is_full(answer: Answer) -> bool
+    ensures { result ≡ is_full answer }
+{
+    match answer {
+        Answer::Refused(refusal) => is_no_room(refusal),
+        _ => false,
+    }
+}
+
+/// Writes the answer to a packet, if there was room for its text.
+fn answered<O: Sink>(out: &mut O, prefix: &str, answer: Answer) -> Result<(), SyncFault>
+    ensures answers { IsAnswered (answer_line prefix.now answer) (is_full answer) (O.taken out.old) (O.taken out.new)
+        (O.faults out.old) (O.faults out.new) result }
+    ensures later { O.faults out.old ≤ O.faults out.new }
+{
+    if is_full(answer) {
+        return Err(SyncFault::Refused(SyncRefusal::InboxFull));
+    }
+    match write_answer(out, prefix, answer) {
+        Err(Failed) => Err(SyncFault::Write),
+        Ok(()) => Ok(()),
+    }
+}
+
+impl<K: Kem> Client<K> {
+    /// Takes a packet that came under a number.
+    fn collect<D: Disk, O: Sink>(
+        &mut self,
+        disk: &mut D,
+        out: &mut O,
+        prefix: &str,
+        number: u64,
+        packet: &Packet,
+    ) -> Result<Option<u64>, SyncFault>
+        requires is_open { self.old.closed ≡ None }
+        requires ready { IsReady self.old.kept self.old.store (D.state disk.old) }
+        ensures turns { (own peers : List ℕ) (n : ℕ) →
+            Turns (move (party_of K.mechanism prefix.now own peers) self.old.kept (fetching n) (item number packet.now))
+            (moment self.old (D.state disk.old) (O.taken out.old) (O.faults out.old))
+            (moment self.new (D.state disk.new) (O.taken out.new) (O.faults out.new))
+            (fetched_as (waiting self.new.kept) n result) }
+        ensures later { O.faults out.old ≤ O.faults out.new }
+    {
+        match self.take_packet(disk, packet.bytes()) {
+            Err(call) => Err(SyncFault::Store { call }),
+            Ok(answer) => match answered(out, prefix, answer) {
+                Err(fault) => Err(fault),
+                Ok(()) => Ok(Some(number)),
+            },
+        }
+    }
+
+    /// What a fetch is answered with.
+    fn fetched<D: Disk, O: Sink>(
+        &mut self,
+        disk: &mut D,
+        out: &mut O,
+        prefix: &str,
+        reply: Reply,
+    ) -> Result<Option<u64>, SyncFault>
+        requires is_open { self.old.closed ≡ None }
+        requires ready { IsReady self.old.kept self.old.store (D.state disk.old) }
+        ensures turns { (own peers : List ℕ) (n : ℕ) →
+            Turns (move (party_of K.mechanism prefix.now own peers) self.old.kept (fetching n) (replied_of reply))
+            (moment self.old (D.state disk.old) (O.taken out.old) (O.faults out.old))
+            (moment self.new (D.state disk.new) (O.taken out.new) (O.faults out.new))
+            (fetched_as (waiting self.new.kept) n result) }
+        ensures later { O.faults out.old ≤ O.faults out.new }
+    {
+        match reply {
+            Reply::Empty => Ok(None),
+            Reply::Item(number, packet) => self.collect(disk, out, prefix, number, &packet),
+            Reply::Unknown => Err(SyncFault::Refused(SyncRefusal::Unknown)),
+            _ => Err(WRONG),
+        }
+    }
+
+    /// Fetches the oldest packet of the own box and takes it: its number, or nothing where the box is empty.
+    fn fetch<D: Disk, L: Pipe, O: Sink>(
+        &mut self,
+        disk: &mut D,
+        link: &mut L,
+        out: &mut O,
+        prefix: &str,
+        names: &Names,
+    ) -> Result<Option<u64>, SyncFault>
+        requires is_open { self.old.closed ≡ None }
+        requires ready { IsReady self.old.kept self.old.store (D.state disk.old) }
+        ensures round { (n : ℕ) → IsRound (party_of K.mechanism prefix.now names.now.own names.now.peers)
+            (fetching n) (record { name = names.now.own; ask = fetches })
+            (moment self.old (D.state disk.old) (O.taken out.old) (O.faults out.old))
+            (moment self.new (D.state disk.new) (O.taken out.new) (O.faults out.new))
+            (L.port link.old) (L.port link.new) (fetched_as (waiting self.new.kept) n result) }
+        ensures later { O.faults out.old ≤ O.faults out.new }
+        ensures flow { (L.port link.old).faults Flow ≤ (L.port link.new).faults Flow }
+        ensures gate { (L.port link.new).faults Gate ≡ (L.port link.old).faults Gate }
+    {
+        match self.ask(link, &Request::fetch(names.own.copied())) {
+            Err(fault) => Err(fault),
+            Ok(reply) => self.fetched(disk, out, prefix, reply),
+        }
+    }
+
+    /// Acknowledges a packet that was taken.
+    fn acknowledge<L: Pipe>(
+        &mut self,
+        link: &mut L,
+        names: &Names,
+        number: u64,
+    ) -> Result<(), SyncFault>
+        ensures round { (p : Party Kept) (kept : Kept) (n : ℕ) →
+            Hears (record { name = names.now.own; ask = acks number }) (L.port link.old) (L.port link.new)
+            (λ reply turn. Idles p kept (move p kept (acking n number) reply) turn) (Unit {0})
+            (turn_of (acknowledged p kept n).wait result) }
+        ensures same { self.new ≡ self.old }
+        ensures flow { (L.port link.old).faults Flow ≤ (L.port link.new).faults Flow }
+        ensures gate { (L.port link.new).faults Gate ≡ (L.port link.old).faults Gate }
+    {
+        match self.ask(link, &Request::ack(names.own.copied(), number)) {
+            Err(fault) => Err(fault),
+            Ok(reply) => acknowledged(reply, number),
+        }
+    }
+
+    /// Takes the packets of the own box, as many as one sync acknowledges.
+    pub(crate) fn collect_all<D: Disk, L: Pipe, O: Sink>(
+        &mut self,
+        disk: &mut D,
+        link: &mut L,
+        out: &mut O,
+        prefix: &str,
+        names: &Names,
+    ) -> Result<More, SyncFault>
+        requires is_open { self.old.closed ≡ None }
+        requires ready { IsReady self.old.kept self.old.store (D.state disk.old) }
+        ensures collects { Collects (party_of K.mechanism prefix.now names.now.own names.now.peers)
+            (moment self.old (D.state disk.old) (O.taken out.old) (O.faults out.old))
+            (moment self.new (D.state disk.new) (O.taken out.new) (O.faults out.new))
+            (L.port link.old) (L.port link.new) result }
+        ensures later { O.faults out.old ≤ O.faults out.new }
+        ensures flow { (L.port link.old).faults Flow ≤ (L.port link.new).faults Flow }
+        ensures gate { (L.port link.new).faults Gate ≡ (L.port link.old).faults Gate }
+    {
+        let mut count = 0;
+        'items: while count < ITEM_LIMIT {
+            match self.fetch(disk, link, out, prefix, names) {
+                Err(fault) => return Err(fault),
+                Ok(None) => return Ok(More::End),
+                Ok(Some(number)) => match self.acknowledge(link, names, number) {
+                    Err(fault) => return Err(fault),
+                    Ok(()) => count += 1,
+                },
+            }
+        }
+        Ok(More::More)
+    }
+}

@@ -1,0 +1,55 @@
+//! The lines of a sync.
+
+ghost use Rattle.std.specs.Prelude.{◌≡◌, ◌++◌};
+ghost use Rattle.dr_ports.specs.Writing.{Writes};
+ghost use Rattle.client.specs.Syncing.Lines.{answer_line, end_line, stored_line};
+
+use answer_lines::{put_answer, put_named};
+use dr_ports::{Failed, OutputLine, Sink, write_all};
+use session_model::Answer;
+use sync_model::More;
+
+/// Writes a line behind a prefix.
+fn write_line<O: Sink>(out: &mut O, prefix: &str, line: &OutputLine) -> Result<(), Failed>
+    ensures { Writes (O.taken out.old) (O.taken out.new) (O.faults out.old) (O.faults out.new) (prefix.now ++ line.now) result }
+{
+    match write_all(out, prefix.as_bytes()) {
+        Err(Failed) => Err(Failed),
+        Ok(()) => write_all(out, line.as_bytes()),
+    }
+}
+
+/// Writes the answer to a packet.
+#[tactic(auto, unfolding(crate::specs::Syncing::Lines::answer_line))]
+pub(crate) fn write_answer<O: Sink>(out: &mut O, prefix: &str, answer: Answer) -> Result<(), Failed>
+    ensures { Writes (O.taken out.old) (O.taken out.new) (O.faults out.old) (O.faults out.new) (answer_line prefix.now answer) result }
+{
+    let mut line = OutputLine::new();
+    put_answer(&mut line, answer);
+    line.text(b"\n");
+    write_line(out, prefix, &line)
+}
+
+/// Writes that the relay keeps a packet.
+#[tactic(auto, unfolding(crate::specs::Syncing::Lines::stored_line))]
+pub(crate) fn write_stored<O: Sink>(out: &mut O, prefix: &str, number: u64) -> Result<(), Failed>
+    ensures { Writes (O.taken out.old) (O.taken out.new) (O.faults out.old) (O.faults out.new) (stored_line prefix.now number) result }
+{
+    let mut line = OutputLine::new();
+    put_named(&mut line, b"stored ", number);
+    line.text(b"\n");
+    write_line(out, prefix, &line)
+}
+
+/// Writes the last line.
+#[tactic(auto, unfolding(crate::specs::Syncing::Lines::end_line))]
+pub(crate) fn write_end<O: Sink>(out: &mut O, prefix: &str, more: More) -> Result<(), Failed>
+    ensures { Writes (O.taken out.old) (O.taken out.new) (O.faults out.old) (O.faults out.new) (end_line prefix.now more) result }
+{
+    let mut line = OutputLine::new();
+    match more {
+        More::More => line.text(b"more\n"),
+        More::End => line.text(b"end\n"),
+    }
+    write_line(out, prefix, &line)
+}

@@ -1,0 +1,144 @@
+//! The second part of a sync: the packets of the outbox are posted to the peer's box.
+
+ghost use Rattle.std.specs.Prelude.{◌≡◌, ◌<◌, ◌≤◌, None, OnOk, Some, length, slice_get, ℕ, List};
+ghost use Rattle.dr_ports.specs.declared.pipe.Part.TheVariants.{Flow, Gate};
+ghost use Rattle.relay_wire.specs.Replies.{stored};
+ghost use Rattle.relay_wire.specs.Requests.{posts};
+ghost use Rattle.relay_wire.specs.Seen.{replied_of};
+ghost use Rattle.sync_model.specs.Moves.{move, posting, waits_by};
+ghost use Rattle.sync_model.specs.declared.more.More.{More};
+ghost use Rattle.client.specs.Clients.{ClientNow, IsReady};
+ghost use Rattle.client.specs.Syncing.Moments.{moment};
+ghost use Rattle.client.specs.Syncing.Parties.{party_of, waiting};
+ghost use Rattle.client.specs.Syncing.Rounds.{IsRound, Turns, turn_of};
+ghost use Rattle.client.specs.Syncing.SoFar.{SoFar};
+ghost use Rattle.client.specs.Syncing.Syncs.{Posts};
+
+use super::faults::{SyncFault, SyncRefusal, WRONG};
+use super::lines::write_stored;
+use super::naming::Names;
+use crate::client::Client;
+use dr_disk::Disk;
+use dr_ports::{Failed, Pipe, Sink};
+use kem_laws::Kem;
+use relay_wire::{Packet, Reply, Request};
+
+impl<K: Kem> Client<K> {
+    /// Drops the oldest packet, which the relay keeps under a number.
+    fn delivered<D: Disk, O: Sink>(
+        &mut self,
+        disk: &mut D,
+        out: &mut O,
+        prefix: &str,
+        number: u64,
+    ) -> Result<(), SyncFault>
+        requires some { 0 < length self.old.kept.outbox }
+        requires is_open { self.old.closed ≡ None }
+        requires ready { IsReady self.old.kept self.old.store (D.state disk.old) }
+        ensures turns { (own peers : List ℕ) (more : More) →
+            Turns (move (party_of K.mechanism prefix.now own peers) self.old.kept (posting more) (stored number))
+            (moment self.old (D.state disk.old) (O.taken out.old) (O.faults out.old))
+            (moment self.new (D.state disk.new) (O.taken out.new) (O.faults out.new))
+            (turn_of (waits_by (waiting self.new.kept) more) result) }
+        ensures fewer { OnOk result (length self.new.kept.outbox < length self.old.kept.outbox) }
+        ensures later { O.faults out.old ≤ O.faults out.new }
+    {
+        match self.drop_oldest(disk) {
+            Err(call) => Err(SyncFault::Store { call }),
+            Ok(()) => match write_stored(out, prefix, number) {
+                Err(Failed) => Err(SyncFault::Write),
+                Ok(()) => Ok(()),
+            },
+        }
+    }
+
+    /// What a post is answered with.
+    fn posted<D: Disk, O: Sink>(
+        &mut self,
+        disk: &mut D,
+        out: &mut O,
+        prefix: &str,
+        reply: Reply,
+    ) -> Result<(), SyncFault>
+        requires some { 0 < length self.old.kept.outbox }
+        requires is_open { self.old.closed ≡ None }
+        requires ready { IsReady self.old.kept self.old.store (D.state disk.old) }
+        ensures turns { (own peers : List ℕ) (more : More) →
+            Turns (move (party_of K.mechanism prefix.now own peers) self.old.kept (posting more) (replied_of reply))
+            (moment self.old (D.state disk.old) (O.taken out.old) (O.faults out.old))
+            (moment self.new (D.state disk.new) (O.taken out.new) (O.faults out.new))
+            (turn_of (waits_by (waiting self.new.kept) more) result) }
+        ensures fewer { OnOk result (length self.new.kept.outbox < length self.old.kept.outbox) }
+        ensures later { O.faults out.old ≤ O.faults out.new }
+    {
+        match reply {
+            Reply::Stored(number) => self.delivered(disk, out, prefix, number),
+            Reply::BoxFull => Err(SyncFault::Refused(SyncRefusal::BoxFull)),
+            Reply::Unknown => Err(SyncFault::Refused(SyncRefusal::Unknown)),
+            _ => Err(WRONG),
+        }
+    }
+
+    /// Posts the oldest packet to the peer's box, and drops it once the relay keeps it.
+    fn post<D: Disk, L: Pipe, O: Sink>(
+        &mut self,
+        disk: &mut D,
+        link: &mut L,
+        out: &mut O,
+        prefix: &str,
+        names: &Names,
+        packet: Packet,
+    ) -> Result<(), SyncFault>
+        requires some { 0 < length self.old.kept.outbox }
+        requires is_open { self.old.closed ≡ None }
+        requires ready { IsReady self.old.kept self.old.store (D.state disk.old) }
+        ensures round { (more : More) → IsRound (party_of K.mechanism prefix.now names.now.own names.now.peers)
+            (posting more) (record { name = names.now.peers; ask = posts packet })
+            (moment self.old (D.state disk.old) (O.taken out.old) (O.faults out.old))
+            (moment self.new (D.state disk.new) (O.taken out.new) (O.faults out.new))
+            (L.port link.old) (L.port link.new) (turn_of (waits_by (waiting self.new.kept) more) result) }
+        ensures fewer { OnOk result (length self.new.kept.outbox < length self.old.kept.outbox) }
+        ensures later { O.faults out.old ≤ O.faults out.new }
+        ensures flow { (L.port link.old).faults Flow ≤ (L.port link.new).faults Flow }
+        ensures gate { (L.port link.new).faults Gate ≡ (L.port link.old).faults Gate }
+    {
+        match self.ask(link, &Request::post(names.peers.copied(), packet)) {
+            Err(fault) => Err(fault),
+            Ok(reply) => self.posted(disk, out, prefix, reply),
+        }
+    }
+
+    /// Posts all packets of the outbox, the oldest first.
+    pub(crate) fn post_all<D: Disk, L: Pipe, O: Sink>(
+        &mut self,
+        disk: &mut D,
+        link: &mut L,
+        out: &mut O,
+        prefix: &str,
+        names: &Names,
+    ) -> Result<(), SyncFault>
+        requires is_open { self.old.closed ≡ None }
+        requires ready { IsReady self.old.kept self.old.store (D.state disk.old) }
+        // From a sync so far, which began at an earlier moment.
+        ensures posts { (more : More) (first : ClientNow) (before : D) (earlier : L) (empty : O) →
+            SoFar (party_of K.mechanism prefix.now names.now.own names.now.peers)
+            (moment first (D.state before) (O.taken empty) (O.faults empty))
+            (moment self.old (D.state disk.old) (O.taken out.old) (O.faults out.old))
+            (L.port earlier) (L.port link.old) (waits_by (waiting self.old.kept) more)
+            → Posts (party_of K.mechanism prefix.now names.now.own names.now.peers) more
+            (moment first (D.state before) (O.taken empty) (O.faults empty))
+            (moment self.new (D.state disk.new) (O.taken out.new) (O.faults out.new))
+            (L.port earlier) (L.port link.new) result }
+        ensures later { O.faults out.old ≤ O.faults out.new }
+        ensures flow { (L.port link.old).faults Flow ≤ (L.port link.new).faults Flow }
+        ensures gate { (L.port link.new).faults Gate ≡ (L.port link.old).faults Gate }
+    {
+        'packets: while let Some(packet) = self.oldest() {
+            match self.post(disk, link, out, prefix, names, packet) {
+                Err(fault) => return Err(fault),
+                Ok(()) => {}
+            }
+        }
+        Ok(())
+    }
+}

@@ -1,0 +1,100 @@
+//! A whole sync.
+
+ghost use Rattle.std.specs.Prelude.{◌≡◌, ◌≤◌, List, None, Some, Err};
+ghost use Rattle.dr_base.specs.declared.position.Side.{Side};
+ghost use Rattle.dr_disk.specs.declared.call.Call.{Call};
+ghost use Rattle.dr_model.specs.Machines.Worlds.{World};
+ghost use Rattle.dr_ports.specs.declared.pipe.Part.TheVariants.{Flow, Gate};
+ghost use Rattle.relay_wire.specs.Replies.{Replied};
+ghost use Rattle.client.specs.Clients.{IsReady};
+ghost use Rattle.client.specs.InWorlds.{IsIn};
+ghost use Rattle.client.specs.Syncing.InWorlds.{AreUnforged, SyncsIn};
+ghost use Rattle.client.specs.Syncing.Moments.{moment};
+ghost use Rattle.client.specs.Syncing.Parties.{client_party, party_of};
+ghost use Rattle.client.specs.Syncing.Syncs.{Syncs, SyncsBy};
+
+use super::faults::SyncFault;
+use super::lines::write_end;
+use super::naming::Names;
+use crate::client::Client;
+use crate::laws::grounds;
+use dr_disk::Disk;
+use dr_ports::{Failed, Pipe, Sink};
+use kem_laws::Kem;
+use sync_model::More;
+
+impl<K: Kem> Client<K> {
+    /// Syncs with a relay: takes the packets of its own box there, each of which is acknowledged, and then posts those of its
+    /// outbox to the peer's box. Each line stands behind the prefix. It is a course of `sync_model`: of the replies that were
+    /// read. `Closed` exactly where a call on the disk failed before. `Refused` where the inbox has no room, the peer's box is
+    /// full or the relay has no such box; `Peer` where the relay sent something else than a reply to the request. `Link`, `Store`
+    /// and `Write` only where a call on the link, the disk or the sink failed; behind `Store` the client is closed. What was done
+    /// before stands.
+    pub fn sync<D: Disk, L: Pipe, O: Sink>(
+        &mut self,
+        disk: &mut D,
+        link: &mut L,
+        out: &mut O,
+        prefix: &str,
+    ) -> Result<More, SyncFault>
+        requires { self.old.closed ≡ None → IsReady self.old.kept self.old.store (D.state disk.old) }
+        // Closed exactly where a call on the disk failed before; then nothing is done.
+        ensures closed { (call : Call) → self.old.closed ≡ Some call → (result ≡ Err (SyncFault.Closed call))
+            × (self.new ≡ self.old) × (disk.new ≡ disk.old) × (link.new ≡ link.old) × (out.new ≡ out.old) }
+        // Else exactly this, by how it ends.
+        ensures exact { self.old.closed ≡ None → Syncs (client_party K.mechanism prefix.now self.old.kept)
+            (moment self.old (D.state disk.old) (O.taken out.old) (O.faults out.old))
+            (moment self.new (D.state disk.new) (O.taken out.new) (O.faults out.new))
+            (L.port link.old) (L.port link.new) result }
+        // And in each world that the client stands for, where no packet that is taken is forged.
+        ensures in_worlds { (w : World) (side : Side) (replies : List Replied) → IsIn K.mechanism w side self.old
+            → SyncsBy (client_party K.mechanism prefix.now self.old.kept) replies
+            (moment self.old (D.state disk.old) (O.taken out.old) (O.faults out.old))
+            (moment self.new (D.state disk.new) (O.taken out.new) (O.faults out.new))
+            (L.port link.old) (L.port link.new) result
+            → AreUnforged K.mechanism prefix.now side w replies
+            → SyncsIn K.mechanism prefix.now side w replies
+            (moment self.old (D.state disk.old) (O.taken out.old) (O.faults out.old))
+            (moment self.new (D.state disk.new) (O.taken out.new) (O.faults out.new)) result }
+        ensures later { O.faults out.old ≤ O.faults out.new }
+        ensures flow { (L.port link.old).faults Flow ≤ (L.port link.new).faults Flow }
+        ensures gate { (L.port link.new).faults Gate ≡ (L.port link.old).faults Gate }
+    {
+        grounds::<K>();
+        if let Some(call) = self.closed {
+            return Err(SyncFault::Closed { call });
+        }
+        let names = self.names();
+        self.sync_open(disk, link, out, prefix, &names)
+    }
+
+    fn sync_open<D: Disk, L: Pipe, O: Sink>(
+        &mut self,
+        disk: &mut D,
+        link: &mut L,
+        out: &mut O,
+        prefix: &str,
+        names: &Names,
+    ) -> Result<More, SyncFault>
+        requires is_open { self.old.closed ≡ None }
+        requires ready { IsReady self.old.kept self.old.store (D.state disk.old) }
+        ensures exact { Syncs (party_of K.mechanism prefix.now names.now.own names.now.peers)
+            (moment self.old (D.state disk.old) (O.taken out.old) (O.faults out.old))
+            (moment self.new (D.state disk.new) (O.taken out.new) (O.faults out.new))
+            (L.port link.old) (L.port link.new) result }
+        ensures later { O.faults out.old ≤ O.faults out.new }
+        ensures flow { (L.port link.old).faults Flow ≤ (L.port link.new).faults Flow }
+        ensures gate { (L.port link.new).faults Gate ≡ (L.port link.old).faults Gate }
+    {
+        match self.collect_all(disk, link, out, prefix, names) {
+            Err(fault) => Err(fault),
+            Ok(more) => match self.post_all(disk, link, out, prefix, names) {
+                Err(fault) => Err(fault),
+                Ok(()) => match write_end(out, prefix, more) {
+                    Err(Failed) => Err(SyncFault::Write),
+                    Ok(()) => Ok(more),
+                },
+            },
+        }
+    }
+}
