@@ -88,36 +88,42 @@ module _ {X : Type 0} (state : X → DiskState) (k : Mechanism) (start mid now :
   settles act (acknowledged answer) acts = ready_by (has_effect answer) act answer acts
   settles act (faulted call) acts = tt
 
-  module _ (w : World) (side : Side) (opens : OpensIn k w side (state start) (state mid) (Ok client)) (chosen : Act → Type 0) where
-    pub undrawn_in : now ≡ mid → RunsIn k w side chosen (state start) (state now) (ending_by (worked_as undrawn)) []
-    undrawn_in same =
-        stays_undrawn (stays_on state k start mid now lawful client opened same side w opens.any_moment opens.client.1)
+  module _ (w : World) (side : Side) (opens : OpensIn k w side (state start) (state mid) (Ok client)) (asked : Asked) where
+    pub undrawn_in : asked.undrawn client.kept → now ≡ mid
+        → RunsIn k w side asked (state start) (state now) (ending_by (worked_as undrawn)) []
+    undrawn_in lacks same =
+        stays_undrawn (subst asked.undrawn opens.client.0.keeps lacks)
+        (stays_on state k start mid now lawful client opened same side w opens.any_moment opens.client.1)
         (at_rest_in k w side client (state now) opens.client.0.keeps (still_ready state k start mid now lawful client opened same))
 
-    pub runs_in : (act : Act) → chosen act → IsFairAct k w side act → (outcome : Outcome) → Settles outcome
+    -- what is asked of the client is asked of the side
+    asked_in : (act : Act) → asked.acts client.kept act → asked.acts (kept_in k w side) act
+    asked_in act asks = subst (λ (kept : Client). asked.acts kept act) opens.client.0.keeps asks
+
+    pub runs_in : (act : Act) → asked.acts client.kept act → IsFairAct k w side act → (outcome : Outcome) → Settles outcome
         → ActsIn k w side act client after (state mid) (state now) outcome
-        → RunsIn k w side chosen (state start) (state now) (ending_by (worked_as outcome)) (lines_by (worked_as outcome))
-    runs_in act chooses fair (is_closed call) settled acts =
+        → RunsIn k w side asked (state start) (state now) (ending_by (worked_as outcome)) (lines_by (worked_as outcome))
+    runs_in act asks fair (is_closed call) settled acts =
         absurd (let e : None ≡ Some call = sym opened.is_open ∙ settled in cc)
-    runs_in act chooses fair (refused refusal) settled acts =
-        stays_refused act refusal chooses fair acts.0
+    runs_in act asks fair (refused refusal) settled acts =
+        stays_refused act refusal (asked_in act asks) fair acts.0
         (stays_on state k start mid now lawful client opened settled side w opens.any_moment opens.client.1)
         (at_rest_in k w side client (state now) opens.client.0.keeps
         (still_ready state k start mid now lawful client opened settled))
-    runs_in act chooses fair undrawn settled acts = undrawn_in settled
-    runs_in act chooses fair (acknowledged answer) settled acts =
-        subst (λ a. RunsIn k w side chosen (state start) (state now) Done (answer_line a)) acts.0
-        (goes_on act chooses fair
+    runs_in act asks fair undrawn settled acts = absurd acts
+    runs_in act asks fair (acknowledged answer) settled acts =
+        subst (λ a. RunsIn k w side asked (state start) (state now) Done (answer_line a)) acts.0
+        (goes_on act (asked_in act asks) fair
         (runs_on (state start) (state mid) (state now) lawful k side w (act_in k w side act).next opens.any_moment opens.client.1
         acts.2)
         (at_rest_in k (act_in k w side act).next side after (state now) acts.1.keeps settled))
-    runs_in act chooses fair (faulted call) settled acts =
-        is_in_doubt act chooses fair
+    runs_in act asks fair (faulted call) settled acts =
+        is_in_doubt act (asked_in act asks) fair
         (runs_on (state start) (state mid) (state now) lawful k side w (act_in k w side act).next opens.any_moment opens.client.1
         acts.1)
 
   -- the whole of a command whose act is what it asks
-  pub act_runs : (asked : Asked) (act : Act) → asked.acts client.kept act → asked.chosen act
+  pub act_runs : (asked : Asked) (act : Act) → asked.acts client.kept act
       → ((w : World) (side : Side) → asked.fair w side → IsFairAct k w side act) → (outcome : Outcome)
       → Acts state (act_on k client.kept act) client after mid now outcome
       → ((w : World) (side : Side) → IsLawfulWorld k w → Reads k w side (state start)
@@ -125,10 +131,10 @@ module _ {X : Type 0} (state : X → DiskState) (k : Mechanism) (start mid now :
       → ((w : World) (side : Side) → IsIn k w side client → asked.fair w side
       → ActsIn k w side act client after (state mid) (state now) outcome)
       → RunsAct state k asked start now (ending_by (worked_as outcome)) (lines_by (worked_as outcome))
-  act_runs asked act asks chooses fairly outcome acts opens acts_in = record {
+  act_runs asked act asks fairly outcome acts opens acts_in = record {
     acted = acted_as asked act asks outcome acts;
     in_worlds = λ w side lawful_world stands fair.
         let open_in = opens w side lawful_world stands in
-        runs_in w side open_in asked.chosen act chooses (fairly w side fair) outcome (settles act outcome acts)
+        runs_in w side open_in asked act asks (fairly w side fair) outcome (settles act outcome acts)
         (acts_in w side open_in.client.0 fair);
   }

@@ -28,9 +28,9 @@ no_refusal OpenNoSession reason e = cc
 -- the machine refuses, where the client does
 refused_in : (k : Mechanism) (w : World) (side : Side) (asked : Asked) (start now : DiskState) (ending : Ending) (lines : List ℕ)
     (reason : Refusal) → ending ≡ Refused reason → IsAccepted k w side asked
-    → RunsIn k w side asked.chosen start now ending lines → ⊥
+    → RunsIn k w side asked start now ending lines → ⊥
 refused_in k w side asked start now ending lines reason e accepted (stays_unopened refusal on) = no_refusal refusal reason e
-refused_in k w side asked start now ending lines reason e accepted (stays_undrawn on rests) = cc
+refused_in k w side asked start now ending lines reason e accepted (stays_undrawn lacks on rests) = cc
 refused_in k w side asked start now ending lines reason e accepted (stays_refused act refusal chooses fair is on rests) =
     accepted.accepts act chooses fair refusal is
 refused_in k w side asked start now ending lines reason e accepted (goes_on act chooses fair on rests) = cc
@@ -50,7 +50,7 @@ unopened state k w side start now OpenNoSession whole none why =
 
 acted : {X : Type 0} (state : X → DiskState) (k : Mechanism) (w : World) (side : Side) (asked : Asked) (start now : X)
     (ending : Ending) (lines : List ℕ) → ReadsWhole k w side (state start) → NoneFailed (state start) (state now)
-    → IsAccepted k w side asked → RunsIn k w side asked.chosen (state start) (state now) ending lines
+    → IsAccepted k w side asked → RunsIn k w side asked (state start) (state now) ending lines
     → Acted state k asked start now ending lines → DidWork ending
 acted state k w side asked start now ending lines whole none accepted runs (was_unopened refusal why leaves idle) =
     unopened state k w side start now refusal whole none why

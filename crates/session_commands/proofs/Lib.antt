@@ -7,3 +7,5 @@ mod Shows
 mod Standing
 mod Texts
 mod Unopened
+mod Syncs
+mod SyncRuns

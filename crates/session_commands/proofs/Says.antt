@@ -1,5 +1,5 @@
 -- A command whose client said a text.
-use Rattle.std.proofs.Common.{Bool, List, None, Ok, Option, Result, Some, ap, refl, sym, ℕ, ◌∙◌, ◌≡◌}
+use Rattle.std.proofs.Common.{Bool, List, None, Ok, Option, Result, Some, ap, sym, ℕ, ◌∙◌, ◌≡◌}
 use Rattle.std.specs.Prelude.{is_none, length, ◌&&◌}
 use Rattle.dr_base.specs.declared.position.Position.{Position}
 use Rattle.dr_base.specs.declared.position.Side.{Side}
@@ -16,10 +16,10 @@ use Rattle.client.specs.Clients.{ClientNow, client_area}
 use Rattle.client.specs.InWorlds.{IsIn}
 use Rattle.client.specs.Opening.{IsOpened, OpensIn, Reads}
 use Rattle.client.specs.Outcomes.{Outcome, said_as}
-use Rattle.client.specs.Saying.{Says, SaysIn, acted, asks_seed, draw_failed, stayed, with_draw, without_draw}
+use Rattle.client.specs.Saying.{IsDrawn, Says, SaysIn, acted, asks_seed, draw_failed, stayed, was_drawn, was_unasked, with_draw, without_draw}
 use Rattle.client.specs.declared.refusals.SayRefusal.{SayRefusal}
 use Rattle.session_commands.specs.Acting.{Acted, Asked, was_undrawn}
-use Rattle.session_commands.specs.Asking.{asked_say, with_seed, without_seed}
+use Rattle.session_commands.specs.Asking.{SaysText, asked_say, with_seed, without_seed}
 use Rattle.session_commands.specs.Closing.{ending_by, lines_by, worked_as}
 use Rattle.session_commands.specs.InWorlds.{RunsAct, RunsIn}
 use Rattle.session_commands.proofs.Acts.{Settles, acted_as, runs_in, settles, undrawn_in}
@@ -35,6 +35,12 @@ module _ {X W : Type 0} (state : X → DiskState) (coming : W → Option Seeds) 
   -- an open client asks for a seed where the text needs one
   needs : (b : Bool) → asks_seed client (length text) ≡ b → needs_seed (say_check client.kept (length text)) ≡ b
   needs b asks = sym (ap (λ c. is_none c && needs_seed (say_check client.kept (length text))) opened.is_open) ∙ asks
+
+  -- the text with the seed that was drawn is what is asked
+  asked_by : (draw : Option (List ℕ)) → IsDrawn coming faults client (length text) source left draw
+      → SaysText coming faults text source left client.kept (saying text draw)
+  asked_by draw (was_unasked none leaves) = without_seed (needs _ none) leaves
+  asked_by draw (was_drawn seed asks long drew quiet) = with_seed seed (needs _ asks) long drew quiet
 
   said : (result : Result Position SayRefusal) → Says state coming faults k text client after mid now source left result
       → Acted state k asked start now (ending_by (worked_as (said_as result))) (lines_by (worked_as (said_as result)))
@@ -58,18 +64,19 @@ module _ {X W : Type 0} (state : X → DiskState) (coming : W → Option Seeds) 
 
   says_runs_in : (w : World) (side : Side) → OpensIn k w side (state start) (state mid) (Ok client) → (outcome : Outcome)
       → Settles state k start mid now lawful client after opened opening outcome
-      → SaysIn k w side text client after (state mid) (state now) outcome
-      → RunsIn k w side asked.chosen (state start) (state now) (ending_by (worked_as outcome)) (lines_by (worked_as outcome))
-  says_runs_in w side opens outcome settled (acted o draw fair acts) =
-      runs_in state k start mid now lawful client after opened opening w side opens asked.chosen (saying text draw) (draw, refl)
+      → SaysIn coming faults k w side text client after (state mid) (state now) source left outcome
+      → RunsIn k w side asked (state start) (state now) (ending_by (worked_as outcome)) (lines_by (worked_as outcome))
+  says_runs_in w side opens outcome settled (acted o draw drew fair acts) =
+      runs_in state k start mid now lawful client after opened opening w side opens asked (saying text draw) (asked_by draw drew)
       (fair opened.is_open) o settled acts
-  says_runs_in w side opens outcome settled (stayed same) =
-      undrawn_in state k start mid now lawful client after opened opening w side opens asked.chosen settled
+  says_runs_in w side opens outcome settled (stayed asks rose same keeps) =
+      undrawn_in state k start mid now lawful client after opened opening w side opens asked
+      (record { needed = needs _ asks; rose = rose; none = same }) settled
 
   pub say_runs : (result : Result Position SayRefusal) → Says state coming faults k text client after mid now source left result
       → ((w : World) (side : Side) → IsLawfulWorld k w → Reads k w side (state start)
       → OpensIn k w side (state start) (state mid) (Ok client))
-      → ((w : World) (side : Side) → IsIn k w side client → SaysIn k w side text client after (state mid) (state now) (said_as result))
+      → ((w : World) (side : Side) → IsIn k w side client → SaysIn coming faults k w side text client after (state mid) (state now) source left (said_as result))
       → RunsAct state k asked start now (ending_by (worked_as (said_as result))) (lines_by (worked_as (said_as result)))
   say_runs result says opens says_in = record {
     acted = said result says;

@@ -26,8 +26,7 @@ pub record Asked : Type 1 where
   pub undrawn : Client → Type 0
   -- what is true where the client wasn't opened
   pub idle : Type 0
-  -- the act, in a world, and under which premise on the world
-  pub chosen : Act → Type 0
+  -- the premise on a world
   pub fair : World → Side → Type 0
 
 -- How the command ends, with its lines. What is kept is what was read at entry.

@@ -29,7 +29,6 @@ asked_say coming faults text source left = record {
   acts = SaysText coming faults text source left;
   undrawn = LacksSeed coming faults text source left;
   idle = left ≡ source;
-  chosen = λ act. (draw : Option (List ℕ)) × (act ≡ saying text draw);
   fair = λ w side. ⊤;
 }
 
@@ -38,7 +37,6 @@ asked_take k packet = record {
   acts = λ kept act. act ≡ taking packet;
   undrawn = λ kept. ⊥;
   idle = ⊤;
-  chosen = λ act. act ≡ taking packet;
   fair = λ w side. IsUnforged k w side packet;
 }
 
@@ -48,6 +46,5 @@ asked_drop drop = record {
   acts = λ kept act. act ≡ drop;
   undrawn = λ kept. ⊥;
   idle = ⊤;
-  chosen = λ act. act ≡ drop;
   fair = λ w side. ⊤;
 }

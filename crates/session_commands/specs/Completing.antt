@@ -5,6 +5,7 @@ use Rattle.dr_base.specs.declared.position.Side.{Side}
 use Rattle.dr_disk.specs.State.{DiskState}
 use Rattle.dr_disk.specs.declared.call.Call.{Call}
 use Rattle.dr_model.specs.Machines.Acts.{Act, act_in}
+use Rattle.dr_model.specs.Machines.WorldSides.{kept_in}
 use Rattle.dr_model.specs.Machines.Worlds.{World}
 use Rattle.dr_model.specs.Theorems.Acting.{IsFairAct}
 use Rattle.dr_model.specs.Theorems.LawfulWorlds.{IsLawfulWorld}
@@ -34,6 +35,6 @@ pub record ReadsWhole (k : Mechanism) (w : World) (side : Side) (disk : DiskStat
 -- the machine refuses no act that the command may be, and no draw failed
 pub record IsAccepted (k : Mechanism) (w : World) (side : Side) (asked : Asked) : Type 0 where
   pub fair : asked.fair w side
-  pub accepts : (act : Act) → asked.chosen act → IsFairAct k w side act → (refusal : Refusal)
+  pub accepts : (act : Act) → asked.acts (kept_in k w side) act → IsFairAct k w side act → (refusal : Refusal)
       → (act_in k w side act).answer ≡ Refused refusal → ⊥
   pub drawn : (kept : Client) → asked.undrawn kept → ⊥

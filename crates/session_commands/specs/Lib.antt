@@ -10,3 +10,4 @@ pub mod Showing
 pub mod Beginning
 pub mod Runs
 pub mod Completing
+pub mod Syncing

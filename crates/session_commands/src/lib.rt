@@ -1,8 +1,8 @@
-//! The work of the commands on a session, on a source, a sink, a disk and draws: begin, say, take, inbox, done, sent, outbox
-//! and state.
+//! The work of the commands on a session, on a source, a sink, a disk, a link and draws: begin, say, take, inbox, done, sent,
+//! outbox, state and sync.
 //!
-//! Each command but `begin` opens the client that the disk holds, lets it act at most once or shows what it keeps, writes its
-//! lines and answers its status. `take` and `begin` read the source first.
+//! Each command but `begin` opens the client that the disk holds, lets it act at most once, sync, or shows what it keeps, writes
+//! its lines and answers its status. `take` and `begin` read the source first.
 #![tactic(auto)]
 
 pub use beginning::begin;
@@ -11,6 +11,7 @@ pub use input::{KEY_TEXT_LIMIT, PACKET_TEXT_LIMIT};
 pub use laws::complete;
 pub use saying::say;
 pub use showing::{inbox, outbox, state};
+pub use syncing::sync;
 pub use taking::take;
 
 mod beginning;
@@ -22,6 +23,7 @@ mod laws;
 mod lines;
 mod saying;
 mod showing;
+mod syncing;
 mod taking;
 #[cfg(test)]
 mod tests;

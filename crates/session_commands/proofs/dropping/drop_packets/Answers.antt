@@ -23,5 +23,5 @@ returns-in-Ok g c =
     (sym c.dropped.ensures)
     (act_runs g.D.Disk.state g.K.Kem.mechanism c.args.disk.now c.open.new.disk c.sent-acted.new.disk
     (g.met.D.Disk.lawful c.sent-acted.new.disk) c.in-Ok.client c.sent-acted.new.self c.in-Ok.ensures.opened
-    c.open.ensures.any_moment asked (sending c.args.n) refl refl (λ w side fair. tt) (dropped_as (Sent c.args.n) c.sent-acted.result)
+    c.open.ensures.any_moment asked (sending c.args.n) refl (λ w side fair. tt) (dropped_as (Sent c.args.n) c.sent-acted.result)
     c.sent-acted.ensures.exact c.in-Ok.ensures.in_worlds (λ w side is fair. c.sent-acted.ensures.in_worlds w side is))

@@ -23,5 +23,5 @@ returns-in-Ok g c =
     (sym c.dropped.ensures)
     (act_runs g.D.Disk.state g.K.Kem.mechanism c.args.disk.now c.open.new.disk c.done-acted.new.disk
     (g.met.D.Disk.lawful c.done-acted.new.disk) c.in-Ok.client c.done-acted.new.self c.in-Ok.ensures.opened
-    c.open.ensures.any_moment asked (finishing c.args.n) refl refl (λ w side fair. tt) (dropped_as (Done c.args.n) c.done-acted.result)
+    c.open.ensures.any_moment asked (finishing c.args.n) refl (λ w side fair. tt) (dropped_as (Done c.args.n) c.done-acted.result)
     c.done-acted.ensures.exact c.in-Ok.ensures.in_worlds (λ w side is fair. c.done-acted.ensures.in_worlds w side is))

@@ -22,5 +22,5 @@ returns-in-Ok g c =
     (sym c.taken.ensures)
     (act_runs g.D.Disk.state g.K.Kem.mechanism c.args.disk.now c.open.new.disk c.take-acted.new.disk
     (g.met.D.Disk.lawful c.take-acted.new.disk) c.in-Ok.client c.take-acted.new.self c.in-Ok.ensures.opened
-    c.open.ensures.any_moment asked (taking c.args.packet.now) refl refl (λ w side fair. fair) (taken_as c.take-acted.result)
+    c.open.ensures.any_moment asked (taking c.args.packet.now) refl (λ w side fair. fair) (taken_as c.take-acted.result)
     c.take-acted.ensures.exact c.in-Ok.ensures.in_worlds c.take-acted.ensures.in_worlds)

@@ -1,0 +1,167 @@
+-- A command that syncs, from its calls.
+use Rattle.std.proofs.Common.{Err, List, None, Ok, Option, Result, Some, [], ap, arith, inl, inr, refl, subst, sym, ℕ, ⊎_elim, ◌++◌, ◌≤◌, ◌∙◌, ◌≡◌, ◌⊎◌}
+use Rattle.std.specs.Prelude.{option_map}
+use Rattle.dr_base.specs.Causes.{Rose}
+use Rattle.dr_base.specs.declared.position.Side.{Side}
+use Rattle.dr_disk.specs.Spans.{IsQuiet, Span}
+use Rattle.dr_disk.specs.State.{Always, DiskState, IsLawful}
+use Rattle.dr_disk.specs.declared.call.Call.{Call}
+use Rattle.dr_disk.proofs.Steps.{quiet_twice, spans, widen}
+use Rattle.dr_model.specs.Machines.WorldSides.{kept_in}
+use Rattle.dr_model.specs.Machines.Worlds.{World}
+use Rattle.dr_ports.specs.Wires.{Port, Told}
+use Rattle.dr_ports.specs.declared.pipe.Part.TheVariants.{Flow}
+use Rattle.kem_laws.specs.Mechanism.{Mechanism}
+use Rattle.relay_pipe.specs.Asking.{fault_at}
+use Rattle.relay_pipe.specs.Exchanging.{Exchanges, exchanged}
+use Rattle.relay_pipe.specs.declared.faults.PeerFault.{PeerFault}
+use Rattle.relay_wire.specs.Replies.{Replied}
+use Rattle.session_model.specs.Clients.{Client}
+use Rattle.slot_store.specs.Reading.{IsEntryOrLike, IsLikeRead}
+use Rattle.sync_model.specs.Courses.{course_of}
+use Rattle.sync_model.specs.Moves.{Ending}
+use Rattle.sync_model.specs.Parties.{Party}
+use Rattle.sync_model.specs.declared.more.More.{More}
+use Rattle.client.specs.Clients.{ClientNow, IsReady, client_area}
+use Rattle.client.specs.InWorlds.{IsIn, StandsFor}
+use Rattle.client.specs.Syncing.InWorlds.{IsReachedIn, LeadsTo, SyncsIn, course_in}
+use Rattle.client.specs.Syncing.Moments.{Moment, moment}
+use Rattle.client.specs.Syncing.Parties.{client_party}
+use Rattle.client.specs.Syncing.SoFar.{IsReached, Stands, Talked}
+use Rattle.client.specs.Syncing.Syncs.{Ends, IsCutOff, IsOver, IsUnheard, SyncsBy}
+use Rattle.client.specs.declared.syncing.faults.SyncFault.{SyncFault}
+use Rattle.client.specs.declared.syncing.faults.SyncFault.TheVariants.{Closed, Link, Peer, Refused, Store, Write}
+use Rattle.session_commands.specs.Disks.{IsAtRest}
+use Rattle.session_commands.specs.Syncing.{CameToEnd, IsStored, IsSyncLeft, LeavesCourse, RestsIn, StandsForCourse, SyncEnds, SyncRunsIn, is_as_read, is_of_course}
+
+-- ---- over a link that was opened before
+
+module _ (p : Party Client) (kept : Client) (replies : List Replied) (link opened now : Port) (told : opened.told ≡ link.told)
+    (quiet : opened.faults Flow ≡ link.faults Flow) where
+  from_link : (got put : List ℕ) → Exchanges got put opened now → Exchanges got put link now
+  from_link got put ex = ex ∙ ap (option_map (exchanged got put)) told
+
+  talked_from : Talked p kept replies opened now → Talked p kept replies link now
+  talked_from talked = record { told = from_link _ _ talked.told; waited = talked.waited; quiet = talked.quiet ∙ quiet }
+
+  cut_from : IsCutOff p kept replies opened now → IsCutOff p kept replies link now
+  cut_from cut = record {
+    asked = cut.asked;
+    waits = cut.waits;
+    put = cut.put;
+    left = cut.left;
+    rest = cut.rest;
+    split = cut.split;
+    told = from_link _ _ cut.told;
+    partial = cut.partial;
+    rose = subst (λ (n : ℕ). Rose n (now.faults Flow)) quiet cut.rose;
+  }
+
+  unheard_from : (fault : PeerFault) → IsUnheard p kept replies opened now fault → IsUnheard p kept replies link now fault
+  unheard_from fault cut = record {
+    asked = cut.asked;
+    waits = cut.waits;
+    rest = cut.rest;
+    told = from_link _ _ cut.told;
+    came = cut.came;
+    quiet = cut.quiet ∙ quiet;
+  }
+
+  -- ---- behind an opening of the client
+
+  module _ (start mid end : DiskState) (client after : ClientNow) (taken wrote : Option (List ℕ)) (before middle final : ℕ) (same : client.kept ≡ kept)
+      (opening : IsQuiet start mid) (later : middle ≤ final) where
+    abbrev from : Moment
+    from = moment client mid taken before
+
+    abbrev to : Moment
+    to = moment after end wrote middle
+
+    stored_by : Stands p replies from to → IsStored p kept replies start end
+    stored_by stands = record {
+      rests = record {
+        store = after.store;
+        ready = subst (λ (x : Client). IsReady x after.store end) (stands.keeps ∙ ap (λ (x : Client). (course_of p x replies).state) same) stands.ready;
+      };
+      quiet = quiet_twice start mid end opening stands.quiet;
+    }
+
+    came_by : (ending : Ending) → IsOver p replies ending from to opened now → CameToEnd p kept replies ending start end link now
+    came_by ending is = record {
+      is_over = ap (λ (x : Client). (course_of p x replies).wait) (sym same) ∙ is.is_over;
+      talked = talked_from (subst (λ (x : Client). Talked p x replies opened now) same is.talked);
+      stored = stored_by is.stands;
+    }
+
+    pub sync_ends : (result : Result More SyncFault) → Ends p replies from to opened now result
+        → SyncEnds p kept replies start end link now before final result
+    sync_ends (Ok which) ends = came_by _ ends
+    sync_ends (Err (Closed call)) ends = ends
+    sync_ends (Err Link) ends = (cut_from (subst (λ (x : Client). IsCutOff p x replies opened now) same ends.1), stored_by ends.0)
+    sync_ends (Err (Peer at what)) ends =
+        ⊎_elim (λ over. inl (over.0, over.1, came_by over.0 over.2))
+        (λ cut. inr (unheard_from (fault_at at what) (subst (λ (x : Client). IsUnheard p x replies opened now (fault_at at what)) same cut.1), stored_by cut.0)) ends
+    sync_ends (Err (Refused refusal)) ends = (ends.0, ends.1, came_by ends.0 ends.2)
+    sync_ends (Err (Store call)) ends =
+        (talked_from (subst (λ (x : Client). Talked p x replies opened now) same ends.talked), subst (λ (n : ℕ). Rose n (end.faults call)) (opening call) ends.rose)
+    sync_ends (Err Write) ends =
+        (talked_from (subst (λ (x : Client). Talked p x replies opened now) same ends.talked), stored_by ends.stands, omega (arith, ends.wrote.rose, later))
+
+-- ---- what the disk holds
+
+module _ (start mid now : DiskState) (lawful : IsLawful now) where
+  pub leaves_course : (p : Party Client) (kept : Client) (replies : List Replied) → Span start mid (IsEntryOrLike client_area start)
+      → Always (IsLikeRead client_area start) mid → Span mid now (IsReached p kept replies mid) → LeavesCourse p kept replies start now
+  leaves_course p kept replies opening alike passed = record {
+    any_moment =
+        spans start mid now (λ c. start.image c ⊎ IsSyncLeft p kept replies start c)
+        (widen start mid (IsEntryOrLike client_area start) (λ c. start.image c ⊎ IsSyncLeft p kept replies start c)
+        (λ c s. ⊎_elim (λ was. inl was) (λ like. inr (is_as_read like)) s) opening)
+        (widen mid now (IsReached p kept replies mid) (λ c. start.image c ⊎ IsSyncLeft p kept replies start c)
+        (λ c r. inr (is_of_course r.front r.back r.split r.holds)) passed);
+    reads = λ s told.
+        ⊎_elim (λ was. is_as_read (alike s was)) (λ r. is_of_course r.front r.back r.split r.holds) (passed.last s (lawful.seen_now s told));
+  }
+
+  module _ (k : Mechanism) (side : Side) (w : World) (replies : List Replied) where
+    stands_first : (c : List ℕ) → StandsFor k w side c → StandsForCourse k side w replies c
+    stands_first c stands = record { front = []; back = replies; split = refl; stands = stands }
+
+    module _ (client after : ClientNow) (taken wrote : Option (List ℕ)) (before middle : ℕ) (p : Party Client) (from to : Port) where
+      abbrev ahead : Moment
+      ahead = moment client mid taken before
+
+      abbrev behind : Moment
+      behind = moment after now wrote middle
+
+      at_rest : Stands p replies ahead behind → (last : World) → IsIn k last side after → IsAtRest (kept_in k last side) now
+      at_rest stands last is =
+          record { store = after.store; ready = subst (λ (x : Client). IsReady x after.store now) is.keeps stands.ready }
+
+      rests_in : (result : Result More SyncFault) → Ends p replies ahead behind from to result → LeadsTo k [] side w replies behind result
+          → RestsIn k side w replies now result
+      rests_in (Ok which) ends leads = at_rest ends.stands _ leads.0
+      rests_in (Err (Closed call)) ends leads = absurd ends
+      rests_in (Err Link) ends leads = at_rest ends.0 _ leads.0
+      rests_in (Err (Peer at what)) ends leads = ⊎_elim (λ over. at_rest over.2.stands _ leads.0) (λ cut. at_rest cut.0 _ leads.0) ends
+      rests_in (Err (Refused refusal)) ends leads = at_rest ends.2.stands _ leads.0
+      rests_in (Err (Store call)) ends leads = tt
+      rests_in (Err Write) ends leads = at_rest ends.stands _ leads.0
+
+      pub sync_runs : (result : Result More SyncFault) → Span start mid (λ c. start.image c ⊎ StandsFor k w side c) → Always (StandsFor k w side) mid
+          → Ends p replies ahead behind from to result → SyncsIn k [] side w replies ahead behind result
+          → SyncRunsIn k side w client.kept replies start now result
+      sync_runs result opening stand ends syncs = record {
+        same = syncs.same;
+        any_moment =
+            spans start mid now (λ c. start.image c ⊎ StandsForCourse k side w replies c)
+            (widen start mid (λ c. start.image c ⊎ StandsFor k w side c) (λ c. start.image c ⊎ StandsForCourse k side w replies c)
+            (λ c s. ⊎_elim (λ was. inl was) (λ stands. inr (stands_first c stands)) s) opening)
+            (widen mid now (IsReachedIn k [] side w replies mid) (λ c. start.image c ⊎ StandsForCourse k side w replies c)
+            (λ c r. inr (record { front = r.front; back = r.back; split = r.split; stands = r.stands })) syncs.passed);
+        reads = λ s told.
+            ⊎_elim (λ was. stands_first s (stand s was))
+            (λ (r : IsReachedIn k [] side w replies mid s). record { front = r.front; back = r.back; split = r.split; stands = r.stands })
+            (syncs.passed.last s (lawful.seen_now s told));
+        rests = rests_in result ends syncs.leads;
+      }

@@ -1,0 +1,172 @@
+-- What the command that syncs with a relay comes to, before its last line.
+use Rattle.std.specs.Prelude.{Err, List, None, Ok, Option, Result, Some, [], length, take, ℕ, ⊤, ◌++◌, ◌-◌, ◌<◌, ◌^◌, ◌∷◌, ◌≡◌, ◌⊎◌}
+use Rattle.std.specs.List.{AllByRecursion}
+use Rattle.dr_base.specs.Causes.{Rose}
+use Rattle.dr_base.specs.declared.position.Side.{Side}
+use Rattle.dr_disk.specs.Spans.{IsQuiet, Span}
+use Rattle.dr_disk.specs.State.{DiskState}
+use Rattle.dr_disk.specs.declared.call.Call.{Call}
+use Rattle.dr_model.specs.Machines.WorldSides.{kept_in}
+use Rattle.dr_model.specs.Machines.Worlds.{World}
+use Rattle.dr_model.specs.Theorems.LawfulWorlds.{IsLawfulWorld}
+use Rattle.dr_ports.specs.Ports.{appended}
+use Rattle.dr_ports.specs.Wires.{Port}
+use Rattle.dr_ports.specs.Writing.{TookBeginning}
+use Rattle.dr_ports.specs.declared.pipe.Part.TheVariants.{Flow, Gate}
+use Rattle.endings.specs.declared.ending.Ending.{Ending}
+use Rattle.endings.specs.declared.ending.Ending.TheVariants.{BoxFull, DiskFault, Done, LinkFault, NoBox, Peer, Refused}
+use Rattle.endings.specs.declared.ending.PeerKind.{PeerKind as EndsKind}
+use Rattle.endings.specs.declared.ending.PeerKind.TheVariants.{Ended as EndsEnded, Frame as EndsFrame, Kind as EndsKindOf, Size as EndsSize, Wrong as EndsWrong}
+use Rattle.kem_laws.specs.Mechanism.{Mechanism}
+use Rattle.relay_pipe.specs.Asking.{fault_at}
+use Rattle.relay_pipe.specs.declared.faults.PeerKind.{PeerKind}
+use Rattle.relay_pipe.specs.declared.faults.PeerKind.TheVariants.{Ended, Frame, Kind, Size, Wrong}
+use Rattle.relay_wire.specs.Replies.{IsLawfulReplied, Replied}
+use Rattle.session_model.specs.Clients.{Client}
+use Rattle.session_model.specs.declared.answer.Refusal.TheVariants.{InboxFull}
+use Rattle.session_record.specs.Record.{record_text}
+use Rattle.slot_store.specs.Reading.{IsLikeRead}
+use Rattle.slot_store.specs.Slots.{recovered}
+use Rattle.sync_model.specs.Courses.{all_lines, course_of}
+use Rattle.sync_model.specs.Moves.{Ending as CourseEnding, ended, over}
+use Rattle.sync_model.specs.Parties.{Party}
+use Rattle.sync_model.specs.Simulation.{IsSameCourse}
+use Rattle.sync_model.specs.declared.more.More.{More}
+use Rattle.client.specs.Clients.{client_area}
+use Rattle.client.specs.InWorlds.{StandsFor}
+use Rattle.client.specs.Opening.{IsUnopened, Reads}
+use Rattle.client.specs.Syncing.InWorlds.{AreUnforged, IsKeptIn, course_in}
+use Rattle.client.specs.Syncing.Parties.{client_party}
+use Rattle.client.specs.Syncing.Rounds.{fault_in}
+use Rattle.client.specs.Syncing.SoFar.{Talked}
+use Rattle.client.specs.Syncing.Syncs.{IsCutOff, IsUnheard}
+use Rattle.client.specs.declared.refusals.OpenRefusal.{OpenRefusal}
+use Rattle.client.specs.declared.syncing.faults.SyncFault.{SyncFault}
+use Rattle.client.specs.declared.syncing.faults.SyncFault.TheVariants.{Closed as SyncClosed, Link as SyncLink, Peer as SyncPeer, Refused as SyncRefused, Store as SyncStore, Write as SyncWrite}
+use Rattle.client.specs.declared.syncing.faults.SyncRefusal.TheVariants.{BoxFull as SyncBoxFull, InboxFull as SyncInboxFull, Unknown as SyncUnknown}
+use Rattle.session_commands.specs.Disks.{IsAtRest, IsKept, Leaves, LeavesLike, RunsOn}
+use Rattle.session_commands.specs.Opening.{ending_of_open}
+
+-- ---- how the command ends
+
+abbrev pub peer_kind_of : PeerKind → EndsKind
+peer_kind_of Frame = EndsFrame
+peer_kind_of Kind = EndsKindOf
+peer_kind_of Size = EndsSize
+peer_kind_of Wrong = EndsWrong
+peer_kind_of Ended = EndsEnded
+
+-- a write that failed has no ending of its own: the status says it
+abbrev pub ending_of_fault : SyncFault → Ending
+ending_of_fault (SyncClosed call) = DiskFault
+ending_of_fault SyncLink = LinkFault
+ending_of_fault (SyncPeer at what) = Peer (peer_kind_of what) at
+ending_of_fault (SyncRefused SyncInboxFull) = Refused InboxFull
+ending_of_fault (SyncRefused SyncBoxFull) = BoxFull
+ending_of_fault (SyncRefused SyncUnknown) = NoBox
+ending_of_fault (SyncStore call) = DiskFault
+ending_of_fault SyncWrite = Done
+
+abbrev pub ending_of_sync : Result More SyncFault → Ending
+ending_of_sync (Ok which) = Done
+ending_of_sync (Err fault) = ending_of_fault fault
+
+-- a place that the last line shows
+abbrev pub IsNear : SyncFault → Type 0
+IsNear (SyncPeer at what) = at < 2 ^ 32
+IsNear _ = ⊤
+
+-- the course's lines: where a call on the disk failed, those before the last reply
+abbrev pub sync_lines : Party Client → Client → List Replied → Result More SyncFault → List ℕ
+sync_lines p kept replies (Err (SyncStore call)) = (course_of p kept (take (length replies - 1) replies)).lines
+sync_lines p kept replies _ = all_lines p (course_of p kept replies)
+
+-- they were written, or a write failed behind a beginning of them
+abbrev pub HasWritten : List ℕ → Option (List ℕ) → Option (List ℕ) → ℕ → ℕ → Result More SyncFault → Type 0
+HasWritten lines old new before now (Err SyncWrite) = TookBeginning old new lines × Rose before now
+HasWritten lines old new before now _ = (new ≡ appended old lines) × (now ≡ before)
+
+-- ---- what the disk holds
+
+-- bytes like those that were read, or with the record of what the course keeps behind a beginning of the replies
+pub data IsSyncLeft (p : Party Client) (kept : Client) (replies : List Replied) (start : DiskState) (c : List ℕ) : Type 0 where
+  is_as_read : IsLikeRead client_area start c → IsSyncLeft p kept replies start c
+  is_of_course : (front back : List Replied) → replies ≡ front ++ back
+      → recovered client_area c ≡ Some (record_text (course_of p kept front).state) → IsSyncLeft p kept replies start c
+
+-- Each crash meanwhile leaves such, or what one might have left at entry; a read gives such.
+pub record LeavesCourse (p : Party Client) (kept : Client) (replies : List Replied) (start now : DiskState) : Type 0 where
+  pub any_moment : Span start now (λ c. start.image c ⊎ IsSyncLeft p kept replies start c)
+  pub reads : (s : List ℕ) → now.seen ≡ Some s → IsSyncLeft p kept replies start s
+
+-- ---- how the sync ends
+
+-- all is at rest for what the course keeps, and no call on the disk failed
+pub record IsStored (p : Party Client) (kept : Client) (replies : List Replied) (start now : DiskState) : Type 0 where
+  pub rests : IsAtRest (course_of p kept replies).state now
+  pub quiet : IsQuiet start now
+
+-- the course has this end
+pub record CameToEnd (p : Party Client) (kept : Client) (replies : List Replied) (ending : CourseEnding) (start now : DiskState)
+    (link left : Port) : Type 0 where
+  pub is_over : (course_of p kept replies).wait ≡ over ending
+  pub talked : Talked p kept replies link left
+  pub stored : IsStored p kept replies start now
+
+abbrev pub SyncEnds : Party Client → Client → List Replied → DiskState → DiskState → Port → Port → ℕ → ℕ → Result More SyncFault → Type 0
+SyncEnds p kept replies start now link left before after (Ok which) = CameToEnd p kept replies (ended which) start now link left
+SyncEnds p kept replies start now link left before after (Err (SyncRefused refusal)) =
+    (ending : CourseEnding) × (fault_in ending ≡ Some (SyncRefused refusal)) × CameToEnd p kept replies ending start now link left
+SyncEnds p kept replies start now link left before after (Err (SyncPeer at kind)) =
+    ((ending : CourseEnding) × (fault_in ending ≡ Some (SyncPeer at kind)) × CameToEnd p kept replies ending start now link left)
+    ⊎ (IsUnheard p kept replies link left (fault_at at kind) × IsStored p kept replies start now)
+SyncEnds p kept replies start now link left before after (Err SyncLink) =
+    IsCutOff p kept replies link left × IsStored p kept replies start now
+SyncEnds p kept replies start now link left before after (Err SyncWrite) =
+    Talked p kept replies link left × IsStored p kept replies start now × Rose before after
+SyncEnds p kept replies start now link left before after (Err (SyncStore call)) =
+    Talked p kept replies link left × Rose (start.faults call) (now.faults call)
+SyncEnds p kept replies start now link left before after (Err (SyncClosed call)) = ⊥
+
+-- ---- in worlds
+
+-- bytes that stand for the world that the course reaches behind a beginning of the replies
+pub record StandsForCourse (k : Mechanism) (side : Side) (w : World) (replies : List Replied) (c : List ℕ) : Type 0 where
+  pub front : List Replied
+  pub back : List Replied
+  pub split : replies ≡ front ++ back
+  pub stands : StandsFor k (course_in k [] side w front).state side c
+
+-- where no call on the disk failed, all is at rest for the world that the course reaches
+abbrev pub RestsIn : Mechanism → Side → World → List Replied → DiskState → Result More SyncFault → Type 0
+RestsIn k side w replies now (Err (SyncStore call)) = ⊤
+RestsIn k side w replies now _ = IsAtRest (kept_in k (course_in k [] side w replies).state side) now
+
+pub record SyncRunsIn (k : Mechanism) (side : Side) (w : World) (kept : Client) (replies : List Replied) (start now : DiskState)
+    (result : Result More SyncFault) : Type 0 where
+  pub same : IsSameCourse (IsKeptIn k side) (course_of (client_party k [] kept) kept replies) (course_in k [] side w replies)
+  pub any_moment : Span start now (λ c. start.image c ⊎ StandsForCourse k side w replies c)
+  pub reads : (s : List ℕ) → now.seen ≡ Some s → StandsForCourse k side w replies s
+  pub rests : RestsIn k side w replies now result
+
+-- ---- the command
+
+-- The client wasn't opened, and the link is left alone; or the link wasn't opened; or the client synced, by these replies. What
+-- is kept is what was read at entry. Each with what it is in a world that the disk reads at entry.
+pub data RunsSync {X L : Type 0} (state : X → DiskState) (port : L → Port) (k : Mechanism) (start now : X) (link left : L) (before after : ℕ)
+    : Ending → List ℕ → Type 0 where
+  wasnt_synced : (refusal : OpenRefusal) → IsUnopened state k start now refusal → LeavesLike (state start) (state now) → left ≡ link
+      → ((w : World) (side : Side) → IsLawfulWorld k w → Reads k w side (state start) → RunsOn k side w w (state start) (state now))
+      → RunsSync state port k start now link left before after (ending_of_open refusal) []
+  wasnt_linked : (kept : Client) → IsKept k (state start) kept → Leaves kept kept (state start) (state now)
+      → (port left).told ≡ (port link).told → (port left).faults Flow ≡ (port link).faults Flow
+      → Rose ((port link).faults Gate) ((port left).faults Gate)
+      → ((w : World) (side : Side) → IsLawfulWorld k w → Reads k w side (state start) → RunsOn k side w w (state start) (state now))
+      → RunsSync state port k start now link left before after LinkFault []
+  was_synced : (kept : Client) (replies : List Replied) (result : Result More SyncFault) → IsKept k (state start) kept
+      → AllByRecursion IsLawfulReplied replies → LeavesCourse (client_party k [] kept) kept replies (state start) (state now)
+      → SyncEnds (client_party k [] kept) kept replies (state start) (state now) (port link) (port left) before after result
+      → (port left).faults Gate ≡ (port link).faults Gate
+      → ((w : World) (side : Side) → IsLawfulWorld k w → Reads k w side (state start) → AreUnforged k [] side w replies
+      → SyncRunsIn k side w kept replies (state start) (state now) result)
+      → RunsSync state port k start now link left before after (ending_of_sync result) (sync_lines (client_party k [] kept) kept replies result)

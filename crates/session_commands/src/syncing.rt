@@ -1,0 +1,115 @@
+//! The command that syncs with a relay.
+
+ghost use Rattle.std.specs.Prelude.{◌≡◌, ◌≢◌, ◌≤◌, ℕ, List, Err, Ok, Option, IfErr};
+ghost use Rattle.dr_disk.specs.Spans.{IsQuiet};
+ghost use Rattle.dr_ports.specs.declared.pipe.Part.{Part};
+ghost use Rattle.slot_store.specs.Store.{IsWithin};
+ghost use Rattle.sync_model.specs.declared.more.More.{More};
+ghost use Rattle.endings.specs.Ends.{Ends};
+ghost use Rattle.client.specs.Clients.{client_area};
+ghost use Rattle.session_commands.specs.Runs.{Runs};
+ghost use Rattle.session_commands.specs.Syncing.{HasWritten, IsNear, RunsSync, ending_of_fault, ending_of_sync, peer_kind_of};
+
+use crate::endings_of::unopened;
+use client::{Client, SyncFault, SyncRefusal};
+use dr_disk::Disk;
+use dr_ports::{Failed, Link, Sink};
+use endings::{Ending, PeerKind, Status, finish};
+use kem_laws::Kem;
+use session_model::Refusal;
+use std::alloc::Global;
+use sync_model::More;
+
+/// What is wrong with a relay's bytes.
+fn kind_of(kind: relay_pipe::PeerKind) -> PeerKind
+    ensures { result ≡ peer_kind_of kind }
+{
+    match kind {
+        relay_pipe::PeerKind::Frame => PeerKind::Frame,
+        relay_pipe::PeerKind::Kind => PeerKind::Kind,
+        relay_pipe::PeerKind::Size => PeerKind::Size,
+        relay_pipe::PeerKind::Wrong => PeerKind::Wrong,
+        relay_pipe::PeerKind::Ended => PeerKind::Ended,
+    }
+}
+
+/// How the command ends where a sync broke off.
+fn broken_off(fault: SyncFault) -> Ending
+    requires { IsNear fault }
+    ensures { result ≡ ending_of_fault fault }
+{
+    match fault {
+        SyncFault::Closed { .. } => Ending::DiskFault,
+        SyncFault::Link => Ending::LinkFault,
+        SyncFault::Peer { at, kind } => Ending::Peer {
+            kind: kind_of(kind),
+            at: at as u32,
+        },
+        SyncFault::Refused(SyncRefusal::InboxFull) => Ending::Refused(Refusal::InboxFull),
+        SyncFault::Refused(SyncRefusal::BoxFull) => Ending::BoxFull,
+        SyncFault::Refused(SyncRefusal::Unknown) => Ending::NoBox,
+        SyncFault::Store { .. } => Ending::DiskFault,
+        SyncFault::Write => Ending::Done,
+    }
+}
+
+/// Writes the last line behind those of a sync that broke off, if no write failed in it.
+fn close_broken<O: Sink>(out: &mut O, fault: SyncFault) -> Status
+    requires { IsNear fault }
+    ensures ends { (lines : List ℕ) (old : Option (List ℕ)) (before : ℕ)
+        → HasWritten lines old (O.taken out.old) before (O.faults out.old) (Err fault)
+        → Ends (ending_of_fault fault) lines old (O.taken out.new) before (O.faults out.new) result.code }
+    ensures fails { result.code ≢ 0 }
+    ensures later { O.faults out.old ≤ O.faults out.new }
+{
+    match fault {
+        SyncFault::Write => Status { code: 5 },
+        _ => finish(out, broken_off(fault)),
+    }
+}
+
+/// Writes the last line behind those of a sync.
+fn close<O: Sink>(out: &mut O, synced: Result<More, SyncFault>) -> Status
+    requires { IfErr synced IsNear }
+    ensures ends { (lines : List ℕ) (old : Option (List ℕ)) (before : ℕ)
+        → HasWritten lines old (O.taken out.old) before (O.faults out.old) synced
+        → Ends (ending_of_sync synced) lines old (O.taken out.new) before (O.faults out.new) result.code }
+    ensures done { result.code ≡ 0 → (more : More) × (synced ≡ Ok more) }
+    ensures quiet { result.code ≡ 0 → O.faults out.new ≡ O.faults out.old }
+    ensures later { O.faults out.old ≤ O.faults out.new }
+{
+    match synced {
+        Ok(_) => finish(out, Ending::Done),
+        Err(fault) => close_broken(out, fault),
+    }
+}
+
+/// Opens the client and a link to the address, and syncs over it: the lines of the sync are written. Where no client was
+/// opened the link is left alone.
+pub fn sync<K: Kem, D: Disk, L: Link, O: Sink>(
+    alloc: Global,
+    address: &str,
+    disk: &mut D,
+    link: &mut L,
+    out: &mut O,
+) -> Status
+    requires { IsWithin client_area (D.state disk.old) }
+    ensures runs { Runs (RunsSync D.state L.port K.mechanism disk.old disk.new link.old link.new (O.faults out.old) (O.faults out.new))
+        (O.taken out.old) (O.taken out.new) (O.faults out.old) (O.faults out.new) result.code }
+    // Status 0 says that no call failed.
+    ensures quiet { result.code ≡ 0 → IsQuiet (D.state disk.old) (D.state disk.new) × (O.faults out.new ≡ O.faults out.old)
+        × ((part : Part) → (L.port link.new).faults part ≡ (L.port link.old).faults part) }
+    ensures later { O.faults out.old ≤ O.faults out.new }
+{
+    match Client::<K>::open(alloc, disk) {
+        Err(refusal) => finish(out, unopened(refusal)),
+        Ok(mut client) => match link.open(address) {
+            Err(Failed) => finish(out, Ending::LinkFault),
+            Ok(()) => {
+                let synced = client.sync(disk, link, out, "");
+                link.shut();
+                close(out, synced)
+            }
+        },
+    }
+}
