@@ -1,25 +1,32 @@
-//! The messenger: its arguments, a file for the session, standard input and output, and the system's random source, handed
-//! to the top call.
+//! The messenger: its arguments, a file for the session and one for a relay's boxes, standard input and output, TCP, and the
+//! system's random source, handed to the top call.
 #![tactic(auto)]
 
 use dr_disk::{FileDisk, Sharing};
 use dr_ports::{RandomDraws, ReaderSource, WriterSink};
-use messenger_cli::{DISK_SIZE, run_arguments};
+use messenger_cli::{DISK_SIZE, RELAY_DISK_SIZE, run_arguments};
 use rand::rngs::SysRng;
 use std::env;
 use std::process::ExitCode;
+use tcp_ports::{TcpDoor, TcpLink};
 
 fn main(rt: HostRuntime) -> ExitCode {
     let mut disk = FileDisk::new(&rt, "messenger.state", DISK_SIZE, Sharing::InTurn);
+    let mut relay_disk = FileDisk::new(&rt, "relay.state", RELAY_DISK_SIZE, Sharing::Alone);
     let mut source = ReaderSource::new(rt.stdin());
     let mut out = WriterSink::new(rt.stdout());
+    let mut link = TcpLink::new(&rt);
+    let mut door = TcpDoor::new(&rt);
     let mut draws = RandomDraws::new(SysRng::new(&rt));
     let status = run_arguments(
         rt.alloc(),
         env::args(&rt),
         &mut disk,
+        &mut relay_disk,
         &mut source,
         &mut out,
+        &mut link,
+        &mut door,
         &mut draws,
     );
     ExitCode::from(status.code)

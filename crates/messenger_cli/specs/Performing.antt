@@ -1,8 +1,6 @@
 -- What the program does, command by command.
 use Rattle.std.specs.Prelude.{List, None, Option, Some, [], ℕ, ◌≡◌, ◌⊎◌}
-use Rattle.dr_disk.specs.State.{DiskState}
 use Rattle.dr_model.specs.Machines.Acts.{finishing, sending}
-use Rattle.dr_ports.specs.Seeds.{Seeds}
 use Rattle.endings.specs.Ends.{Ends}
 use Rattle.endings.specs.declared.ending.Ending.{Ending}
 use Rattle.endings.specs.declared.ending.Ending.TheVariants.{NoMemory, Usage}
@@ -13,82 +11,99 @@ use Rattle.session_commands.specs.InWorlds.{RunsAct}
 use Rattle.session_commands.specs.Lines.{inbox_lines, outbox_lines, state_lines}
 use Rattle.session_commands.specs.Runs.{Runs, RunsTake}
 use Rattle.session_commands.specs.Showing.{RunsShow}
+use Rattle.session_commands.specs.Syncing.{RunsSync}
+use Rattle.relay_command.specs.Relaying.{RunsRelay}
 use Rattle.sntrup761.specs.Mechanism.{sntrup761_kem}
-use Rattle.messenger_cli.specs.Held.{Held, IsIdle}
+use Rattle.messenger_cli.specs.Held.{Held, IsIdle, IsOffline, Seen}
 use Rattle.messenger_cli.specs.Making.{PlaysMade}
 use Rattle.messenger_cli.specs.Runs.{RunsDuet}
 
 -- a command that comes to an ending with its lines, and what was written of them
-abbrev pub Writes : {X S W : Type 0} → (Ending → List ℕ → Type 0) → Held X S W → Held X S W → ℕ → Type 0
+abbrev pub Writes : {X R S L A W : Type 0} → (Ending → List ℕ → Type 0) → Held X R S L A W → Held X R S L A W → ℕ → Type 0
 Writes comes old new code = Runs comes old.taken new.taken old.writes new.writes code
 
 -- nothing was done: just this last line was written
-pub record EndsIdle {X S W : Type 0} (ending : Ending) (old new : Held X S W) (code : ℕ) : Type 0 where
+pub record EndsIdle {X R S L A W : Type 0} (ending : Ending) (old new : Held X R S L A W) (code : ℕ) : Type 0 where
   pub ends : Ends ending [] old.taken new.taken old.writes new.writes code
   pub idle : IsIdle old new
 
 -- a command on the disk and the source
-pub record ReadsAndWrites {X S W : Type 0} (comes : Ending → List ℕ → Type 0) (old new : Held X S W) (code : ℕ) : Type 0 where
+pub record ReadsAndWrites {X R S L A W : Type 0} (comes : Ending → List ℕ → Type 0) (old new : Held X R S L A W) (code : ℕ) : Type 0 where
   pub writes : Writes comes old new code
   pub draws : new.draws ≡ old.draws
+  pub offline : IsOffline old new
 
 -- a command on the disk and the draws
-pub record DrawsAndWrites {X S W : Type 0} (comes : Ending → List ℕ → Type 0) (old new : Held X S W) (code : ℕ) : Type 0 where
+pub record DrawsAndWrites {X R S L A W : Type 0} (comes : Ending → List ℕ → Type 0) (old new : Held X R S L A W) (code : ℕ) : Type 0 where
   pub writes : Writes comes old new code
   pub source : new.source ≡ old.source
+  pub offline : IsOffline old new
 
 -- a command on the disk alone
-pub record WritesAlone {X S W : Type 0} (comes : Ending → List ℕ → Type 0) (old new : Held X S W) (code : ℕ) : Type 0 where
+pub record WritesAlone {X R S L A W : Type 0} (comes : Ending → List ℕ → Type 0) (old new : Held X R S L A W) (code : ℕ) : Type 0 where
   pub writes : Writes comes old new code
   pub source : new.source ≡ old.source
   pub draws : new.draws ≡ old.draws
+  pub offline : IsOffline old new
 
--- a script is played: the disk and the draws are left alone
-pub record PlaysAlone {X S W : Type 0} (left : S → Option (List ℕ)) (reads : S → ℕ) (old new : Held X S W) (code : ℕ) : Type 0 where
-  pub plays : RunsDuet (left old.source) (left new.source) (reads old.source) (reads new.source) old.taken new.taken old.writes new.writes code
+-- a script is played: the disks, the link, the door and the draws are left alone
+pub record PlaysAlone {X R S L A W : Type 0} (seen : Seen X R S L A W) (old new : Held X R S L A W) (code : ℕ) : Type 0 where
+  pub plays : RunsDuet (seen.left old.source) (seen.left new.source) (seen.reads old.source) (seen.reads new.source) old.taken new.taken
+      old.writes new.writes code
   pub disk : new.disk ≡ old.disk
   pub draws : new.draws ≡ old.draws
+  pub offline : IsOffline old new
 
 -- a script made from a number is played: all but the sink is left alone
-pub record MakesAlone {X S W : Type 0} (rounds number : ℕ) (old new : Held X S W) (code : ℕ) : Type 0 where
+pub record MakesAlone {X R S L A W : Type 0} (rounds number : ℕ) (old new : Held X R S L A W) (code : ℕ) : Type 0 where
   pub writes : Writes (PlaysMade rounds number) old new code
   pub idle : IsIdle old new
 
+-- a sync: the relay's disk, the source, the door and the draws are left alone
+pub record SyncsAlone {X R S L A W : Type 0} (seen : Seen X R S L A W) (old new : Held X R S L A W) (code : ℕ) : Type 0 where
+  pub writes : Writes (RunsSync seen.disk seen.link sntrup761_kem old.disk new.disk old.link new.link old.writes new.writes) old new code
+  pub relay_disk : new.relay_disk ≡ old.relay_disk
+  pub source : new.source ≡ old.source
+  pub door : new.door ≡ old.door
+  pub draws : new.draws ≡ old.draws
+
+-- a relay serves: the session's disk, the source, the link and the draws are left alone
+pub record ServesAlone {X R S L A W : Type 0} (seen : Seen X R S L A W) (port count : ℕ) (boxes : List (List ℕ)) (old new : Held X R S L A W)
+    (code : ℕ) : Type 0 where
+  pub serves : RunsRelay seen.relay_disk seen.door boxes port count old.relay_disk new.relay_disk old.door new.door old.taken new.taken
+      old.writes new.writes code
+  pub disk : new.disk ≡ old.disk
+  pub source : new.source ≡ old.source
+  pub link : new.link ≡ old.link
+  pub draws : new.draws ≡ old.draws
+
 -- What a command comes to. Sessions are over sntrup761.
-abbrev pub Performs : {X S W : Type 0} → (X → DiskState) → (S → Option (List ℕ)) → (S → ℕ) → (W → Option Seeds) → (W → ℕ)
-    → Work → Held X S W → Held X S W → ℕ → Type 0
-Performs state left reads coming faults (begins side) old new code =
-    ReadsAndWrites (RunsBegin state sntrup761_kem side (left old.source) (left new.source) (reads old.source) (reads new.source) old.disk new.disk)
-    old new code
-Performs state left reads coming faults (says text) old new code =
-    DrawsAndWrites (RunsAct state sntrup761_kem (asked_say coming faults text old.draws new.draws) old.disk new.disk) old new code
-Performs state left reads coming faults takes old new code =
-    ReadsAndWrites (RunsTake state sntrup761_kem (left old.source) (left new.source) (reads old.source) (reads new.source) old.disk new.disk)
-    old new code
-Performs state left reads coming faults (drops_done n) old new code =
-    WritesAlone (RunsAct state sntrup761_kem (asked_drop (finishing n)) old.disk new.disk) old new code
-Performs state left reads coming faults (drops_sent n) old new code =
-    WritesAlone (RunsAct state sntrup761_kem (asked_drop (sending n)) old.disk new.disk) old new code
-Performs state left reads coming faults shows_inbox old new code =
-    WritesAlone (RunsShow state sntrup761_kem inbox_lines old.disk new.disk) old new code
-Performs state left reads coming faults shows_outbox old new code =
-    WritesAlone (RunsShow state sntrup761_kem outbox_lines old.disk new.disk) old new code
-Performs state left reads coming faults shows_state old new code =
-    WritesAlone (RunsShow state sntrup761_kem state_lines old.disk new.disk) old new code
-Performs state left reads coming faults plays old new code = PlaysAlone left reads old new code
-Performs state left reads coming faults (plays_made rounds number) old new code = MakesAlone rounds number old new code
--- these commands are read, and not built in yet
-Performs state left reads coming faults (syncs address) old new code = EndsIdle Usage old new code
-Performs state left reads coming faults (serves port count boxes) old new code = EndsIdle Usage old new code
+abbrev pub Performs : {X R S L A W : Type 0} → Seen X R S L A W → Work → Held X R S L A W → Held X R S L A W → ℕ → Type 0
+Performs seen (begins side) old new code =
+    ReadsAndWrites (RunsBegin seen.disk sntrup761_kem side (seen.left old.source) (seen.left new.source) (seen.reads old.source)
+    (seen.reads new.source) old.disk new.disk) old new code
+Performs seen (says text) old new code =
+    DrawsAndWrites (RunsAct seen.disk sntrup761_kem (asked_say seen.coming seen.draw_faults text old.draws new.draws) old.disk new.disk) old new code
+Performs seen takes old new code =
+    ReadsAndWrites (RunsTake seen.disk sntrup761_kem (seen.left old.source) (seen.left new.source) (seen.reads old.source)
+    (seen.reads new.source) old.disk new.disk) old new code
+Performs seen (drops_done n) old new code =
+    WritesAlone (RunsAct seen.disk sntrup761_kem (asked_drop (finishing n)) old.disk new.disk) old new code
+Performs seen (drops_sent n) old new code =
+    WritesAlone (RunsAct seen.disk sntrup761_kem (asked_drop (sending n)) old.disk new.disk) old new code
+Performs seen shows_inbox old new code = WritesAlone (RunsShow seen.disk sntrup761_kem inbox_lines old.disk new.disk) old new code
+Performs seen shows_outbox old new code = WritesAlone (RunsShow seen.disk sntrup761_kem outbox_lines old.disk new.disk) old new code
+Performs seen shows_state old new code = WritesAlone (RunsShow seen.disk sntrup761_kem state_lines old.disk new.disk) old new code
+Performs seen plays old new code = PlaysAlone seen old new code
+Performs seen (plays_made rounds number) old new code = MakesAlone rounds number old new code
+Performs seen (serves port count boxes) old new code = ServesAlone seen port count boxes old new code
+Performs seen (syncs address) old new code = SyncsAlone seen old new code
 
 -- What the program does on words: what the command that they are comes to, or the last line of words that are none.
-abbrev pub Answers : {X S W : Type 0} → (X → DiskState) → (S → Option (List ℕ)) → (S → ℕ) → (W → Option Seeds) → (W → ℕ)
-    → Option Work → Held X S W → Held X S W → ℕ → Type 0
-Answers state left reads coming faults None old new code = EndsIdle Usage old new code
-Answers state left reads coming faults (Some work) old new code = Performs state left reads coming faults work old new code
+abbrev pub Answers : {X R S L A W : Type 0} → Seen X R S L A W → Option Work → Held X R S L A W → Held X R S L A W → ℕ → Type 0
+Answers seen None old new code = EndsIdle Usage old new code
+Answers seen (Some work) old new code = Performs seen work old new code
 
 -- or memory was wanting for the words, and nothing was done
-abbrev pub RunsProgram : {X S W : Type 0} → (X → DiskState) → (S → Option (List ℕ)) → (S → ℕ) → (W → Option Seeds) → (W → ℕ)
-    → Option Work → Held X S W → Held X S W → ℕ → Type 0
-RunsProgram state left reads coming faults asked old new code =
-    Answers state left reads coming faults asked old new code ⊎ EndsIdle NoMemory old new code
+abbrev pub RunsProgram : {X R S L A W : Type 0} → Seen X R S L A W → Option Work → Held X R S L A W → Held X R S L A W → ℕ → Type 0
+RunsProgram seen asked old new code = Answers seen asked old new code ⊎ EndsIdle NoMemory old new code

@@ -2,16 +2,19 @@
 
 ghost use Rattle.std.specs.Prelude.{◌≡◌, ◌≤◌, IfOk, IfErr, map, string_bytes};
 ghost use Rattle.dr_disk.specs.Spans.{IsQuiet};
+ghost use Rattle.dr_ports.specs.declared.pipe.Part.{Part};
+ghost use Rattle.dr_ports.specs.declared.pipe.Part.TheVariants.{Gate};
 ghost use Rattle.slot_store.specs.Store.{IsWithin};
 ghost use Rattle.client.specs.Clients.{client_area};
 ghost use Rattle.command_words.specs.Commands.{command_of};
 ghost use Rattle.messenger_cli.specs.Arguments.{HasWords, ending_without_words, words_of};
-ghost use Rattle.messenger_cli.specs.Held.{held};
+ghost use Rattle.messenger_cli.specs.declared.program.TheConstants.{RELAY_DISK_SIZE};
+ghost use Rattle.messenger_cli.specs.Held.{held, seen};
 ghost use Rattle.messenger_cli.specs.Performing.{EndsIdle, RunsProgram};
 
 use crate::program::run;
 use dr_disk::Disk;
-use dr_ports::{Draws, Sink, Source};
+use dr_ports::{Door, Draws, Link, Sink, Source};
 use endings::{Ending, Status, finish};
 use std::alloc::{AllocError, Global};
 use std::env::Args;
@@ -48,32 +51,50 @@ fn words(alloc: Global, arguments: io::Result<Args>) -> Result<Vec<String>, Endi
 
 /// Runs the program on its arguments, as the system gave them: the first is the program's name, the others are the
 /// words. Where one of them isn't text, the system gives an error in their place.
-pub fn run_arguments<D: Disk, S: Source, O: Sink, W: Draws>(
+pub fn run_arguments<D: Disk, R: Disk, S: Source, O: Sink, L: Link, A: Door, W: Draws>(
     alloc: Global,
     arguments: io::Result<Args>,
     disk: &mut D,
+    relay_disk: &mut R,
     source: &mut S,
     out: &mut O,
+    link: &mut L,
+    door: &mut A,
     draws: &mut W,
 ) -> Status
-    requires { IsWithin client_area (D.state disk.old) }
-    ensures runs { IfOk arguments (λ given. RunsProgram D.state S.left S.faults W.coming W.faults
+    requires within { IsWithin client_area (D.state disk.old) }
+    requires areas { RELAY_DISK_SIZE ≤ (R.state relay_disk.old).size }
+    ensures runs { IfOk arguments (λ given. RunsProgram (seen D.state R.state S.left S.faults L.port A.port W.coming W.faults)
         (command_of (map string_bytes (words_of given)))
-        (held disk.old source.old draws.old (O.taken out.old) (O.faults out.old))
-        (held disk.new source.new draws.new (O.taken out.new) (O.faults out.new)) result.code) }
+        (held disk.old relay_disk.old source.old link.old door.old draws.old (O.taken out.old) (O.faults out.old))
+        (held disk.new relay_disk.new source.new link.new door.new draws.new (O.taken out.new) (O.faults out.new)) result.code) }
     // Arguments that aren't text are no command.
     ensures unreadable { IfErr arguments (λ error. EndsIdle (ending_without_words error)
-        (held disk.old source.old draws.old (O.taken out.old) (O.faults out.old))
-        (held disk.new source.new draws.new (O.taken out.new) (O.faults out.new)) result.code) }
+        (held disk.old relay_disk.old source.old link.old door.old draws.old (O.taken out.old) (O.faults out.old))
+        (held disk.new relay_disk.new source.new link.new door.new draws.new (O.taken out.new) (O.faults out.new)) result.code) }
     ensures reads { S.faults source.old ≤ S.faults source.new }
     ensures writes { O.faults out.old ≤ O.faults out.new }
-    // Status 0 says that no call on the disk, no read, no write and no draw failed.
+    // Status 0 says that no call on a disk, no read, no write, no draw and no call on the link failed, and no listening or
+    // accepting of the door.
     ensures quiet { result.code ≡ 0 → IsQuiet (D.state disk.old) (D.state disk.new)
+        × IsQuiet (R.state relay_disk.old) (R.state relay_disk.new)
         × (S.faults source.new ≡ S.faults source.old) × (O.faults out.new ≡ O.faults out.old)
-        × (W.faults draws.new ≡ W.faults draws.old) }
+        × (W.faults draws.new ≡ W.faults draws.old)
+        × ((part : Part) → (L.port link.new).faults part ≡ (L.port link.old).faults part)
+        × ((A.port door.new).faults Gate ≡ (A.port door.old).faults Gate) }
 {
     match words(alloc, arguments) {
-        Ok(words) => run(alloc, words.as_slice(), disk, source, out, draws),
+        Ok(words) => run(
+            alloc,
+            words.as_slice(),
+            disk,
+            relay_disk,
+            source,
+            out,
+            link,
+            door,
+            draws,
+        ),
         Err(ending) => finish(out, ending),
     }
 }

@@ -3,7 +3,7 @@
 
 pub use arguments::run_arguments;
 pub use endings::Status;
-pub use program::{DISK_SIZE, run};
+pub use program::{DISK_SIZE, RELAY_DISK_SIZE, run};
 
 mod arguments;
 mod making;

@@ -2,41 +2,53 @@
 
 ghost use Rattle.std.specs.Prelude.{◌≡◌, ◌≤◌};
 ghost use Rattle.dr_disk.specs.Spans.{IsQuiet};
+ghost use Rattle.dr_ports.specs.declared.pipe.Part.{Part};
+ghost use Rattle.dr_ports.specs.declared.pipe.Part.TheVariants.{Gate};
 ghost use Rattle.slot_store.specs.Store.{IsWithin};
 ghost use Rattle.client.specs.Clients.{client_area};
 ghost use Rattle.command_words.specs.Seen.{work_of};
-ghost use Rattle.messenger_cli.specs.Held.{held};
+ghost use Rattle.messenger_cli.specs.declared.program.TheConstants.{RELAY_DISK_SIZE};
+ghost use Rattle.messenger_cli.specs.Held.{held, seen};
 ghost use Rattle.messenger_cli.specs.Performing.{Performs};
 
 use crate::making::play_made;
 use crate::playing::play_script;
 use command_words::Command;
 use dr_disk::Disk;
-use dr_ports::{Draws, Sink, Source};
-use endings::{Ending, Status, finish};
-use session_commands::{begin, done, inbox, outbox, say, sent, state, take};
+use dr_ports::{Door, Draws, Link, Sink, Source};
+use endings::Status;
+use relay_command::relay;
+use session_commands::{begin, done, inbox, outbox, say, sent, state, sync, take};
 use sntrup761::Sntrup761;
 use std::alloc::Global;
 
 /// Does a command's work, and answers its status.
-pub(crate) fn perform<D: Disk, S: Source, O: Sink, W: Draws>(
+pub(crate) fn perform<D: Disk, R: Disk, S: Source, O: Sink, L: Link, A: Door, W: Draws>(
     alloc: Global,
     command: Command<'_>,
     disk: &mut D,
+    relay_disk: &mut R,
     source: &mut S,
     out: &mut O,
+    link: &mut L,
+    door: &mut A,
     draws: &mut W,
 ) -> Status
-    requires { IsWithin client_area (D.state disk.old) }
-    ensures performs { Performs D.state S.left S.faults W.coming W.faults (work_of command.entry)
-        (held disk.old source.old draws.old (O.taken out.old) (O.faults out.old))
-        (held disk.new source.new draws.new (O.taken out.new) (O.faults out.new)) result.code }
+    requires within { IsWithin client_area (D.state disk.old) }
+    requires areas { RELAY_DISK_SIZE ≤ (R.state relay_disk.old).size }
+    ensures performs { Performs (seen D.state R.state S.left S.faults L.port A.port W.coming W.faults) (work_of command.entry)
+        (held disk.old relay_disk.old source.old link.old door.old draws.old (O.taken out.old) (O.faults out.old))
+        (held disk.new relay_disk.new source.new link.new door.new draws.new (O.taken out.new) (O.faults out.new)) result.code }
     ensures reads { S.faults source.old ≤ S.faults source.new }
     ensures writes { O.faults out.old ≤ O.faults out.new }
-    // Status 0 says that no call on the disk, no read, no write and no draw failed.
+    // Status 0 says that no call on a disk, no read, no write, no draw and no call on the link failed, and no listening or
+    // accepting of the door.
     ensures quiet { result.code ≡ 0 → IsQuiet (D.state disk.old) (D.state disk.new)
+        × IsQuiet (R.state relay_disk.old) (R.state relay_disk.new)
         × (S.faults source.new ≡ S.faults source.old) × (O.faults out.new ≡ O.faults out.old)
-        × (W.faults draws.new ≡ W.faults draws.old) }
+        × (W.faults draws.new ≡ W.faults draws.old)
+        × ((part : Part) → (L.port link.new).faults part ≡ (L.port link.old).faults part)
+        × ((A.port door.new).faults Gate ≡ (A.port door.old).faults Gate) }
 {
     match command {
         Command::Begin(side) => begin::<Sntrup761, D, S, O>(alloc, side, disk, source, out),
@@ -48,8 +60,16 @@ pub(crate) fn perform<D: Disk, S: Source, O: Sink, W: Draws>(
         Command::Outbox => outbox::<Sntrup761, D, O>(alloc, disk, out),
         Command::State => state::<Sntrup761, D, O>(alloc, disk, out),
         Command::Duet => play_script(alloc, source, out),
-        Command::Sync(_) => finish(out, Ending::Usage),
-        Command::Relay { .. } => finish(out, Ending::Usage),
+        Command::Sync(address) => sync::<Sntrup761, D, L, O>(alloc, address, disk, link, out),
+        Command::Relay { port, count, boxes } => relay(
+            alloc,
+            port,
+            count,
+            boxes.as_slice(),
+            relay_disk,
+            door,
+            out,
+        ),
         Command::DuetMake { rounds, number } => play_made(alloc, rounds, number, out),
     }
 }

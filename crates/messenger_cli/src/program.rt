@@ -2,49 +2,66 @@
 
 ghost use Rattle.std.specs.Prelude.{◌≡◌, ◌≤◌, map, string_bytes};
 ghost use Rattle.dr_disk.specs.Spans.{IsQuiet};
+ghost use Rattle.dr_ports.specs.declared.pipe.Part.{Part};
+ghost use Rattle.dr_ports.specs.declared.pipe.Part.TheVariants.{Gate};
 ghost use Rattle.slot_store.specs.Store.{IsWithin};
 ghost use Rattle.client.specs.Clients.{client_area};
 ghost use Rattle.command_words.specs.Commands.{command_of};
-ghost use Rattle.messenger_cli.specs.Held.{held};
+ghost use Rattle.messenger_cli.specs.declared.program.TheConstants.{RELAY_DISK_SIZE};
+ghost use Rattle.messenger_cli.specs.Held.{held, seen};
 ghost use Rattle.messenger_cli.specs.Performing.{RunsProgram};
 
 use crate::performing::perform;
 use command_words::parse;
 use dr_disk::Disk;
-use dr_ports::{Draws, Sink, Source};
+use dr_ports::{Door, Draws, Link, Sink, Source};
 use endings::{Ending, Status, finish};
 use std::alloc::{AllocError, Global};
 
 /// The size of the disk of a session, in bytes: two slots of a client.
 pub const DISK_SIZE: u64 = 393216;
 
-/// Runs the program on its words, the arguments behind its name: the session is kept on `disk`, which is lent as the last
-/// run left it, texts come from `source`, lines go to `out`, and seeds are drawn from `draws`. It answers the status that
-/// the program ends with.
-pub fn run<D: Disk, S: Source, O: Sink, W: Draws>(
+/// The size of the disk of a relay, in bytes: the areas of 16 boxes.
+pub const RELAY_DISK_SIZE: u64 = 8388608;
+
+/// Runs the program on its words, the arguments behind its name: the session is kept on `disk` and a relay's boxes on
+/// `relay_disk`, which are lent as the last run left them; texts come from `source`, lines go to `out`, a sync goes over
+/// `link`, a relay's connections come in by `door`, and seeds are drawn from `draws`. It answers the status that the program
+/// ends with.
+pub fn run<D: Disk, R: Disk, S: Source, O: Sink, L: Link, A: Door, W: Draws>(
     alloc: Global,
     words: &[String],
     disk: &mut D,
+    relay_disk: &mut R,
     source: &mut S,
     out: &mut O,
+    link: &mut L,
+    door: &mut A,
     draws: &mut W,
 ) -> Status
-    requires { IsWithin client_area (D.state disk.old) }
+    requires within { IsWithin client_area (D.state disk.old) }
+    requires areas { RELAY_DISK_SIZE ≤ (R.state relay_disk.old).size }
     // The headline, command by command: what is written, why it ended so, what every crash meanwhile and a read at the end
     // stand for, what was read and what was drawn. Memory may be wanting for the words; then nothing was done.
-    ensures runs { RunsProgram D.state S.left S.faults W.coming W.faults (command_of (map string_bytes words.now))
-        (held disk.old source.old draws.old (O.taken out.old) (O.faults out.old))
-        (held disk.new source.new draws.new (O.taken out.new) (O.faults out.new)) result.code }
+    ensures runs { RunsProgram (seen D.state R.state S.left S.faults L.port A.port W.coming W.faults) (command_of (map string_bytes words.now))
+        (held disk.old relay_disk.old source.old link.old door.old draws.old (O.taken out.old) (O.faults out.old))
+        (held disk.new relay_disk.new source.new link.new door.new draws.new (O.taken out.new) (O.faults out.new)) result.code }
     ensures reads { S.faults source.old ≤ S.faults source.new }
     ensures writes { O.faults out.old ≤ O.faults out.new }
-    // Status 0 says that no call on the disk, no read, no write and no draw failed.
+    // Status 0 says that no call on a disk, no read, no write, no draw and no call on the link failed, and no listening or
+    // accepting of the door.
     ensures quiet { result.code ≡ 0 → IsQuiet (D.state disk.old) (D.state disk.new)
+        × IsQuiet (R.state relay_disk.old) (R.state relay_disk.new)
         × (S.faults source.new ≡ S.faults source.old) × (O.faults out.new ≡ O.faults out.old)
-        × (W.faults draws.new ≡ W.faults draws.old) }
+        × (W.faults draws.new ≡ W.faults draws.old)
+        × ((part : Part) → (L.port link.new).faults part ≡ (L.port link.old).faults part)
+        × ((A.port door.new).faults Gate ≡ (A.port door.old).faults Gate) }
 {
     match parse(alloc, words) {
         Err(AllocError) => finish(out, Ending::NoMemory),
         Ok(None) => finish(out, Ending::Usage),
-        Ok(Some(command)) => perform(alloc, command, disk, source, out, draws),
+        Ok(Some(command)) => perform(
+            alloc, command, disk, relay_disk, source, out, link, door, draws,
+        ),
     }
 }

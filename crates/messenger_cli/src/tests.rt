@@ -1,9 +1,12 @@
 //! Runs of the program, with the lines and the status that each must have.
 
-use crate::{DISK_SIZE, Status, run, run_arguments};
+use crate::{DISK_SIZE, RELAY_DISK_SIZE, Status, run, run_arguments};
 use dr_base::Key32;
 use dr_disk::{Disk, SteadyDisk};
-use dr_ports::{MemorySink, MemorySource, ReaderSource, Sink, Source, SteadyDraws, WriterSink};
+use dr_ports::{
+    MemoryDoor, MemoryLink, MemorySink, MemorySource, ReaderSource, Sink, Source, SteadyDraws,
+    WriterSink,
+};
 use scenarios::{HEAD, SCENARIOS};
 use std::alloc::{AllocError, Global};
 use std::io;
@@ -20,11 +23,31 @@ const HELLO: &[u8] =
 const HELLO_TRACE: &[u8] =
     b"second said 0.1\nfirst opened 0.1\nfirst inbox 1\nfirst 0.1 \"hi\"\nfirst refused Spent 0.1\n";
 
+/// The network of a run: a relay's disk, a link, and a door.
+#[derive(Drop)]
+struct Network {
+    relay_disk: SteadyDisk,
+    link: MemoryLink,
+    door: MemoryDoor,
+}
+
+impl Network {
+    /// A relay's disk of zeros, a link that gives these bytes, and a door whose one connection holds these.
+    fn new(alloc: Global, link: &[u8], door: &[u8]) -> Result<Network, AllocError> {
+        Ok(Network {
+            relay_disk: SteadyDisk::new(alloc, RELAY_DISK_SIZE)?,
+            link: MemoryLink::new(alloc, link, 4096, &[])?,
+            door: MemoryDoor::new(alloc, door, &[door.len()], 4096, &[], &[])?,
+        })
+    }
+}
+
 /// Runs the program on words, between bars, on a disk of the size that it asks for.
 fn run_on<D: Disk, S: Source, O: Sink>(
     alloc: Global,
     line: &str,
     disk: &mut D,
+    network: &mut Network,
     source: &mut S,
     out: &mut O,
 ) -> Result<Status, AllocError> {
@@ -34,25 +57,37 @@ fn run_on<D: Disk, S: Source, O: Sink>(
     }
     let seeds = [Key32 { bytes: [7; 32] }, Key32 { bytes: [8; 32] }];
     let mut draws = SteadyDraws::new(alloc, &seeds)?;
-    if disk.size() < DISK_SIZE {
+    if disk.size() < DISK_SIZE || network.relay_disk.size() < RELAY_DISK_SIZE {
         return Err(AllocError);
     }
-    Ok(run(alloc, words.as_slice(), disk, source, out, &mut draws))
+    Ok(run(
+        alloc,
+        words.as_slice(),
+        disk,
+        &mut network.relay_disk,
+        source,
+        out,
+        &mut network.link,
+        &mut network.door,
+        &mut draws,
+    ))
 }
 
 fn run_duet<S: Source, O: Sink>(
     alloc: Global,
+    network: &mut Network,
     source: &mut S,
     out: &mut O,
 ) -> Result<Status, AllocError> {
     let mut disk = SteadyDisk::new(alloc, DISK_SIZE)?;
-    run_on(alloc, "duet", &mut disk, source, out)
+    run_on(alloc, "duet", &mut disk, network, source, out)
 }
 
 /// The status of a script, and whether just these bytes were written. The reads and the writes of these numbers fail,
 /// and there is room for this many bytes.
 fn outcome(
     alloc: Global,
+    network: &mut Network,
     script: &[u8],
     reads: &[u64],
     writes: &[u64],
@@ -61,7 +96,7 @@ fn outcome(
 ) -> Result<(u8, bool), AllocError> {
     let mut source = MemorySource::new(alloc, script, reads)?;
     let mut out = MemorySink::new(alloc, room, writes)?;
-    let status = run_duet(alloc, &mut source, &mut out)?;
+    let status = run_duet(alloc, network, &mut source, &mut out)?;
     Ok((status.code, out.taken() == expected))
 }
 
@@ -98,7 +133,12 @@ fn put_lines(text: &mut Vec<u8>, alloc: Global, lines: &str) -> Result<(), Alloc
 }
 
 /// Whether a scenario's script is answered with its lines.
-fn holds(alloc: Global, script: &str, answers: &str) -> Result<bool, AllocError> {
+fn holds(
+    alloc: Global,
+    network: &mut Network,
+    script: &str,
+    answers: &str,
+) -> Result<bool, AllocError> {
     let mut text = Vec::new(alloc);
     if !script.starts_with("kem") {
         text.extend_from_slice(HEAD.as_bytes())?;
@@ -111,23 +151,34 @@ fn holds(alloc: Global, script: &str, answers: &str) -> Result<bool, AllocError>
     } else {
         0
     };
-    Ok(outcome(alloc, text.as_slice(), &[], &[], 16384, expected.as_slice())? == (status, true))
+    Ok(
+        outcome(
+            alloc,
+            network,
+            text.as_slice(),
+            &[],
+            &[],
+            16384,
+            expected.as_slice(),
+        )? == (status, true),
+    )
 }
 
 #[test]
 fn answers_scripts(rt: HostRuntime) -> Result<(), Fail> {
     let alloc = rt.alloc();
+    let mut network = Network::new(alloc, b"", b"")?;
     let mut count = 0_u32;
     for scenario in SCENARIOS.split("\n\n") {
         if let Some((title, lines)) = scenario.split_once('\n') {
             let (script, answers) = lines.split_once("\n=>\n").ok_or("no answers")?;
-            assert!(rt; holds(alloc, script, answers)?, "{title}");
+            assert!(rt; holds(alloc, &mut network, script, answers)?, "{title}");
             count = count.wrapping_add(1);
         }
     }
     assert_eq!(rt; count, 39);
     assert_eq!(rt;
-        outcome(alloc, HELLO, &[], &[], 4096, HELLO_TRACE)?,
+        outcome(alloc, &mut network, HELLO, &[], &[], 4096, HELLO_TRACE)?,
         (0, true)
     );
     Ok(())
@@ -136,6 +187,7 @@ fn answers_scripts(rt: HostRuntime) -> Result<(), Fail> {
 #[test]
 fn says_what_failed(rt: HostRuntime) -> Result<(), Fail> {
     let alloc = rt.alloc();
+    let mut network = Network::new(alloc, b"", b"")?;
     // reads and writes that fail, the room, what is written, and the status
     let cases: [(&[u64], &[u64], usize, &[u8], u8); 7] = [
         (&[1], &[], 4096, b"fault: read\n", 4),
@@ -148,15 +200,19 @@ fn says_what_failed(rt: HostRuntime) -> Result<(), Fail> {
     ];
     for (reads, writes, room, expected, status) in cases {
         assert_eq!(rt;
-            outcome(alloc, HELLO, reads, writes, room, expected)?,
+            outcome(alloc, &mut network, HELLO, reads, writes, room, expected)?,
             (status, true)
         );
     }
-    assert_eq!(rt; outcome(alloc, b"", &[], &[], 0, b"")?, (5, true));
+    assert_eq!(rt;
+        outcome(alloc, &mut network, b"", &[], &[], 0, b"")?,
+        (5, true)
+    );
     let long = vec![in alloc; 10; 65537]?;
     assert_eq!(rt;
         outcome(
             alloc,
+            &mut network,
             long.as_slice(),
             &[],
             &[],
@@ -181,7 +237,18 @@ fn runs_over_std(rt: HostRuntime) -> Result<(), Fail> {
     let mut bytes = [0; 86];
     let mut out = WriterSink::new(Cursor::new(bytes.as_mut_slice()));
     let given = Ok(arguments.into_iter());
-    let status = run_arguments(alloc, given, &mut disk, &mut source, &mut out, &mut draws);
+    let mut network = Network::new(alloc, b"", b"")?;
+    let status = run_arguments(
+        alloc,
+        given,
+        &mut disk,
+        &mut network.relay_disk,
+        &mut source,
+        &mut out,
+        &mut network.link,
+        &mut network.door,
+        &mut draws,
+    );
     assert_eq!(rt; status.code, 0);
     drop(out);
     assert_eq!(rt; bytes.as_slice(), HELLO_TRACE);
@@ -198,10 +265,19 @@ fn asks_for_words(rt: HostRuntime) -> Result<(), Fail> {
     for (kind, status) in cases {
         let unread = Err(io::Error::from(kind));
         let mut disk = SteadyDisk::new(alloc, DISK_SIZE)?;
-        assert_eq!(rt;
-            run_arguments(alloc, unread, &mut disk, &mut source, &mut out, &mut draws).code,
-            status
+        let mut network = Network::new(alloc, b"", b"")?;
+        let ended = run_arguments(
+            alloc,
+            unread,
+            &mut disk,
+            &mut network.relay_disk,
+            &mut source,
+            &mut out,
+            &mut network.link,
+            &mut network.door,
+            &mut draws,
         );
+        assert_eq!(rt; ended.code, status);
     }
     assert_eq!(rt; out.taken(), b"usage\nno memory\n".as_slice());
     Ok(())
