@@ -1,19 +1,18 @@
 //! Measures the messenger: medians of many runs. The word `run` measures the path of a text, the word `ring` the
 //! arithmetic of the key encapsulation and a turn, the word `store` a record in memory and on a
-//! file, and a client on a file. Without a word it prints one fixed line.
+//! file, a relay over loopback, and a client on a file. Without a word it prints one fixed line.
 #![tactic(auto)]
 
-use dr_ports::NullSink;
 use std::{env, io};
 
 mod cipher;
 mod clock;
 mod mechanism;
 mod message;
+mod network;
 mod record;
 mod relay;
 mod ring;
-mod script;
 mod session;
 mod store;
 mod turn;
@@ -25,8 +24,7 @@ fn main(rt: HostRuntime) -> io::Result<()> {
         Some(word) if word.as_str() == "run" => {
             cipher::report(&rt)?;
             message::report(&rt)?;
-            relay::report(&rt)?;
-            script::report(&rt, &mut NullSink::new())
+            relay::report(&rt)
         }
         Some(word) if word.as_str() == "ring" => {
             ring::report(&rt)?;
@@ -36,6 +34,7 @@ fn main(rt: HostRuntime) -> io::Result<()> {
         Some(word) if word.as_str() == "store" => {
             record::report(&rt)?;
             store::report(&rt)?;
+            network::report(&rt)?;
             session::report(&rt)
         }
         _ => println!(rt; "bench: give the word run, ring or store, and wait some seconds"),

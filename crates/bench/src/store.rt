@@ -70,10 +70,13 @@ fn time_store<R: Clock + AllocGlobal + Files<File = File>>(rt: &R, text: &[u8]) 
     Ok(times.median()? / 1000)
 }
 
-/// The median time of the same writes and syncs.
-fn time_bare<R: Clock + AllocGlobal + Files<File = File>>(rt: &R) -> io::Result<u64> {
-    let body = vec![in rt.alloc(); 1; SLOT as usize - 1]?;
-    let zeros = vec![in rt.alloc(); 0; SLOT as usize - 1]?;
+/// The median time of the writes and syncs with which a record in slots of this size is replaced, in microseconds.
+pub fn time_bare<R: Clock + AllocGlobal + Files<File = File>>(
+    rt: &R,
+    slot: usize,
+) -> io::Result<u64> {
+    let body = vec![in rt.alloc(); 1; slot.saturating_sub(1)]?;
+    let zeros = vec![in rt.alloc(); 0; slot.saturating_sub(1)]?;
     let file = OpenOptions::new()
         .read(true)
         .write(true)
@@ -86,12 +89,13 @@ fn time_bare<R: Clock + AllocGlobal + Files<File = File>>(rt: &R) -> io::Result<
         file.sync_data()?;
         file.write_all_at(&[0xa5], 0)?;
         file.sync_data()?;
-        file.write_all_at(&[0], SLOT as u64)?;
+        file.write_all_at(&[0], slot as u64)?;
         file.sync_data()?;
-        file.write_all_at(&zeros, SLOT as u64 + 1)?;
+        file.write_all_at(&zeros, (slot as u64).saturating_add(1))?;
         file.sync_data()?;
         times.add(rt, start)?;
     }
+    fs::remove_file(rt, BARE)?;
     Ok(times.median()? / 1000)
 }
 
@@ -99,9 +103,8 @@ fn time_bare<R: Clock + AllocGlobal + Files<File = File>>(rt: &R) -> io::Result<
 pub fn report<R: Clock + Print + AllocGlobal + Files<File = File>>(rt: &R) -> io::Result<()> {
     let text = vec![in rt.alloc(); 7; RECORD]?;
     let store = time_store(rt, &text)?;
-    let bare = time_bare(rt)?;
+    let bare = time_bare(rt, SLOT as usize)?;
     fs::remove_file(rt, STORE)?;
-    fs::remove_file(rt, BARE)?;
     println!(rt;
         "a record of 185,726 bytes replaced on a file: {store} us; its writes and syncs alone: {bare} us"
     )
