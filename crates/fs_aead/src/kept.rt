@@ -27,16 +27,15 @@ fn copied(kept: &Kept) -> Kept
     }
 }
 
-/// A second copy of kept keys.
-pub fn copy_of_keys(keys: &[Kept]) -> ArrayVec<Kept, KEPT_LIMIT>
+/// Makes an array a copy of kept keys, in place.
+pub fn copy_keys(keys: &[Kept], copy: &mut ArrayVec<Kept, KEPT_LIMIT>)
     requires { length keys.now ≤ KEPT_LIMIT }
-    ensures { result.items ≡ keys.now }
+    ensures { copy.new.items ≡ keys.now }
 {
-    let mut copy = ArrayVec::new();
+    copy.clear();
     'keys: for kept in keys {
         copy.push(copied(kept));
     }
-    copy
 }
 
 /// Whether `n` more keys have room beside these.

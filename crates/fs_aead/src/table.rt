@@ -3,7 +3,7 @@
 ghost use Rattle.std.specs.Prelude.{◌≡◌, ◌+◌, ◌^◌, ◌<◌, ◌≤◌, ◌↔◌, [], length, IsTrue, IsOk, IfErr, IfNone};
 ghost use Rattle.fs_aead.specs.Table.{IsAscending, kept_key, without};
 
-use crate::kept::{SkipLimit, copy_of_keys, room_for, take_key};
+use crate::kept::{SkipLimit, copy_keys, room_for, take_key};
 use arrayvec::ArrayVec;
 use dr_base::{KEPT_LIMIT, Kept, Position};
 use etm_aead::OpenKey;
@@ -54,9 +54,16 @@ impl Skipped {
         requires room { length keys.now ≤ KEPT_LIMIT }
         ensures { result ≡ keys.now }
     {
-        Skipped {
-            keys: copy_of_keys(keys),
-        }
+        let mut skipped = Skipped::new();
+        copy_keys(keys, &mut skipped.keys);
+        skipped
+    }
+
+    /// Becomes a copy of another table, in place.
+    pub fn copy_from(&mut self, from: &Skipped)
+        ensures { self.new ≡ from.now }
+    {
+        copy_keys(from.kept(), &mut self.keys);
     }
 
     /// The keys, in ascending order of their positions.

@@ -9,6 +9,7 @@ use dr_ports::{
 };
 use scenarios::{HEAD, SCENARIOS};
 use std::alloc::{AllocError, Global};
+use std::env::Args;
 use std::io;
 use std::io::{Cursor, ErrorKind};
 use std::test::Fail;
@@ -224,6 +225,32 @@ fn says_what_failed(rt: HostRuntime) -> Result<(), Fail> {
     Ok(())
 }
 
+/// Runs the program on its arguments, on disks of the sizes that it asks for.
+fn run_given<S: Source, O: Sink>(
+    alloc: Global,
+    given: io::Result<Args>,
+    source: &mut S,
+    out: &mut O,
+) -> Result<Status, AllocError> {
+    let mut disk = SteadyDisk::new(alloc, DISK_SIZE)?;
+    let mut network = Network::new(alloc, b"", b"")?;
+    let mut draws = SteadyDraws::new(alloc, &[Key32 { bytes: [7; 32] }])?;
+    if disk.size() < DISK_SIZE || network.relay_disk.size() < RELAY_DISK_SIZE {
+        return Err(AllocError);
+    }
+    Ok(run_arguments(
+        alloc,
+        given,
+        &mut disk,
+        &mut network.relay_disk,
+        source,
+        out,
+        &mut network.link,
+        &mut network.door,
+        &mut draws,
+    ))
+}
+
 #[test]
 fn runs_over_std(rt: HostRuntime) -> Result<(), Fail> {
     let alloc = rt.alloc();
@@ -231,24 +258,10 @@ fn runs_over_std(rt: HostRuntime) -> Result<(), Fail> {
         String::from_str(alloc, "messenger")?,
         String::from_str(alloc, "duet")?,
     ]?;
-    let mut disk = SteadyDisk::new(alloc, DISK_SIZE)?;
-    let mut draws = SteadyDraws::new(alloc, &[Key32 { bytes: [7; 32] }])?;
     let mut source = ReaderSource::new(HELLO);
     let mut bytes = [0; 86];
     let mut out = WriterSink::new(Cursor::new(bytes.as_mut_slice()));
-    let given = Ok(arguments.into_iter());
-    let mut network = Network::new(alloc, b"", b"")?;
-    let status = run_arguments(
-        alloc,
-        given,
-        &mut disk,
-        &mut network.relay_disk,
-        &mut source,
-        &mut out,
-        &mut network.link,
-        &mut network.door,
-        &mut draws,
-    );
+    let status = run_given(alloc, Ok(arguments.into_iter()), &mut source, &mut out)?;
     assert_eq!(rt; status.code, 0);
     drop(out);
     assert_eq!(rt; bytes.as_slice(), HELLO_TRACE);
@@ -258,25 +271,12 @@ fn runs_over_std(rt: HostRuntime) -> Result<(), Fail> {
 #[test]
 fn asks_for_words(rt: HostRuntime) -> Result<(), Fail> {
     let alloc = rt.alloc();
-    let mut draws = SteadyDraws::new(alloc, &[Key32 { bytes: [7; 32] }])?;
     let mut source = MemorySource::new(alloc, HELLO, &[])?;
     let mut out = MemorySink::new(alloc, 64, &[])?;
     let cases = [(ErrorKind::InvalidData, 2), (ErrorKind::OutOfMemory, 13)];
     for (kind, status) in cases {
         let unread = Err(io::Error::from(kind));
-        let mut disk = SteadyDisk::new(alloc, DISK_SIZE)?;
-        let mut network = Network::new(alloc, b"", b"")?;
-        let ended = run_arguments(
-            alloc,
-            unread,
-            &mut disk,
-            &mut network.relay_disk,
-            &mut source,
-            &mut out,
-            &mut network.link,
-            &mut network.door,
-            &mut draws,
-        );
+        let ended = run_given(alloc, unread, &mut source, &mut out)?;
         assert_eq!(rt; ended.code, status);
     }
     assert_eq!(rt; out.taken(), b"usage\nno memory\n".as_slice());

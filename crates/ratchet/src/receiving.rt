@@ -65,12 +65,12 @@ impl<K: Kem> ReceiveDraft<K> {
         requires { IsReceiveDraft K.mechanism session.old self }
         ensures { session.new ≡ self.next }
     {
+        session.part.copy_from(&self.part);
         let ReceiveDraft {
             position: _,
             text: _,
-            part,
+            part: _,
         } = self;
-        session.part = part;
     }
 
     /// Gives it up: the session stays as it is.

@@ -69,13 +69,13 @@ impl<K: Kem> SendDraft<K> {
         requires { IsSendDraft K.mechanism session.old self }
         ensures { session.new ≡ self.next }
     {
+        session.part.copy_from(&self.part);
         let SendDraft {
             position: _,
             room: _,
             len: _,
-            part,
+            part: _,
         } = self;
-        session.part = part;
     }
 
     /// Gives it up: the session stays as it is.

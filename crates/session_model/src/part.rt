@@ -91,13 +91,13 @@ impl Own {
 }
 
 impl Phase {
-    /// A second copy.
-    fn copy(&self) -> Phase
-        ensures { result ≡ self.now }
+    /// Becomes a copy of another phase, in place.
+    fn copy_from(&mut self, from: &Phase)
+        ensures { self.new ≡ from.now }
     {
-        match self {
-            Phase::Own(own) => Phase::Own(own.copy()),
-            Phase::Peers(public) => Phase::Peers(in_room(public.as_slice())),
+        match from {
+            Phase::Own(own) => *self = Phase::Own(own.copy()),
+            Phase::Peers(public) => *self = Phase::Peers(in_room(public.as_slice())),
         }
     }
 }
@@ -116,20 +116,37 @@ fn copy_of_reception(receiving: &Option<Reception>) -> Option<Reception>
 }
 
 impl<K: Kem> SessionPart<K> {
-    /// A second copy.
+    /// Becomes a copy of another part, in place.
+    pub fn copy_from(&mut self, from: &SessionPart<K>)
+        ensures { self.new ≡ from.now }
+    {
+        self.side = from.side;
+        self.session = from.session;
+        self.root = copy_of_key(&from.root);
+        self.epoch = from.epoch;
+        self.phase.copy_from(&from.phase);
+        self.previous = from.previous;
+        self.receiving = copy_of_reception(&from.receiving);
+        self.kept.copy_from(&from.kept);
+    }
+
+    /// A second copy. What is large is copied in place.
     pub fn copy(&self) -> SessionPart<K>
         ensures { result ≡ self.now }
     {
-        SessionPart {
+        let mut part = SessionPart {
             side: self.side,
             session: self.session,
             root: copy_of_key(&self.root),
             epoch: self.epoch,
-            phase: self.phase.copy(),
+            phase: Phase::Peers(PublicText::new()),
             previous: self.previous,
             receiving: copy_of_reception(&self.receiving),
-            kept: Skipped::resume(self.kept.kept()),
+            kept: Skipped::new(),
             mechanism: PhantomData,
-        }
+        };
+        part.phase.copy_from(&self.phase);
+        part.kept.copy_from(&self.kept);
+        part
     }
 }
