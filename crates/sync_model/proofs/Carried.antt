@@ -51,13 +51,13 @@ module _ {S : Type 0} (p : Party S) where
           ap (λ (x : Replied). meet_times p (length rs) (record { course = read_one p c x; boxes = (answers_of boxes a).next })) (sym (head_is _ _ _ _ i))
           ∙ go (answers_of boxes a).next (omega (arith, l)) (tail_is _ _ _ _ i)
 
-pub meeting : {S : Type 0} (p : Party S) (s : S) (boxes : List Box) (replies : List Replied) → IsCarried p s boxes replies
-    → meet_times p (length replies) (begins p s boxes) ≡ record { course = course_of p s replies; boxes = relay_after boxes (course_of p s replies).requests }
-meeting p s boxes replies is =
+-- what was read is what the relay replies to the requests that were answered
+pub replies_are : {S : Type 0} (p : Party S) (s : S) (boxes : List Box) (replies : List Replied) → IsCarried p s boxes replies
+    → replies ≡ relay_replies boxes (course_of p s replies).requests
+replies_are p s boxes replies is =
     let done = (course_of p s replies).requests in
     let requests = made_requests p (course_of p s replies) in
     let pending = awaited p (course_of p s replies) in
-    let answers : done ≡ asks_from p (begun p s) replies = requests_are p replies (begun p s) in
     let lawful = replies_lawful boxes requests is.lawful_boxes is.lawful_requests in
     let bytes : flat (map reply_text replies) ++ is.more ≡ flat (map reply_text (relay_replies boxes requests)) =
     ap (λ (b : List ℕ). b ++ is.more) (sym (flat_of reply_text replies)) ∙ is.carried ∙ relay_bytes boxes requests is.lawful_requests is.few in
@@ -66,7 +66,12 @@ meeting p s boxes replies is =
     ∙ frames_join (map reply_text replies) is.more (reply_frames replies is.lawful_replies) in
     let first : take (length replies) (relay_replies boxes requests) ≡ replies = first_replies replies (relay_replies boxes requests) (frames_of is.more) is.lawful_replies lawful frames in
     let long : length (relay_replies boxes done) ≡ length replies = replies_count boxes done ∙ is.waited in
-    let told : replies ≡ relay_replies boxes done =
-    sym first ∙ ap (take (length replies)) (replies_append boxes done pending) ∙ take_at (relay_replies boxes done) (relay_replies (relay_after boxes done) pending) (length replies) long in
-    meets_from p replies (begun p s) boxes (ap length (sym answers) ∙ is.waited) (told ∙ ap (relay_replies boxes) answers)
+    sym first ∙ ap (take (length replies)) (replies_append boxes done pending) ∙ take_at (relay_replies boxes done) (relay_replies (relay_after boxes done) pending) (length replies) long
+
+pub meeting : {S : Type 0} (p : Party S) (s : S) (boxes : List Box) (replies : List Replied) → IsCarried p s boxes replies
+    → meet_times p (length replies) (begins p s boxes) ≡ record { course = course_of p s replies; boxes = relay_after boxes (course_of p s replies).requests }
+meeting p s boxes replies is =
+    let done = (course_of p s replies).requests in
+    let answers : done ≡ asks_from p (begun p s) replies = requests_are p replies (begun p s) in
+    meets_from p replies (begun p s) boxes (ap length (sym answers) ∙ is.waited) (replies_are p s boxes replies is ∙ ap (relay_replies boxes) answers)
     ∙ ap (λ (xs : List Asked). record { course = course_of p s replies; boxes = relay_after boxes xs }) (sym answers)

@@ -4,3 +4,8 @@ pub mod Acknowledging
 pub mod Meeting
 pub mod Replying
 pub mod Carried
+pub mod Cases
+pub mod Asking
+pub mod Stopping
+pub mod Pending
+pub mod Arriving

@@ -22,7 +22,7 @@ same_self : (name : List ℕ) → bytes_eq name name ≡ true
 same_self [] = refl
 same_self (b ∷ name) = grind (arith, nat_tests, same_self name)
 
-other_way : (a b : List ℕ) → bytes_eq a b ≡ false → bytes_eq b a ≡ false
+pub other_way : (a b : List ℕ) → bytes_eq a b ≡ false → bytes_eq b a ≡ false
 other_way a b differ = by_test (bytes_eq b a) refl
   where
     by_test : (is : Bool) → bytes_eq b a ≡ is → bytes_eq b a ≡ false

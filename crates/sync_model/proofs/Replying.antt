@@ -47,7 +47,7 @@ replies_lawful boxes (x ∷ xs) are lawful =
 read_back : (a : Asked) → IsLawfulAsked a → read_request (drop 2 (request_frame a)) ≡ Ok a
 read_back a lawful = ap read_request (drop_at (to_be_bytes w16 (length (request_body a))) (request_body a) 2 refl) ∙ request a lawful
 
-reply_back : (r : Replied) → IsLawfulReplied r → read_reply (drop 2 (reply_text r)) ≡ Ok r
+pub reply_back : (r : Replied) → IsLawfulReplied r → read_reply (drop 2 (reply_text r)) ≡ Ok r
 reply_back r lawful = ap read_reply (drop_at (to_be_bytes w16 (length (reply_body r))) (reply_body r) 2 refl) ∙ reply r lawful
 
 abbrev served_one : ℕ → List Box → List (List ℕ) → Result Asked ℕ → Served
@@ -62,6 +62,15 @@ served_requests zero boxes (a ∷ xs) le lawful = absurd (omega (arith, le))
 served_requests (suc n) boxes (a ∷ xs) le lawful =
     ap (λ (x : Result Asked ℕ). map (λ (e : Exchange). e.reply) (served_one n boxes (map request_frame xs) x).exchanges) (read_back a lawful.0)
     ∙ ap (λ (rs : List Replied). (answers_of boxes a).reply ∷ rs) (served_requests n (answers_of boxes a).next xs (omega (arith, le)) lawful.1)
+
+-- and the boxes behind them
+served_after : (n : ℕ) (boxes : List Box) (xs : List Asked) → length xs ≤ n → AllByRecursion IsLawfulAsked xs
+    → (served_within n boxes (map request_frame xs)).next ≡ relay_after boxes xs
+served_after zero boxes [] le lawful = refl
+served_after (suc n) boxes [] le lawful = refl
+served_after zero boxes (a ∷ xs) le lawful = absurd (omega (arith, le))
+served_after (suc n) boxes (a ∷ xs) le lawful =
+    ap (λ (x : Result Asked ℕ). (served_one n boxes (map request_frame xs) x).next) (read_back a lawful.0) ∙ served_after n (answers_of boxes a).next xs (omega (arith, le)) lawful.1
 
 -- ---- frames
 
@@ -136,6 +145,15 @@ relay_bytes boxes xs lawful few =
     ∙ ap (λ (fs : List (List ℕ)). reply_bytes (served_within EXCHANGE_LIMIT boxes fs)) (frames_of_flat (map request_frame xs) (request_frames xs lawful))
     ∙ reply_bytes_of (served_within EXCHANGE_LIMIT boxes (map request_frame xs)).exchanges
     ∙ ap (λ (rs : List Replied). flat (map reply_text rs)) (served_requests EXCHANGE_LIMIT boxes xs few lawful)
+
+-- and its boxes then
+pub relay_boxes : (boxes : List Box) (xs : List Asked) → AllByRecursion IsLawfulAsked xs → length xs ≤ EXCHANGE_LIMIT
+    → (served boxes (flat_map request_frame xs)).next ≡ relay_after boxes xs
+unfolding served
+relay_boxes boxes xs lawful few =
+    ap (λ (sent : List ℕ). (served_within EXCHANGE_LIMIT boxes (frames_of sent)).next) (flat_of request_frame xs)
+    ∙ ap (λ (fs : List (List ℕ)). (served_within EXCHANGE_LIMIT boxes fs).next) (frames_of_flat (map request_frame xs) (request_frames xs lawful))
+    ∙ served_after EXCHANGE_LIMIT boxes xs few lawful
 
 -- ---- a beginning of frames
 
