@@ -1,13 +1,14 @@
 -- Where a sync ends, over a link that carries a relay's replies.
-use Rattle.std.proofs.Common.{◌≡◌, ◌≢◌, ℕ, zero, suc, ◌≤◌, Bool, true, false, List, [], ◌∷◌, ◌++◌, length, drop, Some, None, sym, ◌∙◌, ap, subst, arith, append-nil}
+use Rattle.std.proofs.Common.{◌≡◌, ◌≢◌, ℕ, zero, suc, ◌≤◌, Bool, true, false, List, [], ◌∷◌, ◌++◌, length, drop, Ok, Some, None, sym, ◌∙◌, ap, subst, arith, append-nil}
 use Rattle.std.specs.Prelude.{All, if◌then◌else◌}
 use Rattle.std.specs.List.{AllByRecursion}
 use Rattle.std.specs.Str.{bytes_eq}
 use Rattle.relay_wire.specs.Requests.{Asked, IsLawfulAsked}
 use Rattle.relay_wire.specs.Replies.{Replied}
-use Rattle.relay_core.specs.Boxes.{Kept, Box, box_of, is_named}
+use Rattle.relay_core.specs.Boxes.{Kept, Box, answers_of, box_of, is_named}
 use Rattle.relay_core.specs.Lawful.{IsLawfulBox, Rises}
 use Rattle.relay_core.specs.Streams.{served}
+use Rattle.relay_core.proofs.Lawfully.{lawful_next}
 use Rattle.sync_model.specs.Parties.{Party}
 use Rattle.sync_model.specs.Moves.{Wait, Ending, asked_in, ended, over}
 use Rattle.sync_model.specs.Courses.{as_list, course_of, made_requests}
@@ -42,6 +43,17 @@ lawful_named name (b ∷ boxes) box is are =
     by_name more true e = subst IsLawfulBox (some_is b box e) (are zero b (omega arith))
     by_name more false e = more e
 
+-- boxes stay lawful
+after_lawful : (boxes : List Box) (xs : List Asked) → All IsLawfulBox boxes → AllByRecursion IsLawfulAsked xs → All IsLawfulBox (relay_after boxes xs)
+after_lawful boxes [] are lawful = are
+after_lawful boxes (x ∷ xs) are lawful = after_lawful (answers_of boxes x).next xs (lawful_next boxes (Ok x) are lawful.0) lawful.1
+
+-- nothing waits behind the end
+pub no_more : {S : Type 0} (p : Party S) (s : S) (replies : List Replied) (ending : Ending) → (course_of p s replies).wait ≡ over ending
+    → made_requests p (course_of p s replies) ≡ (course_of p s replies).requests
+no_more p s replies ending is_over =
+    ap (λ (w : Wait). (course_of p s replies).requests ++ as_list (asked_in p (course_of p s replies).state w)) is_over ∙ append-nil (course_of p s replies).requests
+
 module _ {S : Type 0} (p : Party S) (s : S) (boxes : List Box) (own peers : Box) where
   pub can_transfer : bytes_eq p.own p.peers ≡ false → All IsLawfulBox boxes → box_of p.own boxes ≡ Some own → box_of p.peers boxes ≡ Some peers → HasRoom p s own.packets
       → ((t : S) → p.outbox (p.sent t) ≡ drop 1 (p.outbox t)) → ((t : S) (packet : List ℕ) → p.outbox (p.take t packet).next ≡ p.outbox t) → CanTransfer p s boxes own peers
@@ -69,11 +81,15 @@ module _ {S : Type 0} (p : Party S) (s : S) (boxes : List Box) (own peers : Box)
     abbrev pub final : Meeting S
     final = record { course = course_of p s replies; boxes = (served boxes (request_bytes done)).next }
 
-    no_more : made_requests p (course_of p s replies) ≡ done
-    no_more = ap (λ (w : Wait). done ++ as_list (asked_in p (course_of p s replies).state w)) is_over ∙ append-nil done
-
     boxes_are : relay_after boxes done ≡ (served boxes (request_bytes done)).next
-    boxes_are = sym (relay_boxes boxes done (subst (AllByRecursion IsLawfulAsked) no_more is.lawful_requests) (omega (arith, is.few, ap length no_more)))
+    boxes_are =
+        let none = no_more p s replies ending is_over in
+        sym (relay_boxes boxes done (subst (AllByRecursion IsLawfulAsked) none is.lawful_requests) (omega (arith, is.few, ap length none)))
+
+    pub ends_lawful : All IsLawfulBox final.boxes
+    ends_lawful =
+        subst (All IsLawfulBox) boxes_are
+        (after_lawful boxes done is.lawful_boxes (subst (AllByRecursion IsLawfulAsked) (no_more p s replies ending is_over) is.lawful_requests))
 
     met : meet_times p (length replies) (begins p s boxes) ≡ final
     met = meeting p s boxes replies is ∙ ap (λ (bs : List Box). record { course = course_of p s replies; boxes = bs }) boxes_are

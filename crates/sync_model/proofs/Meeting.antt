@@ -118,7 +118,7 @@ module _ {S : Type 0} (p : Party S) (apart : bytes_eq p.own p.peers ≡ false) w
       (suc rest.0, rest.1)
 
 module _ {S : Type 0} (p : Party S) where
-  outbox_kept : ((t : S) (packet : List ℕ) → p.outbox (p.take t packet).next ≡ p.outbox t) → (ks : List Kept) (s : S) → p.outbox (taken_all p s ks) ≡ p.outbox s
+  pub outbox_kept : ((t : S) (packet : List ℕ) → p.outbox (p.take t packet).next ≡ p.outbox t) → (ks : List Kept) (s : S) → p.outbox (taken_all p s ks) ≡ p.outbox s
   outbox_kept keeps [] s = refl
   outbox_kept keeps (k ∷ ks) s = outbox_kept keeps ks (p.take s k.packet).next ∙ keeps s k.packet
 
