@@ -9,7 +9,7 @@ use Rattle.packet.specs.Reading.{field, lawful, number, read_packet}
 use Rattle.session_model.specs.States.{State}
 use Rattle.session_record.specs.Lawful.{IsLawfulPost}
 
-packet_some : (agreement : ℕ) (bytes : List ℕ) (f : Fields) → read_packet agreement bytes ≡ Ok f → 1 ≤ length bytes
+pub packet_some : (agreement : ℕ) (bytes : List ℕ) (f : Fields) → read_packet agreement bytes ≡ Ok f → 1 ≤ length bytes
 unfolding read_packet lawful number field
 packet_some agreement [] f is = absurd (cc is)
 packet_some agreement (b ∷ bytes) f is = omega arith

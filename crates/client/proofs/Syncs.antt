@@ -9,3 +9,7 @@ pub mod Naming
 pub mod Oldest
 pub mod Looping
 pub mod Worlds
+pub mod Parties
+pub mod Carrying
+pub mod Transfers
+pub mod Arrivals

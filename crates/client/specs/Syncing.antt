@@ -5,3 +5,5 @@ pub mod Rounds
 pub mod SoFar
 pub mod Syncs
 pub mod InWorlds
+pub mod Transfers
+pub mod Arrivals

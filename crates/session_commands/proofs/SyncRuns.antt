@@ -63,6 +63,7 @@ module _ (p : Party Client) (kept : Client) (replies : List Replied) (link opene
     waits = cut.waits;
     rest = cut.rest;
     told = from_link _ _ cut.told;
+    waited = cut.waited;
     came = cut.came;
     quiet = cut.quiet ∙ quiet;
   }

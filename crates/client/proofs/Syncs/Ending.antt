@@ -164,6 +164,7 @@ module _ (p : Party Client) where
       waits = asks_so;
       rest = frame;
       told = told_all frame told;
+      waited = far.talked.waited;
       came = is_unread bad whole reads;
       quiet = quiet ∙ far.talked.quiet;
     }
@@ -172,6 +173,7 @@ module _ (p : Party Client) where
       waits = asks_so;
       rest = got;
       told = told_all got told;
+      waited = far.talked.waited;
       came = is_cut partial end;
       quiet = quiet ∙ far.talked.quiet;
     }

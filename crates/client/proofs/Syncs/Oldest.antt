@@ -11,7 +11,7 @@ use Rattle.client.specs.Syncing.Parties.{waiting}
 within : (n most : ℕ) → 1 ≤ n → n ≤ most → (nat_le 1 n && nat_le n most) ≡ true
 within n most from to = grind (arith, nat_tests)
 
-packet_lawful : (packet : List ℕ) → 1 ≤ length packet → length packet ≤ PACKET_LIMIT → is_packet packet ≡ true
+pub packet_lawful : (packet : List ℕ) → 1 ≤ length packet → length packet ≤ PACKET_LIMIT → is_packet packet ≡ true
 unfolding is_packet
 packet_lawful packet from to = within (length packet) MOST from (omega (arith, to))
 

@@ -45,10 +45,10 @@ module _ (k : Mechanism) (grounds : Grounds k) (prefix : List ℕ) (side : Side)
     made : settled kept (act_on k kept act) ≡ kept_by k side (act_in k w side act)
     made = ap (λ (c : Client). settled c (act_on k c act)) is.keeps ∙ grounds.follow.follows w side act is.lawful fair
 
-    next_kept : IsKeptIn k side (settled kept (act_on k kept act)).next (act_in k w side act).next
+    pub next_kept : IsKeptIn k side (settled kept (act_on k kept act)).next (act_in k w side act).next
     next_kept = record { lawful = grounds.follow.lawful w side act is.lawful fair; keeps = ap (λ (s : Step Client). s.next) made }
 
-    answers : (settled kept (act_on k kept act)).answer ≡ (act_in k w side act).answer
+    pub answers : (settled kept (act_on k kept act)).answer ≡ (act_in k w side act).answer
     answers = ap (λ (s : Step Client). s.answer) made
 
   module _ (first : Client) (w : World) (is : IsKeptIn k side first w) where

@@ -50,6 +50,7 @@ pub record IsUnheard (p : Party Client) (first : Client) (replies : List Replied
   pub waits : asked_in p (course_of p first replies).state (course_of p first replies).wait ≡ Some asked
   pub rest : List ℕ
   pub told : Exchanges (replied_bytes replies ++ rest) (request_bytes (made_requests p (course_of p first replies))) start now
+  pub waited : length (course_of p first replies).requests ≡ length replies
   pub came : IsNoReply now rest fault
   pub quiet : now.faults Flow ≡ start.faults Flow
 

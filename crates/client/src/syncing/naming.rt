@@ -1,6 +1,7 @@
 //! The names of a client's boxes at a relay.
 
-ghost use Rattle.std.specs.Prelude.{◌≡◌};
+ghost use Rattle.std.specs.Prelude.{◌≡◌, true};
+ghost use Rattle.relay_wire.specs.Names.{is_name};
 ghost use Rattle.client.specs.Syncing.Lines.{box_name, own_box, peers_box};
 
 use crate::client::Client;
@@ -44,6 +45,8 @@ impl<K: Kem> Client<K> {
     pub(crate) fn names(&self) -> Names
         ensures own { result.own ≡ own_box self.now.kept }
         ensures peers { result.peers ≡ peers_box self.now.kept }
+        ensures own_lawful { is_name result.own ≡ true }
+        ensures peers_lawful { is_name result.peers ≡ true }
     {
         let session = self.session();
         let side = self.side();

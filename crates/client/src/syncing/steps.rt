@@ -1,9 +1,12 @@
 //! What a sync has a client do, and what it asks of the relay.
 
-ghost use Rattle.std.specs.Prelude.{◌≡◌, ◌<◌, ◌≤◌, None, OnOk, length, slice_get};
+ghost use Rattle.std.specs.Prelude.{◌≡◌, ◌<◌, ◌≤◌, None, OnOk, length, slice_get, true};
+ghost use Rattle.std.specs.List.{AllByRecursion};
+ghost use Rattle.dr_base.specs.declared.limits.TheConstants.{OUTBOX_LIMIT};
 ghost use Rattle.dr_ports.specs.declared.pipe.Part.TheVariants.{Flow, Gate};
 ghost use Rattle.dr_ports.specs.Wires.{Port};
 ghost use Rattle.relay_pipe.specs.Asking.{Asks};
+ghost use Rattle.relay_wire.specs.Names.{is_packet};
 ghost use Rattle.relay_wire.specs.Requests.{Asked};
 ghost use Rattle.client.specs.Clients.{IsReady};
 ghost use Rattle.client.specs.Syncing.Parties.{sent_step, taken_step, waiting};
@@ -35,6 +38,14 @@ fn heard(replied: Result<Reply, AskFault>) -> Result<Reply, SyncFault>
 }
 
 impl<K: Kem> Client<K> {
+    /// Each packet of the outbox may be posted. A caller that needs this calls it.
+    pub(crate) fn may_post(&self)
+        ensures packets { AllByRecursion (λ packet. is_packet packet ≡ true) (waiting self.now.kept) }
+        ensures few { length self.now.kept.outbox ≤ OUTBOX_LIMIT }
+    {
+        let _count = self.outbox.len();
+    }
+
     /// Sends a request, and reads its reply.
     pub(crate) fn ask<L: Pipe>(
         &mut self,

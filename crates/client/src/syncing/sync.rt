@@ -8,10 +8,12 @@ ghost use Rattle.dr_ports.specs.declared.pipe.Part.TheVariants.{Flow, Gate};
 ghost use Rattle.relay_wire.specs.Replies.{Replied};
 ghost use Rattle.client.specs.Clients.{IsReady};
 ghost use Rattle.client.specs.InWorlds.{IsIn};
+ghost use Rattle.client.specs.Syncing.Arrivals.{Opens};
 ghost use Rattle.client.specs.Syncing.InWorlds.{AreUnforged, SyncsIn};
 ghost use Rattle.client.specs.Syncing.Moments.{moment};
 ghost use Rattle.client.specs.Syncing.Parties.{client_party, party_of};
 ghost use Rattle.client.specs.Syncing.Syncs.{Syncs, SyncsBy};
+ghost use Rattle.client.specs.Syncing.Transfers.{Transfers};
 
 use super::faults::SyncFault;
 use super::lines::write_end;
@@ -56,6 +58,16 @@ impl<K: Kem> Client<K> {
             → SyncsIn K.mechanism prefix.now side w replies
             (moment self.old (D.state disk.old) (O.taken out.old) (O.faults out.old))
             (moment self.new (D.state disk.new) (O.taken out.new) (O.faults out.new)) result }
+        // Over a link that carries a relay's replies, where no call fails: the own box is collected, and the outbox delivered.
+        ensures transfer { self.old.closed ≡ None → Transfers (client_party K.mechanism prefix.now self.old.kept)
+            (moment self.old (D.state disk.old) (O.taken out.old) (O.faults out.old))
+            (moment self.new (D.state disk.new) (O.taken out.new) (O.faults out.new))
+            (L.port link.old) (L.port link.new) result }
+        // And in each world that the client stands for, what the box holds of the peer's packets is opened, in order, each once.
+        ensures opens { self.old.closed ≡ None → Opens K.mechanism prefix.now
+            (moment self.old (D.state disk.old) (O.taken out.old) (O.faults out.old))
+            (moment self.new (D.state disk.new) (O.taken out.new) (O.faults out.new))
+            (L.port link.old) (L.port link.new) }
         ensures later { O.faults out.old ≤ O.faults out.new }
         ensures flow { (L.port link.old).faults Flow ≤ (L.port link.new).faults Flow }
         ensures gate { (L.port link.new).faults Gate ≡ (L.port link.old).faults Gate }
@@ -64,6 +76,7 @@ impl<K: Kem> Client<K> {
         if let Some(call) = self.closed {
             return Err(SyncFault::Closed { call });
         }
+        self.may_post();
         let names = self.names();
         self.sync_open(disk, link, out, prefix, &names)
     }

@@ -80,7 +80,7 @@ taken : (k : Mechanism) (w : World) (side : Side) (p : Position) → is_said w.c
 taken k w side p said = ap (taking_at w side) (cond-true (is_said w.conversation p) (Some p) None said)
 
 -- within the limits it is opened
-opened_within : (k : Mechanism) (w : World) (side : Side) (p : Position) → IsNew w side p → IsWithinLimits w side p
+pub opened_within : (k : Mechanism) (w : World) (side : Side) (p : Position) → IsNew w side p → IsWithinLimits w side p
     → step_of k w (takes side p) ≡ step (Opened p) (with_view w side (after_opening (view_of w side) p))
 opened_within k w side p new within =
     let missing = length (missing_of w.conversation (after_opening (view_of w side) p)) in

@@ -1,4 +1,6 @@
 use Rattle.client.specs.Syncing.Moments.{moment}
+use Rattle.client.proofs.Syncs.Arrivals.{opens}
+use Rattle.client.proofs.Syncs.Transfers.{named_transfers}
 use Rattle.client.proofs.Syncs.Worlds.{in_world}
 use Rattle.client.proofs.client.Client.sync.Goals as goal
 
@@ -8,3 +10,25 @@ returns-clause-in_worlds g c = λ w side replies is_in syncs fair.
     (moment c.args.self.now (g.D.Disk.state c.args.disk.now) (g.O.Sink.taken c.args.out.now) (g.O.Sink.faults c.args.out.now))
     (moment c.sync_open.new.self (g.D.Disk.state c.sync_open.new.disk) (g.O.Sink.taken c.sync_open.new.out) (g.O.Sink.faults c.sync_open.new.out))
     is_in replies fair (g.L.Pipe.port c.args.link.now) (g.L.Pipe.port c.sync_open.new.link) c.sync_open.result syncs
+
+pub returns-clause-transfer : goal.returns-clause-transfer
+returns-clause-transfer g c = λ is_open.
+    named_transfers g.K.Kem.mechanism c.args.prefix.now c.names-names.result.own c.names-names.result.peers
+    (moment c.args.self.now (g.D.Disk.state c.args.disk.now) (g.O.Sink.taken c.args.out.now) (g.O.Sink.faults c.args.out.now))
+    (moment c.sync_open.new.self (g.D.Disk.state c.sync_open.new.disk) (g.O.Sink.taken c.sync_open.new.out) (g.O.Sink.faults c.sync_open.new.out))
+    (g.L.Pipe.port c.args.link.now) (g.L.Pipe.port c.sync_open.new.link) c.sync_open.result c.names-names.ensures.own c.names-names.ensures.peers
+    c.names-names.ensures.own_lawful c.names-names.ensures.peers_lawful c.may_post.ensures.packets c.may_post.ensures.few
+    (g.met.L.Pipe.ahead c.sync_open.new.link) c.sync_open.ensures.exact
+
+pub returns-clause-opens : goal.returns-clause-opens
+returns-clause-opens g c = λ is_open.
+    opens g.K.Kem.mechanism c.grounds.ensures c.args.prefix.now
+    (moment c.args.self.now (g.D.Disk.state c.args.disk.now) (g.O.Sink.taken c.args.out.now) (g.O.Sink.faults c.args.out.now))
+    (moment c.sync_open.new.self (g.D.Disk.state c.sync_open.new.disk) (g.O.Sink.taken c.sync_open.new.out) (g.O.Sink.faults c.sync_open.new.out))
+    (g.L.Pipe.port c.args.link.now) (g.L.Pipe.port c.sync_open.new.link) c.sync_open.result
+    (named_transfers g.K.Kem.mechanism c.args.prefix.now c.names-names.result.own c.names-names.result.peers
+    (moment c.args.self.now (g.D.Disk.state c.args.disk.now) (g.O.Sink.taken c.args.out.now) (g.O.Sink.faults c.args.out.now))
+    (moment c.sync_open.new.self (g.D.Disk.state c.sync_open.new.disk) (g.O.Sink.taken c.sync_open.new.out) (g.O.Sink.faults c.sync_open.new.out))
+    (g.L.Pipe.port c.args.link.now) (g.L.Pipe.port c.sync_open.new.link) c.sync_open.result c.names-names.ensures.own c.names-names.ensures.peers
+    c.names-names.ensures.own_lawful c.names-names.ensures.peers_lawful c.may_post.ensures.packets c.may_post.ensures.few
+    (g.met.L.Pipe.ahead c.sync_open.new.link) c.sync_open.ensures.exact)
