@@ -26,6 +26,16 @@ fn answer<D: Disk>(
 /// what is written, parted by `>`. A line feed in it is `;`, and `^` is 64 zeros.
 fn answers<D: Disk>(alloc: Global, disk: &mut D, table: &str) -> Result<bool, AllocError> {
     let mut network = Network::new(alloc, b"", b"")?;
+    answers_over(alloc, disk, &mut network, table)
+}
+
+/// The same, over this network.
+fn answers_over<D: Disk>(
+    alloc: Global,
+    disk: &mut D,
+    network: &mut Network,
+    table: &str,
+) -> Result<bool, AllocError> {
     for row in table.lines() {
         let mut fields = row.split('>');
         let (Some(words), Some(text), Some(status), Some(written)) = (
@@ -37,7 +47,7 @@ fn answers<D: Disk>(alloc: Global, disk: &mut D, table: &str) -> Result<bool, Al
             return Ok(false);
         };
         let (input, expected) = (spelled(alloc, text)?, spelled(alloc, written)?);
-        let (code, lines) = answer(alloc, words, disk, &mut network, input.as_slice())?;
+        let (code, lines) = answer(alloc, words, disk, network, input.as_slice())?;
         if lines.as_slice() != expected.as_slice() || status.parse::<u8>() != Ok(code) {
             return Ok(false);
         }
@@ -233,6 +243,32 @@ fn serves_a_relay(rt: HostRuntime) -> Result<(), Fail> {
     assert_eq!(rt;
         network.door.sent(),
         b"\x00\x01\x83\x00\x09\x81\x00\x00\x00\x00\x00\x00\x00\x01\x00\x0a\x82\x00\x00\x00\x00\x00\x00\x00\x01\x07\x00\x01\x84".as_slice()
+    );
+    Ok(())
+}
+
+/// A relay's replies to two syncs: none stands; none stands, and a packet is kept as number 1.
+const REPLIES: &[u8] = b"\x00\x01\x83\x00\x01\x83\x00\x09\x81\x00\x00\x00\x00\x00\x00\x00\x01";
+
+const SYNCED: &str = "\
+begin|second>^>0>session 70e0f9cd1a5863238d67aecce0c032e5;
+sync|127.0.0.1:4000>>0>end;
+say|hi>>0>said 0.1;
+sync|127.0.0.1:4000>>0>stored 1;end;
+outbox>>0>
+sync|127.0.0.1:4000>>12>peer: Ended at 0;";
+
+#[test]
+fn syncs_with_a_relay(rt: HostRuntime) -> Result<(), Fail> {
+    let alloc = rt.alloc();
+    let mut network = Network::new(alloc, REPLIES, b"")?;
+    let mut disk = SteadyDisk::new(alloc, DISK_SIZE)?;
+    assert!(rt; answers_over(alloc, &mut disk, &mut network, SYNCED)?);
+    // each sync begins with a fetch of the own box
+    assert!(rt;
+        network.link.sent().starts_with(
+            b"\x00\x24\x02\x2270e0f9cd1a5863238d67aecce0c032e5-2\x00\x24\x02\x2270e0f9cd1a5863238d67aecce0c032e5-2".as_slice()
+        )
     );
     Ok(())
 }
