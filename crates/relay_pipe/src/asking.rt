@@ -50,6 +50,7 @@ fn ask_in<P: Pipe>(
     ensures asks { Asks request.now (P.port pipe.old) (P.port pipe.new) result }
     ensures later { (P.port pipe.old).faults Flow ≤ (P.port pipe.new).faults Flow }
     ensures gate { (P.port pipe.new).faults Gate ≡ (P.port pipe.old).faults Gate }
+    ensures same { P.behind pipe.new ≡ P.behind pipe.old }
 {
     let size = written(request, room);
     match send_all(pipe, &room[..size]) {
@@ -79,6 +80,7 @@ pub fn ask<P: Pipe>(
     ensures asks { Asks request.now (P.port pipe.old) (P.port pipe.new) result }
     ensures later { (P.port pipe.old).faults Flow ≤ (P.port pipe.new).faults Flow }
     ensures gate { (P.port pipe.new).faults Gate ≡ (P.port pipe.old).faults Gate }
+    ensures same { P.behind pipe.new ≡ P.behind pipe.old }
 {
     let mut room = [0; FRAME_LIMIT];
     reader.clear();

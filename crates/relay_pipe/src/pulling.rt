@@ -19,6 +19,7 @@ fn receive_some<P: Pipe>(pipe: &mut P, piece: &mut [u8], wanted: usize) -> Resul
     ensures err { OnErr result ((P.port pipe.new).told ≡ (P.port pipe.old).told) }
     ensures cause { HasCause ((P.port pipe.old).faults Flow) ((P.port pipe.new).faults Flow) result }
     ensures gate { (P.port pipe.new).faults Gate ≡ (P.port pipe.old).faults Gate }
+    ensures same { P.behind pipe.new ≡ P.behind pipe.old }
 {
     pipe.receive(&mut piece[..wanted])
 }
@@ -33,6 +34,7 @@ pub fn next_frame<P: Pipe>(
     ensures pulls { Pulls reader.old reader.new (P.port pipe.old) (P.port pipe.new) result }
     ensures cause { HasCause ((P.port pipe.old).faults Flow) ((P.port pipe.new).faults Flow) result }
     ensures gate { (P.port pipe.new).faults Gate ≡ (P.port pipe.old).faults Gate }
+    ensures same { P.behind pipe.new ≡ P.behind pipe.old }
 {
     'bytes: while reader.wanted() > 0 {
         let wanted = reader.wanted();
@@ -55,6 +57,7 @@ fn send_from<P: Pipe>(pipe: &mut P, bytes: &[u8], at: usize) -> Result<usize, Fa
     ensures err { OnErr result ((P.port pipe.new).told ≡ (P.port pipe.old).told) }
     ensures cause { HasCause ((P.port pipe.old).faults Flow) ((P.port pipe.new).faults Flow) result }
     ensures gate { (P.port pipe.new).faults Gate ≡ (P.port pipe.old).faults Gate }
+    ensures same { P.behind pipe.new ≡ P.behind pipe.old }
 {
     pipe.send(&bytes[at..])
 }
@@ -65,6 +68,7 @@ pub fn send_all<P: Pipe>(pipe: &mut P, bytes: &[u8]) -> Result<(), Failed>
     ensures part { OnErr result (TookBeginning bytes.now (P.port pipe.old) (P.port pipe.new)) }
     ensures cause { HasCause ((P.port pipe.old).faults Flow) ((P.port pipe.new).faults Flow) result }
     ensures gate { (P.port pipe.new).faults Gate ≡ (P.port pipe.old).faults Gate }
+    ensures same { P.behind pipe.new ≡ P.behind pipe.old }
 {
     let mut done = 0;
     'pieces: while done < bytes.len() {

@@ -10,6 +10,7 @@ invariant-bytes g l = record {
   room : FRAME_LIMIT ≤ length l.piece;
   quiet : (g.P.Pipe.port l.pipe).faults Flow ≡ (g.P.Pipe.port l.fn.pipe).faults Flow;
   gate : (g.P.Pipe.port l.pipe).faults Gate ≡ (g.P.Pipe.port l.fn.pipe).faults Gate;
+  same : g.P.Pipe.behind l.pipe ≡ g.P.Pipe.behind l.fn.pipe;
 }
 
 abbrev pub decreases-bytes : goal.decreases-bytes

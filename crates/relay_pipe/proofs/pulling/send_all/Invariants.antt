@@ -9,6 +9,7 @@ invariant-pieces g l = record {
   content : Took (take l.done l.bytes) (g.P.Pipe.port l.initial.pipe) (g.P.Pipe.port l.pipe);
   quiet : (g.P.Pipe.port l.pipe).faults Flow ≡ (g.P.Pipe.port l.initial.pipe).faults Flow;
   gate : (g.P.Pipe.port l.pipe).faults Gate ≡ (g.P.Pipe.port l.initial.pipe).faults Gate;
+  same : g.P.Pipe.behind l.pipe ≡ g.P.Pipe.behind l.initial.pipe;
 }
 
 abbrev pub decreases-pieces : goal.decreases-pieces
