@@ -89,13 +89,13 @@ module _ {S T : Type 0} (p : Party S) (q : Party T) (Alike : S → T → Type 0)
   move_alike s t (posting which) reply alike fair = posted_alike s t which reply alike
   move_alike s t (over ending) reply alike fair = stays s t _ _ alike refl
 
-  asked_alike : (s : S) (t : T) (wait : Wait) → Alike s t → asked_in p s wait ≡ asked_in q t wait
+  pub asked_alike : (s : S) (t : T) (wait : Wait) → Alike s t → asked_in p s wait ≡ asked_in q t wait
   asked_alike s t (fetching n) alike = ap (λ (name : List ℕ). Some (record { name = name; ask = fetches })) are.own
   asked_alike s t (acking n number) alike = ap (λ (name : List ℕ). Some (record { name = name; ask = acks number })) are.own
   asked_alike s t (posting which) alike = ap₂ asked_of are.peers (are.outbox s t alike)
   asked_alike s t (over ending) alike = refl
 
-  read_alike : (c : Course S) (d : Course T) (reply : Replied) → IsSameCourse Alike c d → IsFairReply Fair d.state d.wait reply → IsSameCourse Alike (read_one p c reply) (read_one q d reply)
+  pub read_alike : (c : Course S) (d : Course T) (reply : Replied) → IsSameCourse Alike c d → IsFairReply Fair d.state d.wait reply → IsSameCourse Alike (read_one p c reply) (read_one q d reply)
   read_alike c d reply same fair =
       let moves : SameMove Alike (move p c.state c.wait reply) (move q d.state d.wait reply) =
       subst (λ (w : Wait). SameMove Alike (move p c.state w reply) (move q d.state d.wait reply)) (sym same.wait) (move_alike c.state d.state d.wait reply same.state fair) in

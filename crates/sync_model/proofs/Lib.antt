@@ -9,3 +9,6 @@ pub mod Asking
 pub mod Stopping
 pub mod Pending
 pub mod Arriving
+pub mod Scenes
+pub mod Staging
+pub mod Answering

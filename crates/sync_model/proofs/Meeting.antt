@@ -126,7 +126,7 @@ module _ {S : Type 0} (p : Party S) where
   outbox_left drops [] s is = is
   outbox_left drops (packet ∷ packets) s is = outbox_left drops packets (p.sent s) (drops s ∙ ap (drop 1) is)
 
-  after_times : (a b : ℕ) (m : Meeting S) → meet_times p (a + b) m ≡ meet_times p b (meet_times p a m)
+  pub after_times : (a b : ℕ) (m : Meeting S) → meet_times p (a + b) m ≡ meet_times p b (meet_times p a m)
   after_times zero b m = ap (λ (n : ℕ). meet_times p n m) (let e : zero + b ≡ b = omega arith in e)
   after_times (suc a) b m = ap (λ (n : ℕ). meet_times p n m) (let e : suc a + b ≡ suc (a + b) = omega arith in e) ∙ after_times a b (meets p m)
 

@@ -44,7 +44,7 @@ replies_lawful boxes (x ∷ xs) are lawful =
 
 -- ---- what is read back
 
-read_back : (a : Asked) → IsLawfulAsked a → read_request (drop 2 (request_frame a)) ≡ Ok a
+pub read_back : (a : Asked) → IsLawfulAsked a → read_request (drop 2 (request_frame a)) ≡ Ok a
 read_back a lawful = ap read_request (drop_at (to_be_bytes w16 (length (request_body a))) (request_body a) 2 refl) ∙ request a lawful
 
 pub reply_back : (r : Replied) → IsLawfulReplied r → read_reply (drop 2 (reply_text r)) ≡ Ok r
@@ -92,7 +92,7 @@ pub flat_of : {X : Type 0} (f : X → List ℕ) (xs : List X) → flat_map f xs 
 flat_of f [] = refl
 flat_of f (x ∷ xs) = ap (λ (r : List ℕ). f x ++ r) (flat_of f xs)
 
-reply_bytes_of : (es : List Exchange) → flat_map reply_frame es ≡ flat (map reply_text (map (λ (e : Exchange). e.reply) es))
+pub reply_bytes_of : (es : List Exchange) → flat_map reply_frame es ≡ flat (map reply_text (map (λ (e : Exchange). e.reply) es))
 reply_bytes_of [] = refl
 reply_bytes_of (e ∷ es) = ap (λ (r : List ℕ). reply_frame e ++ r) (reply_bytes_of es)
 

@@ -27,7 +27,7 @@ module _ {S : Type 0} (p : Party S) where
   stays_over : (m : Meeting S) (ending : Ending) → m.course.wait ≡ over ending → meets p m ≡ m
   stays_over m ending is = ap (λ (w : Wait). answered p m (asked_in p m.course.state w)) is
 
-  stays_all : (n : ℕ) (m : Meeting S) (ending : Ending) → m.course.wait ≡ over ending → meet_times p n m ≡ m
+  pub stays_all : (n : ℕ) (m : Meeting S) (ending : Ending) → m.course.wait ≡ over ending → meet_times p n m ≡ m
   stays_all zero m ending is = refl
   stays_all (suc n) m ending is = ap (meet_times p n) (stays_over m ending is) ∙ stays_all n m ending is
 

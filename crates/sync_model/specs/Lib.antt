@@ -4,3 +4,4 @@ pub mod Courses
 pub mod Simulation
 pub mod Transfers
 pub mod Carried
+pub mod Scenes

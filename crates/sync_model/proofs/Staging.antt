@@ -1,0 +1,153 @@
+-- From the bytes of a link on which so many replies come to a scene.
+use Rattle.std.proofs.Common.{◌≡◌, inl, inr, ℕ, zero, suc, ◌+◌, ◌-◌, ◌≤◌, ◌<◌, List, [], ◌∷◌, ◌++◌, length, take, drop, Option, Some, None, Ok, Result, refl, sym, ◌∙◌, ap, ap₂, arith, append_assoc, append-nil, map}
+use Rattle.std.specs.Prelude.{flat_map, if◌then◌else◌}
+use Rattle.std.specs.List.{AllByRecursion}
+use Rattle.std.proofs.lemmas.List.{length-append, length-map, length-take, take-append-drop, take-map, take-take, take_all}
+use Rattle.relay_wire.specs.Frames.{frames_of}
+use Rattle.relay_wire.specs.Requests.{Asked, IsLawfulAsked}
+use Rattle.relay_wire.specs.Replies.{Replied, IsLawfulReplied}
+use Rattle.relay_core.specs.Boxes.{Box, answers_of, answers_read}
+use Rattle.relay_core.specs.Streams.{Exchange, Served, and_then, is_last, nothing_served, served, served_within, reply_frame, reply_bytes}
+use Rattle.relay_core.specs.declared.limits.TheConstants.{EXCHANGE_LIMIT}
+use Rattle.sync_model.specs.Parties.{Party}
+use Rattle.sync_model.specs.Moves.{asked_in}
+use Rattle.sync_model.specs.Courses.{Course, as_list, awaited, course_of, made_requests}
+use Rattle.sync_model.specs.Transfers.{Meeting, begins, meet_times}
+use Rattle.sync_model.specs.Carried.{IsCarried, relay_after, relay_replies, replied_bytes, reply_text, request_bytes, request_frame}
+use Rattle.sync_model.specs.Scenes.{IsDone, IsPlayed, scene, without_reply}
+use Rattle.sync_model.proofs.Carried.{meeting}
+use Rattle.sync_model.proofs.Meeting.{after_times}
+use Rattle.sync_model.proofs.Replying.{flat, flat_of, frames_of_flat, frames_join, read_back, relay_boxes, replies_count, replies_lawful, reply_bytes_of, reply_frames, request_frames}
+use Rattle.sync_model.proofs.Stopping.{stays_all}
+
+abbrev pub reply_of : Exchange → Replied
+reply_of e = e.reply
+
+-- ---- lists
+
+take_lawful : (n : ℕ) (rs : List Replied) → AllByRecursion IsLawfulReplied rs → AllByRecursion IsLawfulReplied (take n rs)
+take_lawful zero rs are = tt
+take_lawful (suc n) [] are = tt
+take_lawful (suc n) (r ∷ rs) are = (are.0, take_lawful n rs are.1)
+
+pub flat_map_append : (a b : List Exchange) → flat_map reply_frame (a ++ b) ≡ flat_map reply_frame a ++ flat_map reply_frame b
+flat_map_append [] b = refl
+flat_map_append (x ∷ a) b = ap (λ (r : List ℕ). reply_frame x ++ r) (flat_map_append a b) ∙ sym (append_assoc (reply_frame x) (flat_map reply_frame a) (flat_map reply_frame b))
+
+after_append : (boxes : List Box) (a b : List Asked) → relay_after boxes (a ++ b) ≡ relay_after (relay_after boxes a) b
+after_append boxes [] b = refl
+after_append boxes (x ∷ a) b = after_append (answers_of boxes x).next a b
+
+-- ---- lawful requests, as many as are answered
+
+abbrev served_one : ℕ → List Box → List (List ℕ) → Result Asked ℕ → Served
+served_one n boxes fs asked =
+    and_then (record { asked = asked; reply = (answers_read boxes asked).reply }) (if is_last asked then nothing_served (answers_read boxes asked).next else served_within n (answers_read boxes asked).next fs)
+
+served_replies : (n : ℕ) (boxes : List Box) (xs : List Asked) → AllByRecursion IsLawfulAsked xs
+    → map reply_of (served_within n boxes (map request_frame xs)).exchanges ≡ take n (relay_replies boxes xs)
+served_replies zero boxes xs lawful = refl
+served_replies (suc n) boxes [] lawful = refl
+served_replies (suc n) boxes (a ∷ xs) lawful =
+    ap (λ (x : Result Asked ℕ). map reply_of (served_one n boxes (map request_frame xs) x).exchanges) (read_back a lawful.0)
+    ∙ ap (λ (rs : List Replied). (answers_of boxes a).reply ∷ rs) (served_replies n (answers_of boxes a).next xs lawful.1)
+
+served_requests : (boxes : List Box) (xs : List Asked) → AllByRecursion IsLawfulAsked xs
+    → served boxes (request_bytes xs) ≡ served_within EXCHANGE_LIMIT boxes (map request_frame xs)
+unfolding served
+served_requests boxes xs lawful =
+    ap (λ (sent : List ℕ). served_within EXCHANGE_LIMIT boxes (frames_of sent)) (flat_of request_frame xs)
+    ∙ ap (served_within EXCHANGE_LIMIT boxes) (frames_of_flat (map request_frame xs) (request_frames xs lawful))
+
+-- the replies to them
+replies_of : (boxes : List Box) (xs : List Asked) → AllByRecursion IsLawfulAsked xs
+    → map reply_of (served boxes (request_bytes xs)).exchanges ≡ take EXCHANGE_LIMIT (relay_replies boxes xs)
+replies_of boxes xs lawful = ap (λ (s : Served). map reply_of s.exchanges) (served_requests boxes xs lawful) ∙ served_replies EXCHANGE_LIMIT boxes xs lawful
+
+module _ (kept limit : ℕ) (boxes : List Box) (xs : List Asked) (replies : List Replied) (more : List ℕ) (exs : List Exchange)
+    (few : kept ≤ limit) (are : AllByRecursion IsLawfulReplied (relay_replies boxes xs)) (lawful : AllByRecursion IsLawfulReplied replies)
+    (is : map reply_of exs ≡ take limit (relay_replies boxes xs))
+    (came : replied_bytes replies ++ more ≡ flat_map reply_frame (take kept exs)) where
+  abbrev firsts : List Replied
+  firsts = take kept (relay_replies boxes xs)
+
+  first_bytes : flat_map reply_frame (take kept exs) ≡ flat (map reply_text firsts)
+  first_bytes =
+      reply_bytes_of (take kept exs)
+      ∙ ap (λ (rs : List Replied). flat (map reply_text rs)) (sym (take-map reply_of kept exs) ∙ ap (take kept) is ∙ take-take kept limit (relay_replies boxes xs) few)
+
+  frames : map reply_text firsts ≡ map reply_text replies ++ frames_of more
+  frames =
+      sym (frames_of_flat (map reply_text firsts) (reply_frames firsts (take_lawful kept (relay_replies boxes xs) are)))
+      ∙ ap frames_of (sym (ap (λ (b : List ℕ). b ++ more) (sym (flat_of reply_text replies)) ∙ came ∙ first_bytes))
+      ∙ frames_join (map reply_text replies) more (reply_frames replies lawful)
+
+  -- no more were read than come
+  pub no_more : length replies ≤ kept
+  no_more =
+      let counts : length firsts ≡ length replies + length (frames_of more) =
+      sym (length-map firsts reply_text) ∙ ap length frames ∙ length-append (map reply_text replies) (frames_of more)
+      ∙ ap (λ (n : ℕ). n + length (frames_of more)) (length-map replies reply_text) in
+      omega (arith, counts, length-take kept (relay_replies boxes xs))
+
+-- ---- the scene
+
+module _ {S : Type 0} (p : Party S) (kept : ℕ) (s : S) (boxes : List Box) (replies : List Replied) (is : IsPlayed p kept s boxes replies) where
+  abbrev course : Course S
+  course = course_of p s replies
+
+  abbrev made : List Asked
+  made = made_requests p course
+
+  abbrev exs : List Exchange
+  exs = (served boxes (request_bytes made)).exchanges
+
+  lawful_all : AllByRecursion IsLawfulReplied (relay_replies boxes made)
+  lawful_all = replies_lawful boxes made is.lawful_boxes is.lawful_requests
+
+  pub within : length replies ≤ kept
+  within = no_more kept EXCHANGE_LIMIT boxes made replies is.more exs (omega (arith, is.few)) lawful_all is.lawful_replies (replies_of boxes made is.lawful_requests) is.came
+
+  one_at_most : (o : Option Asked) → length (course.requests ++ as_list o) ≤ length replies + 1
+  one_at_most None = omega (arith, length-append course.requests [], is.waited)
+  one_at_most (Some asked) = omega (arith, length-append course.requests (asked ∷ []), is.waited)
+
+  pub made_few : length made ≤ EXCHANGE_LIMIT
+  made_few = omega (arith, one_at_most (asked_in p course.state course.wait), within, is.few)
+
+  exs_count : length exs ≡ length made
+  exs_count =
+      sym (length-map exs reply_of) ∙ ap length (replies_of boxes made is.lawful_requests ∙ take_all EXCHANGE_LIMIT (relay_replies boxes made) (omega (arith, replies_count boxes made, made_few)))
+      ∙ replies_count boxes made
+
+  carried : IsCarried p s boxes replies
+  carried = record {
+    lawful_boxes = is.lawful_boxes;
+    lawful_requests = is.lawful_requests;
+    lawful_replies = is.lawful_replies;
+    few = made_few;
+    waited = is.waited;
+    more = is.more ++ flat_map reply_frame (drop kept exs);
+    carried =
+        sym (append_assoc (replied_bytes replies) is.more (flat_map reply_frame (drop kept exs))) ∙ ap (λ (b : List ℕ). b ++ flat_map reply_frame (drop kept exs)) is.came
+        ∙ sym (flat_map_append (take kept exs) (drop kept exs)) ∙ ap (flat_map reply_frame) (take-append-drop kept exs);
+  }
+
+  abbrev met : Meeting S
+  met = record { course = course; boxes = relay_after boxes course.requests }
+
+  met_is : meet_times p (length replies) (begins p s boxes) ≡ met
+  met_is = meeting p s boxes replies carried
+
+  meets_kept : IsDone p kept s boxes replies → meet_times p kept (begins p s boxes) ≡ met
+  meets_kept (inl ends) =
+      ap (λ (n : ℕ). meet_times p n (begins p s boxes)) (let e : kept ≡ length replies + (kept - length replies) = omega (arith, within) in e)
+      ∙ after_times p (length replies) (kept - length replies) (begins p s boxes) ∙ ap (meet_times p (kept - length replies)) met_is
+      ∙ stays_all p (kept - length replies) met ends.0 ends.1
+  meets_kept (inr lost) =
+      ap (λ (n : ℕ). meet_times p n (begins p s boxes)) (let e : kept ≡ length replies = omega (arith, within, lost, exs_count, one_at_most (asked_in p course.state course.wait)) in e) ∙ met_is
+
+  pub staged : IsDone p kept s boxes replies → scene p kept s boxes ≡ record { course = course; boxes = (served boxes (request_bytes made)).next }
+  staged done =
+      ap (without_reply p) (meets_kept done)
+      ∙ ap (λ (b : List Box). record { course = course; boxes = b }) (sym (after_append boxes course.requests (awaited p course)) ∙ sym (relay_boxes boxes made is.lawful_requests made_few))
