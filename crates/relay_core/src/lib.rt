@@ -13,12 +13,14 @@
 //! ```
 #![tactic(auto)]
 
+pub use answering::{Answered, answer_frame};
 pub use checking::check_box;
 pub use law::{changes, isolation, lawfulness, records};
 pub use limits::{BOX_LIMIT, EXCHANGE_LIMIT, RECORD_LIMIT, RELAY_LIMIT};
 pub use loading::Loaded;
 pub use relay::Relay;
 
+mod answering;
 mod checking;
 mod law;
 mod limits;

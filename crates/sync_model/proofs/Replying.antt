@@ -108,7 +108,7 @@ packet_short : (packet : List ℕ) → is_packet packet ≡ true → length pack
 unfolding is_packet
 packet_short packet is = leb-true (length packet) PACKET_LIMIT (both_true (nat_le 1 (length packet)) (nat_le (length packet) PACKET_LIMIT) is).1
 
-request_short : (a : Asked) → IsLawfulAsked a → (1 ≤ length (request_body a)) × (length (request_body a) ≤ BODY_LIMIT)
+pub request_short : (a : Asked) → IsLawfulAsked a → (1 ≤ length (request_body a)) × (length (request_body a) ≤ BODY_LIMIT)
 unfolding request_body
 request_short a lawful = by_ask a.ask lawful.1
   where

@@ -60,7 +60,7 @@ served_requests boxes xs lawful =
     ∙ ap (served_within EXCHANGE_LIMIT boxes) (frames_of_flat (map request_frame xs) (request_frames xs lawful))
 
 -- the replies to them
-replies_of : (boxes : List Box) (xs : List Asked) → AllByRecursion IsLawfulAsked xs
+pub replies_of : (boxes : List Box) (xs : List Asked) → AllByRecursion IsLawfulAsked xs
     → map reply_of (served boxes (request_bytes xs)).exchanges ≡ take EXCHANGE_LIMIT (relay_replies boxes xs)
 replies_of boxes xs lawful = ap (λ (s : Served). map reply_of s.exchanges) (served_requests boxes xs lawful) ∙ served_replies EXCHANGE_LIMIT boxes xs lawful
 
