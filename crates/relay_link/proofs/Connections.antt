@@ -1,0 +1,149 @@
+-- What a connection gives and takes, as a pipe.
+use Rattle.std.proofs.Common.{◌≡◌, ◌⊎◌, inl, inr, ℕ, zero, suc, ◌+◌, ◌-◌, ◌<◌, ◌≤◌, List, [], ◌∷◌, ◌++◌, length, take, drop, Option, Some, refl, sym, ◌∙◌, ap, ap₂, subst, arith, append_assoc, append-nil}
+use Rattle.std.specs.Prelude.{flat_map}
+use Rattle.std.proofs.Math.Seq.{take-add}
+use Rattle.std.proofs.lemmas.List.{drop-append-le, length-append, length-drop, length-take-le, take-append-drop, take-append-le, take_all}
+use Rattle.dr_ports.specs.Wires.{Gave, IsAtEnd, Told, Took}
+use Rattle.dr_ports.specs.MemoryWires.{nothing_comes}
+use Rattle.relay_core.specs.Boxes.{Box}
+use Rattle.relay_core.specs.Streams.{Exchange, Served, served, served_within, reply_bytes, reply_frame}
+use Rattle.relay_core.specs.declared.limits.TheConstants.{EXCHANGE_LIMIT}
+use Rattle.relay_wire.specs.Frames.{IsPartial, frames_of}
+use Rattle.relay_wire.proofs.Splitting.{only}
+use Rattle.sync_model.proofs.Staging.{flat_map_append}
+use Rattle.relay_link.specs.Connections.{Connection, HasLost, boxes_of, coming_of, connected, exchanges_of, port_of, wire_of}
+use Rattle.relay_link.specs.Desks.{DeskNow, fresh}
+use Rattle.relay_link.specs.Serving.{IsServing, prepend}
+use Rattle.relay_link.specs.declared.limits.TheConstants.{REPLY_LIMIT, SENT_LIMIT}
+
+-- ---- less than a frame isn't answered
+
+pub no_frames : (rest : List ℕ) → IsPartial rest → frames_of rest ≡ []
+no_frames rest partial = only rest [] rest (record { whole = refl; each = tt; partial = partial })
+
+pub served_nothing : (n : ℕ) (boxes : List Box) → served_within n boxes [] ≡ record { exchanges = []; next = boxes }
+served_nothing zero boxes = refl
+served_nothing (suc n) boxes = refl
+
+pub none_answered : (n : ℕ) (boxes : List Box) (held : List ℕ) → IsPartial held → served_within n boxes (frames_of held) ≡ record { exchanges = []; next = boxes }
+none_answered n boxes held partial = ap (served_within n boxes) (no_frames held partial) ∙ served_nothing n boxes
+
+take_none : {X : Type 0} (n : ℕ) → take {A = X} n [] ≡ []
+take_none zero = refl
+take_none (suc n) = refl
+
+-- ---- before the first request
+
+nothing_served : (boxes : List Box) → (served boxes []).exchanges ≡ []
+unfolding served
+nothing_served boxes = ap (λ (s : Served). s.exchanges) (none_answered EXCHANGE_LIMIT boxes [] (omega arith))
+
+all_served : (boxes : List Box) (more : List ℕ) → served boxes more ≡ served_within EXCHANGE_LIMIT boxes (frames_of more)
+unfolding served
+all_served boxes more = refl
+
+pub begins : (kept : ℕ) (boxes : List Box) → kept ≤ REPLY_LIMIT → IsServing (connected kept boxes) (fresh kept boxes) []
+begins kept boxes few = record {
+  partial = omega arith;
+  ahead = λ more. all_served boxes more ∙ ap (λ (xs : List Exchange). prepend xs (served_within EXCHANGE_LIMIT boxes (frames_of more))) (sym (nothing_served boxes));
+  count = ap length (sym (nothing_served boxes));
+  replies = sym (ap (λ (xs : List Exchange). flat_map reply_frame (take kept xs)) (nothing_served boxes) ∙ ap (flat_map reply_frame) (take_none kept));
+  received = omega arith;
+  same = refl;
+  few = few;
+  failed = λ some. absurd (omega (arith, some));
+}
+
+-- the same of a link's parts
+pub fresh_stands : (kept : ℕ) (start boxes : List Box) (items held : List ℕ) (desk : DeskNow) → kept ≤ REPLY_LIMIT → start ≡ boxes → items ≡ [] → held ≡ []
+    → desk ≡ fresh kept boxes → IsServing (record { start = start; kept = desk.kept; sent = items; at = 0; faults = 0 }) desk held
+fresh_stands kept start boxes items held desk few one two three four =
+    subst (λ (d : DeskNow). IsServing (record { start = start; kept = d.kept; sent = items; at = 0; faults = 0 }) d held) (sym four)
+    (subst (λ (s : List Box). IsServing (record { start = s; kept = kept; sent = items; at = 0; faults = 0 }) (fresh kept boxes) held) (sym one)
+    (subst (λ (b : List ℕ). IsServing (record { start = boxes; kept = kept; sent = b; at = 0; faults = 0 }) (fresh kept boxes) held) (sym two)
+    (subst (λ (b : List ℕ). IsServing (connected kept boxes) (fresh kept boxes) b) (sym three) (begins kept boxes few))))
+
+pub connected_is : (start boxes : List Box) (kept k : ℕ) (sent : List ℕ) (c : Connection) → c ≡ record { start = start; kept = kept; sent = sent; at = 0; faults = 0 }
+    → start ≡ boxes → kept ≡ k → sent ≡ [] → c ≡ connected k boxes
+connected_is start boxes kept k sent c is one two three =
+    is ∙ ap (λ (s : List Box). record { start = s; kept = kept; sent = sent; at = 0; faults = 0 }) one
+    ∙ ap (λ (n : ℕ). record { start = boxes; kept = n; sent = sent; at = 0; faults = 0 }) two
+    ∙ ap (λ (b : List ℕ). record { start = boxes; kept = k; sent = b; at = 0; faults = 0 }) three
+
+-- a piece that was put at the beginning of a buffer
+pub given_piece : (new bytes replies : List ℕ) (at count size next : ℕ) → size ≡ count → at + count ≤ length replies → bytes ≡ take size (drop at replies)
+    → next ≡ 0 + length bytes → take next new ≡ [] ++ bytes → take count new ≡ take count (drop at replies)
+given_piece new bytes replies at count size next size_is fits is next_is front =
+    let bytes_are : bytes ≡ take count (drop at replies) = is ∙ ap (λ (n : ℕ). take n (drop at replies)) size_is in
+    let long : length bytes ≡ count = ap length bytes_are ∙ length-take-le count (drop at replies) (omega (arith, fits, length-drop at replies)) in
+    ap (λ (n : ℕ). take n new) (let e : count ≡ next = omega (arith, next_is, long) in e) ∙ front ∙ bytes_are
+
+-- ---- what stands
+
+module _ (c : Connection) (desk : DeskNow) (held : List ℕ) (is : IsServing c desk held) where
+  -- the boxes are the desk's
+  pub boxes_are : boxes_of c ≡ desk.boxes
+  boxes_are =
+      ap (λ (b : List ℕ). (served c.start b).next) (sym (append-nil c.sent)) ∙ ap (λ (s : Served). s.next) (is.ahead [])
+      ∙ ap (λ (b : List ℕ). (served_within desk.left desk.boxes (frames_of b)).next) (append-nil held)
+      ∙ ap (λ (s : Served). s.next) (none_answered desk.left desk.boxes held is.partial)
+
+  -- all replies begin with those that come
+  all_are : reply_bytes (served c.start c.sent) ≡ desk.replies ++ flat_map reply_frame (drop c.kept (exchanges_of c))
+  all_are =
+      ap (flat_map reply_frame) (sym (take-append-drop c.kept (exchanges_of c))) ∙ flat_map_append (take c.kept (exchanges_of c)) (drop c.kept (exchanges_of c))
+      ∙ ap (λ (b : List ℕ). b ++ flat_map reply_frame (drop c.kept (exchanges_of c))) (sym is.replies)
+
+  -- ---- a receive
+
+  module _ (count : ℕ) (fits : c.at + count ≤ length desk.replies) (piece : List ℕ) (given : piece ≡ take count (drop c.at desk.replies)) where
+    abbrev received : Connection
+    received = record c { at = c.at + count }
+
+    piece_is : take count (drop c.at (reply_bytes (served c.start c.sent))) ≡ piece
+    piece_is =
+        ap (λ (b : List ℕ). take count (drop c.at b)) all_are ∙ ap (take count) (drop-append-le c.at desk.replies _ (omega (arith, fits)))
+        ∙ take-append-le count (drop c.at desk.replies) _ (omega (arith, fits, length-drop c.at desk.replies)) ∙ sym given
+
+    pub gave : Gave piece (port_of c) (port_of received)
+    gave = ap (λ (b : List ℕ). Some (record { now = record { gives = λ sent. reply_bytes (served c.start sent); received = b; sent = c.sent; fate = (wire_of c).fate }; before = []; coming = nothing_comes }))
+        (take-add c.at count (reply_bytes (served c.start c.sent)) ∙ ap (λ (b : List ℕ). take c.at (reply_bytes (served c.start c.sent)) ++ b) piece_is)
+
+    pub serves_received : IsServing received desk held
+    serves_received = record {
+      partial = is.partial;
+      ahead = is.ahead;
+      count = is.count;
+      replies = is.replies;
+      received = fits;
+      same = is.same;
+      few = is.few;
+      failed = is.failed;
+    }
+
+  -- where no reply was lost, all have come
+  pub at_end : desk.answered ≤ desk.kept → length desk.replies ≤ c.at → IsAtEnd (wire_of c)
+  at_end none end =
+      let whole : take c.kept (exchanges_of c) ≡ exchanges_of c = take_all c.kept (exchanges_of c) (omega (arith, none, is.count, is.same)) in
+      let all : desk.replies ≡ reply_bytes (served c.start c.sent) = is.replies ∙ ap (flat_map reply_frame) whole in
+      take_all c.at (reply_bytes (served c.start c.sent)) (omega (arith, end, ap length all))
+
+  -- ---- a call that failed
+
+  pub serves_failed : (faults : ℕ) → (HasLost c ⊎ (SENT_LIMIT ≤ length c.sent)) → IsServing (record c { faults = faults }) desk held
+  serves_failed faults cause = record {
+    partial = is.partial;
+    ahead = is.ahead;
+    count = is.count;
+    replies = is.replies;
+    received = is.received;
+    same = is.same;
+    few = is.few;
+    failed = λ some. cause;
+  }
+
+  pub lost : desk.kept < desk.answered → HasLost c
+  lost more = omega (arith, more, is.count, is.same)
+
+  pub not_lost : HasLost c → desk.answered ≤ desk.kept → ⊥
+  not_lost more none = omega (arith, more, none, is.count, is.same)

@@ -1,0 +1,4 @@
+pub mod Connections
+pub mod Sending
+pub mod Bringing
+pub mod Playing

@@ -1,0 +1,225 @@
+-- A sync over a link on which so many replies come is a scene.
+use Rattle.std.proofs.Common.{◌≡◌, ◌⊎◌, inl, inr, ℕ, zero, suc, ◌+◌, ◌*◌, ◌<◌, ◌≤◌, List, [], ◌∷◌, ◌++◌, length, take, drop, Some, Err, refl, sym, ◌∙◌, ap, ap₂, subst, arith, append_assoc, append-nil, map}
+use Rattle.std.specs.Prelude.{flat_map, All}
+use Rattle.std.specs.List.{AllByRecursion}
+use Rattle.std.proofs.lemmas.List.{length-append, length-map, take-append-drop, take_all}
+use Rattle.dr_ports.specs.Wires.{IsAtEnd}
+use Rattle.relay_wire.specs.Frames.{IsFrame, IsPartial, frame_size, frames_of}
+use Rattle.relay_wire.specs.Requests.{Asked, IsLawfulAsked, request_body}
+use Rattle.relay_wire.specs.Replies.{IsLawfulReplied, Replied, read_reply}
+use Rattle.relay_wire.specs.declared.limits.TheConstants.{BODY_LIMIT, FRAME_LIMIT}
+use Rattle.relay_wire.specs.declared.reply.BadReply.{BadReply}
+use Rattle.relay_wire.proofs.Splitting.{frame_size-least}
+use Rattle.relay_core.specs.Boxes.{Box}
+use Rattle.relay_core.specs.Lawful.{IsLawfulBox}
+use Rattle.relay_core.specs.Streams.{Exchange, Served, served, served_within, reply_frame, reply_bytes}
+use Rattle.relay_core.specs.declared.limits.TheConstants.{EXCHANGE_LIMIT}
+use Rattle.sync_model.specs.Parties.{Party}
+use Rattle.sync_model.specs.Moves.{Ending, Wait, asked_in, over}
+use Rattle.sync_model.specs.Courses.{Course, as_list, awaited, course_of, made_requests}
+use Rattle.sync_model.specs.Carried.{IsCarried, relay_replies, replied_bytes, request_bytes, request_frame}
+use Rattle.sync_model.specs.Scenes.{IsDone, IsPlayed, scene}
+use Rattle.sync_model.proofs.Pending.{IsPending, not_cut, not_unread, pending}
+use Rattle.sync_model.proofs.Reading.{bytes_last}
+use Rattle.sync_model.proofs.Replying.{flat, flat_of, frames_join, replies_count, replies_lawful, request_frames, request_short}
+use Rattle.sync_model.proofs.Staging.{flat_map_append, made_few, no_more, replies_of, reply_of, staged, within}
+use Rattle.relay_link.specs.Bringing.{IsBrought}
+use Rattle.relay_link.specs.Connections.{Connection, boxes_of, wire_of}
+use Rattle.relay_link.specs.Playing.{IsSynced, synced}
+use Rattle.relay_link.specs.declared.limits.TheConstants.{REPLY_LIMIT, SENT_LIMIT}
+use Rattle.relay_link.proofs.Connections.{no_frames}
+
+-- ---- less than a frame
+
+-- a beginning of a frame, and not all of it
+begins_partial : (put : List ℕ) (x : ℕ) (left : List ℕ) → IsFrame (put ++ x ∷ left) → IsPartial put
+begins_partial [] x left whole = omega arith
+begins_partial (a ∷ []) x left whole = omega arith
+begins_partial (a ∷ b ∷ more) x left whole = omega (arith, whole, length-append more (x ∷ left))
+
+-- isn't answered
+part_unanswered : (boxes : List Box) (xs : List Asked) (put : List ℕ) → AllByRecursion IsLawfulAsked xs → IsPartial put
+    → served boxes (request_bytes xs ++ put) ≡ served boxes (request_bytes xs)
+unfolding served
+part_unanswered boxes xs put lawful partial =
+    let whole = request_frames xs lawful in
+    ap (λ (b : List ℕ). served_within EXCHANGE_LIMIT boxes (frames_of (b ++ put))) (flat_of request_frame xs)
+    ∙ ap (served_within EXCHANGE_LIMIT boxes) (frames_join (map request_frame xs) put whole)
+    ∙ ap (λ (fs : List (List ℕ)). served_within EXCHANGE_LIMIT boxes (map request_frame xs ++ fs)) (no_frames put partial ∙ sym (no_frames [] (omega arith)))
+    ∙ ap (served_within EXCHANGE_LIMIT boxes) (sym (frames_join (map request_frame xs) [] whole))
+    ∙ ap (λ (b : List ℕ). served_within EXCHANGE_LIMIT boxes (frames_of b)) (append-nil (flat (map request_frame xs)) ∙ sym (flat_of request_frame xs))
+
+-- ---- how many bytes are sent
+
+frame_short : (asked : Asked) → IsLawfulAsked asked → length (request_frame asked) ≤ FRAME_LIMIT
+frame_short asked lawful = let s = (request_short asked lawful).1 in omega (arith, s)
+
+bytes_short : (xs : List Asked) → AllByRecursion IsLawfulAsked xs → length (request_bytes xs) ≤ length xs * FRAME_LIMIT
+bytes_short [] lawful = omega arith
+bytes_short (x ∷ xs) lawful = omega (arith, frame_short x lawful.0, bytes_short xs lawful.1, length-append (request_frame x) (request_bytes xs))
+
+front_lawful : (a b : List Asked) → AllByRecursion IsLawfulAsked (a ++ b) → AllByRecursion IsLawfulAsked a
+front_lawful [] b are = tt
+front_lawful (x ∷ a) b are = (are.0, front_lawful a b are.1)
+
+back_lawful : (a b : List Asked) → AllByRecursion IsLawfulAsked (a ++ b) → AllByRecursion IsLawfulAsked b
+back_lawful [] b are = are
+back_lawful (x ∷ a) b are = back_lawful a b are.1
+
+never_full : (n kept bytes part : ℕ) → n ≤ kept → kept ≤ REPLY_LIMIT → bytes ≤ n * FRAME_LIMIT → part ≤ FRAME_LIMIT → SENT_LIMIT ≤ bytes + part → ⊥
+never_full n kept bytes part le few short one full = absurd (omega (arith, le, few, short, one, full))
+
+module _ {S : Type 0} (p : Party S) (kept : ℕ) (s : S) (boxes : List Box) (replies : List Replied) (rest put : List ℕ) (now : Connection)
+    (is : IsSynced p kept s boxes replies rest put now) where
+  abbrev course : Course S
+  course = course_of p s replies
+
+  abbrev done : List Asked
+  done = course.requests
+
+  abbrev made : List Asked
+  made = made_requests p course
+
+  -- ---- all requests were sent whole
+
+  module _ (whole : request_bytes done ++ put ≡ request_bytes made) where
+    came_whole : (replied_bytes replies ++ rest) ++ is.brought.more ≡ flat_map reply_frame (take kept (served boxes (request_bytes made)).exchanges)
+    came_whole = subst (λ (b : List ℕ). (replied_bytes replies ++ rest) ++ is.brought.more ≡ flat_map reply_frame (take kept (served boxes b).exchanges)) whole is.brought.came
+
+    played : IsPlayed p kept s boxes replies
+    played = record {
+      lawful_boxes = is.lawful_boxes;
+      lawful_requests = is.lawful_requests;
+      lawful_replies = is.lawful_replies;
+      few = omega (arith, is.few);
+      waited = is.waited;
+      more = rest ++ is.brought.more;
+      came = sym (append_assoc (replied_bytes replies) rest is.brought.more) ∙ came_whole;
+    }
+
+    plays : IsDone p kept s boxes replies → scene p kept s boxes ≡ synced p s replies now
+    plays done_so =
+        staged p kept s boxes replies played done_so
+        ∙ ap (λ (b : List Box). record { course = course; boxes = b }) (sym (is.brought.boxes_are ∙ ap (λ (b : List ℕ). (served boxes b).next) whole))
+
+    module _ (asked : Asked) (waits : asked_in p course.state course.wait ≡ Some asked) where
+      read : (bad : BadReply) → IsFrame rest → read_reply (drop 2 rest) ≡ Err bad → ⊥
+      read bad frame reads =
+          let exs = (served boxes (request_bytes made)).exchanges in
+          let lost = flat_map reply_frame (drop kept exs) in
+          let carries : IsCarried p s boxes replies = record {
+            lawful_boxes = is.lawful_boxes;
+            lawful_requests = is.lawful_requests;
+            lawful_replies = is.lawful_replies;
+            few = made_few p kept s boxes replies played;
+            waited = is.waited;
+            more = rest ++ (is.brought.more ++ lost);
+            carried =
+                sym (append_assoc (replied_bytes replies) rest (is.brought.more ++ lost)) ∙ sym (append_assoc (replied_bytes replies ++ rest) is.brought.more lost)
+                ∙ ap (λ (b : List ℕ). b ++ lost) came_whole ∙ sym (flat_map_append (take kept exs) (drop kept exs)) ∙ ap (flat_map reply_frame) (take-append-drop kept exs);
+          } in
+          not_unread rest (is.brought.more ++ lost) bad (pending p s boxes replies carries asked (ap as_list waits)) frame reads
+
+      goes_on : IsPartial rest → IsAtEnd (wire_of now) → ⊥
+      goes_on partial end =
+          let carries : IsCarried p s boxes replies = record {
+            lawful_boxes = is.lawful_boxes;
+            lawful_requests = is.lawful_requests;
+            lawful_replies = is.lawful_replies;
+            few = made_few p kept s boxes replies played;
+            waited = is.waited;
+            more = rest;
+            carried = is.brought.ends end ∙ ap (λ (b : List ℕ). reply_bytes (served boxes b)) whole;
+          } in
+          not_cut rest (pending p s boxes replies carries asked (ap as_list waits)) partial
+
+  -- ---- the link failed
+
+  module _ (asked : Asked) (waits : asked_in p course.state course.wait ≡ Some asked) where
+    made_is : made ≡ done ++ asked ∷ []
+    made_is = ap (λ (xs : List Asked). done ++ xs) (ap as_list waits)
+
+    lawful_made : AllByRecursion IsLawfulAsked (done ++ asked ∷ [])
+    lawful_made = subst (AllByRecursion IsLawfulAsked) made_is is.lawful_requests
+
+    lawful_done : AllByRecursion IsLawfulAsked done
+    lawful_done = front_lawful done (asked ∷ []) lawful_made
+
+    frame_bytes : length (request_frame asked) ≤ FRAME_LIMIT
+    frame_bytes = frame_short asked (back_lawful done (asked ∷ []) lawful_made).0
+
+    pub all_sent : put ≡ request_frame asked → request_bytes done ++ put ≡ request_bytes made
+    all_sent same = ap (λ (b : List ℕ). request_bytes done ++ b) same ∙ sym (bytes_last request_frame done asked) ∙ ap request_bytes (sym made_is)
+
+    not_full : length done ≤ kept → length put ≤ FRAME_LIMIT → SENT_LIMIT ≤ length (request_bytes done ++ put) → ⊥
+    not_full le short full =
+        never_full (length done) kept (length (request_bytes done)) (length put) le is.few (bytes_short done lawful_done) short (omega (arith, full, length-append (request_bytes done) put))
+
+    -- with the whole request
+    by_whole : (same : put ≡ request_frame asked) → (kept < length (served boxes (request_bytes done ++ put)).exchanges) ⊎ (SENT_LIMIT ≤ length (request_bytes done ++ put))
+        → scene p kept s boxes ≡ synced p s replies now
+    by_whole same (inl lost) = plays (all_sent same) (inr (subst (λ (b : List ℕ). kept < length (served boxes b).exchanges) (all_sent same) lost))
+    by_whole same (inr full) =
+        absurd (not_full (let few = within p kept s boxes replies (played (all_sent same)) in omega (arith, few, is.waited)) (omega (arith, frame_bytes, ap length same)) full)
+
+    -- with less of it
+    by_part : IsPartial put → length put ≤ FRAME_LIMIT
+        → (kept < length (served boxes (request_bytes done ++ put)).exchanges) ⊎ (SENT_LIMIT ≤ length (request_bytes done ++ put)) → ⊥
+    by_part partial short cause = by_cause cause
+      where
+        exs : List Exchange
+        exs = (served boxes (request_bytes done)).exchanges
+
+        same_served : served boxes (request_bytes done ++ put) ≡ served boxes (request_bytes done)
+        same_served = part_unanswered boxes done put lawful_done partial
+
+        replies_are : map reply_of (served boxes (request_bytes done)).exchanges ≡ take EXCHANGE_LIMIT (relay_replies boxes done)
+        replies_are = replies_of boxes done lawful_done
+
+        few : length replies ≤ kept
+        few = no_more kept EXCHANGE_LIMIT boxes done replies (rest ++ is.brought.more) (served boxes (request_bytes done)).exchanges (omega (arith, is.few))
+            (replies_lawful boxes done is.lawful_boxes lawful_done) is.lawful_replies replies_are
+            (sym (append_assoc (replied_bytes replies) rest is.brought.more) ∙ is.brought.came ∙ ap (λ (x : Served). flat_map reply_frame (take kept x.exchanges)) same_served)
+
+        count : length (served boxes (request_bytes done)).exchanges ≡ length done
+        count =
+            sym (length-map (served boxes (request_bytes done)).exchanges reply_of)
+            ∙ ap length (replies_are ∙ take_all EXCHANGE_LIMIT (relay_replies boxes done) (omega (arith, replies_count boxes done, is.waited, few, is.few)))
+            ∙ replies_count boxes done
+
+        by_cause : (kept < length (served boxes (request_bytes done ++ put)).exchanges) ⊎ (SENT_LIMIT ≤ length (request_bytes done ++ put)) → ⊥
+        by_cause (inl lost) = absurd (omega (arith, lost, ap (λ (x : Served). length x.exchanges) same_served, count, is.waited, few))
+        by_cause (inr full) = not_full (omega (arith, is.waited, few)) short full
+
+    breaks : (left : List ℕ) → request_frame asked ≡ put ++ left → 0 < now.faults → scene p kept s boxes ≡ synced p s replies now
+    breaks [] split some = by_whole (sym (split ∙ append-nil put)) (is.brought.failed some)
+    breaks (x ∷ left) split some =
+        absurd (by_part
+        (begins_partial put x left (subst IsFrame split (request_frames (asked ∷ []) ((back_lawful done (asked ∷ []) lawful_made).0, tt)).0))
+        (omega (arith, frame_bytes, ap length split, length-append put (x ∷ left))) (is.brought.failed some))
+
+-- ---- the law
+
+module _ {S : Type 0} (p : Party S) (kept : ℕ) (s : S) (boxes : List Box) (replies : List Replied) where
+  pub ended : (now : Connection) → IsSynced p kept s boxes replies [] [] now → (ending : Ending) → (course_of p s replies).wait ≡ over ending
+      → scene p kept s boxes ≡ synced p s replies now
+  ended now is ending is_over =
+      let requests = (course_of p s replies).requests in
+      let none : made_requests p (course_of p s replies) ≡ requests =
+      ap (λ (w : Wait). requests ++ as_list (asked_in p (course_of p s replies).state w)) is_over ∙ append-nil requests in
+      plays p kept s boxes replies [] [] now is (append-nil (request_bytes requests) ∙ ap request_bytes (sym none)) (inl (ending, is_over))
+
+  pub broken : (rest put : List ℕ) (now : Connection) → IsSynced p kept s boxes replies rest put now → (asked : Asked)
+      → asked_in p (course_of p s replies).state (course_of p s replies).wait ≡ Some asked → (left : List ℕ) → request_frame asked ≡ put ++ left → 0 < now.faults
+      → scene p kept s boxes ≡ synced p s replies now
+  broken rest put now is asked waits left split some = breaks p kept s boxes replies rest put now is asked waits left split some
+
+  pub always_read : (rest : List ℕ) (now : Connection) (asked : Asked) → IsSynced p kept s boxes replies rest (request_frame asked) now
+      → asked_in p (course_of p s replies).state (course_of p s replies).wait ≡ Some asked → (bad : BadReply) → IsFrame rest → read_reply (drop 2 rest) ≡ Err bad → ⊥
+  always_read rest now asked is waits bad frame reads =
+      read p kept s boxes replies rest (request_frame asked) now is (all_sent p kept s boxes replies rest (request_frame asked) now is asked waits refl) asked waits bad frame reads
+
+  pub never_ends : (rest : List ℕ) (now : Connection) (asked : Asked) → IsSynced p kept s boxes replies rest (request_frame asked) now
+      → asked_in p (course_of p s replies).state (course_of p s replies).wait ≡ Some asked → IsPartial rest → IsAtEnd (wire_of now) → ⊥
+  never_ends rest now asked is waits partial end =
+      goes_on p kept s boxes replies rest (request_frame asked) now is (all_sent p kept s boxes replies rest (request_frame asked) now is asked waits refl) asked waits partial end

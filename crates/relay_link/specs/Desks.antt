@@ -1,0 +1,40 @@
+-- A relay at its desk: it answers the frames of one connection, and the first replies come.
+use Rattle.std.specs.Prelude.{ℕ, zero, suc, ◌+◌, nat_lt, List, [], ◌++◌, drop, if◌then◌else◌}
+use Rattle.relay_core.specs.Boxes.{Box, answers_read}
+use Rattle.relay_core.specs.Streams.{Exchange, is_last, reply_frame}
+use Rattle.relay_core.specs.declared.limits.TheConstants.{EXCHANGE_LIMIT}
+use Rattle.relay_wire.specs.Requests.{read_request}
+
+-- the boxes, the replies that come in bytes, how many come at most, how many frames were answered, and how many more may be
+pub record DeskNow : Type 0 where
+  pub boxes : List Box
+  pub replies : List ℕ
+  pub kept : ℕ
+  pub answered : ℕ
+  pub left : ℕ
+
+-- before the first frame
+abbrev pub fresh : ℕ → List Box → DeskNow
+fresh kept boxes = record { boxes = boxes; replies = []; kept = kept; answered = 0; left = EXCHANGE_LIMIT }
+
+-- what is asked and replied
+abbrev pub exchange_of : List Box → List ℕ → Exchange
+exchange_of boxes frame = record { asked = read_request (drop 2 frame); reply = (answers_read boxes (read_request (drop 2 frame))).reply }
+
+-- the frame is answered; its reply comes, if it is one of the first
+abbrev pub answered_frame : DeskNow → ℕ → List ℕ → DeskNow
+answered_frame d more frame = record {
+  boxes = (answers_read d.boxes (read_request (drop 2 frame))).next;
+  replies = if nat_lt d.answered d.kept then d.replies ++ reply_frame (exchange_of d.boxes frame) else d.replies;
+  kept = d.kept;
+  answered = d.answered + 1;
+  left = if is_last (read_request (drop 2 frame)) then 0 else more;
+}
+
+-- behind the last frame none is answered
+abbrev pub frame_left : DeskNow → ℕ → List ℕ → DeskNow
+frame_left d zero frame = d
+frame_left d (suc more) frame = answered_frame d more frame
+
+abbrev pub after_frame : DeskNow → List ℕ → DeskNow
+after_frame d frame = frame_left d d.left frame

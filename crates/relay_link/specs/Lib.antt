@@ -1,0 +1,5 @@
+pub mod Desks
+pub mod Connections
+pub mod Serving
+pub mod Bringing
+pub mod Playing

@@ -1,0 +1,48 @@
+-- A sync over a link on which so many replies come is a scene.
+use Rattle.std.specs.Prelude.{◌≡◌, ◌<◌, ◌≤◌, ℕ, List, [], ◌++◌, length, drop, All, Some, Err}
+use Rattle.std.specs.List.{AllByRecursion}
+use Rattle.dr_ports.specs.Wires.{IsAtEnd}
+use Rattle.relay_wire.specs.Frames.{IsFrame, IsPartial}
+use Rattle.relay_wire.specs.Requests.{Asked, IsLawfulAsked}
+use Rattle.relay_wire.specs.Replies.{IsLawfulReplied, Replied, read_reply}
+use Rattle.relay_wire.specs.declared.reply.BadReply.{BadReply}
+use Rattle.relay_core.specs.Boxes.{Box}
+use Rattle.relay_core.specs.Lawful.{IsLawfulBox}
+use Rattle.sync_model.specs.Parties.{Party}
+use Rattle.sync_model.specs.Moves.{Ending, asked_in, over}
+use Rattle.sync_model.specs.Courses.{course_of, made_requests}
+use Rattle.sync_model.specs.Transfers.{Meeting}
+use Rattle.sync_model.specs.Carried.{replied_bytes, request_bytes, request_frame}
+use Rattle.sync_model.specs.Scenes.{scene}
+use Rattle.relay_link.specs.Bringing.{IsBrought}
+use Rattle.relay_link.specs.Connections.{Connection, boxes_of, wire_of}
+use Rattle.relay_link.specs.declared.limits.TheConstants.{REPLY_LIMIT}
+
+module _ {S : Type 0} (p : Party S) where
+  -- The replies were read, each while its request waited, and these bytes behind them; the requests were sent, and these bytes.
+  pub record IsSynced (kept : ℕ) (s : S) (boxes : List Box) (replies : List Replied) (rest put : List ℕ) (now : Connection) : Type 0 where
+    pub lawful_boxes : All IsLawfulBox boxes
+    pub lawful_requests : AllByRecursion IsLawfulAsked (made_requests p (course_of p s replies))
+    pub lawful_replies : AllByRecursion IsLawfulReplied replies
+    pub few : kept ≤ REPLY_LIMIT
+    pub waited : length (course_of p s replies).requests ≡ length replies
+    pub brought : IsBrought boxes kept (replied_bytes replies ++ rest) (request_bytes (course_of p s replies).requests ++ put) now
+
+  -- the course, and the link's boxes
+  abbrev pub synced : S → List Replied → Connection → Meeting S
+  synced s replies now = record { course = course_of p s replies; boxes = boxes_of now }
+
+-- Where the sync has ended, and where a call on the link failed, it is the scene. Nothing else than a reply comes, and the link
+-- doesn't end.
+pub record IsPlaying (S : Type 0) : Type 0 where
+  pub ended : (p : Party S) (kept : ℕ) (s : S) (boxes : List Box) (replies : List Replied) (now : Connection) → IsSynced p kept s boxes replies [] [] now
+      → (ending : Ending) → (course_of p s replies).wait ≡ over ending → scene p kept s boxes ≡ synced p s replies now
+  pub broken : (p : Party S) (kept : ℕ) (s : S) (boxes : List Box) (replies : List Replied) (rest put : List ℕ) (now : Connection)
+      → IsSynced p kept s boxes replies rest put now → (asked : Asked) → asked_in p (course_of p s replies).state (course_of p s replies).wait ≡ Some asked
+      → (left : List ℕ) → request_frame asked ≡ put ++ left → 0 < now.faults → scene p kept s boxes ≡ synced p s replies now
+  pub always_read : (p : Party S) (kept : ℕ) (s : S) (boxes : List Box) (replies : List Replied) (rest : List ℕ) (now : Connection) (asked : Asked)
+      → IsSynced p kept s boxes replies rest (request_frame asked) now → asked_in p (course_of p s replies).state (course_of p s replies).wait ≡ Some asked
+      → (bad : BadReply) → IsFrame rest → read_reply (drop 2 rest) ≡ Err bad → ⊥
+  pub never_ends : (p : Party S) (kept : ℕ) (s : S) (boxes : List Box) (replies : List Replied) (rest : List ℕ) (now : Connection) (asked : Asked)
+      → IsSynced p kept s boxes replies rest (request_frame asked) now → asked_in p (course_of p s replies).state (course_of p s replies).wait ≡ Some asked
+      → IsPartial rest → IsAtEnd (wire_of now) → ⊥

@@ -1,0 +1,23 @@
+//! A link to a relay in memory, which may lose a reply and break off there.
+//!
+//! The relay answers what is sent, frame by frame, and its boxes stand from one connection to the next. `specs/Connections` says
+//! what the link tells. All memory is taken when it is made.
+//!
+//! ```rust
+//! use relay_link::RelayLink;
+//!
+//! let mut link = RelayLink::new(alloc, &names)?;
+//! link.connect(Some(2)); // the second request is answered, and its reply lost
+//! ```
+#![tactic(auto)]
+
+pub use law::plays;
+pub use limits::{REPLY_LIMIT, SENT_LIMIT};
+pub use link::RelayLink;
+
+mod desk;
+mod law;
+mod limits;
+mod link;
+#[cfg(test)]
+mod tests;

@@ -1,0 +1,10 @@
+//! The limits of a connection.
+
+use relay_wire::FRAME_LIMIT;
+
+/// How many replies come on one connection at most: two for each packet that a sync acknowledges, one where its box is empty,
+/// and one for each packet of an outbox.
+pub const REPLY_LIMIT: usize = 545;
+
+/// How many bytes a connection takes at most: more than the requests of these replies, and one more, can have.
+pub const SENT_LIMIT: usize = (REPLY_LIMIT + 2) * FRAME_LIMIT;

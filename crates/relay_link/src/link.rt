@@ -1,0 +1,174 @@
+//! A link to a relay in memory.
+
+ghost use Rattle.std.specs.Prelude.{◌≡◌, ◌⊎◌, ◌↔◌, ℕ, ◌+◌, ◌-◌, ◌<◌, ◌≤◌, min, List, [], ◌++◌, length, map, take, drop, Option, IfOk, OnOk, OnErr, IfSome, IsErr, IsOk};
+ghost use Rattle.dr_ports.specs.Ports.{HasCause, one_more};
+ghost use Rattle.dr_ports.specs.declared.pipe.Part.TheVariants.{Flow, Gate};
+ghost use Rattle.dr_ports.specs.Wires.{Gave, Took, EndsAt, ReceiveGoes, SendGoes};
+ghost use Rattle.relay_core.specs.Boxes.{empty_box};
+ghost use Rattle.relay_link.specs.Connections.{Behind, HasLost, IsLawful, behind_of, boxes_of, coming_of, connected, is_ahead, kept_before, port_of};
+ghost use Rattle.relay_link.specs.declared.limits.TheConstants.{REPLY_LIMIT, SENT_LIMIT};
+
+use crate::desk::Desk;
+use crate::limits::{REPLY_LIMIT, SENT_LIMIT};
+use dr_base::put;
+use dr_ports::{Failed, Link, Pipe};
+use relay_core::Relay;
+use relay_wire::{FrameReader, Name};
+use std::alloc::{AllocError, Global};
+use std::marker::Model;
+use std::snapshot::Snapshot;
+
+/// A link to a relay in memory. A contract sees one connection: what was sent and received on it, and the relay's boxes as it
+/// began.
+///
+/// The relay answers each frame as soon as it is whole. So many of its replies come, and behind them the link fails.
+#[derive(Drop)]
+pub struct RelayLink {
+    desk: Desk,
+    reader: FrameReader,
+    start: Snapshot<Relay>,
+    sent: Vec<u8>,
+    at: usize,
+    faults: u64,
+}
+
+impl Model for RelayLink {
+    ghost use Rattle.std.specs.Prelude.{◌≤◌, vec_len, vec_capacity};
+    ghost use Rattle.relay_link.specs.Connections.{Connection};
+    ghost use Rattle.relay_link.specs.Serving.{IsServing};
+    ghost use Rattle.relay_link.specs.declared.limits.TheConstants.{SENT_LIMIT};
+
+    ghost Value = { Connection };
+
+    ghost view = { λ l. record { start = l.start.value; kept = l.desk.kept; sent = l.sent.items; at = l.at; faults = l.faults } };
+
+    ghost invariant = { λ l. IsServing (record { start = l.start.value; kept = l.desk.kept; sent = l.sent.items; at = l.at; faults = l.faults }) l.desk l.reader.bytes
+        × (vec_len l.sent ≤ SENT_LIMIT) × (SENT_LIMIT ≤ vec_capacity l.sent) };
+}
+
+/// How many replies come before the lost one.
+fn kept_before(lost: Option<u32>) -> usize
+    ensures exact { result ≡ kept_before lost }
+    ensures most { result ≤ REPLY_LIMIT }
+{
+    match lost {
+        None => REPLY_LIMIT,
+        Some(lost) => REPLY_LIMIT.min(lost.saturating_sub(1) as usize),
+    }
+}
+
+impl RelayLink {
+    /// A link to a relay with empty boxes of these names, on which no reply is lost. A relay has up to 16, no two alike.
+    pub fn new(alloc: Global, names: &[Name]) -> Result<RelayLink, AllocError>
+        ensures { IfOk result (λ link. link ≡ connected REPLY_LIMIT (map empty_box names.now)) }
+    {
+        let desk = Desk::new(alloc, names)?;
+        Ok(RelayLink {
+            start: Snapshot::of(desk.relay()),
+            desk,
+            reader: FrameReader::new(alloc)?,
+            sent: Vec::with_capacity(alloc, SENT_LIMIT)?,
+            at: 0,
+            faults: 0,
+        })
+    }
+
+    /// Begins another connection, on the boxes as they stand. The reply to the request of this number, from 1, is lost, and
+    /// with it the link; without one no reply is lost. Faults are counted anew.
+    pub fn connect(&mut self, lost: Option<u32>)
+        ensures { self.new ≡ connected (kept_before lost) (boxes_of self.old) }
+    {
+        self.start = Snapshot::of(self.desk.relay());
+        self.desk.begin(kept_before(lost));
+        self.reader.clear();
+        self.sent.clear();
+        self.at = 0;
+        self.faults = 0;
+    }
+
+    /// The relay, with its boxes as they stand.
+    pub fn relay(&self) -> &Relay
+        ensures boxes { result.now ≡ boxes_of self.now }
+        ensures lawful { IsLawful self.now }
+    {
+        self.desk.relay()
+    }
+}
+
+impl Pipe for RelayLink {
+    ghost port = { port_of };
+
+    ghost Behind = { Behind };
+
+    ghost behind = { λ l. behind_of l };
+
+    ghost ahead = { λ l. is_ahead l };
+
+    fn receive(&mut self, into: &mut [u8]) -> Result<usize, Failed>
+        ensures bound { IfOk result (λ count. count ≤ length into.old) }
+        ensures content { IfOk result (λ count. Gave (take count into.new) (port_of self.old) (port_of self.new)) }
+        ensures end { IfOk result (λ count. count ≡ 0 → 0 < length into.old → EndsAt (port_of self.old)) }
+        ensures err { OnErr result ((port_of self.new).told ≡ (port_of self.old).told) }
+        ensures goes { IfSome (port_of self.old).told (λ t. 0 < length into.old → ReceiveGoes t.now t.now.fate result) }
+        ensures cause { HasCause ((port_of self.old).faults Flow) ((port_of self.new).faults Flow) result }
+        ensures gate { (port_of self.new).faults Gate ≡ (port_of self.old).faults Gate }
+        ensures same { behind_of self.new ≡ behind_of self.old }
+        ensures exact { IsErr result ↔ (HasLost self.old × (self.old.at ≡ length (coming_of self.old))) }
+        ensures most { IfOk result (λ count. count ≡ min (length into.old) (length (coming_of self.old) - self.old.at)) }
+        ensures stays { self.new ≡ record self.old { at = self.new.at; faults = self.new.faults } }
+    {
+        let left = self.desk.replies().len() - self.at;
+        if left == 0 && self.desk.has_lost() {
+            self.faults = self.faults.saturating_add(1);
+            return Err(Failed);
+        }
+        let count = into.len().min(left);
+        put(into, 0, &self.desk.replies()[self.at..self.at + count]);
+        self.at += count;
+        Ok(count)
+    }
+
+    fn send(&mut self, bytes: &[u8]) -> Result<usize, Failed>
+        ensures bound { IfOk result (λ count. count ≤ length bytes.now) }
+        ensures progress { IfOk result (λ count. 0 < length bytes.now → 0 < count) }
+        ensures content { IfOk result (λ count. Took (take count bytes.now) (port_of self.old) (port_of self.new)) }
+        ensures err { OnErr result ((port_of self.new).told ≡ (port_of self.old).told) }
+        ensures goes { IfSome (port_of self.old).told (λ t. SendGoes t.now.fate result) }
+        ensures cause { HasCause ((port_of self.old).faults Flow) ((port_of self.new).faults Flow) result }
+        ensures gate { (port_of self.new).faults Gate ≡ (port_of self.old).faults Gate }
+        ensures same { behind_of self.new ≡ behind_of self.old }
+        ensures exact { IsErr result ↔ (length self.old.sent ≡ SENT_LIMIT) }
+        ensures stays { self.new ≡ record self.old { sent = self.new.sent; faults = self.new.faults } }
+    {
+        let free = SENT_LIMIT - self.sent.len();
+        if free == 0 {
+            self.faults = self.faults.saturating_add(1);
+            return Err(Failed);
+        }
+        let count = self.reader.feed(&bytes[..bytes.len().min(free)]);
+        self.sent.extend_from_slice(&bytes[..count]).unwrap();
+        match self.reader.next() {
+            None => {}
+            Some(frame) => self.desk.answer(&frame),
+        }
+        Ok(count)
+    }
+}
+
+impl Link for RelayLink {
+    fn open(&mut self, address: &str) -> Result<(), Failed>
+        ensures told { (port_of self.new).told ≡ (port_of self.old).told }
+        ensures cause { HasCause ((port_of self.old).faults Gate) ((port_of self.new).faults Gate) result }
+        ensures flow { (port_of self.new).faults Flow ≡ (port_of self.old).faults Flow }
+        ensures same { behind_of self.new ≡ behind_of self.old }
+        ensures passes { IsOk result }
+        ensures still { self.new ≡ self.old }
+    {
+        Ok(())
+    }
+
+    fn shut(&mut self)
+        ensures told { port_of self.new ≡ port_of self.old }
+        ensures still { self.new ≡ self.old }
+    {}
+}
