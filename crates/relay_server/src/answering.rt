@@ -1,48 +1,11 @@
-//! A frame is answered out of the boxes, and the record of a box is written.
+//! The record of a box is written.
 
-ghost use Rattle.std.specs.Prelude.{◌≡◌, ◌<◌, ◌≤◌, length, take, drop, slice_get, Option};
-ghost use Rattle.relay_wire.specs.Frames.{framed};
-ghost use Rattle.relay_wire.specs.Requests.{read_request};
-ghost use Rattle.relay_wire.specs.Replies.{reply_body};
-ghost use Rattle.relay_wire.specs.declared.limits.TheConstants.{FRAME_LIMIT};
-ghost use Rattle.relay_core.specs.Boxes.{Box, answers_read};
+ghost use Rattle.std.specs.Prelude.{◌≡◌, ◌<◌, ◌≤◌, length, take, slice_get, Option};
+ghost use Rattle.relay_core.specs.Boxes.{Box};
 ghost use Rattle.relay_core.specs.Record.{box_text};
-ghost use Rattle.relay_core.specs.Streams.{is_last};
 ghost use Rattle.relay_core.specs.declared.limits.TheConstants.{RECORD_LIMIT};
 
-use crate::serving::Answered;
 use relay_core::Relay;
-use relay_wire::{Frame, Reply, parse_request, write_reply};
-
-/// Answers a frame out of the boxes, and writes the reply's frame at the beginning of `out`.
-pub fn answer_frame(relay: &mut Relay, frame: &Frame, out: &mut [u8]) -> Answered
-    requires { FRAME_LIMIT ≤ length out.old }
-    ensures next { relay.new ≡ (answers_read relay.old (read_request (drop 2 frame.now.bytes))).next }
-    ensures changed { result.changed ≡ (answers_read relay.old (read_request (drop 2 frame.now.bytes))).changed }
-    ensures last { result.last ≡ is_last (read_request (drop 2 frame.now.bytes)) }
-    ensures len { result.len ≤ length out.old }
-    ensures size { length out.new ≡ length out.old }
-    ensures reply { take result.len out.new ≡ framed (reply_body (answers_read relay.old (read_request (drop 2 frame.now.bytes))).reply) }
-{
-    match parse_request(frame) {
-        Err(bad) => {
-            let reply = Reply::Bad(bad.kind);
-            Answered {
-                changed: None,
-                last: bad.kind == 1,
-                len: write_reply(&reply, out),
-            }
-        }
-        Ok(request) => {
-            let (reply, changed) = relay.answer(&request);
-            Answered {
-                changed,
-                last: false,
-                len: write_reply(&reply, out),
-            }
-        }
-    }
-}
 
 /// Writes the record of the box at a place at the beginning of `out`, and answers how many bytes it has.
 pub fn write_text(relay: &Relay, place: usize, out: &mut [u8]) -> usize

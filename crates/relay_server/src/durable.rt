@@ -17,11 +17,11 @@ ghost use Rattle.relay_core.specs.Streams.{is_last};
 ghost use Rattle.relay_server.specs.Durable.{IsReady, IsReplaced, IsSameBehind, StandsForEither};
 ghost use Rattle.relay_server.specs.Serving.{IsServed, Rounds};
 
-use crate::answering::{answer_frame, write_text};
-use crate::serving::{Answered, Ended, Round, ServeFault};
+use crate::answering::write_text;
+use crate::serving::{Ended, Round, ServeFault};
 use dr_disk::{Call, Disk};
 use dr_ports::{Failed, Pipe};
-use relay_core::{EXCHANGE_LIMIT, Relay, changes};
+use relay_core::{Answered, EXCHANGE_LIMIT, Relay, answer_frame, changes};
 use relay_pipe::{next_frame, send_all};
 use relay_wire::{Frame, FrameReader};
 use slot_store::{SlotStore, locality, resting};

@@ -14,8 +14,9 @@
 pub use durable::DurableBoxes;
 pub use errors::ServerOpenError;
 pub use law::crashes;
+pub use relay_core::Answered;
 pub use server::Server;
-pub use serving::{Answered, Ended, Round, ServeFault};
+pub use serving::{Ended, Round, ServeFault};
 
 mod answering;
 mod areas;

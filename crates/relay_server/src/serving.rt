@@ -3,17 +3,6 @@
 use dr_disk::Call;
 use thiserror::Error;
 
-/// A frame that was answered.
-#[derive(Clone, Copy)]
-pub struct Answered {
-    /// The place of the box that the request changed.
-    pub changed: Option<usize>,
-    /// The frame had no lawful length: behind it nothing is answered.
-    pub last: bool,
-    /// How many bytes the reply's frame has.
-    pub len: usize,
-}
-
 /// A connection ended, after so many frames were answered.
 #[derive(Clone, Copy, Debug, PartialEq, Eq)]
 pub struct Ended {
