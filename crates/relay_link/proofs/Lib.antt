@@ -1,4 +1,5 @@
 pub mod Connections
 pub mod Sending
 pub mod Bringing
+pub mod Requests
 pub mod Playing

@@ -4,15 +4,14 @@ use Rattle.std.specs.Prelude.{flat_map, All}
 use Rattle.std.specs.List.{AllByRecursion}
 use Rattle.std.proofs.lemmas.List.{length-append, length-map, take-append-drop, take_all}
 use Rattle.dr_ports.specs.Wires.{IsAtEnd}
-use Rattle.relay_wire.specs.Frames.{IsFrame, IsPartial, frame_size, frames_of}
-use Rattle.relay_wire.specs.Requests.{Asked, IsLawfulAsked, request_body}
+use Rattle.relay_wire.specs.Frames.{IsFrame, IsPartial}
+use Rattle.relay_wire.specs.Requests.{Asked, IsLawfulAsked}
 use Rattle.relay_wire.specs.Replies.{IsLawfulReplied, Replied, read_reply}
-use Rattle.relay_wire.specs.declared.limits.TheConstants.{BODY_LIMIT, FRAME_LIMIT}
+use Rattle.relay_wire.specs.declared.limits.TheConstants.{FRAME_LIMIT}
 use Rattle.relay_wire.specs.declared.reply.BadReply.{BadReply}
-use Rattle.relay_wire.proofs.Splitting.{frame_size-least}
 use Rattle.relay_core.specs.Boxes.{Box}
 use Rattle.relay_core.specs.Lawful.{IsLawfulBox}
-use Rattle.relay_core.specs.Streams.{Exchange, Served, served, served_within, reply_frame, reply_bytes}
+use Rattle.relay_core.specs.Streams.{Exchange, Served, served, reply_frame, reply_bytes}
 use Rattle.relay_core.specs.declared.limits.TheConstants.{EXCHANGE_LIMIT}
 use Rattle.sync_model.specs.Parties.{Party}
 use Rattle.sync_model.specs.Moves.{Ending, Wait, asked_in, over}
@@ -21,53 +20,13 @@ use Rattle.sync_model.specs.Carried.{IsCarried, relay_replies, replied_bytes, re
 use Rattle.sync_model.specs.Scenes.{IsDone, IsPlayed, scene}
 use Rattle.sync_model.proofs.Pending.{IsPending, not_cut, not_unread, pending}
 use Rattle.sync_model.proofs.Reading.{bytes_last}
-use Rattle.sync_model.proofs.Replying.{flat, flat_of, frames_join, replies_count, replies_lawful, request_frames, request_short}
+use Rattle.sync_model.proofs.Replying.{replies_count, replies_lawful, request_frames}
 use Rattle.sync_model.proofs.Staging.{flat_map_append, made_few, no_more, replies_of, reply_of, staged, within}
 use Rattle.relay_link.specs.Bringing.{IsBrought}
 use Rattle.relay_link.specs.Connections.{Connection, boxes_of, wire_of}
 use Rattle.relay_link.specs.Playing.{IsSynced, synced}
 use Rattle.relay_link.specs.declared.limits.TheConstants.{REPLY_LIMIT, SENT_LIMIT}
-use Rattle.relay_link.proofs.Connections.{no_frames}
-
--- ---- less than a frame
-
--- a beginning of a frame, and not all of it
-begins_partial : (put : List ℕ) (x : ℕ) (left : List ℕ) → IsFrame (put ++ x ∷ left) → IsPartial put
-begins_partial [] x left whole = omega arith
-begins_partial (a ∷ []) x left whole = omega arith
-begins_partial (a ∷ b ∷ more) x left whole = omega (arith, whole, length-append more (x ∷ left))
-
--- isn't answered
-part_unanswered : (boxes : List Box) (xs : List Asked) (put : List ℕ) → AllByRecursion IsLawfulAsked xs → IsPartial put
-    → served boxes (request_bytes xs ++ put) ≡ served boxes (request_bytes xs)
-unfolding served
-part_unanswered boxes xs put lawful partial =
-    let whole = request_frames xs lawful in
-    ap (λ (b : List ℕ). served_within EXCHANGE_LIMIT boxes (frames_of (b ++ put))) (flat_of request_frame xs)
-    ∙ ap (served_within EXCHANGE_LIMIT boxes) (frames_join (map request_frame xs) put whole)
-    ∙ ap (λ (fs : List (List ℕ)). served_within EXCHANGE_LIMIT boxes (map request_frame xs ++ fs)) (no_frames put partial ∙ sym (no_frames [] (omega arith)))
-    ∙ ap (served_within EXCHANGE_LIMIT boxes) (sym (frames_join (map request_frame xs) [] whole))
-    ∙ ap (λ (b : List ℕ). served_within EXCHANGE_LIMIT boxes (frames_of b)) (append-nil (flat (map request_frame xs)) ∙ sym (flat_of request_frame xs))
-
--- ---- how many bytes are sent
-
-frame_short : (asked : Asked) → IsLawfulAsked asked → length (request_frame asked) ≤ FRAME_LIMIT
-frame_short asked lawful = let s = (request_short asked lawful).1 in omega (arith, s)
-
-bytes_short : (xs : List Asked) → AllByRecursion IsLawfulAsked xs → length (request_bytes xs) ≤ length xs * FRAME_LIMIT
-bytes_short [] lawful = omega arith
-bytes_short (x ∷ xs) lawful = omega (arith, frame_short x lawful.0, bytes_short xs lawful.1, length-append (request_frame x) (request_bytes xs))
-
-front_lawful : (a b : List Asked) → AllByRecursion IsLawfulAsked (a ++ b) → AllByRecursion IsLawfulAsked a
-front_lawful [] b are = tt
-front_lawful (x ∷ a) b are = (are.0, front_lawful a b are.1)
-
-back_lawful : (a b : List Asked) → AllByRecursion IsLawfulAsked (a ++ b) → AllByRecursion IsLawfulAsked b
-back_lawful [] b are = are
-back_lawful (x ∷ a) b are = back_lawful a b are.1
-
-never_full : (n kept bytes part : ℕ) → n ≤ kept → kept ≤ REPLY_LIMIT → bytes ≤ n * FRAME_LIMIT → part ≤ FRAME_LIMIT → SENT_LIMIT ≤ bytes + part → ⊥
-never_full n kept bytes part le few short one full = absurd (omega (arith, le, few, short, one, full))
+use Rattle.relay_link.proofs.Requests.{back_lawful, begins_partial, bytes_short, frame_short, front_lawful, never_full, part_unanswered}
 
 module _ {S : Type 0} (p : Party S) (kept : ℕ) (s : S) (boxes : List Box) (replies : List Replied) (rest put : List ℕ) (now : Connection)
     (is : IsSynced p kept s boxes replies rest put now) where

@@ -26,33 +26,6 @@ fn send(link: &mut RelayLink, bytes: &[u8]) -> Result<(), Failed> {
     Ok(())
 }
 
-#[test]
-fn replies_come(rt: HostRuntime) -> Result<(), Fail> {
-    let alloc = rt.alloc();
-    let mut link = linked(alloc)?;
-    let mut piece = [0; 40];
-    assert_eq!(rt; link.open("host:1"), Ok(()));
-    assert_eq!(rt; link.receive(&mut piece), Ok(0));
-    // a fetch, a post and, in two pieces, a fetch
-    send(
-        &mut link,
-        b"\x00\x03\x02\x01a\x00\x04\x01\x01a\x07\x00\x03\x02",
-    )?;
-    send(&mut link, b"\x01a")?;
-    assert_eq!(rt; link.receive(&mut piece), Ok(26));
-    assert_eq!(rt;
-        &piece[..14],
-        b"\x00\x01\x83\x00\x09\x81\x00\x00\x00\x00\x00\x00\x00\x01".as_slice()
-    );
-    assert_eq!(rt;
-        &piece[14..26],
-        b"\x00\x0a\x82\x00\x00\x00\x00\x00\x00\x00\x01\x07".as_slice()
-    );
-    assert_eq!(rt; link.receive(&mut piece), Ok(0));
-    link.shut();
-    Ok(())
-}
-
 /// Whether a request has this reply.
 fn replies(link: &mut RelayLink, request: &[u8], reply: &[u8]) -> Result<bool, Failed> {
     let mut piece = [0; 40];
@@ -66,6 +39,22 @@ const FETCH_A: &[u8] = b"\x00\x03\x02\x01a";
 const FETCH_B: &[u8] = b"\x00\x03\x02\x01b";
 
 const POST_B: &[u8] = b"\x00\x04\x01\x01b\x07";
+
+#[test]
+fn replies_come(rt: HostRuntime) -> Result<(), Fail> {
+    let mut link = linked(rt.alloc())?;
+    assert_eq!(rt; link.open("host:1"), Ok(()));
+    assert_eq!(rt; replies(&mut link, b"", b""), Ok(true));
+    // a fetch, a post and, in two pieces, a fetch
+    send(&mut link, FETCH_A)?;
+    send(&mut link, b"\x00\x04\x01\x01a\x07\x00\x03\x02")?;
+    let all =
+        b"\x00\x01\x83\x00\x09\x81\x00\x00\x00\x00\x00\x00\x00\x01\x00\x0a\x82\x00\x00\x00\x00\x00\x00\x00\x01\x07";
+    assert_eq!(rt; replies(&mut link, b"\x01a", all), Ok(true));
+    assert_eq!(rt; replies(&mut link, b"", b""), Ok(true));
+    link.shut();
+    Ok(())
+}
 
 #[test]
 fn a_lost_reply_breaks_the_link(rt: HostRuntime) -> Result<(), Fail> {
