@@ -146,6 +146,7 @@ impl<K: Kem> Client<K> {
         ensures later { O.faults out.old ≤ O.faults out.new }
         ensures flow { (L.port link.old).faults Flow ≤ (L.port link.new).faults Flow }
         ensures gate { (L.port link.new).faults Gate ≡ (L.port link.old).faults Gate }
+        ensures stands { L.behind link.new ≡ L.behind link.old }
     {
         match self.ask(link, &Request::fetch(names.own.copied())) {
             Err(fault) => Err(fault),
@@ -167,6 +168,7 @@ impl<K: Kem> Client<K> {
         ensures same { self.new ≡ self.old }
         ensures flow { (L.port link.old).faults Flow ≤ (L.port link.new).faults Flow }
         ensures gate { (L.port link.new).faults Gate ≡ (L.port link.old).faults Gate }
+        ensures stands { L.behind link.new ≡ L.behind link.old }
     {
         match self.ask(link, &Request::ack(names.own.copied(), number)) {
             Err(fault) => Err(fault),
@@ -192,6 +194,7 @@ impl<K: Kem> Client<K> {
         ensures later { O.faults out.old ≤ O.faults out.new }
         ensures flow { (L.port link.old).faults Flow ≤ (L.port link.new).faults Flow }
         ensures gate { (L.port link.new).faults Gate ≡ (L.port link.old).faults Gate }
+        ensures stands { L.behind link.new ≡ L.behind link.old }
     {
         let mut count = 0;
         'items: while count < ITEM_LIMIT {

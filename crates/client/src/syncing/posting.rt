@@ -101,6 +101,7 @@ impl<K: Kem> Client<K> {
         ensures later { O.faults out.old ≤ O.faults out.new }
         ensures flow { (L.port link.old).faults Flow ≤ (L.port link.new).faults Flow }
         ensures gate { (L.port link.new).faults Gate ≡ (L.port link.old).faults Gate }
+        ensures stands { L.behind link.new ≡ L.behind link.old }
     {
         match self.ask(link, &Request::post(names.peers.copied(), packet)) {
             Err(fault) => Err(fault),
@@ -132,6 +133,7 @@ impl<K: Kem> Client<K> {
         ensures later { O.faults out.old ≤ O.faults out.new }
         ensures flow { (L.port link.old).faults Flow ≤ (L.port link.new).faults Flow }
         ensures gate { (L.port link.new).faults Gate ≡ (L.port link.old).faults Gate }
+        ensures stands { L.behind link.new ≡ L.behind link.old }
     {
         'packets: while let Some(packet) = self.oldest() {
             match self.post(disk, link, out, prefix, names, packet) {

@@ -56,6 +56,7 @@ impl<K: Kem> Client<K> {
         ensures same { self.new ≡ self.old }
         ensures later { (L.port link.old).faults Flow ≤ (L.port link.new).faults Flow }
         ensures gate { (L.port link.new).faults Gate ≡ (L.port link.old).faults Gate }
+        ensures stands { L.behind link.new ≡ L.behind link.old }
     {
         heard(ask(link, &mut self.reader, request))
     }

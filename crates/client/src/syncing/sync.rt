@@ -71,6 +71,7 @@ impl<K: Kem> Client<K> {
         ensures later { O.faults out.old ≤ O.faults out.new }
         ensures flow { (L.port link.old).faults Flow ≤ (L.port link.new).faults Flow }
         ensures gate { (L.port link.new).faults Gate ≡ (L.port link.old).faults Gate }
+        ensures stands { L.behind link.new ≡ L.behind link.old }
     {
         grounds::<K>();
         if let Some(call) = self.closed {
@@ -98,6 +99,7 @@ impl<K: Kem> Client<K> {
         ensures later { O.faults out.old ≤ O.faults out.new }
         ensures flow { (L.port link.old).faults Flow ≤ (L.port link.new).faults Flow }
         ensures gate { (L.port link.new).faults Gate ≡ (L.port link.old).faults Gate }
+        ensures stands { L.behind link.new ≡ L.behind link.old }
     {
         match self.collect_all(disk, link, out, prefix, names) {
             Err(fault) => Err(fault),

@@ -22,6 +22,7 @@ items-init g c = record {
   later = omega arith;
   flow = omega arith;
   gate = refl;
+  stands = refl;
 }
 
 pub returns-in-Err-clause-collects : goal.returns-in-Err-clause-collects
@@ -99,4 +100,5 @@ items-preserved g c = record {
   later = omega (arith, c.items.invariant.later, c.fetch.ensures.later);
   flow = omega (arith, c.items.invariant.flow, c.fetch.ensures.flow, c.acknowledge.ensures.flow);
   gate = c.acknowledge.ensures.gate ∙ c.fetch.ensures.gate ∙ c.items.invariant.gate;
+  stands = c.acknowledge.ensures.stands ∙ c.fetch.ensures.stands ∙ c.items.invariant.stands;
 }

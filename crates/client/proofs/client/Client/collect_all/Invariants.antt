@@ -16,6 +16,7 @@ invariant-items g l = record {
   later : g.O.Sink.faults l.fn.out ≤ g.O.Sink.faults l.out;
   flow : (g.L.Pipe.port l.fn.link).faults Flow ≤ (g.L.Pipe.port l.link).faults Flow;
   gate : (g.L.Pipe.port l.link).faults Gate ≡ (g.L.Pipe.port l.fn.link).faults Gate;
+  stands : g.L.Pipe.behind l.link ≡ g.L.Pipe.behind l.fn.link;
 }
 
 abbrev pub decreases-items : goal.decreases-items

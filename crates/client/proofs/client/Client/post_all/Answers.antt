@@ -41,4 +41,5 @@ packets-preserved g c = record {
   later = omega (arith, c.packets.invariant.later, c.post.ensures.later);
   flow = omega (arith, c.packets.invariant.flow, c.post.ensures.flow);
   gate = c.post.ensures.gate ∙ c.packets.invariant.gate;
+  stands = c.post.ensures.stands ∙ c.packets.invariant.stands;
 }
