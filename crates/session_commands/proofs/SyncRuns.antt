@@ -53,6 +53,7 @@ module _ (p : Party Client) (kept : Client) (replies : List Replied) (link opene
     rest = cut.rest;
     split = cut.split;
     told = from_link _ _ cut.told;
+    waited = cut.waited;
     partial = cut.partial;
     rose = subst (λ (n : ℕ). Rose n (now.faults Flow)) quiet cut.rose;
   }

@@ -146,6 +146,7 @@ module _ (p : Party Client) where
       rest = is.got;
       split = is.split;
       told = both (replied_bytes far.replies) is.got (request_bytes (course_of p a.client.kept far.replies).requests) is.taken start mid now far.talked.told is.told;
+      waited = far.talked.waited;
       partial = is.partial;
       rose = subst (λ (n : ℕ). Rose n (now.faults Flow)) far.talked.quiet is.rose;
     }

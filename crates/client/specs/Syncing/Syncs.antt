@@ -37,6 +37,7 @@ pub record IsCutOff (p : Party Client) (first : Client) (replies : List Replied)
   pub rest : List ℕ
   pub split : request_frame asked ≡ put ++ left
   pub told : Exchanges (replied_bytes replies ++ rest) (request_bytes (course_of p first replies).requests ++ put) start now
+  pub waited : length (course_of p first replies).requests ≡ length replies
   pub partial : IsPartial rest
   pub rose : Rose (start.faults Flow) (now.faults Flow)
 
