@@ -112,6 +112,7 @@ module _ (p : Party Client) where
               keeps = broken.keeps ∙ far.stands.keeps;
               closes = broken.closes;
               rose = subst (λ (n : ℕ). Rose n (c.disk.faults call)) (far.stands.quiet call) broken.rose;
+              fate = λ all. broken.fate (far.stands.fate all);
               talked = talked_more p a b start mid wait far c now asked asks reply replied;
               wrote = still_wrote wrote;
             };
@@ -129,6 +130,7 @@ module _ (p : Party Client) where
       is_open = still.0.is_open;
       ready = still.0.ready;
       quiet = quiet_twice a.disk b.disk c.disk far.stands.quiet still.0.quiet;
+      fate = λ all. still.0.fate (far.stands.fate all);
     }
 
     wrote_still : IsStill b c → Wrote (course_of p a.client.kept far.replies).lines a c
@@ -214,6 +216,7 @@ module _ (p : Party Client) where
           is_open = moved.is_open;
           ready = moved.ready;
           quiet = quiet_twice a.disk b.disk c.disk far.stands.quiet moved.quiet;
+          fate = λ all. moved.fate (far.stands.fate all);
         };
         talked = far.talked;
         wrote = wrote_as _ _ a c (ap (λ (w : Wait). (course_of p a.client.kept far.replies).lines ++ last_line p w) (sym far.waits))
@@ -235,6 +238,7 @@ module _ (p : Party Client) where
           is_open = moved.is_open;
           ready = moved.ready;
           quiet = quiet_twice a.disk b.disk c.disk far.stands.quiet moved.quiet;
+          fate = λ all. moved.fate (far.stands.fate all);
         };
         talked = far.talked;
         wrote = subst (λ (w : Wait). WroteBeginning ((course_of p a.client.kept far.replies).lines ++ last_line p w) a c) (sym far.waits)

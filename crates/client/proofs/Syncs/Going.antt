@@ -78,7 +78,7 @@ module _ (p : Party Client) where
     replies = [];
     lawful = tt;
     waits = refl;
-    stands = record { keeps = refl; is_open = is_open; ready = ready; quiet = λ call. refl };
+    stands = record { keeps = refl; is_open = is_open; ready = ready; quiet = λ call. refl; fate = λ all. all };
     talked = record { told = nothing_yet start; waited = refl; quiet = refl };
     wrote = wrote_nothing a a refl refl;
     passed = stays a.disk (IsReached p a.client.kept [] a.disk);
@@ -141,6 +141,7 @@ module _ (p : Party Client) where
         is_open = moved.is_open;
         ready = moved.ready;
         quiet = quiet_twice a.disk b.disk c.disk far.stands.quiet moved.quiet;
+        fate = λ all. moved.fate (far.stands.fate all);
       }
 
       pub lines_more : (reply : Replied) → Wrote (at reply).lines b c → Wrote (course_of p first (far.replies ++ reply ∷ [])).lines a c

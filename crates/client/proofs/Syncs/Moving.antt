@@ -23,6 +23,7 @@ still client disk is_open ready = record {
   ready = ready;
   during = stays disk (IsOldOrNew disk client_area (Some (record_text client.kept)) (Some (record_text client.kept)));
   quiet = λ call. refl;
+  fate = λ all. all;
 }
 
 pub nothing_appended : (told : Option (List ℕ)) → told ≡ appended told []

@@ -2,7 +2,7 @@
 use Rattle.std.specs.Prelude.{Bool, Err, List, None, Ok, Option, Result, Some, false, true, ℕ, ◌≡◌}
 use Rattle.dr_base.specs.Causes.{Rose}
 use Rattle.dr_disk.specs.Spans.{IsQuiet}
-use Rattle.dr_disk.specs.State.{DiskState}
+use Rattle.dr_disk.specs.State.{DiskState, all_pass}
 use Rattle.dr_disk.specs.declared.call.Call.{Call}
 use Rattle.dr_ports.specs.Ports.{appended}
 use Rattle.dr_ports.specs.Writing.{TookBeginning}
@@ -26,23 +26,26 @@ abbrev pub moment : ClientNow → DiskState → Option (List ℕ) → ℕ → Mo
 moment client disk taken faults = record { client = client; disk = disk; taken = taken; faults = faults }
 
 -- From one moment to another the client came to keep this, and its disk holds that at rest; meanwhile each crash left the
--- record of before or this one. No call on the disk failed.
+-- record of before or this one. No call on the disk failed, and where all pass, all pass from then on.
 pub record IsMoved (next : Client) (old new : ClientNow) (start now : DiskState) : Type 0 where
   pub keeps : new.kept ≡ next
   pub is_open : new.closed ≡ None
   pub ready : IsReady new.kept new.store now
   pub during : IsReplacing old.kept next start now
   pub quiet : IsQuiet start now
+  pub fate : start.fate ≡ all_pass → now.fate ≡ all_pass
 
 abbrev pub Moved : Client → Moment → Moment → Type 0
 Moved next a b = IsMoved next a.client b.client a.disk b.disk
 
 -- A call on the disk failed, of this kind, before it was known to hold this. The client is closed, and keeps what it kept.
+-- Where all calls pass this doesn't happen.
 pub record IsBrokenOff (next : Client) (call : Call) (old new : ClientNow) (start now : DiskState) : Type 0 where
   pub keeps : new.kept ≡ old.kept
   pub closes : new.closed ≡ Some call
   pub during : IsReplacing old.kept next start now
   pub rose : Rose (start.faults call) (now.faults call)
+  pub fate : start.fate ≡ all_pass → ⊥
 
 abbrev pub BrokenOff : Client → Call → Moment → Moment → Type 0
 BrokenOff next call a b = IsBrokenOff next call a.client b.client a.disk b.disk

@@ -2,7 +2,7 @@
 use Rattle.std.specs.Prelude.{List, None, Some, if◌then◌else◌, length, ◌==◌, ◌≡◌, ℕ, ◌++◌}
 use Rattle.std.specs.List.{AllByRecursion}
 use Rattle.dr_disk.specs.Spans.{IsQuiet, Span}
-use Rattle.dr_disk.specs.State.{DiskState}
+use Rattle.dr_disk.specs.State.{DiskState, all_pass}
 use Rattle.dr_ports.specs.Wires.{Port}
 use Rattle.dr_ports.specs.declared.pipe.Part.TheVariants.{Flow}
 use Rattle.relay_pipe.specs.Exchanging.{Exchanges}
@@ -34,6 +34,7 @@ pub record Stands (p : Party Client) (replies : List Replied) (a b : Moment) : T
   pub is_open : b.client.closed ≡ None
   pub ready : IsReady b.client.kept b.client.store b.disk
   pub quiet : IsQuiet a.disk b.disk
+  pub fate : a.disk.fate ≡ all_pass → b.disk.fate ≡ all_pass
 
 -- these replies were read, each while its request waited, and the course's requests were sent; no call on the link failed
 pub record Talked (p : Party Client) (first : Client) (replies : List Replied) (start now : Port) : Type 0 where

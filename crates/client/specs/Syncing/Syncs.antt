@@ -2,6 +2,7 @@
 use Rattle.std.specs.Prelude.{Err, List, Ok, Result, Some, [], drop, length, ◌++◌, ◌∷◌, ◌≡◌, ◌⊎◌, ℕ}
 use Rattle.std.specs.List.{AllByRecursion}
 use Rattle.dr_base.specs.Causes.{Rose}
+use Rattle.dr_disk.specs.State.{all_pass}
 use Rattle.dr_disk.specs.declared.call.Call.{Call}
 use Rattle.dr_ports.specs.Wires.{EndsAt, Port}
 use Rattle.dr_ports.specs.declared.pipe.Part.TheVariants.{Flow}
@@ -78,6 +79,7 @@ pub record IsUnstored (p : Party Client) (replies : List Replied) (call : Call) 
   pub keeps : b.client.kept ≡ (course_of p a.client.kept before).state
   pub closes : b.client.closed ≡ Some call
   pub rose : Rose (a.disk.faults call) (b.disk.faults call)
+  pub fate : a.disk.fate ≡ all_pass → ⊥
   pub talked : Talked p a.client.kept replies start now
   pub wrote : Wrote (course_of p a.client.kept before).lines a b
 
