@@ -63,9 +63,10 @@ impl MemoryDisk {
         self.meter.stop_after(k);
     }
 
-    /// Lifts a stop.
+    /// Lifts a stop. A disk that had one has told how many calls have passed.
     pub fn go_on(&mut self)
-        ensures { self.new ≡ going_on self.old }
+        ensures lifted { self.new ≡ going_on self.old }
+        ensures told { (n : ℕ) → (state_of self.old).fate ≡ Fate.some_pass n → (m : ℕ) × ((state_of self.old).passed ≡ Some m) }
     {
         self.meter.go_on();
     }

@@ -66,9 +66,10 @@ impl Meter {
         self.passed = 0;
     }
 
-    /// Lifts the stop.
+    /// Lifts the stop. One that stood has told the count.
     pub(crate) fn go_on(&mut self)
-        ensures { self.new ≡ record self.old { stop = None } }
+        ensures value { self.new ≡ record self.old { stop = None } }
+        ensures told { (n : ℕ) → fate_of self.old.stop ≡ Fate.some_pass n → told_count self.old.passed ≡ Some self.old.passed }
     {
         self.stop = None;
     }
