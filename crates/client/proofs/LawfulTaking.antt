@@ -60,13 +60,13 @@ record IsTaken (s : State) (epoch : ℕ) (next : State) : Type 0 where
   long : AreLong next.kept
 
 -- a test that no refusal stops
-passes : {A : Type 0} (b : Bool) (e : Refusal) (r : Result A Refusal) (x : A) → (if b then Err e else r) ≡ Ok x
+pub passes : {A : Type 0} (b : Bool) (e : Refusal) (r : Result A Refusal) (x : A) → (if b then Err e else r) ≡ Ok x
     → (b ≡ false) × (r ≡ Ok x)
 passes true e r x is = absurd (let no : Err e ≡ Ok x = is in cc)
 passes false e r x is = (refl, is)
 
 -- one that lets through what passes
-lets : {A : Type 0} (b : Bool) (e : Refusal) (r : Result A Refusal) (x : A) → (if b then r else Err e) ≡ Ok x → r ≡ Ok x
+pub lets : {A : Type 0} (b : Bool) (e : Refusal) (r : Result A Refusal) (x : A) → (if b then r else Err e) ≡ Ok x → r ≡ Ok x
 lets true e r x is = is
 lets false e r x is = absurd (let no : Err e ≡ Ok x = is in cc)
 

@@ -1,10 +1,13 @@
 mod Areas
 mod Beginnings
 mod Drawing
+pub mod LawfulActs
+mod LawfulDrafts
 mod LawfulPosts
 mod LawfulRecords
 mod LawfulSaying
 mod LawfulTaking
+mod LawfulWays
 mod Lifted
 mod OnePacket
 pub mod Openings

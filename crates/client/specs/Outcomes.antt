@@ -93,10 +93,11 @@ abbrev pub IsIdle : {X : Type 0} → Result (Step Client) Refusal → ClientNow 
 IsIdle made old new start now answer =
     (made ≡ Ok (step answer new.kept)) × (old.closed ≡ None) × (new ≡ old) × (now ≡ start)
 
--- a call on the disk failed: the client is closed, and keeps what it kept
+-- a call on the disk failed in a step with an effect: the client is closed, and keeps what it kept
 pub record IsCutOff (made : Result (Step Client) Refusal) (old new : ClientNow) (start now : DiskState) (call : Call) : Type 0 where
   pub next : Step Client
   pub made_is : made ≡ Ok next
+  pub effect : has_effect next.answer ≡ true
   pub was_open : old.closed ≡ None
   pub closes : new.closed ≡ Some call
   pub keeps : new.kept ≡ old.kept

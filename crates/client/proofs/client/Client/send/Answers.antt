@@ -23,6 +23,7 @@ returns-in-Err-clause-exact g c =
     record {
       next = _;
       made_is = refl;
+      effect = refl;
       was_open = c.requires.open;
       closes = refl;
       keeps = ap (λ (n : ClientNow). n.kept) c.self.view_is;

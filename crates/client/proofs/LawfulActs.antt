@@ -1,0 +1,111 @@
+-- A lawful client is lawful behind each act that it answers.
+use Rattle.std.proofs.Common.{Bool, Err, List, None, Ok, Option, Result, Some, arith, length, refl, subst, true, ℕ, ◌++◌, ◌<◌, ◌∷◌, ◌≡◌, ◌≤◌, []}
+use Rattle.std.specs.Prelude.{drop, nat_le, nat_lt}
+use Rattle.std.proofs.lemmas.Bool.Decides.{nat_tests}
+use Rattle.std.proofs.lemmas.List.{length-drop}
+use Rattle.std.proofs.lemmas.List.Elements.{All-drop}
+use Rattle.boxes.specs.Items.{Item, item_at}
+use Rattle.cka.specs.Agreement.{agreement_size}
+use Rattle.dr_base.specs.declared.limits.TheConstants.{INBOX_LIMIT, OUTBOX_LIMIT, TEXT_LIMIT}
+use Rattle.kem_laws.specs.Mechanism.{IsLawfulMechanism, Mechanism}
+use Rattle.packet.specs.Packet.{AreBytes, Fields, IsLawful}
+use Rattle.packet.specs.Reading.{read_packet}
+use Rattle.packet.specs.declared.fault.Malformed.{Malformed}
+use Rattle.packet.proofs.Read.{read_was_printed}
+use Rattle.session_model.specs.Clients.{Client, SaidText, TakenPacket, accept_receive, accept_send, dropped_of, say_check, say_on, take_on, take_read}
+use Rattle.session_model.specs.Saying.{SendDraft, draft_send, phase_check}
+use Rattle.session_model.specs.Taking.{ReceiveDraft, draft_receive}
+use Rattle.session_model.specs.declared.answer.Refusal.{Refusal}
+use Rattle.session_model.specs.declared.answer.Refusal.TheVariants.{NoPair}
+use Rattle.session_record.specs.Lawful.{IsLawfulClient, IsLawfulEntry, IsLawfulPost}
+use Rattle.client.proofs.LawfulDrafts.{send_lawful}
+use Rattle.client.proofs.LawfulSaying.{passed_check, said_lawful}
+use Rattle.client.proofs.LawfulTaking.{lets, passes, taken_lawful}
+use Rattle.client.proofs.LawfulWays.{receive_lawful}
+
+-- ---- a text is said
+
+passed_phase : (c : Client) (len : ℕ) (needs : Bool) → say_check c len ≡ Ok needs
+    → phase_check c.state.epoch c.state.phase ≡ Ok needs
+passed_phase c len needs is =
+    let short = passes (nat_lt TEXT_LIMIT len) _ _ needs is in
+    let room = passes (nat_le OUTBOX_LIMIT (length c.outbox)) _ _ needs short.1 in
+    (passes (nat_lt TEXT_LIMIT len) _ _ needs room.1).1
+
+-- with a seed of 32 bytes where the text needs one
+pub say_lawful : (k : Mechanism) (c : Client) (text seed : List ℕ) (needs : Bool) (said : SaidText) → IsLawfulMechanism k
+    → IsLawfulClient k c → say_check c (length text) ≡ Ok needs → (needs ≡ true → length seed ≡ 32)
+    → say_on k c text seed ≡ Ok said → IsLawfulClient k said.next
+say_lawful k c text seed needs said law l checked whole is = by_draft (draft_send k c.state text seed) refl is
+  where
+    by_draft : (d : Option SendDraft) → draft_send k c.state text seed ≡ d → accept_send c d ≡ Ok said
+        → IsLawfulClient k said.next
+    by_draft None gives is = absurd (let no : Err NoPair ≡ Ok said = is in cc)
+    by_draft (Some draft) gives is =
+        let passed = passed_check c (length text) needs checked in
+        let after = send_lawful k c.state text seed needs draft law l.state whole (passed_phase c (length text) needs checked) gives in
+        let one : SaidText = record { post = draft.post; next = record c { state = draft.next; outbox = c.outbox ++ draft.post ∷ [] } } in
+        let same : one ≡ said = cc in
+        subst (λ (s : SaidText). IsLawfulClient k s.next) same
+        (said_lawful k c text seed draft law l after passed.0 passed.1 gives)
+
+-- ---- a packet is taken
+
+drafted_lawful : (k : Mechanism) (c : Client) (f : Fields) (draft : Result ReceiveDraft Refusal) (taken : TakenPacket)
+    → IsLawfulClient k c → IsLawful (agreement_size k) f → draft_receive k c.state f ≡ draft
+    → accept_receive c draft ≡ Ok taken → IsLawfulClient k taken.next
+drafted_lawful k c f (Err refusal) taken l packet gives is = absurd (let no : Err refusal ≡ Ok taken = is in cc)
+drafted_lawful k c f (Ok draft) taken l packet gives is =
+    let one : TakenPacket = record {
+      position = draft.position;
+      next = record c { state = draft.next; inbox = c.inbox ++ item_at draft.position draft.text ∷ [] };
+    } in
+    let under = passes (nat_le INBOX_LIMIT (length c.inbox)) _ (Ok one) taken is in
+    let room : length c.inbox < INBOX_LIMIT = let no = under.0 in grind (arith, nat_tests) in
+    let through : Ok one ≡ Ok taken = under.1 in
+    let same : one ≡ taken = cc in
+    subst (λ (t : TakenPacket). IsLawfulClient k t.next) same
+    (taken_lawful k c f draft packet l (receive_lawful k c.state f draft l.state packet gives) room gives)
+
+pub take_lawful : (k : Mechanism) (c : Client) (bytes : List ℕ) (taken : TakenPacket) → IsLawfulClient k c → AreBytes bytes
+    → take_on k c bytes ≡ Ok taken → IsLawfulClient k taken.next
+unfolding take_on
+take_lawful k c bytes taken l small is = by_fields (read_packet (agreement_size k) bytes) refl is
+  where
+    by_fields : (r : Result Fields Malformed) → read_packet (agreement_size k) bytes ≡ r → take_read k c r ≡ Ok taken
+        → IsLawfulClient k taken.next
+    by_fields (Err fault) read is = absurd (cc is)
+    by_fields (Ok f) read is =
+        drafted_lawful k c f (draft_receive k c.state f) taken l (read_was_printed (agreement_size k) bytes f small read).0 refl is
+
+-- ---- items are dropped
+
+pub dropped_are : (n : ℕ) (items rest : List Item) → dropped_of n items ≡ Ok rest → drop n items ≡ rest
+dropped_are n items rest is =
+    let through : Ok (drop n items) ≡ Ok rest = lets (nat_le n (length items)) _ (Ok (drop n items)) rest is in cc
+
+pub sent_lawful : (k : Mechanism) (c : Client) (n : ℕ) (outbox : List Item) → IsLawfulClient k c
+    → dropped_of n c.outbox ≡ Ok outbox → IsLawfulClient k (record c { outbox = outbox })
+sent_lawful k c n outbox l is =
+    subst (λ (items : List Item). IsLawfulClient k (record c { outbox = items })) (dropped_are n c.outbox outbox is)
+    (record {
+      state = l.state;
+      keys_long = l.keys_long;
+      inbox = l.inbox;
+      few_entries = l.few_entries;
+      outbox = All-drop (IsLawfulPost k c.state) n c.outbox l.outbox;
+      few_posts = omega (arith, length-drop n c.outbox, l.few_posts);
+    })
+
+pub done_lawful : (k : Mechanism) (c : Client) (n : ℕ) (inbox : List Item) → IsLawfulClient k c
+    → dropped_of n c.inbox ≡ Ok inbox → IsLawfulClient k (record c { inbox = inbox })
+done_lawful k c n inbox l is =
+    subst (λ (items : List Item). IsLawfulClient k (record c { inbox = items })) (dropped_are n c.inbox inbox is)
+    (record {
+      state = l.state;
+      keys_long = l.keys_long;
+      inbox = All-drop (IsLawfulEntry c.state) n c.inbox l.inbox;
+      few_entries = omega (arith, length-drop n c.inbox, l.few_entries);
+      outbox = l.outbox;
+      few_posts = l.few_posts;
+    })
