@@ -258,17 +258,16 @@ sync|127.0.0.1:4000>>0>stored 1;end;
 outbox>>0>
 sync|127.0.0.1:4000>>12>peer: Ended at 0;";
 
+/// What the first two syncs begin with: a fetch of the own box.
+const FETCHED: &[u8] =
+    b"\x00\x24\x02\x2270e0f9cd1a5863238d67aecce0c032e5-2\x00\x24\x02\x2270e0f9cd1a5863238d67aecce0c032e5-2";
+
 #[test]
 fn syncs_with_a_relay(rt: HostRuntime) -> Result<(), Fail> {
     let alloc = rt.alloc();
     let mut network = Network::new(alloc, REPLIES, b"")?;
     let mut disk = SteadyDisk::new(alloc, DISK_SIZE)?;
     assert!(rt; answers_over(alloc, &mut disk, &mut network, SYNCED)?);
-    // each sync begins with a fetch of the own box
-    assert!(rt;
-        network.link.sent().starts_with(
-            b"\x00\x24\x02\x2270e0f9cd1a5863238d67aecce0c032e5-2\x00\x24\x02\x2270e0f9cd1a5863238d67aecce0c032e5-2".as_slice()
-        )
-    );
+    assert!(rt; network.link.sent().starts_with(FETCHED));
     Ok(())
 }
