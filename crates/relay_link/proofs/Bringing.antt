@@ -1,15 +1,15 @@
 -- What a link has brought, by what it tells.
-use Rattle.std.proofs.Common.{◌≡◌, ◌⊎◌, ℕ, ◌<◌, ◌≤◌, List, [], ◌++◌, length, take, drop, Option, Some, None, refl, sym, ◌∙◌, ap, ap₂, subst, arith}
+use Rattle.std.proofs.Common.{◌≡◌, ◌⊎◌, ℕ, ◌<◌, ◌≤◌, List, [], ◌++◌, length, take, drop, Option, Some, None, sym, ◌∙◌, ap, ap₂, subst, arith}
 use Rattle.std.specs.Prelude.{flat_map}
 use Rattle.std.proofs.lemmas.List.{take-append-drop, take-append-le}
 use Rattle.dr_ports.specs.Wires.{Told}
 use Rattle.relay_core.specs.Boxes.{Box}
-use Rattle.relay_core.specs.Streams.{Exchange, Served, served, reply_bytes, reply_frame}
+use Rattle.relay_core.specs.Streams.{Served, served, reply_bytes, reply_frame}
 use Rattle.relay_core.specs.declared.limits.TheConstants.{EXCHANGE_LIMIT}
 use Rattle.relay_pipe.specs.Exchanging.{Exchanges}
 use Rattle.sync_model.proofs.Staging.{flat_map_append}
 use Rattle.relay_link.specs.Bringing.{IsBrought}
-use Rattle.relay_link.specs.Connections.{Behind, Connection, IsLawful, behind_of, boxes_of, coming_of, connected, exchanges_of, port_of}
+use Rattle.relay_link.specs.Connections.{Behind, Connection, IsLawful, behind_of, coming_of, connected, exchanges_of, port_of}
 use Rattle.relay_link.specs.declared.limits.TheConstants.{SENT_LIMIT}
 use Rattle.relay_link.proofs.Connections.{none_answered}
 

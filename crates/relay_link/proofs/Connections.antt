@@ -1,9 +1,9 @@
 -- What a connection gives and takes, as a pipe.
-use Rattle.std.proofs.Common.{◌≡◌, ◌⊎◌, inl, inr, ℕ, zero, suc, ◌+◌, ◌-◌, ◌<◌, ◌≤◌, List, [], ◌∷◌, ◌++◌, length, take, drop, Option, Some, refl, sym, ◌∙◌, ap, ap₂, subst, arith, append_assoc, append-nil}
+use Rattle.std.proofs.Common.{◌≡◌, ◌⊎◌, ℕ, zero, suc, ◌+◌, ◌<◌, ◌≤◌, List, [], ◌++◌, length, take, drop, Some, refl, sym, ◌∙◌, ap, subst, arith, append-nil}
 use Rattle.std.specs.Prelude.{flat_map}
 use Rattle.std.proofs.Math.Seq.{take-add}
-use Rattle.std.proofs.lemmas.List.{drop-append-le, length-append, length-drop, length-take-le, take-append-drop, take-append-le, take_all}
-use Rattle.dr_ports.specs.Wires.{Gave, IsAtEnd, Told, Took}
+use Rattle.std.proofs.lemmas.List.{drop-append-le, length-drop, length-take-le, take-append-drop, take-append-le, take_all}
+use Rattle.dr_ports.specs.Wires.{Gave, IsAtEnd}
 use Rattle.dr_ports.specs.MemoryWires.{nothing_comes}
 use Rattle.relay_core.specs.Boxes.{Box}
 use Rattle.relay_core.specs.Streams.{Exchange, Served, served, served_within, reply_bytes, reply_frame}
@@ -11,7 +11,7 @@ use Rattle.relay_core.specs.declared.limits.TheConstants.{EXCHANGE_LIMIT}
 use Rattle.relay_wire.specs.Frames.{IsPartial, frames_of}
 use Rattle.relay_wire.proofs.Splitting.{only}
 use Rattle.sync_model.proofs.Staging.{flat_map_append}
-use Rattle.relay_link.specs.Connections.{Connection, HasLost, boxes_of, coming_of, connected, exchanges_of, port_of, wire_of}
+use Rattle.relay_link.specs.Connections.{Connection, HasLost, boxes_of, connected, exchanges_of, port_of, wire_of}
 use Rattle.relay_link.specs.Desks.{DeskNow, fresh}
 use Rattle.relay_link.specs.Serving.{IsServing, prepend}
 use Rattle.relay_link.specs.declared.limits.TheConstants.{REPLY_LIMIT, SENT_LIMIT}

@@ -1,31 +1,29 @@
 -- A sync over a link on which so many replies come is a scene.
-use Rattle.std.proofs.Common.{◌≡◌, ◌⊎◌, inl, inr, ℕ, zero, suc, ◌+◌, ◌*◌, ◌<◌, ◌≤◌, List, [], ◌∷◌, ◌++◌, length, take, drop, Some, Err, refl, sym, ◌∙◌, ap, ap₂, subst, arith, append_assoc, append-nil, map}
-use Rattle.std.specs.Prelude.{flat_map, All}
+use Rattle.std.proofs.Common.{◌≡◌, ◌⊎◌, inl, inr, ℕ, ◌<◌, ◌≤◌, List, [], ◌∷◌, ◌++◌, length, take, drop, Some, Err, refl, sym, ◌∙◌, ap, subst, arith, append_assoc, append-nil, map}
+use Rattle.std.specs.Prelude.{flat_map}
 use Rattle.std.specs.List.{AllByRecursion}
 use Rattle.std.proofs.lemmas.List.{length-append, length-map, take-append-drop, take_all}
 use Rattle.dr_ports.specs.Wires.{IsAtEnd}
 use Rattle.relay_wire.specs.Frames.{IsFrame, IsPartial}
 use Rattle.relay_wire.specs.Requests.{Asked, IsLawfulAsked}
-use Rattle.relay_wire.specs.Replies.{IsLawfulReplied, Replied, read_reply}
+use Rattle.relay_wire.specs.Replies.{Replied, read_reply}
 use Rattle.relay_wire.specs.declared.limits.TheConstants.{FRAME_LIMIT}
 use Rattle.relay_wire.specs.declared.reply.BadReply.{BadReply}
 use Rattle.relay_core.specs.Boxes.{Box}
-use Rattle.relay_core.specs.Lawful.{IsLawfulBox}
 use Rattle.relay_core.specs.Streams.{Exchange, Served, served, reply_frame, reply_bytes}
 use Rattle.relay_core.specs.declared.limits.TheConstants.{EXCHANGE_LIMIT}
 use Rattle.sync_model.specs.Parties.{Party}
 use Rattle.sync_model.specs.Moves.{Ending, Wait, asked_in, over}
-use Rattle.sync_model.specs.Courses.{Course, as_list, awaited, course_of, made_requests}
+use Rattle.sync_model.specs.Courses.{Course, as_list, course_of, made_requests}
 use Rattle.sync_model.specs.Carried.{IsCarried, relay_replies, replied_bytes, request_bytes, request_frame}
 use Rattle.sync_model.specs.Scenes.{IsDone, IsPlayed, scene}
-use Rattle.sync_model.proofs.Pending.{IsPending, not_cut, not_unread, pending}
+use Rattle.sync_model.proofs.Pending.{not_cut, not_unread, pending}
 use Rattle.sync_model.proofs.Reading.{bytes_last}
 use Rattle.sync_model.proofs.Replying.{replies_count, replies_lawful, request_frames}
 use Rattle.sync_model.proofs.Staging.{flat_map_append, made_few, no_more, replies_of, reply_of, staged, within}
-use Rattle.relay_link.specs.Bringing.{IsBrought}
-use Rattle.relay_link.specs.Connections.{Connection, boxes_of, wire_of}
+use Rattle.relay_link.specs.Connections.{Connection, wire_of}
 use Rattle.relay_link.specs.Playing.{IsSynced, synced}
-use Rattle.relay_link.specs.declared.limits.TheConstants.{REPLY_LIMIT, SENT_LIMIT}
+use Rattle.relay_link.specs.declared.limits.TheConstants.{SENT_LIMIT}
 use Rattle.relay_link.proofs.Requests.{back_lawful, begins_partial, bytes_short, frame_short, front_lawful, never_full, part_unanswered}
 
 module _ {S : Type 0} (p : Party S) (kept : ℕ) (s : S) (boxes : List Box) (replies : List Replied) (rest put : List ℕ) (now : Connection)

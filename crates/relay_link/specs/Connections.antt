@@ -1,5 +1,5 @@
 -- What a link to a relay tells.
-use Rattle.std.specs.Prelude.{◌≡◌, ◌⊎◌, ◌<◌, ◌≤◌, ℕ, ◌-◌, min, List, [], ◌++◌, length, take, drop, flat_map, Option, Some, None}
+use Rattle.std.specs.Prelude.{◌⊎◌, ◌<◌, ◌≤◌, ℕ, ◌-◌, min, List, [], length, take, drop, flat_map, Option, Some, None}
 use Rattle.std.proofs.Common.{sym}
 use Rattle.std.proofs.lemmas.List.{take-append-drop}
 use Rattle.dr_ports.specs.MemoryWires.{faults_of, nothing_comes}
