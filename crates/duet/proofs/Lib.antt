@@ -8,10 +8,13 @@ pub mod Hex
 pub mod Packets
 pub mod PlayedLines
 pub mod PrintedLines
+pub mod PrintedParts
 pub mod ScriptLines
 pub mod Making
 pub mod Reading
 pub mod Seeds
 pub mod Showing
 pub mod Splitting
+pub mod StoppedActs
+pub mod StoppedSides
 pub mod Trace

@@ -16,7 +16,7 @@ use Rattle.duet.specs.Script.{AreCounted, events_in}
 use Rattle.duet.specs.declared.script.make.rounds.Making.{Making}
 use Rattle.duet.specs.declared.script.make.rounds.Turn.{Turn}
 use Rattle.duet.specs.declared.script.make.rounds.Turn.TheVariants.{Says, Takes, Rests}
-use Rattle.duet.proofs.PrintedLines.{Without, both_without, digits_of, digits_without}
+use Rattle.duet.proofs.PrintedParts.{Without, both_without, digits_of, digits_without}
 use Rattle.duet.proofs.ScriptLines.{AreLines, lines_both, text_counted, without_tested}
 
 -- ---- the lines of a round

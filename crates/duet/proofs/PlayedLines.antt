@@ -14,7 +14,9 @@ use Rattle.dr_model.specs.Machines.Worlds.{opening_world}
 use Rattle.dr_model.specs.Machines.WorldSides.{sides_of}
 use Rattle.kem_laws.specs.Mechanism.{Mechanism}
 use Rattle.duet.specs.Held.{DuetNow, opening_duet, stepped}
+use Rattle.duet.specs.Lined.{lined_event}
 use Rattle.duet.specs.Replies.{acting_side, reply_of}
+use Rattle.duet.specs.declared.script.lined.Lined.{Lined}
 use Rattle.duet.specs.Script.{Scripted}
 use Rattle.duet.specs.Tally.{IsBelow, IsSideBelow, both_reached, counted, counted_by, counted_of, no_tally, opening_tally, tally_of}
 use Rattle.duet.specs.Trace.{after_by, beginning, lines_by, played}
@@ -22,7 +24,7 @@ use Rattle.duet.specs.declared.tally.SideTally.{SideTally}
 use Rattle.duet.specs.declared.tally.Tally.{Tally}
 use Rattle.duet.proofs.Beginning.{opening_sides}
 use Rattle.duet.proofs.Showing.{posts_more, draws_more}
-use Rattle.duet.proofs.Trace.{stands_more, wrote_more, wrote_part, no_lines_yet}
+use Rattle.duet.proofs.Trace.{stands_more, wrote_first, wrote_more, wrote_part, no_lines_yet}
 
 -- ---- what was counted
 
@@ -98,6 +100,10 @@ plays_first k script left duet tally told before room all rooms begins few none 
 pub answered : (events left rest all : List Event) (event : Event) → all ≡ events ++ left → left ≡ event ∷ rest → length events < length all
 answered events left rest all event whole first = omega (arith, ap length whole, length-append events left, ap length first)
 
+-- the event of a line of this kind
+pub first_is : (left rest : List Event) (line other : Lined) → left ≡ lined_event line ∷ rest → line ≡ other → left ≡ lined_event other ∷ rest
+first_is left rest line other first is = first ∙ ap (λ (l : Lined). lined_event l ∷ rest) is
+
 -- one event more
 pub plays_on : (k : Mechanism) (script : Scripted) (left rest : List Event) (event : Event) (duet next : DuetNow) (tally more : Tally)
     (told taken new : Option (List ℕ)) (before now later : ℕ) → IsPlaying k script left duet tally told taken before now → left ≡ event ∷ rest
@@ -132,6 +138,13 @@ unfolding played
 plays_cut k script left rest event duet tally told taken new before now p first part =
     wrote_part k told taken new (beginning k script) p.events rest script.events event duet.sides part
     (p.all ∙ ap (λ es. p.events ++ es) first ∙ sym (append_assoc p.events (event ∷ []) rest)) p.stands p.written
+
+-- no memory was left for the next event
+pub plays_short : (k : Mechanism) (script : Scripted) (left : List Event) (duet : DuetNow) (tally : Tally) (told taken : Option (List ℕ)) (before now : ℕ)
+    → IsPlaying k script left duet tally told taken before now → TookBeginning told taken (played k script)
+unfolding played
+plays_short k script left duet tally told taken before now p =
+    wrote_first k told taken (beginning k script) p.events left script.events p.all p.written
 
 -- the last was answered
 pub plays_last : (k : Mechanism) (script : Scripted) (left : List Event) (duet : DuetNow) (tally : Tally) (told taken : Option (List ℕ)) (before now : ℕ)

@@ -21,144 +21,13 @@ use Rattle.session_model.specs.declared.answer.Amount.{Amount}
 use Rattle.session_model.specs.declared.answer.Amount.TheVariants.{All, Exactly}
 use Rattle.dr_model.specs.Machines.Events.{Event, seeds, says, takes, takes_nth, flips, takes_bytes, drops_sent, drops_done, shows_inbox, shows_state, cuts}
 use Rattle.duet.specs.Number.{is_number, is_unpadded, number_read}
-use Rattle.duet.specs.Printed.{IsAmount, IsNumbered, IsSayable, amount_text, line_text, words_text}
+use Rattle.dr_disk.specs.declared.call.Mode.TheVariants.{Old}
+use Rattle.duet.specs.Printed.{IsAmount, IsNumbered, IsSayable, amount_text, cut_text, line_text, words_text}
 use Rattle.answer_lines.specs.Answers.{position_text}
 use Rattle.duet.specs.Replies.{acting_side, side_text}
-use Rattle.duet.specs.Words.{after_prefix, amount_read, bytes_words, done_words, flip_read, flip_words, halves_of, hex_read, is_text, line_read, look_words, numbers_read, packet_read, position_read, say_words, seed_read, sent_words, side_words, take_words}
-
--- ---- numbers
-
-digit_from : (c : ℕ) → digit_value c < 10 → 48 ≤ c
-digit_from c h = grind (arith, nat_tests)
-
-digit_to : (c : ℕ) → digit_value c < 10 → c ≤ 57
-digit_to c h = grind (arith, nat_tests)
-
-is_digit : (c : ℕ) → digit_value c < 10 → is_ascii_digit c ≡ true
-is_digit c h = let from = digit_from c h in let to = digit_to c h in grind (arith, nat_tests)
-
-both_hold : (a b : Bool) → a ≡ true → b ≡ true → (a && b) ≡ true
-both_hold true b h k = k
-both_hold false b h k = cc h
-
-all_digits : (ds : List ℕ) → AllDigits 10 ds → list_all is_ascii_digit ds ≡ true
-all_digits [] h = refl
-all_digits (c ∷ cs) h = both_hold (is_ascii_digit c) (list_all is_ascii_digit cs) (is_digit c h.0) (all_digits cs h.1)
-
-unpadded : (ds : List ℕ) → 0 < length ds → 48 < get_or ds 0 0 → is_unpadded ds ≡ true
-unpadded [] some first = absurd (omega arith)
-unpadded (c ∷ []) some first = refl
-unpadded (c ∷ d ∷ ds) some first = grind (arith, nat_tests)
-
--- a number's digits are unpadded: only 0 begins with a zero
-decimal_unpadded : (n : ℕ) → n < 2 ^ 32 → is_unpadded (decimal n) ≡ true
-decimal_unpadded zero h = ap is_unpadded (decimal_digit zero (omega arith))
-decimal_unpadded (suc n) h = unpadded (decimal (suc n)) (decimal_nonempty (suc n) (omega arith)) (first_decimal (suc n) (omega arith) (omega arith))
-
-guarded : {A : Type 0} (b : Bool) (x : A) → b ≡ true → (if b then Some x else None) ≡ Some x
-guarded true x h = refl
-guarded false x h = cc h
-
-pub number_back : (n : ℕ) → n < 2 ^ 32 → number_read (decimal n) ≡ Some n
-unfolding number_read
-number_back n h =
-    let numeral = decimal_is_IsNumeral n (omega arith) in
-    let below : nat_lt (digits_value 10 (decimal n)) (2 ^ 32) ≡ true = let value = numeral.1 in grind (arith, nat_tests) in
-    guarded (is_number (decimal n)) (digits_value 10 (decimal n))
-    (both_hold (is_unpadded (decimal n)) (list_all is_ascii_digit (decimal n) && nat_lt (digits_value 10 (decimal n)) (2 ^ 32)) (decimal_unpadded n h)
-    (both_hold (list_all is_ascii_digit (decimal n)) (nat_lt (digits_value 10 (decimal n)) (2 ^ 32)) (all_digits (decimal n) numeral.0.1) below))
-    ∙ ap Some numeral.1
-
--- ---- halves
-
--- no byte is a mark
-abbrev pub Without : ℕ → List ℕ → Type 0
-Without mark [] = ⊤
-Without mark (c ∷ cs) = ((c == mark) ≡ false) × Without mark cs
-
--- no digit is a mark that comes before the digits
-not_mark : (c mark : ℕ) → mark < 48 → digit_value c < 10 → (c == mark) ≡ false
-not_mark c mark low h = let from = digit_from c h in grind (arith, nat_tests)
-
-pub digits_without : (ds : List ℕ) (mark : ℕ) → mark < 48 → AllDigits 10 ds → Without mark ds
-digits_without [] mark low h = tt
-digits_without (c ∷ cs) mark low h = (not_mark c mark low h.0, digits_without cs mark low h.1)
-
-pub both_without : (xs ys : List ℕ) (mark : ℕ) → Without mark xs → Without mark ys → Without mark (xs ++ ys)
-both_without [] ys mark h k = k
-both_without (c ∷ cs) ys mark h k = (h.0, both_without cs ys mark h.1 k)
-
--- bytes, then a mark: it stands after them
-mark_after : (ds rest : List ℕ) (mark i : ℕ) → Without mark ds → position_from (λ byte. byte == mark) i (ds ++ mark ∷ rest) ≡ Some (i + length ds)
-mark_after [] rest mark i h = cond-true (mark == mark) (Some i) _ (grind (arith, nat_tests)) ∙ ap Some (omega arith)
-mark_after (c ∷ cs) rest mark i h = cond-false (c == mark) (Some i) _ h.0 ∙ mark_after cs rest mark (i + 1) h.1 ∙ ap Some (omega arith)
-
-drop_past : (ds rest : List ℕ) (mark : ℕ) → drop (suc (length ds)) (ds ++ mark ∷ rest) ≡ rest
-drop_past [] rest mark = refl
-drop_past (c ∷ cs) rest mark = drop_past cs rest mark
-
-drop_after : (ds rest : List ℕ) (mark : ℕ) → drop (length ds + 1) (ds ++ mark ∷ rest) ≡ rest
-drop_after ds rest mark = ap (λ n. drop n (ds ++ mark ∷ rest)) (add-one (length ds)) ∙ drop_past ds rest mark
-
-none_before : (n : ℕ) → 0 + n ≡ n
-none_before n = omega arith
-
-pub halves_back : (ds rest : List ℕ) (mark : ℕ) → Without mark ds → halves_of mark (ds ++ mark ∷ rest) ≡ Some (ds, rest)
-unfolding halves_of
-halves_back ds rest mark h =
-    let text : List ℕ = ds ++ mark ∷ rest in
-    ap (option_map (λ at. (take at text, drop (at + 1) text))) (position_from-zero (λ byte. byte == mark) text ∙ mark_after ds rest mark 0 h ∙ ap Some (none_before (length ds)))
-    ∙ ap₂ (λ (a b : List ℕ). Some (a, b)) (take-append_seam ds (mark ∷ rest)) (drop_after ds rest mark)
-
-pub digits_of : (n : ℕ) → n < 2 ^ 32 → AllDigits 10 (decimal n)
-digits_of n h = (decimal_is_IsNumeral n (omega arith)).0.1
-
--- ---- what stands in a line
-
--- the halves of a position's text
-both_back : (p : Position) → IsNumbered p → numbers_read (decimal p.epoch, decimal p.index) ≡ Some p
-both_back p h =
-    let at : ℕ → ℕ → Position = λ epoch index. record { epoch = epoch; index = index } in
-    ap (option_and_then (λ epoch. option_map (at epoch) (number_read (decimal p.index)))) (number_back p.epoch h.0)
-    ∙ ap (option_map (at p.epoch)) (number_back p.index h.1)
-
--- a point is one byte
-one_byte : (index : List ℕ) → codes "." ++ index ≡ 46 ∷ index
-one_byte index = refl
-
-point : (epoch index : List ℕ) → epoch ++ codes "." ++ index ≡ epoch ++ 46 ∷ index
-point epoch index = append_assoc epoch (codes ".") index ∙ ap (λ xs. epoch ++ xs) (one_byte index)
-
-pub position_back : (p : Position) → IsNumbered p → position_read (position_text p) ≡ Some p
-unfolding position_read position_text
-position_back p h =
-    ap position_read (point (decimal p.epoch) (decimal p.index)) ∙ ap (option_and_then numbers_read) (halves_back (decimal p.epoch) (decimal p.index) 46 (digits_without (decimal p.epoch) 46 (omega arith) (digits_of p.epoch h.0))) ∙ both_back p h
-
-no_letter : (a b : Bool) → a ≡ false → (a && b) ≡ false
-no_letter true b h = cc h
-no_letter false b h = refl
-
--- digits aren't `all`
-not_all : (ds : List ℕ) → AllDigits 10 ds → is_text (codes "all") ds ≡ false
-not_all [] h = refl
-not_all (c ∷ cs) h = no_letter (c == 97) _ (let to = digit_to c h.0 in grind (arith, nat_tests))
-
-pub amount_back : (amount : Amount) → IsAmount amount → amount_read (amount_text amount) ≡ Some amount
-unfolding amount_read amount_text
-amount_back All h = refl
-amount_back (Exactly n) h = cond-false (is_text (codes "all") (decimal n)) _ _ (not_all (decimal n) (digits_of n h)) ∙ ap (option_map Exactly) (number_back n h)
-
-encoded_len : (bytes : List ℕ) → length (encode_lower bytes) ≡ 2 * length bytes
-encoded_len bytes = length-encode_with lower_digits bytes
-
-hex_back : (bytes : List ℕ) → length bytes ≤ 4000 → IsBytes bytes → hex_read (encode_lower bytes) ≡ Some bytes
-unfolding hex_read
-hex_back bytes short are =
-    let long = encoded_len bytes in
-    let half : length (encode_lower bytes) / 2 ≡ length bytes = omega (arith, long) in
-    cond-true (nat_le (length (encode_lower bytes)) 8000) _ None (grind (arith, nat_tests))
-    ∙ ap (λ n. result_ok (decode_sized (encode_lower bytes) n)) half
-    ∙ ap result_ok (decode_sized-encode_lower bytes (length bytes) refl are)
+use Rattle.duet.specs.Stops.{stopped}
+use Rattle.duet.specs.Words.{after_prefix, amount_read, bytes_words, call_words, crash_read, done_words, flip_read, flip_words, halves_of, hex_read, if_call, is_call, is_text, line_read, look_words, mode_read, numbers_read, packet_read, plain_read, position_read, say_words, seed_read, sent_words, side_words, stop_read, stop_words, take_words}
+use Rattle.duet.proofs.PrintedParts.{Without, amount_back, digit_from, both_without, digits_of, digits_without, halves_back, hex_back, no_letter, number_back, point, position_back}
 
 -- ---- what a side does
 
@@ -200,38 +69,115 @@ flip_back side p bit h k =
     ∙ ap (option_and_then (λ q. option_map (flips side q) (number_read (decimal bit)))) (position_back p h)
     ∙ ap (option_map (flips side p)) (number_back bit k)
 
--- ---- lines
+-- ---- lines that stop no disk
 
 -- what a side does, after its name
-of_side : (side : Side) (words : List ℕ) (event : Event) → side_words side words ≡ Some event → line_read (side_text side ++ words) ≡ Some event
-unfolding line_read seed_read after_prefix side_text
+of_side : (side : Side) (words : List ℕ) (event : Event) → side_words side words ≡ Some event → plain_read (side_text side ++ words) ≡ Some event
+unfolding plain_read seed_read after_prefix side_text
 of_side First words event h = ap (λ o. option_or o None) h
 of_side Second words event h = h
 
-words_back : (event : Event) → IsSayable event → ((seed : List ℕ) → event ≡ seeds seed → ⊥) → side_words (acting_side event) (words_text event) ≡ Some event
+-- an event that isn't cut off, and is a side's
+abbrev IsPlain : Event → Type 0
+IsPlain (seeds seed) = ⊥
+IsPlain (cuts took event) = ⊥
+IsPlain _ = ⊤
+
+words_back : (event : Event) → IsSayable event → IsPlain event → side_words (acting_side event) (words_text event) ≡ Some event
 unfolding after_prefix words_text side_words say_words take_words flip_words bytes_words sent_words done_words look_words
-words_back (seeds seed) h other = absurd (other seed refl)
-words_back (says side text) h other = refl
-words_back (takes side p) h other = ap (λ o. option_or o None) (packet_back side p h)
-words_back (takes_nth side nth) h other = ap (λ o. option_or (option_or (option_map (takes_nth side) o) (option_map (takes side) (position_read (35 ∷ decimal nth)))) None) (number_back nth h)
-words_back (flips side p bit) h other = ap (λ o. option_or o None) (flip_back side p bit h.0 h.1)
-words_back (takes_bytes side bytes) h other = ap (λ o. option_or (option_or (option_map (takes_bytes side) o) None) None) (hex_back bytes h.0 h.1)
-words_back (drops_sent side amount) h other = ap (λ o. option_or (option_map (drops_sent side) o) None) (amount_back amount h)
-words_back (drops_done side amount) h other = ap (λ o. option_or (option_map (drops_done side) o) None) (amount_back amount h)
-words_back (shows_inbox side) h other = refl
-words_back (shows_state side) h other = refl
-words_back (cuts took event) h other = absurd h
+words_back (seeds seed) h plain = absurd plain
+words_back (says side text) h plain = refl
+words_back (takes side p) h plain = ap (λ o. option_or o None) (packet_back side p h)
+words_back (takes_nth side nth) h plain = ap (λ o. option_or (option_or (option_map (takes_nth side) o) (option_map (takes side) (position_read (35 ∷ decimal nth)))) None) (number_back nth h)
+words_back (flips side p bit) h plain = ap (λ o. option_or o None) (flip_back side p bit h.0 h.1)
+words_back (takes_bytes side bytes) h plain = ap (λ o. option_or (option_or (option_map (takes_bytes side) o) None) None) (hex_back bytes h.0 h.1)
+words_back (drops_sent side amount) h plain = ap (λ o. option_or (option_map (drops_sent side) o) None) (amount_back amount h)
+words_back (drops_done side amount) h plain = ap (λ o. option_or (option_map (drops_done side) o) None) (amount_back amount h)
+words_back (shows_inbox side) h plain = refl
+words_back (shows_state side) h plain = refl
+words_back (cuts took event) h plain = absurd plain
+
+plain_first : (line : List ℕ) (event : Event) → plain_read line ≡ Some event → line_read line ≡ Some event
+unfolding line_read
+plain_first line event h =
+    ap (λ o. option_or o (option_or (option_and_then (stop_words First) (after_prefix (codes "first ") line))
+    (option_and_then (stop_words Second) (after_prefix (codes "second ") line)))) h
+
+-- ---- lines that stop a disk
+
+-- no other line begins so
+no_plain : (side : Side) (took : Bool) (words : List ℕ) → side_words side (cut_text took ++ words) ≡ None
+unfolding after_prefix cut_text side_words say_words take_words flip_words bytes_words sent_words done_words look_words
+no_plain side true words = refl
+no_plain side false words = refl
+
+of_stop : (side : Side) (words : List ℕ) (event : Event) → side_words side words ≡ None → stop_words side words ≡ Some event
+    → line_read (side_text side ++ words) ≡ Some event
+unfolding line_read plain_read seed_read after_prefix side_text
+of_stop First words event none h = ap₂ (λ a b. option_or (option_or a None) (option_or b None)) none h
+of_stop Second words event none h = ap₂ (λ a b. option_or a b) none h
+
+call_back : (side : Side) (event : Event) (words : List ℕ) → is_call event ≡ true → side_words side words ≡ Some event
+    → call_words side words ≡ Some event
+unfolding call_words
+call_back side event words call h = ap (option_and_then if_call) h ∙ cond-true (is_call event) (Some event) None call
+
+old_back : mode_read (codes "old") ≡ Some Old
+unfolding mode_read
+old_back = refl
+
+-- behind the number of calls and the mode
+crash_back : (side : Side) (n : ℕ) (digit : ℕ) (event came : Event) (words : List ℕ) → (digit == 32) ≡ false
+    → number_read (digit ∷ []) ≡ Some n → call_words side words ≡ Some event → stopped n Old event ≡ came
+    → option_and_then (stop_read side) (halves_of 32 (digit ∷ 32 ∷ codes "old " ++ words)) ≡ Some came
+crash_back side n digit event came words other number call is =
+    ap (option_and_then (stop_read side)) (halves_back (digit ∷ []) (codes "old " ++ words) 32 (other, tt))
+    ∙ ap (option_and_then (λ m. option_and_then (crash_read side m) (halves_of 32 (codes "old " ++ words)))) number
+    ∙ ap (option_and_then (crash_read side n)) (halves_back (codes "old") words 32 (refl, (refl, (refl, tt))))
+    ∙ ap (option_and_then (λ mode. option_map (stopped n mode) (call_words side words))) old_back
+    ∙ ap (option_map (stopped n Old)) call ∙ ap Some is
+
+stop_back : (side : Side) (took : Bool) (event : Event) (words : List ℕ) → call_words side words ≡ Some event
+    → stop_words side (cut_text took ++ words) ≡ Some (cuts took event)
+unfolding stop_words cut_text after_prefix number_read stopped
+stop_back side true event words call = crash_back side 4 52 event (cuts true event) words refl refl call refl
+stop_back side false event words call = crash_back side 0 48 event (cuts false event) words refl refl call refl
+
+-- what may be stopped is a side's, and no cut
+call_plain : (event : Event) → is_call event ≡ true → IsPlain event
+call_plain (seeds seed) h = cc
+call_plain (says side text) h = tt
+call_plain (takes side p) h = tt
+call_plain (takes_nth side nth) h = tt
+call_plain (flips side p bit) h = tt
+call_plain (takes_bytes side bytes) h = tt
+call_plain (drops_sent side amount) h = tt
+call_plain (drops_done side amount) h = tt
+call_plain (shows_inbox side) h = tt
+call_plain (shows_state side) h = tt
+call_plain (cuts took event) h = cc
+
+cut_back : (took : Bool) (event : Event) → is_call event ≡ true → IsSayable event → line_read (line_text (cuts took event)) ≡ Some (cuts took event)
+unfolding line_text words_text
+cut_back took event call h =
+    let side = acting_side event in
+    let said = words_back event h (call_plain event call) in
+    of_stop side (cut_text took ++ words_text event) (cuts took event) (no_plain side took (words_text event))
+    (stop_back side took event (words_text event) (call_back side event (words_text event) call said))
+
+-- ---- any line
 
 pub line_back : (event : Event) → IsSayable event → line_read (line_text event) ≡ Some event
-unfolding line_text line_read seed_read after_prefix
-line_back (seeds seed) h = ap (λ o. option_or (option_map seeds o) None) (ap result_ok (decode_sized-encode_lower seed 32 h.0 h.1))
-line_back (says side text) h = of_side side _ _ (words_back (says side text) h (λ seed e. cc e))
-line_back (takes side p) h = of_side side _ _ (words_back (takes side p) h (λ seed e. cc e))
-line_back (takes_nth side nth) h = of_side side _ _ (words_back (takes_nth side nth) h (λ seed e. cc e))
-line_back (flips side p bit) h = of_side side _ _ (words_back (flips side p bit) h (λ seed e. cc e))
-line_back (takes_bytes side bytes) h = of_side side _ _ (words_back (takes_bytes side bytes) h (λ seed e. cc e))
-line_back (drops_sent side amount) h = of_side side _ _ (words_back (drops_sent side amount) h (λ seed e. cc e))
-line_back (drops_done side amount) h = of_side side _ _ (words_back (drops_done side amount) h (λ seed e. cc e))
-line_back (shows_inbox side) h = of_side side _ _ (words_back (shows_inbox side) h (λ seed e. cc e))
-line_back (shows_state side) h = of_side side _ _ (words_back (shows_state side) h (λ seed e. cc e))
-line_back (cuts took event) h = absurd h
+unfolding line_text plain_read seed_read after_prefix
+line_back (seeds seed) h =
+    plain_first _ _ (ap (λ o. option_or (option_map seeds o) None) (ap result_ok (decode_sized-encode_lower seed 32 h.0 h.1)))
+line_back (says side text) h = plain_first _ _ (of_side side _ _ (words_back (says side text) h tt))
+line_back (takes side p) h = plain_first _ _ (of_side side _ _ (words_back (takes side p) h tt))
+line_back (takes_nth side nth) h = plain_first _ _ (of_side side _ _ (words_back (takes_nth side nth) h tt))
+line_back (flips side p bit) h = plain_first _ _ (of_side side _ _ (words_back (flips side p bit) h tt))
+line_back (takes_bytes side bytes) h = plain_first _ _ (of_side side _ _ (words_back (takes_bytes side bytes) h tt))
+line_back (drops_sent side amount) h = plain_first _ _ (of_side side _ _ (words_back (drops_sent side amount) h tt))
+line_back (drops_done side amount) h = plain_first _ _ (of_side side _ _ (words_back (drops_done side amount) h tt))
+line_back (shows_inbox side) h = plain_first _ _ (of_side side _ _ (words_back (shows_inbox side) h tt))
+line_back (shows_state side) h = plain_first _ _ (of_side side _ _ (words_back (shows_state side) h tt))
+line_back (cuts took event) h = cut_back took event h.0 h.1

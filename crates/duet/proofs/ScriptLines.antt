@@ -5,7 +5,8 @@ use Rattle.std.specs.List.{list_all}
 use Rattle.dr_model.specs.Machines.Events.{Event}
 use Rattle.duet.specs.Printed.{IsSayable, line_text, script_text}
 use Rattle.duet.specs.Script.{AreCounted, events_in, events_of, lines_of, with_byte}
-use Rattle.duet.proofs.PrintedLines.{Without, line_back}
+use Rattle.duet.proofs.PrintedLines.{line_back}
+use Rattle.duet.proofs.PrintedParts.{Without}
 use Rattle.duet.proofs.Reading.{are_read}
 
 -- an event whose line is one line

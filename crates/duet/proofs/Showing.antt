@@ -1,5 +1,6 @@
 -- What an event shows, and what it adds to the network and to the draws.
-use Rattle.std.proofs.Common.{◌≡◌, ℕ, ◌+◌, ◌≤◌, Bool, true, false, List, [], ◌∷◌, ◌++◌, length, Option, Some, None, Result, Ok, Err, if◌then◌else◌, refl, sym, ◌∙◌, ap, arith, length-append}
+use Rattle.std.proofs.Common.{◌≡◌, ℕ, ◌+◌, ◌≤◌, Bool, true, false, List, [], ◌∷◌, ◌++◌, length, Option, Some, None, Result, Ok, Err, if◌then◌else◌, refl, sym, ◌∙◌, ap, ap₂, append-nil, arith, length-append}
+use Rattle.std.specs.Prelude.{flat_map, nat_le}
 use Rattle.dr_base.specs.declared.position.Side.{Side}
 use Rattle.dr_base.specs.declared.position.Side.TheVariants.{First, Second}
 use Rattle.boxes.specs.Items.{Item}
@@ -12,7 +13,14 @@ use Rattle.dr_model.specs.Machines.Draws.{Draws, after_draw, next_seed}
 use Rattle.dr_model.specs.Machines.Events.{Event, seeds, says, takes, takes_nth, flips, takes_bytes, drops_sent, drops_done, shows_inbox, shows_state, cuts}
 use Rattle.dr_model.specs.Machines.Network.{flipped_at, held_at, held_nth}
 use Rattle.kem_laws.specs.Mechanism.{Mechanism}
+use Rattle.session_model.specs.declared.answer.Answer.{Answer}
 use Rattle.duet.specs.Held.{DuetNow, shown, stepped}
+use Rattle.duet.specs.Lined.{call_event, stop_event}
+use Rattle.duet.specs.Replies.{acting_side, entry_line, reply_line, reply_of}
+use Rattle.duet.specs.Stops.{stopped, takes_effect}
+use Rattle.duet.specs.declared.script.lined.Stop.{Stop}
+use Rattle.duet.specs.declared.script.lined.StoppedCall.{StoppedCall}
+use Rattle.duet.specs.declared.script.lined.StoppedCall.TheVariants.{Done, Say, Sent, Take, TakeNth}
 
 -- a step that shows no text, adds at most one packet to the network, and makes at most one draw
 record IsQuiet (s : Sides) (made : Step Sides) : Type 0 where
@@ -131,3 +139,31 @@ posts_more k events more event old new n next e few = omega (arith, ap (λ (d : 
 pub draws_more : (k : Mechanism) (events more : List Event) (event : Event) (old new : DuetNow) (n : ℕ) → new ≡ stepped k old event → more ≡ events ++ event ∷ [] → old.sides.draws.made ≤ n
     → new.sides.draws.made ≤ n + 1
 draws_more k events more event old new n next e few = omega (arith, ap (λ (d : DuetNow). d.sides.draws.made) next, (shows k old.sides event).draws)
+
+-- ---- a call in which a disk stops shows no text
+
+call_shows_none : (t : Sides) (call : StoppedCall) → shown (call_event call) t ≡ []
+call_shows_none t (Say side text) = refl
+call_shows_none t (Take side p) = refl
+call_shows_none t (TakeNth side nth) = refl
+call_shows_none t (Sent side n) = refl
+call_shows_none t (Done side n) = refl
+
+stop_shows_none : (t : Sides) (stop : Stop) → shown (stop_event stop) t ≡ []
+unfolding stopped
+stop_shows_none t stop = by_count (nat_le 8 stop.after)
+  where
+    by_count : (b : Bool) → shown (if b then call_event stop.call else cuts (takes_effect stop.after stop.mode) (call_event stop.call)) t ≡ []
+    by_count true = call_shows_none t stop.call
+    by_count false = call_shows_none t stop.call
+
+-- so its reply is its line
+pub stop_reply : (k : Mechanism) (s : Sides) (stop : Stop) (side : Side) (answer : Answer) → side ≡ acting_side (stop_event stop)
+    → answer ≡ (step_on k s (stop_event stop)).answer → reply_line side answer ≡ reply_of (stop_event stop) (step_on k s (stop_event stop))
+unfolding reply_of
+stop_reply k s stop side answer acts is =
+    let made = step_on k s (stop_event stop) in
+    let own = acting_side (stop_event stop) in
+    let none : made.entries ≡ [] = sym (shown-entries k s (stop_event stop)) ∙ stop_shows_none made.next stop in
+    ap₂ reply_line acts is ∙ sym (append-nil (reply_line own made.answer))
+    ∙ ap (λ entries. reply_line own made.answer ++ flat_map (entry_line own) entries) (sym none)

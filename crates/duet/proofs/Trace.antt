@@ -96,3 +96,13 @@ wrote_part k told mid new start events others all event sides part e stands so_f
     subst (λ es. TookBeginning told new (lines_by (step_on k) start es)) (sym e)
     (took_until told mid new (step_on k) start events event others so_far
     (subst (λ (s : Sides). TookBeginning mid new (reply_of event (step_on k s event))) stands part))
+
+-- the lines so far are a beginning of all
+pub wrote_first : (k : Mechanism) (told taken : Option (List ℕ)) (start : Sides) (events others all : List Event) → all ≡ events ++ others
+    → taken ≡ appended told (lines_by (step_on k) start events) → TookBeginning told taken (lines_by (step_on k) start all)
+wrote_first k told taken start events others all e so_far = record {
+  beginning = lines_by (step_on k) start events;
+  remainder = lines_by (step_on k) (after_by (step_on k) start events) others;
+  split = ap (lines_by (step_on k) start) e ∙ lines_by-append (step_on k) start events others;
+  took = so_far;
+}

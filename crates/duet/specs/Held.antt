@@ -1,11 +1,11 @@
 -- Both sides, as the code holds them.
-use Rattle.std.specs.Prelude.{ℕ, List, [], None}
+use Rattle.std.specs.Prelude.{ℕ, List, [], None, drop, ◌++◌}
 use Rattle.dr_base.specs.declared.position.Position.{Position}
 use Rattle.dr_base.specs.declared.position.Side.{Side}
 use Rattle.dr_base.specs.declared.position.Side.TheVariants.{First, Second}
 use Rattle.boxes.specs.Items.{Item}
 use Rattle.session_model.specs.Clients.{Client, SaidText, TakenPacket}
-use Rattle.dr_model.specs.Machines.Sides.{Sides, client_of, step_on}
+use Rattle.dr_model.specs.Machines.Sides.{Sides, client_of, step_on, with_client}
 use Rattle.dr_model.specs.Machines.Steps.{Step}
 use Rattle.dr_model.specs.Machines.Draws.{Draws}
 use Rattle.dr_model.specs.Machines.Events.{Event, cuts, shows_inbox}
@@ -41,6 +41,14 @@ opening_duet k key room =
 -- what is held after a step
 abbrev pub after : DuetNow → Step Sides → DuetNow
 after duet made = record duet { sides = made.next }
+
+-- a step of one side, among both
+abbrev pub on_side : Sides → Side → Step Client → Step Sides
+on_side s side made = record { answer = made.answer; entries = made.entries; next = with_client s side made.next }
+
+-- the network gets what stands behind so many packets of a side's outbox
+abbrev pub gathered : ℕ → Side → Sides → Sides
+gathered held side s = record s { posts = s.posts ++ drop held (client_of s side).outbox }
 
 abbrev pub stepped : Mechanism → DuetNow → Event → DuetNow
 stepped k duet event = after duet (step_on k duet.sides event)

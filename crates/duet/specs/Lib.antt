@@ -6,9 +6,12 @@ pub mod Words
 pub mod Script
 pub mod ScriptCodes
 pub mod Seen
+pub mod Lined
 pub mod Trace
 pub mod Tally
 pub mod Make
 pub mod Summary
 pub mod Held
 pub mod Parties
+pub mod Stops
+pub mod Acts

@@ -1,5 +1,5 @@
 -- The lines of a script, printed: the events that a line can say, and one line that says each.
-use Rattle.std.specs.Prelude.{⊤, ℕ, ◌^◌, ◌<◌, ◌≤◌, ◌≡◌, List, [], ◌++◌, length, codes, decimal, flat_map}
+use Rattle.std.specs.Prelude.{⊤, Bool, false, true, ℕ, ◌^◌, ◌<◌, ◌≤◌, ◌≡◌, List, [], ◌++◌, length, codes, decimal, flat_map}
 use Rattle.hex.specs.Hex.{IsBytes, encode_lower}
 use Rattle.dr_base.specs.declared.position.Position.{Position}
 use Rattle.session_model.specs.declared.answer.Amount.{Amount}
@@ -7,11 +7,17 @@ use Rattle.session_model.specs.declared.answer.Amount.TheVariants.{All, Exactly}
 use Rattle.dr_model.specs.Machines.Events.{Event, seeds, says, takes, takes_nth, flips, takes_bytes, drops_sent, drops_done, shows_inbox, shows_state, cuts}
 use Rattle.answer_lines.specs.Answers.{position_text}
 use Rattle.duet.specs.Replies.{acting_side, side_text}
+use Rattle.duet.specs.Words.{is_call}
 
 -- `all`, or a number
 unfoldable pub amount_text : Amount → List ℕ
 amount_text All = codes "all"
 amount_text (Exactly n) = decimal n
+
+-- a stop behind the sync of the new record's gate, or before the first write
+unfoldable pub cut_text : Bool → List ℕ
+cut_text true = codes "stop 4 old "
+cut_text false = codes "stop 0 old "
 
 -- what a side does
 unfoldable pub words_text : Event → List ℕ
@@ -25,7 +31,7 @@ words_text (drops_sent side amount) = codes "sent " ++ amount_text amount
 words_text (drops_done side amount) = codes "done " ++ amount_text amount
 words_text (shows_inbox side) = codes "inbox"
 words_text (shows_state side) = codes "state"
-words_text (cuts took event) = []
+words_text (cuts took event) = cut_text took ++ words_text event
 
 -- the line that says an event: a seed is no side's
 unfoldable pub line_text : Event → List ℕ
@@ -40,8 +46,8 @@ abbrev pub IsAmount : Amount → Type 0
 IsAmount All = ⊤
 IsAmount (Exactly n) = n < 2 ^ 32
 
--- an event that a line can say: its numbers are below 2^32, a seed has 32 bytes, and given bytes are at most 4,000; no line
--- says a cut
+-- an event that a line can say: its numbers are below 2^32, a seed has 32 bytes, and given bytes are at most 4,000; what is
+-- cut off is a call that may be stopped
 abbrev pub IsSayable : Event → Type 0
 IsSayable (seeds seed) = (length seed ≡ 32) × IsBytes seed
 IsSayable (says side text) = ⊤
@@ -53,7 +59,7 @@ IsSayable (drops_sent side amount) = IsAmount amount
 IsSayable (drops_done side amount) = IsAmount amount
 IsSayable (shows_inbox side) = ⊤
 IsSayable (shows_state side) = ⊤
-IsSayable (cuts took event) = ⊥
+IsSayable (cuts took event) = (is_call event ≡ true) × IsSayable event
 
 -- events in lines
 abbrev pub script_text : List Event → List ℕ

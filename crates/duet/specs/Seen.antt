@@ -13,7 +13,7 @@ or_empty (Some bytes) = bytes
 abbrev pub bytes_of_hex : List ℕ → List ℕ
 bytes_of_hex digits = or_empty (hex_read digits)
 
--- what a line says
+-- what a line says without a stop
 abbrev pub event_of : Line → Event
 event_of (Seed seed) = seeds seed
 event_of (Say side text) = says side text.now

@@ -1,10 +1,12 @@
 -- What a line of a script says.
-use Rattle.std.specs.Prelude.{ℕ, ◌+◌, ◌/◌, ◌==◌, Bool, nat_le, List, [], ◌∷◌, length, take, drop, nat_eq, position, Option, Some, None, option_map, codes, if◌then◌else◌}
+use Rattle.std.specs.Prelude.{ℕ, ◌+◌, ◌/◌, ◌==◌, Bool, true, false, nat_le, List, [], ◌∷◌, length, take, drop, nat_eq, position, slice_index, Option, Some, None, option_map, codes, if◌then◌else◌}
 use Rattle.std.specs.List.{starts_with}
 use Rattle.std.specs.Cmp.Lexicographic.{pointwise}
 use Rattle.std.specs.Option.{option_and_then, option_or}
 use Rattle.std.specs.Result.{result_ok}
 use Rattle.hex.specs.Hex.{decode_sized}
+use Rattle.dr_disk.specs.declared.call.Mode.{Mode}
+use Rattle.dr_disk.specs.declared.call.Mode.TheVariants.{Fill, New, Old}
 use Rattle.dr_base.specs.declared.position.Position.{Position}
 use Rattle.dr_base.specs.declared.position.Side.{Side}
 use Rattle.dr_base.specs.declared.position.Side.TheVariants.{First, Second}
@@ -12,6 +14,7 @@ use Rattle.session_model.specs.declared.answer.Amount.{Amount}
 use Rattle.session_model.specs.declared.answer.Amount.TheVariants.{All, Exactly}
 use Rattle.dr_model.specs.Machines.Events.{Event, seeds, says, takes, takes_nth, flips, takes_bytes, drops_sent, drops_done, shows_inbox, shows_state}
 use Rattle.duet.specs.Number.{number_read}
+use Rattle.duet.specs.Stops.{stopped}
 
 -- what follows a prefix
 unfoldable pub after_prefix : List ℕ → List ℕ → Option (List ℕ)
@@ -95,8 +98,52 @@ side_words side words =
     option_or (say_words side words) (option_or (take_words side words) (option_or (flip_words side words) (option_or (bytes_words side words)
     (option_or (sent_words side words) (option_or (done_words side words) (look_words side words))))))
 
+-- what a line says without a stop
+unfoldable pub plain_read : List ℕ → Option Event
+plain_read line =
+    option_or (seed_read line) (option_or (option_and_then (side_words First) (after_prefix (codes "first ") line))
+    (option_and_then (side_words Second) (after_prefix (codes "second ") line)))
+
+-- ---- a stop
+
+-- `old`, `new`, or a byte in two hex digits
+unfoldable pub mode_read : List ℕ → Option Mode
+mode_read text =
+    if is_text (codes "old") text then Some Old
+    else (if is_text (codes "new") text then Some New
+    else option_map (λ bytes. Fill (slice_index bytes 0)) (result_ok (decode_sized text 1)))
+
+-- what a stop may cut off: a text, a packet as the network holds it, or a number of items
+abbrev pub is_call : Event → Bool
+is_call (says side text) = true
+is_call (takes side p) = true
+is_call (takes_nth side nth) = true
+is_call (drops_sent side (Exactly n)) = true
+is_call (drops_done side (Exactly n)) = true
+is_call _ = false
+
+abbrev pub if_call : Event → Option Event
+if_call event = if is_call event then Some event else None
+
+unfoldable pub call_words : Side → List ℕ → Option Event
+call_words side words = option_and_then if_call (side_words side words)
+
+-- a mode, a space and a call
+abbrev pub crash_read : Side → ℕ → List ℕ × List ℕ → Option Event
+crash_read side n halves = option_and_then (λ mode. option_map (stopped n mode) (call_words side halves.1)) (mode_read halves.0)
+
+-- a number, a space, and the rest
+abbrev pub stop_read : Side → List ℕ × List ℕ → Option Event
+stop_read side halves = option_and_then (λ n. option_and_then (crash_read side n) (halves_of 32 halves.1)) (number_read halves.0)
+
+-- `stop`, how many writes and syncs pass, the mode of the crash, and the call that it cuts off
+unfoldable pub stop_words : Side → List ℕ → Option Event
+stop_words side words = option_and_then (stop_read side) (option_and_then (halves_of 32) (after_prefix (codes "stop ") words))
+
+-- ---- any line
+
 -- what a line says; every other line is bad
 unfoldable pub line_read : List ℕ → Option Event
 line_read line =
-    option_or (seed_read line) (option_or (option_and_then (side_words First) (after_prefix (codes "first ") line))
-    (option_and_then (side_words Second) (after_prefix (codes "second ") line)))
+    option_or (plain_read line) (option_or (option_and_then (stop_words First) (after_prefix (codes "first ") line))
+    (option_and_then (stop_words Second) (after_prefix (codes "second ") line)))

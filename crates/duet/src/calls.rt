@@ -54,7 +54,7 @@ fn drop_refusal(refusal: DropRefusal) -> Refusal
 }
 
 /// The packet that was put into the outbox last.
-fn newest<K: Kem>(client: &Client<K>) -> Post
+pub fn newest<K: Kem>(client: &Client<K>) -> Post
     requires { 0 < length client.now.kept.outbox }
     ensures { slice_get client.now.kept.outbox (length client.now.kept.outbox - 1) ≡ Some result }
 {

@@ -3,10 +3,11 @@
 
 pub use laws::{lines_print_back, played_is_the_trace};
 pub use playing::{PlayError, play};
-pub use script::{KemName, Line, Lines, Script, ScriptError};
+pub use script::{KemName, Line, Lined, Lines, Script, ScriptError, Stop, StoppedCall};
 pub use summary::{SummaryText, summary_lines};
 pub use tally::{SideTally, Tally};
 
+mod acts;
 mod amount;
 mod calls;
 mod draws;
@@ -20,6 +21,8 @@ mod post;
 mod reply;
 mod script;
 mod sides;
+mod stopping;
+mod stops;
 mod summary;
 mod tally;
 #[cfg(test)]

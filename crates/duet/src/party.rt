@@ -1,6 +1,6 @@
 //! One side: a client, and the disk that it is kept on.
 
-ghost use Rattle.std.specs.Prelude.{◌≡◌, ◌≤◌, ◌↔◌, ◌<◌, length, Ok, Err, IfOk, IfSome, OnErr, IsNone, IsSome, IsErrOf, MatchResult, is_some, option_map, slice_get};
+ghost use Rattle.std.specs.Prelude.{◌≡◌, ◌≤◌, ◌↔◌, ◌<◌, ◌-◌, length, Ok, Err, Some, IfOk, IfSome, OnErr, IsNone, IsSome, IsErrOf, MatchResult, is_some, option_map, slice_get};
 ghost use Rattle.boxes.specs.Seen.{entry_item};
 ghost use Rattle.session_model.specs.Clients.{dropped_of, say_check, say_on, summary_of, take_on};
 ghost use Rattle.dr_model.specs.Machines.Steps.{amount_of};
@@ -10,7 +10,7 @@ ghost use Rattle.duet.specs.Held.{opening_client, said_text, taken_packet};
 ghost use Rattle.duet.specs.Parties.{IsFirstRefusal};
 ghost use Rattle.client.specs.declared.refusals.BeginRefusal.TheVariants.{NoPair as NoFirstPair};
 
-use crate::calls::{drop_packets, drop_texts, say_text, take_bytes};
+use crate::calls::{drop_packets, drop_texts, newest, say_text, take_bytes};
 use crate::post::Post;
 use boxes::Entry;
 use client::{BeginRefusal, Client, SLOT};
@@ -28,8 +28,8 @@ const DISK_SIZE: u64 = 2 * SLOT as u64;
 /// client keeps.
 #[derive(Drop)]
 pub struct Party<K: Kem> {
-    client: Client<K>,
-    disk: MemoryDisk,
+    pub(crate) client: Client<K>,
+    pub(crate) disk: MemoryDisk,
 }
 
 impl<K: Kem> Model for Party<K> {
@@ -94,6 +94,14 @@ impl<K: Kem> Party<K> {
         ensures fits { IfSome result (λ entry. length entry.text.now ≤ TEXT_LIMIT) }
     {
         self.client.inbox(at)
+    }
+
+    /// The packet that was put into the outbox last.
+    pub fn newest(&self) -> Post
+        requires { 0 < length self.now.outbox }
+        ensures { slice_get self.now.outbox (length self.now.outbox - 1) ≡ Some result }
+    {
+        newest(&self.client)
     }
 
     /// What the side holds, in numbers.

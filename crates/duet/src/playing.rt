@@ -1,32 +1,34 @@
 //! A script, played: each event is answered, and its lines are written before the next.
 
-ghost use Rattle.std.specs.Prelude.{◌≡◌, ℕ, ◌+◌, ◌-◌, ◌^◌, ◌<◌, ◌≤◌, length, flat_map, slice_index_or, IsNone, IsSome, IfOk, OnOk, IsErrOf};
+ghost use Rattle.std.specs.Prelude.{◌≡◌, ℕ, ◌+◌, ◌-◌, ◌^◌, ◌<◌, ◌≤◌, ◌⊎◌, length, flat_map, slice_index_or, IsNone, IsSome, IfOk, OnOk, IsErrOf};
 ghost use Rattle.dr_ports.specs.Ports.{Rose, appended};
 ghost use Rattle.dr_ports.specs.Writing.{TookBeginning, Writes};
 ghost use Rattle.boxes.specs.Items.{Item};
 ghost use Rattle.dr_model.specs.Machines.Sides.{step_on};
 ghost use Rattle.session_model.specs.Schedule.{agreement_seed};
 ghost use Rattle.duet.specs.Held.{shown, stepped};
-ghost use Rattle.duet.specs.Replies.{entry_line, reply_of, acting_side};
+ghost use Rattle.duet.specs.Replies.{entry_line, reply_line, reply_of, acting_side};
 ghost use Rattle.duet.specs.Seen.{event_of};
 ghost use Rattle.duet.specs.Tally.{IsBelow, counted_of, tally_of};
 ghost use Rattle.duet.specs.Trace.{played};
 
 use crate::party::{BeginError, Party};
 use crate::reply::{reply, side_name};
-use crate::script::{Line, Script};
+use crate::script::{Line, Lined, Script};
 use crate::sides::Duet;
 use crate::tally::Tally;
 use answer_lines::text_line;
 use dr_base::Side;
 use dr_ports::{Failed, Sink, write_all};
 use kem_laws::Kem;
-use std::alloc::Global;
+use session_model::Answer;
+use std::alloc::{AllocError, Global};
 
 /// Why a script wasn't played to its end.
 #[derive(Clone, Copy, Debug, PartialEq, Eq)]
 pub enum PlayError {
-    /// There was no memory for the two sides; nothing was written.
+    /// There was no memory for the two sides, and nothing was written; or none to open a side again behind a stop, or what
+    /// its disk had then was refused, and the lines before were written.
     Memory,
     /// The shared key gives no first pair; nothing was written.
     NoPair,
@@ -81,7 +83,20 @@ fn write_entries<K: Kem, O: Sink>(
     }
 }
 
-/// Plays one event, counts its answer, and writes its lines.
+/// Counts a side's answer, and writes its line.
+fn tell<O: Sink>(side: Side, answer: Answer, tally: &mut Tally, out: &mut O) -> Result<(), Failed>
+    requires few { IsBelow (2 ^ 32 - 1) tally.old }
+    ensures counts { tally.new ≡ counted_of side answer tally.old }
+    ensures writes { Writes (O.taken out.old) (O.taken out.new) (O.faults out.old) (O.faults out.new) (reply_line side answer) result }
+{
+    tally.count(side, answer);
+    match write_all(out, reply(side, answer).as_bytes()) {
+        Err(Failed) => Err(Failed),
+        Ok(()) => Ok(()),
+    }
+}
+
+/// Plays one event that no stop cuts off, counts its answer, and writes its lines.
 #[tactic(auto, unfolding(crate::specs::Replies::reply_of))]
 fn play_line<K: Kem, O: Sink>(
     duet: &mut Duet<K>,
@@ -100,8 +115,7 @@ fn play_line<K: Kem, O: Sink>(
         (reply_of (event_of line.now) (step_on k duet.old.sides (event_of line.now))) result }
 {
     let answer = duet.step(line);
-    tally.count(line.side(), answer);
-    match write_all(out, reply(line.side(), answer).as_bytes()) {
+    match tell(line.side(), answer, tally, out) {
         Err(Failed) => Err(Failed),
         Ok(()) => write_entries(out, duet, line),
     }
@@ -118,7 +132,9 @@ pub fn play<K: Kem, O: Sink>(
     ensures tally { IfOk result (λ tally. tally ≡ tally_of K.mechanism script.now) }
     ensures pair { OnOk result (IsSome (K.mechanism.meaning.pair_of (agreement_seed script.now.key))) }
     ensures none { IsErrOf result PlayError.NoPair → IsNone (K.mechanism.meaning.pair_of (agreement_seed script.now.key)) × (O.taken out.new ≡ O.taken out.old) }
-    ensures memory { IsErrOf result PlayError.Memory → O.taken out.new ≡ O.taken out.old }
+    // None for the two sides, or none, behind these lines, to open a side again.
+    ensures memory { IsErrOf result PlayError.Memory → (O.taken out.new ≡ O.taken out.old)
+        ⊎ (TookBeginning (O.taken out.old) (O.taken out.new) (played K.mechanism script.now) × IsSome (K.mechanism.meaning.pair_of (agreement_seed script.now.key))) }
     ensures write { IsErrOf result PlayError.Write
         → TookBeginning (O.taken out.old) (O.taken out.new) (played K.mechanism script.now)
         × Rose (O.faults out.old) (O.faults out.new) × IsSome (K.mechanism.meaning.pair_of (agreement_seed script.now.key)) }
@@ -134,9 +150,21 @@ pub fn play<K: Kem, O: Sink>(
     let mut tally = Tally::new(script.rounds());
     let mut lines = script.lines();
     'events: while let Some(line) = lines.next() {
-        match play_line(&mut duet, &line, &mut tally, out) {
-            Err(Failed) => return Err(PlayError::Write),
-            Ok(()) => {}
+        match line {
+            Lined::Plain(line) => match play_line(&mut duet, &line, &mut tally, out) {
+                Err(Failed) => return Err(PlayError::Write),
+                Ok(()) => {}
+            },
+            Lined::Stopping(stop) => match duet.stop(alloc, &stop) {
+                Err(AllocError) => return Err(PlayError::Memory),
+                Ok((next, answer)) => {
+                    duet = next;
+                    match tell(stop.side(), answer, &mut tally, out) {
+                        Err(Failed) => return Err(PlayError::Write),
+                        Ok(()) => {}
+                    }
+                }
+            },
         }
     }
     Ok(duet.reached(tally))

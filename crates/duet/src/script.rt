@@ -8,12 +8,14 @@ ghost use Rattle.duet.specs.Script.{AreCounted, events_of, kem_read, key_read, l
 use dr_base::Key32;
 use hex::FromHex;
 pub use line::Line;
+pub use lined::{Lined, Stop, StoppedCall};
 pub use lines::Lines;
 use split::{after_prefix, split_line};
 use std::alloc::Global;
 use std::marker::Model;
 
 mod line;
+mod lined;
 mod lines;
 mod make;
 mod number;
@@ -173,7 +175,7 @@ fn count_lines(text: &[u8]) -> Result<usize, u32>
     let mut rest = text;
     let mut number = 3;
     'lines: while let Some((line, next)) = split_line(rest) {
-        if Line::parse(line).is_none() {
+        if Lined::parse(line).is_none() {
             return Err(number);
         }
         rest = next;

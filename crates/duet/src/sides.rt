@@ -25,11 +25,11 @@ use std::marker::Model;
 /// Both sides. The network holds every packet that stood in an outbox.
 #[derive(Drop)]
 pub struct Duet<K: Kem> {
-    key: Key32,
-    first: Party<K>,
-    second: Party<K>,
-    posts: Vec<Post>,
-    draws: Draws,
+    pub(crate) key: Key32,
+    pub(crate) first: Party<K>,
+    pub(crate) second: Party<K>,
+    pub(crate) posts: Vec<Post>,
+    pub(crate) draws: Draws,
 }
 
 impl<K: Kem> Model for Duet<K> {
@@ -86,7 +86,7 @@ impl<K: Kem> Duet<K> {
     }
 
     /// Whether a side may say a text of this length, and then whether that needs a seed.
-    fn say_check(&self, side: Side, len: usize) -> Result<bool, Refusal>
+    pub(crate) fn say_check(&self, side: Side, len: usize) -> Result<bool, Refusal>
         ensures { result ≡ say_check (client_of self.now.sides side) len }
     {
         match side {
@@ -223,7 +223,7 @@ impl<K: Kem> Duet<K> {
         }
     }
 
-    /// One event. An inbox is answered with how many texts stand in it.
+    /// One event that no stop cuts off. An inbox is answered with how many texts stand in it.
     pub fn step(&mut self, line: &Line<'_>) -> Answer
         requires room { length self.old.sides.posts < self.old.room }
         requires draws { self.old.sides.draws.made < 2 ^ 32 - 1 }

@@ -1,5 +1,5 @@
 -- What the command `duet` comes to.
-use Rattle.std.specs.Prelude.{◌≡◌, ℕ, ◌<◌, ◌≤◌, List, [], length, Option, Ok, Err, IfSome, IsSome, IsNone}
+use Rattle.std.specs.Prelude.{◌≡◌, ◌⊎◌, ℕ, ◌<◌, ◌≤◌, List, [], ◌++◌, length, Option, Ok, Err, IfSome, IsSome, IsNone}
 use Rattle.dr_ports.specs.Ports.{Rose, appended}
 use Rattle.dr_ports.specs.Writing.{TookBeginning}
 use Rattle.session_model.specs.Schedule.{agreement_seed}
@@ -23,6 +23,11 @@ pub record IsTraceOf (text lines : List ℕ) : Type 0 where
   pub lines_are : lines ≡ played (mechanism_of script.kem) script
   pub trace_is : IsFairScript (mechanism_of script.kem) script → lines ≡ trace_of (mechanism_of script.kem) script
 
+-- the source's text is a script of whose trace these lines are a beginning
+pub record BeginsTrace (text lines : List ℕ) : Type 0 where
+  pub rest : List ℕ
+  pub trace : IsTraceOf text (lines ++ rest)
+
 -- the source's text is a script whose key gives no first pair
 pub record HasNoPair (text : List ℕ) : Type 0 where
   pub script : Scripted
@@ -36,14 +41,14 @@ pub record HasBadLine (text : List ℕ) (number : ℕ) : Type 0 where
   pub read : script_of text ≡ Err number
 
 -- Why the command ended so, behind these lines, where the source tells what it holds: its work is the trace of the
--- script, every other ending comes before the first line and has its cause.
+-- script, and memory may want behind a beginning of it; every other ending comes before the first line and has its cause.
 abbrev pub HasReason : Option (List ℕ) → Ending → List ℕ → Type 0
 HasReason left Done lines = IfSome left (λ text. IsTraceOf text lines)
 HasReason left (InputTooLong limit) lines = (lines ≡ []) × (limit ≡ SCRIPT_LIMIT) × IfSome left (λ text. SCRIPT_LIMIT < length text)
 HasReason left (BadLine number) lines = (lines ≡ []) × IfSome left (λ text. HasBadLine text number)
 HasReason left (Refused refusal) lines = (lines ≡ []) × (refusal ≡ NoPair) × IfSome left HasNoPair
 HasReason left ReadFault lines = lines ≡ []
-HasReason left NoMemory lines = lines ≡ []
+HasReason left NoMemory lines = (lines ≡ []) ⊎ IfSome left (λ text. BeginsTrace text lines)
 HasReason left _ lines = ⊥
 
 -- The run of `duet`: an ending with its reason, the lines before it, what was read of the source, and what was written

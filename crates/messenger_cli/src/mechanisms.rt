@@ -1,6 +1,6 @@
 //! Scripts over the mechanism that they name.
 
-ghost use Rattle.std.specs.Prelude.{◌≡◌, ◌≤◌, IsErrOf, IsNone, IsSome, OnOk};
+ghost use Rattle.std.specs.Prelude.{◌≡◌, ◌≤◌, ◌⊎◌, IsErrOf, IsNone, IsSome, OnOk};
 ghost use Rattle.dr_ports.specs.Ports.{Rose, appended};
 ghost use Rattle.dr_ports.specs.Writing.{TookBeginning};
 ghost use Rattle.session_model.specs.Schedule.{agreement_seed};
@@ -19,7 +19,9 @@ pub fn play_named<O: Sink>(alloc: Global, script: &Script, out: &mut O) -> Resul
     ensures pair { OnOk result (IsSome ((mechanism_of script.now.kem).meaning.pair_of (agreement_seed script.now.key))) }
     ensures none { IsErrOf result PlayError.NoPair
         → IsNone ((mechanism_of script.now.kem).meaning.pair_of (agreement_seed script.now.key)) × (O.taken out.new ≡ O.taken out.old) }
-    ensures memory { IsErrOf result PlayError.Memory → O.taken out.new ≡ O.taken out.old }
+    ensures memory { IsErrOf result PlayError.Memory → (O.taken out.new ≡ O.taken out.old)
+        ⊎ (TookBeginning (O.taken out.old) (O.taken out.new) (played (mechanism_of script.now.kem) script.now)
+        × IsSome ((mechanism_of script.now.kem).meaning.pair_of (agreement_seed script.now.key))) }
     ensures write { IsErrOf result PlayError.Write
         → TookBeginning (O.taken out.old) (O.taken out.new) (played (mechanism_of script.now.kem) script.now)
         × Rose (O.faults out.old) (O.faults out.new) × IsSome ((mechanism_of script.now.kem).meaning.pair_of (agreement_seed script.now.key)) }

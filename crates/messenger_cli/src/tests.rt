@@ -13,9 +13,11 @@ use std::env::Args;
 use std::io;
 use std::io::{Cursor, ErrorKind};
 use std::test::Fail;
+use stops::STOPS;
 
 mod commands;
 mod scenarios;
+mod stops;
 
 /// A script whose last line doesn't end in a line feed.
 const HELLO: &[u8] =
@@ -169,15 +171,17 @@ fn holds(
 fn answers_scripts(rt: HostRuntime) -> Result<(), Fail> {
     let alloc = rt.alloc();
     let mut network = Network::new(alloc, b"", b"")?;
-    let mut count = 0_u32;
-    for scenario in SCENARIOS.split("\n\n") {
-        if let Some((title, lines)) = scenario.split_once('\n') {
-            let (script, answers) = lines.split_once("\n=>\n").ok_or("no answers")?;
-            assert!(rt; holds(alloc, &mut network, script, answers)?, "{title}");
-            count = count.wrapping_add(1);
+    for (scenarios, held) in [(SCENARIOS, 39_u32), (STOPS, 30)] {
+        let mut count = 0_u32;
+        for scenario in scenarios.split("\n\n") {
+            if let Some((title, lines)) = scenario.split_once('\n') {
+                let (script, answers) = lines.split_once("\n=>\n").ok_or("no answers")?;
+                assert!(rt; holds(alloc, &mut network, script, answers)?, "{title}");
+                count = count.wrapping_add(1);
+            }
         }
+        assert_eq!(rt; count, held);
     }
-    assert_eq!(rt; count, 39);
     assert_eq!(rt;
         outcome(alloc, &mut network, HELLO, &[], &[], 4096, HELLO_TRACE)?,
         (0, true)

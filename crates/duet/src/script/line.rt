@@ -2,7 +2,7 @@
 
 ghost use Rattle.std.specs.Prelude.{◌≡◌, option_map};
 ghost use Rattle.duet.specs.Replies.{acting_side};
-ghost use Rattle.duet.specs.Words.{line_read, seed_read, side_words};
+ghost use Rattle.duet.specs.Words.{plain_read, seed_read, side_words};
 ghost use Rattle.duet.specs.Seen.{event_of};
 
 use crate::script::split::after_prefix;
@@ -13,7 +13,7 @@ use dr_base::{Position, Side};
 use hex::FromHex;
 use session_model::Amount;
 
-/// What one line says.
+/// What one line says that stops no disk.
 #[derive(Clone, Copy, Debug, PartialEq, Eq)]
 pub enum Line<'a> {
     /// The next draw is this seed.
@@ -40,9 +40,9 @@ pub enum Line<'a> {
 
 impl<'a> Line<'a> {
     /// Reads a line: a seed, or a side, a space, and what it does.
-    #[tactic(auto, unfolding(crate::specs::Words::line_read))]
+    #[tactic(auto, unfolding(crate::specs::Words::plain_read))]
     pub fn parse(line: &'a [u8]) -> Option<Self>
-        ensures { option_map event_of result ≡ line_read line.entry.now }
+        ensures { option_map event_of result ≡ plain_read line.entry.now }
     {
         if let Some(found) = parse_seed(line) {
             return Some(found);
@@ -93,7 +93,7 @@ fn parse_seed(line: &[u8]) -> Option<Line<'_>>
 
 /// Reads what stands behind a side.
 #[tactic(auto, unfolding(crate::specs::Words::side_words))]
-fn parse_words(side: Side, words: &[u8]) -> Option<Line<'_>>
+pub fn parse_words(side: Side, words: &[u8]) -> Option<Line<'_>>
     ensures { option_map event_of result ≡ side_words side words.entry.now }
 {
     if let Some(found) = parse_say(side, words) {

@@ -2,9 +2,9 @@
 
 ghost use Rattle.std.specs.Prelude.{◌≡◌, [], ◌∷◌, MatchOption};
 ghost use Rattle.duet.specs.Script.{AreRead, events_in};
-ghost use Rattle.duet.specs.Seen.{event_of};
+ghost use Rattle.duet.specs.Lined.{lined_event};
 
-use crate::script::line::Line;
+use crate::script::lined::Lined;
 use crate::script::split::split_line;
 use std::marker::Model;
 
@@ -40,14 +40,14 @@ impl<'a> Lines<'a> {
     }
 
     /// The next line, if there is one.
-    pub fn next(&mut self) -> Option<Line<'a>>
-        ensures { MatchOption result (self.old ≡ []) (λ line. self.old ≡ event_of line ∷ self.new) }
+    pub fn next(&mut self) -> Option<Lined<'a>>
+        ensures { MatchOption result (self.old ≡ []) (λ line. self.old ≡ lined_event line ∷ self.new) }
     {
         match split_line(self.rest) {
             None => None,
             Some((line, rest)) => {
                 self.rest = rest;
-                Line::parse(line)
+                Lined::parse(line)
             }
         }
     }

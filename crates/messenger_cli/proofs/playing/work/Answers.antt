@@ -1,9 +1,9 @@
-use Rattle.std.proofs.Common.{rules, ◌≤◌, [], length, arith, refl, sym, ◌∙◌, ap}
+use Rattle.std.proofs.Common.{inr, rules, ◌≤◌, [], length, arith, refl, sym, ◌∙◌, ap}
 use Rattle.duet.specs.Script.{script_of}
 use Rattle.duet.specs.Trace.{played}
 use Rattle.messenger_cli.specs.Mechanisms.{mechanism_of}
 use Rattle.dr_ports.proofs.Told.{appended-none}
-use Rattle.messenger_cli.proofs.Traces.{is_trace, has_no_pair}
+use Rattle.messenger_cli.proofs.Traces.{cut_short, has_no_pair, is_trace}
 use Rattle.messenger_cli.proofs.playing.work.Goals as goal
 
 pub returns-in-Ok-play_named-clause-ended : goal.returns-in-Ok-play_named-clause-ended
@@ -42,4 +42,19 @@ returns-in-Err-NoPair-clause-ended g c =
       reads = c.in-Ok.ensures.quiet (λ h. cc);
       wrote = none.1 ∙ appended-none _;
       quiet = c.in-Err-NoPair.ensures.quiet (λ h. cc);
+    }
+
+pub returns-in-Err-Memory-clause-ended : goal.returns-in-Err-Memory-clause-ended
+returns-in-Err-Memory-clause-ended g c =
+    let fits : length c.in-Ok.text.items ≤ 65536 = omega (arith, ap length c.as_slice.ensures.value, c.as_slice.ensures.len, c.in-Ok.ensures.fits) in
+    let short = cut_short _ _ _ (played (mechanism_of c.in-Ok-parse.script.kem) c.in-Ok-parse.script) _
+    (λ pairs. is_trace _ _ _ c.in-Ok.ensures.whole fits (ap script_of (sym c.as_slice.ensures.value) ∙ c.in-Ok-parse.ensures.ok) pairs)
+    (c.in-Err-Memory.ensures.memory (search rules)) in
+    record {
+      lines = short.lines;
+      reason = short.reason;
+      leaves = inr c.in-Ok.ensures.drained;
+      reads = c.in-Ok.ensures.quiet (λ h. cc);
+      wrote = short.wrote;
+      quiet = c.in-Err-Memory.ensures.quiet (λ h. cc);
     }

@@ -1,0 +1,236 @@
+-- What an act comes to on a disk that stops in it.
+use Rattle.std.proofs.Common.{Bool, Err, List, None, Ok, Option, Result, Some, ap, arith, false, if◌then◌else◌, length, refl, subst, sym, true, ℕ, ◌+◌, ◌-◌, ◌<◌, ◌∙◌, ◌≡◌, ◌≤◌}
+use Rattle.std.specs.Prelude.{IfSome, is_some, nat_le}
+use Rattle.std.proofs.lemmas.Bool.{cond-false, cond-true}
+use Rattle.std.proofs.lemmas.Bool.Decides.{nat_tests}
+use Rattle.boxes.specs.Items.{Item}
+use Rattle.dr_base.specs.declared.key.Key32.{Key32}
+use Rattle.dr_disk.specs.MemoryDisks.{IsLeftBy, going_on, state_of, stopped_after}
+use Rattle.dr_disk.specs.MemoryLaws.{memory_lawful}
+use Rattle.dr_disk.specs.Spans.{Gone}
+use Rattle.dr_disk.specs.State.{DiskState, IsLawful, some_pass}
+use Rattle.dr_disk.specs.declared.call.Call.{Call}
+use Rattle.dr_disk.specs.declared.call.Mode.{Mode}
+use Rattle.dr_disk.specs.declared.memory.MemoryDisk.{MemoryDisk}
+use Rattle.dr_model.specs.Machines.Acts.{finished_by, said_by, sent_by, taken_by}
+use Rattle.dr_model.specs.Machines.Steps.{Step, cut_step, has_effect, settled, step}
+use Rattle.kem_laws.specs.Mechanism.{IsLawfulMechanism, Mechanism}
+use Rattle.ratchet.specs.Seen.{seed_bytes}
+use Rattle.session_model.specs.Clients.{Client, SaidText, TakenPacket, dropped_of, say_on, take_on}
+use Rattle.session_model.specs.declared.answer.Answer.{Answer}
+use Rattle.session_model.specs.declared.answer.Answer.TheVariants.{Done as AnsweredDone, Opened, Refused, Said, Sent as AnsweredSent, Stopped}
+use Rattle.session_model.specs.declared.answer.Refusal.{Refusal}
+use Rattle.session_record.specs.Lawful.{IsLawfulClient}
+use Rattle.session_record.specs.Record.{record_text}
+use Rattle.slot_store.specs.Slots.{recovered}
+use Rattle.slot_store.specs.Stops.{took}
+use Rattle.slot_store.specs.Store.{IsWithin}
+use Rattle.slot_store.specs.declared.store.SlotStore.{SlotStore}
+use Rattle.client.specs.Clients.{ClientNow, IsReady, client_area}
+use Rattle.client.specs.Outcomes.{Acts, IsCutOff, IsDone, IsEffected, Outcome, acknowledged, faulted, is_closed, refused, undrawn}
+use Rattle.client.proofs.LawfulActs.{done_lawful, say_lawful, sent_lawful, take_lawful}
+use Rattle.duet.specs.Acts.{IsChecked, IsEnded, made_by}
+use Rattle.duet.specs.Parties.{HasRecord, IsHeld}
+use Rattle.duet.specs.Stops.{stopped_step, takes_effect}
+use Rattle.duet.proofs.StoppedSides.{idle_stopped}
+use Rattle.duet.specs.declared.acts.Act.{Act}
+use Rattle.duet.specs.declared.acts.Act.TheVariants.{Done, Say, Sent, Take}
+
+-- how a call ends on a client that was open
+pub is_ended : {X : Type 0} (state : X → DiskState) (made : Result (Step Client) Refusal) (old new : ClientNow) (start now : X)
+    (outcome : Outcome) → old.closed ≡ None → Acts state made old new start now outcome → IsEnded outcome
+is_ended state made old new start now (is_closed call) unclosed acts =
+    absurd (let e : Some call ≡ None = sym acts.0 ∙ unclosed in cc)
+is_ended state made old new start now (refused refusal) unclosed acts = tt
+is_ended state made old new start now undrawn unclosed acts = acts
+is_ended state made old new start now (acknowledged answer) unclosed acts = tt
+is_ended state made old new start now (faulted call) unclosed acts = tt
+
+-- ---- the step
+
+-- enough calls pass
+enough : (n : ℕ) (mode : Mode) (before : Client) (made : Step Client) → 8 ≤ n → stopped_step n mode before made ≡ made
+unfolding stopped_step
+enough n mode before made many = cond-true (nat_le 8 n) made _ (grind (arith, nat_tests))
+
+-- the step is cut off
+cut : (n : ℕ) (mode : Mode) (before : Client) (made : Step Client) → has_effect made.answer ≡ true → n < 8
+    → stopped_step n mode before made ≡ step Stopped (if takes_effect n mode then made.next else before)
+unfolding stopped_step
+cut n mode before made effect few =
+    cond-false (nat_le 8 n) made _ (grind (arith, nat_tests)) ∙ cond-true (has_effect made.answer) _ made effect
+
+-- ---- the disk
+
+-- the count of a disk is told while it has a stop
+abbrev pub IsCounted : DiskState → Type 0
+IsCounted disk = (j : ℕ) → disk.fate ≡ some_pass j → (m : ℕ) × (disk.passed ≡ Some m)
+
+lawful_disk : (d : MemoryDisk) → IsLawful (state_of d)
+lawful_disk d =
+    memory_lawful d.platter.bytes.items d.platter.durable.items d.platter.asked.items d.platter.marks.items d.meter.stop
+    d.meter.passed (record { reads = d.reads; writes = d.writes; syncs = d.syncs }) d.platter.agrees d.platter.asks
+    d.platter.one_mark_each
+
+pub ready_stopped : (n : ℕ) (client : Client) (store : SlotStore) (disk : MemoryDisk) → IsReady client store (state_of disk)
+    → IsReady client store (state_of (stopped_after n disk))
+ready_stopped n client store disk ready =
+    record { area = ready.area; within = ready.within; holds = ready.holds; rests = ready.rests }
+
+held_going : (client : ClientNow) (disk : MemoryDisk) → client.closed ≡ None → IsReady client.kept client.store (state_of disk)
+    → IsHeld client (going_on disk)
+held_going client disk unclosed ready = record {
+  is_open = unclosed;
+  ready = record { area = ready.area; within = ready.within; holds = ready.holds; rests = ready.rests };
+  passes = refl;
+}
+
+-- ---- an act
+
+module _ (n : ℕ) (mode : Mode) (made : Result (Step Client) Refusal) (old new : ClientNow) (disk now : MemoryDisk)
+    (held : IsHeld old disk) where
+  abbrev Comes : Answer → Type 0
+  Comes answer =
+      (step answer new.kept ≡ stopped_step n mode old.kept (settled old.kept made)) × IsHeld new (going_on now)
+
+  stays : new ≡ old → now ≡ stopped_after n disk → IsHeld new (going_on now)
+  stays same still =
+      subst (λ (d : MemoryDisk). IsHeld new (going_on d)) (sym still)
+      (subst (λ (c : ClientNow). IsHeld c (going_on (stopped_after n disk))) (sym same)
+      (held_going old (stopped_after n disk) held.is_open (ready_stopped n old.kept old.store disk held.ready)))
+
+  -- so many calls passed where the record was replaced
+  many : (answer : Answer) → IsDone made old new (state_of (stopped_after n disk)) (state_of now) answer → IsCounted (state_of now) → 8 ≤ n
+  many answer done told =
+      let gone = done.disk.any_moment.fates n refl in
+      let m = told gone.left gone.fate in
+      let passed = done.disk.passed m.0 m.1 in
+      let none : passed.0 ≡ 0 = let e : Some passed.0 ≡ Some 0 = sym passed.1 in cc in
+      omega (arith, none, passed.2, gone.counted passed.0 m.0 passed.1 m.1)
+
+  effected : (answer : Answer) (b : Bool) → has_effect answer ≡ b
+      → IsEffected state_of b made old new (stopped_after n disk) now answer → IsCounted (state_of now) → Comes answer
+  effected answer true effect done told = (
+    sym (ap (λ r. stopped_step n mode old.kept (settled old.kept r)) done.made_is
+        ∙ enough n mode old.kept (step answer new.kept) (many answer done told)),
+    held_going new now done.stays_open done.disk.ready,
+  )
+  effected answer false effect idle told = (
+    sym (ap (λ r. stopped_step n mode old.kept (settled old.kept r)) idle.0
+        ∙ idle_stopped n mode old.kept (step answer new.kept) effect),
+    stays idle.2 idle.3,
+  )
+
+  pub acknowledged_comes : (answer : Answer) → Acts state_of made old new (stopped_after n disk) now (acknowledged answer)
+      → IsCounted (state_of now) → Comes answer
+  acknowledged_comes answer acts told = effected answer (has_effect answer) refl acts told
+
+  pub refused_comes : (refusal : Refusal) → Acts state_of made old new (stopped_after n disk) now (refused refusal)
+      → Comes (Refused refusal)
+  refused_comes refusal acts = (
+    ap (λ (c : ClientNow). step (Refused refusal) c.kept) acts.2
+        ∙ sym (ap (λ r. stopped_step n mode old.kept (settled old.kept r)) acts.1
+        ∙ idle_stopped n mode old.kept (step (Refused refusal) old.kept) refl),
+    stays acts.2 acts.3,
+  )
+
+  -- how many calls passed where one failed
+  passed_all : (call : Call) (c : IsCutOff made old new (state_of (stopped_after n disk)) (state_of now) call)
+      → IsCounted (state_of now) → ((state_of now).passed ≡ Some n) × (n < 8)
+  passed_all call c told =
+      let gone = c.disk.any_moment.fates n refl in
+      let over = c.disk.ended n refl in
+      let none : gone.left ≡ 0 = let e : some_pass gone.left ≡ some_pass 0 = sym gone.fate ∙ over in cc in
+      let m = told 0 over in
+      let all : m.0 ≡ n = omega (arith, none, gone.counted 0 m.0 refl m.1) in
+      (m.1 ∙ ap Some all, omega (arith, all, c.disk.few 0 m.0 refl m.1))
+
+  -- what the client kept, or what it would have kept
+  abbrev pub Left : (call : Call) → IsCutOff made old new (state_of (stopped_after n disk)) (state_of now) call → Client
+  Left call c = if takes_effect n mode then c.next.next else old.kept
+
+  chosen : (b : Bool) (a z : Client) → (if b then Some (record_text a) else Some (record_text z)) ≡ Some (record_text (if b then a else z))
+  chosen true a z = refl
+  chosen false a z = refl
+
+  -- and that its record stands where the disk has crashed
+  pub cut_record : (call : Call) (c : IsCutOff made old new (state_of (stopped_after n disk)) (state_of now) call) (left : MemoryDisk)
+      → IsCounted (state_of now) → IsLeftBy mode (state_of now) (state_of left) → HasRecord (Left call c) (state_of left)
+  unfolding took
+  cut_record call c left told by = λ s seen.
+      let passed = (passed_all call c told).0 in
+      let same : by.bytes ≡ s = let e : Some by.bytes ≡ Some s = sym by.fresh.seen ∙ seen in cc in
+      let off : n - 0 ≡ n = omega arith in
+      ap (recovered client_area) (sym same) ∙ c.disk.stopped.crash 0 n mode by.bytes refl passed by.left
+      ∙ ap (λ j. if took (Some (record_text old.kept)) (Some (record_text c.next.next)) j mode then Some (record_text c.next.next)
+      else Some (record_text old.kept)) off
+      ∙ chosen (takes_effect n mode) c.next.next old.kept
+
+  pub cut_comes : (call : Call) (c : IsCutOff made old new (state_of (stopped_after n disk)) (state_of now) call)
+      → IsCounted (state_of now) → step Stopped (Left call c) ≡ stopped_step n mode old.kept (settled old.kept made)
+  cut_comes call c told =
+      sym (ap (λ r. stopped_step n mode old.kept (settled old.kept r)) c.made_is
+      ∙ cut n mode old.kept c.next c.effect (passed_all call c told).1)
+
+  pub cut_within : (call : Call) (c : IsCutOff made old new (state_of (stopped_after n disk)) (state_of now) call) (left : MemoryDisk)
+      → IsLeftBy mode (state_of now) (state_of left) → IsWithin client_area (state_of left)
+  cut_within call c left by =
+      let lawful = lawful_disk now in
+      let long = lawful.sized by.bytes (lawful.leaves_now mode by.bytes by.left) in
+      omega (arith, held.ready.within, by.fresh.size, long, c.disk.any_moment.size)
+
+-- ---- lawful clients
+
+said_keeps : (k : Mechanism) (r : Result SaidText Refusal) (next : Step Client)
+    → ((said : SaidText) → r ≡ Ok said → IsLawfulClient k said.next) → said_by r ≡ Ok next → IsLawfulClient k next.next
+said_keeps k (Err refusal) next each is = absurd (cc is)
+said_keeps k (Ok said) next each is =
+    let same : step (Said said.post.position) said.next ≡ next = cc in
+    subst (λ (made : Step Client). IsLawfulClient k made.next) same (each said refl)
+
+taken_keeps : (k : Mechanism) (r : Result TakenPacket Refusal) (next : Step Client)
+    → ((taken : TakenPacket) → r ≡ Ok taken → IsLawfulClient k taken.next) → taken_by r ≡ Ok next → IsLawfulClient k next.next
+taken_keeps k (Err refusal) next each is = absurd (cc is)
+taken_keeps k (Ok taken) next each is =
+    let same : step (Opened taken.position) taken.next ≡ next = cc in
+    subst (λ (made : Step Client). IsLawfulClient k made.next) same (each taken refl)
+
+sent_keeps : (k : Mechanism) (c : Client) (n : ℕ) (r : Result (List Item) Refusal) (next : Step Client)
+    → ((outbox : List Item) → r ≡ Ok outbox → IsLawfulClient k (record c { outbox = outbox })) → sent_by c n r ≡ Ok next
+    → IsLawfulClient k next.next
+sent_keeps k c n (Err refusal) next each is = absurd (cc is)
+sent_keeps k c n (Ok outbox) next each is =
+    let same : step (AnsweredSent n) (record c { outbox = outbox }) ≡ next = cc in
+    subst (λ (made : Step Client). IsLawfulClient k made.next) same (each outbox refl)
+
+done_keeps : (k : Mechanism) (c : Client) (n : ℕ) (r : Result (List Item) Refusal) (next : Step Client)
+    → ((inbox : List Item) → r ≡ Ok inbox → IsLawfulClient k (record c { inbox = inbox })) → finished_by c n r ≡ Ok next
+    → IsLawfulClient k next.next
+done_keeps k c n (Err refusal) next each is = absurd (cc is)
+done_keeps k c n (Ok inbox) next each is =
+    let same : step (AnsweredDone n) (record c { inbox = inbox }) ≡ next = cc in
+    subst (λ (made : Step Client). IsLawfulClient k made.next) same (each inbox refl)
+
+seed_whole : (seed : Option Key32) → IfSome seed (λ key. length key.bytes ≡ 32) → is_some seed ≡ true
+    → length (seed_bytes seed) ≡ 32
+seed_whole None long needs = absurd (let e : false ≡ true = needs in cc)
+seed_whole (Some key) long needs = long
+
+-- what an act makes of a lawful client is lawful
+pub made_lawful : (k : Mechanism) (c : Client) (act : Act) (next : Step Client) → IsLawfulMechanism k → IsLawfulClient k c
+    → IsChecked c act → made_by k c act ≡ Ok next → IsLawfulClient k next.next
+made_lawful k c (Say text seed) next law l checked is =
+    said_keeps k (say_on k c text.now (seed_bytes seed)) next
+    (λ said gives. say_lawful k c text.now (seed_bytes seed) (is_some seed) said law l checked.0 (seed_whole seed checked.1) gives) is
+made_lawful k c (Take bytes) next law l small is =
+    taken_keeps k (take_on k c bytes.now) next (λ taken gives. take_lawful k c bytes.now taken l small gives) is
+made_lawful k c (Sent n) next law l checked is =
+    sent_keeps k c n (dropped_of n c.outbox) next (λ outbox gives. sent_lawful k c n outbox l gives) is
+made_lawful k c (Done n) next law l checked is =
+    done_keeps k c n (dropped_of n c.inbox) next (λ inbox gives. done_lawful k c n inbox l gives) is
+
+-- whichever is left
+pub left_lawful : (k : Mechanism) (b : Bool) (a z : Client) → IsLawfulClient k a → IsLawfulClient k z
+    → IsLawfulClient k (if b then a else z)
+left_lawful k true a z first second = first
+left_lawful k false a z first second = second

@@ -1,0 +1,26 @@
+-- What a line says that may stop the disk of its side.
+use Rattle.dr_model.specs.Machines.Events.{Event, drops_done, drops_sent, says, takes, takes_nth}
+use Rattle.session_model.specs.declared.answer.Amount.TheVariants.{Exactly}
+use Rattle.duet.specs.Seen.{event_of}
+use Rattle.duet.specs.Stops.{stopped}
+use Rattle.duet.specs.declared.script.lined.Lined.{Lined}
+use Rattle.duet.specs.declared.script.lined.Lined.TheVariants.{Plain, Stopping}
+use Rattle.duet.specs.declared.script.lined.Stop.{Stop}
+use Rattle.duet.specs.declared.script.lined.StoppedCall.{StoppedCall}
+use Rattle.duet.specs.declared.script.lined.StoppedCall.TheVariants.{Done, Say, Sent, Take, TakeNth}
+
+-- a call that the disk lets pass
+abbrev pub call_event : StoppedCall → Event
+call_event (Say side text) = says side text.now
+call_event (Take side p) = takes side p
+call_event (TakeNth side nth) = takes_nth side nth
+call_event (Sent side n) = drops_sent side (Exactly n)
+call_event (Done side n) = drops_done side (Exactly n)
+
+-- and one in which it stops
+abbrev pub stop_event : Stop → Event
+stop_event stop = stopped stop.after stop.mode (call_event stop.call)
+
+abbrev pub lined_event : Lined → Event
+lined_event (Plain line) = event_of line
+lined_event (Stopping stop) = stop_event stop

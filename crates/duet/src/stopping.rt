@@ -1,0 +1,73 @@
+//! A side whose disk stops in an act.
+
+ghost use Rattle.std.specs.Prelude.{◌≡◌, IfOk};
+ghost use Rattle.dr_disk.specs.MemoryDisks.{state_of};
+ghost use Rattle.dr_disk.specs.State.{Fate};
+ghost use Rattle.dr_model.specs.Machines.Steps.{settled, step};
+ghost use Rattle.session_model.specs.Clients.{Client as Keeping};
+ghost use Rattle.session_record.specs.Lawful.{IsLawfulClient};
+ghost use Rattle.slot_store.specs.Store.{IsWithin};
+ghost use Rattle.client.specs.Clients.{client_area};
+ghost use Rattle.duet.specs.Acts.{IsChecked, made_by};
+ghost use Rattle.duet.specs.Parties.{HasRecord};
+ghost use Rattle.duet.specs.Stops.{stopped_step};
+
+use crate::acts::{Act, Ended, perform};
+use crate::party::Party;
+use client::Client;
+use dr_disk::{MemoryDisk, Mode};
+use kem_laws::{Kem, laws};
+use session_model::Answer;
+use session_record::record_law;
+use std::alloc::{AllocError, Global};
+
+/// The side whose record a disk has, all of whose calls pass.
+fn reopened<K: Kem>(alloc: Global, disk: MemoryDisk) -> Result<Party<K>, AllocError>
+    requires within { IsWithin client_area (state_of disk) }
+    requires passes { (state_of disk).fate ≡ Fate.all_pass }
+    ensures { IfOk result (λ p. (kept : Keeping) → IsLawfulClient K.mechanism kept → HasRecord kept (state_of disk) → p ≡ kept) }
+{
+    record_law();
+    let mut disk = disk;
+    match Client::open(alloc, &mut disk) {
+        Ok(client) => Ok(Party { client, disk }),
+        Err(_) => Err(AllocError),
+    }
+}
+
+impl<K: Kem> Party<K> {
+    /// Does an act on a disk that stops once so many writes and syncs have passed. Where that cuts the act off, the disk
+    /// crashes in this way, and the client is opened from what is left.
+    pub fn stopped(
+        self,
+        alloc: Global,
+        after: u32,
+        mode: Mode,
+        act: Act<'_>,
+    ) -> Result<(Self, Answer), AllocError>
+        requires { IsChecked self act }
+        ensures { IfOk result (λ pair. step pair.1 pair.0 ≡ stopped_step after mode self (settled self (made_by K.mechanism self act.entry))) }
+    {
+        laws::<K>();
+        let Party {
+            mut client,
+            mut disk,
+        } = self;
+        client.lawful();
+        disk.stop_after(after);
+        match perform(&mut client, &mut disk, act) {
+            Ended::Acknowledged(answer) => {
+                disk.go_on();
+                Ok((Party { client, disk }, answer))
+            }
+            Ended::Refused(refusal) => {
+                disk.go_on();
+                Ok((Party { client, disk }, Answer::Refused(refusal)))
+            }
+            Ended::Faulted(_) => match reopened(alloc, disk.crash(mode)) {
+                Ok(party) => Ok((party, Answer::Stopped)),
+                Err(AllocError) => Err(AllocError),
+            },
+        }
+    }
+}
