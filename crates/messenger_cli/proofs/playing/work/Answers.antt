@@ -44,17 +44,17 @@ returns-in-Err-NoPair-clause-ended g c =
       quiet = c.in-Err-NoPair.ensures.quiet (λ h. cc);
     }
 
-pub returns-in-Err-Memory-clause-ended : goal.returns-in-Err-Memory-clause-ended
-returns-in-Err-Memory-clause-ended g c =
+pub returns-in-Err-Memory-play_named-clause-ended : goal.returns-in-Err-Memory-play_named-clause-ended
+returns-in-Err-Memory-play_named-clause-ended g c =
     let fits : length c.in-Ok.text.items ≤ 65536 = omega (arith, ap length c.as_slice.ensures.value, c.as_slice.ensures.len, c.in-Ok.ensures.fits) in
     let short = cut_short _ _ _ (played (mechanism_of c.in-Ok-parse.script.kem) c.in-Ok-parse.script) _
     (λ pairs. is_trace _ _ _ c.in-Ok.ensures.whole fits (ap script_of (sym c.as_slice.ensures.value) ∙ c.in-Ok-parse.ensures.ok) pairs)
-    (c.in-Err-Memory.ensures.memory (search rules)) in
+    (c.in-Err-Memory-play_named.ensures.memory (search rules)) in
     record {
       lines = short.lines;
       reason = short.reason;
       leaves = inr c.in-Ok.ensures.drained;
       reads = c.in-Ok.ensures.quiet (λ h. cc);
       wrote = short.wrote;
-      quiet = c.in-Err-Memory.ensures.quiet (λ h. cc);
+      quiet = c.in-Err-Memory-play_named.ensures.quiet (λ h. cc);
     }
