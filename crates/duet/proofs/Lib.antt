@@ -18,3 +18,4 @@ pub mod Splitting
 pub mod StoppedActs
 pub mod StoppedSides
 pub mod Trace
+pub mod Meets

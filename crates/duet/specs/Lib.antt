@@ -15,3 +15,4 @@ pub mod Held
 pub mod Parties
 pub mod Stops
 pub mod Acts
+pub mod Meetings

@@ -2,6 +2,7 @@
 #![tactic(auto)]
 
 pub use laws::{lines_print_back, played_is_the_trace};
+pub use meeting::meet;
 pub use playing::{PlayError, play};
 pub use script::{KemName, Line, Lined, Lines, Script, ScriptError, Stop, StoppedCall};
 pub use summary::{SummaryText, summary_lines};
@@ -14,6 +15,7 @@ mod draws;
 mod given;
 mod hexed;
 mod laws;
+mod meeting;
 mod network;
 mod party;
 mod playing;
