@@ -6,3 +6,4 @@ pub mod Rising
 pub mod BoxGrammar
 pub mod TakenBoxes
 pub mod Lawfully
+pub mod Served

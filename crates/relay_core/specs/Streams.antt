@@ -1,5 +1,5 @@
 -- What a relay replies to a stream, in whatever pieces it comes; and what of it concerns one box.
-use Rattle.std.specs.Prelude.{◌≡◌, ℕ, zero, suc, ◌==◌, Bool, false, List, [], ◌∷◌, map, drop, flat_map, Result, Ok, Err, if◌then◌else◌}
+use Rattle.std.specs.Prelude.{◌≡◌, ℕ, zero, suc, ◌==◌, Bool, false, List, [], ◌∷◌, ◌++◌, map, drop, flat_map, Result, Ok, Err, if◌then◌else◌}
 use Rattle.std.specs.Str.{bytes_eq}
 use Rattle.relay_core.specs.declared.limits.TheConstants.{EXCHANGE_LIMIT}
 use Rattle.relay_core.specs.Boxes.{Box, answers_read, box_of}
@@ -23,6 +23,18 @@ nothing_served boxes = record { exchanges = []; next = boxes }
 
 abbrev pub and_then : Exchange → Served → Served
 and_then exchange served = record { exchanges = exchange ∷ served.exchanges; next = served.next }
+
+-- these exchanges, and then more
+abbrev pub prepend : List Exchange → Served → Served
+prepend exchanges more = record { exchanges = exchanges ++ more.exchanges; next = more.next }
+
+-- what a frame asks, and the reply
+abbrev pub exchange_of : List Box → List ℕ → Exchange
+exchange_of boxes frame = record { asked = read_request (drop 2 frame); reply = (answers_read boxes (read_request (drop 2 frame))).reply }
+
+-- the boxes then
+abbrev pub boxes_after : List Box → List ℕ → List Box
+boxes_after boxes frame = (answers_read boxes (read_request (drop 2 frame))).next
 
 -- behind a frame of no lawful length nothing is answered
 abbrev pub is_last : Result Asked ℕ → Bool

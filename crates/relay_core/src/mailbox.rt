@@ -2,6 +2,7 @@
 
 ghost use Rattle.std.specs.Prelude.{◌≡◌, ◌^◌, ◌<◌, ◌==◌, not, filter, vec_capacity, IfOk};
 ghost use Rattle.relay_core.specs.Boxes.{answer_of, empty_box, has_number, is_full, oldest, without};
+ghost use Rattle.relay_core.specs.Lawful.{IsLawfulBox};
 ghost use Rattle.relay_wire.specs.Requests.{posts, acks};
 ghost use Rattle.relay_wire.specs.Seen.{asking_of, replied_of};
 
@@ -90,6 +91,13 @@ impl Mailbox {
             last: 0,
             packets,
         })
+    }
+
+    /// What it has is lawful. It has no code: a caller that needs this calls it.
+    pub(crate) fn lawful(&self)
+        ensures { IsLawfulBox self.now }
+    {
+        let _name = &self.name;
     }
 
     /// Its name.

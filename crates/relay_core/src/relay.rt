@@ -1,7 +1,8 @@
 //! All boxes of a relay.
 
-ghost use Rattle.std.specs.Prelude.{◌≡◌, map, IfOk};
+ghost use Rattle.std.specs.Prelude.{◌≡◌, map, All, IfOk};
 ghost use Rattle.relay_core.specs.Boxes.{IsPlaced, answers_of, empty_box};
+ghost use Rattle.relay_core.specs.Lawful.{IsLawfulBox};
 ghost use Rattle.relay_wire.specs.Seen.{replied_of};
 
 use crate::mailbox::Mailbox;
@@ -36,6 +37,15 @@ impl Relay {
             boxes.push(Mailbox::new(alloc, name.copied())?)?;
         }
         Ok(Relay { boxes })
+    }
+
+    /// Its boxes are lawful. A caller that needs this calls it.
+    pub fn lawful(&self)
+        ensures { All IsLawfulBox self.now }
+    {
+        for mailbox in &self.boxes {
+            mailbox.lawful();
+        }
     }
 
     /// The place of the first box of a name.

@@ -1,17 +1,17 @@
 -- What a link has brought, by what it tells.
 use Rattle.std.proofs.Common.{◌≡◌, ◌⊎◌, ℕ, ◌<◌, ◌≤◌, List, [], ◌++◌, length, take, drop, Option, Some, None, sym, ◌∙◌, ap, ap₂, subst, arith}
 use Rattle.std.specs.Prelude.{flat_map}
+use Rattle.std.proofs.lemmas.List.Concat.{flat_map-append}
 use Rattle.std.proofs.lemmas.List.{take-append-drop, take-append-le}
 use Rattle.dr_ports.specs.Wires.{Told}
 use Rattle.relay_core.specs.Boxes.{Box}
 use Rattle.relay_core.specs.Streams.{Served, served, reply_bytes, reply_frame}
 use Rattle.relay_core.specs.declared.limits.TheConstants.{EXCHANGE_LIMIT}
 use Rattle.relay_pipe.specs.Exchanging.{Exchanges}
-use Rattle.sync_model.proofs.Staging.{flat_map_append}
+use Rattle.relay_core.proofs.Served.{none_answered}
 use Rattle.relay_link.specs.Bringing.{IsBrought}
 use Rattle.relay_link.specs.Connections.{Behind, Connection, IsLawful, behind_of, coming_of, connected, exchanges_of, port_of}
 use Rattle.relay_link.specs.declared.limits.TheConstants.{SENT_LIMIT}
-use Rattle.relay_link.proofs.Connections.{none_answered}
 
 abbrev sent_of : Option Told → List ℕ
 sent_of None = []
@@ -22,7 +22,7 @@ received_of None = []
 received_of (Some t) = t.now.received
 
 -- before the first byte the boxes are those that it began with
-same_boxes : (boxes : List Box) → (served boxes []).next ≡ boxes
+pub same_boxes : (boxes : List Box) → (served boxes []).next ≡ boxes
 unfolding served
 same_boxes boxes = ap (λ (s : Served). s.next) (none_answered EXCHANGE_LIMIT boxes [] (omega arith))
 
@@ -49,7 +49,7 @@ module _ (boxes : List Box) (kept : ℕ) (got put : List ℕ) (now : Connection)
   all_are : reply_bytes (served now.start now.sent) ≡ coming_of now ++ flat_map reply_frame (drop now.kept (exchanges_of now))
   all_are =
       ap (flat_map reply_frame) (sym (take-append-drop now.kept (exchanges_of now)))
-      ∙ flat_map_append (take now.kept (exchanges_of now)) (drop now.kept (exchanges_of now))
+      ∙ flat_map-append reply_frame (take now.kept (exchanges_of now)) (drop now.kept (exchanges_of now))
 
   got_is : got ≡ take now.at (coming_of now)
   got_is = sym received ∙ ap (take now.at) all_are ∙ take-append-le now.at (coming_of now) _ lawful.received

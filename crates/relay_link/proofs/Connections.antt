@@ -2,31 +2,20 @@
 use Rattle.std.proofs.Common.{◌≡◌, ◌⊎◌, ℕ, zero, suc, ◌+◌, ◌<◌, ◌≤◌, List, [], ◌++◌, length, take, drop, Some, refl, sym, ◌∙◌, ap, subst, arith, append-nil}
 use Rattle.std.specs.Prelude.{flat_map}
 use Rattle.std.proofs.Math.Seq.{take-add}
+use Rattle.std.proofs.lemmas.List.Concat.{flat_map-append}
 use Rattle.std.proofs.lemmas.List.{drop-append-le, length-drop, length-take-le, take-append-drop, take-append-le, take_all}
 use Rattle.dr_ports.specs.Wires.{Gave, IsAtEnd}
 use Rattle.dr_ports.specs.MemoryWires.{nothing_comes}
 use Rattle.relay_core.specs.Boxes.{Box}
-use Rattle.relay_core.specs.Streams.{Exchange, Served, served, served_within, reply_bytes, reply_frame}
+use Rattle.relay_core.specs.Streams.{Exchange, Served, prepend, reply_bytes, reply_frame, served, served_within}
 use Rattle.relay_core.specs.declared.limits.TheConstants.{EXCHANGE_LIMIT}
 use Rattle.relay_wire.specs.Frames.{IsPartial, frames_of}
 use Rattle.relay_wire.proofs.Splitting.{only}
-use Rattle.sync_model.proofs.Staging.{flat_map_append}
+use Rattle.relay_core.proofs.Served.{none_answered}
 use Rattle.relay_link.specs.Connections.{Connection, HasLost, boxes_of, connected, exchanges_of, port_of, wire_of}
 use Rattle.relay_link.specs.Desks.{DeskNow, fresh}
-use Rattle.relay_link.specs.Serving.{IsServing, prepend}
+use Rattle.relay_link.specs.Serving.{IsServing}
 use Rattle.relay_link.specs.declared.limits.TheConstants.{REPLY_LIMIT, SENT_LIMIT}
-
--- ---- less than a frame isn't answered
-
-pub no_frames : (rest : List ℕ) → IsPartial rest → frames_of rest ≡ []
-no_frames rest partial = only rest [] rest (record { whole = refl; each = tt; partial = partial })
-
-pub served_nothing : (n : ℕ) (boxes : List Box) → served_within n boxes [] ≡ record { exchanges = []; next = boxes }
-served_nothing zero boxes = refl
-served_nothing (suc n) boxes = refl
-
-pub none_answered : (n : ℕ) (boxes : List Box) (held : List ℕ) → IsPartial held → served_within n boxes (frames_of held) ≡ record { exchanges = []; next = boxes }
-none_answered n boxes held partial = ap (served_within n boxes) (no_frames held partial) ∙ served_nothing n boxes
 
 take_none : {X : Type 0} (n : ℕ) → take {A = X} n [] ≡ []
 take_none zero = refl
@@ -91,7 +80,7 @@ module _ (c : Connection) (desk : DeskNow) (held : List ℕ) (is : IsServing c d
   -- all replies begin with those that come
   all_are : reply_bytes (served c.start c.sent) ≡ desk.replies ++ flat_map reply_frame (drop c.kept (exchanges_of c))
   all_are =
-      ap (flat_map reply_frame) (sym (take-append-drop c.kept (exchanges_of c))) ∙ flat_map_append (take c.kept (exchanges_of c)) (drop c.kept (exchanges_of c))
+      ap (flat_map reply_frame) (sym (take-append-drop c.kept (exchanges_of c))) ∙ flat_map-append reply_frame (take c.kept (exchanges_of c)) (drop c.kept (exchanges_of c))
       ∙ ap (λ (b : List ℕ). b ++ flat_map reply_frame (drop c.kept (exchanges_of c))) (sym is.replies)
 
   -- ---- a receive

@@ -2,6 +2,7 @@
 use Rattle.std.proofs.Common.{◌≡◌, ◌⊎◌, inl, inr, ℕ, ◌<◌, ◌≤◌, List, [], ◌∷◌, ◌++◌, length, take, drop, Some, Err, refl, sym, ◌∙◌, ap, subst, arith, append_assoc, append-nil, map}
 use Rattle.std.specs.Prelude.{flat_map}
 use Rattle.std.specs.List.{AllByRecursion}
+use Rattle.std.proofs.lemmas.List.Concat.{flat_map-append}
 use Rattle.std.proofs.lemmas.List.{length-append, length-map, take-append-drop, take_all}
 use Rattle.dr_ports.specs.Wires.{IsAtEnd}
 use Rattle.relay_wire.specs.Frames.{IsFrame, IsPartial}
@@ -14,13 +15,14 @@ use Rattle.relay_core.specs.Streams.{Exchange, Served, served, reply_frame, repl
 use Rattle.relay_core.specs.declared.limits.TheConstants.{EXCHANGE_LIMIT}
 use Rattle.sync_model.specs.Parties.{Party}
 use Rattle.sync_model.specs.Moves.{Ending, Wait, asked_in, over}
-use Rattle.sync_model.specs.Courses.{Course, as_list, course_of, made_requests}
+use Rattle.sync_model.specs.Courses.{Course, all_lines, as_list, awaited, course_of, made_requests}
 use Rattle.sync_model.specs.Carried.{IsCarried, relay_replies, replied_bytes, request_bytes, request_frame}
 use Rattle.sync_model.specs.Scenes.{IsDone, IsPlayed, scene}
+use Rattle.sync_model.proofs.Growing.{Begins}
 use Rattle.sync_model.proofs.Pending.{not_cut, not_unread, pending}
 use Rattle.sync_model.proofs.Reading.{bytes_last}
 use Rattle.sync_model.proofs.Replying.{replies_count, replies_lawful, request_frames}
-use Rattle.sync_model.proofs.Staging.{flat_map_append, made_few, no_more, replies_of, reply_of, staged, within}
+use Rattle.sync_model.proofs.Staging.{comes_first, made_few, no_more, replies_of, reply_of, shown, staged, within}
 use Rattle.relay_link.specs.Connections.{Connection, wire_of}
 use Rattle.relay_link.specs.Playing.{IsSynced, synced}
 use Rattle.relay_link.specs.declared.limits.TheConstants.{SENT_LIMIT}
@@ -73,7 +75,7 @@ module _ {S : Type 0} (p : Party S) (kept : ℕ) (s : S) (boxes : List Box) (rep
             more = rest ++ (is.brought.more ++ lost);
             carried =
                 sym (append_assoc (replied_bytes replies) rest (is.brought.more ++ lost)) ∙ sym (append_assoc (replied_bytes replies ++ rest) is.brought.more lost)
-                ∙ ap (λ (b : List ℕ). b ++ lost) came_whole ∙ sym (flat_map_append (take kept exs) (drop kept exs)) ∙ ap (flat_map reply_frame) (take-append-drop kept exs);
+                ∙ ap (λ (b : List ℕ). b ++ lost) came_whole ∙ sym (flat_map-append reply_frame (take kept exs) (drop kept exs)) ∙ ap (flat_map reply_frame) (take-append-drop kept exs);
           } in
           not_unread rest (is.brought.more ++ lost) bad (pending p s boxes replies carries asked (ap as_list waits)) frame reads
 
@@ -165,6 +167,27 @@ module _ {S : Type 0} (p : Party S) (kept : ℕ) (s : S) (boxes : List Box) (rep
       let none : made_requests p (course_of p s replies) ≡ requests =
       ap (λ (w : Wait). requests ++ as_list (asked_in p (course_of p s replies).state w)) is_over ∙ append-nil requests in
       plays p kept s boxes replies [] [] now is (append-nil (request_bytes requests) ∙ ap request_bytes (sym none)) (inl (ending, is_over))
+
+  -- where it has broken off otherwise, what was printed so far begins what the scene prints
+  pub shown_so : (now : Connection) → IsSynced p kept s boxes replies [] [] now
+      → Begins (all_lines p (course_of p s replies)) (all_lines p (scene p kept s boxes).course)
+  shown_so now is =
+      let course = course_of p s replies in
+      let done = course.requests in
+      let few : kept ≤ EXCHANGE_LIMIT = omega (arith, is.few) in
+      let all = comes_first kept boxes done (awaited p course) few (front_lawful done (awaited p course) is.lawful_requests) is.lawful_requests in
+      let came : replied_bytes replies ++ is.brought.more ≡ flat_map reply_frame (take kept (served boxes (request_bytes done)).exchanges) =
+      ap (λ (b : List ℕ). b ++ is.brought.more) (sym (append-nil (replied_bytes replies))) ∙ is.brought.came
+      ∙ ap (λ (b : List ℕ). flat_map reply_frame (take kept (served boxes b).exchanges)) (append-nil (request_bytes done)) in
+      shown p kept s boxes replies (record {
+        lawful_boxes = is.lawful_boxes;
+        lawful_requests = is.lawful_requests;
+        lawful_replies = is.lawful_replies;
+        few = omega (arith, is.few);
+        waited = is.waited;
+        more = is.brought.more ++ all.0;
+        came = sym (append_assoc (replied_bytes replies) is.brought.more all.0) ∙ ap (λ (b : List ℕ). b ++ all.0) came ∙ sym all.1;
+      })
 
   pub broken : (rest put : List ℕ) (now : Connection) → IsSynced p kept s boxes replies rest put now → (asked : Asked)
       → asked_in p (course_of p s replies).state (course_of p s replies).wait ≡ Some asked → (left : List ℕ) → request_frame asked ≡ put ++ left → 0 < now.faults

@@ -1,26 +1,23 @@
 -- Bytes are sent on a connection, and the frame that they end is answered.
 use Rattle.std.proofs.Common.{◌≡◌, ◌⊎◌, inl, inr, ℕ, zero, suc, ◌+◌, ◌<◌, ◌≤◌, Bool, true, false, List, [], ◌∷◌, ◌++◌, length, take, drop, Some, refl, sym, ◌∙◌, ap, ap₂, subst, arith, append_assoc, append-nil}
 use Rattle.std.specs.Prelude.{flat_map, nat_lt, if◌then◌else◌}
+use Rattle.std.proofs.lemmas.List.Concat.{flat_map-append}
 use Rattle.std.proofs.lemmas.Bool.Decides.{nat_tests}
 use Rattle.std.proofs.lemmas.List.{length-append, length_push, take-append-drop, take-append-le, take_all}
 use Rattle.dr_ports.specs.MemoryWires.{nothing_comes}
 use Rattle.dr_ports.specs.Wires.{Took}
 use Rattle.relay_core.specs.Boxes.{Box, answers_read}
-use Rattle.relay_core.specs.Streams.{Exchange, Served, and_then, is_last, nothing_served, served, served_within, reply_bytes, reply_frame}
+use Rattle.relay_core.specs.Streams.{Exchange, Served, and_then, boxes_after, exchange_of, is_last, nothing_served, prepend, served, served_within, reply_bytes, reply_frame}
 use Rattle.relay_wire.specs.Frames.{IsFrame, IsPartial, frames_of}
 use Rattle.relay_wire.specs.Requests.{read_request}
-use Rattle.sync_model.proofs.Replying.{frames_join}
-use Rattle.sync_model.proofs.Staging.{flat_map_append}
+use Rattle.relay_wire.proofs.Joining.{frames_join, no_frames}
+use Rattle.relay_core.proofs.Served.{none_answered, served_nothing}
 use Rattle.relay_link.specs.Connections.{Connection, HasLost, coming_of, exchanges_of, port_of, wire_of}
-use Rattle.relay_link.specs.Desks.{DeskNow, after_frame, exchange_of, frame_left}
-use Rattle.relay_link.specs.Serving.{IsServing, prepend}
+use Rattle.relay_link.specs.Desks.{DeskNow, after_frame, frame_left}
+use Rattle.relay_link.specs.Serving.{IsServing}
 use Rattle.relay_link.specs.declared.limits.TheConstants.{SENT_LIMIT}
-use Rattle.relay_link.proofs.Connections.{no_frames, none_answered, served_nothing}
 
 -- ---- a frame at the desk
-
-abbrev next_of : List Box → List ℕ → List Box
-next_of boxes frame = (answers_read boxes (read_request (drop 2 frame))).next
 
 -- what is answered to it
 abbrev made : DeskNow → ℕ → List ℕ → List Exchange
@@ -32,8 +29,8 @@ desk_goes : (d : DeskNow) (frame : List ℕ) (fs : List (List ℕ)) (n : ℕ) �
 desk_goes d frame fs zero is = ap (λ (m : ℕ). prepend [] (served_within m d.boxes fs)) (sym is)
 desk_goes d frame fs (suc n) is = by_last (is_last (read_request (drop 2 frame)))
   where
-    by_last : (last : Bool) → and_then (exchange_of d.boxes frame) (if last then nothing_served (next_of d.boxes frame) else served_within n (next_of d.boxes frame) fs)
-        ≡ prepend (exchange_of d.boxes frame ∷ []) (served_within (if last then 0 else n) (next_of d.boxes frame) fs)
+    by_last : (last : Bool) → and_then (exchange_of d.boxes frame) (if last then nothing_served (boxes_after d.boxes frame) else served_within n (boxes_after d.boxes frame) fs)
+        ≡ prepend (exchange_of d.boxes frame ∷ []) (served_within (if last then 0 else n) (boxes_after d.boxes frame) fs)
     by_last true = refl
     by_last false = refl
 
@@ -64,7 +61,7 @@ replies_go d (suc n) frame exs count is = by_test (nat_lt d.answered d.kept) ref
         let longer = length_push exs (exchange_of d.boxes frame) in
         ap (λ (b : List ℕ). b ++ reply_frame (exchange_of d.boxes frame)) (is ∙ ap (flat_map reply_frame) (take_all d.kept exs (omega (arith, lt, count))))
         ∙ ap (λ (b : List ℕ). flat_map reply_frame exs ++ b) (sym (append-nil (reply_frame (exchange_of d.boxes frame))))
-        ∙ sym (flat_map_append exs (exchange_of d.boxes frame ∷ []))
+        ∙ sym (flat_map-append reply_frame exs (exchange_of d.boxes frame ∷ []))
         ∙ ap (flat_map reply_frame) (sym (take_all d.kept (exs ++ exchange_of d.boxes frame ∷ []) (omega (arith, lt, count, longer))))
     by_test false above =
         let le = not_below d.answered d.kept above in
@@ -92,13 +89,13 @@ module _ (c : Connection) (desk : DeskNow) (held : List ℕ) (is : IsServing c d
   took =
       ap (λ (b : List ℕ). Some (record { now = record { gives = λ to. reply_bytes (served c.start to); received = b; sent = c.sent ++ piece; fate = (wire_of c).fate }; before = []; coming = nothing_comes }))
       (ap (λ (xs : List Exchange). take c.at (flat_map reply_frame xs)) grown
-      ∙ ap (take c.at) (flat_map_append (exchanges_of c) (served_within desk.left desk.boxes (frames_of (held ++ piece))).exchanges)
+      ∙ ap (take c.at) (flat_map-append reply_frame (exchanges_of c) (served_within desk.left desk.boxes (frames_of (held ++ piece))).exchanges)
       ∙ take-append-le c.at (reply_bytes (served c.start c.sent)) _ (omega (arith, is.received, ap length is.replies, few_bytes)))
     where
       few_bytes : length (coming_of c) ≤ length (reply_bytes (served c.start c.sent))
       few_bytes =
           let all : reply_bytes (served c.start c.sent) ≡ coming_of c ++ flat_map reply_frame (drop c.kept (exchanges_of c)) =
-          ap (flat_map reply_frame) (sym (take-append-drop c.kept (exchanges_of c))) ∙ flat_map_append (take c.kept (exchanges_of c)) (drop c.kept (exchanges_of c)) in
+          ap (flat_map reply_frame) (sym (take-append-drop c.kept (exchanges_of c))) ∙ flat_map-append reply_frame (take c.kept (exchanges_of c)) (drop c.kept (exchanges_of c)) in
           omega (arith, ap length all, length-append (coming_of c) (flat_map reply_frame (drop c.kept (exchanges_of c))))
 
   cause_stays : (more : List Exchange) → exchanges_of sent ≡ exchanges_of c ++ more → HasLost c ⊎ (SENT_LIMIT ≤ length c.sent) → HasLost sent ⊎ (SENT_LIMIT ≤ length (c.sent ++ piece))

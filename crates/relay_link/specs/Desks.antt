@@ -1,7 +1,7 @@
 -- A relay at its desk: it answers the frames of one connection, and the first replies come.
 use Rattle.std.specs.Prelude.{ℕ, zero, suc, ◌+◌, nat_lt, List, [], ◌++◌, drop, if◌then◌else◌}
-use Rattle.relay_core.specs.Boxes.{Box, answers_read}
-use Rattle.relay_core.specs.Streams.{Exchange, is_last, reply_frame}
+use Rattle.relay_core.specs.Boxes.{Box}
+use Rattle.relay_core.specs.Streams.{boxes_after, exchange_of, is_last, reply_frame}
 use Rattle.relay_core.specs.declared.limits.TheConstants.{EXCHANGE_LIMIT}
 use Rattle.relay_wire.specs.Requests.{read_request}
 
@@ -17,14 +17,10 @@ pub record DeskNow : Type 0 where
 abbrev pub fresh : ℕ → List Box → DeskNow
 fresh kept boxes = record { boxes = boxes; replies = []; kept = kept; answered = 0; left = EXCHANGE_LIMIT }
 
--- what is asked and replied
-abbrev pub exchange_of : List Box → List ℕ → Exchange
-exchange_of boxes frame = record { asked = read_request (drop 2 frame); reply = (answers_read boxes (read_request (drop 2 frame))).reply }
-
 -- the frame is answered; its reply comes, if it is one of the first
 abbrev pub answered_frame : DeskNow → ℕ → List ℕ → DeskNow
 answered_frame d more frame = record {
-  boxes = (answers_read d.boxes (read_request (drop 2 frame))).next;
+  boxes = boxes_after d.boxes frame;
   replies = if nat_lt d.answered d.kept then d.replies ++ reply_frame (exchange_of d.boxes frame) else d.replies;
   kept = d.kept;
   answered = d.answered + 1;

@@ -1,14 +1,10 @@
 -- How far a connection is.
 use Rattle.std.specs.Prelude.{◌≡◌, ◌⊎◌, ◌<◌, ◌≤◌, ℕ, List, ◌++◌, length}
 use Rattle.relay_wire.specs.Frames.{IsPartial, frames_of}
-use Rattle.relay_core.specs.Streams.{Exchange, Served, served, served_within}
+use Rattle.relay_core.specs.Streams.{prepend, served, served_within}
 use Rattle.relay_link.specs.Connections.{Connection, HasLost, coming_of, exchanges_of}
 use Rattle.relay_link.specs.Desks.{DeskNow}
 use Rattle.relay_link.specs.declared.limits.TheConstants.{REPLY_LIMIT, SENT_LIMIT}
-
--- what was answered, and then this
-abbrev pub prepend : List Exchange → Served → Served
-prepend exchanges more = record { exchanges = exchanges ++ more.exchanges; next = more.next }
 
 -- Less than a frame is held. Whatever more is sent, the desk answers as the relay does: what was sent, and then that.
 pub record IsServing (c : Connection) (desk : DeskNow) (held : List ℕ) : Type 0 where

@@ -1,4 +1,4 @@
--- How a connection is_last, from the rounds so far and the last one.
+-- How a connection ends, from the rounds so far and the last one.
 use Rattle.std.proofs.Common.{◌≡◌, ℕ, ◌+◌, ◌<◌, ◌≤◌, Bool, true, false, List, [], ◌++◌, Ok, Err, refl, sym, ◌∙◌, ap, subst, arith, append_assoc, append-nil}
 use Rattle.std.specs.Prelude.{flat_map}
 use Rattle.dr_disk.specs.Spans.{IsQuiet}
@@ -7,9 +7,10 @@ use Rattle.dr_disk.proofs.Steps.{quiet_twice}
 use Rattle.dr_ports.specs.Ports.{Rose}
 use Rattle.dr_ports.specs.declared.pipe.Part.TheVariants.{Flow}
 use Rattle.dr_ports.specs.Wires.{Port}
+use Rattle.relay_wire.proofs.Joining.{flat}
 use Rattle.relay_core.specs.declared.limits.TheConstants.{EXCHANGE_LIMIT}
 use Rattle.relay_core.specs.Boxes.{Box}
-use Rattle.relay_core.specs.Streams.{reply_frame, is_last}
+use Rattle.relay_core.specs.Streams.{exchange_of, is_last, reply_frame}
 use Rattle.relay_core.proofs.Apart.{isolated}
 use Rattle.relay_server.specs.declared.serving.Ended.{Ended}
 use Rattle.relay_server.specs.declared.serving.ServeFault.{ServeFault}
@@ -17,7 +18,8 @@ use Rattle.relay_server.specs.declared.serving.ServeFault.TheVariants.{Read, Wri
 use Rattle.relay_server.specs.declared.serving.Round.TheVariants.{AtEnd, Answered}
 use Rattle.relay_server.specs.Durable.{ServerNow, IsReady}
 use Rattle.relay_server.specs.Serving.{Exchanges, Rounds, IsServed, SoFar, reply_to}
-use Rattle.relay_server.proofs.Serve.{flat, exchange_of, one_more_round, idle_answers, idle_boxes, idle_during, idle_count, idle_all, came_boxes, came_during, came_bytes, came_answers, came_count, came_last, came_stands, full_answers, full_during, full_count, full_all}
+use Rattle.relay_server.proofs.Serve.{one_more_round}
+use Rattle.relay_server.proofs.Ends.{idle_answers, idle_boxes, idle_during, idle_count, idle_all, came_boxes, came_during, came_bytes, came_answers, came_count, came_last, came_stands, full_answers, full_during, full_count, full_all}
 
 pub rose_since : (a b c : ℕ) → a ≤ b → Rose b c → Rose a c
 rose_since a b c le rose = omega (arith, le, rose)

@@ -6,3 +6,4 @@ pub mod OpenedBoxes
 pub mod Replacing
 pub mod Rounds
 pub mod Serve
+pub mod Ends

@@ -12,7 +12,7 @@ use Rattle.relay_wire.specs.Replies.{reply_body}
 use Rattle.relay_wire.specs.Frames.{IsFrame, IsPartial, framed, frames_of}
 use Rattle.relay_core.specs.declared.limits.TheConstants.{EXCHANGE_LIMIT}
 use Rattle.relay_core.specs.Boxes.{Box, answers_read, box_of}
-use Rattle.relay_core.specs.Streams.{Exchange, Served, served, served_within, reply_frame, reply_bytes, is_last, IsIsolated, asks, told}
+use Rattle.relay_core.specs.Streams.{Exchange, prepend, served, served_within, reply_frame, reply_bytes, is_last, IsIsolated, asks, told}
 use Rattle.relay_core.specs.Alone.{box_after}
 use Rattle.relay_core.specs.Record.{box_text}
 use Rattle.relay_server.specs.Durable.{ServerNow, IsReady, IsSameBehind, StandsFor, StandsForEither}
@@ -107,9 +107,6 @@ pub record IsServed (text : Box → List ℕ) (old new : ServerNow) (start now :
   pub serves : Serves text old new start now dstart dnow got result
 
 -- ---- between rounds
-
-abbrev pub prepend : List Exchange → Served → Served
-prepend exchanges served = record { exchanges = exchanges ++ served.exchanges; next = served.next }
 
 pub record SoFar (text : Box → List ℕ) (most : ℕ) (old : ServerNow) (boxes : List Box) (start now : Port) (dstart dnow : DiskState) (n : ℕ) : Type 0 where
   pub frames : List (List ℕ)

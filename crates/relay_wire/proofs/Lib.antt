@@ -1,5 +1,6 @@
 pub mod Choices
 pub mod Splitting
+pub mod Joining
 pub mod Feeding
 pub mod Asked
 pub mod Replied

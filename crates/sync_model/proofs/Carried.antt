@@ -5,12 +5,13 @@ use Rattle.relay_wire.specs.Frames.{frames_of}
 use Rattle.relay_wire.specs.Requests.{Asked}
 use Rattle.relay_wire.specs.Replies.{Replied}
 use Rattle.relay_core.specs.Boxes.{Box, answers_of}
+use Rattle.relay_wire.proofs.Joining.{flat, frames_join, frames_of_flat}
 use Rattle.sync_model.specs.Parties.{Party}
 use Rattle.sync_model.specs.Moves.{asked_in}
 use Rattle.sync_model.specs.Courses.{Course, as_list, awaited, begun, read_one, course_from, course_of, made_requests}
 use Rattle.sync_model.specs.Transfers.{begins, meet_times, answered}
 use Rattle.sync_model.specs.Carried.{relay_replies, relay_after, reply_text, IsCarried}
-use Rattle.sync_model.proofs.Replying.{flat, flat_of, frames_of_flat, frames_join, reply_frames, relay_bytes, first_replies, replies_append, replies_count, replies_lawful}
+use Rattle.sync_model.proofs.Replying.{flat_of, reply_frames, relay_bytes, first_replies, replies_append, replies_count, replies_lawful}
 
 head_is : (a b : Replied) (xs bs : List Replied) → a ∷ xs ≡ b ∷ bs → a ≡ b
 head_is a b xs bs h = cc

@@ -7,6 +7,7 @@ pub mod Carried
 pub mod Cases
 pub mod Asking
 pub mod Stopping
+pub mod Growing
 pub mod Pending
 pub mod Arriving
 pub mod Scenes

@@ -8,12 +8,13 @@ use Rattle.relay_wire.specs.Requests.{Asked}
 use Rattle.relay_wire.specs.Replies.{IsLawfulReplied, Replied, read_reply}
 use Rattle.relay_wire.specs.declared.reply.BadReply.{BadReply}
 use Rattle.relay_core.specs.Boxes.{Box, answers_of}
+use Rattle.relay_wire.proofs.Joining.{frames_join, frames_of_flat}
 use Rattle.sync_model.specs.Parties.{Party}
 use Rattle.sync_model.specs.Courses.{awaited, course_of, made_requests}
 use Rattle.sync_model.specs.Carried.{IsCarried, relay_after, relay_replies, reply_text, replied_bytes}
 use Rattle.sync_model.proofs.Carried.{replies_are}
 use Rattle.sync_model.proofs.Reading.{bytes_last}
-use Rattle.sync_model.proofs.Replying.{flat_of, frames_join, frames_of_flat, relay_bytes, replies_append, replies_lawful, reply_back, reply_frames}
+use Rattle.sync_model.proofs.Replying.{flat_of, relay_bytes, replies_append, replies_lawful, reply_back, reply_frames}
 
 last_lawful : (replies : List Replied) (last : Replied) → AllByRecursion IsLawfulReplied (replies ++ last ∷ []) → IsLawfulReplied last
 last_lawful [] last are = are.0

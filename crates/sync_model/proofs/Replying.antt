@@ -1,5 +1,5 @@
 -- What a relay replies to the bytes of requests.
-use Rattle.std.proofs.Common.{◌≡◌, ℕ, zero, suc, ◌+◌, ◌≤◌, Bool, true, false, List, [], ◌∷◌, ◌++◌, length, take, drop, get_or, Result, Ok, refl, sym, ◌∙◌, ap, ap₂, arith, append_assoc, append-nil, map}
+use Rattle.std.proofs.Common.{◌≡◌, ℕ, zero, suc, ◌+◌, ◌≤◌, Bool, true, false, List, [], ◌∷◌, ◌++◌, length, take, drop, get_or, Result, Ok, refl, sym, ◌∙◌, ap, ap₂, arith, map}
 use Rattle.std.specs.Prelude.{flat_map, nat_le, All, ◌&&◌, if◌then◌else◌}
 use Rattle.std.specs.List.{AllByRecursion, list_all}
 use Rattle.std.specs.Int.{w16, w64, to_be_bytes, from_be_bytes}
@@ -16,16 +16,13 @@ use Rattle.relay_wire.specs.declared.reply.BadReply.{BadReply}
 use Rattle.relay_wire.proofs.Asked.{request}
 use Rattle.relay_wire.proofs.Replied.{reply}
 use Rattle.relay_wire.proofs.Choices.{both_true}
-use Rattle.relay_wire.proofs.Splitting.{only, each}
+use Rattle.relay_wire.proofs.Joining.{flat, frames_of_flat}
 use Rattle.relay_core.specs.Boxes.{Box, answers_of, answers_read}
 use Rattle.relay_core.specs.Lawful.{IsLawfulBox}
 use Rattle.relay_core.specs.Streams.{Exchange, Served, and_then, nothing_served, served, served_within, reply_frame, reply_bytes, is_last}
 use Rattle.relay_core.specs.declared.limits.TheConstants.{EXCHANGE_LIMIT}
 use Rattle.relay_core.proofs.Lawfully.{lawful_reply, lawful_next}
 use Rattle.sync_model.specs.Carried.{relay_replies, relay_after, request_frame, reply_text}
-
-abbrev pub flat : List (List ℕ) → List ℕ
-flat frames = flat_map (λ (f : List ℕ). f) frames
 
 -- ---- requests in a row
 
@@ -96,9 +93,6 @@ pub reply_bytes_of : (es : List Exchange) → flat_map reply_frame es ≡ flat (
 reply_bytes_of [] = refl
 reply_bytes_of (e ∷ es) = ap (λ (r : List ℕ). reply_frame e ++ r) (reply_bytes_of es)
 
-pub frames_of_flat : (frames : List (List ℕ)) → AllByRecursion IsFrame frames → frames_of (flat frames) ≡ frames
-frames_of_flat frames whole = only (flat frames) frames [] (record { whole = sym (append-nil (flat frames)); each = whole; partial = omega arith })
-
 name_short : (name : List ℕ) → is_name name ≡ true → length name ≤ NAME_LIMIT
 unfolding is_name
 name_short name is =
@@ -156,23 +150,6 @@ relay_boxes boxes xs lawful few =
     ∙ served_after EXCHANGE_LIMIT boxes xs few lawful
 
 -- ---- a beginning of frames
-
-all_append : (a b : List (List ℕ)) → AllByRecursion IsFrame a → AllByRecursion IsFrame b → AllByRecursion IsFrame (a ++ b)
-all_append [] b one two = two
-all_append (x ∷ a) b one two = (one.0, all_append a b one.1 two)
-
-flat_append : (a b : List (List ℕ)) → flat (a ++ b) ≡ flat a ++ flat b
-flat_append [] b = refl
-flat_append (x ∷ a) b = ap (λ (r : List ℕ). x ++ r) (flat_append a b) ∙ sym (append_assoc x (flat a) (flat b))
-
-pub frames_join : (frames : List (List ℕ)) (rest : List ℕ) → AllByRecursion IsFrame frames → frames_of (flat frames ++ rest) ≡ frames ++ frames_of rest
-frames_join frames rest whole =
-    let r = each rest in
-    only (flat frames ++ rest) (frames ++ frames_of rest) r.0 (record {
-      whole = ap (λ (x : List ℕ). flat frames ++ x) r.1.whole ∙ sym (append_assoc (flat frames) (flat (frames_of rest)) r.0) ∙ ap (λ (x : List ℕ). x ++ r.0) (sym (flat_append frames (frames_of rest)));
-      each = all_append frames (frames_of rest) whole r.1.each;
-      partial = r.1.partial;
-    })
 
 ok_is : (a b : Replied) (x : Result Replied BadReply) → x ≡ Ok a → x ≡ Ok b → a ≡ b
 ok_is a b x one two = cc

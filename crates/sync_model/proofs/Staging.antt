@@ -2,6 +2,7 @@
 use Rattle.std.proofs.Common.{◌≡◌, inl, inr, ℕ, zero, suc, ◌+◌, ◌-◌, ◌≤◌, ◌<◌, List, [], ◌∷◌, ◌++◌, length, take, drop, Option, Some, None, Ok, Result, refl, sym, ◌∙◌, ap, ap₂, arith, append_assoc, append-nil, map}
 use Rattle.std.specs.Prelude.{flat_map, if◌then◌else◌}
 use Rattle.std.specs.List.{AllByRecursion}
+use Rattle.std.proofs.lemmas.Grind.{flat_map-append}
 use Rattle.std.proofs.lemmas.List.{length-append, length-map, length-take, take-append-drop, take-map, take-take, take_all}
 use Rattle.relay_wire.specs.Frames.{frames_of}
 use Rattle.relay_wire.specs.Requests.{Asked, IsLawfulAsked}
@@ -9,15 +10,17 @@ use Rattle.relay_wire.specs.Replies.{Replied, IsLawfulReplied}
 use Rattle.relay_core.specs.Boxes.{Box, answers_of, answers_read}
 use Rattle.relay_core.specs.Streams.{Exchange, Served, and_then, is_last, nothing_served, served, served_within, reply_frame, reply_bytes}
 use Rattle.relay_core.specs.declared.limits.TheConstants.{EXCHANGE_LIMIT}
+use Rattle.relay_wire.proofs.Joining.{flat, frames_join, frames_of_flat}
 use Rattle.sync_model.specs.Parties.{Party}
 use Rattle.sync_model.specs.Moves.{asked_in}
-use Rattle.sync_model.specs.Courses.{Course, as_list, awaited, course_of, made_requests}
+use Rattle.sync_model.specs.Courses.{Course, all_lines, as_list, awaited, course_of, made_requests}
 use Rattle.sync_model.specs.Transfers.{Meeting, begins, meet_times}
 use Rattle.sync_model.specs.Carried.{IsCarried, relay_after, relay_replies, replied_bytes, reply_text, request_bytes, request_frame}
 use Rattle.sync_model.specs.Scenes.{IsDone, IsPlayed, scene, without_reply}
 use Rattle.sync_model.proofs.Carried.{meeting}
+use Rattle.sync_model.proofs.Growing.{Begins, lines_begin}
 use Rattle.sync_model.proofs.Meeting.{after_times}
-use Rattle.sync_model.proofs.Replying.{flat, flat_of, frames_of_flat, frames_join, read_back, relay_boxes, replies_count, replies_lawful, reply_bytes_of, reply_frames, request_frames}
+use Rattle.sync_model.proofs.Replying.{flat_of, read_back, relay_boxes, replies_append, replies_count, replies_lawful, reply_bytes_of, reply_frames, request_frames}
 use Rattle.sync_model.proofs.Stopping.{stays_all}
 
 abbrev pub reply_of : Exchange → Replied
@@ -29,10 +32,6 @@ take_lawful : (n : ℕ) (rs : List Replied) → AllByRecursion IsLawfulReplied r
 take_lawful zero rs are = tt
 take_lawful (suc n) [] are = tt
 take_lawful (suc n) (r ∷ rs) are = (are.0, take_lawful n rs are.1)
-
-pub flat_map_append : (a b : List Exchange) → flat_map reply_frame (a ++ b) ≡ flat_map reply_frame a ++ flat_map reply_frame b
-flat_map_append [] b = refl
-flat_map_append (x ∷ a) b = ap (λ (r : List ℕ). reply_frame x ++ r) (flat_map_append a b) ∙ sym (append_assoc (reply_frame x) (flat_map reply_frame a) (flat_map reply_frame b))
 
 after_append : (boxes : List Box) (a b : List Asked) → relay_after boxes (a ++ b) ≡ relay_after (relay_after boxes a) b
 after_append boxes [] b = refl
@@ -90,6 +89,32 @@ module _ (kept limit : ℕ) (boxes : List Box) (xs : List Asked) (replies : List
       ∙ ap (λ (n : ℕ). n + length (frames_of more)) (length-map replies reply_text) in
       omega (arith, counts, length-take kept (relay_replies boxes xs))
 
+-- ---- the first requests
+
+take_front : (n : ℕ) (a b : List Replied) → (more : List Replied) × (take n (a ++ b) ≡ take n a ++ more)
+take_front zero a b = ([], refl)
+take_front (suc n) [] b = (take (suc n) b, refl)
+take_front (suc n) (x ∷ a) b = let rest = take_front n a b in (rest.0, ap (λ (rs : List Replied). x ∷ rs) rest.1)
+
+kept_bytes : (kept : ℕ) (boxes : List Box) (xs : List Asked) → kept ≤ EXCHANGE_LIMIT → AllByRecursion IsLawfulAsked xs
+    → flat_map reply_frame (take kept (served boxes (request_bytes xs)).exchanges) ≡ replied_bytes (take kept (relay_replies boxes xs))
+kept_bytes kept boxes xs few lawful =
+    let exs = (served boxes (request_bytes xs)).exchanges in
+    reply_bytes_of (take kept exs)
+    ∙ ap (λ (rs : List Replied). flat (map reply_text rs)) (sym (take-map reply_of kept exs) ∙ ap (take kept) (replies_of boxes xs lawful) ∙ take-take kept EXCHANGE_LIMIT (relay_replies boxes xs) few)
+    ∙ sym (flat_of reply_text (take kept (relay_replies boxes xs)))
+
+-- what comes for them comes for all, and more behind it
+pub comes_first : (kept : ℕ) (boxes : List Box) (xs ys : List Asked) → kept ≤ EXCHANGE_LIMIT → AllByRecursion IsLawfulAsked xs → AllByRecursion IsLawfulAsked (xs ++ ys)
+    → Begins (flat_map reply_frame (take kept (served boxes (request_bytes xs)).exchanges)) (flat_map reply_frame (take kept (served boxes (request_bytes (xs ++ ys))).exchanges))
+comes_first kept boxes xs ys few first all =
+    let firsts = take kept (relay_replies boxes xs) in
+    let rest = take_front kept (relay_replies boxes xs) (relay_replies (relay_after boxes xs) ys) in (
+      replied_bytes rest.0,
+      kept_bytes kept boxes (xs ++ ys) few all ∙ ap (λ (rs : List Replied). replied_bytes (take kept rs)) (replies_append boxes xs ys) ∙ ap replied_bytes rest.1
+          ∙ flat_map-append reply_text firsts rest.0 ∙ ap (λ (b : List ℕ). b ++ replied_bytes rest.0) (sym (kept_bytes kept boxes xs few first)),
+    )
+
 -- ---- the scene
 
 module _ {S : Type 0} (p : Party S) (kept : ℕ) (s : S) (boxes : List Box) (replies : List Replied) (is : IsPlayed p kept s boxes replies) where
@@ -130,7 +155,7 @@ module _ {S : Type 0} (p : Party S) (kept : ℕ) (s : S) (boxes : List Box) (rep
     more = is.more ++ flat_map reply_frame (drop kept exs);
     carried =
         sym (append_assoc (replied_bytes replies) is.more (flat_map reply_frame (drop kept exs))) ∙ ap (λ (b : List ℕ). b ++ flat_map reply_frame (drop kept exs)) is.came
-        ∙ sym (flat_map_append (take kept exs) (drop kept exs)) ∙ ap (flat_map reply_frame) (take-append-drop kept exs);
+        ∙ sym (flat_map-append reply_frame (take kept exs) (drop kept exs)) ∙ ap (flat_map reply_frame) (take-append-drop kept exs);
   }
 
   abbrev met : Meeting S
@@ -139,11 +164,19 @@ module _ {S : Type 0} (p : Party S) (kept : ℕ) (s : S) (boxes : List Box) (rep
   met_is : meet_times p (length replies) (begins p s boxes) ≡ met
   met_is = meeting p s boxes replies carried
 
-  meets_kept : IsDone p kept s boxes replies → meet_times p kept (begins p s boxes) ≡ met
-  meets_kept (inl ends) =
+  goes_on : meet_times p kept (begins p s boxes) ≡ meet_times p (kept - length replies) met
+  goes_on =
       ap (λ (n : ℕ). meet_times p n (begins p s boxes)) (let e : kept ≡ length replies + (kept - length replies) = omega (arith, within) in e)
       ∙ after_times p (length replies) (kept - length replies) (begins p s boxes) ∙ ap (meet_times p (kept - length replies)) met_is
-      ∙ stays_all p (kept - length replies) met ends.0 ends.1
+
+  -- what was printed so far begins what the scene prints
+  pub shown : Begins (all_lines p course) (all_lines p (scene p kept s boxes).course)
+  shown =
+      let later = lines_begin p (kept - length replies) met in
+      (later.0, ap (λ (m : Meeting S). all_lines p m.course) goes_on ∙ later.1)
+
+  meets_kept : IsDone p kept s boxes replies → meet_times p kept (begins p s boxes) ≡ met
+  meets_kept (inl ends) = goes_on ∙ stays_all p (kept - length replies) met ends.0 ends.1
   meets_kept (inr lost) =
       ap (λ (n : ℕ). meet_times p n (begins p s boxes)) (let e : kept ≡ length replies = omega (arith, within, lost, exs_count, one_at_most (asked_in p course.state course.wait)) in e) ∙ met_is
 
