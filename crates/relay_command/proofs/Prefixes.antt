@@ -1,13 +1,14 @@
 -- The replies to a stream begin the replies to each longer one.
 use Rattle.std.proofs.Common.{◌≡◌, ℕ, zero, suc, Bool, true, false, List, [], ◌∷◌, ◌++◌, drop, refl, ◌∙◌, ap, append_assoc}
 use Rattle.std.specs.Prelude.{flat_map, if◌then◌else◌}
+use Rattle.std.proofs.lemmas.List.Concat.{flat_map-append}
 use Rattle.relay_wire.specs.Frames.{frames_of}
 use Rattle.relay_wire.specs.Requests.{read_request}
+use Rattle.relay_wire.proofs.Joining.{flat, frames_join}
 use Rattle.relay_wire.proofs.Splitting.{each}
 use Rattle.relay_core.specs.declared.limits.TheConstants.{EXCHANGE_LIMIT}
 use Rattle.relay_core.specs.Boxes.{Box}
-use Rattle.relay_core.specs.Streams.{Exchange, Served, and_then, is_last, nothing_served, reply_bytes, reply_frame, served, served_within}
-use Rattle.relay_server.proofs.Serve.{exchange_of, flat, frames_join, next_of, replies_append}
+use Rattle.relay_core.specs.Streams.{Exchange, Served, and_then, boxes_after, exchange_of, is_last, nothing_served, reply_bytes, reply_frame, served, served_within}
 
 -- more exchanges behind those
 abbrev GoesOn : Served → Served → Type 0
@@ -16,11 +17,11 @@ GoesOn short long = (rest : List Exchange) × (long.exchanges ≡ short.exchange
 within_on : (n : ℕ) (boxes : List Box) (frames more : List (List ℕ)) → GoesOn (served_within n boxes frames) (served_within n boxes (frames ++ more))
 within_on zero boxes frames more = ([], refl)
 within_on (suc n) boxes [] more = ((served_within (suc n) boxes more).exchanges, refl)
-within_on (suc n) boxes (frame ∷ frames) more = by (is_last (read_request (drop 2 frame))) (within_on n (next_of boxes frame) frames more)
+within_on (suc n) boxes (frame ∷ frames) more = by (is_last (read_request (drop 2 frame))) (within_on n (boxes_after boxes frame) frames more)
   where
-    by : (last : Bool) → GoesOn (served_within n (next_of boxes frame) frames) (served_within n (next_of boxes frame) (frames ++ more))
-        → GoesOn (and_then (exchange_of boxes frame) (if last then nothing_served (next_of boxes frame) else served_within n (next_of boxes frame) frames))
-        (and_then (exchange_of boxes frame) (if last then nothing_served (next_of boxes frame) else served_within n (next_of boxes frame) (frames ++ more)))
+    by : (last : Bool) → GoesOn (served_within n (boxes_after boxes frame) frames) (served_within n (boxes_after boxes frame) (frames ++ more))
+        → GoesOn (and_then (exchange_of boxes frame) (if last then nothing_served (boxes_after boxes frame) else served_within n (boxes_after boxes frame) frames))
+        (and_then (exchange_of boxes frame) (if last then nothing_served (boxes_after boxes frame) else served_within n (boxes_after boxes frame) (frames ++ more)))
     by true on = ([], refl)
     by false on = (on.0, ap (λ (es : List Exchange). exchange_of boxes frame ∷ es) on.1)
 
@@ -39,5 +40,5 @@ replies_on boxes got more =
     let on = within_on EXCHANGE_LIMIT boxes (frames_of got) fs.0 in (
       flat_map reply_frame on.0,
       ap (λ (frames : List (List ℕ)). reply_bytes (served_within EXCHANGE_LIMIT boxes frames)) fs.1 ∙ ap (λ (es : List Exchange). flat_map reply_frame es) on.1
-          ∙ replies_append (served_within EXCHANGE_LIMIT boxes (frames_of got)).exchanges on.0,
+          ∙ flat_map-append reply_frame (served_within EXCHANGE_LIMIT boxes (frames_of got)).exchanges on.0,
     )

@@ -2,7 +2,7 @@
 //! other, with a line for each.
 #![tactic(auto)]
 
-pub use relaying::relay;
+pub use relaying::{RELAY_DISK_SIZE, relay};
 
 mod connecting;
 mod lines;

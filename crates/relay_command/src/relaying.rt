@@ -8,6 +8,7 @@ ghost use Rattle.dr_ports.specs.declared.pipe.Part.TheVariants.{Gate};
 ghost use Rattle.relay_core.specs.declared.limits.TheConstants.{RELAY_LIMIT};
 ghost use Rattle.relay_command.specs.Names.{AreNames};
 ghost use Rattle.relay_command.specs.Relaying.{Opens, RunsRelay, ending_of_open};
+ghost use Rattle.relay_command.specs.declared.relaying.TheConstants.{RELAY_DISK_SIZE};
 
 use crate::names::{check_names, names_of};
 use crate::serving::serve_all;
@@ -16,6 +17,9 @@ use dr_ports::{Door, Sink};
 use endings::{Ending, Status, finish};
 use relay_server::{Server, ServerOpenError};
 use std::alloc::Global;
+
+/// The size of the disk of a relay, in bytes: the areas of 16 boxes.
+pub const RELAY_DISK_SIZE: u64 = 8388608;
 
 /// How the command ends where no server was opened. Boxes are counted from 1 here.
 fn unopened(error: ServerOpenError) -> Ending
@@ -34,7 +38,7 @@ fn unopened(error: ServerOpenError) -> Ending
 fn open<A: Disk>(alloc: Global, boxes: &[&str], disk: &mut A) -> Result<Server, Ending>
     requires names { AreNames (map (λ word. word.now) boxes.now) }
     requires few { length boxes.now ≤ RELAY_LIMIT }
-    requires within { 8388608 ≤ (A.state disk.old).size }
+    requires within { RELAY_DISK_SIZE ≤ (A.state disk.old).size }
     ensures { Opens (map (λ word. word.now) boxes.now) (A.state disk.old) (A.state disk.new) result }
 {
     let Ok(names) = names_of(alloc, boxes) else {
@@ -64,7 +68,7 @@ pub fn relay<A: Disk, L: Door, O: Sink>(
     door: &mut L,
     out: &mut O,
 ) -> Status
-    requires { 8388608 ≤ (A.state disk.old).size }
+    requires { RELAY_DISK_SIZE ≤ (A.state disk.old).size }
     ensures runs { RunsRelay A.state L.port (map (λ word. word.now) boxes.now) port count disk.old disk.new door.old door.new
         (O.taken out.old) (O.taken out.new) (O.faults out.old) (O.faults out.new) result.code }
     // Status 0 says that no call on the disk failed, nor listening, accepting or writing.

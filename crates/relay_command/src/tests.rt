@@ -2,14 +2,11 @@
 
 mod loopback;
 
-use crate::relay;
+use crate::{RELAY_DISK_SIZE, relay};
 use dr_disk::{Disk, MemoryDisk};
 use dr_ports::{MemoryDoor, MemorySink};
 use std::alloc::{AllocError, Global};
 use std::test::Fail;
-
-/// How many bytes the disk of a relay has.
-const SIZE: u64 = 8_388_608;
 
 /// A fetch from the box `a`, the post of the packet 07 to it, another fetch, and the acknowledgement of that packet.
 const REQUESTS: &[u8] = b"\x00\x03\x02\x01a\x00\x04\x01\x01a\x07\x00\x03\x02\x01a\
@@ -49,7 +46,7 @@ fn outcome(
     door: &mut MemoryDoor,
     room: usize,
 ) -> Result<(u8, Vec<u8>), Fail> {
-    if disk.size() < SIZE {
+    if disk.size() < RELAY_DISK_SIZE {
         return Err(Fail::from("no room"));
     }
     let mut out = MemorySink::new(alloc, room, &[])?;
@@ -64,7 +61,7 @@ fn the_worked_exchange(rt: HostRuntime) -> Result<(), Fail> {
     let one = b"relay 4000\nconnection 1 ended 4\n".as_slice();
     let two = b"relay 4000\nconnection 1 ended 2\nconnection 2 ended 2\n".as_slice();
     for (count, cut, lines) in [(1, REQUESTS.len(), one), (2, HALF, two)] {
-        let mut disk = blank(alloc, SIZE)?;
+        let mut disk = blank(alloc, RELAY_DISK_SIZE)?;
         let mut door = door(alloc, cut, &[], &[])?;
         let (status, taken) = outcome(alloc, &mut disk, &["a"], count, &mut door, 4096)?;
         assert_eq!(rt; status, 0);
@@ -78,7 +75,7 @@ fn the_worked_exchange(rt: HostRuntime) -> Result<(), Fail> {
 #[test]
 fn names_that_are_refused(rt: HostRuntime) -> Result<(), Fail> {
     let alloc = rt.alloc();
-    let mut disk = blank(alloc, SIZE)?;
+    let mut disk = blank(alloc, RELAY_DISK_SIZE)?;
     let mut door = door(alloc, 0, &[], &[])?;
     let (status, taken) = outcome(alloc, &mut disk, &["b"], 0, &mut door, 4096)?;
     assert_eq!(rt; status, 0);
@@ -105,7 +102,7 @@ fn names_that_are_refused(rt: HostRuntime) -> Result<(), Fail> {
 #[test]
 fn ports_that_fail(rt: HostRuntime) -> Result<(), Fail> {
     let alloc = rt.alloc();
-    let mut disk = blank(alloc, SIZE)?;
+    let mut disk = blank(alloc, RELAY_DISK_SIZE)?;
     let rows: [(&[u64], &[u64], usize, u8, &[u8]); 5] = [
         (&[1], &[], 4096, 7, b"fault: link\n"),
         (&[2], &[], 4096, 7, b"relay 4000\nfault: link\n"),
@@ -126,7 +123,7 @@ fn ports_that_fail(rt: HostRuntime) -> Result<(), Fail> {
 #[test]
 fn disks_that_fail(rt: HostRuntime) -> Result<(), Fail> {
     let alloc = rt.alloc();
-    let mut disk = blank(alloc, SIZE)?;
+    let mut disk = blank(alloc, RELAY_DISK_SIZE)?;
     let (status, _) = outcome(
         alloc,
         &mut disk,
