@@ -25,6 +25,7 @@ use Rattle.dr_model.proofs.Growth.Growing.{positions-said}
 use Rattle.dr_model.proofs.Taking.PacketFields.{IsLawful-fields, is_place, read-post}
 use Rattle.dr_model.proofs.Worlds.StateLawful.{lawful_state}
 use Rattle.dr_model.proofs.Worlds.WorldViews.{own_reached, view_lawful}
+use Rattle.client.proofs.LawfulSaying.{message_fits}
 
 -- ---- kept keys
 
@@ -56,9 +57,6 @@ entries_lawful k c side v lawful view =
     (λ i d inside. entry_lawful k c v (slice_index_or v.arrived i d) lawful (view.arrivals i d inside)))
 
 -- ---- the outbox
-
-message_fits : (agreement epoch : ℕ) → agreement ≤ 2197 → agreement_len agreement epoch ≤ 2197
-message_fits agreement epoch fits = grind arith
 
 post_lawful : (k : Mechanism) (c : Conversation) (side : Side) (v : View) (p : Position) → IsLawfulMechanism k
     → IsLawfulConversation k c → IsLawfulView k c side v → is_said c p ≡ true → is_own v.side p.epoch ≡ true

@@ -60,7 +60,7 @@ posts_stay k s next outbox on each =
 
 -- ---- a packet that was sealed
 
-message_fits : (agreement epoch : ℕ) → agreement ≤ 2197 → agreement_len agreement epoch ≤ 2197
+pub message_fits : (agreement epoch : ℕ) → agreement ≤ 2197 → agreement_len agreement epoch ≤ 2197
 message_fits agreement epoch fits = grind arith
 
 post_lawful : (k : Mechanism) (next : State) (p : Position) (previous : ℕ) (agreement key text : List ℕ) → IsLawfulMechanism k

@@ -7,7 +7,7 @@
 pub use client::{Client, SLOT};
 pub use laws::{areas_are_their_records, crash_safety, single_use, used_keys_stay_erased};
 pub use refusals::{BeginRefusal, DropRefusal, OpenRefusal, SayRefusal, TakeRefusal};
-pub use syncing::{SyncFault, SyncRefusal};
+pub use syncing::{Names, SyncFault, SyncRefusal};
 
 mod beginning;
 mod client;

@@ -1,6 +1,7 @@
 //! A sync of a client with a relay.
 
 pub use faults::{SyncFault, SyncRefusal};
+pub use naming::Names;
 
 mod collecting;
 mod faults;

@@ -12,9 +12,9 @@ use relay_wire::Name;
 
 /// A client's own box, and its peer's.
 #[derive(Drop)]
-pub(crate) struct Names {
-    pub(crate) own: Name,
-    pub(crate) peers: Name,
+pub struct Names {
+    pub own: Name,
+    pub peers: Name,
 }
 
 /// The name of a side's box, in bytes.
@@ -42,7 +42,7 @@ fn box_name(session: &[u8; 16], side: Side) -> Name
 
 impl<K: Kem> Client<K> {
     /// The names of its boxes.
-    pub(crate) fn names(&self) -> Names
+    pub fn names(&self) -> Names
         ensures own { result.own ≡ own_box self.now.kept }
         ensures peers { result.peers ≡ peers_box self.now.kept }
         ensures own_lawful { is_name result.own ≡ true }

@@ -39,7 +39,7 @@ fn heard(replied: Result<Reply, AskFault>) -> Result<Reply, SyncFault>
 
 impl<K: Kem> Client<K> {
     /// Each packet of the outbox may be posted. A caller that needs this calls it.
-    pub(crate) fn may_post(&self)
+    pub fn may_post(&self)
         ensures packets { AllByRecursion (λ packet. is_packet packet ≡ true) (waiting self.now.kept) }
         ensures few { length self.now.kept.outbox ≤ OUTBOX_LIMIT }
     {
