@@ -16,8 +16,11 @@ use std::io::{Error, ErrorKind};
 use std::rt::Clock;
 use std::time::Instant;
 
-/// How often each thing is measured.
-const RUNS: usize = 201;
+/// How many texts of an epoch are measured: the first hundreds find cold caches, so the middle is that of texts in a row.
+const TEXTS: usize = 20_001;
+
+/// How many turns are measured.
+const TURNS: usize = 201;
 
 /// One side: its session and its boxes.
 #[derive(Drop)]
@@ -103,7 +106,7 @@ fn parties<K: Kem>(alloc: Global, work: &mut K::Work) -> io::Result<(Party<K>, P
 fn time_text<K: Kem, R: Clock + AllocGlobal>(rt: &R, work: &mut K::Work) -> io::Result<u64> {
     let (mut first, mut second) = parties::<K>(rt.alloc(), work)?;
     let mut times = Times::new(rt.alloc());
-    for _ in 0..RUNS {
+    for _ in 0..TEXTS {
         let start = Instant::now(rt)?;
         pass(&mut second, &mut first, work, 1);
         times.add(rt, start)?;
@@ -115,7 +118,7 @@ fn time_text<K: Kem, R: Clock + AllocGlobal>(rt: &R, work: &mut K::Work) -> io::
 fn time_turn<K: Kem, R: Clock + AllocGlobal>(rt: &R, work: &mut K::Work) -> io::Result<u64> {
     let (mut first, mut second) = parties::<K>(rt.alloc(), work)?;
     let mut times = Times::new(rt.alloc());
-    for run in 0..RUNS {
+    for run in 0..TURNS {
         let byte = (run % 128) as u8;
         let start = Instant::now(rt)?;
         if run % 2 == 0 {
