@@ -1,14 +1,14 @@
 -- What an open client on a disk whose calls all pass makes of a call.
 use Rattle.std.proofs.Common.{Bool, Err, List, None, Ok, Option, Result, Some, [], ap, arith, false, refl, subst, sym, true, ℕ, ◌∙◌, ◌∷◌, ◌≡◌}
-use Rattle.std.specs.Prelude.{is_none, is_some, length, ⊤, ◌&&◌}
+use Rattle.std.specs.Prelude.{is_none, is_some, length, ◌&&◌}
 use Rattle.dr_base.specs.Causes.{Rose}
 use Rattle.dr_base.specs.declared.key.Key32.{Key32}
 use Rattle.dr_base.specs.declared.position.Position.{Position}
 use Rattle.dr_disk.specs.MemoryDisks.{state_of}
 use Rattle.dr_disk.specs.declared.memory.MemoryDisk.{MemoryDisk}
-use Rattle.dr_model.specs.Machines.Acts.{act_on, needs_seed, said_by, saying, saying_by}
+use Rattle.dr_model.specs.Machines.Acts.{needs_seed, said_by, saying_by}
 use Rattle.dr_model.specs.Machines.Steps.{Step, has_effect, step}
-use Rattle.dr_ports.specs.Seeds.{Seeds, drawn, seed_before}
+use Rattle.dr_ports.specs.Seeds.{Seeds, drawn}
 use Rattle.kem_laws.specs.Mechanism.{Mechanism}
 use Rattle.ratchet.specs.Seen.{seed_bytes}
 use Rattle.session_model.specs.Clients.{Client, say_check, say_on}

@@ -1,18 +1,23 @@
--- Both sides before the first event.
-use Rattle.std.proofs.Common.{◌≡◌, ℕ, List, [], sym, ap₂}
+-- Both sides and the boxes before the first deed.
+use Rattle.std.proofs.Common.{◌≡◌, ℕ, [], sym, ap₂}
 use Rattle.dr_base.specs.declared.position.Side.TheVariants.{First, Second}
 use Rattle.session_model.specs.Clients.{Client}
 use Rattle.dr_model.specs.Machines.Sides.{Sides}
 use Rattle.dr_model.specs.Conversations.Conversation.{positions_after}
 use Rattle.dr_model.specs.Machines.Worlds.{opening_world}
-use Rattle.dr_model.specs.Machines.WorldSides.{sides_of}
 use Rattle.kem_laws.specs.Mechanism.{Mechanism}
 use Rattle.dr_model.proofs.Worlds.OpeningWorlds.{opening_client}
-use Rattle.duet.specs.Held.{opening_duet}
+use Rattle.duet.specs.Deeds.{Beside, opening_boxes}
+use Rattle.duet.specs.Held.{beside, opening_duet}
+use Rattle.duet.specs.Script.{Scripted}
+use Rattle.duet.specs.Trace.{beginning}
 
--- what both keep in an opening world
-pub opening_sides : (k : Mechanism) (key : List ℕ) (room : ℕ) → (opening_duet k key room).sides ≡ sides_of k (opening_world key)
+-- what both keep in an opening world, and its boxes
+pub opening_stands : (k : Mechanism) (script : Scripted) (room : ℕ) → beside (opening_duet k script.key room) ≡ beginning k script
 unfolding positions_after
-opening_sides k key room =
-    ap₂ (λ (first second : Client). let sides : Sides = record { key = key; first = first; second = second; posts = []; draws = (opening_world key).draws } in sides)
-    (sym (opening_client k key First)) (sym (opening_client k key Second))
+opening_stands k script room =
+    ap₂ (λ (first second : Client). let stands : Beside Sides = record {
+      ends = record { key = script.key; first = first; second = second; posts = []; draws = (opening_world script.key).draws };
+      boxes = opening_boxes first;
+    } in stands)
+    (sym (opening_client k script.key First)) (sym (opening_client k script.key Second))

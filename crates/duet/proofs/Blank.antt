@@ -1,12 +1,12 @@
 -- A disk of zeros holds no record.
-use Rattle.std.proofs.Common.{Bool, List, None, Option, Some, ap, ap₂, arith, false, length, nat_le, refl, replicate, sym, true, ℕ, ◌&&◌, ◌+◌, ◌<◌, ◌==◌, ◌≤◌, ◌∙◌, ◌≡◌}
+use Rattle.std.proofs.Common.{Bool, List, Option, ap, ap₂, arith, false, nat_le, refl, replicate, sym, true, ℕ, ◌&&◌, ◌+◌, ◌<◌, ◌==◌, ◌≤◌, ◌∙◌, ◌≡◌}
 use Rattle.std.proofs.lemmas.List.{get_or-replicate, length-replicate}
 use Rattle.dr_disk.specs.MemoryDisks.{IsBlank, state_of}
 use Rattle.dr_disk.specs.State.{DiskState}
 use Rattle.dr_disk.specs.declared.call.Call.{Call}
 use Rattle.dr_disk.specs.declared.memory.MemoryDisk.{MemoryDisk}
 use Rattle.kem_laws.specs.Mechanism.{Mechanism}
-use Rattle.slot_store.specs.Reading.{Reading, damaged, holds, judged_by, no_content, reading, seen_as, slot_fault, verdict_of}
+use Rattle.slot_store.specs.Reading.{damaged, holds, judged_by, no_content, reading, seen_as, slot_fault, verdict_of}
 use Rattle.slot_store.specs.Slots.{Slot, is_open, next_turn, place_of, slot_at, turn_of}
 use Rattle.slot_store.specs.Store.{IsWithin}
 use Rattle.slot_store.specs.declared.area.Area.{Area}

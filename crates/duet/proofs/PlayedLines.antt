@@ -7,33 +7,29 @@ use Rattle.dr_ports.specs.Ports.{appended}
 use Rattle.dr_ports.specs.Writing.{TookBeginning}
 use Rattle.session_model.specs.declared.answer.Answer.{Answer}
 use Rattle.session_model.specs.declared.answer.Answer.TheVariants.{Said, Opened, Sent, Done, Inbox, State, Seeded, Stopped, Nothing, Refused}
-use Rattle.dr_model.specs.Machines.Sides.{Sides, step_on}
-use Rattle.dr_model.specs.Machines.Events.{Event}
-use Rattle.dr_model.specs.Machines.Steps.{Step}
-use Rattle.dr_model.specs.Machines.Worlds.{opening_world}
-use Rattle.dr_model.specs.Machines.WorldSides.{sides_of}
+use Rattle.dr_model.specs.Machines.Sides.{Sides}
 use Rattle.kem_laws.specs.Mechanism.{Mechanism}
-use Rattle.duet.specs.Held.{DuetNow, opening_duet, stepped}
-use Rattle.duet.specs.Lined.{lined_event}
-use Rattle.duet.specs.Replies.{acting_side, reply_of}
+use Rattle.duet.specs.Deeds.{Beside, Deed, Played, acts, deed_on, deed_side, syncs}
+use Rattle.duet.specs.Held.{DuetNow, after_deed, beside, opening_duet}
+use Rattle.duet.specs.Lined.{lined_deed}
 use Rattle.duet.specs.declared.script.lined.Lined.{Lined}
 use Rattle.duet.specs.Script.{Scripted}
-use Rattle.duet.specs.Tally.{IsBelow, IsSideBelow, both_reached, counted, counted_by, counted_of, no_tally, opening_tally, tally_of}
+use Rattle.duet.specs.Tally.{IsBelow, IsSideBelow, both_reached, counted, counted_all, counted_by, counted_of, no_tally, opening_tally, tally_of}
 use Rattle.duet.specs.Trace.{after_by, beginning, lines_by, played}
 use Rattle.duet.specs.declared.tally.SideTally.{SideTally}
 use Rattle.duet.specs.declared.tally.Tally.{Tally}
-use Rattle.duet.proofs.Beginning.{opening_sides}
-use Rattle.duet.proofs.Showing.{posts_more, draws_more}
+use Rattle.duet.proofs.Beginning.{opening_stands}
+use Rattle.duet.proofs.Showing.{adds_few}
 use Rattle.duet.proofs.Trace.{stands_more, wrote_first, wrote_more, wrote_part, no_lines_yet}
 
 -- ---- what was counted
 
-counted_by-push : {S : Type 0} (act : S → Event → Step S) (s : S) (t : Tally) (events : List Event) (event : Event)
-    → counted_by act s t (events ++ event ∷ []) ≡ counted_of (acting_side event) (act (after_by act s events) event).answer (counted_by act s t events)
+counted_by-push : {S : Type 0} (act : Beside S → Deed → Played S) (s : Beside S) (t : Tally) (deeds : List Deed) (deed : Deed)
+    → counted_by act s t (deeds ++ deed ∷ []) ≡ counted_all (deed_side deed) (act (after_by act s deeds) deed).answers (counted_by act s t deeds)
 unfolding after_by counted_by
-counted_by-push act s t [] event = refl
-counted_by-push act s t (first ∷ events) event =
-    counted_by-push act (act s first).next (counted_of (acting_side first) (act s first).answer t) events event
+counted_by-push act s t [] deed = refl
+counted_by-push act s t (first ∷ deeds) deed =
+    counted_by-push act (act s first).next (counted_all (deed_side first) (act s first).answers t) deeds deed
 
 none_below : IsSideBelow 1 no_tally
 none_below = record { said = omega arith; opened = omega arith; refused = omega arith }
@@ -60,105 +56,111 @@ one_more : (n : ℕ) (side : Side) (answer : Answer) (t : Tally) → IsBelow n t
 one_more n First answer t b = record { first = side_more n answer t.first b.first; second = side_wider n (n + 1) t.second (omega arith) b.second }
 one_more n Second answer t b = record { first = side_wider n (n + 1) t.first (omega arith) b.first; second = side_more n answer t.second b.second }
 
+-- a deed counts one answer at most
+deed_more : (k : Mechanism) (s : Beside Sides) (deed : Deed) (n : ℕ) (t : Tally) → IsBelow n t → IsBelow (n + 1) (counted_all (deed_side deed) (deed_on k s deed).answers t)
+deed_more k s (acts event) n t b = one_more n (deed_side (acts event)) _ t b
+deed_more k s (syncs side lost) n t b = wider n (n + 1) t (omega arith) b
+
 -- ---- a run
 
--- Some events were answered, and these are left: what both sides hold, what was counted, and what a sink took.
-pub record IsPlaying (k : Mechanism) (script : Scripted) (left : List Event) (duet : DuetNow) (tally : Tally)
+-- Some deeds were done, and these are left: what both sides hold, what was counted, and what a sink took.
+pub record IsPlaying (k : Mechanism) (script : Scripted) (left : List Deed) (duet : DuetNow) (tally : Tally)
     (told taken : Option (List ℕ)) (before now : ℕ) : Type 0 where
-  pub events : List Event
-  pub all : script.events ≡ events ++ left
-  pub stands : duet.sides ≡ after_by (step_on k) (beginning k script) events
-  pub room : duet.room ≡ length script.events
+  pub deeds : List Deed
+  pub all : script.deeds ≡ deeds ++ left
+  pub stands : beside duet ≡ after_by (deed_on k) (beginning k script) deeds
+  pub room : duet.room ≡ length script.deeds
   pub few : duet.room < 2 ^ 32 - 1
-  pub posts : length duet.sides.posts ≤ length events
-  pub draws : duet.sides.draws.made ≤ length events
-  pub counts : tally ≡ counted_by (step_on k) (beginning k script) (opening_tally script.rounds) events
-  pub below : IsBelow (length events + 1) tally
-  pub written : taken ≡ appended told (lines_by (step_on k) (beginning k script) events)
+  pub posts : length duet.sides.posts ≤ length deeds
+  pub draws : duet.sides.draws.made ≤ length deeds
+  pub counts : tally ≡ counted_by (deed_on k) (beginning k script) (opening_tally script.rounds) deeds
+  pub below : IsBelow (length deeds + 1) tally
+  pub written : taken ≡ appended told (lines_by (deed_on k) (beginning k script) deeds)
   pub quiet : now ≡ before
 
 -- before the first
-pub plays_first : (k : Mechanism) (script : Scripted) (left : List Event) (duet : DuetNow) (tally : Tally) (told : Option (List ℕ)) (before room : ℕ)
-    → left ≡ script.events → room ≡ length script.events → duet ≡ opening_duet k script.key room → room < 2 ^ 32 - 1 → tally ≡ opening_tally script.rounds
+pub plays_first : (k : Mechanism) (script : Scripted) (left : List Deed) (duet : DuetNow) (tally : Tally) (told : Option (List ℕ)) (before room : ℕ)
+    → left ≡ script.deeds → room ≡ length script.deeds → duet ≡ opening_duet k script.key room → room < 2 ^ 32 - 1 → tally ≡ opening_tally script.rounds
     → IsPlaying k script left duet tally told told before before
 unfolding after_by counted_by
 plays_first k script left duet tally told before room all rooms begins few none = record {
-  events = [];
+  deeds = [];
   all = sym all;
-  stands = ap (λ (d : DuetNow). d.sides) begins ∙ opening_sides k script.key room;
+  stands = ap beside begins ∙ opening_stands k script room;
   room = ap (λ (d : DuetNow). d.room) begins ∙ rooms;
   few = omega (arith, ap (λ (d : DuetNow). d.room) begins);
   posts = omega (arith, ap (λ (d : DuetNow). length d.sides.posts) begins);
   draws = omega (arith, ap (λ (d : DuetNow). d.sides.draws.made) begins);
   counts = none;
   below = subst (IsBelow 1) (sym none) (record { first = none_below; second = none_below });
-  written = no_lines_yet told (step_on k) (beginning k script);
+  written = no_lines_yet (deed_on k) told (beginning k script);
   quiet = refl;
 }
 
--- how many were answered, where one is left
-pub answered : (events left rest all : List Event) (event : Event) → all ≡ events ++ left → left ≡ event ∷ rest → length events < length all
-answered events left rest all event whole first = omega (arith, ap length whole, length-append events left, ap length first)
+-- how many were done, where one is left
+pub answered : (deeds left rest all : List Deed) (deed : Deed) → all ≡ deeds ++ left → left ≡ deed ∷ rest → length deeds < length all
+answered deeds left rest all deed whole first = omega (arith, ap length whole, length-append deeds left, ap length first)
 
--- the event of a line of this kind
-pub first_is : (left rest : List Event) (line other : Lined) → left ≡ lined_event line ∷ rest → line ≡ other → left ≡ lined_event other ∷ rest
-first_is left rest line other first is = first ∙ ap (λ (l : Lined). lined_event l ∷ rest) is
+-- the deed of a line of this kind
+pub first_is : (left rest : List Deed) (line other : Lined) → left ≡ lined_deed line ∷ rest → line ≡ other → left ≡ lined_deed other ∷ rest
+first_is left rest line other first is = first ∙ ap (λ (l : Lined). lined_deed l ∷ rest) is
 
--- one event more
-pub plays_on : (k : Mechanism) (script : Scripted) (left rest : List Event) (event : Event) (duet next : DuetNow) (tally more : Tally)
-    (told taken new : Option (List ℕ)) (before now later : ℕ) → IsPlaying k script left duet tally told taken before now → left ≡ event ∷ rest
-    → next ≡ stepped k duet event → more ≡ counted_of (acting_side event) (step_on k duet.sides event).answer tally
-    → new ≡ appended taken (reply_of event (step_on k duet.sides event)) → later ≡ now → IsPlaying k script rest next more told new before later
-plays_on k script left rest event duet next tally more told taken new before now later p first steps counts wrote quiet =
+-- one deed more
+pub plays_on : (k : Mechanism) (script : Scripted) (left rest : List Deed) (deed : Deed) (duet next : DuetNow) (tally more : Tally)
+    (told taken new : Option (List ℕ)) (before now later : ℕ) → IsPlaying k script left duet tally told taken before now → left ≡ deed ∷ rest
+    → next ≡ after_deed duet (deed_on k (beside duet) deed) → more ≡ counted_all (deed_side deed) (deed_on k (beside duet) deed).answers tally
+    → new ≡ appended taken (deed_on k (beside duet) deed).lines → later ≡ now → IsPlaying k script rest next more told new before later
+plays_on k script left rest deed duet next tally more told taken new before now later p first steps counts wrote quiet =
     let start = beginning k script in
-    let size = length-append p.events (event ∷ []) in
+    let size = length-append p.deeds (deed ∷ []) in
+    let added = adds_few k (beside duet) deed in
     record {
-      events = p.events ++ event ∷ [];
-      all = p.all ∙ ap (λ es. p.events ++ es) first ∙ sym (append_assoc p.events (event ∷ []) rest);
-      stands = stands_more k start p.events (p.events ++ event ∷ []) event duet next steps refl p.stands;
+      deeds = p.deeds ++ deed ∷ [];
+      all = p.all ∙ ap (λ ds. p.deeds ++ ds) first ∙ sym (append_assoc p.deeds (deed ∷ []) rest);
+      stands = stands_more k start p.deeds deed duet next steps p.stands;
       room = ap (λ (d : DuetNow). d.room) steps ∙ p.room;
       few = omega (arith, ap (λ (d : DuetNow). d.room) steps, p.few);
-      posts = omega (arith, size, posts_more k p.events (p.events ++ event ∷ []) event duet next (length p.events) steps refl p.posts);
-      draws = omega (arith, size, draws_more k p.events (p.events ++ event ∷ []) event duet next (length p.events) steps refl p.draws);
+      posts = omega (arith, size, ap (λ (d : DuetNow). length d.sides.posts) steps, added.posts, p.posts);
+      draws = omega (arith, size, ap (λ (d : DuetNow). d.sides.draws.made) steps, added.draws, p.draws);
       counts = counts
-          ∙ ap (λ (s : Sides). counted_of (acting_side event) (step_on k s event).answer tally) p.stands
-          ∙ ap (counted_of (acting_side event) (step_on k (after_by (step_on k) start p.events) event).answer) p.counts
-          ∙ sym (counted_by-push (step_on k) start (opening_tally script.rounds) p.events event);
+          ∙ ap (λ (s : Beside Sides). counted_all (deed_side deed) (deed_on k s deed).answers tally) p.stands
+          ∙ ap (counted_all (deed_side deed) (deed_on k (after_by (deed_on k) start p.deeds) deed).answers) p.counts
+          ∙ sym (counted_by-push (deed_on k) start (opening_tally script.rounds) p.deeds deed);
       below = subst (IsBelow _) (sym counts)
-          (wider _ _ _ (omega (arith, size)) (one_more (length p.events + 1) (acting_side event) (step_on k duet.sides event).answer tally p.below));
-      written = wrote_more k told taken new start p.events (p.events ++ event ∷ []) event duet.sides wrote refl p.stands p.written;
+          (wider _ _ _ (omega (arith, size)) (deed_more k (beside duet) deed (length p.deeds + 1) tally p.below));
+      written = wrote_more k start told taken new p.deeds deed (beside duet) wrote p.stands p.written;
       quiet = quiet ∙ p.quiet;
     }
 
--- a write failed in the lines of the next event
-pub plays_cut : (k : Mechanism) (script : Scripted) (left rest : List Event) (event : Event) (duet : DuetNow) (tally : Tally)
-    (told taken new : Option (List ℕ)) (before now : ℕ) → IsPlaying k script left duet tally told taken before now → left ≡ event ∷ rest
-    → TookBeginning taken new (reply_of event (step_on k duet.sides event)) → TookBeginning told new (played k script)
+-- a write failed in the lines of the next deed
+pub plays_cut : (k : Mechanism) (script : Scripted) (left rest : List Deed) (deed : Deed) (duet : DuetNow) (tally : Tally)
+    (told taken new : Option (List ℕ)) (before now : ℕ) → IsPlaying k script left duet tally told taken before now → left ≡ deed ∷ rest
+    → TookBeginning taken new (deed_on k (beside duet) deed).lines → TookBeginning told new (played k script)
 unfolding played
-plays_cut k script left rest event duet tally told taken new before now p first part =
-    wrote_part k told taken new (beginning k script) p.events rest script.events event duet.sides part
-    (p.all ∙ ap (λ es. p.events ++ es) first ∙ sym (append_assoc p.events (event ∷ []) rest)) p.stands p.written
+plays_cut k script left rest deed duet tally told taken new before now p first part =
+    wrote_part k (beginning k script) told taken new p.deeds rest script.deeds deed (beside duet) part
+    (p.all ∙ ap (λ ds. p.deeds ++ ds) first ∙ sym (append_assoc p.deeds (deed ∷ []) rest)) p.stands p.written
 
--- no memory was left for the next event
-pub plays_short : (k : Mechanism) (script : Scripted) (left : List Event) (duet : DuetNow) (tally : Tally) (told taken : Option (List ℕ)) (before now : ℕ)
+-- no memory was left for the next deed
+pub plays_short : (k : Mechanism) (script : Scripted) (left : List Deed) (duet : DuetNow) (tally : Tally) (told taken : Option (List ℕ)) (before now : ℕ)
     → IsPlaying k script left duet tally told taken before now → TookBeginning told taken (played k script)
 unfolding played
 plays_short k script left duet tally told taken before now p =
-    wrote_first k told taken (beginning k script) p.events left script.events p.all p.written
+    wrote_first k (beginning k script) told taken p.deeds left script.deeds p.all p.written
 
--- the last was answered
-pub plays_last : (k : Mechanism) (script : Scripted) (left : List Event) (duet : DuetNow) (tally : Tally) (told taken : Option (List ℕ)) (before now : ℕ)
+-- the last was done
+pub plays_last : (k : Mechanism) (script : Scripted) (left : List Deed) (duet : DuetNow) (tally : Tally) (told taken : Option (List ℕ)) (before now : ℕ)
     → IsPlaying k script left duet tally told taken before now → left ≡ [] → taken ≡ appended told (played k script)
 unfolding played
 plays_last k script left duet tally told taken before now p none =
     p.written
-    ∙ ap (λ es. appended told (lines_by (step_on k) (beginning k script) es)) (sym (p.all ∙ ap (λ es. p.events ++ es) none ∙ append-nil p.events))
+    ∙ ap (λ ds. appended told (lines_by (deed_on k) (beginning k script) ds)) (sym (p.all ∙ ap (λ ds. p.deeds ++ ds) none ∙ append-nil p.deeds))
 
-pub tallies_last : (k : Mechanism) (script : Scripted) (left : List Event) (duet : DuetNow) (tally : Tally) (told taken : Option (List ℕ)) (before now : ℕ)
+pub tallies_last : (k : Mechanism) (script : Scripted) (left : List Deed) (duet : DuetNow) (tally : Tally) (told taken : Option (List ℕ)) (before now : ℕ)
     → IsPlaying k script left duet tally told taken before now → left ≡ [] → both_reached duet.sides tally ≡ tally_of k script
 unfolding tally_of
 tallies_last k script left duet tally told taken before now p none =
-    let whole : script.events ≡ p.events = p.all ∙ ap (λ es. p.events ++ es) none ∙ append-nil p.events in
-    ap (λ (s : Sides). both_reached s tally) p.stands
-    ∙ ap (both_reached (after_by (step_on k) (beginning k script) p.events)) p.counts
-    ∙ ap (λ es. both_reached (after_by (step_on k) (beginning k script) es) (counted_by (step_on k) (beginning k script) (opening_tally script.rounds) es)) (sym whole)
+    let whole : script.deeds ≡ p.deeds = p.all ∙ ap (λ ds. p.deeds ++ ds) none ∙ append-nil p.deeds in
+    ap (λ (s : Beside Sides). both_reached s.ends tally) p.stands
+    ∙ ap (both_reached (after_by (deed_on k) (beginning k script) p.deeds).ends) p.counts
+    ∙ ap (λ ds. both_reached (after_by (deed_on k) (beginning k script) ds).ends (counted_by (deed_on k) (beginning k script) (opening_tally script.rounds) ds)) (sym whole)

@@ -1,32 +1,25 @@
--- What a printed line is read as.
-use Rattle.std.proofs.Common.{◌≡◌, ℕ, zero, suc, ◌+◌, ◌-◌, ◌*◌, ◌/◌, ◌^◌, ◌<◌, ◌≤◌, Bool, true, false, cond, List, [], ◌∷◌, ◌++◌, length, take, drop, get_or, Option, Some, None, refl, sym, ◌∙◌, ap, ap₂, arith, add-one, append_assoc, subst}
-use Rattle.std.specs.Prelude.{⊤, nat_eq, ◌==◌, ◌&&◌, not, nat_le, nat_lt, codes, decimal, option_map, position, if◌then◌else◌}
-use Rattle.std.specs.Char.{digit_value, is_ascii_digit}
-use Rattle.std.specs.List.{list_all, position_from, starts_with}
+-- What the printed line of an event is read as.
+use Rattle.std.proofs.Common.{◌≡◌, ℕ, ◌^◌, ◌<◌, Bool, true, false, List, [], ◌∷◌, ◌++◌, length, Some, None, refl, sym, ◌∙◌, ap, ap₂, arith, append_assoc, subst}
+use Rattle.std.specs.Prelude.{⊤, nat_eq, ◌==◌, codes, decimal, option_map}
+use Rattle.std.specs.List.{starts_with}
 use Rattle.std.specs.Option.{option_and_then, option_or}
 use Rattle.std.specs.Result.{result_ok}
-use Rattle.std.specs.Str.Parse.{AllDigits, digits_value}
+use Rattle.std.specs.Str.Parse.{AllDigits}
 use Rattle.std.proofs.lemmas.Bool.Decides.{nat_tests}
-use Rattle.std.proofs.lemmas.Iterator.Adapters.{position_from-zero}
-use Rattle.std.proofs.lemmas.Fmt.{decimal_digit, decimal_is_IsNumeral, decimal_nonempty, first_decimal}
-use Rattle.std.proofs.lemmas.List.{length-append}
-use Rattle.std.proofs.Math.Seq.{take-append_seam, drop-append_seam}
+use Rattle.std.proofs.lemmas.Fmt.{decimal_nonempty}
 use Rattle.std.proofs.lemmas.Bool.{cond-true, cond-false}
-use Rattle.hex.specs.Hex.{IsBytes, decode_sized, encode_lower, lower_digits}
-use Rattle.hex.proofs.HexLemmas.{decode_sized-encode_lower, length-encode_with}
+use Rattle.hex.proofs.HexLemmas.{decode_sized-encode_lower}
 use Rattle.dr_base.specs.declared.position.Position.{Position}
 use Rattle.dr_base.specs.declared.position.Side.{Side}
 use Rattle.dr_base.specs.declared.position.Side.TheVariants.{First, Second}
-use Rattle.session_model.specs.declared.answer.Amount.{Amount}
-use Rattle.session_model.specs.declared.answer.Amount.TheVariants.{All, Exactly}
 use Rattle.dr_model.specs.Machines.Events.{Event, seeds, says, takes, takes_nth, flips, takes_bytes, drops_sent, drops_done, shows_inbox, shows_state, cuts}
-use Rattle.duet.specs.Number.{is_number, is_unpadded, number_read}
+use Rattle.duet.specs.Number.{number_read}
 use Rattle.dr_disk.specs.declared.call.Mode.TheVariants.{Old}
-use Rattle.duet.specs.Printed.{IsAmount, IsNumbered, IsSayable, amount_text, cut_text, line_text, words_text}
+use Rattle.duet.specs.Printed.{IsNumbered, IsSayableEvent, cut_text, event_text, words_text}
 use Rattle.answer_lines.specs.Answers.{position_text}
 use Rattle.duet.specs.Replies.{acting_side, side_text}
 use Rattle.duet.specs.Stops.{stopped}
-use Rattle.duet.specs.Words.{after_prefix, amount_read, bytes_words, call_words, crash_read, done_words, flip_read, flip_words, halves_of, hex_read, if_call, is_call, is_text, line_read, look_words, mode_read, numbers_read, packet_read, plain_read, position_read, say_words, seed_read, sent_words, side_words, stop_read, stop_words, take_words}
+use Rattle.duet.specs.Words.{after_prefix, bytes_words, call_words, crash_read, done_words, flip_read, flip_words, halves_of, event_read, if_call, is_call, look_words, mode_read, packet_read, plain_read, position_read, say_words, seed_read, sent_words, side_words, stop_read, stop_words, take_words}
 use Rattle.duet.proofs.PrintedParts.{Without, amount_back, digit_from, both_without, digits_of, digits_without, halves_back, hex_back, no_letter, number_back, point, position_back}
 
 -- ---- what a side does
@@ -83,7 +76,7 @@ IsPlain (seeds seed) = ⊥
 IsPlain (cuts took event) = ⊥
 IsPlain _ = ⊤
 
-words_back : (event : Event) → IsSayable event → IsPlain event → side_words (acting_side event) (words_text event) ≡ Some event
+words_back : (event : Event) → IsSayableEvent event → IsPlain event → side_words (acting_side event) (words_text event) ≡ Some event
 unfolding after_prefix words_text side_words say_words take_words flip_words bytes_words sent_words done_words look_words
 words_back (seeds seed) h plain = absurd plain
 words_back (says side text) h plain = refl
@@ -97,8 +90,8 @@ words_back (shows_inbox side) h plain = refl
 words_back (shows_state side) h plain = refl
 words_back (cuts took event) h plain = absurd plain
 
-plain_first : (line : List ℕ) (event : Event) → plain_read line ≡ Some event → line_read line ≡ Some event
-unfolding line_read
+plain_first : (line : List ℕ) (event : Event) → plain_read line ≡ Some event → event_read line ≡ Some event
+unfolding event_read
 plain_first line event h =
     ap (λ o. option_or o (option_or (option_and_then (stop_words First) (after_prefix (codes "first ") line))
     (option_and_then (stop_words Second) (after_prefix (codes "second ") line)))) h
@@ -112,8 +105,8 @@ no_plain side true words = refl
 no_plain side false words = refl
 
 of_stop : (side : Side) (words : List ℕ) (event : Event) → side_words side words ≡ None → stop_words side words ≡ Some event
-    → line_read (side_text side ++ words) ≡ Some event
-unfolding line_read plain_read seed_read after_prefix side_text
+    → event_read (side_text side ++ words) ≡ Some event
+unfolding event_read plain_read seed_read after_prefix side_text
 of_stop First words event none h = ap₂ (λ a b. option_or (option_or a None) (option_or b None)) none h
 of_stop Second words event none h = ap₂ (λ a b. option_or a b) none h
 
@@ -157,27 +150,27 @@ call_plain (shows_inbox side) h = tt
 call_plain (shows_state side) h = tt
 call_plain (cuts took event) h = cc
 
-cut_back : (took : Bool) (event : Event) → is_call event ≡ true → IsSayable event → line_read (line_text (cuts took event)) ≡ Some (cuts took event)
-unfolding line_text words_text
+cut_back : (took : Bool) (event : Event) → is_call event ≡ true → IsSayableEvent event → event_read (event_text (cuts took event)) ≡ Some (cuts took event)
+unfolding event_text words_text
 cut_back took event call h =
     let side = acting_side event in
     let said = words_back event h (call_plain event call) in
     of_stop side (cut_text took ++ words_text event) (cuts took event) (no_plain side took (words_text event))
     (stop_back side took event (words_text event) (call_back side event (words_text event) call said))
 
--- ---- any line
+-- ---- any event
 
-pub line_back : (event : Event) → IsSayable event → line_read (line_text event) ≡ Some event
-unfolding line_text plain_read seed_read after_prefix
-line_back (seeds seed) h =
+pub event_back : (event : Event) → IsSayableEvent event → event_read (event_text event) ≡ Some event
+unfolding event_text plain_read seed_read after_prefix
+event_back (seeds seed) h =
     plain_first _ _ (ap (λ o. option_or (option_map seeds o) None) (ap result_ok (decode_sized-encode_lower seed 32 h.0 h.1)))
-line_back (says side text) h = plain_first _ _ (of_side side _ _ (words_back (says side text) h tt))
-line_back (takes side p) h = plain_first _ _ (of_side side _ _ (words_back (takes side p) h tt))
-line_back (takes_nth side nth) h = plain_first _ _ (of_side side _ _ (words_back (takes_nth side nth) h tt))
-line_back (flips side p bit) h = plain_first _ _ (of_side side _ _ (words_back (flips side p bit) h tt))
-line_back (takes_bytes side bytes) h = plain_first _ _ (of_side side _ _ (words_back (takes_bytes side bytes) h tt))
-line_back (drops_sent side amount) h = plain_first _ _ (of_side side _ _ (words_back (drops_sent side amount) h tt))
-line_back (drops_done side amount) h = plain_first _ _ (of_side side _ _ (words_back (drops_done side amount) h tt))
-line_back (shows_inbox side) h = plain_first _ _ (of_side side _ _ (words_back (shows_inbox side) h tt))
-line_back (shows_state side) h = plain_first _ _ (of_side side _ _ (words_back (shows_state side) h tt))
-line_back (cuts took event) h = cut_back took event h.0 h.1
+event_back (says side text) h = plain_first _ _ (of_side side _ _ (words_back (says side text) h tt))
+event_back (takes side p) h = plain_first _ _ (of_side side _ _ (words_back (takes side p) h tt))
+event_back (takes_nth side nth) h = plain_first _ _ (of_side side _ _ (words_back (takes_nth side nth) h tt))
+event_back (flips side p bit) h = plain_first _ _ (of_side side _ _ (words_back (flips side p bit) h tt))
+event_back (takes_bytes side bytes) h = plain_first _ _ (of_side side _ _ (words_back (takes_bytes side bytes) h tt))
+event_back (drops_sent side amount) h = plain_first _ _ (of_side side _ _ (words_back (drops_sent side amount) h tt))
+event_back (drops_done side amount) h = plain_first _ _ (of_side side _ _ (words_back (drops_done side amount) h tt))
+event_back (shows_inbox side) h = plain_first _ _ (of_side side _ _ (words_back (shows_inbox side) h tt))
+event_back (shows_state side) h = plain_first _ _ (of_side side _ _ (words_back (shows_state side) h tt))
+event_back (cuts took event) h = cut_back took event h.0 h.1

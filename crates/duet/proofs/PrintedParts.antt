@@ -1,30 +1,25 @@
 -- What numbers, positions and bytes of a printed line are read as.
-use Rattle.std.proofs.Common.{◌≡◌, ℕ, zero, suc, ◌+◌, ◌-◌, ◌*◌, ◌/◌, ◌^◌, ◌<◌, ◌≤◌, Bool, true, false, cond, List, [], ◌∷◌, ◌++◌, length, take, drop, get_or, Option, Some, None, refl, sym, ◌∙◌, ap, ap₂, arith, add-one, append_assoc, subst}
-use Rattle.std.specs.Prelude.{⊤, nat_eq, ◌==◌, ◌&&◌, not, nat_le, nat_lt, codes, decimal, option_map, position, if◌then◌else◌}
+use Rattle.std.proofs.Common.{◌≡◌, ℕ, zero, suc, ◌+◌, ◌*◌, ◌/◌, ◌^◌, ◌<◌, ◌≤◌, Bool, true, false, List, [], ◌∷◌, ◌++◌, length, take, drop, get_or, Some, None, refl, ◌∙◌, ap, ap₂, arith, add-one, append_assoc}
+use Rattle.std.specs.Prelude.{⊤, ◌==◌, ◌&&◌, nat_le, nat_lt, codes, decimal, option_map, if◌then◌else◌}
 use Rattle.std.specs.Char.{digit_value, is_ascii_digit}
-use Rattle.std.specs.List.{list_all, position_from, starts_with}
-use Rattle.std.specs.Option.{option_and_then, option_or}
+use Rattle.std.specs.List.{list_all, position_from}
+use Rattle.std.specs.Option.{option_and_then}
 use Rattle.std.specs.Result.{result_ok}
 use Rattle.std.specs.Str.Parse.{AllDigits, digits_value}
 use Rattle.std.proofs.lemmas.Bool.Decides.{nat_tests}
 use Rattle.std.proofs.lemmas.Iterator.Adapters.{position_from-zero}
 use Rattle.std.proofs.lemmas.Fmt.{decimal_digit, decimal_is_IsNumeral, decimal_nonempty, first_decimal}
-use Rattle.std.proofs.lemmas.List.{length-append}
-use Rattle.std.proofs.Math.Seq.{take-append_seam, drop-append_seam}
+use Rattle.std.proofs.Math.Seq.{take-append_seam}
 use Rattle.std.proofs.lemmas.Bool.{cond-true, cond-false}
 use Rattle.hex.specs.Hex.{IsBytes, decode_sized, encode_lower, lower_digits}
 use Rattle.hex.proofs.HexLemmas.{decode_sized-encode_lower, length-encode_with}
 use Rattle.dr_base.specs.declared.position.Position.{Position}
-use Rattle.dr_base.specs.declared.position.Side.{Side}
-use Rattle.dr_base.specs.declared.position.Side.TheVariants.{First, Second}
 use Rattle.session_model.specs.declared.answer.Amount.{Amount}
 use Rattle.session_model.specs.declared.answer.Amount.TheVariants.{All, Exactly}
-use Rattle.dr_model.specs.Machines.Events.{Event, seeds, says, takes, takes_nth, flips, takes_bytes, drops_sent, drops_done, shows_inbox, shows_state, cuts}
 use Rattle.duet.specs.Number.{is_number, is_unpadded, number_read}
-use Rattle.duet.specs.Printed.{IsAmount, IsNumbered, IsSayable, amount_text, cut_text, line_text, words_text}
+use Rattle.duet.specs.Printed.{IsAmount, IsNumbered, amount_text}
 use Rattle.answer_lines.specs.Answers.{position_text}
-use Rattle.duet.specs.Replies.{acting_side, side_text}
-use Rattle.duet.specs.Words.{after_prefix, amount_read, bytes_words, call_words, crash_read, done_words, flip_read, flip_words, halves_of, hex_read, if_call, is_call, is_text, line_read, look_words, mode_read, numbers_read, packet_read, plain_read, position_read, say_words, seed_read, sent_words, side_words, stop_read, stop_words, take_words}
+use Rattle.duet.specs.Words.{amount_read, halves_of, hex_read, is_text, numbers_read, position_read}
 
 -- ---- numbers
 

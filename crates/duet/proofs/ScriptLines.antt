@@ -2,23 +2,23 @@
 use Rattle.std.proofs.Common.{◌≡◌, ◌∙◌, ℕ, suc, ◌==◌, ◌&&◌, Bool, true, false, not, refl, sym, ap, append_assoc, List, [], ◌∷◌, ◌++◌, length, Ok, codes}
 use Rattle.std.specs.Prelude.{⊤}
 use Rattle.std.specs.List.{list_all}
-use Rattle.dr_model.specs.Machines.Events.{Event}
+use Rattle.duet.specs.Deeds.{Deed}
 use Rattle.duet.specs.Printed.{IsSayable, line_text, script_text}
-use Rattle.duet.specs.Script.{AreCounted, events_in, events_of, lines_of, with_byte}
-use Rattle.duet.proofs.PrintedLines.{line_back}
+use Rattle.duet.specs.Script.{AreCounted, deeds_in, deeds_of, lines_of, with_byte}
+use Rattle.duet.proofs.PrintedDeeds.{line_back}
 use Rattle.duet.proofs.PrintedParts.{Without}
 use Rattle.duet.proofs.Reading.{are_read}
 
--- an event whose line is one line
-pub record IsLine (event : Event) : Type 0 where
-  pub sayable : IsSayable event
-  pub one : Without 10 (line_text event)
+-- a deed whose line is one line
+pub record IsLine (deed : Deed) : Type 0 where
+  pub sayable : IsSayable deed
+  pub one : Without 10 (line_text deed)
 
-abbrev pub AreLines : List Event → Type 0
+abbrev pub AreLines : List Deed → Type 0
 AreLines [] = ⊤
-AreLines (event ∷ events) = IsLine event × AreLines events
+AreLines (deed ∷ deeds) = IsLine deed × AreLines deeds
 
-pub lines_both : (xs ys : List Event) → AreLines xs → AreLines ys → AreLines (xs ++ ys)
+pub lines_both : (xs ys : List Deed) → AreLines xs → AreLines ys → AreLines (xs ++ ys)
 lines_both [] ys h i = i
 lines_both (x ∷ xs) ys h i = (h.0, lines_both xs ys h.1 i)
 
@@ -38,17 +38,17 @@ unfolding lines_of
 first_line [] rest h = refl
 first_line (c ∷ cs) rest h = rw h.0 (ap (with_byte c) (first_line cs rest h.1))
 
-text_read : (number : ℕ) (events : List Event) → AreLines events → events_of number (lines_of (script_text events)) ≡ Ok events
-unfolding events_of lines_of
+text_read : (number : ℕ) (deeds : List Deed) → AreLines deeds → deeds_of number (lines_of (script_text deeds)) ≡ Ok deeds
+unfolding deeds_of lines_of
 text_read number [] h = refl
-text_read number (event ∷ events) h =
-    let text = append_assoc (line_text event) (codes "\n") (script_text events) in
-    let lines = ap lines_of text ∙ first_line (line_text event) (script_text events) h.0.one in
-    ap (events_of number) lines ∙ rw (line_back event h.0.sayable, text_read (suc number) events h.1) refl
+text_read number (deed ∷ deeds) h =
+    let text = append_assoc (line_text deed) (codes "\n") (script_text deeds) in
+    let lines = ap lines_of text ∙ first_line (line_text deed) (script_text deeds) h.0.one in
+    ap (deeds_of number) lines ∙ rw (line_back deed h.0.sayable, text_read (suc number) deeds h.1) refl
 
--- the printed lines are counted, and say the events
-pub text_counted : (events : List Event) (count : ℕ) → AreLines events → count ≡ length events
-    → AreCounted (script_text events) count × (events_in (script_text events) ≡ events)
-text_counted events count h is =
-    let read = are_read (script_text events) events (text_read 3 events h) in
+-- the printed lines are counted, and say the deeds
+pub text_counted : (deeds : List Deed) (count : ℕ) → AreLines deeds → count ≡ length deeds
+    → AreCounted (script_text deeds) count × (deeds_in (script_text deeds) ≡ deeds)
+text_counted deeds count h is =
+    let read = are_read (script_text deeds) deeds (text_read 3 deeds h) in
     (record { read = read.0; count_is = is ∙ ap length (sym read.1) }, read.1)

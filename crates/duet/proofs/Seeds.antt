@@ -1,9 +1,8 @@
--- The seeds of a script that was read have 32 bytes.
-use Rattle.std.proofs.Common.{◌≡◌, ℕ, suc, Bool, true, false, List, [], ◌∷◌, length, Option, Some, None, Result, Ok, Err, refl, ◌∙◌, sym, subst, arith}
-use Rattle.std.specs.Prelude.{All, IfSome, IfOk, nat_le, option_map, codes, if◌then◌else◌}
+-- The seed that a line gives has 32 bytes.
+use Rattle.std.proofs.Common.{◌≡◌, ℕ, Bool, true, false, List, [], length, Option, Some, None, Result, Ok, Err, refl, ◌∙◌, sym, arith}
+use Rattle.std.specs.Prelude.{IfSome, nat_le, option_map, codes, if◌then◌else◌}
 use Rattle.std.specs.Option.{option_and_then, option_or}
 use Rattle.std.specs.Result.{result_ok}
-use Rattle.std.proofs.lemmas.List.Elements.{All-cons, All-nil}
 use Rattle.hex.specs.Hex.{decode_sized}
 use Rattle.hex.proofs.HexLemmas.{decode_of-ok, decode_sized-ok, decode_sized-twice}
 use Rattle.dr_base.specs.declared.position.Side.{Side}
@@ -11,11 +10,9 @@ use Rattle.dr_base.specs.declared.position.Side.TheVariants.{First, Second}
 use Rattle.dr_model.specs.Machines.Events.{Event, seeds, says, takes, takes_nth, flips, takes_bytes, drops_sent, drops_done, shows_inbox, shows_state, cuts}
 use Rattle.dr_disk.specs.declared.call.Mode.{Mode}
 use Rattle.duet.specs.Stops.{stopped, takes_effect}
-use Rattle.duet.specs.Words.{after_prefix, amount_read, bytes_words, call_words, crash_read, done_words, flip_words, flip_read, halves_of, hex_read, if_call, is_call, is_text, line_read, look_words, mode_read, packet_read, plain_read, position_read, say_words, seed_read, sent_words, stop_read, stop_words, take_words, side_words}
-use Rattle.duet.specs.Script.{events_of, kem_read, key_read, keyed, after_kem, lines_of, or_bad, script_of, script_of_lines, scripted, Scripted, with_event}
+use Rattle.duet.specs.Words.{after_prefix, amount_read, bytes_words, call_words, crash_read, done_words, event_read, flip_words, flip_read, halves_of, hex_read, if_call, is_call, is_text, look_words, mode_read, packet_read, plain_read, position_read, say_words, seed_read, sent_words, stop_read, stop_words, take_words, side_words}
 use Rattle.duet.specs.Number.{number_read}
 use Rattle.dr_model.specs.Theorems.Fairness.{IsSeedWhole}
-use Rattle.duet.specs.declared.script.KemName.{KemName}
 
 -- ---- choices
 
@@ -144,49 +141,11 @@ whole_stop side words =
     (λ rest. whole_then (λ mode. option_map (stopped n mode) (call_words side rest.1)) (mode_read rest.0)
     (λ mode. whole_stopped n mode (call_words side rest.1) (whole_call (side_words side rest.1) (whole_words side rest.1))))))
 
-whole_line : (line : List ℕ) → IfSome (line_read line) IsSeedWhole
-unfolding line_read
-whole_line line =
+pub whole_event : (line : List ℕ) → IfSome (event_read line) IsSeedWhole
+unfolding event_read
+whole_event line =
     whole_or (plain_read line) (option_or (option_and_then (stop_words First) (after_prefix (codes "first ") line)) (option_and_then (stop_words Second) (after_prefix (codes "second ") line)))
     (whole_plain line)
     (whole_or (option_and_then (stop_words First) (after_prefix (codes "first ") line)) (option_and_then (stop_words Second) (after_prefix (codes "second ") line))
     (whole_then (stop_words First) (after_prefix (codes "first ") line) (whole_stop First))
     (whole_then (stop_words Second) (after_prefix (codes "second ") line) (whole_stop Second)))
-
--- ---- a script
-
-whole_with : (event : Event) (others : Result (List Event) ℕ) → IsSeedWhole event → IfOk others (All IsSeedWhole) → IfOk (with_event event others) (All IsSeedWhole)
-whole_with event (Err bad) h i = tt
-whole_with event (Ok events) h i = All-cons IsSeedWhole event events h i
-
-whole_or_bad : (o : Option Event) (number : ℕ) (others : Result (List Event) ℕ) → IfSome o IsSeedWhole → IfOk others (All IsSeedWhole) → IfOk (or_bad o number others) (All IsSeedWhole)
-whole_or_bad None number others h i = tt
-whole_or_bad (Some event) number others h i = whole_with event others h i
-
-whole_events : (number : ℕ) (lines : List (List ℕ)) → IfOk (events_of number lines) (All IsSeedWhole)
-unfolding events_of
-whole_events number [] = All-nil IsSeedWhole
-whole_events number (line ∷ lines) = whole_or_bad (line_read line) number (events_of (suc number) lines) (whole_line line) (whole_events (suc number) lines)
-
-whole_scripted : (kem : KemName) (key : List ℕ) (events : Result (List Event) ℕ) → IfOk events (All IsSeedWhole)
-    → IfOk (scripted kem key events) (λ script. All IsSeedWhole script.events)
-whole_scripted kem key (Err bad) h = tt
-whole_scripted kem key (Ok events) h = h
-
-whole_keyed : (kem : KemName) (key : Option (List ℕ)) (lines : List (List ℕ)) → IfOk (keyed kem key lines) (λ script. All IsSeedWhole script.events)
-whole_keyed kem None lines = tt
-whole_keyed kem (Some key) lines = whole_scripted kem key (events_of 3 lines) (whole_events 3 lines)
-
-whole_after : (kem : Option KemName) (lines : List (List ℕ)) → IfOk (after_kem kem lines) (λ script. All IsSeedWhole script.events)
-whole_after None lines = tt
-whole_after (Some kem) [] = tt
-whole_after (Some kem) (line ∷ lines) = whole_keyed kem (key_read line) lines
-
-whole_lines : (lines : List (List ℕ)) → IfOk (script_of_lines lines) (λ script. All IsSeedWhole script.events)
-whole_lines [] = tt
-whole_lines (line ∷ lines) = whole_after (kem_read line) lines
-
--- the seeds of a script that was read
-pub whole_seeds : (text : List ℕ) (script : Scripted) → script_of text ≡ Ok script → All IsSeedWhole script.events
-unfolding script_of
-whole_seeds text script read = subst (λ r. IfOk r (λ script. All IsSeedWhole script.events)) read (whole_lines (lines_of text))

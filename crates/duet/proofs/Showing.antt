@@ -6,15 +6,16 @@ use Rattle.dr_base.specs.declared.position.Side.TheVariants.{First, Second}
 use Rattle.boxes.specs.Items.{Item}
 use Rattle.session_model.specs.declared.answer.Answer.TheVariants.{Stopped}
 use Rattle.session_model.specs.declared.answer.Refusal.{Refusal}
-use Rattle.session_model.specs.Clients.{SaidText, TakenPacket, dropped_of, say_check, say_on, take_on}
-use Rattle.dr_model.specs.Machines.Sides.{Sides, client_of, done_on, opened_on, said_on, saying_on, sent_on, step_on, taken_on}
-use Rattle.dr_model.specs.Machines.Steps.{Step, amount_of, cut_step, has_effect, step}
+use Rattle.session_model.specs.Clients.{Client, SaidText, TakenPacket, dropped_of, say_check, say_on, take_on}
+use Rattle.dr_model.specs.Machines.Sides.{Sides, client_of, done_on, opened_on, said_on, saying_on, sent_on, step_on, taken_on, with_client}
+use Rattle.dr_model.specs.Machines.Steps.{Step, amount_of, has_effect, step}
 use Rattle.dr_model.specs.Machines.Draws.{Draws, after_draw, next_seed}
 use Rattle.dr_model.specs.Machines.Events.{Event, seeds, says, takes, takes_nth, flips, takes_bytes, drops_sent, drops_done, shows_inbox, shows_state, cuts}
 use Rattle.dr_model.specs.Machines.Network.{flipped_at, held_at, held_nth}
 use Rattle.kem_laws.specs.Mechanism.{Mechanism}
 use Rattle.session_model.specs.declared.answer.Answer.{Answer}
-use Rattle.duet.specs.Held.{DuetNow, shown, stepped}
+use Rattle.duet.specs.Deeds.{Beside, Deed, acts, deed_on, syncs}
+use Rattle.duet.specs.Held.{shown}
 use Rattle.duet.specs.Lined.{call_event, stop_event}
 use Rattle.duet.specs.Replies.{acting_side, entry_line, reply_line, reply_of}
 use Rattle.duet.specs.Stops.{stopped, takes_effect}
@@ -130,15 +131,20 @@ shows k s (cuts took event) =
 pub shown-entries : (k : Mechanism) (s : Sides) (event : Event) → shown event (step_on k s event).next ≡ (step_on k s event).entries
 shown-entries k s event = (shows k s event).entries
 
--- as many packets as events, and one event more
-pub posts_more : (k : Mechanism) (events more : List Event) (event : Event) (old new : DuetNow) (n : ℕ) → new ≡ stepped k old event → more ≡ events ++ event ∷ [] → length old.sides.posts ≤ n
-    → length new.sides.posts ≤ n + 1
-posts_more k events more event old new n next e few = omega (arith, ap (λ (d : DuetNow). length d.sides.posts) next, (shows k old.sides event).posts)
+-- ---- a deed
 
--- and as many draws
-pub draws_more : (k : Mechanism) (events more : List Event) (event : Event) (old new : DuetNow) (n : ℕ) → new ≡ stepped k old event → more ≡ events ++ event ∷ [] → old.sides.draws.made ≤ n
-    → new.sides.draws.made ≤ n + 1
-draws_more k events more event old new n next e few = omega (arith, ap (λ (d : DuetNow). d.sides.draws.made) next, (shows k old.sides event).draws)
+-- at most one packet more for the network, and one draw
+pub record AddsFew (s next : Sides) : Type 0 where
+  pub posts : length next.posts ≤ length s.posts + 1
+  pub draws : next.draws.made ≤ s.draws.made + 1
+
+adds_none : (s : Sides) (side : Side) (kept : Client) → AddsFew s (with_client s side kept)
+adds_none s First kept = record { posts = omega arith; draws = omega arith }
+adds_none s Second kept = record { posts = omega arith; draws = omega arith }
+
+pub adds_few : (k : Mechanism) (s : Beside Sides) (deed : Deed) → AddsFew s.ends (deed_on k s deed).next.ends
+adds_few k s (acts event) = let step = shows k s.ends event in record { posts = step.posts; draws = step.draws }
+adds_few k s (syncs side lost) = adds_none s.ends side _
 
 -- ---- a call in which a disk stops shows no text
 
@@ -161,9 +167,9 @@ stop_shows_none t stop = by_count (nat_le 8 stop.after)
 pub stop_reply : (k : Mechanism) (s : Sides) (stop : Stop) (side : Side) (answer : Answer) → side ≡ acting_side (stop_event stop)
     → answer ≡ (step_on k s (stop_event stop)).answer → reply_line side answer ≡ reply_of (stop_event stop) (step_on k s (stop_event stop))
 unfolding reply_of
-stop_reply k s stop side answer acts is =
+stop_reply k s stop side answer own_is is =
     let made = step_on k s (stop_event stop) in
     let own = acting_side (stop_event stop) in
     let none : made.entries ≡ [] = sym (shown-entries k s (stop_event stop)) ∙ stop_shows_none made.next stop in
-    ap₂ reply_line acts is ∙ sym (append-nil (reply_line own made.answer))
+    ap₂ reply_line own_is is ∙ sym (append-nil (reply_line own made.answer))
     ∙ ap (λ entries. reply_line own made.answer ++ flat_map (entry_line own) entries) (sym none)

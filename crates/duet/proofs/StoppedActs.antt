@@ -1,5 +1,5 @@
 -- What an act comes to on a disk that stops in it.
-use Rattle.std.proofs.Common.{Bool, Err, List, None, Ok, Option, Result, Some, ap, arith, false, if◌then◌else◌, length, refl, subst, sym, true, ℕ, ◌+◌, ◌-◌, ◌<◌, ◌∙◌, ◌≡◌, ◌≤◌}
+use Rattle.std.proofs.Common.{Bool, Err, List, None, Ok, Option, Result, Some, ap, arith, false, if◌then◌else◌, length, refl, subst, sym, true, ℕ, ◌-◌, ◌<◌, ◌∙◌, ◌≡◌, ◌≤◌}
 use Rattle.std.specs.Prelude.{IfSome, is_some, nat_le}
 use Rattle.std.proofs.lemmas.Bool.{cond-false, cond-true}
 use Rattle.std.proofs.lemmas.Bool.Decides.{nat_tests}
@@ -7,13 +7,12 @@ use Rattle.boxes.specs.Items.{Item}
 use Rattle.dr_base.specs.declared.key.Key32.{Key32}
 use Rattle.dr_disk.specs.MemoryDisks.{IsLeftBy, going_on, state_of, stopped_after}
 use Rattle.dr_disk.specs.MemoryLaws.{memory_lawful}
-use Rattle.dr_disk.specs.Spans.{Gone}
 use Rattle.dr_disk.specs.State.{DiskState, IsLawful, some_pass}
 use Rattle.dr_disk.specs.declared.call.Call.{Call}
 use Rattle.dr_disk.specs.declared.call.Mode.{Mode}
 use Rattle.dr_disk.specs.declared.memory.MemoryDisk.{MemoryDisk}
 use Rattle.dr_model.specs.Machines.Acts.{finished_by, said_by, sent_by, taken_by}
-use Rattle.dr_model.specs.Machines.Steps.{Step, cut_step, has_effect, settled, step}
+use Rattle.dr_model.specs.Machines.Steps.{Step, has_effect, settled, step}
 use Rattle.kem_laws.specs.Mechanism.{IsLawfulMechanism, Mechanism}
 use Rattle.ratchet.specs.Seen.{seed_bytes}
 use Rattle.session_model.specs.Clients.{Client, SaidText, TakenPacket, dropped_of, say_on, take_on}

@@ -1,5 +1,5 @@
 -- A step of both sides in which one side's disk stops.
-use Rattle.std.proofs.Common.{Bool, Err, List, None, Ok, Option, Result, Some, [], ap, append-nil, arith, false, if◌then◌else◌, length, refl, suc, sym, true, zero, ℕ, ◌++◌, ◌+◌, ◌-◌, ◌<◌, ◌∙◌, ◌∷◌, ◌≡◌, ◌≤◌}
+use Rattle.std.proofs.Common.{Bool, Err, List, None, Ok, Option, Result, Some, [], ap, append-nil, arith, false, if◌then◌else◌, length, refl, suc, sym, true, zero, ℕ, ◌++◌, ◌+◌, ◌-◌, ◌∙◌, ◌∷◌, ◌≡◌, ◌≤◌}
 use Rattle.std.specs.Prelude.{drop, nat_le, option_map, slice_get}
 use Rattle.std.proofs.lemmas.List.{drop_all, length-append}
 use Rattle.std.proofs.Math.Seq.{drop-append_seam}
@@ -41,7 +41,7 @@ same_draws : (s : Sides) (side : Side) (c : Client) → (with_client s side c).d
 same_draws s First c = refl
 same_draws s Second c = refl
 
-same_client : (s : Sides) (side : Side) → with_client s side (client_of s side) ≡ s
+pub same_client : (s : Sides) (side : Side) → with_client s side (client_of s side) ≡ s
 same_client s First = refl
 same_client s Second = refl
 

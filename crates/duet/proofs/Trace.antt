@@ -1,108 +1,93 @@
--- Lines of a trace, one event after another.
-use Rattle.std.proofs.Common.{◌≡◌, ℕ, ◌+◌, ◌<◌, List, [], ◌∷◌, ◌++◌, length, take, drop, map, get_or, Option, None, Some, refl, sym, ◌∙◌, ap, append_assoc, append-nil, subst}
-use Rattle.std.proofs.lemmas.List.{map-append, take-append-drop, take_more}
+-- Lines of a trace, one deed after another.
+use Rattle.std.proofs.Common.{◌≡◌, ℕ, List, [], ◌∷◌, ◌++◌, Option, refl, sym, ◌∙◌, ap, append_assoc, append-nil, subst}
 use Rattle.dr_ports.specs.Ports.{appended}
 use Rattle.dr_ports.specs.Writing.{TookBeginning}
 use Rattle.dr_ports.proofs.Told.{appended-appended, appended-none}
 use Rattle.dr_ports.proofs.WritingLemmas.{took_of_first, took_of_second}
-use Rattle.dr_model.specs.Machines.Steps.{Step}
-use Rattle.dr_model.specs.Machines.Events.{Event}
-use Rattle.dr_model.specs.Machines.Sides.{Sides, step_on}
+use Rattle.dr_model.specs.Machines.Sides.{Sides}
 use Rattle.kem_laws.specs.Mechanism.{Mechanism}
-use Rattle.duet.specs.Held.{DuetNow, stepped}
-use Rattle.duet.specs.Replies.{reply_of}
-use Rattle.duet.specs.Seen.{event_of}
+use Rattle.duet.specs.Deeds.{Beside, Deed, Played, deed_on}
+use Rattle.duet.specs.Held.{DuetNow, after_deed, beside}
 use Rattle.duet.specs.Trace.{lines_by, after_by}
-use Rattle.duet.specs.declared.script.line.Line.{Line}
 
--- the lines of events and of those that follow
-lines_by-append : {S : Type 0} (act : S → Event → Step S) (s : S) (events others : List Event) → lines_by act s (events ++ others) ≡ lines_by act s events ++ lines_by act (after_by act s events) others
-unfolding lines_by after_by
-lines_by-append act s [] others = refl
-lines_by-append act s (event ∷ events) others =
-    ap (λ lines. reply_of event (act s event) ++ lines) (lines_by-append act (act s event).next events others)
-    ∙ sym (append_assoc (reply_of event (act s event)) (lines_by act (act s event).next events) (lines_by act (after_by act (act s event).next events) others))
+module _ {S : Type 0} (act : Beside S → Deed → Played S) where
+  -- the lines of deeds and of those that follow
+  lines_by-append : (s : Beside S) (deeds others : List Deed) → lines_by act s (deeds ++ others) ≡ lines_by act s deeds ++ lines_by act (after_by act s deeds) others
+  unfolding lines_by after_by
+  lines_by-append s [] others = refl
+  lines_by-append s (deed ∷ deeds) others =
+      ap (λ lines. (act s deed).lines ++ lines) (lines_by-append (act s deed).next deeds others)
+      ∙ sym (append_assoc (act s deed).lines (lines_by act (act s deed).next deeds) (lines_by act (after_by act (act s deed).next deeds) others))
 
--- what stands after one event more
-after_by-push : {S : Type 0} (act : S → Event → Step S) (s : S) (events : List Event) (event : Event) → after_by act s (events ++ event ∷ []) ≡ (act (after_by act s events) event).next
-unfolding after_by
-after_by-push act s [] event = refl
-after_by-push act s (first ∷ events) event = after_by-push act (act s first).next events event
+  -- what stands after one deed more
+  after_by-push : (s : Beside S) (deeds : List Deed) (deed : Deed) → after_by act s (deeds ++ deed ∷ []) ≡ (act (after_by act s deeds) deed).next
+  unfolding after_by
+  after_by-push s [] deed = refl
+  after_by-push s (first ∷ deeds) deed = after_by-push (act s first).next deeds deed
 
-one_reply : {S : Type 0} (act : S → Event → Step S) (s : S) (event : Event) → lines_by act s (event ∷ []) ≡ reply_of event (act s event)
-unfolding lines_by
-one_reply act s event = append-nil (reply_of event (act s event))
+  one_deed : (s : Beside S) (deed : Deed) → lines_by act s (deed ∷ []) ≡ (act s deed).lines
+  unfolding lines_by
+  one_deed s deed = append-nil (act s deed).lines
 
--- the lines of one event more
-lines_by-push : {S : Type 0} (act : S → Event → Step S) (s : S) (events : List Event) (event : Event) → lines_by act s (events ++ event ∷ []) ≡ lines_by act s events ++ reply_of event (act (after_by act s events) event)
-lines_by-push act s events event =
-    lines_by-append act s events (event ∷ []) ∙ ap (λ lines. lines_by act s events ++ lines) (one_reply act (after_by act s events) event)
+  -- the lines of one deed more
+  lines_by-push : (s : Beside S) (deeds : List Deed) (deed : Deed) → lines_by act s (deeds ++ deed ∷ []) ≡ lines_by act s deeds ++ (act (after_by act s deeds) deed).lines
+  lines_by-push s deeds deed =
+      lines_by-append s deeds (deed ∷ []) ∙ ap (λ lines. lines_by act s deeds ++ lines) (one_deed (after_by act s deeds) deed)
 
--- a sink that took the lines so far, and then those of one event more
-took_line : {S : Type 0} (old mid new : Option (List ℕ)) (act : S → Event → Step S) (s : S) (events : List Event) (event : Event) → mid ≡ appended old (lines_by act s events)
-    → new ≡ appended mid (reply_of event (act (after_by act s events) event)) → new ≡ appended old (lines_by act s (events ++ event ∷ []))
-took_line old mid new act s events event e f =
-    f ∙ ap (λ t. appended t (reply_of event (act (after_by act s events) event))) e
-    ∙ appended-appended old (lines_by act s events) (reply_of event (act (after_by act s events) event))
-    ∙ ap (appended old) (sym (lines_by-push act s events event))
+  -- a sink that took the lines so far, and then those of one deed more
+  took_line : (old mid new : Option (List ℕ)) (s : Beside S) (deeds : List Deed) (deed : Deed) → mid ≡ appended old (lines_by act s deeds)
+      → new ≡ appended mid (act (after_by act s deeds) deed).lines → new ≡ appended old (lines_by act s (deeds ++ deed ∷ []))
+  took_line old mid new s deeds deed e f =
+      f ∙ ap (λ t. appended t (act (after_by act s deeds) deed).lines) e
+      ∙ appended-appended old (lines_by act s deeds) (act (after_by act s deeds) deed).lines
+      ∙ ap (appended old) (sym (lines_by-push s deeds deed))
 
--- a sink that took the lines so far, and then a beginning of the next: it took a beginning of all
-took_until : {S : Type 0} (old mid new : Option (List ℕ)) (act : S → Event → Step S) (s : S) (events : List Event) (event : Event) (others : List Event)
-    → mid ≡ appended old (lines_by act s events) → TookBeginning mid new (reply_of event (act (after_by act s events) event))
-    → TookBeginning old new (lines_by act s ((events ++ event ∷ []) ++ others))
-took_until old mid new act s events event others e t =
-    let so_far : TookBeginning old new (lines_by act s events ++ reply_of event (act (after_by act s events) event)) =
-    took_of_second old mid new (lines_by act s events) (reply_of event (act (after_by act s events) event)) e t in
-    let whole : lines_by act s ((events ++ event ∷ []) ++ others)
-    ≡ (lines_by act s events ++ reply_of event (act (after_by act s events) event)) ++ lines_by act (after_by act s (events ++ event ∷ [])) others =
-    lines_by-append act s (events ++ event ∷ []) others ∙ ap (λ lines. lines ++ lines_by act (after_by act s (events ++ event ∷ [])) others) (lines_by-push act s events event) in
-    subst (λ lines. TookBeginning old new lines) (sym whole) (took_of_first old new _ (lines_by act (after_by act s (events ++ event ∷ [])) others) so_far)
+  -- a sink that took the lines so far, and then a beginning of the next: it took a beginning of all
+  took_until : (old mid new : Option (List ℕ)) (s : Beside S) (deeds : List Deed) (deed : Deed) (others : List Deed)
+      → mid ≡ appended old (lines_by act s deeds) → TookBeginning mid new (act (after_by act s deeds) deed).lines
+      → TookBeginning old new (lines_by act s ((deeds ++ deed ∷ []) ++ others))
+  took_until old mid new s deeds deed others e t =
+      let so_far : TookBeginning old new (lines_by act s deeds ++ (act (after_by act s deeds) deed).lines) =
+      took_of_second old mid new (lines_by act s deeds) (act (after_by act s deeds) deed).lines e t in
+      let whole : lines_by act s ((deeds ++ deed ∷ []) ++ others)
+      ≡ (lines_by act s deeds ++ (act (after_by act s deeds) deed).lines) ++ lines_by act (after_by act s (deeds ++ deed ∷ [])) others =
+      lines_by-append s (deeds ++ deed ∷ []) others ∙ ap (λ lines. lines ++ lines_by act (after_by act s (deeds ++ deed ∷ [])) others) (lines_by-push s deeds deed) in
+      subst (λ lines. TookBeginning old new lines) (sym whole) (took_of_first old new _ (lines_by act (after_by act s (deeds ++ deed ∷ [])) others) so_far)
 
--- nothing was taken yet
-pub no_lines_yet : {S : Type 0} (told : Option (List ℕ)) (act : S → Event → Step S) (s : S) → told ≡ appended told (lines_by act s [])
-unfolding lines_by
-no_lines_yet told act s = appended-none told
+  -- nothing was taken yet
+  pub no_lines_yet : (told : Option (List ℕ)) (s : Beside S) → told ≡ appended told (lines_by act s [])
+  unfolding lines_by
+  no_lines_yet told s = appended-none told
 
--- the events of the lines so far, with one line more
-pub events_more : (items seen : List Line) (i : ℕ) (d : Line) → seen ≡ items → i < length seen → map event_of (take (i + 1) items) ≡ map event_of (take i items) ++ event_of (get_or seen i d) ∷ []
-events_more items seen i d e h =
-    subst (λ xs. map event_of (take (i + 1) xs) ≡ map event_of (take i xs) ++ event_of (get_or seen i d) ∷ []) e
-    (ap (map event_of) (take_more seen i d h) ∙ map-append event_of (take i seen) (get_or seen i d ∷ []))
+-- ---- both sides
 
--- and the events of the lines behind
-pub events_whole : (items seen : List Line) (i : ℕ) (d : Line) → seen ≡ items → i < length seen → map event_of items ≡ (map event_of (take i items) ++ event_of (get_or seen i d) ∷ []) ++ map event_of (drop (i + 1) items)
-events_whole items seen i d e h =
-    ap (map event_of) (sym (take-append-drop (i + 1) items))
-    ∙ map-append event_of (take (i + 1) items) (drop (i + 1) items)
-    ∙ ap (λ xs. xs ++ map event_of (drop (i + 1) items)) (events_more items seen i d e h)
+module _ (k : Mechanism) (start : Beside Sides) where
+  -- after one deed more
+  pub stands_more : (deeds : List Deed) (deed : Deed) (old new : DuetNow) → new ≡ after_deed old (deed_on k (beside old) deed)
+      → beside old ≡ after_by (deed_on k) start deeds → beside new ≡ after_by (deed_on k) start (deeds ++ deed ∷ [])
+  stands_more deeds deed old new next stands =
+      ap beside next ∙ ap (λ (s : Beside Sides). (deed_on k s deed).next) stands ∙ sym (after_by-push (deed_on k) start deeds deed)
 
--- both sides after one event more
-pub stands_more : (k : Mechanism) (start : Sides) (events more : List Event) (event : Event) (old new : DuetNow) → new ≡ stepped k old event → more ≡ events ++ event ∷ []
-    → old.sides ≡ after_by (step_on k) start events → new.sides ≡ after_by (step_on k) start more
-stands_more k start events more event old new next e stands =
-    ap (λ (d : DuetNow). d.sides) next ∙ ap (λ (s : Sides). (step_on k s event).next) stands ∙ sym (after_by-push (step_on k) start events event) ∙ ap (after_by (step_on k) start) (sym e)
+  -- the lines so far, and then those of one deed more
+  pub wrote_more : (told mid new : Option (List ℕ)) (deeds : List Deed) (deed : Deed) (s : Beside Sides) → new ≡ appended mid (deed_on k s deed).lines
+      → s ≡ after_by (deed_on k) start deeds → mid ≡ appended told (lines_by (deed_on k) start deeds) → new ≡ appended told (lines_by (deed_on k) start (deeds ++ deed ∷ []))
+  wrote_more told mid new deeds deed s wrote stands so_far =
+      took_line (deed_on k) told mid new start deeds deed so_far (wrote ∙ ap (λ (s : Beside Sides). appended mid (deed_on k s deed).lines) stands)
 
--- the lines so far, and then those of one event more
-pub wrote_more : (k : Mechanism) (told mid new : Option (List ℕ)) (start : Sides) (events more : List Event) (event : Event) (sides : Sides) → new ≡ appended mid (reply_of event (step_on k sides event))
-    → more ≡ events ++ event ∷ [] → sides ≡ after_by (step_on k) start events → mid ≡ appended told (lines_by (step_on k) start events) → new ≡ appended told (lines_by (step_on k) start more)
-wrote_more k told mid new start events more event sides wrote e stands so_far =
-    took_line told mid new (step_on k) start events event so_far (wrote ∙ ap (λ (s : Sides). appended mid (reply_of event (step_on k s event))) stands)
-    ∙ ap (λ es. appended told (lines_by (step_on k) start es)) (sym e)
+  -- the lines so far, and then a beginning of those of the next deed
+  pub wrote_part : (told mid new : Option (List ℕ)) (deeds others all : List Deed) (deed : Deed) (s : Beside Sides) → TookBeginning mid new (deed_on k s deed).lines
+      → all ≡ (deeds ++ deed ∷ []) ++ others → s ≡ after_by (deed_on k) start deeds → mid ≡ appended told (lines_by (deed_on k) start deeds) → TookBeginning told new (lines_by (deed_on k) start all)
+  wrote_part told mid new deeds others all deed s part e stands so_far =
+      subst (λ ds. TookBeginning told new (lines_by (deed_on k) start ds)) (sym e)
+      (took_until (deed_on k) told mid new start deeds deed others so_far
+      (subst (λ (s : Beside Sides). TookBeginning mid new (deed_on k s deed).lines) stands part))
 
--- the lines so far, and then a beginning of those of the next event
-pub wrote_part : (k : Mechanism) (told mid new : Option (List ℕ)) (start : Sides) (events others all : List Event) (event : Event) (sides : Sides) → TookBeginning mid new (reply_of event (step_on k sides event))
-    → all ≡ (events ++ event ∷ []) ++ others → sides ≡ after_by (step_on k) start events → mid ≡ appended told (lines_by (step_on k) start events) → TookBeginning told new (lines_by (step_on k) start all)
-wrote_part k told mid new start events others all event sides part e stands so_far =
-    subst (λ es. TookBeginning told new (lines_by (step_on k) start es)) (sym e)
-    (took_until told mid new (step_on k) start events event others so_far
-    (subst (λ (s : Sides). TookBeginning mid new (reply_of event (step_on k s event))) stands part))
-
--- the lines so far are a beginning of all
-pub wrote_first : (k : Mechanism) (told taken : Option (List ℕ)) (start : Sides) (events others all : List Event) → all ≡ events ++ others
-    → taken ≡ appended told (lines_by (step_on k) start events) → TookBeginning told taken (lines_by (step_on k) start all)
-wrote_first k told taken start events others all e so_far = record {
-  beginning = lines_by (step_on k) start events;
-  remainder = lines_by (step_on k) (after_by (step_on k) start events) others;
-  split = ap (lines_by (step_on k) start) e ∙ lines_by-append (step_on k) start events others;
-  took = so_far;
-}
+  -- the lines so far are a beginning of all
+  pub wrote_first : (told taken : Option (List ℕ)) (deeds others all : List Deed) → all ≡ deeds ++ others
+      → taken ≡ appended told (lines_by (deed_on k) start deeds) → TookBeginning told taken (lines_by (deed_on k) start all)
+  wrote_first told taken deeds others all e so_far = record {
+    beginning = lines_by (deed_on k) start deeds;
+    remainder = lines_by (deed_on k) (after_by (deed_on k) start deeds) others;
+    split = ap (lines_by (deed_on k) start) e ∙ lines_by-append (deed_on k) start deeds others;
+    took = so_far;
+  }

@@ -3,6 +3,7 @@ use Rattle.std.specs.Prelude.{ℕ, List, [], None, drop, ◌++◌}
 use Rattle.dr_base.specs.declared.position.Position.{Position}
 use Rattle.dr_base.specs.declared.position.Side.{Side}
 use Rattle.dr_base.specs.declared.position.Side.TheVariants.{First, Second}
+use Rattle.relay_core.specs.Boxes.{Box}
 use Rattle.boxes.specs.Items.{Item}
 use Rattle.session_model.specs.Clients.{Client, SaidText, TakenPacket}
 use Rattle.dr_model.specs.Machines.Sides.{Sides, client_of, step_on, with_client}
@@ -11,6 +12,7 @@ use Rattle.dr_model.specs.Machines.Draws.{Draws}
 use Rattle.dr_model.specs.Machines.Events.{Event, cuts, shows_inbox}
 use Rattle.session_model.specs.States.{opening_state}
 use Rattle.kem_laws.specs.Mechanism.{Mechanism}
+use Rattle.duet.specs.Deeds.{Beside, Played, opening_boxes}
 
 -- a side at the beginning of a conversation
 abbrev pub opening_client : Mechanism → List ℕ → Side → Client
@@ -22,21 +24,32 @@ said_text post next = record { post = post; next = next }
 abbrev pub taken_packet : Position → Client → TakenPacket
 taken_packet position next = record { position = position; next = next }
 
--- the sides, and how many packets the network has room for
+-- the sides, the boxes of their relay, and how many packets the network has room for
 pub record DuetNow : Type 0 where
   pub sides : Sides
+  pub boxes : List Box
   pub room : ℕ
 
-abbrev pub duet_now : List ℕ → Client → Client → List Item → Draws → ℕ → DuetNow
-duet_now key first second posts draws room = record {
+abbrev pub duet_now : List ℕ → Client → Client → List Item → Draws → List Box → ℕ → DuetNow
+duet_now key first second posts draws boxes room = record {
   sides = record { key = key; first = first; second = second; posts = posts; draws = draws };
+  boxes = boxes;
   room = room;
 }
 
 -- both sides at the beginning of a conversation
 abbrev pub opening_duet : Mechanism → List ℕ → ℕ → DuetNow
 opening_duet k key room =
-    duet_now key (opening_client k key First) (opening_client k key Second) [] (record { made = 0; given = None }) room
+    let first = opening_client k key First in
+    duet_now key first (opening_client k key Second) [] (record { made = 0; given = None }) (opening_boxes first) room
+
+-- both sides and the boxes
+abbrev pub beside : DuetNow → Beside Sides
+beside duet = record { ends = duet.sides; boxes = duet.boxes }
+
+-- what is held after a deed
+abbrev pub after_deed : DuetNow → Played Sides → DuetNow
+after_deed duet played = record duet { sides = played.next.ends; boxes = played.next.boxes }
 
 -- what is held after a step
 abbrev pub after : DuetNow → Step Sides → DuetNow

@@ -11,7 +11,9 @@ pub mod Trace
 pub mod Tally
 pub mod Make
 pub mod Summary
+pub mod Deeds
 pub mod Held
 pub mod Parties
 pub mod Stops
 pub mod Acts
+pub mod Meetings

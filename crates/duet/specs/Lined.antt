@@ -1,10 +1,11 @@
--- What a line says that may stop the disk of its side.
+-- What a line says: an event, which may stop the disk of its side, or a sync.
 use Rattle.dr_model.specs.Machines.Events.{Event, drops_done, drops_sent, says, takes, takes_nth}
 use Rattle.session_model.specs.declared.answer.Amount.TheVariants.{Exactly}
+use Rattle.duet.specs.Deeds.{Deed, acts, syncs}
 use Rattle.duet.specs.Seen.{event_of}
 use Rattle.duet.specs.Stops.{stopped}
 use Rattle.duet.specs.declared.script.lined.Lined.{Lined}
-use Rattle.duet.specs.declared.script.lined.Lined.TheVariants.{Plain, Stopping}
+use Rattle.duet.specs.declared.script.lined.Lined.TheVariants.{Plain, Stopping, Syncing}
 use Rattle.duet.specs.declared.script.lined.Stop.{Stop}
 use Rattle.duet.specs.declared.script.lined.StoppedCall.{StoppedCall}
 use Rattle.duet.specs.declared.script.lined.StoppedCall.TheVariants.{Done, Say, Sent, Take, TakeNth}
@@ -21,6 +22,7 @@ call_event (Done side n) = drops_done side (Exactly n)
 abbrev pub stop_event : Stop → Event
 stop_event stop = stopped stop.after stop.mode (call_event stop.call)
 
-abbrev pub lined_event : Lined → Event
-lined_event (Plain line) = event_of line
-lined_event (Stopping stop) = stop_event stop
+abbrev pub lined_deed : Lined → Deed
+lined_deed (Plain line) = acts (event_of line)
+lined_deed (Stopping stop) = acts (stop_event stop)
+lined_deed (Syncing side lost) = syncs side lost

@@ -3,7 +3,8 @@ use Rattle.std.specs.Prelude.{ℕ, zero, suc, ◌+◌, ◌*◌, ◌/◌, ◌%◌
 use Rattle.dr_base.specs.declared.position.Side.{Side}
 use Rattle.dr_base.specs.declared.position.Side.TheVariants.{First, Second}
 use Rattle.session_model.specs.declared.answer.Amount.TheVariants.{All, Exactly}
-use Rattle.dr_model.specs.Machines.Events.{Event, says, takes_nth, drops_sent, drops_done}
+use Rattle.dr_model.specs.Machines.Events.{says, takes_nth, drops_sent, drops_done}
+use Rattle.duet.specs.Deeds.{Deed, acts}
 use Rattle.duet.specs.Script.{Scripted}
 use Rattle.duet.specs.declared.script.KemName.TheVariants.{Open}
 use Rattle.duet.specs.declared.script.make.rounds.Making.{Making}
@@ -63,26 +64,26 @@ round_of m =
     if nat_lt (choice (drawn m)) 2 then saying (side_drawn (drawn m)) (advanced m)
     else taking (side_drawn (drawn m)) (advanced m)
 
--- the events of a round: what was said leaves the outbox, what was taken leaves the inbox
-unfoldable pub turn_events : ℕ → Turn → List Event
-turn_events round (Says side) = says side (codes "m" ++ decimal round) ∷ drops_sent side (Exactly 1) ∷ []
-turn_events round (Takes side nth) = takes_nth side nth ∷ drops_done side All ∷ []
-turn_events round Rests = []
+-- the deeds of a round: what was said leaves the outbox, what was taken leaves the inbox
+unfoldable pub turn_deeds : ℕ → Turn → List Deed
+turn_deeds round (Says side) = acts (says side (codes "m" ++ decimal round)) ∷ acts (drops_sent side (Exactly 1)) ∷ []
+turn_deeds round (Takes side nth) = acts (takes_nth side nth) ∷ acts (drops_done side All) ∷ []
+turn_deeds round Rests = []
 
 -- ---- a script
 
--- the events of so many rounds, of which the first has this number
-unfoldable pub events_from : Making → ℕ → ℕ → List Event
-events_from m round zero = []
-events_from m round (suc left) = turn_events round (round_of m).turn ++ events_from (round_of m).next (round + 1) left
+-- the deeds of so many rounds, of which the first has this number
+unfoldable pub deeds_from : Making → ℕ → ℕ → List Deed
+deeds_from m round zero = []
+deeds_from m round (suc left) = turn_deeds round (round_of m).turn ++ deeds_from (round_of m).next (round + 1) left
 
 -- before the first round
 abbrev pub opening : ℕ → Making
 opening number = record { number = number; first = 0; second = 0 }
 
-unfoldable pub made_events : ℕ → ℕ → List Event
-made_events rounds number = events_from (opening number) 1 rounds
+unfoldable pub made_deeds : ℕ → ℕ → List Deed
+made_deeds rounds number = deeds_from (opening number) 1 rounds
 
 -- a script of so many rounds, made from a number
 abbrev pub made_script : ℕ → ℕ → Scripted
-made_script rounds number = record { kem = Open; key = replicate 32 0; events = made_events rounds number; rounds = rounds }
+made_script rounds number = record { kem = Open; key = replicate 32 0; deeds = made_deeds rounds number; rounds = rounds }

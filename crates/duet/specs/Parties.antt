@@ -1,15 +1,13 @@
 -- One side: a client that is open, on a disk in memory whose calls all pass.
-use Rattle.std.specs.Prelude.{Err, List, None, Ok, Result, Some, ℕ, ⊤, ◌≡◌}
+use Rattle.std.specs.Prelude.{List, None, Some, ℕ, ⊤, ◌≡◌}
 use Rattle.dr_disk.specs.MemoryDisks.{state_of}
 use Rattle.dr_disk.specs.State.{DiskState, all_pass}
 use Rattle.dr_disk.specs.declared.memory.MemoryDisk.{MemoryDisk}
-use Rattle.dr_model.specs.Machines.Steps.{Step, step}
 use Rattle.session_model.specs.Clients.{Client}
-use Rattle.session_model.specs.declared.answer.Refusal.{Refusal}
 use Rattle.session_record.specs.Record.{record_text}
 use Rattle.slot_store.specs.Slots.{recovered}
 use Rattle.client.specs.Clients.{ClientNow, IsReady, client_area}
-use Rattle.client.specs.Outcomes.{Outcome, acknowledged, faulted, is_closed, refused, undrawn}
+use Rattle.client.specs.Outcomes.{Outcome, refused}
 use Rattle.client.specs.declared.refusals.BeginRefusal.{BeginRefusal}
 use Rattle.client.specs.declared.refusals.BeginRefusal.TheVariants.{Memory, NoPair}
 

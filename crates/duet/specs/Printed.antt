@@ -1,11 +1,12 @@
--- The lines of a script, printed: the events that a line can say, and one line that says each.
-use Rattle.std.specs.Prelude.{⊤, Bool, false, true, ℕ, ◌^◌, ◌<◌, ◌≤◌, ◌≡◌, List, [], ◌++◌, length, codes, decimal, flat_map}
+-- The lines of a script, printed: the deeds that a line can say, and one line that says each.
+use Rattle.std.specs.Prelude.{⊤, Bool, false, true, ℕ, ◌^◌, ◌<◌, ◌≤◌, ◌≡◌, List, [], ◌++◌, length, codes, decimal, flat_map, Option, Some, None}
 use Rattle.hex.specs.Hex.{IsBytes, encode_lower}
 use Rattle.dr_base.specs.declared.position.Position.{Position}
 use Rattle.session_model.specs.declared.answer.Amount.{Amount}
 use Rattle.session_model.specs.declared.answer.Amount.TheVariants.{All, Exactly}
 use Rattle.dr_model.specs.Machines.Events.{Event, seeds, says, takes, takes_nth, flips, takes_bytes, drops_sent, drops_done, shows_inbox, shows_state, cuts}
 use Rattle.answer_lines.specs.Answers.{position_text}
+use Rattle.duet.specs.Deeds.{Deed, acts, syncs}
 use Rattle.duet.specs.Replies.{acting_side, side_text}
 use Rattle.duet.specs.Words.{is_call}
 
@@ -34,9 +35,19 @@ words_text (shows_state side) = codes "state"
 words_text (cuts took event) = cut_text took ++ words_text event
 
 -- the line that says an event: a seed is no side's
-unfoldable pub line_text : Event → List ℕ
-line_text (seeds seed) = codes "seed " ++ encode_lower seed
-line_text event = side_text (acting_side event) ++ words_text event
+unfoldable pub event_text : Event → List ℕ
+event_text (seeds seed) = codes "seed " ++ encode_lower seed
+event_text event = side_text (acting_side event) ++ words_text event
+
+-- a sync, or one that loses a reply
+unfoldable pub sync_text : Option ℕ → List ℕ
+sync_text None = codes "sync"
+sync_text (Some lost) = codes "lose " ++ decimal lost
+
+-- the line that says a deed
+unfoldable pub line_text : Deed → List ℕ
+line_text (acts event) = event_text event
+line_text (syncs side lost) = side_text side ++ sync_text lost
 
 -- numbers below 2^32
 abbrev pub IsNumbered : Position → Type 0
@@ -48,19 +59,29 @@ IsAmount (Exactly n) = n < 2 ^ 32
 
 -- an event that a line can say: its numbers are below 2^32, a seed has 32 bytes, and given bytes are at most 4,000; what is
 -- cut off is a call that may be stopped
-abbrev pub IsSayable : Event → Type 0
-IsSayable (seeds seed) = (length seed ≡ 32) × IsBytes seed
-IsSayable (says side text) = ⊤
-IsSayable (takes side p) = IsNumbered p
-IsSayable (takes_nth side nth) = nth < 2 ^ 32
-IsSayable (flips side p bit) = IsNumbered p × (bit < 2 ^ 32)
-IsSayable (takes_bytes side bytes) = (length bytes ≤ 4000) × IsBytes bytes
-IsSayable (drops_sent side amount) = IsAmount amount
-IsSayable (drops_done side amount) = IsAmount amount
-IsSayable (shows_inbox side) = ⊤
-IsSayable (shows_state side) = ⊤
-IsSayable (cuts took event) = (is_call event ≡ true) × IsSayable event
+abbrev pub IsSayableEvent : Event → Type 0
+IsSayableEvent (seeds seed) = (length seed ≡ 32) × IsBytes seed
+IsSayableEvent (says side text) = ⊤
+IsSayableEvent (takes side p) = IsNumbered p
+IsSayableEvent (takes_nth side nth) = nth < 2 ^ 32
+IsSayableEvent (flips side p bit) = IsNumbered p × (bit < 2 ^ 32)
+IsSayableEvent (takes_bytes side bytes) = (length bytes ≤ 4000) × IsBytes bytes
+IsSayableEvent (drops_sent side amount) = IsAmount amount
+IsSayableEvent (drops_done side amount) = IsAmount amount
+IsSayableEvent (shows_inbox side) = ⊤
+IsSayableEvent (shows_state side) = ⊤
+IsSayableEvent (cuts took event) = (is_call event ≡ true) × IsSayableEvent event
 
--- events in lines
-abbrev pub script_text : List Event → List ℕ
-script_text events = flat_map (λ event. line_text event ++ codes "\n") events
+-- a lost reply has a number from 1, below 2^32 too
+abbrev pub IsReply : Option ℕ → Type 0
+IsReply None = ⊤
+IsReply (Some lost) = (1 ≤ lost) × (lost < 2 ^ 32)
+
+-- a deed that a line can say
+abbrev pub IsSayable : Deed → Type 0
+IsSayable (acts event) = IsSayableEvent event
+IsSayable (syncs side lost) = IsReply lost
+
+-- deeds in lines
+abbrev pub script_text : List Deed → List ℕ
+script_text deeds = flat_map (λ deed. line_text deed ++ codes "\n") deeds

@@ -1,11 +1,33 @@
 -- How a script is stored, so that a type of code may stand for it.
-use Rattle.std.specs.Prelude.{Bool, List, false, refl, true, ℕ, ◌≡◌}
-use Rattle.std.specs.Coded.{Coded, code_by, coded_bool, coded_list, coded_ℕ, coded×}
-use Rattle.dr_model.specs.Machines.EventCodes.{event_code}
+use Rattle.std.specs.Prelude.{Bool, List, Option, false, refl, true, ℕ, ◌≡◌, ◌⊎◌}
+use Rattle.std.proofs.Common.{inl, inr}
+use Rattle.std.specs.Coded.{Coded, code_by, coded_bool, coded_list, coded_option, coded_ℕ, coded×, coded⊎}
+use Rattle.dr_base.specs.declared.position.Side.{Side}
+use Rattle.dr_model.specs.Machines.EventCodes.{event_code, side_code}
 use Rattle.dr_model.specs.Machines.Events.{Event}
+use Rattle.duet.specs.Deeds.{Deed, acts, syncs}
 use Rattle.duet.specs.Script.{Scripted}
 use Rattle.duet.specs.declared.script.KemName.{KemName}
 use Rattle.duet.specs.declared.script.KemName.TheVariants.{Open, Sntrup761}
+
+-- ---- a deed
+
+abbrev stored : Deed → Event ⊎ (Side × Option ℕ)
+stored (acts event) = inl event
+stored (syncs side lost) = inr (side, lost)
+
+abbrev deed_by : Event ⊎ (Side × Option ℕ) → Deed
+deed_by (inl event) = acts event
+deed_by (inr sync) = syncs sync.0 sync.1
+
+pub same_deed : (deed : Deed) → deed_by (stored deed) ≡ deed
+same_deed (acts event) = refl
+same_deed (syncs side lost) = refl
+
+abbrev pub deed_code : Coded Deed
+deed_code = code_by (Event ⊎ (Side × Option ℕ)) (coded⊎ event_code (coded× side_code (coded_option coded_ℕ))) stored deed_by same_deed
+
+-- ---- a script
 
 abbrev is_open : KemName → Bool
 is_open Open = true
@@ -24,5 +46,5 @@ kem_code = code_by Bool coded_bool is_open kem_by same_kem
 
 abbrev pub script_code : Coded Scripted
 script_code =
-    code_by (KemName × (List ℕ × (List Event × ℕ))) (coded× kem_code (coded× (coded_list coded_ℕ) (coded× (coded_list event_code) coded_ℕ)))
-    (λ s. (s.kem, (s.key, (s.events, s.rounds)))) (λ e. record { kem = e.0; key = e.1.0; events = e.1.1.0; rounds = e.1.1.1 }) (λ _. refl)
+    code_by (KemName × (List ℕ × (List Deed × ℕ))) (coded× kem_code (coded× (coded_list coded_ℕ) (coded× (coded_list deed_code) coded_ℕ)))
+    (λ s. (s.kem, (s.key, (s.deeds, s.rounds)))) (λ e. record { kem = e.0; key = e.1.0; deeds = e.1.1.0; rounds = e.1.1.1 }) (λ _. refl)

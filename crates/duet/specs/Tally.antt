@@ -5,13 +5,13 @@ use Rattle.dr_base.specs.declared.position.Side.TheVariants.{First, Second}
 use Rattle.session_model.specs.declared.answer.Answer.{Answer}
 use Rattle.session_model.specs.declared.answer.Answer.TheVariants.{Said, Opened, Nothing, Refused}
 use Rattle.session_model.specs.Clients.{Client}
-use Rattle.dr_model.specs.Machines.Sides.{Sides, step_on}
-use Rattle.dr_model.specs.Machines.Events.{Event}
-use Rattle.dr_model.specs.Machines.Steps.{Step}
+use Rattle.dr_model.specs.Conversations.Views.{missing_of}
+use Rattle.dr_model.specs.Machines.Sides.{Sides}
+use Rattle.dr_model.specs.Machines.Worlds.{World, view_of}
 use Rattle.kem_laws.specs.Mechanism.{Mechanism}
-use Rattle.duet.specs.Replies.{acting_side}
+use Rattle.duet.specs.Deeds.{Beside, Deed, Played, deed_in, deed_on, deed_side}
 use Rattle.duet.specs.Script.{Scripted}
-use Rattle.duet.specs.Trace.{after_by, beginning}
+use Rattle.duet.specs.Trace.{after_by, beginning, beginning_in}
 use Rattle.duet.specs.declared.tally.SideTally.{SideTally}
 use Rattle.duet.specs.declared.tally.Tally.{Tally}
 
@@ -35,11 +35,16 @@ abbrev pub counted_of : Side → Answer → Tally → Tally
 counted_of First answer t = record t { first = counted answer t.first }
 counted_of Second answer t = record t { second = counted answer t.second }
 
--- the answers to events, each by a step from what stands
-unfoldable pub counted_by : {S : Type 0} → (S → Event → Step S) → S → Tally → List Event → Tally
+-- answers of a side more
+abbrev pub counted_all : Side → List Answer → Tally → Tally
+counted_all side [] t = t
+counted_all side (answer ∷ answers) t = counted_all side answers (counted_of side answer t)
+
+-- the answers to deeds, each done from what stands; a sync is told by its own lines, and counts none
+unfoldable pub counted_by : {S : Type 0} → (Beside S → Deed → Played S) → Beside S → Tally → List Deed → Tally
 counted_by act s t [] = t
-counted_by act s t (event ∷ events) =
-    counted_by act (act s event).next (counted_of (acting_side event) (act s event).answer t) events
+counted_by act s t (deed ∷ deeds) =
+    counted_by act (act s deed).next (counted_all (deed_side deed) (act s deed).answers t) deeds
 
 -- how far a side has come
 abbrev pub reached : Client → SideTally → SideTally
@@ -51,8 +56,22 @@ both_reached s t = record t { first = reached s.first t.first; second = reached 
 -- a script that was played, in numbers
 unfoldable pub tally_of : Mechanism → Scripted → Tally
 tally_of k script =
-    both_reached (after_by (step_on k) (beginning k script) script.events)
-    (counted_by (step_on k) (beginning k script) (opening_tally script.rounds) script.events)
+    both_reached (after_by (deed_on k) (beginning k script) script.deeds).ends
+    (counted_by (deed_on k) (beginning k script) (opening_tally script.rounds) script.deeds)
+
+-- how far a side of a world has come
+abbrev pub reached_in : World → Side → SideTally → SideTally
+reached_in w side t =
+    record t { epoch = (view_of w side).epoch; missing = length (missing_of w.conversation (view_of w side)) }
+
+abbrev pub both_reached_in : World → Tally → Tally
+both_reached_in w t = record t { first = reached_in w First t.first; second = reached_in w Second t.second }
+
+-- a script in the machine's numbers
+unfoldable pub tally_in : Mechanism → Scripted → Tally
+tally_in k script =
+    both_reached_in (after_by (deed_in k) (beginning_in k script) script.deeds).ends
+    (counted_by (deed_in k) (beginning_in k script) (opening_tally script.rounds) script.deeds)
 
 -- no count has come to a number
 pub record IsSideBelow (n : ℕ) (t : SideTally) : Type 0 where

@@ -1,37 +1,57 @@
 -- The trace of a script.
-use Rattle.std.specs.Prelude.{List, ℕ, [], ◌∷◌, ◌++◌}
-use Rattle.dr_model.specs.Machines.Sides.{Sides, step_on}
-use Rattle.dr_model.specs.Machines.Steps.{Step}
-use Rattle.dr_model.specs.Machines.Events.{Event}
-use Rattle.dr_model.specs.Machines.Worlds.{opening_world, step_of}
-use Rattle.dr_model.specs.Theorems.Fairness.{IsUnforgedRun}
-use Rattle.dr_model.specs.Machines.WorldSides.{sides_of}
+use Rattle.std.specs.Prelude.{List, ℕ, [], ◌∷◌, ◌++◌, ⊤}
+use Rattle.dr_base.specs.declared.position.Side.TheVariants.{First}
+use Rattle.dr_model.specs.Machines.Sides.{Sides}
+use Rattle.dr_model.specs.Machines.Worlds.{World, opening_world}
+use Rattle.dr_model.specs.Theorems.Fairness.{IsSeedWhole, IsUnforgedEvent}
+use Rattle.dr_model.specs.Machines.WorldSides.{kept_in, sides_of}
 use Rattle.kem_laws.specs.Mechanism.{Mechanism}
-use Rattle.duet.specs.Replies.{reply_of}
+use Rattle.duet.specs.Deeds.{Beside, Deed, Played, acts, deed_in, deed_on, opening_boxes, syncs}
 use Rattle.duet.specs.Script.{Scripted}
 
--- the lines of events, each answered by a step from what stands
-unfoldable pub lines_by : {S : Type 0} → (S → Event → Step S) → S → List Event → List ℕ
+-- the lines of deeds, each done from what stands
+unfoldable pub lines_by : {S : Type 0} → (Beside S → Deed → Played S) → Beside S → List Deed → List ℕ
 lines_by act s [] = []
-lines_by act s (event ∷ events) = reply_of event (act s event) ++ lines_by act (act s event).next events
+lines_by act s (deed ∷ deeds) = (act s deed).lines ++ lines_by act (act s deed).next deeds
 
--- what stands after events
-unfoldable pub after_by : {S : Type 0} → (S → Event → Step S) → S → List Event → S
+-- what stands after deeds
+unfoldable pub after_by : {S : Type 0} → (Beside S → Deed → Played S) → Beside S → List Deed → Beside S
 after_by act s [] = s
-after_by act s (event ∷ events) = after_by act (act s event).next events
+after_by act s (deed ∷ deeds) = after_by act (act s deed).next deeds
 
--- both sides at the beginning of a script
-abbrev pub beginning : Mechanism → Scripted → Sides
-beginning k script = sides_of k (opening_world script.key)
+-- the world at the beginning of a script, and the boxes of the relay
+abbrev pub beginning_in : Mechanism → Scripted → Beside World
+beginning_in k script =
+    let w = opening_world script.key in record { ends = w; boxes = opening_boxes (kept_in k w First) }
+
+-- both sides at the beginning of a script, and these boxes
+abbrev pub beginning : Mechanism → Scripted → Beside Sides
+beginning k script = record { ends = sides_of k (beginning_in k script).ends; boxes = (beginning_in k script).boxes }
 
 -- the lines that both sides answer to a script
 unfoldable pub played : Mechanism → Scripted → List ℕ
-played k script = lines_by (step_on k) (beginning k script) script.events
+played k script = lines_by (deed_on k) (beginning k script) script.deeds
 
 -- the lines that the machine answers to a script
 unfoldable pub trace_of : Mechanism → Scripted → List ℕ
-trace_of k script = lines_by (step_of k) (opening_world script.key) script.events
+trace_of k script = lines_by (deed_in k) (beginning_in k script) script.deeds
 
--- no packet that the script makes up has a forged tag
+-- ---- fair scripts
+
+-- no packet that the deed makes up has a forged tag; a sync makes up none
+abbrev pub IsUnforgedDeed : Mechanism → Beside World → Deed → Type 0
+IsUnforgedDeed k s (acts event) = IsUnforgedEvent k s.ends event
+IsUnforgedDeed k s (syncs side lost) = ⊤
+
+-- and so in a run
+abbrev pub IsUnforgedPlay : Mechanism → Beside World → List Deed → Type 0
+IsUnforgedPlay k s [] = ⊤
+IsUnforgedPlay k s (deed ∷ deeds) = IsUnforgedDeed k s deed × IsUnforgedPlay k (deed_in k s deed).next deeds
+
 abbrev pub IsFairScript : Mechanism → Scripted → Type 0
-IsFairScript k script = IsUnforgedRun k (opening_world script.key) script.events
+IsFairScript k script = IsUnforgedPlay k (beginning_in k script) script.deeds
+
+-- a seed that is given has 32 bytes
+abbrev pub HasWholeSeed : Deed → Type 0
+HasWholeSeed (acts event) = IsSeedWhole event
+HasWholeSeed (syncs side lost) = ⊤

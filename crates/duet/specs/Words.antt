@@ -1,5 +1,5 @@
 -- What a line of a script says.
-use Rattle.std.specs.Prelude.{ℕ, ◌+◌, ◌/◌, ◌==◌, Bool, true, false, nat_le, List, [], ◌∷◌, length, take, drop, nat_eq, position, slice_index, Option, Some, None, option_map, codes, if◌then◌else◌}
+use Rattle.std.specs.Prelude.{ℕ, ◌+◌, ◌/◌, ◌==◌, Bool, true, false, nat_le, List, [], length, take, drop, nat_eq, position, slice_index, Option, Some, None, option_map, codes, if◌then◌else◌}
 use Rattle.std.specs.List.{starts_with}
 use Rattle.std.specs.Cmp.Lexicographic.{pointwise}
 use Rattle.std.specs.Option.{option_and_then, option_or}
@@ -13,6 +13,7 @@ use Rattle.dr_base.specs.declared.position.Side.TheVariants.{First, Second}
 use Rattle.session_model.specs.declared.answer.Amount.{Amount}
 use Rattle.session_model.specs.declared.answer.Amount.TheVariants.{All, Exactly}
 use Rattle.dr_model.specs.Machines.Events.{Event, seeds, says, takes, takes_nth, flips, takes_bytes, drops_sent, drops_done, shows_inbox, shows_state}
+use Rattle.duet.specs.Deeds.{Deed, acts, syncs}
 use Rattle.duet.specs.Number.{number_read}
 use Rattle.duet.specs.Stops.{stopped}
 
@@ -140,10 +141,34 @@ stop_read side halves = option_and_then (λ n. option_and_then (crash_read side 
 unfoldable pub stop_words : Side → List ℕ → Option Event
 stop_words side words = option_and_then (stop_read side) (option_and_then (halves_of 32) (after_prefix (codes "stop ") words))
 
+-- the event that a line says
+unfoldable pub event_read : List ℕ → Option Event
+event_read line =
+    option_or (plain_read line) (option_or (option_and_then (stop_words First) (after_prefix (codes "first ") line))
+    (option_and_then (stop_words Second) (after_prefix (codes "second ") line)))
+
+-- ---- a sync
+
+-- replies are counted from 1
+abbrev pub if_some_reply : ℕ → Option ℕ
+if_some_reply n = if nat_le 1 n then Some n else None
+
+-- `lose`, and the number of the reply that is lost
+unfoldable pub lose_words : List ℕ → Option ℕ
+lose_words words = option_and_then if_some_reply (option_and_then number_read (after_prefix (codes "lose ") words))
+
+-- `sync`, or a sync that loses a reply
+unfoldable pub sync_words : List ℕ → Option (Option ℕ)
+sync_words words = if is_text (codes "sync") words then Some None else option_map Some (lose_words words)
+
+-- the sync that a line says
+unfoldable pub sync_read : List ℕ → Option Deed
+sync_read line =
+    option_or (option_map (syncs First) (option_and_then sync_words (after_prefix (codes "first ") line)))
+    (option_map (syncs Second) (option_and_then sync_words (after_prefix (codes "second ") line)))
+
 -- ---- any line
 
 -- what a line says; every other line is bad
-unfoldable pub line_read : List ℕ → Option Event
-line_read line =
-    option_or (plain_read line) (option_or (option_and_then (stop_words First) (after_prefix (codes "first ") line))
-    (option_and_then (stop_words Second) (after_prefix (codes "second ") line)))
+unfoldable pub line_read : List ℕ → Option Deed
+line_read line = option_or (option_map acts (event_read line)) (sync_read line)

@@ -1,7 +1,7 @@
 //! Scripts of a conversation: their text, and both sides that play them.
 #![tactic(auto)]
 
-pub use laws::{lines_print_back, played_is_the_trace};
+pub use laws::{lines_print_back, played_is_the_trace, tallied_is_the_machines};
 pub use playing::{PlayError, play};
 pub use script::{KemName, Line, Lined, Lines, Script, ScriptError, Stop, StoppedCall};
 pub use summary::{SummaryText, summary_lines};
@@ -14,6 +14,7 @@ mod draws;
 mod given;
 mod hexed;
 mod laws;
+mod meeting;
 mod network;
 mod party;
 mod playing;
@@ -24,6 +25,7 @@ mod sides;
 mod stopping;
 mod stops;
 mod summary;
+mod syncing;
 mod tally;
 #[cfg(test)]
 mod tests;

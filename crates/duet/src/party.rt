@@ -8,12 +8,13 @@ ghost use Rattle.session_model.specs.Schedule.{agreement_seed};
 ghost use Rattle.ratchet.specs.Seen.{seed_bytes};
 ghost use Rattle.duet.specs.Held.{opening_client, said_text, taken_packet};
 ghost use Rattle.duet.specs.Parties.{IsFirstRefusal};
+ghost use Rattle.client.specs.Syncing.Lines.{own_box, peers_box};
 ghost use Rattle.client.specs.declared.refusals.BeginRefusal.TheVariants.{NoPair as NoFirstPair};
 
 use crate::calls::{drop_packets, drop_texts, newest, say_text, take_bytes};
 use crate::post::Post;
 use boxes::Entry;
-use client::{BeginRefusal, Client, SLOT};
+use client::{BeginRefusal, Client, Names, SLOT};
 use dr_base::{Key32, Position, Side, TEXT_LIMIT};
 use dr_disk::MemoryDisk;
 use kem_laws::Kem;
@@ -78,6 +79,14 @@ impl<K: Kem> Party<K> {
             Ok(client) => Ok(Party { client, disk }),
             Err(refusal) => Err(begin_error(refusal)),
         }
+    }
+
+    /// The names of its boxes at a relay.
+    pub fn names(&self) -> Names
+        ensures own { result.own ≡ own_box self.now }
+        ensures peers { result.peers ≡ peers_box self.now }
+    {
+        self.client.names()
     }
 
     /// How many texts stand.

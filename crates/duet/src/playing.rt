@@ -1,4 +1,4 @@
-//! A script, played: each event is answered, and its lines are written before the next.
+//! A script, played: each deed is done, and its lines are written before the next.
 
 ghost use Rattle.std.specs.Prelude.{◌≡◌, ℕ, ◌+◌, ◌-◌, ◌^◌, ◌<◌, ◌≤◌, ◌⊎◌, length, flat_map, slice_index_or, IsNone, IsSome, IfOk, OnOk, IsErrOf};
 ghost use Rattle.dr_ports.specs.Ports.{Rose, appended};
@@ -121,7 +121,7 @@ fn play_line<K: Kem, O: Sink>(
     }
 }
 
-/// Plays a script over a mechanism: it writes the lines of each event, with what both sides answer, and gives the run
+/// Plays a script over a mechanism: it writes the lines of each deed, with what both sides answer, and gives the run
 /// in numbers.
 pub fn play<K: Kem, O: Sink>(
     alloc: Global,
@@ -149,7 +149,7 @@ pub fn play<K: Kem, O: Sink>(
     };
     let mut tally = Tally::new(script.rounds());
     let mut lines = script.lines();
-    'events: while let Some(line) = lines.next() {
+    'deeds: while let Some(line) = lines.next() {
         match line {
             Lined::Plain(line) => match play_line(&mut duet, &line, &mut tally, out) {
                 Err(Failed) => return Err(PlayError::Write),
@@ -164,6 +164,10 @@ pub fn play<K: Kem, O: Sink>(
                         Ok(()) => {}
                     }
                 }
+            },
+            Lined::Syncing(side, lost) => match duet.sync(out, side, lost) {
+                Err(Failed) => return Err(PlayError::Write),
+                Ok(()) => {}
             },
         }
     }

@@ -10,14 +10,22 @@ use session_model::Answer;
 
 /// A side, and a space.
 #[tactic(auto, unfolding(crate::specs::Replies::side_text))]
-pub fn side_name(side: Side) -> &'static [u8]
+pub fn side_prefix(side: Side) -> &'static str
     ensures name { result.now ≡ side_text side }
     ensures short { length result.now ≤ 7 }
 {
     match side {
-        Side::First => b"first ",
-        Side::Second => b"second ",
+        Side::First => "first ",
+        Side::Second => "second ",
     }
+}
+
+/// The same in bytes.
+pub fn side_name(side: Side) -> &'static [u8]
+    ensures name { result.now ≡ side_text side }
+    ensures short { length result.now ≤ 7 }
+{
+    side_prefix(side).as_bytes()
 }
 
 /// The line of a side's event with its answer; a seed has none.

@@ -1,9 +1,9 @@
 //! A script's text, read whole before its first line runs. Its first line names the mechanism, its second the
-//! key of both sessions; each later line is an event.
+//! key of both sessions; each later line is a deed.
 
 ghost use Rattle.std.specs.Prelude.{◌≡◌, ◌+◌, ◌<◌, ◌^◌, length, Ok, Err, IfOk, IfErr, option_map};
 ghost use Rattle.duet.specs.Faults.{IsFaultOf};
-ghost use Rattle.duet.specs.Script.{AreCounted, events_of, kem_read, key_read, lines_of, script_of};
+ghost use Rattle.duet.specs.Script.{AreCounted, deeds_of, kem_read, key_read, lines_of, script_of};
 
 use dr_base::Key32;
 use hex::FromHex;
@@ -20,6 +20,7 @@ mod lines;
 mod make;
 mod number;
 mod split;
+mod syncing;
 mod words;
 
 /// A key encapsulation mechanism, as a script names it.
@@ -31,7 +32,7 @@ pub enum KemName {
     Sntrup761,
 }
 
-/// A script that was read or made: a mechanism, the key of both sessions, and the events in order. It owns its text.
+/// A script that was read or made: a mechanism, the key of both sessions, and the deeds in order. It owns its text.
 #[derive(Drop)]
 pub struct Script {
     kem: KemName,
@@ -45,14 +46,14 @@ pub struct Script {
 }
 
 impl Model for Script {
-    ghost use Rattle.duet.specs.Script.{AreCounted, Scripted, events_in};
+    ghost use Rattle.duet.specs.Script.{AreCounted, Scripted, deeds_in};
     ghost use Rattle.duet.specs.ScriptCodes.{script_code};
 
     ghost Value = { Scripted };
 
     ghost coded = { script_code };
 
-    ghost view = { λ s. record { kem = s.kem; key = s.key.bytes; events = events_in s.text.items; rounds = s.rounds } };
+    ghost view = { λ s. record { kem = s.kem; key = s.key.bytes; deeds = deeds_in s.text.items; rounds = s.rounds } };
 
     ghost invariant = { λ s. AreCounted s.text.items s.count };
 }
@@ -68,7 +69,7 @@ pub enum ScriptError {
 
 impl Script {
     /// Reads a text as a script.
-    #[tactic(auto, unfolding(crate::specs::Script::script_of, crate::specs::Script::events_in))]
+    #[tactic(auto, unfolding(crate::specs::Script::script_of, crate::specs::Script::deeds_in))]
     pub fn parse(alloc: Global, text: &[u8]) -> Result<Self, ScriptError>
         requires { length text.now < 2 ^ 31 }
         ensures ok { IfOk result (λ script. script_of text.now ≡ Ok script) }
@@ -116,9 +117,9 @@ impl Script {
         &self.key
     }
 
-    /// How many events there are.
+    /// How many deeds there are.
     pub fn len(&self) -> usize
-        ensures { result ≡ length self.now.events }
+        ensures { result ≡ length self.now.deeds }
     {
         self.count
     }
@@ -130,9 +131,9 @@ impl Script {
         self.rounds
     }
 
-    /// The events from the first on.
+    /// The deeds from the first on.
     pub fn lines(&self) -> Lines<'_>
-        ensures { result ≡ self.now.events }
+        ensures { result ≡ self.now.deeds }
     {
         Lines::new(self.text.as_slice())
     }
@@ -170,7 +171,7 @@ fn parse_key(line: &[u8]) -> Option<Key32>
 fn count_lines(text: &[u8]) -> Result<usize, u32>
     requires { length text.now < 2 ^ 31 }
     ensures ok { IfOk result (AreCounted text.now) }
-    ensures err { IfErr result (λ number. events_of 3 (lines_of text.now) ≡ Err number) }
+    ensures err { IfErr result (λ number. deeds_of 3 (lines_of text.now) ≡ Err number) }
 {
     let mut rest = text;
     let mut number = 3;

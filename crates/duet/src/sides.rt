@@ -18,11 +18,12 @@ use crate::script::Line;
 use crate::tally::{SideTally, Tally};
 use dr_base::{Key32, Side};
 use kem_laws::Kem;
+use relay_link::RelayLink;
 use session_model::{Amount, Answer, Refusal, Summary};
 use std::alloc::Global;
 use std::marker::Model;
 
-/// Both sides. The network holds every packet that stood in an outbox.
+/// Both sides. The network holds every packet that stood in an outbox, and the relay the boxes of both, in memory.
 #[derive(Drop)]
 pub struct Duet<K: Kem> {
     pub(crate) key: Key32,
@@ -30,15 +31,17 @@ pub struct Duet<K: Kem> {
     pub(crate) second: Party<K>,
     pub(crate) posts: Vec<Post>,
     pub(crate) draws: Draws,
+    pub(crate) relay: RelayLink,
 }
 
 impl<K: Kem> Model for Duet<K> {
     ghost use Rattle.std.specs.Prelude.{vec_capacity};
+    ghost use Rattle.relay_link.specs.Connections.{boxes_of};
     ghost use Rattle.duet.specs.Held.{DuetNow, duet_now};
 
     ghost Value = { DuetNow };
 
-    ghost view = { λ d. duet_now d.key.bytes d.first d.second d.posts.items d.draws (vec_capacity d.posts) };
+    ghost view = { λ d. duet_now d.key.bytes d.first d.second d.posts.items d.draws (boxes_of d.relay) (vec_capacity d.posts) };
 }
 
 impl<K: Kem> Duet<K> {
@@ -63,6 +66,10 @@ impl<K: Kem> Duet<K> {
             Ok(first) => first,
             Err(error) => return Err(error),
         };
+        let names = first.names();
+        let Ok(relay) = RelayLink::new(alloc, &[names.own, names.peers]) else {
+            return Err(BeginError::Memory);
+        };
         match Party::begin(alloc, Side::Second, key) {
             Ok(second) => Ok(Duet {
                 key: Key32 { bytes: key.bytes },
@@ -70,6 +77,7 @@ impl<K: Kem> Duet<K> {
                 second,
                 posts,
                 draws: Draws::new(),
+                relay,
             }),
             Err(error) => Err(error),
         }

@@ -45,6 +45,7 @@ impl<K: Kem> Duet<K> {
             second,
             posts,
             draws,
+            relay,
         } = self;
         match side {
             Side::First => match first.stopped(alloc, stops.0, stops.1, act) {
@@ -55,6 +56,7 @@ impl<K: Kem> Duet<K> {
                         second,
                         posts,
                         draws,
+                        relay,
                     },
                     answer,
                 )),
@@ -68,6 +70,7 @@ impl<K: Kem> Duet<K> {
                         second,
                         posts,
                         draws,
+                        relay,
                     },
                     answer,
                 )),

@@ -8,7 +8,7 @@ use Rattle.session_model.specs.Schedule.{agreement_seed}
 use Rattle.duet.specs.Script.{Scripted, script_of}
 use Rattle.duet.specs.Trace.{played}
 use Rattle.duet.proofs.Following.{follows}
-use Rattle.duet.proofs.Seeds.{whole_seeds}
+use Rattle.duet.proofs.ScriptSeeds.{whole_seeds}
 use Rattle.messenger_cli.specs.declared.playing.TheConstants.{SCRIPT_LIMIT}
 use Rattle.duet.specs.declared.script.KemName.{KemName}
 use Rattle.duet.specs.declared.script.KemName.TheVariants.{Open, Sntrup761}

@@ -8,7 +8,7 @@ ghost use Rattle.slot_store.specs.Store.{IsWithin};
 ghost use Rattle.client.specs.Clients.{client_area};
 ghost use Rattle.command_words.specs.Commands.{command_of};
 ghost use Rattle.messenger_cli.specs.Arguments.{HasWords, ending_without_words, words_of};
-ghost use Rattle.messenger_cli.specs.declared.program.TheConstants.{RELAY_DISK_SIZE};
+ghost use Rattle.relay_command.specs.declared.relaying.TheConstants.{RELAY_DISK_SIZE};
 ghost use Rattle.messenger_cli.specs.Held.{held, seen};
 ghost use Rattle.messenger_cli.specs.Performing.{EndsIdle, RunsProgram};
 

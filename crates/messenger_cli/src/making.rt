@@ -1,11 +1,8 @@
 //! The command that plays a script made from a number.
 
 ghost use Rattle.std.specs.Prelude.{◌≡◌, ◌≤◌, [], IfErr, IfOk};
-ghost use Rattle.duet.specs.Make.{made_script};
-ghost use Rattle.duet.specs.Tally.{tally_of};
-ghost use Rattle.kem_laws.specs.Open.{open_kem};
 ghost use Rattle.session_commands.specs.Runs.{Runs};
-ghost use Rattle.messenger_cli.specs.Making.{PlaysMade};
+ghost use Rattle.messenger_cli.specs.Making.{IsTallyOf, PlaysMade};
 
 use dr_ports::{Failed, NullSink, Sink, write_all};
 use duet::{PlayError, Script, Tally, play, summary_lines};
@@ -16,7 +13,7 @@ use std::alloc::Global;
 
 /// What the script of so many rounds that is made from a number comes to, or how the command ends without it.
 fn tally_made(alloc: Global, rounds: u32, number: u64) -> Result<Tally, Ending>
-    ensures tally { IfOk result (λ tally. tally ≡ tally_of open_kem (made_script rounds number)) }
+    ensures tally { IfOk result (IsTallyOf rounds number) }
     ensures ending { IfErr result (λ ending. PlaysMade rounds number ending []) }
 {
     let Ok(script) = Script::make(alloc, rounds, number) else {

@@ -7,7 +7,7 @@ ghost use Rattle.dr_ports.specs.declared.pipe.Part.TheVariants.{Gate};
 ghost use Rattle.slot_store.specs.Store.{IsWithin};
 ghost use Rattle.client.specs.Clients.{client_area};
 ghost use Rattle.command_words.specs.Commands.{command_of};
-ghost use Rattle.messenger_cli.specs.declared.program.TheConstants.{RELAY_DISK_SIZE};
+ghost use Rattle.relay_command.specs.declared.relaying.TheConstants.{RELAY_DISK_SIZE};
 ghost use Rattle.messenger_cli.specs.Held.{held, seen};
 ghost use Rattle.messenger_cli.specs.Performing.{RunsProgram};
 
@@ -20,9 +20,6 @@ use std::alloc::{AllocError, Global};
 
 /// The size of the disk of a session, in bytes: two slots of a client.
 pub const DISK_SIZE: u64 = 393216;
-
-/// The size of the disk of a relay, in bytes: the areas of 16 boxes.
-pub const RELAY_DISK_SIZE: u64 = 8388608;
 
 /// Runs the program on its words, the arguments behind its name: the session is kept on `disk` and a relay's boxes on
 /// `relay_disk`, which are lent as the last run left them; texts come from `source`, lines go to `out`, a sync goes over

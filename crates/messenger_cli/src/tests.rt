@@ -14,10 +14,12 @@ use std::io;
 use std::io::{Cursor, ErrorKind};
 use std::test::Fail;
 use stops::STOPS;
+use syncs::SYNCS;
 
 mod commands;
 mod scenarios;
 mod stops;
+mod syncs;
 
 /// A script whose last line doesn't end in a line feed.
 const HELLO: &[u8] =
@@ -171,7 +173,7 @@ fn holds(
 fn answers_scripts(rt: HostRuntime) -> Result<(), Fail> {
     let alloc = rt.alloc();
     let mut network = Network::new(alloc, b"", b"")?;
-    for (scenarios, held) in [(SCENARIOS, 39_u32), (STOPS, 30)] {
+    for (scenarios, held) in [(SCENARIOS, 39_u32), (STOPS, 30), (SYNCS, 15)] {
         let mut count = 0_u32;
         for scenario in scenarios.split("\n\n") {
             if let Some((title, lines)) = scenario.split_once('\n') {

@@ -1,14 +1,16 @@
-//! Lines of a script, which may stop the disk of their side.
+//! Lines of a script, which may stop the disk of their side, or sync it.
 
 ghost use Rattle.std.specs.Prelude.{◌≡◌, option_map};
-ghost use Rattle.duet.specs.Lined.{call_event, lined_event, stop_event};
+ghost use Rattle.duet.specs.Lined.{call_event, lined_deed, stop_event};
+ghost use Rattle.duet.specs.Deeds.{acts, deed_side};
 ghost use Rattle.duet.specs.Replies.{acting_side};
 ghost use Rattle.duet.specs.Seen.{event_of};
-ghost use Rattle.duet.specs.Words.{call_words, if_call, line_read, mode_read, stop_words};
+ghost use Rattle.duet.specs.Words.{call_words, event_read, if_call, line_read, mode_read, stop_words};
 
 use crate::script::line::{Line, parse_words};
 use crate::script::number::number;
 use crate::script::split::{after_prefix, cut_at};
+use crate::script::syncing::parse_sync;
 use dr_base::{Position, Side};
 use dr_disk::Mode;
 use hex::FromHex;
@@ -21,6 +23,8 @@ pub enum Lined<'a> {
     Plain(Line<'a>),
     /// The disk of the side stops in a call.
     Stopping(Stop<'a>),
+    /// The side syncs with the relay. The reply to the request of this number, from 1, is lost, and the link fails there.
+    Syncing(Side, Option<u32>),
 }
 
 /// A call in which the disk of its side stops.
@@ -52,7 +56,21 @@ impl<'a> Lined<'a> {
     /// Reads a line.
     #[tactic(auto, unfolding(crate::specs::Words::line_read))]
     pub fn parse(line: &'a [u8]) -> Option<Self>
-        ensures { option_map lined_event result ≡ line_read line.entry.now }
+        ensures { option_map lined_deed result ≡ line_read line.entry.now }
+    {
+        if let Some(found) = Self::parse_event(line) {
+            return Some(found);
+        }
+        match parse_sync(line) {
+            Some((side, lost)) => Some(Lined::Syncing(side, lost)),
+            None => None,
+        }
+    }
+
+    /// Reads a line that says an event.
+    #[tactic(auto, unfolding(crate::specs::Words::event_read))]
+    fn parse_event(line: &'a [u8]) -> Option<Self>
+        ensures { option_map lined_deed result ≡ option_map acts (event_read line.entry.now) }
     {
         if let Some(found) = Line::parse(line) {
             return Some(Lined::Plain(found));
@@ -71,13 +89,14 @@ impl<'a> Lined<'a> {
         }
     }
 
-    /// The side whose event it is; a seed is no side's, and counts as First's.
+    /// The side whose deed it is; a seed is no side's, and counts as First's.
     pub fn side(&self) -> Side
-        ensures { result ≡ acting_side (lined_event self.now) }
+        ensures { result ≡ deed_side (lined_deed self.now) }
     {
         match self {
             Lined::Plain(line) => line.side(),
             Lined::Stopping(stop) => stop.side(),
+            Lined::Syncing(side, _) => *side,
         }
     }
 }

@@ -1,7 +1,7 @@
 //! Scripts that are made from a number.
 
 ghost use Rattle.std.specs.Prelude.{◌≡◌, ◌≤◌, length, IfOk};
-ghost use Rattle.duet.specs.Make.{made_script, turn_events};
+ghost use Rattle.duet.specs.Make.{made_script, turn_deeds};
 ghost use Rattle.duet.specs.Printed.{script_text};
 ghost use Rattle.duet.specs.declared.script.make.rounds.Turn.TheVariants.{Says, Takes};
 
@@ -18,7 +18,7 @@ mod tests;
 
 /// The lines of a side that says a round's text.
 fn said_text(round: u32, side: Side) -> OutputLine
-    ensures { result ≡ script_text (turn_events round (Says side)) }
+    ensures { result ≡ script_text (turn_deeds round (Says side)) }
 {
     let mut lines = OutputLine::new();
     lines.text(side_name(side));
@@ -32,7 +32,7 @@ fn said_text(round: u32, side: Side) -> OutputLine
 
 /// The lines of a side that takes a packet.
 fn taken_text(round: u32, side: Side, nth: u32) -> OutputLine
-    ensures { result ≡ script_text (turn_events round (Takes side nth)) }
+    ensures { result ≡ script_text (turn_deeds round (Takes side nth)) }
 {
     let mut lines = OutputLine::new();
     lines.text(side_name(side));
@@ -45,9 +45,9 @@ fn taken_text(round: u32, side: Side, nth: u32) -> OutputLine
 }
 
 /// The lines of a round.
-#[tactic(auto, unfolding(crate::specs::Make::turn_events))]
+#[tactic(auto, unfolding(crate::specs::Make::turn_deeds))]
 fn turn_text(round: u32, turn: Turn) -> OutputLine
-    ensures { result ≡ script_text (turn_events round turn) }
+    ensures { result ≡ script_text (turn_deeds round turn) }
 {
     match turn {
         Turn::Says(side) => said_text(round, side),
@@ -57,9 +57,9 @@ fn turn_text(round: u32, turn: Turn) -> OutputLine
 }
 
 /// How many lines a round has.
-#[tactic(auto, unfolding(crate::specs::Make::turn_events))]
+#[tactic(auto, unfolding(crate::specs::Make::turn_deeds))]
 fn turn_count(round: u32, turn: Turn) -> usize
-    ensures count { result ≡ length (turn_events round turn) }
+    ensures count { result ≡ length (turn_deeds round turn) }
     ensures few { result ≤ 2 }
 {
     match turn {

@@ -338,7 +338,7 @@ first bytes 0
 refused: Script 3
 
 another word
-first sync
+first sink
 =>
 refused: Script 3
 

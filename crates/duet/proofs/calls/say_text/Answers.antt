@@ -1,5 +1,4 @@
 use Rattle.std.proofs.Common.{Err, Ok, refl}
-use Rattle.dr_model.specs.Machines.Acts.{said_by}
 use Rattle.ratchet.specs.Seen.{seed_bytes}
 use Rattle.session_model.specs.Clients.{say_on}
 use Rattle.session_model.specs.Saying.{draft_send}

@@ -1,4 +1,4 @@
-use Rattle.duet.proofs.PrintedLines.{line_back}
+use Rattle.duet.proofs.PrintedDeeds.{line_back}
 use Rattle.duet.proofs.laws.lines_print_back.Goals as goal
 
 pub returns : goal.returns

@@ -1,12 +1,11 @@
-use Rattle.std.proofs.Common.{◌≡◌, length}
-use Rattle.kem_laws.specs.Mechanism.{Meaning}
+use Rattle.std.proofs.Common.{length}
 use Rattle.duet.proofs.PlayedLines.{IsPlaying}
 use Rattle.duet.proofs.playing.play.Given as goal
 
-abbrev pub invariant-events : goal.invariant-events
-invariant-events g l =
+abbrev pub invariant-deeds : goal.invariant-deeds
+invariant-deeds g l =
     IsPlaying g.K.Kem.mechanism l.script l.lines l.duet l.tally
     (g.O.Sink.taken l.fn.out) (g.O.Sink.taken l.out) (g.O.Sink.faults l.fn.out) (g.O.Sink.faults l.out)
 
-abbrev pub decreases-events : goal.decreases-events
-decreases-events g l = length l.lines
+abbrev pub decreases-deeds : goal.decreases-deeds
+decreases-deeds g l = length l.lines

@@ -1,10 +1,9 @@
-use Rattle.std.proofs.Common.{Ok, ap, subst, sym, ◌∙◌, ◌≡◌}
-use Rattle.dr_disk.specs.MemoryDisks.{going_on, state_of, stopped_after}
+use Rattle.std.proofs.Common.{ap, subst, sym, ◌∙◌}
+use Rattle.dr_disk.specs.MemoryDisks.{state_of}
 use Rattle.dr_disk.specs.declared.memory.MemoryDisk.{MemoryDisk}
-use Rattle.dr_model.specs.Machines.Steps.{Step, settled, step}
+use Rattle.dr_model.specs.Machines.Steps.{settled, step}
 use Rattle.session_model.specs.Clients.{Client}
 use Rattle.session_model.specs.declared.answer.Answer.TheVariants.{Stopped}
-use Rattle.client.specs.Clients.{ClientNow}
 use Rattle.client.specs.Outcomes.{Acts, acknowledged, faulted, refused}
 use Rattle.duet.specs.Acts.{IsChecked, ended_as, made_by}
 use Rattle.duet.specs.declared.acts.Ended.{Ended}

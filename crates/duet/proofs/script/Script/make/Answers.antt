@@ -1,6 +1,6 @@
 use Rattle.std.proofs.Common.{◌∙◌, ◌++◌, List, ap, arith}
 use Rattle.std.specs.Prelude.{replicate}
-use Rattle.dr_model.specs.Machines.Events.{Event}
+use Rattle.duet.specs.Deeds.{Deed}
 use Rattle.duet.specs.Script.{Scripted}
 use Rattle.duet.specs.declared.script.KemName.TheVariants.{Open}
 use Rattle.duet.proofs.Making.{makes_all, makes_first, makes_on}
@@ -17,7 +17,7 @@ rounds-preserved c =
 pub returns : goal.returns
 returns c =
     let all = makes_all _ _ _ _ _ _ c.rounds.invariant (omega arith) in
-    ap (λ (events : List Event). let script : Scripted = record { kem = Open; key = replicate 32 0; events = events; rounds = c.args.rounds } in script) all.1
+    ap (λ (deeds : List Deed). let script : Scripted = record { kem = Open; key = replicate 32 0; deeds = deeds; rounds = c.args.rounds } in script) all.1
 
 pub invariant_of-result : goal.invariant_of-result
 invariant_of-result c = (makes_all _ _ _ _ _ _ c.rounds.invariant (omega arith)).0

@@ -1,4 +1,4 @@
-use Rattle.std.proofs.Common.{ap, refl, subst, sym, ◌∙◌, ◌≡◌}
+use Rattle.std.proofs.Common.{ap, refl, subst, ◌∙◌, ◌≡◌}
 use Rattle.std.specs.Prelude.{IfOk}
 use Rattle.dr_model.specs.Machines.Events.{drops_done, drops_sent, takes, takes_nth}
 use Rattle.dr_model.specs.Machines.Sides.{Sides, client_of}

@@ -1,4 +1,4 @@
-use Rattle.std.proofs.Common.{ap, refl, subst, sym, ◌∙◌, ◌≡◌}
+use Rattle.std.proofs.Common.{ap, subst, sym, ◌≡◌}
 use Rattle.std.specs.Prelude.{IfOk}
 use Rattle.dr_model.specs.Machines.Sides.{Sides}
 use Rattle.dr_model.specs.Machines.Steps.{Step}

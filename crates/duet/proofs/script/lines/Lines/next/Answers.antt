@@ -1,5 +1,5 @@
-use Rattle.std.proofs.Common.{◌≡◌, sym, ◌∙◌}
-use Rattle.duet.specs.Lined.{lined_event}
+use Rattle.std.proofs.Common.{sym, ◌∙◌}
+use Rattle.duet.specs.Lined.{lined_deed}
 use Rattle.duet.proofs.Reading.{next_read, none_left, matched_line}
 use Rattle.duet.proofs.script.lines.Lines.next.Goals as goal
 
@@ -12,4 +12,4 @@ returns-in-None c = sym c.self.view_is ∙ none_left _ c.in-None.ensures.line
 pub returns-in-Some : goal.returns-in-Some
 returns-in-Some c =
     let read = (next_read _ _ _ c.self.invariant c.in-Some.ensures.line).1 in
-    matched_line lined_event c.parse.result _ _ _ _ c.parse.ensures read.1 (sym c.self.view_is ∙ read.2)
+    matched_line lined_deed c.parse.result _ _ _ _ c.parse.ensures read.1 (sym c.self.view_is ∙ read.2)

@@ -1,0 +1,158 @@
+-- A sync of a side, and the same in the world that both sides stand for.
+use Rattle.std.proofs.Common.{◌≡◌, ℕ, List, [], ◌++◌, Option, refl, sym, ◌∙◌, ap, ap₂}
+use Rattle.dr_base.specs.declared.position.Side.{Side}
+use Rattle.dr_base.specs.declared.position.Side.TheVariants.{First, Second}
+use Rattle.dr_model.specs.Machines.Acts.{Act, act_in, act_on, event_of, sending, taking}
+use Rattle.dr_model.specs.Machines.Sides.{Sides, client_of, step_on, with_client}
+use Rattle.dr_model.specs.Machines.Steps.{Step, settled}
+use Rattle.dr_model.specs.Machines.WorldSides.{kept_in, sides_of}
+use Rattle.dr_model.specs.Machines.Worlds.{World}
+use Rattle.dr_model.specs.Theorems.Fairness.{IsUnforged}
+use Rattle.dr_model.specs.Theorems.LawfulWorlds.{IsLawfulWorld}
+use Rattle.dr_model.proofs.Worlds.Following.{step_follows}
+use Rattle.dr_model.proofs.Worlds.LawfulWorlds.{lawful_next}
+use Rattle.dr_model.proofs.Worlds.WorldViews.{client_of-kept}
+use Rattle.kem_laws.specs.Mechanism.{IsLawfulMechanism, Mechanism}
+use Rattle.relay_core.specs.Boxes.{Box}
+use Rattle.relay_link.specs.Connections.{kept_before}
+use Rattle.session_model.specs.Clients.{Client, dropped_of, take_on}
+use Rattle.sync_model.specs.Moves.{Ending, Wait, acking, box_is_full, ended, fetching, inbox_full, no_such_box, over, posting, wrong}
+use Rattle.sync_model.specs.Parties.{Party}
+use Rattle.sync_model.specs.Scenes.{IsSameScene, MeetsFairly, scene}
+use Rattle.sync_model.specs.Simulation.{AreAlike}
+use Rattle.sync_model.specs.Transfers.{Meeting, begins}
+use Rattle.sync_model.proofs.Scenes.{scenes_alike}
+use Rattle.client.specs.Syncing.Lines.{answer_line, own_box, peers_box}
+use Rattle.client.specs.Syncing.Parties.{client_party, is_full, waiting, world_party}
+use Rattle.duet.specs.Deeds.{Played, ending_line, last_line, sync_lines, synced_on}
+use Rattle.duet.specs.Held.{on_side}
+use Rattle.duet.specs.Replies.{side_text}
+use Rattle.duet.proofs.StoppedSides.{opened_side, same_client, sent_side}
+
+-- ---- one side among both
+
+side_given : (s : Sides) (side : Side) (kept : Client) → client_of (with_client s side kept) side ≡ kept
+side_given s First kept = refl
+side_given s Second kept = refl
+
+given_twice : (s : Sides) (side : Side) (one other : Client) → with_client (with_client s side one) side other ≡ with_client s side other
+given_twice s First one other = refl
+given_twice s Second one other = refl
+
+-- what a side takes or sends is its own step
+abbrev IsOwn : Mechanism → Side → Act → Type 0
+IsOwn k side act = (s : Sides) → step_on k s (event_of side act) ≡ on_side s side (settled (client_of s side) (act_on k (client_of s side) act))
+
+takes_own : (k : Mechanism) (side : Side) (bytes : List ℕ) → IsOwn k side (taking bytes)
+takes_own k side bytes s = opened_side s side (take_on k (client_of s side) bytes)
+
+sends_own : (k : Mechanism) (side : Side) → IsOwn k side (sending 1)
+sends_own k side s = sent_side s side 1 (dropped_of 1 (client_of s side).outbox)
+
+-- ---- on the way
+
+-- A side keeps this in a world that a sync leads to. All but what the side keeps is as it was at the start.
+record IsOnWay (k : Mechanism) (side : Side) (start : World) (kept : Client) (w : World) : Type 0 where
+  lawful : IsLawfulWorld k w
+  stands : sides_of k w ≡ with_client (sides_of k start) side kept
+
+module _ (k : Mechanism) (law : IsLawfulMechanism k) (side : Side) (start : World) where
+  module _ (kept : Client) (w : World) (is : IsOnWay k side start kept w) where
+    keeps : client_of (sides_of k w) side ≡ kept
+    keeps = ap (λ (s : Sides). client_of s side) is.stands ∙ side_given (sides_of k start) side kept
+
+    kept_is : kept_in k w side ≡ kept
+    kept_is = sym (client_of-kept k w side) ∙ keeps
+
+    -- the side's own step is that of the world
+    made : (act : Act) → IsOwn k side act → step_on k (sides_of k w) (event_of side act) ≡ on_side (sides_of k start) side (settled kept (act_on k kept act))
+    made act own =
+        own (sides_of k w)
+        ∙ ap₂ (λ (s : Sides) (c : Client). on_side s side (settled c (act_on k c act))) is.stands keeps
+        ∙ ap (λ (s : Sides). let made : Step Sides = record { answer = (settled kept (act_on k kept act)).answer; entries = (settled kept (act_on k kept act)).entries; next = s } in made)
+        (given_twice (sides_of k start) side kept (settled kept (act_on k kept act)).next)
+
+  -- a step of the world, and what a side made
+  record IsMade (one : Step Client) (other : Step World) : Type 0 where
+    answer : one.answer ≡ other.answer
+    next : IsOnWay k side start one.next other.next
+
+  took : (kept : Client) (w : World) (bytes : List ℕ) → IsOnWay k side start kept w → IsUnforged k w side bytes
+      → IsMade (settled kept (act_on k kept (taking bytes))) (act_in k w side (taking bytes))
+  took kept w bytes is fair =
+      let same = sym (step_follows k w (event_of side (taking bytes)) law is.lawful (record { unforged = fair; whole = tt })) ∙ made kept w is (taking bytes) (takes_own k side bytes) in
+      record {
+        answer = sym (ap (λ (m : Step Sides). m.answer) same);
+        next = record { lawful = lawful_next k w (event_of side (taking bytes)) is.lawful tt; stands = ap (λ (m : Step Sides). m.next) same };
+      }
+
+  sent : (kept : Client) (w : World) → IsOnWay k side start kept w
+      → IsMade (settled kept (act_on k kept (sending 1))) (act_in k w side (sending 1))
+  sent kept w is =
+      let same = sym (step_follows k w (event_of side (sending 1)) law is.lawful (record { unforged = tt; whole = tt })) ∙ made kept w is (sending 1) (sends_own k side) in
+      record {
+        answer = sym (ap (λ (m : Step Sides). m.answer) same);
+        next = record { lawful = lawful_next k w (event_of side (sending 1)) is.lawful tt; stands = ap (λ (m : Step Sides). m.next) same };
+      }
+
+  -- ---- a sync
+
+  abbrev Fair : World → List ℕ → Type 0
+  Fair turn packet = IsUnforged k turn side packet
+
+  abbrev first : Client
+  first = client_of (sides_of k start) side
+
+  abbrev mine : Party Client
+  mine = client_party k (side_text side) first
+
+  abbrev theirs : Party World
+  theirs = world_party k (side_text side) side start
+
+  are : AreAlike mine theirs (IsOnWay k side start) Fair
+  are = record {
+    own = ap own_box (client_of-kept k start side);
+    peers = ap peers_box (client_of-kept k start side);
+    stored_line = λ number. refl;
+    end_line = λ which. refl;
+    outbox = λ kept w is. ap waiting (sym (kept_is kept w is));
+    sent = λ kept w is. (sent kept w is).next;
+    takes = λ kept w packet is fair. let took = took kept w packet is fair in record {
+      line = ap (answer_line (side_text side)) took.answer;
+      full = ap is_full took.answer;
+      next = took.next;
+    };
+  }
+
+  module _ (lawful : IsLawfulWorld k start) (lost : Option ℕ) (boxes : List Box) (fair : MeetsFairly theirs Fair (kept_before lost) (begins theirs start boxes)) where
+    same_scene : IsSameScene (IsOnWay k side start) (scene mine (kept_before lost) first boxes) (scene theirs (kept_before lost) start boxes)
+    same_scene =
+        scenes_alike mine theirs (IsOnWay k side start) Fair are first start
+        (record { lawful = lawful; stands = sym (same_client (sides_of k start) side) }) (kept_before lost) boxes fair
+
+    same_ending : (ending : Ending) → ending_line mine side ending ≡ ending_line theirs side ending
+    same_ending (ended which) = refl
+    same_ending inbox_full = refl
+    same_ending box_is_full = refl
+    same_ending no_such_box = refl
+    same_ending wrong = refl
+
+    same_last : (wait : Wait) → last_line mine side wait ≡ last_line theirs side wait
+    same_last (over ending) = same_ending ending
+    same_last (fetching n) = refl
+    same_last (acking n number) = refl
+    same_last (posting which) = refl
+
+    abbrev played_by : List ℕ → Sides → List Box → Played Sides
+    played_by lines ends after = record { answers = []; lines = lines; next = record { ends = ends; boxes = after } }
+
+    abbrev came : Meeting World
+    came = scene theirs (kept_before lost) start boxes
+
+    pub sync_follows : synced_on k (record { ends = sides_of k start; boxes = boxes }) side lost ≡ played_by (sync_lines theirs side came) (sides_of k came.course.state) came.boxes
+    sync_follows =
+        let same = same_scene in
+        let lines : sync_lines mine side (scene mine (kept_before lost) first boxes) ≡ sync_lines theirs side came =
+        ap₂ (λ (a b : List ℕ). a ++ b) same.course.lines (ap (last_line mine side) same.course.wait ∙ same_last came.course.wait) in
+        ap (λ (l : List ℕ). played_by l (with_client (sides_of k start) side (scene mine (kept_before lost) first boxes).course.state) (scene mine (kept_before lost) first boxes).boxes) lines
+        ∙ ap₂ (played_by (sync_lines theirs side came)) (sym same.course.state.stands) same.boxes

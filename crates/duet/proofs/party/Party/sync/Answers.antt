@@ -1,0 +1,44 @@
+use Rattle.std.proofs.Common.{List, Ok, Result, subst, sym, ℕ}
+use Rattle.dr_base.specs.declared.failed.Failed.{Failed}
+use Rattle.dr_disk.specs.MemoryDisks.{state_of}
+use Rattle.dr_ports.specs.Writing.{Writes}
+use Rattle.relay_link.specs.Connections.{boxes_of, kept_before}
+use Rattle.session_model.specs.Clients.{Client}
+use Rattle.sync_model.specs.Scenes.{scene}
+use Rattle.client.specs.Syncing.Moments.{moment}
+use Rattle.client.specs.Syncing.Parties.{client_party}
+use Rattle.client.specs.declared.syncing.faults.SyncFault.{SyncFault}
+use Rattle.sync_model.specs.declared.more.More.{More}
+use Rattle.duet.specs.Deeds.{sync_lines}
+use Rattle.duet.specs.Meetings.{Plays}
+use Rattle.duet.specs.Replies.{side_text}
+use Rattle.duet.proofs.Synced.{broken_lines, ended_lines}
+use Rattle.duet.proofs.party.Party.sync.Goals as goal
+use Rattle.duet.proofs.party.Party.sync.Goals.{in-Ok, in-Err}
+
+pub returns-clause-writes : goal.returns-clause-writes
+returns-clause-writes g c =
+    let k = g.K.Kem.mechanism in
+    let side = c.args.side in
+    let boxes = boxes_of c.args.relay.now in
+    let before = moment c.self.inside.client (state_of c.self.inside.disk) (g.O.Sink.taken c.args.out.now) (g.O.Sink.faults c.args.out.now) in
+    let after = moment c.meet.new.client (state_of c.meet.new.disk) (g.O.Sink.taken c.meet.new.out) (g.O.Sink.faults c.meet.new.out) in
+    let Met : List ℕ → Client → Result More SyncFault → Type 0 =
+    λ prefix client result. let p = client_party k prefix client in
+    Plays p (scene p (kept_before c.args.lost) client boxes) before after (boxes_of c.meet.new.link) result in
+    let met : Met (side_text side) c.args.self.now c.meet.result =
+    subst (λ (x : Client). Met (side_text side) x c.meet.result) c.self.view_is
+    (subst (λ (b : List ℕ). Met b c.self.inside.client.kept c.meet.result) c.side_prefix.ensures.name c.meet.ensures) in
+    let p = client_party k (side_text side) c.args.self.now in
+    let m = scene p (kept_before c.args.lost) c.args.self.now boxes in
+    elim c.match-meet.branch [
+      | in-Ok w ↦
+          subst (λ r. Writes (g.O.Sink.taken c.args.out.now) (g.O.Sink.taken c.match-meet.out) (g.O.Sink.faults c.args.out.now) (g.O.Sink.faults c.match-meet.out) (sync_lines p side m) r) (sym w.result-is)
+          (subst (λ o. Writes {T = Unit} {E = Failed} (g.O.Sink.taken c.args.out.now) (g.O.Sink.taken o) (g.O.Sink.faults c.args.out.now) (g.O.Sink.faults o) (sync_lines p side m) (Ok tt)) (sym w.out-is)
+          (ended_lines p side m before after (boxes_of c.meet.new.link) w.in-Ok.field-0 (subst (Met (side_text side) c.args.self.now) w.in-Ok.is met)))
+      | in-Err w ↦
+          subst (λ r. Writes (g.O.Sink.taken c.args.out.now) (g.O.Sink.taken c.match-meet.out) (g.O.Sink.faults c.args.out.now) (g.O.Sink.faults c.match-meet.out) (sync_lines p side m) r) (sym w.result-is)
+          (subst (λ o. Writes {T = Unit} {E = Failed} (g.O.Sink.taken c.args.out.now) (g.O.Sink.taken o) (g.O.Sink.faults c.args.out.now) (g.O.Sink.faults o) (sync_lines p side m) w.tell.result) (sym w.out-is)
+          (broken_lines p side m before after (boxes_of c.meet.new.link) w.in-Err.fault (g.O.Sink.taken w.tell.new.out) (g.O.Sink.faults w.tell.new.out) w.tell.result
+          (subst (Met (side_text side) c.args.self.now) w.in-Err.is met) w.tell.ensures))
+    ]

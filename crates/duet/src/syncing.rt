@@ -1,0 +1,100 @@
+//! A side syncs with the relay that both sides have in memory.
+
+ghost use Rattle.std.specs.Prelude.{◌≡◌, OnOk};
+ghost use Rattle.dr_ports.specs.Writing.{Writes};
+ghost use Rattle.relay_link.specs.Connections.{boxes_of, kept_before};
+ghost use Rattle.sync_model.specs.Scenes.{scene};
+ghost use Rattle.client.specs.Syncing.Parties.{client_party};
+ghost use Rattle.duet.specs.Deeds.{deed_on, sync_lines, syncs};
+ghost use Rattle.duet.specs.Held.{after_deed, beside};
+ghost use Rattle.duet.specs.Meetings.{Tells, fault_text};
+ghost use Rattle.duet.specs.Replies.{side_text};
+
+use crate::meeting::meet;
+use crate::party::Party;
+use crate::reply::{side_name, side_prefix};
+use crate::sides::Duet;
+use client::{SyncFault, SyncRefusal};
+use dr_base::Side;
+use dr_ports::{Failed, OutputLine, Sink, write_all};
+use kem_laws::Kem;
+use relay_link::RelayLink;
+
+/// What is said of a sync that broke off.
+fn fault_text(fault: SyncFault) -> &'static [u8]
+    ensures { result.now ≡ fault_text fault }
+{
+    match fault {
+        SyncFault::Refused(SyncRefusal::InboxFull) => b"refused InboxFull\n",
+        SyncFault::Refused(SyncRefusal::BoxFull) => b"refused BoxFull\n",
+        SyncFault::Refused(SyncRefusal::Unknown) => b"refused Unknown\n",
+        SyncFault::Link => b"link fault\n",
+        _ => b"",
+    }
+}
+
+/// Writes why a sync of a side broke off, where it is no write that failed.
+fn tell<O: Sink>(out: &mut O, side: Side, fault: SyncFault) -> Result<(), Failed>
+    ensures { Tells side fault (O.taken out.old) (O.taken out.new) (O.faults out.old) (O.faults out.new) result }
+{
+    if matches!(fault, SyncFault::Write) {
+        return Err(Failed);
+    }
+    let mut line = OutputLine::new();
+    line.text(side_name(side));
+    line.text(fault_text(fault));
+    match write_all(out, line.as_bytes()) {
+        Err(Failed) => Err(Failed),
+        Ok(()) => Ok(()),
+    }
+}
+
+impl<K: Kem> Party<K> {
+    /// Syncs with the relay over another connection, on which the reply to the request of this number, from 1, is lost.
+    fn sync<O: Sink>(
+        &mut self,
+        relay: &mut RelayLink,
+        out: &mut O,
+        side: Side,
+        lost: Option<u32>,
+    ) -> Result<(), Failed>
+        ensures writes { let p = client_party K.mechanism (side_text side) self.old in
+            Writes (O.taken out.old) (O.taken out.new) (O.faults out.old) (O.faults out.new)
+            (sync_lines p side (scene p (kept_before lost) self.old (boxes_of relay.old))) result }
+        ensures keeps { let p = client_party K.mechanism (side_text side) self.old in
+            OnOk result (self.new ≡ (scene p (kept_before lost) self.old (boxes_of relay.old)).course.state) }
+        ensures boxes { let p = client_party K.mechanism (side_text side) self.old in
+            OnOk result (boxes_of relay.new ≡ (scene p (kept_before lost) self.old (boxes_of relay.old)).boxes) }
+    {
+        match meet(
+            &mut self.client,
+            &mut self.disk,
+            relay,
+            out,
+            side_prefix(side),
+            lost,
+        ) {
+            Ok(_) => Ok(()),
+            Err(fault) => tell(out, side, fault),
+        }
+    }
+}
+
+impl<K: Kem> Duet<K> {
+    /// A side syncs with the relay. The reply to the request of this number, from 1, is lost, and with it the link.
+    pub fn sync<O: Sink>(
+        &mut self,
+        out: &mut O,
+        side: Side,
+        lost: Option<u32>,
+    ) -> Result<(), Failed>
+        ensures writes { let k = K.mechanism in Writes (O.taken out.old) (O.taken out.new) (O.faults out.old) (O.faults out.new)
+            (deed_on k (beside self.old) (syncs side lost)).lines result }
+        ensures next { let k = K.mechanism in OnOk result (self.new ≡ after_deed self.old (deed_on k (beside self.old) (syncs side lost))) }
+    {
+        match side {
+            Side::First => self.first.sync(&mut self.relay, out, side, lost),
+            Side::Second => self.second.sync(&mut self.relay, out, side, lost),
+        }
+    }
+}
