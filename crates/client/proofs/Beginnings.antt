@@ -18,7 +18,7 @@ use Rattle.session_model.specs.Schedule.{agreement_seed}
 use Rattle.session_record.specs.Record.{record_text}
 use Rattle.slot_store.specs.Found.{found_as}
 use Rattle.slot_store.specs.Laws.{IsRead}
-use Rattle.slot_store.specs.Reading.{IsEntryOrLike, IsLikeRead, damaged, holds, no_content, reading}
+use Rattle.slot_store.specs.Reading.{IsEntryOrLike, IsLikeRead, IsUndamaged, damaged, holds, no_content, reading}
 use Rattle.slot_store.specs.Slots.{recovered}
 use Rattle.slot_store.specs.Store.{IsOldOrNew, KeepsOutside}
 use Rattle.slot_store.specs.declared.errors.OpenError.{OpenError}
@@ -51,13 +51,14 @@ module _ (k : Mechanism) (readings : IsRead) (key : List ℕ) (side : Side) (sta
     (opening : Span start mid (IsEntryOrLike client_area start))
     (putting : Span mid now (IsOldOrNew mid client_area None (Some (record_text (begun_client k key side))))) where
   -- what has no record is like what was read, which had none
-  no_record : (c : List ℕ) → recovered client_area c ≡ None → KeepsOutside client_area mid c → IsLikeRead client_area start c
-  no_record c without kept =
+  no_record : (c : List ℕ) → recovered client_area c ≡ None → IsUndamaged client_area c → KeepsOutside client_area mid c → IsLikeRead client_area start c
+  no_record c without whole kept =
       let like = alike kept.0 kept.1 in
       record {
         read = like.read;
         told = like.told;
         same = without ∙ sym (readings.none (record_fault k) client_area like.read (none like.read like.told));
+        undamaged = λ _. whole;
         outside = torn_twice 0 (client_area.slot + client_area.slot) like.read kept.0 c like.outside kept.2;
       }
 
@@ -67,11 +68,12 @@ module _ (k : Mechanism) (readings : IsRead) (key : List ℕ) (side : Side) (sta
   left_by : (c : List ℕ) → IsOldOrNew mid client_area None (Some (record_text (begun_client k key side))) c
       → IsLikeRead client_area start c ⊎ IsFirst k key side start c
   left_by c s =
-      ⊎_elim (λ old. inl (no_record c old s.frame))
+      ⊎_elim (λ old. inl (no_record c old s.undamaged s.frame))
       (λ new. inr (record {
         none = none;
         pair = pair;
         holds = new;
+        undamaged = s.undamaged;
         outside = frame_twice start mid 0 (client_area.slot + client_area.slot) outside_mid c s.frame;
       })) s.either
 

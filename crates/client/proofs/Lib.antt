@@ -12,6 +12,7 @@ mod Lifted
 mod OnePacket
 pub mod Openings
 mod Readiness
+pub mod Reopening
 mod Replaced
 mod SameRecord
 mod Spending

@@ -63,6 +63,7 @@ module _ (k : Mechanism) (grounds : Grounds k) (w : World) (side : Side) (act : 
       (λ c s. record {
         either = ⊎_elim (λ o. inl (record_stands k grounds w side old.kept c is.lawful is.keeps o))
             (λ n. inr (record_stands k grounds next side after c (next_lawful fair) same n)) s.either;
+        undamaged = s.undamaged;
         outside = s.frame;
       }) span
 

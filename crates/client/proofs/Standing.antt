@@ -87,7 +87,7 @@ module _ (k : Mechanism) (side : Side) (first : World) where
       ⊎_elim (λ e. subst (IsLater k known.last) (sym e) (itself k known.last))
       (λ e. subst (IsLater k known.last) (sym e) still.doubtful_later) which
 
-get_before : {X : Type 0} (xs : List X) (n : ℕ) (b : X) → slice_get xs (suc n) ≡ Some b → (a : X) × (slice_get xs n ≡ Some a)
+pub get_before : {X : Type 0} (xs : List X) (n : ℕ) (b : X) → slice_get xs (suc n) ≡ Some b → (a : X) × (slice_get xs n ≡ Some a)
 get_before [] n b h = absurd (let e : None ≡ Some b = h in cc)
 get_before (x ∷ xs) zero b h = (x, refl)
 get_before (x ∷ xs) (suc n) b h = get_before xs n b h

@@ -10,7 +10,7 @@ use Rattle.session_model.specs.Clients.{Client}
 use Rattle.session_model.specs.Schedule.{agreement_seed}
 use Rattle.session_model.specs.States.{opening_state}
 use Rattle.session_record.specs.Record.{client_of, record_text}
-use Rattle.slot_store.specs.Reading.{IsEntryOrLike, damaged, holds, no_content, reading}
+use Rattle.slot_store.specs.Reading.{IsEntryOrLike, IsUndamaged, damaged, holds, no_content, reading}
 use Rattle.slot_store.specs.Slots.{recovered}
 use Rattle.slot_store.specs.Store.{KeepsOutside}
 use Rattle.slot_store.specs.declared.errors.OpenError.{OpenError}
@@ -24,12 +24,13 @@ use Rattle.client.specs.declared.refusals.BeginRefusal.TheVariants.{Damaged, Exi
 abbrev pub begun_client : Mechanism → List ℕ → Side → Client
 begun_client k key side = client_of (opening_state k key side) [] []
 
--- bytes with the first record of a client, which is put only where what was read held none and the key has a pair, and
--- outside the client's area as they were
+-- bytes with the first record of a client, read without damage, which is put only where what was read held none and the key has a
+-- pair; outside the client's area they are as they were
 pub record IsFirst (k : Mechanism) (key : List ℕ) (side : Side) (start : DiskState) (c : List ℕ) : Type 0 where
   pub none : IsReadAs k start no_content
   pub pair : IsSome (k.meaning.pair_of (agreement_seed key))
   pub holds : recovered client_area c ≡ Some (record_text (begun_client k key side))
+  pub undamaged : IsUndamaged client_area c
   pub outside : KeepsOutside client_area start c
 
 -- what a crash may leave while a client is begun: what one might have left at entry, or what is like what was read, or,

@@ -8,6 +8,8 @@ use Rattle.dr_model.specs.Machines.Worlds.{World, run_of}
 use Rattle.dr_model.specs.Theorems.Acting.{IsFairAct}
 use Rattle.dr_model.specs.Theorems.Fairness.{IsSeedWhole}
 use Rattle.kem_laws.specs.Mechanism.{Mechanism}
+use Rattle.slot_store.specs.Reading.{IsLikeRead, IsUndamaged}
+use Rattle.client.specs.Clients.{client_area}
 use Rattle.client.specs.InWorlds.{IsBetween, StandsFor, StandsForEither}
 
 -- The worlds that a disk may stand for: the one that was acknowledged or opened last, and the one that a call which failed
@@ -37,6 +39,10 @@ pub data Link (k : Mechanism) (side : Side) (a b : DiskState) : Known → Known 
   -- the client was opened, in the world whose record was read
   was_opened : (known : Known) (w : World) → (w ≡ known.last) ⊎ (w ≡ known.doubtful) → Always (StandsFor k w side) b
       → Link k side a b known (settled_in w)
+
+-- between two moments no image came but one that stood, one that is like what was read, or one that is read without damage
+abbrev pub LeavesWhole : DiskState → DiskState → Type 0
+LeavesWhole a b = (c : List ℕ) → b.image c → a.image c ⊎ (IsLikeRead client_area a c ⊎ IsUndamaged client_area c)
 
 -- a world that events lead to
 pub record IsLater (k : Mechanism) (w later : World) : Type 0 where

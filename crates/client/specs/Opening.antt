@@ -1,5 +1,5 @@
 -- What opening a client, or beginning one, does.
-use Rattle.std.specs.Prelude.{Err, IfOk, List, None, Ok, Option, Result, Some, option_map, ℕ, ◌≡◌, ◌⊎◌}
+use Rattle.std.specs.Prelude.{Err, IfOk, List, None, Ok, Option, Result, Some, option_map, ℕ, ⊤, ◌≡◌, ◌⊎◌}
 use Rattle.dr_base.specs.Causes.{Rose}
 use Rattle.dr_base.specs.declared.position.Side.{Side}
 use Rattle.dr_disk.specs.Calls.{Unwritten}
@@ -8,8 +8,9 @@ use Rattle.dr_disk.specs.State.{Always, DiskState, IsSettled}
 use Rattle.dr_model.specs.Machines.Worlds.{World}
 use Rattle.kem_laws.specs.Mechanism.{Mechanism}
 use Rattle.session_model.specs.Clients.{Client}
-use Rattle.session_record.specs.Record.{record_read}
-use Rattle.slot_store.specs.Reading.{IsLikeRead, Reading, damaged, no_content, reading}
+use Rattle.session_record.specs.Lawful.{IsLawfulClient}
+use Rattle.session_record.specs.Record.{record_read, record_text}
+use Rattle.slot_store.specs.Reading.{IsLikeRead, IsUndamaged, Reading, damaged, no_content, reading}
 use Rattle.slot_store.specs.Slots.{recovered}
 use Rattle.slot_store.specs.declared.errors.OpenError.{OpenError}
 use Rattle.slot_store.specs.declared.errors.OpenError.TheVariants.{Damaged as StoreDamaged, Memory as StoreMemory, StoreFault as DiskFault}
@@ -53,6 +54,21 @@ IsUnopened state k start now (StoreFault call) = Rose ((state start).faults call
 IsUnopened state k start now (Damaged slot at) =
     IsReadAs k (state start) (damaged slot at) × IsQuiet (state start) (state now) × Unwritten (state start) (state now)
 IsUnopened state k start now NoSession = IsReadAs k (state start) no_content × IsQuiet (state start) (state now)
+
+-- what a read gives has a lawful client's record, and is read without damage
+pub record ReadsClient (k : Mechanism) (disk : DiskState) : Type 0 where
+  pub kept : Client
+  pub lawful : IsLawfulClient k kept
+  pub bytes : List ℕ
+  pub told : disk.seen ≡ Some bytes
+  pub has : recovered client_area bytes ≡ Some (record_text kept)
+  pub undamaged : IsUndamaged client_area bytes
+
+-- a refusal that says nothing of what was read: memory was wanting, or a call on the disk failed
+abbrev pub SaysNothing : OpenRefusal → Type 0
+SaysNothing Memory = ⊤
+SaysNothing (StoreFault call) = ⊤
+SaysNothing _ = ⊥
 
 -- what a read gives stands for a side of a world
 pub record Reads (k : Mechanism) (w : World) (side : Side) (disk : DiskState) : Type 0 where

@@ -1,9 +1,10 @@
 //! What holds over whole runs. The functions have no code: a caller that needs a fact calls them.
 
-ghost use Rattle.std.specs.Prelude.{◌≡◌, ◌≤◌, ℕ, List, Some, slice_get};
+ghost use Rattle.std.specs.Prelude.{◌≡◌, ◌≤◌, ◌+◌, ℕ, List, Some, slice_get};
 ghost use Rattle.boxes.specs.Items.{Item};
 ghost use Rattle.dr_base.specs.declared.position.Position.{Position};
 ghost use Rattle.dr_base.specs.declared.position.Side.{Side};
+ghost use Rattle.dr_disk.specs.State.{Always};
 ghost use Rattle.dr_model.specs.Machines.WorldSides.{kept_in};
 ghost use Rattle.dr_model.specs.Machines.Worlds.{World};
 ghost use Rattle.dr_model.specs.Theorems.LawfulWorlds.{IsLawfulWorld};
@@ -11,13 +12,16 @@ ghost use Rattle.kem_laws.specs.Mechanism.{Mechanism};
 ghost use Rattle.session_model.specs.Clients.{Client};
 ghost use Rattle.session_record.specs.Record.{record_text};
 ghost use Rattle.slot_store.specs.Laws.{SameWithin};
+ghost use Rattle.slot_store.specs.Reading.{IsUndamaged};
 ghost use Rattle.slot_store.specs.Store.{mark};
 ghost use Rattle.slot_store.specs.declared.store.SlotStore.{SlotStore};
 ghost use Rattle.client.specs.Clients.{IsReady, client_area};
 ghost use Rattle.client.specs.Grounds.{Grounds};
-ghost use Rattle.client.specs.Moments.{AreLinked, Known, StandsStill};
+ghost use Rattle.client.specs.Moments.{AreLinked, Known, LeavesWhole, StandsStill};
+ghost use Rattle.client.specs.Opening.{IsUnopened, ReadsClient, SaysNothing};
 ghost use Rattle.client.specs.Spent.{IsErasedOn, IsUsed};
 
+use crate::refusals::OpenRefusal;
 use dr_disk::Disk;
 use dr_model::{acts_follow, erasure};
 use kem_laws::{Kem, laws};
@@ -63,6 +67,24 @@ pub fn areas_are_their_records<D: Disk>(first: &D, second: &D)
         → (c d : List ℕ) → (D.state first.now).image c → (D.state second.now).image d → SameWithin client_area c d }
 {
     resting();
+}
+
+/// Over acts, failing calls, crashes and openings in any order: where each image of the disk is read without damage at the
+/// first moment, each is so at every moment. What lies between two moments is what each call's clauses say of crashes.
+pub fn stays_undamaged<D: Disk>(moments: &[D])
+    ensures { ((a : D) → slice_get moments.now 0 ≡ Some a → Always (IsUndamaged client_area) (D.state a))
+        → ((n : ℕ) (a b : D) → slice_get moments.now n ≡ Some a → slice_get moments.now (n + 1) ≡ Some b
+        → LeavesWhole (D.state a) (D.state b))
+        → (n : ℕ) (a : D) → slice_get moments.now n ≡ Some a → Always (IsUndamaged client_area) (D.state a) }
+{}
+
+/// A disk that is read without damage is opened: where a read gives a lawful client's record so, an opening is refused only for
+/// want of memory, or where a call on the disk failed.
+pub fn opens_again<D: Disk>(before: &D, after: &D)
+    ensures { (k : Mechanism) (refusal : OpenRefusal) → ReadsClient k (D.state before.now)
+        → IsUnopened D.state k before.now after.now refusal → SaysNothing refusal }
+{
+    record_law();
 }
 
 /// The laws on which a client's claims rest.

@@ -5,7 +5,10 @@
 #![tactic(auto)]
 
 pub use client::{Client, SLOT};
-pub use laws::{areas_are_their_records, crash_safety, single_use, used_keys_stay_erased};
+pub use laws::{
+    areas_are_their_records, crash_safety, opens_again, single_use, stays_undamaged,
+    used_keys_stay_erased,
+};
 pub use refusals::{BeginRefusal, DropRefusal, OpenRefusal, SayRefusal, TakeRefusal};
 pub use syncing::{Names, SyncFault, SyncRefusal};
 

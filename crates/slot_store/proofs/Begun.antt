@@ -3,12 +3,14 @@ use Rattle.std.proofs.Common.{◌≡◌, ◌≢◌, ℕ, ◌+◌, ◌-◌, ◌�
 use Rattle.std.specs.Prelude.{not, is_some, Option, Some, None}
 use Rattle.dr_disk.specs.State.{Always, DiskState, IsLawful}
 use Rattle.slot_store.specs.declared.store.SlotStore.{SlotStore}
-use Rattle.slot_store.specs.Slots.{Comes, Slot, Slots, content_of, place_of, record_of, slot_at, turn_of, wiped}
+use Rattle.slot_store.specs.declared.area.Area.{Area}
+use Rattle.slot_store.specs.Slots.{Comes, Slot, Slots, content_of, is_open, place_of, record_of, slot_at, turn_of, wiped}
 use Rattle.slot_store.specs.Layout.{IsLaidOut, IsPut, Mark, laid}
 use Rattle.slot_store.specs.Store.{Awaits, IsWithin, Rests, content, has_replaced, mark, slot_of}
 use Rattle.slot_store.proofs.Layouts.{laid_slot}
-use Rattle.slot_store.proofs.Newest.{not_not}
+use Rattle.slot_store.proofs.Newest.{gate_open, not_not}
 use Rattle.slot_store.proofs.Putting
+use Rattle.slot_store.proofs.Undamaged.{IsWhole}
 
 -- the store's slot is laid out from its mark and its record
 pub laid_store : (store : SlotStore) → laid store.area.slot (mark store).turn (content store) ≡ slot_of store
@@ -23,9 +25,14 @@ pub slots_as_rests : (store : SlotStore) (c : List ℕ) → Slots store.area sto
 unfolding Rests mark
 slots_as_rests store c slots = record { current = slots.current ∙ sym (laid_store store); other = slots.other }
 
-pub put_setting : (old new : SlotStore) (text : List ℕ) (start : DiskState) → IsWithin old.area start → IsLawful start → new.gate ≡ 165 → length new.body.items ≡ length old.body.items
-    → Comes (slot_of old) (slot_of new) → record_of (slot_of new) ≡ text → Always (Rests old) start → Putting.Setting old.area old.second (slot_of old) (slot_of new) text start
-put_setting old new text start within lawful gate size comes holds rests = record {
+-- the store's slot, where it is open
+pub whole_store : (store : SlotStore) → is_open (slot_of store) ≡ true → IsWhole store.area.slot (slot_of store)
+whole_store store opened = record { laid = store.laid (gate_open (slot_of store) opened); size = store.size; most = store.most }
+
+pub put_setting : (old new : SlotStore) (text : List ℕ) (start : DiskState) → IsWithin old.area start → IsLawful start → new.area ≡ old.area → new.gate ≡ 165
+    → length new.body.items ≡ length old.body.items → Comes (slot_of old) (slot_of new) → record_of (slot_of new) ≡ text → Always (Rests old) start
+    → Putting.Setting old.area old.second (slot_of old) (slot_of new) text start
+put_setting old new text start within lawful same gate size comes holds rests = record {
   least = old.least;
   size = ap (λ n. n + 1) size ∙ old.size;
   within = within;
@@ -33,6 +40,8 @@ put_setting old new text start within lawful gate size comes holds rests = recor
   gate = gate;
   comes = comes;
   holds = holds;
+  whole = whole_store old;
+  comes_whole = subst (λ (a : Area). IsWhole a.slot (slot_of new)) same (whole_store new comes.opened);
   rests = λ c left. rests_as_slots old c (rests c left);
 }
 

@@ -15,6 +15,7 @@ pub mod Tidied
 pub mod Passive
 pub mod Verdicts
 pub mod Records
+pub mod Undamaged
 pub mod Opened
 pub mod Local
 pub mod Shown

@@ -9,13 +9,17 @@ use Rattle.slot_store.specs.Slots.{Comes, Slot, pick, newest, is_open, turn_of, 
 pub closed : (s : Slot) → s.gate ≢ 165 → is_open s ≡ false
 closed s shut = grind (arith, nat_tests)
 
+-- the gate of an open slot
+pub gate_open : (s : Slot) → is_open s ≡ true → s.gate ≡ 165
+gate_open s is = grind (arith, nat_tests)
+
 pub open_by_turn : (s : Slot) → s.gate ≡ 165 → 1 ≤ turn_of s → turn_of s ≤ 3 → is_open s ≡ true
 open_by_turn s gate low high = grind (arith, nat_tests)
 
-open_low : (s : Slot) → is_open s ≡ true → 1 ≤ turn_of s
+pub open_low : (s : Slot) → is_open s ≡ true → 1 ≤ turn_of s
 open_low s is = grind (arith, nat_tests)
 
-open_high : (s : Slot) → is_open s ≡ true → turn_of s ≤ 3
+pub open_high : (s : Slot) → is_open s ≡ true → turn_of s ≤ 3
 open_high s is = grind (arith, nat_tests)
 
 pick_closed_right : (a t u : Bool) (x y : List ℕ) → pick a false t u x y ≡ (if a then Some x else None)
@@ -43,10 +47,10 @@ newest_closed_right a b shut = ap (λ o. pick (is_open a) o (turn_of b == next_t
 pub newest_closed_left : (a b : Slot) → is_open a ≡ false → newest a b ≡ content_of b
 newest_closed_left a b shut = ap (λ o. pick o (is_open b) (turn_of b == next_turn (turn_of a)) (turn_of a == next_turn (turn_of b)) (record_of a) (record_of b)) shut ∙ pick_closed_left (is_open b) _ _ _ _
 
-after : (a b : ℕ) → b ≡ next_turn a → (b == next_turn a) ≡ true
+pub after : (a b : ℕ) → b ≡ next_turn a → (b == next_turn a) ≡ true
 after a b is = grind (arith, nat_tests)
 
-not_before : (a b : ℕ) → 1 ≤ a → a ≤ 3 → b ≡ next_turn a → (a == next_turn b) ≡ false
+pub not_before : (a b : ℕ) → 1 ≤ a → a ≤ 3 → b ≡ next_turn a → (a == next_turn b) ≡ false
 not_before a b low high is = grind (arith, nat_tests)
 
 pub newest_right : (a b : Slot) → Comes a b → newest a b ≡ Some (record_of b)

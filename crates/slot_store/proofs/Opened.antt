@@ -16,7 +16,7 @@ use Rattle.slot_store.specs.Store.{Rests, content, slot_of}
 use Rattle.slot_store.specs.Tidying.{IsPassive, IsTidied, WasRead}
 use Rattle.slot_store.proofs.Begun.{slots_as_rests}
 use Rattle.slot_store.proofs.Layouts.{content_closed}
-use Rattle.slot_store.proofs.Newest.{closed, content_open, not_not, open_by_turn}
+use Rattle.slot_store.proofs.Newest.{closed, content_open, gate_open, not_not, open_by_turn}
 use Rattle.slot_store.proofs.Records.{sound}
 use Rattle.slot_store.proofs.Verdicts.{both_closed, first_newer, second_newer}
 use Rattle.slot_store.specs.declared.opening.Found.TheVariants.{Content}
@@ -67,7 +67,7 @@ settled_rests store area second slot start end same place is current done c left
 pub like_twice : (area : Area) (start a : DiskState) → IsLawful a → Always (IsLikeRead area start) a → (c : List ℕ) → IsLikeRead area a c → IsLikeRead area start c
 like_twice area start a lawful was c now =
     let first = was now.read (lawful.seen_now now.read now.told) in
-    record { read = first.read; told = first.told; same = now.same ∙ first.same; outside = torn_twice area.start (area.slot + area.slot) first.read now.read c first.outside now.outside }
+    record { read = first.read; told = first.told; same = now.same ∙ first.same; undamaged = λ whole. now.undamaged (first.undamaged whole); outside = torn_twice area.start (area.slot + area.slot) first.read now.read c first.outside now.outside }
 
 module _ (area : Area) (start a : DiskState) (lawful : IsLawful a) (first : Always (IsTidied area false start) a) where
   pub second_passive : ((s : List ℕ) → start.seen ≡ Some s → is_open (slot_at area true s) ≡ false) → (s : List ℕ) → a.seen ≡ Some s → IsPassive area true s
@@ -100,7 +100,7 @@ module _ (area : Area) (start a : DiskState) (lawful : IsLawful a) (first : Alwa
 -- the whole: behind the reading
 module _ (area : Area) (start a b : DiskState) (read : Span start a start.image) (same : a.seen ≡ start.seen) where
   pub like_before : (c : List ℕ) → IsLikeRead area a c → IsLikeRead area start c
-  like_before c like = record { read = like.read; told = sym same ∙ like.told; same = like.same; outside = like.outside }
+  like_before c like = record { read = like.read; told = sym same ∙ like.told; same = like.same; undamaged = like.undamaged; outside = like.outside }
 
   pub only_read : Span start a (IsEntryOrLike area start)
   only_read = widen start a start.image (IsEntryOrLike area start) (λ c left. inl left) read
@@ -109,7 +109,7 @@ module _ (area : Area) (start a b : DiskState) (read : Span start a start.image)
   whole next = spans start a b (IsEntryOrLike area start) only_read (widen a b (IsLikeRead area a) (IsEntryOrLike area start) (λ c like. inr (like_before c like)) next)
 
   as_read : (s : List ℕ) → start.seen ≡ Some s → IsLikeRead area start s
-  as_read s told = record { read = s; told = told; same = refl; outside = torn_self area.start (area.slot + area.slot) s }
+  as_read s told = record { read = s; told = told; same = refl; undamaged = λ whole. whole; outside = torn_self area.start (area.slot + area.slot) s }
 
   pub reads_as_before : (s : List ℕ) → a.seen ≡ Some s → IsLikeRead area start s
   reads_as_before s told = as_read s (sym same ∙ told)
@@ -120,10 +120,6 @@ module _ (area : Area) (start a b : DiskState) (read : Span start a start.image)
 pub if_ok : {T E : Type 0} {P Q : T → Type 0} (r : Result T E) → ((x : T) → P x → Q x) → IfOk r P → IfOk r Q
 if_ok (Ok x) to p = to x p
 if_ok (Err e) to p = p
-
--- the gate of an open slot
-gate_open : (slot : Slot) → is_open slot ≡ true → slot.gate ≡ 165
-gate_open slot is = grind (arith, nat_tests)
 
 pub current_read : (area : Area) (k : Bool) (s : List ℕ) (gate : ℕ) (body : List ℕ) → let slot : Slot = record { gate = gate; body = body } in is_open slot ≡ true → slot_at area k s ≡ slot → slot_at area k s ≡ record { gate = 165; body = body }
 current_read area k s gate body opened is = is ∙ (λ i. record { gate = gate_open (record { gate = gate; body = body }) opened i; body = body })

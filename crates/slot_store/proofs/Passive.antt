@@ -13,6 +13,7 @@ use Rattle.slot_store.specs.Slots.{Comes, Slot, content_of, is_open, recovered, 
 use Rattle.slot_store.specs.Reading.{IsLikeRead}
 use Rattle.slot_store.specs.Tidying.{HasBody, HasBodyUnder, HasGate, HasZeros, IsLikeBut, IsPassive, IsShutting, IsTidied, WasRead}
 use Rattle.slot_store.proofs.Newest.{closed, not_not, recovered_current, recovered_newer}
+use Rattle.slot_store.proofs.Undamaged.{IsAlone, undamaged_alike}
 
 -- a slot whose turn is 0
 pub closed_turn : (s : Slot) → turn_of s ≡ 0 → is_open s ≡ false
@@ -21,6 +22,10 @@ closed_turn s zero = grind (arith, nat_tests)
 pub passive_recovered : (area : Area) (second : Bool) (c : List ℕ) → IsPassive area second c → recovered area c ≡ content_of (slot_at area (not second) c)
 passive_recovered area second c (inl shut) = recovered_current area (not second) c (subst (λ v. is_open (slot_at area v c) ≡ false) (sym (not_not second)) shut)
 passive_recovered area second c (inr comes) = recovered_newer area (not second) c (slot_at area (not second) c) refl (subst (λ v. Comes (slot_at area v c) (slot_at area (not second) c)) (sym (not_not second)) comes)
+
+passive_alone : (area : Area) (second : Bool) (c : List ℕ) → IsPassive area second c → IsAlone area (not second) c
+passive_alone area second c (inl shut) = inl (subst (λ v. is_open (slot_at area v c) ≡ false) (sym (not_not second)) shut)
+passive_alone area second c (inr comes) = inr (subst (λ v. Comes (slot_at area v c) (slot_at area (not second) c)) (sym (not_not second)) comes)
 
 module _ (area : Area) (second : Bool) (start : DiskState) (gate : ℕ) (blank : Bool) (least : 6 ≤ area.slot)
     (passive : (s : List ℕ) → start.seen ≡ Some s → IsPassive area second s) where
@@ -31,9 +36,13 @@ module _ (area : Area) (second : Bool) (start : DiskState) (gate : ℕ) (blank :
   like_read c l is = record {
     read = l.read;
     told = l.told;
-    same = passive_recovered area second c is ∙ ap content_of l.other ∙ sym (passive_recovered area second l.read (passive l.read l.told));
+    same = alike;
+    undamaged = undamaged_alike area (not second) c l.read (passive_alone area second c is) (passive_alone area second l.read (passive l.read l.told)) l.other alike;
     outside = l.outside;
   }
+    where
+      alike : recovered area c ≡ recovered area l.read
+      alike = passive_recovered area second c is ∙ ap content_of l.other ∙ sym (passive_recovered area second l.read (passive l.read l.told))
 
   -- one step behind another
   pub chain : {R S : Slot → Slot → Type 0} (mid : DiskState) → IsLawful mid → Always (Likely R) mid → (c : List ℕ) → IsLikeBut area second S mid c → Likely (λ was slot. (m : Slot) × R was m × S m slot) c

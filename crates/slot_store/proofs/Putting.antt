@@ -1,5 +1,5 @@
 -- What each of the two writes of a put leaves, with its sync.
-use Rattle.std.proofs.Common.{◌≡◌, ◌⊎◌, inl, inr, ⊎_elim, ℕ, ◌+◌, ◌-◌, ◌≤◌, Bool, List, [], ◌∷◌, length, get_or, Option, Some, sym, ◌∙◌, ap, subst, arith}
+use Rattle.std.proofs.Common.{◌≡◌, ◌≢◌, ◌⊎◌, inl, inr, ⊎_elim, ℕ, ◌+◌, ◌-◌, ◌≤◌, Bool, true, List, [], ◌∷◌, length, get_or, Option, Some, sym, ◌∙◌, ap, subst, arith}
 use Rattle.std.specs.Prelude.{not, slice_range, slice_index}
 use Rattle.std.proofs.lemmas.Bool.{cases_eq}
 use Rattle.dr_disk.specs.Bytes.{Torn, overwritten}
@@ -11,10 +11,12 @@ use Rattle.dr_disk.proofs.Ranges.{frame_torn, overwritten_tears, range_kept, ran
 use Rattle.dr_disk.proofs.Steps.{spans}
 use Rattle.dr_disk.proofs.Writes.{behind, during}
 use Rattle.slot_store.specs.declared.area.Area.{Area}
-use Rattle.slot_store.specs.Slots.{Comes, Slot, Slots, content_of, place_of, record_of, recovered, slot_at, wiped}
+use Rattle.slot_store.specs.Reading.{IsUndamaged}
+use Rattle.slot_store.specs.Slots.{Comes, Slot, Slots, content_of, is_open, place_of, record_of, recovered, slot_at, wiped}
 use Rattle.slot_store.specs.Store.{IsOldOrNew}
-use Rattle.slot_store.proofs.Newest.{closed, recovered_current, recovered_other}
+use Rattle.slot_store.proofs.Newest.{closed, content_open, not_not, recovered_current, recovered_other}
 use Rattle.slot_store.proofs.Places.{apart, high, low, slot_beside}
+use Rattle.slot_store.proofs.Undamaged.{IsWhole, undamaged}
 
 -- what a put begins with: the current slot, and the one that is to come
 pub record Setting (area : Area) (k : Bool) (cur new : Slot) (text : List ℕ) (start : DiskState) : Type 0 where
@@ -25,6 +27,8 @@ pub record Setting (area : Area) (k : Bool) (cur new : Slot) (text : List ℕ) (
   pub gate : new.gate ≡ 165
   pub comes : Comes cur new
   pub holds : record_of new ≡ text
+  pub whole : is_open cur ≡ true → IsWhole area.slot cur
+  pub comes_whole : IsWhole area.slot new
   pub rests : (c : List ℕ) → start.image c → Slots area k cur (wiped area.slot) c
 
 module _ (area : Area) (k : Bool) (cur new : Slot) (text : List ℕ) (start : DiskState) (set : Setting area k cur new text start) where
@@ -71,13 +75,37 @@ module _ (area : Area) (k : Bool) (cur new : Slot) (text : List ℕ) (start : Di
       recovered_other area k c (subst (λ x. Comes x (slot_at area (not k) c)) (sym s.slots.current) (subst (λ x. Comes cur x) (sym s.slots.other) set.comes))
       ∙ ap (λ x. Some (record_of x)) s.slots.other ∙ ap (λ (t : List ℕ). Some t) set.holds
 
+  -- and that they are read without damage
+  old_opens : (c : List ℕ) → slot_at area k c ≡ cur → slice_index c there ≢ 165 → IsUndamaged area c
+  old_opens c is shut =
+      let other = closed (slot_at area (not k) c) shut in
+      undamaged area c k cur is (inl other) set.whole (recovered_current area k c other ∙ ap content_of is)
+
+  put_opens : (c : List ℕ) → Put c → IsUndamaged area c
+  put_opens c s =
+      let before : Comes (slot_at area (not (not k)) c) new =
+      subst (λ (j : Bool). Comes (slot_at area j c) new) (sym (not_not k)) (subst (λ x. Comes x new) (sym s.slots.current) set.comes)
+      in
+      undamaged area c (not k) new s.slots.other (inr (subst (λ x. Comes (slot_at area (not (not k)) c) x) (sym s.slots.other) before)) (λ _. set.comes_whole)
+      (put_recovered c s ∙ ap (λ (t : List ℕ). Some t) (sym set.holds) ∙ sym (content_open new set.comes.opened))
+
   shut_goal : (c : List ℕ) → Shut c → Goal c
-  shut_goal c s = record { either = inl (old_of c s.current s.shut); frame = s.around }
+  shut_goal c s = record {
+    either = inl (old_of c s.current s.shut);
+    undamaged = old_opens c s.current (λ opened. absurd (let e : 165 ≡ 0 = sym opened ∙ s.shut in omega arith));
+    frame = s.around;
+  }
 
   gated_goal : (c : List ℕ) → Gated c → Goal c
   gated_goal c s = elim (cases_eq (slice_index c there) 165) [
-    | inl is ↦ record { either = inr (put_recovered c (record { slots = record { current = s.current; other = λ i. record { gate = (is ∙ sym set.gate) i; body = s.body i } }; around = s.around })); frame = s.around }
-    | inr shut ↦ record { either = inl (recovered_current area k c (closed (slot_at area (not k) c) shut) ∙ ap content_of s.current); frame = s.around }
+    | inl is ↦
+        let put : Put c = record { slots = record { current = s.current; other = λ i. record { gate = (is ∙ sym set.gate) i; body = s.body i } }; around = s.around } in
+        record { either = inr (put_recovered c put); undamaged = put_opens c put; frame = s.around }
+    | inr shut ↦ record {
+      either = inl (recovered_current area k c (closed (slot_at area (not k) c) shut) ∙ ap content_of s.current);
+      undamaged = old_opens c s.current shut;
+      frame = s.around;
+    }
   ]
 
   -- the writes

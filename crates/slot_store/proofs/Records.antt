@@ -20,7 +20,7 @@ all_zeros (b ∷ rest) at none = by (b == 0) refl none (λ h. all_zeros rest (at
     by true is h more = let e : b ≡ 0 = grind (arith, nat_tests) in ap₂ (λ (x : ℕ) (l : List ℕ). x ∷ l) e (more h)
     by false is h more = absurd (let e : Some at ≡ None = h in cc)
 
-zeros_none : (n at : ℕ) → nonzero_from at (replicate n 0) ≡ None
+pub zeros_none : (n at : ℕ) → nonzero_from at (replicate n 0) ≡ None
 zeros_none zero at = refl
 zeros_none (suc n) at = zeros_none n (at + 1)
 

@@ -7,6 +7,7 @@ use Rattle.dr_disk.proofs.Ranges.{frame_twice, reads_twice}
 use Rattle.dr_disk.proofs.Steps.{spans, widen}
 use Rattle.slot_store.specs.declared.area.Area.{Area}
 use Rattle.slot_store.specs.declared.store.SlotStore.{SlotStore}
+use Rattle.slot_store.specs.Reading.{IsUndamaged}
 use Rattle.slot_store.specs.Slots.{recovered}
 use Rattle.slot_store.specs.Stops.{IsStopped, calls_of, retiring}
 use Rattle.slot_store.specs.Store.{IsOldOrNew, KeepsOutside, ReadsOutsideArea, Rests, content}
@@ -14,14 +15,14 @@ use Rattle.slot_store.proofs.Stopping.{stopped_late}
 
 -- what a crash leaves while a record is retired
 abbrev pub Retires : Area → Option (List ℕ) → DiskState → List ℕ → Type 0
-Retires area now mid c = (recovered area c ≡ now) × KeepsOutside area mid c
+Retires area now mid c = (recovered area c ≡ now) × KeepsOutside area mid c × IsUndamaged area c
 
 -- each image has the old record or the new one
 pub replaced : (area : Area) (old new : Option (List ℕ)) (start mid end : DiskState) → Span start mid (IsOldOrNew start area old new) → Always (KeepsOutside area start) mid
     → (now : Option (List ℕ)) → now ≡ new → (area' : Area) → area' ≡ area → Span mid end (Retires area' now mid) → Span start end (IsOldOrNew start area old new)
 replaced area old new start mid end first outside now is area' same next = spans start mid end (IsOldOrNew start area old new) first
     (widen mid end (Retires area now mid) (IsOldOrNew start area old new)
-    (λ c s. record { either = inr (s.0 ∙ is); frame = frame_twice start mid area.start (area.slot + area.slot) outside c s.1 })
+    (λ c s. record { either = inr (s.0 ∙ is); undamaged = s.2; frame = frame_twice start mid area.start (area.slot + area.slot) outside c s.1 })
     (subst (λ a. Span mid end (Retires a now mid)) same next))
 
 pub reads : (area area' : Area) (start mid end : DiskState) → area' ≡ area → ReadsOutsideArea area start mid → ReadsOutsideArea area' mid end → ReadsOutsideArea area start end

@@ -1,5 +1,5 @@
 -- The calls of a retire, in the words of callers.
-use Rattle.std.proofs.Common.{◌≡◌, ℕ, ◌+◌, ◌-◌, ◌≤◌, ◌<◌, [], ◌∷◌, Bool, true, false, List, length, replicate, Option, Some, refl, sym, ◌∙◌, ap, subst, arith}
+use Rattle.std.proofs.Common.{◌≡◌, inl, ℕ, ◌+◌, ◌-◌, ◌≤◌, ◌<◌, [], ◌∷◌, Bool, true, false, List, length, replicate, Option, Some, refl, sym, ◌∙◌, ap, subst, arith}
 use Rattle.std.specs.Prelude.{not}
 use Rattle.std.proofs.lemmas.List.{length-replicate}
 use Rattle.dr_disk.specs.State.{Always, DiskState, IsLawful}
@@ -10,10 +10,12 @@ use Rattle.slot_store.specs.declared.store.SlotStore.{SlotStore}
 use Rattle.slot_store.specs.Slots.{Comes, content_of, place_of, recovered, slot_at, turn_of, wiped}
 use Rattle.slot_store.specs.Stops.{retiring}
 use Rattle.slot_store.specs.Store.{Awaits, IsWithin, KeepsOutside, ReadsOutsideArea, Rests, content, has_replaced, mark, slot_of}
-use Rattle.slot_store.proofs.Begun.{laid_store, rests_as_slots, slots_as_rests}
+use Rattle.slot_store.proofs.Begun.{laid_store, rests_as_slots, slots_as_rests, whole_store}
 use Rattle.slot_store.proofs.Newest.{closed, recovered_current}
 use Rattle.slot_store.proofs.Places.{reads_both}
 use Rattle.slot_store.proofs.Retiring.{IsNewer, Setting, ends, gate_part, rest_recovered, whole}
+use Rattle.slot_store.proofs.Undamaged.{undamaged}
+use Rattle.slot_store.specs.Reading.{IsUndamaged}
 
 -- at rest an area has the store's record
 pub rests_recovered : (store : SlotStore) (c : List ℕ) → Rests store c → recovered store.area c ≡ content store
@@ -23,6 +25,18 @@ rests_recovered store c rests =
     let gate = ap (λ s. s.gate) slots.other in
     recovered_current store.area store.second c (closed (slot_at store.area (not store.second) c) (λ opened. absurd (let e : 165 ≡ 0 = sym opened ∙ gate in omega arith)))
     ∙ ap content_of slots.current
+
+pub rests_undamaged : (store : SlotStore) (c : List ℕ) → Rests store c → IsUndamaged store.area c
+unfolding content
+rests_undamaged store c rests =
+    let slots = rests_as_slots store c rests in
+    let gate = ap (λ s. s.gate) slots.other in
+    let other = closed (slot_at store.area (not store.second) c) (λ opened. absurd (let e : 165 ≡ 0 = sym opened ∙ gate in omega arith)) in
+    undamaged store.area c store.second (slot_of store) slots.current (inl other) (whole_store store) (rests_recovered store c rests)
+
+-- what a crash leaves while a record is retired
+abbrev pub Retires : SlotStore → DiskState → List ℕ → Type 0
+Retires store start c = (recovered store.area c ≡ content store) × KeepsOutside store.area start c × IsUndamaged store.area c
 
 newer : (store : SlotStore) (c : List ℕ) → Awaits store c → IsNewer store.area store.second (slot_of store) c
 unfolding Awaits mark
@@ -58,11 +72,12 @@ setting store zeros start is within lawful awaits =
       size = omega (arith, ap (λ (l : List ℕ). length l) zero, length-replicate {A = ℕ} (store.area.slot - 1) 0, store.least);
       within = within;
       lawful = lawful;
+      whole = whole_store store;
       put = λ c left. newer store c (awaits c left);
     }
 
 module _ (store : SlotStore) (start mid : DiskState) (p : ℕ) (zeros : List ℕ) (set : Setting store.area store.second (slot_of store) zeros start) (at : p ≡ place_of store.area (not store.second)) where
-  pub retire_first : Span start mid (Frame start p 1) → Span start mid (λ c. (recovered store.area c ≡ content store) × KeepsOutside store.area start c)
+  pub retire_first : Span start mid (Frame start p 1) → Span start mid (Retires store start)
   unfolding content
   retire_first span = gate_part store.area store.second (slot_of store) zeros start set mid (subst (λ q. Span start mid (Frame start q 1)) at span)
 
@@ -70,7 +85,7 @@ module _ (store : SlotStore) (start mid : DiskState) (p : ℕ) (zeros : List ℕ
   over = subst (λ q. Always (IsWrittenOver start q (0 ∷ [])) mid) at
 
   pub retire_whole : (end : DiskState) → Span start mid (Frame start p 1) → Always (IsWrittenOver start p (0 ∷ [])) mid → Span mid end (Frame mid (p + 1) (length zeros))
-      → Span start end (λ c. (recovered store.area c ≡ content store) × KeepsOutside store.area start c)
+      → Span start end (Retires store start)
   unfolding content
   retire_whole end span done next = whole store.area store.second (slot_of store) zeros start set mid end (subst (λ q. Span start mid (Frame start q 1)) at span) (over done) (subst (λ q. Span mid end (Frame mid (q + 1) (length zeros))) at next)
 

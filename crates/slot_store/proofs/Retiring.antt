@@ -1,5 +1,5 @@
 -- What each of the two writes of a retire leaves, with its sync.
-use Rattle.std.proofs.Common.{◌≡◌, ◌⊎◌, inl, inr, ℕ, ◌+◌, ◌-◌, ◌≤◌, Bool, List, [], ◌∷◌, length, get_or, replicate, sym, ◌∙◌, ap, subst, arith}
+use Rattle.std.proofs.Common.{◌≡◌, ◌⊎◌, inl, inr, ℕ, ◌+◌, ◌-◌, ◌≤◌, Bool, true, List, [], ◌∷◌, length, get_or, replicate, sym, ◌∙◌, ap, subst, arith}
 use Rattle.std.specs.Prelude.{not, slice_range, slice_index}
 use Rattle.dr_disk.specs.Bytes.{Torn, overwritten}
 use Rattle.dr_disk.specs.State.{Always, DiskState, IsLawful}
@@ -10,9 +10,11 @@ use Rattle.dr_disk.proofs.Ranges.{frame_torn, overwritten_tears, range_kept, ran
 use Rattle.dr_disk.proofs.Steps.{spans}
 use Rattle.dr_disk.proofs.Writes.{behind, during}
 use Rattle.slot_store.specs.declared.area.Area.{Area}
-use Rattle.slot_store.specs.Slots.{Comes, Slot, Slots, content_of, next_turn, place_of, recovered, slot_at, turn_of, wiped}
+use Rattle.slot_store.specs.Reading.{IsUndamaged}
+use Rattle.slot_store.specs.Slots.{Comes, Slot, Slots, content_of, is_open, next_turn, place_of, recovered, slot_at, turn_of, wiped}
 use Rattle.slot_store.proofs.Newest.{closed, recovered_current, recovered_newer}
 use Rattle.slot_store.proofs.Places.{apart, high, low, slot_beside}
+use Rattle.slot_store.proofs.Undamaged.{IsWhole, undamaged}
 
 -- the current slot, and newer than the other
 pub record IsNewer (area : Area) (k : Bool) (cur : Slot) (c : List ℕ) : Type 0 where
@@ -26,6 +28,7 @@ pub record Setting (area : Area) (k : Bool) (cur : Slot) (zeros : List ℕ) (sta
   pub size : length zeros + 1 ≡ area.slot
   pub within : area.start + (area.slot + area.slot) ≤ start.size
   pub lawful : IsLawful start
+  pub whole : is_open cur ≡ true → IsWhole area.slot cur
   pub put : Always (IsNewer area k cur) start
 
 module _ (area : Area) (k : Bool) (cur : Slot) (zeros : List ℕ) (start : DiskState) (set : Setting area k cur zeros start) where
@@ -36,7 +39,7 @@ module _ (area : Area) (k : Bool) (cur : Slot) (zeros : List ℕ) (start : DiskS
   Around = Frame start area.start (area.slot + area.slot)
 
   abbrev Goal : List ℕ → Type 0
-  Goal c = (recovered area c ≡ content_of cur) × Around c
+  Goal c = (recovered area c ≡ content_of cur) × Around c × IsUndamaged area c
 
   -- before the first write and while it is torn; after it; while the second is torn; after it
   record Newer (c : List ℕ) : Type 0 where
@@ -58,10 +61,16 @@ module _ (area : Area) (k : Bool) (cur : Slot) (zeros : List ℕ) (start : DiskS
     pub around : Around c
 
   newer_goal : (c : List ℕ) → Newer c → Goal c
-  newer_goal c s = (recovered_newer area k c cur s.newer.current s.newer.comes, s.around)
+  newer_goal c s =
+      let is = recovered_newer area k c cur s.newer.current s.newer.comes in
+      let other = inr (subst (λ x. Comes (slot_at area (not k) c) x) (sym s.newer.current) s.newer.comes) in
+      (is, s.around, undamaged area c k cur s.newer.current other set.whole is)
 
   lone_goal : (c : List ℕ) → Lone c → Goal c
-  lone_goal c s = (recovered_current area k c (closed (slot_at area (not k) c) (λ opened. absurd (let e : 165 ≡ 0 = sym opened ∙ s.shut in omega arith))) ∙ ap content_of s.current, s.around)
+  lone_goal c s =
+      let other = closed (slot_at area (not k) c) (λ opened. absurd (let e : 165 ≡ 0 = sym opened ∙ s.shut in omega arith)) in
+      let is = recovered_current area k c other ∙ ap content_of s.current in
+      (is, s.around, undamaged area c k cur s.current (inl other) set.whole is)
 
   kept_current : (at n : ℕ) (d c : List ℕ) → there ≤ at → at + n ≤ there + area.slot → slot_at area k d ≡ cur → Torn at n d c → slot_at area k c ≡ cur
   kept_current at n d c le ge is torn = slot_beside at n d c (place_of area k) there area.slot (apart area k) le ge (omega (arith, set.least)) torn ∙ is

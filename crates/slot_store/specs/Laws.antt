@@ -4,16 +4,17 @@ use Rattle.slot_store.specs.declared.area.Area.{Area}
 use Rattle.slot_store.specs.declared.store.SlotStore.{SlotStore}
 use Rattle.slot_store.specs.Slots.{recovered}
 use Rattle.slot_store.specs.Store.{Rests, content, mark}
-use Rattle.slot_store.specs.Reading.{holds, no_content, reading}
+use Rattle.slot_store.specs.Reading.{IsUndamaged, holds, no_content, reading}
 
 -- bytes that are the same within an area
 pub record SameWithin (area : Area) (c d : List ℕ) : Type 0 where
   pub size : length c ≡ length d
   pub bytes : (i : ℕ) → area.start ≤ i → i < area.start + (area.slot + area.slot) → slice_index c i ≡ slice_index d i
 
--- At rest an area has the store's record, and no byte of it says more than the record and the mark.
+-- At rest an area has the store's record, which is read without damage, and no byte of it says more than the record and the mark.
 pub record IsResting : Type 0 where
   pub record_of : (store : SlotStore) (c : List ℕ) → Rests store c → recovered store.area c ≡ content store
+  pub undamaged : (store : SlotStore) (c : List ℕ) → Rests store c → IsUndamaged store.area c
   pub same_bytes : (store other : SlotStore) (c d : List ℕ) → 1 ≤ store.area.slot → store.area ≡ other.area → mark store ≡ mark other → content store ≡ content other
       → length c ≡ length d → store.area.start + (store.area.slot + store.area.slot) ≤ length c → Rests store c → Rests other d → SameWithin store.area c d
 

@@ -69,11 +69,21 @@ unfoldable pub reading : (List ℕ → Option ℕ) → Area → List ℕ → Rea
 reading fault_at area c =
     seen_as (verdict_of fault_at area.slot (slot_at area false c) (slot_at area true c)) (slot_at area false c) (slot_at area true c)
 
--- the record is that of what was read at that moment, and so is all outside the area
+-- under any grammar that has it as a text these bytes are read as this record; or as none
+abbrev pub OpensAs : Area → Option (List ℕ) → List ℕ → Type 0
+OpensAs area None c = (fault_at : List ℕ → Option ℕ) → reading fault_at area c ≡ no_content
+OpensAs area (Some text) c = (fault_at : List ℕ → Option ℕ) → fault_at text ≡ None → reading fault_at area c ≡ holds text
+
+-- without damage: these bytes are read as the record that they stand for
+abbrev pub IsUndamaged : Area → List ℕ → Type 0
+IsUndamaged area c = OpensAs area (recovered area c) c
+
+-- the record is that of what was read at that moment, undamaged where that was, and so is all outside the area
 pub record IsLikeRead (area : Area) (start : DiskState) (c : List ℕ) : Type 0 where
   pub read : List ℕ
   pub told : start.seen ≡ Some read
   pub same : recovered area c ≡ recovered area read
+  pub undamaged : IsUndamaged area read → IsUndamaged area c
   pub outside : Torn area.start (area.slot + area.slot) read c
 
 -- an image of that moment, or one like what was read then

@@ -7,6 +7,7 @@ use Rattle.slot_store.specs.declared.area.Area.{Area}
 use Rattle.slot_store.specs.declared.store.SlotStore.{SlotStore}
 use Rattle.slot_store.specs.Slots.{Slot, content_of, recovered, turn_of}
 use Rattle.slot_store.specs.Layout.{IsLaidOut, IsPut, Mark}
+use Rattle.slot_store.specs.Reading.{IsUndamaged}
 
 -- the store's current slot
 abbrev pub slot_of : SlotStore → Slot
@@ -43,7 +44,8 @@ KeepsOutside area start = Frame start area.start (area.slot + area.slot)
 abbrev pub ReadsOutsideArea : Area → DiskState → DiskState → Type 0
 ReadsOutsideArea area start now = ReadsOutside area.start (area.slot + area.slot) start now
 
--- the record is the old one or the new one, and nothing outside the area has changed
+-- the record is the old one or the new one, and is read without damage; nothing outside the area has changed
 pub record IsOldOrNew (start : DiskState) (area : Area) (old new : Option (List ℕ)) (c : List ℕ) : Type 0 where
   pub either : (recovered area c ≡ old) ⊎ (recovered area c ≡ new)
+  pub undamaged : IsUndamaged area c
   pub frame : KeepsOutside area start c

@@ -6,6 +6,7 @@ ghost use Rattle.dr_disk.specs.State.{Always, Fate};
 ghost use Rattle.dr_disk.specs.Spans.{HavePassed, IsQuiet, Span};
 ghost use Rattle.slot_store.specs.Slots.{Comes, record_of, recovered, wiped};
 ghost use Rattle.slot_store.specs.Layout.{IsRecord, next_mark};
+ghost use Rattle.slot_store.specs.Reading.{IsUndamaged};
 ghost use Rattle.slot_store.specs.Stops.{IsStopped, calls_of, retiring};
 
 use crate::area::{Area, other_place, place};
@@ -31,6 +32,7 @@ pub struct SlotStore {
     ghost zero: { zeros.items ≡ replicate (area.slot - 1) 0 },
     ghost size: { length body.items + 1 ≡ area.slot },
     ghost least: { 6 ≤ area.slot },
+    ghost most: { area.slot < 4294967296 },
     ghost ends: { area.start + (area.slot + area.slot) < 18446744073709551616 },
     ghost laid: { gate ≡ 165 → IsRecord (record { gate = gate; body = body.items }) area.slot },
     ghost blank: { gate ≢ 165 → record { gate = gate; body = body.items } ≡ wiped area.slot },
@@ -117,10 +119,10 @@ impl SlotStore {
         requires within { IsWithin self.old.area (D.state disk.old) }
         requires awaits { Always (Awaits self.old) (D.state disk.old) }
 
-        // Each crash meanwhile leaves the record; once it is done, the area is at rest.
+        // Each crash meanwhile leaves the record, read without damage; once it is done, the area is at rest.
         ensures any_moment { Span (D.state disk.old) (D.state disk.new)
             (λ c. (recovered self.old.area c ≡ content self.old)
-            × KeepsOutside self.old.area (D.state disk.old) c) }
+            × KeepsOutside self.old.area (D.state disk.old) c × IsUndamaged self.old.area c) }
         ensures at_rest { OnOk result (Always (λ c. Rests self.new c
             × (recovered self.new.area c ≡ content self.new)
             × KeepsOutside self.old.area (D.state disk.old) c) (D.state disk.new)) }

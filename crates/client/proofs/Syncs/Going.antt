@@ -102,18 +102,18 @@ module _ (p : Party Client) where
     passed_more reply c next is replacing =
         spans a.disk b.disk c.disk (IsReached p first (far.replies ++ reply ∷ []) a.disk)
         (widen a.disk b.disk (IsReached p first far.replies a.disk) (IsReached p first (far.replies ++ reply ∷ []) a.disk)
-        (λ d r. record { front = r.front; back = r.back ++ reply ∷ []; split = ap (λ (xs : List Replied). xs ++ reply ∷ []) r.split ∙ append_assoc r.front r.back (reply ∷ []); holds = r.holds; outside = r.outside }) far.passed)
+        (λ d r. record { front = r.front; back = r.back ++ reply ∷ []; split = ap (λ (xs : List Replied). xs ++ reply ∷ []) r.split ∙ append_assoc r.front r.back (reply ∷ []); holds = r.holds; undamaged = r.undamaged; outside = r.outside }) far.passed)
         (widen b.disk c.disk (IsOldOrNew b.disk client_area (Some (record_text b.client.kept)) (Some (record_text next))) (IsReached p first (far.replies ++ reply ∷ []) a.disk)
         (λ d s. ⊎_elim
-        (λ old. record { front = far.replies; back = reply ∷ []; split = refl; holds = old ∙ ap (λ (x : Client). Some (record_text x)) far.stands.keeps; outside = outside_since a.disk b.disk first far.replies d far.passed s.frame })
-        (λ new. record { front = far.replies ++ reply ∷ []; back = []; split = sym (append-nil (far.replies ++ reply ∷ [])); holds = new ∙ ap (λ (x : Client). Some (record_text x)) (sym is); outside = outside_since a.disk b.disk first far.replies d far.passed s.frame })
+        (λ old. record { front = far.replies; back = reply ∷ []; split = refl; holds = old ∙ ap (λ (x : Client). Some (record_text x)) far.stands.keeps; undamaged = s.undamaged; outside = outside_since a.disk b.disk first far.replies d far.passed s.frame })
+        (λ new. record { front = far.replies ++ reply ∷ []; back = []; split = sym (append-nil (far.replies ++ reply ∷ [])); holds = new ∙ ap (λ (x : Client). Some (record_text x)) (sym is); undamaged = s.undamaged; outside = outside_since a.disk b.disk first far.replies d far.passed s.frame })
         s.either) replacing)
 
     pub passed_still : (c : Moment) → IsReplacing b.client.kept b.client.kept b.disk c.disk → Passed p far.replies a c
     passed_still c replacing =
         spans a.disk b.disk c.disk (IsReached p first far.replies a.disk) far.passed
         (widen b.disk c.disk (IsOldOrNew b.disk client_area (Some (record_text b.client.kept)) (Some (record_text b.client.kept))) (IsReached p first far.replies a.disk)
-        (λ d s. record { front = far.replies; back = []; split = sym (append-nil far.replies); holds = ⊎_elim (λ o. o) (λ n. n) s.either ∙ ap (λ (x : Client). Some (record_text x)) far.stands.keeps; outside = outside_since a.disk b.disk first far.replies d far.passed s.frame })
+        (λ d s. record { front = far.replies; back = []; split = sym (append-nil far.replies); holds = ⊎_elim (λ o. o) (λ n. n) s.either ∙ ap (λ (x : Client). Some (record_text x)) far.stands.keeps; undamaged = s.undamaged; outside = outside_since a.disk b.disk first far.replies d far.passed s.frame })
         replacing)
 
     module _ (c : Moment) (now : Port) (asked : Asked) (asks : asked_in p b.client.kept wait ≡ Some asked) where

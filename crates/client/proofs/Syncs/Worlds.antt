@@ -124,6 +124,7 @@ module _ (k : Mechanism) (grounds : Grounds k) (prefix : List ℕ) (side : Side)
             back = r.back;
             split = r.split;
             stands = record_stands k grounds (course_in k prefix side w r.front).state side (course_of (client_party k prefix first) first r.front).state c at.lawful at.keeps r.holds;
+            undamaged = r.undamaged;
             outside = r.outside;
           }) syncs.passed;
     }

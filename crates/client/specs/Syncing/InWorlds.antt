@@ -10,6 +10,7 @@ use Rattle.dr_model.specs.Theorems.LawfulWorlds.{IsLawfulWorld}
 use Rattle.kem_laws.specs.Mechanism.{Mechanism}
 use Rattle.relay_wire.specs.Replies.{Replied}
 use Rattle.session_model.specs.Clients.{Client}
+use Rattle.slot_store.specs.Reading.{IsUndamaged}
 use Rattle.slot_store.specs.Store.{KeepsOutside}
 use Rattle.sync_model.specs.Courses.{Course, begun, course_of}
 use Rattle.sync_model.specs.Simulation.{AreFairFrom, IsSameCourse}
@@ -35,14 +36,15 @@ abbrev pub AreUnforged : Mechanism → List ℕ → Side → World → List Repl
 AreUnforged k prefix side w replies =
     AreFairFrom (world_party k prefix side w) (λ turn packet. IsUnforged k turn side packet) (begun (world_party k prefix side w) w) replies
 
--- bytes that stand for the world that the course reaches behind a beginning of the replies, and are outside the client's area
--- as they were
+-- bytes that stand for the world that the course reaches after a beginning of the replies, and are read without damage; outside
+-- the client's area they are as they were
 pub record IsReachedIn (k : Mechanism) (prefix : List ℕ) (side : Side) (w : World) (replies : List Replied) (start : DiskState) (c : List ℕ)
     : Type 0 where
   pub front : List Replied
   pub back : List Replied
   pub split : replies ≡ front ++ back
   pub stands : StandsFor k (course_in k prefix side w front).state side c
+  pub undamaged : IsUndamaged client_area c
   pub outside : KeepsOutside client_area start c
 
 -- The client is in the world that the course reaches, and each image stands for it; where a call on the disk failed, it is in

@@ -9,6 +9,7 @@ use Rattle.relay_pipe.specs.Exchanging.{Exchanges}
 use Rattle.relay_wire.specs.Replies.{IsLawfulReplied, Replied}
 use Rattle.session_model.specs.Clients.{Client}
 use Rattle.session_record.specs.Record.{record_text}
+use Rattle.slot_store.specs.Reading.{IsUndamaged}
 use Rattle.slot_store.specs.Slots.{recovered}
 use Rattle.slot_store.specs.Store.{KeepsOutside}
 use Rattle.sync_model.specs.Carried.{replied_bytes, request_bytes}
@@ -20,12 +21,14 @@ use Rattle.sync_model.specs.declared.more.More.TheVariants.{More as MoreStands}
 use Rattle.client.specs.Clients.{IsReady, client_area}
 use Rattle.client.specs.Syncing.Moments.{Moment, Wrote}
 
--- bytes with the record of what the course keeps after a beginning of the replies, and outside the client's area as they were
+-- bytes with the record of what the course keeps after a beginning of the replies, read without damage; outside the client's area
+-- they are as they were
 pub record IsReached (p : Party Client) (first : Client) (replies : List Replied) (start : DiskState) (c : List ℕ) : Type 0 where
   pub front : List Replied
   pub back : List Replied
   pub split : replies ≡ front ++ back
   pub holds : recovered client_area c ≡ Some (record_text (course_of p first front).state)
+  pub undamaged : IsUndamaged client_area c
   pub outside : KeepsOutside client_area start c
 
 -- the client keeps what the course does after these replies, and its disk is at rest for it; no call on the disk failed

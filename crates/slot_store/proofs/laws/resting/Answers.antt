@@ -3,13 +3,14 @@ use Rattle.slot_store.specs.Slots.{slot_at, wiped}
 use Rattle.slot_store.specs.Layout.{laid}
 use Rattle.slot_store.specs.Store.{Rests, content, mark}
 use Rattle.slot_store.proofs.Local.{by_current}
-use Rattle.slot_store.proofs.RetireCalls.{rests_recovered}
+use Rattle.slot_store.proofs.RetireCalls.{rests_recovered, rests_undamaged}
 use Rattle.slot_store.proofs.laws.resting.Goals as goal
 
 pub returns : goal.returns
 unfolding Rests
 returns c = record {
   record_of = rests_recovered;
+  undamaged = rests_undamaged;
   same_bytes = λ store other c d least area marks contents size within rests rests'.
       let place : (mark store).second ≡ (mark other).second = ap (λ m. m.second) marks in
       record {

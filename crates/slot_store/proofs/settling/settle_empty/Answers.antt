@@ -1,6 +1,11 @@
 use Rattle.std.proofs.Common.{◌∙◌}
-use Rattle.slot_store.proofs.Opened.{both_moment, empty_content, empty_rests, wiped_of, zeros_of}
+use Rattle.slot_store.proofs.Opened.{both_moment, empty_content, empty_rests, second_passive, wiped_of, zeros_of}
 use Rattle.slot_store.proofs.settling.settle_empty.Goals as goal
+
+pub tidy-requires-2-clause-passive : goal.tidy-requires-2-clause-passive
+tidy-requires-2-clause-passive g c =
+    second_passive c.args.area (g.D.Disk.state c.args.disk.now) (g.D.Disk.state c.tidy.new.disk) (g.met.D.Disk.lawful c.tidy.new.disk) c.in-Ok.ensures.done
+    (λ s told. (c.requires.shut s told).1)
 
 pub returns-in-Err-tidy-clause-any_moment : goal.returns-in-Err-tidy-clause-any_moment
 returns-in-Err-tidy-clause-any_moment g c =
