@@ -7,9 +7,9 @@ use Rattle.dr_model.specs.Conversations.Conversation.{positions_after}
 use Rattle.dr_model.specs.Machines.Worlds.{opening_world}
 use Rattle.kem_laws.specs.Mechanism.{Mechanism}
 use Rattle.dr_model.proofs.Worlds.OpeningWorlds.{opening_client}
-use Rattle.duet.specs.Deeds.{Beside, opening_boxes}
+use Rattle.duet.specs.Outcomes.{Beside, opening_boxes}
 use Rattle.duet.specs.Held.{beside, opening_duet}
-use Rattle.duet.specs.Script.{Scripted}
+use Rattle.scripts.specs.Script.{Scripted}
 use Rattle.duet.specs.Trace.{beginning}
 
 -- what both keep in an opening world, and its boxes

@@ -27,7 +27,8 @@ module _ {X : Type 0} (p : X → Bool) where
   hit false x y h = cc
 
   -- the first that passes
-  pub found_here : (xs : List X) (i : ℕ) (d : X) → i < length xs → find p (take i xs) ≡ None → p (get_or xs i d) ≡ true → find p xs ≡ Some (get_or xs i d)
+  pub found_here : (xs : List X) (i : ℕ) (d : X) → i < length xs → find p (take i xs) ≡ None → p (get_or xs i d) ≡ true
+      → find p xs ≡ Some (get_or xs i d)
   found_here [] i d h none here = absurd (omega arith)
   found_here (x ∷ xs) zero d h none here = hit (p x) (find p xs) x here
   found_here (x ∷ xs) (suc i) d h none here =
@@ -35,14 +36,16 @@ module _ {X : Type 0} (p : X → Bool) where
       ∙ found_here xs i d (omega arith) (rest (p x) (find p (take i xs)) x none) here
 
   -- one more that doesn't
-  none_suc : (xs : List X) (i : ℕ) (d : X) → i < length xs → find p (take i xs) ≡ None → p (get_or xs i d) ≡ false → find p (take (suc i) xs) ≡ None
+  none_suc : (xs : List X) (i : ℕ) (d : X) → i < length xs → find p (take i xs) ≡ None → p (get_or xs i d) ≡ false
+      → find p (take (suc i) xs) ≡ None
   none_suc [] i d h none here = refl
   none_suc (x ∷ xs) zero d h none here = skip (p x) None x here
   none_suc (x ∷ xs) (suc i) d h none here =
       skip (p x) (find p (take (suc i) xs)) x (pass (p x) (find p (take i xs)) x x none)
       ∙ none_suc xs i d (omega arith) (rest (p x) (find p (take i xs)) x none) here
 
-  pub none_more : (xs : List X) (i : ℕ) (d : X) → i < length xs → find p (take i xs) ≡ None → p (get_or xs i d) ≡ false → find p (take (i + 1) xs) ≡ None
+  pub none_more : (xs : List X) (i : ℕ) (d : X) → i < length xs → find p (take i xs) ≡ None → p (get_or xs i d) ≡ false
+      → find p (take (i + 1) xs) ≡ None
   none_more xs i d h none here = rw add-one (none_suc xs i d h none here)
 
 -- the element behind a list
@@ -54,7 +57,8 @@ passing : {X : Type 0} (p : X → Bool) (x : X) → p x ≡ true → filter p (x
 passing p x h = ap (λ b. cond b (x ∷ []) []) h
 
 -- those that pass, around one of them
-around : {X : Type 0} (p : X → Bool) (xs : List X) (i : ℕ) (d : X) → i < length xs → p (get_or xs i d) ≡ true → filter p xs ≡ filter p (take i xs) ++ get_or xs i d ∷ filter p (drop (i + 1) xs)
+around : {X : Type 0} (p : X → Bool) (xs : List X) (i : ℕ) (d : X) → i < length xs → p (get_or xs i d) ≡ true
+    → filter p xs ≡ filter p (take i xs) ++ get_or xs i d ∷ filter p (drop (i + 1) xs)
 around p xs i d h here =
     ap (filter p) (sym (take-append-drop (i + 1) xs))
     ∙ filter-append p (take (i + 1) xs) (drop (i + 1) xs)
@@ -71,7 +75,8 @@ unguarded true x h = h refl
 unguarded false x h = refl
 
 -- the packet at which the count comes to one
-pub nth_here : (posts : List Item) (side : Side) (nth left i : ℕ) (d : Item) → i < length posts → left ≡ nth - length (filter (is_from_peer side) (take i posts)) → left ≡ 1
+pub nth_here : (posts : List Item) (side : Side) (nth left i : ℕ) (d : Item) → i < length posts
+    → left ≡ nth - length (filter (is_from_peer side) (take i posts)) → left ≡ 1
     → is_from_peer side (get_or posts i d) ≡ true → held_nth posts side nth ≡ Some (get_or posts i d).bytes
 nth_here posts side nth left i d h counted one here =
     let before : length (filter (is_from_peer side) (take i posts)) ≡ nth - 1 = omega arith in
@@ -83,7 +88,8 @@ nth_here posts side nth left i d h counted one here =
     ∙ ap (option_map (λ (post : Item). post.bytes)) (get_behind (filter (is_from_peer side) (take i posts)) (filter (is_from_peer side) (drop (i + 1) posts)) (get_or posts i d))
 
 -- fewer packets than the count
-pub too_few : (posts : List Item) (side : Side) (nth left i : ℕ) → length posts ≤ i → left ≡ nth - length (filter (is_from_peer side) (take i posts)) → (1 ≤ nth → 1 ≤ left) → held_nth posts side nth ≡ None
+pub too_few : (posts : List Item) (side : Side) (nth left i : ℕ) → length posts ≤ i
+    → left ≡ nth - length (filter (is_from_peer side) (take i posts)) → (1 ≤ nth → 1 ≤ left) → held_nth posts side nth ≡ None
 too_few posts side nth left i all counted more =
     let whole : length (filter (is_from_peer side) (take i posts)) ≡ length (filter (is_from_peer side) posts) = ap (λ xs. length (filter (is_from_peer side) xs)) (take_all i posts all) in
     unguarded (nat_le 1 nth) _ (λ test.

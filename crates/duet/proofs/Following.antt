@@ -18,11 +18,14 @@ use Rattle.dr_model.proofs.Worlds.OpeningWorlds.{lawful_opening}
 use Rattle.dr_model.proofs.Worlds.SeenWorlds.{seen_world}
 use Rattle.relay_core.specs.Boxes.{Box, Kept, empty_box}
 use Rattle.client.specs.Syncing.Lines.{own_box, peers_box}
-use Rattle.duet.specs.Deeds.{Beside, Deed, Played, acted, acts, deed_in, deed_on, deed_side, syncs}
+use Rattle.duet.specs.Outcomes.{Beside, Played, acted, deed_in, deed_on}
+use Rattle.scripts.specs.Deeds.{Deed, acts, syncs}
+use Rattle.scripts.specs.Sides.{deed_side}
 use Rattle.duet.specs.Replies.{reply_of}
-use Rattle.duet.specs.Script.{Scripted}
+use Rattle.scripts.specs.Script.{Scripted}
 use Rattle.duet.specs.Tally.{both_reached, both_reached_in, counted_all, counted_by, opening_tally, tally_in, tally_of}
-use Rattle.duet.specs.Trace.{HasWholeSeed, IsFairScript, IsUnforgedDeed, IsUnforgedPlay, after_by, beginning_in, lines_by, played, trace_of}
+use Rattle.duet.specs.Trace.{IsFairScript, IsUnforgedDeed, IsUnforgedPlay, after_by, beginning_in, lines_by, played, trace_of}
+use Rattle.scripts.specs.Deeds.{HasWholeSeed}
 use Rattle.duet.specs.declared.tally.Tally.{Tally}
 use Rattle.duet.proofs.SaidBoxes.{HoldsOnly, IsHonest, IsSaidPacket, honest_next}
 use Rattle.duet.proofs.SaidSyncs.{sync_fair, sync_honest}
@@ -39,7 +42,8 @@ abbrev seen_played : Mechanism → Played World → Played Sides
 seen_played k made = record { answers = made.answers; lines = made.lines; next = seen_beside k made.next }
 
 -- the lines of a step don't show where it leads
-same_acted : (k : Mechanism) (event : Event) (boxes : List Box) (made : Step World) → acted event boxes (seen_world k made) ≡ seen_played k (acted event boxes made)
+same_acted : (k : Mechanism) (event : Event) (boxes : List Box) (made : Step World)
+    → acted event boxes (seen_world k made) ≡ seen_played k (acted event boxes made)
 unfolding reply_of
 same_acted k event boxes made = refl
 
@@ -48,7 +52,8 @@ record DeedFollows (k : Mechanism) (s : Beside World) (deed : Deed) : Type 0 whe
   same : deed_on k (seen_beside k s) deed ≡ seen_played k (deed_in k s deed)
   honest : IsHonest k (deed_in k s deed).next
 
-deed_follows : (k : Mechanism) (s : Beside World) (deed : Deed) → IsLawfulMechanism k → IsHonest k s → HasWholeSeed deed → IsUnforgedDeed k s deed → DeedFollows k s deed
+deed_follows : (k : Mechanism) (s : Beside World) (deed : Deed) → IsLawfulMechanism k → IsHonest k s → HasWholeSeed deed
+    → IsUnforgedDeed k s deed → DeedFollows k s deed
 deed_follows k s (acts event) law honest whole unforged = record {
   same = ap (acted event s.boxes) (step_follows k s.ends event law honest.lawful (record { unforged = unforged; whole = whole }))
       ∙ same_acted k event s.boxes (step_of k s.ends event);
@@ -67,7 +72,8 @@ record RunsAlike (k : Mechanism) (s : Beside World) (deeds : List Deed) : Type 0
   counts : (t : Tally) → counted_by (deed_on k) (seen_beside k s) t deeds ≡ counted_by (deed_in k) s t deeds
   leads : after_by (deed_on k) (seen_beside k s) deeds ≡ seen_beside k (after_by (deed_in k) s deeds)
 
-run_follows : (k : Mechanism) (s : Beside World) (deeds : List Deed) → IsLawfulMechanism k → IsHonest k s → All HasWholeSeed deeds → IsUnforgedPlay k s deeds → RunsAlike k s deeds
+run_follows : (k : Mechanism) (s : Beside World) (deeds : List Deed) → IsLawfulMechanism k → IsHonest k s → All HasWholeSeed deeds
+    → IsUnforgedPlay k s deeds → RunsAlike k s deeds
 unfolding lines_by counted_by after_by
 run_follows k s [] law honest whole unforged = record { lines = refl; counts = λ t. refl; leads = refl }
 run_follows k s (deed ∷ deeds) law honest whole unforged =
@@ -93,7 +99,8 @@ reached_alike k w t =
 -- ---- a script
 
 -- at its opening the boxes are empty
-honest_beginning : (k : Mechanism) (script : Scripted) → is_some (k.meaning.pair_of (agreement_seed script.key)) ≡ true → IsHonest k (beginning_in k script)
+honest_beginning : (k : Mechanism) (script : Scripted) → is_some (k.meaning.pair_of (agreement_seed script.key)) ≡ true
+    → IsHonest k (beginning_in k script)
 honest_beginning k script pairs =
     let w = opening_world script.key in
     let Only : Box → Type 0 = HoldsOnly (IsSaidPacket k w) in
@@ -103,17 +110,20 @@ honest_beginning k script pairs =
     record { lawful = lawful_opening k script.key pairs; boxes = All-cons Only own (peers ∷ []) none (All-cons Only peers [] none (All-nil Only)) }
 
 -- from there
-script_follows : (k : Mechanism) (script : Scripted) → IsLawfulMechanism k → is_some (k.meaning.pair_of (agreement_seed script.key)) ≡ true → All HasWholeSeed script.deeds → IsFairScript k script
+script_follows : (k : Mechanism) (script : Scripted) → IsLawfulMechanism k → is_some (k.meaning.pair_of (agreement_seed script.key)) ≡ true
+    → All HasWholeSeed script.deeds → IsFairScript k script
     → RunsAlike k (beginning_in k script) script.deeds
 script_follows k script law pairs whole fair =
     run_follows k (beginning_in k script) script.deeds law (honest_beginning k script pairs) whole fair
 
-pub follows : (k : Mechanism) (script : Scripted) → IsLawfulMechanism k → is_some (k.meaning.pair_of (agreement_seed script.key)) ≡ true → All HasWholeSeed script.deeds → IsFairScript k script
+pub follows : (k : Mechanism) (script : Scripted) → IsLawfulMechanism k → is_some (k.meaning.pair_of (agreement_seed script.key)) ≡ true
+    → All HasWholeSeed script.deeds → IsFairScript k script
     → played k script ≡ trace_of k script
 unfolding played trace_of
 follows k script law pairs whole fair = (script_follows k script law pairs whole fair).lines
 
-pub tallies_follow : (k : Mechanism) (script : Scripted) → IsLawfulMechanism k → is_some (k.meaning.pair_of (agreement_seed script.key)) ≡ true → All HasWholeSeed script.deeds → IsFairScript k script
+pub tallies_follow : (k : Mechanism) (script : Scripted) → IsLawfulMechanism k
+    → is_some (k.meaning.pair_of (agreement_seed script.key)) ≡ true → All HasWholeSeed script.deeds → IsFairScript k script
     → tally_of k script ≡ tally_in k script
 unfolding tally_of tally_in
 tallies_follow k script law pairs whole fair =

@@ -4,12 +4,14 @@ use Rattle.std.specs.Prelude.{All}
 use Rattle.std.proofs.lemmas.List.Elements.{All-append, All-cons, All-nil}
 use Rattle.dr_model.specs.Machines.Worlds.{World}
 use Rattle.kem_laws.specs.Mechanism.{Mechanism}
-use Rattle.duet.specs.Deeds.{Beside, Deed}
-use Rattle.duet.specs.Make.{deeds_from, made_deeds, made_script, opening, round_of, turn_deeds}
-use Rattle.duet.specs.Trace.{HasWholeSeed, IsFairScript, IsUnforgedPlay, beginning_in}
-use Rattle.duet.specs.declared.script.make.rounds.Making.{Making}
-use Rattle.duet.specs.declared.script.make.rounds.Turn.{Turn}
-use Rattle.duet.specs.declared.script.make.rounds.Turn.TheVariants.{Says, Takes, Rests}
+use Rattle.duet.specs.Outcomes.{Beside}
+use Rattle.scripts.specs.Deeds.{Deed}
+use Rattle.scripts.specs.Make.{deeds_from, made_deeds, made_script, opening, round_of, turn_deeds}
+use Rattle.duet.specs.Trace.{IsFairScript, IsUnforgedPlay, beginning_in}
+use Rattle.scripts.specs.Deeds.{HasWholeSeed}
+use Rattle.scripts.specs.declared.make.rounds.Making.{Making}
+use Rattle.scripts.specs.declared.make.rounds.Turn.{Turn}
+use Rattle.scripts.specs.declared.make.rounds.Turn.TheVariants.{Says, Takes, Rests}
 
 -- ---- seeds
 
@@ -35,7 +37,8 @@ made_whole rounds number = whole_from (opening number) 1 rounds
 
 -- ---- bytes
 
-turn_fair : (k : Mechanism) (s : Beside World) (round : ℕ) (turn : Turn) (more : List Deed) → ((next : Beside World) → IsUnforgedPlay k next more)
+turn_fair : (k : Mechanism) (s : Beside World) (round : ℕ) (turn : Turn) (more : List Deed)
+    → ((next : Beside World) → IsUnforgedPlay k next more)
     → IsUnforgedPlay k s (turn_deeds round turn ++ more)
 unfolding turn_deeds
 turn_fair k s round (Says side) more later = (tt, (tt, later _))

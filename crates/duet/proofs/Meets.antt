@@ -70,7 +70,8 @@ module _ (k : Mechanism) (prefix : List ℕ) (kept : ℕ) (boxes : List Box) (a 
     abbrev course : Course Client
     course = course_of p first replies
 
-    syncs_so : (rest put : List ℕ) → length course.requests ≡ length replies → Exchanges (replied_bytes replies ++ rest) (request_bytes course.requests ++ put) start end
+    syncs_so : (rest put : List ℕ) → length course.requests ≡ length replies
+        → Exchanges (replied_bytes replies ++ rest) (request_bytes course.requests ++ put) start end
         → IsSynced p kept first boxes replies rest put now
     syncs_so rest put waited told = record {
       lawful_boxes = lawful_boxes;
@@ -117,7 +118,8 @@ module _ (k : Mechanism) (prefix : List ℕ) (kept : ℕ) (boxes : List Box) (a 
         (reached same is.stands, (ap (λ (x : Meeting Client). x.course.wait) same ∙ is.is_over, wrote))
 
     -- it doesn't end wrong
-    not_wrong : (ending : Ending) (at : ℕ) (what : PeerKind) → fault_in ending ≡ Some (Peer at what) → IsOver p replies ending a b start end → ⊥
+    not_wrong : (ending : Ending) (at : ℕ) (what : PeerKind) → fault_in ending ≡ Some (Peer at what) → IsOver p replies ending a b start end
+        → ⊥
     not_wrong (ended which) at what is ends = absurd (cc)
     not_wrong inbox_full at what is ends = absurd (cc)
     not_wrong box_is_full at what is ends = absurd (cc)
@@ -132,7 +134,8 @@ module _ (k : Mechanism) (prefix : List ℕ) (kept : ℕ) (boxes : List Box) (a 
         told = subst (λ (q : List ℕ). Exchanges (replied_bytes replies ++ is.rest) q start end)
             (ap (λ (o : Option Asked). request_bytes (course.requests ++ as_list o)) is.waits ∙ bytes_last request_frame course.requests is.asked) is.told
 
-        by_came : (f : PeerFault) (rest : List ℕ) → IsSynced p kept first boxes replies rest (request_frame is.asked) now → IsNoReply end rest f → ⊥
+        by_came : (f : PeerFault) (rest : List ℕ) → IsSynced p kept first boxes replies rest (request_frame is.asked) now
+            → IsNoReply end rest f → ⊥
         by_came f rest so (is_unread bad whole reads) = always_read p kept first boxes replies rest now is.asked so is.waits bad whole reads
         by_came f rest so (is_cut partial ends) = never_ends p kept first boxes replies rest now is.asked so is.waits partial ends
 

@@ -9,11 +9,13 @@ use Rattle.session_model.specs.declared.answer.Answer.{Answer}
 use Rattle.session_model.specs.declared.answer.Answer.TheVariants.{Said, Opened, Sent, Done, Inbox, State, Seeded, Stopped, Nothing, Refused}
 use Rattle.dr_model.specs.Machines.Sides.{Sides}
 use Rattle.kem_laws.specs.Mechanism.{Mechanism}
-use Rattle.duet.specs.Deeds.{Beside, Deed, Played, acts, deed_on, deed_side, syncs}
+use Rattle.duet.specs.Outcomes.{Beside, Played, deed_on}
+use Rattle.scripts.specs.Deeds.{Deed, acts, syncs}
+use Rattle.scripts.specs.Sides.{deed_side}
 use Rattle.duet.specs.Held.{DuetNow, after_deed, beside, opening_duet}
-use Rattle.duet.specs.Lined.{lined_deed}
-use Rattle.duet.specs.declared.script.lined.Lined.{Lined}
-use Rattle.duet.specs.Script.{Scripted}
+use Rattle.scripts.specs.Lined.{lined_deed}
+use Rattle.scripts.specs.declared.lined.Lined.{Lined}
+use Rattle.scripts.specs.Script.{Scripted}
 use Rattle.duet.specs.Tally.{IsBelow, IsSideBelow, both_reached, counted, counted_all, counted_by, counted_of, no_tally, opening_tally, tally_of}
 use Rattle.duet.specs.Trace.{after_by, beginning, lines_by, played}
 use Rattle.duet.specs.declared.tally.SideTally.{SideTally}
@@ -57,7 +59,8 @@ one_more n First answer t b = record { first = side_more n answer t.first b.firs
 one_more n Second answer t b = record { first = side_wider n (n + 1) t.first (omega arith) b.first; second = side_more n answer t.second b.second }
 
 -- a deed counts one answer at most
-deed_more : (k : Mechanism) (s : Beside Sides) (deed : Deed) (n : ℕ) (t : Tally) → IsBelow n t → IsBelow (n + 1) (counted_all (deed_side deed) (deed_on k s deed).answers t)
+deed_more : (k : Mechanism) (s : Beside Sides) (deed : Deed) (n : ℕ) (t : Tally) → IsBelow n t
+    → IsBelow (n + 1) (counted_all (deed_side deed) (deed_on k s deed).answers t)
 deed_more k s (acts event) n t b = one_more n (deed_side (acts event)) _ t b
 deed_more k s (syncs side lost) n t b = wider n (n + 1) t (omega arith) b
 

@@ -22,7 +22,7 @@ use Rattle.relay_core.specs.Boxes.{Answer, Box, Kept, answer_of, answers_of, bec
 use Rattle.relay_wire.specs.Replies.{absent, acked, box_full, stored}
 use Rattle.relay_wire.specs.Requests.{Asked, Asking, acks, fetches, posts}
 use Rattle.client.specs.Syncing.Parties.{waiting}
-use Rattle.duet.specs.Deeds.{Beside}
+use Rattle.duet.specs.Outcomes.{Beside}
 
 -- ---- packets that were said
 
@@ -33,11 +33,13 @@ pub record IsSaidPacket (k : Mechanism) (w : World) (packet : List ℕ) : Type 0
   pub same : packet ≡ (post_at k w.conversation position).bytes
 
 -- nobody forged their tag
-pub unforged : (k : Mechanism) (w : World) (side : Side) (packet : List ℕ) → IsLawfulWorld k w → IsSaidPacket k w packet → IsUnforged k w side packet
+pub unforged : (k : Mechanism) (w : World) (side : Side) (packet : List ℕ) → IsLawfulWorld k w → IsSaidPacket k w packet
+    → IsUnforged k w side packet
 unforged k w side packet lawful is = subst (IsUnforged k w side) (sym is.same) (real k w side is.position lawful is.said)
 
 -- whatever happens, they stay so
-said_stays : (k : Mechanism) (w : World) (event : Event) (packet : List ℕ) → IsLawfulWorld k w → IsSaidPacket k w packet → IsSaidPacket k (step_of k w event).next packet
+said_stays : (k : Mechanism) (w : World) (event : Event) (packet : List ℕ) → IsLawfulWorld k w → IsSaidPacket k w packet
+    → IsSaidPacket k (step_of k w event).next packet
 said_stays k w event packet lawful is =
     let stay = packets_stay k w event is.position lawful is.said in
     record { position = is.position; said = stay.0; same = is.same ∙ ap (λ (post : Item). post.bytes) (sym stay.1) }
@@ -84,7 +86,8 @@ module _ (Is : List ℕ → Type 0) where
       (All-filter (λ (kept : Kept). not (kept.number == number)) (λ (kept : Kept). Is kept.packet) box.packets holds) holds
 
   -- the relay keeps them so
-  pub relay_holds : (boxes : List Box) (asked : Asked) → All (HoldsOnly Is) boxes → AsksOnly Is asked.ask → All (HoldsOnly Is) (answers_of boxes asked).next
+  pub relay_holds : (boxes : List Box) (asked : Asked) → All (HoldsOnly Is) boxes → AsksOnly Is asked.ask
+      → All (HoldsOnly Is) (answers_of boxes asked).next
   unfolding answers_of
   relay_holds [] asked hold is = hold
   relay_holds (box ∷ boxes) asked hold is = by_name (is_named asked.name box) (relay_holds boxes asked rest is)
@@ -101,7 +104,8 @@ module _ (Is : List ℕ → Type 0) where
       by_name false more = All-cons (HoldsOnly Is) box (answers_of boxes asked).next first more
 
 -- boxes of packets that are one thing hold packets that are another, where that follows
-pub boxes_weaker : (Is Are : List ℕ → Type 0) → ((packet : List ℕ) → Is packet → Are packet) → (boxes : List Box) → All (HoldsOnly Is) boxes → All (HoldsOnly Are) boxes
+pub boxes_weaker : (Is Are : List ℕ → Type 0) → ((packet : List ℕ) → Is packet → Are packet) → (boxes : List Box) → All (HoldsOnly Is) boxes
+    → All (HoldsOnly Are) boxes
 boxes_weaker Is Are follows =
     All-weaker (HoldsOnly Is) (HoldsOnly Are)
     (λ box. All-weaker (λ (kept : Kept). Is kept.packet) (λ (kept : Kept). Are kept.packet) (λ kept. follows kept.packet) box.packets)

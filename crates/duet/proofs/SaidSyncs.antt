@@ -20,8 +20,8 @@ use Rattle.sync_model.specs.Simulation.{AreAlike, IsFairReply}
 use Rattle.sync_model.specs.Transfers.{Meeting, answered, begins, meet_times, meets}
 use Rattle.sync_model.proofs.Alike.{read_alike}
 use Rattle.client.specs.Syncing.Parties.{waiting, world_party}
-use Rattle.duet.specs.Deeds.{Beside}
-use Rattle.duet.specs.Replies.{side_text}
+use Rattle.duet.specs.Outcomes.{Beside}
+use Rattle.scripts.specs.Sides.{side_text}
 use Rattle.duet.proofs.SaidBoxes.{AsksOnly, HoldsOnly, IsHonest, IsSaidPacket, boxes_weaker, honest_next, outbox_said, relay_holds, unforged}
 
 -- ---- one reply
@@ -47,7 +47,8 @@ module _ {S : Type 0} (Is : S → List ℕ → Type 0) (s : S) (n : ℕ) where
       by_name false more = more
 
 -- a post sends the oldest packet of the outbox
-oldest_posted : (Is : List ℕ → Type 0) (name : List ℕ) (packets : List (List ℕ)) → All Is packets → IfSome (asked_of name packets) (λ (asked : Asked). AsksOnly Is asked.ask)
+oldest_posted : (Is : List ℕ → Type 0) (name : List ℕ) (packets : List (List ℕ)) → All Is packets
+    → IfSome (asked_of name packets) (λ (asked : Asked). AsksOnly Is asked.ask)
 oldest_posted Is name [] are = tt
 oldest_posted Is name (packet ∷ packets) are = All-head Is packet packets are
 
@@ -97,7 +98,8 @@ module _ (k : Mechanism) (side : Side) (start : World) where
     w = m.course.state
 
     -- the packet that comes at the next reply, if one comes, is fair
-    reply_fair : (wait : Wait) (asked : Asked) → asked_in party w wait ≡ Some asked → IsFairReply Fair w wait (answers_of m.boxes asked).reply
+    reply_fair : (wait : Wait) (asked : Asked) → asked_in party w wait ≡ Some asked
+        → IsFairReply Fair w wait (answers_of m.boxes asked).reply
     reply_fair (fetching n) asked is =
         subst (λ (o : Option Asked). IfSome o (λ (a : Asked). IsFairReply Fair w (fetching n) (answers_of m.boxes a).reply)) is
         (fetched_is Fair w n party.own m.boxes
@@ -111,7 +113,8 @@ module _ (k : Mechanism) (side : Side) (start : World) where
     next_fair (Some asked) is = reply_fair m.course.wait asked is
 
     -- the request that waits leaves the boxes so
-    asked_holds : (o : Option Asked) → asked_in party w m.course.wait ≡ o → All (HoldsOnly (IsSaidPacket k w)) (relay_after m.boxes (as_list o))
+    asked_holds : (o : Option Asked) → asked_in party w m.course.wait ≡ o
+        → All (HoldsOnly (IsSaidPacket k w)) (relay_after m.boxes (as_list o))
     asked_holds None is = honest.boxes
     asked_holds (Some asked) is =
         relay_holds (IsSaidPacket k w) m.boxes asked honest.boxes

@@ -14,14 +14,16 @@ use Rattle.dr_model.specs.Machines.Events.{Event, seeds, says, takes, takes_nth,
 use Rattle.dr_model.specs.Machines.Network.{flipped_at, held_at, held_nth}
 use Rattle.kem_laws.specs.Mechanism.{Mechanism}
 use Rattle.session_model.specs.declared.answer.Answer.{Answer}
-use Rattle.duet.specs.Deeds.{Beside, Deed, acts, deed_on, syncs}
+use Rattle.duet.specs.Outcomes.{Beside, deed_on}
+use Rattle.scripts.specs.Deeds.{Deed, acts, syncs}
 use Rattle.duet.specs.Held.{shown}
-use Rattle.duet.specs.Lined.{call_event, stop_event}
-use Rattle.duet.specs.Replies.{acting_side, entry_line, reply_line, reply_of}
-use Rattle.duet.specs.Stops.{stopped, takes_effect}
-use Rattle.duet.specs.declared.script.lined.Stop.{Stop}
-use Rattle.duet.specs.declared.script.lined.StoppedCall.{StoppedCall}
-use Rattle.duet.specs.declared.script.lined.StoppedCall.TheVariants.{Done, Say, Sent, Take, TakeNth}
+use Rattle.scripts.specs.Lined.{call_event, stop_event}
+use Rattle.duet.specs.Replies.{entry_line, reply_line, reply_of}
+use Rattle.scripts.specs.Sides.{acting_side}
+use Rattle.scripts.specs.Stops.{stopped, takes_effect}
+use Rattle.scripts.specs.declared.lined.Stop.{Stop}
+use Rattle.scripts.specs.declared.lined.StoppedCall.{StoppedCall}
+use Rattle.scripts.specs.declared.lined.StoppedCall.TheVariants.{Done, Say, Sent, Take, TakeNth}
 
 -- a step that shows no text, adds at most one packet to the network, and makes at most one draw
 record IsQuiet (s : Sides) (made : Step Sides) : Type 0 where
@@ -36,7 +38,8 @@ still_quiet s made none posts draws = record {
   draws = omega (arith, ap (λ (d : Draws). d.made) draws);
 }
 
-said_quiet : (s : Sides) (side : Side) (draws : Draws) (r : Result SaidText Refusal) → draws.made ≤ s.draws.made + 1 → IsQuiet s (said_on (record s { draws = draws }) side r)
+said_quiet : (s : Sides) (side : Side) (draws : Draws) (r : Result SaidText Refusal) → draws.made ≤ s.draws.made + 1
+    → IsQuiet s (said_on (record s { draws = draws }) side r)
 said_quiet s First draws (Ok said) few = record { none = refl; posts = omega (arith, length-append s.posts (said.post ∷ [])); draws = few }
 said_quiet s Second draws (Ok said) few = record { none = refl; posts = omega (arith, length-append s.posts (said.post ∷ [])); draws = few }
 said_quiet s side draws (Err refusal) few = record { none = refl; posts = omega arith; draws = few }
@@ -159,7 +162,8 @@ stop_shows_none : (t : Sides) (stop : Stop) → shown (stop_event stop) t ≡ []
 unfolding stopped
 stop_shows_none t stop = by_count (nat_le 8 stop.after)
   where
-    by_count : (b : Bool) → shown (if b then call_event stop.call else cuts (takes_effect stop.after stop.mode) (call_event stop.call)) t ≡ []
+    by_count : (b : Bool)
+        → shown (if b then call_event stop.call else cuts (takes_effect stop.after stop.mode) (call_event stop.call)) t ≡ []
     by_count true = call_shows_none t stop.call
     by_count false = call_shows_none t stop.call
 

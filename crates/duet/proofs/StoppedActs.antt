@@ -1,5 +1,5 @@
 -- What an act comes to on a disk that stops in it.
-use Rattle.std.proofs.Common.{Bool, Err, List, None, Ok, Option, Result, Some, ap, arith, false, if◌then◌else◌, length, refl, subst, sym, true, ℕ, ◌-◌, ◌<◌, ◌∙◌, ◌≡◌, ◌≤◌}
+use Rattle.std.proofs.Common.{Bool, Err, List, None, Ok, Option, Result, Some, ap, arith, false, if◌then◌else◌, inl, inr, length, refl, subst, sym, true, ℕ, ◌-◌, ◌<◌, ◌∙◌, ◌≡◌, ◌≤◌}
 use Rattle.std.specs.Prelude.{IfSome, is_some, nat_le}
 use Rattle.std.proofs.lemmas.Bool.{cond-false, cond-true}
 use Rattle.std.proofs.lemmas.Bool.Decides.{nat_tests}
@@ -21,16 +21,23 @@ use Rattle.session_model.specs.declared.answer.Answer.TheVariants.{Done as Answe
 use Rattle.session_model.specs.declared.answer.Refusal.{Refusal}
 use Rattle.session_record.specs.Lawful.{IsLawfulClient}
 use Rattle.session_record.specs.Record.{record_text}
+use Rattle.slot_store.proofs.RetireCalls.{rests_undamaged}
+use Rattle.slot_store.specs.Reading.{IsUndamaged}
 use Rattle.slot_store.specs.Slots.{recovered}
 use Rattle.slot_store.specs.Stops.{took}
 use Rattle.slot_store.specs.Store.{IsWithin}
+use Rattle.slot_store.specs.declared.area.Area.{Area}
 use Rattle.slot_store.specs.declared.store.SlotStore.{SlotStore}
 use Rattle.client.specs.Clients.{ClientNow, IsReady, client_area}
 use Rattle.client.specs.Outcomes.{Acts, IsCutOff, IsDone, IsEffected, Outcome, acknowledged, faulted, is_closed, refused, undrawn}
+use Rattle.client.specs.Opening.{SaysNothing}
+use Rattle.client.specs.declared.refusals.OpenRefusal.{OpenRefusal}
+use Rattle.client.specs.declared.refusals.OpenRefusal.TheVariants.{Damaged, Memory, NoSession, StoreFault}
 use Rattle.client.proofs.LawfulActs.{done_lawful, say_lawful, sent_lawful, take_lawful}
 use Rattle.duet.specs.Acts.{IsChecked, IsEnded, made_by}
-use Rattle.duet.specs.Parties.{HasRecord, IsHeld}
-use Rattle.duet.specs.Stops.{stopped_step, takes_effect}
+use Rattle.duet.specs.Parties.{HasRecord, IsHeld, IsWantOfMemory}
+use Rattle.duet.specs.Stops.{stopped_step}
+use Rattle.scripts.specs.Stops.{takes_effect}
 use Rattle.duet.proofs.StoppedSides.{idle_stopped}
 use Rattle.duet.specs.declared.acts.Act.{Act}
 use Rattle.duet.specs.declared.acts.Act.TheVariants.{Done, Say, Sent, Take}
@@ -60,6 +67,13 @@ cut n mode before made effect few =
     cond-false (nat_le 8 n) made _ (grind (arith, nat_tests)) ∙ cond-true (has_effect made.answer) _ made effect
 
 -- ---- the disk
+
+-- no call on it fails, and nothing is said of what was read
+pub only_memory : (refusal : OpenRefusal) → SaysNothing refusal → ((call : Call) → refusal ≡ StoreFault call → ⊥) → IsWantOfMemory refusal
+only_memory Memory says passes = tt
+only_memory (StoreFault call) says passes = absurd (passes call refl)
+only_memory (Damaged slot at) says passes = says
+only_memory NoSession says passes = says
 
 -- the count of a disk is told while it has a stop
 abbrev pub IsCounted : DiskState → Type 0
@@ -164,6 +178,17 @@ module _ (n : ℕ) (mode : Mode) (made : Result (Step Client) Refusal) (old new 
       ∙ ap (λ j. if took (Some (record_text old.kept)) (Some (record_text c.next.next)) j mode then Some (record_text c.next.next)
       else Some (record_text old.kept)) off
       ∙ chosen (takes_effect n mode) c.next.next old.kept
+
+  -- which is read without damage
+  pub cut_undamaged : (call : Call) (c : IsCutOff made old new (state_of (stopped_after n disk)) (state_of now) call) (left : MemoryDisk)
+      → (by : IsLeftBy mode (state_of now) (state_of left)) → IsUndamaged client_area by.bytes
+  cut_undamaged call c left by =
+      let image = (lawful_disk now).leaves_now mode by.bytes by.left in
+      let ready = ready_stopped n old.kept old.store disk held.ready in
+      elim (c.disk.any_moment.last by.bytes image) [
+        | inl entry ↦ subst (λ (a : Area). IsUndamaged a by.bytes) ready.area (rests_undamaged old.store by.bytes (ready.rests by.bytes entry))
+        | inr one ↦ one.undamaged
+      ]
 
   pub cut_comes : (call : Call) (c : IsCutOff made old new (state_of (stopped_after n disk)) (state_of now) call)
       → IsCounted (state_of now) → step Stopped (Left call c) ≡ stopped_step n mode old.kept (settled old.kept made)

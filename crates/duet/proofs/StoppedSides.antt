@@ -20,7 +20,8 @@ use Rattle.session_model.specs.declared.answer.Answer.TheVariants.{Refused, Said
 use Rattle.session_model.specs.declared.answer.Refusal.{Refusal}
 use Rattle.session_model.specs.declared.answer.Refusal.TheVariants.{NoPair}
 use Rattle.duet.specs.Held.{gathered, on_side}
-use Rattle.duet.specs.Stops.{stopped, stopped_step, takes_effect}
+use Rattle.duet.specs.Stops.{stopped_step}
+use Rattle.scripts.specs.Stops.{stopped, takes_effect}
 
 -- an event is cut off as its step is
 pub step_stopped : (k : Mechanism) (s : Sides) (n : ℕ) (mode : Mode) (event : Event)
@@ -156,7 +157,8 @@ module _ (s : Sides) (side : Side) (n : ℕ) (mode : Mode) where
   unfolding stopped_step
   speak_next None = by_count (nat_le 8 n)
     where
-      by_count : (b : Bool) → gathers (if b then step (Refused NoPair) (client_of s side) else step (Refused NoPair) (client_of s side)).next
+      by_count : (b : Bool)
+          → gathers (if b then step (Refused NoPair) (client_of s side) else step (Refused NoPair) (client_of s side)).next
           ≡ (if b then step (Refused NoPair) s else step (Refused NoPair) s).next
       by_count true = gathers_none s side
       by_count false = gathers_none s side
@@ -175,7 +177,8 @@ module _ (s : Sides) (side : Side) (n : ℕ) (mode : Mode) where
   unfolding stopped_step
   one_more None = by_count (nat_le 8 n)
     where
-      by_count : (b : Bool) → length (if b then step (Refused NoPair) (client_of s side) else step (Refused NoPair) (client_of s side)).next.outbox
+      by_count : (b : Bool)
+          → length (if b then step (Refused NoPair) (client_of s side) else step (Refused NoPair) (client_of s side)).next.outbox
           ≤ length (client_of s side).outbox + 1
       by_count true = omega arith
       by_count false = omega arith

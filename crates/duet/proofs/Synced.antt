@@ -21,9 +21,10 @@ use Rattle.client.specs.Syncing.Rounds.{fault_in}
 use Rattle.client.specs.declared.syncing.faults.SyncFault.{SyncFault}
 use Rattle.client.specs.declared.syncing.faults.SyncFault.TheVariants.{Closed, Link, Peer, Refused, Store, Write}
 use Rattle.client.specs.declared.syncing.faults.SyncRefusal.{SyncRefusal}
-use Rattle.duet.specs.Deeds.{ending_line, last_line, sync_lines}
-use Rattle.duet.specs.Meetings.{Plays, Tells, fault_line, fault_text}
-use Rattle.duet.specs.Replies.{side_text}
+use Rattle.duet.specs.Outcomes.{ending_line, closing_line, sync_lines}
+use Rattle.duet.specs.Meetings.{Plays, Tells}
+use Rattle.duet.specs.Replies.{fault_line, fault_text}
+use Rattle.scripts.specs.Sides.{side_text}
 
 abbrev text_in : Option SyncFault → List ℕ
 text_in None = []
@@ -35,15 +36,15 @@ module _ {S : Type 0} (p : Party S) (side : Side) where
   none_behind lines more = (more, ap (λ (b : List ℕ). b ++ more) (sym (append-nil lines)))
 
   -- what the client prints begins all lines
-  begins_by : (lines : List ℕ) (wait : Wait) → Begins (lines ++ courses.last_line p wait) (lines ++ last_line p side wait)
+  begins_by : (lines : List ℕ) (wait : Wait) → Begins (lines ++ courses.last_line p wait) (lines ++ closing_line p side wait)
   begins_by lines (over (ended which)) = ([], sym (append-nil (lines ++ p.end_line which)))
   begins_by lines (over inbox_full) = none_behind lines (ending_line p side inbox_full)
   begins_by lines (over box_is_full) = none_behind lines (ending_line p side box_is_full)
   begins_by lines (over no_such_box) = none_behind lines (ending_line p side no_such_box)
   begins_by lines (over wrong) = none_behind lines []
-  begins_by lines (fetching n) = none_behind lines (last_line p side (fetching n))
-  begins_by lines (acking n number) = none_behind lines (last_line p side (acking n number))
-  begins_by lines (posting which) = none_behind lines (last_line p side (posting which))
+  begins_by lines (fetching n) = none_behind lines (closing_line p side (fetching n))
+  begins_by lines (acking n number) = none_behind lines (closing_line p side (acking n number))
+  begins_by lines (posting which) = none_behind lines (closing_line p side (posting which))
 
   told_behind : (lines text : List ℕ) (refusal : SyncRefusal) → text ≡ fault_text (Refused refusal)
       → (lines ++ []) ++ fault_line side (Refused refusal) ≡ lines ++ (side_text side ++ text)
@@ -52,7 +53,7 @@ module _ {S : Type 0} (p : Party S) (side : Side) where
 
   -- behind a refusal
   refused_by : (lines : List ℕ) (ending : Ending) (refusal : SyncRefusal) → fault_in ending ≡ Some (Refused refusal)
-      → (lines ++ courses.last_line p (over ending)) ++ fault_line side (Refused refusal) ≡ lines ++ last_line p side (over ending)
+      → (lines ++ courses.last_line p (over ending)) ++ fault_line side (Refused refusal) ≡ lines ++ closing_line p side (over ending)
   refused_by lines (ended which) refusal is = absurd (cc)
   refused_by lines inbox_full refusal is = told_behind lines (codes "refused InboxFull\n") refusal (ap text_in is)
   refused_by lines box_is_full refusal is = told_behind lines (codes "refused BoxFull\n") refusal (ap text_in is)
@@ -60,7 +61,7 @@ module _ {S : Type 0} (p : Party S) (side : Side) where
   refused_by lines wrong refusal is = absurd (cc)
 
   -- where it still waits
-  waits_by : (s : S) (wait : Wait) (asked : Asked) → asked_in p s wait ≡ Some asked → fault_line side Link ≡ last_line p side wait
+  waits_by : (s : S) (wait : Wait) (asked : Asked) → asked_in p s wait ≡ Some asked → fault_line side Link ≡ closing_line p side wait
   waits_by s (fetching n) asked is = refl
   waits_by s (acking n number) asked is = refl
   waits_by s (posting which) asked is = refl
@@ -71,31 +72,34 @@ module _ (p : Party Client) (side : Side) (m : Meeting Client) (a b : Moment) (b
   lines = sync_lines p side m
 
   -- it ended, and wrote its last line
-  pub ended_lines : (which : More) → Plays p m a b boxes (Ok which) → Writes {T = Unit} {E = Failed} a.taken b.taken a.faults b.faults lines (Ok tt)
+  pub ended_lines : (which : More) → Plays p m a b boxes (Ok which)
+      → Writes {T = Unit} {E = Failed} a.taken b.taken a.faults b.faults lines (Ok tt)
   ended_lines which plays =
       let wait = plays.1.0 in
       let wrote = plays.1.1 in record {
         whole = wrote.bytes_are
             ∙ ap (λ (w : Wait). appended a.taken (m.course.lines ++ courses.last_line p w)) wait
-            ∙ sym (ap (λ (w : Wait). appended a.taken (m.course.lines ++ last_line p side w)) wait);
+            ∙ sym (ap (λ (w : Wait). appended a.taken (m.course.lines ++ closing_line p side w)) wait);
         part = tt;
         cause = record { later = omega (arith, wrote.unfailing); failed = tt; passed = wrote.unfailing };
       }
 
-  behind : (bytes line : List ℕ) (taken : Option (List ℕ)) (faults : ℕ) (result : Result Unit Failed) → bytes ++ line ≡ lines → Wrote bytes a b
+  behind : (bytes line : List ℕ) (taken : Option (List ℕ)) (faults : ℕ) (result : Result Unit Failed) → bytes ++ line ≡ lines
+      → Wrote bytes a b
       → Writes b.taken taken b.faults faults line result → Writes a.taken taken a.faults faults lines result
   behind bytes line taken faults result is wrote told =
       subst (λ (x : List ℕ). Writes a.taken taken a.faults faults x result) is
       (writes_behind a.taken b.taken taken a.faults b.faults faults bytes line result wrote.bytes_are wrote.unfailing told)
 
   -- it broke off, and that is told behind its lines
-  pub broken_lines : (fault : SyncFault) (taken : Option (List ℕ)) (faults : ℕ) (result : Result Unit Failed) → Plays p m a b boxes (Err fault)
+  pub broken_lines : (fault : SyncFault) (taken : Option (List ℕ)) (faults : ℕ) (result : Result Unit Failed)
+      → Plays p m a b boxes (Err fault)
       → Tells side fault b.taken taken b.faults faults result → Writes a.taken taken a.faults faults lines result
   broken_lines (Refused refusal) taken faults result plays told =
       let by = plays.1 in
       behind (all_lines p m.course) (fault_line side (Refused refusal)) taken faults result
       (ap (λ (w : Wait). (m.course.lines ++ courses.last_line p w) ++ fault_line side (Refused refusal)) by.2.0
-      ∙ refused_by p side m.course.lines by.0 refusal by.1 ∙ sym (ap (λ (w : Wait). m.course.lines ++ last_line p side w) by.2.0))
+      ∙ refused_by p side m.course.lines by.0 refusal by.1 ∙ sym (ap (λ (w : Wait). m.course.lines ++ closing_line p side w) by.2.0))
       by.2.1 told
   broken_lines Link taken faults result plays told =
       behind m.course.lines (fault_line side Link) taken faults result

@@ -24,9 +24,9 @@ use Rattle.sync_model.specs.Transfers.{Meeting, begins}
 use Rattle.sync_model.proofs.Scenes.{scenes_alike}
 use Rattle.client.specs.Syncing.Lines.{answer_line, own_box, peers_box}
 use Rattle.client.specs.Syncing.Parties.{client_party, is_full, waiting, world_party}
-use Rattle.duet.specs.Deeds.{Played, ending_line, last_line, sync_lines, synced_on}
+use Rattle.duet.specs.Outcomes.{Played, ending_line, closing_line, sync_lines, synced_on}
 use Rattle.duet.specs.Held.{on_side}
-use Rattle.duet.specs.Replies.{side_text}
+use Rattle.scripts.specs.Sides.{side_text}
 use Rattle.duet.proofs.StoppedSides.{opened_side, same_client, sent_side}
 
 -- ---- one side among both
@@ -65,7 +65,8 @@ module _ (k : Mechanism) (law : IsLawfulMechanism k) (side : Side) (start : Worl
     kept_is = sym (client_of-kept k w side) ∙ keeps
 
     -- the side's own step is that of the world
-    made : (act : Act) → IsOwn k side act → step_on k (sides_of k w) (event_of side act) ≡ on_side (sides_of k start) side (settled kept (act_on k kept act))
+    made : (act : Act) → IsOwn k side act
+        → step_on k (sides_of k w) (event_of side act) ≡ on_side (sides_of k start) side (settled kept (act_on k kept act))
     made act own =
         own (sides_of k w)
         ∙ ap₂ (λ (s : Sides) (c : Client). on_side s side (settled c (act_on k c act))) is.stands keeps
@@ -137,7 +138,7 @@ module _ (k : Mechanism) (law : IsLawfulMechanism k) (side : Side) (start : Worl
     same_ending no_such_box = refl
     same_ending wrong = refl
 
-    same_last : (wait : Wait) → last_line mine side wait ≡ last_line theirs side wait
+    same_last : (wait : Wait) → closing_line mine side wait ≡ closing_line theirs side wait
     same_last (over ending) = same_ending ending
     same_last (fetching n) = refl
     same_last (acking n number) = refl
@@ -153,6 +154,6 @@ module _ (k : Mechanism) (law : IsLawfulMechanism k) (side : Side) (start : Worl
     sync_follows =
         let same = same_scene in
         let lines : sync_lines mine side (scene mine (kept_before lost) first boxes) ≡ sync_lines theirs side came =
-        ap₂ (λ (a b : List ℕ). a ++ b) same.course.lines (ap (last_line mine side) same.course.wait ∙ same_last came.course.wait) in
+        ap₂ (λ (a b : List ℕ). a ++ b) same.course.lines (ap (closing_line mine side) same.course.wait ∙ same_last came.course.wait) in
         ap (λ (l : List ℕ). played_by l (with_client (sides_of k start) side (scene mine (kept_before lost) first boxes).course.state) (scene mine (kept_before lost) first boxes).boxes) lines
         ∙ ap₂ (played_by (sync_lines theirs side came)) (sym same.course.state.stands) same.boxes

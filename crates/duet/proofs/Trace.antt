@@ -6,13 +6,15 @@ use Rattle.dr_ports.proofs.Told.{appended-appended, appended-none}
 use Rattle.dr_ports.proofs.WritingLemmas.{took_of_first, took_of_second}
 use Rattle.dr_model.specs.Machines.Sides.{Sides}
 use Rattle.kem_laws.specs.Mechanism.{Mechanism}
-use Rattle.duet.specs.Deeds.{Beside, Deed, Played, deed_on}
+use Rattle.duet.specs.Outcomes.{Beside, Played, deed_on}
+use Rattle.scripts.specs.Deeds.{Deed}
 use Rattle.duet.specs.Held.{DuetNow, after_deed, beside}
 use Rattle.duet.specs.Trace.{lines_by, after_by}
 
 module _ {S : Type 0} (act : Beside S → Deed → Played S) where
   -- the lines of deeds and of those that follow
-  lines_by-append : (s : Beside S) (deeds others : List Deed) → lines_by act s (deeds ++ others) ≡ lines_by act s deeds ++ lines_by act (after_by act s deeds) others
+  lines_by-append : (s : Beside S) (deeds others : List Deed)
+      → lines_by act s (deeds ++ others) ≡ lines_by act s deeds ++ lines_by act (after_by act s deeds) others
   unfolding lines_by after_by
   lines_by-append s [] others = refl
   lines_by-append s (deed ∷ deeds) others =
@@ -20,7 +22,8 @@ module _ {S : Type 0} (act : Beside S → Deed → Played S) where
       ∙ sym (append_assoc (act s deed).lines (lines_by act (act s deed).next deeds) (lines_by act (after_by act (act s deed).next deeds) others))
 
   -- what stands after one deed more
-  after_by-push : (s : Beside S) (deeds : List Deed) (deed : Deed) → after_by act s (deeds ++ deed ∷ []) ≡ (act (after_by act s deeds) deed).next
+  after_by-push : (s : Beside S) (deeds : List Deed) (deed : Deed)
+      → after_by act s (deeds ++ deed ∷ []) ≡ (act (after_by act s deeds) deed).next
   unfolding after_by
   after_by-push s [] deed = refl
   after_by-push s (first ∷ deeds) deed = after_by-push (act s first).next deeds deed
@@ -30,7 +33,8 @@ module _ {S : Type 0} (act : Beside S → Deed → Played S) where
   one_deed s deed = append-nil (act s deed).lines
 
   -- the lines of one deed more
-  lines_by-push : (s : Beside S) (deeds : List Deed) (deed : Deed) → lines_by act s (deeds ++ deed ∷ []) ≡ lines_by act s deeds ++ (act (after_by act s deeds) deed).lines
+  lines_by-push : (s : Beside S) (deeds : List Deed) (deed : Deed)
+      → lines_by act s (deeds ++ deed ∷ []) ≡ lines_by act s deeds ++ (act (after_by act s deeds) deed).lines
   lines_by-push s deeds deed =
       lines_by-append s deeds (deed ∷ []) ∙ ap (λ lines. lines_by act s deeds ++ lines) (one_deed (after_by act s deeds) deed)
 
@@ -69,13 +73,15 @@ module _ (k : Mechanism) (start : Beside Sides) where
       ap beside next ∙ ap (λ (s : Beside Sides). (deed_on k s deed).next) stands ∙ sym (after_by-push (deed_on k) start deeds deed)
 
   -- the lines so far, and then those of one deed more
-  pub wrote_more : (told mid new : Option (List ℕ)) (deeds : List Deed) (deed : Deed) (s : Beside Sides) → new ≡ appended mid (deed_on k s deed).lines
+  pub wrote_more : (told mid new : Option (List ℕ)) (deeds : List Deed) (deed : Deed) (s : Beside Sides)
+      → new ≡ appended mid (deed_on k s deed).lines
       → s ≡ after_by (deed_on k) start deeds → mid ≡ appended told (lines_by (deed_on k) start deeds) → new ≡ appended told (lines_by (deed_on k) start (deeds ++ deed ∷ []))
   wrote_more told mid new deeds deed s wrote stands so_far =
       took_line (deed_on k) told mid new start deeds deed so_far (wrote ∙ ap (λ (s : Beside Sides). appended mid (deed_on k s deed).lines) stands)
 
   -- the lines so far, and then a beginning of those of the next deed
-  pub wrote_part : (told mid new : Option (List ℕ)) (deeds others all : List Deed) (deed : Deed) (s : Beside Sides) → TookBeginning mid new (deed_on k s deed).lines
+  pub wrote_part : (told mid new : Option (List ℕ)) (deeds others all : List Deed) (deed : Deed) (s : Beside Sides)
+      → TookBeginning mid new (deed_on k s deed).lines
       → all ≡ (deeds ++ deed ∷ []) ++ others → s ≡ after_by (deed_on k) start deeds → mid ≡ appended told (lines_by (deed_on k) start deeds) → TookBeginning told new (lines_by (deed_on k) start all)
   wrote_part told mid new deeds others all deed s part e stands so_far =
       subst (λ ds. TookBeginning told new (lines_by (deed_on k) start ds)) (sym e)

@@ -12,7 +12,7 @@ use Rattle.dr_model.specs.Machines.Draws.{Draws}
 use Rattle.dr_model.specs.Machines.Events.{Event, cuts, shows_inbox}
 use Rattle.session_model.specs.States.{opening_state}
 use Rattle.kem_laws.specs.Mechanism.{Mechanism}
-use Rattle.duet.specs.Deeds.{Beside, Played, opening_boxes}
+use Rattle.duet.specs.Outcomes.{Beside, Played, opening_boxes}
 
 -- a side at the beginning of a conversation
 abbrev pub opening_client : Mechanism → List ℕ → Side → Client

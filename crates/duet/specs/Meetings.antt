@@ -1,5 +1,5 @@
 -- A client syncs over a link to a relay in memory: a scene, by how it ends.
-use Rattle.std.specs.Prelude.{◌≡◌, ◌≤◌, ◌++◌, ℕ, List, [], None, Some, Option, Result, Ok, Err, IsErr, codes}
+use Rattle.std.specs.Prelude.{◌≡◌, ◌≤◌, ℕ, List, None, Some, Option, Result, Ok, Err, IsErr}
 use Rattle.dr_base.specs.declared.failed.Failed.{Failed}
 use Rattle.dr_base.specs.declared.position.Side.{Side}
 use Rattle.dr_disk.specs.State.{all_pass}
@@ -17,8 +17,7 @@ use Rattle.client.specs.Syncing.Moments.{Moment, Wrote, WroteBeginning}
 use Rattle.client.specs.Syncing.Rounds.{fault_in}
 use Rattle.client.specs.declared.syncing.faults.SyncFault.{SyncFault}
 use Rattle.client.specs.declared.syncing.faults.SyncFault.TheVariants.{Closed, Link, Peer, Refused, Store, Write}
-use Rattle.client.specs.declared.syncing.faults.SyncRefusal.TheVariants.{BoxFull, InboxFull, Unknown}
-use Rattle.duet.specs.Replies.{side_text}
+use Rattle.duet.specs.Replies.{fault_line}
 
 -- the client is open, and its disk is at rest for it, whose calls all pass
 pub record Rests (b : Moment) : Type 0 where
@@ -46,19 +45,7 @@ Plays p m a b boxes (Err (Peer at what)) = ⊥
 Plays p m a b boxes (Err (Store call)) = ⊥
 Plays p m a b boxes (Err (Closed call)) = ⊥
 
--- ---- the last line, where the client has written none
-
-abbrev pub fault_text : SyncFault → List ℕ
-fault_text (Refused InboxFull) = codes "refused InboxFull\n"
-fault_text (Refused BoxFull) = codes "refused BoxFull\n"
-fault_text (Refused Unknown) = codes "refused Unknown\n"
-fault_text Link = codes "link fault\n"
-fault_text _ = []
-
-abbrev pub fault_line : Side → SyncFault → List ℕ
-fault_line side fault = side_text side ++ fault_text fault
-
--- it is written, or nothing where a write has failed before
+-- the last line, where the client has written none: it is written, or nothing where a write has failed before
 abbrev pub Tells : Side → SyncFault → Option (List ℕ) → Option (List ℕ) → ℕ → ℕ → Result Unit Failed → Type 0
 Tells side Write old new before now result = IsErr result × (new ≡ old) × (now ≡ before)
 Tells side fault old new before now result = Writes old new before now (fault_line side fault) result

@@ -9,7 +9,9 @@ use Rattle.slot_store.specs.Slots.{recovered}
 use Rattle.client.specs.Clients.{ClientNow, IsReady, client_area}
 use Rattle.client.specs.Outcomes.{Outcome, refused}
 use Rattle.client.specs.declared.refusals.BeginRefusal.{BeginRefusal}
-use Rattle.client.specs.declared.refusals.BeginRefusal.TheVariants.{Memory, NoPair}
+use Rattle.client.specs.declared.refusals.BeginRefusal.TheVariants.{Memory as FirstMemory, NoPair}
+use Rattle.client.specs.declared.refusals.OpenRefusal.{OpenRefusal}
+use Rattle.client.specs.declared.refusals.OpenRefusal.TheVariants.{Memory}
 
 pub record IsHeld (client : ClientNow) (disk : MemoryDisk) : Type 0 where
   pub is_open : client.closed ≡ None
@@ -23,10 +25,15 @@ IsRefused _ = ⊥
 
 -- why no client is begun on a disk of zeros whose calls all pass
 abbrev pub IsFirstRefusal : BeginRefusal → Type 0
-IsFirstRefusal Memory = ⊤
+IsFirstRefusal FirstMemory = ⊤
 IsFirstRefusal NoPair = ⊤
 IsFirstRefusal _ = ⊥
 
 -- the bytes of a disk have the record of what a client keeps
 abbrev pub HasRecord : Client → DiskState → Type 0
 HasRecord kept disk = (s : List ℕ) → disk.seen ≡ Some s → recovered client_area s ≡ Some (record_text kept)
+
+-- memory was wanting
+abbrev pub IsWantOfMemory : OpenRefusal → Type 0
+IsWantOfMemory Memory = ⊤
+IsWantOfMemory _ = ⊥

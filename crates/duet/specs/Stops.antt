@@ -1,24 +1,10 @@
--- A call that its disk stops.
-use Rattle.std.specs.Prelude.{Bool, if◌then◌else◌, nat_le, ℕ, ◌&&◌, ◌||◌}
+-- A step that its disk stops.
+use Rattle.std.specs.Prelude.{if◌then◌else◌, nat_le, ℕ}
 use Rattle.dr_disk.specs.declared.call.Mode.{Mode}
-use Rattle.dr_model.specs.Machines.Events.{Event, cuts}
 use Rattle.dr_model.specs.Machines.Steps.{Step, cut_step}
-use Rattle.slot_store.specs.Stops.{opens}
+use Rattle.scripts.specs.Stops.{calls, takes_effect}
 
--- how many writes and syncs a call makes that changes something; any other call makes none
-abbrev pub calls : ℕ
-calls = 8
-
--- whether such a call takes effect where so many of them pass: the fourth is the sync of the new record's gate, and from
--- its write on a crash of this kind may leave the gate open
-abbrev pub takes_effect : ℕ → Mode → Bool
-takes_effect n mode = nat_le 4 n || (nat_le 2 n && opens mode)
-
--- What an event comes to where the disk of its side stops once so many writes and syncs of its call have passed, and then
--- crashes in this way: it is cut off, unless they are enough.
-unfoldable pub stopped : ℕ → Mode → Event → Event
-stopped n mode event = if nat_le calls n then event else cuts (takes_effect n mode) event
-
--- the same of a step, over what stood before it
+-- what a step comes to, over what stood before it, where the disk of its side stops once so many writes and syncs have passed,
+-- and then crashes in this way
 unfoldable pub stopped_step : {S : Type 0} → ℕ → Mode → S → Step S → Step S
 stopped_step n mode before made = if nat_le calls n then made else cut_step before (takes_effect n mode) made

@@ -9,8 +9,10 @@ use Rattle.dr_model.specs.Conversations.Views.{missing_of}
 use Rattle.dr_model.specs.Machines.Sides.{Sides}
 use Rattle.dr_model.specs.Machines.Worlds.{World, view_of}
 use Rattle.kem_laws.specs.Mechanism.{Mechanism}
-use Rattle.duet.specs.Deeds.{Beside, Deed, Played, deed_in, deed_on, deed_side}
-use Rattle.duet.specs.Script.{Scripted}
+use Rattle.duet.specs.Outcomes.{Beside, Played, deed_in, deed_on}
+use Rattle.scripts.specs.Deeds.{Deed}
+use Rattle.scripts.specs.Sides.{deed_side}
+use Rattle.scripts.specs.Script.{Scripted}
 use Rattle.duet.specs.Trace.{after_by, beginning, beginning_in}
 use Rattle.duet.specs.declared.tally.SideTally.{SideTally}
 use Rattle.duet.specs.declared.tally.Tally.{Tally}

@@ -3,11 +3,12 @@ use Rattle.std.specs.Prelude.{List, ℕ, [], ◌∷◌, ◌++◌, ⊤}
 use Rattle.dr_base.specs.declared.position.Side.TheVariants.{First}
 use Rattle.dr_model.specs.Machines.Sides.{Sides}
 use Rattle.dr_model.specs.Machines.Worlds.{World, opening_world}
-use Rattle.dr_model.specs.Theorems.Fairness.{IsSeedWhole, IsUnforgedEvent}
+use Rattle.dr_model.specs.Theorems.Fairness.{IsUnforgedEvent}
 use Rattle.dr_model.specs.Machines.WorldSides.{kept_in, sides_of}
 use Rattle.kem_laws.specs.Mechanism.{Mechanism}
-use Rattle.duet.specs.Deeds.{Beside, Deed, Played, acts, deed_in, deed_on, opening_boxes, syncs}
-use Rattle.duet.specs.Script.{Scripted}
+use Rattle.duet.specs.Outcomes.{Beside, Played, deed_in, deed_on, opening_boxes}
+use Rattle.scripts.specs.Deeds.{Deed, acts, syncs}
+use Rattle.scripts.specs.Script.{Scripted}
 
 -- the lines of deeds, each done from what stands
 unfoldable pub lines_by : {S : Type 0} → (Beside S → Deed → Played S) → Beside S → List Deed → List ℕ
@@ -50,8 +51,3 @@ IsUnforgedPlay k s (deed ∷ deeds) = IsUnforgedDeed k s deed × IsUnforgedPlay 
 
 abbrev pub IsFairScript : Mechanism → Scripted → Type 0
 IsFairScript k script = IsUnforgedPlay k (beginning_in k script) script.deeds
-
--- a seed that is given has 32 bytes
-abbrev pub HasWholeSeed : Deed → Type 0
-HasWholeSeed (acts event) = IsSeedWhole event
-HasWholeSeed (syncs side lost) = ⊤

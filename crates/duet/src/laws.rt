@@ -1,14 +1,13 @@
-//! What a script says, and what it comes to. These functions have no code: a caller that needs a fact calls one.
+//! What a script comes to. These functions have no code: a caller that needs a fact calls one.
 
 ghost use Rattle.std.specs.Prelude.{◌≡◌, All, Some, true, is_some};
 ghost use Rattle.kem_laws.specs.Mechanism.{IsLawfulMechanism, Mechanism};
 ghost use Rattle.session_model.specs.Schedule.{agreement_seed};
-ghost use Rattle.duet.specs.Deeds.{Deed};
-ghost use Rattle.duet.specs.Printed.{IsSayable, line_text};
-ghost use Rattle.duet.specs.Script.{Scripted};
+ghost use Rattle.scripts.specs.Deeds.{Deed};
+ghost use Rattle.scripts.specs.Script.{Scripted};
 ghost use Rattle.duet.specs.Tally.{tally_in, tally_of};
-ghost use Rattle.duet.specs.Words.{line_read};
-ghost use Rattle.duet.specs.Trace.{HasWholeSeed, IsFairScript, played, trace_of};
+ghost use Rattle.duet.specs.Trace.{IsFairScript, played, trace_of};
+ghost use Rattle.scripts.specs.Deeds.{HasWholeSeed};
 
 /// The lines that both sides answer to a script are those that the machine answers, over any mechanism that keeps its law,
 /// where the shared key gives a first pair, its seeds have 32 bytes, and no packet that it makes up has a forged tag.
@@ -21,9 +20,4 @@ pub fn played_is_the_trace()
 pub fn tallied_is_the_machines()
     ensures { (k : Mechanism) (script : Scripted) → IsLawfulMechanism k → is_some (k.meaning.pair_of (agreement_seed script.key)) ≡ true
         → All HasWholeSeed script.deeds → IsFairScript k script → tally_of k script ≡ tally_in k script }
-{}
-
-/// Lines print back what they say: the line that is printed of a deed is read as that deed.
-pub fn lines_print_back()
-    ensures { (deed : Deed) → IsSayable deed → line_read (line_text deed) ≡ Some deed }
 {}

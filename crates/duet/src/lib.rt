@@ -1,9 +1,8 @@
-//! Scripts of a conversation: their text, and both sides that play them.
+//! Both sides of a conversation, which play a script.
 #![tactic(auto)]
 
-pub use laws::{lines_print_back, played_is_the_trace, tallied_is_the_machines};
+pub use laws::{played_is_the_trace, tallied_is_the_machines};
 pub use playing::{PlayError, play};
-pub use script::{KemName, Line, Lined, Lines, Script, ScriptError, Stop, StoppedCall};
 pub use summary::{SummaryText, summary_lines};
 pub use tally::{SideTally, Tally};
 
@@ -12,7 +11,6 @@ mod amount;
 mod calls;
 mod draws;
 mod given;
-mod hexed;
 mod laws;
 mod meeting;
 mod network;
@@ -20,7 +18,6 @@ mod party;
 mod playing;
 mod post;
 mod reply;
-mod script;
 mod sides;
 mod stopping;
 mod stops;

@@ -7,28 +7,29 @@ ghost use Rattle.boxes.specs.Items.{Item};
 ghost use Rattle.dr_model.specs.Machines.Sides.{step_on};
 ghost use Rattle.session_model.specs.Schedule.{agreement_seed};
 ghost use Rattle.duet.specs.Held.{shown, stepped};
-ghost use Rattle.duet.specs.Replies.{entry_line, reply_line, reply_of, acting_side};
-ghost use Rattle.duet.specs.Seen.{event_of};
+ghost use Rattle.duet.specs.Replies.{entry_line, reply_line, reply_of};
+ghost use Rattle.scripts.specs.Sides.{acting_side};
+ghost use Rattle.scripts.specs.Seen.{event_of};
 ghost use Rattle.duet.specs.Tally.{IsBelow, counted_of, tally_of};
 ghost use Rattle.duet.specs.Trace.{played};
 
 use crate::party::{BeginError, Party};
-use crate::reply::{reply, side_name};
-use crate::script::{Line, Lined, Script};
+use crate::reply::reply;
 use crate::sides::Duet;
 use crate::tally::Tally;
 use answer_lines::text_line;
 use dr_base::Side;
 use dr_ports::{Failed, Sink, write_all};
 use kem_laws::Kem;
+use scripts::{Line, Lined, Script, side_name};
 use session_model::Answer;
 use std::alloc::{AllocError, Global};
 
 /// Why a script wasn't played to its end.
 #[derive(Clone, Copy, Debug, PartialEq, Eq)]
 pub enum PlayError {
-    /// There was no memory for the two sides, and nothing was written; or none to open a side again behind a stop, or what
-    /// its disk had then was refused, and the lines before were written.
+    /// There was no memory for the two sides, and nothing was written; or none to open a side again behind a stop, and the
+    /// lines before were written.
     Memory,
     /// The shared key gives no first pair; nothing was written.
     NoPair,

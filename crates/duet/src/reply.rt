@@ -1,32 +1,13 @@
 //! The lines of a trace.
 
-ghost use Rattle.std.specs.Prelude.{◌≡◌, ℕ, ◌≤◌, length};
-ghost use Rattle.duet.specs.Replies.{side_text, reply_line};
+ghost use Rattle.std.specs.Prelude.{◌≡◌};
+ghost use Rattle.duet.specs.Replies.{reply_line};
 
 use answer_lines::put_answer;
 use dr_base::Side;
 use dr_ports::OutputLine;
+use scripts::side_name;
 use session_model::Answer;
-
-/// A side, and a space.
-#[tactic(auto, unfolding(crate::specs::Replies::side_text))]
-pub fn side_prefix(side: Side) -> &'static str
-    ensures name { result.now ≡ side_text side }
-    ensures short { length result.now ≤ 7 }
-{
-    match side {
-        Side::First => "first ",
-        Side::Second => "second ",
-    }
-}
-
-/// The same in bytes.
-pub fn side_name(side: Side) -> &'static [u8]
-    ensures name { result.now ≡ side_text side }
-    ensures short { length result.now ≤ 7 }
-{
-    side_prefix(side).as_bytes()
-}
 
 /// The line of a side's event with its answer; a seed has none.
 #[tactic(auto, unfolding(crate::specs::Replies::reply_line))]

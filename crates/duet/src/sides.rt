@@ -10,15 +10,14 @@ ghost use Rattle.duet.specs.Tally.{both_reached};
 ghost use Rattle.ratchet.specs.Seen.{seed_bytes};
 
 use crate::draws::Draws;
-use crate::hexed::hex_bytes;
 use crate::network::{copied, held_at, held_flipped, held_nth};
 use crate::party::{BeginError, Party};
 use crate::post::{Packet, Post};
-use crate::script::Line;
 use crate::tally::{SideTally, Tally};
 use dr_base::{Key32, Side};
 use kem_laws::Kem;
 use relay_link::RelayLink;
+use scripts::{Line, hex_bytes};
 use session_model::{Amount, Answer, Refusal, Summary};
 use std::alloc::Global;
 use std::marker::Model;
@@ -45,7 +44,7 @@ impl<K: Kem> Model for Duet<K> {
 }
 
 impl<K: Kem> Duet<K> {
-    ghost use Rattle.duet.specs.Seen.{event_of};
+    ghost use Rattle.scripts.specs.Seen.{event_of};
 
     /// Both sides before the first event, and room in the network for so many packets. It takes all memory that the
     /// events need.

@@ -9,29 +9,41 @@ ghost use Rattle.session_record.specs.Lawful.{IsLawfulClient};
 ghost use Rattle.slot_store.specs.Store.{IsWithin};
 ghost use Rattle.client.specs.Clients.{client_area};
 ghost use Rattle.duet.specs.Acts.{IsChecked, made_by};
-ghost use Rattle.duet.specs.Parties.{HasRecord};
+ghost use Rattle.client.specs.Opening.{ReadsClient};
+ghost use Rattle.duet.specs.Parties.{HasRecord, IsWantOfMemory};
 ghost use Rattle.duet.specs.Stops.{stopped_step};
 
 use crate::acts::{Act, Ended, perform};
 use crate::party::Party;
-use client::Client;
+use client::{Client, OpenRefusal};
 use dr_disk::{MemoryDisk, Mode};
 use kem_laws::{Kem, laws};
 use session_model::Answer;
 use session_record::record_law;
 use std::alloc::{AllocError, Global};
 
-/// The side whose record a disk has, all of whose calls pass.
+/// Why an opening failed, where that is want of memory.
+fn want_of_memory(refusal: OpenRefusal) -> AllocError
+    requires { IsWantOfMemory refusal }
+{
+    match refusal {
+        OpenRefusal::Memory => AllocError,
+        _ => unreachable!(),
+    }
+}
+
+/// The side whose record a disk has, all of whose calls pass. It isn't refused: its only error is want of memory.
 fn reopened<K: Kem>(alloc: Global, disk: MemoryDisk) -> Result<Party<K>, AllocError>
     requires within { IsWithin client_area (state_of disk) }
     requires passes { (state_of disk).fate ≡ Fate.all_pass }
+    requires holds { ReadsClient K.mechanism (state_of disk) }
     ensures { IfOk result (λ p. (kept : Keeping) → IsLawfulClient K.mechanism kept → HasRecord kept (state_of disk) → p ≡ kept) }
 {
     record_law();
     let mut disk = disk;
     match Client::open(alloc, &mut disk) {
         Ok(client) => Ok(Party { client, disk }),
-        Err(_) => Err(AllocError),
+        Err(refusal) => Err(want_of_memory(refusal)),
     }
 }
 

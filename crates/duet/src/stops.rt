@@ -11,17 +11,18 @@ ghost use Rattle.session_model.specs.Clients.{say_check, say_on, take_on};
 ghost use Rattle.dr_model.specs.Machines.Acts.{taken_by};
 ghost use Rattle.duet.specs.Acts.{IsChecked, made_by};
 ghost use Rattle.duet.specs.Held.{after, gathered, on_side, stepped};
-ghost use Rattle.duet.specs.Lined.{stop_event};
-ghost use Rattle.duet.specs.Stops.{stopped, stopped_step};
+ghost use Rattle.scripts.specs.Lined.{stop_event};
+ghost use Rattle.duet.specs.Stops.{stopped_step};
+ghost use Rattle.scripts.specs.Stops.{stopped};
 
 use crate::acts::Act;
 use crate::network::{copied, held_at, held_nth};
 use crate::post::Packet;
-use crate::script::{Stop, StoppedCall};
 use crate::sides::Duet;
 use dr_base::{Key32, Side};
 use dr_disk::Mode;
 use kem_laws::Kem;
+use scripts::{Stop, StoppedCall};
 use session_model::Answer;
 use std::alloc::{AllocError, Global};
 

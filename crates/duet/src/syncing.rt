@@ -5,20 +5,22 @@ ghost use Rattle.dr_ports.specs.Writing.{Writes};
 ghost use Rattle.relay_link.specs.Connections.{boxes_of, kept_before};
 ghost use Rattle.sync_model.specs.Scenes.{scene};
 ghost use Rattle.client.specs.Syncing.Parties.{client_party};
-ghost use Rattle.duet.specs.Deeds.{deed_on, sync_lines, syncs};
+ghost use Rattle.duet.specs.Outcomes.{deed_on, sync_lines};
+ghost use Rattle.scripts.specs.Deeds.{syncs};
 ghost use Rattle.duet.specs.Held.{after_deed, beside};
-ghost use Rattle.duet.specs.Meetings.{Tells, fault_text};
-ghost use Rattle.duet.specs.Replies.{side_text};
+ghost use Rattle.duet.specs.Meetings.{Tells};
+ghost use Rattle.duet.specs.Replies.{fault_text};
+ghost use Rattle.scripts.specs.Sides.{side_text};
 
 use crate::meeting::meet;
 use crate::party::Party;
-use crate::reply::{side_name, side_prefix};
 use crate::sides::Duet;
 use client::{SyncFault, SyncRefusal};
 use dr_base::Side;
 use dr_ports::{Failed, OutputLine, Sink, write_all};
 use kem_laws::Kem;
 use relay_link::RelayLink;
+use scripts::{side_name, side_prefix};
 
 /// What is said of a sync that broke off.
 fn fault_text(fault: SyncFault) -> &'static [u8]

@@ -1,8 +1,9 @@
 //! Made scripts that are played, in numbers.
 
-use crate::{Script, play, summary_lines};
+use crate::{play, summary_lines};
 use dr_ports::NullSink;
 use kem_laws::OpenKem;
+use scripts::Script;
 use std::alloc::Global;
 use std::test::Fail;
 

@@ -4,8 +4,8 @@ use Rattle.std.specs.Prelude.{IsSome}
 use Rattle.kem_laws.specs.Open.{open_kem}
 use Rattle.kem_laws.specs.OpenLaw.{open_law}
 use Rattle.session_model.specs.Schedule.{agreement_seed}
-use Rattle.duet.specs.Make.{made_script}
-use Rattle.duet.specs.Script.{Scripted}
+use Rattle.scripts.specs.Make.{made_script}
+use Rattle.scripts.specs.Script.{Scripted}
 use Rattle.duet.specs.Summary.{summary_lines}
 use Rattle.duet.specs.Tally.{tally_of}
 use Rattle.duet.specs.declared.tally.Tally.{Tally}

@@ -5,13 +5,13 @@ use Rattle.kem_laws.specs.Mechanism.{IsLawfulMechanism}
 use Rattle.kem_laws.specs.OpenLaw.{open_law}
 use Rattle.sntrup761.specs.MechanismLaw.{sntrup761_law}
 use Rattle.session_model.specs.Schedule.{agreement_seed}
-use Rattle.duet.specs.Script.{Scripted, script_of}
+use Rattle.scripts.specs.Script.{Scripted, script_of}
 use Rattle.duet.specs.Trace.{played}
 use Rattle.duet.proofs.Following.{follows}
-use Rattle.duet.proofs.ScriptSeeds.{whole_seeds}
+use Rattle.scripts.proofs.ScriptSeeds.{whole_seeds}
 use Rattle.messenger_cli.specs.declared.playing.TheConstants.{SCRIPT_LIMIT}
-use Rattle.duet.specs.declared.script.KemName.{KemName}
-use Rattle.duet.specs.declared.script.KemName.TheVariants.{Open, Sntrup761}
+use Rattle.scripts.specs.declared.script.KemName.{KemName}
+use Rattle.scripts.specs.declared.script.KemName.TheVariants.{Open, Sntrup761}
 use Rattle.messenger_cli.specs.Mechanisms.{mechanism_of}
 use Rattle.dr_ports.specs.Ports.{appended}
 use Rattle.dr_ports.specs.Writing.{TookBeginning}

@@ -3,7 +3,7 @@ use Rattle.std.specs.Prelude.{IsNone, List, [], ℕ, ◌≡◌}
 use Rattle.kem_laws.specs.Open.{open_kem}
 use Rattle.session_model.specs.Schedule.{agreement_seed}
 use Rattle.session_model.specs.declared.answer.Refusal.TheVariants.{NoPair}
-use Rattle.duet.specs.Make.{made_script}
+use Rattle.scripts.specs.Make.{made_script}
 use Rattle.duet.specs.Summary.{summary_lines}
 use Rattle.duet.specs.Tally.{tally_in, tally_of}
 use Rattle.duet.specs.declared.tally.Tally.{Tally}

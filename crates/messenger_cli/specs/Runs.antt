@@ -4,7 +4,7 @@ use Rattle.dr_ports.specs.Ports.{Rose, appended}
 use Rattle.dr_ports.specs.Writing.{TookBeginning}
 use Rattle.session_model.specs.Schedule.{agreement_seed}
 use Rattle.session_model.specs.declared.answer.Refusal.TheVariants.{NoPair}
-use Rattle.duet.specs.Script.{Scripted, script_of}
+use Rattle.scripts.specs.Script.{Scripted, script_of}
 use Rattle.duet.specs.Trace.{IsFairScript, played, trace_of}
 use Rattle.endings.specs.declared.ending.Ending.{Ending}
 use Rattle.endings.specs.declared.ending.Ending.TheVariants.{Done, InputTooLong, BadLine, Refused, ReadFault, NoMemory}

@@ -5,9 +5,10 @@ ghost use Rattle.session_commands.specs.Runs.{Runs};
 ghost use Rattle.messenger_cli.specs.Making.{IsTallyOf, PlaysMade};
 
 use dr_ports::{Failed, NullSink, Sink, write_all};
-use duet::{PlayError, Script, Tally, play, summary_lines};
+use duet::{PlayError, Tally, play, summary_lines};
 use endings::{Ending, Status, finish};
 use kem_laws::OpenKem;
+use scripts::Script;
 use session_model::Refusal;
 use std::alloc::Global;
 

@@ -8,8 +8,9 @@ ghost use Rattle.duet.specs.Trace.{played};
 ghost use Rattle.messenger_cli.specs.Mechanisms.{mechanism_of};
 
 use dr_ports::Sink;
-use duet::{KemName, PlayError, Script, Tally, play};
+use duet::{PlayError, Tally, play};
 use kem_laws::OpenKem;
+use scripts::{KemName, Script};
 use sntrup761::Sntrup761;
 use std::alloc::Global;
 

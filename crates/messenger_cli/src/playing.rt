@@ -5,8 +5,9 @@ ghost use Rattle.messenger_cli.specs.Runs.{IsCutOff, RunsDuet, Works};
 
 use crate::mechanisms::play_named;
 use dr_ports::{Failed, InputError, Sink, Source, read_whole};
-use duet::{PlayError, Script, ScriptError};
+use duet::PlayError;
 use endings::{Ending, Status, finish};
+use scripts::{Script, ScriptError};
 use session_model::Refusal;
 use std::alloc::Global;
 

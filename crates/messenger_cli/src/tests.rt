@@ -1,12 +1,15 @@
 //! Runs of the program, with the lines and the status that each must have.
 
 use crate::{DISK_SIZE, RELAY_DISK_SIZE, Status, run, run_arguments};
+use bad_lines::BAD_LINES;
 use dr_base::Key32;
 use dr_disk::{Disk, SteadyDisk};
 use dr_ports::{
     MemoryDoor, MemoryLink, MemorySink, MemorySource, ReaderSource, Sink, Source, SteadyDraws,
     WriterSink,
 };
+use kept::KEPT;
+use over_sntrup::OVER_SNTRUP;
 use scenarios::{HEAD, SCENARIOS};
 use std::alloc::{AllocError, Global};
 use std::env::Args;
@@ -16,7 +19,10 @@ use std::test::Fail;
 use stops::STOPS;
 use syncs::SYNCS;
 
+mod bad_lines;
 mod commands;
+mod kept;
+mod over_sntrup;
 mod scenarios;
 mod stops;
 mod syncs;
@@ -173,7 +179,15 @@ fn holds(
 fn answers_scripts(rt: HostRuntime) -> Result<(), Fail> {
     let alloc = rt.alloc();
     let mut network = Network::new(alloc, b"", b"")?;
-    for (scenarios, held) in [(SCENARIOS, 39_u32), (STOPS, 30), (SYNCS, 15)] {
+    let tables = [
+        (SCENARIOS, 9_u32),
+        (KEPT, 8),
+        (BAD_LINES, 17),
+        (OVER_SNTRUP, 5),
+        (STOPS, 30),
+        (SYNCS, 15),
+    ];
+    for (scenarios, held) in tables {
         let mut count = 0_u32;
         for scenario in scenarios.split("\n\n") {
             if let Some((title, lines)) = scenario.split_once('\n') {

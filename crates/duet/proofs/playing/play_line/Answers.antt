@@ -5,8 +5,9 @@ use Rattle.dr_ports.specs.Ports.{appended}
 use Rattle.dr_ports.specs.Writing.{Writes}
 use Rattle.dr_ports.proofs.WritingLemmas.{writes_behind, writes_first}
 use Rattle.duet.specs.Held.{DuetNow, shown}
-use Rattle.duet.specs.Replies.{entry_line, reply_line, reply_of, acting_side}
-use Rattle.duet.specs.Seen.{event_of}
+use Rattle.duet.specs.Replies.{entry_line, reply_line, reply_of}
+use Rattle.scripts.specs.Sides.{acting_side}
+use Rattle.scripts.specs.Seen.{event_of}
 use Rattle.duet.proofs.Showing.{shown-entries}
 use Rattle.duet.proofs.playing.play_line.Goals as goal
 

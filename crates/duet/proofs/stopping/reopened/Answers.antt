@@ -1,7 +1,18 @@
 use Rattle.std.proofs.Common.{Ok, Some, ap, refl, sym, ◌∙◌, ◌≡◌}
 use Rattle.std.specs.Prelude.{option_map}
 use Rattle.session_record.specs.Record.{record_read}
+use Rattle.dr_disk.specs.MemoryDisks.{state_of}
+use Rattle.client.proofs.Reopening.{not_refused}
+use Rattle.duet.proofs.StoppedActs.{only_memory}
 use Rattle.duet.proofs.stopping.reopened.Goals as goal
+
+pub want_of_memory-requires : goal.want_of_memory-requires
+want_of_memory-requires g c =
+    let k = g.K.Kem.mechanism in
+    let held = c.requires.holds in
+    let says = not_refused state_of k c.args.disk c.open.new.disk held ((c.record_law.ensures k).reads held.kept held.lawful)
+    c.in-Err.refusal c.in-Err.ensures.unopened in
+    only_memory c.in-Err.refusal says (c.in-Err.ensures.fate c.requires.passes).0
 
 pub returns-in-Ok : goal.returns-in-Ok
 returns-in-Ok g c = λ kept lawful has.

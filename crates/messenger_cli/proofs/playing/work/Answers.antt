@@ -1,5 +1,5 @@
 use Rattle.std.proofs.Common.{inr, rules, ◌≤◌, [], length, arith, refl, sym, ◌∙◌, ap}
-use Rattle.duet.specs.Script.{script_of}
+use Rattle.scripts.specs.Script.{script_of}
 use Rattle.duet.specs.Trace.{played}
 use Rattle.messenger_cli.specs.Mechanisms.{mechanism_of}
 use Rattle.dr_ports.proofs.Told.{appended-none}

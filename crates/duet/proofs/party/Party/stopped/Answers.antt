@@ -1,4 +1,4 @@
-use Rattle.std.proofs.Common.{ap, subst, sym, ◌∙◌}
+use Rattle.std.proofs.Common.{ap, if◌then◌else◌, subst, sym, ◌∙◌}
 use Rattle.dr_disk.specs.MemoryDisks.{state_of}
 use Rattle.dr_disk.specs.declared.memory.MemoryDisk.{MemoryDisk}
 use Rattle.dr_model.specs.Machines.Steps.{settled, step}
@@ -8,8 +8,9 @@ use Rattle.client.specs.Outcomes.{Acts, acknowledged, faulted, refused}
 use Rattle.duet.specs.Acts.{IsChecked, ended_as, made_by}
 use Rattle.duet.specs.declared.acts.Ended.{Ended}
 use Rattle.duet.specs.Parties.{IsHeld}
-use Rattle.duet.specs.Stops.{stopped_step, takes_effect}
-use Rattle.duet.proofs.StoppedActs.{acknowledged_comes, cut_comes, cut_record, cut_within, left_lawful, made_lawful, refused_comes}
+use Rattle.duet.specs.Stops.{stopped_step}
+use Rattle.scripts.specs.Stops.{takes_effect}
+use Rattle.duet.proofs.StoppedActs.{acknowledged_comes, cut_comes, cut_record, cut_undamaged, cut_within, left_lawful, made_lawful, refused_comes}
 use Rattle.duet.proofs.party.Party.stopped.Goals as goal
 
 pub invariant_of-result : goal.invariant_of-result
@@ -58,6 +59,29 @@ reopened-requires-clause-within g c =
     c.stop_after.ensures (subst (λ (e : Ended). Acts state_of made client c.perform.new.client c.stop_after.new.self c.perform.new.disk (ended_as e)) c.in-Faulted.is c.perform.ensures) in
     cut_within c.args.after c.args.mode made client c.perform.new.client disk c.perform.new.disk c.self.invariant
     c.in-Faulted.field-0 cut c.crash.result c.crash.ensures.left
+
+pub reopened-requires-clause-holds : goal.reopened-requires-clause-holds
+reopened-requires-clause-holds g c =
+    let k = g.K.Kem.mechanism in
+    let client = c.self.inside.client in
+    let disk = c.self.inside.disk in
+    let n = c.args.after in
+    let mode = c.args.mode in
+    let made = made_by k client.kept c.args.act in
+    let cut = subst (λ (d : MemoryDisk). Acts state_of made client c.perform.new.client d c.perform.new.disk (faulted c.in-Faulted.field-0))
+    c.stop_after.ensures (subst (λ (e : Ended). Acts state_of made client c.perform.new.client c.stop_after.new.self c.perform.new.disk (ended_as e)) c.in-Faulted.is c.perform.ensures) in
+    let checked = subst (λ (x : Client). IsChecked x c.args.act) (sym c.self.view_is) c.requires in
+    let next = made_lawful k client.kept c.args.act cut.next c.laws.ensures.law c.lawful.ensures checked cut.made_is in
+    record {
+      kept = if takes_effect n mode then cut.next.next else client.kept;
+      lawful = left_lawful k (takes_effect n mode) cut.next.next client.kept next c.lawful.ensures;
+      bytes = c.crash.ensures.left.bytes;
+      told = c.crash.ensures.left.fresh.seen;
+      has = cut_record n mode made client c.perform.new.client disk c.perform.new.disk c.self.invariant c.in-Faulted.field-0 cut
+          c.crash.result c.crash.ensures.told c.crash.ensures.left c.crash.ensures.left.bytes c.crash.ensures.left.fresh.seen;
+      undamaged = cut_undamaged n mode made client c.perform.new.client disk c.perform.new.disk c.self.invariant c.in-Faulted.field-0 cut
+          c.crash.result c.crash.ensures.left;
+    }
 
 pub returns-in-Ok : goal.returns-in-Ok
 returns-in-Ok g c =

@@ -9,9 +9,9 @@ use Rattle.client.specs.Syncing.Moments.{moment}
 use Rattle.client.specs.Syncing.Parties.{client_party}
 use Rattle.client.specs.declared.syncing.faults.SyncFault.{SyncFault}
 use Rattle.sync_model.specs.declared.more.More.{More}
-use Rattle.duet.specs.Deeds.{sync_lines}
+use Rattle.duet.specs.Outcomes.{sync_lines}
 use Rattle.duet.specs.Meetings.{Plays}
-use Rattle.duet.specs.Replies.{side_text}
+use Rattle.scripts.specs.Sides.{side_text}
 use Rattle.duet.proofs.Synced.{broken_lines, ended_lines}
 use Rattle.duet.proofs.party.Party.sync.Goals as goal
 use Rattle.duet.proofs.party.Party.sync.Goals.{in-Ok, in-Err}

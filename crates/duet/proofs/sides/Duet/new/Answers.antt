@@ -4,7 +4,7 @@ use Rattle.relay_core.specs.Boxes.{empty_box}
 use Rattle.relay_link.specs.Connections.{boxes_of}
 use Rattle.relay_link.proofs.Bringing.{same_boxes}
 use Rattle.client.specs.Syncing.Lines.{own_box, peers_box}
-use Rattle.duet.specs.Deeds.{opening_boxes}
+use Rattle.duet.specs.Outcomes.{opening_boxes}
 use Rattle.duet.specs.Held.{opening_client}
 use Rattle.duet.proofs.sides.Duet.new.Goals as goal
 

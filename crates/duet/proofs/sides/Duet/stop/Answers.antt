@@ -7,9 +7,9 @@ use Rattle.session_model.specs.Clients.{dropped_of}
 use Rattle.session_model.specs.declared.answer.Amount.TheVariants.{Exactly}
 use Rattle.dr_model.specs.Machines.Network.{held_at, held_nth}
 use Rattle.duet.specs.Held.{DuetNow, after}
-use Rattle.duet.specs.Lined.{call_event}
-use Rattle.duet.specs.Stops.{stopped}
-use Rattle.duet.specs.declared.script.lined.StoppedCall.{StoppedCall}
+use Rattle.scripts.specs.Lined.{call_event}
+use Rattle.scripts.specs.Stops.{stopped}
+use Rattle.scripts.specs.declared.lined.StoppedCall.{StoppedCall}
 use Rattle.duet.proofs.StoppedSides.{done_side, sent_side, side_event, take_event}
 use Rattle.duet.proofs.sides.Duet.stop.Goals as goal
 

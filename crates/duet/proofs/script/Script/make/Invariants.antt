@@ -1,5 +1,0 @@
-use Rattle.duet.proofs.Making.{IsMaking}
-use Rattle.duet.proofs.script.Script.make.Given as goal
-
-abbrev pub invariant-rounds : goal.invariant-rounds
-invariant-rounds l = IsMaking l.fn.rounds l.fn.number l.round l.made l.text.items l.count

@@ -1,9 +1,0 @@
-use Rattle.std.proofs.Common.{length}
-use Rattle.duet.proofs.Reading.{IsCounting}
-use Rattle.duet.proofs.script.count_lines.Given as goal
-
-abbrev pub invariant-lines : goal.invariant-lines
-invariant-lines l = IsCounting l.initial.text l.rest l.number
-
-abbrev pub decreases-lines : goal.decreases-lines
-decreases-lines l = length l.rest

@@ -1,9 +1,0 @@
-use Rattle.std.proofs.Common.{◌∙◌}
-use Rattle.duet.proofs.Making.{said_is, two_lines}
-use Rattle.duet.proofs.script.make.said_text.Goals as goal
-
-pub returns : goal.returns
-returns c =
-    two_lines _ _ _ _ _ _ _ _ _ _ _ _ _ _ _ c.new-lines.ensures c.side_name.ensures.name c.side_name-2.ensures.name c.from.ensures c.text.ensures.bytes c.text-2.ensures.bytes
-    c.number.ensures.bytes c.text-3.ensures.bytes c.text-4.ensures.bytes c.text-5.ensures.bytes
-    ∙ said_is c.args.side c.args.round

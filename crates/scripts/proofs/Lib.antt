@@ -1,0 +1,11 @@
+pub mod Digits
+pub mod Hex
+pub mod Making
+pub mod PrintedDeeds
+pub mod PrintedLines
+pub mod PrintedParts
+pub mod Reading
+pub mod ScriptLines
+pub mod ScriptSeeds
+pub mod Seeds
+pub mod Splitting

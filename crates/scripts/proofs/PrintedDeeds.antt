@@ -1,0 +1,47 @@
+-- What any printed line is read as.
+use Rattle.std.proofs.Common.{◌≡◌, ℕ, ◌≤◌, List, ◌++◌, Option, Some, None, refl, ◌∙◌, ap, arith}
+use Rattle.std.specs.Prelude.{nat_le, option_map}
+use Rattle.std.specs.Option.{option_and_then, option_or}
+use Rattle.std.proofs.lemmas.Bool.Decides.{nat_tests}
+use Rattle.std.proofs.lemmas.Bool.{cond-true}
+use Rattle.dr_base.specs.declared.position.Side.{Side}
+use Rattle.dr_base.specs.declared.position.Side.TheVariants.{First, Second}
+use Rattle.scripts.specs.Deeds.{Deed, acts, syncs}
+use Rattle.scripts.specs.Printed.{IsReply, IsSayable, event_text, line_text, sync_text}
+use Rattle.scripts.specs.Sides.{side_text}
+use Rattle.scripts.specs.Words.{after_prefix, bytes_words, done_words, event_read, flip_words, if_some_reply, line_read, look_words, lose_words, plain_read, say_words, seed_read, sent_words, side_words, stop_words, sync_read, sync_words, take_words}
+use Rattle.scripts.proofs.PrintedLines.{event_back}
+use Rattle.scripts.proofs.PrintedParts.{number_back}
+
+-- ---- a sync
+
+-- no event's line begins so
+no_event : (side : Side) (lost : Option ℕ) → event_read (side_text side ++ sync_text lost) ≡ None
+unfolding event_read plain_read seed_read side_text sync_text after_prefix side_words say_words take_words flip_words bytes_words sent_words done_words look_words stop_words
+no_event First None = refl
+no_event First (Some lost) = refl
+no_event Second None = refl
+no_event Second (Some lost) = refl
+
+some_reply : (n : ℕ) → 1 ≤ n → if_some_reply n ≡ Some n
+some_reply n some = cond-true (nat_le 1 n) (Some n) None (grind (arith, nat_tests))
+
+words_synced : (lost : Option ℕ) → IsReply lost → sync_words (sync_text lost) ≡ Some lost
+unfolding sync_words sync_text lose_words after_prefix
+words_synced None h = refl
+words_synced (Some lost) h = ap (λ o. option_map Some (option_and_then if_some_reply o)) (number_back lost h.1) ∙ ap (option_map Some) (some_reply lost h.0)
+
+of_sync : (side : Side) (words : List ℕ) (lost : Option ℕ) → sync_words words ≡ Some lost
+    → sync_read (side_text side ++ words) ≡ Some (syncs side lost)
+unfolding sync_read after_prefix side_text
+of_sync First words lost h = ap (λ o. option_or (option_map (syncs First) o) None) h
+of_sync Second words lost h = ap (option_map (syncs Second)) h
+
+-- ---- any line
+
+pub line_back : (deed : Deed) → IsSayable deed → line_read (line_text deed) ≡ Some deed
+unfolding line_read line_text
+line_back (acts event) h = ap (λ o. option_or (option_map acts o) (sync_read (event_text event))) (event_back event h)
+line_back (syncs side lost) h =
+    ap (λ o. option_or (option_map acts o) (sync_read (side_text side ++ sync_text lost))) (no_event side lost)
+    ∙ of_sync side (sync_text lost) lost (words_synced lost h)

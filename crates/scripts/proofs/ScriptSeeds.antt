@@ -1,0 +1,83 @@
+-- The seeds of a script that was read have 32 bytes.
+use Rattle.std.proofs.Common.{◌≡◌, ℕ, suc, List, [], ◌∷◌, Option, Some, None, Result, Ok, Err, subst}
+use Rattle.std.specs.Prelude.{All, IfSome, IfOk, option_map, codes}
+use Rattle.std.specs.Option.{option_and_then, option_or}
+use Rattle.std.proofs.lemmas.List.Elements.{All-cons, All-nil}
+use Rattle.dr_base.specs.declared.position.Side.{Side}
+use Rattle.dr_base.specs.declared.position.Side.TheVariants.{First, Second}
+use Rattle.dr_model.specs.Machines.Events.{Event}
+use Rattle.dr_model.specs.Theorems.Fairness.{IsSeedWhole}
+use Rattle.scripts.specs.Deeds.{Deed, acts, syncs}
+use Rattle.scripts.specs.Script.{deeds_of, kem_read, key_read, keyed, after_kem, lines_of, or_bad, script_of, script_of_lines, scripted, Scripted, with_deed}
+use Rattle.scripts.specs.Deeds.{HasWholeSeed}
+use Rattle.scripts.specs.Words.{after_prefix, event_read, line_read, sync_read, sync_words}
+use Rattle.scripts.specs.declared.script.KemName.{KemName}
+use Rattle.scripts.proofs.Seeds.{whole_event}
+
+-- ---- any line
+
+-- an event's, or a sync's, which gives none
+whole_deed : (event : Option Event) (other : Option Deed) → IfSome event IsSeedWhole → IfSome other HasWholeSeed
+    → IfSome (option_or (option_map acts event) other) HasWholeSeed
+whole_deed None other h i = i
+whole_deed (Some event) other h i = h
+
+whole_syncs : (side : Side) (o : Option (Option ℕ)) → IfSome (option_map (syncs side) o) HasWholeSeed
+whole_syncs side None = tt
+whole_syncs side (Some lost) = tt
+
+both_syncs : (a b : Option Deed) → IfSome a HasWholeSeed → IfSome b HasWholeSeed → IfSome (option_or a b) HasWholeSeed
+both_syncs None b h i = i
+both_syncs (Some deed) b h i = h
+
+whole_sync : (line : List ℕ) → IfSome (sync_read line) HasWholeSeed
+unfolding sync_read
+whole_sync line =
+    both_syncs (option_map (syncs First) (option_and_then sync_words (after_prefix (codes "first ") line))) (option_map (syncs Second) (option_and_then sync_words (after_prefix (codes "second ") line)))
+    (whole_syncs First (option_and_then sync_words (after_prefix (codes "first ") line)))
+    (whole_syncs Second (option_and_then sync_words (after_prefix (codes "second ") line)))
+
+whole_line : (line : List ℕ) → IfSome (line_read line) HasWholeSeed
+unfolding line_read
+whole_line line = whole_deed (event_read line) (sync_read line) (whole_event line) (whole_sync line)
+
+-- ---- a script
+
+whole_with : (deed : Deed) (others : Result (List Deed) ℕ) → HasWholeSeed deed → IfOk others (All HasWholeSeed)
+    → IfOk (with_deed deed others) (All HasWholeSeed)
+whole_with deed (Err bad) h i = tt
+whole_with deed (Ok deeds) h i = All-cons HasWholeSeed deed deeds h i
+
+whole_or_bad : (o : Option Deed) (number : ℕ) (others : Result (List Deed) ℕ) → IfSome o HasWholeSeed → IfOk others (All HasWholeSeed)
+    → IfOk (or_bad o number others) (All HasWholeSeed)
+whole_or_bad None number others h i = tt
+whole_or_bad (Some deed) number others h i = whole_with deed others h i
+
+whole_deeds : (number : ℕ) (lines : List (List ℕ)) → IfOk (deeds_of number lines) (All HasWholeSeed)
+unfolding deeds_of
+whole_deeds number [] = All-nil HasWholeSeed
+whole_deeds number (line ∷ lines) = whole_or_bad (line_read line) number (deeds_of (suc number) lines) (whole_line line) (whole_deeds (suc number) lines)
+
+whole_scripted : (kem : KemName) (key : List ℕ) (deeds : Result (List Deed) ℕ) → IfOk deeds (All HasWholeSeed)
+    → IfOk (scripted kem key deeds) (λ script. All HasWholeSeed script.deeds)
+whole_scripted kem key (Err bad) h = tt
+whole_scripted kem key (Ok deeds) h = h
+
+whole_keyed : (kem : KemName) (key : Option (List ℕ)) (lines : List (List ℕ))
+    → IfOk (keyed kem key lines) (λ script. All HasWholeSeed script.deeds)
+whole_keyed kem None lines = tt
+whole_keyed kem (Some key) lines = whole_scripted kem key (deeds_of 3 lines) (whole_deeds 3 lines)
+
+whole_after : (kem : Option KemName) (lines : List (List ℕ)) → IfOk (after_kem kem lines) (λ script. All HasWholeSeed script.deeds)
+whole_after None lines = tt
+whole_after (Some kem) [] = tt
+whole_after (Some kem) (line ∷ lines) = whole_keyed kem (key_read line) lines
+
+whole_lines : (lines : List (List ℕ)) → IfOk (script_of_lines lines) (λ script. All HasWholeSeed script.deeds)
+whole_lines [] = tt
+whole_lines (line ∷ lines) = whole_after (kem_read line) lines
+
+-- the seeds of a script that was read
+pub whole_seeds : (text : List ℕ) (script : Scripted) → script_of text ≡ Ok script → All HasWholeSeed script.deeds
+unfolding script_of
+whole_seeds text script read = subst (λ r. IfOk r (λ script. All HasWholeSeed script.deeds)) read (whole_lines (lines_of text))

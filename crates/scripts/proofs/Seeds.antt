@@ -1,0 +1,152 @@
+-- The seed that a line gives has 32 bytes.
+use Rattle.std.proofs.Common.{◌≡◌, ℕ, Bool, true, false, List, [], length, Option, Some, None, Result, Ok, Err, refl, ◌∙◌, sym, arith}
+use Rattle.std.specs.Prelude.{IfSome, nat_le, option_map, codes, if◌then◌else◌}
+use Rattle.std.specs.Option.{option_and_then, option_or}
+use Rattle.std.specs.Result.{result_ok}
+use Rattle.hex.specs.Hex.{decode_sized}
+use Rattle.hex.proofs.HexLemmas.{decode_of-ok, decode_sized-ok, decode_sized-twice}
+use Rattle.dr_base.specs.declared.position.Side.{Side}
+use Rattle.dr_base.specs.declared.position.Side.TheVariants.{First, Second}
+use Rattle.dr_model.specs.Machines.Events.{Event, seeds, says, takes, takes_nth, flips, takes_bytes, drops_sent, drops_done, shows_inbox, shows_state, cuts}
+use Rattle.dr_disk.specs.declared.call.Mode.{Mode}
+use Rattle.scripts.specs.Stops.{stopped, takes_effect}
+use Rattle.scripts.specs.Words.{after_prefix, amount_read, bytes_words, call_words, crash_read, done_words, event_read, flip_words, flip_read, halves_of, hex_read, if_call, is_call, is_text, look_words, mode_read, packet_read, plain_read, position_read, say_words, seed_read, sent_words, stop_read, stop_words, take_words, side_words}
+use Rattle.scripts.specs.Number.{number_read}
+use Rattle.dr_model.specs.Theorems.Fairness.{IsSeedWhole}
+
+-- ---- choices
+
+whole_or : (a b : Option Event) → IfSome a IsSeedWhole → IfSome b IsSeedWhole → IfSome (option_or a b) IsSeedWhole
+whole_or None b h i = i
+whole_or (Some event) b h i = h
+
+whole_if : (b : Bool) (x y : Option Event) → IfSome x IsSeedWhole → IfSome y IsSeedWhole → IfSome (if b then x else y) IsSeedWhole
+whole_if true x y h i = h
+whole_if false x y h i = i
+
+whole_map : {A : Type 0} (f : A → Event) (o : Option A) → ((a : A) → IsSeedWhole (f a)) → IfSome (option_map f o) IsSeedWhole
+whole_map f None h = tt
+whole_map f (Some a) h = h a
+
+whole_then : {A : Type 0} (f : A → Option Event) (o : Option A) → ((a : A) → IfSome (f a) IsSeedWhole)
+    → IfSome (option_and_then f o) IsSeedWhole
+whole_then f None h = tt
+whole_then f (Some a) h = h a
+
+-- ---- a seed line
+
+decoded : (digits : List ℕ) (r : Result (List ℕ) _) → decode_sized digits 32 ≡ r → IfSome (result_ok r) (λ bytes. length bytes ≡ 32)
+decoded digits (Err e) h = tt
+decoded digits (Ok bytes) h =
+    let long = decode_sized-ok digits 32 bytes h in
+    let twice = (decode_of-ok digits bytes (sym (decode_sized-twice digits 32 long) ∙ h)) in
+    omega (arith, long, twice.2)
+
+whole_seed : (o : Option (List ℕ)) → IfSome o (λ bytes. length bytes ≡ 32) → IfSome (option_map seeds o) IsSeedWhole
+whole_seed None h = tt
+whole_seed (Some bytes) h = h
+
+found : (o : Option (List ℕ)) → IfSome (option_and_then (λ digits. result_ok (decode_sized digits 32)) o) (λ bytes. length bytes ≡ 32)
+found None = tt
+found (Some digits) = decoded digits (decode_sized digits 32) refl
+
+-- ---- a side's line
+
+whole_say : (side : Side) (words : List ℕ) → IfSome (say_words side words) IsSeedWhole
+unfolding say_words
+whole_say side words =
+    whole_or (option_map (says side) (after_prefix (codes "say ") words)) (if is_text (codes "say") words then Some (says side []) else None)
+    (whole_map (says side) (after_prefix (codes "say ") words) (λ _. tt))
+    (whole_if (is_text (codes "say") words) (Some (says side [])) None tt tt)
+
+whole_packet : (side : Side) (text : List ℕ) → IfSome (packet_read side text) IsSeedWhole
+whole_packet side text =
+    whole_or (option_map (takes_nth side) (option_and_then number_read (after_prefix (codes "#") text))) (option_map (takes side) (position_read text))
+    (whole_map (takes_nth side) (option_and_then number_read (after_prefix (codes "#") text)) (λ _. tt))
+    (whole_map (takes side) (position_read text) (λ _. tt))
+
+whole_take : (side : Side) (words : List ℕ) → IfSome (take_words side words) IsSeedWhole
+unfolding take_words
+whole_take side words = whole_then (packet_read side) (after_prefix (codes "take ") words) (whole_packet side)
+
+whole_flip : (side : Side) (words : List ℕ) → IfSome (flip_words side words) IsSeedWhole
+unfolding flip_words
+whole_flip side words =
+    whole_then (flip_read side) (option_and_then (halves_of 32) (after_prefix (codes "flip ") words))
+    (λ halves. whole_then (λ p. option_map (flips side p) (number_read halves.1)) (position_read halves.0)
+    (λ p. whole_map (flips side p) (number_read halves.1) (λ _. tt)))
+
+whole_bytes : (side : Side) (words : List ℕ) → IfSome (bytes_words side words) IsSeedWhole
+unfolding bytes_words
+whole_bytes side words =
+    whole_or (option_map (takes_bytes side) (option_and_then hex_read (after_prefix (codes "bytes ") words)))
+    (if is_text (codes "bytes") words then Some (takes_bytes side []) else None)
+    (whole_map (takes_bytes side) (option_and_then hex_read (after_prefix (codes "bytes ") words)) (λ _. tt))
+    (whole_if (is_text (codes "bytes") words) (Some (takes_bytes side [])) None tt tt)
+
+whole_sent : (side : Side) (words : List ℕ) → IfSome (sent_words side words) IsSeedWhole
+unfolding sent_words
+whole_sent side words = whole_map (drops_sent side) (option_and_then amount_read (after_prefix (codes "sent ") words)) (λ _. tt)
+
+whole_done : (side : Side) (words : List ℕ) → IfSome (done_words side words) IsSeedWhole
+unfolding done_words
+whole_done side words = whole_map (drops_done side) (option_and_then amount_read (after_prefix (codes "done ") words)) (λ _. tt)
+
+whole_look : (side : Side) (words : List ℕ) → IfSome (look_words side words) IsSeedWhole
+unfolding look_words
+whole_look side words =
+    whole_if (is_text (codes "inbox") words) (Some (shows_inbox side)) (if is_text (codes "state") words then Some (shows_state side) else None) tt
+    (whole_if (is_text (codes "state") words) (Some (shows_state side)) None tt tt)
+
+whole_words : (side : Side) (words : List ℕ) → IfSome (side_words side words) IsSeedWhole
+unfolding side_words
+whole_words side words =
+    let look = whole_look side words in
+    let done = whole_or (done_words side words) (look_words side words) (whole_done side words) look in
+    let sent = whole_or (sent_words side words) (option_or (done_words side words) (look_words side words)) (whole_sent side words) done in
+    let bytes = whole_or (bytes_words side words) (option_or (sent_words side words) (option_or (done_words side words) (look_words side words))) (whole_bytes side words) sent in
+    let flip = whole_or (flip_words side words) (option_or (bytes_words side words) (option_or (sent_words side words) (option_or (done_words side words) (look_words side words)))) (whole_flip side words) bytes in
+    let packet = whole_or (take_words side words) (option_or (flip_words side words) (option_or (bytes_words side words) (option_or (sent_words side words) (option_or (done_words side words) (look_words side words))))) (whole_take side words) flip in
+    whole_or (say_words side words) (option_or (take_words side words) (option_or (flip_words side words) (option_or (bytes_words side words) (option_or (sent_words side words) (option_or (done_words side words) (look_words side words)))))) (whole_say side words) packet
+
+whole_plain : (line : List ℕ) → IfSome (plain_read line) IsSeedWhole
+unfolding plain_read seed_read
+whole_plain line =
+    whole_or (seed_read line) (option_or (option_and_then (side_words First) (after_prefix (codes "first ") line)) (option_and_then (side_words Second) (after_prefix (codes "second ") line)))
+    (whole_seed (option_and_then (λ digits. result_ok (decode_sized digits 32)) (after_prefix (codes "seed ") line)) (found (after_prefix (codes "seed ") line)))
+    (whole_or (option_and_then (side_words First) (after_prefix (codes "first ") line)) (option_and_then (side_words Second) (after_prefix (codes "second ") line))
+    (whole_then (side_words First) (after_prefix (codes "first ") line) (whole_words First))
+    (whole_then (side_words Second) (after_prefix (codes "second ") line) (whole_words Second)))
+
+-- ---- a stop
+
+whole_call : (o : Option Event) → IfSome o IsSeedWhole → IfSome (option_and_then if_call o) IsSeedWhole
+whole_call None h = tt
+whole_call (Some event) h = whole_if (is_call event) (Some event) None h tt
+
+whole_stopped : (n : ℕ) (mode : Mode) (o : Option Event) → IfSome o IsSeedWhole → IfSome (option_map (stopped n mode) o) IsSeedWhole
+unfolding stopped
+whole_stopped n mode None h = tt
+whole_stopped n mode (Some event) h = by_count (nat_le 8 n)
+  where
+    by_count : (b : Bool) → IsSeedWhole (if b then event else cuts (takes_effect n mode) event)
+    by_count true = h
+    by_count false = h
+
+whole_stop : (side : Side) (words : List ℕ) → IfSome (stop_words side words) IsSeedWhole
+unfolding stop_words call_words
+whole_stop side words =
+    whole_then (stop_read side) (option_and_then (halves_of 32) (after_prefix (codes "stop ") words))
+    (λ halves. whole_then (λ n. option_and_then (crash_read side n) (halves_of 32 halves.1)) (number_read halves.0)
+    (λ n. whole_then (crash_read side n) (halves_of 32 halves.1)
+    (λ rest. whole_then (λ mode. option_map (stopped n mode) (call_words side rest.1)) (mode_read rest.0)
+    (λ mode. whole_stopped n mode (call_words side rest.1) (whole_call (side_words side rest.1) (whole_words side rest.1))))))
+
+pub whole_event : (line : List ℕ) → IfSome (event_read line) IsSeedWhole
+unfolding event_read
+whole_event line =
+    whole_or (plain_read line) (option_or (option_and_then (stop_words First) (after_prefix (codes "first ") line)) (option_and_then (stop_words Second) (after_prefix (codes "second ") line)))
+    (whole_plain line)
+    (whole_or (option_and_then (stop_words First) (after_prefix (codes "first ") line)) (option_and_then (stop_words Second) (after_prefix (codes "second ") line))
+    (whole_then (stop_words First) (after_prefix (codes "first ") line) (whole_stop First))
+    (whole_then (stop_words Second) (after_prefix (codes "second ") line) (whole_stop Second)))

@@ -1,0 +1,12 @@
+pub mod Deeds
+pub mod Faults
+pub mod Lined
+pub mod Make
+pub mod Number
+pub mod Printed
+pub mod Script
+pub mod ScriptCodes
+pub mod Seen
+pub mod Sides
+pub mod Stops
+pub mod Words

@@ -1,0 +1,87 @@
+-- The lines of a script, printed: the deeds that a line can say, and one line that says each.
+use Rattle.std.specs.Prelude.{⊤, Bool, false, true, ℕ, ◌^◌, ◌<◌, ◌≤◌, ◌≡◌, List, [], ◌++◌, length, codes, decimal, flat_map, Option, Some, None}
+use Rattle.hex.specs.Hex.{IsBytes, encode_lower}
+use Rattle.dr_base.specs.declared.position.Position.{Position}
+use Rattle.session_model.specs.declared.answer.Amount.{Amount}
+use Rattle.session_model.specs.declared.answer.Amount.TheVariants.{All, Exactly}
+use Rattle.dr_model.specs.Machines.Events.{Event, seeds, says, takes, takes_nth, flips, takes_bytes, drops_sent, drops_done, shows_inbox, shows_state, cuts}
+use Rattle.answer_lines.specs.Answers.{position_text}
+use Rattle.scripts.specs.Deeds.{Deed, acts, syncs}
+use Rattle.scripts.specs.Sides.{acting_side, side_text}
+use Rattle.scripts.specs.Words.{is_call}
+
+-- `all`, or a number
+unfoldable pub amount_text : Amount → List ℕ
+amount_text All = codes "all"
+amount_text (Exactly n) = decimal n
+
+-- a stop behind the sync of the new record's gate, or before the first write
+unfoldable pub cut_text : Bool → List ℕ
+cut_text true = codes "stop 4 old "
+cut_text false = codes "stop 0 old "
+
+-- what a side does
+unfoldable pub words_text : Event → List ℕ
+words_text (seeds seed) = []
+words_text (says side text) = codes "say " ++ text
+words_text (takes side p) = codes "take " ++ position_text p
+words_text (takes_nth side nth) = codes "take #" ++ decimal nth
+words_text (flips side p bit) = codes "flip " ++ position_text p ++ codes " " ++ decimal bit
+words_text (takes_bytes side bytes) = codes "bytes " ++ encode_lower bytes
+words_text (drops_sent side amount) = codes "sent " ++ amount_text amount
+words_text (drops_done side amount) = codes "done " ++ amount_text amount
+words_text (shows_inbox side) = codes "inbox"
+words_text (shows_state side) = codes "state"
+words_text (cuts took event) = cut_text took ++ words_text event
+
+-- the line that says an event: a seed is no side's
+unfoldable pub event_text : Event → List ℕ
+event_text (seeds seed) = codes "seed " ++ encode_lower seed
+event_text event = side_text (acting_side event) ++ words_text event
+
+-- a sync, or one that loses a reply
+unfoldable pub sync_text : Option ℕ → List ℕ
+sync_text None = codes "sync"
+sync_text (Some lost) = codes "lose " ++ decimal lost
+
+-- the line that says a deed
+unfoldable pub line_text : Deed → List ℕ
+line_text (acts event) = event_text event
+line_text (syncs side lost) = side_text side ++ sync_text lost
+
+-- numbers below 2^32
+abbrev pub IsNumbered : Position → Type 0
+IsNumbered p = (p.epoch < 2 ^ 32) × (p.index < 2 ^ 32)
+
+abbrev pub IsAmount : Amount → Type 0
+IsAmount All = ⊤
+IsAmount (Exactly n) = n < 2 ^ 32
+
+-- an event that a line can say: its numbers are below 2^32, a seed has 32 bytes, and given bytes are at most 4,000; what is
+-- cut off is a call that may be stopped
+abbrev pub IsSayableEvent : Event → Type 0
+IsSayableEvent (seeds seed) = (length seed ≡ 32) × IsBytes seed
+IsSayableEvent (says side text) = ⊤
+IsSayableEvent (takes side p) = IsNumbered p
+IsSayableEvent (takes_nth side nth) = nth < 2 ^ 32
+IsSayableEvent (flips side p bit) = IsNumbered p × (bit < 2 ^ 32)
+IsSayableEvent (takes_bytes side bytes) = (length bytes ≤ 4000) × IsBytes bytes
+IsSayableEvent (drops_sent side amount) = IsAmount amount
+IsSayableEvent (drops_done side amount) = IsAmount amount
+IsSayableEvent (shows_inbox side) = ⊤
+IsSayableEvent (shows_state side) = ⊤
+IsSayableEvent (cuts took event) = (is_call event ≡ true) × IsSayableEvent event
+
+-- a lost reply has a number from 1, below 2^32 too
+abbrev pub IsReply : Option ℕ → Type 0
+IsReply None = ⊤
+IsReply (Some lost) = (1 ≤ lost) × (lost < 2 ^ 32)
+
+-- a deed that a line can say
+abbrev pub IsSayable : Deed → Type 0
+IsSayable (acts event) = IsSayableEvent event
+IsSayable (syncs side lost) = IsReply lost
+
+-- deeds in lines
+abbrev pub script_text : List Deed → List ℕ
+script_text deeds = flat_map (λ deed. line_text deed ++ codes "\n") deeds

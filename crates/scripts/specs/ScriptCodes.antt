@@ -1,0 +1,50 @@
+-- How a script is stored, so that a type of code may stand for it.
+use Rattle.std.specs.Prelude.{Bool, List, Option, false, refl, true, ℕ, ◌≡◌, ◌⊎◌}
+use Rattle.std.proofs.Common.{inl, inr}
+use Rattle.std.specs.Coded.{Coded, code_by, coded_bool, coded_list, coded_option, coded_ℕ, coded×, coded⊎}
+use Rattle.dr_base.specs.declared.position.Side.{Side}
+use Rattle.dr_model.specs.Machines.EventCodes.{event_code, side_code}
+use Rattle.dr_model.specs.Machines.Events.{Event}
+use Rattle.scripts.specs.Deeds.{Deed, acts, syncs}
+use Rattle.scripts.specs.Script.{Scripted}
+use Rattle.scripts.specs.declared.script.KemName.{KemName}
+use Rattle.scripts.specs.declared.script.KemName.TheVariants.{Open, Sntrup761}
+
+-- ---- a deed
+
+abbrev stored : Deed → Event ⊎ (Side × Option ℕ)
+stored (acts event) = inl event
+stored (syncs side lost) = inr (side, lost)
+
+abbrev deed_by : Event ⊎ (Side × Option ℕ) → Deed
+deed_by (inl event) = acts event
+deed_by (inr sync) = syncs sync.0 sync.1
+
+pub same_deed : (deed : Deed) → deed_by (stored deed) ≡ deed
+same_deed (acts event) = refl
+same_deed (syncs side lost) = refl
+
+abbrev pub deed_code : Coded Deed
+deed_code = code_by (Event ⊎ (Side × Option ℕ)) (coded⊎ event_code (coded× side_code (coded_option coded_ℕ))) stored deed_by same_deed
+
+-- ---- a script
+
+abbrev is_open : KemName → Bool
+is_open Open = true
+is_open Sntrup761 = false
+
+abbrev kem_by : Bool → KemName
+kem_by true = Open
+kem_by false = Sntrup761
+
+pub same_kem : (kem : KemName) → kem_by (is_open kem) ≡ kem
+same_kem Open = refl
+same_kem Sntrup761 = refl
+
+abbrev pub kem_code : Coded KemName
+kem_code = code_by Bool coded_bool is_open kem_by same_kem
+
+abbrev pub script_code : Coded Scripted
+script_code =
+    code_by (KemName × (List ℕ × (List Deed × ℕ))) (coded× kem_code (coded× (coded_list coded_ℕ) (coded× (coded_list deed_code) coded_ℕ)))
+    (λ s. (s.kem, (s.key, (s.deeds, s.rounds)))) (λ e. record { kem = e.0; key = e.1.0; deeds = e.1.1.0; rounds = e.1.1.1 }) (λ _. refl)

@@ -1,0 +1,174 @@
+-- What a line of a script says.
+use Rattle.std.specs.Prelude.{ℕ, ◌+◌, ◌/◌, ◌==◌, Bool, true, false, nat_le, List, [], length, take, drop, nat_eq, position, slice_index, Option, Some, None, option_map, codes, if◌then◌else◌}
+use Rattle.std.specs.List.{starts_with}
+use Rattle.std.specs.Cmp.Lexicographic.{pointwise}
+use Rattle.std.specs.Option.{option_and_then, option_or}
+use Rattle.std.specs.Result.{result_ok}
+use Rattle.hex.specs.Hex.{decode_sized}
+use Rattle.dr_disk.specs.declared.call.Mode.{Mode}
+use Rattle.dr_disk.specs.declared.call.Mode.TheVariants.{Fill, New, Old}
+use Rattle.dr_base.specs.declared.position.Position.{Position}
+use Rattle.dr_base.specs.declared.position.Side.{Side}
+use Rattle.dr_base.specs.declared.position.Side.TheVariants.{First, Second}
+use Rattle.session_model.specs.declared.answer.Amount.{Amount}
+use Rattle.session_model.specs.declared.answer.Amount.TheVariants.{All, Exactly}
+use Rattle.dr_model.specs.Machines.Events.{Event, seeds, says, takes, takes_nth, flips, takes_bytes, drops_sent, drops_done, shows_inbox, shows_state}
+use Rattle.scripts.specs.Deeds.{Deed, acts, syncs}
+use Rattle.scripts.specs.Number.{number_read}
+use Rattle.scripts.specs.Stops.{stopped}
+
+-- what follows a prefix
+unfoldable pub after_prefix : List ℕ → List ℕ → Option (List ℕ)
+after_prefix prefix line = if starts_with nat_eq line prefix then Some (drop (length prefix) line) else None
+
+-- the line is this text
+abbrev pub is_text : List ℕ → List ℕ → Bool
+is_text text line = pointwise nat_eq line text
+
+-- the text before the first byte of this kind, and the text behind it
+unfoldable pub halves_of : ℕ → List ℕ → Option (List ℕ × List ℕ)
+halves_of mark text = option_map (λ at. (take at text, drop (at + 1) text)) (position (λ byte. byte == mark) text)
+
+-- `all`, or a number
+unfoldable pub amount_read : List ℕ → Option Amount
+amount_read text = if is_text (codes "all") text then Some All else option_map Exactly (number_read text)
+
+-- two numbers, an epoch and an index
+abbrev pub numbers_read : List ℕ × List ℕ → Option Position
+numbers_read halves = option_and_then (λ epoch. option_map (λ index. record { epoch = epoch; index = index }) (number_read halves.1)) (number_read halves.0)
+
+-- an epoch, a point and an index
+unfoldable pub position_read : List ℕ → Option Position
+position_read text = option_and_then numbers_read (halves_of 46 text)
+
+-- bytes in hex, at most 4,000
+unfoldable pub hex_read : List ℕ → Option (List ℕ)
+hex_read text = if nat_le (length text) 8000 then result_ok (decode_sized text (length text / 2)) else None
+
+-- `seed` and 64 hex digits
+unfoldable pub seed_read : List ℕ → Option Event
+seed_read line = option_map seeds (option_and_then (λ digits. result_ok (decode_sized digits 32)) (after_prefix (codes "seed ") line))
+
+-- `say`, a space and a text; an empty text may lack the space
+unfoldable pub say_words : Side → List ℕ → Option Event
+say_words side words =
+    option_or (option_map (says side) (after_prefix (codes "say ") words))
+    (if is_text (codes "say") words then Some (says side []) else None)
+
+-- `#` and a number, or a position
+abbrev pub packet_read : Side → List ℕ → Option Event
+packet_read side text =
+    option_or (option_map (takes_nth side) (option_and_then number_read (after_prefix (codes "#") text)))
+    (option_map (takes side) (position_read text))
+
+-- `take` and a packet
+unfoldable pub take_words : Side → List ℕ → Option Event
+take_words side words = option_and_then (packet_read side) (after_prefix (codes "take ") words)
+
+-- a position, a space, and the number of a bit
+abbrev pub flip_read : Side → List ℕ × List ℕ → Option Event
+flip_read side halves = option_and_then (λ p. option_map (flips side p) (number_read halves.1)) (position_read halves.0)
+
+-- `flip`, a position, and the number of a bit
+unfoldable pub flip_words : Side → List ℕ → Option Event
+flip_words side words = option_and_then (flip_read side) (option_and_then (halves_of 32) (after_prefix (codes "flip ") words))
+
+-- `bytes`, a space and bytes in hex; none may lack the space
+unfoldable pub bytes_words : Side → List ℕ → Option Event
+bytes_words side words =
+    option_or (option_map (takes_bytes side) (option_and_then hex_read (after_prefix (codes "bytes ") words)))
+    (if is_text (codes "bytes") words then Some (takes_bytes side []) else None)
+
+-- `sent` and an amount
+unfoldable pub sent_words : Side → List ℕ → Option Event
+sent_words side words = option_map (drops_sent side) (option_and_then amount_read (after_prefix (codes "sent ") words))
+
+-- `done` and an amount
+unfoldable pub done_words : Side → List ℕ → Option Event
+done_words side words = option_map (drops_done side) (option_and_then amount_read (after_prefix (codes "done ") words))
+
+-- `inbox` or `state`
+unfoldable pub look_words : Side → List ℕ → Option Event
+look_words side words =
+    if is_text (codes "inbox") words then Some (shows_inbox side)
+    else (if is_text (codes "state") words then Some (shows_state side) else None)
+
+-- what stands behind a side
+unfoldable pub side_words : Side → List ℕ → Option Event
+side_words side words =
+    option_or (say_words side words) (option_or (take_words side words) (option_or (flip_words side words) (option_or (bytes_words side words)
+    (option_or (sent_words side words) (option_or (done_words side words) (look_words side words))))))
+
+-- what a line says without a stop
+unfoldable pub plain_read : List ℕ → Option Event
+plain_read line =
+    option_or (seed_read line) (option_or (option_and_then (side_words First) (after_prefix (codes "first ") line))
+    (option_and_then (side_words Second) (after_prefix (codes "second ") line)))
+
+-- ---- a stop
+
+-- `old`, `new`, or a byte in two hex digits
+unfoldable pub mode_read : List ℕ → Option Mode
+mode_read text =
+    if is_text (codes "old") text then Some Old
+    else (if is_text (codes "new") text then Some New
+    else option_map (λ bytes. Fill (slice_index bytes 0)) (result_ok (decode_sized text 1)))
+
+-- what a stop may cut off: a text, a packet as the network holds it, or a number of items
+abbrev pub is_call : Event → Bool
+is_call (says side text) = true
+is_call (takes side p) = true
+is_call (takes_nth side nth) = true
+is_call (drops_sent side (Exactly n)) = true
+is_call (drops_done side (Exactly n)) = true
+is_call _ = false
+
+abbrev pub if_call : Event → Option Event
+if_call event = if is_call event then Some event else None
+
+unfoldable pub call_words : Side → List ℕ → Option Event
+call_words side words = option_and_then if_call (side_words side words)
+
+-- a mode, a space and a call
+abbrev pub crash_read : Side → ℕ → List ℕ × List ℕ → Option Event
+crash_read side n halves = option_and_then (λ mode. option_map (stopped n mode) (call_words side halves.1)) (mode_read halves.0)
+
+-- a number, a space, and the rest
+abbrev pub stop_read : Side → List ℕ × List ℕ → Option Event
+stop_read side halves = option_and_then (λ n. option_and_then (crash_read side n) (halves_of 32 halves.1)) (number_read halves.0)
+
+-- `stop`, how many writes and syncs pass, the mode of the crash, and the call that it cuts off
+unfoldable pub stop_words : Side → List ℕ → Option Event
+stop_words side words = option_and_then (stop_read side) (option_and_then (halves_of 32) (after_prefix (codes "stop ") words))
+
+-- the event that a line says
+unfoldable pub event_read : List ℕ → Option Event
+event_read line =
+    option_or (plain_read line) (option_or (option_and_then (stop_words First) (after_prefix (codes "first ") line))
+    (option_and_then (stop_words Second) (after_prefix (codes "second ") line)))
+
+-- ---- a sync
+
+-- replies are counted from 1
+abbrev pub if_some_reply : ℕ → Option ℕ
+if_some_reply n = if nat_le 1 n then Some n else None
+
+-- `lose`, and the number of the reply that is lost
+unfoldable pub lose_words : List ℕ → Option ℕ
+lose_words words = option_and_then if_some_reply (option_and_then number_read (after_prefix (codes "lose ") words))
+
+-- `sync`, or a sync that loses a reply
+unfoldable pub sync_words : List ℕ → Option (Option ℕ)
+sync_words words = if is_text (codes "sync") words then Some None else option_map Some (lose_words words)
+
+-- the sync that a line says
+unfoldable pub sync_read : List ℕ → Option Deed
+sync_read line =
+    option_or (option_map (syncs First) (option_and_then sync_words (after_prefix (codes "first ") line)))
+    (option_map (syncs Second) (option_and_then sync_words (after_prefix (codes "second ") line)))
+
+-- ---- any line
+
+-- what a line says; every other line is bad
+unfoldable pub line_read : List ℕ → Option Deed
+line_read line = option_or (option_map acts (event_read line)) (sync_read line)

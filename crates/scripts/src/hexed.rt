@@ -1,0 +1,27 @@
+//! Bytes that a line writes in hex.
+
+ghost use Rattle.std.specs.Prelude.{◌≡◌};
+ghost use Rattle.scripts.specs.Seen.{bytes_of_hex};
+
+use arrayvec::ArrayVec;
+use hex::decode_to_slice;
+
+/// The most hex digits of a line.
+pub const DIGIT_LIMIT: usize = 8000;
+
+/// The bytes of these digits, none where they aren't at most 4,000 bytes in hex.
+#[tactic(auto, unfolding(crate::specs::Words::hex_read))]
+pub fn hex_bytes(digits: &[u8]) -> ArrayVec<u8, 4000>
+    ensures { result.items ≡ bytes_of_hex digits.now }
+{
+    let mut bytes = ArrayVec::new();
+    if digits.len() > DIGIT_LIMIT {
+        return bytes;
+    }
+    let size = digits.len() / 2;
+    let mut room = [0; 4000];
+    if decode_to_slice(digits, &mut room[..size]).is_ok() {
+        bytes.try_extend_from_slice(&room[..size]).unwrap();
+    }
+    bytes
+}

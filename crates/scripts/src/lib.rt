@@ -1,0 +1,23 @@
+//! Scripts of a conversation: what their lines say, read from a text, or made from a number.
+#![tactic(auto)]
+
+pub use hexed::hex_bytes;
+pub use laws::lines_print_back;
+pub use line::Line;
+pub use lined::{Lined, Stop, StoppedCall};
+pub use lines::Lines;
+pub use script::{KemName, Script, ScriptError};
+pub use sides::{side_name, side_prefix};
+
+mod hexed;
+mod laws;
+mod line;
+mod lined;
+mod lines;
+mod make;
+mod number;
+mod script;
+mod sides;
+mod split;
+mod syncing;
+mod words;

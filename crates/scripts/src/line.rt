@@ -1,0 +1,118 @@
+//! The lines of a script behind its key.
+
+ghost use Rattle.std.specs.Prelude.{◌≡◌, option_map};
+ghost use Rattle.scripts.specs.Sides.{acting_side};
+ghost use Rattle.scripts.specs.Words.{plain_read, seed_read, side_words};
+ghost use Rattle.scripts.specs.Seen.{event_of};
+
+use crate::split::after_prefix;
+use crate::words::{
+    parse_bytes, parse_done, parse_flip, parse_look, parse_say, parse_sent, parse_take,
+};
+use dr_base::{Position, Side};
+use hex::FromHex;
+use session_model::Amount;
+
+/// What one line says that stops no disk.
+#[derive(Clone, Copy, Debug, PartialEq, Eq)]
+pub enum Line<'a> {
+    /// The next draw is this seed.
+    Seed([u8; 32]),
+    /// A side says this text.
+    Say(Side, &'a [u8]),
+    /// A side takes the packet of this position.
+    Take(Side, Position),
+    /// A side takes the packet that the other side made, counted from 1.
+    TakeNth(Side, u32),
+    /// A side takes the packet of the position, with the bit of the number changed.
+    Flip(Side, Position, u32),
+    /// A side takes the bytes that these hex digits say.
+    Bytes(Side, &'a [u8]),
+    /// So many of the oldest packets leave a side's outbox.
+    Sent(Side, Amount),
+    /// So many of the oldest texts leave a side's inbox.
+    Done(Side, Amount),
+    /// A side shows its inbox.
+    Inbox(Side),
+    /// A side shows what it holds, in numbers.
+    State(Side),
+}
+
+impl<'a> Line<'a> {
+    /// Reads a line: a seed, or a side, a space, and what it does.
+    #[tactic(auto, unfolding(crate::specs::Words::plain_read))]
+    pub fn parse(line: &'a [u8]) -> Option<Self>
+        ensures { option_map event_of result ≡ plain_read line.entry.now }
+    {
+        if let Some(found) = parse_seed(line) {
+            return Some(found);
+        }
+        if let Some(words) = after_prefix(line, b"first ") {
+            if let Some(found) = parse_words(Side::First, words) {
+                return Some(found);
+            }
+        }
+        match after_prefix(line, b"second ") {
+            Some(words) => parse_words(Side::Second, words),
+            None => None,
+        }
+    }
+
+    /// The side whose event it is; a seed is no side's, and counts as First's.
+    pub fn side(&self) -> Side
+        ensures { result ≡ acting_side (event_of self.now) }
+    {
+        match self {
+            Line::Seed(_) => Side::First,
+            Line::Say(side, _) => *side,
+            Line::Take(side, _) => *side,
+            Line::TakeNth(side, _) => *side,
+            Line::Flip(side, _, _) => *side,
+            Line::Bytes(side, _) => *side,
+            Line::Sent(side, _) => *side,
+            Line::Done(side, _) => *side,
+            Line::Inbox(side) => *side,
+            Line::State(side) => *side,
+        }
+    }
+}
+
+/// Reads `seed` and 64 hex digits of either case.
+#[tactic(auto, unfolding(crate::specs::Words::seed_read))]
+fn parse_seed(line: &[u8]) -> Option<Line<'_>>
+    ensures { option_map event_of result ≡ seed_read line.entry.now }
+{
+    match after_prefix(line, b"seed ") {
+        Some(digits) => match <[u8; 32] as FromHex>::from_hex(digits) {
+            Ok(seed) => Some(Line::Seed(seed)),
+            Err(_) => None,
+        },
+        None => None,
+    }
+}
+
+/// Reads what stands behind a side.
+#[tactic(auto, unfolding(crate::specs::Words::side_words))]
+pub fn parse_words(side: Side, words: &[u8]) -> Option<Line<'_>>
+    ensures { option_map event_of result ≡ side_words side words.entry.now }
+{
+    if let Some(found) = parse_say(side, words) {
+        return Some(found);
+    }
+    if let Some(found) = parse_take(side, words) {
+        return Some(found);
+    }
+    if let Some(found) = parse_flip(side, words) {
+        return Some(found);
+    }
+    if let Some(found) = parse_bytes(side, words) {
+        return Some(found);
+    }
+    if let Some(found) = parse_sent(side, words) {
+        return Some(found);
+    }
+    if let Some(found) = parse_done(side, words) {
+        return Some(found);
+    }
+    parse_look(side, words)
+}

@@ -1,0 +1,175 @@
+//! Lines of a script, which may stop the disk of their side, or sync it.
+
+ghost use Rattle.std.specs.Prelude.{◌≡◌, option_map};
+ghost use Rattle.scripts.specs.Lined.{call_event, lined_deed, stop_event};
+ghost use Rattle.scripts.specs.Deeds.{acts};
+ghost use Rattle.scripts.specs.Sides.{deed_side};
+ghost use Rattle.scripts.specs.Sides.{acting_side};
+ghost use Rattle.scripts.specs.Seen.{event_of};
+ghost use Rattle.scripts.specs.Words.{call_words, event_read, if_call, line_read, mode_read, stop_words};
+
+use crate::line::{Line, parse_words};
+use crate::number::number;
+use crate::split::{after_prefix, cut_at};
+use crate::syncing::parse_sync;
+use dr_base::{Position, Side};
+use dr_disk::Mode;
+use hex::FromHex;
+use session_model::Amount;
+
+/// What one line says.
+#[derive(Clone, Copy)]
+pub enum Lined<'a> {
+    /// This, and no disk stops.
+    Plain(Line<'a>),
+    /// The disk of the side stops in a call.
+    Stopping(Stop<'a>),
+    /// The side syncs with the relay. The reply to the request of this number, from 1, is lost, and the link fails there.
+    Syncing(Side, Option<u32>),
+}
+
+/// A call in which the disk of its side stops.
+#[derive(Clone, Copy)]
+pub struct Stop<'a> {
+    /// So many writes and syncs of the call pass.
+    pub after: u32,
+    /// How the disk crashes then.
+    pub mode: Mode,
+    pub call: StoppedCall<'a>,
+}
+
+/// A call in which a disk may stop.
+#[derive(Clone, Copy)]
+pub enum StoppedCall<'a> {
+    /// A side says this text.
+    Say(Side, &'a [u8]),
+    /// A side takes the packet of this position.
+    Take(Side, Position),
+    /// A side takes the packet that the other side made, counted from 1.
+    TakeNth(Side, u32),
+    /// So many of the oldest packets leave a side's outbox.
+    Sent(Side, u32),
+    /// So many of the oldest texts leave a side's inbox.
+    Done(Side, u32),
+}
+
+impl<'a> Lined<'a> {
+    /// Reads a line.
+    #[tactic(auto, unfolding(crate::specs::Words::line_read))]
+    pub fn parse(line: &'a [u8]) -> Option<Self>
+        ensures { option_map lined_deed result ≡ line_read line.entry.now }
+    {
+        if let Some(found) = Self::parse_event(line) {
+            return Some(found);
+        }
+        match parse_sync(line) {
+            Some((side, lost)) => Some(Lined::Syncing(side, lost)),
+            None => None,
+        }
+    }
+
+    /// Reads a line that says an event.
+    #[tactic(auto, unfolding(crate::specs::Words::event_read))]
+    fn parse_event(line: &'a [u8]) -> Option<Self>
+        ensures { option_map lined_deed result ≡ option_map acts (event_read line.entry.now) }
+    {
+        if let Some(found) = Line::parse(line) {
+            return Some(Lined::Plain(found));
+        }
+        if let Some(words) = after_prefix(line, b"first ") {
+            if let Some(found) = parse_stop(Side::First, words) {
+                return Some(Lined::Stopping(found));
+            }
+        }
+        match after_prefix(line, b"second ") {
+            Some(words) => match parse_stop(Side::Second, words) {
+                Some(found) => Some(Lined::Stopping(found)),
+                None => None,
+            },
+            None => None,
+        }
+    }
+
+    /// The side whose deed it is; a seed is no side's, and counts as First's.
+    pub fn side(&self) -> Side
+        ensures { result ≡ deed_side (lined_deed self.now) }
+    {
+        match self {
+            Lined::Plain(line) => line.side(),
+            Lined::Stopping(stop) => stop.side(),
+            Lined::Syncing(side, _) => *side,
+        }
+    }
+}
+
+impl<'a> Stop<'a> {
+    /// The side whose disk stops.
+    #[tactic(auto, unfolding(crate::specs::Stops::stopped))]
+    pub fn side(&self) -> Side
+        ensures { result ≡ acting_side (stop_event self.now) }
+    {
+        match self.call {
+            StoppedCall::Say(side, _) => side,
+            StoppedCall::Take(side, _) => side,
+            StoppedCall::TakeNth(side, _) => side,
+            StoppedCall::Sent(side, _) => side,
+            StoppedCall::Done(side, _) => side,
+        }
+    }
+}
+
+/// Reads `old`, `new`, or a byte in two hex digits of either case.
+#[tactic(auto, unfolding(crate::specs::Words::mode_read))]
+fn parse_mode(text: &[u8]) -> Option<Mode>
+    ensures { result ≡ mode_read text.now }
+{
+    if text == b"old".as_slice() {
+        return Some(Mode::Old);
+    }
+    if text == b"new".as_slice() {
+        return Some(Mode::New);
+    }
+    match <[u8; 1] as FromHex>::from_hex(text) {
+        Ok(bytes) => Some(Mode::Fill(bytes[0])),
+        Err(_) => None,
+    }
+}
+
+/// The call that a line says, if a disk may stop in it.
+fn call_in(line: Line<'_>) -> Option<StoppedCall<'_>>
+    ensures { option_map call_event result ≡ if_call (event_of line.entry) }
+{
+    match line {
+        Line::Say(side, text) => Some(StoppedCall::Say(side, text)),
+        Line::Take(side, position) => Some(StoppedCall::Take(side, position)),
+        Line::TakeNth(side, nth) => Some(StoppedCall::TakeNth(side, nth)),
+        Line::Sent(side, Amount::Exactly(n)) => Some(StoppedCall::Sent(side, n)),
+        Line::Done(side, Amount::Exactly(n)) => Some(StoppedCall::Done(side, n)),
+        _ => None,
+    }
+}
+
+/// Reads a call in which a disk may stop.
+#[tactic(auto, unfolding(crate::specs::Words::call_words))]
+fn parse_call(side: Side, words: &[u8]) -> Option<StoppedCall<'_>>
+    ensures { option_map call_event result ≡ call_words side words.entry.now }
+{
+    match parse_words(side, words) {
+        Some(line) => call_in(line),
+        None => None,
+    }
+}
+
+/// Reads `stop`, how many writes and syncs pass, the mode of the crash, and the call that it cuts off.
+#[tactic(auto, unfolding(crate::specs::Words::stop_words))]
+fn parse_stop(side: Side, words: &[u8]) -> Option<Stop<'_>>
+    ensures { option_map stop_event result ≡ stop_words side words.entry.now }
+{
+    let text = after_prefix(words, b"stop ")?;
+    let (after, rest) = cut_at(text, b' ')?;
+    let after = number(after)?;
+    let (mode, call) = cut_at(rest, b' ')?;
+    let mode = parse_mode(mode)?;
+    let call = parse_call(side, call)?;
+    Some(Stop { after, mode, call })
+}

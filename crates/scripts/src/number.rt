@@ -1,0 +1,38 @@
+//! Numbers as scripts write them: decimal digits without a sign or a leading zero, below 2^32.
+
+ghost use Rattle.std.specs.Prelude.{◌≡◌, ℕ};
+ghost use Rattle.scripts.specs.Number.{is_unpadded, number_read};
+
+/// Whether the text has at least one byte, and no zero before another.
+fn is_unpadded(text: &[u8]) -> bool
+    ensures { result ≡ is_unpadded text.now }
+{
+    match text {
+        [] => false,
+        [_] => true,
+        [first, ..] => *first != b'0',
+    }
+}
+
+/// The number that a text says.
+#[tactic(auto, unfolding(crate::specs::Number::number_read))]
+pub fn number(text: &[u8]) -> Option<u32>
+    ensures { result ≡ number_read text.now }
+{
+    if !is_unpadded(text) {
+        return None;
+    }
+    let mut value: u64 = 0;
+    'digits: for byte in text {
+        if !byte.is_ascii_digit() {
+            return None;
+        }
+        value = value
+            .saturating_mul(10)
+            .saturating_add(u64::from(*byte - b'0'));
+    }
+    if value > 0xffff_ffff {
+        return None;
+    }
+    Some(value as u32)
+}
