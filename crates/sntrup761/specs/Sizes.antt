@@ -5,10 +5,10 @@ use Rattle.sha2.specs.Sha512.{sha512}
 use Rattle.sha2.proofs.Facts512.{length-sha512}
 use Rattle.ntru_ring.specs.Ring.{times}
 use Rattle.ntru_ring.specs.Reduction.{reduced, IsWithin}
-use Rattle.ntru_ring.proofs.Algebra.{length-times}
-use Rattle.ntru_ring.proofs.Congruence.{length-reduced, reduced_within}
-use Rattle.ntru_ring.proofs.Places.{length-rounded}
-use Rattle.ntru_ring.proofs.Rounds.{rounded_within}
+use Rattle.ntru_ring.proofs.Rings.Algebra.{length-times}
+use Rattle.ntru_ring.proofs.Rings.Congruence.{length-reduced, reduced_within}
+use Rattle.ntru_ring.proofs.Rings.Places.{length-rounded}
+use Rattle.ntru_ring.proofs.Numbers.Rounds.{rounded_within}
 use Rattle.ntru_codec.specs.Small.{small_encoded}
 use Rattle.ntru_codec.specs.Elements.{IsMultipleOf3, rounded_encoded, rq_decoded}
 use Rattle.ntru_codec.proofs.SmallLaws.{length-small_encoded}

@@ -5,8 +5,8 @@ use Rattle.std.proofs.lemmas.List.{ext_get_or, length-append, length-replicate, 
 use Rattle.ntru_ring.specs.Ring.{scale, times}
 use Rattle.ntru_ring.specs.Reduction.{reduced}
 use Rattle.ntru_ring.specs.Small.{weight}
-use Rattle.ntru_ring.proofs.Unit.{times_comm}
-use Rattle.ntru_ring.proofs.Congruence.{reduced-scale}
+use Rattle.ntru_ring.proofs.Rings.Unit.{times_comm}
+use Rattle.ntru_ring.proofs.Rings.Congruence.{reduced-scale}
 use Rattle.sntrup_core.specs.Core.{ones, recovered, decrypted}
 
 -- a list of m entries a, and then n entries b

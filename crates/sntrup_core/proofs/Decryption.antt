@@ -6,10 +6,10 @@ use Rattle.std.proofs.lemmas.Bool.{cond-true, eq-eqb}
 use Rattle.ntru_ring.specs.Ring.{plus, scale, times, one_of}
 use Rattle.ntru_ring.specs.Reduction.{centred, reduced, IsWithin}
 use Rattle.ntru_ring.specs.Small.{weight, nearest, rounded}
-use Rattle.ntru_ring.proofs.Algebra.{times-plus, scale-plus, scale-times, plus_scale_zero, length-times, length-scale}
-use Rattle.ntru_ring.proofs.Unit.{times_comm, times_assoc, times_one}
-use Rattle.ntru_ring.proofs.Congruence.{length-reduced, reduced_keeps, reduced_within, reduced-plus_left, reduced-plus_right, reduced-scale_by, reduced-times_right, reduced-times_left, scale_same}
-use Rattle.ntru_ring.proofs.Bound.{All-wider, plus_within, scale_within_both, times_within}
+use Rattle.ntru_ring.proofs.Rings.Algebra.{times-plus, scale-plus, scale-times, plus_scale_zero, length-times, length-scale}
+use Rattle.ntru_ring.proofs.Rings.Unit.{times_comm, times_assoc, times_one}
+use Rattle.ntru_ring.proofs.Rings.Congruence.{length-reduced, reduced_keeps, reduced_within, reduced-plus_left, reduced-plus_right, reduced-scale_by, reduced-times_right, reduced-times_left, scale_same}
+use Rattle.ntru_ring.proofs.Rings.Bound.{All-wider, plus_within, scale_within_both, times_within}
 use Rattle.sntrup_core.specs.Core.{IsSmall, IsShort, IsPair, encrypted, recovered, decrypted}
 use Rattle.sntrup_core.proofs.InverseLaws.{inverse-some}
 use Rattle.sntrup_core.proofs.Quotients.{length-quotient}

@@ -11,7 +11,7 @@ use Rattle.std.proofs.lemmas.List.Elements.{All-nil, All-cons, All-head, All-tai
 use borrow.Author.Differences.{up, down}
 use Rattle.ntru_ring.specs.Ring.{times, one_of}
 use Rattle.ntru_ring.specs.Reduction.{reduced, IsWithin, IsInverse, Annihilates}
-use Rattle.ntru_ring.proofs.Uniqueness.{inverse_unique, no_inverse}
+use Rattle.ntru_ring.proofs.Eliminating.Uniqueness.{inverse_unique, no_inverse}
 use Rattle.sntrup_core.specs.Inverse.{residues, elements, is_inverse, inverse}
 
 -- ---- searches

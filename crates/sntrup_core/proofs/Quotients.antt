@@ -3,10 +3,10 @@ use Rattle.std.proofs.Common.{◌≡◌, inl, inr, ℕ, suc, Some, None, List, l
 use Rattle.std.specs.Option.{option_map}
 use Rattle.ntru_ring.specs.Ring.{scale, times, one_of}
 use Rattle.ntru_ring.specs.Reduction.{centred, reduced, IsWithin, IsInverse}
-use Rattle.ntru_ring.proofs.Algebra.{times-scale, scale-scale, scale_one, length-scale, length-times}
-use Rattle.ntru_ring.proofs.Unit.{times_assoc, one_times}
-use Rattle.ntru_ring.proofs.Congruence.{length-reduced, reduced_keeps, reduced_within, reduced-scale, reduced-scale_by, reduced-times_right, reduced-times_left, scale_same}
-use Rattle.ntru_ring.proofs.Bound.{All-wider}
+use Rattle.ntru_ring.proofs.Rings.Algebra.{times-scale, scale-scale, scale_one, length-scale, length-times}
+use Rattle.ntru_ring.proofs.Rings.Unit.{times_assoc, one_times}
+use Rattle.ntru_ring.proofs.Rings.Congruence.{length-reduced, reduced_keeps, reduced_within, reduced-scale, reduced-scale_by, reduced-times_right, reduced-times_left, scale_same}
+use Rattle.ntru_ring.proofs.Rings.Bound.{All-wider}
 use Rattle.sntrup_core.specs.Inverse.{inverse}
 use Rattle.sntrup_core.specs.Core.{quotient, IsPair}
 use Rattle.sntrup_core.proofs.InverseLaws.{option_cases, inverse-some, inverse-found}

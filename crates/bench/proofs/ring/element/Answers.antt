@@ -1,7 +1,7 @@
 use Rattle.std.proofs.Common.{sym, subst, pos}
 use Rattle.std.proofs.lemmas.List.{get_or-replicate}
 use Rattle.ntru_ring.specs.Reduction.{IsWithin}
-use Rattle.ntru_ring.proofs.Ranges.{within_zero}
+use Rattle.ntru_ring.proofs.Numbers.Ranges.{within_zero}
 use Rattle.bench.proofs.ring.element.Goals as goal
 
 pub places-init : goal.places-init

@@ -1,4 +1,4 @@
-use Rattle.ntru_ring.proofs.LanesQ.{product_within}
+use Rattle.ntru_ring.proofs.Vectors.LanesQ.{product_within}
 use Rattle.ntru_ring.proofs.candidate_q.product.Goals as goal
 
 pub centred_q-requires : goal.centred_q-requires

@@ -2,10 +2,10 @@ use Rattle.std.proofs.Common.{arith, ap, ◌∙◌, get_or}
 use Rattle.ntru_ring.specs.declared.rows_q.RowQ.{RowQ}
 use Rattle.ntru_ring.specs.Ring.{coefficient}
 use Rattle.ntru_ring.specs.RowsQ.{parts_q}
-use Rattle.ntru_ring.proofs.Elimination.{IsClearing-none, IsClearing-more, combined_settled}
-use Rattle.ntru_ring.proofs.Places.{coefficient-reduced, coefficient_within}
-use Rattle.ntru_ring.proofs.Centred.{centred_keeps}
-use Rattle.ntru_ring.proofs.LanesQ.{negated}
+use Rattle.ntru_ring.proofs.Eliminating.Elimination.{IsClearing-none, IsClearing-more, combined_settled}
+use Rattle.ntru_ring.proofs.Rings.Places.{coefficient-reduced, coefficient_within}
+use Rattle.ntru_ring.proofs.Numbers.Centred.{centred_keeps}
+use Rattle.ntru_ring.proofs.Vectors.LanesQ.{negated}
 use Rattle.ntru_ring.proofs.elimination_q.clear.Goals as goal
 
 pub loop-j-init : goal.loop-j-init

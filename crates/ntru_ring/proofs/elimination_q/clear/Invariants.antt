@@ -1,6 +1,6 @@
 use Rattle.ntru_ring.specs.declared.rows_q.RowQ.{RowQ}
 use Rattle.ntru_ring.specs.RowsQ.{parts_q}
-use Rattle.ntru_ring.proofs.Elimination.{IsClearing}
+use Rattle.ntru_ring.proofs.Eliminating.Elimination.{IsClearing}
 use Rattle.ntru_ring.proofs.elimination_q.clear.Given as goal
 
 abbrev pub invariant-loop-j : goal.invariant-loop-j

@@ -2,7 +2,7 @@ use Rattle.std.proofs.Common.{sym, ap, ◌∙◌}
 use Rattle.std.proofs.lemmas.Bool.Decides.{Decides-int_eq}
 use Rattle.std.proofs.lemmas.Slice.Eq.{slice_eq-Decides}
 use Rattle.ntru_ring.specs.Ring.{one_of}
-use Rattle.ntru_ring.proofs.Inverses.{unit_is}
+use Rattle.ntru_ring.proofs.Eliminating.Inverses.{unit_is}
 use Rattle.ntru_ring.proofs.elimination_q.inverse_q.Goals as goal
 
 pub returns-then-eq : goal.returns-then-eq

@@ -1,9 +1,9 @@
 use Rattle.std.proofs.Common.{◌*ℤ◌, sym, ap, ◌∙◌, lit<}
 use Rattle.ntru_ring.specs.Ring.{coefficient, scale}
 use Rattle.ntru_ring.specs.Reduction.{centred, reduced}
-use Rattle.ntru_ring.proofs.Elimination.{scaled_multiple, scaled_zero, scaled_at}
-use Rattle.ntru_ring.proofs.Places.{coefficient_within}
-use Rattle.ntru_ring.proofs.Ranges.{stored}
+use Rattle.ntru_ring.proofs.Eliminating.Elimination.{scaled_multiple, scaled_zero, scaled_at}
+use Rattle.ntru_ring.proofs.Rings.Places.{coefficient_within}
+use Rattle.ntru_ring.proofs.Numbers.Ranges.{stored}
 use mir.Syntax.{w16}
 use Rattle.ntru_ring.proofs.elimination_q.row_of.Goals as goal
 

@@ -1,7 +1,7 @@
 use Rattle.std.proofs.Common.{sym, ap, ◌∙◌}
 use Rattle.ntru_ring.specs.Ring.{times}
 use Rattle.ntru_ring.specs.Reduction.{reduced}
-use Rattle.ntru_ring.proofs.Unit.{times_comm}
+use Rattle.ntru_ring.proofs.Rings.Unit.{times_comm}
 use Rattle.ntru_ring.proofs.elimination_q.trial.Goals as goal
 
 pub returns-then-is_small : goal.returns-then-is_small

@@ -5,12 +5,12 @@ use Rattle.ntru_ring.specs.Elements.{element}
 use Rattle.ntru_ring.specs.Ring.{coefficient, plus, scale}
 use Rattle.ntru_ring.specs.Reduction.{centred, reduced}
 use Rattle.ntru_ring.specs.Rows3.{parts_3}
-use Rattle.ntru_ring.proofs.Centred.{centred_keeps}
-use Rattle.ntru_ring.proofs.Congruence.{reduced-reduced}
-use Rattle.ntru_ring.proofs.Elements.{length-element, element-within}
-use Rattle.ntru_ring.proofs.Elimination.{IsClearing-none, IsClearing-more}
-use Rattle.ntru_ring.proofs.Lanes3.{negated}
-use Rattle.ntru_ring.proofs.Places.{coefficient_within}
+use Rattle.ntru_ring.proofs.Numbers.Centred.{centred_keeps}
+use Rattle.ntru_ring.proofs.Rings.Congruence.{reduced-reduced}
+use Rattle.ntru_ring.proofs.Vectors.Elements.{length-element, element-within}
+use Rattle.ntru_ring.proofs.Eliminating.Elimination.{IsClearing-none, IsClearing-more}
+use Rattle.ntru_ring.proofs.Vectors.Lanes3.{negated}
+use Rattle.ntru_ring.proofs.Rings.Places.{coefficient_within}
 use Rattle.ntru_ring.proofs.elimination_three.clear.Goals as goal
 
 kept : (p : Planes3) (k : ℕ) → centred 1 (coefficient (element p) k) ≡ coefficient (element p) k

@@ -1,7 +1,7 @@
 use Rattle.ntru_ring.specs.declared.rows_three.Row3.{Row3}
 use Rattle.ntru_ring.specs.Elements.{element}
 use Rattle.ntru_ring.specs.Rows3.{parts_3}
-use Rattle.ntru_ring.proofs.Elimination.{IsClearing}
+use Rattle.ntru_ring.proofs.Eliminating.Elimination.{IsClearing}
 use Rattle.ntru_ring.proofs.elimination_three.clear.Given as goal
 
 abbrev pub invariant-loop-j : goal.invariant-loop-j

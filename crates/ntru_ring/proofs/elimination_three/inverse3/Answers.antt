@@ -6,7 +6,7 @@ use Rattle.ntru_ring.specs.Elements.{element}
 use Rattle.ntru_ring.specs.Planes.{element_of}
 use Rattle.ntru_ring.specs.Reduction.{reduced}
 use Rattle.ntru_ring.specs.Ring.{one_of, times}
-use Rattle.ntru_ring.proofs.Inverses.{unit_is}
+use Rattle.ntru_ring.proofs.Eliminating.Inverses.{unit_is}
 use Rattle.ntru_ring.proofs.elimination_three.inverse3.Goals as goal
 
 pub returns-then-eq : goal.returns-then-eq

@@ -3,12 +3,12 @@ use Rattle.ntru_ring.specs.declared.planes_three.Planes3.{Planes3}
 use Rattle.ntru_ring.specs.Elements.{element}
 use Rattle.ntru_ring.specs.Ring.{coefficient, plus, scale, zero_of}
 use Rattle.ntru_ring.specs.Reduction.{centred, reduced}
-use Rattle.ntru_ring.proofs.Algebra.{length-scale}
-use Rattle.ntru_ring.proofs.Elements.{length-element}
-use Rattle.ntru_ring.proofs.Elimination.{scaled_multiple, scaled_zero, scaled_at}
-use Rattle.ntru_ring.proofs.Lanes3.{own_inverse}
-use Rattle.ntru_ring.proofs.Ranges.{stored}
-use Rattle.ntru_ring.proofs.Unit.{zero_of-plus}
+use Rattle.ntru_ring.proofs.Rings.Algebra.{length-scale}
+use Rattle.ntru_ring.proofs.Vectors.Elements.{length-element}
+use Rattle.ntru_ring.proofs.Eliminating.Elimination.{scaled_multiple, scaled_zero, scaled_at}
+use Rattle.ntru_ring.proofs.Vectors.Lanes3.{own_inverse}
+use Rattle.ntru_ring.proofs.Numbers.Ranges.{stored}
+use Rattle.ntru_ring.proofs.Rings.Unit.{zero_of-plus}
 use mir.Syntax.{w16}
 use Rattle.ntru_ring.proofs.elimination_three.row_of.Goals as goal
 

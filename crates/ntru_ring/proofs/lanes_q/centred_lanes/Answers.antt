@@ -1,4 +1,4 @@
-use Rattle.ntru_ring.proofs.Representatives.{centred_lanes_is}
+use Rattle.ntru_ring.proofs.Vectors.Representatives.{centred_lanes_is}
 use Rattle.ntru_ring.proofs.lanes_q.centred_lanes.Goals as goal
 
 pub returns : goal.returns

@@ -1,4 +1,4 @@
-use Rattle.ntru_ring.proofs.LanesQ.{difference_fits, difference_in, difference_centred}
+use Rattle.ntru_ring.proofs.Vectors.LanesQ.{difference_fits, difference_in, difference_centred}
 use Rattle.ntru_ring.proofs.lanes_q.difference.Goals as goal
 
 pub overflow_sub-from : goal.overflow_sub-from

@@ -1,4 +1,4 @@
-use Rattle.ntru_ring.proofs.VectorsQ.{quotients_fit, lanes_same, lanes_near}
+use Rattle.ntru_ring.proofs.Vectors.VectorsQ.{quotients_fit, lanes_same, lanes_near}
 use Rattle.ntru_ring.proofs.lanes_q.estimated.Goals as goal
 
 pub overflow_cast-result : goal.overflow_cast-result

@@ -1,7 +1,7 @@
 use Rattle.std.proofs.Common.{lit<}
 use lib.Lanes.{chunk}
-use Rattle.ntru_ring.proofs.Blocks.{kept_lanes}
-use Rattle.ntru_ring.proofs.Places.{chunk_within}
+use Rattle.ntru_ring.proofs.Vectors.Blocks.{kept_lanes}
+use Rattle.ntru_ring.proofs.Rings.Places.{chunk_within}
 use Rattle.ntru_ring.proofs.lanes_q.load.Goals as goal
 
 pub returns : goal.returns

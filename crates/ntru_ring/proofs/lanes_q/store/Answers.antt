@@ -1,6 +1,6 @@
 use Rattle.std.proofs.Common.{ap, lit<}
 use lib.Lanes.{put_chunk}
-use Rattle.ntru_ring.proofs.Blocks.{kept_lanes}
+use Rattle.ntru_ring.proofs.Vectors.Blocks.{kept_lanes}
 use Rattle.ntru_ring.proofs.lanes_q.store.Goals as goal
 
 pub returns : goal.returns

@@ -3,10 +3,10 @@ use Rattle.std.proofs.lemmas.Simd.{length-chunk}
 use lib.Lanes.{chunk, put_chunk}
 use Rattle.ntru_ring.specs.Ring.{plus, scale}
 use Rattle.ntru_ring.specs.Reduction.{reduced, IsWithin, IsNear}
-use Rattle.ntru_ring.proofs.Congruence.{reduced_within}
-use Rattle.ntru_ring.proofs.Ranges.{stored}
-use Rattle.ntru_ring.proofs.Blocks.{kept_lanes, near_all}
-use Rattle.ntru_ring.proofs.Places.{chunk_within}
+use Rattle.ntru_ring.proofs.Rings.Congruence.{reduced_within}
+use Rattle.ntru_ring.proofs.Numbers.Ranges.{stored}
+use Rattle.ntru_ring.proofs.Vectors.Blocks.{kept_lanes, near_all}
+use Rattle.ntru_ring.proofs.Rings.Places.{chunk_within}
 use mir.Syntax.{w16}
 use Rattle.ntru_ring.proofs.lanes_q.subtract_block.Goals as goal
 

@@ -1,8 +1,8 @@
 use Rattle.std.proofs.Common.{ap, ◌∙◌, lit<, neg_ℤ}
 use Rattle.ntru_ring.specs.Ring.{plus, scale}
 use Rattle.ntru_ring.specs.Reduction.{reduced}
-use Rattle.ntru_ring.proofs.Ranges.{stored}
-use Rattle.ntru_ring.proofs.Sections.{whole_row}
+use Rattle.ntru_ring.proofs.Numbers.Ranges.{stored}
+use Rattle.ntru_ring.proofs.Eliminating.Sections.{whole_row}
 use mir.Syntax.{w16}
 use Rattle.ntru_ring.proofs.lanes_q.subtract_multiple.Goals as goal
 

@@ -2,9 +2,9 @@ use Rattle.std.proofs.Common.{◌≡◌, ◌+◌, ◌*◌, neg_ℤ, sym, ap, ◌
 use Rattle.ntru_ring.specs.Ring.{coefficient}
 use Rattle.ntru_ring.specs.Reduction.{centred, IsWithin}
 use Rattle.ntru_ring.specs.Sections.{IsAddedInSection}
-use Rattle.ntru_ring.proofs.Places.{coefficient_within}
-use Rattle.ntru_ring.proofs.Ranges.{stored}
-use Rattle.ntru_ring.proofs.Sections.{IsGone, IsGone-none, IsGone-block, IsGone-last, IsGone-all}
+use Rattle.ntru_ring.proofs.Rings.Places.{coefficient_within}
+use Rattle.ntru_ring.proofs.Numbers.Ranges.{stored}
+use Rattle.ntru_ring.proofs.Eliminating.Sections.{IsGone, IsGone-none, IsGone-block, IsGone-last, IsGone-all}
 use mir.Syntax.{w16}
 use Rattle.ntru_ring.proofs.lanes_q.subtract_section.Goals as goal
 

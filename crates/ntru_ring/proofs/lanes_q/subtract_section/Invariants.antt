@@ -1,5 +1,5 @@
 use Rattle.std.proofs.Common.{neg_ℤ, ◌*◌}
-use Rattle.ntru_ring.proofs.Sections.{IsGone}
+use Rattle.ntru_ring.proofs.Eliminating.Sections.{IsGone}
 use Rattle.ntru_ring.proofs.lanes_q.subtract_section.Given as goal
 
 abbrev pub invariant-loop-block : goal.invariant-loop-block

@@ -1,7 +1,7 @@
 use Rattle.std.proofs.Common.{sym, subst}
 use Rattle.ntru_ring.specs.Reduction.{IsWithin}
-use Rattle.ntru_ring.proofs.Lanes3.{nearest_stored}
-use Rattle.ntru_ring.proofs.Rounds.{nearest_within}
+use Rattle.ntru_ring.proofs.Vectors.Lanes3.{nearest_stored}
+use Rattle.ntru_ring.proofs.Numbers.Rounds.{nearest_within}
 use Rattle.ntru_ring.proofs.modulo_q.nearest.Goals as goal
 
 pub returns-clause-value : goal.returns-clause-value

@@ -1,6 +1,6 @@
 use Rattle.std.proofs.Common.{arith, refl, ◌∙◌, replicate}
 use Rattle.std.proofs.lemmas.Nat.Bits.{bit_at-zero}
-use Rattle.ntru_ring.proofs.Shifts.{IsMoving-first, IsMoving-more, IsMoved-from_moving}
+use Rattle.ntru_ring.proofs.Vectors.Shifts.{IsMoving-first, IsMoving-more, IsMoved-from_moving}
 use Rattle.ntru_ring.proofs.planes_three.moved.Goals as goal
 
 pub loop-k-init : goal.loop-k-init

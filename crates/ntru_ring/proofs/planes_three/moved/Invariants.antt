@@ -1,4 +1,4 @@
-use Rattle.ntru_ring.proofs.Shifts.{IsMoving}
+use Rattle.ntru_ring.proofs.Vectors.Shifts.{IsMoving}
 use Rattle.ntru_ring.proofs.planes_three.moved.Given as goal
 
 abbrev pub invariant-loop-k : goal.invariant-loop-k

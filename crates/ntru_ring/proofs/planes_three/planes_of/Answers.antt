@@ -1,8 +1,8 @@
 use Rattle.std.proofs.Common.{arith, lit<, ◌∙◌}
 use Rattle.ntru_ring.specs.Ring.{coefficient}
-use Rattle.ntru_ring.proofs.Places.{coefficient_within}
-use Rattle.ntru_ring.proofs.Planes.{IsTaken-more, IsTaken-all}
-use Rattle.ntru_ring.proofs.Ranges.{stored}
+use Rattle.ntru_ring.proofs.Rings.Places.{coefficient_within}
+use Rattle.ntru_ring.proofs.Vectors.Planes.{IsTaken-more, IsTaken-all}
+use Rattle.ntru_ring.proofs.Numbers.Ranges.{stored}
 use mir.Syntax.{w16}
 use Rattle.ntru_ring.proofs.planes_three.planes_of.Goals as goal
 

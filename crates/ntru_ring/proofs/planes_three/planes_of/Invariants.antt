@@ -1,4 +1,4 @@
-use Rattle.ntru_ring.proofs.Planes.{IsTaken}
+use Rattle.ntru_ring.proofs.Vectors.Planes.{IsTaken}
 use Rattle.ntru_ring.proofs.planes_three.planes_of.Given as goal
 
 abbrev pub invariant-loop-k : goal.invariant-loop-k

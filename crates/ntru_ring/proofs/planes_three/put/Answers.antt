@@ -1,4 +1,4 @@
-use Rattle.ntru_ring.proofs.Planes.{put_there, put_others}
+use Rattle.ntru_ring.proofs.Vectors.Planes.{put_there, put_others}
 use Rattle.ntru_ring.proofs.planes_three.put.Goals as goal
 
 pub returns-clause-there : goal.returns-clause-there

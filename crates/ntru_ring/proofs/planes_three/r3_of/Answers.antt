@@ -1,9 +1,9 @@
 use Rattle.std.proofs.Common.{sym, ap, ◌∙◌, arith, lit<, subst, All, length}
 use Rattle.ntru_ring.specs.Reduction.{IsWithin}
 use Rattle.ntru_ring.specs.Planes.{element_of}
-use Rattle.ntru_ring.proofs.Kernels.{IsFilling-none, IsFilling-more, IsFilling-all}
-use Rattle.ntru_ring.proofs.Planes.{length-element_of, element_within}
-use Rattle.ntru_ring.proofs.Ranges.{stored}
+use Rattle.ntru_ring.proofs.Rings.Kernels.{IsFilling-none, IsFilling-more, IsFilling-all}
+use Rattle.ntru_ring.proofs.Vectors.Planes.{length-element_of, element_within}
+use Rattle.ntru_ring.proofs.Numbers.Ranges.{stored}
 use mir.Syntax.{w16}
 use Rattle.ntru_ring.proofs.planes_three.r3_of.Goals as goal
 

@@ -1,9 +1,9 @@
 use Rattle.std.proofs.Common.{◌≡◌, arith, lit<}
 use Rattle.ntru_ring.specs.Ring.{coefficient}
-use Rattle.ntru_ring.proofs.Ranges.{stored}
-use Rattle.ntru_ring.proofs.Places.{coefficient_within}
-use Rattle.ntru_ring.proofs.Kernels.{IsAdded-none, IsAdded-more, IsAdded-all, IsAdded-at}
-use Rattle.ntru_ring.proofs.LanesQ.{product_fits, sum_fits, sum_stored}
+use Rattle.ntru_ring.proofs.Numbers.Ranges.{stored}
+use Rattle.ntru_ring.proofs.Rings.Places.{coefficient_within}
+use Rattle.ntru_ring.proofs.Rings.Kernels.{IsAdded-none, IsAdded-more, IsAdded-all, IsAdded-at}
+use Rattle.ntru_ring.proofs.Vectors.LanesQ.{product_fits, sum_fits, sum_stored}
 use mir.Syntax.{w32}
 use Rattle.ntru_ring.proofs.sums_q.add_multiple.Goals as goal
 

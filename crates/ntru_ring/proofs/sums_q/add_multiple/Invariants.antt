@@ -1,4 +1,4 @@
-use Rattle.ntru_ring.proofs.Kernels.{IsAdded}
+use Rattle.ntru_ring.proofs.Rings.Kernels.{IsAdded}
 use Rattle.ntru_ring.proofs.sums_q.add_multiple.Given as goal
 
 abbrev pub invariant-loop-k : goal.invariant-loop-k

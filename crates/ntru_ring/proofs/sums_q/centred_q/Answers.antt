@@ -1,7 +1,7 @@
 use Rattle.std.proofs.Common.{◌≡◌, ◌+◌, ◌-◌, ◌*◌, ◌%◌, ℕ, pos, arith, ℤ, nat_abs, ◌+ℤ◌, ◌-ℤ◌, to_z, of_z, sym, ap, ◌∙◌, subst}
 use Rattle.std.proofs.lemmas.Int.{ints}
 use Rattle.ntru_ring.specs.Reduction.{centred, IsWithin}
-use Rattle.ntru_ring.proofs.Centred.{centred_is, centred_within}
+use Rattle.ntru_ring.proofs.Numbers.Centred.{centred_is, centred_within}
 use borrow.Author.Differences.{up, down}
 use mir.Syntax.{w16, w32, w64}
 use Rattle.ntru_ring.proofs.sums_q.centred_q.Goals as goal

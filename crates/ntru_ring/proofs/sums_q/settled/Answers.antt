@@ -1,10 +1,10 @@
 use Rattle.std.proofs.Common.{rules, ◌≡◌, arith, sym, ◌∙◌, subst, All}
 use Rattle.ntru_ring.specs.Ring.{coefficient}
 use Rattle.ntru_ring.specs.Reduction.{reduced, IsWithin}
-use Rattle.ntru_ring.proofs.Kernels.{IsFilling-none, IsFilling-more, IsFilling-all}
-use Rattle.ntru_ring.proofs.Congruence.{length-reduced, reduced_within}
-use Rattle.ntru_ring.proofs.Places.{coefficient-reduced}
-use Rattle.ntru_ring.proofs.LanesQ.{read_centred}
+use Rattle.ntru_ring.proofs.Rings.Kernels.{IsFilling-none, IsFilling-more, IsFilling-all}
+use Rattle.ntru_ring.proofs.Rings.Congruence.{length-reduced, reduced_within}
+use Rattle.ntru_ring.proofs.Rings.Places.{coefficient-reduced}
+use Rattle.ntru_ring.proofs.Vectors.LanesQ.{read_centred}
 use mir.Syntax.{w32}
 use mir.Val.{SFits}
 use Rattle.ntru_ring.proofs.sums_q.settled.Goals as goal

@@ -1,8 +1,8 @@
 use Rattle.std.proofs.Common.{rules, arith}
 use Rattle.ntru_ring.specs.Ring.{coefficient}
-use Rattle.ntru_ring.proofs.Places.{coefficient_within}
-use Rattle.ntru_ring.proofs.Moves.{IsMovedUp-same, IsMovedUp-within}
-use Rattle.ntru_ring.proofs.LanesQ.{moved, moved_fits}
+use Rattle.ntru_ring.proofs.Rings.Places.{coefficient_within}
+use Rattle.ntru_ring.proofs.Rings.Moves.{IsMovedUp-same, IsMovedUp-within}
+use Rattle.ntru_ring.proofs.Vectors.LanesQ.{moved, moved_fits}
 use mir.Syntax.{w32}
 use mir.Val.{SFits}
 use Rattle.ntru_ring.proofs.sums_q.shifted.Goals as goal

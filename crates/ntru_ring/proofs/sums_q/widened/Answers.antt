@@ -1,7 +1,7 @@
 use Rattle.std.proofs.Common.{rules, arith, sym}
 use Rattle.ntru_ring.specs.Ring.{coefficient}
-use Rattle.ntru_ring.proofs.Kernels.{IsFilling-none, IsFilling-more, IsFilling-all}
-use Rattle.ntru_ring.proofs.LanesQ.{widened_word}
+use Rattle.ntru_ring.proofs.Rings.Kernels.{IsFilling-none, IsFilling-more, IsFilling-all}
+use Rattle.ntru_ring.proofs.Vectors.LanesQ.{widened_word}
 use mir.Syntax.{w16}
 use mir.Val.{SFits}
 use Rattle.ntru_ring.proofs.sums_q.widened.Goals as goal

@@ -1,9 +1,9 @@
 use Rattle.std.proofs.Common.{◌≡◌, arith, refl, pos}
 use Rattle.std.proofs.Math.ListN.{get_or-eq_default}
 use Rattle.ntru_ring.specs.Ring.{coefficient}
-use Rattle.ntru_ring.proofs.Kernels.{IsAdded-none, IsAdded-more, IsAdded-all, IsAdded-at}
-use Rattle.ntru_ring.proofs.Places.{coefficient_within}
-use Rattle.ntru_ring.proofs.WordsQ.{row_sum_fits, row_sum_stored}
+use Rattle.ntru_ring.proofs.Rings.Kernels.{IsAdded-none, IsAdded-more, IsAdded-all, IsAdded-at}
+use Rattle.ntru_ring.proofs.Rings.Places.{coefficient_within}
+use Rattle.ntru_ring.proofs.Vectors.WordsQ.{row_sum_fits, row_sum_stored}
 use Rattle.ntru_ring.proofs.sums_small.add_row.Goals as goal
 
 pub overflow_add-sums : goal.overflow_add-sums

@@ -1,7 +1,7 @@
 use Rattle.std.proofs.Common.{sym, subst}
 use Rattle.ntru_ring.specs.Reduction.{IsWithin}
-use Rattle.ntru_ring.proofs.Centred.{centred_within}
-use Rattle.ntru_ring.proofs.WordsQ.{rest_kept, rest_lowered}
+use Rattle.ntru_ring.proofs.Numbers.Centred.{centred_within}
+use Rattle.ntru_ring.proofs.Vectors.WordsQ.{rest_kept, rest_lowered}
 use Rattle.ntru_ring.proofs.sums_small.centred_word.Goals as goal
 
 pub returns-then-rest-gt2295-clause-value : goal.returns-then-rest-gt2295-clause-value

@@ -1,10 +1,10 @@
 use Rattle.std.proofs.Common.{rules, ◌≡◌, arith, sym, ap, ◌∙◌, subst, All}
 use Rattle.ntru_ring.specs.Ring.{coefficient}
 use Rattle.ntru_ring.specs.Reduction.{centred, reduced, IsWithin}
-use Rattle.ntru_ring.proofs.Kernels.{IsReplaced-none, IsReplaced-more, IsReplaced-all}
-use Rattle.ntru_ring.proofs.Congruence.{length-reduced, reduced_within}
-use Rattle.ntru_ring.proofs.Places.{coefficient-reduced}
-use Rattle.ntru_ring.proofs.WordsQ.{read_word}
+use Rattle.ntru_ring.proofs.Rings.Kernels.{IsReplaced-none, IsReplaced-more, IsReplaced-all}
+use Rattle.ntru_ring.proofs.Rings.Congruence.{length-reduced, reduced_within}
+use Rattle.ntru_ring.proofs.Rings.Places.{coefficient-reduced}
+use Rattle.ntru_ring.proofs.Vectors.WordsQ.{read_word}
 use mir.Syntax.{w16}
 use mir.Val.{SFits}
 use Rattle.ntru_ring.proofs.sums_small.settle.Goals as goal

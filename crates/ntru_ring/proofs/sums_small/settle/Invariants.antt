@@ -1,5 +1,5 @@
 use Rattle.ntru_ring.specs.Reduction.{reduced}
-use Rattle.ntru_ring.proofs.Kernels.{IsReplaced}
+use Rattle.ntru_ring.proofs.Rings.Kernels.{IsReplaced}
 use Rattle.ntru_ring.proofs.sums_small.settle.Given as goal
 
 abbrev pub invariant-loop-k : goal.invariant-loop-k

@@ -1,9 +1,9 @@
 use Rattle.std.proofs.Common.{◌≡◌, arith, refl, pos, negsuc}
 use Rattle.std.proofs.Math.ListN.{get_or-eq_default}
 use Rattle.ntru_ring.specs.Ring.{coefficient}
-use Rattle.ntru_ring.proofs.Kernels.{IsAdded-none, IsAdded-more, IsAdded-all, IsAdded-at}
-use Rattle.ntru_ring.proofs.Places.{coefficient_within}
-use Rattle.ntru_ring.proofs.WordsQ.{row_difference_fits, row_difference_stored}
+use Rattle.ntru_ring.proofs.Rings.Kernels.{IsAdded-none, IsAdded-more, IsAdded-all, IsAdded-at}
+use Rattle.ntru_ring.proofs.Rings.Places.{coefficient_within}
+use Rattle.ntru_ring.proofs.Vectors.WordsQ.{row_difference_fits, row_difference_stored}
 use Rattle.ntru_ring.proofs.sums_small.subtract_row.Goals as goal
 
 pub overflow_sub-sums : goal.overflow_sub-sums

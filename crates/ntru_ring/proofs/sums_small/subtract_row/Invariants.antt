@@ -1,5 +1,5 @@
 use Rattle.std.proofs.Common.{negsuc}
-use Rattle.ntru_ring.proofs.Kernels.{IsAdded}
+use Rattle.ntru_ring.proofs.Rings.Kernels.{IsAdded}
 use Rattle.ntru_ring.proofs.sums_small.subtract_row.Given as goal
 
 abbrev pub invariant-loop-k : goal.invariant-loop-k

@@ -1,11 +1,11 @@
 use Rattle.std.proofs.Common.{ap, ◌∙◌, arith, add-one}
 use Rattle.ntru_ring.specs.Ring.{times, one_of}
 use Rattle.ntru_ring.specs.Reduction.{reduced}
-use Rattle.ntru_ring.proofs.Algebra.{plus_comm, plus_assoc, times-plus, times-scale}
-use Rattle.ntru_ring.proofs.Unit.{times_comm, times_assoc, times_one}
-use Rattle.ntru_ring.proofs.Congruence.{reduced-plus, reduced-reduced, reduced-scale, reduced-shift, times_same}
-use Rattle.ntru_ring.proofs.Bound.{times_within}
-use Rattle.ntru_ring.proofs.Uniqueness.{no_inverse, inverse_unique}
+use Rattle.ntru_ring.proofs.Rings.Algebra.{plus_comm, plus_assoc, times-plus, times-scale}
+use Rattle.ntru_ring.proofs.Rings.Unit.{times_comm, times_assoc, times_one}
+use Rattle.ntru_ring.proofs.Rings.Congruence.{reduced-plus, reduced-reduced, reduced-scale, reduced-shift, times_same}
+use Rattle.ntru_ring.proofs.Rings.Bound.{times_within}
+use Rattle.ntru_ring.proofs.Eliminating.Uniqueness.{no_inverse, inverse_unique}
 use Rattle.ntru_ring.proofs.theory.laws.Goals as goal
 
 pub returns-clause-sum_commutative : goal.returns-clause-sum_commutative

@@ -1,8 +1,8 @@
 use Rattle.std.proofs.Common.{◌≡◌, ◌+◌, ◌%◌, ◌<◌, ℕ, pos, arith, nat_abs, ◌+ℤ◌, ◌-ℤ◌, to_z, of_z, sym, ap, ◌∙◌, subst}
 use Rattle.std.proofs.lemmas.Int.{ints}
 use Rattle.ntru_ring.specs.Reduction.{centred, IsWithin}
-use Rattle.ntru_ring.proofs.Centred.{centred_within}
-use Rattle.ntru_ring.proofs.Units.{inverse_is, representative_is, residue_is}
+use Rattle.ntru_ring.proofs.Numbers.Centred.{centred_within}
+use Rattle.ntru_ring.proofs.Numbers.Units.{inverse_is, representative_is, residue_is}
 use mir.Syntax.{w16, w32}
 use lib.Signed.{rem_z}
 use Rattle.ntru_ring.proofs.units_q.inverse_of.Goals as goal

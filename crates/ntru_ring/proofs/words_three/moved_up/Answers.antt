@@ -1,4 +1,4 @@
-use Rattle.ntru_ring.proofs.Words.{moved_first, moved_rest}
+use Rattle.ntru_ring.proofs.Vectors.Words.{moved_first, moved_rest}
 use Rattle.ntru_ring.proofs.words_three.moved_up.Goals as goal
 
 pub returns-clause-first : goal.returns-clause-first

@@ -1,7 +1,7 @@
 use Rattle.std.proofs.Common.{pos, arith, ap, ◌∙◌, lit<, lit≤, get_or-set_same}
 use Rattle.ntru_ring.specs.Ring.{coefficient, zero_of}
-use Rattle.ntru_ring.proofs.Algebra.{length-zero_of}
-use Rattle.ntru_ring.proofs.Places.{coefficient-zero_of}
+use Rattle.ntru_ring.proofs.Rings.Algebra.{length-zero_of}
+use Rattle.ntru_ring.proofs.Rings.Places.{coefficient-zero_of}
 use Rattle.ntru_ring.proofs.working.first_row_q.Goals as goal
 
 pub invariant_of-row : goal.invariant_of-row

@@ -1,6 +1,6 @@
 use Rattle.ntru_ring.specs.Reduction.{reduced}
 use Rattle.ntru_ring.specs.Ring.{plus}
-use Rattle.ntru_ring.proofs.Kernels.{IsFilling}
+use Rattle.ntru_ring.proofs.Rings.Kernels.{IsFilling}
 use Rattle.ntru_ring.proofs.modulo_q.Rq.add.Given as goal
 
 abbrev pub invariant-loop-k : goal.invariant-loop-k

@@ -1,11 +1,11 @@
 use Rattle.std.proofs.Common.{sym, ap, ◌∙◌, ◌≡◌, ◌+◌, ◌-◌, arith, drop}
 use Rattle.ntru_ring.specs.Ring.{times, coefficient, scale, plus}
 use Rattle.ntru_ring.specs.Reduction.{reduced}
-use Rattle.ntru_ring.proofs.Products.{product_none, product_more}
-use Rattle.ntru_ring.proofs.Congruence.{reduced-reduced, reduced_keeps}
-use Rattle.ntru_ring.proofs.Inverses.{reduced_zero}
-use Rattle.ntru_ring.proofs.LanesQ.{negated_twice}
-use Rattle.ntru_ring.proofs.Places.{coefficient_within}
+use Rattle.ntru_ring.proofs.Rings.Products.{product_none, product_more}
+use Rattle.ntru_ring.proofs.Rings.Congruence.{reduced-reduced, reduced_keeps}
+use Rattle.ntru_ring.proofs.Eliminating.Inverses.{reduced_zero}
+use Rattle.ntru_ring.proofs.Vectors.LanesQ.{negated_twice}
+use Rattle.ntru_ring.proofs.Rings.Places.{coefficient_within}
 use Rattle.ntru_ring.proofs.modulo_q.Rq.mul.Goals as goal
 
 pub loop-k-init : goal.loop-k-init

@@ -4,13 +4,13 @@ use lib.Lanes.{chunk}
 use Rattle.ntru_ring.specs.Ring.{plus, scale, shift, times, zero_of}
 use Rattle.ntru_ring.specs.Elements.{element}
 use Rattle.ntru_ring.specs.Reduction.{reduced, IsWithin}
-use Rattle.ntru_ring.proofs.Algebra.{length-times}
-use Rattle.ntru_ring.proofs.Congruence.{reduced-reduced}
-use Rattle.ntru_ring.proofs.Elements.{length-element}
-use Rattle.ntru_ring.proofs.Places.{chunk_within}
-use Rattle.ntru_ring.proofs.Products.{small_more, small_all}
-use Rattle.ntru_ring.proofs.Ranges.{stored}
-use Rattle.ntru_ring.proofs.Unit.{times_comm, zero_of-plus}
+use Rattle.ntru_ring.proofs.Rings.Algebra.{length-times}
+use Rattle.ntru_ring.proofs.Rings.Congruence.{reduced-reduced}
+use Rattle.ntru_ring.proofs.Vectors.Elements.{length-element}
+use Rattle.ntru_ring.proofs.Rings.Places.{chunk_within}
+use Rattle.ntru_ring.proofs.Rings.Products.{small_more, small_all}
+use Rattle.ntru_ring.proofs.Numbers.Ranges.{stored}
+use Rattle.ntru_ring.proofs.Rings.Unit.{times_comm, zero_of-plus}
 use mir.Syntax.{w16}
 use Rattle.ntru_ring.proofs.modulo_q.Rq.mul_small.Goals as goal
 

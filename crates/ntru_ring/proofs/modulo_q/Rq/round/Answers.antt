@@ -2,12 +2,12 @@ use Rattle.std.proofs.Common.{◌≡◌, arith, sym, ap, ◌∙◌, subst, All, 
 use Rattle.ntru_ring.specs.declared.modulo_q.Rq.{Rq}
 use Rattle.ntru_ring.specs.Ring.{coefficient}
 use Rattle.ntru_ring.specs.Reduction.{IsWithin}
-use Rattle.ntru_ring.proofs.Kernels.{IsFilling, IsFilling-none, IsFilling-more, IsFilling-all}
-use Rattle.ntru_ring.proofs.Places.{coefficient_within}
-use Rattle.ntru_ring.proofs.Ranges.{stored}
+use Rattle.ntru_ring.proofs.Rings.Kernels.{IsFilling, IsFilling-none, IsFilling-more, IsFilling-all}
+use Rattle.ntru_ring.proofs.Rings.Places.{coefficient_within}
+use Rattle.ntru_ring.proofs.Numbers.Ranges.{stored}
 use Rattle.ntru_ring.specs.Small.{nearest, rounded}
-use Rattle.ntru_ring.proofs.Places.{coefficient-rounded, length-rounded}
-use Rattle.ntru_ring.proofs.Rounds.{rounded_within}
+use Rattle.ntru_ring.proofs.Rings.Places.{coefficient-rounded, length-rounded}
+use Rattle.ntru_ring.proofs.Numbers.Rounds.{rounded_within}
 use mir.Syntax.{w16}
 use Rattle.std.proofs.Common.{lit<}
 use Rattle.ntru_ring.proofs.modulo_q.Rq.round.Goals as goal

@@ -2,11 +2,11 @@ use Rattle.std.proofs.Common.{◌≡◌, arith, sym, ap, ◌∙◌, to_z, of_z, 
 use Rattle.ntru_ring.specs.declared.modulo_q.Rq.{Rq}
 use Rattle.ntru_ring.specs.Ring.{coefficient, scale}
 use Rattle.ntru_ring.specs.Reduction.{reduced, centred, IsWithin}
-use Rattle.ntru_ring.proofs.Kernels.{IsFilling, IsFilling-none, IsFilling-more, IsFilling-all}
-use Rattle.ntru_ring.proofs.Algebra.{length-scale}
-use Rattle.ntru_ring.proofs.Congruence.{length-reduced, reduced_within}
-use Rattle.ntru_ring.proofs.Places.{coefficient_within, coefficient-reduced, coefficient-scale}
-use Rattle.ntru_ring.proofs.LanesQ.{product_centred, product_within}
+use Rattle.ntru_ring.proofs.Rings.Kernels.{IsFilling, IsFilling-none, IsFilling-more, IsFilling-all}
+use Rattle.ntru_ring.proofs.Rings.Algebra.{length-scale}
+use Rattle.ntru_ring.proofs.Rings.Congruence.{length-reduced, reduced_within}
+use Rattle.ntru_ring.proofs.Rings.Places.{coefficient_within, coefficient-reduced, coefficient-scale}
+use Rattle.ntru_ring.proofs.Vectors.LanesQ.{product_centred, product_within}
 use Rattle.std.proofs.lemmas.Int.{to_z-of_z}
 use mir.Syntax.{w16}
 use mir.Val.{SFits}

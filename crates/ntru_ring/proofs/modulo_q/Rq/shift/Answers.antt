@@ -2,12 +2,12 @@ use Rattle.std.proofs.Common.{◌≡◌, ◌+ℤ◌, ◌-◌, ◌<◌, ◌≤◌
 use Rattle.ntru_ring.specs.declared.modulo_q.Rq.{Rq}
 use Rattle.ntru_ring.specs.Ring.{coefficient, shift}
 use Rattle.ntru_ring.specs.Reduction.{centred, reduced, IsWithin}
-use Rattle.ntru_ring.proofs.Algebra.{length-shift}
-use Rattle.ntru_ring.proofs.Congruence.{length-reduced, reduced_within}
-use Rattle.ntru_ring.proofs.LanesQ.{second_is, sum_centred}
-use Rattle.ntru_ring.proofs.Moves.{moved_reduced}
-use Rattle.ntru_ring.proofs.Places.{coefficient_within}
-use Rattle.ntru_ring.proofs.Ranges.{stored}
+use Rattle.ntru_ring.proofs.Rings.Algebra.{length-shift}
+use Rattle.ntru_ring.proofs.Rings.Congruence.{length-reduced, reduced_within}
+use Rattle.ntru_ring.proofs.Vectors.LanesQ.{second_is, sum_centred}
+use Rattle.ntru_ring.proofs.Rings.Moves.{moved_reduced}
+use Rattle.ntru_ring.proofs.Rings.Places.{coefficient_within}
+use Rattle.ntru_ring.proofs.Numbers.Ranges.{stored}
 use mir.Syntax.{w16, w32}
 use Rattle.ntru_ring.proofs.modulo_q.Rq.shift.Goals as goal
 

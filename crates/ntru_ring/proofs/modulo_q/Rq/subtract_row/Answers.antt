@@ -1,9 +1,9 @@
 use Rattle.std.proofs.Common.{sym, ap, ◌∙◌, subst, All, length, neg_ℤ}
 use Rattle.ntru_ring.specs.Ring.{plus, scale}
 use Rattle.ntru_ring.specs.Reduction.{centred, reduced, IsWithin}
-use Rattle.ntru_ring.proofs.Congruence.{reduced_within, reduced-subtracted}
-use Rattle.ntru_ring.proofs.Kernels.{length_added}
-use Rattle.ntru_ring.proofs.LanesQ.{stored_centred, widened_word}
+use Rattle.ntru_ring.proofs.Rings.Congruence.{reduced_within, reduced-subtracted}
+use Rattle.ntru_ring.proofs.Rings.Kernels.{length_added}
+use Rattle.ntru_ring.proofs.Vectors.LanesQ.{stored_centred, widened_word}
 use Rattle.ntru_ring.proofs.modulo_q.Rq.subtract_row.Goals as goal
 
 pub invariant_of-self : goal.invariant_of-self

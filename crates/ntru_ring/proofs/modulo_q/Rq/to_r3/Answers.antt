@@ -2,11 +2,11 @@ use Rattle.std.proofs.Common.{◌≡◌, arith, sym, ap, ◌∙◌, subst, All, 
 use Rattle.ntru_ring.specs.declared.modulo_q.Rq.{Rq}
 use Rattle.ntru_ring.specs.Ring.{coefficient}
 use Rattle.ntru_ring.specs.Reduction.{reduced, IsWithin}
-use Rattle.ntru_ring.proofs.Kernels.{IsFilling, IsFilling-none, IsFilling-more, IsFilling-all}
-use Rattle.ntru_ring.proofs.Congruence.{length-reduced, reduced_within}
-use Rattle.ntru_ring.proofs.Places.{coefficient_within, coefficient-reduced}
-use Rattle.ntru_ring.proofs.Ranges.{within_fits}
-use Rattle.ntru_ring.proofs.Lanes3.{read_centred}
+use Rattle.ntru_ring.proofs.Rings.Kernels.{IsFilling, IsFilling-none, IsFilling-more, IsFilling-all}
+use Rattle.ntru_ring.proofs.Rings.Congruence.{length-reduced, reduced_within}
+use Rattle.ntru_ring.proofs.Rings.Places.{coefficient_within, coefficient-reduced}
+use Rattle.ntru_ring.proofs.Numbers.Ranges.{within_fits}
+use Rattle.ntru_ring.proofs.Vectors.Lanes3.{read_centred}
 use mir.Syntax.{w16}
 use Rattle.std.proofs.Common.{lit<}
 use Rattle.ntru_ring.proofs.modulo_q.Rq.to_r3.Goals as goal

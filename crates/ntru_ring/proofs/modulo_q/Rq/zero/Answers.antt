@@ -2,7 +2,7 @@ use Rattle.std.proofs.Common.{refl, pos}
 use Rattle.std.proofs.lemmas.List.Elements.{All-replicate}
 use Rattle.ntru_ring.specs.Ring.{zero_of}
 use Rattle.ntru_ring.specs.Reduction.{IsWithin}
-use Rattle.ntru_ring.proofs.Ranges.{within_zero}
+use Rattle.ntru_ring.proofs.Numbers.Ranges.{within_zero}
 use Rattle.ntru_ring.proofs.modulo_q.Rq.zero.Goals as goal
 
 pub invariant_of-result : goal.invariant_of-result

@@ -2,11 +2,11 @@ use Rattle.std.proofs.Common.{◌≡◌, arith, sym, ap, ◌∙◌, subst, All, 
 use Rattle.ntru_ring.specs.declared.modulo_three.R3.{R3}
 use Rattle.ntru_ring.specs.Ring.{coefficient, plus}
 use Rattle.ntru_ring.specs.Reduction.{reduced, centred, IsWithin}
-use Rattle.ntru_ring.proofs.Kernels.{IsFilling, IsFilling-none, IsFilling-more, IsFilling-all}
-use Rattle.ntru_ring.proofs.Algebra.{length-plus}
-use Rattle.ntru_ring.proofs.Congruence.{length-reduced, reduced_within}
-use Rattle.ntru_ring.proofs.Places.{coefficient_within, coefficient-reduced, coefficient-plus}
-use Rattle.ntru_ring.proofs.Lanes3.{sum_centred}
+use Rattle.ntru_ring.proofs.Rings.Kernels.{IsFilling, IsFilling-none, IsFilling-more, IsFilling-all}
+use Rattle.ntru_ring.proofs.Rings.Algebra.{length-plus}
+use Rattle.ntru_ring.proofs.Rings.Congruence.{length-reduced, reduced_within}
+use Rattle.ntru_ring.proofs.Rings.Places.{coefficient_within, coefficient-reduced, coefficient-plus}
+use Rattle.ntru_ring.proofs.Vectors.Lanes3.{sum_centred}
 use Rattle.ntru_ring.proofs.modulo_three.R3.add.Goals as goal
 
 long : (a b : List ℤ) → length a ≡ 761 → length b ≡ 761 → length (reduced 1 (plus a b)) ≡ 761

@@ -2,7 +2,7 @@ use Rattle.std.proofs.Common.{ap, ◌∙◌, sym, set, length-set, lit<, to_z, o
 use Rattle.std.proofs.lemmas.List.Elements.{All-set}
 use Rattle.ntru_ring.specs.Ring.{zero_of}
 use Rattle.ntru_ring.specs.Reduction.{IsWithin}
-use Rattle.ntru_ring.proofs.Ranges.{stored}
+use Rattle.ntru_ring.proofs.Numbers.Ranges.{stored}
 use mir.Syntax.{w16}
 use Rattle.ntru_ring.proofs.modulo_three.R3.monomial.Goals as goal
 

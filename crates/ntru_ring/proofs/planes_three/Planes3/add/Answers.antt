@@ -1,5 +1,5 @@
 use Rattle.std.proofs.Common.{arith}
-use Rattle.ntru_ring.proofs.Planes.{inside_planes, sum_is, sum_end}
+use Rattle.ntru_ring.proofs.Vectors.Planes.{inside_planes, sum_is, sum_end}
 use Rattle.ntru_ring.proofs.planes_three.Planes3.add.Goals as goal
 
 pub invariant_of-result : goal.invariant_of-result

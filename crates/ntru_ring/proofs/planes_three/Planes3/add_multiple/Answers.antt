@@ -3,8 +3,8 @@ use Rattle.std.proofs.lemmas.Int.{ints}
 use Rattle.ntru_ring.specs.Elements.{element}
 use Rattle.ntru_ring.specs.Ring.{plus, scale}
 use Rattle.ntru_ring.specs.Reduction.{reduced}
-use Rattle.ntru_ring.proofs.Algebra.{plus_scale_zero, scale_one}
-use Rattle.ntru_ring.proofs.Elements.{length-element, reduced-element}
+use Rattle.ntru_ring.proofs.Rings.Algebra.{plus_scale_zero, scale_one}
+use Rattle.ntru_ring.proofs.Vectors.Elements.{length-element, reduced-element}
 use Rattle.ntru_ring.proofs.planes_three.Planes3.add_multiple.Goals as goal
 
 pub returns-then-by-eq0 : goal.returns-then-by-eq0

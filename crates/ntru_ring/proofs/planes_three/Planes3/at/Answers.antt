@@ -1,9 +1,9 @@
 use Rattle.std.proofs.Common.{sym, ◌∙◌, ◌/◌, ◌%◌, get_or, subst}
 use Rattle.ntru_ring.specs.Reduction.{IsWithin}
 use Rattle.ntru_ring.specs.Planes.{element_of}
-use Rattle.ntru_ring.proofs.Places.{coefficient_within}
-use Rattle.ntru_ring.proofs.Planes.{coefficient-element_of, element_within}
-use Rattle.ntru_ring.proofs.Words.{read_place}
+use Rattle.ntru_ring.proofs.Rings.Places.{coefficient_within}
+use Rattle.ntru_ring.proofs.Vectors.Planes.{coefficient-element_of, element_within}
+use Rattle.ntru_ring.proofs.Vectors.Words.{read_place}
 use Rattle.ntru_ring.proofs.planes_three.Planes3.at.Goals as goal
 
 pub returns-clause-value : goal.returns-clause-value

@@ -3,7 +3,7 @@ use Rattle.std.proofs.lemmas.Bool.{cases_lt}
 use Rattle.std.proofs.lemmas.Nat.Bits.{bit_at-trailing_zeros}
 use Rattle.std.specs.Int.{bit_at}
 use Rattle.ntru_ring.specs.Planes.{bit_of}
-use Rattle.ntru_ring.proofs.Planes.{bit_of_word, below_lead, zero_at, nonzero_at}
+use Rattle.ntru_ring.proofs.Vectors.Planes.{bit_of_word, below_lead, zero_at, nonzero_at}
 use mir.Syntax.{w64}
 use mir.Val.{Fits}
 use Rattle.ntru_ring.proofs.planes_three.Planes3.lead.Goals as goal

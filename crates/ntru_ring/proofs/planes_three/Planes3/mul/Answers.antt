@@ -2,10 +2,10 @@ use Rattle.std.proofs.Common.{sym, ap, ◌∙◌, ◌≡◌, ◌+◌, ◌-◌, a
 use Rattle.ntru_ring.specs.Ring.{times, coefficient, scale, plus, shift}
 use Rattle.ntru_ring.specs.Reduction.{reduced}
 use Rattle.ntru_ring.specs.Elements.{element}
-use Rattle.ntru_ring.proofs.Congruence.{reduced-reduced}
-use Rattle.ntru_ring.proofs.Elements.{length-element, reduced-element}
-use Rattle.ntru_ring.proofs.Products.{product_none, product_more}
-use Rattle.ntru_ring.proofs.Ranges.{stored}
+use Rattle.ntru_ring.proofs.Rings.Congruence.{reduced-reduced}
+use Rattle.ntru_ring.proofs.Vectors.Elements.{length-element, reduced-element}
+use Rattle.ntru_ring.proofs.Rings.Products.{product_none, product_more}
+use Rattle.ntru_ring.proofs.Numbers.Ranges.{stored}
 use mir.Syntax.{w16}
 use Rattle.ntru_ring.proofs.planes_three.Planes3.mul.Goals as goal
 

@@ -1,5 +1,5 @@
 use Rattle.std.proofs.Common.{arith}
-use Rattle.ntru_ring.proofs.Planes.{opposites_inside, opposite_is}
+use Rattle.ntru_ring.proofs.Vectors.Planes.{opposites_inside, opposite_is}
 use Rattle.ntru_ring.proofs.planes_three.Planes3.opposite.Goals as goal
 
 pub invariant_of-result : goal.invariant_of-result

@@ -1,7 +1,7 @@
 use Rattle.std.proofs.Common.{◌∙◌, get_or, lit<, rules}
-use Rattle.ntru_ring.proofs.Planes.{IsLawful, inside_word}
-use Rattle.ntru_ring.proofs.Ranges.{stored}
-use Rattle.ntru_ring.proofs.Shifts.{moved_inside, shift_is, shift_lawful}
+use Rattle.ntru_ring.proofs.Vectors.Planes.{IsLawful, inside_word}
+use Rattle.ntru_ring.proofs.Numbers.Ranges.{stored}
+use Rattle.ntru_ring.proofs.Vectors.Shifts.{moved_inside, shift_is, shift_lawful}
 use mir.Syntax.{w16, w64}
 use mir.Val.{Fits}
 use Rattle.ntru_ring.proofs.planes_three.Planes3.shift.Goals as goal

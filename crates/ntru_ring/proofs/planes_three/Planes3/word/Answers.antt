@@ -2,7 +2,7 @@ use Rattle.std.proofs.Common.{get_or}
 use mir.Syntax.{w64}
 use mir.Val.{Fits}
 use Rattle.std.proofs.Common.{rules}
-use Rattle.ntru_ring.proofs.Planes.{inside_word}
+use Rattle.ntru_ring.proofs.Vectors.Planes.{inside_word}
 use Rattle.ntru_ring.proofs.planes_three.Planes3.word.Goals as goal
 
 pub invariant_of-result : goal.invariant_of-result

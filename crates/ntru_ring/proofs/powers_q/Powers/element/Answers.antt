@@ -1,8 +1,8 @@
 use Rattle.std.proofs.Common.{◌≡◌, arith, sym, subst, All}
 use lib.Lanes.{chunk}
 use Rattle.ntru_ring.specs.Reduction.{IsWithin}
-use Rattle.ntru_ring.proofs.Places.{chunk_within}
-use Rattle.ntru_ring.proofs.Powers.{power_is}
+use Rattle.ntru_ring.proofs.Rings.Places.{chunk_within}
+use Rattle.ntru_ring.proofs.Rings.Powers.{power_is}
 use Rattle.ntru_ring.proofs.powers_q.Powers.element.Goals as goal
 use Rattle.ntru_ring.proofs.powers_q.Powers.element.Goals.{After-loop-k}
 

@@ -2,8 +2,8 @@ use Rattle.std.proofs.Common.{lit≤, arith, sym, subst, pos}
 use Rattle.std.proofs.lemmas.List.{get_or-replicate}
 use Rattle.std.proofs.lemmas.Simd.{length-replicate}
 use Rattle.ntru_ring.specs.Reduction.{IsWithin}
-use Rattle.ntru_ring.proofs.Powers.{power_is}
-use Rattle.ntru_ring.proofs.Ranges.{within_zero}
+use Rattle.ntru_ring.proofs.Rings.Powers.{power_is}
+use Rattle.ntru_ring.proofs.Numbers.Ranges.{within_zero}
 use Rattle.ntru_ring.proofs.powers_q.Powers.of.Goals as goal
 
 pub loop-k-init : goal.loop-k-init

@@ -3,10 +3,10 @@ use Rattle.std.proofs.lemmas.List.Elements.{All-set}
 use lib.Lanes.{chunk}
 use Rattle.ntru_ring.specs.Ring.{coefficient, shift}
 use Rattle.ntru_ring.specs.Reduction.{reduced, IsWithin}
-use Rattle.ntru_ring.proofs.LanesQ.{sum_centred}
-use Rattle.ntru_ring.proofs.Places.{coefficient_within}
-use Rattle.ntru_ring.proofs.Powers.{next_power}
-use Rattle.ntru_ring.proofs.Ranges.{stored}
+use Rattle.ntru_ring.proofs.Vectors.LanesQ.{sum_centred}
+use Rattle.ntru_ring.proofs.Rings.Places.{coefficient_within}
+use Rattle.ntru_ring.proofs.Rings.Powers.{next_power}
+use Rattle.ntru_ring.proofs.Numbers.Ranges.{stored}
 use mir.Syntax.{w16}
 use Rattle.ntru_ring.proofs.powers_q.Powers.shift.Goals as goal
 

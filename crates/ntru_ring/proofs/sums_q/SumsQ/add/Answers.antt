@@ -1,9 +1,9 @@
 use Rattle.std.proofs.Common.{refl, ◌+◌, ◌*◌, ap, ◌∙◌, sym, arith, lit≤, All, subst, length}
 use Rattle.ntru_ring.specs.Ring.{plus, scale}
 use Rattle.ntru_ring.specs.Reduction.{reduced, IsWithin}
-use Rattle.ntru_ring.proofs.Congruence.{reduced-plus}
-use Rattle.ntru_ring.proofs.Sums.{added_within, added_length}
-use Rattle.ntru_ring.proofs.LanesQ.{factor}
+use Rattle.ntru_ring.proofs.Rings.Congruence.{reduced-plus}
+use Rattle.ntru_ring.proofs.Rings.Sums.{added_within, added_length}
+use Rattle.ntru_ring.proofs.Vectors.LanesQ.{factor}
 use Rattle.ntru_ring.proofs.sums_q.SumsQ.add.Goals as goal
 
 pub invariant_of-self : goal.invariant_of-self

@@ -1,6 +1,6 @@
 use Rattle.std.proofs.Common.{ap, ◌∙◌}
 use Rattle.ntru_ring.specs.Reduction.{reduced}
-use Rattle.ntru_ring.proofs.Congruence.{reduced-reduced}
+use Rattle.ntru_ring.proofs.Rings.Congruence.{reduced-reduced}
 use Rattle.ntru_ring.proofs.sums_q.SumsQ.make_room.Goals as goal
 
 pub returns-then-self-gt405-clause-same : goal.returns-then-self-gt405-clause-same

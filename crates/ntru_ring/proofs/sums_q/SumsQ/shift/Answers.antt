@@ -1,9 +1,9 @@
 use Rattle.std.proofs.Common.{◌∙◌, ◌+◌, ◌*◌, arith}
 use Rattle.ntru_ring.specs.Ring.{shift}
-use Rattle.ntru_ring.proofs.Algebra.{length-shift}
-use Rattle.ntru_ring.proofs.Bound.{All-wider}
-use Rattle.ntru_ring.proofs.Congruence.{shift_same}
-use Rattle.ntru_ring.proofs.Sums.{length_same}
+use Rattle.ntru_ring.proofs.Rings.Algebra.{length-shift}
+use Rattle.ntru_ring.proofs.Rings.Bound.{All-wider}
+use Rattle.ntru_ring.proofs.Rings.Congruence.{shift_same}
+use Rattle.ntru_ring.proofs.Rings.Sums.{length_same}
 use Rattle.ntru_ring.proofs.sums_q.SumsQ.shift.Goals as goal
 
 pub invariant_of-self : goal.invariant_of-self

@@ -2,11 +2,11 @@ use Rattle.std.proofs.Common.{refl, ◌+◌, ◌*◌, ap, ◌∙◌, ◌≡◌, 
 use Rattle.std.proofs.lemmas.Int.{ints}
 use Rattle.ntru_ring.specs.Ring.{plus, scale}
 use Rattle.ntru_ring.specs.Reduction.{reduced, IsWithin}
-use Rattle.ntru_ring.proofs.Algebra.{plus_scale_zero}
-use Rattle.ntru_ring.proofs.Congruence.{reduced-plus}
-use Rattle.ntru_ring.proofs.Bound.{All-wider, plus_within, scale_within_both}
-use Rattle.ntru_ring.proofs.Sums.{added_length}
-use Rattle.ntru_ring.proofs.Ranges.{stored}
+use Rattle.ntru_ring.proofs.Rings.Algebra.{plus_scale_zero}
+use Rattle.ntru_ring.proofs.Rings.Congruence.{reduced-plus}
+use Rattle.ntru_ring.proofs.Rings.Bound.{All-wider, plus_within, scale_within_both}
+use Rattle.ntru_ring.proofs.Rings.Sums.{added_length}
+use Rattle.ntru_ring.proofs.Numbers.Ranges.{stored}
 use mir.Syntax.{w16}
 use Rattle.ntru_ring.proofs.sums_small.SumsSmall.add.Goals as goal
 

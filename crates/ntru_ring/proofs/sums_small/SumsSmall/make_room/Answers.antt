@@ -1,6 +1,6 @@
 use Rattle.std.proofs.Common.{ap, ◌∙◌, arith, length}
 use Rattle.ntru_ring.specs.Reduction.{reduced}
-use Rattle.ntru_ring.proofs.Congruence.{length-reduced, reduced-reduced}
+use Rattle.ntru_ring.proofs.Rings.Congruence.{length-reduced, reduced-reduced}
 use Rattle.ntru_ring.proofs.sums_small.SumsSmall.make_room.Goals as goal
 
 pub invariant_of-self : goal.invariant_of-self

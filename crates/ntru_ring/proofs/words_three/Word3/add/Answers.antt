@@ -1,4 +1,4 @@
-use Rattle.ntru_ring.proofs.Words.{sum_inside, sum_value}
+use Rattle.ntru_ring.proofs.Vectors.Words.{sum_inside, sum_value}
 use Rattle.ntru_ring.proofs.words_three.Word3.add.Goals as goal
 
 pub invariant_of-result : goal.invariant_of-result

@@ -1,8 +1,8 @@
 use Rattle.std.proofs.Common.{◌∙◌, ◌*◌, ap, arith, lit<}
 use Rattle.std.specs.Int.{bit_at}
 use Rattle.ntru_ring.specs.Planes.{from_bits}
-use Rattle.ntru_ring.proofs.Ranges.{stored}
-use Rattle.ntru_ring.proofs.Words.{twice_first, twice_second, twice_above, twice_inside}
+use Rattle.ntru_ring.proofs.Numbers.Ranges.{stored}
+use Rattle.ntru_ring.proofs.Vectors.Words.{twice_first, twice_second, twice_above, twice_inside}
 use mir.Syntax.{w16}
 use Rattle.ntru_ring.proofs.words_three.Word3.pair_of.Goals as goal
 

@@ -3,12 +3,12 @@ use Rattle.std.proofs.Common.{◌≡◌, ℕ, zero, suc, ◌+◌, ◌<◌, ◌�
 use Rattle.std.proofs.lemmas.List.Elements.{All-head, All-tail, All-cons, All-weaker}
 use lib.Lanes.{chunk, put_chunk}
 use Rattle.std.proofs.lemmas.Simd.{length-chunk, get_or-chunk, get_or-put_chunk_below, get_or-put_chunk_at, get_or-put_chunk_above}
-use Rattle.ntru_ring.proofs.Kernels.{coefficient_added, length_added}
+use Rattle.ntru_ring.proofs.Rings.Kernels.{coefficient_added, length_added}
 use mir.Syntax.{w16}
 use Rattle.ntru_ring.specs.Ring.{plus, scale, coefficient}
 use Rattle.ntru_ring.specs.Reduction.{centred, reduced, IsWithin, IsNear}
-use Rattle.ntru_ring.proofs.Ranges.{stored}
-use Rattle.ntru_ring.proofs.VectorsQ.{near_within}
+use Rattle.ntru_ring.proofs.Numbers.Ranges.{stored}
+use Rattle.ntru_ring.proofs.Vectors.VectorsQ.{near_within}
 
 -- ---- coefficients that were stored and read
 pub kept_lanes : (h : ℕ) (z : List ℤ) → h < 32768 → All (IsWithin h) z → map (to_z w16) (map (of_z w16) z) ≡ z

@@ -10,11 +10,11 @@ use Rattle.std.specs.Int.{bit_at}
 use Rattle.ntru_ring.specs.Ring.{plus, scale, zero_of, coefficient}
 use Rattle.ntru_ring.specs.Reduction.{centred, reduced, IsWithin}
 use Rattle.ntru_ring.specs.Planes.{bit_of, from_bits, element_of}
-use Rattle.ntru_ring.proofs.Algebra.{length-plus, length-scale, length-zero_of}
-use Rattle.ntru_ring.proofs.Congruence.{length-reduced}
-use Rattle.ntru_ring.proofs.Places.{same_places, within_places, coefficient-plus, coefficient-scale, coefficient-reduced, coefficient-zero_of}
-use Rattle.ntru_ring.proofs.Integers.{minus_one}
-use Rattle.ntru_ring.proofs.Words.{from_bits_within, from_bits_zero, put_same, put_other, opposite_inside, opposite_value}
+use Rattle.ntru_ring.proofs.Rings.Algebra.{length-plus, length-scale, length-zero_of}
+use Rattle.ntru_ring.proofs.Rings.Congruence.{length-reduced}
+use Rattle.ntru_ring.proofs.Rings.Places.{same_places, within_places, coefficient-plus, coefficient-scale, coefficient-reduced, coefficient-zero_of}
+use Rattle.ntru_ring.proofs.Numbers.Integers.{minus_one}
+use Rattle.ntru_ring.proofs.Vectors.Words.{from_bits_within, from_bits_zero, put_same, put_other, opposite_inside, opposite_value}
 use Rattle.std.specs.Int.RustNames.{bit_or, bit_xor}
 
 -- ---- an element by its places

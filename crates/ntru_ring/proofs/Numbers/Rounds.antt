@@ -4,8 +4,8 @@ use Rattle.std.proofs.lemmas.Int.{ints}
 use Rattle.ntru_ring.specs.Reduction.{IsWithin}
 use Rattle.ntru_ring.specs.Ring.{coefficient}
 use Rattle.ntru_ring.specs.Small.{nearest, rounded}
-use Rattle.ntru_ring.proofs.Centred.{centred_within, centred_differs}
-use Rattle.ntru_ring.proofs.Places.{within_places, coefficient_within, coefficient-rounded, length-rounded}
+use Rattle.ntru_ring.proofs.Numbers.Centred.{centred_within, centred_differs}
+use Rattle.ntru_ring.proofs.Rings.Places.{within_places, coefficient_within, coefficient-rounded, length-rounded}
 
 pub nearest_multiple : (z : ℤ) → (m : ℤ) × (nearest z ≡ pos 3 *ℤ m)
 unfolding nearest

@@ -1,11 +1,11 @@
 -- One coefficient of a sum over R/q, as the code computes it in 32 bits.
 use Rattle.std.proofs.Common.{◌≡◌, ◌<◌, ◌≤◌, ◌-◌, ◌*◌, ◌+◌, ℕ, List, length, set, ℤ, pos, neg_ℤ, ◌-ℤ◌, ◌+ℤ◌, ◌*ℤ◌, sym, ap, ◌∙◌, to_z, of_z, lit<, lit≤, subst, arith, get_or-set_other}
 use Rattle.ntru_ring.specs.Ring.{coefficient}
-use Rattle.ntru_ring.proofs.Moves.{IsMovedUp, IsMovedUp-from_sets, one_not_zero}
+use Rattle.ntru_ring.proofs.Rings.Moves.{IsMovedUp, IsMovedUp-from_sets, one_not_zero}
 use Rattle.ntru_ring.specs.Reduction.{IsWithin, centred}
-use Rattle.ntru_ring.proofs.Centred.{centred_within}
-use Rattle.ntru_ring.proofs.Integers.{minus_product}
-use Rattle.ntru_ring.proofs.Ranges.{within_fits, within_product, within_sum, within_neg, within_word, wider, stored, fits_along}
+use Rattle.ntru_ring.proofs.Numbers.Centred.{centred_within}
+use Rattle.ntru_ring.proofs.Numbers.Integers.{minus_product}
+use Rattle.ntru_ring.proofs.Numbers.Ranges.{within_fits, within_product, within_sum, within_neg, within_word, wider, stored, fits_along}
 use Rattle.std.proofs.lemmas.Int.{ints, to_z-of_z}
 use mir.Syntax.{w16, w32}
 use mir.Val.{SFits}

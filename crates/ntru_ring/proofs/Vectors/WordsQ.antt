@@ -7,10 +7,10 @@ use lib.Signed.{lt_z, shr_z, ◌<ℤ◌}
 use mir.Syntax.{w16, w32}
 use mir.Val.{SFits}
 use Rattle.ntru_ring.specs.Reduction.{centred, IsWithin}
-use Rattle.ntru_ring.proofs.Centred.{centred_keeps, centred_same}
-use Rattle.ntru_ring.proofs.Integers.{shr_low, shr_high}
-use Rattle.ntru_ring.proofs.LanesQ.{stored_centred, widened_word}
-use Rattle.ntru_ring.proofs.Ranges.{within_fits, within_product, within_sum, within_word, stored, fits_along}
+use Rattle.ntru_ring.proofs.Numbers.Centred.{centred_keeps, centred_same}
+use Rattle.ntru_ring.proofs.Numbers.Integers.{shr_low, shr_high}
+use Rattle.ntru_ring.proofs.Vectors.LanesQ.{stored_centred, widened_word}
+use Rattle.ntru_ring.proofs.Numbers.Ranges.{within_fits, within_product, within_sum, within_word, stored, fits_along}
 
 -- ---- sums in 16 bits of rows that are added or subtracted
 pub read_word : (q x : ℤ) → SFits w16 x → q ≡ centred 2295 (to_z w16 (of_z w16 x)) → to_z w16 (of_z w16 q) ≡ centred 2295 x

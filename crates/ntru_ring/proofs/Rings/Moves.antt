@@ -2,11 +2,11 @@
 use Rattle.std.proofs.Common.{◌≡◌, ℕ, zero, suc, ◌+◌, ◌-◌, ◌<◌, ◌≤◌, List, length, set, ℤ, pos, ◌+ℤ◌, sym, ap, ◌∙◌, arith, All, get_or-set_same, get_or-set_other, length-set, subst, lit<}
 use Rattle.ntru_ring.specs.Ring.{shift, coefficient}
 use Rattle.ntru_ring.specs.Reduction.{centred, reduced, IsWithin}
-use Rattle.ntru_ring.proofs.Algebra.{length-shift}
-use Rattle.ntru_ring.proofs.Centred.{centred-centred, centred_keeps, centred_within, centred-plus_right}
-use Rattle.ntru_ring.proofs.Congruence.{length-reduced}
-use Rattle.ntru_ring.proofs.Ranges.{wider, within_sum}
-use Rattle.ntru_ring.proofs.Places.{same_places, within_places, coefficient_within, coefficient-reduced, coefficient-shift_first, coefficient-shift_second, coefficient-shift_rest}
+use Rattle.ntru_ring.proofs.Rings.Algebra.{length-shift}
+use Rattle.ntru_ring.proofs.Numbers.Centred.{centred-centred, centred_keeps, centred_within, centred-plus_right}
+use Rattle.ntru_ring.proofs.Rings.Congruence.{length-reduced}
+use Rattle.ntru_ring.proofs.Numbers.Ranges.{wider, within_sum}
+use Rattle.ntru_ring.proofs.Rings.Places.{same_places, within_places, coefficient_within, coefficient-reduced, coefficient-shift_first, coefficient-shift_second, coefficient-shift_rest}
 
 -- `new` is x times `old` up to a multiple of 2h + 1 in the last coefficient; both have n + 2 coefficients
 pub record IsMovedUp (h n : ℕ) (old new : List ℤ) : Type 0 where

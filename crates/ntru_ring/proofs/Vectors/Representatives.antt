@@ -10,9 +10,9 @@ use lib.Signed.{lt_z, ◌<ℤ◌}
 use mir.Syntax.{w16}
 use mir.Val.{SFits}
 use Rattle.ntru_ring.specs.Reduction.{centred, reduced, IsWithin, IsNear}
-use Rattle.ntru_ring.proofs.Centred.{centred_keeps, centred_same}
-use Rattle.ntru_ring.proofs.Ranges.{within_sum, within_fits}
-use Rattle.ntru_ring.proofs.VectorsQ.{near_within}
+use Rattle.ntru_ring.proofs.Numbers.Centred.{centred_keeps, centred_same}
+use Rattle.ntru_ring.proofs.Numbers.Ranges.{within_sum, within_fits}
+use Rattle.ntru_ring.proofs.Vectors.VectorsQ.{near_within}
 
 -- ---- one lane's representative
 raised : ℕ → ℕ

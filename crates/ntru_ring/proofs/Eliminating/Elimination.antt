@@ -6,11 +6,11 @@ use Rattle.std.proofs.lemmas.List.{get_or_default}
 use Rattle.ntru_ring.specs.Ring.{plus, scale, times, coefficient}
 use Rattle.ntru_ring.specs.Reduction.{centred, reduced}
 use Rattle.ntru_ring.specs.Elimination.{IsMultiple, IsCombined, Parts, IsEchelon, AreMultiples}
-use Rattle.ntru_ring.proofs.Algebra.{plus_comm, plus_assoc, length-scale, times-plus, times-scale}
-use Rattle.ntru_ring.proofs.Centred.{centred-plus_left, centred_keeps}
-use Rattle.ntru_ring.proofs.Congruence.{reduced-plus, scale_same, times_same, reduced-reduced, reduced-times_right}
-use Rattle.ntru_ring.proofs.Places.{coefficient-plus, coefficient-scale, coefficient-reduced}
-use Rattle.ntru_ring.proofs.Ranges.{within_zero}
+use Rattle.ntru_ring.proofs.Rings.Algebra.{plus_comm, plus_assoc, length-scale, times-plus, times-scale}
+use Rattle.ntru_ring.proofs.Numbers.Centred.{centred-plus_left, centred_keeps}
+use Rattle.ntru_ring.proofs.Rings.Congruence.{reduced-plus, scale_same, times_same, reduced-reduced, reduced-times_right}
+use Rattle.ntru_ring.proofs.Rings.Places.{coefficient-plus, coefficient-scale, coefficient-reduced}
+use Rattle.ntru_ring.proofs.Numbers.Ranges.{within_zero}
 
 -- ---- one row added to a combination
 swap_last : (a b c : List ℤ) → plus (plus a b) c ≡ plus (plus a c) b

@@ -7,8 +7,8 @@ use Rattle.std.proofs.lemmas.List.Sums.{sum_by-cons}
 use Rattle.ntru_ring.specs.Ring.{plus, scale, last, behind, shift, times}
 use Rattle.ntru_ring.specs.Reduction.{IsWithin}
 use Rattle.ntru_ring.specs.Small.{weight, is_nonzero}
-use Rattle.ntru_ring.proofs.Algebra.{length-shift}
-use Rattle.ntru_ring.proofs.Ranges.{wider, within_sum, within_scale, within_product}
+use Rattle.ntru_ring.proofs.Rings.Algebra.{length-shift}
+use Rattle.ntru_ring.proofs.Numbers.Ranges.{wider, within_sum, within_scale, within_product}
 
 pub All-wider : (m n : ℕ) → m ≤ n → (a : List ℤ) → All (IsWithin m) a → All (IsWithin n) a
 All-wider m n h a w = All-weaker (IsWithin m) (IsWithin n) (wider m n h) a w

@@ -4,8 +4,8 @@ use Rattle.std.proofs.lemmas.List.{length-map}
 use Rattle.std.proofs.lemmas.List.Elements.{All-head, All-tail, All-cons, All-nil}
 use Rattle.ntru_ring.specs.Ring.{plus, scale, last, behind, shift, times}
 use Rattle.ntru_ring.specs.Reduction.{centred, reduced, IsWithin}
-use Rattle.ntru_ring.proofs.Algebra.{plus_comm}
-use Rattle.ntru_ring.proofs.Centred.{centred-centred, centred_keeps, centred_within, centred-plus_left, centred-plus_right, centred-times_left, centred-times_right, centred-neg_ℤ}
+use Rattle.ntru_ring.proofs.Rings.Algebra.{plus_comm}
+use Rattle.ntru_ring.proofs.Numbers.Centred.{centred-centred, centred_keeps, centred_within, centred-plus_left, centred-plus_right, centred-times_left, centred-times_right, centred-neg_ℤ}
 
 pub length-reduced : (h : ℕ) (a : List ℤ) → length (reduced h a) ≡ length a
 unfolding reduced

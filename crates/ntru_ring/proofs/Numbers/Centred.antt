@@ -5,7 +5,7 @@ use Rattle.std.proofs.Math.Nat.{div-add-mod, mod-eq_of_lt}
 use Rattle.std.proofs.Math.IntN.{*ℤ_comm, +ℤ_comm}
 use borrow.Author.Differences.{up, down}
 use Rattle.ntru_ring.specs.Reduction.{centred, IsWithin}
-use Rattle.ntru_ring.proofs.Integers.{*ℤ-+ℤ, minus_one}
+use Rattle.ntru_ring.proofs.Numbers.Integers.{*ℤ-+ℤ, minus_one}
 
 -- the representative, by a natural m that differs from z + h by a multiple
 pub centred_is : (h : ℕ) (z : ℤ) (k m : ℕ) → z +ℤ pos h +ℤ pos (k * (2 * h + 1)) ≡ pos m → centred h z ≡ pos (m % (2 * h + 1)) -ℤ pos h

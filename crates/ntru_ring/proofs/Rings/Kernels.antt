@@ -3,10 +3,10 @@ use Rattle.std.proofs.Common.{◌≡◌, inl, inr, ℕ, ◌+◌, ◌<◌, ◌≤
 use Rattle.std.proofs.lemmas.Int.{ints}
 use Rattle.std.proofs.lemmas.Bool.{cases_lt}
 use Rattle.ntru_ring.specs.Ring.{plus, scale, coefficient}
-use Rattle.ntru_ring.proofs.Algebra.{length-plus, length-scale}
+use Rattle.ntru_ring.proofs.Rings.Algebra.{length-plus, length-scale}
 use Rattle.ntru_ring.specs.Reduction.{centred, reduced}
-use Rattle.ntru_ring.proofs.Congruence.{length-reduced}
-use Rattle.ntru_ring.proofs.Places.{same_places, coefficient-plus, coefficient-scale, coefficient-reduced}
+use Rattle.ntru_ring.proofs.Rings.Congruence.{length-reduced}
+use Rattle.ntru_ring.proofs.Rings.Places.{same_places, coefficient-plus, coefficient-scale, coefficient-reduced}
 
 -- `new` is `old` with `by` times `row` added at the places from `from` to below `k`
 pub record IsAdded (old new row : List ℤ) (by : ℤ) (from k : ℕ) : Type 0 where

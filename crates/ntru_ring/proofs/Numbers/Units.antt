@@ -7,7 +7,7 @@ use borrow.Author.Differences.{up, down, Apart-out}
 use lib.Signed.{rem_z}
 use Rattle.ntru_ring.specs.Units.{inverse_modulo}
 use Rattle.ntru_ring.specs.Reduction.{centred, IsWithin}
-use Rattle.ntru_ring.proofs.Centred.{centred_is, centred_same, centred_keeps, centred-times_left, centred-times_right}
+use Rattle.ntru_ring.proofs.Numbers.Centred.{centred_is, centred_same, centred_keeps, centred-times_left, centred-times_right}
 
 is_inverted : ℕ → Bool
 is_inverted x = eqb (inverse_modulo x * x % 4591) 1

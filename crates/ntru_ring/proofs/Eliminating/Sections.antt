@@ -7,10 +7,10 @@ use lib.Lanes.{chunk, put_chunk}
 use Rattle.ntru_ring.specs.Ring.{plus, scale, coefficient}
 use Rattle.ntru_ring.specs.Reduction.{centred, reduced, IsWithin}
 use Rattle.ntru_ring.specs.Sections.{IsAddedInSection, IsInSection}
-use Rattle.ntru_ring.proofs.Blocks.{put_within, block_at, block_below, block_above}
-use Rattle.ntru_ring.proofs.Congruence.{reduced_within}
-use Rattle.ntru_ring.proofs.Kernels.{coefficient_added, length_added}
-use Rattle.ntru_ring.proofs.Places.{same_places}
+use Rattle.ntru_ring.proofs.Vectors.Blocks.{put_within, block_at, block_below, block_above}
+use Rattle.ntru_ring.proofs.Rings.Congruence.{reduced_within}
+use Rattle.ntru_ring.proofs.Rings.Kernels.{coefficient_added, length_added}
+use Rattle.ntru_ring.proofs.Rings.Places.{same_places}
 
 -- the blocks before `hi` are done, and the places from 760 on and before `end`
 pub record IsGone (c : ℤ) (a : List ℤ) (at : ℕ) (b : List ℤ) (from lo hi end : ℕ) (new : List ℤ) : Type 0 where

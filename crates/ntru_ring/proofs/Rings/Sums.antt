@@ -2,9 +2,9 @@
 use Rattle.std.proofs.Common.{◌≡◌, ℕ, ◌+◌, ◌*◌, ◌≤◌, List, length, ℤ, sym, ap, ◌∙◌, arith, All}
 use Rattle.ntru_ring.specs.Ring.{plus, scale}
 use Rattle.ntru_ring.specs.Reduction.{reduced, IsWithin}
-use Rattle.ntru_ring.proofs.Algebra.{length-plus, length-scale}
-use Rattle.ntru_ring.proofs.Congruence.{length-reduced}
-use Rattle.ntru_ring.proofs.Bound.{All-wider, plus_within, scale_within_both}
+use Rattle.ntru_ring.proofs.Rings.Algebra.{length-plus, length-scale}
+use Rattle.ntru_ring.proofs.Rings.Congruence.{length-reduced}
+use Rattle.ntru_ring.proofs.Rings.Bound.{All-wider, plus_within, scale_within_both}
 
 -- a sum of count terms is within h + count * room
 pub added_within : (h room count : ℕ) (old row : List ℤ) (by : ℤ) → h * h ≤ room → IsWithin h by → All (IsWithin (h + count * room)) old → All (IsWithin h) row → All (IsWithin (h + (count + 1) * room)) (plus old (scale by row))

@@ -2,7 +2,7 @@
 use Rattle.std.proofs.Common.{◌≡◌, ℕ, zero, suc, ◌+◌, ◌-◌, ◌<◌, List, [], ◌∷◌, ◌++◌, length, set, replicate, ℤ, pos, ◌+ℤ◌, ◌*ℤ◌, refl, sym, ap, ◌∙◌, arith}
 use Rattle.std.proofs.lemmas.Int.{ints}
 use Rattle.ntru_ring.specs.Ring.{plus, scale, last, behind, shift, times, zero_of, one_of}
-use Rattle.ntru_ring.proofs.Algebra.{length-times, length-zero_of, scale_zero, times_step, times_swap}
+use Rattle.ntru_ring.proofs.Rings.Algebra.{length-times, length-zero_of, scale_zero, times_step, times_swap}
 
 pub one_of_suc : (n : ℕ) → one_of (suc n) ≡ pos 1 ∷ zero_of n
 unfolding one_of zero_of

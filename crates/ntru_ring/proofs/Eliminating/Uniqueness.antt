@@ -2,10 +2,10 @@
 use Rattle.std.proofs.Common.{◌≡◌, ℕ, suc, List, length, ℤ, sym, ap, ◌∙◌, All}
 use Rattle.ntru_ring.specs.Ring.{times, zero_of, one_of}
 use Rattle.ntru_ring.specs.Reduction.{reduced, IsWithin, IsInverse, Annihilates}
-use Rattle.ntru_ring.proofs.Algebra.{times_swap}
-use Rattle.ntru_ring.proofs.Unit.{times_comm, times_assoc, one_times, times_zero}
-use Rattle.ntru_ring.proofs.Congruence.{reduced_keeps, reduced-times_left, reduced-times_right}
-use Rattle.ntru_ring.proofs.Inverses.{reduced_zero}
+use Rattle.ntru_ring.proofs.Rings.Algebra.{times_swap}
+use Rattle.ntru_ring.proofs.Rings.Unit.{times_comm, times_assoc, one_times, times_zero}
+use Rattle.ntru_ring.proofs.Rings.Congruence.{reduced_keeps, reduced-times_left, reduced-times_right}
+use Rattle.ntru_ring.proofs.Eliminating.Inverses.{reduced_zero}
 
 -- (g * v) * z is z where v is an inverse of g
 undone : (h n : ℕ) (g v z : List ℤ) → length g ≡ suc n → length z ≡ suc n → All (IsWithin h) z → IsInverse h g v → reduced h (times (times g v) z) ≡ z

@@ -3,8 +3,8 @@ use Rattle.std.proofs.Common.{◌≡◌, ℕ, ◌+◌, ◌-◌, ◌<◌, ◌≤�
 use Rattle.std.proofs.lemmas.List.{drop_more, drop_all}
 use Rattle.ntru_ring.specs.Ring.{plus, scale, shift, times, zero_of, coefficient}
 use Rattle.ntru_ring.specs.Reduction.{reduced}
-use Rattle.ntru_ring.proofs.Algebra.{plus_comm, plus_assoc, plus_scale_zero, times_step, scale_zero}
-use Rattle.ntru_ring.proofs.Congruence.{reduced-plus, shift_same, times_same}
+use Rattle.ntru_ring.proofs.Rings.Algebra.{plus_comm, plus_assoc, plus_scale_zero, times_step, scale_zero}
+use Rattle.ntru_ring.proofs.Rings.Congruence.{reduced-plus, shift_same, times_same}
 
 -- no coefficient is taken yet
 pub product_none : (n : ℕ) (a b : List ℤ) → length a ≡ n → length b ≡ n → zero_of n ≡ times (drop n a) b

@@ -3,8 +3,8 @@ use Rattle.std.proofs.Common.{◌≡◌, length, All}
 use Rattle.ntru_ring.specs.declared.planes_three.Planes3.{Planes3}
 use Rattle.ntru_ring.specs.Elements.{element}
 use Rattle.ntru_ring.specs.Reduction.{reduced, IsWithin}
-use Rattle.ntru_ring.proofs.Congruence.{reduced_keeps}
-use Rattle.ntru_ring.proofs.Planes.{length-element_of, element_within}
+use Rattle.ntru_ring.proofs.Rings.Congruence.{reduced_keeps}
+use Rattle.ntru_ring.proofs.Vectors.Planes.{length-element_of, element_within}
 
 pub length-element : (p : Planes3) → length (element p) ≡ 761
 length-element p = length-element_of p.nonzero p.negative

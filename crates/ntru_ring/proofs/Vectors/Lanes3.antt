@@ -3,9 +3,9 @@ use Rattle.std.proofs.Common.{◌≡◌, ℤ, pos, negsuc, zero, suc, neg_ℤ, r
 use Rattle.std.proofs.lemmas.Int.{ints, to_z-of_z}
 use Rattle.ntru_ring.specs.Reduction.{IsWithin, centred}
 use Rattle.ntru_ring.specs.Small.{nearest}
-use Rattle.ntru_ring.proofs.Centred.{centred_within}
-use Rattle.ntru_ring.proofs.Ranges.{within_fits, within_sum, stored}
-use Rattle.ntru_ring.proofs.Rounds.{nearest_within}
+use Rattle.ntru_ring.proofs.Numbers.Centred.{centred_within}
+use Rattle.ntru_ring.proofs.Numbers.Ranges.{within_fits, within_sum, stored}
+use Rattle.ntru_ring.proofs.Numbers.Rounds.{nearest_within}
 use mir.Syntax.{w16}
 use mir.Val.{SFits}
 

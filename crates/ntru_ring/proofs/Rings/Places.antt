@@ -7,8 +7,8 @@ use lib.Lanes.{chunk}
 use Rattle.ntru_ring.specs.Ring.{plus, scale, last, behind, shift, zero_of, coefficient}
 use Rattle.ntru_ring.specs.Reduction.{centred, reduced, IsWithin}
 use Rattle.ntru_ring.specs.Small.{nearest, rounded}
-use Rattle.ntru_ring.proofs.Centred.{centred_keeps}
-use Rattle.ntru_ring.proofs.Ranges.{within_zero}
+use Rattle.ntru_ring.proofs.Numbers.Centred.{centred_keeps}
+use Rattle.ntru_ring.proofs.Numbers.Ranges.{within_zero}
 
 pub same_places : (a b : List ℤ) → length a ≡ length b → ((k : ℕ) → k < length a → coefficient a k ≡ coefficient b k) → a ≡ b
 same_places a b e h = ext_get_or (pos 0) a b e h

@@ -3,7 +3,7 @@ use Rattle.std.proofs.Common.{◌≡◌, ℕ, zero, suc, List, [], ◌∷◌, le
 use Rattle.std.proofs.lemmas.Int.{ints}
 use Rattle.ntru_ring.specs.Ring.{plus, scale, last, behind, shift, times, zero_of}
 use Rattle.std.proofs.Math.IntN.{+ℤ_comm, +ℤ_assoc, *ℤ_comm}
-use Rattle.ntru_ring.proofs.Integers.{*ℤ-+ℤ, +ℤ-*ℤ, *ℤ_assoc, +ℤ_middle}
+use Rattle.ntru_ring.proofs.Numbers.Integers.{*ℤ-+ℤ, +ℤ-*ℤ, *ℤ_assoc, +ℤ_middle}
 
 -- ---- lengths
 pub length-scale : (c : ℤ) (a : List ℤ) → length (scale c a) ≡ length a

@@ -4,8 +4,8 @@ use Rattle.std.proofs.lemmas.Simd.{length-chunk, get_or-chunk}
 use lib.Lanes.{chunk}
 use Rattle.ntru_ring.specs.Ring.{shift, coefficient}
 use Rattle.ntru_ring.specs.Reduction.{centred, reduced, IsWithin}
-use Rattle.ntru_ring.proofs.Moves.{shift_places}
-use Rattle.ntru_ring.proofs.Places.{same_places, chunk_within}
+use Rattle.ntru_ring.proofs.Rings.Moves.{shift_places}
+use Rattle.ntru_ring.proofs.Rings.Places.{same_places, chunk_within}
 
 -- the power starts one place before
 pub next_power : (z : List ℤ) (at : ℕ) (last second : ℤ) → length z ≡ 1522 → All (IsWithin 2295) z → at + 1 ≤ 761 → last ≡ coefficient z (at + 761)

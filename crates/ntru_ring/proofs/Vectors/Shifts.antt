@@ -7,12 +7,12 @@ use lib.Bits.{bit_and}
 use Rattle.ntru_ring.specs.Ring.{shift, coefficient}
 use Rattle.ntru_ring.specs.Reduction.{centred, reduced}
 use Rattle.ntru_ring.specs.Planes.{bit_of, from_bits, element_of, IsMoved}
-use Rattle.ntru_ring.proofs.Algebra.{length-shift}
-use Rattle.ntru_ring.proofs.Centred.{centred_keeps}
-use Rattle.ntru_ring.proofs.Congruence.{length-reduced}
-use Rattle.ntru_ring.proofs.Places.{same_places, coefficient_within, coefficient-reduced, coefficient-shift_first, coefficient-shift_second, coefficient-shift_rest}
-use Rattle.ntru_ring.proofs.Planes.{IsLawful, length-element_of, coefficient-element_of, element_within, bit_of_beyond}
-use Rattle.ntru_ring.proofs.Words.{masked_low, masked_high}
+use Rattle.ntru_ring.proofs.Rings.Algebra.{length-shift}
+use Rattle.ntru_ring.proofs.Numbers.Centred.{centred_keeps}
+use Rattle.ntru_ring.proofs.Rings.Congruence.{length-reduced}
+use Rattle.ntru_ring.proofs.Rings.Places.{same_places, coefficient_within, coefficient-reduced, coefficient-shift_first, coefficient-shift_second, coefficient-shift_rest}
+use Rattle.ntru_ring.proofs.Vectors.Planes.{IsLawful, length-element_of, coefficient-element_of, element_within, bit_of_beyond}
+use Rattle.ntru_ring.proofs.Vectors.Words.{masked_low, masked_high}
 
 -- the first k words of `new` are those of `old`, moved up by one place
 pub record IsMoving (old new : List ℕ) (k : ℕ) : Type 0 where

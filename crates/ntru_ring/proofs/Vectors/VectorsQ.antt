@@ -12,9 +12,9 @@ use mir.Syntax.{w16, w32}
 use mir.Val.{SFits}
 use Rattle.ntru_ring.specs.Ring.{plus, scale}
 use Rattle.ntru_ring.specs.Reduction.{centred, reduced, IsWithin, IsNear}
-use Rattle.ntru_ring.proofs.Centred.{centred_same}
-use Rattle.ntru_ring.proofs.Integers.{*ℤ-+ℤ, *ℤ_swap, minus_product, shr_low, shr_high}
-use Rattle.ntru_ring.proofs.Ranges.{within_product, within_fits, within_word, stored}
+use Rattle.ntru_ring.proofs.Numbers.Centred.{centred_same}
+use Rattle.ntru_ring.proofs.Numbers.Integers.{*ℤ-+ℤ, *ℤ_swap, minus_product, shr_low, shr_high}
+use Rattle.ntru_ring.proofs.Numbers.Ranges.{within_product, within_fits, within_word, stored}
 
 -- ---- quotients by 65536
 -- the errors of a quotient a of v * q, where q is about 65536 * f / 4591, and b is - f * v

@@ -1,0 +1,5 @@
+pub mod Elimination
+pub mod Inverses
+pub mod Pivots
+pub mod Sections
+pub mod Uniqueness

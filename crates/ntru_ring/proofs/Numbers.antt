@@ -1,0 +1,5 @@
+pub mod Centred
+pub mod Integers
+pub mod Ranges
+pub mod Rounds
+pub mod Units

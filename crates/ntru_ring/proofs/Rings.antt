@@ -1,0 +1,10 @@
+pub mod Algebra
+pub mod Bound
+pub mod Congruence
+pub mod Kernels
+pub mod Moves
+pub mod Places
+pub mod Powers
+pub mod Products
+pub mod Sums
+pub mod Unit

@@ -1,0 +1,10 @@
+pub mod Blocks
+pub mod Elements
+pub mod Lanes3
+pub mod LanesQ
+pub mod Planes
+pub mod Representatives
+pub mod Shifts
+pub mod VectorsQ
+pub mod Words
+pub mod WordsQ
