@@ -18,7 +18,7 @@ lines_next line items i d h =
     ap (flat_map line) (take_more items i d h) ∙ flat_map-append line (take i items) (get_or items i d ∷ [])
     ∙ ap (λ more. flat_map line (take i items) ++ more) (one_line line (get_or items i d))
 
--- and those of the items behind
+-- and those of the items after
 lines_whole : {A : Type 0} (line : A → List ℕ) (items : List A) (i : ℕ) (d : A) → i < length items
     → flat_map line items ≡ (flat_map line (take i items) ++ line (get_or items i d)) ++ flat_map line (drop (i + 1) items)
 lines_whole line items i d h =

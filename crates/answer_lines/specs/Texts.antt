@@ -12,6 +12,6 @@ is_plain byte = (nat_le 32 byte && nat_le byte 126) && not (byte == 34 || byte =
 unfoldable pub escaped : ℕ → List ℕ
 escaped byte = if is_plain byte then byte ∷ [] else codes "\\x" ++ encode_lower (byte ∷ [])
 
--- the line of a text with its position, behind a head
+-- the line of a text with its position, after a head
 unfoldable pub text_line : List ℕ → Item → List ℕ
 text_line head item = head ++ position_text item.position ++ codes " \"" ++ flat_map escaped item.bytes ++ codes "\"\n"

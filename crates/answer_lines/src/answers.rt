@@ -8,7 +8,7 @@ use dr_ports::{OutputLine, ROOM};
 use packet::{Kind, Malformed};
 use session_model::{Answer, Refusal, Summary};
 
-/// Puts a name and a number behind what stands.
+/// Puts a name and a number after what stands.
 pub fn put_named(line: &mut OutputLine, name: &[u8], number: u64)
     requires { length line.old + length name.now + 20 ≤ ROOM }
     ensures bytes { line.new ≡ line.old ++ name.now ++ decimal number }
@@ -18,7 +18,7 @@ pub fn put_named(line: &mut OutputLine, name: &[u8], number: u64)
     line.number(number);
 }
 
-/// Puts a position behind what stands, as `epoch.index`.
+/// Puts a position after what stands, as `epoch.index`.
 #[tactic(auto, unfolding(crate::specs::Answers::position_text))]
 pub fn put_position(line: &mut OutputLine, position: Position)
     requires { length line.old + 41 ≤ ROOM }
@@ -48,7 +48,7 @@ fn kind_name(kind: Kind) -> &'static [u8]
     }
 }
 
-/// Puts a fault's kind and place behind what stands.
+/// Puts a fault's kind and place after what stands.
 fn put_fault(line: &mut OutputLine, fault: Malformed)
     requires { length line.old + 40 ≤ ROOM }
     ensures bytes { line.new ≡ line.old ++ codes "Malformed " ++ kind_text fault.kind ++ codes " " ++ decimal fault.at }
@@ -60,7 +60,7 @@ fn put_fault(line: &mut OutputLine, fault: Malformed)
     line.number(fault.at as u64);
 }
 
-/// Puts a refusal's name and values behind what stands.
+/// Puts a refusal's name and values after what stands.
 #[tactic(auto, unfolding(crate::specs::Answers::refusal_text))]
 pub fn put_refusal(line: &mut OutputLine, refusal: Refusal)
     requires { length line.old + 60 ≤ ROOM }
@@ -95,7 +95,7 @@ pub fn put_refusal(line: &mut OutputLine, refusal: Refusal)
     }
 }
 
-/// Puts what a side holds behind what stands.
+/// Puts what a side holds after what stands.
 #[tactic(auto, unfolding(crate::specs::Answers::summary_text))]
 pub fn put_summary(line: &mut OutputLine, summary: Summary)
     requires { length line.old + 110 ≤ ROOM }
@@ -108,7 +108,7 @@ pub fn put_summary(line: &mut OutputLine, summary: Summary)
     put_named(line, b" outbox ", u64::from(summary.outbox));
 }
 
-/// Puts an answer in words behind what stands.
+/// Puts an answer in words after what stands.
 #[tactic(auto, unfolding(crate::specs::Answers::answer_text))]
 pub fn put_answer(line: &mut OutputLine, answer: Answer)
     requires { length line.old + 116 ≤ ROOM }

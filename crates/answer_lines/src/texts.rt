@@ -23,7 +23,7 @@ fn is_plain(byte: u8) -> bool
     (byte >= b' ' && byte <= b'~') && !(byte == b'"' || byte == b'\\')
 }
 
-/// Puts one byte of a text behind what stands.
+/// Puts one byte of a text after what stands.
 #[tactic(auto, using(crate::proofs::Escaping::plain_byte))]
 fn put_escaped(line: &mut TextLine, byte: u8)
     requires { length line.old.items + 4 ≤ 4192 }
@@ -40,7 +40,7 @@ fn put_escaped(line: &mut TextLine, byte: u8)
     line.try_extend_from_slice(&digits).unwrap();
 }
 
-/// The line of a text with its position, behind a head, as a side's name: `HEAD t.i "text"`, in which each byte that isn't
+/// The line of a text with its position, after a head, as a side's name: `HEAD t.i "text"`, in which each byte that isn't
 /// printable, a quote or a backslash is `\x` and two hex digits.
 #[tactic(auto, unfolding(crate::specs::Texts::text_line))]
 pub fn text_line(head: &[u8], position: Position, text: &[u8]) -> TextLine

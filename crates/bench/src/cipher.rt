@@ -42,7 +42,7 @@ fn time_hmac<R: Clock + AllocGlobal>(rt: &R, size: usize) -> io::Result<u64> {
     times.median()
 }
 
-/// So many bytes in so many nanoseconds, in MB/s.
+/// This many bytes in this many nanoseconds, in MB/s.
 fn rate(size: usize, nanos: u64) -> u64 {
     if nanos == 0 {
         return 0;

@@ -28,7 +28,7 @@ fn seed_of(asked: bool) -> Option<Key32>
     }
 }
 
-/// Says so many texts of the greatest length, whose packets stay in the outbox.
+/// Says this many texts of the greatest length, whose packets stay in the outbox.
 fn fill_outbox<K: Kem>(session: &mut Session<K>, work: &mut K::Work, outbox: &mut Outbox) {
     for _ in 0..OUTBOX_LIMIT {
         if let Ok(asked) = session.send_check(TEXT_LIMIT) {

@@ -1,4 +1,4 @@
--- A lawful client is lawful behind a packet that it takes.
+-- A lawful client is lawful after a packet that it takes.
 use Rattle.std.proofs.Common.{Bool, Err, List, None, Ok, Option, Result, Some, [], ap, arith, false, length, refl, subst, suc, true, zero, ℕ, ◌++◌, ◌+◌, ◌-◌, ◌<◌, ◌∙◌, ◌∷◌, ◌≡◌, ◌≤◌}
 use Rattle.std.specs.Cmp.Lexicographic.{pointwise}
 use Rattle.std.specs.Prelude.{All, if◌then◌else◌, nat_eq, nat_le, nat_lt, not, ◌&&◌, ◌==◌}
@@ -52,7 +52,7 @@ long_without : (kept : List Kept) (p : Position) → AreLong kept → AreLong (w
 unfolding without
 long_without kept p long = All-filter (λ k. not (is_kept_at p k)) (λ (one : Kept). length one.key.bytes ≡ 32) kept long
 
--- ---- what stands behind a way to the key of an epoch's packet
+-- ---- what stands after a way to the key of an epoch's packet
 
 record IsTaken (s : State) (epoch : ℕ) (next : State) : Type 0 where
   on : GoesOn s next

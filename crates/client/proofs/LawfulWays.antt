@@ -96,7 +96,7 @@ known_lawful k s p (Some r) way l held peers reached most is =
 
 -- ---- into the next epoch
 
--- the message of a later epoch has a public key behind its ciphertext
+-- the message of a later epoch has a public key after its ciphertext
 public_long : (k : Mechanism) (f : Fields) (epoch : ℕ) → IsLawful (agreement_size k) f → f.epoch ≡ epoch + 1
     → length (drop k.ciphertext f.agreement) ≡ k.public
 public_long k f epoch packet next =

@@ -38,7 +38,7 @@ itself k w = record { events = []; whole = All-nil IsSeedWhole; leads = refl }
 event_later : (k : Mechanism) (w : World) (h : Event) → IsSeedWhole h → IsLater k w (step_of k w h).next
 event_later k w h whole = record { events = h ∷ []; whole = All-cons IsSeedWhole h [] whole (All-nil IsSeedWhole); leads = refl }
 
--- an act is an event, behind its seed where one was drawn
+-- an act is an event, after its seed where one was drawn
 act_later : (k : Mechanism) (side : Side) (w : World) (act : Act) → IsFairAct k w side act
     → IsLater k w (act_in k w side act).next
 act_later k side w (saying text None) fair = event_later k w (says side text) tt
@@ -112,7 +112,7 @@ module _ {X : Type 0} (state : X → DiskState) (xs : List X) (k : Mechanism) (s
       subst (λ m. StandsStill k side first (known m) (state b)) step
       (goes_on k side first (state before.0) (state b) (known n) (known (n + 1)) link (stands n before.0 before.1))
 
-  -- from a moment to one that is so many links later
+  -- from a moment to one that is this many links later
   later_by : (n more : ℕ) (b : X) → slice_get xs (n + more) ≡ Some b → IsLater k (known n).last (known (n + more)).last
   later_by n zero b is = subst (λ m. IsLater k (known n).last (known m).last) (omega arith) (itself k (known n).last)
   later_by n (suc more) b is =

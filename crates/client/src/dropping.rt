@@ -57,7 +57,7 @@ impl<K: Kem> Client<K> {
         self.drop_texts(disk, n)
     }
 
-    /// Drops the oldest texts, of which so many stand.
+    /// Drops the oldest texts, of which this many stand.
     fn drop_texts<D: Disk>(&mut self, disk: &mut D, n: u32) -> Result<(), DropRefusal>
         requires some { 0 < n }
         requires enough { n ≤ length self.old.kept.inbox }
@@ -124,7 +124,7 @@ impl<K: Kem> Client<K> {
         self.drop_packets(disk, n)
     }
 
-    /// Drops the oldest packets, of which so many stand.
+    /// Drops the oldest packets, of which this many stand.
     fn drop_packets<D: Disk>(&mut self, disk: &mut D, n: u32) -> Result<(), DropRefusal>
         requires some { 0 < n }
         requires enough { n ≤ length self.old.kept.outbox }

@@ -12,7 +12,7 @@ use kem_laws::OpenKem;
 use std::alloc::Global;
 use std::test::Fail;
 
-/// No opening makes so many writes and syncs.
+/// No opening makes this many writes and syncs.
 const MANY: u32 = 6;
 
 /// How many texts and packets stand.
@@ -30,7 +30,7 @@ struct Row {
     act: Act,
 }
 
-/// From so many writes and syncs on, such a crash leaves what the act made.
+/// From this many writes and syncs on, such a crash leaves what the act made.
 const MODES: [(Mode, u32); 5] = [
     (Mode::Old, 4),
     (Mode::New, 2),

@@ -65,7 +65,7 @@ all_values f first second more none one two three empty first_put second_put mor
     let two_is = second_put ∙ ap₂ (λ xs o. xs ++ option_to_list o) one_is second_is in
     more_put ∙ ap₂ (λ xs o. xs ++ unwrap_or o []) two_is more_is
 
--- a third value and those behind it
+-- a third value and those after it
 pub three_or_more : (xs : List (Bor Text)) (d : Bor Text) → 3 ≤ length xs
     → (third : Text) × (others : List Text) × (texts (take (length xs - 2) (drop 2 xs)) ≡ third ∷ others) × (texts xs ≡ (get_or xs 0 d).now ∷ (get_or xs 1 d).now ∷ third ∷ others)
 three_or_more [] d h = absurd (omega arith)

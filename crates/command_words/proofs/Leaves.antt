@@ -27,7 +27,7 @@ rows_for : List Text → List Found
 rows_for [] = []
 rows_for (value ∷ values) = row_for (codes "more") (value ∷ values) ∷ []
 
--- behind the first two: the values seen, and the last, which is read
+-- after the first two: the values seen, and the last, which is read
 collecting : Text → Text → List Text → Text → Held
 collecting a b seen last = record {
   rows = row_for (codes "first") (a ∷ []) ∷ row_for (codes "second") (b ∷ []) ∷ rows_for seen;
@@ -69,7 +69,7 @@ module _ (name a b : Text) (read : Text → Text → List Text → Option Work) 
 
 -- ---- as many values as the command has
 
--- behind `--`, where the parse passes, the values are what it found
+-- after `--`, where the parse passes, the values are what it found
 pub values_hold : (name : Text) (reading : Reading) (values : List Text) → fault_from (built_for name reading) (walk_of start true) values ≡ []
     → values_found (finished (built_rules reading) (held_after (built_for name reading) (walk_of start true) values)) ≡ values
 unfolding clap_on_literals collecting_at collecting row_for rows_for

@@ -85,7 +85,7 @@ module _ (s : Shape) (flat : IsFlat s.rules) (l : Place) (word : Text) where
       go None = refl
       go (Some a) = skip_kept s.rules a word l.held
 
-  -- behind `--` each word is a value
+  -- after `--` each word is a value
   trailing_moves : walked s.rules [] (walk_of l true) word ≡ walk_of (moved s.rules word l) true
   unfolding clap_on_literals
   trailing_moves = go (arg_by_index s.rules l.position)
@@ -128,14 +128,14 @@ has_char y zs text none =
     let same : 45 ∷ [] ≡ 45 ∷ y ∷ zs = ap (λ cs. encode_utf8_all (45 ∷ cs)) (sym empty) ∙ encodes-chars (45 ∷ y ∷ zs) text in
     cc
 
--- ---- the words behind a name
+-- ---- the words after a name
 
 -- the words are texts
 abbrev pub AreTexts : List Text → Type 0
 AreTexts [] = ⊤
 AreTexts (word ∷ words) = IsUtf8 word × AreTexts words
 
--- from this place the words come to what these values come to behind `--`, or are refused where they are none
+-- from this place the words come to what these values come to after `--`, or are refused where they are none
 abbrev pub ComesTo : Shape → Place → List Text → Option (List Text) → Type 0
 ComesTo s l words None = fault_from s (walk_of l false) words ≡ [] → ⊥
 ComesTo s l words (Some values) =

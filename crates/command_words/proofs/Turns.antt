@@ -22,7 +22,7 @@ pub record Place : Type 0 where
   pub position : ℕ
   pub several : Bool
 
--- the walk there, behind `--` or not
+-- the walk there, after `--` or not
 abbrev pub walk_of : Place → Bool → Walk
 walk_of l is_trailing = record { held = l.held; waiting = waiting_for l.several; position = l.position; is_trailing = is_trailing; stopped = None }
 

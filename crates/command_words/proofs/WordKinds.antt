@@ -1,4 +1,4 @@
--- What a word behind a command's name is: the separator, plain, a long flag or a short one.
+-- What a word after a command's name is: the separator, plain, a long flag or a short one.
 use Rattle.std.proofs.Common.{◌≡◌, ℕ, ◌==◌, Bool, true, false, refl, sym, List, [], ◌∷◌, Option, Some, None, subst, eqb-true}
 use Rattle.clap.specs.Lexer.{long_of, short_of, name_and_value}
 use Rattle.command_words.specs.Values.{is_separator, is_flag}

@@ -12,7 +12,7 @@ wanted id = record (new_rule id) { required = true }
 abbrev pub wanted_each : List ℕ → Rule
 wanted_each id = record (wanted id) { action = Some Append }
 
--- the first value of a command, its second, and those behind them
+-- the first value of a command, its second, and those after them
 abbrev pub first_rule : Rule
 first_rule = wanted (codes "first")
 

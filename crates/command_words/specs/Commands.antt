@@ -46,7 +46,7 @@ relay_read port count boxes =
 unfoldable pub made_read : List ℕ → List ℕ → Option Work
 made_read rounds number = option_and_then (λ r. option_map (plays_made r) (number_read number)) (count_read ROUND_LIMIT rounds)
 
--- a command without a value, with one, with two, or with two and one or more behind them, which are read so
+-- a command without a value, with one, with two, or with two and one or more after them, which are read so
 pub data Reading : Type 0 where
   bare : Work → Reading
   valued : (List ℕ → Option Work) → Reading
@@ -97,7 +97,7 @@ row_of table name = find (λ row. bytes_eq name row.0) table
 abbrev pub command_named : List Row → List ℕ → List (List ℕ) → Option Work
 command_named table name values = option_and_then (λ row. values_read row.1 values) (row_of table name)
 
--- a name, and behind it the values
+-- a name, and after it the values
 abbrev pub command_in : List Row → List (List ℕ) → Option Work
 command_in table [] = None
 command_in table (name ∷ behind) = option_and_then (command_named table name) (values_of behind)

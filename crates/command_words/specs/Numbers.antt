@@ -1,4 +1,4 @@
--- Numbers as std's `parse` reads them at a `u64`: decimal digits behind at most one plus, leading zeros among them.
+-- Numbers as std's `parse` reads them at a `u64`: decimal digits after at most one plus, leading zeros among them.
 use Rattle.std.specs.Prelude.{◌^◌, ◌&&◌, ℕ, Bool, nat_lt, List, length, Option, Some, None, if◌then◌else◌}
 use Rattle.std.specs.Char.{is_digit}
 use Rattle.std.specs.List.{list_all}

@@ -1,4 +1,4 @@
--- The words behind a command's name, as its values.
+-- The words after a command's name, as its values.
 use Rattle.std.specs.Prelude.{◌==◌, ◌++◌, ℕ, Bool, false, List, [], ◌∷◌, Option, Some, None, codes, unwrap_or, if◌then◌else◌}
 use Rattle.std.specs.List.{list_any, before_first, after_first}
 use Rattle.std.specs.Option.{option_to_list}
@@ -14,7 +14,7 @@ is_flag [] = false
 is_flag (first ∷ []) = false
 is_flag (first ∷ next ∷ rest) = first == 45
 
--- the words before the first `--`, none of which may be a flag, and the words behind it
+-- the words before the first `--`, none of which may be a flag, and the words after it
 unfoldable pub values_of : List (List ℕ) → Option (List (List ℕ))
 values_of words =
     if list_any is_flag (before_first is_separator words) then None

@@ -29,7 +29,7 @@ fn wanting<'a>(alloc: Global, command: Command<'a>, id: &'a str) -> Result<Comma
     command.arg(Arg::new(alloc, id).required(true))
 }
 
-/// A command with one or more values behind those that it has.
+/// A command with one or more values after those that it has.
 fn wanting_more<'a>(
     alloc: Global,
     command: Command<'a>,
@@ -68,7 +68,7 @@ fn with_paired<'a>(
     application.subcommand(two)
 }
 
-/// The application with one more subcommand, which has two values, and one or more behind them.
+/// The application with one more subcommand, which has two values, and one or more after them.
 fn with_listed<'a>(
     alloc: Global,
     application: Command<'a>,

@@ -13,9 +13,9 @@ pub enum Command<'a> {
     Take,
     /// The side shows its inbox.
     Inbox,
-    /// So many of the oldest texts leave the inbox.
+    /// This many of the oldest texts leave the inbox.
     Done(u32),
-    /// So many of the oldest packets leave the outbox.
+    /// This many of the oldest packets leave the outbox.
     Sent(u32),
     /// The side shows its outbox.
     Outbox,
@@ -23,7 +23,7 @@ pub enum Command<'a> {
     State,
     /// The side's boxes and those of the relay at this address are brought together.
     Sync(&'a str),
-    /// A relay serves so many connections at a port, with these boxes, in order.
+    /// A relay serves this many connections at a port, with these boxes, in order.
     Relay {
         port: u16,
         count: u32,
@@ -31,7 +31,7 @@ pub enum Command<'a> {
     },
     /// A script plays both sides.
     Duet,
-    /// A script of so many rounds, made from a number, plays both sides.
+    /// A script of this many rounds, made from a number, plays both sides.
     DuetMake {
         rounds: u32,
         number: u64,

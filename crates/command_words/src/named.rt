@@ -1,4 +1,4 @@
-//! The command of a name and of the values behind it.
+//! The command of a name and of the values after it.
 
 ghost use Rattle.std.specs.Prelude.{◌≡◌, ◌<◌, ◌^◌, ℕ, List, [], ◌∷◌, IfOk, option_map};
 ghost use Rattle.clap.specs.Walk.{texts};
@@ -75,7 +75,7 @@ fn port_of(word: &str) -> Option<u16>
     }
 }
 
-/// The relay that two words and the boxes behind them say.
+/// The relay that two words and the boxes after them say.
 #[tactic(auto, unfolding(crate::specs::Commands::relay_read))]
 fn relay_of<'a>(
     alloc: Global,
@@ -143,7 +143,7 @@ fn with_two<'a>(name: &str, first: &str, second: &str) -> Option<Command<'a>>
     }
 }
 
-/// The command of a name with two values, and more behind them.
+/// The command of a name with two values, and more after them.
 fn with_more<'a>(
     alloc: Global,
     name: &str,

@@ -25,7 +25,7 @@ fn is_memory(error: &Error) -> bool
     }
 }
 
-/// Puts a value behind those that stand, if one was given.
+/// Puts a value after those that stand, if one was given.
 fn push_one<'a>(values: &mut Vec<&'a str>, value: Option<&'a str>) -> Result<(), AllocError>
     ensures { OnOk result (texts values.new.items ≡ texts values.old.items ++ option_to_list (option_map (λ word. word.now) value.entry)) }
 {
@@ -35,7 +35,7 @@ fn push_one<'a>(values: &mut Vec<&'a str>, value: Option<&'a str>) -> Result<(),
     Ok(())
 }
 
-/// Puts values behind those that stand, if some were given.
+/// Puts values after those that stand, if some were given.
 fn push_more<'a>(values: &mut Vec<&'a str>, more: Option<&[&'a str]>) -> Result<(), AllocError>
     ensures { OnOk result (texts values.new.items ≡ texts values.old.items ++ unwrap_or (option_map (λ words. texts words.now) more.entry) []) }
 {
@@ -56,7 +56,7 @@ fn values_given<'a>(alloc: Global, given: &ArgMatches<'a>) -> Result<Vec<&'a str
     Ok(values)
 }
 
-/// The command that the words are, which are the program's arguments behind its name, or none. Want of memory is told
+/// The command that the words are, which are the program's arguments after its name, or none. Want of memory is told
 /// apart from words that are no command.
 pub fn parse<'a>(alloc: Global, words: &'a [String]) -> Result<Option<Command<'a>>, AllocError>
     ensures { IfOk result (λ found. option_map work_of found ≡ command_of (map string_bytes words.entry.now)) }

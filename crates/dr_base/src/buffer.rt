@@ -1,4 +1,4 @@
-//! Writers with a cursor: each puts bytes at a place of a buffer and answers the place behind them.
+//! Writers with a cursor: each puts bytes at a place of a buffer and answers the place after them.
 
 ghost use Rattle.std.specs.Prelude.{◌≡◌, ℕ, ◌+◌, ◌≤◌, length};
 ghost use Rattle.std.specs.Int.{w16, w32, w64, to_be_bytes};
@@ -6,7 +6,7 @@ ghost use Rattle.dr_base.specs.Buffer.{Puts};
 
 use byteorder::{BigEndian, ByteOrder};
 
-/// Puts bytes at a place, and answers the place behind them.
+/// Puts bytes at a place, and answers the place after them.
 pub fn put(out: &mut [u8], at: usize, bytes: &[u8]) -> usize
     requires { at + length bytes.now ≤ length out.old }
     ensures { Puts out.old out.new at bytes.now result }

@@ -103,7 +103,7 @@ module _ (bytes durable durable' : List ℕ) (marks marks' : List Bool) (at n : 
     seen = λ s told. (bytes, refl, let now : s ≡ overwritten bytes at new = cc in subst (λ (l : List ℕ). Torn at n bytes l) (sym now) (subst (λ k. Torn at k bytes (overwritten bytes at new)) is_n (overwritten_tears bytes at new fits)));
   }
 
--- behind a good sync
+-- after a good sync
 pub settled_seen : (was bytes durable : List ℕ) (marks : List Bool) (n : ℕ) → bytes ≡ was → durable ≡ was → marks ≡ replicate n false
     → (c : List ℕ) → IsImage durable marks c → Some bytes ≡ Some c
 settled_seen was bytes durable marks n read kept unmarked c is =

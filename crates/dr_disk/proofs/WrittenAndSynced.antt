@@ -18,6 +18,6 @@ told_over : (seen : Option (List ℕ)) (at : ℕ) (bytes c : List ℕ) → overw
 told_over None at bytes c told = absurd (let e : None ≡ Some c = told in cc)
 told_over (Some s) at bytes c told = (s, refl, let e : c ≡ overwritten s at bytes = cc in e)
 
--- a good sync behind a good write
+-- a good sync after a good write
 pub all_over : (a b c : DiskState) (at : ℕ) (bytes : List ℕ) → b.seen ≡ overwritten_told a.seen at bytes → Unwritten b c → IsSettled c → Always (IsWrittenOver a at bytes) c
 all_over a b c at bytes written same settled f left = told_over a.seen at bytes f (sym written ∙ sym same.seen ∙ settled f left)

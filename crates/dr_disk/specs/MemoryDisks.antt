@@ -10,7 +10,7 @@ abbrev pub state_of : MemoryDisk → DiskState
 state_of disk = memory_state disk.platter.bytes.items disk.platter.durable.items disk.platter.asked.items disk.platter.marks.items
     disk.meter.stop disk.meter.passed (record { reads = disk.reads; writes = disk.writes; syncs = disk.syncs })
 
--- so many more writes and syncs pass, which are counted anew, and then every call fails
+-- this many more writes and syncs pass, which are counted anew, and then every call fails
 abbrev pub stopped_after : ℕ → MemoryDisk → MemoryDisk
 stopped_after n disk = record disk { meter = record { stop = Some n; passed = 0 } }
 
@@ -27,7 +27,7 @@ pub record IsFresh (bytes : List ℕ) (disk : DiskState) : Type 0 where
   pub keeps : disk.keeps ≡ true
   pub fate : disk.fate ≡ all_pass
 
--- a new disk of so many zeros: no call has passed or failed
+-- a new disk of this many zeros: no call has passed or failed
 pub record IsBlank (size : ℕ) (disk : DiskState) : Type 0 where
   pub fresh : IsFresh (replicate size 0) disk
   pub passed : disk.passed ≡ Some 0

@@ -1,4 +1,4 @@
--- The writes and syncs of a disk, and what a crash behind each of them might have left.
+-- The writes and syncs of a disk, and what a crash after each of them might have left.
 use Rattle.std.specs.Prelude.{◌+◌, ◌≤◌, ℕ, Bool, true, false, List, [], ◌∷◌, length, replicate, take, drop, Some, None, if◌then◌else◌}
 use Rattle.dr_disk.specs.declared.tape.Recorded.{Recorded}
 use Rattle.dr_disk.specs.Bytes.{overwritten}
@@ -26,14 +26,14 @@ replayed bits (event ∷ events) = replayed (after bits event) events
 abbrev pub blank : ℕ → Bits
 blank size = record { bytes = replicate size 0; durable = replicate size 0; marks = replicate size false }
 
--- what a crash behind the first i of these events might have left
+-- what a crash after the first i of these events might have left
 pub record WasImage (size : ℕ) (events : List Event) (from : ℕ) (c : List ℕ) : Type 0 where
   pub index : ℕ
   pub later : from ≤ index
   pub within : index ≤ length events
   pub image : IsImage (replayed (blank size) (take index events)).durable (replayed (blank size) (take index events)).marks c
 
--- the events on a tape, whose bytes lie one behind the other
+-- the events on a tape, whose bytes lie one after the other
 abbrev pub event_of : Recorded → List ℕ → Event
 event_of call piece = if call.is_sync then synced else written call.at piece
 

@@ -8,7 +8,7 @@ use Rattle.dr_disk.specs.Memory.{Counts, IsImage, left_by}
 use Rattle.dr_disk.specs.MemoryLaws.{left_image}
 use Rattle.dr_disk.specs.Recorded.{Event, WasImage, blank, recording_state, replayed}
 
--- what a crash behind all the events leaves
+-- what a crash after all the events leaves
 last_image : (size : ℕ) (events : List Event) (durable : List ℕ) (marks : List Bool) (c : List ℕ) → durable ≡ (replayed (blank size) events).durable → marks ≡ (replayed (blank size) events).marks
     → WasImage size events (length events) c → IsImage durable marks c
 last_image size events durable marks c kept unsynced was =

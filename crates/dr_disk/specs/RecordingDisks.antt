@@ -16,11 +16,11 @@ recording_lawful_of disk = recording_lawful disk.size (events_of disk.tape.calls
     disk.platter.asked.items disk.platter.marks.items disk.full disk.passed (record { reads = 0; writes = disk.writes; syncs = disk.syncs })
     disk.platter.agrees disk.platter.asks disk.platter.one_mark_each disk.durable disk.marks
 
--- whether its tape has room for a call with so many bytes
+-- whether its tape has room for a call with this many bytes
 abbrev pub HasRoom : ℕ → RecordingDisk → Type 0
 HasRoom n disk = (length disk.tape.calls.items < disk.tape.calls_room) × (length disk.tape.bytes.items + n ≤ disk.tape.bytes_room)
 
--- a new disk of so many zeros: no call has passed or failed, and its tape has room for so many calls and bytes
+-- a new disk of this many zeros: no call has passed or failed, and its tape has room for this many calls and bytes
 pub record IsNewRecording (size calls bytes : ℕ) (disk : RecordingDisk) : Type 0 where
   pub zeros : (recording_state_of disk).seen ≡ Some (replicate size 0)
   pub settled : IsSettled (recording_state_of disk)

@@ -43,7 +43,7 @@ GoesBy a b = Span a b b.image
 abbrev pub IsQuiet : DiskState → DiskState → Type 0
 IsQuiet a b = (call : Call) → b.faults call ≡ a.faults call
 
--- so many writes and syncs passed between the two moments
+-- this many writes and syncs passed between the two moments
 abbrev pub HavePassed : ℕ → DiskState → DiskState → Type 0
 HavePassed n a b = (m : ℕ) → b.passed ≡ Some m → (l : ℕ) × (a.passed ≡ Some l) × (m ≡ l + n)
 

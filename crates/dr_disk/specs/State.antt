@@ -3,7 +3,7 @@ use Rattle.std.specs.Prelude.{◌≡◌, ℕ, List, length, Option, Some, Bool}
 use Rattle.dr_disk.specs.declared.call.Call.{Call}
 use Rattle.dr_disk.specs.declared.call.Mode.{Mode}
 
--- how the next writes and syncs go, where it is told: all pass, or so many, and then every call fails
+-- how the next writes and syncs go, where it is told: all pass, or this many, and then every call fails
 pub data Fate : Type 0 where
   untold_fate : Fate
   all_pass : Fate

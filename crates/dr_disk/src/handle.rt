@@ -81,7 +81,7 @@ fn make<R: Files<File = File>>(files: &R, path: &str) -> io::Result<File> {
     Ok(file)
 }
 
-/// Fills `into`, with zeros behind the file's end.
+/// Fills `into`, with zeros after the file's end.
 fn read_zeros(file: &File, at: u64, into: &mut [u8]) -> io::Result<()> {
     let mut done = 0;
     'pieces: while done < into.len() {

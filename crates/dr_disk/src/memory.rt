@@ -43,7 +43,7 @@ impl MemoryDisk {
     ghost use Rattle.dr_disk.specs.MemoryDisks.{IsBlank, IsLeftBy, state_of, stopped_after, going_on};
     ghost use Rattle.dr_disk.specs.State.{Fate};
 
-    /// A disk of so many zeros, with all the memory that it will ever use.
+    /// A disk of this many zeros, with all the memory that it will ever use.
     pub fn new(alloc: Global, size: u64) -> Result<MemoryDisk, AllocError>
         ensures { IfOk result (λ disk. IsBlank size (state_of disk)) }
     {
@@ -71,7 +71,7 @@ impl MemoryDisk {
         self.meter.go_on();
     }
 
-    /// The disk behind a crash of this kind. It has no stop. One that was stopped has told how many calls have passed.
+    /// The disk after a crash of this kind. It has no stop. One that was stopped has told how many calls have passed.
     pub fn crash(self, mode: Mode) -> MemoryDisk
         ensures left { IsLeftBy mode (state_of self) (state_of result) }
         ensures told { (n : ℕ) → (state_of self).fate ≡ Fate.some_pass n → (m : ℕ) × ((state_of self).passed ≡ Some m) }

@@ -58,7 +58,7 @@ impl Meter {
         }
     }
 
-    /// Lets so many more pass, which are counted anew.
+    /// Lets this many more pass, which are counted anew.
     pub(crate) fn stop_after(&mut self, k: u32)
         ensures { self.new ≡ record { stop = Some k; passed = 0 } }
     {

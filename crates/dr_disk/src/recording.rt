@@ -32,8 +32,8 @@ pub struct RecordingDisk {
 impl RecordingDisk {
     ghost use Rattle.dr_disk.specs.RecordingDisks.{IsNewRecording, recording_state_of};
 
-    /// A disk of so many zeros, with all the memory that it will ever use: room to record so many writes and syncs, and
-    /// so many bytes that are written.
+    /// A disk of this many zeros, with all the memory that it will ever use: room to record this many writes and syncs, and
+    /// this many bytes that are written.
     pub fn new(
         alloc: Global,
         size: u64,

@@ -19,7 +19,7 @@ impl SteadyDisk {
     ghost use Rattle.dr_disk.specs.MemoryDisks.{IsBlank};
     ghost use Rattle.dr_disk.specs.SteadyDisks.{steady_state_of};
 
-    /// A disk of so many zeros, with all the memory that it will ever use.
+    /// A disk of this many zeros, with all the memory that it will ever use.
     pub fn new(alloc: Global, size: u64) -> Result<SteadyDisk, AllocError>
         ensures { IfOk result (λ disk. IsBlank size (steady_state_of disk)) }
     {

@@ -11,7 +11,7 @@ use crate::call::Call;
 use crate::disk::Disk;
 use dr_base::Failed;
 
-/// The sync behind a write.
+/// The sync after a write.
 fn settle<D: Disk>(disk: &mut D) -> Result<(), Failed>
     ensures settled { OnOk result (IsSettled (D.state disk.new)) }
     ensures passes { GoesBy (D.state disk.old) (D.state disk.new) }

@@ -4,7 +4,7 @@ ghost use Rattle.std.specs.Prelude.{◌≡◌, ◌↔◌, ◌+◌, ◌<◌, ◌�
 
 use std::alloc::{AllocError, Global};
 
-/// A write or a sync that was recorded. The bytes of all writes lie one behind the other.
+/// A write or a sync that was recorded. The bytes of all writes lie one after the other.
 #[derive(Clone, Copy)]
 pub struct Recorded {
     pub at: u64,
@@ -26,7 +26,7 @@ pub(crate) struct Tape {
 }
 
 impl Tape {
-    /// An empty tape with room for so many calls, and so many bytes of them.
+    /// An empty tape with room for this many calls, and this many bytes of them.
     pub(crate) fn new(alloc: Global, calls: usize, bytes: usize) -> Result<Tape, AllocError>
         ensures calls { IfOk result (λ tape. tape.calls.items ≡ []) }
         ensures bytes { IfOk result (λ tape. tape.bytes.items ≡ []) }
@@ -41,7 +41,7 @@ impl Tape {
         })
     }
 
-    /// Whether a call with so many bytes can be recorded.
+    /// Whether a call with this many bytes can be recorded.
     pub(crate) fn has_room(&self, len: usize) -> bool
         ensures { IsTrue result ↔ (length self.now.calls.items < self.now.calls_room) × (length self.now.bytes.items + len ≤ self.now.bytes_room) }
     {

@@ -27,7 +27,7 @@ took_of_second old mid new a b e t = record {
   took = t.took ∙ ap (λ m. appended m t.beginning) e ∙ appended-appended old a t.beginning;
 }
 
--- a write behind one that passed
+-- a write after one that passed
 pub writes_behind : {T E : Type 0} (old mid new : Option (List ℕ)) (before middle now : ℕ) (a b : List ℕ) (result : Result T E) → mid ≡ appended old a → middle ≡ before
     → Writes mid new middle now b result → Writes old new before now (a ++ b) result
 writes_behind old mid new before middle now a b (Ok x) e same w = record {
@@ -41,6 +41,6 @@ writes_behind old mid new before middle now a b (Err x) e same w = record {
   cause = record { later = omega (arith, w.cause.later); failed = omega (arith, w.cause.failed); passed = tt };
 }
 
--- a write that failed, and what was to be written behind it
+-- a write that failed, and what was to be written after it
 pub writes_first : {T E : Type 0} (old new : Option (List ℕ)) (before now : ℕ) (a b : List ℕ) (e : E) → Writes {T = T} old new before now a (Err e) → Writes {T = T} old new before now (a ++ b) (Err e)
 writes_first old new before now a b e w = record { whole = w.whole; part = took_of_first old new a b w.part; cause = w.cause }

@@ -59,7 +59,7 @@ pub record Linking : Type 0 where
 abbrev pub link_port_of : Linking → Port
 link_port_of l = port_with nothing_comes l.faults l.pipe
 
--- never falling from here on, and within so many bytes
+-- never falling from here on, and within this many bytes
 abbrev pub AreEnds : ℕ → ℕ → List ℕ → Type 0
 AreEnds size from [] = from ≤ size
 AreEnds size from (end ∷ ends) = (from ≤ end) × AreEnds size end ends

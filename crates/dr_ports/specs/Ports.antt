@@ -2,7 +2,7 @@
 use Rattle.std.specs.Prelude.{ℕ, List, ◌++◌, Option, option_map}
 pub use Rattle.dr_base.specs.Causes.{one_more, Rose, HasCause}
 
--- what is taken once these bytes came behind it, where that is told
+-- what is taken once these bytes came after it, where that is told
 abbrev pub appended : Option (List ℕ) → List ℕ → Option (List ℕ)
 appended told bytes = option_map (λ taken. taken ++ bytes) told
 

@@ -5,12 +5,12 @@ use Rattle.std.specs.Prelude.{ℕ, zero, suc, List, [], ◌∷◌, Option, optio
 abbrev pub Seeds : Type 0
 Seeds = ℕ → List ℕ
 
--- a seed, and the others behind it
+-- a seed, and the others after it
 abbrev pub seed_before : List ℕ → Seeds → Seeds
 seed_before seed others zero = seed
 seed_before seed others (suc k) = others k
 
--- these seeds in turn, and the others behind them
+-- these seeds in turn, and the others after them
 abbrev pub seeds_before : List (List ℕ) → Seeds → Seeds
 seeds_before [] others = others
 seeds_before (seed ∷ seeds) others = seed_before seed (seeds_before seeds others)

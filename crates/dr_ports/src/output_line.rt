@@ -31,7 +31,7 @@ impl OutputLine {
         }
     }
 
-    /// Puts a text behind what stands.
+    /// Puts a text after what stands.
     pub fn text(&mut self, text: &[u8])
         requires { length self.old + length text.now ≤ ROOM }
         ensures bytes { self.new ≡ self.old ++ text.now }
@@ -40,7 +40,7 @@ impl OutputLine {
         self.bytes.try_extend_from_slice(text).unwrap();
     }
 
-    /// Puts a number behind what stands, in decimal digits, of which it has at most 20.
+    /// Puts a number after what stands, in decimal digits, of which it has at most 20.
     pub fn number(&mut self, number: u64)
         requires { length self.old + 20 ≤ ROOM }
         ensures bytes { self.new ≡ self.old ++ decimal number }

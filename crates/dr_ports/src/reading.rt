@@ -82,7 +82,7 @@ pub fn read_whole<S: Source>(
     ensures quiet { (IsErrOf result InputError.Fault → ⊥) → S.faults source.new ≡ S.faults source.old }
     ensures later { S.faults source.old ≤ S.faults source.new }
 
-    // What is left in the source: nothing; or all behind one byte past the limit; or, where a read failed, all behind
+    // What is left in the source: nothing; or all after one byte past the limit; or, where a read failed, all after
     // what came before; or, for want of memory, all.
     ensures drained { IfOk result (λ _. IfSome (S.left source.new) (λ left. left ≡ [])) }
     ensures past { IsErrOf result InputError.TooLong → S.left source.new ≡ option_map (drop (limit + 1)) (S.left source.old) }

@@ -48,7 +48,7 @@ module _ {X : Type 0} (p : X → Bool) where
       → find p (take (i + 1) xs) ≡ None
   none_more xs i d h none here = rw add-one (none_suc xs i d h none here)
 
--- the element behind a list
+-- the element after a list
 get_behind : {X : Type 0} (xs ys : List X) (x : X) → slice_get (xs ++ x ∷ ys) (length xs) ≡ Some x
 get_behind [] ys x = refl
 get_behind (y ∷ xs) ys x = get_behind xs ys x

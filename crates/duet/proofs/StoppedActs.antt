@@ -112,7 +112,7 @@ module _ (n : ℕ) (mode : Mode) (made : Result (Step Client) Refusal) (old new 
       (subst (λ (c : ClientNow). IsHeld c (going_on (stopped_after n disk))) (sym same)
       (held_going old (stopped_after n disk) held.is_open (ready_stopped n old.kept old.store disk held.ready)))
 
-  -- so many calls passed where the record was replaced
+  -- this many calls passed where the record was replaced
   many : (answer : Answer) → IsDone made old new (state_of (stopped_after n disk)) (state_of now) answer → IsCounted (state_of now) → 8 ≤ n
   many answer done told =
       let gone = done.disk.any_moment.fates n refl in

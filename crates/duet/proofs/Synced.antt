@@ -31,7 +31,7 @@ text_in None = []
 text_in (Some fault) = fault_text fault
 
 module _ {S : Type 0} (p : Party S) (side : Side) where
-  -- bytes behind no last line
+  -- bytes after no last line
   none_behind : (lines more : List ℕ) → Begins (lines ++ []) (lines ++ more)
   none_behind lines more = (more, ap (λ (b : List ℕ). b ++ more) (sym (append-nil lines)))
 
@@ -51,7 +51,7 @@ module _ {S : Type 0} (p : Party S) (side : Side) where
   told_behind lines text refusal is =
       ap (λ (b : List ℕ). b ++ fault_line side (Refused refusal)) (append-nil lines) ∙ ap (λ (t : List ℕ). lines ++ (side_text side ++ t)) (sym is)
 
-  -- behind a refusal
+  -- after a refusal
   refused_by : (lines : List ℕ) (ending : Ending) (refusal : SyncRefusal) → fault_in ending ≡ Some (Refused refusal)
       → (lines ++ courses.last_line p (over ending)) ++ fault_line side (Refused refusal) ≡ lines ++ closing_line p side (over ending)
   refused_by lines (ended which) refusal is = absurd (cc)
@@ -91,7 +91,7 @@ module _ (p : Party Client) (side : Side) (m : Meeting Client) (a b : Moment) (b
       subst (λ (x : List ℕ). Writes a.taken taken a.faults faults x result) is
       (writes_behind a.taken b.taken taken a.faults b.faults faults bytes line result wrote.bytes_are wrote.unfailing told)
 
-  -- it broke off, and that is told behind its lines
+  -- it broke off, and that is told after its lines
   pub broken_lines : (fault : SyncFault) (taken : Option (List ℕ)) (faults : ℕ) (result : Result Unit Failed)
       → Plays p m a b boxes (Err fault)
       → Tells side fault b.taken taken b.faults faults result → Writes a.taken taken a.faults faults lines result

@@ -59,7 +59,7 @@ after duet made = record duet { sides = made.next }
 abbrev pub on_side : Sides → Side → Step Client → Step Sides
 on_side s side made = record { answer = made.answer; entries = made.entries; next = with_client s side made.next }
 
--- the network gets what stands behind so many packets of a side's outbox
+-- the network gets what stands after this many packets of a side's outbox
 abbrev pub gathered : ℕ → Side → Sides → Sides
 gathered held side s = record s { posts = s.posts ++ drop held (client_of s side).outbox }
 

@@ -44,7 +44,7 @@ acted event boxes made = record {
 
 -- ---- a sync
 
--- how a sync of a side ends, behind the lines that it printed: a refusal of its own is told as any is, and where it still waits
+-- how a sync of a side ends, after the lines that it printed: a refusal of its own is told as any is, and where it still waits
 -- for a reply the link has failed
 abbrev pub ending_line : {S : Type 0} → Party S → Side → Ending → List ℕ
 ending_line p side (ended which) = p.end_line which

@@ -1,4 +1,4 @@
--- The lines of a trace: one for each event, and behind an inbox one for each of its texts; and one of a sync that broke off.
+-- The lines of a trace: one for each event, and after an inbox one for each of its texts; and one of a sync that broke off.
 use Rattle.std.specs.Prelude.{ℕ, List, [], ◌++◌, flat_map, codes}
 use Rattle.dr_base.specs.declared.position.Side.{Side}
 use Rattle.boxes.specs.Items.{Item}

@@ -20,7 +20,7 @@ use Rattle.duet.specs.declared.tally.Tally.{Tally}
 abbrev pub no_tally : SideTally
 no_tally = record { said = 0; opened = 0; refused = 0; epoch = 0; missing = 0 }
 
--- nothing was counted yet of a script of so many rounds
+-- nothing was counted yet of a script of this many rounds
 abbrev pub opening_tally : ℕ → Tally
 opening_tally rounds = record { rounds = rounds; first = no_tally; second = no_tally }
 

@@ -25,9 +25,9 @@ pub enum Act<'a> {
     Say(&'a [u8], Option<Key32>),
     /// It takes the packet that the bytes are.
     Take(&'a [u8]),
-    /// So many of the oldest packets leave its outbox.
+    /// This many of the oldest packets leave its outbox.
     Sent(u32),
-    /// So many of the oldest texts leave its inbox.
+    /// This many of the oldest texts leave its inbox.
     Done(u32),
 }
 

@@ -5,7 +5,7 @@ ghost use Rattle.dr_model.specs.Machines.Steps.{amount_of};
 
 use session_model::Amount;
 
-/// How many items an amount is, where so many stand.
+/// How many items an amount is, where this many stand.
 pub fn items_in(amount: Amount, standing: u32) -> u32
     ensures { result ≡ amount_of amount standing }
 {

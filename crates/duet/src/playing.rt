@@ -28,7 +28,7 @@ use std::alloc::{AllocError, Global};
 /// Why a script wasn't played to its end.
 #[derive(Clone, Copy, Debug, PartialEq, Eq)]
 pub enum PlayError {
-    /// There was no memory for the two sides, and nothing was written; or none to open a side again behind a stop, and the
+    /// There was no memory for the two sides, and nothing was written; or none to open a side again after a stop, and the
     /// lines before were written.
     Memory,
     /// The shared key gives no first pair; nothing was written.
@@ -133,7 +133,7 @@ pub fn play<K: Kem, O: Sink>(
     ensures tally { IfOk result (λ tally. tally ≡ tally_of K.mechanism script.now) }
     ensures pair { OnOk result (IsSome (K.mechanism.meaning.pair_of (agreement_seed script.now.key))) }
     ensures none { IsErrOf result PlayError.NoPair → IsNone (K.mechanism.meaning.pair_of (agreement_seed script.now.key)) × (O.taken out.new ≡ O.taken out.old) }
-    // None for the two sides, or none, behind these lines, to open a side again.
+    // None for the two sides, or none, after these lines, to open a side again.
     ensures memory { IsErrOf result PlayError.Memory → (O.taken out.new ≡ O.taken out.old)
         ⊎ (TookBeginning (O.taken out.old) (O.taken out.new) (played K.mechanism script.now) × IsSome (K.mechanism.meaning.pair_of (agreement_seed script.now.key))) }
     ensures write { IsErrOf result PlayError.Write

@@ -46,7 +46,7 @@ impl<K: Kem> Model for Duet<K> {
 impl<K: Kem> Duet<K> {
     ghost use Rattle.scripts.specs.Seen.{event_of};
 
-    /// Both sides before the first event, and room in the network for so many packets. It takes all memory that the
+    /// Both sides before the first event, and room in the network for this many packets. It takes all memory that the
     /// events need.
     pub fn new(alloc: Global, key: &Key32, room: usize) -> Result<Self, BeginError>
         ensures ok { IfOk result (λ duet. duet ≡ opening_duet K.mechanism key.now.bytes room) }

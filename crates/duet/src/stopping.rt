@@ -48,7 +48,7 @@ fn reopened<K: Kem>(alloc: Global, disk: MemoryDisk) -> Result<Party<K>, AllocEr
 }
 
 impl<K: Kem> Party<K> {
-    /// Does an act on a disk that stops once so many writes and syncs have passed. Where that cuts the act off, the disk
+    /// Does an act on a disk that stops once this many writes and syncs have passed. Where that cuts the act off, the disk
     /// crashes in this way, and the client is opened from what is left.
     pub fn stopped(
         self,

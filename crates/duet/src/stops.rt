@@ -80,7 +80,7 @@ impl<K: Kem> Duet<K> {
         }
     }
 
-    /// The network gets the packet that stands behind so many in a side's outbox, if there is one.
+    /// The network gets the packet that stands after this many in a side's outbox, if there is one.
     #[tactic(auto, using(crate::proofs::StoppedSides::last_dropped))]
     fn gather(&mut self, side: Side, held: u32)
         requires room { length self.old.sides.posts < self.old.room }
@@ -189,7 +189,7 @@ impl<K: Kem> Duet<K> {
         }
     }
 
-    /// One call, on a disk that stops. Behind the stop the disk crashes, and the side is opened again.
+    /// One call, on a disk that stops. After the stop the disk crashes, and the side is opened again.
     pub fn stop(self, alloc: Global, stop: &Stop<'_>) -> Result<(Self, Answer), AllocError>
         requires room { length self.sides.posts < self.room }
         requires draws { self.sides.draws.made < 2 ^ 32 - 1 }

@@ -39,7 +39,7 @@ fn sides_text(name: &[u8], first: u32, second: u32) -> OutputLine
     line
 }
 
-/// Puts a line behind what stands.
+/// Puts a line after what stands.
 fn put(text: &mut SummaryText, line: &OutputLine)
     requires { length text.old.items + length line.now ≤ 320 }
     ensures bytes { text.new.items ≡ text.old.items ++ line.now }

@@ -59,7 +59,7 @@ impl SideTally {
 }
 
 impl Tally {
-    /// Nothing was counted yet, of a script of so many rounds.
+    /// Nothing was counted yet, of a script of this many rounds.
     pub(crate) fn new(rounds: u32) -> Tally
         ensures { result ≡ opening_tally rounds }
     {

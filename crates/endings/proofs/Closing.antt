@@ -1,4 +1,4 @@
--- A last line behind the lines of the work.
+-- A last line after the lines of the work.
 use Rattle.std.proofs.Common.{◌≡◌, ℕ, List, [], Option, None, Some, refl, sym, subst, ◌∙◌, ap, append-nil, arith, inl, inr}
 use Rattle.dr_ports.specs.Ports.{Rose, appended}
 use Rattle.dr_ports.specs.Writing.{TookBeginning}
@@ -9,7 +9,7 @@ use Rattle.endings.specs.declared.ending.Ending.TheVariants.{Done}
 use Rattle.endings.specs.Ending.{last_line}
 use Rattle.endings.specs.Ends.{Ends}
 
--- what was written behind the lines was written behind all that stood before them
+-- what was written after the lines was written after all that stood before them
 pub ends_behind : (ending : Ending) (lines : List ℕ) (old mid new : Option (List ℕ)) (before middle now code : ℕ) → mid ≡ appended old lines → middle ≡ before → Ends ending [] mid new middle now code → Ends ending lines old new before now code
 ends_behind ending lines old mid new before middle now code e same (inl all) = inl (record {
   code_is = all.code_is;

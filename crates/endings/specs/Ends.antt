@@ -5,7 +5,7 @@ use Rattle.dr_ports.specs.Writing.{TookBeginning}
 use Rattle.endings.specs.declared.ending.Ending.{Ending}
 use Rattle.endings.specs.Ending.{code_of, last_line}
 
--- all the lines were written and the ending's last line behind them, no write failed, and the status is the ending's
+-- all the lines were written and the ending's last line after them, no write failed, and the status is the ending's
 pub record WroteAll (ending : Ending) (lines : List ℕ) (old new : Option (List ℕ)) (before now code : ℕ) : Type 0 where
   pub code_is : code ≡ code_of ending
   pub wrote : new ≡ appended old (lines ++ last_line ending)

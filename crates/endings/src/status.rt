@@ -31,7 +31,7 @@ fn peer_kind_name(kind: PeerKind) -> &'static [u8]
     }
 }
 
-/// Puts a refusal behind what stands.
+/// Puts a refusal after what stands.
 fn put_refused(line: &mut OutputLine, refusal: Refusal)
     requires { length line.old + 70 ≤ ROOM }
     ensures bytes { line.new ≡ line.old ++ codes "refused: " ++ refusal_text refusal }
@@ -41,7 +41,7 @@ fn put_refused(line: &mut OutputLine, refusal: Refusal)
     put_refusal(line, refusal);
 }
 
-/// Puts a damaged slot behind what stands.
+/// Puts a damaged slot after what stands.
 fn put_damaged(line: &mut OutputLine, slot: u32, at: u64)
     requires { length line.old + 60 ≤ ROOM }
     ensures bytes { line.new ≡ line.old ++ decimal slot ++ codes " at " ++ decimal at }
@@ -51,7 +51,7 @@ fn put_damaged(line: &mut OutputLine, slot: u32, at: u64)
     put_named(line, b" at ", at);
 }
 
-/// Puts the fault of a relay's bytes behind what stands.
+/// Puts the fault of a relay's bytes after what stands.
 fn put_peer(line: &mut OutputLine, kind: PeerKind, at: u32)
     requires { length line.old + 40 ≤ ROOM }
     ensures bytes { line.new ≡ line.old ++ codes "peer: " ++ peer_kind_text kind ++ codes " at " ++ decimal at }
@@ -62,7 +62,7 @@ fn put_peer(line: &mut OutputLine, kind: PeerKind, at: u32)
     put_named(line, b" at ", u64::from(at));
 }
 
-/// Puts an ending in words behind nothing.
+/// Puts an ending in words into an empty line.
 #[tactic(auto, unfolding(crate::specs::Ending::ending_text))]
 fn put_ending(line: &mut OutputLine, ending: Ending)
     requires { line.old ≡ [] }

@@ -27,7 +27,7 @@ AreBytes-drop n bytes are k d inside =
     let shorter = length-drop n bytes in
     rw (get_or-drop n bytes k d) (are (n + k) d (omega arith))
 
--- ---- so many bytes
+-- ---- this many bytes
 
 reads_piece : (size : ℕ) (a : List ℕ) (at : ℕ) (rest : List ℕ) → length a ≡ size → piece size at (a ++ rest) ≡ reading a at a rest
 unfolding piece

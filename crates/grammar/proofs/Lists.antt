@@ -1,4 +1,4 @@
--- Grammars of lists: items, items behind their count, bytes behind their length.
+-- Grammars of lists: items, items after their count, bytes after their length.
 use Rattle.std.proofs.Common.{◌≡◌, ℕ, zero, suc, ◌+◌, ◌<◌, ◌≤◌, Bool, true, List, [], ◌∷◌, ◌++◌, length, get_or, take, Ok, refl, sym, ◌∙◌, ap, subst, arith, append_assoc, length-append}
 use Rattle.std.proofs.lemmas.List.{take_more, take_all}
 use Rattle.std.specs.Int.{Width, to_be_bytes}
@@ -10,7 +10,7 @@ use Rattle.grammar.proofs.Fields.{IsExact, number_grammar, piece_grammar}
 use Rattle.grammar.proofs.Printing.{print_items-push}
 use Rattle.grammar.proofs.Steps.{from_and_then}
 
--- ---- so many items
+-- ---- this many items
 
 module _ {A : Type 0} (print : A → List ℕ) (Lawful : List A → A → Type 0) (read : List A → Reader A)
     (each : (before : List A) → IsGrammar print (Lawful before) (read before)) where
@@ -74,7 +74,7 @@ length-items Lawful m list (and_item n before a were lawful) =
     let long : length (before ++ a ∷ []) ≡ suc n = omega (arith, length-append before (a ∷ [])) in
     long
 
--- ---- items behind their count
+-- ---- items after their count
 
 module _ {A : Type 0} (print : A → List ℕ) (Lawful : List A → A → Type 0) (read : List A → Reader A)
     (each : (before : List A) → IsGrammar print (Lawful before) (read before))
@@ -94,7 +94,7 @@ module _ {A : Type 0} (print : A → List ℕ) (Lawful : List A → A → Type 0
       (subst (λ n. ((n < limit) × (test n ≡ true)) × AreItems Lawful n e.1) (sym long) lawful, ap (λ n. (n, e.1)) long))
       (λ list lawful. (lawful, refl))
 
--- ---- bytes behind their length
+-- ---- bytes after their length
 
 module _ (w : Width) (limit : ℕ) (exact : IsExact w limit) (test : ℕ → Bool) (is_text : List ℕ → Bool) where
   abbrev pub IsSized : List ℕ → Type 0
@@ -113,7 +113,7 @@ module _ (w : Width) (limit : ℕ) (exact : IsExact w limit) (test : ℕ → Boo
 
 -- ---- items place by place
 
--- items of which each is lawful behind those before it, whatever stands for an item past the end
+-- items of which each is lawful after those before it, whatever stands for an item past the end
 module _ {A : Type 0} (Lawful : List A → A → Type 0) (xs : List A) (default : A)
     (each : (i : ℕ) (d : A) → i < length xs → Lawful (take i xs) (get_or xs i d)) where
   first_items : (n : ℕ) → n ≤ length xs → AreItems Lawful n (take n xs)

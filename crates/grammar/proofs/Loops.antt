@@ -1,4 +1,4 @@
--- What a loop that reads items one by one knows: before the first, behind one more, and at a fault.
+-- What a loop that reads items one by one knows: before the first, after one more, and at a fault.
 use Rattle.std.proofs.Common.{◌≡◌, ℕ, zero, suc, ◌+◌, ◌<◌, List, [], ◌∷◌, ◌++◌, Ok, Err, refl, ◌∙◌, ap, subst, arith, inl, inr}
 use Rattle.std.specs.Prelude.{◌⊎◌}
 use Rattle.std.proofs.lemmas.Bool.{cases_lt}

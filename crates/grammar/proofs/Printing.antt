@@ -7,7 +7,7 @@ use Rattle.std.proofs.lemmas.List.{take_more, take-append-drop, get_or-drop, len
 use Rattle.std.proofs.lemmas.Option.{slice_get_within, get_or_from_slice_get, slice_get-get_or}
 use Rattle.grammar.specs.Printer.{print_items}
 
--- an item behind those that are dropped
+-- an item after those that are dropped
 pub slice_get-drop : {A : Type 0} (xs : List A) (n i : ℕ) (x : A) → slice_get xs (n + i) ≡ Some x → slice_get (drop n xs) i ≡ Some x
 slice_get-drop xs n i x here =
     let inside : n + i < length xs = slice_get_within xs (n + i) x here in
@@ -48,7 +48,7 @@ module _ {A : Type 0} (print : A → List ℕ) where
       let next = ap (λ (l : List ℕ). length l) (print-next xs i x here) in
       omega (arith, length-append (print_items print (take (i + 1) xs)) (print_items print (drop (i + 1) xs)), length-append (print_items print (take i xs)) (print x))
 
-  -- items of at most so many bytes each
+  -- items of at most this many bytes each
   pub size-items : (most : ℕ) (xs : List A) → All (λ x. length (print x) ≤ most) xs → length (print_items print xs) ≤ most * length xs
   unfolding print_items
   size-items most [] each = omega arith

@@ -1,4 +1,4 @@
--- Printed bytes put into a buffer, one part behind the other.
+-- Printed bytes put into a buffer, one part after the other.
 use Rattle.std.proofs.Common.{◌≡◌, ℕ, ◌+◌, ◌≤◌, List, [], ◌++◌, length, take, drop, Some, refl, sym, ap, subst, ◌∙◌, append_assoc, append-nil, arith}
 use Rattle.std.specs.List.{slice_get}
 use Rattle.std.proofs.lemmas.List.{drop-drop, length-append}
@@ -6,7 +6,7 @@ use Rattle.dr_base.specs.Buffer.{Puts}
 use Rattle.grammar.specs.Printer.{print_items}
 use Rattle.grammar.proofs.Printing.{print-next, print-within}
 
--- bytes behind bytes
+-- bytes after bytes
 pub then_puts : {a b c x y : List ℕ} {at m n : ℕ} → Puts a b at x m → Puts b c m y n → Puts a c at (x ++ y) n
 then_puts {a} {b} {c} {x} {y} {at} {m} {n} first second =
     let behind : (l : List ℕ) → drop n l ≡ drop (length y) (drop m l) =

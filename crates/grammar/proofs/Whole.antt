@@ -1,4 +1,4 @@
--- The grammar of a text behind which nothing stands.
+-- The grammar of a text after which nothing stands.
 use Rattle.std.proofs.Common.{◌≡◌, ℕ, List, [], ◌++◌, length, Result, Ok, Err, refl, sym, ◌∙◌, ap, subst, append-nil}
 use Rattle.std.specs.Prelude.{◌==◌}
 use Rattle.std.proofs.lemmas.Bool.{eqb-true}
@@ -7,7 +7,7 @@ use Rattle.grammar.specs.Reader.{Read, Reader, ended, whole}
 use Rattle.grammar.specs.Grammar.{AreBytes, IsGrammar, IsWholeGrammar}
 use Rattle.grammar.proofs.Steps.{from_test}
 
--- the text ended behind a value
+-- the text ended after a value
 from_ended : {A : Type 0} (r : Result (Read A) ℕ) (a : A) → ended r ≡ Ok a → (x : Read A) × (r ≡ Ok x) × (x.value ≡ a) × (x.rest ≡ [])
 from_ended (Ok x) a h =
     let t = from_test (length x.rest == 0) x.value a x.at h in

@@ -1,4 +1,4 @@
--- How far reading goes: behind a value, and to the place of a fault.
+-- How far reading goes: after a value, and to the place of a fault.
 use Rattle.std.proofs.Common.{◌≡◌, mul-le-mul_left, ℕ, zero, suc, ◌+◌, ◌*◌, ◌≤◌, Bool, true, false, List, [], ◌∷◌, ◌++◌, length, take, drop, Some, Result, Ok, Err, refl, arith, inl, inr, if◌then◌else◌}
 use Rattle.std.specs.Prelude.{◌⊎◌, nat_le}
 use Rattle.std.specs.Int.{Width, byte_len}
@@ -8,12 +8,12 @@ use Rattle.grammar.specs.Reader.{Read, Reader, and_then, gives, checked, mapped,
 use Rattle.grammar.specs.Grammar.{AreBytes}
 use Rattle.grammar.proofs.Fields.{AreBytes-drop, AreBytes-take}
 
--- what was read ends at most so far behind its beginning, and so is a fault
+-- what was read ends at most this far after its beginning, and so is a fault
 abbrev pub EndsBy : {A : Type 0} → ℕ → Result (Read A) ℕ → Type 0
 EndsBy most (Ok x) = (x.at ≤ most) × AreBytes x.rest
 EndsBy most (Err at) = at ≤ most
 
--- a reader of at most so many bytes
+-- a reader of at most this many bytes
 abbrev pub IsWithin : {A : Type 0} → ℕ → Reader A → Type 0
 IsWithin most read = (at : ℕ) (bytes : List ℕ) → AreBytes bytes → EndsBy (at + most) (read at bytes)
 
@@ -122,7 +122,7 @@ within-numbered {B} w test more next two at bytes are = by_read (number w at byt
     by_read (Ok x) ends = by_test (test x.value) (record { value = x.value; at = x.at; rest = x.rest }) refl ends
     by_read (Err fault) ends = omega (arith, ends)
 
--- items behind their count, at most so many
+-- items after their count, at most this many
 pub within-counted : {A : Type 0} (w : Width) (test : ℕ → Bool) (most limit : ℕ) (read : List A → Reader A) → ((n : ℕ) → test n ≡ true → n ≤ limit) → ((before : List A) → IsWithin most (read before))
     → IsWithin (byte_len w + most * limit) (counted w test read)
 within-counted w test most limit read few each =

@@ -6,7 +6,7 @@ use Rattle.grammar.specs.Reader.{Read, Reader}
 abbrev pub AreBytes : List ℕ → Type 0
 AreBytes bytes = All (λ b. b < 256) bytes
 
--- what is read where a value was printed, with the rest of the text behind it
+-- what is read where a value was printed, with the rest of the text after it
 abbrev pub reading : {A : Type 0} → A → ℕ → List ℕ → List ℕ → Result (Read A) ℕ
 reading a at printed rest = Ok (record { value = a; at = at + length printed; rest = rest })
 
@@ -24,7 +24,7 @@ pub record IsGrammar {A : Type 0} (print : A → List ℕ) (Lawful : A → Type 
   pub only : (at : ℕ) (bytes : List ℕ) (x : Read A) → AreBytes bytes → read at bytes ≡ Ok x
       → WasPrinted print Lawful at bytes x
 
--- the same of a text behind which nothing stands
+-- the same of a text after which nothing stands
 pub record IsWholeGrammar {A : Type 0} (print : A → List ℕ) (Lawful : A → Type 0) (read : List ℕ → Result A ℕ)
     : Type 0 where
   pub reads : (a : A) → Lawful a → read (print a) ≡ Ok a

@@ -18,11 +18,11 @@ unfoldable pub print_items : {A : Type 0} → (A → List ℕ) → List A → Li
 print_items print [] = []
 print_items print (a ∷ more) = print a ++ print_items print more
 
--- items behind their count
+-- items after their count
 abbrev pub print_counted : {A : Type 0} → Width → (A → List ℕ) → List A → List ℕ
 print_counted w print list = to_be_bytes w (length list) ++ print_items print list
 
--- bytes behind their length
+-- bytes after their length
 abbrev pub print_sized : Width → List ℕ → List ℕ
 print_sized w bytes = to_be_bytes w (length bytes) ++ bytes
 
@@ -38,7 +38,7 @@ abbrev pub IsEither : {A B : Type 0} → Bool → (A → Type 0) → (B → Type
 IsEither there First Second (inl a) = (there ≡ true) × First a
 IsEither there First Second (inr b) = (there ≡ false) × Second b
 
--- so many items, each lawful behind those before it
+-- this many items, each lawful after those before it
 pub data AreItems {A : Type 0} (Lawful : List A → A → Type 0) : ℕ → List A → Type 0 where
   no_items : AreItems Lawful zero []
   and_item : (n : ℕ) (before : List A) (a : A) → AreItems Lawful n before → Lawful before a

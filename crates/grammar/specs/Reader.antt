@@ -1,10 +1,10 @@
 -- Readers of texts of many fields, from left to right. A reader is handed the offset where it stands and the bytes from
--- there on. It gives a value, with the offset and the bytes behind it, or the offset of the first fault.
+-- there on. It gives a value, with the offset and the bytes after it, or the offset of the first fault.
 use Rattle.std.specs.Prelude.{ℕ, zero, suc, ◌+◌, ◌==◌, ◌⊎◌, Bool, true, false, nat_le, List, [], ◌∷◌, ◌++◌, length, take, drop, Option, Some, None, Result, Ok, Err, if◌then◌else◌}
 use Rattle.std.proofs.Common.{inl, inr}
 use Rattle.std.specs.Int.{Width, byte_len, from_be_bytes}
 
--- a value that was read, and what stands behind it
+-- a value that was read, and what stands after it
 pub record Read (A : Type 0) : Type 0 where
   pub value : A
   pub at : ℕ
@@ -13,7 +13,7 @@ pub record Read (A : Type 0) : Type 0 where
 abbrev pub Reader : Type 0 → Type 0
 Reader A = ℕ → List ℕ → Result (Read A) ℕ
 
--- what is read behind a value, unless there was a fault
+-- what is read after a value, unless there was a fault
 abbrev pub and_then : {A B : Type 0} → Result (Read A) ℕ → (A → Reader B) → Result (Read B) ℕ
 and_then (Ok x) next = next x.value x.at x.rest
 and_then (Err at) next = Err at
@@ -24,7 +24,7 @@ gives a at bytes = Ok (record { value = a; at = at; rest = bytes })
 
 -- ---- single fields; one that the text ends inside is a fault at its own offset
 
--- so many bytes
+-- this many bytes
 unfoldable pub piece : ℕ → Reader (List ℕ)
 piece size at bytes =
     if nat_le size (length bytes) then Ok (record { value = take size bytes; at = at + size; rest = drop size bytes })
@@ -49,7 +49,7 @@ checked test read at bytes =
 abbrev pub mapped : {A B : Type 0} → (A → B) → Reader A → Reader B
 mapped f read at bytes = and_then (read at bytes) (λ a. gives (f a))
 
--- a field, and behind it another, which may hang on the first
+-- a field, and after it another, which may hang on the first
 abbrev pub both : {A B : Type 0} → Reader A → (A → Reader B) → Reader (A × B)
 both first next at bytes =
     and_then (first at bytes) (λ a at' rest. and_then (next a at' rest) (λ b. gives (a, b)))
@@ -64,23 +64,23 @@ abbrev pub either : {A B : Type 0} → Bool → Reader A → Reader B → Reader
 either true first second at bytes = mapped inl first at bytes
 either false first second at bytes = mapped inr second at bytes
 
--- so many items, each of which may hang on those before it
+-- this many items, each of which may hang on those before it
 unfoldable pub items : {A : Type 0} → (List A → Reader A) → ℕ → Reader (List A)
 items read zero at bytes = gives [] at bytes
 items read (suc n) at bytes =
     and_then (items read n at bytes) (λ before at' rest. and_then (read before at' rest) (λ a. gives (before ++ a ∷ [])))
 
--- items behind their count, which passes a test
+-- items after their count, which passes a test
 abbrev pub counted : {A : Type 0} → Width → (ℕ → Bool) → (List A → Reader A) → Reader (List A)
 counted w test read = mapped (λ e. e.1) (both (checked test (number w)) (λ n. items read n))
 
--- bytes that pass a test, behind their length, which passes another
+-- bytes that pass a test, after their length, which passes another
 abbrev pub sized : Width → (ℕ → Bool) → (List ℕ → Bool) → Reader (List ℕ)
 sized w test is_text = mapped (λ e. e.1) (both (checked test (number w)) (λ n. checked is_text (piece n)))
 
 -- ---- texts as a whole
 
--- a value behind which nothing stands; else a fault at the first byte behind it
+-- a value after which nothing stands; else a fault at the first byte after it
 abbrev pub ended : {A : Type 0} → Result (Read A) ℕ → Result A ℕ
 ended (Ok x) = if length x.rest == 0 then Ok x.value else Err x.at
 ended (Err at) = Err at

@@ -7,9 +7,9 @@ ghost use Rattle.grammar.specs.Standing.{Reads};
 
 use std::marker::Model;
 
-/// A text from a place on. A contract sees the offset of that place and the bytes behind it.
+/// A text from a place on. A contract sees the offset of that place and the bytes after it.
 ///
-/// Each read gives a field and moves behind it, or gives the offset of the field that the text ends inside, and then
+/// Each read gives a field and moves after it, or gives the offset of the field that the text ends inside, and then
 /// stays where it was.
 #[derive(Drop)]
 pub struct Cursor<'a> {
@@ -50,7 +50,7 @@ impl<'a> Cursor<'a> {
         self.rest.is_empty()
     }
 
-    /// The next bytes, so many, lent from the text.
+    /// The next bytes, this many, lent from the text.
     #[tactic(auto, unfolding(crate::specs::Reader::piece))]
     pub fn piece(&mut self, size: usize) -> Result<&'a [u8], usize>
         ensures reads { Reads (λ bytes. bytes.now) (piece size) self.old self.new result }

@@ -13,7 +13,7 @@ use std::alloc::{AllocError, Global};
 /// The seed that has no pair.
 const WITHOUT_PAIR: [u8; 32] = [0xff; 32];
 
-/// The digest of a label with a value behind it.
+/// The digest of a label with a value after it.
 fn labelled(label: &[u8], value: &[u8]) -> [u8; 32]
     ensures { result ≡ sha256 (label.now ++ value.now) }
 {

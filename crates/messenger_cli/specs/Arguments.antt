@@ -10,7 +10,7 @@ use Rattle.std.specs.IoError.{error_kind}
 use Rattle.endings.specs.declared.ending.Ending.{Ending}
 use Rattle.endings.specs.declared.ending.Ending.TheVariants.{Usage, NoMemory}
 
--- the words stand behind the program's name
+-- the words stand after the program's name
 abbrev pub words_of : IntoIter (String Global) Global → List (String Global)
 words_of arguments = drop 1 (into_iter_items arguments)
 

@@ -10,8 +10,8 @@ use Rattle.messenger_cli.specs.declared.playing.TheConstants.{SCRIPT_LIMIT}
 abbrev pub IsDrained : Option (List ℕ) → Type 0
 IsDrained left = IfSome left (λ bytes. bytes ≡ [])
 
--- What is left in the source, where that is told: nothing once a script was read; all behind one byte past the limit;
--- all behind what came before a read failed. Words that are no command leave all. For want of memory the script was
+-- What is left in the source, where that is told: nothing once a script was read; all after one byte past the limit;
+-- all after what came before a read failed. Words that are no command leave all. For want of memory the script was
 -- read or it wasn't.
 abbrev pub Leaves : Ending → Option (List ℕ) → Option (List ℕ) → Type 0
 Leaves Done old new = IsDrained new

@@ -40,8 +40,8 @@ pub record HasBadLine (text : List ℕ) (number : ℕ) : Type 0 where
   pub fits : length text ≤ SCRIPT_LIMIT
   pub read : script_of text ≡ Err number
 
--- Why the command ended so, behind these lines, where the source tells what it holds: its work is the trace of the
--- script, and memory may want behind a beginning of it; every other ending comes before the first line and has its cause.
+-- Why the command ended so, after these lines, where the source tells what it holds: its work is the trace of the
+-- script, and memory may want after a beginning of it; every other ending comes before the first line and has its cause.
 abbrev pub HasReason : Option (List ℕ) → Ending → List ℕ → Type 0
 HasReason left Done lines = IfSome left (λ text. IsTraceOf text lines)
 HasReason left (InputTooLong limit) lines = (lines ≡ []) × (limit ≡ SCRIPT_LIMIT) × IfSome left (λ text. SCRIPT_LIMIT < length text)

@@ -21,7 +21,7 @@ use std::env::Args;
 use std::io;
 use std::io::ErrorKind;
 
-/// The words behind the program's name.
+/// The words after the program's name.
 fn words_behind(alloc: Global, mut arguments: Args) -> Result<Vec<String>, AllocError>
     ensures { IfOk result (λ words. words.items ≡ words_of arguments) }
 {

@@ -21,7 +21,7 @@ use std::alloc::{AllocError, Global};
 /// The size of the disk of a session, in bytes: two slots of a client.
 pub const DISK_SIZE: u64 = 393216;
 
-/// Runs the program on its words, the arguments behind its name: the session is kept on `disk` and a relay's boxes on
+/// Runs the program on its words, the arguments after its name: the session is kept on `disk` and a relay's boxes on
 /// `relay_disk`, which are lent as the last run left them; texts come from `source`, lines go to `out`, a sync goes over
 /// `link`, a relay's connections come in by `door`, and seeds are drawn from `draws`. It answers the status that the program
 /// ends with.

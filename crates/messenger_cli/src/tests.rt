@@ -111,7 +111,7 @@ fn outcome(
     Ok((status.code, out.taken() == expected))
 }
 
-/// Puts a line behind what stands, with a number in place of `@`.
+/// Puts a line after what stands, with a number in place of `@`.
 fn put_line(text: &mut Vec<u8>, alloc: Global, line: &str, number: u32) -> Result<(), AllocError> {
     for &byte in line.as_bytes() {
         match byte {
@@ -125,7 +125,7 @@ fn put_line(text: &mut Vec<u8>, alloc: Global, line: &str, number: u32) -> Resul
     Ok(())
 }
 
-/// Puts lines behind what stands, each as often as it says.
+/// Puts lines after what stands, each as often as it says.
 fn put_lines(text: &mut Vec<u8>, alloc: Global, lines: &str) -> Result<(), AllocError> {
     for line in lines.split('\n') {
         match line

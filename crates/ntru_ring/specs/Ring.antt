@@ -18,7 +18,7 @@ unfoldable pub last : ℤ → List ℤ → ℤ
 last x [] = x
 last x (y ∷ a) = last y a
 
--- a moved up by one place behind x, without its last coefficient
+-- a moved up by one place after x, without its last coefficient
 unfoldable pub behind : ℤ → List ℤ → List ℤ
 behind x [] = []
 behind x (y ∷ a) = x ∷ behind y a

@@ -6,7 +6,7 @@
 //! there: `kept`, which is 1 at this pivot and 0 at all others, clears that. At the end `aim` is zero everywhere. Since
 //! the rows begin with g * (1 + x) in place of g, its b is the inverse of g.
 //!
-//! All of these are zero at the places before the first one that is no pivot, and each b is zero behind x^k. So a step
+//! All of these are zero at the places before the first one that is no pivot, and each b is zero after x^k. So a step
 //! goes over half of the places. `kept` is seldom there, and is cleared by whole rows.
 //!
 //! No clause says what the candidate is: whoever asks for it tries it by a product. It isn't the inverse where g has none,

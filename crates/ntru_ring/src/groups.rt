@@ -12,7 +12,7 @@ pub fn group_start(place: usize) -> usize
     place - place % GROUP
 }
 
-/// The end of the group that ends at a place or behind it, at most 761.
+/// The end of the group that ends at a place or after it, at most 761.
 pub fn group_end(place: usize) -> usize
     requires { place ≤ 761 }
     ensures covers { place ≤ result }

@@ -54,7 +54,7 @@ impl Word3 {
     }
 }
 
-/// A word moved up by one place, behind the last place of the word `before`.
+/// A word moved up by one place, after the last place of the word `before`.
 pub fn moved_up(word: u64, before: u64) -> u64
     ensures first { bit_at result 0 ≡ bit_at before 63 }
     ensures rest { (j : ℕ) → j < 63 → bit_at result (j + 1) ≡ bit_at word j }

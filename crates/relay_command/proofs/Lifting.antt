@@ -1,4 +1,4 @@
--- What was served behind an opening.
+-- What was served after an opening.
 use Rattle.std.proofs.Common.{◌≡◌, inl, inr, ⊎_elim, ℕ, ◌*◌, List, [], ◌∷◌, ◌++◌, length, subst, sym, arith}
 use Rattle.dr_disk.specs.Bytes.{Torn}
 use Rattle.dr_disk.specs.Spans.{IsQuiet, Span}
@@ -14,7 +14,7 @@ use Rattle.relay_command.specs.Serving.{HaveCome, Serves, WereServed, was_stoppe
 use Rattle.relay_command.proofs.Rounds.{never}
 
 module _ (words : List (List ℕ)) (s : Standing) (start mid now : DiskState) (from door : Port) (sized : length s.boxes ≡ length words) (span : Span start mid (IsOpening words start)) (quiet : IsQuiet start mid) where
-  -- what an opening leaves behind the areas
+  -- what an opening leaves after the areas
   same_behind : (c : List ℕ) → IsOpening words start c → IsSameBehind (length s.boxes) start c
   same_behind c is = (is.entry, is.image, subst (λ (n : ℕ). Torn 0 (524288 * n) is.entry c) (sym sized) is.outside)
 

@@ -46,7 +46,7 @@ name_more words k word so here is j other less there = elim (cases_eq j k) [
 pub first_bad : (words : List (List ℕ)) (k : ℕ) (word : List ℕ) → AreBoxNames k words → slice_get words k ≡ Some word → is_box_name (take k words) word ≡ false → IsFirstBad words (k + 1)
 first_bad words k word so here bad = record { place = k; word = word; number_is = refl; before = so; here = here; bad = bad }
 
--- behind as many names as a relay has room for no word names a box
+-- after as many names as a relay has room for no word names a box
 few_of : (a b c : Bool) → (a && (b && c)) ≡ true → c ≡ true
 few_of true true c is = is
 few_of true false c is = absurd (let e : false ≡ true = is in cc)

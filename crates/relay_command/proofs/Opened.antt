@@ -1,4 +1,4 @@
--- The command, behind its opening.
+-- The command, after its opening.
 use Rattle.std.proofs.Common.{ℕ, List, [], Option, Ok, Err, refl, subst, sym}
 use Rattle.dr_disk.specs.State.{DiskState}
 use Rattle.dr_ports.specs.Wires.{Port}

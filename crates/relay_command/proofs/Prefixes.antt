@@ -10,7 +10,7 @@ use Rattle.relay_core.specs.declared.limits.TheConstants.{EXCHANGE_LIMIT}
 use Rattle.relay_core.specs.Boxes.{Box}
 use Rattle.relay_core.specs.Streams.{Exchange, Served, and_then, boxes_after, exchange_of, is_last, nothing_served, reply_bytes, reply_frame, served, served_within}
 
--- more exchanges behind those
+-- more exchanges after those
 abbrev GoesOn : Served → Served → Type 0
 GoesOn short long = (rest : List Exchange) × (long.exchanges ≡ short.exchanges ++ rest)
 

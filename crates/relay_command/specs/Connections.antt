@@ -26,7 +26,7 @@ pub record Standing : Type 0 where
   pub told : Option Told
   pub faults : ℕ
 
--- and behind it: its requests were served, in order
+-- and after it: its requests were served, in order
 abbrev pub behind : Standing → Connection → Standing
 behind s x = record {
   boxes = (served s.boxes x.got).next;
@@ -77,14 +77,14 @@ connection_line i replies ended = codes "connection " ++ decimal i ++ codes " en
 connection_line i replies failed = codes "connection " ++ decimal i ++ codes " failed\n"
 connection_line i replies stopped = []
 
--- the lines of connections, numbered on behind the first i
+-- the lines of connections, numbered on after the first i
 abbrev pub lines_behind : ℕ → Standing → List Connection → List ℕ
 lines_behind i s [] = []
 lines_behind i s (x ∷ xs) = connection_line (i + 1) (length (served s.boxes x.got).exchanges) x.went ++ lines_behind (i + 1) (behind s x) xs
 
 -- ---- what a crash leaves
 
--- bytes that stand for the boxes behind a beginning of the frames of one of these connections
+-- bytes that stand for the boxes after a beginning of the frames of one of these connections
 abbrev pub WereReached : Standing → List Connection → List ℕ → Type 0
 WereReached s [] c = ⊥
 WereReached s (x ∷ xs) c = Reached box_text s.boxes x.got c ⊎ WereReached (behind s x) xs c

@@ -5,7 +5,7 @@ use Rattle.std.specs.Str.{bytes_eq}
 use Rattle.relay_core.specs.declared.limits.TheConstants.{RELAY_LIMIT}
 use Rattle.relay_wire.specs.Names.{is_name}
 
--- a word names a box behind these: it is a lawful name, none of them, and at most the last that a relay has room for
+-- a word names a box after these: it is a lawful name, none of them, and at most the last that a relay has room for
 unfoldable pub is_box_name : List (List ℕ) → List ℕ → Bool
 is_box_name before word = is_name word && (not (list_any (λ other. bytes_eq other word) before) && nat_lt (length before) RELAY_LIMIT)
 

@@ -26,8 +26,8 @@ pub record IsAtRest (boxes : List Box) (disk : DiskState) : Type 0 where
   pub stores : List SlotStore
   pub ready : IsReady box_text (record { boxes = boxes; stores = stores }) disk
 
--- These connections came. Meanwhile each image was an earlier one of these, or stood for the boxes behind a beginning of the
--- frames of one of them, and what lies behind the boxes' areas is that of an image at the start.
+-- These connections came. Meanwhile each image was an earlier one of these, or stood for the boxes after a beginning of the
+-- frames of one of them, and what lies after the boxes' areas is that of an image at the start.
 pub record HaveCome (earlier : List ℕ → Type 0) (s : Standing) (xs : List Connection) (start now : DiskState) (door : Port) : Type 0 where
   pub told : door.told ≡ (behind_all s xs).told
   pub faults : door.faults Flow ≡ (behind_all s xs).faults
@@ -41,7 +41,7 @@ pub record WereServed (earlier : List ℕ → Type 0) (s : Standing) (xs : List 
   pub quiet : IsQuiet start now
 
 -- A call on the disk failed in a connection: less was sent than the replies to what came, by the last one, and each image
--- stands for the boxes behind all that came, or for those before the last of it.
+-- stands for the boxes after all that came, or for those before the last of it.
 pub record IsStopped (s : Standing) (x : Connection) (now : DiskState) : Type 0 where
   pub last : Exchange
   pub replies : reply_bytes (served s.boxes x.got) ≡ x.put ++ reply_frame last

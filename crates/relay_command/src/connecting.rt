@@ -12,7 +12,7 @@ use relay_server::{Ended, ServeFault, Server};
 /// How a connection was.
 #[derive(Clone, Copy)]
 pub(crate) enum Connected {
-    /// It ended, behind so many replies.
+    /// It ended, after this many replies.
     Ended(u32),
     /// Receiving or sending failed.
     Failed,

@@ -30,7 +30,7 @@ fn is_lawful(word: &str) -> bool
     Name::new(word.as_bytes()).is_some()
 }
 
-/// Whether a word names a box behind these.
+/// Whether a word names a box after these.
 #[tactic(auto, unfolding(crate::specs::Names::is_box_name))]
 fn is_box_name(before: &[&str], word: &str) -> bool
     ensures { result ≡ is_box_name (map (λ w. w.now) before.now) word.now }

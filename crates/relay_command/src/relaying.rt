@@ -50,7 +50,7 @@ fn open<A: Disk>(alloc: Global, boxes: &[&str], disk: &mut A) -> Result<Server, 
     }
 }
 
-/// Serves a relay with these boxes on so many connections at a port: the line `relay PORT` once it listens, and for the I-th
+/// Serves a relay with these boxes on this many connections at a port: the line `relay PORT` once it listens, and for the I-th
 /// connection `connection I ended N`, with N the number of its replies, or `connection I failed`, where receiving or sending
 /// failed.
 ///

@@ -23,7 +23,7 @@ fn ending_of(fault: Fault) -> Ending
     }
 }
 
-/// Listens at a port, writes the line that says so, and serves so many connections, with a line for each.
+/// Listens at a port, writes the line that says so, and serves this many connections, with a line for each.
 pub(crate) fn serve_all<A: Disk, L: Door, O: Sink>(
     port: u16,
     count: u32,

@@ -19,12 +19,12 @@ const REPLIES: &[u8] = b"\x00\x01\x83\x00\x09\x81\x00\x00\x00\x00\x00\x00\x00\x0
 /// How many bytes the first two requests have.
 const HALF: usize = 11;
 
-/// A disk of so many zeros.
+/// A disk of this many zeros.
 fn blank(alloc: Global, size: u64) -> Result<MemoryDisk, AllocError> {
     MemoryDisk::new(alloc, size)
 }
 
-/// A door whose first connection holds so many bytes of the requests, and whose second one the rest. Listening and accepting
+/// A door whose first connection holds this many bytes of the requests, and whose second one the rest. Listening and accepting
 /// fail at the calls of the numbers `fails`, receiving and sending at those of `pipe_fails`.
 fn door(
     alloc: Global,
@@ -37,7 +37,7 @@ fn door(
     MemoryDoor::new(alloc, REQUESTS, &ends, 4096, fails, pipe_fails)
 }
 
-/// Runs the command, and answers its status behind what it wrote into so much room.
+/// Runs the command, and answers its status after what it wrote into so much room.
 fn outcome(
     alloc: Global,
     disk: &mut MemoryDisk,

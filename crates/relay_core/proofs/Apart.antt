@@ -89,7 +89,7 @@ step name boxes (Ok asked) more is = by_name (bytes_eq asked.name name) refl
         (is.replied ∙ ap (λ (o : Option Box). replies_alone o (asks (told name more.exchanges))) next)
         (is.next ∙ ap (λ (o : Option Box). box_after o (asks (told name more.exchanges))) next)
 
--- whichever frames, at most so many
+-- whichever frames, at most this many
 pub isolated_within : (n : ℕ) (name : List ℕ) (boxes : List Box) (frames : List (List ℕ)) → IsIsolated name boxes (served_within n boxes frames)
 isolated_within zero name boxes frames = record { replied = refl; next = refl }
 isolated_within (suc n) name boxes [] = record { replied = refl; next = refl }

@@ -19,7 +19,7 @@ use Rattle.relay_core.proofs.Rising.{rises-append, rises-at}
 use Rattle.relay_wire.proofs.Choices.{both_true}
 use Rattle.relay_wire.specs.Names.{is_name, is_packet}
 
--- ---- lengths behind which names and packets stand
+-- ---- lengths after which names and packets stand
 
 short_name : (name : List ℕ) → is_name name ≡ true → (length name < 2 ^ 8) × (is_name_size (length name) ≡ true)
 unfolding is_name
@@ -39,7 +39,7 @@ short_packet packet is = (below (length packet) is, is)
 
 -- ---- packets
 
--- a packet that may stand behind those before it
+-- a packet that may stand after those before it
 record IsNext (last : ℕ) (before : List Kept) (kept : Kept) : Type 0 where
   fits : kept.number < 2 ^ 64
   above : is_number (last_number 0 before) last kept.number ≡ true

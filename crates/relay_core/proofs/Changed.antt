@@ -47,7 +47,7 @@ of_box box boxes a same = by_change a.changed refl
           one = λ k h. absurd (let e : None ≡ Some k = sym told ∙ h in cc);
         }
 
--- ---- a box behind it
+-- ---- a box after it
 
 of_behind : (box : Box) (boxes : List Box) (a : Answers) → IsChange boxes a → IsChange (box ∷ boxes) (behind box a)
 of_behind box boxes a is = record {

@@ -25,7 +25,7 @@ nobody (box ∷ boxes) asked none =
     ap (λ (is : Bool). if is then of_first (answer_of box asked.ask) boxes else behind box (answers_of boxes asked)) both.0
     ∙ ap (behind box) (nobody boxes asked both.1)
 
--- the place of a box is one more behind another
+-- the place of a box is one more after another
 moved : (changed : Bool) (k : ℕ) → option_map (λ (m : ℕ). m + 1) (if changed then Some k else None) ≡ (if changed then Some (suc k) else None)
 moved true k = ap (λ (m : ℕ). Some m) (let e : k + 1 ≡ suc k = omega arith in e)
 moved false k = refl

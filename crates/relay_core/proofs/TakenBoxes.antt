@@ -9,7 +9,7 @@ use Rattle.relay_core.specs.Record.{HeadParts, head_fields, kept_field, next_kep
 
 -- ---- packets one by one
 
--- a packet read behind the number `low` is read behind those before it
+-- a packet read after the number `low` is read after those before it
 pub next_read : (last low : ℕ) (before : List Kept) (at : ℕ) (rest : List ℕ) (r : Result (Read Kept) ℕ) → last_number 0 before ≡ low
     → kept_field low last at rest ≡ r → next_kept last before at rest ≡ r
 next_read last low before at rest r same was = ap (λ (l : ℕ). kept_field l last at rest) same ∙ was

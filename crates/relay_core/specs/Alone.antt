@@ -17,7 +17,7 @@ abbrev pub replies_alone : Option Box → List Asking → List Replied
 replies_alone box [] = []
 replies_alone box (ask ∷ asks) = reply_alone box ask ∷ replies_alone (next_alone box ask) asks
 
--- the box behind them
+-- the box after them
 abbrev pub box_after : Option Box → List Asking → Option Box
 box_after box [] = box
 box_after box (ask ∷ asks) = box_after (next_alone box ask) asks

@@ -1,5 +1,5 @@
--- The record of a box: version 01 (1 byte), the name behind its length (1), the last number (8), the count of packets (1);
--- then for each packet its number (8), and the packet behind its length (2).
+-- The record of a box: version 01 (1 byte), the name after its length (1), the last number (8), the count of packets (1);
+-- then for each packet its number (8), and the packet after its length (2).
 use Rattle.std.specs.Prelude.{ℕ, ◌+◌, ◌≤◌, ◌==◌, ◌&&◌, Bool, nat_le, nat_lt, List, ◌++◌, length, Result, Ok, Err}
 use Rattle.std.specs.Int.{w8, w16, w64, to_be_bytes}
 use Rattle.grammar.specs.Reader.{Reader, number, checked, mapped, both, sized, items, whole}
@@ -54,7 +54,7 @@ kept_of e = record { number = e.0; packet = e.1 }
 unfoldable pub kept_field : ℕ → ℕ → Reader Kept
 kept_field low last = mapped kept_of (both (checked (is_number low last) (number w64)) (λ _. packet_field))
 
--- the packet behind those before it
+-- the packet after those before it
 abbrev pub next_kept : ℕ → List Kept → Reader Kept
 next_kept last before = kept_field (last_number 0 before) last
 
@@ -87,7 +87,7 @@ box_text box = head_text box.name box.last (length box.packets) ++ print_items k
 abbrev pub head_seen : Head → HeadParts
 head_seen head = (1, (head.name.now, (head.last, head.count)))
 
--- reading went on by at most so many bytes, and so did a fault
+-- reading went on by at most this many bytes, and so did a fault
 abbrev pub EndsWithin : {X : Type 0} → ℕ → Standing → Standing → Result X ℕ → Type 0
 EndsWithin most old new (Ok x) = new.at ≤ old.at + most
 EndsWithin most old new (Err at) = at ≤ old.at + most

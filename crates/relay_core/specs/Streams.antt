@@ -36,12 +36,12 @@ exchange_of boxes frame = record { asked = read_request (drop 2 frame); reply = 
 abbrev pub boxes_after : List Box → List ℕ → List Box
 boxes_after boxes frame = (answers_read boxes (read_request (drop 2 frame))).next
 
--- behind a frame of no lawful length nothing is answered
+-- after a frame of no lawful length nothing is answered
 abbrev pub is_last : Result Asked ℕ → Bool
 is_last (Err kind) = kind == 1
 is_last (Ok asked) = false
 
--- frames answered in order, at most so many
+-- frames answered in order, at most this many
 abbrev pub served_within : ℕ → List Box → List (List ℕ) → Served
 served_within zero boxes frames = nothing_served boxes
 served_within (suc n) boxes [] = nothing_served boxes

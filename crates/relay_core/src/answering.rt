@@ -16,7 +16,7 @@ use relay_wire::{Frame, Reply, parse_request, write_reply};
 pub struct Answered {
     /// The place of the box that the request changed.
     pub changed: Option<usize>,
-    /// The frame had no lawful length: behind it nothing is answered.
+    /// The frame had no lawful length: after it nothing is answered.
     pub last: bool,
     /// How many bytes the reply's frame has.
     pub len: usize,

@@ -9,7 +9,7 @@ ghost use Rattle.relay_core.specs.Record.{EndsWithin, box_read, next_kept};
 use crate::reading::{read_head, read_kept};
 use grammar::Cursor;
 
-/// So many packets, with numbers up to `last`.
+/// This many packets, with numbers up to `last`.
 fn skim_packets(cursor: &mut Cursor<'_>, last: u64, count: u8) -> Result<(), usize>
     requires { count ≤ BOX_LIMIT }
     ensures reads { Skims (items (next_kept last) count) cursor.old cursor.new result }
@@ -39,7 +39,7 @@ fn skim_record(text: &[u8]) -> Result<(), usize>
 }
 
 /// Whether a text is the record of a box; else the offset of the first field that is cut short or unlawful, or of the
-/// first byte behind the record. It takes no memory.
+/// first byte after the record. It takes no memory.
 pub fn check_box(text: &[u8]) -> Result<(), u32>
     ensures { MatchResult result (λ _. IsOk (box_read text.now)) (λ at. box_read text.now ≡ Err at) }
 {

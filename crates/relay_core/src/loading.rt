@@ -21,7 +21,7 @@ pub enum Loaded {
     OtherName,
 }
 
-/// Takes so many packets, with numbers up to `last`.
+/// Takes this many packets, with numbers up to `last`.
 fn take_packets(
     packets: &mut Vec<KeptPacket>,
     cursor: &mut Cursor<'_>,

@@ -35,7 +35,7 @@ fn read_version(cursor: &mut Cursor<'_>) -> Result<(), usize>
     Ok(())
 }
 
-/// The name behind its length.
+/// The name after its length.
 #[tactic(auto, unfolding(crate::specs::Record::name_field))]
 fn read_name<'a>(cursor: &mut Cursor<'a>) -> Result<&'a [u8], usize>
     ensures reads { Reads (λ name. name.now) name_field cursor.old cursor.new result }
@@ -82,7 +82,7 @@ pub(crate) fn read_head<'a>(cursor: &mut Cursor<'a>) -> Result<Head<'a>, usize>
     Ok(Head { name, last, count })
 }
 
-/// A packet behind its length.
+/// A packet after its length.
 #[tactic(auto, unfolding(crate::specs::Record::packet_field, relay_wire::specs::Names::is_packet))]
 fn read_packet<'a>(cursor: &mut Cursor<'a>) -> Result<&'a [u8], usize>
     ensures reads { Reads (λ packet. packet.now) packet_field cursor.old cursor.new result }
@@ -97,7 +97,7 @@ fn read_packet<'a>(cursor: &mut Cursor<'a>) -> Result<&'a [u8], usize>
     cursor.piece(size)
 }
 
-/// A packet behind its number, which is above `low`, the number of the one before, and not above `last`.
+/// A packet after its number, which is above `low`, the number of the one before, and not above `last`.
 #[tactic(auto, unfolding(crate::specs::Record::kept_field))]
 pub(crate) fn read_kept<'a>(
     cursor: &mut Cursor<'a>,

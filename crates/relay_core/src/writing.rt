@@ -37,7 +37,7 @@ fn put_head(out: &mut [u8], name: &Name, last: u64, count: usize) -> usize
     put_byte(out, at_count, count as u8)
 }
 
-/// Puts a packet behind its number at a place.
+/// Puts a packet after its number at a place.
 fn put_kept(out: &mut [u8], at: usize, kept: &KeptPacket) -> usize
     requires { at + length (kept_text kept.now) ≤ length out.old }
     ensures { Puts out.old out.new at (kept_text kept.now) result }

@@ -1,4 +1,4 @@
--- A sync over a link on which so many replies come is a scene.
+-- A sync over a link on which this many replies come is a scene.
 use Rattle.std.proofs.Common.{◌≡◌, ◌⊎◌, inl, inr, ℕ, ◌<◌, ◌≤◌, List, [], ◌∷◌, ◌++◌, length, take, drop, Some, Err, refl, sym, ◌∙◌, ap, subst, arith, append_assoc, append-nil, map}
 use Rattle.std.specs.Prelude.{flat_map}
 use Rattle.std.specs.List.{AllByRecursion}

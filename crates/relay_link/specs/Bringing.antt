@@ -6,8 +6,8 @@ use Rattle.relay_core.specs.Streams.{served, reply_bytes, reply_frame}
 use Rattle.relay_link.specs.Connections.{Connection, boxes_of, wire_of}
 use Rattle.relay_link.specs.declared.limits.TheConstants.{SENT_LIMIT}
 
--- These bytes were sent, and those received are a beginning of the first of the replies to them, so many. The boxes are those
--- behind them; at the end all replies were received. A call has failed only where a reply was lost, or where no more bytes are taken.
+-- These bytes were sent, and those received are a beginning of the first of the replies to them, this many. The boxes are those
+-- after them; at the end all replies were received. A call has failed only where a reply was lost, or where no more bytes are taken.
 pub record IsBrought (boxes : List Box) (kept : ℕ) (got put : List ℕ) (now : Connection) : Type 0 where
   pub sent : now.sent ≡ put
   pub more : List ℕ

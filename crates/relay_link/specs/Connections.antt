@@ -25,11 +25,11 @@ connected kept boxes = record { start = boxes; kept = kept; sent = []; at = 0; f
 abbrev pub exchanges_of : Connection → List Exchange
 exchanges_of c = (served c.start c.sent).exchanges
 
--- the boxes behind them
+-- the boxes after them
 abbrev pub boxes_of : Connection → List Box
 boxes_of c = (served c.start c.sent).next
 
--- the replies that come, in bytes; those behind them are lost
+-- the replies that come, in bytes; those after them are lost
 abbrev pub coming_of : Connection → List ℕ
 coming_of c = flat_map reply_frame (take c.kept (exchanges_of c))
 

@@ -27,7 +27,7 @@ answered_frame d more frame = record {
   left = if is_last (read_request (drop 2 frame)) then 0 else more;
 }
 
--- behind the last frame none is answered
+-- after the last frame none is answered
 abbrev pub frame_left : DeskNow → ℕ → List ℕ → DeskNow
 frame_left d zero frame = d
 frame_left d (suc more) frame = answered_frame d more frame

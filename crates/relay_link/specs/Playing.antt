@@ -1,4 +1,4 @@
--- A sync over a link on which so many replies come is a scene.
+-- A sync over a link on which this many replies come is a scene.
 use Rattle.std.specs.Prelude.{◌≡◌, ◌<◌, ◌≤◌, ℕ, List, [], ◌++◌, length, drop, All, Some, Err}
 use Rattle.std.specs.List.{AllByRecursion}
 use Rattle.dr_ports.specs.Wires.{IsAtEnd}
@@ -19,7 +19,7 @@ use Rattle.relay_link.specs.Connections.{Connection, boxes_of, wire_of}
 use Rattle.relay_link.specs.declared.limits.TheConstants.{REPLY_LIMIT}
 
 module _ {S : Type 0} (p : Party S) where
-  -- The replies were read, each while its request waited, and these bytes behind them; the requests were sent, and these bytes.
+  -- The replies were read, each while its request waited, and these bytes after them; the requests were sent, and these bytes.
   pub record IsSynced (kept : ℕ) (s : S) (boxes : List Box) (replies : List Replied) (rest put : List ℕ) (now : Connection) : Type 0 where
     pub lawful_boxes : All IsLawfulBox boxes
     pub lawful_requests : AllByRecursion IsLawfulAsked (made_requests p (course_of p s replies))

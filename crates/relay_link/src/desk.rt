@@ -53,7 +53,7 @@ impl Desk {
         })
     }
 
-    /// Begins another connection on the boxes as they stand, on which so many replies come.
+    /// Begins another connection on the boxes as they stand, on which this many replies come.
     pub(crate) fn begin(&mut self, kept: usize)
         requires { kept ≤ REPLY_LIMIT }
         ensures { self.new ≡ fresh kept self.old.boxes }

@@ -21,7 +21,7 @@ use std::snapshot::Snapshot;
 /// A link to a relay in memory. A contract sees one connection: what was sent and received on it, and the relay's boxes as it
 /// began.
 ///
-/// The relay answers each frame as soon as it is whole. So many of its replies come, and behind them the link fails.
+/// The relay answers each frame as soon as it is whole. This many of its replies come, and after them the link fails.
 #[derive(Drop)]
 pub struct RelayLink {
     desk: Desk,

@@ -40,7 +40,7 @@ twice g h p q (Some t) =
     ap (λ (b : List ℕ). Some (record t { now = record t.now { received = b; sent = (t.now.sent ++ p) ++ q } })) (append_assoc t.now.received g h)
     ∙ ap (λ (b : List ℕ). Some (record t { now = record t.now { received = t.now.received ++ (g ++ h); sent = b } })) (append_assoc t.now.sent p q)
 
--- one exchange behind another
+-- one exchange after another
 pub both : (g h p q : List ℕ) (start mid now : Port) → Exchanges g p start mid → Exchanges h q mid now → Exchanges (g ++ h) (p ++ q) start now
 both g h p q start mid now one two = two ∙ ap (option_map (exchanged h q)) one ∙ twice g h p q start.told
 

@@ -1,4 +1,4 @@
--- A pipe gives one piece behind another.
+-- A pipe gives one piece after another.
 use Rattle.std.proofs.Common.{◌≡◌, ℕ, ◌+◌, ◌≤◌, List, [], ◌++◌, take, drop, ap₂, Option, Some, None, refl, sym, ◌∙◌, ap, arith, append_assoc, append-nil}
 use Rattle.std.specs.Prelude.{option_map}
 use Rattle.dr_ports.specs.declared.pipe.Part.TheVariants.{Flow}

@@ -13,7 +13,7 @@ pub enum PeerKind {
     Frame,
     /// The reply's first byte says nothing that may be replied.
     Kind,
-    /// What stands behind the reply's first byte isn't as it must be.
+    /// What stands after the reply's first byte isn't as it must be.
     Size,
     /// The reply doesn't answer the request.
     Wrong,

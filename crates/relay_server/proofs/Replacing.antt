@@ -98,7 +98,7 @@ module _ (text : Box → List ℕ) (boxes next : List Box) (stores news : List S
       ]))
       o.either
 
-  -- what lies behind the areas is as it was
+  -- what lies after the areas is as it was
   behind : (c : List ℕ) → Frame start the_old.0.area.start (the_old.0.area.slot + the_old.0.area.slot) c → Frame start 0 (524288 * length boxes) c
   behind c frame =
       let f = framed c frame in

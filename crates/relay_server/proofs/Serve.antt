@@ -1,4 +1,4 @@
--- Round behind round.
+-- Round after round.
 use Rattle.std.proofs.Common.{◌≡◌, ⊎_elim, ℕ, suc, ◌+◌, ◌-◌, ◌*◌, ◌<◌, ◌≤◌, Bool, true, false, List, [], ◌∷◌, ◌++◌, length, drop, refl, sym, ◌∙◌, ap, subst, arith, append_assoc, append-nil}
 use Rattle.std.specs.Prelude.{flat_map, if◌then◌else◌}
 use Rattle.std.specs.List.{AllByRecursion}
@@ -73,7 +73,7 @@ module _ (text : Box → List ℕ) (most : ℕ) (old : ServerNow) where
           by_end true = refl
           by_end false = ap (and_then (exchange_of boxes frame)) (served_nothing (most - (n + 1)) (boxes_after boxes frame))
 
-      -- what lies behind the areas, of a moment of this round
+      -- what lies after the areas, of a moment of this round
       behind_with : (c : List ℕ) → Frame dnow 0 (524288 * length boxes) c → Frame dstart 0 (524288 * length old.boxes) c
       behind_with c frame =
           let sized = subst (λ (n : ℕ). Torn 0 (524288 * n) frame.0 c) so.boxes_count frame.2 in

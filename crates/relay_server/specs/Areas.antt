@@ -35,14 +35,14 @@ IsAreaRefused k start now (Damaged area slot at) =
     (area ≡ k) × IsQuiet start now × ((s : List ℕ) → start.seen ≡ Some s → area_read k s ≡ damaged slot at)
 IsAreaRefused k start now (BoxName j) = ⊥
 
--- Each area has the record that one image of that moment has there. What lies behind so many areas is the same.
+-- Each area has the record that one image of that moment has there. What lies after this many areas is the same.
 pub record IsLikeEntry (count : ℕ) (start : DiskState) (c : List ℕ) : Type 0 where
   pub entry : List ℕ
   pub image : start.image entry
   pub same : (k : ℕ) → recovered (area_of k) c ≡ recovered (area_of k) entry
   pub outside : Torn 0 (524288 * count) entry c
 
--- the first n of so many areas were opened
+-- the first n of this many areas were opened
 pub record AreOpened (n count : ℕ) (stores : List SlotStore) (start now : DiskState) : Type 0 where
   pub count_is : length stores ≡ n
   pub during : Span start now (IsLikeEntry count start)
@@ -53,7 +53,7 @@ pub record AreOpened (n count : ℕ) (stores : List SlotStore) (start now : Disk
   pub read : OfRead start (λ s. (k : ℕ) (store : SlotStore) → slice_get stores k ≡ Some store → area_read k s ≡ reading_of (content store))
   pub untouched : (s r : List ℕ) → start.seen ≡ Some s → now.seen ≡ Some r → Torn 0 (524288 * n) s r
 
--- why so many weren't
+-- why they weren't
 abbrev pub AreRefused : ℕ → DiskState → DiskState → ServerOpenError → Type 0
 AreRefused count start now Memory = IsQuiet start now
 AreRefused count start now (StoreFault call) = Rose (start.faults call) (now.faults call)

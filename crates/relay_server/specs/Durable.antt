@@ -12,7 +12,7 @@ use Rattle.relay_core.specs.Boxes.{Box}
 abbrev pub area_of : ℕ → Area
 area_of k = record { start = 524288 * k; slot = 262144 }
 
--- what lies behind so many areas is as an image of that moment has it
+-- what lies after this many areas is as an image of that moment has it
 abbrev pub IsSameBehind : ℕ → DiskState → List ℕ → Type 0
 IsSameBehind count start = Frame start 0 (524288 * count)
 

@@ -48,7 +48,7 @@ HasOtherName name (damaged slot at) = ⊥
 abbrev pub OfRead : DiskState → (List ℕ → Type 0) → Type 0
 OfRead start P = (s : List ℕ) → start.seen ≡ Some s → P s
 
--- the first of so many areas that is damaged
+-- the first of this many areas that is damaged
 pub record IsFirstDamaged (count k slot at : ℕ) (s : List ℕ) : Type 0 where
   pub inside : k < count
   pub before : (j : ℕ) → j < k → IsWhole (area_read j s)
@@ -67,7 +67,7 @@ pub record IsFirstOther (names : List (List ℕ)) (k : ℕ) (s : List ℕ) : Typ
 abbrev pub StaysOrBegins : List ℕ → Option (List ℕ) → Option (List ℕ) → Type 0
 StaysOrBegins name old new = (new ≡ old) ⊎ ((old ≡ None) × (new ≡ Some (box_text (empty_box name))))
 
--- Area by area these bytes are those of an image of that moment, but for empty boxes that were put. What lies behind the
+-- Area by area these bytes are those of an image of that moment, but for empty boxes that were put. What lies after the
 -- areas is the same.
 pub record IsOpening (names : List (List ℕ)) (start : DiskState) (c : List ℕ) : Type 0 where
   pub entry : List ℕ

@@ -64,7 +64,7 @@ pub record ReachedIn (text : Box → List ℕ) (most : ℕ) (boxes : List Box) (
 abbrev pub Reached : (Box → List ℕ) → List Box → List ℕ → List ℕ → Type 0
 Reached text boxes got = ReachedIn text EXCHANGE_LIMIT boxes (frames_of got)
 
--- Bytes that stand for the boxes behind all frames, or for those before the last one.
+-- Bytes that stand for the boxes after all frames, or for those before the last one.
 pub record LastOrBefore (text : Box → List ℕ) (boxes next : List Box) (got : List ℕ) (disk : DiskState) : Type 0 where
   pub front : List (List ℕ)
   pub frame : List ℕ

@@ -57,7 +57,7 @@ fn open_area<D: Disk>(alloc: Global, disk: &mut D, k: usize) -> Result<SlotStore
     }
 }
 
-/// Opens the stores of so many areas, up to the first one that is refused.
+/// Opens the stores of this many areas, up to the first one that is refused.
 pub(crate) fn open_areas<D: Disk>(
     alloc: Global,
     disk: &mut D,

@@ -13,7 +13,7 @@ pub enum ServerOpenError {
     #[error("a call on the disk failed")]
     StoreFault { call: Call },
     /// What was read of an area is no store's with a box: the slot, 0 or 1, and the first place in it that no record's
-    /// slot has. Nothing was written to this area, nor to those behind it.
+    /// slot has. Nothing was written to this area, nor to those after it.
     #[error("slot {slot} of area {area} is damaged at {at}")]
     Damaged { area: u32, slot: u32, at: u64 },
     /// The area of this box has the record of a box of another name. No record was put.

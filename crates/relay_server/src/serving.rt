@@ -3,7 +3,7 @@
 use dr_disk::Call;
 use thiserror::Error;
 
-/// A connection ended, after so many frames were answered.
+/// A connection ended, after this many frames were answered.
 #[derive(Clone, Copy, Debug, PartialEq, Eq)]
 pub struct Ended {
     pub answered: u32,
@@ -28,6 +28,6 @@ pub enum ServeFault {
 pub enum Round {
     /// The pipe has ended.
     AtEnd,
-    /// A frame was answered; behind it nothing is, where this says so.
+    /// A frame was answered; after it nothing is, where this says so.
     Answered(bool),
 }

@@ -19,7 +19,7 @@ const REQUESTS: &[u8] = b"\x00\x03\x02\x01a\x00\x04\x01\x01a\x07\x00\x03\x02\x01
     \x00\x0b\x03\x01a\x00\x00\x00\x00\x00\x00\x00\x01\x00\x0b\x03\x01a\x00\x00\x00\x00\x00\x00\x00\x01\
     \x00\x03\x02\x01b\x00\x01\x09\x00\x00\x00\x03\x02\x01a";
 
-/// The replies of a relay with the box `a`, up to the one behind which the connection ends.
+/// The replies of a relay with the box `a`, up to the one after which the connection ends.
 const REPLIES: &[u8] = b"\x00\x01\x83\x00\x09\x81\x00\x00\x00\x00\x00\x00\x00\x01\
     \x00\x0a\x82\x00\x00\x00\x00\x00\x00\x00\x01\x07\x00\x01\x84\x00\x09\x87\x00\x00\x00\x00\x00\x00\x00\x01\
     \x00\x01\x86\x00\x02\x88\x02\x00\x02\x88\x01";
@@ -52,7 +52,7 @@ fn open<D: Disk>(alloc: Global, disk: &mut D, name: &[u8]) -> Result<Server, Ser
     Server::open(alloc, disk, &[name])
 }
 
-/// Opens the server of the box `a`, serves a connection, and answers how that ended, behind what was sent.
+/// Opens the server of the box `a`, serves a connection, and answers how that ended, after what was sent.
 fn serve<D: Disk>(
     alloc: Global,
     disk: &mut D,

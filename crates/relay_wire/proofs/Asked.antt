@@ -35,7 +35,7 @@ request a lawful = by_ask a.ask lawful.1
 abbrev rest_kind : ℕ
 rest_kind = 4
 
--- what the first byte and what stands behind the name say
+-- what the first byte and what stands after the name say
 record IsRest (first : ℕ) (rest : List ℕ) (ask : Asking) : Type 0 where
   first_is : first ≡ ask_byte ask
   rest_is : rest ≡ ask_rest ask

@@ -5,7 +5,7 @@ use Rattle.std.proofs.lemmas.List.{take-take, drop-take, take-append-drop, lengt
 use Rattle.relay_wire.specs.Frames.{frame_size, IsFrame}
 use Rattle.relay_wire.proofs.Splitting.{frame_size-least}
 
--- behind the first two bytes the size stays
+-- after the first two bytes the size stays
 frame_size-known : (bytes more : List ℕ) → 2 ≤ length bytes → frame_size (bytes ++ more) ≡ frame_size bytes
 frame_size-known [] more long = absurd (omega (arith, long))
 frame_size-known (a ∷ []) more long = absurd (omega (arith, long))

@@ -32,7 +32,7 @@ framed body = to_be_bytes w16 (length body) ++ body
 
 -- ---- streams
 
--- whole frames, and behind them the rest of a stream
+-- whole frames, and after them the rest of a stream
 abbrev pub stream_of : List (List ℕ) → List ℕ → List ℕ
 stream_of frames rest = flat_map (λ frame. frame) frames ++ rest
 
@@ -42,7 +42,7 @@ pub record Splits (stream : List ℕ) (frames : List (List ℕ)) (rest : List �
   pub each : AllByRecursion IsFrame frames
   pub partial : IsPartial rest
 
--- the whole frames that a stream begins with, at most so many
+-- the whole frames that a stream begins with, at most this many
 abbrev pub frames_within : ℕ → List ℕ → List (List ℕ)
 frames_within zero bytes = []
 frames_within (suc n) bytes =

@@ -52,7 +52,7 @@ reply_body reply = reply_byte reply ∷ reply_rest reply
 
 -- ---- read: the reply, or why it is none
 
--- a number, and nothing behind it
+-- a number, and nothing after it
 abbrev pub numbered : (ℕ → Replied) → List ℕ → Result Replied BadReply
 numbered make rest = if length rest == 8 then Ok (make (from_be_bytes w64 rest)) else Err Size
 

@@ -22,7 +22,7 @@ IsLawfulAsking (acks number) = number < 2 ^ 64
 abbrev pub IsLawfulAsked : Asked → Type 0
 IsLawfulAsked asked = (is_name asked.name ≡ true) × IsLawfulAsking asked.ask
 
--- ---- printed: a byte that says what is asked, the name behind its length in one byte, and the rest
+-- ---- printed: a byte that says what is asked, the name after its length in one byte, and the rest
 
 abbrev pub ask_byte : Asking → ℕ
 ask_byte (posts packet) = 1
@@ -39,7 +39,7 @@ request_body asked = ask_byte asked.ask ∷ (length asked.name ∷ (asked.name +
 
 -- ---- read: the request, or the kind of what is wrong; kinds are looked for from 1 to 4
 
--- Kind 4: what stands behind the name isn't as it must be.
+-- Kind 4: what stands after the name isn't as it must be.
 unfoldable pub read_rest : ℕ → List ℕ → Result Asking ℕ
 read_rest first rest =
     if first == 1 then (if is_packet rest then Ok (posts rest) else Err 4)
@@ -50,7 +50,7 @@ abbrev pub of_name : List ℕ → Result Asking ℕ → Result Asked ℕ
 of_name name (Ok ask) = Ok (record { name = name; ask = ask })
 of_name name (Err kind) = Err kind
 
--- Kind 3: no name stands behind its length.
+-- Kind 3: no name stands after its length.
 unfoldable pub read_named : ℕ → List ℕ → Result Asked ℕ
 read_named first [] = Err 3
 read_named first (n ∷ more) =

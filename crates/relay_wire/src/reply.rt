@@ -33,7 +33,7 @@ pub enum BadReply {
     /// Its first byte says nothing that may be replied.
     #[error("the reply's first byte is unknown")]
     Kind,
-    /// What stands behind its first byte isn't as it must be.
+    /// What stands after its first byte isn't as it must be.
     #[error("the rest of the reply isn't as its first byte says")]
     Size,
 }

@@ -25,7 +25,7 @@ pub(crate) const ABSENT: u8 = 0x87;
 
 pub(crate) const BAD: u8 = 0x88;
 
-/// A number, which is all that stands behind the first byte.
+/// A number, which is all that stands after the first byte.
 fn parse_stored(rest: &[u8]) -> Result<Reply, BadReply>
     ensures { ParsesReply result (numbered stored rest.now) }
 {
@@ -35,7 +35,7 @@ fn parse_stored(rest: &[u8]) -> Result<Reply, BadReply>
     }
 }
 
-/// A number, which is all that stands behind the first byte.
+/// A number, which is all that stands after the first byte.
 fn parse_absent(rest: &[u8]) -> Result<Reply, BadReply>
     ensures { ParsesReply result (numbered absent rest.now) }
 {
@@ -45,7 +45,7 @@ fn parse_absent(rest: &[u8]) -> Result<Reply, BadReply>
     }
 }
 
-/// A number, and a packet, which is all that stands behind it.
+/// A number, and a packet, which is all that stands after it.
 fn parse_item(rest: &[u8]) -> Result<Reply, BadReply>
     ensures { ParsesReply result (read_item rest.now) }
 {
@@ -58,7 +58,7 @@ fn parse_item(rest: &[u8]) -> Result<Reply, BadReply>
     }
 }
 
-/// A kind in one byte, which is all that stands behind the first byte.
+/// A kind in one byte, which is all that stands after the first byte.
 fn parse_bad(rest: &[u8]) -> Result<Reply, BadReply>
     ensures { ParsesReply result (read_bad rest.now) }
 {
@@ -68,7 +68,7 @@ fn parse_bad(rest: &[u8]) -> Result<Reply, BadReply>
     }
 }
 
-/// A reply behind whose first byte nothing stands.
+/// A reply after whose first byte nothing stands.
 fn parse_bare(reply: Reply, rest: &[u8]) -> Result<Reply, BadReply>
     ensures { ParsesReply result (bare (replied_of reply) rest.now) }
 {
@@ -79,7 +79,7 @@ fn parse_bare(reply: Reply, rest: &[u8]) -> Result<Reply, BadReply>
     }
 }
 
-/// A reply, by its first byte and what stands behind it.
+/// A reply, by its first byte and what stands after it.
 #[tactic(auto, unfolding(crate::specs::Replies::read_reply_rest))]
 fn parse_rest(first: u8, rest: &[u8]) -> Result<Reply, BadReply>
     ensures { ParsesReply result (read_reply_rest first rest.now) }

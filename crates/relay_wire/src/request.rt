@@ -36,7 +36,7 @@ impl Model for Request {
 }
 
 /// A frame is no request. Its kind is the first of these that is so: 1 its length is 0 or above 4,096; 2 its first byte
-/// says nothing that may be asked; 3 no name stands behind its length; 4 what stands behind the name isn't as it must be.
+/// says nothing that may be asked; 3 no name stands after its length; 4 what stands after the name isn't as it must be.
 #[derive(Clone, Copy, Debug, PartialEq, Eq, Error)]
 #[error("the frame is no request, for reason {kind}")]
 pub struct Bad {

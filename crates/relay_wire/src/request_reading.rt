@@ -25,7 +25,7 @@ const NAME: u8 = 3;
 
 const REST: u8 = 4;
 
-/// A packet, which is all that stands behind the name.
+/// A packet, which is all that stands after the name.
 #[tactic(auto, unfolding(crate::specs::Requests::read_rest))]
 fn posted(rest: &[u8]) -> Result<Ask, Bad>
     ensures { ParsesAsk result (read_rest 1 rest.now) }
@@ -36,7 +36,7 @@ fn posted(rest: &[u8]) -> Result<Ask, Bad>
     }
 }
 
-/// A number, which is all that stands behind the name.
+/// A number, which is all that stands after the name.
 #[tactic(auto, unfolding(crate::specs::Requests::read_rest))]
 fn acknowledged(rest: &[u8]) -> Result<Ask, Bad>
     ensures { ParsesAsk result (read_rest 3 rest.now) }
@@ -47,7 +47,7 @@ fn acknowledged(rest: &[u8]) -> Result<Ask, Bad>
     }
 }
 
-/// What is asked, by the first byte and what stands behind the name.
+/// What is asked, by the first byte and what stands after the name.
 #[tactic(auto, unfolding(crate::specs::Requests::read_rest))]
 fn parse_rest(first: u8, rest: &[u8]) -> Result<Ask, Bad>
     requires from { 1 ≤ first }
@@ -67,7 +67,7 @@ fn parse_rest(first: u8, rest: &[u8]) -> Result<Ask, Bad>
     }
 }
 
-/// A name behind its length, and what stands behind it.
+/// A name after its length, and what stands after it.
 #[tactic(auto, unfolding(crate::specs::Requests::read_named))]
 fn parse_named(first: u8, bytes: &[u8]) -> Result<Request, Bad>
     requires from { 1 ≤ first }

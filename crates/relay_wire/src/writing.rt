@@ -15,7 +15,7 @@ use crate::request::{Ask, Request};
 use crate::request_reading::{ACK, FETCH, POST};
 use dr_base::{put, put_u16};
 
-/// Writes the frame of a first byte and three parts behind it.
+/// Writes the frame of a first byte and three parts after it.
 fn put_frame(out: &mut [u8], first: u8, one: &[u8], two: &[u8], three: &[u8]) -> usize
     requires fits { 1 + length one.now + length two.now + length three.now ≤ BODY_LIMIT }
     requires room { HasRoom FRAME_LIMIT (framed (first ∷ (one.now ++ (two.now ++ three.now)))) (length out.old) }

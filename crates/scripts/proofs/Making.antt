@@ -153,7 +153,7 @@ makes_first rounds number made text is none = record {
   second = omega (arith, ap (λ (m : Making). m.second) is);
 }
 
--- lines behind lines
+-- lines after lines
 texts_joined : (xs ys : List Deed) → script_text xs ++ script_text ys ≡ script_text (xs ++ ys)
 texts_joined [] ys = refl
 texts_joined (x ∷ xs) ys = append_assoc (line_text x ++ codes "\n") (script_text xs) (script_text ys) ∙ ap (λ t. (line_text x ++ codes "\n") ++ t) (texts_joined xs ys)

@@ -120,7 +120,7 @@ old_back : mode_read (codes "old") ≡ Some Old
 unfolding mode_read
 old_back = refl
 
--- behind the number of calls and the mode
+-- after the number of calls and the mode
 crash_back : (side : Side) (n : ℕ) (digit : ℕ) (event came : Event) (words : List ℕ) → (digit == 32) ≡ false
     → number_read (digit ∷ []) ≡ Some n → call_words side words ≡ Some event → stopped n Old event ≡ came
     → option_and_then (stop_read side) (halves_of 32 (digit ∷ 32 ∷ codes "old " ++ words)) ≡ Some came

@@ -13,7 +13,7 @@ use Rattle.scripts.specs.declared.make.rounds.Turn.TheVariants.{Says, Takes, Res
 
 -- ---- draws
 
--- the number behind a number
+-- the number after a number
 unfoldable pub next_number : ℕ → ℕ
 next_number x = (6364136223846793005 * x + 1442695040888963407) % 2 ^ 64
 
@@ -44,7 +44,7 @@ abbrev pub said_to : Side → Making → ℕ
 said_to First m = m.second
 said_to Second m = m.first
 
--- what a round does, and what stands behind it
+-- what a round does, and what stands after it
 pub record Round : Type 0 where
   pub turn : Turn
   pub next : Making
@@ -72,7 +72,7 @@ turn_deeds round Rests = []
 
 -- ---- a script
 
--- the deeds of so many rounds, of which the first has this number
+-- the deeds of this many rounds, of which the first has this number
 unfoldable pub deeds_from : Making → ℕ → ℕ → List Deed
 deeds_from m round zero = []
 deeds_from m round (suc left) = turn_deeds round (round_of m).turn ++ deeds_from (round_of m).next (round + 1) left
@@ -84,6 +84,6 @@ opening number = record { number = number; first = 0; second = 0 }
 unfoldable pub made_deeds : ℕ → ℕ → List Deed
 made_deeds rounds number = deeds_from (opening number) 1 rounds
 
--- a script of so many rounds, made from a number
+-- a script of this many rounds, made from a number
 abbrev pub made_script : ℕ → ℕ → Scripted
 made_script rounds number = record { kem = Open; key = replicate 32 0; deeds = made_deeds rounds number; rounds = rounds }

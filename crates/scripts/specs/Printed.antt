@@ -15,7 +15,7 @@ unfoldable pub amount_text : Amount → List ℕ
 amount_text All = codes "all"
 amount_text (Exactly n) = decimal n
 
--- a stop behind the sync of the new record's gate, or before the first write
+-- a stop after the sync of the new record's gate, or before the first write
 unfoldable pub cut_text : Bool → List ℕ
 cut_text true = codes "stop 4 old "
 cut_text false = codes "stop 0 old "

@@ -25,7 +25,7 @@ after_prefix prefix line = if starts_with nat_eq line prefix then Some (drop (le
 abbrev pub is_text : List ℕ → List ℕ → Bool
 is_text text line = pointwise nat_eq line text
 
--- the text before the first byte of this kind, and the text behind it
+-- the text before the first byte of this kind, and the text after it
 unfoldable pub halves_of : ℕ → List ℕ → Option (List ℕ × List ℕ)
 halves_of mark text = option_map (λ at. (take at text, drop (at + 1) text)) (position (λ byte. byte == mark) text)
 
@@ -93,7 +93,7 @@ look_words side words =
     if is_text (codes "inbox") words then Some (shows_inbox side)
     else (if is_text (codes "state") words then Some (shows_state side) else None)
 
--- what stands behind a side
+-- what stands after a side
 unfoldable pub side_words : Side → List ℕ → Option Event
 side_words side words =
     option_or (say_words side words) (option_or (take_words side words) (option_or (flip_words side words) (option_or (bytes_words side words)

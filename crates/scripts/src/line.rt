@@ -1,4 +1,4 @@
-//! The lines of a script behind its key.
+//! The lines of a script after its key.
 
 ghost use Rattle.std.specs.Prelude.{◌≡◌, option_map};
 ghost use Rattle.scripts.specs.Sides.{acting_side};
@@ -28,9 +28,9 @@ pub enum Line<'a> {
     Flip(Side, Position, u32),
     /// A side takes the bytes that these hex digits say.
     Bytes(Side, &'a [u8]),
-    /// So many of the oldest packets leave a side's outbox.
+    /// This many of the oldest packets leave a side's outbox.
     Sent(Side, Amount),
-    /// So many of the oldest texts leave a side's inbox.
+    /// This many of the oldest texts leave a side's inbox.
     Done(Side, Amount),
     /// A side shows its inbox.
     Inbox(Side),
@@ -91,7 +91,7 @@ fn parse_seed(line: &[u8]) -> Option<Line<'_>>
     }
 }
 
-/// Reads what stands behind a side.
+/// Reads what stands after a side.
 #[tactic(auto, unfolding(crate::specs::Words::side_words))]
 pub fn parse_words(side: Side, words: &[u8]) -> Option<Line<'_>>
     ensures { option_map event_of result ≡ side_words side words.entry.now }

@@ -31,7 +31,7 @@ pub enum Lined<'a> {
 /// A call in which the disk of its side stops.
 #[derive(Clone, Copy)]
 pub struct Stop<'a> {
-    /// So many writes and syncs of the call pass.
+    /// This many writes and syncs of the call pass.
     pub after: u32,
     /// How the disk crashes then.
     pub mode: Mode,
@@ -47,9 +47,9 @@ pub enum StoppedCall<'a> {
     Take(Side, Position),
     /// A side takes the packet that the other side made, counted from 1.
     TakeNth(Side, u32),
-    /// So many of the oldest packets leave a side's outbox.
+    /// This many of the oldest packets leave a side's outbox.
     Sent(Side, u32),
-    /// So many of the oldest texts leave a side's inbox.
+    /// This many of the oldest texts leave a side's inbox.
     Done(Side, u32),
 }
 

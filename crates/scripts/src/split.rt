@@ -45,7 +45,7 @@ pub fn after_prefix<'a>(text: &'a [u8], prefix: &[u8]) -> Option<&'a [u8]>
     None
 }
 
-/// The text before the first of these bytes, and the text behind it.
+/// The text before the first of these bytes, and the text after it.
 pub fn cut_at(text: &[u8], mark: u8) -> Option<(&[u8], &[u8])>
     ensures { option_map (λ halves. (halves.0.now, halves.1.now)) result ≡ halves_of mark text.entry.now }
 {

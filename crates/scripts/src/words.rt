@@ -13,7 +13,7 @@ use dr_base::{Position, Side};
 use hex::decode_to_slice;
 use session_model::Amount;
 
-/// Reads `say` and a text behind a space, which an empty text may lack.
+/// Reads `say` and a text after a space, which an empty text may lack.
 #[tactic(auto, unfolding(crate::specs::Words::say_words))]
 pub fn parse_say(side: Side, words: &[u8]) -> Option<Line<'_>>
     ensures { option_map event_of result ≡ say_words side words.entry.now }
@@ -88,7 +88,7 @@ fn is_hex(text: &[u8]) -> bool
     decode_to_slice(text, &mut bytes[..text.len() / 2]).is_ok()
 }
 
-/// Reads `bytes` and bytes in hex behind a space, which no bytes may lack.
+/// Reads `bytes` and bytes in hex after a space, which no bytes may lack.
 #[tactic(auto, unfolding(crate::specs::Words::bytes_words))]
 pub fn parse_bytes(side: Side, words: &[u8]) -> Option<Line<'_>>
     ensures { option_map event_of result ≡ bytes_words side words.entry.now }

@@ -33,7 +33,7 @@ shown_runs state k shows start now lawful client opened opening opens = record {
       (record { store = client.store; ready = opened.ready })));
 }
 
--- ---- two pieces, one behind the other
+-- ---- two pieces, one after the other
 
 pub cut_in_first : {T E : Type 0} (old new : Option (List ℕ)) (before now : ℕ) (a b first : List ℕ) (e : E) → first ≡ a
     → Writes {T = T} old new before now first (Err e) → Writes {T = T} old new before now (a ++ b) (Err e)

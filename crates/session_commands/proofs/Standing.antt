@@ -1,4 +1,4 @@
--- What a disk leaves over an opening, and what came behind it.
+-- What a disk leaves over an opening, and what came after it.
 use Rattle.std.proofs.Common.{List, Some, inl, inr, subst, sym, ℕ, ⊎_elim, ◌≡◌, ◌⊎◌}
 use Rattle.dr_base.specs.declared.position.Side.{Side}
 use Rattle.dr_disk.specs.Spans.{IsQuiet, Span}
@@ -58,7 +58,7 @@ only_opened k side w start now opening reads = record {
   reads = λ s told. inl (reads s told);
 }
 
--- ---- where no call was made behind the opening
+-- ---- where no call was made after the opening
 
 module _ {X : Type 0} (state : X → DiskState) (k : Mechanism) (start mid now : X) (lawful : IsLawful (state now)) (client : ClientNow)
     (opened : IsOpened k client (state start) (state mid)) (same : now ≡ mid) where

@@ -69,7 +69,7 @@ module _ (p : Party Client) (kept : Client) (replies : List Replied) (link opene
     quiet = cut.quiet ∙ quiet;
   }
 
-  -- ---- behind an opening of the client
+  -- ---- after an opening of the client
 
   module _ (start mid end : DiskState) (client after : ClientNow) (taken wrote : Option (List ℕ)) (before middle final : ℕ) (same : client.kept ≡ kept)
       (opening : IsQuiet start mid) (later : middle ≤ final) where

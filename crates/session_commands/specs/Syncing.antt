@@ -81,14 +81,14 @@ abbrev pub sync_lines : Party Client → Client → List Replied → Result More
 sync_lines p kept replies (Err (SyncStore call)) = (course_of p kept (take (length replies - 1) replies)).lines
 sync_lines p kept replies _ = all_lines p (course_of p kept replies)
 
--- they were written, or a write failed behind a beginning of them
+-- they were written, or a write failed after a beginning of them
 abbrev pub HasWritten : List ℕ → Option (List ℕ) → Option (List ℕ) → ℕ → ℕ → Result More SyncFault → Type 0
 HasWritten lines old new before now (Err SyncWrite) = TookBeginning old new lines × Rose before now
 HasWritten lines old new before now _ = (new ≡ appended old lines) × (now ≡ before)
 
 -- ---- what the disk holds
 
--- bytes like those that were read, or with the record of what the course keeps behind a beginning of the replies
+-- bytes like those that were read, or with the record of what the course keeps after a beginning of the replies
 pub data IsSyncLeft (p : Party Client) (kept : Client) (replies : List Replied) (start : DiskState) (c : List ℕ) : Type 0 where
   is_as_read : IsLikeRead client_area start c → IsSyncLeft p kept replies start c
   is_of_course : (front back : List Replied) → replies ≡ front ++ back
@@ -130,7 +130,7 @@ SyncEnds p kept replies start now link left before after (Err (SyncClosed call))
 
 -- ---- in worlds
 
--- bytes that stand for the world that the course reaches behind a beginning of the replies
+-- bytes that stand for the world that the course reaches after a beginning of the replies
 pub record StandsForCourse (k : Mechanism) (side : Side) (w : World) (replies : List Replied) (c : List ℕ) : Type 0 where
   pub front : List Replied
   pub back : List Replied

@@ -11,7 +11,7 @@ use dr_base::{PACKET_LIMIT, Position, Side};
 use dr_ports::{OutputLine, ROOM};
 use kem_laws::Kem;
 
-/// The line of a packet: two hex digits for each of its 3,286 bytes, behind its position.
+/// The line of a packet: two hex digits for each of its 3,286 bytes, after its position.
 pub(crate) type PacketLine = ArrayVec<u8, 6656>;
 
 /// The longest text of a packet's bytes.

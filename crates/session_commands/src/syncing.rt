@@ -53,7 +53,7 @@ fn broken_off(fault: SyncFault) -> Ending
     }
 }
 
-/// Writes the last line behind those of a sync that broke off, if no write failed in it.
+/// Writes the last line after those of a sync that broke off, if no write failed in it.
 fn close_broken<O: Sink>(out: &mut O, fault: SyncFault) -> Status
     requires { IsNear fault }
     ensures ends { (lines : List ℕ) (old : Option (List ℕ)) (before : ℕ)
@@ -68,7 +68,7 @@ fn close_broken<O: Sink>(out: &mut O, fault: SyncFault) -> Status
     }
 }
 
-/// Writes the last line behind those of a sync.
+/// Writes the last line after those of a sync.
 fn close<O: Sink>(out: &mut O, synced: Result<More, SyncFault>) -> Status
     requires { IfErr synced IsNear }
     ensures ends { (lines : List ℕ) (old : Option (List ℕ)) (before : ℕ)

@@ -1,4 +1,4 @@
--- How far a fault of a record may stand behind its beginning.
+-- How far a fault of a record may stand after its beginning.
 use Rattle.std.proofs.Common.{◌≡◌, ℕ, ◌+◌, ◌≤◌, Bool, true, false, List, length, Result, Ok, Err, refl, ap, subst, arith, if◌then◌else◌}
 use Rattle.std.specs.Prelude.{◌==◌}
 use Rattle.std.specs.Int.{w8, w16, w32}
@@ -120,7 +120,7 @@ fault_within most (Ok x) at ends is = by_rest (length x.rest == 0) is
     by_rest true is = absurd (let e : Ok x.value ≡ Err at = is in cc)
     by_rest false is = let same : x.at ≡ at = cc in omega (arith, ends.0)
 
--- a fault stands at most so far behind the beginning
+-- a fault stands at most this far after the beginning
 pub fault-place : (k : Mechanism) (text : List ℕ) (at : ℕ) → IsLawfulMechanism k → AreBytes text → record_read k text ≡ Err at → at ≤ RECORD_LIMIT
 unfolding record_read
 fault-place k text at law are is =

@@ -1,4 +1,4 @@
--- No record is longer than RECORD_LIMIT, also behind a change.
+-- No record is longer than RECORD_LIMIT, also after a change.
 use Rattle.std.proofs.Common.{◌≡◌, ℕ, ◌+◌, ◌<◌, ◌≤◌, List, [], ◌∷◌, ◌++◌, length, drop, Option, Some, None, sym, ap, arith, append_assoc, length-append}
 use Rattle.std.specs.Prelude.{All}
 use Rattle.std.specs.Int.{w8, w16, w32, to_be_bytes}
@@ -100,7 +100,7 @@ text-fits k c law l long inbox outbox =
     let s = c.state in
     omega (arith, text_size c, state_size s, size-head s.side s.session s.root s.epoch l.session_long l.root_long, size-phase k s.side s.epoch s.phase law l.phase, size-receiving s.kept s.receiving (receiving_epoch s.side s.epoch) l.receiving, size-kept s.kept long l.few, size-inbox c.inbox inbox, size-outbox c.outbox outbox)
 
--- ---- behind a change
+-- ---- after a change
 
 roomy-push : (limit room : ℕ) (box : List Item) (item : Item) → IsRoomy limit room box → length box < limit → length item.bytes ≤ room → IsRoomy limit room (box ++ item ∷ [])
 roomy-push limit room box item before space short = record {

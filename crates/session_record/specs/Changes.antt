@@ -18,7 +18,7 @@ outbox_after k outbox (Said packet) = outbox ++ post_of k packet.now ∷ []
 outbox_after k outbox (Sent n) = drop n outbox
 outbox_after k outbox _ = outbox
 
--- the client behind a change
+-- the client after a change
 abbrev pub changed : Mechanism → Client → Change → Client
 changed k c change = record c { inbox = inbox_after c.inbox change; outbox = outbox_after k c.outbox change }
 

@@ -74,7 +74,7 @@ kept_field side epoch reach = counted w16 (up_to KEPT_LIMIT) (kept_item side epo
 abbrev pub kept_text : Kept → List ℕ
 kept_text kept = to_be_bytes w32 kept.position.epoch ++ (to_be_bytes w32 kept.position.index ++ kept.key.bytes)
 
--- ---- the inbox: position, and text behind its length
+-- ---- the inbox: position, and text after its length
 
 abbrev pub is_index : ℕ → Bool
 is_index n = nat_le 1 n && nat_le n INDEX_LIMIT
@@ -102,7 +102,7 @@ abbrev pub entry_text : Item → List ℕ
 entry_text item =
     to_be_bytes w32 item.position.epoch ++ (to_be_bytes w32 item.position.index ++ print_sized w16 item.bytes)
 
--- ---- the outbox: packets, each behind its length
+-- ---- the outbox: packets, each after its length
 
 -- a packet of this session, in an own epoch that was reached
 abbrev pub is_posted : List ℕ → Side → ℕ → Result Fields Malformed → Bool

@@ -52,7 +52,7 @@ abbrev pub client_of : State → List Item → List Item → Client
 client_of state inbox outbox = record { state = state; inbox = inbox; outbox = outbox }
 
 -- the client that a text is the record of; else the offset of the first field that is cut short or unlawful, or of the
--- first byte behind the record
+-- first byte after the record
 unfoldable pub record_read : Mechanism → List ℕ → Result Client ℕ
 record_read k text = whole (mapped client_of_parts (record_fields k)) text
 

@@ -42,7 +42,7 @@ fn put_part<K: Kem>(out: &mut [u8], part: &SessionPart<K>) -> usize
     put_kept(out, at_kept, part.kept.kept())
 }
 
-/// No record is longer than `RECORD_LIMIT`, also behind a change.
+/// No record is longer than `RECORD_LIMIT`, also after a change.
 fn is_short<K: Kem>(part: &SessionPart<K>, inbox: &Inbox, outbox: &Outbox, change: &Change<'_>)
     requires inbox { FitsInbox inbox.now change.now }
     requires outbox { FitsOutbox outbox.now change.now }
@@ -55,7 +55,7 @@ fn is_short<K: Kem>(part: &SessionPart<K>, inbox: &Inbox, outbox: &Outbox, chang
 }
 
 /// Writes the record of a session's part and of the boxes as a change leaves them, and answers its length. What stands
-/// behind it stays. The buffer holds this record, or has room for any.
+/// after it stays. The buffer holds this record, or has room for any.
 pub fn encode<K: Kem>(
     part: &SessionPart<K>,
     inbox: &Inbox,

@@ -18,7 +18,7 @@ use boxes::{Entry, Inbox};
 use dr_base::{INBOX_LIMIT, INDEX_LIMIT, Position, Side, TEXT_LIMIT, put, put_u16, put_u32};
 use grammar::Cursor;
 
-/// A text behind its length.
+/// A text after its length.
 fn read_text<'a>(cursor: &mut Cursor<'a>) -> Result<&'a [u8], usize>
     ensures reads { Reads (λ t. t.now) (sized w16 (up_to TEXT_LIMIT) any) cursor.old cursor.new result }
     ensures short { IfOk result (λ t. length t.now ≤ TEXT_LIMIT) }
@@ -54,7 +54,7 @@ fn read_entry<'a>(cursor: &mut Cursor<'a>, side: Side, epoch: u32) -> Result<Ent
     })
 }
 
-/// So many texts, put into the inbox.
+/// This many texts, put into the inbox.
 fn read_entries(
     cursor: &mut Cursor<'_>,
     side: Side,
@@ -73,7 +73,7 @@ fn read_entries(
     Ok(())
 }
 
-/// The texts behind their count, put into the inbox, which is empty.
+/// The texts after their count, put into the inbox, which is empty.
 #[tactic(auto, unfolding(crate::specs::Lists::inbox_field))]
 pub(crate) fn read_inbox(
     cursor: &mut Cursor<'_>,
@@ -88,7 +88,7 @@ pub(crate) fn read_inbox(
     read_entries(cursor, side, epoch, count, inbox)
 }
 
-/// So many texts, which are kept nowhere.
+/// This many texts, which are kept nowhere.
 fn skim_entries(cursor: &mut Cursor<'_>, side: Side, epoch: u32, count: u8) -> Result<(), usize>
     ensures { Skims (items (λ _. entry_field side epoch) count) cursor.old cursor.new result }
 {
@@ -98,7 +98,7 @@ fn skim_entries(cursor: &mut Cursor<'_>, side: Side, epoch: u32, count: u8) -> R
     Ok(())
 }
 
-/// The texts behind their count, which are kept nowhere.
+/// The texts after their count, which are kept nowhere.
 #[tactic(auto, unfolding(crate::specs::Lists::inbox_field))]
 pub(crate) fn skim_inbox(cursor: &mut Cursor<'_>, side: Side, epoch: u32) -> Result<(), usize>
     ensures { Skims (inbox_field side epoch) cursor.old cursor.new result }
@@ -135,7 +135,7 @@ fn put_entries(out: &mut [u8], at: usize, inbox: &Inbox, from: u32) -> usize
     next
 }
 
-/// Puts the texts from a place on, behind their count.
+/// Puts the texts from a place on, after their count.
 fn put_later(out: &mut [u8], at: usize, inbox: &Inbox, from: u32) -> usize
     requires inside { from ≤ length inbox.now }
     requires room { at + length (print_counted w8 entry_text (drop from inbox.now)) ≤ length out.old }
@@ -145,7 +145,7 @@ fn put_later(out: &mut [u8], at: usize, inbox: &Inbox, from: u32) -> usize
     put_entries(out, next, inbox, from)
 }
 
-/// Puts the texts with one more, behind their count.
+/// Puts the texts with one more, after their count.
 fn put_more(out: &mut [u8], at: usize, inbox: &Inbox, position: Position, text: &[u8]) -> usize
     requires space { length inbox.now < INBOX_LIMIT }
     requires short { length text.now ≤ TEXT_LIMIT }

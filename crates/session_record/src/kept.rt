@@ -13,7 +13,7 @@ use arrayvec::ArrayVec;
 use dr_base::{INDEX_LIMIT, KEPT_LIMIT, Kept, Position, Side, put, put_u16, put_u32};
 use grammar::Cursor;
 
-/// A kept key behind the one at a position.
+/// A kept key after the one at a position.
 #[tactic(auto, unfolding(crate::specs::Lists::kept_behind))]
 fn read_one(
     cursor: &mut Cursor<'_>,
@@ -42,7 +42,7 @@ fn read_one(
     })
 }
 
-/// So many kept keys.
+/// This many kept keys.
 fn read_keys(
     cursor: &mut Cursor<'_>,
     side: Side,
@@ -63,7 +63,7 @@ fn read_keys(
     Ok(list)
 }
 
-/// The kept keys behind their count.
+/// The kept keys after their count.
 #[tactic(auto, unfolding(crate::specs::Lists::kept_field))]
 pub(crate) fn read_kept(
     cursor: &mut Cursor<'_>,
@@ -103,7 +103,7 @@ fn put_keys(out: &mut [u8], at: usize, keys: &[Kept]) -> usize
     next
 }
 
-/// Puts kept keys behind their count.
+/// Puts kept keys after their count.
 pub(crate) fn put_kept(out: &mut [u8], at: usize, keys: &[Kept]) -> usize
     requires few { length keys.now ≤ KEPT_LIMIT }
     requires room { at + length (print_counted w16 kept_text keys.now) ≤ length out.old }

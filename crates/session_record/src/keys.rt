@@ -17,7 +17,7 @@ use grammar::Cursor;
 use kem_laws::{Kem, laws};
 use session_model::{Own, Phase, Reception};
 
-/// So many bytes, copied.
+/// This many bytes, copied.
 pub(crate) fn read_array<const N: usize>(cursor: &mut Cursor<'_>) -> Result<[u8; N], usize>
     ensures { Reads (λ a. a) (piece N) cursor.old cursor.new result }
 {
@@ -35,7 +35,7 @@ pub(crate) fn read_key(cursor: &mut Cursor<'_>) -> Result<Key32, usize>
     Ok(Key32 { bytes })
 }
 
-/// So many bytes, in fixed room.
+/// This many bytes, in fixed room.
 fn read_text<const N: usize>(cursor: &mut Cursor<'_>, size: usize) -> Result<ArrayVec<u8, N>, usize>
     requires { size ≤ N }
     ensures reads { Reads (λ t. t.items) (piece size) cursor.old cursor.new result }

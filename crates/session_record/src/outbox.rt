@@ -52,7 +52,7 @@ fn read_post<'a, K: Kem>(
     }
 }
 
-/// So many packets, put into the outbox.
+/// This many packets, put into the outbox.
 fn read_posts<K: Kem>(
     cursor: &mut Cursor<'_>,
     session: &[u8; 16],
@@ -72,7 +72,7 @@ fn read_posts<K: Kem>(
     Ok(())
 }
 
-/// The packets behind their count, put into the outbox, which is empty.
+/// The packets after their count, put into the outbox, which is empty.
 #[tactic(auto, unfolding(crate::specs::Lists::outbox_field))]
 pub(crate) fn read_outbox<K: Kem>(
     cursor: &mut Cursor<'_>,
@@ -88,7 +88,7 @@ pub(crate) fn read_outbox<K: Kem>(
     read_posts::<K>(cursor, session, side, epoch, count, outbox)
 }
 
-/// So many packets, which are kept nowhere.
+/// This many packets, which are kept nowhere.
 fn skim_posts<K: Kem>(
     cursor: &mut Cursor<'_>,
     session: &[u8; 16],
@@ -104,7 +104,7 @@ fn skim_posts<K: Kem>(
     Ok(())
 }
 
-/// The packets behind their count, which are kept nowhere.
+/// The packets after their count, which are kept nowhere.
 #[tactic(auto, unfolding(crate::specs::Lists::outbox_field))]
 pub(crate) fn skim_outbox<K: Kem>(
     cursor: &mut Cursor<'_>,
@@ -118,7 +118,7 @@ pub(crate) fn skim_outbox<K: Kem>(
     skim_posts::<K>(cursor, session, side, epoch, count)
 }
 
-/// Puts a packet behind its length, whatever its position.
+/// Puts a packet after its length, whatever its position.
 fn put_post(out: &mut [u8], at: usize, packet: &[u8]) -> usize
     requires short { length packet.now ≤ PACKET_LIMIT }
     requires room { at + 2 + length packet.now ≤ length out.old }
@@ -144,7 +144,7 @@ fn put_posts(out: &mut [u8], at: usize, outbox: &Outbox, from: u32) -> usize
     next
 }
 
-/// Puts the packets from a place on, behind their count.
+/// Puts the packets from a place on, after their count.
 fn put_later(out: &mut [u8], at: usize, outbox: &Outbox, from: u32) -> usize
     requires inside { from ≤ length outbox.now }
     requires room { at + length (print_counted w8 post_text (drop from outbox.now)) ≤ length out.old }
@@ -154,7 +154,7 @@ fn put_later(out: &mut [u8], at: usize, outbox: &Outbox, from: u32) -> usize
     put_posts(out, next, outbox, from)
 }
 
-/// Puts the packets with one more, behind their count.
+/// Puts the packets with one more, after their count.
 fn put_more<K: Kem>(out: &mut [u8], at: usize, outbox: &Outbox, packet: &[u8]) -> usize
     requires space { length outbox.now < OUTBOX_LIMIT }
     requires short { length packet.now ≤ PACKET_LIMIT }

@@ -7,7 +7,7 @@ use Rattle.std.proofs.lemmas.List.{take_at, drop_at, drop-drop, length-replicate
 use Rattle.dr_disk.specs.Bytes.{overwritten}
 use Rattle.slot_store.specs.Slots.{body_of, record_of}
 
--- a write behind a front
+-- a write after a front
 pub overwritten_behind : (front rest : List ℕ) (at : ℕ) (b : List ℕ) → length front ≡ at → overwritten (front ++ rest) at b ≡ (front ++ b) ++ drop (length b) rest
 overwritten_behind front rest at b is =
     ap (λ (l : List ℕ). l ++ b ++ drop (at + length b) (front ++ rest)) (take_at front rest at is)

@@ -97,7 +97,7 @@ module _ (area : Area) (start a : DiskState) (lawful : IsLawful a) (first : Alwa
         like_twice area start a lawful (λ d l. (first d l).like) c like,
       )
 
--- the whole: behind the reading
+-- the whole: after the reading
 module _ (area : Area) (start a b : DiskState) (read : Span start a start.image) (same : a.seen ≡ start.seen) where
   pub like_before : (c : List ℕ) → IsLikeRead area a c → IsLikeRead area start c
   like_before c like = record { read = like.read; told = sym same ∙ like.told; same = like.same; undamaged = like.undamaged; outside = like.outside }

@@ -44,7 +44,7 @@ module _ (area : Area) (second : Bool) (start : DiskState) (gate : ℕ) (blank :
       alike : recovered area c ≡ recovered area l.read
       alike = passive_recovered area second c is ∙ ap content_of l.other ∙ sym (passive_recovered area second l.read (passive l.read l.told))
 
-  -- one step behind another
+  -- one step after another
   pub chain : {R S : Slot → Slot → Type 0} (mid : DiskState) → IsLawful mid → Always (Likely R) mid → (c : List ℕ) → IsLikeBut area second S mid c → Likely (λ was slot. (m : Slot) × R was m × S m slot) c
   chain mid lawful was c now =
       let first = was now.read (lawful.seen_now now.read now.told) in

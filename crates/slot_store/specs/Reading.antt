@@ -10,7 +10,7 @@ abbrev pub nonzero_from : ℕ → List ℕ → Option ℕ
 nonzero_from at [] = None
 nonzero_from at (b ∷ rest) = if b == 0 then nonzero_from (at + 1) rest else Some at
 
--- the first fault of a slot's record, or else of the zeros behind it
+-- the first fault of a slot's record, or else of the zeros after it
 abbrev pub fault_from : Slot → Option ℕ → Option ℕ
 fault_from slot (Some at) = Some (6 + at)
 fault_from slot None = nonzero_from (6 + length_of slot) (drop (5 + length_of slot) slot.body)

@@ -3,7 +3,7 @@ use Rattle.std.specs.Prelude.{◌≡◌, ℕ, ◌+◌, ◌-◌, ◌≤◌, Bool,
 use Rattle.std.specs.Int.{w32, to_be_bytes, from_be_bytes}
 use Rattle.slot_store.specs.declared.area.Area.{Area}
 
--- the gate of a slot, and all behind it: turn, length, record and zeros
+-- the gate of a slot, and all after it: turn, length, record and zeros
 pub record Slot : Type 0 where
   pub gate : ℕ
   pub body : List ℕ

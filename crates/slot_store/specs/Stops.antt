@@ -21,7 +21,7 @@ opens Old = false
 opens New = true
 opens (Fill byte) = byte == 165
 
--- whether a crash of a kind leaves the new record, where so many writes and syncs passed and the next one failed
+-- whether a crash of a kind leaves the new record, where this many writes and syncs passed and the next one failed
 unfoldable pub took : Option (List ℕ) → Option (List ℕ) → ℕ → Mode → Bool
 took old new n mode = nat_le 4 n || (nat_le 2 n && opens mode)
 

@@ -35,7 +35,7 @@ HasZeros n was slot = (slot.gate ≡ was.gate) × (slot.body ≡ replicate (n - 
 abbrev pub IsPassive : Area → Bool → List ℕ → Type 0
 IsPassive area second c = (is_open (slot_at area second c) ≡ false) ⊎ Comes (slot_at area second c) (slot_at area (not second) c)
 
--- how a slot was read: its gate, and whether all behind it is zeros
+-- how a slot was read: its gate, and whether all after it is zeros
 abbrev pub WasRead : Area → Bool → ℕ → Bool → List ℕ → Type 0
 WasRead area second gate blank s = ((slot_at area second s).gate ≡ gate) × (blank ≡ true → (slot_at area second s).body ≡ replicate (area.slot - 1) 0)
 

@@ -3,7 +3,7 @@
 ghost use Rattle.std.specs.Prelude.{◌≡◌, ◌+◌, ◌<◌, not};
 ghost use Rattle.slot_store.specs.Slots.{place_of};
 
-/// Two slots of `slot` bytes each, one behind the other, from `start` on.
+/// Two slots of `slot` bytes each, one after the other, from `start` on.
 #[derive(Clone, Copy, Debug, PartialEq, Eq)]
 pub struct Area {
     pub start: u64,

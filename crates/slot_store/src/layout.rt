@@ -1,4 +1,4 @@
-//! A slot's bytes behind its gate.
+//! A slot's bytes after its gate.
 
 ghost use Rattle.std.specs.Prelude.{◌≡◌, ◌≢◌, ◌++◌, ◌≤◌, ◌<◌, ◌+◌, ◌-◌, take, replicate, slice_index, slice_range, length};
 ghost use Rattle.std.specs.Int.{w32, from_be_bytes};

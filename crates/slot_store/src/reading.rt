@@ -1,4 +1,4 @@
-//! Both slots as they stand, behind a sync.
+//! Both slots as they stand, after a sync.
 
 ghost use Rattle.std.specs.Prelude.{◌≡◌, ◌≤◌, ◌<◌, ◌+◌, ℕ, List, false, true, length, Option, IfErr, IfOk, IsOk, OnOk, OnErr};
 ghost use Rattle.dr_base.specs.Causes.{Rose};
@@ -13,7 +13,7 @@ use crate::area::{Area, place};
 use dr_base::Failed;
 use dr_disk::{Call, Disk};
 
-/// Reads a slot. Answers its gate, and fills in all behind it.
+/// Reads a slot. Answers its gate, and fills in all after it.
 fn read_slot<D: Disk>(
     disk: &mut D,
     area: Area,
@@ -58,7 +58,7 @@ fn settle_first<D: Disk>(disk: &mut D) -> Result<(), Failed>
     disk.sync()
 }
 
-/// Syncs, and reads both slots. Answers their gates, and fills in all behind them.
+/// Syncs, and reads both slots. Answers their gates, and fills in all after them.
 pub(crate) fn read_slots<D: Disk>(
     disk: &mut D,
     area: Area,

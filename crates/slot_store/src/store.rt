@@ -23,7 +23,7 @@ pub struct SlotStore {
     pub(crate) area: Area,
     /// The current slot is slot 1.
     pub(crate) second: bool,
-    /// The current slot: its gate, a5 or 0, and all behind it.
+    /// The current slot: its gate, a5 or 0, and all after it.
     pub(crate) gate: u8,
     pub(crate) body: Vec<u8>,
     /// The last put replaced a record, which stands until it is retired.
@@ -114,7 +114,7 @@ impl SlotStore {
         Ok(())
     }
 
-    /// Closes the gate of the slot whose record was replaced, if there is one, and then wipes all behind it.
+    /// Closes the gate of the slot whose record was replaced, if there is one, and then wipes all after it.
     pub fn retire<D: Disk>(&mut self, disk: &mut D) -> Result<(), StoreFault>
         requires within { IsWithin self.old.area (D.state disk.old) }
         requires awaits { Always (Awaits self.old) (D.state disk.old) }

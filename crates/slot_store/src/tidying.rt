@@ -31,7 +31,7 @@ fn write_gate<D: Disk>(disk: &mut D, area: Area, second: bool, gate: u8) -> Resu
     write_synced(disk, place(area, second), &[gate])
 }
 
-/// Writes zeros behind the gate of a slot.
+/// Writes zeros after the gate of a slot.
 fn write_rest<D: Disk>(disk: &mut D, area: Area, second: bool, zeros: &[u8]) -> Result<(), Call>
     requires settled { IsSettled (D.state disk.old) }
     requires least { 6 ≤ area.slot }
@@ -76,7 +76,7 @@ fn shut<D: Disk>(disk: &mut D, area: Area, second: bool, gate: u8) -> Result<u8,
     }
 }
 
-/// Clears the bytes behind the gate of a slot, unless they are zeros.
+/// Clears the bytes after the gate of a slot, unless they are zeros.
 fn wipe<D: Disk>(
     disk: &mut D,
     area: Area,

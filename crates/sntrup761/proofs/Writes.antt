@@ -1,4 +1,4 @@
--- Texts put one behind another.
+-- Texts put one after another.
 use Rattle.std.proofs.Common.{◌≡◌, ℕ, List, ◌++◌, length, take, ap, sym, ◌∙◌, arith}
 use Rattle.std.proofs.lemmas.List.{take_all}
 use Rattle.dr_base.specs.Buffer.{Puts}
@@ -7,7 +7,7 @@ use Rattle.dr_base.specs.Buffer.{Puts}
 pub put_first : (old new bytes : List ℕ) (next : ℕ) → Puts old new 0 bytes next → take next new ≡ bytes
 put_first old new bytes next p = p.front
 
--- a text behind those that are put
+-- a text after those that are put
 pub put_more : (old new front bytes : List ℕ) (at next : ℕ) → take at old ≡ front → Puts old new at bytes next
     → take next new ≡ front ++ bytes
 put_more old new front bytes at next e p = p.front ∙ ap (λ t. t ++ bytes) e

@@ -9,7 +9,7 @@ use Rattle.std.proofs.lemmas.List.Sums.{sum_by-cons}
 use Rattle.std.proofs.lemmas.List.Sorted.{sum_by-IsPermutation, length_permutation, IsNonDecreasingBy-from_sort}
 use Rattle.sntrup_core.specs.Sampling.{inserted, ascending}
 
--- each number is at most those behind it
+-- each number is at most those after it
 Ascends : List ℕ → Type 0
 Ascends [] = Unit {0}
 Ascends (x ∷ xs) = All (λ y. x ≤ y) xs × Ascends xs

@@ -154,7 +154,7 @@ pub sorted-all : (words sorted : List ℕ) → sorted ≡ ascending (marked word
 sorted-all words sorted e = let P : List ℕ
     → Type 0 = λ xs. All IsMarked xs in subst P (sym e) (All-ascending IsMarked (marked words) (marked-all words))
 
--- a word marked behind those that are marked
+-- a word marked after those that are marked
 pub marked-more : (words xs : List ℕ) (k x : ℕ) → k < length xs → x ≡ get_or (marked words) k 0
     → ((j : ℕ) → j < k → get_or xs j 0 ≡ get_or (marked words) j 0) → (j : ℕ) → j < k + 1
     → get_or (set xs k x) j 0 ≡ get_or (marked words) j 0

@@ -32,7 +32,7 @@ pub record IsPair (g f h v : List ℤ) : Type 0 where
 unfoldable pub encrypted : List ℤ → List ℤ → List ℤ
 encrypted r h = rounded (reduced 2295 (times h r))
 
--- w ones, and zeros behind them
+-- w ones, and zeros after them
 unfoldable pub ones : List ℤ
 ones = replicate 286 (pos 1) ++ replicate 475 (pos 0)
 

@@ -14,7 +14,7 @@ pub fn encrypt(r: &R3, h: &Rq) -> Rq
     h.mul_small(&planes_of(r)).round()
 }
 
-/// Ones at the first places, and zeros behind them.
+/// Ones at the first places, and zeros after them.
 fn ones() -> R3
     ensures { result.coefficients ≡ ones }
 {

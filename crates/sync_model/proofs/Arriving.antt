@@ -48,7 +48,7 @@ after_lawful : (boxes : List Box) (xs : List Asked) → All IsLawfulBox boxes �
 after_lawful boxes [] are lawful = are
 after_lawful boxes (x ∷ xs) are lawful = after_lawful (answers_of boxes x).next xs (lawful_next boxes (Ok x) are lawful.0) lawful.1
 
--- nothing waits behind the end
+-- nothing waits after the end
 pub no_more : {S : Type 0} (p : Party S) (s : S) (replies : List Replied) (ending : Ending) → (course_of p s replies).wait ≡ over ending
     → made_requests p (course_of p s replies) ≡ (course_of p s replies).requests
 no_more p s replies ending is_over =

@@ -16,11 +16,11 @@ use Rattle.sync_model.proofs.Cases.{fetched_by, acked_by, posted_by, taken_by, a
 abbrev pub ArePackets : List (List ℕ) → Type 0
 ArePackets packets = AllByRecursion (λ packet. is_packet packet ≡ true) packets
 
--- of an outbox of so many packets a sync makes no more requests than this
+-- of an outbox of this many packets a sync makes no more requests than this
 abbrev pub most_of : ℕ → ℕ
 most_of size = 2 * ITEM_LIMIT + 1 + size
 
--- so many requests were answered, and so many packets are left in the outbox
+-- this many requests were answered, and this many packets are left in the outbox
 abbrev IsCounted : ℕ → Wait → ℕ → ℕ → Type 0
 IsCounted size (fetching n) count left = (n < ITEM_LIMIT) × (count ≤ 2 * n) × (left ≤ size)
 IsCounted size (acking n number) count left = (number < 2 ^ 64) × (n < ITEM_LIMIT) × (count ≤ 2 * n + 1) × (left ≤ size)

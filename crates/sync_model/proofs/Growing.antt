@@ -8,7 +8,7 @@ use Rattle.sync_model.specs.Courses.{Course, all_lines, last_line}
 use Rattle.sync_model.specs.Transfers.{Meeting, answered, meets, meet_times}
 use Rattle.sync_model.proofs.Stopping.{stays_all}
 
--- bytes, and more behind them
+-- bytes, and more after them
 abbrev pub Begins : List ℕ → List ℕ → Type 0
 Begins bytes whole = (more : List ℕ) × (whole ≡ bytes ++ more)
 

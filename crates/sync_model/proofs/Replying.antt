@@ -60,7 +60,7 @@ served_requests (suc n) boxes (a ∷ xs) le lawful =
     ap (λ (x : Result Asked ℕ). map (λ (e : Exchange). e.reply) (served_one n boxes (map request_frame xs) x).exchanges) (read_back a lawful.0)
     ∙ ap (λ (rs : List Replied). (answers_of boxes a).reply ∷ rs) (served_requests n (answers_of boxes a).next xs (omega (arith, le)) lawful.1)
 
--- and the boxes behind them
+-- and the boxes after them
 served_after : (n : ℕ) (boxes : List Box) (xs : List Asked) → length xs ≤ n → AllByRecursion IsLawfulAsked xs
     → (served_within n boxes (map request_frame xs)).next ≡ relay_after boxes xs
 served_after zero boxes [] le lawful = refl

@@ -1,4 +1,4 @@
--- From the bytes of a link on which so many replies come to a scene.
+-- From the bytes of a link on which this many replies come to a scene.
 use Rattle.std.proofs.Common.{◌≡◌, inl, inr, ℕ, zero, suc, ◌+◌, ◌-◌, ◌≤◌, ◌<◌, List, [], ◌∷◌, ◌++◌, length, take, drop, Option, Some, None, Ok, Result, refl, sym, ◌∙◌, ap, ap₂, arith, append_assoc, append-nil, map}
 use Rattle.std.specs.Prelude.{flat_map, if◌then◌else◌}
 use Rattle.std.specs.List.{AllByRecursion}
@@ -104,7 +104,7 @@ kept_bytes kept boxes xs few lawful =
     ∙ ap (λ (rs : List Replied). flat (map reply_text rs)) (sym (take-map reply_of kept exs) ∙ ap (take kept) (replies_of boxes xs lawful) ∙ take-take kept EXCHANGE_LIMIT (relay_replies boxes xs) few)
     ∙ sym (flat_of reply_text (take kept (relay_replies boxes xs)))
 
--- what comes for them comes for all, and more behind it
+-- what comes for them comes for all, and more after it
 pub comes_first : (kept : ℕ) (boxes : List Box) (xs ys : List Asked) → kept ≤ EXCHANGE_LIMIT → AllByRecursion IsLawfulAsked xs → AllByRecursion IsLawfulAsked (xs ++ ys)
     → Begins (flat_map reply_frame (take kept (served boxes (request_bytes xs)).exchanges)) (flat_map reply_frame (take kept (served boxes (request_bytes (xs ++ ys))).exchanges))
 comes_first kept boxes xs ys few first all =

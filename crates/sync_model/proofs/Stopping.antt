@@ -38,7 +38,7 @@ module _ {S : Type 0} (p : Party S) where
   same_end (suc a) zero m one two is other = stays_all (suc a) m two other
   same_end (suc a) (suc b) m one two is other = same_end a b (meets p m) one two is other
 
-  -- so many packets of the outbox were sent since, and the own box is as it was
+  -- this many packets of the outbox were sent since, and the own box is as it was
   pub record IsPast (own : Box) (m : Meeting S) (s : S) : Type 0 where
     pub count : ℕ
     pub state : m.course.state ≡ sent_all p count s

@@ -21,9 +21,9 @@ pub data Ending : Type 0 where
 
 -- the reply that a sync waits for
 pub data Wait : Type 0 where
-  -- so many packets were acknowledged, and the oldest that stands is asked for
+  -- this many packets were acknowledged, and the oldest that stands is asked for
   fetching : ℕ → Wait
-  -- so many were, and the one of this number is being acknowledged
+  -- this many were, and the one of this number is being acknowledged
   acking : ℕ → ℕ → Wait
   -- the oldest packet of the outbox is being posted
   posting : More → Wait

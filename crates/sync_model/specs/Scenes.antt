@@ -1,4 +1,4 @@
--- A sync against the boxes of a relay, of which so many replies come: the next one is lost, if there is one.
+-- A sync against the boxes of a relay, of which this many replies come: the next one is lost, if there is one.
 use Rattle.std.specs.Prelude.{◌≡◌, ◌⊎◌, ⊤, ℕ, zero, suc, ◌<◌, ◌≤◌, Bool, true, List, [], ◌++◌, length, take, flat_map, All, Option, Some, None}
 use Rattle.std.specs.List.{AllByRecursion}
 use Rattle.relay_wire.specs.Requests.{Asked, IsLawfulAsked}
@@ -19,13 +19,13 @@ module _ {S : Type 0} (p : Party S) where
   abbrev pub without_reply : Meeting S → Meeting S
   without_reply m = record { course = m.course; boxes = relay_after m.boxes (awaited p m.course) }
 
-  -- the sync with so many replies: where it still waits behind them, the link has failed
+  -- the sync with this many replies: where it still waits after them, the link has failed
   abbrev pub scene : ℕ → S → List Box → Meeting S
   scene kept s boxes = without_reply (meet_times p kept (begins p s boxes))
 
   -- ---- over a link
 
-  -- Each reply was read while its request waited, and what was received is a beginning of the first of the replies, so many, of
+  -- Each reply was read while its request waited, and what was received is a beginning of the first of the replies, this many, of
   -- the relay to all that was sent.
   pub record IsPlayed (kept : ℕ) (s : S) (boxes : List Box) (replies : List Replied) : Type 0 where
     pub lawful_boxes : All IsLawfulBox boxes
@@ -58,7 +58,7 @@ pub record IsSameScene {S T : Type 0} (Alike : S → T → Type 0) (m : Meeting 
   pub course : IsSameCourse Alike m.course n.course
   pub boxes : m.boxes ≡ n.boxes
 
--- What a link gives of which so many replies come is the scene: its course is the sync's, and its boxes are the relay's.
+-- What a link gives of which this many replies come is the scene: its course is the sync's, and its boxes are the relay's.
 pub record IsStaged (S : Type 0) : Type 0 where
   pub staged : (p : Party S) (kept : ℕ) (s : S) (boxes : List Box) (replies : List Replied) → IsPlayed p kept s boxes replies
       → IsDone p kept s boxes replies

@@ -44,7 +44,7 @@ AreDistinct (kept ∷ more) = AllByRecursion (λ other. other.number ≢ kept.nu
 abbrev pub emptied : Box → Box
 emptied box = record box { packets = [] }
 
--- the box with these packets behind its own, under the next numbers
+-- the box with these packets after its own, under the next numbers
 abbrev pub posted : Box → List (List ℕ) → Box
 posted box [] = box
 posted box (packet ∷ packets) = posted (with_packet box packet) packets
@@ -65,7 +65,7 @@ module _ {S : Type 0} (p : Party S) where
   HasRoom s [] = ⊤
   HasRoom s (kept ∷ more) = ((p.take s kept.packet).full ≡ false) × HasRoom (p.take s kept.packet).next more
 
-  -- what is kept once so many of the oldest packets have left the outbox
+  -- what is kept once this many of the oldest packets have left the outbox
   abbrev pub sent_all : ℕ → S → S
   sent_all zero s = s
   sent_all (suc n) s = sent_all n (p.sent s)
@@ -94,7 +94,7 @@ module _ {S : Type 0} (p : Party S) where
     pub keeps : (t : S) (packet : List ℕ) → p.outbox (p.take t packet).next ≡ p.outbox t
 
 -- A sync takes all packets of its box in order, and leaves the box empty; then, where they fit, all packets of its outbox
--- stand in the peer's box behind those that stood, and the outbox is empty.
+-- stand in the peer's box after those that stood, and the outbox is empty.
 pub record IsTransfer (S : Type 0) : Type 0 where
   pub collects : (p : Party S) (s : S) (boxes : List Box) (own peers : Box) → CanTransfer p s boxes own peers
       → Comes p (begins p s boxes) (taken_all p s own.packets) (waits_by (p.outbox s) End) (emptied own) peers

@@ -23,7 +23,7 @@ pub fn simulates()
     ensures { IsSimulation ℕ ℕ }
 {}
 
-/// What a link brings of which so many replies come is the scene with so many.
+/// What a link brings of which this many replies come is the scene with this many.
 pub fn stages()
     ensures { IsStaged ℕ }
 {}

@@ -1,4 +1,4 @@
--- A sync ends with a round, or goes on behind it.
+-- A sync ends with a round, or goes on after it.
 use Rattle.std.proofs.Common.{Err, List, Ok, Option, Result, Some, [], ap, inl, inr, refl, subst, sym, ℕ, ◌++◌, ◌∙◌, ◌∷◌, ◌≡◌, ◌⊎◌, append-nil}
 use Rattle.dr_base.specs.Causes.{Rose}
 use Rattle.dr_disk.specs.declared.call.Call.{Call}
@@ -200,7 +200,7 @@ module _ (p : Party Client) where
       };
     }
 
-  -- ---- behind the last packet
+  -- ---- after the last packet
 
   pub ends_well : (a b c : Moment) (start now : Port) (more : More) → SoFar p a b start now (over (ended more)) → Moved b.client.kept b c
       → Wrote (p.end_line more) b c → Syncs p a c start now (Ok more)

@@ -41,7 +41,7 @@ use Rattle.client.specs.declared.syncing.faults.SyncFault.TheVariants.{Closed, L
 use Rattle.client.proofs.Syncs.Courses.{IsAfter, after}
 use Rattle.client.proofs.Syncs.Moving.{wrote_nothing}
 
--- ---- bytes written, one piece behind another
+-- ---- bytes written, one piece after another
 
 appended_twice : (told : Option (List ℕ)) (x y : List ℕ) → appended (appended told x) y ≡ appended told (x ++ y)
 appended_twice None x y = refl

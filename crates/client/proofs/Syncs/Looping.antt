@@ -54,7 +54,7 @@ pub asks_post : (packets : List (List ℕ)) (packet : List ℕ) → Some packet 
 asks_post [] packet is name = absurd (let e : Some packet ≡ None = is in cc)
 asks_post (x ∷ xs) packet is name = ap (λ (b : List ℕ). Some (record { name = name; ask = posts b })) (let e : Some packet ≡ Some x = is in let f : x ≡ packet = cc in f)
 
--- a round that the sync goes on behind leaves the client open and ready
+-- a round that the sync goes on after leaves the client open and ready
 pub goes_ready : (p : Party Client) (wait next : Wait) (asked : Asked) (a b : Moment) (start now : Port) → IsRound p wait asked a b start now (goes_on next)
     → (b.client.closed ≡ None) × IsReady b.client.kept b.client.store b.disk
 goes_ready p wait next asked a b start now (heard reply turning replied (went_on n waits moved wrote)) = (moved.is_open, moved.ready)

@@ -77,7 +77,7 @@ module _ (k : Mechanism) (grounds : Grounds k) (prefix : List ℕ) (side : Side)
         → IsSameCourse (IsKeptIn k side) (course_of mine first replies) (course_in k prefix side w replies)
     same_course replies fair = alike mine theirs (IsKeptIn k side) (λ (turn : World) (packet : List ℕ). IsUnforged k turn side packet) are first w is replies fair
 
-    -- behind a beginning of the replies
+    -- after a beginning of the replies
     kept_behind : (front back replies : List Replied) → replies ≡ front ++ back → AreUnforged k prefix side w replies
         → IsKeptIn k side (course_of mine first front).state (course_in k prefix side w front).state
     kept_behind front back replies split fair =

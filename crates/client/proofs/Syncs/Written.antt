@@ -1,4 +1,4 @@
--- A line behind a prefix.
+-- A line after a prefix.
 use Rattle.std.proofs.Common.{Err, List, None, Ok, Option, Result, Some, ap, refl, subst, sym, ℕ, ◌++◌, ◌≤◌, ◌∙◌, ◌≡◌, append_assoc}
 use Rattle.dr_base.specs.Causes.{HasCause, Rose}
 use Rattle.dr_ports.specs.Ports.{appended}

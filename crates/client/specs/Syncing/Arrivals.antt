@@ -34,7 +34,7 @@ AreExpected k w side (p ∷ ps) = IsExpected w side p × AreExpected k (step_of 
 abbrev pub Holds : Mechanism → World → Box → List Position → Type 0
 Holds k w box ps = map (λ (kept : Kept). kept.packet) box.packets ≡ map (λ (p : Position). (post_at k w.conversation p).bytes) ps
 
--- behind the positions that were opened, those of these that weren't yet: in order, each once
+-- after the positions that were opened, those of these that weren't yet: in order, each once
 abbrev pub opened_too : List Position → List Position → List Position
 opened_too arrived [] = arrived
 opened_too arrived (p ∷ ps) = opened_too (if list_any (is_at p) arrived then arrived else arrived ++ p ∷ []) ps

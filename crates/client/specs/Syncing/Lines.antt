@@ -22,7 +22,7 @@ own_box kept = box_name kept.state.session kept.state.side
 abbrev pub peers_box : Client → List ℕ
 peers_box kept = box_name kept.state.session (peer_of kept.state.side)
 
--- ---- lines, each behind a prefix
+-- ---- lines, each after a prefix
 
 -- the answer to a packet
 unfoldable pub answer_line : List ℕ → Answer → List ℕ

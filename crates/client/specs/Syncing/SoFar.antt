@@ -59,7 +59,7 @@ pub record SoFar (p : Party Client) (a b : Moment) (start now : Port) (wait : Wa
   pub wrote : Wrote (course_of p a.client.kept replies).lines a b
   pub passed : Passed p replies a b
 
--- in the first part, once so many packets are acknowledged: the packets that wait are next where these are as many as a sync
+-- in the first part, once this many packets are acknowledged: the packets that wait are next where these are as many as a sync
 -- acknowledges
 abbrev pub collecting : List (List ℕ) → ℕ → Wait
 collecting packets n = if n == ITEM_LIMIT then waits_by packets MoreStands else fetching n

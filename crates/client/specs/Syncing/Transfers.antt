@@ -24,7 +24,7 @@ pub record HasBoxes (p : Party Client) (boxes : List Box) (own peers : Box) : Ty
   pub own_box : box_of p.own boxes ≡ Some own
   pub peers_box : box_of p.peers boxes ≡ Some peers
 
--- behind what it gave so far, the link gives what a relay with these boxes replies to all that is sent from now on
+-- after what it gave so far, the link gives what a relay with these boxes replies to all that is sent from now on
 pub record CarriesReplies (boxes : List Box) (start : Port) : Type 0 where
   pub told : Told
   pub tells : start.told ≡ Some told
@@ -46,7 +46,7 @@ pub record HaveAnswered (boxes after : List Box) (start now : Port) : Type 0 whe
   pub boxes_are : after ≡ (served boxes put).next
   pub lawful : All IsLawfulBox after
 
--- The packets of the own box were taken in turn, and it is empty. So many of the outbox have left it since.
+-- The packets of the own box were taken in turn, and it is empty. This many of the outbox have left it since.
 pub record Collected (p : Party Client) (boxes : List Box) (own : Box) (a b : Moment) (start now : Port) : Type 0 where
   pub after : List Box
   pub answered : HaveAnswered boxes after start now
@@ -54,7 +54,7 @@ pub record Collected (p : Party Client) (boxes : List Box) (own : Box) (a b : Mo
   pub count : ℕ
   pub keeps : b.client.kept ≡ sent_all p count (taken_all p a.client.kept own.packets)
 
--- The packets of the own box were taken in turn, and it is empty. Those of the outbox stand in the peer's box, in order behind
+-- The packets of the own box were taken in turn, and it is empty. Those of the outbox stand in the peer's box, in order after
 -- those that stood, and the outbox is empty.
 pub record Delivered (p : Party Client) (boxes : List Box) (own peers : Box) (a b : Moment) (start now : Port) (result : Result More SyncFault) : Type 0 where
   pub ends : result ≡ Ok End

@@ -9,7 +9,7 @@ use dr_ports::{Failed, OutputLine, Sink, write_all};
 use session_model::Answer;
 use sync_model::More;
 
-/// Writes a line behind a prefix.
+/// Writes a line after a prefix.
 fn write_line<O: Sink>(out: &mut O, prefix: &str, line: &OutputLine) -> Result<(), Failed>
     ensures { Writes (O.taken out.old) (O.taken out.new) (O.faults out.old) (O.faults out.new) (prefix.now ++ line.now) result }
 {

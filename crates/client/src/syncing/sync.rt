@@ -27,10 +27,10 @@ use sync_model::More;
 
 impl<K: Kem> Client<K> {
     /// Syncs with a relay: takes the packets of its own box there, each of which is acknowledged, and then posts those of its
-    /// outbox to the peer's box. Each line stands behind the prefix. It is a course of `sync_model`: of the replies that were
+    /// outbox to the peer's box. Each line stands after the prefix. It is a course of `sync_model`: of the replies that were
     /// read. `Closed` exactly where a call on the disk failed before. `Refused` where the inbox has no room, the peer's box is
     /// full or the relay has no such box; `Peer` where the relay sent something else than a reply to the request. `Link`, `Store`
-    /// and `Write` only where a call on the link, the disk or the sink failed; behind `Store` the client is closed. What was done
+    /// and `Write` only where a call on the link, the disk or the sink failed; after `Store` the client is closed. What was done
     /// before stands.
     pub fn sync<D: Disk, L: Pipe, O: Sink>(
         &mut self,

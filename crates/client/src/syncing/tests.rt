@@ -80,7 +80,7 @@ fn second(alloc: Global, gives: &[u8]) -> Result<(Vec<u8>, Came), Fail> {
     ))
 }
 
-/// First's sync, whose disk stops after so many writes and syncs.
+/// First's sync, whose disk stops after this many writes and syncs.
 fn first(
     alloc: Global,
     gives: &[u8],

@@ -14,7 +14,7 @@ cut_cases Q before true made true behind none all = behind
 cut_cases Q before false made true behind none all = none
 cut_cases Q before took made false behind none all = all
 
--- what holds of a step, of a stop behind it and of one before it, holds of the step that was cut off
+-- what holds of a step, of a stop after it and of one before it, holds of the step that was cut off
 pub cut_off : {S : Type 0} (Q : Step S → Type 0) (before : S) (took : Bool) (made : Step S) → Q (step Stopped made.next)
     → Q (step Stopped before) → Q made → Q (cut_step before took made)
 cut_off Q before took made behind none all = cut_cases Q before took made (has_effect made.answer) behind none all

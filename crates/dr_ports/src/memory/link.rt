@@ -28,7 +28,7 @@ impl Model for MemoryLink {
 }
 
 impl MemoryLink {
-    /// A link that holds a copy of these bytes, has room for so many to be sent, and fails at the calls of these numbers,
+    /// A link that holds a copy of these bytes, has room for this many to be sent, and fails at the calls of these numbers,
     /// counted from 1.
     pub fn new(alloc: Global, bytes: &[u8], room: usize, fails: &[u64]) -> Result<Self, AllocError>
         ensures { IfOk result (λ link. link ≡ record {

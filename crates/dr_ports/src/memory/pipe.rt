@@ -45,7 +45,7 @@ impl Model for MemoryPipe {
 }
 
 impl MemoryPipe {
-    /// A pipe that holds a copy of these bytes, has room for so many to be sent, and fails at the calls of these numbers,
+    /// A pipe that holds a copy of these bytes, has room for this many to be sent, and fails at the calls of these numbers,
     /// counted from 1.
     pub fn new(alloc: Global, bytes: &[u8], room: usize, fails: &[u64]) -> Result<Self, AllocError>
         ensures { IfOk result (λ pipe. pipe ≡ record {

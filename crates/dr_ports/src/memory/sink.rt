@@ -28,7 +28,7 @@ impl Model for MemorySink {
 }
 
 impl MemorySink {
-    /// An empty sink with room for so many bytes, which fails at the calls of these numbers, counted from 1.
+    /// An empty sink with room for this many bytes, which fails at the calls of these numbers, counted from 1.
     pub fn new(alloc: Global, room: usize, fails: &[u64]) -> Result<Self, AllocError>
         ensures { IfOk result (λ sink. sink ≡ record {
           taken = [];

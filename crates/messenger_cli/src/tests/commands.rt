@@ -94,7 +94,7 @@ duet-make|1001|1>>2>usage;
 duet-make|1|18446744073709551616>>2>usage;
 sync|127.0.0.1:4000>>12>peer: Ended at 0;";
 
-/// A disk that records so many calls and so many bytes.
+/// A disk that records this many calls and this many bytes.
 fn recording(alloc: Global, calls: usize, bytes: usize) -> Result<RecordingDisk, AllocError> {
     RecordingDisk::new(alloc, DISK_SIZE, calls, bytes)
 }

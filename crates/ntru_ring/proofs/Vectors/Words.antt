@@ -87,7 +87,7 @@ opposite_inside m x j i = let o = (opposite_bits (bit_at m j) (bit_at x j) (bit_
 pub opposite_value : (m x j : ℕ) → bit_at x j ≤ bit_at m j → from_bits (bit_at m j) (bit_at (bit_xor m x) j) ≡ neg_ℤ (from_bits (bit_at m j) (bit_at x j))
 opposite_value m x j i = ap (from_bits (bit_at m j)) (bit_at_xor m x j) ∙ (opposite_bits (bit_at m j) (bit_at x j) (bit_at-lt m j) i).1
 
--- ---- a word moved up, behind the word b
+-- ---- a word moved up, after the word b
 pub moved_first : (w b : ℕ) → bit_at (bit_or (w * 2 % 18446744073709551616) (b / 9223372036854775808)) 0 ≡ bit_at b 63
 moved_first w b =
     let even : bit_at (w * 2 % 2 ^ 64) 0 ≡ 0 = omega arith in

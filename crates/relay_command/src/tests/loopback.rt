@@ -37,7 +37,7 @@ fn open<D: Disk>(alloc: Global, disk: &mut D) -> Result<Server, ServerOpenError>
     Server::open(alloc, disk, &[name])
 }
 
-/// All that comes, in at most so many pieces.
+/// All that comes, in at most this many pieces.
 fn received<P: Pipe>(alloc: Global, pipe: &mut P, pieces: u32) -> Result<Vec<u8>, Fail> {
     let mut piece = [0; 64];
     let mut all = Vec::new(alloc);

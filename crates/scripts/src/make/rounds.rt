@@ -30,7 +30,7 @@ pub enum Turn {
     Rests,
 }
 
-/// The number behind a number.
+/// The number after a number.
 #[tactic(auto, unfolding(crate::specs::Make::next_number))]
 fn next_number(number: u64) -> u64
     ensures { result ≡ next_number number }

@@ -5,7 +5,7 @@ use Rattle.relay_core.specs.Lawful.{last_number}
 use Rattle.relay_core.specs.Record.{next_kept}
 use Rattle.relay_core.proofs.checking.skim_packets.Given as goal
 
--- so many packets were read, and the last has the number `low`
+-- this many packets were read, and the last has the number `low`
 abbrev pub invariant-packets : goal.invariant-packets
 invariant-packets l = record {
   read : (list : List Kept)

@@ -4,7 +4,7 @@ use Rattle.relay_wire.specs.Frames.{Held, IsFrame, frame_size}
 use Rattle.relay_wire.proofs.Feeding.{whole_where_left, take-sum}
 use Rattle.relay_wire.proofs.reader.FrameReader.feed.Goals as goal
 
--- two beginnings of a piece, one behind the other, are one
+-- two beginnings of a piece, one after the other, are one
 twice : (held one two piece : List ℕ) (m n : ℕ) → one ≡ held ++ take m piece → two ≡ one ++ take n (take (length piece - m) (drop m piece))
     → two ≡ held ++ take (m + n) piece
 twice held one two piece m n first second =
