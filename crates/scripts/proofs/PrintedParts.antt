@@ -16,6 +16,7 @@ use Rattle.hex.proofs.HexLemmas.{decode_sized-encode_lower, length-encode_with}
 use Rattle.dr_base.specs.declared.position.Position.{Position}
 use Rattle.session_model.specs.declared.answer.Amount.{Amount}
 use Rattle.session_model.specs.declared.answer.Amount.TheVariants.{All, Exactly}
+use Rattle.scripts.specs.declared.hexed.TheConstants.{DIGIT_LIMIT, HEX_LIMIT}
 use Rattle.scripts.specs.Number.{is_number, is_unpadded, number_read}
 use Rattle.scripts.specs.Printed.{IsAmount, IsNumbered, amount_text}
 use Rattle.answer_lines.specs.Answers.{position_text}
@@ -147,11 +148,11 @@ amount_back (Exactly n) h = cond-false (is_text (codes "all") (decimal n)) _ _ (
 pub encoded_len : (bytes : List ℕ) → length (encode_lower bytes) ≡ 2 * length bytes
 encoded_len bytes = length-encode_with lower_digits bytes
 
-pub hex_back : (bytes : List ℕ) → length bytes ≤ 4000 → IsBytes bytes → hex_read (encode_lower bytes) ≡ Some bytes
+pub hex_back : (bytes : List ℕ) → length bytes ≤ HEX_LIMIT → IsBytes bytes → hex_read (encode_lower bytes) ≡ Some bytes
 unfolding hex_read
 hex_back bytes short are =
     let long = encoded_len bytes in
     let half : length (encode_lower bytes) / 2 ≡ length bytes = omega (arith, long) in
-    cond-true (nat_le (length (encode_lower bytes)) 8000) _ None (grind (arith, nat_tests))
+    cond-true (nat_le (length (encode_lower bytes)) DIGIT_LIMIT) _ None (grind (arith, nat_tests))
     ∙ ap (λ n. result_ok (decode_sized (encode_lower bytes) n)) half
     ∙ ap result_ok (decode_sized-encode_lower bytes (length bytes) refl are)

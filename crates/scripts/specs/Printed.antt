@@ -9,6 +9,7 @@ use Rattle.answer_lines.specs.Answers.{position_text}
 use Rattle.scripts.specs.Deeds.{Deed, acts, syncs}
 use Rattle.scripts.specs.Sides.{acting_side, side_text}
 use Rattle.scripts.specs.Words.{is_call}
+use Rattle.scripts.specs.declared.hexed.TheConstants.{HEX_LIMIT}
 
 -- `all`, or a number
 unfoldable pub amount_text : Amount → List ℕ
@@ -65,7 +66,7 @@ IsSayableEvent (says side text) = ⊤
 IsSayableEvent (takes side p) = IsNumbered p
 IsSayableEvent (takes_nth side nth) = nth < 2 ^ 32
 IsSayableEvent (flips side p bit) = IsNumbered p × (bit < 2 ^ 32)
-IsSayableEvent (takes_bytes side bytes) = (length bytes ≤ 4000) × IsBytes bytes
+IsSayableEvent (takes_bytes side bytes) = (length bytes ≤ HEX_LIMIT) × IsBytes bytes
 IsSayableEvent (drops_sent side amount) = IsAmount amount
 IsSayableEvent (drops_done side amount) = IsAmount amount
 IsSayableEvent (shows_inbox side) = ⊤

@@ -15,6 +15,7 @@ use Rattle.session_model.specs.declared.answer.Amount.TheVariants.{All, Exactly}
 use Rattle.dr_model.specs.Machines.Events.{Event, seeds, says, takes, takes_nth, flips, takes_bytes, drops_sent, drops_done, shows_inbox, shows_state}
 use Rattle.scripts.specs.Deeds.{Deed, acts, syncs}
 use Rattle.scripts.specs.Number.{number_read}
+use Rattle.scripts.specs.declared.hexed.TheConstants.{DIGIT_LIMIT}
 use Rattle.scripts.specs.Stops.{stopped}
 
 -- what follows a prefix
@@ -43,7 +44,7 @@ position_read text = option_and_then numbers_read (halves_of 46 text)
 
 -- bytes in hex, at most 4,000
 unfoldable pub hex_read : List ℕ → Option (List ℕ)
-hex_read text = if nat_le (length text) 8000 then result_ok (decode_sized text (length text / 2)) else None
+hex_read text = if nat_le (length text) DIGIT_LIMIT then result_ok (decode_sized text (length text / 2)) else None
 
 -- `seed` and 64 hex digits
 unfoldable pub seed_read : List ℕ → Option Event

@@ -6,12 +6,15 @@ ghost use Rattle.scripts.specs.Seen.{bytes_of_hex};
 use arrayvec::ArrayVec;
 use hex::decode_to_slice;
 
-/// The most hex digits of a line.
+/// The most bytes that a line writes in hex.
+pub const HEX_LIMIT: usize = 4000;
+
+/// The digits of that many bytes.
 pub const DIGIT_LIMIT: usize = 8000;
 
-/// The bytes of these digits, none where they aren't at most 4,000 bytes in hex.
+/// The bytes of these digits, none where they aren't at most `HEX_LIMIT` bytes in hex.
 #[tactic(auto, unfolding(crate::specs::Words::hex_read))]
-pub fn hex_bytes(digits: &[u8]) -> ArrayVec<u8, 4000>
+pub fn hex_bytes(digits: &[u8]) -> ArrayVec<u8, HEX_LIMIT>
     ensures { result.items ≡ bytes_of_hex digits.now }
 {
     let mut bytes = ArrayVec::new();
@@ -19,7 +22,7 @@ pub fn hex_bytes(digits: &[u8]) -> ArrayVec<u8, 4000>
         return bytes;
     }
     let size = digits.len() / 2;
-    let mut room = [0; 4000];
+    let mut room = [0; HEX_LIMIT];
     if decode_to_slice(digits, &mut room[..size]).is_ok() {
         bytes.try_extend_from_slice(&room[..size]).unwrap();
     }

@@ -5,7 +5,7 @@ ghost use Rattle.dr_model.specs.Machines.Events.{takes_bytes};
 ghost use Rattle.scripts.specs.Words.{amount_read, bytes_words, done_words, flip_words, hex_read, is_text, look_words, packet_read, position_read, say_words, sent_words, take_words};
 ghost use Rattle.scripts.specs.Seen.{bytes_of_hex, event_of};
 
-use crate::hexed::DIGIT_LIMIT;
+use crate::hexed::{DIGIT_LIMIT, HEX_LIMIT};
 use crate::line::Line;
 use crate::number::number;
 use crate::split::{after_prefix, cut_at};
@@ -84,7 +84,7 @@ fn is_hex(text: &[u8]) -> bool
     if text.len() > DIGIT_LIMIT {
         return false;
     }
-    let mut bytes = [0; 4000];
+    let mut bytes = [0; HEX_LIMIT];
     decode_to_slice(text, &mut bytes[..text.len() / 2]).is_ok()
 }
 

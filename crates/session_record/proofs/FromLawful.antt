@@ -16,7 +16,7 @@ use Rattle.session_model.specs.Clients.{Client}
 use Rattle.dr_base.specs.Position.{is_own}
 use Rattle.session_model.specs.LawfulStates.{IsLawfulKept, IsLawfulPhase, IsLawfulPrevious, IsLawfulReception}
 use Rattle.session_model.specs.States.{Phase, in_own, in_peers, Reception, State}
-use Rattle.dr_base.specs.declared.limits.TheConstants.{LAST_EPOCH}
+use Rattle.dr_base.specs.declared.limits.TheConstants.{LAST_EPOCH, TEXT_LIMIT}
 use Rattle.kem_laws.specs.Mechanism.{Mechanism}
 use Rattle.grammar.specs.Printer.{AreItems, IsMaybe}
 use Rattle.grammar.proofs.Lists.{items-from}
@@ -178,7 +178,7 @@ entry_passes s before item fits l = record {
   epoch_is = and_true _ _ (not_own _ l.peers) (le-leb _ _ l.reached);
   epoch_fits = omega (arith, l.reached);
   index_is = and_true _ _ (le-leb 1 item.position.index l.from_one) (le-leb item.position.index 65535 l.most);
-  short = le-leb (length item.bytes) 1024 l.short;
+  short = le-leb (length item.bytes) TEXT_LIMIT l.short;
 }
 
 post_passes : (k : Mechanism) (s : State) (before : List Item) (item : Item) → IsLawfulPost k s item → PassesPost k s.session s.side s.epoch before item

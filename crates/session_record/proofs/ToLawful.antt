@@ -19,6 +19,7 @@ use Rattle.dr_base.specs.declared.position.Side.TheVariants.{First, Second}
 use Rattle.fs_aead.specs.Table.{AllBefore, IsAscending, IsBefore}
 use Rattle.session_model.specs.Clients.{Client}
 use Rattle.dr_base.specs.Position.{is_own}
+use Rattle.dr_base.specs.declared.limits.TheConstants.{TEXT_LIMIT}
 use Rattle.session_model.specs.LawfulStates.{IsLawfulKept, IsLawfulPhase, IsLawfulPrevious, IsLawfulReception}
 use Rattle.session_model.specs.States.{Phase, in_own, in_peers, Reception, State}
 use Rattle.kem_laws.specs.Mechanism.{Mechanism}
@@ -198,7 +199,7 @@ lawful_entry s before item l =
       reached = leb-true t s.epoch peers.1;
       from_one = leb-true 1 item.position.index index.0;
       most = leb-true item.position.index 65535 index.1;
-      short = leb-true (length item.bytes) 1024 l.short;
+      short = leb-true (length item.bytes) TEXT_LIMIT l.short;
     }
 
 lawful_post : (k : Mechanism) (s : State) (before : List Item) (item : Item) → PassesPost k s.session s.side s.epoch before item → IsLawfulPost k s item
