@@ -15,6 +15,7 @@ ghost use Rattle.slot_store.specs.Laws.{SameWithin};
 ghost use Rattle.slot_store.specs.Reading.{IsUndamaged};
 ghost use Rattle.slot_store.specs.Store.{mark};
 ghost use Rattle.slot_store.specs.declared.store.SlotStore.{SlotStore};
+ghost use Rattle.client.specs.Beginning.{HoldsRecord};
 ghost use Rattle.client.specs.Clients.{IsReady, client_area};
 ghost use Rattle.client.specs.Grounds.{Grounds};
 ghost use Rattle.client.specs.Moments.{AreLinked, Known, LeavesWhole, StandsStill};
@@ -78,10 +79,11 @@ pub fn stays_undamaged<D: Disk>(moments: &[D])
         → (n : ℕ) (a : D) → slice_get moments.now n ≡ Some a → Always (IsUndamaged client_area) (D.state a) }
 {}
 
-/// A disk that is read without damage is opened: where a read gives a lawful client's record so, an opening is refused only for
-/// want of memory, or where a call on the disk failed.
+/// A disk that is read without damage is opened: where a read gives a lawful client's record so, it holds that record, and an
+/// opening is refused only for want of memory, or where a call on the disk failed.
 pub fn opens_again<D: Disk>(before: &D, after: &D)
-    ensures { (k : Mechanism) (refusal : OpenRefusal) → ReadsClient k (D.state before.now)
+    ensures holds { (k : Mechanism) → ReadsClient k (D.state before.now) → HoldsRecord k (D.state before.now) }
+    ensures refused { (k : Mechanism) (refusal : OpenRefusal) → ReadsClient k (D.state before.now)
         → IsUnopened D.state k before.now after.now refusal → SaysNothing refusal }
 {
     record_law();
