@@ -185,7 +185,7 @@ fn answers_scripts(rt: HostRuntime) -> Result<(), Fail> {
         (BAD_LINES, 17),
         (OVER_SNTRUP, 5),
         (STOPS, 30),
-        (SYNCS, 15),
+        (SYNCS, 16),
     ];
     for (scenarios, held) in tables {
         let mut count = 0_u32;

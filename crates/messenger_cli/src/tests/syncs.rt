@@ -136,6 +136,21 @@ first done 1
 first opened 0.65
 first end
 
+a full box
+*64 first say a;first sync
+first say a
+first sync
+second sync
+first sync
+=>
+*64 first said 1.@;first stored @;first end
+first said 1.65
+first refused BoxFull
+*64 second opened 1.@
+second end
+first stored 65
+first end
+
 no reply has the number 0
 first lose 0
 =>
