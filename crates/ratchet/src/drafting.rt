@@ -21,6 +21,8 @@ use session_model::{Own, Phase, SessionPart, copy_of_key};
 
 impl<K: Kem> Session<K> {
     /// Drafts a text that `send_check` allows, with a seed exactly where it asks for one.
+    // Inlined, the draft is built where the caller keeps it.
+    #[inline(always)]
     pub fn draft_send(
         &self,
         work: &mut K::Work,
@@ -34,33 +36,35 @@ impl<K: Kem> Session<K> {
         ensures seed { IfErr result (λ e. seed ≡ Some e.seed) }
     {
         let part = &self.part;
-        let mut next = part.copy();
-        let mut room = [0; PACKET_LIMIT];
+        let mut draft = SendDraft {
+            position: Position { epoch: 0, index: 0 },
+            room: [0; PACKET_LIMIT],
+            len: 0,
+            part: part.without_kept(),
+        };
+        draft.part.copy_kept(part);
         match &part.phase {
             Phase::Own(own) => {
-                let (position, len) = say_on(own, &mut next, text, &mut room);
-                Ok(SendDraft {
-                    position,
-                    room,
-                    len,
-                    part: next,
-                })
+                let (position, len) = say_on(own, &mut draft.part, text, &mut draft.room);
+                draft.position = position;
+                draft.len = len;
+                Ok(draft)
             }
-            Phase::Peers(public) => match seed {
-                Some(seed) => match say_first(public, &mut next, work, text, seed, &mut room) {
-                    Ok((position, len)) => Ok(SendDraft {
-                        position,
-                        room,
-                        len,
-                        part: next,
-                    }),
-                    Err(none) => Err(none),
-                },
+            Phase::Peers(public) => {
                 // `send_check` asks for a seed here
-                None => Err(NoPairFor {
-                    seed: Key32::default(),
-                }),
-            },
+                let seed = seed.unwrap();
+                match say_first(public, &mut draft.part, work, text, seed, &mut draft.room) {
+                    Ok((position, len)) => {
+                        draft.position = position;
+                        draft.len = len;
+                        Ok(draft)
+                    }
+                    Err(none) => {
+                        draft.discard();
+                        Err(none)
+                    }
+                }
+            }
         }
     }
 }

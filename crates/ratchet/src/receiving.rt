@@ -61,6 +61,7 @@ impl<K: Kem> ReceiveDraft<K> {
     }
 
     /// Makes it the session's, which still has the state that it was drafted from.
+    #[inline(always)]
     pub fn accept(self, session: &mut Session<K>)
         requires { IsReceiveDraft K.mechanism session.old self }
         ensures { session.new ≡ self.next }
@@ -96,6 +97,8 @@ fn open_text(key: OpenKey, view: &View<'_>, text: &mut Message) -> Result<(), Re
 
 impl<K: Kem> Session<K> {
     /// Drafts the taking of a packet, or answers why it is refused.
+    // Inlined, the draft is built where the caller keeps it.
+    #[inline(always)]
     #[tactic(auto, unfolding(session_model::specs::Taking::draft_receive))]
     pub fn draft_receive(
         &self,
@@ -106,21 +109,29 @@ impl<K: Kem> Session<K> {
         ensures exact { refused_as receive_refusal result ≡ draft_receive K.mechanism self.now view.now }
         ensures draft { IfOk result (λ draft. IsReceiveDraft K.mechanism self.now draft) }
     {
-        let mut text = in_room(view.ciphertext());
-        let mut next = self.part.copy();
-        match find_key(&self.part, &mut next, work, view) {
-            Err(refusal) => Err(refusal),
-            Ok(key) => match open_text(key, view, &mut text) {
-                Err(refusal) => Err(refusal),
-                Ok(()) => Ok(ReceiveDraft {
-                    position: Position {
-                        epoch: view.epoch(),
-                        index: view.index(),
-                    },
-                    text,
-                    part: next,
-                }),
+        let part = &self.part;
+        let mut draft = ReceiveDraft {
+            position: Position {
+                epoch: view.epoch(),
+                index: view.index(),
             },
+            text: in_room(view.ciphertext()),
+            part: part.without_kept(),
+        };
+        draft.part.copy_kept(part);
+        let key = match find_key(part, &mut draft.part, work, view) {
+            Ok(key) => key,
+            Err(refusal) => {
+                draft.discard();
+                return Err(refusal);
+            }
+        };
+        match open_text(key, view, &mut draft.text) {
+            Ok(()) => Ok(draft),
+            Err(refusal) => {
+                draft.discard();
+                Err(refusal)
+            }
         }
     }
 }

@@ -65,6 +65,7 @@ impl<K: Kem> SendDraft<K> {
     }
 
     /// Makes it the session's, which still has the state that it was drafted from.
+    #[inline(always)]
     pub fn accept(self, session: &mut Session<K>)
         requires { IsSendDraft K.mechanism session.old self }
         ensures { session.new ≡ self.next }

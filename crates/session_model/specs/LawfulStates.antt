@@ -1,5 +1,5 @@
 -- The states that a session may have.
-use Rattle.std.specs.Prelude.{All, List, None, Option, Some, [], false, length, true, ℕ, ◌+◌, ◌-◌, ◌^◌, ◌≡◌, ◌≤◌}
+use Rattle.std.specs.Prelude.{All, List, None, Option, Some, [], false, length, true, ℕ, ◌+◌, ◌≡◌, ◌≤◌}
 use Rattle.dr_base.specs.declared.limits.TheConstants.{INDEX_LIMIT, LAST_EPOCH, KEPT_LIMIT}
 use Rattle.cka.specs.Agreement.{agreement_size}
 use Rattle.dr_base.specs.Position.{is_own}

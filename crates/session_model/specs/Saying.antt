@@ -1,5 +1,5 @@
 -- What a session answers to a text, and what it keeps once the text is said.
-use Rattle.std.specs.Prelude.{Bool, Err, List, Ok, Option, Result, Some, false, if◌then◌else◌, nat_le, nat_lt, option_map, true, ℕ, ◌+◌, ◌-◌, ◌^◌}
+use Rattle.std.specs.Prelude.{Bool, Err, List, Ok, Option, Result, Some, false, if◌then◌else◌, nat_le, nat_lt, option_map, true, ℕ, ◌+◌}
 use Rattle.dr_base.specs.declared.limits.TheConstants.{TEXT_LIMIT, INDEX_LIMIT, LAST_EPOCH}
 use Rattle.boxes.specs.Items.{Item}
 use Rattle.cka.specs.Agreement.{turn_of}

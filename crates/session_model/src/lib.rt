@@ -7,5 +7,6 @@ pub use part::{Own, Phase, Reception, SessionPart, copy_of_key};
 pub use refusals::{ReceiveRefusal, SendRefusal};
 
 mod answer;
+mod copying;
 mod part;
 mod refusals;

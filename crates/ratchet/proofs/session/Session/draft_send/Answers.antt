@@ -9,7 +9,7 @@ pub returns-in-Own-clause-ok : goal.returns-in-Own-clause-ok
 returns-in-Own-clause-ok g c =
     let now = sym (ap (λ (s : State). s.phase) (c.part.view_is ∙ c.self.view_is)) in
     says_own _ _ _ _ _ _ (now ∙ ap phase_seen c.in-Own.is)
-    (c.say_on-len.ensures.draft ∙ ap (λ s. draft_own s (own_seen c.in-Own.own) c.args.text.now) (c.copy-next.ensures ∙ c.self.view_is))
+    (c.say_on-len.ensures.draft ∙ ap (λ s. draft_own s (own_seen c.in-Own.own) c.args.text.now) (c.copy_kept.ensures ∙ c.self.view_is))
 
 pub returns-in-Own-clause-draft : goal.returns-in-Own-clause-draft
 returns-in-Own-clause-draft g c = record { text = c.args.text.now; seed = _; gives = returns-in-Own-clause-ok g c }
@@ -17,7 +17,7 @@ returns-in-Own-clause-draft g c = record { text = c.args.text.now; seed = _; giv
 pub returns-in-Ok-clause-ok : goal.returns-in-Ok-clause-ok
 returns-in-Ok-clause-ok g c =
     let now = sym (ap (λ (s : State). s.phase) (c.part.view_is ∙ c.self.view_is)) in
-    says_turn _ _ _ _ _ _ _ _ (c.copy-next.ensures ∙ c.self.view_is) (now ∙ ap phase_seen c.in-Peers.is) c.in-Some.is c.in-Ok.ensures.ok
+    says_turn _ _ _ _ _ _ _ _ (c.copy_kept.ensures ∙ c.self.view_is) (now ∙ ap phase_seen c.in-Peers.is) c.unwrap-seed.ensures c.in-Ok.ensures.ok
 
 pub returns-in-Ok-clause-draft : goal.returns-in-Ok-clause-draft
 returns-in-Ok-clause-draft g c = record { text = c.args.text.now; seed = _; gives = returns-in-Ok-clause-ok g c }
@@ -25,4 +25,4 @@ returns-in-Ok-clause-draft g c = record { text = c.args.text.now; seed = _; give
 pub returns-in-Err-clause-err : goal.returns-in-Err-clause-err
 returns-in-Err-clause-err g c =
     let now = sym (ap (λ (s : State). s.phase) (c.part.view_is ∙ c.self.view_is)) in
-    says_turn _ _ _ _ _ _ _ _ (c.copy-next.ensures ∙ c.self.view_is) (now ∙ ap phase_seen c.in-Peers.is) c.in-Some.is c.in-Err.ensures.err
+    says_turn _ _ _ _ _ _ _ _ (c.copy_kept.ensures ∙ c.self.view_is) (now ∙ ap phase_seen c.in-Peers.is) c.unwrap-seed.ensures c.in-Err.ensures.err
