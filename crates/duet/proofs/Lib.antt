@@ -6,6 +6,7 @@ pub mod Following
 pub mod MadeFairly
 pub mod Meets
 pub mod Packets
+pub mod PlayedDeeds
 pub mod PlayedLines
 pub mod SaidBoxes
 pub mod SaidSyncs

@@ -3,6 +3,7 @@ pub mod Held
 pub mod Meetings
 pub mod Outcomes
 pub mod Parties
+pub mod Playing
 pub mod Replies
 pub mod Stops
 pub mod Summary

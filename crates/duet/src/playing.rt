@@ -11,7 +11,9 @@ ghost use Rattle.duet.specs.Replies.{entry_line, reply_line, reply_of};
 ghost use Rattle.scripts.specs.Sides.{acting_side};
 ghost use Rattle.scripts.specs.Seen.{event_of};
 ghost use Rattle.duet.specs.Tally.{IsBelow, counted_of, tally_of};
+ghost use Rattle.duet.specs.Playing.{PlaysDeed};
 ghost use Rattle.duet.specs.Trace.{played};
+ghost use Rattle.scripts.specs.Lined.{lined_deed};
 
 use crate::party::{BeginError, Party};
 use crate::reply::reply;
@@ -97,7 +99,7 @@ fn tell<O: Sink>(side: Side, answer: Answer, tally: &mut Tally, out: &mut O) -> 
     }
 }
 
-/// Plays one event that no stop cuts off, counts its answer, and writes its lines.
+/// PlaysDeed one event that no stop cuts off, counts its answer, and writes its lines.
 #[tactic(auto, unfolding(crate::specs::Replies::reply_of))]
 fn play_line<K: Kem, O: Sink>(
     duet: &mut Duet<K>,
@@ -122,7 +124,49 @@ fn play_line<K: Kem, O: Sink>(
     }
 }
 
-/// Plays a script over a mechanism: it writes the lines of each deed, with what both sides answer, and gives the run
+/// Why a deed wasn't done to its end.
+enum Cut {
+    /// No memory was left to open a side again.
+    Memory,
+    /// A write failed.
+    Write,
+}
+
+/// PlaysDeed one deed: counts its answer, and writes its lines. Gives both sides after it.
+fn play_deed<K: Kem, O: Sink>(
+    alloc: Global,
+    duet: Duet<K>,
+    line: &Lined<'_>,
+    tally: &mut Tally,
+    out: &mut O,
+) -> Result<Duet<K>, Cut>
+    requires room { length duet.sides.posts < duet.room }
+    requires draws { duet.sides.draws.made < 2 ^ 32 - 1 }
+    requires few { IsBelow (2 ^ 32 - 1) tally.old }
+    ensures { PlaysDeed K.mechanism (lined_deed line.now) duet tally.old tally.new (O.taken out.old) (O.taken out.new)
+        (O.faults out.old) (O.faults out.new) result }
+{
+    let mut duet = duet;
+    match line {
+        Lined::Plain(line) => match play_line(&mut duet, line, tally, out) {
+            Err(Failed) => Err(Cut::Write),
+            Ok(()) => Ok(duet),
+        },
+        Lined::Stopping(stop) => match duet.stop(alloc, stop) {
+            Err(AllocError) => Err(Cut::Memory),
+            Ok((next, answer)) => match tell(stop.side(), answer, tally, out) {
+                Err(Failed) => Err(Cut::Write),
+                Ok(()) => Ok(next),
+            },
+        },
+        Lined::Syncing(side, lost) => match duet.sync(out, *side, *lost) {
+            Err(Failed) => Err(Cut::Write),
+            Ok(()) => Ok(duet),
+        },
+    }
+}
+
+/// PlaysDeed a script over a mechanism: it writes the lines of each deed, with what both sides answer, and gives the run
 /// in numbers.
 pub fn play<K: Kem, O: Sink>(
     alloc: Global,
@@ -151,25 +195,10 @@ pub fn play<K: Kem, O: Sink>(
     let mut tally = Tally::new(script.rounds());
     let mut lines = script.lines();
     'deeds: while let Some(line) = lines.next() {
-        match line {
-            Lined::Plain(line) => match play_line(&mut duet, &line, &mut tally, out) {
-                Err(Failed) => return Err(PlayError::Write),
-                Ok(()) => {}
-            },
-            Lined::Stopping(stop) => match duet.stop(alloc, &stop) {
-                Err(AllocError) => return Err(PlayError::Memory),
-                Ok((next, answer)) => {
-                    duet = next;
-                    match tell(stop.side(), answer, &mut tally, out) {
-                        Err(Failed) => return Err(PlayError::Write),
-                        Ok(()) => {}
-                    }
-                }
-            },
-            Lined::Syncing(side, lost) => match duet.sync(out, side, lost) {
-                Err(Failed) => return Err(PlayError::Write),
-                Ok(()) => {}
-            },
+        match play_deed(alloc, duet, &line, &mut tally, out) {
+            Err(Cut::Memory) => return Err(PlayError::Memory),
+            Err(Cut::Write) => return Err(PlayError::Write),
+            Ok(next) => duet = next,
         }
     }
     Ok(duet.reached(tally))

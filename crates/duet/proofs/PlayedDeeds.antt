@@ -1,0 +1,54 @@
+-- How a deed of a script went, by how its line ended.
+use Rattle.std.proofs.Common.{◌≡◌, ◌≤◌, ℕ, List, Option, Result, Ok, Err, refl, subst, sym, arith}
+use Rattle.dr_ports.specs.Ports.{Rose, appended}
+use Rattle.dr_ports.specs.Writing.{TookBeginning}
+use Rattle.kem_laws.specs.Mechanism.{Mechanism}
+use Rattle.scripts.specs.Deeds.{Deed}
+use Rattle.scripts.specs.Lined.{lined_deed}
+use Rattle.scripts.specs.Sides.{deed_side}
+use Rattle.scripts.specs.declared.lined.Lined.{Lined}
+use Rattle.duet.specs.Held.{DuetNow, after_deed, beside}
+use Rattle.duet.specs.Outcomes.{deed_on}
+use Rattle.duet.specs.Playing.{PlaysDeed}
+use Rattle.duet.specs.Tally.{counted_all}
+use Rattle.duet.specs.declared.playing.Cut.{Cut}
+use Rattle.duet.specs.declared.playing.Cut.TheVariants.{Write}
+use Rattle.duet.specs.declared.tally.Tally.{Tally}
+
+-- it was done, and its lines are written
+pub goes_well : (k : Mechanism) (deed : Deed) (duet next : DuetNow) (tally more : Tally) (taken new : Option (List ℕ)) (before now : ℕ)
+    → next ≡ after_deed duet (deed_on k (beside duet) deed) → more ≡ counted_all (deed_side deed) (deed_on k (beside duet) deed).answers tally
+    → new ≡ appended taken (deed_on k (beside duet) deed).lines → now ≡ before
+    → PlaysDeed k deed duet tally more taken new before now (Ok next)
+goes_well k deed duet next tally more taken new before now steps counts wrote quiet = record {
+  next = steps;
+  counts = counts;
+  whole = wrote;
+  memory = λ h. absurd (cc h);
+  part = λ h. absurd (cc h);
+  rose = λ h. absurd (cc h);
+  later = omega (arith, quiet);
+  quiet = λ h. quiet;
+}
+
+-- a write failed
+pub goes_unwritten : (k : Mechanism) (deed : Deed) (duet : DuetNow) (tally more : Tally) (taken new : Option (List ℕ)) (before now : ℕ)
+    → TookBeginning taken new (deed_on k (beside duet) deed).lines → Rose before now → before ≤ now
+    → PlaysDeed k deed duet tally more taken new before now (Err Write)
+goes_unwritten k deed duet tally more taken new before now part rose later = record {
+  next = _;
+  counts = _;
+  whole = _;
+  memory = λ h. absurd (cc h);
+  part = λ h. part;
+  rose = λ h. rose;
+  later = later;
+  quiet = λ h. absurd (h refl);
+}
+
+-- a line of this kind
+pub goes_along : (k : Mechanism) (line other : Lined) (duet : DuetNow) (tally more : Tally) (taken new : Option (List ℕ)) (before now : ℕ)
+    (result : Result DuetNow Cut) → line ≡ other → PlaysDeed k (lined_deed other) duet tally more taken new before now result
+    → PlaysDeed k (lined_deed line) duet tally more taken new before now result
+goes_along k line other duet tally more taken new before now result is goes =
+    subst (λ l. PlaysDeed k (lined_deed l) duet tally more taken new before now result) (sym is) goes
