@@ -21,9 +21,5 @@ mod opening;
 mod refusals;
 mod room;
 mod saying;
-#[cfg(test)]
-mod stops;
 mod syncing;
 mod taking;
-#[cfg(test)]
-mod tests;

@@ -10,5 +10,3 @@ mod naming;
 mod posting;
 mod steps;
 mod sync;
-#[cfg(test)]
-mod tests;

@@ -24,5 +24,3 @@ mod stops;
 mod summary;
 mod syncing;
 mod tally;
-#[cfg(test)]
-mod tests;

@@ -12,5 +12,3 @@ mod mechanisms;
 mod performing;
 mod playing;
 mod program;
-#[cfg(test)]
-mod tests;

@@ -25,5 +25,3 @@ mod saying;
 mod showing;
 mod syncing;
 mod taking;
-#[cfg(test)]
-mod tests;

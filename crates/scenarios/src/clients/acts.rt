@@ -4,7 +4,7 @@ ghost use Rattle.std.specs.Prelude.{◌≡◌, None, IfOk, OnOk, true};
 ghost use Rattle.dr_disk.specs.MemoryDisks.{state_of};
 ghost use Rattle.client.specs.Clients.{IsReady};
 
-use crate::{BeginRefusal, Client, OpenRefusal, SLOT};
+use client::{BeginRefusal, Client, OpenRefusal, SLOT};
 use dr_base::{Key32, Side};
 use dr_disk::{Disk, MemoryDisk};
 use dr_ports::SteadyDraws;
@@ -13,11 +13,11 @@ use std::alloc::Global;
 use std::test::Fail;
 
 /// A new disk that holds a client's area.
-pub(crate) const SIZE: u64 = 393216;
+pub const SIZE: u64 = 393216;
 
 /// What a client does.
 #[derive(Clone, Copy)]
-pub(crate) enum Act {
+pub enum Act {
     Say,
     Take,
     Done,
@@ -25,11 +25,7 @@ pub(crate) enum Act {
 }
 
 /// Begins a client.
-pub(crate) fn begin(
-    alloc: Global,
-    side: Side,
-    disk: &mut MemoryDisk,
-) -> Result<Client<OpenKem>, Fail>
+pub fn begin(alloc: Global, side: Side, disk: &mut MemoryDisk) -> Result<Client<OpenKem>, Fail>
     ensures open { IfOk result (λ client. client.closed ≡ None) }
     ensures ready { IfOk result (λ client. IsReady client.kept client.store (state_of disk.new)) }
 {
@@ -41,7 +37,7 @@ pub(crate) fn begin(
 }
 
 /// Says the text "hi", takes a packet, or drops the oldest item of a box. Answers whether that was acknowledged.
-pub(crate) fn perform(
+pub fn perform(
     alloc: Global,
     act: Act,
     packet: &[u8],
@@ -64,7 +60,7 @@ pub(crate) fn perform(
 }
 
 /// Does what must be acknowledged.
-pub(crate) fn perform_well(
+pub fn perform_well(
     alloc: Global,
     what: Act,
     packet: &[u8],
@@ -82,7 +78,7 @@ pub(crate) fn perform_well(
 }
 
 /// The packet of the text "hi", which Second says.
-pub(crate) fn packet_of_second(alloc: Global) -> Result<Vec<u8>, Fail> {
+pub fn packet_of_second(alloc: Global) -> Result<Vec<u8>, Fail> {
     let mut disk = MemoryDisk::new(alloc, SIZE)?;
     let mut client = begin(alloc, Side::Second, &mut disk)?;
     perform_well(alloc, Act::Say, &[], &mut client, &mut disk)?;

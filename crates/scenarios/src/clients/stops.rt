@@ -4,8 +4,8 @@ ghost use Rattle.std.specs.Prelude.{◌≡◌, None};
 ghost use Rattle.dr_disk.specs.MemoryDisks.{state_of};
 ghost use Rattle.client.specs.Clients.{IsReady};
 
-use crate::tests::{Act, SIZE, begin, packet_of_second, perform, perform_well};
-use crate::{Client, SLOT};
+use super::acts::{Act, SIZE, begin, packet_of_second, perform, perform_well};
+use client::{Client, SLOT};
 use dr_base::Side;
 use dr_disk::{Disk, MemoryDisk, Mode};
 use kem_laws::OpenKem;
@@ -56,7 +56,7 @@ fn act_stopped(
 }
 
 /// Stops the disk of a client that is ready.
-pub(crate) fn stop(client: &Client<OpenKem>, disk: &mut MemoryDisk, k: u32)
+pub fn stop(client: &Client<OpenKem>, disk: &mut MemoryDisk, k: u32)
     requires { IsReady client.now.kept client.now.store (state_of disk.old) }
     ensures { IsReady client.now.kept client.now.store (state_of disk.new) }
 {

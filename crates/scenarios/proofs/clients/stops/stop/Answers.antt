@@ -3,7 +3,7 @@ use Rattle.std.proofs.Common.{subst, sym}
 use Rattle.dr_disk.specs.MemoryDisks.{state_of}
 use Rattle.dr_disk.specs.declared.memory.MemoryDisk.{MemoryDisk}
 use Rattle.client.specs.Clients.{IsReady}
-use Rattle.client.proofs.stops.stop.Goals as goal
+use Rattle.scenarios.proofs.clients.stops.stop.Goals as goal
 
 pub returns : goal.returns
 returns c =

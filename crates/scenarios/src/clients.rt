@@ -1,0 +1,5 @@
+//! Clients on disks in memory.
+
+mod acts;
+mod stops;
+mod syncs;

@@ -1,0 +1,60 @@
+//! The commands that meet a relay, over links and doors in memory.
+
+use crate::commands::{answers_over, is_answered};
+use crate::running::Network;
+use dr_disk::SteadyDisk;
+use messenger_cli::DISK_SIZE;
+use std::test::Fail;
+
+#[test]
+fn serves_a_relay(rt: HostRuntime) -> Result<(), Fail> {
+    let alloc = rt.alloc();
+    let mut disk = SteadyDisk::new(alloc, DISK_SIZE)?;
+    // fetch, post, fetch and acknowledge
+    let asked =
+        b"\x00\x03\x02\x01a\x00\x04\x01\x01a\x07\x00\x03\x02\x01a\x00\x0b\x03\x01a\x00\x00\x00\x00\x00\x00\x00\x01";
+    let mut network = Network::new(alloc, b"", asked)?;
+    let rows: [(&str, u8, &[u8]); 4] = [
+        ("relay|4000|1|a|a", 3, b"refused: BadBox 2\n"),
+        ("relay|4000|1|a", 0, b"relay 4000\nconnection 1 ended 4\n"),
+        ("relay|4000|1|b", 3, b"refused: BoxName 1\n"),
+        (
+            "relay|4000|2|a",
+            0,
+            b"relay 4000\nconnection 1 ended 0\nconnection 2 ended 0\n",
+        ),
+    ];
+    for (words, status, lines) in rows {
+        assert!(rt; is_answered(alloc, words, &mut disk, &mut network, b"", status, lines)?);
+    }
+    assert_eq!(rt;
+        network.door.sent(),
+        b"\x00\x01\x83\x00\x09\x81\x00\x00\x00\x00\x00\x00\x00\x01\x00\x0a\x82\x00\x00\x00\x00\x00\x00\x00\x01\x07\x00\x01\x84".as_slice()
+    );
+    Ok(())
+}
+
+/// A relay's replies to two syncs: none stands; none stands, and a packet is kept as number 1.
+const REPLIES: &[u8] = b"\x00\x01\x83\x00\x01\x83\x00\x09\x81\x00\x00\x00\x00\x00\x00\x00\x01";
+
+const SYNCED: &str = "\
+begin|second>^>0>session 70e0f9cd1a5863238d67aecce0c032e5;
+sync|127.0.0.1:4000>>0>end;
+say|hi>>0>said 0.1;
+sync|127.0.0.1:4000>>0>stored 1;end;
+outbox>>0>
+sync|127.0.0.1:4000>>12>peer: Ended at 0;";
+
+/// What the first two syncs begin with: a fetch of the own box.
+const FETCHED: &[u8] =
+    b"\x00\x24\x02\x2270e0f9cd1a5863238d67aecce0c032e5-2\x00\x24\x02\x2270e0f9cd1a5863238d67aecce0c032e5-2";
+
+#[test]
+fn syncs_with_a_relay(rt: HostRuntime) -> Result<(), Fail> {
+    let alloc = rt.alloc();
+    let mut network = Network::new(alloc, REPLIES, b"")?;
+    let mut disk = SteadyDisk::new(alloc, DISK_SIZE)?;
+    assert!(rt; answers_over(alloc, &mut disk, &mut network, SYNCED)?);
+    assert!(rt; network.link.sent().starts_with(FETCHED));
+    Ok(())
+}

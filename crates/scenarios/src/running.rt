@@ -1,0 +1,68 @@
+//! Runs of the program on words.
+
+use dr_base::Key32;
+use dr_disk::{Disk, SteadyDisk};
+use dr_ports::{MemoryDoor, MemoryLink, Sink, Source, SteadyDraws};
+use messenger_cli::{DISK_SIZE, RELAY_DISK_SIZE, Status, run};
+use std::alloc::{AllocError, Global};
+
+/// The network of a run: a relay's disk, a link, and a door.
+#[derive(Drop)]
+pub struct Network {
+    pub relay_disk: SteadyDisk,
+    pub link: MemoryLink,
+    pub door: MemoryDoor,
+}
+
+impl Network {
+    /// A relay's disk of zeros, a link that gives these bytes, and a door whose one connection holds these.
+    pub fn new(alloc: Global, link: &[u8], door: &[u8]) -> Result<Network, AllocError> {
+        Ok(Network {
+            relay_disk: SteadyDisk::new(alloc, RELAY_DISK_SIZE)?,
+            link: MemoryLink::new(alloc, link, 4096, &[])?,
+            door: MemoryDoor::new(alloc, door, &[door.len()], 4096, &[], &[])?,
+        })
+    }
+}
+
+/// Runs the program on words, between bars, on a disk of the size that it asks for.
+pub fn run_on<D: Disk, S: Source, O: Sink>(
+    alloc: Global,
+    line: &str,
+    disk: &mut D,
+    network: &mut Network,
+    source: &mut S,
+    out: &mut O,
+) -> Result<Status, AllocError> {
+    let mut words = Vec::new(alloc);
+    for word in line.split('|') {
+        words.push(String::from_str(alloc, word)?)?;
+    }
+    let seeds = [Key32 { bytes: [7; 32] }, Key32 { bytes: [8; 32] }];
+    let mut draws = SteadyDraws::new(alloc, &seeds)?;
+    if disk.size() < DISK_SIZE || network.relay_disk.size() < RELAY_DISK_SIZE {
+        return Err(AllocError);
+    }
+    Ok(run(
+        alloc,
+        words.as_slice(),
+        disk,
+        &mut network.relay_disk,
+        source,
+        out,
+        &mut network.link,
+        &mut network.door,
+        &mut draws,
+    ))
+}
+
+/// Runs a script, from the source, on the disk that it asks for.
+pub fn run_duet<S: Source, O: Sink>(
+    alloc: Global,
+    network: &mut Network,
+    source: &mut S,
+    out: &mut O,
+) -> Result<Status, AllocError> {
+    let mut disk = SteadyDisk::new(alloc, DISK_SIZE)?;
+    run_on(alloc, "duet", &mut disk, network, source, out)
+}
