@@ -1,4 +1,5 @@
 pub mod Digits
+pub mod FirstDraws
 pub mod Hex
 pub mod Making
 pub mod PrintedDeeds

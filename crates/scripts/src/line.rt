@@ -14,7 +14,7 @@ use hex::FromHex;
 use session_model::Amount;
 
 /// What one line says that stops no disk.
-#[derive(Clone, Copy, Debug, PartialEq, Eq)]
+#[derive(Clone, Copy)]
 pub enum Line<'a> {
     /// The next draw is this seed.
     Seed([u8; 32]),

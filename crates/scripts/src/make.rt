@@ -13,8 +13,6 @@ use rounds::{Making, Turn};
 use std::alloc::{AllocError, Global};
 
 mod rounds;
-#[cfg(test)]
-mod tests;
 
 /// The lines of a side that says a round's text.
 fn said_text(round: u32, side: Side) -> OutputLine
