@@ -37,37 +37,55 @@ fn door(
     MemoryDoor::new(alloc, REQUESTS, &ends, 4096, fails, pipe_fails)
 }
 
-/// Runs the command, and answers its status after what it wrote into so much room.
-fn outcome(
+/// Whether the command ends with a status and wrote just these lines into so much room.
+fn ends(
     alloc: Global,
     disk: &mut MemoryDisk,
     boxes: &[&str],
     count: u32,
     door: &mut MemoryDoor,
     room: usize,
-) -> Result<(u8, Vec<u8>), Fail> {
+    status: u8,
+    lines: &[u8],
+) -> Result<bool, AllocError> {
     if disk.size() < RELAY_DISK_SIZE {
-        return Err(Fail::from("no room"));
+        return Ok(false);
     }
     let mut out = MemorySink::new(alloc, room, &[])?;
-    let status = relay(alloc, 4000, count, boxes, disk, door, &mut out);
-    Ok((status.code, out.taken().to_vec(alloc)?))
+    let ended = relay(alloc, 4000, count, boxes, disk, door, &mut out);
+    Ok(ended.code == status && out.taken() == lines)
+}
+
+/// The same over a door of its own, whose calls of these numbers fail, for one connection to the box `a`.
+fn ends_over(
+    alloc: Global,
+    disk: &mut MemoryDisk,
+    fails: &[u64],
+    pipe_fails: &[u64],
+    room: usize,
+    status: u8,
+    lines: &[u8],
+) -> Result<bool, AllocError> {
+    let mut door = door(alloc, REQUESTS.len(), fails, pipe_fails)?;
+    ends(alloc, disk, &["a"], 1, &mut door, room, status, lines)
+}
+
+/// Whether the worked exchange is answered so, with the requests cut there, in so many connections.
+fn exchanges(alloc: Global, count: u32, cut: usize, lines: &[u8]) -> Result<bool, AllocError> {
+    let mut disk = blank(alloc, RELAY_DISK_SIZE)?;
+    let mut door = door(alloc, cut, &[], &[])?;
+    let ended = ends(alloc, &mut disk, &["a"], count, &mut door, 4096, 0, lines)?;
+    Ok(ended && door.sent() == REPLIES)
 }
 
 // In one connection or in two the replies are the same: the boxes stand on the disk between them.
 #[test]
 fn the_worked_exchange(rt: HostRuntime) -> Result<(), Fail> {
     let alloc = rt.alloc();
-    let one = b"relay 4000\nconnection 1 ended 4\n".as_slice();
-    let two = b"relay 4000\nconnection 1 ended 2\nconnection 2 ended 2\n".as_slice();
-    for (count, cut, lines) in [(1, REQUESTS.len(), one), (2, HALF, two)] {
-        let mut disk = blank(alloc, RELAY_DISK_SIZE)?;
-        let mut door = door(alloc, cut, &[], &[])?;
-        let (status, taken) = outcome(alloc, &mut disk, &["a"], count, &mut door, 4096)?;
-        assert_eq!(rt; status, 0);
-        assert_eq!(rt; taken.as_slice(), lines);
-        assert_eq!(rt; door.sent(), REPLIES);
-    }
+    let one = b"relay 4000\nconnection 1 ended 4\n";
+    assert!(rt; exchanges(alloc, 1, REQUESTS.len(), one)?);
+    let two = b"relay 4000\nconnection 1 ended 2\nconnection 2 ended 2\n";
+    assert!(rt; exchanges(alloc, 2, HALF, two)?);
     Ok(())
 }
 
@@ -77,23 +95,19 @@ fn names_that_are_refused(rt: HostRuntime) -> Result<(), Fail> {
     let alloc = rt.alloc();
     let mut disk = blank(alloc, RELAY_DISK_SIZE)?;
     let mut door = door(alloc, 0, &[], &[])?;
-    let (status, taken) = outcome(alloc, &mut disk, &["b"], 0, &mut door, 4096)?;
-    assert_eq!(rt; status, 0);
-    assert_eq!(rt; taken.as_slice(), b"relay 4000\n".as_slice());
     let many = [
         "a", "b", "c", "d", "e", "f", "g", "h", "i", "j", "k", "l", "m", "n", "o", "p", "q",
     ];
-    let rows: [(&[&str], &[u8]); 5] = [
-        (&["a"], b"refused: BoxName 1\n"),
-        (&["b", "b"], b"refused: BadBox 2\n"),
-        (&["b", "c", "D"], b"refused: BadBox 3\n"),
-        (&[""], b"refused: BadBox 1\n"),
-        (&many, b"refused: BadBox 17\n"),
+    let rows: [(&[&str], u8, &[u8]); 6] = [
+        (&["b"], 0, b"relay 4000\n"),
+        (&["a"], 3, b"refused: BoxName 1\n"),
+        (&["b", "b"], 3, b"refused: BadBox 2\n"),
+        (&["b", "c", "D"], 3, b"refused: BadBox 3\n"),
+        (&[""], 3, b"refused: BadBox 1\n"),
+        (&many, 3, b"refused: BadBox 17\n"),
     ];
-    for (boxes, line) in rows {
-        let (status, taken) = outcome(alloc, &mut disk, boxes, 1, &mut door, 4096)?;
-        assert_eq!(rt; status, 3);
-        assert_eq!(rt; taken.as_slice(), line);
+    for (boxes, status, lines) in rows {
+        assert!(rt; ends(alloc, &mut disk, boxes, 0, &mut door, 4096, status, lines)?);
     }
     Ok(())
 }
@@ -110,56 +124,56 @@ fn ports_that_fail(rt: HostRuntime) -> Result<(), Fail> {
         (&[], &[], 5, 5, b"relay"),
         (&[], &[], 13, 5, b"relay 4000\nco"),
     ];
-    for (fails, pipe_fails, room, code, lines) in rows {
-        let mut door = door(alloc, REQUESTS.len(), fails, pipe_fails)?;
-        let (status, taken) = outcome(alloc, &mut disk, &["a"], 1, &mut door, room)?;
-        assert_eq!(rt; status, code);
-        assert_eq!(rt; taken.as_slice(), lines);
+    for (fails, pipe_fails, room, status, lines) in rows {
+        assert!(rt; ends_over(alloc, &mut disk, fails, pipe_fails, room, status, lines)?);
     }
     Ok(())
 }
 
-// The store fails as it is opened, whose one sync is the first call, and while a packet is posted; and an area is damaged.
-#[test]
-fn disks_that_fail(rt: HostRuntime) -> Result<(), Fail> {
-    let alloc = rt.alloc();
+/// A disk with an area for the box `a`.
+fn opened(alloc: Global) -> Result<MemoryDisk, Fail> {
     let mut disk = blank(alloc, RELAY_DISK_SIZE)?;
-    let (status, _) = outcome(
+    let mut door = door(alloc, 0, &[], &[])?;
+    if ends(
         alloc,
         &mut disk,
         &["a"],
         0,
-        &mut door(alloc, 0, &[], &[])?,
+        &mut door,
         4096,
-    )?;
-    assert_eq!(rt; status, 0);
-    for (passes, lines) in [
-        (0, b"fault: disk\n".as_slice()),
-        (2, b"relay 4000\nfault: disk\n".as_slice()),
-    ] {
-        let mut door = door(alloc, REQUESTS.len(), &[], &[])?;
+        0,
+        b"relay 4000\n",
+    )? {
+        Ok(disk)
+    } else {
+        Err(Fail::from("not opened"))
+    }
+}
+
+// The store fails as it is opened, whose one sync is the first call, and while a packet is posted.
+#[test]
+fn disks_that_stop(rt: HostRuntime) -> Result<(), Fail> {
+    let alloc = rt.alloc();
+    let mut disk = opened(alloc)?;
+    let rows: [(u32, &[u8]); 2] = [(0, b"fault: disk\n"), (2, b"relay 4000\nfault: disk\n")];
+    for (passes, lines) in rows {
         disk.stop_after(passes);
-        let (status, taken) = outcome(alloc, &mut disk, &["a"], 1, &mut door, 4096)?;
-        assert_eq!(rt; status, 6);
-        assert_eq!(rt; taken.as_slice(), lines);
+        assert!(rt; ends_over(alloc, &mut disk, &[], &[], 4096, 6, lines)?);
         disk.go_on();
     }
+    Ok(())
+}
+
+// Both gates of an area are set, and no turn is greater.
+#[test]
+fn a_damaged_area(rt: HostRuntime) -> Result<(), Fail> {
+    let alloc = rt.alloc();
+    let mut disk = opened(alloc)?;
     for slot in [0, 262_144] {
         assert!(rt; slot + 2 <= disk.size());
         assert!(rt; disk.write_at(slot, b"\xa5\x01").is_ok());
     }
-    let (status, taken) = outcome(
-        alloc,
-        &mut disk,
-        &["a"],
-        1,
-        &mut door(alloc, 0, &[], &[])?,
-        4096,
-    )?;
-    assert_eq!(rt; status, 11);
-    assert_eq!(rt;
-        taken.as_slice(),
-        b"damaged area 0 slot 1 at 1\n".as_slice()
-    );
+    let lines = b"damaged area 0 slot 1 at 1\n";
+    assert!(rt; ends_over(alloc, &mut disk, &[], &[], 4096, 11, lines)?);
     Ok(())
 }
