@@ -1,5 +1,5 @@
 -- A lawful client is lawful after each act that it answers.
-use Rattle.std.proofs.Common.{Bool, Err, List, None, Ok, Option, Result, Some, arith, length, refl, subst, true, ℕ, ◌++◌, ◌<◌, ◌∷◌, ◌≡◌, ◌≤◌, []}
+use Rattle.std.proofs.Common.{Bool, Err, List, None, Ok, Option, Result, Some, arith, length, refl, subst, true, ℕ, ◌++◌, ◌<◌, ◌∷◌, ◌≡◌, []}
 use Rattle.std.specs.Prelude.{drop, nat_le, nat_lt}
 use Rattle.std.proofs.lemmas.Bool.Decides.{nat_tests}
 use Rattle.std.proofs.lemmas.List.{length-drop}

@@ -3,7 +3,7 @@ use Rattle.std.proofs.Common.{Bool, List, None, Ok, Option, Some, arith, false, 
 use Rattle.std.specs.Prelude.{nat_le, option_map}
 use Rattle.std.proofs.lemmas.Bool.Decides.{nat_tests}
 use Rattle.std.proofs.lemmas.List.{length-append}
-use Rattle.cka.specs.Agreement.{agreement_size, turn_of}
+use Rattle.cka.specs.Agreement.{agreement_size}
 use Rattle.dr_base.specs.declared.limits.TheConstants.{INDEX_LIMIT, LAST_EPOCH}
 use Rattle.fs_aead.specs.Chain.{next_chain}
 use Rattle.kem_laws.specs.Mechanism.{IsLawfulMechanism, IsPairOf, Mechanism}

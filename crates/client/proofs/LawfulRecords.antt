@@ -9,7 +9,6 @@ use Rattle.dr_base.specs.declared.position.Side.{Side}
 use Rattle.fs_aead.specs.Chain.{chain_message_key, chain_of, message_key}
 use Rattle.hmac_hkdf.proofs.Lengths.{length-hmac_of}
 use Rattle.kem_laws.specs.Mechanism.{IsLawfulMechanism, Mechanism}
-use Rattle.packet.specs.Packet.{agreement_len}
 use Rattle.packet.proofs.Lengths.{length-packet_of}
 use Rattle.session_model.specs.Sealing.{posted}
 use Rattle.session_record.specs.Lawful.{IsLawfulClient, IsLawfulEntry, IsLawfulPost}

@@ -1,5 +1,5 @@
 -- The draft of a packet leads a lawful session to a lawful state.
-use Rattle.std.proofs.Common.{Bool, Err, List, None, Ok, Option, Result, Some, [], ap, append-nil, arith, false, length, refl, subst, sym, true, ℕ, ◌++◌, ◌+◌, ◌-◌, ◌<◌, ◌∙◌, ◌≡◌, ◌≤◌}
+use Rattle.std.proofs.Common.{Bool, Err, List, None, Ok, Option, Result, Some, [], ap, append-nil, arith, false, length, refl, subst, true, ℕ, ◌++◌, ◌+◌, ◌-◌, ◌<◌, ◌∙◌, ◌≡◌, ◌≤◌}
 use Rattle.std.specs.Cmp.Lexicographic.{pointwise}
 use Rattle.std.specs.Prelude.{drop, if◌then◌else◌, nat_eq, nat_le, nat_lt, not, take, ◌&&◌, ◌==◌}
 use Rattle.std.proofs.lemmas.Bool.Decides.{nat_tests}
@@ -7,7 +7,7 @@ use Rattle.std.proofs.lemmas.List.{length-append, length-drop}
 use Rattle.cka.specs.Agreement.{agreement_size}
 use Rattle.dr_base.specs.Position.{is_own}
 use Rattle.dr_base.specs.declared.key.Kept.{Kept}
-use Rattle.dr_base.specs.declared.limits.TheConstants.{INDEX_LIMIT, KEPT_LIMIT, LAST_EPOCH}
+use Rattle.dr_base.specs.declared.limits.TheConstants.{INDEX_LIMIT, KEPT_LIMIT}
 use Rattle.dr_base.specs.declared.position.Position.{Position}
 use Rattle.dr_base.specs.declared.position.Side.{Side}
 use Rattle.dr_base.proofs.Parity.{own_next}
@@ -27,7 +27,7 @@ use Rattle.ratchet.proofs.LawfulTurn.{in_own_phase}
 use Rattle.ratchet.proofs.Parity.{latest-own, latest-peers}
 use Rattle.session_model.specs.LawfulStates.{IsLawfulReception, IsLawfulState}
 use Rattle.session_model.specs.States.{Own, Phase, Reception, State, in_own, in_peers, receiving_epoch}
-use Rattle.session_model.specs.Taking.{ReceiveDraft, draft_receive, opened_by, opening_on}
+use Rattle.session_model.specs.Taking.{ReceiveDraft, draft_receive, opened_by}
 use Rattle.session_model.specs.Ways.{Way, chain_way, epoch_way, kept_way, known_way, next_way, position_of, turn_way, turned, way_of}
 use Rattle.session_model.specs.declared.answer.Refusal.{Refusal}
 use Rattle.client.proofs.LawfulTaking.{lets, passes}

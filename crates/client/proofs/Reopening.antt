@@ -2,7 +2,6 @@
 use Rattle.std.proofs.Common.{List, Ok, Option, Some, ap, arith, subst, suc, sym, zero, ℕ, ⊎_elim, ◌+◌, ◌∙◌, ◌≡◌}
 use Rattle.std.specs.Prelude.{slice_get}
 use Rattle.dr_disk.specs.State.{Always, DiskState, IsLawful}
-use Rattle.dr_disk.specs.declared.call.Call.{Call}
 use Rattle.kem_laws.specs.Mechanism.{Mechanism}
 use Rattle.session_record.specs.Record.{record_read, record_text}
 use Rattle.slot_store.specs.Reading.{IsLikeRead, IsUndamaged, OpensAs, damaged, holds, no_content, reading}

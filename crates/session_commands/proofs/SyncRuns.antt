@@ -1,15 +1,14 @@
 -- A command that syncs, from its calls.
-use Rattle.std.proofs.Common.{Err, List, None, Ok, Option, Result, Some, [], ap, arith, inl, inr, refl, subst, sym, ℕ, ⊎_elim, ◌++◌, ◌≤◌, ◌∙◌, ◌≡◌, ◌⊎◌}
+use Rattle.std.proofs.Common.{Err, List, Ok, Option, Result, [], ap, arith, inl, inr, refl, subst, sym, ℕ, ⊎_elim, ◌≤◌, ◌∙◌, ◌≡◌, ◌⊎◌}
 use Rattle.std.specs.Prelude.{option_map}
 use Rattle.dr_base.specs.Causes.{Rose}
 use Rattle.dr_base.specs.declared.position.Side.{Side}
 use Rattle.dr_disk.specs.Spans.{IsQuiet, Span}
 use Rattle.dr_disk.specs.State.{Always, DiskState, IsLawful}
-use Rattle.dr_disk.specs.declared.call.Call.{Call}
 use Rattle.dr_disk.proofs.Steps.{quiet_twice, spans, widen}
 use Rattle.dr_model.specs.Machines.WorldSides.{kept_in}
 use Rattle.dr_model.specs.Machines.Worlds.{World}
-use Rattle.dr_ports.specs.Wires.{Port, Told}
+use Rattle.dr_ports.specs.Wires.{Port}
 use Rattle.dr_ports.specs.declared.pipe.Part.TheVariants.{Flow}
 use Rattle.kem_laws.specs.Mechanism.{Mechanism}
 use Rattle.relay_pipe.specs.Asking.{fault_at}
@@ -24,11 +23,10 @@ use Rattle.sync_model.specs.Parties.{Party}
 use Rattle.sync_model.specs.declared.more.More.{More}
 use Rattle.client.specs.Clients.{ClientNow, IsReady, client_area}
 use Rattle.client.specs.InWorlds.{IsIn, StandsFor}
-use Rattle.client.specs.Syncing.InWorlds.{IsReachedIn, LeadsTo, SyncsIn, course_in}
+use Rattle.client.specs.Syncing.InWorlds.{IsReachedIn, LeadsTo, SyncsIn}
 use Rattle.client.specs.Syncing.Moments.{Moment, moment}
-use Rattle.client.specs.Syncing.Parties.{client_party}
 use Rattle.client.specs.Syncing.SoFar.{IsReached, Stands, Talked}
-use Rattle.client.specs.Syncing.Syncs.{Ends, IsCutOff, IsOver, IsUnheard, SyncsBy}
+use Rattle.client.specs.Syncing.Syncs.{Ends, IsCutOff, IsOver, IsUnheard}
 use Rattle.client.specs.declared.syncing.faults.SyncFault.{SyncFault}
 use Rattle.client.specs.declared.syncing.faults.SyncFault.TheVariants.{Closed, Link, Peer, Refused, Store, Write}
 use Rattle.session_commands.specs.Disks.{IsAtRest}

@@ -1,9 +1,8 @@
 -- What a sync wrote, and the last line after it.
-use Rattle.std.proofs.Common.{Bool, Err, List, None, Ok, Option, Result, Some, [], ap, arith, false, inl, inr, length, refl, subst, sym, take, true, ℕ, ⊎_elim, ◌+◌, ◌++◌, ◌-◌, ◌<◌, ◌^◌, ◌≤◌, ◌∙◌, ◌∷◌, ◌≡◌, append-nil}
+use Rattle.std.proofs.Common.{Bool, Err, List, None, Ok, Option, Result, Some, [], ap, arith, false, inl, inr, length, refl, sym, take, true, ℕ, ⊎_elim, ◌+◌, ◌++◌, ◌-◌, ◌<◌, ◌^◌, ◌≤◌, ◌∙◌, ◌∷◌, ◌≡◌, append-nil}
 use Rattle.std.specs.Prelude.{IfErr, if◌then◌else◌, nat_le, ◌&&◌}
 use Rattle.std.proofs.lemmas.Bool.Decides.{nat_tests}
 use Rattle.std.proofs.lemmas.List.{length_push, take_at}
-use Rattle.dr_base.specs.Causes.{Rose}
 use Rattle.dr_disk.specs.Spans.{IsQuiet}
 use Rattle.dr_ports.specs.Ports.{appended}
 use Rattle.dr_ports.specs.Wires.{Port}
@@ -11,9 +10,8 @@ use Rattle.dr_ports.specs.declared.pipe.Part.{Part}
 use Rattle.dr_ports.specs.declared.pipe.Part.TheVariants.{Flow, Gate}
 use Rattle.endings.specs.Ending.{code_of}
 use Rattle.endings.specs.Ends.{Ends as CommandEnds}
-use Rattle.endings.proofs.Closing.{ends_behind, ends_cut}
-use Rattle.endings.specs.declared.ending.Ending.{Ending}
-use Rattle.relay_pipe.specs.Asking.{fault_at, peer_fault}
+use Rattle.endings.proofs.Closing.{ends_behind}
+use Rattle.relay_pipe.specs.Asking.{fault_at}
 use Rattle.relay_pipe.specs.declared.faults.PeerFault.{PeerFault}
 use Rattle.relay_pipe.specs.declared.faults.PeerKind.{PeerKind}
 use Rattle.relay_pipe.specs.declared.faults.PeerKind.TheVariants.{Wrong}
@@ -33,7 +31,7 @@ use Rattle.client.specs.Syncing.Syncs.{Ends, IsNoReply, Syncs, is_cut, is_unread
 use Rattle.client.specs.declared.syncing.faults.SyncFault.{SyncFault}
 use Rattle.client.specs.declared.syncing.faults.SyncFault.TheVariants.{Closed, Link, Peer, Refused, Store, Write}
 use Rattle.client.specs.declared.syncing.faults.SyncRefusal.TheVariants.{BoxFull, InboxFull, Unknown}
-use Rattle.session_commands.specs.Syncing.{HasWritten, IsNear, ending_of_fault, ending_of_sync, sync_lines}
+use Rattle.session_commands.specs.Syncing.{HasWritten, IsNear, ending_of_fault, sync_lines}
 
 -- ---- what was written
 

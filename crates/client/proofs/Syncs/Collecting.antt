@@ -1,12 +1,9 @@
 -- A packet is taken, and the oldest one posted.
-use Rattle.std.proofs.Common.{Bool, Err, List, None, Ok, Option, Result, Some, [], ap, false, refl, subst, sym, true, ℕ, ◌∙◌, ◌∷◌, ◌≡◌}
+use Rattle.std.proofs.Common.{Bool, Err, List, Ok, Result, [], ap, false, refl, subst, sym, true, ℕ, ◌∷◌, ◌≡◌}
 use Rattle.std.specs.Prelude.{if◌then◌else◌}
-use Rattle.dr_base.specs.Causes.{Rose}
 use Rattle.dr_disk.specs.declared.call.Call.{Call}
-use Rattle.dr_ports.specs.Ports.{appended}
-use Rattle.dr_ports.specs.Writing.{TookBeginning}
-use Rattle.dr_model.specs.Machines.Acts.{act_on, taken_by, taking}
-use Rattle.dr_model.specs.Machines.Steps.{Step, settled, step}
+use Rattle.dr_model.specs.Machines.Acts.{taken_by}
+use Rattle.dr_model.specs.Machines.Steps.{Step, settled}
 use Rattle.kem_laws.specs.Mechanism.{Mechanism}
 use Rattle.relay_wire.specs.Replies.{item}
 use Rattle.session_model.specs.Clients.{Client, TakenPacket, take_on}
@@ -14,14 +11,14 @@ use Rattle.session_model.specs.declared.answer.Answer.{Answer}
 use Rattle.session_model.specs.declared.answer.Answer.TheVariants.{Said, Opened, Sent, Done, Inbox, State, Seeded, Stopped, Nothing, Refused as AnswersRefused}
 use Rattle.session_model.specs.declared.answer.Refusal.{Refusal}
 use Rattle.session_model.specs.declared.answer.Refusal.TheVariants.{InboxFull}
-use Rattle.sync_model.specs.Moves.{Move, acking, fetching, inbox_full, move, over, took_by}
-use Rattle.sync_model.specs.Parties.{Party, Took, taking as takes}
+use Rattle.sync_model.specs.Moves.{Move, acking, fetching, inbox_full, move, over}
+use Rattle.sync_model.specs.Parties.{taking as takes}
 use Rattle.client.specs.Syncing.Lines.{answer_line}
-use Rattle.client.specs.Syncing.Moments.{BrokenOff, IsAnswered, Moment, Moved, Wrote, WroteBeginning, had_no_room, was_cut, was_written}
-use Rattle.client.specs.Syncing.Parties.{is_full, is_no_room, party_of, taken_step, waiting}
-use Rattle.client.specs.Syncing.Rounds.{Turns, fetched_as, goes_on, stops}
+use Rattle.client.specs.Syncing.Moments.{BrokenOff, IsAnswered, Moment, Moved, had_no_room, was_cut, was_written}
+use Rattle.client.specs.Syncing.Parties.{is_full, is_no_room, party_of, taken_step}
+use Rattle.client.specs.Syncing.Rounds.{Turns, goes_on, stops}
 use Rattle.client.specs.declared.syncing.faults.SyncFault.{SyncFault}
-use Rattle.client.specs.declared.syncing.faults.SyncFault.TheVariants.{Refused, Store, Write}
+use Rattle.client.specs.declared.syncing.faults.SyncFault.TheVariants.{Refused, Store}
 use Rattle.client.specs.declared.syncing.faults.SyncRefusal.TheVariants.{InboxFull as HasNoRoom}
 use Rattle.client.proofs.Syncs.Moving.{wrote_nothing}
 use Rattle.client.proofs.Syncs.Turning.{turns_on, turns_to_end, turns_unstored, turns_unwritten}

@@ -1,5 +1,5 @@
 -- A course, one reply later.
-use Rattle.std.proofs.Common.{List, Option, Some, [], ap, ap₂, refl, subst, sym, ℕ, ◌++◌, ◌∙◌, ◌∷◌, ◌≡◌, append_assoc}
+use Rattle.std.proofs.Common.{List, Some, [], ap, ap₂, sym, ◌++◌, ◌∙◌, ◌∷◌, ◌≡◌}
 use Rattle.relay_wire.specs.Replies.{Replied}
 use Rattle.relay_wire.specs.Requests.{Asked}
 use Rattle.sync_model.specs.Courses.{Course, as_list, course_of, read_one, begun}

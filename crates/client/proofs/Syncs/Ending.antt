@@ -1,31 +1,29 @@
 -- A sync ends with a round, or goes on after it.
-use Rattle.std.proofs.Common.{Err, List, Ok, Option, Result, Some, [], ap, inl, inr, refl, subst, sym, ℕ, ◌++◌, ◌∙◌, ◌∷◌, ◌≡◌, ◌⊎◌, append-nil}
+use Rattle.std.proofs.Common.{Err, List, Ok, Option, Some, [], ap, inl, inr, refl, subst, sym, ℕ, ◌++◌, ◌∙◌, ◌∷◌, ◌≡◌, append-nil}
 use Rattle.dr_base.specs.Causes.{Rose}
-use Rattle.dr_disk.specs.declared.call.Call.{Call}
 use Rattle.dr_disk.proofs.Steps.{quiet_twice}
 use Rattle.dr_ports.specs.Wires.{Port}
 use Rattle.dr_ports.specs.declared.pipe.Part.TheVariants.{Flow}
 use Rattle.relay_pipe.specs.Asking.{IsBroken, IsFaulty, IsReplied, cut, unread, fault_at, request_frame}
 use Rattle.relay_pipe.specs.Exchanging.{Exchanges}
 use Rattle.relay_pipe.specs.declared.faults.PeerFault.{PeerFault}
-use Rattle.relay_pipe.specs.declared.faults.PeerKind.{PeerKind}
 use Rattle.relay_pipe.specs.declared.faults.PeerKind.TheVariants.{Wrong}
 use Rattle.relay_pipe.proofs.Exchanged.{both}
 use Rattle.relay_wire.specs.Replies.{Replied}
 use Rattle.relay_wire.specs.Requests.{Asked}
 use Rattle.session_model.specs.Clients.{Client}
 use Rattle.sync_model.specs.Carried.{replied_bytes, request_bytes}
-use Rattle.sync_model.specs.Courses.{all_lines, as_list, course_of, last_line, made_requests}
+use Rattle.sync_model.specs.Courses.{as_list, course_of, last_line, made_requests}
 use Rattle.sync_model.specs.Moves.{Ending, Wait, asked_in, box_is_full, ended, inbox_full, move, no_such_box, over, wrong}
 use Rattle.sync_model.specs.Parties.{Party}
 use Rattle.sync_model.specs.declared.more.More.{More}
 use Rattle.sync_model.proofs.Reading.{bytes_last, lawful_last}
-use Rattle.client.specs.Syncing.Moments.{BrokenOff, Moment, Moved, Wrote, WroteBeginning}
-use Rattle.client.specs.Syncing.Rounds.{Hears, IsRound, IsStill, Turn, Turns, came_to_end, fault_in, goes_on, heard, stops, was_broken, was_unheard, was_unstored, was_unwritten, went_on}
+use Rattle.client.specs.Syncing.Moments.{Moment, Moved, Wrote, WroteBeginning}
+use Rattle.client.specs.Syncing.Rounds.{IsRound, IsStill, Turn, Turns, came_to_end, fault_in, goes_on, heard, stops, was_broken, was_unheard, was_unstored, was_unwritten, went_on}
 use Rattle.client.specs.Syncing.SoFar.{SoFar, Stands}
-use Rattle.client.specs.Syncing.Syncs.{Ends, IsCutOff, IsNoReply, IsOver, IsUnheard, IsUnstored, IsUnwritten, Syncs, is_cut, is_unread}
+use Rattle.client.specs.Syncing.Syncs.{Ends, IsCutOff, IsOver, IsUnheard, Syncs, is_cut, is_unread}
 use Rattle.client.specs.declared.syncing.faults.SyncFault.{SyncFault}
-use Rattle.client.specs.declared.syncing.faults.SyncFault.TheVariants.{Closed, Link, Peer, Refused, Store, Write}
+use Rattle.client.specs.declared.syncing.faults.SyncFault.TheVariants.{Peer, Refused, Write}
 use Rattle.client.specs.declared.syncing.faults.SyncRefusal.TheVariants.{BoxFull, InboxFull, Unknown}
 use Rattle.client.proofs.Syncs.Going.{lines_more, on, passed_more, passed_still, stands_more, talked_more, then, wrote_as, wrote_beginning, wrote_more}
 

@@ -1,43 +1,30 @@
 -- A sync goes on by one round, or ends with it.
-use Rattle.std.proofs.Common.{Bool, Err, List, None, Ok, Option, Result, Some, [], ap, ap₂, arith, inl, inr, length, refl, subst, sym, ℕ, ⊎_elim, ◌+◌, ◌++◌, ◌∙◌, ◌∷◌, ◌≡◌, ◌⊎◌, append_assoc, append-nil}
-use Rattle.std.specs.Prelude.{option_map}
-use Rattle.std.specs.List.{AllByRecursion}
+use Rattle.std.proofs.Common.{List, None, Option, Some, [], ap, length, refl, subst, sym, ℕ, ⊎_elim, ◌+◌, ◌++◌, ◌∙◌, ◌∷◌, ◌≡◌, append_assoc, append-nil}
 use Rattle.std.proofs.lemmas.List.{length_push}
 use Rattle.dr_base.specs.Causes.{Rose}
-use Rattle.dr_disk.specs.Bytes.{Torn}
-use Rattle.dr_disk.specs.Spans.{IsQuiet, Span}
+use Rattle.dr_disk.specs.Spans.{Span}
 use Rattle.dr_disk.specs.State.{DiskState}
-use Rattle.dr_disk.specs.declared.call.Call.{Call}
 use Rattle.dr_disk.proofs.Ranges.{torn_twice}
 use Rattle.dr_disk.proofs.Steps.{quiet_twice, spans, stays, widen}
 use Rattle.dr_ports.specs.Ports.{appended}
 use Rattle.dr_ports.specs.Wires.{Port}
-use Rattle.dr_ports.specs.Writing.{TookBeginning}
-use Rattle.dr_ports.specs.declared.pipe.Part.TheVariants.{Flow}
-use Rattle.relay_pipe.specs.Asking.{IsBroken, IsFaulty, IsReplied, cut, unread, fault_at, request_frame, reply_text}
+use Rattle.relay_pipe.specs.Asking.{IsReplied, request_frame, reply_text}
 use Rattle.relay_pipe.specs.Exchanging.{Exchanges}
-use Rattle.relay_pipe.specs.declared.faults.PeerFault.{PeerFault}
 use Rattle.relay_pipe.proofs.Exchanged.{both, nothing_yet}
-use Rattle.relay_wire.specs.Replies.{IsLawfulReplied, Replied}
+use Rattle.relay_wire.specs.Replies.{Replied}
 use Rattle.relay_wire.specs.Requests.{Asked}
 use Rattle.session_model.specs.Clients.{Client}
 use Rattle.session_record.specs.Record.{record_text}
-use Rattle.slot_store.specs.Slots.{recovered}
 use Rattle.slot_store.specs.Store.{IsOldOrNew, KeepsOutside}
 use Rattle.sync_model.specs.Carried.{replied_bytes, request_bytes}
-use Rattle.sync_model.specs.Courses.{all_lines, as_list, course_of, made_requests}
-use Rattle.sync_model.specs.Moves.{Ending, Move, Wait, asked_in, ended, fetching, move, over}
+use Rattle.sync_model.specs.Courses.{course_of}
+use Rattle.sync_model.specs.Moves.{Move, Wait, asked_in, fetching, move}
 use Rattle.sync_model.specs.Parties.{Party}
-use Rattle.sync_model.specs.declared.more.More.{More}
 use Rattle.sync_model.proofs.Reading.{bytes_last, lawful_last}
 use Rattle.client.specs.Clients.{IsReady, client_area}
 use Rattle.client.specs.Outcomes.{IsReplacing}
-use Rattle.client.specs.Syncing.Moments.{BrokenOff, Moment, Moved, Wrote, WroteBeginning}
-use Rattle.client.specs.Syncing.Rounds.{Hears, IsRound, IsStill, Turn, Turns, came_to_end, fault_in, goes_on, heard, stops, was_broken, was_unheard, was_unstored, was_unwritten, went_on}
+use Rattle.client.specs.Syncing.Moments.{Moment, Moved, Wrote, WroteBeginning}
 use Rattle.client.specs.Syncing.SoFar.{IsReached, Passed, SoFar, Stands, Talked}
-use Rattle.client.specs.Syncing.Syncs.{Ends, IsCutOff, IsNoReply, IsOver, IsUnheard, IsUnstored, IsUnwritten, Syncs, is_cut, is_unread}
-use Rattle.client.specs.declared.syncing.faults.SyncFault.{SyncFault}
-use Rattle.client.specs.declared.syncing.faults.SyncFault.TheVariants.{Closed, Link, Peer, Refused, Store, Write}
 use Rattle.client.proofs.Syncs.Courses.{IsAfter, after}
 use Rattle.client.proofs.Syncs.Moving.{wrote_nothing}
 

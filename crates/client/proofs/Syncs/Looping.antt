@@ -1,5 +1,5 @@
 -- The loops of a sync: which round comes next.
-use Rattle.std.proofs.Common.{Bool, List, None, Option, Some, [], ap, arith, false, refl, subst, sym, true, ℕ, ◌+◌, ◌<◌, ◌==◌, ◌∙◌, ◌∷◌, ◌≡◌}
+use Rattle.std.proofs.Common.{Bool, List, None, Some, [], ap, arith, false, refl, true, ℕ, ◌+◌, ◌<◌, ◌==◌, ◌∷◌, ◌≡◌}
 use Rattle.std.specs.Prelude.{if◌then◌else◌, slice_get}
 use Rattle.std.proofs.lemmas.Bool.Decides.{nat_tests}
 use Rattle.dr_ports.specs.Wires.{Port}
@@ -12,7 +12,7 @@ use Rattle.sync_model.specs.declared.more.More.{More}
 use Rattle.sync_model.specs.declared.more.More.TheVariants.{More as MoreStands}
 use Rattle.client.specs.Clients.{ClientNow, IsReady}
 use Rattle.client.specs.Syncing.Moments.{Moment}
-use Rattle.client.specs.Syncing.Rounds.{Hears, Idles, IsRound, Turn, Turns, goes_on, heard, was_broken, was_unheard, went_on}
+use Rattle.client.specs.Syncing.Rounds.{Hears, Idles, IsRound, Turn, goes_on, heard, was_broken, was_unheard, went_on}
 use Rattle.client.specs.Syncing.SoFar.{collecting}
 use Rattle.client.proofs.Syncs.Turning.{idle_turns, still_again}
 

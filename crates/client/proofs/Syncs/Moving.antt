@@ -1,8 +1,6 @@
 -- A step of a client, as a sync makes it.
-use Rattle.std.proofs.Common.{Bool, Err, List, None, Ok, Option, Result, Some, [], ap, false, inl, inr, refl, subst, sym, true, ℕ, ◌++◌, ◌∙◌, ◌≡◌, append-nil}
-use Rattle.std.specs.Prelude.{option_map}
+use Rattle.std.proofs.Common.{Err, List, None, Ok, Option, Result, Some, [], ap, refl, subst, sym, ℕ, ◌∙◌, ◌≡◌, append-nil}
 use Rattle.dr_disk.specs.State.{DiskState}
-use Rattle.dr_disk.specs.declared.call.Call.{Call}
 use Rattle.dr_disk.proofs.Steps.{stays}
 use Rattle.dr_model.specs.Machines.Steps.{Step, settled, step}
 use Rattle.dr_ports.specs.Ports.{appended}
@@ -12,7 +10,7 @@ use Rattle.session_model.specs.declared.answer.Refusal.{Refusal}
 use Rattle.session_record.specs.Record.{record_text}
 use Rattle.slot_store.specs.Store.{IsOldOrNew}
 use Rattle.client.specs.Clients.{ClientNow, IsReady, client_area}
-use Rattle.client.specs.Syncing.Moments.{IsMoved, IsTaken, Moment, Moved, Wrote}
+use Rattle.client.specs.Syncing.Moments.{IsMoved, IsTaken, Moment, Wrote}
 
 -- nothing was done
 pub still : (client : ClientNow) (disk : DiskState) → client.closed ≡ None → IsReady client.kept client.store disk

@@ -1,6 +1,6 @@
 -- The names of boxes are lawful.
-use Rattle.std.proofs.Common.{List, [], ap, arith, get_or, length, refl, sym, true, zero, suc, ℕ, ◌++◌, ◌/◌, ◌%◌, ◌<◌, ◌∙◌, ◌∷◌, ◌≡◌, length-append}
-use Rattle.std.specs.Prelude.{codes, nat_le, slice_index, ◌&&◌, IsSome, Option, Some, None}
+use Rattle.std.proofs.Common.{List, [], ap, arith, get_or, length, refl, true, zero, suc, ℕ, ◌++◌, ◌/◌, ◌%◌, ◌<◌, ◌∙◌, ◌∷◌, ◌≡◌, length-append}
+use Rattle.std.specs.Prelude.{codes, nat_le, slice_index, ◌&&◌}
 use Rattle.std.specs.List.{list_all}
 use Rattle.std.proofs.lemmas.List.Folds.{list_all-append}
 use Rattle.hex.specs.Hex.{encode_lower, encode_with, lower_digits}

@@ -1,12 +1,11 @@
 -- The oldest packet of an outbox.
-use Rattle.std.proofs.Common.{List, None, Option, Some, [], ap, arith, false, length, refl, sym, true, ℕ, ◌∙◌, ◌∷◌, ◌≡◌, ◌≤◌}
+use Rattle.std.proofs.Common.{List, None, Option, Some, [], ap, arith, false, length, true, ℕ, ◌∙◌, ◌∷◌, ◌≡◌, ◌≤◌}
 use Rattle.std.specs.Prelude.{IfSome, is_some, map, nat_le, slice_get, ◌&&◌}
 use Rattle.std.proofs.lemmas.Bool.Decides.{nat_tests}
 use Rattle.boxes.specs.Items.{Item}
 use Rattle.dr_base.specs.declared.limits.TheConstants.{PACKET_LIMIT}
 use Rattle.relay_wire.specs.Names.{is_packet}
 use Rattle.relay_wire.specs.declared.limits.TheConstants.{PACKET_LIMIT as MOST}
-use Rattle.client.specs.Syncing.Parties.{waiting}
 
 within : (n most : ℕ) → 1 ≤ n → n ≤ most → (nat_le 1 n && nat_le n most) ≡ true
 within n most from to = grind (arith, nat_tests)

@@ -1,13 +1,11 @@
 -- What is made of a reply.
-use Rattle.std.proofs.Common.{Bool, Err, List, None, Ok, Option, Result, Some, [], ap, cond, false, refl, subst, sym, true, ℕ, ◌+◌, ◌==◌, ◌∙◌, ◌∷◌, ◌≡◌}
+use Rattle.std.proofs.Common.{Bool, Err, List, None, Ok, Some, [], ap, false, refl, subst, sym, true, ℕ, ◌+◌, ◌==◌, ◌∙◌, ◌≡◌}
 use Rattle.std.specs.Prelude.{if◌then◌else◌}
 use Rattle.std.proofs.lemmas.Bool.Decides.{nat_tests}
 use Rattle.std.proofs.Common.{arith}
-use Rattle.dr_base.specs.Causes.{Rose}
 use Rattle.dr_disk.specs.declared.call.Call.{Call}
 use Rattle.dr_ports.specs.Wires.{Port}
-use Rattle.relay_pipe.specs.Asking.{IsReplied}
-use Rattle.relay_wire.specs.Replies.{Replied, acked, absent, box_full, item, unknown}
+use Rattle.relay_wire.specs.Replies.{Replied, acked, absent}
 use Rattle.relay_wire.specs.Requests.{Asked}
 use Rattle.relay_wire.specs.Seen.{replied_of}
 use Rattle.relay_wire.specs.declared.reply.Reply.{Reply}

@@ -1,12 +1,10 @@
 -- A sync in the worlds that the client stands for.
-use Rattle.std.proofs.Common.{Err, List, Ok, Result, Some, [], ap, refl, subst, sym, ℕ, ⊎_elim, ◌++◌, ◌∙◌, ◌∷◌, ◌≡◌}
+use Rattle.std.proofs.Common.{Err, List, Ok, Result, [], ap, refl, subst, ℕ, ⊎_elim, ◌++◌, ◌∙◌, ◌∷◌, ◌≡◌}
 use Rattle.dr_base.specs.declared.position.Side.{Side}
-use Rattle.dr_disk.specs.Spans.{Span}
 use Rattle.dr_disk.specs.State.{Always}
 use Rattle.dr_disk.proofs.Steps.{widen}
 use Rattle.dr_model.specs.Machines.Acts.{Act, act_in, act_on, kept_by, sending, taking}
 use Rattle.dr_model.specs.Machines.Steps.{Step, settled}
-use Rattle.dr_model.specs.Machines.WorldSides.{kept_in}
 use Rattle.dr_model.specs.Machines.Worlds.{World}
 use Rattle.dr_model.specs.Theorems.Acting.{IsFairAct}
 use Rattle.dr_model.specs.Theorems.Fairness.{IsUnforged}
@@ -14,13 +12,11 @@ use Rattle.dr_ports.specs.Wires.{Port}
 use Rattle.kem_laws.specs.Mechanism.{Mechanism}
 use Rattle.relay_wire.specs.Replies.{Replied}
 use Rattle.session_model.specs.Clients.{Client}
-use Rattle.session_model.specs.declared.answer.Answer.{Answer}
 use Rattle.sync_model.specs.Courses.{Course, begun, course_of, read_one}
 use Rattle.sync_model.specs.Parties.{Party}
-use Rattle.sync_model.specs.Simulation.{AreAlike, AreFairFrom, IsSameCourse, TookAlike}
+use Rattle.sync_model.specs.Simulation.{AreAlike, AreFairFrom, IsSameCourse}
 use Rattle.sync_model.specs.declared.more.More.{More}
 use Rattle.sync_model.proofs.Alike.{alike}
-use Rattle.client.specs.Clients.{IsReady}
 use Rattle.client.specs.Grounds.{Grounds}
 use Rattle.client.specs.InWorlds.{IsIn, StandsFor}
 use Rattle.client.specs.Syncing.InWorlds.{AreUnforged, IsKeptIn, IsReachedIn, LeadsTo, SyncsIn, course_in}

@@ -1,8 +1,8 @@
 -- A line after a prefix.
 use Rattle.std.proofs.Common.{Err, List, None, Ok, Option, Result, Some, ap, refl, subst, sym, ℕ, ◌++◌, ◌≤◌, ◌∙◌, ◌≡◌, append_assoc}
-use Rattle.dr_base.specs.Causes.{HasCause, Rose}
+use Rattle.dr_base.specs.Causes.{Rose}
 use Rattle.dr_ports.specs.Ports.{appended}
-use Rattle.dr_ports.specs.Writing.{TookBeginning, Writes}
+use Rattle.dr_ports.specs.Writing.{Writes}
 
 appended_twice : (told : Option (List ℕ)) (x y : List ℕ) → appended (appended told x) y ≡ appended told (x ++ y)
 appended_twice None x y = refl

@@ -1,5 +1,5 @@
 -- A sync in a world that the client stands for.
-use Rattle.std.specs.Prelude.{Err, List, Ok, Result, [], ◌++◌, ◌∷◌, ◌≡◌, ℕ}
+use Rattle.std.specs.Prelude.{Err, List, Result, [], ◌++◌, ◌∷◌, ◌≡◌, ℕ}
 use Rattle.dr_base.specs.declared.position.Side.{Side}
 use Rattle.dr_disk.specs.Spans.{Span}
 use Rattle.dr_disk.specs.State.{Always, DiskState}

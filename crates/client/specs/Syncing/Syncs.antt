@@ -9,7 +9,6 @@ use Rattle.dr_ports.specs.declared.pipe.Part.TheVariants.{Flow}
 use Rattle.relay_pipe.specs.Asking.{fault_at, peer_fault, request_frame}
 use Rattle.relay_pipe.specs.Exchanging.{Exchanges}
 use Rattle.relay_pipe.specs.declared.faults.PeerFault.{PeerFault}
-use Rattle.relay_pipe.specs.declared.faults.PeerKind.{PeerKind}
 use Rattle.relay_pipe.specs.declared.faults.PeerKind.TheVariants.{Ended}
 use Rattle.relay_wire.specs.Frames.{IsFrame, IsPartial}
 use Rattle.relay_wire.specs.Replies.{IsLawfulReplied, Replied, read_reply}
@@ -17,7 +16,7 @@ use Rattle.relay_wire.specs.Requests.{Asked}
 use Rattle.relay_wire.specs.declared.reply.BadReply.{BadReply}
 use Rattle.session_model.specs.Clients.{Client}
 use Rattle.sync_model.specs.Carried.{replied_bytes, request_bytes}
-use Rattle.sync_model.specs.Courses.{Course, all_lines, course_of, made_requests}
+use Rattle.sync_model.specs.Courses.{all_lines, course_of, made_requests}
 use Rattle.sync_model.specs.Moves.{Ending, asked_in, ended, over, waits_by}
 use Rattle.sync_model.specs.Parties.{Party}
 use Rattle.sync_model.specs.declared.more.More.{More}

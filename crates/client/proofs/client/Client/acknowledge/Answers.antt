@@ -1,6 +1,5 @@
-use Rattle.std.proofs.Common.{List, ap, ℕ, ◌∙◌, ◌≡◌}
-use Rattle.relay_wire.specs.Requests.{Asked, acks}
-use Rattle.relay_wire.specs.Seen.{replied_of}
+use Rattle.std.proofs.Common.{List, ap, ℕ, ◌∙◌}
+use Rattle.relay_wire.specs.Requests.{acks}
 use Rattle.client.specs.Syncing.Rounds.{Idles, turn_of}
 use Rattle.sync_model.specs.Moves.{acking, acknowledged, move}
 use Rattle.client.proofs.Syncs.Turning.{hears_fault, hears_reply}

@@ -1,12 +1,11 @@
 use Rattle.std.proofs.Common.{ap, arith, refl, subst, sym, ◌+◌, ◌∙◌}
 use Rattle.relay_wire.specs.Requests.{acks, fetches}
-use Rattle.session_model.specs.Clients.{Client}
 use Rattle.sync_model.specs.Moves.{acking, acknowledged, fetching, waits_by}
 use Rattle.sync_model.specs.declared.more.More.TheVariants.{End}
 use Rattle.client.specs.Clients.{ClientNow}
 use Rattle.client.specs.Syncing.Moments.{moment}
 use Rattle.client.specs.Syncing.Parties.{party_of, waiting}
-use Rattle.client.specs.Syncing.Rounds.{goes_on, stops, turn_of}
+use Rattle.client.specs.Syncing.Rounds.{goes_on, stops}
 use Rattle.client.specs.Syncing.SoFar.{SoFar, collecting}
 use Rattle.client.proofs.Syncs.Ending.{goes_round}
 use Rattle.client.proofs.Syncs.Going.{begins}

@@ -2,14 +2,14 @@ use Rattle.std.proofs.Common.{arith, refl, subst, sym}
 use Rattle.relay_wire.specs.Seen.{replied_of}
 use Rattle.relay_wire.specs.declared.reply.Reply.{Reply}
 use Rattle.relay_pipe.specs.declared.faults.PeerKind.TheVariants.{Wrong}
-use Rattle.sync_model.specs.Moves.{box_is_full, fetching, move, no_such_box, posting, waits_by}
+use Rattle.sync_model.specs.Moves.{fetching, move, no_such_box, waits_by}
 use Rattle.sync_model.specs.declared.more.More.TheVariants.{End}
 use Rattle.client.specs.Syncing.Moments.{moment}
 use Rattle.client.specs.Syncing.Parties.{party_of, waiting}
-use Rattle.client.specs.Syncing.Rounds.{Turns, fetched_as, goes_on, idles_on, idles_to_end, stops, turn_of}
+use Rattle.client.specs.Syncing.Rounds.{Turns, fetched_as, goes_on, idles_on, idles_to_end, stops}
 use Rattle.client.specs.declared.syncing.faults.SyncFault.TheVariants.{Peer, Refused}
-use Rattle.client.specs.declared.syncing.faults.SyncRefusal.TheVariants.{BoxFull, Unknown}
-use Rattle.client.proofs.Syncs.Turning.{fetched_wrong, idles_here, posted_wrong}
+use Rattle.client.specs.declared.syncing.faults.SyncRefusal.TheVariants.{Unknown}
+use Rattle.client.proofs.Syncs.Turning.{fetched_wrong, idles_here}
 use Rattle.client.proofs.client.Client.fetched.Goals as goal
 
 pub returns-in-Item-clause-turns : goal.returns-in-Item-clause-turns

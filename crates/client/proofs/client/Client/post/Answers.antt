@@ -1,12 +1,11 @@
-use Rattle.std.proofs.Common.{List, ap, subst, ℕ, ◌∙◌, ◌≡◌}
-use Rattle.relay_wire.specs.Replies.{Replied}
-use Rattle.relay_wire.specs.Requests.{Asked, fetches, posts}
+use Rattle.std.proofs.Common.{List, ap, subst, ℕ, ◌∙◌}
+use Rattle.relay_wire.specs.Requests.{posts}
 use Rattle.relay_wire.specs.Seen.{replied_of}
-use Rattle.sync_model.specs.Moves.{fetching, move, posting, waits_by}
+use Rattle.sync_model.specs.Moves.{move, posting, waits_by}
 use Rattle.client.specs.Clients.{ClientNow}
 use Rattle.client.specs.Syncing.Moments.{moment}
 use Rattle.client.specs.Syncing.Parties.{party_of, waiting}
-use Rattle.client.specs.Syncing.Rounds.{IsStill, Turn, Turns, fetched_as, turn_of}
+use Rattle.client.specs.Syncing.Rounds.{IsStill, Turns, turn_of}
 use Rattle.client.proofs.Syncs.Turning.{hears_fault, hears_reply, still_again}
 use Rattle.client.proofs.client.Client.post.Goals as goal
 

@@ -1,4 +1,4 @@
-use Rattle.std.proofs.Common.{arith, refl, subst, sym, ◌∙◌}
+use Rattle.std.proofs.Common.{arith, subst, sym, ◌∙◌}
 use Rattle.relay_wire.specs.Requests.{posts}
 use Rattle.sync_model.specs.Moves.{posting, waits_by}
 use Rattle.sync_model.specs.declared.more.More.TheVariants.{End}

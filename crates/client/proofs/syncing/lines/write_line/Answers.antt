@@ -1,4 +1,4 @@
-use Rattle.std.proofs.Common.{List, ap, sym, ℕ, ◌∙◌}
+use Rattle.std.proofs.Common.{ap, ◌∙◌}
 use Rattle.dr_ports.specs.Ports.{appended}
 use Rattle.client.proofs.Syncs.Written.{writes_behind, writes_as}
 use Rattle.client.proofs.syncing.lines.write_line.Goals as goal
