@@ -95,8 +95,8 @@ fn exchange<R: Clock + AllocGlobal, D: Disk, L: Link, A: Door>(
     times.add(rt, start)
 }
 
-/// Prints a line, and removes the file.
-pub fn report<R: Clock + Print + AllocGlobal + Files<File = File> + Net>(rt: &R) -> io::Result<()> {
+/// The median time of an exchange, in microseconds.
+fn time_exchange<R: Clock + AllocGlobal + Files<File = File> + Net>(rt: &R) -> io::Result<u64> {
     let mut disk = FileDisk::new(rt, RELAY, AREA, Sharing::Alone);
     let mut link = TcpLink::new(rt);
     let mut door = TcpDoor::new(rt);
@@ -107,9 +107,13 @@ pub fn report<R: Clock + Print + AllocGlobal + Files<File = File> + Net>(rt: &R)
     for number in 1..=RUNS {
         exchange(rt, &mut disk, &mut link, &mut door, number, &mut times)?;
     }
-    drop(disk);
+    Ok(times.median()? / 1000)
+}
+
+/// Prints a line, and removes the file.
+pub fn report<R: Clock + Print + AllocGlobal + Files<File = File> + Net>(rt: &R) -> io::Result<()> {
+    let each = time_exchange(rt)?;
     fs::remove_file(rt, RELAY)?;
-    let each = times.median()? / 1000;
     let bare = time_bare(rt, SLOT)?.saturating_mul(2);
     println!(rt;
         "a packet of 1,024 bytes posted, fetched and acknowledged over loopback, on a file: {each} us; its writes and syncs alone: {bare} us"

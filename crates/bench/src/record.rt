@@ -9,6 +9,7 @@ use kem_laws::Kem;
 use ratchet::Session;
 use session_record::{Change, RECORD_LIMIT, decode, encode};
 use sntrup761::Sntrup761;
+use std::alloc::Global;
 use std::io;
 use std::io::{Error, ErrorKind};
 use std::rt::Clock;
@@ -55,39 +56,83 @@ fn write<K: Kem>(session: &Session<K>, inbox: &Inbox, outbox: &Outbox, out: &mut
     encode(session.part(), inbox, outbox, &Change::Same, out)
 }
 
+/// A client with full boxes.
+#[derive(Drop)]
+struct Full<K: Kem> {
+    session: Session<K>,
+    inbox: Inbox,
+    outbox: Outbox,
+}
+
+/// Fills both boxes of a client, if the key has a pair.
+fn filled_client<K: Kem>(alloc: Global, work: &mut K::Work) -> io::Result<Full<K>> {
+    let mut inbox = Inbox::new(alloc)?;
+    let mut outbox = Outbox::new(alloc)?;
+    let Ok(mut session) = Session::<K>::begin(work, Side::First, &Key32 { bytes: [7; 32] }) else {
+        return Err(Error::from(ErrorKind::InvalidData));
+    };
+    fill_outbox(&mut session, work, &mut outbox);
+    fill_inbox(&mut inbox);
+    Ok(Full {
+        session,
+        inbox,
+        outbox,
+    })
+}
+
+/// The median time of writing a record, in nanoseconds, and its length.
+fn time_write<K: Kem, R: Clock + AllocGlobal>(
+    rt: &R,
+    client: &Full<K>,
+    out: &mut [u8],
+) -> io::Result<(u64, usize)> {
+    let mut len = 0;
+    let mut times = Times::new(rt.alloc());
+    for _ in 0..RUNS {
+        let start = Instant::now(rt)?;
+        len = write(&client.session, &client.inbox, &client.outbox, out);
+        times.add(rt, start)?;
+    }
+    Ok((times.median()?, len))
+}
+
+/// Reads a record into boxes of its own, and adds the time that this takes.
+fn read_once<K: Kem, R: Clock + AllocGlobal>(
+    rt: &R,
+    text: &[u8],
+    times: &mut Times,
+) -> io::Result<()> {
+    let mut texts = Inbox::new(rt.alloc())?;
+    let mut packets = Outbox::new(rt.alloc())?;
+    let start = Instant::now(rt)?;
+    let is_read = decode::<K>(text, &mut texts, &mut packets).is_ok();
+    times.add(rt, start)?;
+    if is_read {
+        Ok(())
+    } else {
+        Err(Error::from(ErrorKind::InvalidData))
+    }
+}
+
+/// The median time of reading a record, in nanoseconds.
+fn time_read<K: Kem, R: Clock + AllocGlobal>(rt: &R, text: &[u8]) -> io::Result<u64> {
+    let mut times = Times::new(rt.alloc());
+    for _ in 0..RUNS {
+        read_once::<K, R>(rt, text, &mut times)?;
+    }
+    times.median()
+}
+
 /// The median times of writing a record and of reading it, in nanoseconds, and its length.
 fn time_record<K: Kem, R: Clock + AllocGlobal>(
     rt: &R,
     work: &mut K::Work,
 ) -> io::Result<(u64, u64, usize)> {
-    let Ok(mut session) = Session::<K>::begin(work, Side::First, &Key32 { bytes: [7; 32] }) else {
-        return Err(Error::from(ErrorKind::InvalidData));
-    };
-    let mut inbox = Inbox::new(rt.alloc())?;
-    let mut outbox = Outbox::new(rt.alloc())?;
-    fill_outbox(&mut session, work, &mut outbox);
-    fill_inbox(&mut inbox);
+    let client = filled_client::<K>(rt.alloc(), work)?;
     let mut out = vec![in rt.alloc(); 0; RECORD_LIMIT]?;
-    let mut len = 0;
-    let mut written = Times::new(rt.alloc());
-    for _ in 0..RUNS {
-        let start = Instant::now(rt)?;
-        len = write(&session, &inbox, &outbox, &mut out);
-        written.add(rt, start)?;
-    }
-    let mut read = Times::new(rt.alloc());
-    for _ in 0..RUNS {
-        let mut texts = Inbox::new(rt.alloc())?;
-        let mut packets = Outbox::new(rt.alloc())?;
-        let text = out.get(..len).unwrap_or_default();
-        let start = Instant::now(rt)?;
-        let part = decode::<K>(text, &mut texts, &mut packets);
-        read.add(rt, start)?;
-        if part.is_err() {
-            return Err(Error::from(ErrorKind::InvalidData));
-        }
-    }
-    Ok((written.median()?, read.median()?, len))
+    let (written, len) = time_write(rt, &client, &mut out)?;
+    let read = time_read::<K, R>(rt, out.get(..len).unwrap_or_default())?;
+    Ok((written, read, len))
 }
 
 /// Prints a line.

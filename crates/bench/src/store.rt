@@ -70,33 +70,44 @@ fn time_store<R: Clock + AllocGlobal + Files<File = File>>(rt: &R, text: &[u8]) 
     Ok(times.median()? / 1000)
 }
 
-/// The median time of the writes and syncs with which a record in slots of this size is replaced, in microseconds.
+/// The writes and syncs with which a record in slots of this size is replaced.
+fn replace_bare(file: &File, body: &[u8], zeros: &[u8], slot: u64) -> io::Result<()> {
+    file.write_all_at(body, 1)?;
+    file.sync_data()?;
+    file.write_all_at(&[0xa5], 0)?;
+    file.sync_data()?;
+    file.write_all_at(&[0], slot)?;
+    file.sync_data()?;
+    file.write_all_at(zeros, slot.saturating_add(1))?;
+    file.sync_data()
+}
+
+/// The median time of that on a new file, in nanoseconds.
+fn time_bare_on<R: Clock + AllocGlobal>(rt: &R, file: &File, slot: usize) -> io::Result<u64> {
+    let body = vec![in rt.alloc(); 1; slot.saturating_sub(1)]?;
+    let zeros = vec![in rt.alloc(); 0; slot.saturating_sub(1)]?;
+    let mut times = Times::new(rt.alloc());
+    for _ in 0..RUNS {
+        let start = Instant::now(rt)?;
+        replace_bare(file, &body, &zeros, slot as u64)?;
+        times.add(rt, start)?;
+    }
+    times.median()
+}
+
+/// The same in microseconds, on a file that is made for it and removed.
 pub fn time_bare<R: Clock + AllocGlobal + Files<File = File>>(
     rt: &R,
     slot: usize,
 ) -> io::Result<u64> {
-    let body = vec![in rt.alloc(); 1; slot.saturating_sub(1)]?;
-    let zeros = vec![in rt.alloc(); 0; slot.saturating_sub(1)]?;
     let file = OpenOptions::new()
         .read(true)
         .write(true)
         .create(true)
         .open(rt, BARE)?;
-    let mut times = Times::new(rt.alloc());
-    for _ in 0..RUNS {
-        let start = Instant::now(rt)?;
-        file.write_all_at(&body, 1)?;
-        file.sync_data()?;
-        file.write_all_at(&[0xa5], 0)?;
-        file.sync_data()?;
-        file.write_all_at(&[0], slot as u64)?;
-        file.sync_data()?;
-        file.write_all_at(&zeros, (slot as u64).saturating_add(1))?;
-        file.sync_data()?;
-        times.add(rt, start)?;
-    }
+    let nanos = time_bare_on(rt, &file, slot)?;
     fs::remove_file(rt, BARE)?;
-    Ok(times.median()? / 1000)
+    Ok(nanos / 1000)
 }
 
 /// Prints a line, and removes the files.
