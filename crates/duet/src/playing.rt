@@ -99,7 +99,7 @@ fn tell<O: Sink>(side: Side, answer: Answer, tally: &mut Tally, out: &mut O) -> 
     }
 }
 
-/// PlaysDeed one event that no stop cuts off, counts its answer, and writes its lines.
+/// Plays one event that no stop cuts off, counts its answer, and writes its lines.
 #[tactic(auto, unfolding(crate::specs::Replies::reply_of))]
 fn play_line<K: Kem, O: Sink>(
     duet: &mut Duet<K>,
@@ -132,7 +132,7 @@ enum Cut {
     Write,
 }
 
-/// PlaysDeed one deed: counts its answer, and writes its lines. Gives both sides after it.
+/// Plays one deed: counts its answer, and writes its lines. Gives both sides after it.
 fn play_deed<K: Kem, O: Sink>(
     alloc: Global,
     duet: Duet<K>,
@@ -166,7 +166,7 @@ fn play_deed<K: Kem, O: Sink>(
     }
 }
 
-/// PlaysDeed a script over a mechanism: it writes the lines of each deed, with what both sides answer, and gives the run
+/// Plays a script over a mechanism: it writes the lines of each deed, with what both sides answer, and gives the run
 /// in numbers.
 pub fn play<K: Kem, O: Sink>(
     alloc: Global,
