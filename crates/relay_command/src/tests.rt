@@ -37,7 +37,7 @@ fn door(
     MemoryDoor::new(alloc, REQUESTS, &ends, 4096, fails, pipe_fails)
 }
 
-/// Whether the command ends with a status and wrote just these lines into so much room.
+/// Whether the command ends with a status and wrote just these lines into a sink of this room.
 fn ends(
     alloc: Global,
     disk: &mut MemoryDisk,
@@ -70,7 +70,7 @@ fn ends_over(
     ends(alloc, disk, &["a"], 1, &mut door, room, status, lines)
 }
 
-/// Whether the worked exchange is answered so, with the requests cut there, in so many connections.
+/// Whether the worked exchange is answered so, with the requests cut there, in this many connections.
 fn exchanges(alloc: Global, count: u32, cut: usize, lines: &[u8]) -> Result<bool, AllocError> {
     let mut disk = blank(alloc, RELAY_DISK_SIZE)?;
     let mut door = door(alloc, cut, &[], &[])?;
