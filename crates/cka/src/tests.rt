@@ -47,11 +47,11 @@ fn exchange(seed: &Key32) -> Outcome {
 #[test]
 fn both_sides_get_one_key(rt: HostRuntime) {
     let seed = Key32 { bytes: [2; 32] };
-    assert_eq!(rt; exchange(&seed), Outcome::Keys(KEY, KEY));
+    assert!(rt; exchange(&seed) == Outcome::Keys(KEY, KEY));
 }
 
 #[test]
 fn a_seed_without_pair_hands_the_caller_back(rt: HostRuntime) {
     let seed = Key32 { bytes: [0xff; 32] };
-    assert_eq!(rt; exchange(&seed), Outcome::Back(true));
+    assert!(rt; exchange(&seed) == Outcome::Back(true));
 }

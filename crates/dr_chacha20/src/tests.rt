@@ -18,7 +18,7 @@ fn writes_a_block(rt: HostRuntime) {
         0x8b, 0x02, 0xa2, 0xb5, 0x12, 0x9c, 0xd1, 0xde, 0x16, 0x4e, 0xb9, 0xcb, 0xd0, 0x83, 0xe8,
         0xa2, 0x50, 0x3c, 0x4e,
     ];
-    assert_eq!(rt; block(&KEY, 1, &nonce), expected);
+    assert!(rt; block(&KEY, 1, &nonce) == expected);
 }
 
 // 2.4.2: a block and a part of one
@@ -38,7 +38,7 @@ fn encrypts_a_text(rt: HostRuntime) {
         0x0b, 0x8e, 0xed, 0xf2, 0x78, 0x5e, 0x42, 0x87, 0x4d,
     ];
     xor_in_place(&KEY, 1, &nonce, &mut text);
-    assert_eq!(rt; text, expected);
+    assert!(rt; text == expected);
 }
 
 // A.1, vectors 1 and 2: two blocks side by side
@@ -57,5 +57,5 @@ fn begins_the_stream_of_zeros(rt: HostRuntime) {
         0xac, 0xe1, 0x0a, 0x1f, 0x4b, 0x79, 0x4d, 0x6f,
     ];
     xor_in_place(&[0; 32], 0, &[0; 12], &mut text);
-    assert_eq!(rt; text, expected);
+    assert!(rt; text == expected);
 }

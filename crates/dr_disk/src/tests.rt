@@ -42,11 +42,11 @@ fn disks_in_memory(rt: HostRuntime) -> Result<(), Fail> {
         let mut disk = MemoryDisk::new(alloc, 4)?;
         assert!(rt; works(&mut disk));
         disk.stop_after(0);
-        assert_eq!(rt; disk.size(), 4);
+        assert!(rt; disk.size() == 4);
         assert!(rt; disk.write_at(0, &[3, 4]).is_err());
         disk.go_on();
-        assert_eq!(rt; seen(&mut disk), [0, 5, 6, 0]);
-        assert_eq!(rt; seen(&mut disk.crash(mode)), left);
+        assert!(rt; seen(&mut disk) == [0, 5, 6, 0]);
+        assert!(rt; seen(&mut disk.crash(mode)) == left);
     }
     Ok(())
 }
@@ -56,7 +56,7 @@ fn adapter_file(rt: HostRuntime) -> Result<(), Fail> {
     fs::create_dir(&rt, "disk")?;
     let path = "disk/state";
     let mut looks = FileDisk::new(&rt, path, 4, Sharing::Alone);
-    assert_eq!(rt; seen(&mut looks), [0; 4]);
+    assert!(rt; seen(&mut looks) == [0; 4]);
     assert!(rt; looks.sync().is_ok());
     assert!(rt; !fs::exists(&rt, path)?);
     {
@@ -65,14 +65,11 @@ fn adapter_file(rt: HostRuntime) -> Result<(), Fail> {
         let mut waits = FileDisk::new(&rt, path, 4, Sharing::Alone);
         assert!(rt; waits.sync().is_err());
     }
-    assert_eq!(rt;
-        fs::metadata(&rt, path)?.permissions().mode() & 0o777,
-        0o600
-    );
+    assert!(rt; fs::metadata(&rt, path)?.permissions().mode() & 0o777 == 0o600);
     let mut reads = FileDisk::new(&rt, path, 4, Sharing::InTurn);
-    assert_eq!(rt; seen(&mut reads), [0, 5, 6, 0]);
+    assert!(rt; seen(&mut reads) == [0, 5, 6, 0]);
     let mut late = looks;
-    assert_eq!(rt; late.size(), 4);
+    assert!(rt; late.size() == 4);
     assert!(rt; late.write_at(0, &[1]).is_err());
     Ok(())
 }

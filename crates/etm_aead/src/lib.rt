@@ -12,7 +12,7 @@
 //! let tag: [u8; 32] = SealKey::from_message(Key32 { bytes: [7; 32] }).seal(b"to you", &mut message);
 //! let opened = OpenKey::from_message(Key32 { bytes: [7; 32] }).open(b"to you", &mut message, &tag);
 //! assert!(rt; opened.is_ok());
-//! assert_eq!(rt; message, *b"hi");
+//! assert!(rt; message == *b"hi");
 //! ```
 #![tactic(auto)]
 

@@ -88,13 +88,13 @@ fn hmac_vectors(rt: HostRuntime) {
         ),
     ];
     for (key, message, expected) in rows {
-        assert_eq!(rt; hmac(key, message), expected);
+        assert!(rt; hmac(key, message) == expected);
         let mut mac = Mac::new(key);
         for piece in message.chunks(20) {
             mac.update(piece);
         }
-        assert_eq!(rt; mac.finish(), expected);
-        assert_eq!(rt; KeyedMac::new(key).hmac(message), expected);
+        assert!(rt; mac.finish() == expected);
+        assert!(rt; KeyedMac::new(key).hmac(message) == expected);
     }
 }
 
@@ -152,11 +152,11 @@ fn hkdf_vectors(rt: HostRuntime) {
         ),
     ];
     for (ikm, salt, info, prk, okm) in rows {
-        assert_eq!(rt; extract(salt, ikm), prk);
+        assert!(rt; extract(salt, ikm) == prk);
         let mut out = [0u8; 82];
         assert!(rt; okm.len() <= out.len());
         expand_into(&prk, info, &mut out[..okm.len()]);
-        assert_eq!(rt; &out[..okm.len()], okm);
+        assert!(rt; &out[..okm.len()] == okm);
     }
 }
 
@@ -165,13 +165,13 @@ fn hkdf_vectors(rt: HostRuntime) {
 fn longest_output(rt: HostRuntime) {
     let mut out = [0u8; 8160];
     expand_into(&extract(b"", &[0x0b; 22]), b"", &mut out);
-    assert_eq!(rt;
-        &out[8128..],
-        [
-            0xc0, 0x81, 0x47, 0x6d, 0x20, 0x12, 0x26, 0xdb, 0xc6, 0xc1, 0xcc, 0x80, 0xde, 0x7d,
-            0x39, 0x09, 0xde, 0x02, 0x63, 0x41, 0x26, 0xd2, 0xe5, 0x7f, 0x47, 0xaa, 0xe9, 0xcd,
-            0x77, 0x99, 0x3e, 0xa6
-        ]
-        .as_slice()
+    assert!(rt;
+        &out[8128..]
+            == [
+                0xc0, 0x81, 0x47, 0x6d, 0x20, 0x12, 0x26, 0xdb, 0xc6, 0xc1, 0xcc, 0x80, 0xde, 0x7d,
+                0x39, 0x09, 0xde, 0x02, 0x63, 0x41, 0x26, 0xd2, 0xe5, 0x7f, 0x47, 0xaa, 0xe9, 0xcd,
+                0x77, 0x99, 0x3e, 0xa6
+            ]
+            .as_slice()
     );
 }

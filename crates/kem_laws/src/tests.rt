@@ -33,18 +33,15 @@ fn values(rt: HostRuntime) {
     let mut secret = [0; 32];
     let mut ciphertext = [0; 32];
     let seed = counting(0);
-    assert_eq!(rt; OpenKem::work(rt.alloc()), Ok(()));
-    assert_eq!(rt;
-        OpenKem::pair(&mut (), &seed, &mut public, &mut secret),
-        Ok(())
-    );
+    assert!(rt; OpenKem::work(rt.alloc()) == Ok(()));
+    assert!(rt; OpenKem::pair(&mut (), &seed, &mut public, &mut secret) == Ok(()));
     let key = OpenKem::encap(&mut (), &public, &counting(32), &mut ciphertext);
     let same = OpenKem::decap(&mut (), &secret, &ciphertext);
-    assert_eq!(rt; public, PUBLIC);
-    assert_eq!(rt; secret, seed.bytes);
-    assert_eq!(rt; ciphertext, CIPHERTEXT);
-    assert_eq!(rt; key.bytes, SHARED);
-    assert_eq!(rt; same.bytes, SHARED);
+    assert!(rt; public == PUBLIC);
+    assert!(rt; secret == seed.bytes);
+    assert!(rt; ciphertext == CIPHERTEXT);
+    assert!(rt; key.bytes == SHARED);
+    assert!(rt; same.bytes == SHARED);
 }
 
 #[test]
@@ -52,10 +49,7 @@ fn no_pair(rt: HostRuntime) {
     let mut public = [1; 32];
     let mut secret = [2; 32];
     let seed = Key32 { bytes: [0xff; 32] };
-    assert_eq!(rt;
-        OpenKem::pair(&mut (), &seed, &mut public, &mut secret),
-        Err(NoPair)
-    );
-    assert_eq!(rt; public, [1; 32]);
-    assert_eq!(rt; secret, [2; 32]);
+    assert!(rt; OpenKem::pair(&mut (), &seed, &mut public, &mut secret) == Err(NoPair));
+    assert!(rt; public == [1; 32]);
+    assert!(rt; secret == [2; 32]);
 }

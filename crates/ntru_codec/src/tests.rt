@@ -9,18 +9,18 @@ use crate::{
 #[tactic(auto, unfolding(crate::specs::Coding::encoded_length, crate::specs::Coding::length_in, crate::specs::Levels::pair_length, crate::specs::Levels::next_limits, crate::specs::Numbers::bytes_out, crate::specs::Numbers::limit_after))]
 fn lists(rt: HostRuntime) {
     let mut out = [9; 5];
-    assert_eq!(rt; encode(&[0, 1], &[4591, 4591], &mut out), 4);
-    assert_eq!(rt; out, [0xef, 0x11, 0, 0, 9]);
+    assert!(rt; encode(&[0, 1], &[4591, 4591], &mut out) == 4);
+    assert!(rt; out == [0xef, 0x11, 0, 0, 9]);
     let mut values = [0; 2];
     decode(&[0xef, 0x11, 0, 0], &[4591, 4591], &mut values);
-    assert_eq!(rt; values, [0, 1]);
+    assert!(rt; values == [0, 1]);
 
-    assert_eq!(rt; encode(&[4590], &[4591], &mut out), 2);
-    assert_eq!(rt; out, [0xee, 0x11, 0, 0, 9]);
+    assert!(rt; encode(&[4590], &[4591], &mut out) == 2);
+    assert!(rt; out == [0xee, 0x11, 0, 0, 9]);
 
     let limits = [1, 16383, 2, 256, 16383];
-    assert_eq!(rt; encode(&[0, 16382, 1, 255, 5], &limits, &mut out), 5);
-    assert_eq!(rt; out, [0xff, 0xfd, 0xff, 0x02, 0x00]);
+    assert!(rt; encode(&[0, 16382, 1, 255, 5], &limits, &mut out) == 5);
+    assert!(rt; out == [0xff, 0xfd, 0xff, 0x02, 0x00]);
 }
 
 #[test]
@@ -28,8 +28,8 @@ fn small_zero(rt: HostRuntime) {
     let mut bytes = [0x55; 191];
     bytes[190] = 1;
     if let Ok(a) = small_decode(&bytes) {
-        assert_eq!(rt; a.coefficients, [0; 761]);
-        assert_eq!(rt; small_encode(&a), bytes);
+        assert!(rt; a.coefficients == [0; 761]);
+        assert!(rt; small_encode(&a) == bytes);
     } else {
         assert!(rt; false);
     }
@@ -41,7 +41,7 @@ fn small_bad(rt: HostRuntime) {
         let mut bytes = [0x55; 191];
         bytes[190] = 1;
         bytes[at] = byte;
-        assert_eq!(rt; small_decode(&bytes).err(), Some(BadSmall { at }));
+        assert!(rt; small_decode(&bytes).err() == Some(BadSmall { at }));
     }
 }
 
@@ -61,9 +61,9 @@ fn element(rt: HostRuntime) {
         bytes[i] = ((i * i + 3 * i) % 251) as u8;
     }
     let a = rq_decode(&bytes);
-    assert_eq!(rt; &a.coefficients[..4], &[192, 1616, 1128, -1010][..]);
-    assert_eq!(rt; &a.coefficients[757..], &[1517, -66, 1990, 1356][..]);
-    assert_eq!(rt; checksum(&rq_encode(&a)), 3_617_342_803);
+    assert!(rt; &a.coefficients[..4] == &[192, 1616, 1128, -1010][..]);
+    assert!(rt; &a.coefficients[757..] == &[1517, -66, 1990, 1356][..]);
+    assert!(rt; checksum(&rq_encode(&a)) == 3_617_342_803);
 }
 
 #[test]
@@ -73,7 +73,7 @@ fn rounded_element(rt: HostRuntime) {
         bytes[i] = ((i * i + 3 * i) % 251) as u8;
     }
     let a = rounded_decode(&bytes);
-    assert_eq!(rt; &a.coefficients[..4], &[1389, 285, -276, -204][..]);
-    assert_eq!(rt; &a.coefficients[757..], &[765, -741, -1491, 1113][..]);
-    assert_eq!(rt; checksum(&rounded_encode(&a)), 4_030_667_014);
+    assert!(rt; &a.coefficients[..4] == &[1389, 285, -276, -204][..]);
+    assert!(rt; &a.coefficients[757..] == &[765, -741, -1491, 1113][..]);
+    assert!(rt; checksum(&rounded_encode(&a)) == 4_030_667_014);
 }

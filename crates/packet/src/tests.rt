@@ -17,20 +17,17 @@ const TAG: [u8; 32] = [7; 32];
 #[test]
 fn writes_and_lends_the_first_packet(rt: HostRuntime) -> Result<(), Fail> {
     let mut ad = [0; 33];
-    assert_eq!(rt; write_ad(&SESSION, FIRST, 0, &[], 2, &mut ad), 33);
-    assert_eq!(rt; ad, AD);
+    assert!(rt; write_ad(&SESSION, FIRST, 0, &[], 2, &mut ad) == 33);
+    assert!(rt; ad == AD);
     let mut bytes = [0; 67];
-    assert_eq!(rt;
-        write_into(&SESSION, FIRST, 0, &[], b"hi", &TAG, &mut bytes),
-        67
-    );
+    assert!(rt; write_into(&SESSION, FIRST, 0, &[], b"hi", &TAG, &mut bytes) == 67);
     let view = parse(&bytes, 64)?;
-    assert_eq!(rt; view.ad(), AD.as_slice());
-    assert_eq!(rt; view.session(), &SESSION);
-    assert_eq!(rt; (view.epoch(), view.previous(), view.index()), (0, 0, 1));
-    assert_eq!(rt; view.agreement().len(), 0);
-    assert_eq!(rt; view.ciphertext(), b"hi".as_slice());
-    assert_eq!(rt; view.tag(), &TAG);
+    assert!(rt; view.ad() == AD.as_slice());
+    assert!(rt; view.session() == &SESSION);
+    assert!(rt; (view.epoch(), view.previous(), view.index()) == (0, 0, 1));
+    assert!(rt; view.agreement().len() == 0);
+    assert!(rt; view.ciphertext() == b"hi".as_slice());
+    assert!(rt; view.tag() == &TAG);
     grammar();
     Ok(())
 }
@@ -56,9 +53,6 @@ fn finds_the_first_fault(rt: HostRuntime) {
         let _len = write_into(&SESSION, FIRST, 0, &[], b"hi", &TAG, &mut bytes);
         assert!(rt; len <= 68 && place <= 64 && new.len() <= 4);
         let _end = put(&mut bytes, place, new);
-        assert_eq!(rt;
-            parse(&bytes[..len], 64).err(),
-            Some(Malformed { at, kind })
-        );
+        assert!(rt; parse(&bytes[..len], 64).err() == Some(Malformed { at, kind }));
     }
 }

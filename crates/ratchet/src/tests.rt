@@ -65,19 +65,36 @@ fn sessions() -> Result<(Session<OpenKem>, Session<OpenKem>), NoPair> {
     Ok((first, second))
 }
 
+/// Whether the text that one side says is the one that the other takes.
+fn passes(
+    from: &mut Session<OpenKem>,
+    to: &mut Session<OpenKem>,
+    text: &[u8],
+    byte: u8,
+) -> Result<bool, Refusal> {
+    let packet = say(from, text, byte)?;
+    Ok(take(to, &packet)?.as_slice() == text)
+}
+
+/// Whether the later of two texts of First's is taken before the first, and each once.
+fn passes_late(
+    first: &mut Session<OpenKem>,
+    second: &mut Session<OpenKem>,
+) -> Result<bool, Refusal> {
+    let late = say(first, b"late", 1)?;
+    let soon = say(first, b"soon", 0)?;
+    let are_taken = take(second, &soon)?.as_slice() == b"soon".as_slice()
+        && take(second, &late)?.as_slice() == b"late".as_slice();
+    let spent = Refusal::Spent(Position { epoch: 1, index: 1 });
+    Ok(are_taken && take(second, &late).err() == Some(spent))
+}
+
 #[test]
 fn texts_come_once_and_in_every_order(rt: HostRuntime) -> Result<(), Fail> {
     let (mut first, mut second) = sessions()?;
-    let hello = say(&mut second, b"hello", 0)?;
-    assert_eq!(rt; take(&mut first, &hello)?.as_slice(), b"hello".as_slice());
-    let late = say(&mut first, b"late", 1)?;
-    let soon = say(&mut first, b"soon", 0)?;
-    assert_eq!(rt; take(&mut second, &soon)?.as_slice(), b"soon".as_slice());
-    assert_eq!(rt; take(&mut second, &late)?.as_slice(), b"late".as_slice());
-    let spent = Refusal::Spent(Position { epoch: 1, index: 1 });
-    assert_eq!(rt; take(&mut second, &late).err(), Some(spent));
-    let answer = say(&mut second, b"answer", 2)?;
-    assert_eq!(rt; take(&mut first, &answer)?.as_slice(), b"answer".as_slice());
+    assert!(rt; passes(&mut second, &mut first, b"hello", 0)?);
+    assert!(rt; passes_late(&mut first, &mut second)?);
+    assert!(rt; passes(&mut second, &mut first, b"answer", 2)?);
     Ok(())
 }
 
@@ -89,31 +106,33 @@ fn previous_of(packet: &Packet) -> Option<u32> {
     }
 }
 
+/// Whether both sides' texts are taken, where each was said before the other's came.
+fn cross(first: &mut Session<OpenKem>, second: &mut Session<OpenKem>) -> Result<bool, Refusal> {
+    let a = say(first, b"a", 1)?;
+    let b = say(second, b"b", 0)?;
+    Ok(
+        take(second, &a)?.as_slice() == b"a".as_slice()
+            && take(first, &b)?.as_slice() == b"b".as_slice(),
+    )
+}
+
 #[test]
 fn texts_that_cross_are_counted(rt: HostRuntime) -> Result<(), Fail> {
     let (mut first, mut second) = sessions()?;
-    let a = say(&mut first, b"a", 1)?;
-    let b = say(&mut second, b"b", 0)?;
-    assert_eq!(rt; take(&mut second, &a)?.as_slice(), b"a".as_slice());
-    assert_eq!(rt; take(&mut first, &b)?.as_slice(), b"b".as_slice());
-    let c = say(&mut second, b"c", 2)?;
+    assert!(rt; cross(&mut first, &mut second)?);
     // the packet 2.1, before which Second said one text
-    assert_eq!(rt; previous_of(&c), Some(1));
-    assert_eq!(rt; take(&mut first, &c)?.as_slice(), b"c".as_slice());
+    let c = say(&mut second, b"c", 2)?;
+    assert!(rt; previous_of(&c) == Some(1));
+    assert!(rt; take(&mut first, &c)?.as_slice() == b"c".as_slice());
     Ok(())
 }
 
 #[test]
 fn what_has_no_pair_is_handed_back(rt: HostRuntime) -> Result<(), Fail> {
     let (mut first, mut second) = sessions()?;
-    let hello = say(&mut second, b"hello", 0)?;
-    let _text = take(&mut first, &hello)?;
-    assert_eq!(rt; say(&mut first, b"lost", 255).err(), Some(Refusal::NoPair));
-    let answer = say(&mut first, b"answer", 1)?;
-    assert_eq!(rt;
-        take(&mut second, &answer)?.as_slice(),
-        b"answer".as_slice()
-    );
+    assert!(rt; passes(&mut second, &mut first, b"hello", 0)?);
+    assert!(rt; say(&mut first, b"lost", 255).err() == Some(Refusal::NoPair));
+    assert!(rt; passes(&mut first, &mut second, b"answer", 1)?);
     Ok(())
 }
 
@@ -161,7 +180,7 @@ fn last_session() -> Session<OpenKem> {
 
 #[test]
 fn ends_are_refused(rt: HostRuntime) -> Result<(), Fail> {
-    assert_eq!(rt; full_session().send_check(1), Err(SendRefusal::EpochFull));
-    assert_eq!(rt; last_session().send_check(1), Err(SendRefusal::LastEpoch));
+    assert!(rt; full_session().send_check(1) == Err(SendRefusal::EpochFull));
+    assert!(rt; last_session().send_check(1) == Err(SendRefusal::LastEpoch));
     Ok(())
 }

@@ -71,7 +71,7 @@ fn a_connection_in_any_pieces(rt: HostRuntime) -> Result<(), Fail> {
         if front {
             let _end = answer_piece(&mut relay, &mut reader, &REQUESTS[cut..], &mut replies)?;
         }
-        assert_eq!(rt; replies.as_slice(), REPLIES);
+        assert!(rt; replies.as_slice() == REPLIES);
     }
     Ok(())
 }
@@ -98,7 +98,7 @@ fn a_record_and_its_faults(rt: HostRuntime) -> Result<(), Fail> {
         text[..23].copy_from_slice(RECORD);
         assert!(rt; len <= 24 && place < 24);
         text[place] = byte;
-        assert_eq!(rt; check_box(&text[..len]), Err(at));
+        assert!(rt; check_box(&text[..len]) == Err(at));
     }
     Ok(())
 }
@@ -140,7 +140,7 @@ fn a_box_from_its_record(rt: HostRuntime) -> Result<(), Fail> {
     let mut out = vec![in rt.alloc(); 0; RECORD_LIMIT]?;
     let found = loads(rt.alloc(), RECORD, out.as_mut_slice())?;
     let len = RECORD.len();
-    assert_eq!(rt; found, Some((Loaded::OtherName, Loaded::Taken, len)));
-    assert_eq!(rt; out.get(..len), Some(RECORD));
+    assert!(rt; found == Some((Loaded::OtherName, Loaded::Taken, len)));
+    assert!(rt; out.get(..len) == Some(RECORD));
     Ok(())
 }

@@ -72,10 +72,10 @@ fn a_worked_connection_in_two(rt: HostRuntime) -> Result<(), Fail> {
     let mut disk = blank(rt.alloc())?;
     let (front, back) = REQUESTS.split_at(16);
     let first = serve(rt.alloc(), &mut disk, front, &mut sent)?;
-    assert_eq!(rt; first, Ok(Ended { answered: 3 }));
+    assert!(rt; first == Ok(Ended { answered: 3 }));
     let next = serve(rt.alloc(), &mut disk, back, &mut sent)?;
-    assert_eq!(rt; next, Ok(Ended { answered: 5 }));
-    assert_eq!(rt; sent.as_slice(), REPLIES);
+    assert!(rt; next == Ok(Ended { answered: 5 }));
+    assert!(rt; sent.as_slice() == REPLIES);
     Ok(())
 }
 
@@ -94,7 +94,7 @@ fn a_post_that_is_stopped(rt: HostRuntime) -> Result<(), Fail> {
         let mut left = disk.crash(Mode::New);
         sent.clear();
         let _ended = serve(rt.alloc(), &mut left, FETCH, &mut sent)?;
-        assert_eq!(rt; sent.as_slice(), if stands { ITEM } else { EMPTY });
+        assert!(rt; sent.as_slice() == if stands { ITEM } else { EMPTY });
     }
     Ok(())
 }
@@ -104,25 +104,22 @@ fn openings_that_are_refused(rt: HostRuntime) -> Result<(), Fail> {
     let mut disk = blank(rt.alloc())?;
     assert!(rt; open(rt.alloc(), &mut disk, b"b").is_ok());
     let other = open(rt.alloc(), &mut disk, b"a").err();
-    assert_eq!(rt; other, Some(ServerOpenError::BoxName { k: 0 }));
+    assert!(rt; other == Some(ServerOpenError::BoxName { k: 0 }));
     assert!(rt; disk.size() > 262_145);
     assert!(rt; disk.write_at(0, b"\xa5\x01").is_ok());
     assert!(rt; disk.size() > 262_145);
     assert!(rt; disk.write_at(262_144, b"\xa5\x01").is_ok());
     let damaged = open(rt.alloc(), &mut disk, b"b").err();
-    assert_eq!(rt;
-        damaged,
-        Some(ServerOpenError::Damaged {
-            area: 0,
-            slot: 1,
-            at: 1
-        })
+    assert!(rt;
+        damaged
+            == Some(ServerOpenError::Damaged {
+                area: 0,
+                slot: 1,
+                at: 1
+            })
     );
     disk.stop_after(0);
     let stopped = open(rt.alloc(), &mut disk, b"b").err();
-    assert_eq!(rt;
-        stopped,
-        Some(ServerOpenError::StoreFault { call: Call::Sync })
-    );
+    assert!(rt; stopped == Some(ServerOpenError::StoreFault { call: Call::Sync }));
     Ok(())
 }

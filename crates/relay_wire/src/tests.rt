@@ -39,9 +39,9 @@ fn requests_are_read_and_written(rt: HostRuntime) -> Result<(), Fail> {
         match parse_request(&frame) {
             Ok(request) => {
                 let len = write_request(&request, &mut out);
-                assert_eq!(rt; (kind, out.get(..len)), (0, Some(bytes)));
+                assert!(rt; (kind, out.get(..len)) == (0, Some(bytes)));
             }
-            Err(bad) => assert_eq!(rt; bad, Bad { kind }),
+            Err(bad) => assert!(rt; bad == Bad { kind }),
         }
     }
     assert!(rt; Name::new(b"").is_none() && Name::new(b"a-9").is_some());
@@ -73,9 +73,9 @@ fn replies_are_read_and_written(rt: HostRuntime) -> Result<(), Fail> {
         match parse_reply(&frame) {
             Ok(reply) => {
                 let len = write_reply(&reply, &mut out);
-                assert_eq!(rt; (bad, out.get(..len)), (None, Some(bytes)));
+                assert!(rt; (bad, out.get(..len)) == (None, Some(bytes)));
             }
-            Err(reason) => assert_eq!(rt; bad, Some(reason)),
+            Err(reason) => assert!(rt; bad == Some(reason)),
         }
     }
     Ok(())

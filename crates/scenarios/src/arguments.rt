@@ -49,9 +49,9 @@ fn runs_over_std(rt: HostRuntime) -> Result<(), Fail> {
     let mut bytes = [0; 86];
     let mut out = WriterSink::new(Cursor::new(bytes.as_mut_slice()));
     let status = run_given(alloc, Ok(arguments.into_iter()), &mut source, &mut out)?;
-    assert_eq!(rt; status.code, 0);
+    assert!(rt; status.code == 0);
     drop(out);
-    assert_eq!(rt; bytes.as_slice(), HELLO_TRACE);
+    assert!(rt; bytes.as_slice() == HELLO_TRACE);
     Ok(())
 }
 
@@ -64,8 +64,8 @@ fn asks_for_words(rt: HostRuntime) -> Result<(), Fail> {
     for (kind, status) in cases {
         let unread = Err(io::Error::from(kind));
         let ended = run_given(alloc, unread, &mut source, &mut out)?;
-        assert_eq!(rt; ended.code, status);
+        assert!(rt; ended.code == status);
     }
-    assert_eq!(rt; out.taken(), b"usage\nno memory\n".as_slice());
+    assert!(rt; out.taken() == b"usage\nno memory\n".as_slice());
     Ok(())
 }

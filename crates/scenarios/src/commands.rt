@@ -108,6 +108,22 @@ pub fn is_answered<D: Disk>(
     Ok(code == status && written.as_slice() == lines)
 }
 
+/// Whether it writes the lines of each row to the row's words, with the row's status.
+pub fn are_answered<D: Disk>(
+    alloc: Global,
+    disk: &mut D,
+    network: &mut Network,
+    text: &[u8],
+    rows: &[(&str, u8, &[u8])],
+) -> Result<bool, AllocError> {
+    for &(words, status, lines) in rows {
+        if !is_answered(alloc, words, disk, network, text, status, lines)? {
+            return Ok(false);
+        }
+    }
+    Ok(true)
+}
+
 #[test]
 fn keeps_a_session(rt: HostRuntime) -> Result<(), Fail> {
     let mut disk = MemoryDisk::new(rt.alloc(), DISK_SIZE)?;
@@ -189,31 +205,23 @@ fn packet_of_second(alloc: Global, network: &mut Network) -> Result<Vec<u8>, Fai
     }
 }
 
-#[test]
-fn carries_a_packet(rt: HostRuntime) -> Result<(), Fail> {
-    let alloc = rt.alloc();
-    let mut network = Network::new(alloc, b"", b"")?;
-    let packet = packet_of_second(alloc, &mut network)?;
+/// Whether First, on a new disk, takes a packet once, shows its text, and is done with it.
+fn is_carried(alloc: Global, network: &mut Network, packet: &[u8]) -> Result<bool, AllocError> {
     let mut disk = MemoryDisk::new(alloc, DISK_SIZE)?;
-    assert!(rt; answers(alloc, &mut disk, FIRST)?);
     let rows: [(&str, u8, &[u8]); 4] = [
         ("take", 0, b"opened 0.1\n"),
         ("take", 3, b"refused: Spent 0.1\n"),
         ("inbox", 0, b"0.1 \"-\\x22hi\\x5c\"\n"),
         ("done|1", 0, b"done 1\n"),
     ];
-    for (words, status, lines) in rows {
-        assert!(rt;
-            is_answered(
-                alloc,
-                words,
-                &mut disk,
-                &mut network,
-                packet.as_slice(),
-                status,
-                lines
-            )?
-        );
-    }
+    Ok(answers(alloc, &mut disk, FIRST)? && are_answered(alloc, &mut disk, network, packet, &rows)?)
+}
+
+#[test]
+fn carries_a_packet(rt: HostRuntime) -> Result<(), Fail> {
+    let alloc = rt.alloc();
+    let mut network = Network::new(alloc, b"", b"")?;
+    let packet = packet_of_second(alloc, &mut network)?;
+    assert!(rt; is_carried(alloc, &mut network, packet.as_slice())?);
     Ok(())
 }

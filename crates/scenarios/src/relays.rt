@@ -1,19 +1,15 @@
 //! The commands that meet a relay, over links and doors in memory.
 
-use crate::commands::{answers_over, is_answered};
+use crate::commands::{answers_over, are_answered};
 use crate::running::Network;
 use dr_disk::SteadyDisk;
 use messenger_cli::DISK_SIZE;
+use std::alloc::{AllocError, Global};
 use std::test::Fail;
 
-#[test]
-fn serves_a_relay(rt: HostRuntime) -> Result<(), Fail> {
-    let alloc = rt.alloc();
+/// Whether the program serves the box `a` to the one connection that there is.
+fn is_served(alloc: Global, network: &mut Network) -> Result<bool, AllocError> {
     let mut disk = SteadyDisk::new(alloc, DISK_SIZE)?;
-    // fetch, post, fetch and acknowledge
-    let asked =
-        b"\x00\x03\x02\x01a\x00\x04\x01\x01a\x07\x00\x03\x02\x01a\x00\x0b\x03\x01a\x00\x00\x00\x00\x00\x00\x00\x01";
-    let mut network = Network::new(alloc, b"", asked)?;
     let rows: [(&str, u8, &[u8]); 4] = [
         ("relay|4000|1|a|a", 3, b"refused: BadBox 2\n"),
         ("relay|4000|1|a", 0, b"relay 4000\nconnection 1 ended 4\n"),
@@ -24,12 +20,19 @@ fn serves_a_relay(rt: HostRuntime) -> Result<(), Fail> {
             b"relay 4000\nconnection 1 ended 0\nconnection 2 ended 0\n",
         ),
     ];
-    for (words, status, lines) in rows {
-        assert!(rt; is_answered(alloc, words, &mut disk, &mut network, b"", status, lines)?);
-    }
-    assert_eq!(rt;
-        network.door.sent(),
-        b"\x00\x01\x83\x00\x09\x81\x00\x00\x00\x00\x00\x00\x00\x01\x00\x0a\x82\x00\x00\x00\x00\x00\x00\x00\x01\x07\x00\x01\x84".as_slice()
+    are_answered(alloc, &mut disk, network, b"", &rows)
+}
+
+#[test]
+fn serves_a_relay(rt: HostRuntime) -> Result<(), Fail> {
+    // fetch, post, fetch and acknowledge
+    let asked =
+        b"\x00\x03\x02\x01a\x00\x04\x01\x01a\x07\x00\x03\x02\x01a\x00\x0b\x03\x01a\x00\x00\x00\x00\x00\x00\x00\x01";
+    let mut network = Network::new(rt.alloc(), b"", asked)?;
+    assert!(rt; is_served(rt.alloc(), &mut network)?);
+    assert!(rt;
+        network.door.sent()
+            == b"\x00\x01\x83\x00\x09\x81\x00\x00\x00\x00\x00\x00\x00\x01\x00\x0a\x82\x00\x00\x00\x00\x00\x00\x00\x01\x07\x00\x01\x84".as_slice()
     );
     Ok(())
 }

@@ -85,12 +85,9 @@ fn answers_scripts(rt: HostRuntime) -> Result<(), Fail> {
                 count = count.wrapping_add(1);
             }
         }
-        assert_eq!(rt; count, held);
+        assert!(rt; count == held);
     }
-    assert_eq!(rt;
-        outcome(alloc, &mut network, HELLO, &[], &[], 4096, HELLO_TRACE)?,
-        (0, true)
-    );
+    assert!(rt; outcome(alloc, &mut network, HELLO, &[], &[], 4096, HELLO_TRACE)? == (0, true));
     Ok(())
 }
 
@@ -109,17 +106,13 @@ fn says_what_failed(rt: HostRuntime) -> Result<(), Fail> {
         (&[], &[6], 4096, HELLO_TRACE, 0),
     ];
     for (reads, writes, room, expected, status) in cases {
-        assert_eq!(rt;
-            outcome(alloc, &mut network, HELLO, reads, writes, room, expected)?,
-            (status, true)
+        assert!(rt;
+            outcome(alloc, &mut network, HELLO, reads, writes, room, expected)? == (status, true)
         );
     }
-    assert_eq!(rt;
-        outcome(alloc, &mut network, b"", &[], &[], 0, b"")?,
-        (5, true)
-    );
+    assert!(rt; outcome(alloc, &mut network, b"", &[], &[], 0, b"")? == (5, true));
     let long = vec![in alloc; 10; 65537]?;
-    assert_eq!(rt;
+    assert!(rt;
         outcome(
             alloc,
             &mut network,
@@ -128,8 +121,7 @@ fn says_what_failed(rt: HostRuntime) -> Result<(), Fail> {
             &[],
             4096,
             b"refused: InputTooLong 65536\n"
-        )?,
-        (3, true)
+        )? == (3, true)
     );
     Ok(())
 }

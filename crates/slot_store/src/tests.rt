@@ -82,13 +82,13 @@ fn whole_disks(rt: HostRuntime) -> Result<(), Fail> {
         }
         put(alloc, &mut disk, 196_608, &record)?;
         let mut bytes = vec![in alloc; 0; 393_216]?;
-        assert_eq!(rt; disk.size(), 393_216);
+        assert!(rt; disk.size() == 393_216);
         assert!(rt; disk.read(0, &mut bytes).is_ok());
         let expected = decode(alloc, sha256)?;
-        assert_eq!(rt; Sha256::digest(&bytes).as_slice(), expected.as_slice());
+        assert!(rt; Sha256::digest(&bytes).as_slice() == expected.as_slice());
         let (store, found) = open(alloc, &mut disk, 196_608)?;
-        assert_eq!(rt; found, Found::Content);
-        assert_eq!(rt; store.content(), record.as_slice());
+        assert!(rt; found == Found::Content);
+        assert!(rt; store.content() == record.as_slice());
     }
     Ok(())
 }
@@ -110,13 +110,13 @@ fn damaged_disks(rt: HostRuntime) -> Result<(), Fail> {
     let alloc = rt.alloc();
     for (bytes, damage) in rows {
         let mut disk = SteadyDisk::new(alloc, 16)?;
-        assert_eq!(rt; disk.size(), 16);
+        assert!(rt; disk.size() == 16);
         assert!(rt; disk.write_at(0, bytes).is_ok());
         let refused = match open(alloc, &mut disk, 8) {
             Err(OpenError::Damaged { slot, at }) => Some((slot, at)),
             _ => None,
         };
-        assert_eq!(rt; refused, damage);
+        assert!(rt; refused == damage);
     }
     Ok(())
 }
@@ -128,14 +128,11 @@ fn faults_at_opening(rt: HostRuntime) -> Result<(), Fail> {
     for (k, call) in [(0, Call::Sync), (1, Call::Read)] {
         let mut disk = MemoryDisk::new(alloc, 32)?;
         disk.stop_after(k);
-        assert_eq!(rt;
-            open(alloc, &mut disk, 16).err(),
-            Some(OpenError::StoreFault { call })
-        );
+        assert!(rt; open(alloc, &mut disk, 16).err() == Some(OpenError::StoreFault { call }));
     }
     let mut disk = MemoryDisk::new(alloc, 32)?;
     let (store, found) = open(alloc, &mut disk, 16)?;
-    assert_eq!(rt; found, Found::NoContent);
-    assert_eq!(rt; store.content().len(), 0);
+    assert!(rt; found == Found::NoContent);
+    assert!(rt; store.content().len() == 0);
     Ok(())
 }

@@ -124,8 +124,8 @@ fn acts_stopped(rt: HostRuntime) -> Result<(), Fail> {
         for (mode, from) in MODES {
             for k in 0u32..10 {
                 let (done, boxes) = stopped_twice(alloc, row, packet.as_slice(), (k, MANY), mode)?;
-                assert_eq!(rt; done, k >= 8);
-                assert_eq!(rt; boxes, Some(if k >= from { after } else { before }));
+                assert!(rt; done == (k >= 8));
+                assert!(rt; boxes == Some(if k >= from { after } else { before }));
             }
         }
     }
@@ -146,7 +146,7 @@ fn openings_stopped(rt: HostRuntime) -> Result<(), Fail> {
             for j in 0u32..MANY {
                 let (_, boxes) = stopped_twice(alloc, row, &[], (k, j), mode)?;
                 let outbox = if k >= from { 1 } else { 0 };
-                assert_eq!(rt; boxes, Some(Boxes { inbox: 0, outbox }));
+                assert!(rt; boxes == Some(Boxes { inbox: 0, outbox }));
             }
         }
     }
