@@ -5,7 +5,7 @@ ghost use Rattle.kem_laws.specs.Mechanism.{IsLawful};
 ghost use Rattle.cka.specs.Agreement.{agreement_size, turn_of};
 
 use crate::holder::Holder;
-use crate::texts::{Agreement, PublicText, append};
+use crate::texts::{Agreement, PublicText, message_of};
 use dr_base::{CIPHERTEXT_LIMIT, Key32, PUBLIC_LIMIT, SECRET_LIMIT, in_room};
 use kem_laws::{Kem, NoPair, laws};
 use std::marker::{Model, PhantomData};
@@ -79,9 +79,8 @@ impl<K: Kem> Caller<K> {
                     seed,
                     &mut ciphertext[..K::CIPHERTEXT],
                 );
-                let mut agreement = in_room(&ciphertext[..K::CIPHERTEXT]);
-                append(&mut agreement, &public[..K::PUBLIC]);
-                Ok((Holder::resume(&secret[..K::SECRET]), agreement, key))
+                let message = message_of(&ciphertext[..K::CIPHERTEXT], &public[..K::PUBLIC]);
+                Ok((Holder::resume(&secret[..K::SECRET]), message, key))
             }
             Err(NoPair) => Err(Caller {
                 public: held,
