@@ -6,4 +6,5 @@ pub mod OpenedBoxes
 pub mod Replacing
 pub mod Rounds
 pub mod Serve
+mod StorePlaces
 pub mod Ends

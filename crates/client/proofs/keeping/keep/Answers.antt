@@ -1,3 +1,5 @@
+use Rattle.std.proofs.Common.{arith}
+use Rattle.std.proofs.lemmas.Grind.{common_steps}
 use Rattle.session_record.specs.Changes.{changed}
 use Rattle.session_record.specs.Record.{client_of}
 use Rattle.client.proofs.Replaced.{kept, lost}
@@ -16,3 +18,9 @@ returns-in-Err-clause-lost g c = λ before ready.
     c.args.store.now _ (g.D.Disk.state c.args.disk.now) (g.D.Disk.state c.replace.new.disk) ready c.encode-len.ensures.written
     c.in-Err.fault.call c.replace.ensures.any_moment c.replace.ensures.reads c.in-Err.ensures.stopped c.in-Err.ensures.few
     c.in-Err.ensures.ended c.in-Err.ensures.fault
+
+pub returns-in-Ok-clause-room : goal.returns-in-Ok-clause-room
+returns-in-Ok-clause-room g c = grind (arith, common_steps)
+
+pub returns-in-Err-clause-room : goal.returns-in-Err-clause-room
+returns-in-Err-clause-room g c = grind (arith, common_steps)

@@ -1,4 +1,5 @@
-use Rattle.std.proofs.Common.{◌≡◌, true, false, refl}
+use Rattle.std.proofs.Common.{arith, ◌≡◌, true, false, refl}
+use Rattle.std.proofs.lemmas.Grind.{common_steps}
 use Rattle.dr_disk.proofs.Steps.{all_go, stop_fails}
 use Rattle.dr_disk.proofs.WrittenAndSynced.{wrote_and_synced}
 use Rattle.dr_disk.proofs.synced.write_synced.Goals as goal
@@ -29,3 +30,6 @@ pub returns-in_default-settle-clause-ended : goal.returns-in_default-settle-clau
 returns-in_default-settle-clause-ended g c = λ n told.
     let mid = c.write_at.ensures.passes.fates n told in
     stop_fails _ _ _ c.in_default-settle.ensures.told refl mid.left mid.fate
+
+pub returns-in_default-settle-clause-stopped : goal.returns-in_default-settle-clause-stopped
+returns-in_default-settle-clause-stopped g c = grind (arith, common_steps)

@@ -1,4 +1,5 @@
-use Rattle.std.proofs.Common.{subst, sym}
+use Rattle.std.proofs.Common.{arith, subst, sym}
+use Rattle.std.proofs.lemmas.Grind.{common_steps}
 use Rattle.dr_disk.specs.MemoryDisks.{state_of}
 use Rattle.dr_model.specs.Machines.Acts.{act_on, finishing, sending}
 use Rattle.session_model.specs.declared.answer.Answer.TheVariants.{Done, Sent}
@@ -20,3 +21,6 @@ returns-in-Err-done g c =
     c.args.disk.now c.done.new.disk (ended_as c.drop_ended-in-Err-done.result)) (sym c.in-Done.is)
     (subst (λ (o : Outcome). Acts state_of (act_on g.K.Kem.mechanism c.args.client.now.kept (finishing c.in-Done.n)) c.args.client.now c.done.new.self
     c.args.disk.now c.done.new.disk o) (sym (c.drop_ended-in-Err-done.ensures (Done c.in-Done.n))) c.in-Err-done.ensures.exact)
+
+pub returns-in-Ok : goal.returns-in-Ok
+returns-in-Ok g c = grind (arith, common_steps)

@@ -1,4 +1,5 @@
-use Rattle.std.proofs.Common.{Err, Ok, refl}
+use Rattle.std.proofs.Common.{arith, Err, Ok, refl}
+use Rattle.std.proofs.lemmas.Grind.{common_steps}
 use Rattle.ratchet.specs.Seen.{seed_bytes}
 use Rattle.session_model.specs.Clients.{say_on}
 use Rattle.session_model.specs.Saying.{draft_send}
@@ -59,3 +60,6 @@ returns-in-Err-clause-refused g c =
     let acts = said_acts _ _ k c.args.text.now old c.say.new.self c.args.disk.now c.say.new.disk _ _ c.args.seed
     c.new-source.result.seed.bytes (Err c.in-Err.refusal) c.requires.held.is_open c.requires.checked refl refl refl c.new-source.ensures c.in-Err.ensures.exact in
     (refused_as _ old c.say.new.self c.args.disk.now c.say.new.disk (said_as (Err c.in-Err.refusal)) _ c.say_refusal.ensures acts).1
+
+pub returns-in-Ok-clause-held : goal.returns-in-Ok-clause-held
+returns-in-Ok-clause-held g c = grind (arith, common_steps)

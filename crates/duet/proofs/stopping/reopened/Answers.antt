@@ -1,4 +1,5 @@
-use Rattle.std.proofs.Common.{Ok, Some, ap, refl, sym, ◌∙◌, ◌≡◌}
+use Rattle.std.proofs.Common.{arith, Ok, Some, ap, refl, sym, ◌∙◌, ◌≡◌}
+use Rattle.std.proofs.lemmas.Grind.{common_steps}
 use Rattle.std.specs.Prelude.{option_map}
 use Rattle.session_record.specs.Record.{record_read}
 use Rattle.dr_disk.specs.MemoryDisks.{state_of}
@@ -23,3 +24,6 @@ returns-in-Ok g c = λ kept lawful has.
     let same : Some (Ok c.in-Ok.client.kept) ≡ Some (Ok kept) =
     sym read ∙ ap (option_map (record_read k)) (has bytes refl) ∙ ap Some back in
     cc
+
+pub invariant_of-result : goal.invariant_of-result
+invariant_of-result g c = grind (arith, common_steps)

@@ -1,4 +1,5 @@
 use Rattle.std.proofs.Common.{◌≡◌, ℕ, ◌+◌, ◌*◌, ◌<◌, pos, get_or, arith, length-set}
+use Rattle.std.proofs.lemmas.Grind.{common_steps}
 use Rattle.ntru_codec.specs.Small.{small_byte}
 use Rattle.ntru_codec.proofs.Digits.{digit-stored}
 use Rattle.ntru_codec.proofs.SmallLaws.{bytes-more, byte-is, last-byte-is, small_encoded-all}
@@ -24,3 +25,12 @@ returns c =
     let before : (j : ℕ) → j < 190 → get_or c.loop-k.bytes j 0 ≡ small_byte a.coefficients j = λ j h. c.loop-k.invariant.written j (omega arith) in
     let e = last-byte-is a.coefficients c.digit-2.result a.length (digit-stored _ _ (a.within 760 (pos 0) (omega (arith, a.length))) c.digit-2.ensures.value) in
     small_encoded-all a.coefficients _ (rw length-set c.loop-k.invariant.whole) (bytes-more a.coefficients c.loop-k.bytes 190 c.digit-2.result (omega arith) e before)
+
+pub digit-requires-in-loop-k : goal.digit-requires-in-loop-k
+digit-requires-in-loop-k c = grind (arith, common_steps)
+
+pub digit-requires-in-loop-k-2 : goal.digit-requires-in-loop-k-2
+digit-requires-in-loop-k-2 c = grind (arith, common_steps)
+
+pub digit-requires-in-loop-k-3 : goal.digit-requires-in-loop-k-3
+digit-requires-in-loop-k-3 c = grind (arith, common_steps)

@@ -1,4 +1,5 @@
 use Rattle.std.proofs.Common.{arith, ap, ◌∙◌, get_or}
+use Rattle.std.proofs.lemmas.Grind.{common_steps}
 use Rattle.ntru_ring.specs.declared.rows_q.RowQ.{RowQ}
 use Rattle.ntru_ring.specs.Ring.{coefficient}
 use Rattle.ntru_ring.specs.RowsQ.{parts_q}
@@ -33,3 +34,6 @@ returns-clause-kept c = λ k l.
     let b = c.args.b.now in
     ap (λ t. coefficient t k) c.settled-2.ensures ∙ coefficient-reduced 2295 c.loop-j.sums_b.terms k ∙ c.loop-j.invariant.kept k l
     ∙ centred_keeps 2295 (coefficient b.coefficients k) (coefficient_within 2295 b.coefficients k b.within)
+
+pub add-requires-clause-after : goal.add-requires-clause-after
+add-requires-clause-after c = grind (arith, common_steps)

@@ -1,4 +1,5 @@
-use Rattle.std.proofs.Common.{◌≡◌, sym, ap, ◌∙◌, lit<, subst, All, map, neg_ℤ, to_z, of_z, length, List, ℤ}
+use Rattle.std.proofs.Common.{arith, ◌≡◌, sym, ap, ◌∙◌, lit<, subst, All, map, neg_ℤ, to_z, of_z, length, List, ℤ}
+use Rattle.std.proofs.lemmas.Grind.{common_steps}
 use Rattle.std.proofs.lemmas.Simd.{length-chunk}
 use lib.Lanes.{chunk, put_chunk}
 use Rattle.ntru_ring.specs.Ring.{plus, scale}
@@ -58,3 +59,6 @@ returns c =
     ∙ ap (λ t. reduced 2295 (plus t (scale n (map (to_z w16) (map (of_z w16) c.load-2.result))))) x ∙ ap (λ t. reduced 2295 (plus (chunk k 8 a) (scale n t))) y
     ∙ ap (λ t. reduced 2295 (plus (chunk k 8 a) (scale (neg_ℤ t) (chunk m 8 b)))) (stored w16 2295 c.args.factor c.requires.factor_within (lit< tt)) in
     c.store.ensures ∙ ap (put_chunk k a) (kept_lanes 2295 c.centred_lanes.result (lit< tt) w ∙ sums)
+
+pub centred_lanes-requires-clause-length : goal.centred_lanes-requires-clause-length
+centred_lanes-requires-clause-length c = grind (arith, common_steps)

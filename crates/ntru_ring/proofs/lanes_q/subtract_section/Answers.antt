@@ -1,4 +1,5 @@
 use Rattle.std.proofs.Common.{◌≡◌, ◌+◌, ◌*◌, neg_ℤ, sym, ap, ◌∙◌, arith, lit<, to_z, of_z, subst, ◌+ℤ◌, ◌*ℤ◌, List, ℤ, ℕ}
+use Rattle.std.proofs.lemmas.Grind.{common_steps}
 use Rattle.ntru_ring.specs.Ring.{coefficient}
 use Rattle.ntru_ring.specs.Reduction.{centred, IsWithin}
 use Rattle.ntru_ring.specs.Sections.{IsAddedInSection}
@@ -47,3 +48,9 @@ returns-clause-section c =
     let g = subst (λ (t : ℕ). IsGone n r.a.now r.at r.b.now r.from (8 * r.first) (8 * r.last) t c.loop-k.a) e c.loop-k.invariant in
     subst (λ (t : ℤ). IsAddedInSection (neg_ℤ t) r.a.now r.at r.b.now r.from r.first r.last c.loop-k.a) (stored w16 2295 r.factor c.requires.factor_within (lit< tt))
     (IsGone-all n r.a.now r.at r.b.now r.from r.first r.last c.loop-k.a c.requires.order c.requires.end g)
+
+pub difference-requires-clause-x_within : goal.difference-requires-clause-x_within
+difference-requires-clause-x_within c = grind (arith, common_steps)
+
+pub difference-requires-clause-y_within : goal.difference-requires-clause-y_within
+difference-requires-clause-y_within c = grind (arith, common_steps)

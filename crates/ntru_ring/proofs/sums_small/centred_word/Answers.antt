@@ -1,4 +1,5 @@
-use Rattle.std.proofs.Common.{sym, subst}
+use Rattle.std.proofs.Common.{arith, sym, subst}
+use Rattle.std.proofs.lemmas.Grind.{common_steps}
 use Rattle.ntru_ring.specs.Reduction.{IsWithin}
 use Rattle.ntru_ring.proofs.Numbers.Centred.{centred_within}
 use Rattle.ntru_ring.proofs.Vectors.WordsQ.{rest_kept, rest_lowered}
@@ -16,3 +17,6 @@ returns-clause-value c = rest_kept c.args.z c.from.result c.ranges.z c.from.ensu
 
 pub returns-clause-within : goal.returns-clause-within
 returns-clause-within c = subst (IsWithin 2295) (sym (rest_kept c.args.z c.from.result c.ranges.z c.from.ensures c.if-rest-gt2295.false)) (centred_within 2295 c.args.z)
+
+pub overflow_sub-rest : goal.overflow_sub-rest
+overflow_sub-rest c = grind (arith, common_steps)

@@ -1,4 +1,5 @@
 use Rattle.std.proofs.Common.{◌≡◌, List, [], ◌∷◌, ◌++◌, ◌+◌, arith, rules, subst, sym}
+use Rattle.std.proofs.lemmas.Grind.{common_steps}
 use Rattle.slot_store.specs.declared.store.SlotStore.{SlotStore}
 use Rattle.relay_server.specs.Areas.{AreOpened}
 use Rattle.relay_server.proofs.OpenedAreas.{none_opened, one_more, opening_span, refused}
@@ -28,3 +29,6 @@ areas-preserved g c =
     subst (λ (xs : List SlotStore). AreOpened (c.areas.k + 1) c.args.count xs (g.D.Disk.state c.args.disk.now) (g.D.Disk.state c.open_area.new.disk)) (sym pushed)
     (one_more c.locality.ensures c.areas.k c.args.count (g.D.Disk.state c.args.disk.now) (g.D.Disk.state c.areas.disk) (g.D.Disk.state c.open_area.new.disk) c.areas.stores.items
     (g.met.D.Disk.lawful c.areas.disk) (omega arith) c.areas.invariant c.open_area.ensures.any_moment c.in-Ok.store c.in-Ok.ensures.opened c.open_area.ensures.reads)
+
+pub returns-clause-opened : goal.returns-clause-opened
+returns-clause-opened g c = grind (arith, common_steps)

@@ -1,4 +1,5 @@
-use Rattle.std.proofs.Common.{◌≡◌, false, true, refl}
+use Rattle.std.proofs.Common.{arith, ◌≡◌, false, true, refl}
+use Rattle.std.proofs.lemmas.Grind.{common_steps}
 use Rattle.dr_disk.proofs.Steps.{all_go, spans, stop_fails, widen}
 use Rattle.slot_store.proofs.reading.read_slots.Goals as goal
 
@@ -45,3 +46,9 @@ returns-in-Err-read_slot-clause-ended g c = λ n told.
     let first = c.settle_first.ensures.passes.fates n told in
     let second = c.read_slot.ensures.any_moment.fates first.left first.fate in
     c.in-Err-read_slot.ensures.ended second.left second.fate
+
+pub returns-in-Err-read_slot-clause-unwritten : goal.returns-in-Err-read_slot-clause-unwritten
+returns-in-Err-read_slot-clause-unwritten g c = grind (arith, common_steps)
+
+pub returns-in-Err-read_slot-clause-fault : goal.returns-in-Err-read_slot-clause-fault
+returns-in-Err-read_slot-clause-fault g c = grind (arith, common_steps)

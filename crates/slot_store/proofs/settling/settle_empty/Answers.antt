@@ -1,4 +1,5 @@
-use Rattle.std.proofs.Common.{◌∙◌}
+use Rattle.std.proofs.Common.{arith, ◌∙◌}
+use Rattle.std.proofs.lemmas.Grind.{common_steps}
 use Rattle.slot_store.proofs.Opened.{both_moment, empty_content, empty_rests, second_passive, wiped_of, zeros_of}
 use Rattle.slot_store.proofs.settling.settle_empty.Goals as goal
 
@@ -29,3 +30,6 @@ pub returns-in-Err-tidy-clause-ended : goal.returns-in-Err-tidy-clause-ended
 returns-in-Err-tidy-clause-ended g c = λ n told.
     let first = c.tidy.ensures.any_moment.fates n told in
     c.in-Err-tidy.ensures.ended first.left first.fate
+
+pub store_of-requires-clause-long : goal.store_of-requires-clause-long
+store_of-requires-clause-long g c = grind (arith, common_steps)

@@ -1,4 +1,5 @@
 use Rattle.std.proofs.Common.{◌≡◌, subst, sym, ap, map, ◌∙◌, arith, pos}
+use Rattle.std.proofs.lemmas.Grind.{common_steps}
 use Rattle.std.proofs.lemmas.List.Elements.{All-from_get_or}
 use Rattle.ntru_ring.specs.Reduction.{IsWithin}
 use Rattle.sntrup_core.specs.Sampling.{short_coefficient, short_element}
@@ -41,3 +42,6 @@ returns-clause-short c =
     (λ j h. c.loop-k.invariant.written j (omega arith))
     ∙ ap (map short_coefficient) is in
     subst IsShort (sym same) (short_element-short c.args.words.now c.told-words)
+
+pub loop-k-preserved : goal.loop-k-preserved
+loop-k-preserved c = grind (arith, common_steps)

@@ -1,4 +1,5 @@
-use Rattle.std.proofs.Common.{None, Some, [], ap, refl, subst, sym, ◌∙◌}
+use Rattle.std.proofs.Common.{arith, None, Some, [], ap, refl, subst, sym, ◌∙◌}
+use Rattle.std.proofs.lemmas.Grind.{common_steps}
 use Rattle.dr_disk.specs.Spans.{Span}
 use Rattle.session_model.specs.States.{State}
 use Rattle.session_record.specs.Record.{client_of, record_text}
@@ -112,3 +113,18 @@ returns-in-Ok-first-clause-in_worlds g c =
           c.in-Ok-first.ensures.keeps ∙ ap (λ (s : State). client_of s [] []) c.in-Ok-begin.ensures.ok
           ∙ kept_first k key c.args.side;
     }
+
+pub returns-in_default-clause-any_moment : goal.returns-in_default-clause-any_moment
+returns-in_default-clause-any_moment g c = grind (arith, common_steps)
+
+pub first-requires-clause-lawful : goal.first-requires-clause-lawful
+first-requires-clause-lawful g c = grind (arith, common_steps)
+
+pub first-requires-clause-none : goal.first-requires-clause-none
+first-requires-clause-none g c = grind (arith, common_steps)
+
+pub returns-in-Content-clause-reads : goal.returns-in-Content-clause-reads
+returns-in-Content-clause-reads g c = grind (arith, common_steps)
+
+pub returns-in-Err-first-clause-fate : goal.returns-in-Err-first-clause-fate
+returns-in-Err-first-clause-fate g c = grind (arith, common_steps)

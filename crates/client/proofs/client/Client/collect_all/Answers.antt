@@ -1,4 +1,5 @@
 use Rattle.std.proofs.Common.{ap, arith, refl, subst, sym, ◌+◌, ◌∙◌}
+use Rattle.std.proofs.lemmas.Grind.{common_steps}
 use Rattle.relay_wire.specs.Requests.{acks, fetches}
 use Rattle.sync_model.specs.Moves.{acking, acknowledged, fetching, waits_by}
 use Rattle.sync_model.specs.declared.more.More.TheVariants.{End}
@@ -101,3 +102,15 @@ items-preserved g c = record {
   gate = c.acknowledge.ensures.gate ∙ c.fetch.ensures.gate ∙ c.items.invariant.gate;
   stands = c.acknowledge.ensures.stands ∙ c.fetch.ensures.stands ∙ c.items.invariant.stands;
 }
+
+pub returns-in-Err-clause-stands : goal.returns-in-Err-clause-stands
+returns-in-Err-clause-stands g c = grind (arith, common_steps)
+
+pub returns-in-Ok-None-clause-stands : goal.returns-in-Ok-None-clause-stands
+returns-in-Ok-None-clause-stands g c = grind (arith, common_steps)
+
+pub returns-in-Err-acknowledge-clause-stands : goal.returns-in-Err-acknowledge-clause-stands
+returns-in-Err-acknowledge-clause-stands g c = grind (arith, common_steps)
+
+pub returns-clause-collects : goal.returns-clause-collects
+returns-clause-collects g c = grind (arith, common_steps)

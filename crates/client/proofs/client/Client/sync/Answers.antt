@@ -1,3 +1,5 @@
+use Rattle.std.proofs.Common.{arith}
+use Rattle.std.proofs.lemmas.Grind.{common_steps}
 use Rattle.client.specs.Syncing.Moments.{moment}
 use Rattle.client.proofs.Syncs.Arrivals.{opens}
 use Rattle.client.proofs.Syncs.Transfers.{named_transfers}
@@ -32,3 +34,21 @@ returns-clause-opens g c = λ is_open.
     (g.L.Pipe.port c.args.link.now) (g.L.Pipe.port c.sync_open.new.link) c.sync_open.result c.names-names.ensures.own c.names-names.ensures.peers
     c.names-names.ensures.own_lawful c.names-names.ensures.peers_lawful c.may_post.ensures.packets c.may_post.ensures.few
     (g.met.L.Pipe.ahead c.sync_open.new.link) c.sync_open.ensures.exact)
+
+pub returns-in-Some-clause-closed : goal.returns-in-Some-clause-closed
+returns-in-Some-clause-closed g c = grind (arith, common_steps)
+
+pub returns-in-Some-clause-exact : goal.returns-in-Some-clause-exact
+returns-in-Some-clause-exact g c = grind (arith, common_steps)
+
+pub returns-in-Some-clause-in_worlds : goal.returns-in-Some-clause-in_worlds
+returns-in-Some-clause-in_worlds g c = grind (arith, common_steps)
+
+pub returns-in-Some-clause-transfer : goal.returns-in-Some-clause-transfer
+returns-in-Some-clause-transfer g c = grind (arith, common_steps)
+
+pub returns-in-Some-clause-opens : goal.returns-in-Some-clause-opens
+returns-in-Some-clause-opens g c = grind (arith, common_steps)
+
+pub returns-clause-closed : goal.returns-clause-closed
+returns-clause-closed g c = grind (arith, common_steps)

@@ -1,3 +1,5 @@
+use Rattle.std.proofs.Common.{arith}
+use Rattle.std.proofs.lemmas.Grind.{common_steps}
 use Rattle.sync_model.specs.Moves.{ended, over}
 use Rattle.client.specs.Syncing.Moments.{moment}
 use Rattle.client.specs.Syncing.Parties.{party_of}
@@ -35,3 +37,21 @@ returns-in-Ok-write_end-clause-exact g c =
     (g.L.Pipe.port c.args.link.now) (g.L.Pipe.port c.post_all.new.link) c.in-Ok.more far
     (still c.post_all.new.self (g.D.Disk.state c.post_all.new.disk) far.stands.is_open far.stands.ready)
     (record { bytes_are = c.in-Ok-write_end.ensures.whole; unfailing = c.in-Ok-write_end.ensures.cause.passed })
+
+pub returns-in-Err-post_all-clause-exact : goal.returns-in-Err-post_all-clause-exact
+returns-in-Err-post_all-clause-exact g c = grind (arith, common_steps)
+
+pub returns-in-Err-post_all-clause-stands : goal.returns-in-Err-post_all-clause-stands
+returns-in-Err-post_all-clause-stands g c = grind (arith, common_steps)
+
+pub returns-in-Err-write_end-clause-stands : goal.returns-in-Err-write_end-clause-stands
+returns-in-Err-write_end-clause-stands g c = grind (arith, common_steps)
+
+pub returns-in-Ok-write_end-clause-flow : goal.returns-in-Ok-write_end-clause-flow
+returns-in-Ok-write_end-clause-flow g c = grind (arith, common_steps)
+
+pub returns-in-Ok-write_end-clause-gate : goal.returns-in-Ok-write_end-clause-gate
+returns-in-Ok-write_end-clause-gate g c = grind (arith, common_steps)
+
+pub returns-in-Ok-write_end-clause-stands : goal.returns-in-Ok-write_end-clause-stands
+returns-in-Ok-write_end-clause-stands g c = grind (arith, common_steps)

@@ -1,4 +1,5 @@
-use Rattle.std.proofs.Common.{rules, subst, sym}
+use Rattle.std.proofs.Common.{arith, rules, subst, sym}
+use Rattle.std.proofs.lemmas.Grind.{common_steps}
 use Rattle.cka.specs.Agreement.{agreement_size}
 use Rattle.packet.specs.Packet.{IsLawful}
 use Rattle.session_model.specs.Clients.{Client}
@@ -13,3 +14,6 @@ receive-requires-clause-lawful g c = λ room.
     search rules in
     taken_lawful g.K.Kem.mechanism kept c.in-Ok.view c.in-Ok-draft_receive.draft packet
     c.self.invariant.lawful (subst (IsLawfulState g.K.Kem.mechanism) c.part.ensures c.lawful_part.ensures) room (sym c.in-Ok-draft_receive.ensures.exact)
+
+pub draft_receive-requires : goal.draft_receive-requires
+draft_receive-requires g c = grind (arith, common_steps)

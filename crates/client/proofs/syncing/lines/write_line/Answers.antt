@@ -1,4 +1,5 @@
-use Rattle.std.proofs.Common.{ap, ◌∙◌}
+use Rattle.std.proofs.Common.{arith, ap, ◌∙◌}
+use Rattle.std.proofs.lemmas.Grind.{common_steps}
 use Rattle.dr_ports.specs.Ports.{appended}
 use Rattle.client.proofs.Syncs.Written.{writes_behind, writes_as}
 use Rattle.client.proofs.syncing.lines.write_line.Goals as goal
@@ -10,3 +11,6 @@ returns-in-Ok g c =
     c.args.prefix.now c.args.line.now c.write_all-in-Ok.result
     (c.in-Ok.ensures.whole ∙ ap (appended (g.O.Sink.taken c.args.out.now)) c.as_bytes.ensures.value) c.in-Ok.ensures.cause.passed
     (writes_as _ _ _ _ c.as_bytes-in-Ok.result.now c.args.line.now c.write_all-in-Ok.result c.as_bytes-in-Ok.ensures c.write_all-in-Ok.ensures)
+
+pub returns-in-Err : goal.returns-in-Err
+returns-in-Err g c = grind (arith, common_steps)

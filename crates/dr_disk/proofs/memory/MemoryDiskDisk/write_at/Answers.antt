@@ -1,4 +1,5 @@
 use Rattle.std.proofs.Common.{refl, arith}
+use Rattle.std.proofs.lemmas.Grind.{common_steps}
 use Rattle.dr_disk.proofs.Filled.{left_written}
 use Rattle.dr_disk.proofs.Tears.{within_failed, within_written}
 use Rattle.dr_disk.proofs.memory.MemoryDiskDisk.write_at.Goals as goal
@@ -22,3 +23,12 @@ pub returns-clause-leaves : goal.returns-clause-leaves
 returns-clause-leaves c =
     let platter = c.args.self.now.platter in
     left_written _ _ _ _ _ _ c.args.at c.args.bytes.now (omega (arith, platter.agrees.size)) platter.one_mark_each c.write.ensures.durable c.write.ensures.asked c.write.ensures.marks
+
+pub returns-then-not-passes-clause-passes : goal.returns-then-not-passes-clause-passes
+returns-then-not-passes-clause-passes c = grind (arith, common_steps)
+
+pub returns-clause-passes : goal.returns-clause-passes
+returns-clause-passes c = grind (arith, common_steps)
+
+pub returns-clause-told : goal.returns-clause-told
+returns-clause-told c = grind (arith, common_steps)

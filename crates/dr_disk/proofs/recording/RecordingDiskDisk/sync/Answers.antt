@@ -1,4 +1,5 @@
 use Rattle.std.proofs.Common.{◌≡◌, ℕ, Bool, true, false, List, [], ◌++◌, length, replicate, refl, sym, ◌∙◌, ap, arith}
+use Rattle.std.proofs.lemmas.Grind.{common_steps}
 use Rattle.std.proofs.lemmas.List.{append-nil}
 use Rattle.dr_disk.specs.declared.tape.Recorded.{Recorded}
 use Rattle.dr_disk.proofs.Replays.{bytes_now, durable_now, events_now, goes_on, marks_now, total_now}
@@ -42,3 +43,9 @@ returns-clause-passes c =
 
 pub returns-clause-settled : goal.returns-clause-settled
 returns-clause-settled c = settled_seen _ _ _ _ _ c.settle.ensures.bytes c.settle.ensures.durable c.settle.ensures.marks
+
+pub returns-then-not-has_room-clause-passes : goal.returns-then-not-has_room-clause-passes
+returns-then-not-has_room-clause-passes c = grind (arith, common_steps)
+
+pub returns-clause-unwritten : goal.returns-clause-unwritten
+returns-clause-unwritten c = grind (arith, common_steps)

@@ -1,4 +1,5 @@
 use Rattle.std.proofs.Common.{ℕ, Bool, false, List, None, length, refl, ◌∙◌, ap, arith}
+use Rattle.std.proofs.lemmas.Grind.{common_steps}
 use Rattle.dr_disk.specs.declared.tape.Recorded.{Recorded}
 use Rattle.dr_disk.specs.Bytes.{overwritten}
 use Rattle.dr_disk.specs.Memory.{marked, no_faults}
@@ -56,3 +57,9 @@ pub returns-clause-leaves : goal.returns-clause-leaves
 returns-clause-leaves c =
     let platter = c.args.self.now.platter in
     left_recorded c.args.self.now.full _ _ _ _ _ _ c.args.at c.args.bytes.now (omega (arith, platter.agrees.size)) platter.one_mark_each c.write-2.ensures.durable c.write-2.ensures.asked c.write-2.ensures.marks
+
+pub returns-then-not-has_room-clause-passes : goal.returns-then-not-has_room-clause-passes
+returns-then-not-has_room-clause-passes c = grind (arith, common_steps)
+
+pub returns-clause-told : goal.returns-clause-told
+returns-clause-told c = grind (arith, common_steps)

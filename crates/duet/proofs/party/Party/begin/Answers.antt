@@ -2,7 +2,7 @@ use Rattle.std.proofs.Common.{arith, subst, ◌≡◌}
 use Rattle.dr_disk.specs.MemoryDisks.{state_of}
 use Rattle.client.specs.Beginning.{IsUnbegun}
 use Rattle.duet.specs.declared.party.BeginError.TheVariants.{NoPair}
-use Rattle.duet.proofs.Blank.{first_refusal}
+use Rattle.duet.proofs.Blank.{blank_within, first_refusal}
 use Rattle.duet.proofs.party.Party.begin.Goals as goal
 
 pub begin_error-requires : goal.begin_error-requires
@@ -16,3 +16,11 @@ returns-in-Err-clause-none g c = λ is.
     let none : c.begin_error.result ≡ NoPair = cc in
     (subst (IsUnbegun state_of g.K.Kem.mechanism c.args.key.now.bytes c.in-Ok.disk c.begin.new.disk)
     (c.begin_error.ensures none) c.in-Err.ensures.unbegun).1
+
+pub begin-requires : goal.begin-requires
+begin-requires g c = blank_within _ _ (omega arith) c.in-Ok.ensures
+
+pub invariant_of-result : goal.invariant_of-result
+invariant_of-result g c =
+    let begun = c.in-Ok-begin.ensures.begun in
+    record { is_open = begun.is_open; ready = begun.ready; passes = (c.in-Ok-begin.ensures.fate c.in-Ok.ensures.fresh.fate).1 }

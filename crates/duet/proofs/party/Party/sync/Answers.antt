@@ -1,4 +1,5 @@
-use Rattle.std.proofs.Common.{List, Ok, Result, subst, sym, ℕ}
+use Rattle.std.proofs.Common.{arith, List, Ok, Result, subst, sym, ℕ}
+use Rattle.std.proofs.lemmas.Grind.{common_steps}
 use Rattle.dr_base.specs.declared.failed.Failed.{Failed}
 use Rattle.dr_disk.specs.MemoryDisks.{state_of}
 use Rattle.dr_ports.specs.Writing.{Writes}
@@ -42,3 +43,9 @@ returns-clause-writes g c =
           (broken_lines p side m before after (boxes_of c.meet.new.link) w.in-Err.fault (g.O.Sink.taken w.tell.new.out) (g.O.Sink.faults w.tell.new.out) w.tell.result
           (subst (Met (side_text side) c.args.self.now) w.in-Err.is met) w.tell.ensures))
     ]
+
+pub returns-clause-keeps : goal.returns-clause-keeps
+returns-clause-keeps g c = grind (arith, common_steps)
+
+pub returns-clause-boxes : goal.returns-clause-boxes
+returns-clause-boxes g c = grind (arith, common_steps)

@@ -1,4 +1,5 @@
 use Rattle.std.proofs.Common.{◌≡◌, arith, sym, ap, ◌∙◌, subst, All, length, List, ℤ, ℕ, ◌≤◌}
+use Rattle.std.proofs.lemmas.Grind.{common_steps}
 use Rattle.ntru_ring.specs.declared.modulo_q.Rq.{Rq}
 use Rattle.ntru_ring.specs.Ring.{coefficient, plus}
 use Rattle.ntru_ring.specs.Reduction.{reduced, centred, IsWithin}
@@ -44,3 +45,6 @@ invariant_of-result c =
 
 pub returns : goal.returns
 returns c = whole c.args.self.now c.args.o.now c.loop-k.sum c.loop-k.k (omega arith) c.loop-k.invariant
+
+pub centred_q-requires : goal.centred_q-requires
+centred_q-requires c = grind (arith, common_steps)

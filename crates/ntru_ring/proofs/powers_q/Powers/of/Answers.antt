@@ -1,4 +1,5 @@
 use Rattle.std.proofs.Common.{lit≤, arith, sym, subst, pos}
+use Rattle.std.proofs.lemmas.Grind.{common_steps}
 use Rattle.std.proofs.lemmas.List.{get_or-replicate}
 use Rattle.std.proofs.lemmas.Simd.{length-replicate}
 use Rattle.ntru_ring.specs.Reduction.{IsWithin}
@@ -15,3 +16,6 @@ loop-k-init c = record {
 
 pub returns-clause-row : goal.returns-clause-row
 returns-clause-row c = power_is 761 c.loop-k.places c.args.element.now.coefficients c.loop-k.invariant.length (lit≤ tt) c.args.element.now.length (λ j l. c.loop-k.invariant.done j (omega arith))
+
+pub loop-k-preserved : goal.loop-k-preserved
+loop-k-preserved c = grind (arith, common_steps)

@@ -1,4 +1,5 @@
 use Rattle.std.proofs.Common.{refl, ap, arith, subst, length, take, drop, List, ℕ, ◌∙◌, ◌+◌, ◌-◌, ◌≤◌, ◌≡◌}
+use Rattle.std.proofs.lemmas.Grind.{common_steps}
 use Rattle.dr_ports.specs.Wires.{Gave}
 use Rattle.relay_link.specs.Connections.{Connection, port_of}
 use Rattle.relay_link.proofs.Connections.{gave, given_piece}
@@ -16,3 +17,6 @@ returns-clause-content c =
     ∙ ap (λ (replies : List ℕ). take count (drop at replies)) c.replies-2.ensures in
     subst (λ (f : Connection). Gave (take count c.put.new.out) (port_of f) (port_of (record old { at = at + count }))) c.self.view_is
     (gave old c.self.inside.desk c.self.inside.reader.bytes c.self.invariant.0 count fits (take count c.put.new.out) piece)
+
+pub invariant_of-self-2 : goal.invariant_of-self-2
+invariant_of-self-2 c = grind (arith, common_steps)

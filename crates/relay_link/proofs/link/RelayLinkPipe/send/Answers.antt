@@ -1,4 +1,5 @@
 use Rattle.std.proofs.Common.{sym, ap, arith, subst, length, take, Bool, List, ℕ, ◌∙◌, ◌+◌, ◌++◌, ◌≤◌, ◌≡◌}
+use Rattle.std.proofs.lemmas.Grind.{common_steps}
 use Rattle.std.specs.Prelude.{if◌then◌else◌, is_ok, vec_len}
 use Rattle.std.proofs.lemmas.List.{length-take, take-take}
 use Rattle.dr_ports.specs.Wires.{Took}
@@ -58,3 +59,6 @@ returns-in-Some-clause-content c =
     c.extend_from_slice.ensures.items ∙ ap (λ (ok : Bool). if ok then c.self.inside.sent.items ++ piece else c.self.inside.sent.items) (ap is_ok c.unwrap.ensures) in
     subst (λ (f : Connection). Took piece (port_of f) (port_of (record old { sent = c.extend_from_slice.new.self.items }))) c.self.view_is
     (subst (λ (b : List ℕ). Took piece (port_of old) (port_of (record old { sent = b }))) (sym items) (took old c.self.inside.desk c.self.inside.reader.bytes c.self.invariant.0 piece))
+
+pub returns-in-Some-clause-same : goal.returns-in-Some-clause-same
+returns-in-Some-clause-same c = grind (arith, common_steps)

@@ -1,4 +1,5 @@
-use Rattle.std.proofs.Common.{List, subst, sym, ◌≡◌, ◌∙◌, length}
+use Rattle.std.proofs.Common.{arith, List, subst, sym, ◌≡◌, ◌∙◌, length}
+use Rattle.std.proofs.lemmas.Grind.{common_steps}
 use Rattle.std.proofs.lemmas.List.{with_items_is}
 use Rattle.slot_store.specs.declared.store.SlotStore.{SlotStore}
 use Rattle.relay_core.specs.Boxes.{Box}
@@ -58,3 +59,18 @@ returns-clause-opened g c =
     (sym (with_items_is c.in-Ok-open_areas.stores c.fill_areas.new.stores same))
     (opened_then c.args.names.now (g.D.Disk.state c.args.disk.now) (g.D.Disk.state c.open_areas.new.disk) c.in-Ok-open_areas.stores.items c.in-Ok-open_areas.ensures.opened c.load_boxes.new.relay loaded
     (g.D.Disk.state c.fill_areas.new.disk) c.fill_areas.ensures.any_moment c.fill_areas.new.stores c.in-Ok-fill_areas.ensures.filled c.in-Ok-fill_areas.ensures.quiet)
+
+pub returns-in_default-clause-any_moment : goal.returns-in_default-clause-any_moment
+returns-in_default-clause-any_moment g c = grind (arith, common_steps)
+
+pub returns-in_default-record_room-clause-any_moment : goal.returns-in_default-record_room-clause-any_moment
+returns-in_default-record_room-clause-any_moment g c = grind (arith, common_steps)
+
+pub load_boxes-requires-clause-few : goal.load_boxes-requires-clause-few
+load_boxes-requires-clause-few g c = grind (arith, common_steps)
+
+pub load_boxes-requires-clause-count : goal.load_boxes-requires-clause-count
+load_boxes-requires-clause-count g c = grind (arith, common_steps)
+
+pub invariant_of-result : goal.invariant_of-result
+invariant_of-result g c = grind (arith, common_steps)

@@ -1,4 +1,5 @@
-use Rattle.std.proofs.Common.{refl}
+use Rattle.std.proofs.Common.{arith, refl}
+use Rattle.std.proofs.lemmas.Grind.{common_steps}
 use Rattle.relay_server.proofs.Rounds.{pulled_part}
 use Rattle.relay_server.proofs.durable.DurableBoxes.round.Goals as goal
 
@@ -10,3 +11,6 @@ returns-in-Err-clause-rounds g c = (
   c.requires.ready,
   λ call. refl,
 )
+
+pub returns-in-Err-send_all-clause-rounds : goal.returns-in-Err-send_all-clause-rounds
+returns-in-Err-send_all-clause-rounds g c = grind (arith, common_steps)

@@ -1,4 +1,5 @@
-use Rattle.std.proofs.Common.{◌≡◌, ℕ, List, Some, refl, sym, ◌∙◌, ap, subst}
+use Rattle.std.proofs.Common.{arith, ◌≡◌, ℕ, List, Some, refl, sym, ◌∙◌, ap, subst}
+use Rattle.std.proofs.lemmas.Grind.{common_steps}
 use Rattle.slot_store.specs.Judged.{verdict_seen}
 use Rattle.slot_store.specs.Reading.{damaged, faulty, newer, none_open, number_of, reading}
 use Rattle.slot_store.proofs.Opened.{damaged_read, newer_text, read_newer, reading_by, reads_like, same_text, shut_read, verdict_at, whole}
@@ -68,3 +69,27 @@ pub returns-in-Err-settle_newer-clause-ended : goal.returns-in-Err-settle_newer-
 returns-in-Err-settle_newer-clause-ended g c = λ call n is told.
     let first = c.read_slots.ensures.any_moment.fates n told in
     c.in-Err-settle_newer.ensures.ended first.left first.fate
+
+pub returns-in-Err-clause-any_moment : goal.returns-in-Err-clause-any_moment
+returns-in-Err-clause-any_moment g c = grind (arith, common_steps)
+
+pub returns-in-Err-clause-fault : goal.returns-in-Err-clause-fault
+returns-in-Err-clause-fault g c = grind (arith, common_steps)
+
+pub settle_newer-requires-clause-first_laid : goal.settle_newer-requires-clause-first_laid
+settle_newer-requires-clause-first_laid g c = grind (arith, common_steps)
+
+pub settle_newer-requires-clause-second_laid : goal.settle_newer-requires-clause-second_laid
+settle_newer-requires-clause-second_laid g c = grind (arith, common_steps)
+
+pub returns-in-Damaged-clause-any_moment : goal.returns-in-Damaged-clause-any_moment
+returns-in-Damaged-clause-any_moment g c = grind (arith, common_steps)
+
+pub returns-in-Ok-settle_empty-clause-at_rest : goal.returns-in-Ok-settle_empty-clause-at_rest
+returns-in-Ok-settle_empty-clause-at_rest g c = grind (arith, common_steps)
+
+pub returns-in-Ok-settle_empty-clause-quiet : goal.returns-in-Ok-settle_empty-clause-quiet
+returns-in-Ok-settle_empty-clause-quiet g c = grind (arith, common_steps)
+
+pub returns-in-Ok-settle_newer-clause-quiet : goal.returns-in-Ok-settle_newer-clause-quiet
+returns-in-Ok-settle_newer-clause-quiet g c = grind (arith, common_steps)

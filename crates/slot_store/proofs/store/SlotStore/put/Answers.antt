@@ -1,3 +1,5 @@
+use Rattle.std.proofs.Common.{arith}
+use Rattle.std.proofs.lemmas.Grind.{common_steps}
 use Rattle.slot_store.proofs.Begun.{put_place, put_setting}
 use Rattle.slot_store.proofs.PutCalls.{put_cut_first, put_cut_second, put_done, put_first, put_whole}
 use Rattle.slot_store.proofs.store.SlotStore.put.Goals as goal
@@ -57,3 +59,6 @@ pub returns-in-Err-write_synced-clause-ended : goal.returns-in-Err-write_synced-
 returns-in-Err-write_synced-clause-ended g c = λ n told.
     let first = c.write_synced.ensures.any_moment.fates n told in
     c.in-Err-write_synced.ensures.ended first.left first.fate
+
+pub returns-clause-passed : goal.returns-clause-passed
+returns-clause-passed g c = grind (arith, common_steps)

@@ -1,0 +1,54 @@
+use Rattle.std.proofs.Common.{false, get_or, subst, true}
+use Rattle.std.proofs.lemmas.Option.{get_or_from_slice_get, slice_get-get_or}
+use Rattle.relay_server.specs.Durable.{IsReplaced}
+use Rattle.relay_server.proofs.StorePlaces.{others_stay, put_there}
+use Rattle.relay_server.proofs.durable.replace_at.Goals as goal
+
+pub replace-requires-clause-fits : goal.replace-requires-clause-fits
+replace-requires-clause-fits g c =
+    (c.requires.ready (get_or c.args.stores.now c.args.place c.index-stores-place.result)
+    (slice_get-get_or c.args.stores.now c.args.place c.index-stores-place.result c.requires.inside)).0
+
+pub replace-requires-clause-within : goal.replace-requires-clause-within
+replace-requires-clause-within g c =
+    (c.requires.ready (get_or c.args.stores.now c.args.place c.index-stores-place.result)
+    (slice_get-get_or c.args.stores.now c.args.place c.index-stores-place.result c.requires.inside)).1
+
+pub replace-requires-clause-at_rest : goal.replace-requires-clause-at_rest
+replace-requires-clause-at_rest g c =
+    (c.requires.ready (get_or c.args.stores.now c.args.place c.index-stores-place.result)
+    (slice_get-get_or c.args.stores.now c.args.place c.index-stores-place.result c.requires.inside)).2
+
+pub returns-in-Ok-clause-others : goal.returns-in-Ok-clause-others
+returns-in-Ok-clause-others g c = λ j apart. others_stay c.args.stores.now c.args.place c.replace.new.self j apart
+
+pub returns-in-Err-clause-others : goal.returns-in-Err-clause-others
+returns-in-Err-clause-others g c = λ j apart. others_stay c.args.stores.now c.args.place c.replace.new.self j apart
+
+pub returns-in-Ok-clause-there : goal.returns-in-Ok-clause-there
+returns-in-Ok-clause-there g c = λ old new was now.
+    subst (λ x. IsReplaced c.args.text.now x new (g.D.Disk.state c.args.disk.now) (g.D.Disk.state c.replace.new.disk) true)
+    (get_or_from_slice_get c.args.stores.now c.args.place old c.index-stores-place.result was)
+    (subst (λ y. IsReplaced c.args.text.now (get_or c.args.stores.now c.args.place c.index-stores-place.result) y (g.D.Disk.state c.args.disk.now) (g.D.Disk.state c.replace.new.disk) true)
+    (put_there c.args.stores.now c.args.place c.replace.new.self new c.requires.inside now)
+    (record {
+      any_moment = c.replace.ensures.any_moment;
+      same = c.replace.ensures.same;
+      holds = λ _. c.in-Ok.ensures.holds;
+      rests = λ _ f left. (c.in-Ok.ensures.done f left).0;
+      outside = λ _ f left. (c.in-Ok.ensures.done f left).2;
+    }))
+
+pub returns-in-Err-clause-there : goal.returns-in-Err-clause-there
+returns-in-Err-clause-there g c = λ old new was now.
+    subst (λ x. IsReplaced c.args.text.now x new (g.D.Disk.state c.args.disk.now) (g.D.Disk.state c.replace.new.disk) false)
+    (get_or_from_slice_get c.args.stores.now c.args.place old c.index-stores-place.result was)
+    (subst (λ y. IsReplaced c.args.text.now (get_or c.args.stores.now c.args.place c.index-stores-place.result) y (g.D.Disk.state c.args.disk.now) (g.D.Disk.state c.replace.new.disk) false)
+    (put_there c.args.stores.now c.args.place c.replace.new.self new c.requires.inside now)
+    (record {
+      any_moment = c.replace.ensures.any_moment;
+      same = c.replace.ensures.same;
+      holds = λ e. absurd cc;
+      rests = λ e. absurd cc;
+      outside = λ e. absurd cc;
+    }))
