@@ -17,26 +17,34 @@ mod session;
 mod store;
 mod turn;
 
+/// Measures what a word names.
+fn measure(rt: &HostRuntime, word: &str) -> io::Result<()> {
+    match word {
+        "run" => {
+            cipher::report(rt)?;
+            message::report(rt)?;
+            relay::report(rt)
+        }
+        "ring" => {
+            ring::report(rt)?;
+            mechanism::report(rt)?;
+            turn::report(rt)
+        }
+        "store" => {
+            record::report(rt)?;
+            store::report(rt)?;
+            network::report(rt)?;
+            session::report(rt)
+        }
+        _ => println!(rt; "bench: give the word run, ring or store, and wait some seconds"),
+    }
+}
+
 fn main(rt: HostRuntime) -> io::Result<()> {
     let mut args = env::args(&rt)?;
     let _name = args.next();
     match args.next() {
-        Some(word) if word.as_str() == "run" => {
-            cipher::report(&rt)?;
-            message::report(&rt)?;
-            relay::report(&rt)
-        }
-        Some(word) if word.as_str() == "ring" => {
-            ring::report(&rt)?;
-            mechanism::report(&rt)?;
-            turn::report(&rt)
-        }
-        Some(word) if word.as_str() == "store" => {
-            record::report(&rt)?;
-            store::report(&rt)?;
-            network::report(&rt)?;
-            session::report(&rt)
-        }
-        _ => println!(rt; "bench: give the word run, ring or store, and wait some seconds"),
+        Some(word) => measure(&rt, word.as_str()),
+        None => measure(&rt, ""),
     }
 }

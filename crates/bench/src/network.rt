@@ -1,6 +1,9 @@
 //! A packet posted, fetched and acknowledged at a relay on a real file, over loopback, beside the bare writes and syncs of
 //! its box's records.
 
+ghost use Rattle.relay_core.specs.Record.{box_text};
+ghost use Rattle.relay_server.specs.Durable.{IsReady};
+
 use crate::clock::Times;
 use crate::store::time_bare;
 use dr_disk::{Disk, FileDisk, Sharing};
@@ -62,28 +65,21 @@ fn receive_replies<L: Link>(link: &mut L) -> io::Result<()> {
     Err(Error::from(ErrorKind::UnexpectedEof))
 }
 
-/// Opens the relay and has it serve one connection, and adds the time of that.
-fn exchange<R: Clock + AllocGlobal, D: Disk, L: Link, A: Door>(
+/// Has the relay serve one connection that sends these bytes, and adds the time of that.
+fn serve_once<R: Clock, D: Disk, L: Link, A: Door>(
     rt: &R,
+    server: &mut Server,
     disk: &mut D,
     link: &mut L,
     door: &mut A,
-    number: u64,
+    bytes: &[u8],
     times: &mut Times,
-) -> io::Result<()> {
-    let bytes = requests(rt.alloc(), number)?;
-    let Some(name) = Name::new(b"a") else {
-        return Err(Error::from(ErrorKind::InvalidInput));
-    };
-    if disk.size() < AREA {
-        return Err(Error::from(ErrorKind::InvalidInput));
-    }
-    let Ok(mut server) = Server::open(rt.alloc(), disk, &[name]) else {
-        return Err(Error::from(ErrorKind::InvalidData));
-    };
+) -> io::Result<()>
+    requires { IsReady box_text server.old (D.state disk.old) }
+{
     let start = Instant::now(rt)?;
     let connected = link.open(ADDRESS).is_ok()
-        && send_all(link, &bytes).is_ok()
+        && send_all(link, bytes).is_ok()
         && door.accept().is_ok()
         && server.serve(disk, door).is_ok();
     if !connected {
@@ -93,6 +89,28 @@ fn exchange<R: Clock + AllocGlobal, D: Disk, L: Link, A: Door>(
     link.shut();
     door.shut();
     times.add(rt, start)
+}
+
+/// Opens the relay and has it serve one connection, and adds the time of that.
+fn exchange<R: Clock + AllocGlobal, D: Disk, L: Link, A: Door>(
+    rt: &R,
+    disk: &mut D,
+    link: &mut L,
+    door: &mut A,
+    number: u64,
+    times: &mut Times,
+) -> io::Result<()> {
+    let Some(name) = Name::new(b"a") else {
+        return Err(Error::from(ErrorKind::InvalidInput));
+    };
+    if disk.size() < AREA {
+        return Err(Error::from(ErrorKind::InvalidInput));
+    }
+    let bytes = requests(rt.alloc(), number)?;
+    match Server::open(rt.alloc(), disk, &[name]) {
+        Ok(mut server) => serve_once(rt, &mut server, disk, link, door, &bytes, times),
+        Err(_) => Err(Error::from(ErrorKind::InvalidData)),
+    }
 }
 
 /// The median time of an exchange, in microseconds.

@@ -1,8 +1,7 @@
 //! The record of a client with full boxes, written and read.
 
-ghost use Rattle.std.specs.Prelude.{◌≡◌, is_some};
-
 use crate::clock::Times;
+use crate::turn::seed_of;
 use boxes::{Inbox, Outbox};
 use dr_base::{INBOX_LIMIT, Key32, OUTBOX_LIMIT, Position, Side, TEXT_LIMIT};
 use kem_laws::Kem;
@@ -18,22 +17,11 @@ use std::time::Instant;
 /// How often each thing is measured.
 const RUNS: usize = 201;
 
-/// A seed of equal bytes, if one is asked for.
-fn seed_of(asked: bool) -> Option<Key32>
-    ensures { is_some result ≡ asked }
-{
-    if asked {
-        Some(Key32 { bytes: [3; 32] })
-    } else {
-        None
-    }
-}
-
 /// Says this many texts of the greatest length, whose packets stay in the outbox.
 fn fill_outbox<K: Kem>(session: &mut Session<K>, work: &mut K::Work, outbox: &mut Outbox) {
     for _ in 0..OUTBOX_LIMIT {
         if let Ok(asked) = session.send_check(TEXT_LIMIT) {
-            if let Ok(draft) = session.draft_send(work, &[5; TEXT_LIMIT], seed_of(asked)) {
+            if let Ok(draft) = session.draft_send(work, &[5; TEXT_LIMIT], seed_of(asked, 3)) {
                 let _pushed = outbox.push(draft.position(), draft.packet());
                 draft.accept(session);
             }

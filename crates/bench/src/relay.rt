@@ -117,22 +117,32 @@ fn time_copy<R: Clock + AllocGlobal>(rt: &R, stream: &[u8]) -> io::Result<u64> {
     Ok(times.median()? / 1000 + last / 256)
 }
 
-/// Prints a line for each.
-pub fn report<R: Clock + Print + AllocGlobal>(rt: &R) -> io::Result<()> {
-    let alloc = rt.alloc();
-    let frame = post(alloc)?;
+/// A stream of many frames.
+fn stream_of(alloc: Global, frame: &[u8]) -> io::Result<Vec<u8>> {
     let mut stream = Vec::new(alloc);
     for _ in 0..FRAMES {
-        stream.extend_from_slice(frame.as_slice())?;
+        stream.extend_from_slice(frame)?;
     }
-    let posts = time_posts(rt, frame.as_slice())?;
-    let one = time_pieces(rt, stream.as_slice(), 1)?;
-    let seven = time_pieces(rt, stream.as_slice(), 7)?;
-    let large = time_pieces(rt, stream.as_slice(), 1448)?;
-    let copy = time_copy(rt, stream.as_slice())?;
+    Ok(stream)
+}
+
+/// Prints a line for the reading of a stream.
+fn report_stream<R: Clock + Print + AllocGlobal>(rt: &R, stream: &[u8]) -> io::Result<()> {
+    let one = time_pieces(rt, stream, 1)?;
+    let seven = time_pieces(rt, stream, 7)?;
+    let large = time_pieces(rt, stream, 1448)?;
+    let copy = time_copy(rt, stream)?;
     let len = stream.len();
-    println!(rt; "a post of 1000 bytes: read, answered and written in {posts} ns")?;
     println!(rt;
         "{FRAMES} frames of {len} bytes: in pieces of 1, 7, 1448 bytes {one}, {seven}, {large} us; copied in {copy} us"
     )
+}
+
+/// Prints a line for each.
+pub fn report<R: Clock + Print + AllocGlobal>(rt: &R) -> io::Result<()> {
+    let frame = post(rt.alloc())?;
+    let posts = time_posts(rt, frame.as_slice())?;
+    println!(rt; "a post of 1000 bytes: read, answered and written in {posts} ns")?;
+    let stream = stream_of(rt.alloc(), frame.as_slice())?;
+    report_stream(rt, stream.as_slice())
 }

@@ -1,5 +1,8 @@
 //! A text said and its packet taken by clients on real files.
 
+ghost use Rattle.std.specs.Prelude.{◌≡◌, None, IfOk, OnOk};
+ghost use Rattle.client.specs.Clients.{IsReady};
+
 use crate::clock::Times;
 use client::{Client, SLOT};
 use dr_base::{Key32, Side};
@@ -53,31 +56,56 @@ fn packet_at<K: Kem>(alloc: Global, client: &Client<K>, at: usize) -> io::Result
     }
 }
 
+/// Says a text, and adds the time of that.
+fn time_say<K: Kem, D: Disk, R: Clock>(
+    rt: &R,
+    client: &mut Client<K>,
+    disk: &mut D,
+    draws: &mut SteadyDraws,
+    times: &mut Times,
+) -> io::Result<()>
+    requires { client.old.closed ≡ None → IsReady client.old.kept client.old.store (D.state disk.old) }
+    ensures { OnOk result ((client.new.closed ≡ None) × IsReady client.new.kept client.new.store (D.state disk.new)) }
+{
+    let start = Instant::now(rt)?;
+    match client.say(disk, &TEXT, draws) {
+        Ok(_) => times.add(rt, start),
+        Err(_) => Err(Error::from(ErrorKind::InvalidData)),
+    }
+}
+
+/// Takes a packet, and adds the time of that.
+fn time_take<K: Kem, D: Disk, R: Clock>(
+    rt: &R,
+    client: &mut Client<K>,
+    disk: &mut D,
+    packet: &[u8],
+    times: &mut Times,
+) -> io::Result<()>
+    requires { client.old.closed ≡ None → IsReady client.old.kept client.old.store (D.state disk.old) }
+    ensures { OnOk result ((client.new.closed ≡ None) × IsReady client.new.kept client.new.store (D.state disk.new)) }
+{
+    let start = Instant::now(rt)?;
+    match client.take(disk, packet) {
+        Ok(_) => times.add(rt, start),
+        Err(_) => Err(Error::from(ErrorKind::InvalidData)),
+    }
+}
+
 /// Says two texts, the first of a new epoch, and answers their packets, which leave the outbox.
 fn say_two<K: Kem, D: Disk, R: Clock + AllocGlobal>(
     rt: &R,
+    client: &mut Client<K>,
     disk: &mut D,
     draws: &mut SteadyDraws,
     rounds: &mut Rounds,
-) -> io::Result<(Vec<u8>, Vec<u8>)> {
-    if disk.size() < 2 * SLOT as u64 {
-        return Err(Error::from(ErrorKind::InvalidInput));
-    }
-    let Ok(mut client) = Client::<K>::open(rt.alloc(), disk) else {
-        return Err(Error::from(ErrorKind::InvalidData));
-    };
-    let start = Instant::now(rt)?;
-    let Ok(_) = client.say(disk, &TEXT, draws) else {
-        return Err(Error::from(ErrorKind::InvalidData));
-    };
-    rounds.said_turn.add(rt, start)?;
-    let start = Instant::now(rt)?;
-    let Ok(_) = client.say(disk, &TEXT, draws) else {
-        return Err(Error::from(ErrorKind::InvalidData));
-    };
-    rounds.said.add(rt, start)?;
-    let turn = packet_at(rt.alloc(), &client, 0)?;
-    let later = packet_at(rt.alloc(), &client, 1)?;
+) -> io::Result<(Vec<u8>, Vec<u8>)>
+    requires { client.old.closed ≡ None → IsReady client.old.kept client.old.store (D.state disk.old) }
+{
+    time_say(rt, client, disk, draws, &mut rounds.said_turn)?;
+    time_say(rt, client, disk, draws, &mut rounds.said)?;
+    let turn = packet_at(rt.alloc(), client, 0)?;
+    let later = packet_at(rt.alloc(), client, 1)?;
     match client.sent(disk, 2) {
         Ok(()) => Ok((turn, later)),
         Err(_) => Err(Error::from(ErrorKind::InvalidData)),
@@ -85,62 +113,93 @@ fn say_two<K: Kem, D: Disk, R: Clock + AllocGlobal>(
 }
 
 /// Takes them.
-fn take_two<K: Kem, D: Disk, R: Clock + AllocGlobal>(
+fn take_two<K: Kem, D: Disk, R: Clock>(
     rt: &R,
+    client: &mut Client<K>,
     disk: &mut D,
-    turn: &[u8],
-    later: &[u8],
+    packets: &(Vec<u8>, Vec<u8>),
     rounds: &mut Rounds,
-) -> io::Result<()> {
-    if disk.size() < 2 * SLOT as u64 {
-        return Err(Error::from(ErrorKind::InvalidInput));
-    }
-    let Ok(mut client) = Client::<K>::open(rt.alloc(), disk) else {
-        return Err(Error::from(ErrorKind::InvalidData));
-    };
-    let start = Instant::now(rt)?;
-    let Ok(_) = client.take(disk, turn) else {
-        return Err(Error::from(ErrorKind::InvalidData));
-    };
-    rounds.taken_turn.add(rt, start)?;
-    let start = Instant::now(rt)?;
-    let Ok(_) = client.take(disk, later) else {
-        return Err(Error::from(ErrorKind::InvalidData));
-    };
-    rounds.taken.add(rt, start)?;
+) -> io::Result<()>
+    requires { client.old.closed ≡ None → IsReady client.old.kept client.old.store (D.state disk.old) }
+{
+    time_take(rt, client, disk, &packets.0, &mut rounds.taken_turn)?;
+    time_take(rt, client, disk, &packets.1, &mut rounds.taken)?;
     match client.done(disk, 2) {
         Ok(()) => Ok(()),
         Err(_) => Err(Error::from(ErrorKind::InvalidData)),
     }
 }
 
-/// Prints a line over a mechanism, and removes the files.
+/// The client that a disk holds.
+fn opened<K: Kem, D: Disk>(alloc: Global, disk: &mut D) -> io::Result<Client<K>>
+    ensures { IfOk result (λ client. client.closed ≡ None → IsReady client.kept client.store (D.state disk.new)) }
+{
+    if disk.size() < 2 * SLOT as u64 {
+        return Err(Error::from(ErrorKind::InvalidInput));
+    }
+    match Client::<K>::open(alloc, disk) {
+        Ok(client) => Ok(client),
+        Err(_) => Err(Error::from(ErrorKind::InvalidData)),
+    }
+}
+
+/// One side says two texts, and the other takes them.
+fn pass<K: Kem, D: Disk, R: Clock + AllocGlobal>(
+    rt: &R,
+    from: &mut D,
+    to: &mut D,
+    draws: &mut SteadyDraws,
+    rounds: &mut Rounds,
+) -> io::Result<()> {
+    let mut client = opened::<K, D>(rt.alloc(), from)?;
+    let packets = say_two(rt, &mut client, from, draws, rounds)?;
+    let mut client = opened::<K, D>(rt.alloc(), to)?;
+    take_two(rt, &mut client, to, &packets, rounds)
+}
+
+/// Both sides begin, and say and take in turn.
+fn play<K: Kem, D: Disk, R: Clock + AllocGlobal>(
+    rt: &R,
+    first: &mut D,
+    second: &mut D,
+    rounds: &mut Rounds,
+) -> io::Result<()> {
+    begin::<K, D>(rt.alloc(), Side::First, first)?;
+    begin::<K, D>(rt.alloc(), Side::Second, second)?;
+    let mut draws = SteadyDraws::new(rt.alloc(), &[Key32 { bytes: [3; 32] }])?;
+    for _ in 0..RUNS {
+        pass::<K, D, R>(rt, first, second, &mut draws, rounds)?;
+        pass::<K, D, R>(rt, second, first, &mut draws, rounds)?;
+    }
+    Ok(())
+}
+
+/// Both sides on new files, which are removed.
+fn play_on_files<K: Kem, R: Clock + AllocGlobal + Files<File = File>>(
+    rt: &R,
+    rounds: &mut Rounds,
+) -> io::Result<()> {
+    let mut first = FileDisk::new(rt, FIRST, 2 * SLOT as u64, Sharing::InTurn);
+    let mut second = FileDisk::new(rt, SECOND, 2 * SLOT as u64, Sharing::InTurn);
+    play::<K, FileDisk<R>, R>(rt, &mut first, &mut second, rounds)?;
+    drop(first);
+    drop(second);
+    fs::remove_file(rt, FIRST)?;
+    Ok(fs::remove_file(rt, SECOND)?)
+}
+
+/// Prints a line over a mechanism.
 fn report_over<K: Kem, R: Clock + Print + AllocGlobal + Files<File = File>>(
     rt: &R,
     name: &str,
 ) -> io::Result<()> {
-    let alloc = rt.alloc();
-    let mut first = FileDisk::new(rt, FIRST, 2 * SLOT as u64, Sharing::InTurn);
-    let mut second = FileDisk::new(rt, SECOND, 2 * SLOT as u64, Sharing::InTurn);
-    begin::<K, FileDisk<R>>(alloc, Side::First, &mut first)?;
-    begin::<K, FileDisk<R>>(alloc, Side::Second, &mut second)?;
-    let mut draws = SteadyDraws::new(alloc, &[Key32 { bytes: [3; 32] }])?;
     let mut rounds = Rounds {
-        said_turn: Times::new(alloc),
-        said: Times::new(alloc),
-        taken_turn: Times::new(alloc),
-        taken: Times::new(alloc),
+        said_turn: Times::new(rt.alloc()),
+        said: Times::new(rt.alloc()),
+        taken_turn: Times::new(rt.alloc()),
+        taken: Times::new(rt.alloc()),
     };
-    for _ in 0..RUNS {
-        let (turn, later) = say_two::<K, FileDisk<R>, R>(rt, &mut first, &mut draws, &mut rounds)?;
-        take_two::<K, FileDisk<R>, R>(rt, &mut second, &turn, &later, &mut rounds)?;
-        let (turn, later) = say_two::<K, FileDisk<R>, R>(rt, &mut second, &mut draws, &mut rounds)?;
-        take_two::<K, FileDisk<R>, R>(rt, &mut first, &turn, &later, &mut rounds)?;
-    }
-    drop(first);
-    drop(second);
-    fs::remove_file(rt, FIRST)?;
-    fs::remove_file(rt, SECOND)?;
+    play_on_files::<K, R>(rt, &mut rounds)?;
     let said = rounds.said.median()? / 1000;
     let said_turn = rounds.said_turn.median()? / 1000;
     let taken = rounds.taken.median()? / 1000;

@@ -31,7 +31,7 @@ struct Party<K: Kem> {
 }
 
 /// A seed of equal bytes, if one is asked for.
-fn seed_of(asked: bool, byte: u8) -> Option<Key32>
+pub fn seed_of(asked: bool, byte: u8) -> Option<Key32>
     ensures { is_some result ≡ asked }
 {
     if asked {
@@ -102,15 +102,48 @@ fn parties<K: Kem>(alloc: Global, work: &mut K::Work) -> io::Result<(Party<K>, P
     }
 }
 
+/// Passes texts of one side in an epoch, and adds the time of each.
+fn pass_texts<K: Kem, R: Clock>(
+    rt: &R,
+    from: &mut Party<K>,
+    to: &mut Party<K>,
+    work: &mut K::Work,
+    times: &mut Times,
+) -> io::Result<()> {
+    for _ in 0..TEXTS {
+        let start = Instant::now(rt)?;
+        pass(from, to, work, 1);
+        times.add(rt, start)?;
+    }
+    Ok(())
+}
+
+/// Passes texts of both sides in turn, each of which begins an epoch, and adds the time of each.
+fn pass_turns<K: Kem, R: Clock>(
+    rt: &R,
+    first: &mut Party<K>,
+    second: &mut Party<K>,
+    work: &mut K::Work,
+    times: &mut Times,
+) -> io::Result<()> {
+    for run in 0..TURNS {
+        let byte = (run % 128) as u8;
+        let start = Instant::now(rt)?;
+        if run % 2 == 0 {
+            pass(first, second, work, byte);
+        } else {
+            pass(second, first, work, byte);
+        }
+        times.add(rt, start)?;
+    }
+    Ok(())
+}
+
 /// The median time of a text in an epoch, said by one side and taken by the other, in nanoseconds.
 fn time_text<K: Kem, R: Clock + AllocGlobal>(rt: &R, work: &mut K::Work) -> io::Result<u64> {
     let (mut first, mut second) = parties::<K>(rt.alloc(), work)?;
     let mut times = Times::new(rt.alloc());
-    for _ in 0..TEXTS {
-        let start = Instant::now(rt)?;
-        pass(&mut second, &mut first, work, 1);
-        times.add(rt, start)?;
-    }
+    pass_texts(rt, &mut second, &mut first, work, &mut times)?;
     times.median()
 }
 
@@ -118,16 +151,7 @@ fn time_text<K: Kem, R: Clock + AllocGlobal>(rt: &R, work: &mut K::Work) -> io::
 fn time_turn<K: Kem, R: Clock + AllocGlobal>(rt: &R, work: &mut K::Work) -> io::Result<u64> {
     let (mut first, mut second) = parties::<K>(rt.alloc(), work)?;
     let mut times = Times::new(rt.alloc());
-    for run in 0..TURNS {
-        let byte = (run % 128) as u8;
-        let start = Instant::now(rt)?;
-        if run % 2 == 0 {
-            pass(&mut first, &mut second, work, byte);
-        } else {
-            pass(&mut second, &mut first, work, byte);
-        }
-        times.add(rt, start)?;
-    }
+    pass_turns(rt, &mut first, &mut second, work, &mut times)?;
     times.median()
 }
 

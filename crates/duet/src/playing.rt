@@ -13,7 +13,8 @@ ghost use Rattle.scripts.specs.Seen.{event_of};
 ghost use Rattle.duet.specs.Tally.{IsBelow, counted_of, tally_of};
 ghost use Rattle.duet.specs.Playing.{PlaysDeed};
 ghost use Rattle.duet.specs.Trace.{played};
-ghost use Rattle.scripts.specs.Lined.{lined_deed};
+ghost use Rattle.scripts.specs.Deeds.{acts};
+ghost use Rattle.scripts.specs.Lined.{lined_deed, stop_event};
 
 use crate::party::{BeginError, Party};
 use crate::reply::reply;
@@ -23,7 +24,7 @@ use answer_lines::text_line;
 use dr_base::Side;
 use dr_ports::{Failed, Sink, write_all};
 use kem_laws::Kem;
-use scripts::{Line, Lined, Script, side_name};
+use scripts::{Line, Lined, Script, Stop, side_name};
 use session_model::Answer;
 use std::alloc::{AllocError, Global};
 
@@ -132,6 +133,29 @@ enum Cut {
     Write,
 }
 
+/// Plays an act that a stop cuts off: counts its answer, and writes its line. Gives both sides after it.
+fn play_stop<K: Kem, O: Sink>(
+    alloc: Global,
+    duet: Duet<K>,
+    stop: &Stop<'_>,
+    tally: &mut Tally,
+    out: &mut O,
+) -> Result<Duet<K>, Cut>
+    requires room { length duet.sides.posts < duet.room }
+    requires draws { duet.sides.draws.made < 2 ^ 32 - 1 }
+    requires few { IsBelow (2 ^ 32 - 1) tally.old }
+    ensures { PlaysDeed K.mechanism (acts (stop_event stop.now)) duet tally.old tally.new (O.taken out.old) (O.taken out.new)
+        (O.faults out.old) (O.faults out.new) result }
+{
+    match duet.stop(alloc, stop) {
+        Err(AllocError) => Err(Cut::Memory),
+        Ok((next, answer)) => match tell(stop.side(), answer, tally, out) {
+            Err(Failed) => Err(Cut::Write),
+            Ok(()) => Ok(next),
+        },
+    }
+}
+
 /// Plays one deed: counts its answer, and writes its lines. Gives both sides after it.
 fn play_deed<K: Kem, O: Sink>(
     alloc: Global,
@@ -152,13 +176,7 @@ fn play_deed<K: Kem, O: Sink>(
             Err(Failed) => Err(Cut::Write),
             Ok(()) => Ok(duet),
         },
-        Lined::Stopping(stop) => match duet.stop(alloc, stop) {
-            Err(AllocError) => Err(Cut::Memory),
-            Ok((next, answer)) => match tell(stop.side(), answer, tally, out) {
-                Err(Failed) => Err(Cut::Write),
-                Ok(()) => Ok(next),
-            },
-        },
+        Lined::Stopping(stop) => play_stop(alloc, duet, stop, tally, out),
         Lined::Syncing(side, lost) => match duet.sync(out, *side, *lost) {
             Err(Failed) => Err(Cut::Write),
             Ok(()) => Ok(duet),

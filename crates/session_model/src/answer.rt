@@ -4,7 +4,7 @@ use dr_base::Position;
 use packet::Malformed;
 
 /// The answer to an event of the conversation.
-#[derive(Clone, Copy, Debug, PartialEq, Eq)]
+#[derive(Clone, Copy)]
 pub enum Answer {
     /// The text has this position, and its packet is in the outbox.
     Said(Position),
@@ -29,7 +29,7 @@ pub enum Answer {
 }
 
 /// What a side holds, in numbers.
-#[derive(Clone, Copy, Debug, PartialEq, Eq)]
+#[derive(Clone, Copy)]
 pub struct Summary {
     /// The greatest epoch that the side has reached.
     pub epoch: u32,
@@ -77,7 +77,7 @@ pub enum Refusal {
 }
 
 /// How many of the oldest items are taken out of a box.
-#[derive(Clone, Copy, Debug, PartialEq, Eq)]
+#[derive(Clone, Copy)]
 pub enum Amount {
     /// All that stand.
     All,
