@@ -30,9 +30,6 @@ built_for name reading = finished_shape (shape_with name (built_rules reading))
 abbrev pub built_row : Row → Shape
 built_row row = built_for row.0 row.1
 
-pub top_is : (table : List Row) → (built (application table)).top ≡ built_top
-top_is table = refl
-
 pub subs_are : (table : List Row) → (built (application table)).subs ≡ map built_row table
 subs_are [] = refl
 subs_are (row ∷ rest) = ap (λ (ss : List Shape). built_row row ∷ ss) (subs_are rest)

@@ -31,12 +31,3 @@ kind_of (x ∷ y ∷ zs) = go (x == 45) refl
     go : (b : Bool) → (x == 45) ≡ b → Kind (x ∷ y ∷ zs)
     go true e = subst (λ (c : ℕ). Kind (c ∷ y ∷ zs)) (sym (eqb-true x 45 e)) (hyphened y zs)
     go false e = stands (rw e refl) (rw e refl) (rw e refl) (rw e refl)
-
--- what is neither the separator nor a flag is no option to clap
-pub plain_is : (word : List ℕ) → is_separator word ≡ false → is_flag word ≡ false → (long_of word ≡ None) × (short_of word ≡ None)
-plain_is word apart plain = elim (kind_of word) [
-  | divides e ↦ absurd cc
-  | stands e f l h ↦ (l, h)
-  | long e f p l ↦ absurd cc
-  | short e f l y zs h is ↦ absurd cc
-]

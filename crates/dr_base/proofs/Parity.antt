@@ -27,12 +27,9 @@ pub own_peer : (side : Side) (t : ℕ) → is_own (peer_of side) t ≡ not (is_o
 own_peer First t = own_second t
 own_peer Second t = own_first t
 
--- an own epoch after a peer's, and a peer's after an own one
+-- an own epoch comes after a peer's
 pub own_after : (side : Side) (t : ℕ) → is_own side t ≡ false → is_own side (t + 1) ≡ true
 own_after side t peers = own_next side t ∙ ap not peers
-
-pub peers_after : (side : Side) (t : ℕ) → is_own side t ≡ true → is_own side (t + 1) ≡ false
-peers_after side t own = own_next side t ∙ ap not own
 
 -- what is negated
 negated : (a b : Bool) → a ≡ not b → b ≡ not a

@@ -1,11 +1,10 @@
 -- Counts of calls in memory.
-use Rattle.std.proofs.Common.{◌≡◌, ℕ, ◌+◌, ◌-◌, ◌^◌, ◌<◌, ◌≤◌, min, Bool, true, false, List, length, Option, Some, None, refl, ap, arith, inr, if◌then◌else◌}
+use Rattle.std.proofs.Common.{◌≡◌, ℕ, ◌+◌, ◌-◌, ◌^◌, ◌<◌, ◌≤◌, min, Bool, true, false, Some, None, refl, ap, arith, if◌then◌else◌}
 use Rattle.std.specs.Prelude.{nat_lt}
 use Rattle.std.proofs.lemmas.Bool.Decides.{nat_tests}
 use Rattle.dr_disk.specs.declared.call.Call.{Call}
 use Rattle.dr_disk.specs.declared.call.Call.TheVariants.{Read, Write, Sync}
-use Rattle.dr_disk.specs.Spans.{GoesBy, HaveGone}
-use Rattle.dr_disk.specs.Memory.{Counts, count_of, memory_state, told_count}
+use Rattle.dr_disk.specs.Memory.{Counts, count_of, told_count}
 
 -- a count that is told later is told before
 pub counted : (p p' m : ℕ) → p ≤ p' → told_count p' ≡ Some m → (l : ℕ) × (told_count p ≡ Some l) × (l ≤ m)
@@ -33,17 +32,3 @@ pub counts_grow : (old new : Counts) → old.reads ≤ new.reads → old.writes 
 counts_grow old new reads writes syncs Read = reads
 counts_grow old new reads writes syncs Write = writes
 counts_grow old new reads writes syncs Sync = syncs
-
-pub goes_by : (b b' d d' a a' : List ℕ) (m m' : List Bool) (s s' : Option ℕ) (p p' : ℕ) (n n' : Counts) → length b' ≡ length b → n.reads ≤ n'.reads → n.writes ≤ n'.writes → n.syncs ≤ n'.syncs → p ≤ p'
-    → HaveGone (memory_state b d a m s p n) (memory_state b' d' a' m' s' p' n') → GoesBy (memory_state b d a m s p n) (memory_state b' d' a' m' s' p' n')
-goes_by b b' d d' a a' m m' s s' p p' n n' same reads writes syncs on gone = record {
-  size = same;
-  counts = counts_grow n n' reads writes syncs;
-  later = omega arith;
-  passes = λ m told. counted p p' m on told;
-  keeps = refl;
-  fates = gone;
-  told = λ s is. (b', refl);
-  each = λ t c le none. absurd none;
-  last = λ c left. inr left;
-}

@@ -66,6 +66,3 @@ pub reads_wider : (at n x y : ℕ) (a b : DiskState) → x ≤ at → at + n ≤
 reads_wider at n x y a b le ge reads s told =
     let was = reads s told in
     (was.0, was.1, torn_wider at n x y was.0 s le ge was.2)
-
-pub reads_same : (at n : ℕ) (a b : DiskState) → b.seen ≡ a.seen → ReadsOutside at n a b
-reads_same at n a b same s told = (s, sym same ∙ told, torn_self at n s)

@@ -62,21 +62,6 @@ goes_on size events events' event bytes bytes' durable durable' asked asked' mar
   last = λ c left. inr left;
 }
 
-pub goes_nowhere : (size : ℕ) (events : List Event) (bytes durable asked : List ℕ) (marks : List Bool) (full full' : Bool) (passed : ℕ) (counts counts' : Counts)
-    → counts.reads ≤ counts'.reads → counts.writes ≤ counts'.writes → counts.syncs ≤ counts'.syncs
-    → GoesBy (recording_state size events bytes durable asked marks full passed counts) (recording_state size events bytes durable asked marks full' passed counts')
-goes_nowhere size events bytes durable asked marks full full' passed counts counts' reads writes syncs = record {
-  size = refl;
-  counts = counts_grow counts counts' reads writes syncs;
-  later = omega arith;
-  passes = λ m told. (m, told, omega arith);
-  keeps = refl;
-  fates = λ n told. absurd (let e : untold_fate ≡ some_pass n = told in cc);
-  told = λ s is. (s, is);
-  each = λ t c le was. inl was;
-  last = λ c left. inr left;
-}
-
 -- a call that was recorded
 module _ (size : ℕ) (calls calls' : List Recorded) (tape tape' : List ℕ) (call : Recorded) (piece : List ℕ) (total : total_of calls ≡ length tape) (len : call.len ≡ length piece)
     (more : calls' ≡ calls ++ call ∷ []) (longer : tape' ≡ tape ++ piece) where

@@ -1,11 +1,11 @@
 -- Seeds that are given in turn.
-use Rattle.std.proofs.Common.{◌≡◌, ℕ, zero, suc, ◌+◌, ◌%◌, ◌<◌, List, [], ◌∷◌, ◌++◌, length, get_or, Option, None, Some, refl, sym, ◌∙◌, ap, arith, add-zero}
+use Rattle.std.proofs.Common.{◌≡◌, ℕ, zero, suc, ◌+◌, ◌%◌, ◌<◌, List, [], length, get_or, sym, ◌∙◌, ap, arith, add-zero}
 use Rattle.std.proofs.Math.Nat.{mod-add-mod, mod-eq_of_lt}
 use Rattle.std.proofs.Math.Path.{fun_ext}
 use Rattle.std.proofs.lemmas.List.{get_or_default}
 use Rattle.dr_base.specs.declared.key.Key32.{Key32}
 use Rattle.dr_ports.specs.Memory.{Turning, coming_of}
-use Rattle.dr_ports.specs.Seeds.{Seeds, drawn, seed_before, seeds_before}
+use Rattle.dr_ports.specs.Seeds.{Seeds, seed_before}
 
 -- the seed at a place, counted round
 abbrev seed_at : List Key32 → ℕ → List ℕ
@@ -27,12 +27,3 @@ gives_next turning seeds at count read given seen below all is copied =
     ap coming_of (sym seen) ∙ fun_ext (turned seeds at read (omega (arith, below, all)) is)
     ∙ ap (λ (s : Key32). seed_before s.bytes (coming_of (record { seeds = seeds; at = (at + 1) % length seeds }))) (sym copied)
     ∙ ap (λ n. seed_before given.bytes (coming_of (record { seeds = seeds; at = (at + 1) % n }))) (sym all)
-
--- seeds drawn in turn are drawn as one list
-pub drawn-drawn : (first second : List (List ℕ)) (told : Option Seeds) → drawn first (drawn second told) ≡ drawn (first ++ second) told
-drawn-drawn first second None = refl
-drawn-drawn first second (Some seeds) = ap Some (in_turn first)
-  where
-    in_turn : (others : List (List ℕ)) → seeds_before others (seeds_before second seeds) ≡ seeds_before (others ++ second) seeds
-    in_turn [] = refl
-    in_turn (seed ∷ others) = ap (seed_before seed) (in_turn others)

@@ -24,7 +24,7 @@ use Rattle.scripts.specs.Sides.{deed_side}
 use Rattle.duet.specs.Replies.{reply_of}
 use Rattle.scripts.specs.Script.{Scripted}
 use Rattle.duet.specs.Tally.{both_reached, both_reached_in, counted_all, counted_by, opening_tally, tally_in, tally_of}
-use Rattle.duet.specs.Trace.{IsFairScript, IsUnforgedDeed, IsUnforgedPlay, after_by, beginning_in, lines_by, played, trace_of}
+use Rattle.duet.specs.Trace.{IsUnforgedDeed, IsUnforgedPlay, IsUnforgedScript, after_by, beginning_in, lines_by, played, trace_of}
 use Rattle.scripts.specs.Deeds.{HasWholeSeed}
 use Rattle.duet.specs.declared.tally.Tally.{Tally}
 use Rattle.duet.proofs.SaidBoxes.{HoldsOnly, IsHonest, IsSaidPacket, honest_next}
@@ -111,19 +111,19 @@ honest_beginning k script pairs =
 
 -- from there
 script_follows : (k : Mechanism) (script : Scripted) → IsLawfulMechanism k → is_some (k.meaning.pair_of (agreement_seed script.key)) ≡ true
-    → All HasWholeSeed script.deeds → IsFairScript k script
+    → All HasWholeSeed script.deeds → IsUnforgedScript k script
     → RunsAlike k (beginning_in k script) script.deeds
 script_follows k script law pairs whole fair =
     run_follows k (beginning_in k script) script.deeds law (honest_beginning k script pairs) whole fair
 
 pub follows : (k : Mechanism) (script : Scripted) → IsLawfulMechanism k → is_some (k.meaning.pair_of (agreement_seed script.key)) ≡ true
-    → All HasWholeSeed script.deeds → IsFairScript k script
+    → All HasWholeSeed script.deeds → IsUnforgedScript k script
     → played k script ≡ trace_of k script
 unfolding played trace_of
 follows k script law pairs whole fair = (script_follows k script law pairs whole fair).lines
 
 pub tallies_follow : (k : Mechanism) (script : Scripted) → IsLawfulMechanism k
-    → is_some (k.meaning.pair_of (agreement_seed script.key)) ≡ true → All HasWholeSeed script.deeds → IsFairScript k script
+    → is_some (k.meaning.pair_of (agreement_seed script.key)) ≡ true → All HasWholeSeed script.deeds → IsUnforgedScript k script
     → tally_of k script ≡ tally_in k script
 unfolding tally_of tally_in
 tallies_follow k script law pairs whole fair =

@@ -7,7 +7,7 @@ use Rattle.kem_laws.specs.Mechanism.{Mechanism}
 use Rattle.duet.specs.Outcomes.{Beside}
 use Rattle.scripts.specs.Deeds.{Deed}
 use Rattle.scripts.specs.Make.{deeds_from, made_deeds, made_script, opening, round_of, turn_deeds}
-use Rattle.duet.specs.Trace.{IsFairScript, IsUnforgedPlay, beginning_in}
+use Rattle.duet.specs.Trace.{IsUnforgedPlay, IsUnforgedScript, beginning_in}
 use Rattle.scripts.specs.Deeds.{HasWholeSeed}
 use Rattle.scripts.specs.declared.make.rounds.Making.{Making}
 use Rattle.scripts.specs.declared.make.rounds.Turn.{Turn}
@@ -52,6 +52,6 @@ fair_from k s m round (suc left) =
     turn_fair k s round (round_of m).turn (deeds_from (round_of m).next (round + 1) left)
     (λ next. fair_from k next (round_of m).next (round + 1) left)
 
-pub made_fair : (k : Mechanism) (rounds number : ℕ) → IsFairScript k (made_script rounds number)
+pub made_fair : (k : Mechanism) (rounds number : ℕ) → IsUnforgedScript k (made_script rounds number)
 unfolding made_deeds
 made_fair k rounds number = fair_from k (beginning_in k (made_script rounds number)) (opening number) 1 rounds

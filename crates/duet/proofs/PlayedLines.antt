@@ -13,8 +13,6 @@ use Rattle.duet.specs.Outcomes.{Beside, Played, deed_on}
 use Rattle.scripts.specs.Deeds.{Deed, acts, syncs}
 use Rattle.scripts.specs.Sides.{deed_side}
 use Rattle.duet.specs.Held.{DuetNow, after_deed, beside, opening_duet}
-use Rattle.scripts.specs.Lined.{lined_deed}
-use Rattle.scripts.specs.declared.lined.Lined.{Lined}
 use Rattle.scripts.specs.Script.{Scripted}
 use Rattle.duet.specs.Tally.{IsBelow, IsSideBelow, both_reached, counted, counted_all, counted_by, counted_of, no_tally, opening_tally, tally_of}
 use Rattle.duet.specs.Trace.{after_by, beginning, lines_by, played}
@@ -103,10 +101,6 @@ plays_first k script left duet tally told before room all rooms begins few none 
 -- how many were done, where one is left
 pub answered : (deeds left rest all : List Deed) (deed : Deed) → all ≡ deeds ++ left → left ≡ deed ∷ rest → length deeds < length all
 answered deeds left rest all deed whole first = omega (arith, ap length whole, length-append deeds left, ap length first)
-
--- the deed of a line of this kind
-pub first_is : (left rest : List Deed) (line other : Lined) → left ≡ lined_deed line ∷ rest → line ≡ other → left ≡ lined_deed other ∷ rest
-first_is left rest line other first is = first ∙ ap (λ (l : Lined). lined_deed l ∷ rest) is
 
 -- one deed more
 pub plays_on : (k : Mechanism) (script : Scripted) (left rest : List Deed) (deed : Deed) (duet next : DuetNow) (tally more : Tally)

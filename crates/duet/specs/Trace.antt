@@ -49,5 +49,5 @@ abbrev pub IsUnforgedPlay : Mechanism → Beside World → List Deed → Type 0
 IsUnforgedPlay k s [] = ⊤
 IsUnforgedPlay k s (deed ∷ deeds) = IsUnforgedDeed k s deed × IsUnforgedPlay k (deed_in k s deed).next deeds
 
-abbrev pub IsFairScript : Mechanism → Scripted → Type 0
-IsFairScript k script = IsUnforgedPlay k (beginning_in k script) script.deeds
+abbrev pub IsUnforgedScript : Mechanism → Scripted → Type 0
+IsUnforgedScript k script = IsUnforgedPlay k (beginning_in k script) script.deeds

@@ -3,7 +3,7 @@ use Rattle.std.proofs.Common.{◌≡◌, ◌≢◌, ℕ, ◌+◌, ◌<◌, Bool,
 use Rattle.std.specs.Prelude.{not, ◌⊎◌, filter, remove, position, option_map, is_some, IsSome, Contains}
 use Rattle.std.proofs.lemmas.Bool.{cases_Bool}
 use Rattle.std.proofs.lemmas.Bool.Decides.{nat_tests}
-use Rattle.std.proofs.lemmas.List.Quantifiers.{position-Some, all_pairs_remove}
+use Rattle.std.proofs.lemmas.List.Quantifiers.{position-Some}
 use Rattle.std.proofs.lemmas.List.Edits.{length-remove}
 use Rattle.std.proofs.lemmas.List.Kept.{AllPairs-filter}
 use Rattle.std.proofs.lemmas.List.Elements.{filter_passes}
@@ -72,10 +72,6 @@ kept_key-none keys p missing =
 pub without-none : (keys : List Kept) (p : Position) → position (is_kept_at p) keys ≡ None → without keys p ≡ keys
 unfolding without
 without-none keys p missing = filter-none (is_kept_at p) keys (position-None (is_kept_at p) keys missing)
-
--- a table stays in order
-pub IsAscending-remove : (keys : List Kept) (i : ℕ) → i < length keys → IsAscending keys → IsAscending (remove keys i)
-IsAscending-remove keys i below up = all_pairs_remove (λ a b. IsBefore a.position b.position) keys i below up
 
 not_passed : (b : Bool) → not b ≡ true → b ≡ false
 not_passed b h = grind arith

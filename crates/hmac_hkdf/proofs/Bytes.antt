@@ -1,12 +1,12 @@
 -- What HMAC and HKDF make are bytes: numbers below 256.
 use Rattle.std.proofs.Common.{ℕ, zero, suc, ◌<◌, List, arith}
 use Rattle.std.specs.List.{All}
-use Rattle.std.specs.Int.{bytes_high_first, byte_at, div_ceil, to_be_bytes, w32}
+use Rattle.std.specs.Int.{bytes_high_first, byte_at, to_be_bytes, w32}
 use Rattle.std.specs.Prelude.{slice_index}
-use Rattle.std.proofs.lemmas.List.Elements.{All-nil, All-cons, All-append, All-take}
+use Rattle.std.proofs.lemmas.List.Elements.{All-nil, All-cons, All-append}
 use Rattle.sha2.specs.Sha256.{digest_bytes, sha256}
 use Rattle.hmac_hkdf.specs.Hmac.{hmac_of}
-use Rattle.hmac_hkdf.specs.Hkdf.{expand_block, expand_blocks, expand_of, extract_of}
+use Rattle.hmac_hkdf.specs.Hkdf.{expand_block, expand_blocks}
 
 -- a number is a byte
 abbrev pub IsByte : ℕ → Type 0
@@ -35,18 +35,8 @@ pub hmac_of-below : (key m : List ℕ) → All IsByte (hmac_of key m)
 unfolding hmac_of
 hmac_of-below key m = sha256-below _
 
--- a pseudorandom key is made of bytes
-pub extract_of-below : (salt ikm : List ℕ) → All IsByte (extract_of salt ikm)
-unfolding extract_of
-extract_of-below salt ikm = hmac_of-below salt ikm
-
 expand_blocks-below : (prk info : List ℕ) (n : ℕ) → All IsByte (expand_blocks prk info n)
 unfolding expand_blocks expand_block
 expand_blocks-below prk info zero = All-nil IsByte
 expand_blocks-below prk info (suc n) =
     All-append IsByte (expand_blocks prk info n) (expand_block prk info (suc n)) (expand_blocks-below prk info n) (hmac_of-below prk _)
-
--- output keying material is made of bytes
-pub expand_of-below : (prk info : List ℕ) (n : ℕ) → All IsByte (expand_of prk info n)
-unfolding expand_of
-expand_of-below prk info n = All-take IsByte n (expand_blocks prk info (div_ceil n 32)) (expand_blocks-below prk info (div_ceil n 32))

@@ -5,7 +5,7 @@ use Rattle.dr_ports.specs.Writing.{TookBeginning}
 use Rattle.session_model.specs.Schedule.{agreement_seed}
 use Rattle.session_model.specs.declared.answer.Refusal.TheVariants.{NoPair}
 use Rattle.scripts.specs.Script.{Scripted, script_of}
-use Rattle.duet.specs.Trace.{IsFairScript, played, trace_of}
+use Rattle.duet.specs.Trace.{IsUnforgedScript, played, trace_of}
 use Rattle.endings.specs.declared.ending.Ending.{Ending}
 use Rattle.endings.specs.declared.ending.Ending.TheVariants.{Done, InputTooLong, BadLine, Refused, ReadFault, NoMemory}
 use Rattle.messenger_cli.specs.declared.playing.TheConstants.{SCRIPT_LIMIT}
@@ -21,7 +21,7 @@ pub record IsTraceOf (text lines : List ℕ) : Type 0 where
   pub read : script_of text ≡ Ok script
   pub pairs : IsSome ((mechanism_of script.kem).meaning.pair_of (agreement_seed script.key))
   pub lines_are : lines ≡ played (mechanism_of script.kem) script
-  pub trace_is : IsFairScript (mechanism_of script.kem) script → lines ≡ trace_of (mechanism_of script.kem) script
+  pub trace_is : IsUnforgedScript (mechanism_of script.kem) script → lines ≡ trace_of (mechanism_of script.kem) script
 
 -- the source's text is a script of whose trace these lines are a beginning
 pub record BeginsTrace (text lines : List ℕ) : Type 0 where

@@ -46,9 +46,6 @@ byte-2 a b c d p q r s = omega arith
 pub byte-3 : (a b c d : ℕ) → a ≤ 2 → b ≤ 2 → c ≤ 2 → d ≤ 2 → (a + 4 * b + 16 * c + 64 * d) / 64 % 4 ≡ d
 byte-3 a b c d p q r s = omega arith
 
-pub byte-digits : (n : ℕ) → n < 256 → n % 4 + 4 * (n / 4 % 4) + 16 * (n / 16 % 4) + 64 * (n / 64 % 4) ≡ n
-byte-digits n h = omega arith
-
 -- what a byte that isn't bad is
 pub record IsGood (k n : ℕ) : Type 0 where
   pub digits : (j : ℕ) → j < 4 → n / 4 ^ j % 4 ≤ 2

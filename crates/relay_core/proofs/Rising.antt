@@ -3,9 +3,9 @@ use Rattle.std.proofs.Common.{◌≡◌, ℕ, zero, suc, ◌+◌, ◌<◌, ◌�
 use Rattle.std.specs.Prelude.{◌==◌, not, filter}
 use Rattle.std.proofs.lemmas.Bool.Decides.{nat_tests}
 use Rattle.std.proofs.lemmas.List.Elements.{All-push, All-filter}
-use Rattle.relay_core.specs.Boxes.{Kept, Box, empty_box, is_full, with_packet, without}
+use Rattle.relay_core.specs.Boxes.{Kept, Box, is_full, with_packet, without}
 use Rattle.relay_core.specs.Lawful.{Rises, last_number, IsLawfulBox}
-use Rattle.relay_wire.specs.Names.{is_name, is_packet}
+use Rattle.relay_wire.specs.Names.{is_packet}
 
 rises-lower : (lower low last : ℕ) (packets : List Kept) → lower ≤ low → Rises low last packets → Rises lower last packets
 rises-lower lower low last [] below rises = omega arith
@@ -31,9 +31,6 @@ length-filter_le stays (kept ∷ more) = by_test (stays kept) (length-filter_le 
     by_test : (is : Bool) → length (filter stays more) ≤ length more → length (cond is (kept ∷ filter stays more) (filter stays more)) ≤ length (kept ∷ more)
     by_test true behind = omega (arith, behind)
     by_test false behind = omega (arith, behind)
-
-pub lawful_empty : (name : List ℕ) → is_name name ≡ true → IsLawfulBox (empty_box name)
-lawful_empty name is = record { named = is; numbered = omega arith; count = omega arith; rises = omega arith; packets = λ k d inside. absurd (omega (arith, inside)) }
 
 pub lawful_post : (box : Box) (packet : List ℕ) → IsLawfulBox box → is_full box ≡ false → is_packet packet ≡ true → IsLawfulBox (with_packet box packet)
 lawful_post box packet lawful room is =

@@ -1,8 +1,7 @@
 -- A box that is read from its record part by part.
-use Rattle.std.proofs.Common.{◌≡◌, ℕ, Bool, true, false, List, [], ◌∷◌, ◌++◌, length, Result, Ok, Err, refl, sym, ◌∙◌, ap, subst}
-use Rattle.std.specs.Prelude.{◌==◌, IfOk, IsOk, if◌then◌else◌}
+use Rattle.std.proofs.Common.{◌≡◌, ℕ, Bool, true, false, List, [], ◌∷◌, ◌++◌, length, Result, Ok, Err, refl, ◌∙◌, ap, subst}
+use Rattle.std.specs.Prelude.{◌==◌, IsOk, if◌then◌else◌}
 use Rattle.grammar.specs.Reader.{Read, and_then, gives, ended, items}
-use Rattle.grammar.proofs.Steps.{from_test}
 use Rattle.relay_core.specs.Boxes.{Kept, Box}
 use Rattle.relay_core.specs.Lawful.{last_number}
 use Rattle.relay_core.specs.Record.{HeadParts, head_fields, kept_field, next_kept, box_of_parts, box_fields, box_read}
@@ -20,10 +19,6 @@ last_number-push low (first ∷ more) kept = last_number-push first.number more 
 
 -- ---- the whole record
 
-pub if_ok : {A E : Type 0} (r : Result A E) (P : A → Type 0) → ((a : A) → r ≡ Ok a → P a) → IfOk r P
-if_ok (Ok a) P each = each a refl
-if_ok (Err e) P each = tt
-
 module _ (text : List ℕ) (head : Read HeadParts) (was : head_fields 0 text ≡ Ok head) where
   abbrev packets_behind : HeadParts → Result (Read (List Kept)) ℕ
   packets_behind h = items (next_kept h.1.1.0) h.1.1.1 head.at head.rest
@@ -35,16 +30,6 @@ module _ (text : List ℕ) (head : Read HeadParts) (was : head_fields 0 text ≡
   unfolding box_read box_fields
   in_parts =
       ap (λ r. ended (and_then (and_then r (λ h at rest. and_then (items (next_kept h.1.1.0) h.1.1.1 at rest) (λ list. gives (h, list)))) (λ e. gives (box_of_parts e)))) was
-
-  -- the box of the record has the name that stands in its head
-  pub head_name : (box : Box) → box_read text ≡ Ok box → head.value.1.0 ≡ box.name
-  head_name box is = by_packets (packets_behind head.value) (sym in_parts ∙ is)
-    where
-      by_packets : (r : Result (Read (List Kept)) ℕ) → all_parts r ≡ Ok box → head.value.1.0 ≡ box.name
-      by_packets (Err at) h = absurd (let e : Err at ≡ Ok box = h in cc)
-      by_packets (Ok x) h =
-          let t = from_test (length x.rest == 0) (box_of_parts (head.value, x.value)) box x.at h in
-          ap (λ (b : Box). b.name) t.1
 
   -- the box of the record is that of the head and the packets
   pub whole_box : (packets : Read (List Kept)) → packets_behind head.value ≡ Ok packets → IsOk (box_read text)

@@ -1,5 +1,5 @@
 -- What a connection gives and takes, as a pipe.
-use Rattle.std.proofs.Common.{◌≡◌, ◌⊎◌, ℕ, zero, suc, ◌+◌, ◌<◌, ◌≤◌, List, [], ◌++◌, length, take, drop, Some, refl, sym, ◌∙◌, ap, subst, arith, append-nil}
+use Rattle.std.proofs.Common.{◌≡◌, ℕ, zero, suc, ◌+◌, ◌<◌, ◌≤◌, List, [], ◌++◌, length, take, drop, Some, refl, sym, ◌∙◌, ap, subst, arith, append-nil}
 use Rattle.std.specs.Prelude.{flat_map}
 use Rattle.std.proofs.Math.Seq.{take-add}
 use Rattle.std.proofs.lemmas.List.Concat.{flat_map-append}
@@ -9,13 +9,12 @@ use Rattle.dr_ports.specs.MemoryWires.{nothing_comes}
 use Rattle.relay_core.specs.Boxes.{Box}
 use Rattle.relay_core.specs.Streams.{Exchange, Served, prepend, reply_bytes, reply_frame, served, served_within}
 use Rattle.relay_core.specs.declared.limits.TheConstants.{EXCHANGE_LIMIT}
-use Rattle.relay_wire.specs.Frames.{IsPartial, frames_of}
-use Rattle.relay_wire.proofs.Splitting.{only}
+use Rattle.relay_wire.specs.Frames.{frames_of}
 use Rattle.relay_core.proofs.Served.{none_answered}
 use Rattle.relay_link.specs.Connections.{Connection, HasLost, boxes_of, connected, exchanges_of, port_of, wire_of}
 use Rattle.relay_link.specs.Desks.{DeskNow, fresh}
 use Rattle.relay_link.specs.Serving.{IsServing}
-use Rattle.relay_link.specs.declared.limits.TheConstants.{REPLY_LIMIT, SENT_LIMIT}
+use Rattle.relay_link.specs.declared.limits.TheConstants.{REPLY_LIMIT}
 
 take_none : {X : Type 0} (n : ℕ) → take {A = X} n [] ≡ []
 take_none zero = refl
@@ -117,22 +116,5 @@ module _ (c : Connection) (desk : DeskNow) (held : List ℕ) (is : IsServing c d
       let all : desk.replies ≡ reply_bytes (served c.start c.sent) = is.replies ∙ ap (flat_map reply_frame) whole in
       take_all c.at (reply_bytes (served c.start c.sent)) (omega (arith, end, ap length all))
 
-  -- ---- a call that failed
-
-  pub serves_failed : (faults : ℕ) → (HasLost c ⊎ (SENT_LIMIT ≤ length c.sent)) → IsServing (record c { faults = faults }) desk held
-  serves_failed faults cause = record {
-    partial = is.partial;
-    ahead = is.ahead;
-    count = is.count;
-    replies = is.replies;
-    received = is.received;
-    same = is.same;
-    few = is.few;
-    failed = λ some. cause;
-  }
-
   pub lost : desk.kept < desk.answered → HasLost c
   lost more = omega (arith, more, is.count, is.same)
-
-  pub not_lost : HasLost c → desk.answered ≤ desk.kept → ⊥
-  not_lost more none = omega (arith, more, none, is.count, is.same)

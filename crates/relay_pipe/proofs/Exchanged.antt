@@ -10,26 +10,12 @@ only_gave : (got : List ℕ) (o : Option Told) → option_map (given got) o ≡ 
 only_gave got None = refl
 only_gave got (Some t) = ap (λ (b : List ℕ). Some (record t { now = record t.now { received = t.now.received ++ got; sent = b } })) (sym (append-nil t.now.sent))
 
-then_took : (got put : List ℕ) (o : Option Told) → option_map (taken put) (option_map (given got) o) ≡ option_map (exchanged got put) o
-then_took got put None = refl
-then_took got put (Some t) = refl
-
 pub gave_exchanges : (got : List ℕ) (start now : Port) → Gave got start now → Exchanges got [] start now
 gave_exchanges got start now gave = gave ∙ only_gave got start.told
-
-pub both_exchanges : (got put : List ℕ) (start mid now : Port) → Gave got start mid → Took put mid now → Exchanges got put start now
-both_exchanges got put start mid now gave took = took ∙ ap (option_map (taken put)) gave ∙ then_took got put start.told
-
-only_took : (put : List ℕ) (o : Option Told) → option_map (taken put) o ≡ option_map (exchanged [] put) o
-only_took put None = refl
-only_took put (Some t) = ap (λ (b : List ℕ). Some (record t { now = record t.now { received = b; sent = t.now.sent ++ put } })) (sym (append-nil t.now.received))
 
 then_gave : (got put : List ℕ) (o : Option Told) → option_map (given got) (option_map (taken put) o) ≡ option_map (exchanged got put) o
 then_gave got put None = refl
 then_gave got put (Some t) = refl
-
-pub took_exchanges : (put : List ℕ) (start now : Port) → Took put start now → Exchanges [] put start now
-took_exchanges put start now took = took ∙ only_took put start.told
 
 pub answered_exchanges : (got put : List ℕ) (start mid now : Port) → Took put start mid → Gave got mid now → Exchanges got put start now
 answered_exchanges got put start mid now took gave = gave ∙ ap (option_map (given got)) took ∙ then_gave got put start.told

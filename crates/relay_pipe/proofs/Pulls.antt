@@ -1,10 +1,8 @@
 -- A pipe gives one piece after another.
-use Rattle.std.proofs.Common.{◌≡◌, ℕ, ◌+◌, ◌≤◌, List, [], ◌++◌, take, drop, ap₂, Option, Some, None, refl, sym, ◌∙◌, ap, arith, append_assoc, append-nil}
+use Rattle.std.proofs.Common.{◌≡◌, ℕ, ◌+◌, List, [], ◌++◌, take, drop, ap₂, Option, Some, None, refl, sym, ◌∙◌, ap, arith, append_assoc, append-nil}
 use Rattle.std.specs.Prelude.{option_map}
-use Rattle.dr_ports.specs.declared.pipe.Part.TheVariants.{Flow}
-use Rattle.dr_ports.specs.Wires.{Port, Told, Gave, Took, given, taken}
-use Rattle.relay_wire.specs.Frames.{Held}
-use Rattle.relay_pipe.specs.Pulling.{Pulled, TookBeginning}
+use Rattle.dr_ports.specs.Wires.{Port, Told, Took, given, taken}
+use Rattle.relay_pipe.specs.Pulling.{TookBeginning}
 use Rattle.std.proofs.lemmas.List.{take-append-drop, take-take, drop-take}
 
 none : (o : Option Told) → o ≡ option_map (given []) o
@@ -14,22 +12,6 @@ none (Some t) = ap (λ (b : List ℕ). Some (record t { now = record t.now { rec
 twice : (a b : List ℕ) (o : Option Told) → option_map (given b) (option_map (given a) o) ≡ option_map (given (a ++ b)) o
 twice a b None = refl
 twice a b (Some t) = ap (λ (r : List ℕ). Some (record t { now = record t.now { received = r } })) (append_assoc t.now.received a b)
-
-pub nothing_yet : (held : Held) (port : Port) → Pulled held held port port []
-nothing_yet held port = record { got = []; gave = none port.told; sum = append-nil held.bytes; later = omega arith }
-
--- a call that gave nothing
-pub and_nothing : (old now : Held) (start mid port : Port) → Pulled old now start mid [] → port.told ≡ mid.told → mid.faults Flow ≤ port.faults Flow → Pulled old now start port []
-and_nothing old now start mid port p same later = record { got = p.got; gave = same ∙ p.gave; sum = p.sum; later = omega (arith, p.later, later) }
-
--- one more piece
-pub and_piece : (old held now : Held) (start mid port : Port) (piece : List ℕ) → Pulled old held start mid [] → Gave piece mid port → mid.faults Flow ≤ port.faults Flow → now.bytes ≡ held.bytes ++ piece → Pulled old now start port []
-and_piece old held now start mid port piece p gave later is = record {
-  got = p.got ++ piece;
-  gave = gave ∙ ap (option_map (given piece)) p.gave ∙ twice p.got piece start.told;
-  sum = sym (append_assoc old.bytes p.got piece) ∙ ap (λ (b : List ℕ). b ++ piece) p.sum ∙ sym is;
-  later = omega (arith, p.later, later);
-}
 
 sent_twice : (a b : List ℕ) (o : Option Told) → option_map (taken b) (option_map (taken a) o) ≡ option_map (taken (a ++ b)) o
 sent_twice a b None = refl

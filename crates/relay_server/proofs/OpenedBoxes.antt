@@ -6,7 +6,7 @@ use Rattle.dr_disk.specs.declared.call.Call.{Call}
 use Rattle.dr_disk.specs.Spans.{IsQuiet, Span}
 use Rattle.dr_disk.specs.State.{DiskState}
 use Rattle.dr_disk.specs.Bytes.{Torn}
-use Rattle.dr_disk.proofs.Ranges.{torn_self, torn_twice}
+use Rattle.dr_disk.proofs.Ranges.{torn_twice}
 use Rattle.dr_disk.proofs.Steps.{quiet_twice, spans, widen}
 use Rattle.slot_store.specs.declared.store.SlotStore.{SlotStore}
 use Rattle.slot_store.specs.Slots.{recovered}
@@ -51,9 +51,6 @@ other_of name None is = is
 other_of name (Some text) is = is
 
 -- ---- what a crash leaves
-
-pub opening_self : (names : List (List ℕ)) (start : DiskState) (c : List ℕ) → start.image c → IsOpening names start c
-opening_self names start c left = record { entry = c; image = left; each = λ k name there. inl refl; outside = torn_self 0 (524288 * length names) c }
 
 opening_like : (names : List (List ℕ)) (start : DiskState) (c : List ℕ) → IsLikeEntry (length names) start c → IsOpening names start c
 opening_like names start c like = record { entry = like.entry; image = like.image; each = λ k name there. inl (like.same k); outside = like.outside }

@@ -1,7 +1,7 @@
 -- A lawful client passes the tests.
-use Rattle.std.proofs.Common.{◌≡◌, ℕ, zero, suc, ◌+◌, ◌-◌, ◌^◌, ◌<◌, ◌≤◌, ◌==◌, Bool, true, false, List, [], length, take, get_or, Option, Some, None, refl, sym, ◌∙◌, ap, subst, arith, inl, inr, if◌then◌else◌}
-use Rattle.std.specs.Prelude.{not, nat_le, nat_lt, ◌&&◌, ◌||◌, All, ◌⊎◌}
-use Rattle.std.proofs.lemmas.Bool.{le-leb, cases_lt}
+use Rattle.std.proofs.Common.{◌≡◌, ℕ, zero, suc, ◌+◌, ◌-◌, ◌^◌, ◌<◌, ◌≤◌, ◌==◌, Bool, true, false, List, [], length, take, get_or, Option, Some, None, refl, sym, ◌∙◌, ap, subst, arith, if◌then◌else◌}
+use Rattle.std.specs.Prelude.{not, nat_le, nat_lt, ◌&&◌, ◌||◌, All}
+use Rattle.std.proofs.lemmas.Bool.{le-leb}
 use Rattle.std.proofs.lemmas.Bool.Decides.{nat_tests}
 use Rattle.std.proofs.lemmas.List.{take_more}
 use Rattle.std.proofs.lemmas.Slice.Eq.{bytes_eq-Decides}
@@ -9,7 +9,7 @@ use Rattle.dr_base.specs.declared.key.Kept.{Kept}
 use Rattle.dr_base.specs.declared.position.Position.{Position}
 use Rattle.dr_base.specs.declared.position.Side.{Side}
 use Rattle.dr_base.specs.declared.position.Side.TheVariants.{First, Second}
-use Rattle.fs_aead.specs.Table.{AllBefore, IsAscending, IsBefore}
+use Rattle.fs_aead.specs.Table.{AllBefore, IsAscending}
 use Rattle.boxes.specs.Items.{Item, item_at}
 use Rattle.kem_laws.specs.Mechanism.{IsLawful}
 use Rattle.session_model.specs.Clients.{Client}
@@ -37,9 +37,6 @@ not_own false h = refl
 not_own true h = absurd (let e : true ≡ false = h in cc)
 
 -- ---- the last key of those before a place
-
-below_place : (p : Position) → IsBefore (position_at 0 0) p ⊎ (p.index ≡ 0)
-below_place p = elim (cases_lt 0 p.index) [ inl some ↦ inl (omega arith, λ _. some) | inr none ↦ inr (omega arith) ]
 
 last_before : (list : List Kept) (i : ℕ) (d : Kept) → i < length list → 1 ≤ (get_or list i d).position.index → IsAscending list
     → ((last_position (take i list)).epoch ≤ (get_or list i d).position.epoch)

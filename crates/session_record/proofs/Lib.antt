@@ -8,4 +8,3 @@ mod ToLawful
 mod RecordLaw
 mod Places
 mod Sizes
-pub mod Said

@@ -1,7 +1,6 @@
 -- Which of two slots counts.
-use Rattle.std.proofs.Common.{◌≡◌, ◌≢◌, ◌⊎◌, inl, inr, ⊎_elim, ℕ, ◌+◌, ◌≤◌, ◌<◌, Bool, true, false, List, Option, Some, None, refl, sym, ◌∙◌, ap, subst, arith}
-use Rattle.std.specs.Prelude.{not, ◌==◌, ◌&&◌, nat_le, if◌then◌else◌}
-use Rattle.std.proofs.lemmas.Bool.{cases_eq}
+use Rattle.std.proofs.Common.{◌≡◌, ◌≢◌, ℕ, ◌≤◌, Bool, true, false, List, Some, None, refl, sym, ◌∙◌, ap, subst, arith}
+use Rattle.std.specs.Prelude.{not, ◌==◌, if◌then◌else◌}
 use Rattle.std.proofs.lemmas.Bool.Decides.{nat_tests}
 use Rattle.slot_store.specs.declared.area.Area.{Area}
 use Rattle.slot_store.specs.Slots.{Comes, Slot, pick, newest, is_open, turn_of, next_turn, record_of, content_of, recovered, slot_at}
@@ -73,12 +72,6 @@ pub recovered_other : (area : Area) (k : Bool) (c : List ℕ) → Comes (slot_at
 unfolding recovered
 recovered_other area false c comes = newest_right (slot_at area false c) (slot_at area true c) comes
 recovered_other area true c comes = newest_left (slot_at area true c) (slot_at area false c) comes
-
-pub comes_after : (a b : Slot) → (a.gate ≢ 165 → turn_of a ≡ 0) → b.gate ≡ 165 → (a.gate ≡ 165 → turn_of b ≡ next_turn (turn_of a)) → 1 ≤ turn_of b → turn_of b ≤ 3 → Comes a b
-comes_after a b wiped gate next low high = record {
-  opened = open_by_turn b gate low high;
-  next = λ from to. elim (cases_eq a.gate 165) [ inl is ↦ next is | inr shut ↦ absurd (let e : turn_of a ≡ 0 = wiped shut in omega arith) ];
-}
 
 pub not_not : (k : Bool) → not (not k) ≡ k
 not_not true = refl

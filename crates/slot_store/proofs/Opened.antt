@@ -1,15 +1,13 @@
 -- What an opened store rests on.
-use Rattle.std.proofs.Common.{◌≡◌, ◌⊎◌, inl, inr, ⊎_elim, ℕ, ◌+◌, ◌-◌, ◌≤◌, Bool, true, false, List, length, replicate, Option, Some, None, Result, Ok, Err, refl, sym, ◌∙◌, ap, ap₂, subst, arith}
+use Rattle.std.proofs.Common.{◌≡◌, ◌⊎◌, inl, inr, ⊎_elim, ℕ, ◌+◌, ◌-◌, Bool, true, false, List, length, replicate, Option, Some, None, Result, Ok, Err, refl, sym, ◌∙◌, ap, ap₂, subst, arith}
 use Rattle.std.specs.Prelude.{IfOk, not}
-use Rattle.std.proofs.lemmas.Bool.Decides.{nat_tests}
-use Rattle.std.proofs.lemmas.List.{length-replicate}
 use Rattle.dr_disk.specs.State.{Always, DiskState, IsLawful, IsSettled}
 use Rattle.dr_disk.specs.Spans.{Span}
 use Rattle.dr_disk.proofs.Ranges.{torn_self, torn_twice}
 use Rattle.dr_disk.proofs.Steps.{spans, widen}
 use Rattle.slot_store.specs.declared.area.Area.{Area}
 use Rattle.slot_store.specs.declared.store.SlotStore.{SlotStore}
-use Rattle.slot_store.specs.Slots.{Comes, Slot, Slots, content_of, is_open, record_of, recovered, slot_at, wiped}
+use Rattle.slot_store.specs.Slots.{Comes, Slot, content_of, is_open, record_of, slot_at, wiped}
 use Rattle.slot_store.specs.Layout.{IsRecord}
 use Rattle.slot_store.specs.Reading.{IsEntryOrLike, IsLikeRead, Verdict, chosen, damaged, holds, newer, none_open, reading, seen_as, verdict_of}
 use Rattle.slot_store.specs.Store.{Rests, content, slot_of}
@@ -31,9 +29,6 @@ was_read area k gate body s blank long zeros is =
 
 pub zeros_of : (n : ℕ) (body old : List ℕ) → body ≡ replicate (length old) 0 → length old + 1 ≡ n → body ≡ replicate (n - 1) 0
 zeros_of n body old is long = is ∙ ap (λ k. replicate k 0) (let e : length old ≡ n - 1 = omega arith in e)
-
-pub long_of : (n : ℕ) (body old : List ℕ) → body ≡ replicate (length old) 0 → length old + 1 ≡ n → length body + 1 ≡ n
-long_of n body old is long = omega (arith, ap (λ (l : List ℕ). length l) is, length-replicate {A = ℕ} (length old) 0)
 
 pub wiped_of : (n : ℕ) (body : List ℕ) → body ≡ replicate (n - 1) 0 → let slot : Slot = record { gate = 0; body = body } in slot ≡ wiped n
 wiped_of n body is = λ i. record { gate = 0; body = is i }
@@ -75,13 +70,6 @@ module _ (area : Area) (start a : DiskState) (lawful : IsLawful a) (first : Alwa
       let was = first s (lawful.seen_now s told) in
       inl (ap is_open (was.other was.like.read was.like.told) ∙ shut was.like.read was.like.told)
 
-  pub second_read : (gate : ℕ) (blank : Bool) → ((s : List ℕ) → start.seen ≡ Some s → WasRead area true gate blank s) → (s : List ℕ) → a.seen ≡ Some s → WasRead area true gate blank s
-  second_read gate blank read s told =
-      let was = first s (lawful.seen_now s told) in
-      let then = read was.like.read was.like.told in
-      let same = was.other was.like.read was.like.told in
-      (ap (λ x. x.gate) same ∙ then.0, λ all. ap (λ x. x.body) same ∙ then.1 all)
-
   pub both_moment : (b : DiskState) → Span start a (IsLikeRead area start) → Span a b (IsLikeRead area a) → Span start b (IsLikeRead area start)
   both_moment b one next = spans start a b (IsLikeRead area start) one (widen a b (IsLikeRead area a) (IsLikeRead area start) (like_twice area start a lawful (λ c left. (first c left).like)) next)
 
@@ -110,9 +98,6 @@ module _ (area : Area) (start a b : DiskState) (read : Span start a start.image)
 
   as_read : (s : List ℕ) → start.seen ≡ Some s → IsLikeRead area start s
   as_read s told = record { read = s; told = told; same = refl; undamaged = λ whole. whole; outside = torn_self area.start (area.slot + area.slot) s }
-
-  pub reads_as_before : (s : List ℕ) → a.seen ≡ Some s → IsLikeRead area start s
-  reads_as_before s told = as_read s (sym same ∙ told)
 
   pub reads_like : IsLawful b → IsSettled a → Span a b (IsLikeRead area a) → (s : List ℕ) → b.seen ≡ Some s → IsLikeRead area start s
   reads_like lawful settled next s told = ⊎_elim (λ left. as_read s (sym same ∙ settled s left)) (λ like. like_before s like) (next.last s (lawful.seen_now s told))

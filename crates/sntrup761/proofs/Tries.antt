@@ -1,5 +1,5 @@
 -- The tries of key generation: what all of them without an inverse give, and what the first with one gives.
-use Rattle.std.proofs.Common.{◌≡◌, ℕ, ◌+◌, ◌<◌, Some, None, List, ℤ, refl, ap, ap₂, sym, ◌∙◌, arith, Option, below_more}
+use Rattle.std.proofs.Common.{◌≡◌, ℕ, ◌<◌, Some, None, List, ℤ, refl, ap, ap₂, sym, ◌∙◌, arith, Option}
 use Rattle.std.specs.Prelude.{is_some}
 use Rattle.ntru_codec.specs.Elements.{rq_encoded}
 use Rattle.ntru_codec.proofs.Digits.{find-none, find-some}
@@ -12,13 +12,6 @@ use Rattle.sntrup761.specs.Mechanism.{first_try, secret_of, keys_from, keys_of, 
 -- the first n tries have no inverse
 pub record AreWithout (h : ℕ) (drawn : ℕ → List ℤ) (n : ℕ) : Type 0 where
   pub none : (j : ℕ) → j < n → inverse h (drawn j) ≡ None
-
-pub without-none : (h : ℕ) (drawn : ℕ → List ℤ) → AreWithout h drawn 0
-without-none h drawn = record { none = λ j l. absurd (omega arith) }
-
-pub without-more : (h : ℕ) (drawn : ℕ → List ℤ) (n : ℕ) → AreWithout h drawn n → inverse h (drawn n) ≡ None
-    → AreWithout h drawn (n + 1)
-without-more h drawn n before here = record { none = below_more (λ j. inverse h (drawn j) ≡ None) n before.none here }
 
 first_try-none : (h : ℕ) (drawn : ℕ → List ℤ) (n : ℕ) → AreWithout h drawn n → first_try h drawn n ≡ None
 unfolding first_try

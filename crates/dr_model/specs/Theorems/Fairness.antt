@@ -1,5 +1,5 @@
 -- The premise under which both sides follow the machine: nobody forged a tag.
-use Rattle.std.specs.Prelude.{IfSome, List, None, Ok, [], length, ℕ, ⊤, ◌∷◌, ◌≡◌, ◌≢◌}
+use Rattle.std.specs.Prelude.{IfSome, List, None, Ok, [], length, ℕ, ⊤, ◌≡◌, ◌≢◌}
 use Rattle.cka.specs.Agreement.{agreement_size}
 use Rattle.dr_base.specs.declared.position.Side.{Side}
 use Rattle.etm_aead.specs.Seal.{tag_of}
@@ -11,7 +11,7 @@ use Rattle.dr_model.specs.Conversations.Posts.{posts}
 use Rattle.dr_model.specs.Conversations.ViewStates.{state_of}
 use Rattle.dr_model.specs.Machines.Events.{Event, cuts, flips, seeds, takes_bytes}
 use Rattle.dr_model.specs.Machines.Network.{flipped_at}
-use Rattle.dr_model.specs.Machines.Worlds.{World, made_at, step_of, view_of}
+use Rattle.dr_model.specs.Machines.Worlds.{World, made_at, view_of}
 
 -- Nobody forged a tag: where a side comes to look at the tag of bytes that no session made, it isn't the one under
 -- the key.
@@ -25,11 +25,6 @@ IsUnforgedEvent k w (flips side p bit) = IfSome (flipped_at (posts k w.conversat
 IsUnforgedEvent k w (takes_bytes side bytes) = IsUnforged k w side bytes
 IsUnforgedEvent k w (cuts took h) = IsUnforgedEvent k w h
 IsUnforgedEvent k w _ = ⊤
-
--- and so in a run
-abbrev pub IsUnforgedRun : Mechanism → World → List Event → Type 0
-IsUnforgedRun k w [] = ⊤
-IsUnforgedRun k w (h ∷ hs) = IsUnforgedEvent k w h × IsUnforgedRun k (step_of k w h).next hs
 
 -- a given seed has 32 bytes
 abbrev pub IsSeedWhole : Event → Type 0

@@ -1,23 +1,11 @@
 -- What Round gives: multiples of 3, each at most 1 away, in the same range.
-use Rattle.std.proofs.Common.{◌≡◌, List, ℤ, pos, ◌-ℤ◌, ◌*ℤ◌, sym, arith, All, subst}
+use Rattle.std.proofs.Common.{List, ℤ, sym, arith, All, subst}
 use Rattle.std.proofs.lemmas.Int.{ints}
 use Rattle.ntru_ring.specs.Reduction.{IsWithin}
 use Rattle.ntru_ring.specs.Ring.{coefficient}
 use Rattle.ntru_ring.specs.Small.{nearest, rounded}
 use Rattle.ntru_ring.proofs.Numbers.Centred.{centred_within, centred_differs}
 use Rattle.ntru_ring.proofs.Rings.Places.{within_places, coefficient_within, coefficient-rounded, length-rounded}
-
-pub nearest_multiple : (z : ℤ) → (m : ℤ) × (nearest z ≡ pos 3 *ℤ m)
-unfolding nearest
-nearest_multiple z =
-    let d = centred_differs 1 z in
-    (pos d.1 -ℤ pos d.0, omega (arith, ints, d.2))
-
-pub nearest_differs : (z : ℤ) → IsWithin 1 (z -ℤ nearest z)
-unfolding nearest
-nearest_differs z =
-    let c = centred_within 1 z in
-    record { low = omega (arith, ints, c.low, c.high); high = omega (arith, ints, c.low, c.high) }
 
 -- a multiple of 3 next to a number in -2295..2295 lies there too
 pub nearest_within : (z : ℤ) → IsWithin 2295 z → IsWithin 2295 (nearest z)
