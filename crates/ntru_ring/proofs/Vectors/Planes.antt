@@ -1,5 +1,5 @@
 -- Elements of R/3 by their planes.
-use Rattle.std.proofs.Common.{◌≡◌, ◌≢◌, inl, inr, ℕ, ◌+◌, ◌*◌, ◌/◌, ◌%◌, ◌^◌, ◌<◌, ◌≤◌, List, length, get_or, set, ℤ, pos, negsuc, ◌+ℤ◌, ◌*ℤ◌, sym, ap, ◌∙◌, arith, All, subst, replicate, get_or-set_same, get_or-set_other}
+use Rattle.std.proofs.Common.{◌≡◌, ◌≢◌, inl, inr, ℕ, ◌+◌, ◌*◌, ◌/◌, ◌%◌, ◌^◌, ◌<◌, ◌≤◌, List, length, get_or, set, ℤ, pos, negsuc, ◌+ℤ◌, ◌*ℤ◌, sym, ap, ◌∙◌, arith, All, subst, replicate, get_or-set_same, get_or-set_other, below_more}
 use Rattle.std.proofs.lemmas.Bool.{cases_lt, cases_eq}
 use Rattle.std.proofs.lemmas.Int.{ints}
 use Rattle.std.proofs.lemmas.List.FromFn.{get_or-map-range_with_len, length-map-range_with_len}
@@ -59,6 +59,14 @@ inside_planes m x e f h k = elim (cases_lt k 768) [
   | inl l ↦ h (k / 64) (k % 64) (omega arith)
   | inr l ↦ omega (arith, bit_of_beyond x k f l)
 ]
+
+-- what holds of the words before k, and of those put there, holds of the words up to there
+pub words_put : (P : ℕ → ℕ → ℕ → Type 0) (r s : List ℕ) (k a b : ℕ) → k < length r → k < length s → P k a b → ((i : ℕ) → i < k → P i (get_or r i 0) (get_or s i 0))
+    → (i : ℕ) → i < k + 1 → P i (get_or (set r k a) i 0) (get_or (set s k b) i 0)
+words_put P r s k a b f g here below =
+    below_more (λ i. P i (get_or (set r k a) i 0) (get_or (set s k b) i 0)) k
+    (λ i l. let n : i ≢ k = omega arith in rw (get_or-set_other r k i a 0 n, get_or-set_other s k i b 0 n) (below i l))
+    (rw (get_or-set_same r k a 0 f, get_or-set_same s k b 0 g) here)
 
 -- ---- the sum, word by word
 module _ (m x n y r s : List ℕ) (p : IsLawful m x) (q : IsLawful n y) (e : length r ≡ 12)

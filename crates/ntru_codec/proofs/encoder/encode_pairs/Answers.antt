@@ -1,9 +1,16 @@
 use Rattle.std.proofs.Common.{◌≡◌, ◌+◌, ◌*◌, ◌/◌, ◌<◌, ◌≤◌, ◌++◌, length, take, drop, arith, ap, ◌∙◌, sym}
+use Rattle.std.proofs.lemmas.List.Elements.{AllZip-get_or}
 use Rattle.ntru_codec.specs.Levels.{pair_length, next_values}
 use Rattle.ntru_codec.proofs.Places.{fill_more, append_more, behind_more, length-low_bytes}
 use Rattle.ntru_codec.proofs.Limits.{left_small}
 use Rattle.ntru_codec.proofs.Pairs.{pair_length-more, pair_bytes-more, next_values-more, pair_length-last, pair_bytes-last, next_values-last, carried, rest-short, written_all}
 use Rattle.ntru_codec.proofs.encoder.encode_pairs.Goals as goal
+
+pub pair_number-number-requires-clause-first : goal.pair_number-number-requires-clause-first
+pair_number-number-requires-clause-first c = AllZip-get_or ◌<◌ c.args.values.now c.args.limits.now (2 * c.loop-i.i) 0 0 c.requires.below (omega arith)
+
+pub pair_number-number-requires-clause-second : goal.pair_number-number-requires-clause-second
+pair_number-number-requires-clause-second c = AllZip-get_or ◌<◌ c.args.values.now c.args.limits.now (2 * c.loop-i.i + 1) 0 0 c.requires.below (omega arith)
 
 pub put_low_bytes-requires-clause-room : goal.put_low_bytes-requires-clause-room
 put_low_bytes-requires-clause-room c =
