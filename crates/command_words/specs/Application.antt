@@ -1,5 +1,7 @@
 -- The application as clap is told it: one subcommand for each row of the table, with the values that the row has.
-use Rattle.std.specs.Prelude.{ℕ, true, false, List, [], ◌∷◌, Some, map, codes}
+use Rattle.std.specs.Prelude.{◌≡◌, ℕ, true, false, List, [], ◌∷◌, Some, map, codes}
+use Rattle.clap.specs.declared.builder.command.Command.{Command}
+use Rattle.clap.specs.declared.builder.command.Command.TheViews.{out-Command}
 use Rattle.clap.specs.declared.builder.action.ArgAction.TheVariants.{Append}
 use Rattle.clap.specs.Walk.{Rule}
 use Rattle.clap.specs.Simple.{App, Shape, new_rule, new_shape}
@@ -34,6 +36,10 @@ shape_with name rules = record (new_shape name) { rules = rules }
 
 abbrev pub shape_of_row : Row → Shape
 shape_of_row row = shape_with row.0 (rules_for row.1)
+
+-- no value of the command is meant for subcommands
+abbrev pub IsLocal : Command → Type 0
+IsLocal command = (out-Command command).has_globals ≡ false
 
 -- words without the program's name, and no help
 abbrev pub top_shape : Shape

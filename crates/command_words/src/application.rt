@@ -1,85 +1,100 @@
 //! The application as clap knows it: one level of subcommands, with their values.
 
 ghost use Rattle.std.specs.Prelude.{◌≡◌, [], ◌∷◌, false, IfOk};
-ghost use Rattle.clap.specs.Simple.{app_of, with_rule, with_subcommand};
-ghost use Rattle.clap.specs.declared.builder.command.Command.TheViews.{out-Command as fields_of};
-ghost use Rattle.command_words.specs.Application.{application, empty_application, first_rule, second_rule, more_rule, shape_with, wanted, wanted_each};
+ghost use Rattle.clap.specs.Simple.{App, app_of, with_rule, with_subcommand};
+ghost use Rattle.command_words.specs.Application.{IsLocal, application, empty_application, first_rule, second_rule, more_rule, shape_with, wanted, wanted_each};
 ghost use Rattle.command_words.specs.Commands.{rows};
 
 use clap::{Arg, ArgAction, Command};
 use std::alloc::{AllocError, Global};
 
-/// The application with one more subcommand, which has no value.
-fn with_bare<'a>(
+/// A command with one more value, which is wanted, where memory sufficed so far.
+fn wanting<'a>(
     alloc: Global,
-    application: Command<'a>,
-    name: &'a str,
+    command: Result<Command<'a>, AllocError>,
+    id: &'a str,
 ) -> Result<Command<'a>, AllocError>
-    ensures { IfOk result (λ wider. app_of wider ≡ with_subcommand (app_of application.entry) (shape_with name.now [])) }
+    requires { IfOk command IsLocal }
+    ensures shape { (app : App) → IfOk command.entry (λ c. app_of c ≡ app) → IfOk result (λ c. app_of c ≡ with_rule app (wanted id.now)) }
+    ensures local { IfOk result IsLocal }
 {
-    application.subcommand(Command::new(alloc, name))
-}
-
-/// A command with one more value, which is wanted.
-fn wanting<'a>(alloc: Global, command: Command<'a>, id: &'a str) -> Result<Command<'a>, AllocError>
-    requires { (fields_of command).has_globals ≡ false }
-    ensures shape { IfOk result (λ wider. app_of wider ≡ with_rule (app_of command.entry) (wanted id.now)) }
-    ensures local { IfOk result (λ wider. (fields_of wider).has_globals ≡ false) }
-{
-    command.arg(Arg::new(alloc, id).required(true))
+    command?.arg(Arg::new(alloc, id).required(true))
 }
 
 /// A command with one or more values after those that it has.
 fn wanting_more<'a>(
     alloc: Global,
-    command: Command<'a>,
+    command: Result<Command<'a>, AllocError>,
     id: &'a str,
 ) -> Result<Command<'a>, AllocError>
-    requires { (fields_of command).has_globals ≡ false }
-    ensures shape { IfOk result (λ wider. app_of wider ≡ with_rule (app_of command.entry) (wanted_each id.now)) }
-    ensures local { IfOk result (λ wider. (fields_of wider).has_globals ≡ false) }
+    requires { IfOk command IsLocal }
+    ensures shape { (app : App) → IfOk command.entry (λ c. app_of c ≡ app) → IfOk result (λ c. app_of c ≡ with_rule app (wanted_each id.now)) }
+    ensures local { IfOk result IsLocal }
 {
     let more = Arg::new(alloc, id).required(true).action(ArgAction::Append);
-    command.arg(more)
+    command?.arg(more)
+}
+
+/// The application with one more subcommand, where memory sufficed for both.
+fn joined<'a>(
+    application: Result<Command<'a>, AllocError>,
+    command: Result<Command<'a>, AllocError>,
+) -> Result<Command<'a>, AllocError>
+    requires { IfOk command IsLocal }
+    ensures { (app : App) (with : App) → IfOk application.entry (λ c. app_of c ≡ app) → IfOk command.entry (λ c. app_of c ≡ with) → IfOk result (λ c. app_of c ≡ with_subcommand app with.top) }
+{
+    let command = command?;
+    application?.subcommand(command)
+}
+
+/// The application with one more subcommand, which has no value.
+fn with_bare<'a>(
+    alloc: Global,
+    application: Result<Command<'a>, AllocError>,
+    name: &'a str,
+) -> Result<Command<'a>, AllocError>
+    ensures { (app : App) → IfOk application.entry (λ c. app_of c ≡ app) → IfOk result (λ c. app_of c ≡ with_subcommand app (shape_with name.now [])) }
+{
+    joined(application, Ok(Command::new(alloc, name)))
 }
 
 /// The application with one more subcommand, which has a value.
 fn with_valued<'a>(
     alloc: Global,
-    application: Command<'a>,
+    application: Result<Command<'a>, AllocError>,
     name: &'a str,
 ) -> Result<Command<'a>, AllocError>
-    ensures { IfOk result (λ wider. app_of wider ≡ with_subcommand (app_of application.entry) (shape_with name.now (first_rule ∷ []))) }
+    ensures { (app : App) → IfOk application.entry (λ c. app_of c ≡ app) → IfOk result (λ c. app_of c ≡ with_subcommand app (shape_with name.now (first_rule ∷ []))) }
 {
-    let one = wanting(alloc, Command::new(alloc, name), "first")?;
-    application.subcommand(one)
+    let one = wanting(alloc, Ok(Command::new(alloc, name)), "first");
+    joined(application, one)
 }
 
 /// The application with one more subcommand, which has two values.
 fn with_paired<'a>(
     alloc: Global,
-    application: Command<'a>,
+    application: Result<Command<'a>, AllocError>,
     name: &'a str,
 ) -> Result<Command<'a>, AllocError>
-    ensures { IfOk result (λ wider. app_of wider ≡ with_subcommand (app_of application.entry) (shape_with name.now (first_rule ∷ second_rule ∷ []))) }
+    ensures { (app : App) → IfOk application.entry (λ c. app_of c ≡ app) → IfOk result (λ c. app_of c ≡ with_subcommand app (shape_with name.now (first_rule ∷ second_rule ∷ []))) }
 {
-    let one = wanting(alloc, Command::new(alloc, name), "first")?;
-    let two = wanting(alloc, one, "second")?;
-    application.subcommand(two)
+    let one = wanting(alloc, Ok(Command::new(alloc, name)), "first");
+    let two = wanting(alloc, one, "second");
+    joined(application, two)
 }
 
 /// The application with one more subcommand, which has two values, and one or more after them.
 fn with_listed<'a>(
     alloc: Global,
-    application: Command<'a>,
+    application: Result<Command<'a>, AllocError>,
     name: &'a str,
 ) -> Result<Command<'a>, AllocError>
-    ensures { IfOk result (λ wider. app_of wider ≡ with_subcommand (app_of application.entry) (shape_with name.now (first_rule ∷ second_rule ∷ more_rule ∷ []))) }
+    ensures { (app : App) → IfOk application.entry (λ c. app_of c ≡ app) → IfOk result (λ c. app_of c ≡ with_subcommand app (shape_with name.now (first_rule ∷ second_rule ∷ more_rule ∷ []))) }
 {
-    let one = wanting(alloc, Command::new(alloc, name), "first")?;
-    let two = wanting(alloc, one, "second")?;
-    let more = wanting_more(alloc, two, "more")?;
-    application.subcommand(more)
+    let one = wanting(alloc, Ok(Command::new(alloc, name)), "first");
+    let two = wanting(alloc, one, "second");
+    let more = wanting_more(alloc, two, "more");
+    joined(application, more)
 }
 
 /// The application, without subcommands. It has no help of its own.
@@ -92,21 +107,21 @@ fn without_commands<'a>(alloc: Global) -> Command<'a>
         .disable_help_subcommand(true)
 }
 
-/// The application with all its commands.
+/// The application with all its commands. What is made passes want of memory on, so that it is asked after once, at the end.
 pub fn application<'a>(alloc: Global) -> Result<Command<'a>, AllocError>
     ensures { IfOk result (λ whole. app_of whole ≡ application rows) }
 {
-    let command = without_commands(alloc);
-    let command = with_valued(alloc, command, "begin")?;
-    let command = with_valued(alloc, command, "say")?;
-    let command = with_bare(alloc, command, "take")?;
-    let command = with_bare(alloc, command, "inbox")?;
-    let command = with_valued(alloc, command, "done")?;
-    let command = with_valued(alloc, command, "sent")?;
-    let command = with_bare(alloc, command, "outbox")?;
-    let command = with_bare(alloc, command, "state")?;
-    let command = with_valued(alloc, command, "sync")?;
-    let command = with_listed(alloc, command, "relay")?;
-    let command = with_bare(alloc, command, "duet")?;
+    let command = Ok(without_commands(alloc));
+    let command = with_valued(alloc, command, "begin");
+    let command = with_valued(alloc, command, "say");
+    let command = with_bare(alloc, command, "take");
+    let command = with_bare(alloc, command, "inbox");
+    let command = with_valued(alloc, command, "done");
+    let command = with_valued(alloc, command, "sent");
+    let command = with_bare(alloc, command, "outbox");
+    let command = with_bare(alloc, command, "state");
+    let command = with_valued(alloc, command, "sync");
+    let command = with_listed(alloc, command, "relay");
+    let command = with_bare(alloc, command, "duet");
     with_paired(alloc, command, "duet-make")
 }
