@@ -31,7 +31,7 @@ faults_of flow gate Gate = gate
 abbrev pub wire_of : Flowing → Wire
 wire_of f = record { gives = λ sent. f.held; received = take f.at f.held; sent = f.sent; fate = untold_fate }
 
--- a pipe, behind which this comes, with so many faults at the gate
+-- a pipe whose far end sends this, with this many faults at the gate
 abbrev pub port_with : (ℕ → List ℕ → List ℕ) → ℕ → Flowing → Port
 port_with coming gate f = record {
   told = Some (record { now = wire_of f; before = f.before; coming = coming });

@@ -1,7 +1,7 @@
 -- How a deed of a script went, by how its line ended.
-use Rattle.std.proofs.Common.{◌≡◌, ◌≤◌, ℕ, List, Option, Result, Ok, Err, refl, subst, sym, arith}
+use Rattle.std.proofs.Common.{◌≡◌, ◌≤◌, ℕ, List, Option, Result, Ok, Err, OnOk, MatchResult, refl, subst, sym, arith}
 use Rattle.dr_ports.specs.Ports.{Rose, appended}
-use Rattle.dr_ports.specs.Writing.{TookBeginning}
+use Rattle.dr_ports.specs.Writing.{TookBeginning, Writes}
 use Rattle.kem_laws.specs.Mechanism.{Mechanism}
 use Rattle.scripts.specs.Deeds.{Deed}
 use Rattle.scripts.specs.Lined.{lined_deed}
@@ -45,6 +45,24 @@ goes_unwritten k deed duet tally more taken new before now part rose later = rec
   later = later;
   quiet = λ h. absurd (h refl);
 }
+
+-- what is so on an Ok, where there is one
+pub of_ok : {T E P : Type 0} (r : Result T E) (v : T) → r ≡ Ok v → OnOk r P → P
+of_ok {T} {E} {P} r v is holds = subst (λ (s : Result T E). OnOk s P) is holds
+
+-- its lines were written, or a write failed
+pub goes_written : {T E : Type 0} (k : Mechanism) (deed : Deed) (duet next : DuetNow) (tally more : Tally) (taken new : Option (List ℕ)) (before now : ℕ)
+    (written : Result T E) (result : Result DuetNow Cut) → MatchResult written (λ _. result ≡ Ok next) (λ _. result ≡ Err Write)
+    → ((v : T) → written ≡ Ok v → next ≡ after_deed duet (deed_on k (beside duet) deed))
+    → more ≡ counted_all (deed_side deed) (deed_on k (beside duet) deed).answers tally
+    → Writes taken new before now (deed_on k (beside duet) deed).lines written
+    → PlaysDeed k deed duet tally more taken new before now result
+goes_written k deed duet next tally more taken new before now (Ok v) result is steps counts writes =
+    subst (λ (r : Result DuetNow Cut). PlaysDeed k deed duet tally more taken new before now r) (sym is)
+    (goes_well k deed duet next tally more taken new before now (steps v refl) counts writes.whole writes.cause.passed)
+goes_written k deed duet next tally more taken new before now (Err e) result is steps counts writes =
+    subst (λ (r : Result DuetNow Cut). PlaysDeed k deed duet tally more taken new before now r) (sym is)
+    (goes_unwritten k deed duet tally more taken new before now writes.part writes.cause.failed writes.cause.later)
 
 -- a line of this kind
 pub goes_along : (k : Mechanism) (line other : Lined) (duet : DuetNow) (tally more : Tally) (taken new : Option (List ℕ)) (before now : ℕ)

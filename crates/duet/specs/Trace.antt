@@ -37,7 +37,7 @@ played k script = lines_by (deed_on k) (beginning k script) script.deeds
 unfoldable pub trace_of : Mechanism → Scripted → List ℕ
 trace_of k script = lines_by (deed_in k) (beginning_in k script) script.deeds
 
--- ---- fair scripts
+-- ---- unforged scripts
 
 -- no packet that the deed makes up has a forged tag; a sync makes up none
 abbrev pub IsUnforgedDeed : Mechanism → Beside World → Deed → Type 0
@@ -49,5 +49,6 @@ abbrev pub IsUnforgedPlay : Mechanism → Beside World → List Deed → Type 0
 IsUnforgedPlay k s [] = ⊤
 IsUnforgedPlay k s (deed ∷ deeds) = IsUnforgedDeed k s deed × IsUnforgedPlay k (deed_in k s deed).next deeds
 
+-- and so in a whole script
 abbrev pub IsUnforgedScript : Mechanism → Scripted → Type 0
 IsUnforgedScript k script = IsUnforgedPlay k (beginning_in k script) script.deeds

@@ -1,6 +1,6 @@
 //! A script, played: each deed is done, and its lines are written before the next.
 
-ghost use Rattle.std.specs.Prelude.{◌≡◌, ℕ, ◌+◌, ◌-◌, ◌^◌, ◌<◌, ◌≤◌, ◌⊎◌, length, flat_map, slice_index_or, IsNone, IsSome, IfOk, OnOk, IsErrOf};
+ghost use Rattle.std.specs.Prelude.{◌≡◌, ℕ, ◌+◌, ◌-◌, ◌^◌, ◌<◌, ◌≤◌, ◌⊎◌, length, flat_map, slice_index_or, Ok, Err, IsNone, IsSome, IfOk, OnOk, IsErrOf, MatchResult};
 ghost use Rattle.dr_ports.specs.Ports.{Rose, appended};
 ghost use Rattle.dr_ports.specs.Writing.{TookBeginning, Writes};
 ghost use Rattle.boxes.specs.Items.{Item};
@@ -133,6 +133,16 @@ enum Cut {
     Write,
 }
 
+/// Both sides after a deed, unless a write failed.
+fn unless_failed<K: Kem>(duet: Duet<K>, written: Result<(), Failed>) -> Result<Duet<K>, Cut>
+    ensures { MatchResult written (λ _. result ≡ Ok duet) (λ _. result ≡ Err Cut.Write) }
+{
+    match written {
+        Err(Failed) => Err(Cut::Write),
+        Ok(()) => Ok(duet),
+    }
+}
+
 /// Plays an act that a stop cuts off: counts its answer, and writes its line. Gives both sides after it.
 fn play_stop<K: Kem, O: Sink>(
     alloc: Global,
@@ -149,10 +159,10 @@ fn play_stop<K: Kem, O: Sink>(
 {
     match duet.stop(alloc, stop) {
         Err(AllocError) => Err(Cut::Memory),
-        Ok((next, answer)) => match tell(stop.side(), answer, tally, out) {
-            Err(Failed) => Err(Cut::Write),
-            Ok(()) => Ok(next),
-        },
+        Ok((next, answer)) => {
+            let written = tell(stop.side(), answer, tally, out);
+            unless_failed(next, written)
+        }
     }
 }
 
@@ -172,15 +182,15 @@ fn play_deed<K: Kem, O: Sink>(
 {
     let mut duet = duet;
     match line {
-        Lined::Plain(line) => match play_line(&mut duet, line, tally, out) {
-            Err(Failed) => Err(Cut::Write),
-            Ok(()) => Ok(duet),
-        },
+        Lined::Plain(line) => {
+            let written = play_line(&mut duet, line, tally, out);
+            unless_failed(duet, written)
+        }
         Lined::Stopping(stop) => play_stop(alloc, duet, stop, tally, out),
-        Lined::Syncing(side, lost) => match duet.sync(out, *side, *lost) {
-            Err(Failed) => Err(Cut::Write),
-            Ok(()) => Ok(duet),
-        },
+        Lined::Syncing(side, lost) => {
+            let written = duet.sync(out, *side, *lost);
+            unless_failed(duet, written)
+        }
     }
 }
 

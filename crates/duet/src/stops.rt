@@ -48,36 +48,27 @@ impl<K: Kem> Duet<K> {
             draws,
             relay,
         } = self;
-        match side {
-            Side::First => match first.stopped(alloc, stops.0, stops.1, act) {
-                Ok((first, answer)) => Ok((
-                    Duet {
-                        key,
-                        first,
-                        second,
-                        posts,
-                        draws,
-                        relay,
-                    },
-                    answer,
-                )),
-                Err(AllocError) => Err(AllocError),
-            },
-            Side::Second => match second.stopped(alloc, stops.0, stops.1, act) {
-                Ok((second, answer)) => Ok((
-                    Duet {
-                        key,
-                        first,
-                        second,
-                        posts,
-                        draws,
-                        relay,
-                    },
-                    answer,
-                )),
-                Err(AllocError) => Err(AllocError),
-            },
-        }
+        let (stopping, other) = match side {
+            Side::First => (first, second),
+            Side::Second => (second, first),
+        };
+        let (stopped, answer) = match stopping.stopped(alloc, stops.0, stops.1, act) {
+            Ok(pair) => pair,
+            Err(AllocError) => return Err(AllocError),
+        };
+        let (first, second) = match side {
+            Side::First => (stopped, other),
+            Side::Second => (other, stopped),
+        };
+        let duet = Duet {
+            key,
+            first,
+            second,
+            posts,
+            draws,
+            relay,
+        };
+        Ok((duet, answer))
     }
 
     /// The network gets the packet that stands after this many in a side's outbox, if there is one.
