@@ -27,5 +27,3 @@ mod errors;
 mod inbox;
 mod outbox;
 mod row;
-#[cfg(test)]
-mod tests;

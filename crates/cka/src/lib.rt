@@ -27,7 +27,5 @@ pub use theory::{agreement_holds, agreement_length};
 
 mod caller;
 mod holder;
-#[cfg(test)]
-mod tests;
 mod texts;
 mod theory;

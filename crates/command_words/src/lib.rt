@@ -21,6 +21,4 @@ mod application;
 mod command;
 mod limits;
 mod named;
-#[cfg(test)]
-mod tests;
 mod words;

@@ -7,8 +7,6 @@
 mod cipher;
 mod laws;
 mod rows;
-#[cfg(test)]
-mod tests;
 
 pub use cipher::{block, xor_in_place};
 pub use laws::encryption_undoes_itself;

@@ -22,5 +22,3 @@ mod recording;
 mod steady;
 mod synced;
 mod tape;
-#[cfg(test)]
-mod tests;

@@ -24,6 +24,4 @@ mod output_line;
 mod pipe;
 mod port;
 mod reading;
-#[cfg(test)]
-mod tests;
 mod writing;

@@ -27,5 +27,3 @@ mod message_keys;
 mod opening;
 mod sealing;
 mod tag;
-#[cfg(test)]
-mod tests;

@@ -38,5 +38,3 @@ mod laws;
 mod receiving;
 mod sending;
 mod table;
-#[cfg(test)]
-mod tests;

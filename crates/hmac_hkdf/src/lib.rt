@@ -22,5 +22,3 @@ pub use mac::{Mac, hmac};
 mod hkdf;
 mod keyed;
 mod mac;
-#[cfg(test)]
-mod tests;

@@ -25,6 +25,4 @@ pub use theory::laws;
 
 mod kem;
 mod open_kem;
-#[cfg(test)]
-mod tests;
 mod theory;

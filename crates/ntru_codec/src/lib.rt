@@ -18,6 +18,3 @@ pub use elements::{rounded_decode, rounded_encode, rq_decode, rq_encode};
 pub use encoder::encode;
 pub use small::{BadSmall, small_decode, small_encode};
 pub use theory::laws;
-
-#[cfg(test)]
-mod tests;

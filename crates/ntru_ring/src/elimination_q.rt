@@ -4,7 +4,7 @@
 //! Where a is zero then, b shows that f has no inverse. Else a's first coefficient is the row's pivot, and the row is
 //! scaled so that it is 1 there. The 761 pivots differ, so they are all the places, and the rows clear -1 too: what was
 //! added up on the way is the inverse.
-ghost use Rattle.std.specs.Prelude.{◌≡◌, ◌≢◌, ◌≤◌, ◌<◌, ℕ, ℤ, List, length, pos, slice_index_or, MatchResult};
+ghost use Rattle.std.specs.Prelude.{◌≡◌, ◌≢◌, ◌≤◌, ◌<◌, ℕ, ℤ, List, length, pos, slice_index_or, IfSome, MatchResult};
 ghost use Rattle.ntru_ring.specs.Ring.{coefficient, times};
 ghost use Rattle.ntru_ring.specs.Reduction.{reduced, IsInverse, Annihilates};
 ghost use Rattle.ntru_ring.specs.Elimination.{IsMultiple, IsCombined};
@@ -87,7 +87,7 @@ fn row_of(pair: &PairQ, pivot: usize, top: usize) -> RowQ
 }
 
 /// The inverse of `f`, or an annihilator, by all rows.
-pub(crate) fn inverse_by_rows(work: &mut Workspace, f: &Rq) -> Result<Rq, AnnihilatedQ>
+fn inverse_by_rows(work: &mut Workspace, f: &Rq) -> Result<Rq, AnnihilatedQ>
     ensures { MatchResult result (λ v. IsInverse 2295 f.now.coefficients v.coefficients) (λ e. Annihilates 2295 f.now.coefficients e.z.coefficients) }
 {
     work.fill_q();
@@ -115,15 +115,24 @@ fn trial(f: &Rq, candidate: &Rq) -> Rq
     }
 }
 
+/// The inverse of `f` in R/q by its candidate, where the trial shows that it is one. Where `f` has an inverse, it was found
+/// whenever it was tried; the clause promises nothing of that.
+pub fn quick_inverse_q(f: &Rq) -> Option<Rq>
+    ensures { IfSome result (λ v. IsInverse 2295 f.now.coefficients v.coefficients) }
+{
+    let candidate = candidate_q(f);
+    if trial(f, &candidate) == Rq::monomial(0, 1) {
+        return Some(candidate);
+    }
+    None
+}
+
 /// The inverse of `f` in R/q, or an element that shows that there is none.
 pub fn inverse_q(work: &mut Workspace, f: &Rq) -> Result<Rq, AnnihilatedQ>
     ensures { MatchResult result (λ v. IsInverse 2295 f.now.coefficients v.coefficients) (λ e. Annihilates 2295 f.now.coefficients e.z.coefficients) }
 {
-    let candidate = candidate_q(f);
-    // Where f has an inverse, the candidate was it whenever it was tried; the rows answer where it has none, and the
-    // clause stands on the trial and on the rows alone.
-    if trial(f, &candidate) == Rq::monomial(0, 1) {
-        return Ok(candidate);
+    match quick_inverse_q(f) {
+        Some(inverse) => Ok(inverse),
+        None => inverse_by_rows(work, f),
     }
-    inverse_by_rows(work, f)
 }

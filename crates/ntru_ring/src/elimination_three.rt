@@ -4,7 +4,7 @@
 //! Where a is zero then, b shows that g has no inverse. Else a's first coefficient is the row's pivot, and the row is
 //! scaled so that it is 1 there. The 761 pivots differ, so they are all the places, and the rows clear -1 too: what was
 //! added up on the way is the inverse.
-ghost use Rattle.std.specs.Prelude.{◌≡◌, ◌≢◌, ◌≤◌, ◌<◌, ℕ, ℤ, List, length, pos, slice_index_or, MatchResult};
+ghost use Rattle.std.specs.Prelude.{◌≡◌, ◌≢◌, ◌≤◌, ◌<◌, ℕ, ℤ, List, length, pos, slice_index_or, IfSome, MatchResult};
 ghost use Rattle.ntru_ring.specs.Ring.{coefficient};
 ghost use Rattle.ntru_ring.specs.Reduction.{IsInverse, Annihilates};
 ghost use Rattle.ntru_ring.specs.Elimination.{IsMultiple, IsCombined};
@@ -69,7 +69,7 @@ fn row_of(pair: &Pair3, pivot: usize, top: usize) -> Row3
 }
 
 /// The inverse of `g`, or an annihilator, by all rows.
-pub(crate) fn inverse_by_rows(work: &mut Workspace, g: &R3) -> Result<R3, Annihilated3>
+fn inverse_by_rows(work: &mut Workspace, g: &R3) -> Result<R3, Annihilated3>
     ensures { MatchResult result (λ v. IsInverse 1 g.now.coefficients v.coefficients) (λ e. Annihilates 1 g.now.coefficients e.z.coefficients) }
 {
     work.fill_three();
@@ -88,16 +88,25 @@ pub(crate) fn inverse_by_rows(work: &mut Workspace, g: &R3) -> Result<R3, Annihi
     Ok(r3_of(&clear(&work.rows_three, 761, &minus_one, &Planes3::zero()).b))
 }
 
+/// The inverse of `g` in R/3 by its candidate, where the trial shows that it is one. Where `g` has an inverse, it was found
+/// whenever it was tried; the clause promises nothing of that.
+pub fn quick_inverse3(g: &R3) -> Option<R3>
+    ensures { IfSome result (λ v. IsInverse 1 g.now.coefficients v.coefficients) }
+{
+    let small = planes_of(g);
+    let candidate = candidate_three(&small);
+    if small.mul(&candidate) == planes_of(&R3::monomial(0, 1)) {
+        return Some(r3_of(&candidate));
+    }
+    None
+}
+
 /// The inverse of `g` in R/3, or an element that shows that there is none.
 pub fn inverse3(work: &mut Workspace, g: &R3) -> Result<R3, Annihilated3>
     ensures { MatchResult result (λ v. IsInverse 1 g.now.coefficients v.coefficients) (λ e. Annihilates 1 g.now.coefficients e.z.coefficients) }
 {
-    let small = planes_of(g);
-    let candidate = candidate_three(&small);
-    // Where g has an inverse, the candidate was it whenever it was tried; the rows answer where it has none, and the
-    // clause stands on the trial and on the rows alone.
-    if small.mul(&candidate) == planes_of(&R3::monomial(0, 1)) {
-        return Ok(r3_of(&candidate));
+    match quick_inverse3(g) {
+        Some(inverse) => Ok(inverse),
+        None => inverse_by_rows(work, g),
     }
-    inverse_by_rows(work, g)
 }

@@ -172,8 +172,8 @@ impl Rq {
         }
     }
 
-    /// 0.
-    pub(crate) fn zero() -> Rq
+    /// The element 0.
+    pub fn zero() -> Rq
         ensures { result.coefficients ≡ zero_of 761 }
     {
         Rq {
@@ -181,8 +181,8 @@ impl Rq {
         }
     }
 
-    /// `c` times x^place.
-    pub(crate) fn monomial(place: usize, c: i16) -> Rq
+    /// The element `c` times x^place.
+    pub fn monomial(place: usize, c: i16) -> Rq
         requires place { place < 761 }
         requires within { IsWithin 2295 c }
         ensures { result.coefficients ≡ slice_set (zero_of 761) place c }

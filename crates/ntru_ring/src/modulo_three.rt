@@ -69,8 +69,8 @@ impl R3 {
         r3_of(&planes_of(self).mul(&planes_of(o)))
     }
 
-    /// 0.
-    pub(crate) fn zero() -> R3
+    /// The element 0.
+    pub fn zero() -> R3
         ensures { result.coefficients ≡ zero_of 761 }
     {
         R3 {
@@ -78,8 +78,8 @@ impl R3 {
         }
     }
 
-    /// `c` times x^place.
-    pub(crate) fn monomial(place: usize, c: i16) -> R3
+    /// The element `c` times x^place.
+    pub fn monomial(place: usize, c: i16) -> R3
         requires place { place < 761 }
         requires within { IsWithin 1 c }
         ensures { result.coefficients ≡ slice_set (zero_of 761) place c }

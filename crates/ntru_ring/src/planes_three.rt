@@ -72,7 +72,7 @@ pub fn r3_of(planes: &Planes3) -> R3
 }
 
 impl Planes3 {
-    /// 0.
+    /// The element 0.
     pub(crate) fn zero() -> Planes3
         ensures { element_of result.nonzero result.negative ≡ zero_of 761 }
     {

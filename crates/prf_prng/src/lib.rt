@@ -21,5 +21,3 @@ pub use root::Root;
 
 mod laws;
 mod root;
-#[cfg(test)]
-mod tests;

@@ -50,6 +50,4 @@ mod receiving;
 mod sealing;
 mod sending;
 mod session;
-#[cfg(test)]
-mod tests;
 mod way;

@@ -9,5 +9,3 @@ mod lines;
 mod names;
 mod relaying;
 mod serving;
-#[cfg(test)]
-mod tests;

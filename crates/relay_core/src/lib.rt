@@ -28,6 +28,4 @@ mod loading;
 mod mailbox;
 mod reading;
 mod relay;
-#[cfg(test)]
-mod tests;
 mod writing;

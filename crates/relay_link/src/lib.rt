@@ -19,5 +19,3 @@ mod desk;
 mod law;
 mod limits;
 mod link;
-#[cfg(test)]
-mod tests;

@@ -10,5 +10,3 @@ pub use pulling::{next_frame, send_all};
 mod asking;
 mod faults;
 mod pulling;
-#[cfg(test)]
-mod tests;

@@ -27,5 +27,3 @@ mod law;
 mod opening;
 mod server;
 mod serving;
-#[cfg(test)]
-mod tests;

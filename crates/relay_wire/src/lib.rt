@@ -37,6 +37,4 @@ mod reply;
 mod reply_reading;
 mod request;
 mod request_reading;
-#[cfg(test)]
-mod tests;
 mod writing;

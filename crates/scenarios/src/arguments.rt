@@ -12,6 +12,32 @@ use std::io;
 use std::io::{Cursor, ErrorKind};
 use std::test::Fail;
 
+/// Runs the program on its arguments over this disk and this network.
+fn run_over<S: Source, O: Sink>(
+    alloc: Global,
+    given: io::Result<Args>,
+    disk: &mut SteadyDisk,
+    network: &mut Network,
+    source: &mut S,
+    out: &mut O,
+) -> Result<Status, AllocError> {
+    let mut draws = SteadyDraws::new(alloc, &[Key32 { bytes: [7; 32] }])?;
+    if disk.size() < DISK_SIZE || network.relay_disk.size() < RELAY_DISK_SIZE {
+        return Err(AllocError);
+    }
+    Ok(run_arguments(
+        alloc,
+        given,
+        disk,
+        &mut network.relay_disk,
+        source,
+        out,
+        &mut network.link,
+        &mut network.door,
+        &mut draws,
+    ))
+}
+
 /// Runs the program on its arguments, on disks of the sizes that it asks for.
 fn run_given<S: Source, O: Sink>(
     alloc: Global,
@@ -21,21 +47,7 @@ fn run_given<S: Source, O: Sink>(
 ) -> Result<Status, AllocError> {
     let mut disk = SteadyDisk::new(alloc, DISK_SIZE)?;
     let mut network = Network::new(alloc, b"", b"")?;
-    let mut draws = SteadyDraws::new(alloc, &[Key32 { bytes: [7; 32] }])?;
-    if disk.size() < DISK_SIZE || network.relay_disk.size() < RELAY_DISK_SIZE {
-        return Err(AllocError);
-    }
-    Ok(run_arguments(
-        alloc,
-        given,
-        &mut disk,
-        &mut network.relay_disk,
-        source,
-        out,
-        &mut network.link,
-        &mut network.door,
-        &mut draws,
-    ))
+    run_over(alloc, given, &mut disk, &mut network, source, out)
 }
 
 #[test]

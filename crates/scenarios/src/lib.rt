@@ -1,12 +1,9 @@
 //! Tests of the whole program over ports in memory: its commands, its scripts with the lines and the status that each must
-//! have, and each fault once; and of clients on disks that stop. They stand in a crate of their own, so that no crate of code is
-//! proved twice for them.
+//! have, and each fault once.
 #![tactic(auto)]
 
 #[cfg(test)]
 mod arguments;
-#[cfg(test)]
-mod clients;
 #[cfg(test)]
 mod commands;
 #[cfg(test)]
@@ -17,7 +14,5 @@ mod relays;
 mod running;
 #[cfg(test)]
 mod scripted;
-#[cfg(test)]
-mod sessions;
 #[cfg(test)]
 mod tables;

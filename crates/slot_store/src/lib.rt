@@ -21,6 +21,4 @@ mod opening;
 mod reading;
 mod settling;
 mod store;
-#[cfg(test)]
-mod tests;
 mod tidying;

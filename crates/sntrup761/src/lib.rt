@@ -30,7 +30,3 @@ mod hiding;
 mod keys;
 mod mechanism;
 mod parts;
-#[cfg(test)]
-mod tests;
-#[cfg(test)]
-mod vectors;

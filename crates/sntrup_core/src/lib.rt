@@ -14,6 +14,4 @@ pub use theory::laws;
 mod cipher;
 mod pair;
 mod sampling;
-#[cfg(test)]
-mod tests;
 mod theory;

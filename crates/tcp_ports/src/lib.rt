@@ -8,5 +8,3 @@ pub use link::TcpLink;
 mod connection;
 mod door;
 mod link;
-#[cfg(test)]
-mod tests;

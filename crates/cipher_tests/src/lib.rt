@@ -1,0 +1,15 @@
+//! Tests of the crates of symmetric cryptography: the vectors of their standards, and values of other implementations.
+#![tactic(auto)]
+
+#[cfg(test)]
+mod counted;
+#[cfg(test)]
+mod hashing;
+#[cfg(test)]
+mod key_stream;
+#[cfg(test)]
+mod message_keys;
+#[cfg(test)]
+mod root;
+#[cfg(test)]
+mod sealing;

@@ -1,0 +1,9 @@
+//! Tests of clients on disks in memory: each act once, stopped at each write, and syncs over links in memory.
+#![tactic(auto)]
+
+#[cfg(test)]
+mod acts;
+#[cfg(test)]
+mod stops;
+#[cfg(test)]
+mod syncs;

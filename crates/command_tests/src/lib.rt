@@ -1,0 +1,9 @@
+//! Tests of the commands on a session: their words, and the work of each with its faults.
+#![tactic(auto)]
+
+#[cfg(test)]
+mod outcomes;
+#[cfg(test)]
+mod sessions;
+#[cfg(test)]
+mod words;

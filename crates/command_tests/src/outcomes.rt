@@ -1,0 +1,121 @@
+//! What a command on a disk in memory comes to.
+
+use client::SLOT;
+use dr_base::{Key32, Side};
+use dr_disk::{Disk, MemoryDisk};
+use dr_ports::{MemoryDraws, MemorySink, MemorySource};
+use kem_laws::OpenKem;
+use session_commands::{begin, done, inbox, outbox, say, sent, state, take};
+use std::alloc::Global;
+use std::test::Fail;
+
+/// A command, with its words and what it reads.
+#[derive(Clone, Copy)]
+pub enum Command<'a> {
+    Begin(Side, &'a [u8]),
+    Say(&'a [u8]),
+    Take(&'a [u8]),
+    Done(u32),
+    Sent(u32),
+    Inbox,
+    Outbox,
+    State,
+}
+
+/// The status of a beginning, over a source whose reads of these numbers fail.
+fn begun(
+    alloc: Global,
+    disk: &mut MemoryDisk,
+    side: Side,
+    text: &[u8],
+    fails: &[u64],
+    out: &mut MemorySink,
+) -> Result<u8, Fail> {
+    if disk.size() < 2 * SLOT as u64 {
+        return Err(Fail::from("no room"));
+    }
+    let mut source = MemorySource::new(alloc, text, fails)?;
+    let status = begin::<OpenKem, MemoryDisk, MemorySource, MemorySink>(
+        alloc,
+        side,
+        disk,
+        &mut source,
+        out,
+    );
+    Ok(status.code)
+}
+
+/// The status of a taking, over such a source.
+fn taken(
+    alloc: Global,
+    disk: &mut MemoryDisk,
+    text: &[u8],
+    fails: &[u64],
+    out: &mut MemorySink,
+) -> Result<u8, Fail> {
+    if disk.size() < 2 * SLOT as u64 {
+        return Err(Fail::from("no room"));
+    }
+    let mut source = MemorySource::new(alloc, text, fails)?;
+    let status = take::<OpenKem, MemoryDisk, MemorySource, MemorySink>(
+        alloc,
+        disk,
+        &mut source,
+        out,
+    );
+    Ok(status.code)
+}
+
+/// The status of a saying, whose draws of these numbers fail.
+fn said(
+    alloc: Global,
+    disk: &mut MemoryDisk,
+    text: &[u8],
+    fails: &[u64],
+    out: &mut MemorySink,
+) -> Result<u8, Fail> {
+    if disk.size() < 2 * SLOT as u64 {
+        return Err(Fail::from("no room"));
+    }
+    let mut draws = MemoryDraws::new(alloc, &[Key32 { bytes: [9; 32] }], fails)?;
+    let status = say::<OpenKem, MemoryDisk, MemorySink, MemoryDraws>(
+        alloc, text, disk, out, &mut draws,
+    );
+    Ok(status.code)
+}
+
+/// The status of a command. The reads and the draws of these numbers fail.
+fn status_of(
+    alloc: Global,
+    disk: &mut MemoryDisk,
+    command: Command<'_>,
+    fails: &[u64],
+    out: &mut MemorySink,
+) -> Result<u8, Fail> {
+    if disk.size() < 2 * SLOT as u64 {
+        return Err(Fail::from("no room"));
+    }
+    let status = match command {
+        Command::Begin(side, text) => return begun(alloc, disk, side, text, fails, out),
+        Command::Take(text) => return taken(alloc, disk, text, fails, out),
+        Command::Say(text) => return said(alloc, disk, text, fails, out),
+        Command::Done(n) => done::<OpenKem, MemoryDisk, MemorySink>(alloc, n, disk, out),
+        Command::Sent(n) => sent::<OpenKem, MemoryDisk, MemorySink>(alloc, n, disk, out),
+        Command::Inbox => inbox::<OpenKem, MemoryDisk, MemorySink>(alloc, disk, out),
+        Command::Outbox => outbox::<OpenKem, MemoryDisk, MemorySink>(alloc, disk, out),
+        Command::State => state::<OpenKem, MemoryDisk, MemorySink>(alloc, disk, out),
+    };
+    Ok(status.code)
+}
+
+/// What a command ends with, and what it writes.
+pub fn outcome(
+    alloc: Global,
+    disk: &mut MemoryDisk,
+    command: Command<'_>,
+    fails: &[u64],
+) -> Result<(u8, Vec<u8>), Fail> {
+    let mut out = MemorySink::new(alloc, 8192, &[])?;
+    let code = status_of(alloc, disk, command, fails, &mut out)?;
+    Ok((code, out.taken().to_vec(alloc)?))
+}

@@ -1,0 +1,134 @@
+//! Each command once on disks in memory, and each fault.
+
+use crate::outcomes::{Command, outcome};
+use dr_base::Side;
+use dr_disk::MemoryDisk;
+use std::alloc::Global;
+use std::test::Fail;
+
+/// A new disk that holds a client's area.
+const SIZE: u64 = 393216;
+
+const KEY: &[u8] = b"0000000000000000000000000000000000000000000000000000000000000000\n";
+
+/// Whether a command ends with this status and writes just these lines.
+fn ends(
+    alloc: Global,
+    disk: &mut MemoryDisk,
+    command: Command<'_>,
+    fails: &[u64],
+    status: u8,
+    lines: &[u8],
+) -> Result<bool, Fail> {
+    let (code, written) = outcome(alloc, disk, command, fails)?;
+    Ok(code == status && written.as_slice() == lines)
+}
+
+/// The packet of the position 0.1 in an outbox, in hex.
+fn first_packet(alloc: Global, disk: &mut MemoryDisk) -> Result<Vec<u8>, Fail> {
+    let (_, packets) = outcome(alloc, disk, Command::Outbox, &[])?;
+    match packets.strip_prefix(b"0.1 ") {
+        Some(packet) => Ok(packet.to_vec(alloc)?),
+        None => Err(Fail::from("another position")),
+    }
+}
+
+/// The name of the session of the key of zeros is from another implementation of HKDF.
+const NAME: &[u8] = b"session 70e0f9cd1a5863238d67aecce0c032e5\n";
+
+// Second says a text, and drops its packet.
+#[test]
+fn a_text_is_said(rt: HostRuntime) -> Result<(), Fail> {
+    let alloc = rt.alloc();
+    let mut disk = MemoryDisk::new(alloc, SIZE)?;
+    let state =
+        b"session 70e0f9cd1a5863238d67aecce0c032e5\nside second\nepoch 0\nmissing 0\ninbox 0\noutbox 0\n";
+    let rows: [(Command<'_>, &[u8]); 5] = [
+        (Command::Begin(Side::Second, KEY), NAME),
+        (Command::State, state),
+        (Command::Say(b"hi"), b"said 0.1\n"),
+        (Command::Sent(1), b"sent 1\n"),
+        (Command::Outbox, b""),
+    ];
+    for (command, lines) in rows {
+        assert!(rt; ends(alloc, &mut disk, command, &[], 0, lines)?);
+    }
+    Ok(())
+}
+
+/// The packet of a text that Second says.
+fn packet_of_second(alloc: Global) -> Result<Vec<u8>, Fail> {
+    let mut disk = MemoryDisk::new(alloc, SIZE)?;
+    let begin = Command::Begin(Side::Second, KEY);
+    if !ends(alloc, &mut disk, begin, &[], 0, NAME)? {
+        return Err(Fail::from("not begun"));
+    }
+    let say = Command::Say(b"a\"b\\\n");
+    if !ends(alloc, &mut disk, say, &[], 0, b"said 0.1\n")? {
+        return Err(Fail::from("not said"));
+    }
+    first_packet(alloc, &mut disk)
+}
+
+// First takes its packet once, shows the text, and is done with it.
+#[test]
+fn a_text_is_taken(rt: HostRuntime) -> Result<(), Fail> {
+    let alloc = rt.alloc();
+    let packet = packet_of_second(alloc)?;
+    let mut disk = MemoryDisk::new(alloc, SIZE)?;
+    let rows: [(Command<'_>, u8, &[u8]); 6] = [
+        (Command::Begin(Side::First, KEY), 0, NAME),
+        (Command::Take(packet.as_slice()), 0, b"opened 0.1\n"),
+        (Command::Inbox, 0, b"0.1 \"a\\x22b\\x5c\\x0a\"\n"),
+        (Command::Take(packet.as_slice()), 3, b"refused: Spent 0.1\n"),
+        (Command::Done(2), 3, b"refused: Fewer 1\n"),
+        (Command::Done(1), 0, b"done 1\n"),
+    ];
+    for (command, status, lines) in rows {
+        assert!(rt; ends(alloc, &mut disk, command, &[], status, lines)?);
+    }
+    Ok(())
+}
+
+// Each ending but those of a work that was done or refused.
+#[test]
+fn each_fault(rt: HostRuntime) -> Result<(), Fail> {
+    let alloc = rt.alloc();
+    let mut disk = MemoryDisk::new(alloc, SIZE)?;
+    let begin = Command::Begin(Side::First, KEY);
+    let rows: [(Command<'_>, &[u64], u8, &[u8]); 8] = [
+        (Command::State, &[], 9, b"no session\n"),
+        (
+            Command::Begin(Side::First, &[b'0'; 63]),
+            &[],
+            3,
+            b"refused: BadKey\n",
+        ),
+        (
+            Command::Begin(Side::First, &[b'0'; 66]),
+            &[],
+            3,
+            b"refused: InputTooLong 65\n",
+        ),
+        (begin, &[1], 4, b"fault: read\n"),
+        (begin, &[], 0, NAME),
+        (begin, &[], 10, b"session exists\n"),
+        (Command::Take(b"0g"), &[], 3, b"refused: NotHex\n"),
+        (Command::Say(b"hi"), &[1], 8, b"fault: draws\n"),
+    ];
+    for (command, fails, status, lines) in rows {
+        assert!(rt; ends(alloc, &mut disk, command, fails, status, lines)?);
+    }
+    disk.stop_after(1);
+    assert!(rt;
+        ends(
+            alloc,
+            &mut disk,
+            Command::Say(b"hi"),
+            &[],
+            6,
+            b"fault: disk\n"
+        )?
+    );
+    Ok(())
+}

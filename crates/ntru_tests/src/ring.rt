@@ -1,0 +1,96 @@
+//! Worked rows of the ring.
+ghost use Rattle.ntru_ring.specs.Reduction.{IsWithin};
+
+use ntru_ring::{
+    R3, Rq, Workspace, inverse_q, inverse3, planes_of, quick_inverse_q, quick_inverse3, r3_of,
+};
+use std::process::Abort;
+use std::test::Fail;
+
+fn rounds(rt: &impl Abort, from: i16, to: i16)
+    requires from { IsWithin 2295 from }
+    requires to { IsWithin 2295 to }
+{
+    assert!(rt; Rq::monomial(7, from).round() == Rq::monomial(7, to));
+}
+
+#[test]
+fn rounds_to_multiples_of_three(rt: HostRuntime) {
+    rounds(&rt, 1, 0);
+    rounds(&rt, 2, 3);
+    rounds(&rt, -1, 0);
+    rounds(&rt, 2293, 2292);
+    rounds(&rt, 2294, 2295);
+    rounds(&rt, 2295, 2295);
+    rounds(&rt, -2294, -2295);
+}
+
+#[test]
+fn adds_with_a_wrap(rt: HostRuntime) {
+    assert!(rt; Rq::monomial(3, 2295).add(&Rq::monomial(3, 1)) == Rq::monomial(3, -2295));
+    assert!(rt; R3::monomial(3, 1).add(&R3::monomial(3, 1)) == R3::monomial(3, -1));
+}
+
+#[test]
+fn multiplies_powers_of_x(rt: HostRuntime) {
+    let top = Rq::monomial(760, 1);
+    assert!(rt; Rq::monomial(1, 1).mul(&top) == Rq::monomial(1, 1).add(&Rq::monomial(0, 1)));
+    assert!(rt; top.mul(&top) == top.add(&Rq::monomial(759, 1)));
+    let small = R3::monomial(760, 1);
+    assert!(rt; R3::monomial(1, 1).mul(&small) == R3::monomial(1, 1).add(&R3::monomial(0, 1)));
+    assert!(rt; small.mul(&small) == small.add(&R3::monomial(759, 1)));
+    assert!(rt; small.lift() == top);
+    assert!(rt; small.weight() == 1);
+}
+
+#[test]
+fn inverts_x(rt: HostRuntime) -> Result<(), Fail> {
+    let mut work = Workspace::new(rt.alloc())?;
+    let inverse = R3::monomial(760, 1).add(&R3::monomial(0, -1));
+    assert!(rt; inverse3(&mut work, &R3::monomial(1, 1)) == Ok(inverse));
+    assert!(rt; inverse3(&mut work, &R3::zero()).is_err());
+    let inverse = Rq::monomial(760, 1).add(&Rq::monomial(0, -1));
+    assert!(rt; inverse_q(&mut work, &Rq::monomial(1, 1)) == Ok(inverse));
+    assert!(rt; inverse_q(&mut work, &Rq::zero()).is_err());
+    Ok(())
+}
+
+#[test]
+fn subtracts_and_multiplies_rows(rt: HostRuntime) {
+    let mut row = Rq::monomial(0, 2295);
+    row.subtract_row(&Rq::monomial(0, 1), -1);
+    assert!(rt; row == Rq::monomial(0, -2295));
+    let mut last = Rq::monomial(760, 1);
+    last.subtract_row(&Rq::monomial(760, 2), 3);
+    assert!(rt; last == Rq::monomial(760, -5));
+    let x = Rq::monomial(1, 1);
+    let sum = x.add(&Rq::monomial(0, 1));
+    assert!(rt; x.mul_plain(&Rq::monomial(760, 1)) == sum);
+    assert!(rt; x.mul_small(&planes_of(&R3::monomial(760, 1))) == sum);
+    let minus_x = planes_of(&R3::monomial(1, -1));
+    assert!(rt; Rq::monomial(760, 2295).mul_small(&minus_x) == sum.scale(-2295));
+}
+
+#[test]
+fn keeps_two_bits_for_each_coefficient(rt: HostRuntime) {
+    let g = R3::monomial(760, 1).add(&R3::monomial(0, -1));
+    let planes = planes_of(&g);
+    assert!(rt; planes.nonzero[0] == 1);
+    assert!(rt; planes.nonzero[11] == 1 << 56);
+    assert!(rt; planes.negative[0] == 1);
+    assert!(rt; planes.negative[11] == 0);
+    assert!(rt; r3_of(&planes) == g);
+    assert!(rt; r3_of(&planes.shift()) == R3::monomial(0, 1));
+    assert!(rt; r3_of(&planes.add(&planes)) == R3::monomial(760, -1).add(&R3::monomial(0, 1)));
+    assert!(rt; planes.sub(&planes) == planes_of(&R3::zero()));
+    assert!(rt; planes.at(760) == 1);
+}
+
+#[test]
+fn finds_inverses_the_short_way(rt: HostRuntime) {
+    for place in 1..4 {
+        let g = R3::monomial(place, 1).add(&R3::monomial(0, 1));
+        assert!(rt; quick_inverse3(&g).is_some());
+        assert!(rt; quick_inverse_q(&g.lift()).is_some());
+    }
+}

@@ -1,0 +1,11 @@
+//! Tests of ports and disks: each once, and each fault once; over files and sockets too.
+#![tactic(auto)]
+
+#[cfg(test)]
+mod disks;
+#[cfg(test)]
+mod ports;
+#[cfg(test)]
+mod slots;
+#[cfg(test)]
+mod sockets;

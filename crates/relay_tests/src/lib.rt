@@ -1,0 +1,17 @@
+//! Tests of the relay, from its frames to its command: the worked exchange, and each fault once.
+#![tactic(auto)]
+
+#[cfg(test)]
+mod command;
+#[cfg(test)]
+mod exchanges;
+#[cfg(test)]
+mod frames;
+#[cfg(test)]
+mod links;
+#[cfg(test)]
+mod loopback;
+#[cfg(test)]
+mod mailboxes;
+#[cfg(test)]
+mod server;

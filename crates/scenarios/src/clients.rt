@@ -1,5 +1,0 @@
-//! Clients on disks in memory.
-
-mod acts;
-mod stops;
-mod syncs;

@@ -1,0 +1,188 @@
+//! A conversation over the stand-in.
+
+ghost use Rattle.std.specs.Prelude.{◌≡◌, ◌≤◌, length, is_some};
+
+use arrayvec::ArrayVec;
+use cka::{Agreement, PublicText, SecretText};
+use dr_base::{Key32, PACKET_LIMIT, Position, Side, TEXT_LIMIT, in_room};
+use fs_aead::Skipped;
+use kem_laws::{NoPair, OpenKem};
+use packet::parse;
+use ratchet::{NoPairFor, Session};
+use session_model::{Own, Phase, Reception, Refusal, SendRefusal, SessionPart};
+use std::marker::PhantomData;
+use std::test::Fail;
+
+/// A seed of equal bytes, if one is asked for.
+fn seed_of(asked: bool, byte: u8) -> Option<Key32>
+    ensures { is_some result ≡ asked }
+{
+    if asked {
+        Some(Key32 { bytes: [byte; 32] })
+    } else {
+        None
+    }
+}
+
+/// A packet in room of its own.
+type Packet = ArrayVec<u8, PACKET_LIMIT>;
+
+/// A text in room of its own.
+type Text = ArrayVec<u8, TEXT_LIMIT>;
+
+/// Says a text, and answers its packet.
+fn say(session: &mut Session<OpenKem>, text: &[u8], byte: u8) -> Result<Packet, Refusal> {
+    let asked = session.send_check(text.len())?;
+    let seed = seed_of(asked, byte);
+    match session.draft_send(&mut (), text, seed) {
+        Err(NoPairFor { seed: _ }) => Err(Refusal::NoPair),
+        Ok(draft) => {
+            let packet = in_room(draft.packet());
+            draft.accept(session);
+            Ok(packet)
+        }
+    }
+}
+
+/// Takes a packet, and answers its text.
+fn take(session: &mut Session<OpenKem>, packet: &Packet) -> Result<Text, Refusal> {
+    match parse(packet.as_slice(), 64) {
+        Err(fault) => Err(Refusal::Malformed(fault)),
+        Ok(view) => match session.draft_receive(&mut (), &view) {
+            Err(refusal) => Err(refusal.into()),
+            Ok(draft) => {
+                let text = in_room(draft.text());
+                draft.accept(session);
+                Ok(text)
+            }
+        },
+    }
+}
+
+/// What both sides begin with.
+fn sessions() -> Result<(Session<OpenKem>, Session<OpenKem>), NoPair> {
+    let key = Key32 { bytes: [7; 32] };
+    let first = Session::begin(&mut (), Side::First, &key)?;
+    let second = Session::begin(&mut (), Side::Second, &key)?;
+    Ok((first, second))
+}
+
+/// Whether the text that one side says is the one that the other takes.
+fn passes(
+    from: &mut Session<OpenKem>,
+    to: &mut Session<OpenKem>,
+    text: &[u8],
+    byte: u8,
+) -> Result<bool, Refusal> {
+    let packet = say(from, text, byte)?;
+    Ok(take(to, &packet)?.as_slice() == text)
+}
+
+/// Whether the later of two texts of First's is taken before the first, and each once.
+fn passes_late(
+    first: &mut Session<OpenKem>,
+    second: &mut Session<OpenKem>,
+) -> Result<bool, Refusal> {
+    let late = say(first, b"late", 1)?;
+    let soon = say(first, b"soon", 0)?;
+    let are_taken = take(second, &soon)?.as_slice() == b"soon".as_slice()
+        && take(second, &late)?.as_slice() == b"late".as_slice();
+    let spent = Refusal::Spent(Position { epoch: 1, index: 1 });
+    Ok(are_taken && take(second, &late).err() == Some(spent))
+}
+
+#[test]
+fn texts_come_once_and_in_every_order(rt: HostRuntime) -> Result<(), Fail> {
+    let (mut first, mut second) = sessions()?;
+    assert!(rt; passes(&mut second, &mut first, b"hello", 0)?);
+    assert!(rt; passes_late(&mut first, &mut second)?);
+    assert!(rt; passes(&mut second, &mut first, b"answer", 2)?);
+    Ok(())
+}
+
+/// How many texts a packet says that its side's last epoch has.
+fn previous_of(packet: &Packet) -> Option<u32> {
+    match parse(packet.as_slice(), 64) {
+        Ok(view) => Some(view.previous()),
+        Err(_) => None,
+    }
+}
+
+/// Whether both sides' texts are taken, where each was said before the other's came.
+fn cross(first: &mut Session<OpenKem>, second: &mut Session<OpenKem>) -> Result<bool, Refusal> {
+    let a = say(first, b"a", 1)?;
+    let b = say(second, b"b", 0)?;
+    Ok(
+        take(second, &a)?.as_slice() == b"a".as_slice()
+            && take(first, &b)?.as_slice() == b"b".as_slice(),
+    )
+}
+
+#[test]
+fn texts_that_cross_are_counted(rt: HostRuntime) -> Result<(), Fail> {
+    let (mut first, mut second) = sessions()?;
+    assert!(rt; cross(&mut first, &mut second)?);
+    // the packet 2.1, before which Second said one text
+    let c = say(&mut second, b"c", 2)?;
+    assert!(rt; previous_of(&c) == Some(1));
+    assert!(rt; take(&mut first, &c)?.as_slice() == b"c".as_slice());
+    Ok(())
+}
+
+#[test]
+fn what_has_no_pair_is_handed_back(rt: HostRuntime) -> Result<(), Fail> {
+    let (mut first, mut second) = sessions()?;
+    assert!(rt; passes(&mut second, &mut first, b"hello", 0)?);
+    assert!(rt; say(&mut first, b"lost", 255).err() == Some(Refusal::NoPair));
+    assert!(rt; passes(&mut first, &mut second, b"answer", 1)?);
+    Ok(())
+}
+
+/// Second, which said all texts that its epoch 0 holds.
+fn full_session() -> Session<OpenKem> {
+    let mut secret = SecretText::new();
+    secret.try_extend_from_slice(&[1; 32]).unwrap();
+    Session::resume(SessionPart {
+        side: Side::Second,
+        session: [2; 16],
+        root: Key32 { bytes: [3; 32] },
+        epoch: 0,
+        phase: Phase::Own(Own {
+            secret,
+            agreement: Agreement::new(),
+            chain: Key32 { bytes: [4; 32] },
+            sent: 65535,
+        }),
+        previous: 0,
+        receiving: None,
+        kept: Skipped::new(),
+        mechanism: PhantomData,
+    })
+}
+
+/// First in the last epoch, which is Second's.
+fn last_session() -> Session<OpenKem> {
+    let mut public = PublicText::new();
+    public.try_extend_from_slice(&[1; 32]).unwrap();
+    Session::resume(SessionPart {
+        side: Side::First,
+        session: [2; 16],
+        root: Key32 { bytes: [3; 32] },
+        epoch: 4294967294,
+        phase: Phase::Peers(public),
+        previous: 0,
+        receiving: Some(Reception {
+            chain: Key32 { bytes: [4; 32] },
+            reach: 0,
+        }),
+        kept: Skipped::new(),
+        mechanism: PhantomData,
+    })
+}
+
+#[test]
+fn ends_are_refused(rt: HostRuntime) -> Result<(), Fail> {
+    assert!(rt; full_session().send_check(1) == Err(SendRefusal::EpochFull));
+    assert!(rt; last_session().send_check(1) == Err(SendRefusal::LastEpoch));
+    Ok(())
+}

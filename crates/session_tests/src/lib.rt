@@ -1,0 +1,15 @@
+//! Tests of the crates below the client: the stand-in, the agreement, packets, boxes, sessions and records.
+#![tactic(auto)]
+
+#[cfg(test)]
+mod agreement;
+#[cfg(test)]
+mod conversation;
+#[cfg(test)]
+mod lists;
+#[cfg(test)]
+mod packets;
+#[cfg(test)]
+mod record;
+#[cfg(test)]
+mod stand_in;

@@ -1,0 +1,78 @@
+//! The packet of the text `hi`, written and read, and the first fault of what is none.
+
+use dr_base::{Position, put};
+use packet::{Kind, Malformed, grammar, parse, write_ad, write_into};
+use std::test::Fail;
+
+const SESSION: [u8; 16] = [0, 1, 2, 3, 4, 5, 6, 7, 8, 9, 10, 11, 12, 13, 14, 15];
+
+/// What stands before the ciphertext of the text `hi`, said first in epoch 0.
+const AD: [u8; 33] = [
+    1, 0, 1, 2, 3, 4, 5, 6, 7, 8, 9, 10, 11, 12, 13, 14, 15, 0, 0, 0, 0, 0, 0, 0, 0, 0, 0, 0, 1, 0,
+    0, 0, 2,
+];
+
+const FIRST: Position = Position { epoch: 0, index: 1 };
+
+const TAG: [u8; 32] = [7; 32];
+
+/// Whether what stands before the ciphertext is written.
+fn writes_ad() -> bool {
+    let mut ad = [0; 33];
+    write_ad(&SESSION, FIRST, 0, &[], 2, &mut ad) == 33 && ad == AD
+}
+
+/// Whether the parts of the first packet are lent.
+fn lends(packet: &[u8]) -> Result<bool, Malformed> {
+    let view = parse(packet, 64)?;
+    Ok(
+        view.ad() == AD.as_slice()
+            && view.session() == &SESSION
+            && (view.epoch(), view.previous(), view.index()) == (0, 0, 1)
+            && view.agreement().len() == 0
+            && view.ciphertext() == b"hi".as_slice()
+            && view.tag() == &TAG,
+    )
+}
+
+#[test]
+fn writes_and_lends_the_first_packet(rt: HostRuntime) -> Result<(), Fail> {
+    assert!(rt; writes_ad());
+    let mut bytes = [0; 67];
+    assert!(rt; write_into(&SESSION, FIRST, 0, &[], b"hi", &TAG, &mut bytes) == 67);
+    assert!(rt; lends(&bytes)?);
+    grammar();
+    Ok(())
+}
+
+/// Whether the fault of the first packet's first `len` bytes is this one, where `new` is put at a place.
+fn finds(len: usize, place: usize, new: &[u8], fault: Malformed) -> bool {
+    let mut bytes = [0; 68];
+    let _len = write_into(&SESSION, FIRST, 0, &[], b"hi", &TAG, &mut bytes);
+    if len > 68 || place > 64 || new.len() > 4 {
+        return false;
+    }
+    let _end = put(&mut bytes, place, new);
+    parse(&bytes[..len], 64).err() == Some(fault)
+}
+
+#[test]
+fn finds_the_first_fault(rt: HostRuntime) {
+    // the length of what is parsed, a place, the bytes that are put there, and the fault
+    let rows: [(usize, usize, &[u8], usize, Kind); 11] = [
+        (67, 0, &[0], 0, Kind::Version),
+        (67, 17, &[255, 255, 255, 255], 17, Kind::Epoch),
+        (67, 24, &[1], 21, Kind::Previous),
+        (67, 26, &[1], 25, Kind::Index),
+        (67, 28, &[0], 25, Kind::Index),
+        (67, 29, &[1], 29, Kind::Agreement),
+        (67, 31, &[4, 1], 31, Kind::Text),
+        (66, 0, &[1], 35, Kind::Short),
+        (0, 0, &[1], 0, Kind::Short),
+        (68, 0, &[1], 67, Kind::Long),
+        (67, 17, &[0, 0, 0, 1], 29, Kind::Agreement),
+    ];
+    for (len, place, new, at, kind) in rows {
+        assert!(rt; finds(len, place, new, Malformed { at, kind }));
+    }
+}
