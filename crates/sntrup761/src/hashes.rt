@@ -3,7 +3,7 @@
 ghost use Rattle.std.specs.Prelude.{◌≡◌, ◌++◌};
 ghost use Rattle.sntrup761.specs.Hashes.{hash, confirm, session};
 
-use crate::parts::part;
+use dr_base::array_at;
 use sha2::{Digest, Sha512};
 
 /// Hash_b of two texts in a row.
@@ -15,7 +15,7 @@ fn hash_both(b: u8, first: &[u8], second: &[u8]) -> [u8; 32]
     hasher.update(&[b]);
     hasher.update(first);
     hasher.update(second);
-    part(&hasher.finalize(), 0)
+    array_at(&hasher.finalize(), 0)
 }
 
 /// Hash_b.

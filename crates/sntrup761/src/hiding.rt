@@ -1,12 +1,12 @@
 //! Ciphertexts.
 
 ghost use Rattle.std.specs.Prelude.{◌≡◌, ◌+◌, ◌≤◌, length, None};
+ghost use Rattle.std.specs.Str.{bytes_eq};
 ghost use Rattle.ntru_codec.specs.Small.{first_bad, small_decoded};
 ghost use Rattle.sntrup761.specs.Mechanism.{part, bad_byte, hidden, opened};
 
 use crate::hashes::confirm;
-use crate::parts::part;
-use dr_base::put;
+use dr_base::{array_at, put};
 use ntru_codec::{rounded_decode, rounded_encode, rq_decode, small_decode, small_encode};
 use ntru_ring::R3;
 use sntrup_core::{decrypt, encrypt};
@@ -28,7 +28,7 @@ fn small_at(secret: &[u8], at: usize) -> R3
     requires good { first_bad (part at 191 secret.now) ≡ None }
     ensures { result.coefficients ≡ small_decoded (part at 191 secret.now) }
 {
-    small_decode(&part(secret, at)).unwrap()
+    small_decode(&array_at(secret, at)).unwrap()
 }
 
 /// What a lawful secret decrypts a ciphertext to.
@@ -41,5 +41,12 @@ pub(crate) fn open(secret: &[u8], ciphertext: &[u8]) -> R3
 {
     let f = small_at(secret, 0);
     let v = small_at(secret, 191);
-    decrypt(&f, &v, &rounded_decode(&part(ciphertext, 0)))
+    decrypt(&f, &v, &rounded_decode(&array_at(ciphertext, 0)))
+}
+
+/// Whether two ciphertexts are the same.
+pub(crate) fn is_same(a: &[u8], b: &[u8]) -> bool
+    ensures { result ≡ bytes_eq a.now b.now }
+{
+    a == b
 }

@@ -29,4 +29,3 @@ mod hashes;
 mod hiding;
 mod keys;
 mod mechanism;
-mod parts;

@@ -6,10 +6,9 @@ ghost use Rattle.sntrup761.specs.MechanismLaw.{sntrup761_law};
 
 use crate::draws::draw_r;
 use crate::hashes::{hash, session};
-use crate::hiding::{hide, open};
+use crate::hiding::{hide, is_same, open};
 use crate::keys::{keys_of, write_secret};
-use crate::parts::{is_same, part};
-use dr_base::Key32;
+use dr_base::{Key32, array_at};
 use kem_laws::{BadSecret, Kem, NoPair};
 use ntru_codec::{rq_encode, small_decode, small_encode};
 use ntru_ring::Workspace;
@@ -60,7 +59,7 @@ impl Kem for Sntrup761 {
 
     fn encap(_: &mut Workspace, public: &[u8], seed: &Key32, ciphertext: &mut [u8]) -> Key32 {
         let r = draw_r(&seed.bytes);
-        hide(&r, &part(public, 0), &hash(4, public), ciphertext);
+        hide(&r, &array_at(public, 0), &hash(4, public), ciphertext);
         Key32 {
             bytes: session(1, &small_encode(&r), ciphertext),
         }
@@ -68,10 +67,10 @@ impl Kem for Sntrup761 {
 
     #[tactic(auto, unfolding(crate::specs::Mechanism::bad_byte))]
     fn is_secret(bytes: &[u8]) -> Result<(), BadSecret> {
-        if let Err(bad) = small_decode(&part(bytes, 0)) {
+        if let Err(bad) = small_decode(&array_at(bytes, 0)) {
             return Err(BadSecret { at: bad.at });
         }
-        match small_decode(&part(bytes, 191)) {
+        match small_decode(&array_at(bytes, 191)) {
             Ok(_) => Ok(()),
             Err(bad) => Err(BadSecret { at: 191 + bad.at }),
         }
@@ -82,14 +81,14 @@ impl Kem for Sntrup761 {
         let mut again = [0; 1039];
         hide(
             &r,
-            &part(secret, 382),
-            &part::<32>(secret, 1731),
+            &array_at(secret, 382),
+            &array_at::<32>(secret, 1731),
             &mut again,
         );
         let bytes = if is_same(&again, ciphertext) {
             session(1, &small_encode(&r), ciphertext)
         } else {
-            session(0, &part::<191>(secret, 1540), ciphertext)
+            session(0, &array_at::<191>(secret, 1540), ciphertext)
         };
         Key32 { bytes }
     }
