@@ -1,10 +1,10 @@
 -- The application as clap is told it: one subcommand for each row of the table, with the values that the row has.
-use Rattle.std.specs.Prelude.{◌≡◌, ℕ, true, false, List, [], ◌∷◌, Some, map, codes}
+use Rattle.std.specs.Prelude.{◌≡◌, ℕ, true, false, List, [], ◌∷◌, Some, Result, IfOk, map, codes}
 use Rattle.clap.specs.declared.builder.command.Command.{Command}
 use Rattle.clap.specs.declared.builder.command.Command.TheViews.{out-Command}
 use Rattle.clap.specs.declared.builder.action.ArgAction.TheVariants.{Append}
 use Rattle.clap.specs.Walk.{Rule}
-use Rattle.clap.specs.Simple.{App, Shape, new_rule, new_shape}
+use Rattle.clap.specs.Simple.{App, Shape, new_rule, new_shape, app_of, with_subcommand}
 use Rattle.command_words.specs.Commands.{Reading, bare, valued, paired, listed, Row}
 
 -- a value that is wanted, and one or more such
@@ -40,6 +40,14 @@ shape_of_row row = shape_with row.0 (rules_for row.1)
 -- no value of the command is meant for subcommands
 abbrev pub IsLocal : Command → Type 0
 IsLocal command = (out-Command command).has_globals ≡ false
+
+-- where memory sufficed, the command is this application
+abbrev pub Makes : {E : Type 0} → Result Command E → App → Type 0
+Makes made app = IfOk made (λ command. app_of command ≡ app)
+
+-- the second is the first with one more subcommand, where memory sufficed for both
+abbrev pub Joins : {E : Type 0} → Result Command E → Result Command E → Shape → Type 0
+Joins before after sub = (app : App) → Makes before app → Makes after (with_subcommand app sub)
 
 -- words without the program's name, and no help
 abbrev pub top_shape : Shape

@@ -1,8 +1,8 @@
 //! The application as clap knows it: one level of subcommands, with their values.
 
 ghost use Rattle.std.specs.Prelude.{◌≡◌, [], ◌∷◌, false, IfOk};
-ghost use Rattle.clap.specs.Simple.{App, app_of, with_rule, with_subcommand};
-ghost use Rattle.command_words.specs.Application.{IsLocal, application, empty_application, first_rule, second_rule, more_rule, shape_with, wanted, wanted_each};
+ghost use Rattle.clap.specs.Simple.{App, app_of, with_rule};
+ghost use Rattle.command_words.specs.Application.{IsLocal, Makes, Joins, application, empty_application, first_rule, second_rule, more_rule, shape_with, wanted, wanted_each};
 ghost use Rattle.command_words.specs.Commands.{rows};
 
 use clap::{Arg, ArgAction, Command};
@@ -15,7 +15,7 @@ fn wanting<'a>(
     id: &'a str,
 ) -> Result<Command<'a>, AllocError>
     requires { IfOk command IsLocal }
-    ensures shape { (app : App) → IfOk command.entry (λ c. app_of c ≡ app) → IfOk result (λ c. app_of c ≡ with_rule app (wanted id.now)) }
+    ensures shape { (app : App) → Makes command.entry app → Makes result (with_rule app (wanted id.now)) }
     ensures local { IfOk result IsLocal }
 {
     command?.arg(Arg::new(alloc, id).required(true))
@@ -28,7 +28,7 @@ fn wanting_more<'a>(
     id: &'a str,
 ) -> Result<Command<'a>, AllocError>
     requires { IfOk command IsLocal }
-    ensures shape { (app : App) → IfOk command.entry (λ c. app_of c ≡ app) → IfOk result (λ c. app_of c ≡ with_rule app (wanted_each id.now)) }
+    ensures shape { (app : App) → Makes command.entry app → Makes result (with_rule app (wanted_each id.now)) }
     ensures local { IfOk result IsLocal }
 {
     let more = Arg::new(alloc, id).required(true).action(ArgAction::Append);
@@ -41,7 +41,7 @@ fn joined<'a>(
     command: Result<Command<'a>, AllocError>,
 ) -> Result<Command<'a>, AllocError>
     requires { IfOk command IsLocal }
-    ensures { (app : App) (with : App) → IfOk application.entry (λ c. app_of c ≡ app) → IfOk command.entry (λ c. app_of c ≡ with) → IfOk result (λ c. app_of c ≡ with_subcommand app with.top) }
+    ensures { (sub : App) → Makes command.entry sub → Joins application.entry result sub.top }
 {
     let command = command?;
     application?.subcommand(command)
@@ -53,7 +53,7 @@ fn with_bare<'a>(
     application: Result<Command<'a>, AllocError>,
     name: &'a str,
 ) -> Result<Command<'a>, AllocError>
-    ensures { (app : App) → IfOk application.entry (λ c. app_of c ≡ app) → IfOk result (λ c. app_of c ≡ with_subcommand app (shape_with name.now [])) }
+    ensures { Joins application.entry result (shape_with name.now []) }
 {
     joined(application, Ok(Command::new(alloc, name)))
 }
@@ -64,7 +64,7 @@ fn with_valued<'a>(
     application: Result<Command<'a>, AllocError>,
     name: &'a str,
 ) -> Result<Command<'a>, AllocError>
-    ensures { (app : App) → IfOk application.entry (λ c. app_of c ≡ app) → IfOk result (λ c. app_of c ≡ with_subcommand app (shape_with name.now (first_rule ∷ []))) }
+    ensures { Joins application.entry result (shape_with name.now (first_rule ∷ [])) }
 {
     let one = wanting(alloc, Ok(Command::new(alloc, name)), "first");
     joined(application, one)
@@ -76,7 +76,7 @@ fn with_paired<'a>(
     application: Result<Command<'a>, AllocError>,
     name: &'a str,
 ) -> Result<Command<'a>, AllocError>
-    ensures { (app : App) → IfOk application.entry (λ c. app_of c ≡ app) → IfOk result (λ c. app_of c ≡ with_subcommand app (shape_with name.now (first_rule ∷ second_rule ∷ []))) }
+    ensures { Joins application.entry result (shape_with name.now (first_rule ∷ second_rule ∷ [])) }
 {
     let one = wanting(alloc, Ok(Command::new(alloc, name)), "first");
     let two = wanting(alloc, one, "second");
@@ -89,7 +89,7 @@ fn with_listed<'a>(
     application: Result<Command<'a>, AllocError>,
     name: &'a str,
 ) -> Result<Command<'a>, AllocError>
-    ensures { (app : App) → IfOk application.entry (λ c. app_of c ≡ app) → IfOk result (λ c. app_of c ≡ with_subcommand app (shape_with name.now (first_rule ∷ second_rule ∷ more_rule ∷ []))) }
+    ensures { Joins application.entry result (shape_with name.now (first_rule ∷ second_rule ∷ more_rule ∷ [])) }
 {
     let one = wanting(alloc, Ok(Command::new(alloc, name)), "first");
     let two = wanting(alloc, one, "second");
@@ -109,7 +109,7 @@ fn without_commands<'a>(alloc: Global) -> Command<'a>
 
 /// The application with all its commands. What is made passes want of memory on, so that it is asked after once, at the end.
 pub fn application<'a>(alloc: Global) -> Result<Command<'a>, AllocError>
-    ensures { IfOk result (λ whole. app_of whole ≡ application rows) }
+    ensures { Makes result (application rows) }
 {
     let command = Ok(without_commands(alloc));
     let command = with_valued(alloc, command, "begin");

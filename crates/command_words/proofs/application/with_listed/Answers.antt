@@ -4,4 +4,4 @@ pub returns : goal.returns
 returns c app made =
     let one = c.wanting-one.ensures.shape _ c.new.ensures.app in
     let two = c.wanting-two.ensures.shape _ one in
-    c.joined.ensures app _ made (c.wanting_more-more.ensures.shape _ two)
+    c.joined.ensures _ (c.wanting_more-more.ensures.shape _ two) app made
