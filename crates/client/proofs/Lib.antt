@@ -1,13 +1,7 @@
 mod Areas
 mod Beginnings
 mod Drawing
-pub mod LawfulActs
-mod LawfulDrafts
-mod LawfulPosts
-mod LawfulRecords
-mod LawfulSaying
-mod LawfulTaking
-mod LawfulWays
+pub mod Lawful
 mod Lifted
 mod OnePacket
 pub mod Openings

@@ -23,7 +23,7 @@ use Rattle.client.specs.Clients.{ClientNow, IsReady, client_area}
 use Rattle.client.specs.InWorlds.{ActsIn, IsBetween, IsIn, StandsFor, StandsForEither}
 use Rattle.client.specs.Outcomes.{Acts, IsDone, IsEffected, IsReplacing, Outcome, acknowledged, faulted, is_closed, refused, undrawn}
 use Rattle.client.specs.Grounds.{Grounds}
-use Rattle.client.proofs.LawfulRecords.{lawful_kept}
+use Rattle.client.proofs.Lawful.Records.{lawful_kept}
 
 -- the record of what a side keeps stands for the world
 pub record_stands : (k : Mechanism) → Grounds k → (w : World) (side : Side) (kept : Client) (c : List ℕ) → IsLawfulWorld k w

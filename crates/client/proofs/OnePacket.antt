@@ -2,13 +2,13 @@
 use Rattle.std.proofs.Common.{Bool, List, None, Some, ap, map, refl, subst, suc, sym, true, zero, ℕ, ◌∙◌, ◌∷◌, ◌≡◌, ◌≤◌, []}
 use Rattle.std.specs.Prelude.{All, filter, slice_get, slice_index_or}
 use Rattle.std.proofs.lemmas.List.Elements.{All-drop, All-filter, All-head, All-map, All-tail}
+use Rattle.dr_model.proofs.Taking.MadePositions.{position-post_at}
 use Rattle.boxes.specs.Items.{Item}
 use Rattle.dr_base.specs.Position.{is_own}
 use Rattle.dr_base.specs.declared.position.Position.{Position}
 use Rattle.dr_base.specs.declared.position.Side.{Side}
 use Rattle.dr_disk.specs.State.{DiskState}
 use Rattle.kem_laws.specs.Mechanism.{Mechanism}
-use Rattle.session_model.specs.Sealing.{posted}
 use Rattle.dr_model.specs.Conversations.Conversation.{Conversation, is_said, positions}
 use Rattle.dr_model.specs.Conversations.Posts.{post_at}
 use Rattle.dr_model.specs.Conversations.Views.{View, outbox_of}
@@ -42,10 +42,6 @@ got P [] n x all is = absurd (let e : None ≡ Some x = is in cc)
 got P (y ∷ ys) zero x all is = subst P (let e : Some y ≡ Some x = is in cc) (All-head P y ys all)
 got P (y ∷ ys) (suc n) x all is = got P ys n x (All-tail P y ys all) is
 
-post_place : (k : Mechanism) (c : Conversation) (p : Position) → (post_at k c p).position ≡ p
-unfolding posted
-post_place k c p = refl
-
 -- in a world, and in a later one
 same_packet : (k : Mechanism) (w last : World) (side : Side) (post after : Item) → IsLawfulWorld k w → IsLater k w last
     → IsPosted k w.conversation post → IsPosted k last.conversation after → post.position ≡ after.position → after ≡ post
@@ -53,8 +49,8 @@ same_packet k w last side post after lawful later a b same =
     let c = w.conversation in
     let d = last.conversation in
     let one : a.place ≡ b.place =
-    sym (ap (λ (i : Item). i.position) a.is ∙ post_place k c a.place)
-    ∙ same ∙ (ap (λ (i : Item). i.position) b.is ∙ post_place k d b.place) in
+    sym (ap (λ (i : Item). i.position) a.is ∙ position-post_at k c a.place)
+    ∙ same ∙ (ap (λ (i : Item). i.position) b.is ∙ position-post_at k d b.place) in
     let stays : post_at k d a.place ≡ post_at k c a.place =
     ap (λ (v : World). post_at k v.conversation a.place) (sym later.leads)
     ∙ (packets_last k w later.events a.place lawful later.whole a.said).1 in

@@ -1,2 +1,5 @@
+pub mod Bytes
 pub mod Parity
 pub mod Positions
+pub mod Putting
+pub mod Widths

@@ -1,3 +1,4 @@
-pub mod Position
 pub mod Buffer
+pub mod Bytes
 pub mod Causes
+pub mod Position

@@ -21,3 +21,7 @@ is_own Second epoch = epoch % 2 == 0
 -- two positions are the same
 abbrev pub is_at : Position → Position → Bool
 is_at p q = (q.epoch == p.epoch) && (q.index == p.index)
+
+-- the position with these numbers
+abbrev pub position_at : ℕ → ℕ → Position
+position_at epoch index = record { epoch = epoch; index = index }

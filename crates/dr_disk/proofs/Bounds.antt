@@ -1,7 +1,7 @@
 -- The range of a platter that has marks.
-use Rattle.std.proofs.Common.{◌≡◌, ◌⊎◌, inl, inr, ⊎_elim, ℕ, ◌+◌, ◌-◌, ◌<◌, ◌≤◌, Bool, true, false, List, length, get_or, replicate, refl, sym, ◌∙◌, ap, arith}
+use Rattle.std.proofs.Common.{◌≡◌, ◌⊎◌, inl, inr, ⊎_elim, ℕ, ◌+◌, ◌-◌, ◌<◌, ◌≤◌, Bool, true, false, List, length, get_or, replicate, sym, ◌∙◌, ap, arith}
 use Rattle.std.specs.Prelude.{slice_range}
-use Rattle.std.proofs.lemmas.Bool.{false≢true}
+use Rattle.std.proofs.lemmas.Bool.{false≢true, cases_Bool}
 use Rattle.std.proofs.lemmas.List.{ext_get_or, length-replicate}
 use Rattle.dr_disk.specs.Bytes.{overwritten}
 use Rattle.dr_disk.specs.Memory.{IsImage, marked}
@@ -27,14 +27,10 @@ around_more durable marks marks' at n low high low' high' fits each is first sec
     (λ within. second i within.0 within.1) (where_is i at n)
 
 -- outside there is no mark
-bool_cases : (b : Bool) → (b ≡ true) ⊎ (b ≡ false)
-bool_cases true = inl refl
-bool_cases false = inr refl
-
 unmarked : (marks : List Bool) (low high : ℕ) → AreAround marks low high → (i : ℕ) → (i < low) ⊎ (high ≤ i) → get_or marks i false ≡ false
 unmarked marks low high was i out = ⊎_elim
     (λ is. let there = was i is in absurd (⊎_elim (λ lt. let f : ⊥ = absurd (omega arith) in f) (λ ge. let f : ⊥ = absurd (omega arith) in f) out))
-    (λ no. no) (bool_cases (get_or marks i false))
+    (λ no. no) (cases_Bool (get_or marks i false))
 
 module _ (durable bytes : List ℕ) (marks : List Bool) (low high : ℕ) (order : low ≤ high) (end : high ≤ length durable) (was : AreAround marks low high) (agrees : IsImage durable marks bytes) where
   part_long : length (slice_range bytes low high) ≡ high - low

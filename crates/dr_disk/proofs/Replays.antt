@@ -1,17 +1,13 @@
 -- Events one after the other.
 use Rattle.std.proofs.Common.{◌≡◌, ◌⊎◌, inl, inr, ⊎_elim, subst, ℕ, ◌+◌, ◌≤◌, Bool, List, [], ◌∷◌, ◌++◌, length, take, drop, refl, sym, ◌∙◌, ap, ap₂, arith, length-append, length-drop}
 use Rattle.std.proofs.lemmas.Bool.{cases_lt}
-use Rattle.std.proofs.lemmas.List.{drop-append-le, take_all, take-append-le}
+use Rattle.std.proofs.lemmas.List.{drop-append-le, take_all, take-append-le, nil_from_length}
 use Rattle.dr_disk.specs.declared.tape.Recorded.{Recorded}
 use Rattle.dr_disk.specs.State.{some_pass, untold_fate}
 use Rattle.dr_disk.specs.Spans.{GoesBy}
 use Rattle.dr_disk.specs.Memory.{Counts, IsImage}
 use Rattle.dr_disk.specs.Recorded.{Bits, Event, WasImage, after, blank, event_of, events_of, recording_state, replayed, total_of}
 use Rattle.dr_disk.proofs.Passing.{counted, counts_grow}
-
-none : (l : List ℕ) → length l ≡ 0 → l ≡ []
-none [] is = refl
-none (x ∷ l) is = absurd (omega arith)
 
 pub replayed_more : (bits : Bits) (events : List Event) (event : Event) → replayed bits (events ++ event ∷ []) ≡ after (replayed bits events) event
 replayed_more bits [] event = refl
@@ -21,7 +17,7 @@ replayed_more bits (e ∷ events) event = replayed_more (after bits e) events ev
 pub events_more : (calls : List Recorded) (bytes new : List ℕ) (call : Recorded) → total_of calls ≡ length bytes → call.len ≡ length new
     → events_of (calls ++ call ∷ []) (bytes ++ new) ≡ events_of calls bytes ++ event_of call new ∷ []
 events_more [] bytes new call total len =
-    let empty : bytes ≡ [] = none bytes (sym total) in
+    let empty : bytes ≡ [] = nil_from_length bytes (sym total) in
     ap₂ (λ (x : List ℕ) (y : List Event). event_of call x ∷ y) (ap (λ (l : List ℕ). take call.len (l ++ new)) empty ∙ take_all call.len new (omega arith)) refl
 events_more (c ∷ calls) bytes new call total len =
     let fits : c.len ≤ length bytes = omega arith in

@@ -11,8 +11,7 @@ pub mod PlayedLines
 pub mod SaidBoxes
 pub mod SaidSyncs
 pub mod Showing
-pub mod StoppedActs
-pub mod StoppedSides
+pub mod Stopped
 pub mod Synced
 pub mod SyncsFollow
 pub mod Trace

@@ -19,7 +19,8 @@ use Rattle.session_model.specs.Clients.{Client}
 use Rattle.sync_model.specs.Parties.{Party}
 use Rattle.sync_model.specs.Moves.{Ending, ended, inbox_full, box_is_full, no_such_box, wrong, asked_in}
 use Rattle.sync_model.specs.Courses.{Course, all_lines, as_list, course_of}
-use Rattle.sync_model.specs.Carried.{replied_bytes, request_bytes, request_frame}
+use Rattle.sync_model.specs.Carried.{replied_bytes, request_bytes}
+use Rattle.relay_wire.specs.Framed.{request_frame}
 use Rattle.sync_model.specs.Scenes.{scene}
 use Rattle.sync_model.specs.Transfers.{Meeting}
 use Rattle.sync_model.specs.declared.more.More.{More}

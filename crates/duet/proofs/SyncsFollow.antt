@@ -1,5 +1,6 @@
 -- A sync of a side, and the same in the world that both sides stand for.
 use Rattle.std.proofs.Common.{◌≡◌, ℕ, List, [], ◌++◌, Option, refl, sym, ◌∙◌, ap, ap₂}
+use Rattle.dr_model.proofs.Acting.Keeping.{own_client}
 use Rattle.dr_base.specs.declared.position.Side.{Side}
 use Rattle.dr_base.specs.declared.position.Side.TheVariants.{First, Second}
 use Rattle.dr_model.specs.Machines.Acts.{Act, act_in, act_on, event_of, sending, taking}
@@ -27,13 +28,9 @@ use Rattle.client.specs.Syncing.Parties.{client_party, is_full, waiting, world_p
 use Rattle.duet.specs.Outcomes.{Played, ending_line, closing_line, sync_lines, synced_on}
 use Rattle.duet.specs.Held.{on_side}
 use Rattle.scripts.specs.Sides.{side_text}
-use Rattle.duet.proofs.StoppedSides.{opened_side, same_client, sent_side}
+use Rattle.duet.proofs.Stopped.Sides.{opened_side, same_client, sent_side}
 
 -- ---- one side among both
-
-side_given : (s : Sides) (side : Side) (kept : Client) → client_of (with_client s side kept) side ≡ kept
-side_given s First kept = refl
-side_given s Second kept = refl
 
 given_twice : (s : Sides) (side : Side) (one other : Client) → with_client (with_client s side one) side other ≡ with_client s side other
 given_twice s First one other = refl
@@ -59,7 +56,7 @@ record IsOnWay (k : Mechanism) (side : Side) (start : World) (kept : Client) (w 
 module _ (k : Mechanism) (law : IsLawfulMechanism k) (side : Side) (start : World) where
   module _ (kept : Client) (w : World) (is : IsOnWay k side start kept w) where
     keeps : client_of (sides_of k w) side ≡ kept
-    keeps = ap (λ (s : Sides). client_of s side) is.stands ∙ side_given (sides_of k start) side kept
+    keeps = ap (λ (s : Sides). client_of s side) is.stands ∙ own_client (sides_of k start) side kept
 
     kept_is : kept_in k w side ≡ kept
     kept_is = sym (client_of-kept k w side) ∙ keeps

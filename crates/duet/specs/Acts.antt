@@ -1,7 +1,7 @@
 -- What a side does by a call on its client, and how that ends.
 use Rattle.std.specs.Prelude.{IfSome, Ok, Result, is_some, length, ⊤, ◌≡◌}
 use Rattle.kem_laws.specs.Mechanism.{Mechanism}
-use Rattle.packet.specs.Packet.{AreBytes}
+use Rattle.dr_base.specs.Bytes.{AreBytes}
 use Rattle.dr_model.specs.Machines.Acts.{finished_by, said_by, sent_by, taken_by}
 use Rattle.dr_model.specs.Machines.Steps.{Step}
 use Rattle.ratchet.specs.Seen.{seed_bytes}

@@ -1,7 +1,7 @@
 //! Both sides, one of which has a disk that stops in a call.
 
 ghost use Rattle.std.specs.Prelude.{◌≡◌, ◌+◌, ◌-◌, ◌^◌, ◌<◌, ◌≤◌, Ok, IfOk, IfSome, is_some, length, option_map};
-ghost use Rattle.packet.specs.Packet.{AreBytes};
+ghost use Rattle.dr_base.specs.Bytes.{AreBytes};
 ghost use Rattle.dr_model.specs.Machines.Draws.{after_draw, next_seed};
 ghost use Rattle.dr_model.specs.Machines.Events.{says};
 ghost use Rattle.dr_model.specs.Machines.Sides.{client_of, said_on, step_on, taken_on};
@@ -72,7 +72,7 @@ impl<K: Kem> Duet<K> {
     }
 
     /// The network gets the packet that stands after this many in a side's outbox, if there is one.
-    #[tactic(auto, using(crate::proofs::StoppedSides::last_dropped))]
+    #[tactic(auto, using(crate::proofs::Stopped::Saying::last_dropped))]
     fn gather(&mut self, side: Side, held: u32)
         requires room { length self.old.sides.posts < self.old.room }
         requires one { length (client_of self.old.sides side).outbox ≤ held + 1 }

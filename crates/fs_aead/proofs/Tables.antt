@@ -1,7 +1,7 @@
 -- Tables whose positions ascend.
-use Rattle.std.proofs.Common.{◌≡◌, ◌≢◌, ℕ, ◌+◌, ◌<◌, Bool, true, false, List, [], length, get_or, Some, None, refl, sym, ap, ap₂, ◌∙◌, inl, inr, arith}
+use Rattle.std.proofs.Common.{◌≡◌, ◌≢◌, ℕ, ◌+◌, ◌<◌, true, false, List, [], length, get_or, Some, None, refl, sym, ap, ap₂, ◌∙◌, inl, inr, arith}
 use Rattle.std.specs.Prelude.{not, ◌⊎◌, filter, remove, position, option_map, is_some, IsSome, Contains}
-use Rattle.std.proofs.lemmas.Bool.{cases_Bool}
+use Rattle.std.proofs.lemmas.Bool.{cases_Bool, not-true}
 use Rattle.std.proofs.lemmas.Bool.Decides.{nat_tests}
 use Rattle.std.proofs.lemmas.List.Quantifiers.{position-Some}
 use Rattle.std.proofs.lemmas.List.Edits.{length-remove}
@@ -73,16 +73,13 @@ pub without-none : (keys : List Kept) (p : Position) → position (is_kept_at p)
 unfolding without
 without-none keys p missing = filter-none (is_kept_at p) keys (position-None (is_kept_at p) keys missing)
 
-not_passed : (b : Bool) → not b ≡ true → b ≡ false
-not_passed b h = grind arith
-
 -- a key that was taken is kept no more
 pub kept_key-without : (keys : List Kept) (p : Position) → kept_key (without keys p) p ≡ None
 unfolding kept_key without
 kept_key-without keys p =
     ap (option_map (λ (kept : Kept). kept.key.bytes))
     (find-none (is_kept_at p) (filter (λ kept. not (is_kept_at p kept)) keys)
-    (λ k d below. not_passed _ (filter_passes (λ kept. not (is_kept_at p kept)) keys k d below)))
+    (λ k d below. not-true _ (filter_passes (λ kept. not (is_kept_at p kept)) keys k d below)))
 
 -- two positions that one test passes at
 apart : (p q : Position) → p ≢ q → (kept : Kept) → is_kept_at q kept ≡ true → not (is_kept_at p kept) ≡ true

@@ -3,7 +3,8 @@ use Rattle.std.proofs.Common.{◌≡◌, ℕ, ◌+◌, Bool, true, false, List, 
 use Rattle.std.specs.Prelude.{◌⊎◌}
 use Rattle.grammar.specs.Reader.{Read, Reader, and_then, gives, mapped, maybe, either}
 use Rattle.grammar.specs.Printer.{print_maybe, IsMaybe, print_either, IsEither}
-use Rattle.grammar.specs.Grammar.{AreBytes, reading, WasPrinted, IsGrammar}
+use Rattle.grammar.specs.Grammar.{reading, WasPrinted, IsGrammar}
+use Rattle.dr_base.specs.Bytes.{AreBytes}
 use Rattle.grammar.proofs.Steps.{from_and_then}
 
 -- what was read and then wrapped was printed, where the wrapped value prints as the value does

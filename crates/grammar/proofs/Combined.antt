@@ -1,7 +1,8 @@
 -- Grammars put together stay grammars: a field with a test, a field as what it means, two fields.
 use Rattle.std.proofs.Common.{◌≡◌, ℕ, ◌+◌, Bool, true, List, ◌++◌, length, Ok, Err, sym, ◌∙◌, ap, subst, arith, length-append, append_assoc, if◌then◌else◌}
 use Rattle.grammar.specs.Reader.{Read, Reader, and_then, gives, checked, mapped, both}
-use Rattle.grammar.specs.Grammar.{AreBytes, reading, WasPrinted, IsGrammar}
+use Rattle.grammar.specs.Grammar.{reading, WasPrinted, IsGrammar}
+use Rattle.dr_base.specs.Bytes.{AreBytes}
 use Rattle.grammar.proofs.Steps.{from_and_then, from_test}
 
 -- ---- a field that passes a test

@@ -1,31 +1,15 @@
 -- The grammars of single fields.
-use Rattle.std.proofs.Common.{◌≡◌, ℕ, ◌+◌, ◌%◌, ◌^◌, ◌<◌, ◌≤◌, true, List, [], ◌∷◌, ◌++◌, length, get_or, take, drop, Ok, refl, sym, ◌∙◌, ap, subst, arith, inl, inr, mod-eq_of_lt}
+use Rattle.std.proofs.Common.{◌≡◌, ℕ, ◌+◌, ◌<◌, ◌≤◌, true, List, ◌++◌, length, take, drop, Ok, refl, sym, ◌∙◌, ap, subst, arith}
 use Rattle.std.specs.Prelude.{nat_le}
-use Rattle.std.specs.Int.{Width, w8, w16, w32, w64, byte_len, to_be_bytes, from_be_bytes}
-use Rattle.std.proofs.lemmas.Bool.{cases_lt, leb-true, le-leb}
-use Rattle.std.proofs.lemmas.List.{take_at, drop_at, take-append-drop, length-append, length-take, length-drop, get_or-drop, get_or-take, get_or_default, get_or_past}
-use Rattle.std.proofs.lemmas.Nat.{be_bytes_2, be_bytes_4, be_bytes_8, from_be_bytes-to_be_bytes_2, from_be_bytes-to_be_bytes_4, from_be_bytes-to_be_bytes_8}
+use Rattle.std.specs.Int.{Width, byte_len, to_be_bytes, from_be_bytes}
+use Rattle.std.proofs.lemmas.Bool.{leb-true, le-leb}
+use Rattle.std.proofs.lemmas.List.{take_at, drop_at, take-append-drop, length-append, length-take}
+use Rattle.dr_base.proofs.Widths.{IsExact}
+use Rattle.dr_base.proofs.Bytes.{AreBytes-take, AreBytes-drop}
 use Rattle.grammar.specs.Reader.{Read, piece, number}
-use Rattle.grammar.specs.Grammar.{AreBytes, reading, WasPrinted, IsGrammar}
+use Rattle.grammar.specs.Grammar.{reading, WasPrinted, IsGrammar}
+use Rattle.dr_base.specs.Bytes.{AreBytes}
 use Rattle.grammar.proofs.Steps.{from_test}
-
--- ---- parts of bytes are bytes
-
-pub byte_at : (bytes : List ℕ) (i : ℕ) → AreBytes bytes → get_or bytes i 0 < 256
-byte_at bytes i are = elim (cases_lt i (length bytes)) [ inl inside ↦ are i 0 inside | inr past ↦ rw (get_or_past bytes i 0 past) (omega arith) ]
-
-pub are_bytes : (bytes : List ℕ) → ((i : ℕ) → get_or bytes i 0 < 256) → AreBytes bytes
-are_bytes bytes each k d inside = subst (λ (b : ℕ). b < 256) (get_or_default bytes k 0 d inside) (each k)
-
-pub AreBytes-take : (n : ℕ) (bytes : List ℕ) → AreBytes bytes → AreBytes (take n bytes)
-AreBytes-take n bytes are k d inside =
-    let shorter = length-take n bytes in
-    rw (get_or-take n bytes k d (omega arith)) (are k d (omega arith))
-
-pub AreBytes-drop : (n : ℕ) (bytes : List ℕ) → AreBytes bytes → AreBytes (drop n bytes)
-AreBytes-drop n bytes are k d inside =
-    let shorter = length-drop n bytes in
-    rw (get_or-drop n bytes k d) (are (n + k) d (omega arith))
 
 -- ---- this many bytes
 
@@ -49,52 +33,6 @@ pub piece_grammar : (size : ℕ) → IsGrammar (λ a. a) (λ a. length a ≡ siz
 piece_grammar size = record { reads = reads_piece size; only = only_piece size }
 
 -- ---- numbers
-
--- a width at which a number and its bytes determine each other
-pub record IsExact (w : Width) (limit : ℕ) : Type 0 where
-  pub size : (n : ℕ) → length (to_be_bytes w n) ≡ byte_len w
-  pub printed : (bytes : List ℕ) → length bytes ≡ byte_len w → AreBytes bytes → to_be_bytes w (from_be_bytes w bytes) ≡ bytes
-  pub read : (n : ℕ) → n < limit → from_be_bytes w (to_be_bytes w n) ≡ n
-  pub below : (bytes : List ℕ) → AreBytes bytes → from_be_bytes w bytes < limit
-
-one_byte : (bytes : List ℕ) → length bytes ≡ 1 → AreBytes bytes → (get_or bytes 0 0 % 256) ∷ [] ≡ bytes
-one_byte [] long are = absurd (omega arith)
-one_byte (b ∷ []) long are = let fits : b < 256 = are 0 0 (omega arith) in ap (λ (n : ℕ). n ∷ []) (mod-eq_of_lt fits)
-one_byte (b ∷ c ∷ more) long are = absurd (omega arith)
-
-pub exact8 : IsExact w8 (2 ^ 8)
-exact8 = record {
-  size = λ n. refl;
-  printed = one_byte;
-  read = λ n fits. mod-eq_of_lt fits;
-  below = λ bytes are. omega (arith, byte_at bytes 0 are);
-}
-
-pub exact16 : IsExact w16 (2 ^ 16)
-exact16 = record {
-  size = λ n. refl;
-  printed = λ bytes long are. be_bytes_2 bytes _ long (λ i. byte_at bytes i are) refl;
-  read = λ n fits. from_be_bytes-to_be_bytes_2 n fits;
-  below = λ bytes are. omega (arith, byte_at bytes 0 are, byte_at bytes 1 are);
-}
-
-pub exact32 : IsExact w32 (2 ^ 32)
-exact32 = record {
-  size = λ n. refl;
-  printed = λ bytes long are. be_bytes_4 bytes _ long (λ i. byte_at bytes i are) refl;
-  read = λ n fits. from_be_bytes-to_be_bytes_4 n fits;
-  below = λ bytes are. omega (arith, byte_at bytes 0 are, byte_at bytes 1 are, byte_at bytes 2 are, byte_at bytes 3 are);
-}
-
-pub exact64 : IsExact w64 (2 ^ 64)
-exact64 = record {
-  size = λ n. refl;
-  printed = λ bytes long are. be_bytes_8 bytes _ long (λ i. byte_at bytes i are) refl;
-  read = λ n fits. from_be_bytes-to_be_bytes_8 n fits;
-  below = λ bytes are.
-      let byte = λ (i : ℕ). byte_at bytes i are in
-      omega (arith, byte 0, byte 1, byte 2, byte 3, byte 4, byte 5, byte 6, byte 7);
-}
 
 module _ (w : Width) (limit : ℕ) (exact : IsExact w limit) where
   reads_number : (n : ℕ) (at : ℕ) (rest : List ℕ) → n < limit → number w at (to_be_bytes w n ++ rest) ≡ reading n at (to_be_bytes w n) rest

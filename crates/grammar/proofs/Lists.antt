@@ -4,9 +4,11 @@ use Rattle.std.proofs.lemmas.List.{take_more, take_all}
 use Rattle.std.specs.Int.{Width, to_be_bytes}
 use Rattle.grammar.specs.Reader.{Read, Reader, and_then, gives, checked, number, piece, items, counted, sized}
 use Rattle.grammar.specs.Printer.{print_items, print_counted, print_sized, AreItems, no_items, and_item}
-use Rattle.grammar.specs.Grammar.{AreBytes, reading, WasPrinted, IsGrammar}
+use Rattle.grammar.specs.Grammar.{reading, WasPrinted, IsGrammar}
+use Rattle.dr_base.specs.Bytes.{AreBytes}
 use Rattle.grammar.proofs.Combined.{both_grammar, checked_grammar, mapped_grammar}
-use Rattle.grammar.proofs.Fields.{IsExact, number_grammar, piece_grammar}
+use Rattle.grammar.proofs.Fields.{number_grammar, piece_grammar}
+use Rattle.dr_base.proofs.Widths.{IsExact}
 use Rattle.grammar.proofs.Printing.{print_items-push}
 use Rattle.grammar.proofs.Steps.{from_and_then}
 

@@ -1,21 +1,10 @@
 -- Printed bytes put into a buffer, one part after the other.
-use Rattle.std.proofs.Common.{◌≡◌, ℕ, ◌+◌, ◌≤◌, List, [], ◌++◌, length, take, drop, Some, refl, sym, ap, subst, ◌∙◌, append_assoc, append-nil, arith}
+use Rattle.std.proofs.Common.{◌≡◌, ℕ, ◌+◌, ◌≤◌, List, [], length, take, Some, refl, sym, subst, append-nil, arith}
 use Rattle.std.specs.List.{slice_get}
-use Rattle.std.proofs.lemmas.List.{drop-drop, length-append}
+use Rattle.dr_base.proofs.Putting.{then_puts}
 use Rattle.dr_base.specs.Buffer.{Puts}
 use Rattle.grammar.specs.Printer.{print_items}
 use Rattle.grammar.proofs.Printing.{print-next, print-within}
-
--- bytes after bytes
-pub then_puts : {a b c x y : List ℕ} {at m n : ℕ} → Puts a b at x m → Puts b c m y n → Puts a c at (x ++ y) n
-then_puts {a} {b} {c} {x} {y} {at} {m} {n} first second =
-    let behind : (l : List ℕ) → drop n l ≡ drop (length y) (drop m l) =
-    λ l. ap (λ (k : ℕ). drop k l) second.next_is ∙ sym (drop-drop (length y) m l) in
-    record {
-      next_is = omega (arith, length-append x y, first.next_is, second.next_is);
-      front = second.front ∙ ap (λ (l : List ℕ). l ++ y) first.front ∙ append_assoc (take at a) x y;
-      rest = second.rest ∙ behind b ∙ ap (drop (length y)) first.rest ∙ sym (behind a);
-    }
 
 -- no items
 pub puts_no_items : {A : Type 0} (print : A → List ℕ) (a : List ℕ) (at : ℕ) → Puts a a at (print_items print []) at

@@ -4,7 +4,8 @@ use Rattle.std.specs.Prelude.{◌==◌}
 use Rattle.std.proofs.lemmas.Bool.{eqb-true}
 use Rattle.std.proofs.lemmas.List.{nil_from_length}
 use Rattle.grammar.specs.Reader.{Read, Reader, ended, whole}
-use Rattle.grammar.specs.Grammar.{AreBytes, IsGrammar, IsWholeGrammar}
+use Rattle.grammar.specs.Grammar.{IsGrammar, IsWholeGrammar}
+use Rattle.dr_base.specs.Bytes.{AreBytes}
 use Rattle.grammar.proofs.Steps.{from_test}
 
 -- the text ended after a value

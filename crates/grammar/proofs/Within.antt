@@ -5,8 +5,8 @@ use Rattle.std.specs.Int.{Width, byte_len}
 use Rattle.std.proofs.lemmas.Bool.{leb-true}
 use Rattle.std.proofs.lemmas.List.{length-take}
 use Rattle.grammar.specs.Reader.{Read, Reader, and_then, gives, checked, mapped, both, maybe, either, number, piece, items, counted}
-use Rattle.grammar.specs.Grammar.{AreBytes}
-use Rattle.grammar.proofs.Fields.{AreBytes-drop, AreBytes-take}
+use Rattle.dr_base.specs.Bytes.{AreBytes}
+use Rattle.dr_base.proofs.Bytes.{AreBytes-drop, AreBytes-take}
 
 -- what was read ends at most this far after its beginning, and so is a fault
 abbrev pub EndsBy : {A : Type 0} → ℕ → Result (Read A) ℕ → Type 0

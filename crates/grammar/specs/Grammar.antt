@@ -1,10 +1,7 @@
 -- The law that ties a printer and a reader of one format.
-use Rattle.std.specs.Prelude.{◌≡◌, ℕ, ◌+◌, ◌<◌, List, ◌++◌, length, All, Result, Ok}
+use Rattle.std.specs.Prelude.{◌≡◌, ℕ, ◌+◌, List, ◌++◌, length, Result, Ok}
+use Rattle.dr_base.specs.Bytes.{AreBytes}
 use Rattle.grammar.specs.Reader.{Read, Reader}
-
--- numbers that are bytes
-abbrev pub AreBytes : List ℕ → Type 0
-AreBytes bytes = All (λ b. b < 256) bytes
 
 -- what is read where a value was printed, with the rest of the text after it
 abbrev pub reading : {A : Type 0} → A → ℕ → List ℕ → List ℕ → Result (Read A) ℕ

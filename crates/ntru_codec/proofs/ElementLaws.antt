@@ -1,8 +1,9 @@
 -- Elements of R/q and rounded elements as numbers below a limit, and back.
 use Rattle.std.proofs.Common.{◌≡◌, ℕ, ◌<◌, zero, suc, List, [], ◌∷◌, ◌++◌, drop, length, map, get_or, replicate, ℤ, pos, refl, ap, sym, ◌∙◌, subst, arith}
 use Rattle.std.specs.List.{All, AllZip}
-use Rattle.std.proofs.lemmas.List.{length-map, length-replicate, append-nil, drop_all, get_or-map, get_or-replicate, ext_get_or}
+use Rattle.std.proofs.lemmas.List.{length-map, length-replicate, append-nil, drop_all, get_or-map, get_or-replicate}
 use Rattle.std.proofs.lemmas.List.Elements.{All-replicate, All-tail, All-head, All-from_get_or, AllZip-get_or, length_all_zip}
+use Rattle.ntru_ring.proofs.Vectors.Mapped.{mapped}
 use Rattle.ntru_ring.specs.Reduction.{IsWithin}
 use Rattle.ntru_codec.specs.Numbers.{IsLimit, bytes_out, limit_after}
 use Rattle.ntru_codec.specs.Levels.{pair_length, next_limits}
@@ -37,13 +38,6 @@ length-rq = refl
 pub length-rounded : encoded_length (limits_of 1531) ≡ 1007
 unfolding encoded_length length_in pair_length next_limits bytes_out limit_after limits_of
 length-rounded = refl
-
--- a list made entry by entry
-pub mapped : {X Y : Type 0} (f : X → Y) (d : X) (e : Y) (a : List X) (xs : List Y) → length xs ≡ length a → ((j : ℕ) → j < length a → get_or xs j e ≡ f (get_or a j d)) → xs ≡ map f a
-mapped f d e a xs long h =
-    ext_get_or e xs (map f a) (long ∙ sym (length-map a f)) (λ i here.
-    let inside : i < length a = omega arith in
-    h i inside ∙ sym (get_or-map f a i d e inside))
 
 -- entries that are kept by there and back
 pub map-undone : {X Y : Type 0} (f : X → Y) (g : Y → X) (P : X → Type 0) → ((x : X) → P x → g (f x) ≡ x) → (a : List X) → All P a → map g (map f a) ≡ a

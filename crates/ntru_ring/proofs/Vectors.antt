@@ -8,3 +8,4 @@ pub mod Shifts
 pub mod VectorsQ
 pub mod Words
 pub mod WordsQ
+pub mod Mapped

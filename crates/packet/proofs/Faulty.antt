@@ -5,10 +5,12 @@ use Rattle.std.specs.Int.{w8, w16, w32, to_be_bytes}
 use Rattle.std.proofs.lemmas.Bool.{leb-true, le-leb, eqb-true, eq-eqb}
 use Rattle.packet.specs.declared.fault.Kind.TheVariants.{Version, Epoch, Previous, Index, Agreement, Text}
 use Rattle.packet.specs.declared.fault.Malformed.{Malformed}
-use Rattle.packet.specs.Packet.{AreBytes, agreement_len}
+use Rattle.packet.specs.Packet.{agreement_len}
+use Rattle.dr_base.specs.Bytes.{AreBytes}
 use Rattle.packet.specs.Reading.{◌>>=◌, lawful, field, ended, read_packet, is_version, is_epoch, is_previous, is_index, is_text_len}
 use Rattle.packet.specs.Faults.{IsFault}
-use Rattle.packet.proofs.Steps.{by_fault, exact8, exact16, exact32, field_read, number_read}
+use Rattle.packet.proofs.Steps.{by_fault, field_read, number_read}
+use Rattle.dr_base.proofs.Widths.{exact8, exact16, exact32}
 use Rattle.packet.proofs.Printed.{previous_again, index_again}
 use Rattle.packet.proofs.Read.{previous_fits, previous_none, index_from_one, index_fits}
 use Rattle.packet.proofs.Sample.{made, zeros, zeros_len, same_epoch, IsHead, made_lawful, begun, begun_lawful}

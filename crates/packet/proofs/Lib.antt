@@ -3,7 +3,6 @@ pub mod Steps
 pub mod Printed
 pub mod Read
 pub mod Viewed
-pub mod Putting
 mod Pieces
 mod Standing
 mod Sample

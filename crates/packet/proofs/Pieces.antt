@@ -6,7 +6,7 @@ use Rattle.std.proofs.Math.Seq.{take-suc}
 use Rattle.std.proofs.lemmas.List.{take_at, drop_at}
 use Rattle.packet.specs.Packet.{Fields, IsLawful, packet_of}
 use Rattle.packet.specs.Faults.{pieces_of}
-use Rattle.packet.proofs.Steps.{exact16}
+use Rattle.dr_base.proofs.Widths.{exact16}
 use Rattle.packet.proofs.Printed.{packet_of-grouped}
 
 pub packet_of-pieces : (f : Fields) → packet_of f ≡ concat (pieces_of f)
@@ -36,8 +36,8 @@ same_fronts a b x y len e = (
 
 -- a length is told by its two bytes
 pub told_len : (m n : ℕ) → m < 2 ^ 16 → n < 2 ^ 16 → to_be_bytes w16 m ≡ to_be_bytes w16 n → m ≡ n
-told_len m n fits fits_too e = sym (exact16.again m fits) ∙ ap (λ (l : List ℕ). from_be_bytes w16 l) e
-    ∙ exact16.again n fits_too
+told_len m n fits fits_too e = sym (exact16.read m fits) ∙ ap (λ (l : List ℕ). from_be_bytes w16 l) e
+    ∙ exact16.read n fits_too
 
 -- lawful fields; where `field` is after the agreement message's length, it fits into two bytes
 pub record Fits (agreement field : ℕ) (f : Fields) : Type 0 where

@@ -2,14 +2,15 @@
 use Rattle.std.proofs.Common.{◌≡◌, ℕ, ◌+◌, ◌^◌, ◌<◌, ◌≤◌, true, List, [], ◌++◌, length, Ok, refl, append_assoc, arith}
 use Rattle.std.specs.Prelude.{nat_eq}
 use Rattle.std.specs.Int.{w8, w16, w32, to_be_bytes}
-use Rattle.std.proofs.lemmas.Bool.{lt-ltb, le-leb, eq-eqb}
+use Rattle.std.proofs.lemmas.Bool.{le-leb, eq-eqb}
 use Rattle.std.proofs.lemmas.Bool.Decides.{nat_tests}
 use Rattle.std.proofs.lemmas.List.{append-nil}
 use Rattle.dr_base.specs.declared.limits.TheConstants.{INDEX_LIMIT}
 use Rattle.packet.specs.declared.fault.Kind.TheVariants.{Version, Epoch, Previous, Index, Agreement, Text}
 use Rattle.packet.specs.Packet.{Fields, IsLawful, agreement_len, header_of, packet_of}
 use Rattle.packet.specs.Reading.{read_packet, is_version, is_epoch, is_previous, is_index, is_text_len}
-use Rattle.packet.proofs.Steps.{exact8, exact16, exact32, field_again, number_again}
+use Rattle.packet.proofs.Steps.{field_again, number_again}
+use Rattle.dr_base.proofs.Widths.{exact8, exact16, exact32}
 
 -- a packet's fields, grouped as they are read
 abbrev pub grouped : Fields → List ℕ

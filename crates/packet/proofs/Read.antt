@@ -1,15 +1,17 @@
 -- What is read was printed.
-use Rattle.std.proofs.Common.{◌≡◌, ℕ, ◌+◌, ◌^◌, ◌<◌, ◌≤◌, true, List, ◌++◌, length, Ok, sym, ap, subst, ◌∙◌, arith}
+use Rattle.std.proofs.Common.{◌≡◌, ℕ, ◌+◌, ◌^◌, ◌≤◌, true, List, ◌++◌, length, Ok, sym, ap, subst, ◌∙◌, arith}
 use Rattle.std.specs.Prelude.{nat_eq}
 use Rattle.std.specs.Int.{w8, w16, w32, to_be_bytes}
-use Rattle.std.proofs.lemmas.Bool.{ltb-true, leb-true, eqb-true}
+use Rattle.std.proofs.lemmas.Bool.{leb-true, eqb-true}
 use Rattle.std.proofs.lemmas.Bool.Decides.{nat_tests}
 use Rattle.std.proofs.lemmas.List.{nil_from_length}
 use Rattle.dr_base.specs.declared.limits.TheConstants.{INDEX_LIMIT}
 use Rattle.packet.specs.declared.fault.Kind.TheVariants.{Version, Epoch, Previous, Index, Agreement, Text}
-use Rattle.packet.specs.Packet.{Fields, IsLawful, AreBytes, agreement_len, packet_of}
+use Rattle.packet.specs.Packet.{Fields, IsLawful, agreement_len, packet_of}
+use Rattle.dr_base.specs.Bytes.{AreBytes}
 use Rattle.packet.specs.Reading.{lawful, field, read_packet, is_version, is_epoch, is_previous, is_index, is_text_len}
-use Rattle.packet.proofs.Steps.{exact8, exact16, exact32, by_step, passed, field_read, number_read}
+use Rattle.packet.proofs.Steps.{by_step, passed, field_read, number_read}
+use Rattle.dr_base.proofs.Widths.{exact8, exact16, exact32}
 use Rattle.packet.proofs.Printed.{grouped, packet_of-grouped}
 
 -- one text after another

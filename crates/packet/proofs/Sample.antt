@@ -1,10 +1,10 @@
 -- Lawful fields that begin with what was read, and zeros where nothing was read.
-use Rattle.std.proofs.Common.{◌≡◌, ℕ, ◌-◌, ◌^◌, ◌<◌, ◌≤◌, List, [], length, replicate, sym, ap, ◌∙◌, arith}
+use Rattle.std.proofs.Common.{◌≡◌, ℕ, ◌-◌, ◌≤◌, List, [], length, replicate, sym, ap, ◌∙◌, arith}
 use Rattle.std.specs.Int.{w32, from_be_bytes, to_be_bytes}
 use Rattle.std.proofs.lemmas.List.{length-replicate}
 use Rattle.dr_base.specs.declared.limits.TheConstants.{TEXT_LIMIT, INDEX_LIMIT, LAST_EPOCH}
 use Rattle.packet.specs.Packet.{Fields, IsLawful, agreement_len}
-use Rattle.packet.proofs.Steps.{exact32}
+use Rattle.dr_base.proofs.Widths.{exact32}
 
 -- the fields of these parts
 abbrev pub made : List ℕ → ℕ → ℕ → ℕ → List ℕ → List ℕ → List ℕ → Fields
@@ -27,7 +27,7 @@ zeros_len n = let none : ℕ = 0 in length-replicate n none
 
 -- an epoch is told by its four bytes
 pub same_epoch : (m n : ℕ) → m ≤ LAST_EPOCH → n ≤ LAST_EPOCH → to_be_bytes w32 m ≡ to_be_bytes w32 n → m ≡ n
-same_epoch m n fits fits_too e = sym (exact32.again m (omega arith)) ∙ ap (from_be_bytes w32) e ∙ exact32.again n
+same_epoch m n fits fits_too e = sym (exact32.read m (omega arith)) ∙ ap (from_be_bytes w32) e ∙ exact32.read n
     (omega arith)
 
 -- the numbers before the agreement message

@@ -9,10 +9,12 @@ use Rattle.std.proofs.Math.Seq.{take-append-add}
 use Rattle.packet.specs.declared.fault.Kind.{Kind}
 use Rattle.packet.specs.declared.fault.Kind.TheVariants.{Short}
 use Rattle.packet.specs.declared.fault.Malformed.{Malformed}
-use Rattle.packet.specs.Packet.{Fields, IsLawful, AreBytes, packet_of}
+use Rattle.packet.specs.Packet.{Fields, IsLawful, packet_of}
+use Rattle.dr_base.specs.Bytes.{AreBytes}
 use Rattle.packet.specs.Reading.{field, number, lawful}
 use Rattle.packet.specs.Faults.{pieces_of, IsPlace, BeginsNone, IsWrong, IsShort, Says, IsFault}
-use Rattle.packet.proofs.Steps.{IsExact, by_fault, by_step, passed, passed_on}
+use Rattle.packet.proofs.Steps.{by_fault, by_step, passed, passed_on}
+use Rattle.dr_base.proofs.Widths.{IsExact}
 use Rattle.packet.proofs.Pieces.{concat-take, concat-drop, begins_same, same_fronts}
 
 -- the first fields of some lawful fields were read, and `rest` stands after them
@@ -132,7 +134,7 @@ field_fault agreement bytes k at size f rest e s size_is is =
 none_has : (w : Width) (limit n : ℕ) (test : ℕ → Bool) (bytes : List ℕ) → IsExact w limit → n < limit → test n ≡ true
     → to_be_bytes w n ≡ bytes → test (from_be_bytes w bytes) ≡ false → ⊥
 none_has w limit n test bytes exact fits passes e fails =
-    let back : from_be_bytes w bytes ≡ n = ap (from_be_bytes w) (sym e) ∙ exact.again n fits in
+    let back : from_be_bytes w bytes ≡ n = ap (from_be_bytes w) (sym e) ∙ exact.read n fits in
     false≢true (sym fails ∙ ap test back ∙ passes)
 
 -- a number that was read
@@ -159,7 +161,7 @@ pub number_fault : (agreement : ℕ) (bytes : List ℕ) (k at : ℕ) (f : Fields
     → IsFault agreement bytes e
 unfolding lawful number field
 number_fault agreement bytes k at f rest w limit kind test e n s below exact pieces passes says is =
-    let sizes : (g : Fields) → length (get_or (pieces_of g) k []) ≡ byte_len w = λ g. ap length (pieces g) ∙ exact.len
+    let sizes : (g : Fields) → length (get_or (pieces_of g) k []) ≡ byte_len w = λ g. ap length (pieces g) ∙ exact.size
     (n g) in
     by_fault (number w at rest) _ e is
     (λ no_number. by_fault (field at (byte_len w) rest) _ e no_number

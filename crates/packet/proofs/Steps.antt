@@ -1,32 +1,15 @@
 -- One field: what is read was written, and what was written is read again.
-use Rattle.std.proofs.Common.{◌≡◌, ℕ, ◌%◌, ◌^◌, ◌<◌, ◌≤◌, Bool, true, false, cond, List, [], ◌∷◌, ◌++◌, length, get_or, take, drop, Result, Ok, Err, refl, sym, ap, subst, ◌∙◌, arith, inl, inr, mod-eq_of_lt}
+use Rattle.std.proofs.Common.{◌≡◌, ℕ, ◌<◌, ◌≤◌, Bool, true, false, cond, List, ◌++◌, length, take, drop, Result, Ok, Err, refl, sym, ap, subst, ◌∙◌, arith}
 use Rattle.std.specs.Prelude.{nat_le}
-use Rattle.std.specs.Int.{Width, w8, w16, w32, byte_len, from_be_bytes, to_be_bytes}
-use Rattle.std.proofs.lemmas.Bool.{cases_lt, leb-true, le-leb}
-use Rattle.std.proofs.lemmas.List.{take_at, drop_at, take-append-drop, length-append, length-take, length-drop, get_or-drop, get_or-take, get_or_past}
-use Rattle.std.proofs.lemmas.Nat.{be_bytes_2, be_bytes_4, from_be_bytes-to_be_bytes_2, from_be_bytes-to_be_bytes_4}
+use Rattle.std.specs.Int.{Width, byte_len, from_be_bytes, to_be_bytes}
+use Rattle.std.proofs.lemmas.Bool.{leb-true, le-leb}
+use Rattle.std.proofs.lemmas.List.{take_at, drop_at, take-append-drop, length-append, length-take}
+use Rattle.dr_base.proofs.Widths.{IsExact}
+use Rattle.dr_base.proofs.Bytes.{AreBytes-take, AreBytes-drop}
 use Rattle.packet.specs.declared.fault.Kind.{Kind}
 use Rattle.packet.specs.declared.fault.Malformed.{Malformed}
-use Rattle.packet.specs.Packet.{AreBytes}
+use Rattle.dr_base.specs.Bytes.{AreBytes}
 use Rattle.packet.specs.Reading.{◌>>=◌, field, number, lawful}
-
--- bytes are below 256 at each place, and 0 past the end
-small_at : (bytes : List ℕ) (i : ℕ) → AreBytes bytes → get_or bytes i 0 < 256
-small_at bytes i small =
-    elim (cases_lt i (length bytes)) [
-      | inl inside ↦ small i 0 inside
-      | inr past ↦ rw (get_or_past bytes i 0 past) (omega arith)
-    ]
-
-AreBytes-take : (n : ℕ) (bytes : List ℕ) → AreBytes bytes → AreBytes (take n bytes)
-AreBytes-take n bytes small k d inside =
-    let shorter = length-take n bytes in
-    rw (get_or-take n bytes k d (omega arith)) (small k d (omega arith))
-
-AreBytes-drop : (n : ℕ) (bytes : List ℕ) → AreBytes bytes → AreBytes (drop n bytes)
-AreBytes-drop n bytes small k d inside =
-    let shorter = length-drop n bytes in
-    rw (get_or-drop n bytes k d) (small _ d (omega arith))
 
 -- the value of a step without a fault
 pub step : {A B : Type 0} (r : Result A Malformed) (next : A → Result B Malformed) (y : B) → (r >>= next) ≡ Ok y →
@@ -83,43 +66,6 @@ field_again at size front rest len =
     let inside : nat_le size (length (front ++ rest)) ≡ true = le-leb _ _ (omega (arith, length-append front rest)) in
     rw (inside, take_at front rest size len, drop_at front rest size len) refl
 
--- a width whose numbers and bytes determine each other
-pub record IsExact (w : Width) (limit : ℕ) : Type 0 where
-  pub len : (n : ℕ) → length (to_be_bytes w n) ≡ byte_len w
-  pub back : (bytes : List ℕ) → length bytes ≡ byte_len w → AreBytes bytes → to_be_bytes w (from_be_bytes w bytes) ≡ bytes
-  pub again : (n : ℕ) → n < limit → from_be_bytes w (to_be_bytes w n) ≡ n
-  pub fits : (bytes : List ℕ) → AreBytes bytes → from_be_bytes w bytes < limit
-
-one_byte : (bytes : List ℕ) → length bytes ≡ 1 → AreBytes bytes → (get_or bytes 0 0 % 256) ∷ [] ≡ bytes
-one_byte [] len small = absurd (omega arith)
-one_byte (b ∷ []) len small = let fits : b < 256 = small 0 0 (omega arith) in ap (λ (x : ℕ). x ∷ []) (mod-eq_of_lt fits)
-one_byte (b ∷ c ∷ rest) len small = absurd (omega arith)
-
-pub exact8 : IsExact w8 (2 ^ 8)
-exact8 = record {
-  len = λ n. refl;
-  back = λ bytes len small. one_byte bytes len small;
-  again = λ n fits. mod-eq_of_lt fits;
-  fits = λ bytes small. small_at bytes 0 small;
-}
-
-pub exact16 : IsExact w16 (2 ^ 16)
-exact16 = record {
-  len = λ n. refl;
-  back = λ bytes len small. be_bytes_2 bytes _ len (λ i. small_at bytes i small) refl;
-  again = λ n fits. from_be_bytes-to_be_bytes_2 n fits;
-  fits = λ bytes small. omega (arith, small_at bytes 0 small, small_at bytes 1 small);
-}
-
-pub exact32 : IsExact w32 (2 ^ 32)
-exact32 = record {
-  len = λ n. refl;
-  back = λ bytes len small. be_bytes_4 bytes _ len (λ i. small_at bytes i small) refl;
-  again = λ n fits. from_be_bytes-to_be_bytes_4 n fits;
-  fits = λ bytes small. omega
-      (arith, small_at bytes 0 small, small_at bytes 1 small, small_at bytes 2 small, small_at bytes 3 small);
-}
-
 -- a lawful number's bytes and the rest
 pub record IsNumber (w : Width) (limit : ℕ) (test : ℕ → Bool) (bytes : List ℕ) (n : ℕ) (rest : List ℕ) : Type 0 where
   pub parts : bytes ≡ to_be_bytes w n ++ rest
@@ -137,11 +83,11 @@ number_read w limit exact at kind test bytes x small e =
     let front = field_read at (byte_len w) bytes f.0 small f.1 in
     let made : ℕ × List ℕ = (from_be_bytes w f.0.0, f.0.1) in
     let is : made ≡ n.0 = passed_on made n.0 f.2 in
-    let back : to_be_bytes w made.0 ≡ f.0.0 = exact.back f.0.0 front.1 front.0.front_small in
+    let back : to_be_bytes w made.0 ≡ f.0.0 = exact.printed f.0.0 front.1 front.0.front_small in
     let found : IsNumber w limit test bytes made.0 made.1 = record {
       parts = front.0.parts ∙ ap (λ (t : List ℕ). t ++ f.0.1) (sym back);
       rest_small = front.0.rest_small;
-      fits = exact.fits f.0.0 front.0.front_small;
+      fits = exact.below f.0.0 front.0.front_small;
       passes = subst (λ (y : ℕ × List ℕ). test y.0 ≡ true) (sym is) p.0;
     } in
     subst (λ (y : ℕ × List ℕ). IsNumber w limit test bytes y.0 y.1) (is ∙ p.1) found
@@ -150,4 +96,4 @@ pub number_again : (w : Width) (limit : ℕ) → IsExact w limit → (at : ℕ) 
     (rest : List ℕ) → n < limit → test n ≡ true → lawful w at kind test (to_be_bytes w n ++ rest) ≡ Ok (n, rest)
 unfolding lawful number
 number_again w limit exact at kind test n rest fits passes =
-    rw (field_again at (byte_len w) (to_be_bytes w n) rest (exact.len n), exact.again n fits, passes) refl
+    rw (field_again at (byte_len w) (to_be_bytes w n) rest (exact.size n), exact.read n fits, passes) refl

@@ -11,7 +11,8 @@ use Rattle.packet.specs.declared.fault.Malformed.{Malformed}
 use Rattle.packet.specs.Packet.{Fields, agreement_len}
 use Rattle.packet.specs.Reading.{◌>>=◌, lawful, field, ended, is_text_len}
 use Rattle.packet.specs.Faults.{pieces_of, IsLong, IsFault}
-use Rattle.packet.proofs.Steps.{by_fault, exact16, field_read, number_read}
+use Rattle.packet.proofs.Steps.{by_fault, field_read, number_read}
+use Rattle.dr_base.proofs.Widths.{exact16}
 use Rattle.packet.proofs.Pieces.{packet_of-pieces}
 use Rattle.packet.proofs.Sample.{made, zeros, zeros_len, IsHead, made_lawful}
 use Rattle.packet.proofs.Standing.{Stands, one_more, failed, field_fault, number_fault}

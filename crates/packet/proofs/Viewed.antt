@@ -1,15 +1,13 @@
 -- What parsed bytes begin with.
-use Rattle.std.proofs.Common.{◌≡◌, ℕ, ◌+◌, ◌<◌, ◌≤◌, List, ◌++◌, length, take, get_or, Ok, ap, ◌∙◌, append_assoc, arith}
+use Rattle.std.proofs.Common.{◌≡◌, ℕ, ◌+◌, ◌≤◌, List, ◌++◌, length, take, Ok, ap, ◌∙◌, append_assoc, arith}
 use Rattle.std.proofs.lemmas.Bool.Decides.{nat_tests}
-use Rattle.std.proofs.lemmas.List.{take_at, get_or_default}
-use Rattle.packet.specs.Packet.{Fields, IsLawful, AreBytes, agreement_len, ad_of, packet_of}
+use Rattle.std.proofs.lemmas.List.{take_at}
+use Rattle.packet.specs.Packet.{Fields, IsLawful, agreement_len, ad_of, packet_of}
+use Rattle.dr_base.specs.Bytes.{AreBytes}
 use Rattle.packet.specs.Parts.{IsViewed}
 use Rattle.packet.specs.Reading.{read_packet}
 use Rattle.packet.proofs.Lengths.{length-ad_of, length-packet_of}
 use Rattle.packet.proofs.Read.{read_was_printed}
-
-pub are_bytes : (bytes : List ℕ) → ((i : ℕ) → get_or bytes i 0 < 256) → AreBytes bytes
-are_bytes bytes small k d inside = rw (get_or_default bytes k d 0 inside) (small k)
 
 -- an agreement message of its own length
 own_len : (agreement epoch n : ℕ) → n ≡ agreement_len agreement epoch → n ≡ agreement_len n epoch

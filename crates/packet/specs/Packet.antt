@@ -1,5 +1,5 @@
 -- A packet as a printer from its fields to bytes. Numbers are big-endian.
-use Rattle.std.specs.Prelude.{◌≡◌, ℕ, ◌-◌, ◌^◌, ◌<◌, ◌≤◌, ◌==◌, List, ◌∷◌, ◌++◌, length, All, if◌then◌else◌}
+use Rattle.std.specs.Prelude.{◌≡◌, ℕ, ◌≤◌, ◌==◌, List, ◌∷◌, ◌++◌, length, if◌then◌else◌}
 use Rattle.std.specs.Int.{w16, w32, to_be_bytes}
 use Rattle.dr_base.specs.declared.limits.TheConstants.{TEXT_LIMIT, INDEX_LIMIT, LAST_EPOCH}
 
@@ -44,7 +44,3 @@ ad_of f = header_of f.session f.epoch f.previous f.index f.agreement (length f.c
 -- the packet: what stands before the ciphertext, the ciphertext, the tag
 unfoldable pub packet_of : Fields → List ℕ
 packet_of f = ad_of f ++ f.ciphertext ++ f.tag
-
--- numbers that are bytes
-abbrev pub AreBytes : List ℕ → Type 0
-AreBytes bytes = All (λ b. b < 256) bytes

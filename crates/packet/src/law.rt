@@ -4,7 +4,8 @@ ghost use Rattle.std.specs.Prelude.{◌≡◌, ℕ, ◌+◌, ◌^◌, ◌<◌, L
 ghost use Rattle.std.specs.List.{concat};
 ghost use Rattle.packet.specs.declared.fault.Malformed.{Malformed};
 ghost use Rattle.packet.specs.Faults.{pieces_of, IsFault};
-ghost use Rattle.packet.specs.Packet.{Fields, IsLawful, AreBytes, ad_of, packet_of};
+ghost use Rattle.packet.specs.Packet.{Fields, IsLawful, ad_of, packet_of};
+ghost use Rattle.dr_base.specs.Bytes.{AreBytes};
 ghost use Rattle.packet.specs.Reading.{read_packet};
 
 /// The law of the grammar: a packet is read exactly where it was printed from lawful fields, and as these.

@@ -14,7 +14,7 @@ use Rattle.session_model.specs.States.{Reception, State, receiving_epoch}
 use Rattle.session_model.specs.LawfulStates.{IsLawfulKept, IsLawfulReception, IsLawfulState}
 use Rattle.session_model.proofs.LawfulKept.{lawful_kept-table, lawful_kept-without}
 use Rattle.kem_laws.specs.Mechanism.{Mechanism}
-use Rattle.ratchet.proofs.Parity.{latest_is-peers}
+use Rattle.session_model.proofs.Latest.{latest_is-peers}
 
 -- a kept key less
 reception_without : (kept : List Kept) (p : Position) (r : Option Reception) (epoch : Option ℕ) → IsLawfulReception kept r epoch → IsLawfulReception (without kept p) r epoch

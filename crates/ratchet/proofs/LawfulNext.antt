@@ -1,12 +1,11 @@
 -- The next epoch of the peer leads from a lawful state to a lawful one.
-use Rattle.std.proofs.Common.{◌≡◌, ℕ, ◌+◌, ◌-◌, ◌<◌, ◌≤◌, Bool, true, false, nat_eq, List, ◌++◌, length, Option, Some, None, refl, sym, ◌∙◌, ap, subst, arith}
-use Rattle.std.specs.Prelude.{All, not, if◌then◌else◌}
+use Rattle.std.proofs.Common.{◌≡◌, ℕ, ◌+◌, ◌-◌, ◌<◌, ◌≤◌, false, List, ◌++◌, length, Option, Some, None, refl, sym, ◌∙◌, ap, subst, arith}
+use Rattle.std.specs.Prelude.{All, not}
 use Rattle.std.proofs.lemmas.List.{length-append}
 use Rattle.std.proofs.lemmas.List.Elements.{All-nil, All-weaker}
 use Rattle.dr_base.specs.declared.limits.TheConstants.{INDEX_LIMIT, LAST_EPOCH, KEPT_LIMIT}
 use Rattle.dr_base.specs.declared.key.Kept.{Kept}
 use Rattle.dr_base.specs.declared.position.Position.{Position}
-use Rattle.dr_base.specs.declared.position.Side.{Side}
 use Rattle.dr_base.specs.Position.{is_own}
 use Rattle.dr_base.proofs.Parity.{own_next}
 use Rattle.fs_aead.specs.Table.{AllBefore, IsAscending, IsBefore, shelved}
@@ -15,7 +14,7 @@ use Rattle.session_model.specs.States.{Own, in_own, in_peers, Reception, State, 
 use Rattle.session_model.specs.LawfulStates.{IsLawfulKept, IsLawfulReception, IsLawfulState}
 use Rattle.session_model.proofs.LawfulKept.{lawful_kept-table}
 use Rattle.kem_laws.specs.Mechanism.{Mechanism}
-use Rattle.ratchet.proofs.Parity.{latest-peers}
+use Rattle.session_model.proofs.Latest.{latest-peers, latest-reached}
 use Rattle.ratchet.proofs.LawfulTurn.{in_own_phase}
 
 -- keys that come before a position come before the later epochs
@@ -23,15 +22,6 @@ before_next : (keys : List Kept) (epoch index next : ℕ) → epoch < next → A
 before_next keys epoch index next lt h =
     All-weaker (λ q. IsBefore q.position (record { epoch = epoch; index = index })) (λ q. IsBefore q.position (record { epoch = next; index = 1 }))
     (λ q b. let le = b.0 in ((let on : q.position.epoch ≤ next = omega arith in on), λ same. absurd (omega arith))) keys h
-
--- the latest peer's epoch was reached
-choice_reached : (own first : Bool) (epoch it : ℕ) → (if own then (if first then None else Some (epoch - 1)) else Some epoch) ≡ Some it → it ≤ epoch
-choice_reached true true epoch it h = absurd (cc h)
-choice_reached true false epoch it h = let is : epoch - 1 ≡ it = cc in omega arith
-choice_reached false first epoch it h = let is : epoch ≡ it = cc in omega arith
-
-latest_reached : (side : Side) (epoch it : ℕ) → receiving_epoch side epoch ≡ Some it → it ≤ epoch
-latest_reached side epoch it h = choice_reached (is_own side epoch) (nat_eq epoch 0) epoch it h
 
 -- so the kept keys come before the next one
 reception_before : (kept : List Kept) (r : Option Reception) (latest : Option ℕ) (next : ℕ) → IsLawfulReception kept r latest
@@ -44,7 +34,7 @@ reception_before kept (Some r) (Some epoch) next h below = before_next kept epoc
 kept_before : (k : Mechanism) (s : State) (next : ℕ) → IsLawfulState k s → next ≡ s.epoch + 1 → AllBefore s.kept (record { epoch = next; index = 1 })
 kept_before k s next l e =
     reception_before s.kept s.receiving (receiving_epoch s.side s.epoch) next l.receiving
-    (λ it h. let reached = latest_reached s.side s.epoch it h in omega arith)
+    (λ it h. let reached = latest-reached s.side s.epoch it h in omega arith)
 
 -- the peer's next epoch, up to an index
 pub lawful_next : (k : Mechanism) (s : State) (own : Own) (epoch index reach : ℕ) (root public chain stream : List ℕ) (table : List Kept) → IsLawfulState k s

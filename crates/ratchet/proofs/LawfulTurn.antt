@@ -7,7 +7,7 @@ use Rattle.session_model.specs.States.{Own, in_own, in_peers, State}
 use Rattle.session_model.specs.LawfulStates.{IsLawfulOwn, IsLawfulPhase, IsLawfulPrevious, IsLawfulReception, IsLawfulState}
 use Rattle.kem_laws.specs.Mechanism.{Mechanism}
 use Rattle.dr_base.proofs.Parity.{own_next}
-use Rattle.ratchet.proofs.Parity.{latest-turn}
+use Rattle.session_model.proofs.Latest.{latest-turn}
 
 -- what is lawful in a peer's epoch
 pub in_peers_phase : (k : Mechanism) (s : State) (public : List ℕ) → IsLawfulState k s → s.phase ≡ in_peers public

@@ -1,4 +1,3 @@
-pub mod Parity
 pub mod Fields
 pub mod Printing
 pub mod LawfulOpening

@@ -1,37 +1,20 @@
 -- Words that are looked at one after the other.
 use Rattle.std.proofs.Common.{◌≡◌, inl, inr, ℕ, zero, suc, ◌+◌, ◌<◌, ◌≤◌, Bool, true, false, List, [], ◌∷◌, length, map, take, Some, None, get_or, length-take, ltb-true, refl, sym, ◌∙◌, ap, subst, arith}
-use Rattle.std.specs.Prelude.{slice_get, ◌||◌, ◌&&◌, not, nat_lt}
+use Rattle.std.specs.Prelude.{slice_get, ◌&&◌, not, nat_lt}
 use Rattle.std.specs.Str.{bytes_eq}
 use Rattle.std.specs.Borrow.{Bor}
-use Rattle.std.proofs.lemmas.Option.{slice_get-get_or}
+use Rattle.std.proofs.lemmas.Option.{slice_get-get_or, slice_get_within}
 use Rattle.relay_core.specs.declared.limits.TheConstants.{RELAY_LIMIT}
 use Rattle.relay_wire.specs.Names.{is_name}
 use Rattle.std.specs.List.{list_any}
-use Rattle.std.proofs.lemmas.Bool.{cases_eq}
+use Rattle.std.proofs.lemmas.Bool.{cases_eq, and_parts}
+use Rattle.std.proofs.lemmas.List.{length-map, take-map}
 use Rattle.relay_command.specs.Names.{AreBoxNames, AreNames, IsFirstBad, is_box_name}
-
-pub length_map : {A B : Type 0} (f : A → B) (xs : List A) → length (map f xs) ≡ length xs
-length_map f [] = refl
-length_map f (x ∷ xs) = ap suc (length_map f xs)
 
 pub get-map : {A B : Type 0} (f : A → B) (xs : List A) (k : ℕ) (x : A) → slice_get xs k ≡ Some x → slice_get (map f xs) k ≡ Some (f x)
 get-map {A} f [] k x is = absurd (let e : None ≡ Some x = is in cc)
 get-map {A} f (y ∷ xs) zero x is = let e : y ≡ x = let g : Some y ≡ Some x = is in cc in ap (λ (z : A). Some (f z)) e
 get-map f (y ∷ xs) (suc k) x is = get-map f xs k x is
-
-pub take-map : {A B : Type 0} (f : A → B) (k : ℕ) (xs : List A) → take k (map f xs) ≡ map f (take k xs)
-take-map f zero xs = refl
-take-map f (suc k) [] = refl
-take-map f (suc k) (x ∷ xs) = ap (λ ys. f x ∷ ys) (take-map f k xs)
-
-or_true : (a b : Bool) → b ≡ true → (a || b) ≡ true
-or_true true b is = refl
-or_true false b is = is
-
-pub any_there : {X : Type 0} (p : X → Bool) (xs : List X) (k : ℕ) (x : X) → slice_get xs k ≡ Some x → p x ≡ true → list_any p xs ≡ true
-any_there {X} p [] k x is passes = absurd (let e : None ≡ Some x = is in cc)
-any_there p (y ∷ xs) zero x is passes = let e : y ≡ x = let g : Some y ≡ Some x = is in cc in ap (λ z. p z || list_any p xs) e ∙ ap (λ b. b || list_any p xs) passes
-any_there p (y ∷ xs) (suc k) x is passes = or_true (p y) (list_any p xs) (any_there p xs k x is passes)
 
 -- one word more names a box
 pub name_more : (words : List (List ℕ)) (k : ℕ) (word : List ℕ) → AreBoxNames k words → slice_get words k ≡ Some word → is_box_name (take k words) word ≡ true → AreBoxNames (k + 1) words
@@ -78,25 +61,14 @@ module _ (words : List (Bor (List ℕ))) (k : ℕ) (d : Bor (List ℕ)) (is : Bo
   pub are_few : is ≡ true → k + 1 ≤ RELAY_LIMIT
   are_few passes =
       let room = has_room (texts (take k words)) (get_or words k d).now (sym tested ∙ passes) in
-      omega (arith, room, length_map {A = Bor (List ℕ)} (λ w. w.now) (take k words), length-take k words, inside)
-
--- all of them name boxes
-inside_of : {X : Type 0} (xs : List X) (k : ℕ) (x : X) → slice_get xs k ≡ Some x → k < length xs
-inside_of {X} [] k x is = absurd (let e : None ≡ Some x = is in cc)
-inside_of (y ∷ xs) zero x is = omega arith
-inside_of (y ∷ xs) (suc k) x is = let i : k < length xs = inside_of xs k x is in omega (arith, i)
+      omega (arith, room, length-map {A = Bor (List ℕ)} (take k words) (λ w. w.now), length-take k words, inside)
 
 pub all_named : (words : List (Bor (List ℕ))) (k : ℕ) → length words ≤ k → AreBoxNames k (texts words) → AreNames (texts words)
-all_named words k most so j word here = so j word (let i = inside_of (texts words) j word here in omega (arith, i, most, length_map {A = Bor (List ℕ)} (λ w. w.now) words)) here
-
--- a word that names a box is a name
-first_of : (a b : Bool) → (a && b) ≡ true → a ≡ true
-first_of true b is = refl
-first_of false b is = is
+all_named words k most so j word here = so j word (let i = slice_get_within (texts words) j word here in omega (arith, i, most, length-map {A = Bor (List ℕ)} words (λ w. w.now))) here
 
 lawful_of : (before : List (List ℕ)) (word : List ℕ) → is_box_name before word ≡ true → is_name word ≡ true
 unfolding is_box_name
-lawful_of before word is = first_of (is_name word) (not (list_any (λ other. bytes_eq other word) before) && nat_lt (length before) RELAY_LIMIT) is
+lawful_of before word is = (and_parts (is_name word) (not (list_any (λ other. bytes_eq other word) before) && nat_lt (length before) RELAY_LIMIT) is).0
 
 pub is_word : (words : List (Bor (List ℕ))) (k : ℕ) (d : Bor (List ℕ)) → k < length words → AreNames (texts words) → is_name (get_or words k d).now ≡ true
 is_word words k d inside all =

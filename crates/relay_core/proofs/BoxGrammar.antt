@@ -4,10 +4,12 @@ use Rattle.std.specs.Prelude.{All}
 use Rattle.std.specs.Int.{w8, w16, w64, to_be_bytes}
 use Rattle.std.proofs.lemmas.Bool.Decides.{nat_tests}
 use Rattle.std.proofs.lemmas.List.Elements.{All-push}
+use Rattle.std.proofs.lemmas.Bool.{and_parts}
 use Rattle.grammar.specs.Printer.{AreItems, no_items, and_item, HasRoom, print_items}
 use Rattle.grammar.specs.Grammar.{IsGrammar, IsWholeGrammar}
 use Rattle.grammar.proofs.Combined.{both_grammar, checked_grammar, mapped_grammar}
-use Rattle.grammar.proofs.Fields.{exact8, exact16, exact64, number_grammar}
+use Rattle.grammar.proofs.Fields.{number_grammar}
+use Rattle.dr_base.proofs.Widths.{exact8, exact16, exact64}
 use Rattle.grammar.proofs.Printing.{size-items}
 use Rattle.grammar.proofs.Lists.{items_grammar, items-from, length-items, sized_grammar}
 use Rattle.grammar.proofs.Whole.{whole_grammar}
@@ -16,7 +18,6 @@ use Rattle.relay_core.specs.Boxes.{Kept, Box}
 use Rattle.relay_core.specs.Lawful.{Rises, last_number, IsLawfulBox}
 use Rattle.relay_core.specs.Record.{HeadParts, is_version, is_name_size, is_count, name_field, head_fields, is_number, is_packet_size, packet_field, kept_of, kept_field, next_kept, box_of_parts, box_fields, box_read, head_text, kept_text, box_text}
 use Rattle.relay_core.proofs.Rising.{rises-append, rises-at}
-use Rattle.relay_wire.proofs.Choices.{both_true}
 use Rattle.relay_wire.specs.Names.{is_name, is_packet}
 
 -- ---- lengths after which names and packets stand
@@ -24,7 +25,7 @@ use Rattle.relay_wire.specs.Names.{is_name, is_packet}
 short_name : (name : List ℕ) → is_name name ≡ true → (length name < 2 ^ 8) × (is_name_size (length name) ≡ true)
 unfolding is_name
 short_name name is =
-    let size = (both_true _ _ is).0 in
+    let size = (and_parts _ _ is).0 in
     (below (length name) size, size)
   where
     below : (n : ℕ) → is_name_size n ≡ true → n < 2 ^ 8
@@ -140,7 +141,7 @@ short_kept packet is = most (length packet) is
 
 short_box_name : (name : List ℕ) → is_name name ≡ true → length name ≤ 40
 unfolding is_name
-short_box_name name is = most (length name) (both_true _ _ is).0
+short_box_name name is = most (length name) (and_parts _ _ is).0
   where
     most : (n : ℕ) → is_name_size n ≡ true → n ≤ 40
     most n passes = grind (arith, nat_tests)

@@ -1,7 +1,8 @@
 -- What the first box of a name, at its place, makes of the relay's answer.
 use Rattle.std.proofs.Common.{◌≡◌, ℕ, zero, suc, ◌+◌, Bool, true, false, List, [], ◌∷◌, Option, Some, None, refl, sym, ◌∙◌, ap, subst, arith, take}
-use Rattle.std.specs.Prelude.{◌||◌, slice_get, slice_set, option_map, if◌then◌else◌}
+use Rattle.std.specs.Prelude.{slice_get, slice_set, option_map, if◌then◌else◌}
 use Rattle.std.specs.List.{list_any}
+use Rattle.std.proofs.lemmas.Bool.{or_parts}
 use Rattle.relay_core.specs.Boxes.{Box, Answers, answer_of, answers_of, of_first, behind, is_named}
 use Rattle.relay_wire.specs.Replies.{unknown}
 use Rattle.relay_wire.specs.Requests.{Asked}
@@ -12,16 +13,12 @@ answers_at boxes k box asked =
     let a = answer_of box asked.ask in
     record { reply = a.reply; next = slice_set boxes k a.next; changed = if a.changed then Some k else None }
 
-or_false : (a b : Bool) → (a || b) ≡ false → (a ≡ false) × (b ≡ false)
-or_false true b h = absurd (let e : true ≡ false = h in cc)
-or_false false b h = (refl, h)
-
 pub nobody : (boxes : List Box) (asked : Asked) → list_any (is_named asked.name) boxes ≡ false
     → answers_of boxes asked ≡ record { reply = unknown; next = boxes; changed = None }
 unfolding answers_of
 nobody [] asked none = refl
 nobody (box ∷ boxes) asked none =
-    let both = or_false (is_named asked.name box) (list_any (is_named asked.name) boxes) none in
+    let both = or_parts (is_named asked.name box) (list_any (is_named asked.name) boxes) none in
     ap (λ (is : Bool). if is then of_first (answer_of box asked.ask) boxes else behind box (answers_of boxes asked)) both.0
     ∙ ap (behind box) (nobody boxes asked both.1)
 
@@ -39,7 +36,7 @@ first_named (b ∷ boxes) zero box asked here is none =
     subst (λ (x : Box). answers_of (x ∷ boxes) asked ≡ answers_at (x ∷ boxes) 0 box asked) (sym same)
     (ap (λ (named : Bool). if named then of_first (answer_of box asked.ask) boxes else behind box (answers_of boxes asked)) is)
 first_named (b ∷ boxes) (suc k) box asked here is none =
-    let both = or_false (is_named asked.name b) (list_any (is_named asked.name) (take k boxes)) none in
+    let both = or_parts (is_named asked.name b) (list_any (is_named asked.name) (take k boxes)) none in
     let a = answer_of box asked.ask in
     ap (λ (named : Bool). if named then of_first (answer_of b asked.ask) boxes else behind b (answers_of boxes asked)) both.0
     ∙ ap (behind b) (first_named boxes k box asked here is both.1)

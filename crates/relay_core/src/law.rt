@@ -1,7 +1,7 @@
 //! The laws of boxes.
 
 ghost use Rattle.std.specs.Prelude.{◌≡◌, ℕ, List, Result, Ok, All};
-ghost use Rattle.grammar.specs.Grammar.{AreBytes};
+ghost use Rattle.dr_base.specs.Bytes.{AreBytes};
 ghost use Rattle.relay_core.specs.Boxes.{Box, answers_read};
 ghost use Rattle.relay_core.specs.Changes.{IsChange};
 ghost use Rattle.relay_core.specs.Lawful.{IsLawfulBox, IsLawfulRead};

@@ -16,7 +16,8 @@ use Rattle.relay_core.specs.declared.limits.TheConstants.{EXCHANGE_LIMIT}
 use Rattle.sync_model.specs.Parties.{Party}
 use Rattle.sync_model.specs.Moves.{Ending, Wait, asked_in, over}
 use Rattle.sync_model.specs.Courses.{Course, all_lines, as_list, awaited, course_of, made_requests}
-use Rattle.sync_model.specs.Carried.{IsCarried, relay_replies, replied_bytes, request_bytes, request_frame}
+use Rattle.sync_model.specs.Carried.{IsCarried, relay_replies, replied_bytes, request_bytes}
+use Rattle.relay_wire.specs.Framed.{request_frame}
 use Rattle.sync_model.specs.Scenes.{IsDone, IsPlayed, scene}
 use Rattle.sync_model.proofs.Growing.{Begins}
 use Rattle.sync_model.proofs.Pending.{not_cut, not_unread, pending}

@@ -9,7 +9,8 @@ use Rattle.relay_core.specs.Boxes.{Box}
 use Rattle.relay_core.specs.Streams.{served, served_within}
 use Rattle.relay_core.specs.declared.limits.TheConstants.{EXCHANGE_LIMIT}
 use Rattle.relay_wire.proofs.Joining.{flat, frames_join, no_frames}
-use Rattle.sync_model.specs.Carried.{request_bytes, request_frame}
+use Rattle.sync_model.specs.Carried.{request_bytes}
+use Rattle.relay_wire.specs.Framed.{request_frame}
 use Rattle.sync_model.proofs.Replying.{flat_of, request_frames, request_short}
 use Rattle.relay_link.specs.declared.limits.TheConstants.{REPLY_LIMIT, SENT_LIMIT}
 

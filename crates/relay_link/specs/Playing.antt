@@ -12,7 +12,8 @@ use Rattle.sync_model.specs.Parties.{Party}
 use Rattle.sync_model.specs.Moves.{Ending, asked_in, over}
 use Rattle.sync_model.specs.Courses.{course_of, made_requests}
 use Rattle.sync_model.specs.Transfers.{Meeting}
-use Rattle.sync_model.specs.Carried.{replied_bytes, request_bytes, request_frame}
+use Rattle.sync_model.specs.Carried.{replied_bytes, request_bytes}
+use Rattle.relay_wire.specs.Framed.{request_frame}
 use Rattle.sync_model.specs.Scenes.{scene}
 use Rattle.relay_link.specs.Bringing.{IsBrought}
 use Rattle.relay_link.specs.Connections.{Connection, boxes_of, wire_of}

@@ -2,19 +2,19 @@
 use Rattle.std.proofs.Common.{◌≡◌, ℕ, zero, suc, ◌+◌, ◌<◌, Bool, true, false, List, [], ◌∷◌, ◌++◌, length, drop, get_or, Result, Ok, Err, refl, sym, ◌∙◌, ap, subst, arith, append-nil}
 use Rattle.std.specs.Prelude.{if◌then◌else◌}
 use Rattle.std.proofs.lemmas.Nat.{be_bytes_2}
-use Rattle.std.proofs.lemmas.List.{get_or_default}
 use Rattle.dr_ports.specs.Ports.{Rose}
 use Rattle.dr_ports.specs.declared.pipe.Part.TheVariants.{Flow}
 use Rattle.dr_ports.specs.Wires.{Port, EndsAt, Took}
-use Rattle.grammar.specs.Grammar.{AreBytes}
-use Rattle.grammar.proofs.Fields.{byte_at, AreBytes-drop}
+use Rattle.dr_base.specs.Bytes.{AreBytes}
+use Rattle.dr_base.proofs.Bytes.{byte_at, AreBytes-drop}
 use Rattle.relay_wire.specs.Frames.{Held, IsFrame, IsPartial, framed, is_body_size, size_of}
 use Rattle.relay_wire.specs.Replies.{Replied, IsLawfulReplied, read_reply}
 use Rattle.relay_wire.specs.Requests.{Asked}
 use Rattle.relay_wire.proofs.Replied.{only_reply}
 use Rattle.relay_wire.specs.declared.reply.BadReply.{BadReply}
 use Rattle.relay_wire.specs.declared.reply.BadReply.TheVariants.{Frame}
-use Rattle.relay_pipe.specs.Asking.{IsBroken, IsFaulty, IsReplied, cut, unread, peer_fault, fault_at, reply_text, request_frame}
+use Rattle.relay_pipe.specs.Asking.{IsBroken, IsFaulty, IsReplied, cut, unread, peer_fault, fault_at}
+use Rattle.relay_wire.specs.Framed.{reply_text, request_frame}
 use Rattle.relay_pipe.specs.Exchanging.{Exchanges}
 use Rattle.relay_pipe.specs.Pulling.{Pulled}
 use Rattle.relay_pipe.specs.declared.faults.PeerFault.{PeerFault}
@@ -57,9 +57,6 @@ framed_body (high ∷ (low ∷ more)) reply whole are reads = by_size (is_body_s
         by_more : (rest : List ℕ) → read_reply rest ≡ Ok reply → length rest ≡ 0 → high ∷ (low ∷ rest) ≡ framed rest
         by_more [] r none = absurd (no_body (read_reply []) reply unread_empty r)
         by_more (x ∷ xs) r none = absurd (omega (arith, none))
-
-pub are_bytes : (bytes : List ℕ) → ((i : ℕ) → get_or bytes i 0 < 256) → AreBytes bytes
-are_bytes bytes small k d inside = rw (get_or_default bytes k d 0 inside) (small k)
 
 pub whole_reply : (frame bytes : List ℕ) (reply : Replied) → bytes ≡ frame → IsFrame frame → AreBytes bytes → read_reply (drop 2 frame) ≡ Ok reply
     → (bytes ≡ reply_text reply) × IsLawfulReplied reply

@@ -1,11 +1,12 @@
 -- A request is sent, and its reply awaited.
 use Rattle.std.specs.Prelude.{◌≡◌, ◌++◌, ℕ, List, length, drop, Result, Ok, Err}
+use Rattle.relay_wire.specs.Framed.{request_frame, reply_text}
 use Rattle.dr_ports.specs.Ports.{Rose}
 use Rattle.dr_ports.specs.declared.pipe.Part.TheVariants.{Flow}
 use Rattle.dr_ports.specs.Wires.{Port, EndsAt}
-use Rattle.relay_wire.specs.Frames.{IsFrame, IsPartial, framed}
-use Rattle.relay_wire.specs.Requests.{Asked, request_body}
-use Rattle.relay_wire.specs.Replies.{Replied, IsLawfulReplied, read_reply, reply_body}
+use Rattle.relay_wire.specs.Frames.{IsFrame, IsPartial}
+use Rattle.relay_wire.specs.Requests.{Asked}
+use Rattle.relay_wire.specs.Replies.{Replied, IsLawfulReplied, read_reply}
 use Rattle.relay_wire.specs.Seen.{replied_of}
 use Rattle.relay_wire.specs.declared.reply.BadReply.{BadReply}
 use Rattle.relay_wire.specs.declared.reply.BadReply.TheVariants.{Frame as NoFrame, Kind as NoKind, Size as NoSize}
@@ -16,12 +17,6 @@ use Rattle.relay_pipe.specs.declared.faults.AskFault.TheVariants.{Pipe, Peer}
 use Rattle.relay_pipe.specs.declared.faults.PeerFault.{PeerFault}
 use Rattle.relay_pipe.specs.declared.faults.PeerKind.{PeerKind}
 use Rattle.relay_pipe.specs.declared.faults.PeerKind.TheVariants.{Frame, Kind, Size, Ended}
-
-abbrev pub request_frame : Asked → List ℕ
-request_frame asked = framed (request_body asked)
-
-abbrev pub reply_text : Replied → List ℕ
-reply_text reply = framed (reply_body reply)
 
 -- a fault of the peer's, at a place of the reply
 abbrev pub fault_at : ℕ → PeerKind → PeerFault

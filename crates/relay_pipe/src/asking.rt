@@ -2,7 +2,8 @@
 
 ghost use Rattle.std.specs.Prelude.{◌≡◌, ◌≤◌, [], Err, IfErr, IfOk, drop, length, take};
 ghost use Rattle.dr_ports.specs.declared.pipe.Part.TheVariants.{Flow, Gate};
-ghost use Rattle.relay_pipe.specs.Asking.{Asks, reply_text, request_frame};
+ghost use Rattle.relay_pipe.specs.Asking.{Asks};
+ghost use Rattle.relay_wire.specs.Framed.{reply_text, request_frame};
 ghost use Rattle.relay_wire.specs.Replies.{IsLawfulReplied, read_reply};
 ghost use Rattle.relay_wire.specs.Seen.{replied_of};
 ghost use Rattle.relay_wire.specs.declared.limits.TheConstants.{FRAME_LIMIT};

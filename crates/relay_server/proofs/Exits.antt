@@ -24,9 +24,6 @@ use Rattle.relay_server.proofs.Ends.{idle_answers, idle_boxes, idle_during, idle
 pub rose_since : (a b c : ℕ) → a ≤ b → Rose b c → Rose a c
 rose_since a b c le rose = omega (arith, le, rose)
 
-disk_rose_since : (a b c : ℕ) → a ≤ b → Rose b c → Rose a c
-disk_rose_since a b c le rose = omega (arith, le, rose)
-
 module _ (text : Box → List ℕ) (old server new : ServerNow) (start now after : Port) (dstart dnow dafter : DiskState) (n : ℕ) (so : SoFar text EXCHANGE_LIMIT old server.boxes start now dstart dnow n) (under : n < EXCHANGE_LIMIT) where
   pub exit_fault : (fault : ServeFault) → IsQuiet dstart dnow → Rounds text server new now after dnow dafter (Err fault) → IsServed text old new start after dstart dafter (Err fault)
   exit_fault Read quiet r = record {
@@ -61,7 +58,7 @@ module _ (text : Box → List ℕ) (old server new : ServerNow) (start now after
       exchange_of server.boxes r.0,
       came_answers text old server.boxes start now dstart dnow n so r.0 [] new.boxes after dafter under r.1,
       came_bytes text old server.boxes start now dstart dnow n so r.0 [] new.boxes after dafter under r.1 ∙ ap (λ (p : List ℕ). p ++ reply_to server.boxes r.0) (sym (append-nil (flat_map reply_frame so.exs))),
-      disk_rose_since _ _ _ (so.during.counts call) r.2,
+      rose_since _ _ _ (so.during.counts call) r.2,
       came_stands text old server.boxes start now dstart dnow n so r.0 [] new.boxes after dafter under r.1 r.3,
     );
   }

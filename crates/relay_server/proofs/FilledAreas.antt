@@ -5,13 +5,14 @@ use Rattle.std.specs.Int.{w8, w64, to_be_bytes}
 use Rattle.grammar.specs.Printer.{print_items, print_sized}
 use Rattle.slot_store.specs.Kept.{content_or_empty}
 use Rattle.std.proofs.lemmas.Bool.{cases_eq}
+use Rattle.std.proofs.lemmas.Option.{slice_get_within}
 use Rattle.dr_disk.specs.Spans.{Frame, Span}
 use Rattle.dr_disk.specs.State.{Always, DiskState}
 use Rattle.dr_disk.proofs.Ranges.{torn_self, torn_twice, torn_wider}
 use Rattle.dr_disk.proofs.Steps.{spans, widen}
 use Rattle.slot_store.specs.declared.area.Area.{Area}
 use Rattle.slot_store.specs.declared.store.SlotStore.{SlotStore}
-use Rattle.slot_store.specs.Laws.{IsLocal, SameWithin}
+use Rattle.slot_store.specs.Laws.{IsLocal}
 use Rattle.slot_store.specs.Slots.{recovered}
 use Rattle.slot_store.specs.Store.{IsOldOrNew, IsWithin, Rests, content}
 use Rattle.relay_core.specs.declared.limits.TheConstants.{RECORD_LIMIT}
@@ -20,7 +21,8 @@ use Rattle.relay_core.specs.Record.{box_text, head_text, kept_text}
 use Rattle.relay_server.specs.Durable.{IsReady, IsReplaced, area_of}
 use Rattle.relay_server.specs.Filling.{AreFilled, HasBox, IsFilling}
 use Rattle.relay_server.specs.Opening.{StaysOrBegins}
-use Rattle.relay_server.proofs.Replacing.{apart, there_is, within, with_stores}
+use Rattle.relay_server.proofs.Replacing.{with_stores}
+use Rattle.relay_server.proofs.OneStore.{there_is, OneReplaced, old_store, new_store, is_replaced, is_new, around_area, new_areas, new_rests}
 use Rattle.relay_server.proofs.OpenedAreas.{other_same}
 
 filling_self : (boxes : List Box) (start : DiskState) (c : List ℕ) → start.image c → IsFilling boxes start c
@@ -109,23 +111,32 @@ empty_there n box None is has = has.1
 empty_there n box (Some t) is has = absurd (let e : Some t ≡ None = is in cc)
 
 module _ (n : ℕ) (boxes : List Box) (stores news : List SlotStore) (t : List ℕ) (start now : DiskState) (done : Bool) (r : Put n boxes stores news t start now done) where
-  the_old : (s : SlotStore) × (slice_get stores n ≡ Some s)
-  the_old = there_is stores n (omega (arith, r.inside, r.filled.count))
+  one_store : OneReplaced n stores news t start now done
+  one_store = record {
+    areas = r.filled.areas;
+    rests = r.filled.rests;
+    inside = omega (arith, r.inside, r.filled.count);
+    count = r.stores_count;
+    others = r.others;
+    there = r.there;
+    local = r.local;
+  }
 
-  the_new : (s : SlotStore) × (slice_get news n ≡ Some s)
-  the_new = there_is news n (omega (arith, r.inside, r.filled.count, r.stores_count))
+  abbrev the_old : (s : SlotStore) × (slice_get stores n ≡ Some s)
+  the_old = old_store n stores news t start now done one_store
 
   the_box : (b : Box) × (slice_get boxes n ≡ Some b)
   the_box = there_is boxes n r.inside
 
-  is : IsReplaced t the_old.0 the_new.0 start now done
-  is = r.there the_old.0 the_new.0 the_old.1 the_new.1
+  is : IsReplaced t the_old.0 (new_store n stores news t start now done one_store).0 start now done
+  is = is_replaced n stores news t start now done one_store
 
   old_area : the_old.0.area ≡ area_of n
   old_area = r.filled.areas n the_old.0 the_old.1
 
-  framed : (c : List ℕ) → Frame start the_old.0.area.start (the_old.0.area.slot + the_old.0.area.slot) c → Frame start (area_of n).start ((area_of n).slot + (area_of n).slot) c
-  framed c f = subst (λ (a : Area). Frame start a.start (a.slot + a.slot) c) old_area f
+  framed : (c : List ℕ) → Frame start the_old.0.area.start (the_old.0.area.slot + the_old.0.area.slot) c
+      → Frame start (area_of n).start ((area_of n).slot + (area_of n).slot) c
+  framed = around_area n stores news t start now done one_store
 
   -- before, the area has no record
   was_none : (d : List ℕ) → start.image d → recovered (area_of n) d ≡ None
@@ -165,29 +176,11 @@ module _ (n : ℕ) (boxes : List Box) (stores news : List SlotStore) (t : List �
   put_filled passed = record {
     count = r.stores_count ∙ r.filled.count;
     within = let w = r.filled.within in omega (arith, w, is.any_moment.size);
-    areas = λ j store there. elim (cases_eq j n) [
-      | inl same ↦
-          let e : Some the_new.0 ≡ Some store = sym the_new.1 ∙ subst (λ (m : ℕ). slice_get news m ≡ Some store) same there in
-          let f : the_new.0 ≡ store = cc in
-          ap (λ (s : SlotStore). s.area) (sym f) ∙ is.same ∙ old_area ∙ ap area_of (sym same)
-      | inr other ↦ r.filled.areas j store (sym (r.others j other) ∙ there)
-    ];
-    rests = λ j store there c left. elim (cases_eq j n) [
-      | inl same ↦
-          let e : Some the_new.0 ≡ Some store = sym the_new.1 ∙ subst (λ (m : ℕ). slice_get news m ≡ Some store) same there in
-          let f : the_new.0 ≡ store = cc in
-          subst (λ (s : SlotStore). Rests s c) f (is.rests passed c left)
-      | inr other ↦
-          let was : slice_get stores j ≡ Some store = sym (r.others j other) ∙ there in
-          let frame = framed c (is.outside passed c left) in
-          let area = r.filled.areas j store was in
-          r.local.rests store c frame.0 (subst (λ (a : Area). 1 ≤ a.slot) (sym area) (omega arith))
-          (subst (λ (a : Area). SameWithin a c frame.0) (sym area) (apart j n c frame.0 other frame.2)) (r.filled.rests j store was frame.0 frame.1)
-    ];
+    areas = new_areas n stores news t start now done one_store;
+    rests = new_rests n stores news t start now done one_store passed;
     each = λ j store box there boxed. elim (cases_eq j n) [
       | inl same ↦
-          let e : Some the_new.0 ≡ Some store = sym the_new.1 ∙ subst (λ (m : ℕ). slice_get news m ≡ Some store) same there in
-          let f : the_new.0 ≡ store = cc in
+          let f = is_new n stores news t start now done one_store j store same there in
           let holds : content store ≡ Some t = ap content (sym f) ∙ is.holds passed in
           subst (HasBox (n + 1) j box) (sym holds) (r.written box (subst (λ (m : ℕ). slice_get boxes m ≡ Some box) same boxed))
       | inr other ↦ later_text n j box (content store) (r.filled.each j store box (sym (r.others j other) ∙ there) boxed) other
@@ -205,6 +198,6 @@ filled_ready boxes stores disk filled = record {
   count = filled.count;
   within = λ k inside. omega (arith, inside, filled.within);
   areas = filled.areas;
-  holds = λ k store box there boxed. has_text (length boxes) k box (content store) (within boxes k box boxed) (filled.each k store box there boxed);
+  holds = λ k store box there boxed. has_text (length boxes) k box (content store) (slice_get_within boxes k box boxed) (filled.each k store box there boxed);
   rests = filled.rests;
 }

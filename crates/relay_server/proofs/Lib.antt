@@ -1,6 +1,7 @@
 pub mod Exits
 pub mod FilledAreas
 pub mod LoadedBoxes
+pub mod OneStore
 pub mod OpenedAreas
 pub mod OpenedBoxes
 pub mod Replacing

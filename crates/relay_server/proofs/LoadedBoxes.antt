@@ -12,7 +12,7 @@ use Rattle.relay_core.specs.Boxes.{Box}
 use Rattle.relay_core.specs.Record.{box_fields, box_read, box_text, head_fields}
 use Rattle.relay_server.specs.Opening.{box_fault, fault_of}
 use Rattle.relay_server.specs.Filling.{AreLoaded, IsFirstOthers, IsKept, IsLoadedAt, IsOthers}
-use Rattle.relay_server.proofs.Replacing.{there_is}
+use Rattle.relay_server.proofs.OneStore.{there_is}
 
 -- ---- a record is never empty
 

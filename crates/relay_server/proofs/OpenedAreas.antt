@@ -2,6 +2,7 @@
 use Rattle.std.proofs.Common.{◌≡◌, ◌≢◌, ◌⊎◌, inl, inr, ⊎_elim, ℕ, zero, suc, ◌+◌, ◌*◌, ◌<◌, ◌≤◌, true, false, List, [], ◌∷◌, ◌++◌, length, Option, Some, None, refl, sym, ◌∙◌, ap, subst, arith, length-append}
 use Rattle.std.specs.Prelude.{slice_get, is_some}
 use Rattle.std.proofs.lemmas.Bool.{cases_eq}
+use Rattle.std.proofs.lemmas.Option.{slice_get_within}
 use Rattle.dr_disk.specs.Bytes.{Torn}
 use Rattle.dr_disk.specs.Spans.{IsQuiet, Span}
 use Rattle.dr_disk.specs.State.{Always, DiskState, IsLawful}
@@ -21,7 +22,7 @@ use Rattle.relay_server.specs.Durable.{area_of}
 use Rattle.relay_server.specs.Opening.{IsFirstDamaged, IsWhole, OfRead, area_read, box_fault}
 use Rattle.relay_server.specs.declared.errors.ServerOpenError.{ServerOpenError}
 use Rattle.relay_server.specs.declared.errors.ServerOpenError.TheVariants.{BoxName, Damaged, Memory, StoreFault}
-use Rattle.relay_server.proofs.Replacing.{apart, there_is, within}
+use Rattle.relay_server.proofs.OneStore.{apart, there_is}
 
 -- a store was read as its record
 pub read_as : (found : Found) (text : Option (List ℕ)) → is_some text ≡ has_content found → found_as found text ≡ reading_of text
@@ -134,7 +135,7 @@ module _ (local : IsLocal) (n count : ℕ) (start d now : DiskState) (stores : L
         (so_far.rests k other there like.read (lawful.seen_now like.read like.told))
 
     below_n : (k : ℕ) (other : SlotStore) → slice_get stores k ≡ Some other → k ≢ n
-    below_n k other there same = let inside = within stores k other there in omega (arith, inside, so_far.count_is, same)
+    below_n k other there same = let inside = slice_get_within stores k other there in omega (arith, inside, so_far.count_is, same)
 
     pub one_more : AreOpened (n + 1) count (stores ++ store ∷ []) start now
     one_more = record {

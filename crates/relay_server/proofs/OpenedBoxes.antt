@@ -1,6 +1,8 @@
 -- A server that is opened, and why none is.
-use Rattle.std.proofs.Common.{◌≡◌, inl, ⊎_elim, ℕ, zero, suc, ◌*◌, ◌<◌, ◌≤◌, List, [], ◌∷◌, length, map, Option, Some, None, refl, sym, ◌∙◌, ap, subst, arith}
+use Rattle.std.proofs.Common.{◌≡◌, inl, ⊎_elim, ℕ, zero, suc, ◌*◌, ◌<◌, ◌≤◌, List, [], ◌∷◌, length, map, Option, Some, None, sym, ◌∙◌, ap, subst, arith}
 use Rattle.std.specs.Prelude.{slice_get}
+use Rattle.std.proofs.lemmas.Option.{slice_get_within}
+use Rattle.std.proofs.lemmas.List.{length-map}
 use Rattle.dr_base.specs.Causes.{Rose}
 use Rattle.dr_disk.specs.declared.call.Call.{Call}
 use Rattle.dr_disk.specs.Spans.{IsQuiet, Span}
@@ -19,13 +21,10 @@ use Rattle.relay_server.specs.Opening.{GivesBox, HasOtherName, IsOpened, IsOpeni
 use Rattle.relay_server.specs.declared.errors.ServerOpenError.TheVariants.{BoxName}
 use Rattle.relay_server.proofs.OpenedAreas.{entry_self, whole_of}
 use Rattle.relay_server.proofs.FilledAreas.{filled_ready}
-use Rattle.relay_server.proofs.Replacing.{there_is, within, with_stores}
+use Rattle.relay_server.proofs.Replacing.{with_stores}
+use Rattle.relay_server.proofs.OneStore.{there_is}
 
 -- ---- names and the boxes that begin with them
-
-pub length_map : {A B : Type 0} (f : A → B) (xs : List A) → length (map f xs) ≡ length xs
-length_map f [] = refl
-length_map f (x ∷ xs) = ap suc (length_map f xs)
 
 begins_as : (names : List (List ℕ)) (k : ℕ) (name : List ℕ) → slice_get names k ≡ Some name → slice_get (map empty_box names) k ≡ Some (empty_box name)
 begins_as [] k name is = absurd (let e : None ≡ Some name = is in cc)
@@ -66,17 +65,17 @@ module _ (names : List (List ℕ)) (start mid : DiskState) (stores : List SlotSt
 
   pub other_name : (k : ℕ) → IsFirstOthers k (map empty_box names) stores → IsUnopened names start mid (BoxName k)
   other_name k first = (
-    omega (arith, first.inside, length_map empty_box names),
+    omega (arith, first.inside, length-map names empty_box),
     opened.quiet,
     λ s was. record {
-      inside = omega (arith, first.inside, length_map empty_box names);
+      inside = omega (arith, first.inside, length-map names empty_box);
       whole = λ j inside. let at = store_at j inside in subst IsWhole (sym (opened.read s was j at.0 at.1)) (whole_of (content at.0));
       before = λ j name less named.
-          let at = store_at j (omega (arith, within names j name named)) in
+          let at = store_at j (omega (arith, slice_get_within names j name named)) in
           let box = first.before j (empty_box name) at.0 less (begins_as names j name named) at.1 in
           (box.0, subst (GivesBox name box.0) (sym (opened.read s was j at.0 at.1)) (gives_of name box.0 (content at.0) box.1));
       here = λ name named.
-          let at = store_at k (within names k name named) in
+          let at = store_at k (slice_get_within names k name named) in
           subst (HasOtherName name) (sym (opened.read s was k at.0 at.1)) (other_of name (content at.0) (first.here (empty_box name) at.0 (begins_as names k name named) at.1));
     },
   )
@@ -85,15 +84,15 @@ module _ (names : List (List ℕ)) (start mid : DiskState) (stores : List SlotSt
 
   module _ (boxes : List Box) (loaded : AreLoaded (length (map empty_box names)) (map empty_box names) boxes stores) where
     count_is : length boxes ≡ length names
-    count_is = loaded.count ∙ length_map empty_box names
+    count_is = loaded.count ∙ length-map names empty_box
 
     kept_at : (k : ℕ) (name : List ℕ) (box : Box) (store : SlotStore) → slice_get names k ≡ Some name → slice_get boxes k ≡ Some box → slice_get stores k ≡ Some store → IsKept (empty_box name) box (content store)
     kept_at k name box store named boxed there =
-        loaded.loaded k (empty_box name) box store (omega (arith, within names k name named, length_map empty_box names)) (begins_as names k name named) boxed there
+        loaded.loaded k (empty_box name) box store (omega (arith, slice_get_within names k name named, length-map names empty_box)) (begins_as names k name named) boxed there
 
     named_at : (k : ℕ) (name : List ℕ) (box : Box) → slice_get names k ≡ Some name → slice_get boxes k ≡ Some box → box.name ≡ name
     named_at k name box named boxed =
-        let at = store_at k (within names k name named) in
+        let at = store_at k (slice_get_within names k name named) in
         name_of name box (content at.0) (kept_at k name box at.0 named boxed at.1)
 
     pub to_fill : 524288 * length names ≤ start.size → AreFilled 0 boxes stores mid
@@ -103,7 +102,7 @@ module _ (names : List (List ℕ)) (start mid : DiskState) (stores : List SlotSt
       areas = opened.areas;
       rests = opened.rests;
       each = λ k store box there boxed.
-          let name = there_is names k (omega (arith, within stores k store there, opened.count_is)) in
+          let name = there_is names k (omega (arith, slice_get_within stores k store there, opened.count_is)) in
           has_of k name.0 box (content store) (kept_at k name.0 box store name.1 boxed there);
     }
 
@@ -115,7 +114,7 @@ module _ (names : List (List ℕ)) (start mid : DiskState) (stores : List SlotSt
             entry = like.entry;
             image = like.image;
             each = λ k name named.
-                let box = there_is boxes k (omega (arith, within names k name named, count_is)) in
+                let box = there_is boxes k (omega (arith, slice_get_within names k name named, count_is)) in
                 subst (λ (o : Option (List ℕ)). StaysOrBegins name o (recovered (area_of k) c)) (like.same k)
                 (subst (λ (n : List ℕ). StaysOrBegins n (recovered (area_of k) is.entry) (recovered (area_of k) c)) (named_at k name box.0 named box.1) (is.each k box.0 box.1));
             outside = torn_twice 0 (524288 * length names) like.entry is.entry c like.outside (subst (λ (n : ℕ). Torn 0 (524288 * n) is.entry c) count_is is.outside);
@@ -136,7 +135,7 @@ module _ (names : List (List ℕ)) (start mid : DiskState) (stores : List SlotSt
           count = count_is;
           named = named_at;
           read = λ s was k name box named boxed.
-              let at = store_at k (within names k name named) in
+              let at = store_at k (slice_get_within names k name named) in
               subst (GivesBox name box) (sym (opened.read s was k at.0 at.1)) (gives_of name box (content at.0) (kept_at k name box at.0 named boxed at.1));
         };
         quiet = quiet_twice start mid now opened.quiet quiet;

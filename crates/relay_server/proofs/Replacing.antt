@@ -1,17 +1,18 @@
 -- One record of many is replaced: the other boxes stay.
-use Rattle.std.proofs.Common.{◌≡◌, ◌≢◌, inl, inr, ⊎_elim, ℕ, zero, suc, ◌+◌, ◌*◌, ◌<◌, ◌≤◌, Bool, true, List, [], ◌∷◌, length, Some, None, refl, sym, ◌∙◌, ap, subst, arith}
+use Rattle.std.proofs.Common.{◌≡◌, ◌≢◌, inl, inr, ⊎_elim, ℕ, ◌+◌, ◌*◌, ◌<◌, Bool, true, List, length, Some, sym, ◌∙◌, ap, subst, arith}
 use Rattle.std.specs.Prelude.{slice_get}
-use Rattle.std.proofs.lemmas.Bool.{cases_eq, cases_lt}
+use Rattle.std.proofs.lemmas.Bool.{cases_eq}
+use Rattle.std.proofs.lemmas.Option.{slice_get_within}
+use Rattle.relay_server.proofs.OneStore.{there_is, apart, OneReplaced, old_store, new_store, is_replaced, is_new, around_area, new_areas, new_rests}
 use Rattle.dr_disk.specs.State.{DiskState, Always}
 use Rattle.dr_disk.specs.Spans.{Span, Frame}
-use Rattle.dr_disk.specs.Bytes.{Torn}
 use Rattle.dr_disk.proofs.Ranges.{torn_wider}
 use Rattle.dr_disk.proofs.Steps.{widen}
 use Rattle.slot_store.specs.declared.area.Area.{Area}
 use Rattle.slot_store.specs.declared.store.SlotStore.{SlotStore}
 use Rattle.slot_store.specs.Slots.{recovered}
 use Rattle.slot_store.specs.Store.{IsOldOrNew, Rests, content}
-use Rattle.slot_store.specs.Laws.{IsLocal, SameWithin}
+use Rattle.slot_store.specs.Laws.{IsLocal}
 use Rattle.relay_core.specs.Boxes.{Box, Answers}
 use Rattle.relay_core.specs.Changes.{ChangesOne, IsChange}
 use Rattle.relay_server.specs.Durable.{area_of, ServerNow, StandsFor, IsReady, StandsForEither, IsReplaced}
@@ -19,28 +20,11 @@ use Rattle.relay_server.specs.Durable.{area_of, ServerNow, StandsFor, IsReady, S
 abbrev pub with_stores : List Box → List SlotStore → ServerNow
 with_stores boxes stores = record { boxes = boxes; stores = stores }
 
-pub there_is : {X : Type 0} (xs : List X) (k : ℕ) → k < length xs → (x : X) × (slice_get xs k ≡ Some x)
-there_is [] k inside = absurd (omega (arith, inside))
-there_is (x ∷ xs) zero inside = (x, refl)
-there_is (x ∷ xs) (suc k) inside = there_is xs k (omega (arith, inside))
-
-pub within : {X : Type 0} (xs : List X) (k : ℕ) (x : X) → slice_get xs k ≡ Some x → k < length xs
-within {X} [] k x is = absurd (let e : None ≡ Some x = is in cc)
-within (y ∷ xs) zero x is = omega arith
-within (y ∷ xs) (suc k) x is = let i : k < length xs = within xs k x is in omega (arith, i)
-
--- what is torn in one area is the same in each other
-pub apart : (j k : ℕ) (c d : List ℕ) → j ≢ k → Torn (area_of k).start ((area_of k).slot + (area_of k).slot) d c → SameWithin (area_of j) c d
-apart j k c d other torn = record {
-  size = torn.size;
-  bytes = λ i from to. torn.outside i (elim (cases_lt j k) [ inl below ↦ inl (omega (arith, below, to)) | inr above ↦ inr (omega (arith, above, other, from)) ]);
-}
-
 -- at rest the boxes stand in each image
 pub ready_stands : (text : Box → List ℕ) (server : ServerNow) (disk : DiskState) → IsReady text server disk → ((store : SlotStore) (c : List ℕ) → Rests store c → recovered store.area c ≡ content store)
     → Always (StandsFor text server.boxes) disk
 ready_stands text server disk ready resting c left j box there =
-    let s = there_is server.stores j (let i : j < length server.boxes = within server.boxes j box there in omega (arith, i, ready.count)) in
+    let s = there_is server.stores j (let i : j < length server.boxes = slice_get_within server.boxes j box there in omega (arith, i, ready.count)) in
     ap (λ (a : Area). recovered a c) (sym (ready.areas j s.0 s.1)) ∙ resting s.0 c (ready.rests j s.0 s.1 c left) ∙ ready.holds j s.0 box s.1 there
 
 pub record Replacing (text : Box → List ℕ) (boxes next : List Box) (stores news : List SlotStore) (k : ℕ) (t : List ℕ) (start now : DiskState) (done : Bool) : Type 0 where
@@ -55,15 +39,22 @@ pub record Replacing (text : Box → List ℕ) (boxes next : List Box) (stores n
   pub resting : (store : SlotStore) (c : List ℕ) → Rests store c → recovered store.area c ≡ content store
 
 module _ (text : Box → List ℕ) (boxes next : List Box) (stores news : List SlotStore) (k : ℕ) (t : List ℕ) (start now : DiskState) (done : Bool) (r : Replacing text boxes next stores news k t start now done) where
-  -- the store of the box, before and after
-  the_old : (s : SlotStore) × (slice_get stores k ≡ Some s)
-  the_old = there_is stores k (omega (arith, r.one.inside, r.ready.count))
+  one_store : OneReplaced k stores news t start now done
+  one_store = record {
+    areas = r.ready.areas;
+    rests = r.ready.rests;
+    inside = omega (arith, r.one.inside, r.ready.count);
+    count = r.stores_count;
+    others = r.others;
+    there = r.there;
+    local = r.local;
+  }
 
-  the_new : (s : SlotStore) × (slice_get news k ≡ Some s)
-  the_new = there_is news k (omega (arith, r.one.inside, r.ready.count, r.stores_count))
+  abbrev the_old : (s : SlotStore) × (slice_get stores k ≡ Some s)
+  the_old = old_store k stores news t start now done one_store
 
-  is : IsReplaced t the_old.0 the_new.0 start now done
-  is = r.there the_old.0 the_new.0 the_old.1 the_new.1
+  is : IsReplaced t the_old.0 (new_store k stores news t start now done one_store).0 start now done
+  is = is_replaced k stores news t start now done one_store
 
   old_area : the_old.0.area ≡ area_of k
   old_area = r.ready.areas k the_old.0 the_old.1
@@ -71,11 +62,12 @@ module _ (text : Box → List ℕ) (boxes next : List Box) (stores news : List S
   -- an image at entry stands for the boxes
   stands_at : (j : ℕ) (box : Box) (d : List ℕ) → slice_get boxes j ≡ Some box → start.image d → recovered (area_of j) d ≡ Some (text box)
   stands_at j box d there left =
-      let s = there_is stores j (let i : j < length boxes = within boxes j box there in omega (arith, i, r.ready.count)) in
+      let s = there_is stores j (let i : j < length boxes = slice_get_within boxes j box there in omega (arith, i, r.ready.count)) in
       ap (λ (a : Area). recovered a d) (sym (r.ready.areas j s.0 s.1)) ∙ r.resting s.0 d (r.ready.rests j s.0 s.1 d left) ∙ r.ready.holds j s.0 box s.1 there
 
-  framed : (c : List ℕ) → Frame start the_old.0.area.start (the_old.0.area.slot + the_old.0.area.slot) c → Frame start (area_of k).start ((area_of k).slot + (area_of k).slot) c
-  framed c f = subst (λ (a : Area). Frame start a.start (a.slot + a.slot) c) old_area f
+  framed : (c : List ℕ) → Frame start the_old.0.area.start (the_old.0.area.slot + the_old.0.area.slot) c
+      → Frame start (area_of k).start ((area_of k).slot + (area_of k).slot) c
+  framed = around_area k stores news t start now done one_store
 
   -- each other box is as it was
   other_stands : (j : ℕ) (box : Box) (c : List ℕ) → j ≢ k → slice_get boxes j ≡ Some box → Frame start (area_of k).start ((area_of k).slot + (area_of k).slot) c → recovered (area_of j) c ≡ Some (text box)
@@ -114,32 +106,14 @@ module _ (text : Box → List ℕ) (boxes next : List Box) (stores news : List S
   ready_then passed = record {
     count = r.stores_count ∙ r.ready.count ∙ sym r.count;
     within = λ j inside. let w = r.ready.within j (omega (arith, inside, r.count)) in omega (arith, w, is.any_moment.size);
-    areas = λ j store there. elim (cases_eq j k) [
-      | inl same ↦
-          let e : Some the_new.0 ≡ Some store = sym the_new.1 ∙ subst (λ (m : ℕ). slice_get news m ≡ Some store) same there in
-          let f : the_new.0 ≡ store = cc in
-          ap (λ (s : SlotStore). s.area) (sym f) ∙ is.same ∙ old_area ∙ ap area_of (sym same)
-      | inr other ↦ r.ready.areas j store (sym (r.others j other) ∙ there)
-    ];
+    areas = new_areas k stores news t start now done one_store;
     holds = λ j store box there boxed. elim (cases_eq j k) [
       | inl same ↦
-          let e : Some the_new.0 ≡ Some store = sym the_new.1 ∙ subst (λ (m : ℕ). slice_get news m ≡ Some store) same there in
-          let f : the_new.0 ≡ store = cc in
-          ap content (sym f) ∙ is.holds passed ∙ ap (λ (x : List ℕ). Some x) (r.written box (subst (λ (m : ℕ). slice_get next m ≡ Some box) same boxed))
+          ap content (sym (is_new k stores news t start now done one_store j store same there)) ∙ is.holds passed
+          ∙ ap (λ (x : List ℕ). Some x) (r.written box (subst (λ (m : ℕ). slice_get next m ≡ Some box) same boxed))
       | inr other ↦ r.ready.holds j store box (sym (r.others j other) ∙ there) (sym (r.one.others j other) ∙ boxed)
     ];
-    rests = λ j store there c left. elim (cases_eq j k) [
-      | inl same ↦
-          let e : Some the_new.0 ≡ Some store = sym the_new.1 ∙ subst (λ (m : ℕ). slice_get news m ≡ Some store) same there in
-          let f : the_new.0 ≡ store = cc in
-          subst (λ (s : SlotStore). Rests s c) f (is.rests passed c left)
-      | inr other ↦
-          let was : slice_get stores j ≡ Some store = sym (r.others j other) ∙ there in
-          let frame = framed c (is.outside passed c left) in
-          let same = subst (λ (a : Area). SameWithin a c frame.0) (sym (r.ready.areas j store was)) (apart j k c frame.0 other frame.2) in
-          let least : 1 ≤ store.area.slot = subst (λ (a : Area). 1 ≤ a.slot) (sym (r.ready.areas j store was)) (omega arith) in
-          r.local.rests store c frame.0 least same (r.ready.rests j store was frame.0 frame.1)
-    ];
+    rests = new_rests k stores news t start now done one_store passed;
   }
 
 -- what the code knows where the record of a box is replaced

@@ -2,14 +2,15 @@
 use Rattle.std.proofs.Common.{◌≡◌, ℕ, ◌≤◌, true, false, List, [], ◌∷◌, ◌++◌, length, take, drop, Result, Ok, Err, refl, sym, ◌∙◌, ap, ap₂, subst, arith}
 use Rattle.std.specs.Prelude.{◌&&◌, ◌==◌, nat_le, if◌then◌else◌}
 use Rattle.std.specs.Int.{w64, to_be_bytes, from_be_bytes}
-use Rattle.std.proofs.lemmas.Bool.{le-leb, leb-true, eqb-true, cond-true}
+use Rattle.std.proofs.lemmas.Bool.{le-leb, leb-true, eqb-true, cond-true, and_from, and_parts}
 use Rattle.std.proofs.lemmas.Bool.Decides.{nat_tests}
 use Rattle.std.proofs.lemmas.List.{take_at, drop_at, take-append-drop, length-append, length-take, nil_from_length}
-use Rattle.grammar.specs.Grammar.{AreBytes}
-use Rattle.grammar.proofs.Fields.{AreBytes-drop, exact64}
+use Rattle.dr_base.specs.Bytes.{AreBytes}
+use Rattle.dr_base.proofs.Bytes.{AreBytes-drop}
+use Rattle.dr_base.proofs.Widths.{exact64}
 use Rattle.relay_wire.specs.Names.{is_name, is_packet}
 use Rattle.relay_wire.specs.Requests.{Asking, posts, fetches, acks, Asked, is_ask_byte, IsLawfulAsking, IsLawfulAsked, ask_byte, ask_rest, request_body, read_rest, of_name, read_named, read_request}
-use Rattle.relay_wire.proofs.Choices.{and_true, both_true, from_choice, by_number}
+use Rattle.relay_wire.proofs.Choices.{from_choice, by_number}
 
 -- ---- what was printed is read
 
@@ -18,7 +19,7 @@ unfolding read_named
 named first name rest is =
     let front = take_at name rest (length name) refl in
     let fits : nat_le (length name) (length (name ++ rest)) ≡ true = le-leb _ _ (omega (arith, length-append name rest)) in
-    let test = and_true _ _ fits (ap is_name front ∙ is) in
+    let test = and_from _ _ fits (ap is_name front ∙ is) in
     cond-true _ _ _ test ∙ ap₂ (λ (n r : List ℕ). of_name n (read_rest first r)) front (drop_at name rest (length name) refl)
 
 pub request : (a : Asked) → IsLawfulAsked a → read_request (request_body a) ≡ Ok a
@@ -82,7 +83,7 @@ unfolding request_body read_named
 only_named first [] a is are h = absurd (let three : ℕ = 3 in let e : Err three ≡ Ok a = h in cc)
 only_named first (n ∷ more) a is are h =
     let t = from_choice (nat_le n (length more) && is_name (take n more)) (of_name (take n more) (read_rest first (drop n more))) 3 a h in
-    let tests = both_true _ _ t.0 in
+    let tests = and_parts _ _ t.0 in
     let asked = from_of_name (take n more) (read_rest first (drop n more)) a t.1 in
     let ask = asked.0 in
     let rest = only_rest first (drop n more) ask is (AreBytes-drop n more (AreBytes-tail n more are)) asked.1 in

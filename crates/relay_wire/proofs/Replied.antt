@@ -2,14 +2,15 @@
 use Rattle.std.proofs.Common.{◌≡◌, ℕ, ◌^◌, ◌<◌, ◌≤◌, true, List, [], ◌∷◌, ◌++◌, length, take, drop, Ok, Err, refl, sym, ◌∙◌, ap, ap₂, subst, arith}
 use Rattle.std.specs.Prelude.{◌&&◌, ◌==◌, nat_le}
 use Rattle.std.specs.Int.{w64, to_be_bytes, from_be_bytes}
-use Rattle.std.proofs.lemmas.Bool.{le-leb, leb-true, eqb-true, cond-true}
+use Rattle.std.proofs.lemmas.Bool.{le-leb, leb-true, eqb-true, cond-true, and_from, and_parts}
 use Rattle.std.proofs.lemmas.List.{drop_at, take-append-drop, length-append, length-take, nil_from_length}
-use Rattle.grammar.specs.Grammar.{AreBytes}
-use Rattle.grammar.proofs.Fields.{AreBytes-drop, AreBytes-take, exact64}
+use Rattle.dr_base.specs.Bytes.{AreBytes}
+use Rattle.dr_base.proofs.Bytes.{AreBytes-drop, AreBytes-take}
+use Rattle.dr_base.proofs.Widths.{exact64}
 use Rattle.relay_wire.specs.declared.reply.BadReply.TheVariants.{Frame, Kind, Size}
 use Rattle.relay_wire.specs.Names.{is_packet}
 use Rattle.relay_wire.specs.Replies.{Replied, stored, item, empty, acked, box_full, unknown, absent, bad, is_bad_kind, IsLawfulReplied, reply_byte, reply_rest, reply_body, numbered, bare, read_item, read_bad, read_reply_rest, read_reply}
-use Rattle.relay_wire.proofs.Choices.{and_true, both_true, from_choice, by_number}
+use Rattle.relay_wire.proofs.Choices.{from_choice, by_number}
 
 -- ---- what was printed is read
 
@@ -18,7 +19,7 @@ item_read n packet fits is =
     let rest = to_be_bytes w64 n ++ packet in
     let long : nat_le 8 (length rest) ≡ true = le-leb _ _ (omega (arith, length-append (to_be_bytes w64 n) packet)) in
     let behind : drop 8 rest ≡ packet = drop_at (to_be_bytes w64 n) packet 8 refl in
-    cond-true (nat_le 8 (length rest) && is_packet (drop 8 rest)) _ _ (and_true _ _ long (ap is_packet behind ∙ is))
+    cond-true (nat_le 8 (length rest) && is_packet (drop 8 rest)) _ _ (and_from _ _ long (ap is_packet behind ∙ is))
     ∙ ap (λ (m : ℕ). Ok (item m packet)) (exact64.read n fits)
 
 pub reply : (r : Replied) → IsLawfulReplied r → read_reply (reply_body r) ≡ Ok r
@@ -63,7 +64,7 @@ module _ (first : ℕ) (rest : List ℕ) (r : Replied) (are : AreBytes rest) whe
       let n = from_be_bytes w64 front in
       let t = from_choice (nat_le 8 (length rest) && is_packet (drop 8 rest)) (Ok (item n (drop 8 rest))) Size r h in
       let same : item n (drop 8 rest) ≡ r = cc in
-      let tests = both_true _ _ t.0 in
+      let tests = and_parts _ _ t.0 in
       let inside : 8 ≤ length rest = leb-true _ _ tests.0 in
       let long : length front ≡ 8 = omega (arith, length-take 8 rest, inside) in
       let are_front = AreBytes-take 8 rest are in

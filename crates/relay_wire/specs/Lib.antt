@@ -3,3 +3,4 @@ pub mod Names
 pub mod Requests
 pub mod Replies
 pub mod Seen
+pub mod Framed

@@ -1,7 +1,7 @@
 //! The meaning of a stream, and what reading and writing have to do with each other.
 
 ghost use Rattle.std.specs.Prelude.{◌≡◌, ℕ, List, Ok};
-ghost use Rattle.grammar.specs.Grammar.{AreBytes};
+ghost use Rattle.dr_base.specs.Bytes.{AreBytes};
 ghost use Rattle.relay_wire.specs.Frames.{Splits, frames_of};
 ghost use Rattle.relay_wire.specs.Replies.{Replied, IsLawfulReplied, read_reply, reply_body};
 ghost use Rattle.relay_wire.specs.Requests.{Asked, IsLawfulAsked, read_request, request_body};

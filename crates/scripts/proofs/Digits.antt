@@ -1,5 +1,5 @@
 -- Digits read from the left.
-use Rattle.std.proofs.Common.{◌≡◌, ℕ, ◌+◌, ◌-◌, ◌*◌, ◌^◌, ◌<◌, min, List, length, take, get_or, arith, ◌&&◌, Bool, true, false, refl, ◌∙◌}
+use Rattle.std.proofs.Common.{◌≡◌, ℕ, ◌+◌, ◌-◌, ◌*◌, ◌^◌, ◌<◌, min, List, length, take, get_or, arith, true, ◌∙◌}
 use Rattle.std.specs.Char.{digit_value, is_ascii_digit}
 use Rattle.std.specs.Int.{IsInRange}
 use Rattle.std.specs.Str.Parse.{digits_value}
@@ -8,6 +8,7 @@ use Rattle.std.proofs.lemmas.Bool.Decides.{nat_tests}
 use Rattle.std.proofs.lemmas.List.Folds.{list_all_more}
 use Rattle.std.proofs.lemmas.Int.Digits.{digits_value_more}
 use Rattle.std.proofs.lemmas.Str.{digit_value_digit}
+use Rattle.std.proofs.lemmas.Bool.{and_from}
 
 -- a number that stops at the end of a u64, with one digit more
 capped : (v value next digit c : ℕ) → value ≡ min v (2 ^ 64 - 1) → next ≡ v * 10 + digit → digit + 48 ≡ c
@@ -25,13 +26,8 @@ value_more text i value h d e =
     capped (digits_value 10 (take i text)) value (digits_value 10 (take (i + 1) text)) (digit_value (get_or text i 0)) (get_or text i 0) e
     (digits_value_more 10 text i h) (digit_value_digit (get_or text i 0) (in_range (get_or text i 0) d))
 
-both : (a b : Bool) → a ≡ true → b ≡ true → (a && b) ≡ true
-both true true h k = refl
-both true false h k = k
-both false b h k = h
-
 -- the digits so far, with one more
 pub all_more : (text : List ℕ) (i : ℕ) → i < length text → list_all is_ascii_digit (take i text) ≡ true
     → is_ascii_digit (get_or text i 0) ≡ true → list_all is_ascii_digit (take (i + 1) text) ≡ true
 all_more text i h a d =
-    list_all_more is_ascii_digit text i 0 h ∙ both (list_all is_ascii_digit (take i text)) (is_ascii_digit (get_or text i 0)) a d
+    list_all_more is_ascii_digit text i 0 h ∙ and_from (list_all is_ascii_digit (take i text)) (is_ascii_digit (get_or text i 0)) a d

@@ -7,7 +7,7 @@ use Rattle.std.specs.Result.{result_ok}
 use Rattle.std.specs.Str.Parse.{AllDigits}
 use Rattle.std.proofs.lemmas.Bool.Decides.{nat_tests}
 use Rattle.std.proofs.lemmas.Fmt.{decimal_nonempty}
-use Rattle.std.proofs.lemmas.Bool.{cond-true, cond-false}
+use Rattle.std.proofs.lemmas.Bool.{cond-true, cond-false, and_left}
 use Rattle.hex.proofs.HexLemmas.{decode_sized-encode_lower}
 use Rattle.dr_base.specs.declared.position.Position.{Position}
 use Rattle.dr_base.specs.declared.position.Side.{Side}
@@ -20,7 +20,7 @@ use Rattle.answer_lines.specs.Answers.{position_text}
 use Rattle.scripts.specs.Sides.{acting_side, side_text}
 use Rattle.scripts.specs.Stops.{stopped}
 use Rattle.scripts.specs.Words.{after_prefix, bytes_words, call_words, crash_read, done_words, flip_read, flip_words, halves_of, event_read, if_call, is_call, look_words, mode_read, packet_read, plain_read, position_read, say_words, seed_read, sent_words, side_words, stop_read, stop_words, take_words}
-use Rattle.scripts.proofs.PrintedParts.{Without, amount_back, digit_from, both_without, digits_of, digits_without, halves_back, hex_back, no_letter, number_back, point, position_back}
+use Rattle.scripts.proofs.PrintedParts.{Without, amount_back, digit_from, both_without, digits_of, digits_without, halves_back, hex_back, number_back, point, position_back}
 
 -- ---- what a side does
 
@@ -28,7 +28,7 @@ use Rattle.scripts.proofs.PrintedParts.{Without, amount_back, digit_from, both_w
 no_hash : (ds rest : List ℕ) → 0 < length ds → AllDigits 10 ds → after_prefix (codes "#") (ds ++ rest) ≡ None
 unfolding after_prefix
 no_hash [] rest some h = absurd (omega arith)
-no_hash (c ∷ cs) rest some h = cond-false (starts_with nat_eq (c ∷ (cs ++ rest)) (codes "#")) _ None (no_letter (35 == c) _ (let from = digit_from c h.0 in grind (arith, nat_tests)))
+no_hash (c ∷ cs) rest some h = cond-false (starts_with nat_eq (c ∷ (cs ++ rest)) (codes "#")) _ None (and_left (35 == c) _ (let from = digit_from c h.0 in grind (arith, nat_tests)))
 
 position_hashless : (p : Position) → IsNumbered p → after_prefix (codes "#") (position_text p) ≡ None
 unfolding position_text

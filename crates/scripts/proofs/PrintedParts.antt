@@ -10,7 +10,7 @@ use Rattle.std.proofs.lemmas.Bool.Decides.{nat_tests}
 use Rattle.std.proofs.lemmas.Iterator.Adapters.{position_from-zero}
 use Rattle.std.proofs.lemmas.Fmt.{decimal_digit, decimal_is_IsNumeral, decimal_nonempty, first_decimal}
 use Rattle.std.proofs.Math.Seq.{take-append_seam}
-use Rattle.std.proofs.lemmas.Bool.{cond-true, cond-false}
+use Rattle.std.proofs.lemmas.Bool.{cond-true, cond-false, and_from, and_left}
 use Rattle.hex.specs.Hex.{IsBytes, decode_sized, encode_lower, lower_digits}
 use Rattle.hex.proofs.HexLemmas.{decode_sized-encode_lower, length-encode_with}
 use Rattle.dr_base.specs.declared.position.Position.{Position}
@@ -33,13 +33,9 @@ digit_to c h = grind (arith, nat_tests)
 is_digit : (c : ℕ) → digit_value c < 10 → is_ascii_digit c ≡ true
 is_digit c h = let from = digit_from c h in let to = digit_to c h in grind (arith, nat_tests)
 
-both_hold : (a b : Bool) → a ≡ true → b ≡ true → (a && b) ≡ true
-both_hold true b h k = k
-both_hold false b h k = cc h
-
 all_digits : (ds : List ℕ) → AllDigits 10 ds → list_all is_ascii_digit ds ≡ true
 all_digits [] h = refl
-all_digits (c ∷ cs) h = both_hold (is_ascii_digit c) (list_all is_ascii_digit cs) (is_digit c h.0) (all_digits cs h.1)
+all_digits (c ∷ cs) h = and_from (is_ascii_digit c) (list_all is_ascii_digit cs) (is_digit c h.0) (all_digits cs h.1)
 
 unpadded : (ds : List ℕ) → 0 < length ds → 48 < get_or ds 0 0 → is_unpadded ds ≡ true
 unpadded [] some first = absurd (omega arith)
@@ -61,8 +57,8 @@ number_back n h =
     let numeral = decimal_is_IsNumeral n (omega arith) in
     let below : nat_lt (digits_value 10 (decimal n)) (2 ^ 32) ≡ true = let value = numeral.1 in grind (arith, nat_tests) in
     guarded (is_number (decimal n)) (digits_value 10 (decimal n))
-    (both_hold (is_unpadded (decimal n)) (list_all is_ascii_digit (decimal n) && nat_lt (digits_value 10 (decimal n)) (2 ^ 32)) (decimal_unpadded n h)
-    (both_hold (list_all is_ascii_digit (decimal n)) (nat_lt (digits_value 10 (decimal n)) (2 ^ 32)) (all_digits (decimal n) numeral.0.1) below))
+    (and_from (is_unpadded (decimal n)) (list_all is_ascii_digit (decimal n) && nat_lt (digits_value 10 (decimal n)) (2 ^ 32)) (decimal_unpadded n h)
+    (and_from (list_all is_ascii_digit (decimal n)) (nat_lt (digits_value 10 (decimal n)) (2 ^ 32)) (all_digits (decimal n) numeral.0.1) below))
     ∙ ap Some numeral.1
 
 -- ---- halves
@@ -131,14 +127,10 @@ unfolding position_read position_text
 position_back p h =
     ap position_read (point (decimal p.epoch) (decimal p.index)) ∙ ap (option_and_then numbers_read) (halves_back (decimal p.epoch) (decimal p.index) 46 (digits_without (decimal p.epoch) 46 (omega arith) (digits_of p.epoch h.0))) ∙ both_back p h
 
-pub no_letter : (a b : Bool) → a ≡ false → (a && b) ≡ false
-no_letter true b h = cc h
-no_letter false b h = refl
-
 -- digits aren't `all`
 not_all : (ds : List ℕ) → AllDigits 10 ds → is_text (codes "all") ds ≡ false
 not_all [] h = refl
-not_all (c ∷ cs) h = no_letter (c == 97) _ (let to = digit_to c h.0 in grind (arith, nat_tests))
+not_all (c ∷ cs) h = and_left (c == 97) _ (let to = digit_to c h.0 in grind (arith, nat_tests))
 
 pub amount_back : (amount : Amount) → IsAmount amount → amount_read (amount_text amount) ≡ Some amount
 unfolding amount_read amount_text

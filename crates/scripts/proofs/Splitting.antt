@@ -1,8 +1,8 @@
 -- A text taken apart: its first line, and its halves at the first space.
-use Rattle.std.proofs.Common.{◌≡◌, ◌≢◌, ℕ, zero, suc, ◌+◌, ◌<◌, Bool, true, false, List, [], ◌∷◌, length, take, drop, get_or, refl, sym, ◌∙◌, ap, arith, nat_eq, ◌-◌, length-drop, add-one}
+use Rattle.std.proofs.Common.{◌≡◌, ◌≢◌, ℕ, zero, suc, ◌+◌, ◌<◌, Bool, true, false, List, [], ◌∷◌, length, take, drop, get_or, refl, sym, ◌∙◌, ap, arith, nat_eq, ◌-◌, add-one}
 use Rattle.std.specs.Prelude.{◌==◌, Option, Some, None, option_map, position, if◌then◌else◌}
 use Rattle.std.proofs.lemmas.Bool.{eq-eqb, eqb-true}
-use Rattle.std.proofs.lemmas.List.{take_all}
+use Rattle.std.proofs.lemmas.List.{take_rest}
 use Rattle.scripts.specs.Words.{halves_of}
 use Rattle.scripts.specs.Script.{lines_of, with_byte}
 
@@ -46,16 +46,12 @@ last_line (byte ∷ next ∷ rest) h before =
     at_byte byte (next ∷ rest) (before zero (omega arith))
     ∙ ap (with_byte byte) (last_line (next ∷ rest) (omega arith) (λ k l. before (suc k) (omega arith)))
 
--- the rest of a text, as the code cuts it
-pub rest_is : (text : List ℕ) (k : ℕ) → take (length text - k) (drop k text) ≡ drop k text
-rest_is text k = take_all (length text - k) (drop k text) (simp length-drop (omega arith))
-
 -- a first line that ends at a line feed
 pub cut_line : (text : List ℕ) (n : ℕ) → n < length text → ((k : ℕ) → k < n → get_or text k 0 ≢ 10) → get_or text n 0 ≡ 10
     → lines_of text ≡ take n text ∷ lines_of (take (length text - (n + 1)) (drop (n + 1) text))
 cut_line text n h before found =
     first_line text n h before found
-    ∙ ap (λ rest. take n text ∷ lines_of rest) (sym (rest_is text (n + 1) ∙ rw add-one refl))
+    ∙ ap (λ rest. take n text ∷ lines_of rest) (sym (take_rest text (n + 1) ∙ rw add-one refl))
 
 -- an empty text has no line
 pub empty_lines : (text : List ℕ) → nat_eq (length text) 0 ≡ true → lines_of text ≡ []
@@ -67,7 +63,7 @@ pub cut_halves : (mark : ℕ) (text : List ℕ) (found : Option ℕ) (at : ℕ) 
     → Some (take at text, take (length text - (at + 1)) (drop (at + 1) text)) ≡ halves_of mark text
 unfolding halves_of
 cut_halves mark text found at first is =
-    ap (λ rest. Some (take at text, rest)) (rest_is text (at + 1))
+    ap (λ rest. Some (take at text, rest)) (take_rest text (at + 1))
     ∙ ap (option_map (λ k. (take k text, drop (k + 1) text))) (sym is ∙ first)
 
 -- a text without one has no halves

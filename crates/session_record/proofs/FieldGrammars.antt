@@ -14,7 +14,8 @@ use Rattle.dr_base.specs.declared.limits.TheConstants.{INDEX_LIMIT, LAST_EPOCH}
 use Rattle.grammar.specs.Grammar.{IsGrammar}
 use Rattle.grammar.specs.Printer.{print_maybe, IsEither, IsMaybe}
 use Rattle.grammar.specs.Reader.{number, checked}
-use Rattle.grammar.proofs.Fields.{exact8, exact32, number_grammar, piece_grammar}
+use Rattle.grammar.proofs.Fields.{number_grammar, piece_grammar}
+use Rattle.dr_base.proofs.Widths.{exact8, exact32}
 use Rattle.grammar.proofs.Choices.{maybe_grammar, either_grammar}
 use Rattle.grammar.proofs.Combined.{both_grammar, checked_grammar, mapped_grammar}
 use Rattle.session_record.specs.Fields.{up_to, is_version, is_side, side_at, code_of, side_field, epoch_field, is_secret, count_field, own_of, of_own, own_fields, own_text, phase_of, of_phase, phase_field, phase_text, is_previous, previous_field, has_receiving, reception_of, of_reception, reception_fields, receiving_field, reception_text}

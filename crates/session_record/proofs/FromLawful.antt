@@ -1,7 +1,7 @@
 -- A lawful client passes the tests.
 use Rattle.std.proofs.Common.{◌≡◌, ℕ, zero, suc, ◌+◌, ◌-◌, ◌^◌, ◌<◌, ◌≤◌, ◌==◌, Bool, true, false, List, [], length, take, get_or, Option, Some, None, refl, sym, ◌∙◌, ap, subst, arith, if◌then◌else◌}
 use Rattle.std.specs.Prelude.{not, nat_le, nat_lt, ◌&&◌, ◌||◌, All}
-use Rattle.std.proofs.lemmas.Bool.{le-leb}
+use Rattle.std.proofs.lemmas.Bool.{le-leb, and_from, not_from_false}
 use Rattle.std.proofs.lemmas.Bool.Decides.{nat_tests}
 use Rattle.std.proofs.lemmas.List.{take_more}
 use Rattle.std.proofs.lemmas.Slice.Eq.{bytes_eq-Decides}
@@ -13,7 +13,7 @@ use Rattle.fs_aead.specs.Table.{AllBefore, IsAscending}
 use Rattle.boxes.specs.Items.{Item, item_at}
 use Rattle.kem_laws.specs.Mechanism.{IsLawful}
 use Rattle.session_model.specs.Clients.{Client}
-use Rattle.dr_base.specs.Position.{is_own}
+use Rattle.dr_base.specs.Position.{is_own, position_at}
 use Rattle.session_model.specs.LawfulStates.{IsLawfulKept, IsLawfulPhase, IsLawfulPrevious, IsLawfulReception}
 use Rattle.session_model.specs.States.{Phase, in_own, in_peers, Reception, State}
 use Rattle.dr_base.specs.declared.limits.TheConstants.{LAST_EPOCH, TEXT_LIMIT}
@@ -21,20 +21,12 @@ use Rattle.kem_laws.specs.Mechanism.{Mechanism}
 use Rattle.grammar.specs.Printer.{AreItems, IsMaybe}
 use Rattle.grammar.proofs.Lists.{items-from}
 use Rattle.session_record.specs.Fields.{is_good, is_previous, up_to}
-use Rattle.session_record.specs.Lists.{is_post, is_posted, last_position, most_kept, place_of, position_at, post_of, reach_of}
+use Rattle.session_record.specs.Lists.{is_post, is_posted, last_position, most_kept, place_of, post_of, reach_of}
 use Rattle.session_record.proofs.Passing.{Passes, PassesEntry, PassesKept, PassesPhase, PassesPost, PassesReception}
 use Rattle.session_record.specs.Lawful.{IsLawfulClient, IsLawfulEntry, IsLawfulPost}
 use Rattle.session_record.proofs.Lasts.{last_of-push}
 
 -- ---- tests that pass
-
-pub and_true : (a b : Bool) → a ≡ true → b ≡ true → (a && b) ≡ true
-and_true true b h i = i
-and_true false b h i = absurd (let e : false ≡ true = h in cc)
-
-pub not_own : (b : Bool) → b ≡ false → not b ≡ true
-not_own false h = refl
-not_own true h = absurd (let e : true ≡ false = h in cc)
 
 -- ---- the last key of those before a place
 
@@ -85,9 +77,9 @@ kept_passes side epoch reach latest list keys peers near within fits all i d ins
     above_last l.epoch l.index t n last.0 last.1 in
     let index = within_latest epoch t n reach latest one.most near below.1 (parities side t latest one.peers peers) below.0 within in
     record {
-      epoch_is = and_true _ _ (and_true _ _ (not_own _ one.peers) (le-leb _ _ (omega (arith, below.0)))) (le-leb _ _ last.0);
+      epoch_is = and_from _ _ (and_from _ _ (not_from_false _ one.peers) (le-leb _ _ (omega (arith, below.0)))) (le-leb _ _ last.0);
       epoch_fits = omega (arith, below.0);
-      index_is = and_true _ _ (le-leb 1 n one.one) (and_true _ _ index above);
+      index_is = and_from _ _ (le-leb 1 n one.one) (and_from _ _ index above);
       index_fits = omega (arith, one.most);
       key_long = keys.long i d inside;
     }
@@ -172,9 +164,9 @@ epoch_part epoch fits = grind (arith, nat_tests)
 
 entry_passes : (s : State) (before : List Item) (item : Item) → s.epoch ≤ 2 ^ 32 - 2 → IsLawfulEntry s item → PassesEntry s.side s.epoch before item
 entry_passes s before item fits l = record {
-  epoch_is = and_true _ _ (not_own _ l.peers) (le-leb _ _ l.reached);
+  epoch_is = and_from _ _ (not_from_false _ l.peers) (le-leb _ _ l.reached);
   epoch_fits = omega (arith, l.reached);
-  index_is = and_true _ _ (le-leb 1 item.position.index l.from_one) (le-leb item.position.index 65535 l.most);
+  index_is = and_from _ _ (le-leb 1 item.position.index l.from_one) (le-leb item.position.index 65535 l.most);
   short = le-leb (length item.bytes) TEXT_LIMIT l.short;
 }
 
@@ -183,7 +175,7 @@ unfolding is_post post_of
 post_passes k s before item l =
     let same = (bytes_eq-Decides l.fields.session s.session).1 l.session in
     record {
-      post = ap (is_posted s.session s.side s.epoch) l.reads ∙ and_true _ _ same (and_true _ _ l.own (le-leb _ _ l.reached));
+      post = ap (is_posted s.session s.side s.epoch) l.reads ∙ and_from _ _ same (and_from _ _ l.own (le-leb _ _ l.reached));
       fits = l.fits;
       own_place = ap (λ r. item_at (place_of r) item.bytes) l.reads ∙ ap (λ p. item_at p item.bytes) (sym l.place);
     }

@@ -9,11 +9,13 @@ use Rattle.kem_laws.specs.Mechanism.{Mechanism}
 use Rattle.dr_base.specs.declared.limits.TheConstants.{INBOX_LIMIT, KEPT_LIMIT, OUTBOX_LIMIT, TEXT_LIMIT}
 use Rattle.grammar.specs.Grammar.{IsGrammar}
 use Rattle.grammar.specs.Printer.{print_counted, AreItems}
-use Rattle.grammar.proofs.Fields.{exact8, exact16, exact32, number_grammar, piece_grammar}
+use Rattle.grammar.proofs.Fields.{number_grammar, piece_grammar}
+use Rattle.dr_base.proofs.Widths.{exact8, exact16, exact32}
 use Rattle.grammar.proofs.Combined.{both_grammar, checked_grammar, mapped_grammar}
 use Rattle.grammar.proofs.Lists.{counted_grammar, sized_grammar}
 use Rattle.session_record.specs.Fields.{up_to}
-use Rattle.session_record.specs.Lists.{is_kept_epoch, is_kept_index, last_position, kept_of, of_kept, kept_behind, kept_item, kept_text, kept_field, is_peers, is_index, any, entry_of, of_entry, entry_field, entry_text, inbox_field, is_post, post_of, any_length, post_field, post_text, outbox_field}
+use Rattle.session_record.specs.Lists.{is_kept_epoch, is_kept_index, last_position, kept_of, of_kept, kept_behind, kept_item, kept_text, kept_field, is_peers, any, entry_of, of_entry, entry_field, entry_text, inbox_field, is_post, post_of, any_length, post_field, post_text, outbox_field}
+use Rattle.packet.specs.Reading.{is_index}
 use Rattle.session_record.proofs.Passing.{PassesKept, PassesEntry, PassesPost}
 use Rattle.session_record.proofs.FieldGrammars.{small_number}
 

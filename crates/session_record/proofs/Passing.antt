@@ -12,7 +12,8 @@ use Rattle.packet.specs.Packet.{agreement_len}
 use Rattle.session_model.specs.Clients.{Client}
 use Rattle.session_model.specs.States.{Own, Phase, Reception}
 use Rattle.session_record.specs.Fields.{has_receiving, is_previous, is_secret, of_phase, up_to}
-use Rattle.session_record.specs.Lists.{is_index, is_kept_epoch, is_kept_index, is_peers, is_post, last_position, post_of, reach_of}
+use Rattle.session_record.specs.Lists.{is_kept_epoch, is_kept_index, is_peers, is_post, last_position, post_of, reach_of}
+use Rattle.packet.specs.Reading.{is_index}
 
 pub record PassesOwn (k : Mechanism) (epoch : ℕ) (own : Own) : Type 0 where
   pub secret_long : length own.secret ≡ k.secret

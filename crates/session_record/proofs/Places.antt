@@ -7,18 +7,18 @@ use Rattle.cka.specs.Agreement.{agreement_size}
 use Rattle.dr_base.specs.Position.{is_own}
 use Rattle.dr_base.specs.declared.limits.TheConstants.{INBOX_LIMIT, INDEX_LIMIT, KEPT_LIMIT, LAST_EPOCH, OUTBOX_LIMIT, TEXT_LIMIT}
 use Rattle.dr_base.specs.declared.position.Side.{Side}
-use Rattle.grammar.specs.Grammar.{AreBytes}
+use Rattle.dr_base.specs.Bytes.{AreBytes}
 use Rattle.grammar.specs.Reader.{Read, checked, ended, mapped, number, piece}
 use Rattle.grammar.proofs.Within.{EndsBy, IsWithin, within-both, within-checked, within-counted, within-either, within-mapped, within-maybe, within-more, within-number, within-numbered, within-piece, within-short}
 use Rattle.kem_laws.specs.Mechanism.{IsLawfulMechanism, Mechanism}
 use Rattle.packet.specs.Packet.{Fields, agreement_len}
-use Rattle.packet.specs.Reading.{read_packet}
+use Rattle.packet.specs.Reading.{read_packet, is_index}
 use Rattle.packet.specs.declared.fault.Malformed.{Malformed}
 use Rattle.packet.proofs.Lengths.{length-packet_of}
 use Rattle.packet.proofs.Read.{read_was_printed}
 use Rattle.session_record.specs.declared.limits.TheConstants.{RECORD_LIMIT}
 use Rattle.session_record.specs.Fields.{count_field, epoch_field, is_secret, own_fields, phase_field, previous_field, receiving_field, reception_fields, side_field, up_to, own_of, phase_of, reception_of, is_version, is_side, side_at, is_previous, has_receiving}
-use Rattle.session_record.specs.Lists.{any, any_length, entry_field, entry_of, inbox_field, is_index, is_kept_epoch, is_kept_index, is_peers, is_post, is_posted, kept_behind, kept_field, kept_item, kept_of, last_position, outbox_field, post_field, post_of, reach_of}
+use Rattle.session_record.specs.Lists.{any, any_length, entry_field, entry_of, inbox_field, is_kept_epoch, is_kept_index, is_peers, is_post, is_posted, kept_behind, kept_field, kept_item, kept_of, last_position, outbox_field, post_field, post_of, reach_of}
 use Rattle.session_record.specs.Record.{client_of_parts, record_fields, record_read}
 
 -- ---- the fields before the lists

@@ -1,7 +1,7 @@
 -- What passes the tests is a lawful client.
 use Rattle.std.proofs.Common.{◌≡◌, ◌^◌, Result, Ok, Err, ℕ, zero, suc, ◌+◌, ◌-◌, ◌≤◌, ◌==◌, Bool, true, false, List, [], ◌∷◌, ◌++◌, length, Option, Some, None, refl, sym, ◌∙◌, ap, subst, arith, inl, inr, if◌then◌else◌}
 use Rattle.std.specs.Prelude.{not, nat_le, nat_lt, ◌&&◌, ◌||◌, All}
-use Rattle.std.proofs.lemmas.Bool.{leb-true, cases_lt}
+use Rattle.std.proofs.lemmas.Bool.{leb-true, cases_lt, not-true, and_parts}
 use Rattle.std.proofs.lemmas.Bool.Decides.{nat_tests}
 use Rattle.std.proofs.lemmas.List.Quantifiers.{all_pairs_push}
 use Rattle.std.proofs.lemmas.List.Elements.{All-push}
@@ -18,14 +18,14 @@ use Rattle.dr_base.specs.declared.position.Side.{Side}
 use Rattle.dr_base.specs.declared.position.Side.TheVariants.{First, Second}
 use Rattle.fs_aead.specs.Table.{AllBefore, IsAscending, IsBefore}
 use Rattle.session_model.specs.Clients.{Client}
-use Rattle.dr_base.specs.Position.{is_own}
+use Rattle.dr_base.specs.Position.{is_own, position_at}
 use Rattle.dr_base.specs.declared.limits.TheConstants.{TEXT_LIMIT}
 use Rattle.session_model.specs.LawfulStates.{IsLawfulKept, IsLawfulPhase, IsLawfulPrevious, IsLawfulReception}
 use Rattle.session_model.specs.States.{Phase, in_own, in_peers, Reception, State}
 use Rattle.kem_laws.specs.Mechanism.{Mechanism}
 use Rattle.grammar.specs.Printer.{AreItems, no_items, and_item, IsMaybe}
 use Rattle.session_record.specs.Fields.{has_receiving, is_good, is_previous}
-use Rattle.session_record.specs.Lists.{is_peers, is_post, is_posted, last_position, place_of, position_at, post_of, reach_of}
+use Rattle.session_record.specs.Lists.{is_peers, is_post, is_posted, last_position, place_of, post_of, reach_of}
 use Rattle.session_record.proofs.Passing.{Passes, PassesEntry, PassesKept, PassesPhase, PassesPost, PassesReception}
 use Rattle.session_record.specs.Lawful.{IsLawfulClient, IsLawfulEntry, IsLawfulPost}
 use Rattle.session_record.proofs.Lasts.{last_of-push}
@@ -69,14 +69,6 @@ ups side epoch reach m list (and_item n before a were lawful) =
 
 -- ---- and are those of the peer's epochs up to the reach
 
-both_true : (a b : Bool) → (a && b) ≡ true → (a ≡ true) × (b ≡ true)
-both_true true b h = (refl, h)
-both_true false b h = absurd (let e : false ≡ true = h in cc)
-
-not_true : (a : Bool) → not a ≡ true → a ≡ false
-not_true false h = refl
-not_true true h = absurd (let e : false ≡ true = h in cc)
-
 -- the latest epoch of the peer's
 record IsLatest (side : Side) (epoch latest : ℕ) : Type 0 where
   near : epoch ≤ latest + 1
@@ -86,12 +78,12 @@ below_reach : (side : Side) (epoch latest reach : ℕ) (before : List Kept) (kep
     → IsBefore kept.position (record { epoch = latest; index = reach + 1 })
 below_reach side epoch latest reach before kept is lawful =
     let t = kept.position.epoch in
-    let parts = both_true (is_peers side epoch t) (nat_le (last_position before).epoch t) lawful.epoch_is in
-    let peers = both_true (not (is_own side t)) (nat_le t epoch) parts.0 in
+    let parts = and_parts (is_peers side epoch t) (nat_le (last_position before).epoch t) lawful.epoch_is in
+    let peers = and_parts (not (is_own side t)) (nat_le t epoch) parts.0 in
     let inside : kept.position.epoch ≤ epoch = leb-true t epoch peers.1 in
     let near = is.near in
     let index = lawful.index_is in
-    (is.most t inside (not_true (is_own side t) peers.0), λ same. grind (arith, nat_tests))
+    (is.most t inside (not-true (is_own side t) peers.0), λ same. grind (arith, nat_tests))
 
 all_below : (side : Side) (epoch latest reach n : ℕ) (list : List Kept) → IsLatest side epoch latest → AreItems (PassesKept side epoch reach) n list
     → AllBefore list (record { epoch = latest; index = reach + 1 })
@@ -105,10 +97,10 @@ none_first : (side : Side) (reach n : ℕ) (list : List Kept) → is_own side 0 
 none_first side reach n list own no_items = refl
 none_first side reach m list own (and_item n before a were lawful) =
     let t = a.position.epoch in
-    let parts = both_true (is_peers side 0 t) (nat_le (last_position before).epoch t) lawful.epoch_is in
-    let peers = both_true (not (is_own side t)) (nat_le t 0) parts.0 in
+    let parts = and_parts (is_peers side 0 t) (nat_le (last_position before).epoch t) lawful.epoch_is in
+    let peers = and_parts (not (is_own side t)) (nat_le t 0) parts.0 in
     let zero_is : a.position.epoch ≡ 0 = omega (arith, leb-true t 0 peers.1) in
-    let not_own = not_true (is_own side t) peers.0 in
+    let not_own = not-true (is_own side t) peers.0 in
     absurd (let e : true ≡ false = sym own ∙ ap (λ u. is_own side u) (sym zero_is) ∙ not_own in cc)
 
 -- ---- the stream
@@ -185,17 +177,17 @@ lawful_previous k side epoch previous (in_peers public) l h = by_side (is_own si
 lawful_kept : (side : Side) (epoch reach : ℕ) (before : List Kept) (kept : Kept) → reach ≤ 65535 → PassesKept side epoch reach before kept → IsLawfulKept side kept
 lawful_kept side epoch reach before kept few l =
     let t = kept.position.epoch in
-    let parts = both_true (is_peers side epoch t) (nat_le (last_position before).epoch t) l.epoch_is in
+    let parts = and_parts (is_peers side epoch t) (nat_le (last_position before).epoch t) l.epoch_is in
     let index = l.index_is in
-    record { peers = not_true (is_own side t) (both_true (not (is_own side t)) (nat_le t epoch) parts.0).0; one = grind (arith, nat_tests); most = grind (arith, nat_tests) }
+    record { peers = not-true (is_own side t) (and_parts (not (is_own side t)) (nat_le t epoch) parts.0).0; one = grind (arith, nat_tests); most = grind (arith, nat_tests) }
 
 lawful_entry : (s : State) (before : List Item) (item : Item) → PassesEntry s.side s.epoch before item → IsLawfulEntry s item
 lawful_entry s before item l =
     let t = item.position.epoch in
-    let peers = both_true (not (is_own s.side t)) (nat_le t s.epoch) l.epoch_is in
-    let index = both_true (nat_le 1 item.position.index) (nat_le item.position.index 65535) l.index_is in
+    let peers = and_parts (not (is_own s.side t)) (nat_le t s.epoch) l.epoch_is in
+    let index = and_parts (nat_le 1 item.position.index) (nat_le item.position.index 65535) l.index_is in
     record {
-      peers = not_true (is_own s.side t) peers.0;
+      peers = not-true (is_own s.side t) peers.0;
       reached = leb-true t s.epoch peers.1;
       from_one = leb-true 1 item.position.index index.0;
       most = leb-true item.position.index 65535 index.1;
@@ -209,8 +201,8 @@ lawful_post k s before item l = read (read_packet (agreement_size k) item.bytes)
     read : (r : Result Fields Malformed) → read_packet (agreement_size k) item.bytes ≡ r → is_posted s.session s.side s.epoch r ≡ true → item_at (place_of r) item.bytes ≡ item → IsLawfulPost k s item
     read (Err fault) is passes place = absurd (let e : false ≡ true = passes in cc)
     read (Ok f) is passes place =
-        let parts = both_true (bytes_eq f.session s.session) (is_own s.side f.epoch && nat_le f.epoch s.epoch) passes in
-        let own = both_true (is_own s.side f.epoch) (nat_le f.epoch s.epoch) parts.1 in
+        let parts = and_parts (bytes_eq f.session s.session) (is_own s.side f.epoch && nat_le f.epoch s.epoch) passes in
+        let own = and_parts (is_own s.side f.epoch) (nat_le f.epoch s.epoch) parts.1 in
         record {
           fields = f;
           reads = is;

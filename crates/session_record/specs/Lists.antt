@@ -4,7 +4,7 @@ use Rattle.std.specs.Int.{w8, w16, w32, to_be_bytes}
 use Rattle.std.specs.Str.{bytes_eq}
 use Rattle.boxes.specs.Items.{Item, item_at}
 use Rattle.cka.specs.Agreement.{agreement_size}
-use Rattle.dr_base.specs.Position.{is_own}
+use Rattle.dr_base.specs.Position.{is_own, position_at}
 use Rattle.dr_base.specs.declared.key.Kept.{Kept}
 use Rattle.dr_base.specs.declared.limits.TheConstants.{INBOX_LIMIT, INDEX_LIMIT, KEPT_LIMIT, OUTBOX_LIMIT, TEXT_LIMIT}
 use Rattle.dr_base.specs.declared.position.Position.{Position}
@@ -14,12 +14,9 @@ use Rattle.grammar.specs.Reader.{Reader, number, piece, checked, mapped, both, c
 use Rattle.kem_laws.specs.Mechanism.{Mechanism}
 use Rattle.packet.specs.declared.fault.Malformed.{Malformed}
 use Rattle.packet.specs.Packet.{Fields}
-use Rattle.packet.specs.Reading.{read_packet}
+use Rattle.packet.specs.Reading.{read_packet, is_index}
 use Rattle.session_model.specs.States.{Reception}
 use Rattle.session_record.specs.Fields.{up_to}
-
-abbrev pub position_at : ℕ → ℕ → Position
-position_at epoch index = record { epoch = epoch; index = index }
 
 -- ---- kept keys, each above the one before
 
@@ -75,9 +72,6 @@ abbrev pub kept_text : Kept → List ℕ
 kept_text kept = to_be_bytes w32 kept.position.epoch ++ (to_be_bytes w32 kept.position.index ++ kept.key.bytes)
 
 -- ---- the inbox: position, and text after its length
-
-abbrev pub is_index : ℕ → Bool
-is_index n = nat_le 1 n && nat_le n INDEX_LIMIT
 
 abbrev pub any : List ℕ → Bool
 any bytes = true

@@ -5,7 +5,7 @@ use Rattle.std.proofs.lemmas.Int.{ints}
 use Rattle.std.proofs.lemmas.Bool.{cases_lt, cond_below, cond_above}
 use Rattle.std.specs.List.Sorted.{IsPermutation, IsSorted}
 use Rattle.std.specs.Ordering.{nat_cmp}
-use Rattle.std.proofs.lemmas.List.{ext_get_or, length-map, length-take-le, length-drop, length-append, get_or_append_left, get_or-append_right, get_or-map, get_or-take, get_or-drop}
+use Rattle.std.proofs.lemmas.List.{length-map, length-take-le, length-drop, length-append, get_or_append_left, get_or-append_right, get_or-map, get_or-take, get_or-drop}
 use Rattle.std.proofs.lemmas.List.Edits.{fill_by_more}
 use Rattle.std.proofs.lemmas.List.Elements.{All-append, All-map, All-weaker}
 use Rattle.std.proofs.lemmas.List.Sums.{sum_by-cons, sum_by-append}
@@ -138,12 +138,6 @@ small_element-small words long = record {
 }
 
 -- ---- lists made place by place
-pub mapped : {X Y : Type 0} (f : X → Y) (d : X) (e : Y) (xs : List X) (ys : List Y) → length ys ≡ length xs
-    → ((j : ℕ) → j < length xs → get_or ys j e ≡ f (get_or xs j d)) → ys ≡ map f xs
-mapped f d e xs ys long h =
-    ext_get_or e ys (map f xs) (long ∙ sym (length-map xs f)) (λ i here.
-    let inside : i < length xs = omega arith in
-    h i inside ∙ sym (get_or-map f xs i d e inside))
 
 -- the marked words after a sort
 pub sorted-marked : (words mixed sorted : List ℕ) → mixed ≡ marked words → IsPermutation mixed sorted

@@ -10,7 +10,8 @@ use Rattle.sync_model.specs.Parties.{Party}
 use Rattle.sync_model.specs.Moves.{asked_in}
 use Rattle.sync_model.specs.Courses.{Course, as_list, awaited, begun, read_one, course_from, course_of, made_requests}
 use Rattle.sync_model.specs.Transfers.{begins, meet_times, answered}
-use Rattle.sync_model.specs.Carried.{relay_replies, relay_after, reply_text, IsCarried}
+use Rattle.sync_model.specs.Carried.{relay_replies, relay_after, IsCarried}
+use Rattle.relay_wire.specs.Framed.{reply_text}
 use Rattle.sync_model.proofs.Replying.{flat_of, reply_frames, relay_bytes, first_replies, replies_append, replies_count, replies_lawful}
 
 head_is : (a b : Replied) (xs bs : List Replied) → a ∷ xs ≡ b ∷ bs → a ≡ b

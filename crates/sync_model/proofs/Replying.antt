@@ -4,7 +4,7 @@ use Rattle.std.specs.Prelude.{flat_map, nat_le, All, ◌&&◌, if◌then◌else�
 use Rattle.std.specs.List.{AllByRecursion, list_all}
 use Rattle.std.specs.Int.{w16, w64, to_be_bytes, from_be_bytes}
 use Rattle.std.proofs.lemmas.Nat.{from_be_bytes-to_be_bytes_2}
-use Rattle.std.proofs.lemmas.Bool.{leb-true}
+use Rattle.std.proofs.lemmas.Bool.{leb-true, and_parts}
 use Rattle.std.proofs.lemmas.Bool.Decides.{nat_tests}
 use Rattle.std.proofs.lemmas.List.{length-append, drop_at}
 use Rattle.relay_wire.specs.Names.{is_name, is_name_byte, is_packet}
@@ -15,14 +15,14 @@ use Rattle.relay_wire.specs.declared.limits.TheConstants.{BODY_LIMIT, NAME_LIMIT
 use Rattle.relay_wire.specs.declared.reply.BadReply.{BadReply}
 use Rattle.relay_wire.proofs.Asked.{request}
 use Rattle.relay_wire.proofs.Replied.{reply}
-use Rattle.relay_wire.proofs.Choices.{both_true}
 use Rattle.relay_wire.proofs.Joining.{flat, frames_of_flat}
 use Rattle.relay_core.specs.Boxes.{Box, answers_of, answers_read}
 use Rattle.relay_core.specs.Lawful.{IsLawfulBox}
 use Rattle.relay_core.specs.Streams.{Exchange, Served, and_then, nothing_served, served, served_within, reply_frame, reply_bytes, is_last}
 use Rattle.relay_core.specs.declared.limits.TheConstants.{EXCHANGE_LIMIT}
 use Rattle.relay_core.proofs.Lawfully.{lawful_reply, lawful_next}
-use Rattle.sync_model.specs.Carried.{relay_replies, relay_after, request_frame, reply_text}
+use Rattle.sync_model.specs.Carried.{relay_replies, relay_after}
+use Rattle.relay_wire.specs.Framed.{request_frame, reply_text}
 
 -- ---- requests in a row
 
@@ -47,7 +47,7 @@ read_back a lawful = ap read_request (drop_at (to_be_bytes w16 (length (request_
 pub reply_back : (r : Replied) → IsLawfulReplied r → read_reply (drop 2 (reply_text r)) ≡ Ok r
 reply_back r lawful = ap read_reply (drop_at (to_be_bytes w16 (length (reply_body r))) (reply_body r) 2 refl) ∙ reply r lawful
 
-abbrev served_one : ℕ → List Box → List (List ℕ) → Result Asked ℕ → Served
+abbrev pub served_one : ℕ → List Box → List (List ℕ) → Result Asked ℕ → Served
 served_one n boxes fs asked =
     and_then (record { asked = asked; reply = (answers_read boxes asked).reply }) (if is_last asked then nothing_served (answers_read boxes asked).next else served_within n (answers_read boxes asked).next fs)
 
@@ -96,11 +96,11 @@ reply_bytes_of (e ∷ es) = ap (λ (r : List ℕ). reply_frame e ++ r) (reply_by
 name_short : (name : List ℕ) → is_name name ≡ true → length name ≤ NAME_LIMIT
 unfolding is_name
 name_short name is =
-    leb-true (length name) NAME_LIMIT (both_true (nat_le 1 (length name)) (nat_le (length name) NAME_LIMIT) (both_true (nat_le 1 (length name) && nat_le (length name) NAME_LIMIT) (list_all is_name_byte name) is).0).1
+    leb-true (length name) NAME_LIMIT (and_parts (nat_le 1 (length name)) (nat_le (length name) NAME_LIMIT) (and_parts (nat_le 1 (length name) && nat_le (length name) NAME_LIMIT) (list_all is_name_byte name) is).0).1
 
 packet_short : (packet : List ℕ) → is_packet packet ≡ true → length packet ≤ PACKET_LIMIT
 unfolding is_packet
-packet_short packet is = leb-true (length packet) PACKET_LIMIT (both_true (nat_le 1 (length packet)) (nat_le (length packet) PACKET_LIMIT) is).1
+packet_short packet is = leb-true (length packet) PACKET_LIMIT (and_parts (nat_le 1 (length packet)) (nat_le (length packet) PACKET_LIMIT) is).1
 
 pub request_short : (a : Asked) → IsLawfulAsked a → (1 ≤ length (request_body a)) × (length (request_body a) ≤ BODY_LIMIT)
 unfolding request_body

@@ -1,26 +1,27 @@
 -- From the bytes of a link on which this many replies come to a scene.
-use Rattle.std.proofs.Common.{◌≡◌, inl, inr, ℕ, zero, suc, ◌+◌, ◌-◌, ◌≤◌, ◌<◌, List, [], ◌∷◌, ◌++◌, length, take, drop, Option, Some, None, Ok, Result, refl, sym, ◌∙◌, ap, ap₂, arith, append_assoc, append-nil, map}
-use Rattle.std.specs.Prelude.{flat_map, if◌then◌else◌}
+use Rattle.std.proofs.Common.{◌≡◌, inl, inr, ℕ, zero, suc, ◌+◌, ◌-◌, ◌≤◌, List, [], ◌∷◌, ◌++◌, length, take, drop, Option, Some, None, Result, refl, sym, ◌∙◌, ap, arith, append_assoc, map}
+use Rattle.std.specs.Prelude.{flat_map}
 use Rattle.std.specs.List.{AllByRecursion}
 use Rattle.std.proofs.lemmas.Grind.{flat_map-append}
 use Rattle.std.proofs.lemmas.List.{length-append, length-map, length-take, take-append-drop, take-map, take-take, take_all}
 use Rattle.relay_wire.specs.Frames.{frames_of}
 use Rattle.relay_wire.specs.Requests.{Asked, IsLawfulAsked}
 use Rattle.relay_wire.specs.Replies.{Replied, IsLawfulReplied}
-use Rattle.relay_core.specs.Boxes.{Box, answers_of, answers_read}
-use Rattle.relay_core.specs.Streams.{Exchange, Served, and_then, is_last, nothing_served, served, served_within, reply_frame, reply_bytes}
+use Rattle.relay_core.specs.Boxes.{Box, answers_of}
+use Rattle.relay_core.specs.Streams.{Exchange, Served, served, served_within, reply_frame}
 use Rattle.relay_core.specs.declared.limits.TheConstants.{EXCHANGE_LIMIT}
 use Rattle.relay_wire.proofs.Joining.{flat, frames_join, frames_of_flat}
 use Rattle.sync_model.specs.Parties.{Party}
 use Rattle.sync_model.specs.Moves.{asked_in}
 use Rattle.sync_model.specs.Courses.{Course, all_lines, as_list, awaited, course_of, made_requests}
 use Rattle.sync_model.specs.Transfers.{Meeting, begins, meet_times}
-use Rattle.sync_model.specs.Carried.{IsCarried, relay_after, relay_replies, replied_bytes, reply_text, request_bytes, request_frame}
+use Rattle.sync_model.specs.Carried.{IsCarried, relay_after, relay_replies, replied_bytes, request_bytes}
+use Rattle.relay_wire.specs.Framed.{reply_text, request_frame}
 use Rattle.sync_model.specs.Scenes.{IsDone, IsPlayed, scene, without_reply}
 use Rattle.sync_model.proofs.Carried.{meeting}
 use Rattle.sync_model.proofs.Growing.{Begins, lines_begin}
 use Rattle.sync_model.proofs.Meeting.{after_times}
-use Rattle.sync_model.proofs.Replying.{flat_of, read_back, relay_boxes, replies_append, replies_count, replies_lawful, reply_bytes_of, reply_frames, request_frames}
+use Rattle.sync_model.proofs.Replying.{flat_of, read_back, relay_boxes, replies_append, replies_count, replies_lawful, reply_bytes_of, reply_frames, request_frames, served_one}
 use Rattle.sync_model.proofs.Stopping.{stays_all}
 
 abbrev pub reply_of : Exchange → Replied
@@ -38,10 +39,6 @@ after_append boxes [] b = refl
 after_append boxes (x ∷ a) b = after_append (answers_of boxes x).next a b
 
 -- ---- lawful requests, as many as are answered
-
-abbrev served_one : ℕ → List Box → List (List ℕ) → Result Asked ℕ → Served
-served_one n boxes fs asked =
-    and_then (record { asked = asked; reply = (answers_read boxes asked).reply }) (if is_last asked then nothing_served (answers_read boxes asked).next else served_within n (answers_read boxes asked).next fs)
 
 served_replies : (n : ℕ) (boxes : List Box) (xs : List Asked) → AllByRecursion IsLawfulAsked xs
     → map reply_of (served_within n boxes (map request_frame xs)).exchanges ≡ take n (relay_replies boxes xs)

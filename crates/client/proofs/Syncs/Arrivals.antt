@@ -1,6 +1,7 @@
 -- What a sync opens, in a world that the client stands for.
 use Rattle.std.proofs.Common.{Bool, List, Result, [], ap, false, inl, inr, refl, subst, sym, true, zero, suc, ℕ, ◌++◌, ◌+◌, ◌∙◌, ◌∷◌, ◌≡◌, ◌⊎◌}
 use Rattle.std.specs.Prelude.{if◌then◌else◌, length, map, nat_le}
+use Rattle.dr_model.proofs.Growth.SaidStays.{with_view_leaves}
 use Rattle.dr_base.specs.declared.position.Position.{Position}
 use Rattle.dr_base.specs.declared.position.Side.{Side}
 use Rattle.dr_base.specs.declared.position.Side.TheVariants.{First, Second}
@@ -49,10 +50,6 @@ with_view_is : (w : World) (side : Side) (v : View) → view_of (with_view w sid
 with_view_is w First v = refl
 with_view_is w Second v = refl
 
-same_conversation : (w : World) (side : Side) (v : View) → (with_view w side v).conversation ≡ w.conversation
-same_conversation w First v = refl
-same_conversation w Second v = refl
-
 view_stays : (w next : World) (side : Side) → next.first ≡ w.first → next.second ≡ w.second → view_of next side ≡ view_of w side
 view_stays w next First one two = one
 view_stays w next Second one two = two
@@ -83,7 +80,7 @@ meets_one k w side p is = by_opened (has_opened (view_of w side) p) refl is.near
     by_opened false new (inr within) =
         let made = opened_within k w side p (record { said = is.said; peers = is.peers; unopened = new }) within in
         record {
-          conversation = ap (λ (m : Step World). m.next.conversation) made ∙ same_conversation w side (after_opening (view_of w side) p);
+          conversation = ap (λ (m : Step World). m.next.conversation) made ∙ with_view_leaves w side (after_opening (view_of w side) p);
           arrived = ap (λ (m : Step World). (view_of m.next side).arrived) made
               ∙ ap (λ (v : View). v.arrived) (with_view_is w side (after_opening (view_of w side) p))
               ∙ ap (λ (b : Bool). if b then (view_of w side).arrived else (view_of w side).arrived ++ p ∷ []) (sym new);
@@ -99,7 +96,7 @@ one_sent : (k : Mechanism) (w : World) (side : Side) → IsSame side w (act_in k
 one_sent k w side =
     let v = view_of w side in
     by_test (λ (r : Result (Step World) Refusal). IsSame side w (settled w r).next) (nat_le 1 (length (outbox_in k w side))) _ _
-    (λ some. record { conversation = same_conversation w side (record v { dropped = v.dropped + 1 }); arrived = ap (λ (x : View). x.arrived) (with_view_is w side (record v { dropped = v.dropped + 1 })) })
+    (λ some. record { conversation = with_view_leaves w side (record v { dropped = v.dropped + 1 }); arrived = ap (λ (x : View). x.arrived) (with_view_is w side (record v { dropped = v.dropped + 1 })) })
     (λ none. record { conversation = refl; arrived = refl })
 
 -- ---- all of them

@@ -4,7 +4,8 @@ use Rattle.dr_base.specs.Causes.{Rose}
 use Rattle.dr_disk.proofs.Steps.{quiet_twice}
 use Rattle.dr_ports.specs.Wires.{Port}
 use Rattle.dr_ports.specs.declared.pipe.Part.TheVariants.{Flow}
-use Rattle.relay_pipe.specs.Asking.{IsBroken, IsFaulty, IsReplied, cut, unread, fault_at, request_frame}
+use Rattle.relay_pipe.specs.Asking.{IsBroken, IsFaulty, IsReplied, cut, unread, fault_at}
+use Rattle.relay_wire.specs.Framed.{request_frame}
 use Rattle.relay_pipe.specs.Exchanging.{Exchanges}
 use Rattle.relay_pipe.specs.declared.faults.PeerFault.{PeerFault}
 use Rattle.relay_pipe.specs.declared.faults.PeerKind.TheVariants.{Wrong}

@@ -1,6 +1,7 @@
 -- A sync goes on by one round, or ends with it.
 use Rattle.std.proofs.Common.{List, None, Option, Some, [], ap, length, refl, subst, sym, ℕ, ⊎_elim, ◌+◌, ◌++◌, ◌∙◌, ◌∷◌, ◌≡◌, append_assoc, append-nil}
 use Rattle.std.proofs.lemmas.List.{length_push}
+use Rattle.dr_ports.proofs.Told.{appended-appended}
 use Rattle.dr_base.specs.Causes.{Rose}
 use Rattle.dr_disk.specs.Spans.{Span}
 use Rattle.dr_disk.specs.State.{DiskState}
@@ -8,7 +9,8 @@ use Rattle.dr_disk.proofs.Ranges.{torn_twice}
 use Rattle.dr_disk.proofs.Steps.{quiet_twice, spans, stays, widen}
 use Rattle.dr_ports.specs.Ports.{appended}
 use Rattle.dr_ports.specs.Wires.{Port}
-use Rattle.relay_pipe.specs.Asking.{IsReplied, request_frame, reply_text}
+use Rattle.relay_pipe.specs.Asking.{IsReplied}
+use Rattle.relay_wire.specs.Framed.{request_frame, reply_text}
 use Rattle.relay_pipe.specs.Exchanging.{Exchanges}
 use Rattle.relay_pipe.proofs.Exchanged.{both, nothing_yet}
 use Rattle.relay_wire.specs.Replies.{Replied}
@@ -30,13 +32,9 @@ use Rattle.client.proofs.Syncs.Moving.{wrote_nothing}
 
 -- ---- bytes written, one piece after another
 
-appended_twice : (told : Option (List ℕ)) (x y : List ℕ) → appended (appended told x) y ≡ appended told (x ++ y)
-appended_twice None x y = refl
-appended_twice (Some t) x y = ap (λ (b : List ℕ). Some b) (append_assoc t x y)
-
 pub wrote_more : (x y : List ℕ) (a b c : Moment) → Wrote x a b → Wrote y b c → Wrote (x ++ y) a c
 wrote_more x y a b c one two = record {
-  bytes_are = two.bytes_are ∙ ap (λ (t : Option (List ℕ)). appended t y) one.bytes_are ∙ appended_twice a.taken x y;
+  bytes_are = two.bytes_are ∙ ap (λ (t : Option (List ℕ)). appended t y) one.bytes_are ∙ appended-appended a.taken x y;
   unfailing = two.unfailing ∙ one.unfailing;
 }
 
@@ -52,7 +50,7 @@ wrote_beginning x y z a b c one two = record {
         ∙ ap (λ (w : List ℕ). w ++ z) (sym (append_assoc x two.beginning.beginning two.beginning.remainder))
         ∙ append_assoc (x ++ two.beginning.beginning) two.beginning.remainder z;
     took = two.beginning.took ∙ ap (λ (t : Option (List ℕ)). appended t two.beginning.beginning) one.bytes_are
-        ∙ appended_twice a.taken x two.beginning.beginning;
+        ∙ appended-appended a.taken x two.beginning.beginning;
   };
   rose = subst (λ (n : ℕ). Rose n c.faults) one.unfailing two.rose;
 }

@@ -1,9 +1,9 @@
 -- A step of a client, as a sync makes it.
-use Rattle.std.proofs.Common.{Err, List, None, Ok, Option, Result, Some, [], ap, refl, subst, sym, ℕ, ◌∙◌, ◌≡◌, append-nil}
+use Rattle.std.proofs.Common.{Err, None, Ok, Result, Some, [], refl, subst, sym, ◌∙◌, ◌≡◌}
+use Rattle.dr_ports.proofs.Told.{appended-none}
 use Rattle.dr_disk.specs.State.{DiskState}
 use Rattle.dr_disk.proofs.Steps.{stays}
 use Rattle.dr_model.specs.Machines.Steps.{Step, settled, step}
-use Rattle.dr_ports.specs.Ports.{appended}
 use Rattle.session_model.specs.Clients.{Client}
 use Rattle.session_model.specs.declared.answer.Answer.TheVariants.{Refused}
 use Rattle.session_model.specs.declared.answer.Refusal.{Refusal}
@@ -24,13 +24,9 @@ still client disk is_open ready = record {
   fate = λ all. all;
 }
 
-pub nothing_appended : (told : Option (List ℕ)) → told ≡ appended told []
-nothing_appended None = refl
-nothing_appended (Some taken) = ap (λ (b : List ℕ). Some b) (sym (append-nil taken))
-
 -- nothing was written
 pub wrote_nothing : (a b : Moment) → b.taken ≡ a.taken → b.faults ≡ a.faults → Wrote [] a b
-wrote_nothing a b taken faults = record { bytes_are = taken ∙ nothing_appended a.taken; unfailing = faults }
+wrote_nothing a b taken faults = record { bytes_are = taken ∙ appended-none a.taken; unfailing = faults }
 
 -- a refusal changes nothing
 pub refused_still : {X : Type 0} (state : X → DiskState) (made : Result (Step Client) Refusal) (refusal : Refusal) (old new : ClientNow) (start now : X)

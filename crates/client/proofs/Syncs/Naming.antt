@@ -3,12 +3,12 @@ use Rattle.std.proofs.Common.{List, [], ap, arith, get_or, length, refl, true, z
 use Rattle.std.specs.Prelude.{codes, nat_le, slice_index, ◌&&◌}
 use Rattle.std.specs.List.{list_all}
 use Rattle.std.proofs.lemmas.List.Folds.{list_all-append}
+use Rattle.std.proofs.lemmas.Bool.{and_from}
 use Rattle.hex.specs.Hex.{encode_lower, encode_with, lower_digits}
 use Rattle.hex.proofs.HexLemmas.{length-encode_with}
 use Rattle.dr_base.specs.declared.position.Side.{Side}
 use Rattle.dr_base.specs.declared.position.Side.TheVariants.{First, Second}
 use Rattle.relay_wire.specs.Names.{is_name, is_name_byte}
-use Rattle.relay_wire.proofs.Choices.{and_true}
 use Rattle.client.specs.Syncing.Lines.{box_name}
 
 digit_named : (v : ℕ) → v < 16 → is_name_byte (slice_index lower_digits v) ≡ true
@@ -43,17 +43,17 @@ digits_named : (bytes : List ℕ) → AreSmall bytes → list_all is_name_byte (
 unfolding encode_with
 digits_named [] are = refl
 digits_named (b ∷ more) are =
-    and_true (is_name_byte (slice_index lower_digits (b / 16))) _ (digit_named (b / 16) (omega (arith, are.0)))
-    (and_true (is_name_byte (slice_index lower_digits (b % 16))) _ (digit_named (b % 16) (omega arith)) (digits_named more are.1))
+    and_from (is_name_byte (slice_index lower_digits (b / 16))) _ (digit_named (b / 16) (omega (arith, are.0)))
+    (and_from (is_name_byte (slice_index lower_digits (b % 16))) _ (digit_named (b % 16) (omega arith)) (digits_named more are.1))
 
 module _ (session : List ℕ) (long : length session ≡ 16) (are : AreSmall session) where
   named : (end : List ℕ) → length end ≡ 2 → list_all is_name_byte end ≡ true → is_name (encode_lower session ++ end) ≡ true
   unfolding is_name
   named end two all =
       let size : length (encode_lower session ++ end) ≡ 34 = omega (arith, length-append (encode_lower session) end, length-encode_with lower_digits session, long, two) in
-      and_true (nat_le 1 (length (encode_lower session ++ end)) && nat_le (length (encode_lower session ++ end)) 40) (list_all is_name_byte (encode_lower session ++ end))
+      and_from (nat_le 1 (length (encode_lower session ++ end)) && nat_le (length (encode_lower session ++ end)) 40) (list_all is_name_byte (encode_lower session ++ end))
       (ap (λ (n : ℕ). nat_le 1 n && nat_le n 40) size)
-      (list_all-append is_name_byte (encode_lower session) end ∙ and_true (list_all is_name_byte (encode_lower session)) (list_all is_name_byte end) (digits_named session are) all)
+      (list_all-append is_name_byte (encode_lower session) end ∙ and_from (list_all is_name_byte (encode_lower session)) (list_all is_name_byte end) (digits_named session are) all)
 
   pub name_lawful : (side : Side) → is_name (box_name session side) ≡ true
   unfolding box_name

@@ -1,18 +1,15 @@
 -- The oldest packet of an outbox.
 use Rattle.std.proofs.Common.{List, None, Option, Some, [], ap, arith, false, length, true, ℕ, ◌∙◌, ◌∷◌, ◌≡◌, ◌≤◌}
-use Rattle.std.specs.Prelude.{IfSome, is_some, map, nat_le, slice_get, ◌&&◌}
-use Rattle.std.proofs.lemmas.Bool.Decides.{nat_tests}
+use Rattle.std.specs.Prelude.{IfSome, is_some, map, slice_get}
+use Rattle.std.proofs.lemmas.Bool.{and_from, le-leb}
 use Rattle.boxes.specs.Items.{Item}
 use Rattle.dr_base.specs.declared.limits.TheConstants.{PACKET_LIMIT}
 use Rattle.relay_wire.specs.Names.{is_packet}
 use Rattle.relay_wire.specs.declared.limits.TheConstants.{PACKET_LIMIT as MOST}
 
-within : (n most : ℕ) → 1 ≤ n → n ≤ most → (nat_le 1 n && nat_le n most) ≡ true
-within n most from to = grind (arith, nat_tests)
-
 pub packet_lawful : (packet : List ℕ) → 1 ≤ length packet → length packet ≤ PACKET_LIMIT → is_packet packet ≡ true
 unfolding is_packet
-packet_lawful packet from to = within (length packet) MOST from (omega (arith, to))
+packet_lawful packet from to = and_from _ _ (le-leb 1 (length packet) from) (le-leb (length packet) MOST (omega (arith, to)))
 
 some_of : (o : Option (List ℕ)) (bytes : List ℕ) → is_some o ≡ true → IfSome o (λ (p : List ℕ). p ≡ bytes) → o ≡ Some bytes
 some_of None bytes some same = absurd (let e : false ≡ true = some in cc)

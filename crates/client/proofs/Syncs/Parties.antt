@@ -28,7 +28,7 @@ use Rattle.sync_model.proofs.Asking.{ArePackets}
 use Rattle.sync_model.proofs.Cases.{by_test}
 use Rattle.client.specs.Syncing.Lines.{box_name, own_box, peers_box}
 use Rattle.client.specs.Syncing.Parties.{sent_step, taken_step, waiting}
-use Rattle.client.proofs.LawfulPosts.{packet_some}
+use Rattle.client.proofs.Lawful.Posts.{packet_some}
 use Rattle.client.proofs.Syncs.Oldest.{packet_lawful}
 
 -- ---- names

@@ -1,17 +1,14 @@
 -- A line after a prefix.
-use Rattle.std.proofs.Common.{Err, List, None, Ok, Option, Result, Some, ap, refl, subst, sym, ℕ, ◌++◌, ◌≤◌, ◌∙◌, ◌≡◌, append_assoc}
+use Rattle.std.proofs.Common.{Err, List, Ok, Option, Result, ap, subst, sym, ℕ, ◌++◌, ◌≤◌, ◌∙◌, ◌≡◌, append_assoc}
+use Rattle.dr_ports.proofs.Told.{appended-appended}
 use Rattle.dr_base.specs.Causes.{Rose}
 use Rattle.dr_ports.specs.Ports.{appended}
 use Rattle.dr_ports.specs.Writing.{Writes}
 
-appended_twice : (told : Option (List ℕ)) (x y : List ℕ) → appended (appended told x) y ≡ appended told (x ++ y)
-appended_twice None x y = refl
-appended_twice (Some t) x y = ap (λ (b : List ℕ). Some b) (append_assoc t x y)
-
 pub writes_behind : {E : Type 0} (old mid new : Option (List ℕ)) (before between now : ℕ) (prefix line : List ℕ) (result : Result Unit E) → mid ≡ appended old prefix → between ≡ before
     → Writes mid new between now line result → Writes old new before now (prefix ++ line) result
 writes_behind old mid new before between now prefix line (Ok u) put quiet writes = record {
-  whole = writes.whole ∙ ap (λ (t : Option (List ℕ)). appended t line) put ∙ appended_twice old prefix line;
+  whole = writes.whole ∙ ap (λ (t : Option (List ℕ)). appended t line) put ∙ appended-appended old prefix line;
   part = tt;
   cause = record { later = subst (λ (n : ℕ). n ≤ now) quiet writes.cause.later; failed = tt; passed = writes.cause.passed ∙ quiet };
 }
@@ -21,7 +18,7 @@ writes_behind old mid new before between now prefix line (Err e) put quiet write
     beginning = prefix ++ writes.part.beginning;
     remainder = writes.part.remainder;
     split = ap (λ (b : List ℕ). prefix ++ b) writes.part.split ∙ sym (append_assoc prefix writes.part.beginning writes.part.remainder);
-    took = writes.part.took ∙ ap (λ (t : Option (List ℕ)). appended t writes.part.beginning) put ∙ appended_twice old prefix writes.part.beginning;
+    took = writes.part.took ∙ ap (λ (t : Option (List ℕ)). appended t writes.part.beginning) put ∙ appended-appended old prefix writes.part.beginning;
   };
   cause = record { later = subst (λ (n : ℕ). n ≤ now) quiet writes.cause.later; failed = subst (λ (n : ℕ). Rose n now) quiet writes.cause.failed; passed = tt };
 }

@@ -2,7 +2,8 @@
 use Rattle.std.specs.Prelude.{Err, List, None, Ok, Option, Result, Some, [], ◌≡◌, ℕ}
 use Rattle.dr_ports.specs.Wires.{Port}
 use Rattle.dr_disk.specs.declared.call.Call.{Call}
-use Rattle.relay_pipe.specs.Asking.{IsBroken, IsFaulty, IsReplied, fault_at, request_frame}
+use Rattle.relay_pipe.specs.Asking.{IsBroken, IsFaulty, IsReplied, fault_at}
+use Rattle.relay_wire.specs.Framed.{request_frame}
 use Rattle.relay_pipe.specs.declared.faults.PeerKind.{PeerKind}
 use Rattle.relay_pipe.specs.declared.faults.PeerKind.TheVariants.{Wrong}
 use Rattle.relay_wire.specs.Replies.{Replied}

@@ -6,7 +6,8 @@ use Rattle.dr_disk.specs.State.{all_pass}
 use Rattle.dr_disk.specs.declared.call.Call.{Call}
 use Rattle.dr_ports.specs.Wires.{EndsAt, Port}
 use Rattle.dr_ports.specs.declared.pipe.Part.TheVariants.{Flow}
-use Rattle.relay_pipe.specs.Asking.{fault_at, peer_fault, request_frame}
+use Rattle.relay_pipe.specs.Asking.{fault_at, peer_fault}
+use Rattle.relay_wire.specs.Framed.{request_frame}
 use Rattle.relay_pipe.specs.Exchanging.{Exchanges}
 use Rattle.relay_pipe.specs.declared.faults.PeerFault.{PeerFault}
 use Rattle.relay_pipe.specs.declared.faults.PeerKind.TheVariants.{Ended}

@@ -21,9 +21,9 @@ kept_on side made = record { answer = made.answer; entries = made.entries; next 
 abbrev pub Leaves : Side → Sides → Step Sides → Type 0
 Leaves side s made = client_of made.next (peer_of side) ≡ client_of s (peer_of side)
 
-mine : (s : Sides) (side : Side) (client : Client) → client_of (with_client s side client) side ≡ client
-mine s First client = refl
-mine s Second client = refl
+pub own_client : (s : Sides) (side : Side) (client : Client) → client_of (with_client s side client) side ≡ client
+own_client s First client = refl
+own_client s Second client = refl
 
 others : (s : Sides) (side : Side) (client : Client)
     → client_of (with_client s side client) (peer_of side) ≡ client_of s (peer_of side)
@@ -33,7 +33,7 @@ others s Second client = refl
 -- a packet is taken
 pub taken_kept : (s : Sides) (side : Side) (r : Result TakenPacket Refusal)
     → kept_on side (opened_on s side r) ≡ settled (client_of s side) (taken_by r)
-taken_kept s side (Ok taken) = ap (λ (c : Client). step (Opened taken.position) c) (mine s side taken.next)
+taken_kept s side (Ok taken) = ap (λ (c : Client). step (Opened taken.position) c) (own_client s side taken.next)
 taken_kept s side (Err refusal) = refl
 
 pub taken_leaves : (s : Sides) (side : Side) (r : Result TakenPacket Refusal) → Leaves side s (opened_on s side r)
@@ -44,7 +44,7 @@ taken_leaves s side (Err refusal) = refl
 pub done_kept : (s : Sides) (side : Side) (n : ℕ) (r : Result (List Item) Refusal)
     → kept_on side (done_on s side n r) ≡ settled (client_of s side) (finished_by (client_of s side) n r)
 done_kept s side n (Ok inbox) =
-    ap (λ (c : Client). step (Done n) c) (mine s side (record (client_of s side) { inbox = inbox }))
+    ap (λ (c : Client). step (Done n) c) (own_client s side (record (client_of s side) { inbox = inbox }))
 done_kept s side n (Err refusal) = refl
 
 pub done_leaves : (s : Sides) (side : Side) (n : ℕ) (r : Result (List Item) Refusal) → Leaves side s (done_on s side n r)
@@ -54,7 +54,7 @@ done_leaves s side n (Err refusal) = refl
 pub sent_kept : (s : Sides) (side : Side) (n : ℕ) (r : Result (List Item) Refusal)
     → kept_on side (sent_on s side n r) ≡ settled (client_of s side) (sent_by (client_of s side) n r)
 sent_kept s side n (Ok outbox) =
-    ap (λ (c : Client). step (Sent n) c) (mine s side (record (client_of s side) { outbox = outbox }))
+    ap (λ (c : Client). step (Sent n) c) (own_client s side (record (client_of s side) { outbox = outbox }))
 sent_kept s side n (Err refusal) = refl
 
 pub sent_leaves : (s : Sides) (side : Side) (n : ℕ) (r : Result (List Item) Refusal) → Leaves side s (sent_on s side n r)

@@ -3,6 +3,7 @@ use Rattle.std.proofs.Common.{◌≡◌, ◌≢◌, ℕ, ◌+◌, ◌-◌, ◌�
 use Rattle.std.specs.Prelude.{All, slice_index_or}
 use Rattle.std.proofs.lemmas.Bool.Decides.{nat_tests}
 use Rattle.std.proofs.lemmas.List.Elements.{All-nil, All-cons, filter-append}
+use Rattle.std.proofs.lemmas.Bool.{and_from, le-leb}
 use Rattle.boxes.specs.Items.{item_at}
 use Rattle.dr_base.specs.Position.{is_own}
 use Rattle.dr_base.specs.declared.position.Position.{Position}
@@ -35,9 +36,6 @@ said_from i n h = grind (arith, nat_tests)
 
 pub said_to : (i n : ℕ) → (nat_le 1 i && nat_le i n) ≡ true → i ≤ n
 said_to i n h = grind (arith, nat_tests)
-
-pub said_so : (i n : ℕ) → 1 ≤ i → i ≤ n → (nat_le 1 i && nat_le i n) ≡ true
-said_so i n one most = grind (arith, nat_tests)
 
 -- its text
 pub text_at-grown : (c : Conversation) (seeds : List (List ℕ)) (epoch : ℕ) (text : List ℕ) (p : Position)
@@ -110,13 +108,13 @@ IsSaidIn said p = (nat_le 1 p.index && nat_le p.index (length (texts_of said p.e
 
 next_said : (before rest : List Said) (s : Said) → IsSaidIn (before ++ s ∷ rest) (next_position before s.epoch)
 next_said before rest s =
-    said_so (length (texts_of before s.epoch) + 1) (length (texts_of (before ++ s ∷ rest) s.epoch)) (omega arith)
-    (omega (
+    let index = length (texts_of before s.epoch) + 1 in
+    and_from _ _ (le-leb 1 index (omega arith)) (le-leb index (length (texts_of (before ++ s ∷ rest) s.epoch)) (omega (
       arith,
       ap length (texts_of-append before (s ∷ rest) s.epoch),
       length-append (texts_of before s.epoch) (texts_of (s ∷ rest) s.epoch),
       ap length (texts_of-first s rest),
-    ))
+    )))
 
 positions_after-said : (before rest : List Said) → All (IsSaidIn (before ++ rest)) (positions_after before rest)
 unfolding positions_after

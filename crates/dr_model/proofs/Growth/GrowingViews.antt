@@ -1,11 +1,11 @@
 -- What a view of a conversation shows stays as the conversation grows.
-use Rattle.std.proofs.Common.{◌≡◌, ◌≢◌, ℕ, zero, suc, ◌+◌, ◌-◌, ◌<◌, ◌≤◌, ◌==◌, true, false, Bool, nat_le, List, [], ◌++◌, length, map, Option, Some, None, refl, ◌∙◌, ap, ap₂, if◌then◌else◌, arith}
+use Rattle.std.proofs.Common.{◌≡◌, ◌≢◌, ℕ, zero, suc, ◌+◌, ◌-◌, ◌<◌, ◌≤◌, true, false, Bool, nat_le, List, [], ◌++◌, length, map, Option, Some, None, refl, ◌∙◌, ap, ap₂, if◌then◌else◌, arith}
 use Rattle.std.specs.Prelude.{All, option_map}
 use Rattle.std.proofs.lemmas.Bool.Decides.{nat_tests}
 use Rattle.std.proofs.lemmas.List.Elements.{All-append, All-map, All-nil, All-weaker}
+use Rattle.session_model.proofs.Latest.{latest-reached}
 use Rattle.dr_base.specs.Position.{is_own}
 use Rattle.dr_base.specs.declared.position.Position.{Position}
-use Rattle.dr_base.specs.declared.position.Side.{Side}
 use Rattle.fs_aead.specs.Chain.{chain_of}
 use Rattle.kem_laws.specs.Mechanism.{Mechanism}
 use Rattle.session_model.specs.States.{Reception, receiving_epoch}
@@ -102,16 +102,6 @@ reception-grown k c seeds epoch text v t same near within =
     ap₂ (λ (turn : Turn) (r : ℕ). record { chain = chain_of turn.stream r; reach = r }) (same t within)
     (reach_in-grown c seeds epoch text v t near)
 
--- the latest peer's epoch isn't after the reached one
-peers_latest : (epoch t : ℕ) (own first : Bool)
-    → (if own then (if first then None else Some (epoch - 1)) else Some epoch) ≡ Some t → t ≤ epoch
-peers_latest epoch t true true e = cc
-peers_latest epoch t true false e = let same : epoch - 1 ≡ t = cc in omega arith
-peers_latest epoch t false first e = let same : epoch ≡ t = cc in omega arith
-
-pub receiving_epoch-latest : (side : Side) (epoch t : ℕ) → receiving_epoch side epoch ≡ Some t → t ≤ epoch
-receiving_epoch-latest side epoch t e = peers_latest epoch t (is_own side epoch) (epoch == 0) e
-
 -- of the epoch that there is, or none
 some_same : (f g : ℕ → Reception) (o : Option ℕ) → ((t : ℕ) → o ≡ Some t → f t ≡ g t) → option_map f o ≡ option_map g o
 some_same f g None same = refl
@@ -125,7 +115,7 @@ pub receiving-grown : (k : Mechanism) (c : Conversation) (seeds : List (List ℕ
 receiving-grown k c seeds epoch text v same near within =
     some_same (reception_of k (grown c seeds epoch text) v) (reception_of k c v) (receiving_epoch v.side v.epoch)
     (λ t is. reception-grown k c seeds epoch text v t same near
-    (let latest = receiving_epoch-latest v.side v.epoch t is in omega arith))
+    (let latest = latest-reached v.side v.epoch t is in omega arith))
 
 -- ---- the history
 

@@ -31,7 +31,7 @@ use Rattle.dr_model.proofs.Worlds.WorldViews.{view_lawful}
 abbrev Leaves : World → Step World → Type 0
 Leaves w made = made.next.conversation ≡ w.conversation
 
-with_view_leaves : (w : World) (side : Side) (v : View) → (with_view w side v).conversation ≡ w.conversation
+pub with_view_leaves : (w : World) (side : Side) (v : View) → (with_view w side v).conversation ≡ w.conversation
 with_view_leaves w First v = refl
 with_view_leaves w Second v = refl
 

@@ -1,12 +1,12 @@
 -- What a view shows once the side has begun an epoch of its own: the same.
-use Rattle.std.proofs.Common.{◌≡◌, ◌≢◌, ℕ, zero, suc, ◌+◌, ◌-◌, ◌≤◌, ◌==◌, true, false, Bool, nat_le, List, [], ◌++◌, length, map, Some, None, refl, sym, ◌∙◌, ap, ap₂, add-one, append-nil, if◌then◌else◌, arith}
+use Rattle.std.proofs.Common.{◌≡◌, ◌≢◌, ℕ, zero, suc, ◌+◌, ◌-◌, ◌≤◌, true, false, Bool, nat_le, List, [], ◌++◌, length, map, Some, refl, sym, ◌∙◌, ap, ap₂, add-one, append-nil, if◌then◌else◌, arith}
 use Rattle.std.specs.Prelude.{option_map}
-use Rattle.std.proofs.lemmas.Bool.{cond-true, cond-false, ne_eqb}
+use Rattle.std.proofs.lemmas.Bool.{cond-true}
 use Rattle.std.proofs.lemmas.Bool.Decides.{nat_tests}
 use Rattle.std.proofs.lemmas.List.Elements.{All-weaker}
+use Rattle.session_model.proofs.Latest.{latest-peers, latest-turn}
 use Rattle.dr_base.specs.Position.{is_own}
 use Rattle.dr_base.specs.declared.position.Position.{Position}
-use Rattle.dr_base.specs.declared.position.Side.{Side}
 use Rattle.dr_base.proofs.Parity.{own_after, own_other}
 use Rattle.fs_aead.specs.Chain.{chain_of}
 use Rattle.kem_laws.specs.Mechanism.{Mechanism}
@@ -90,17 +90,6 @@ kept-turned k c seeds text v same peers within =
 
 -- ---- the stream of the latest peer's epoch
 
--- it is the one that stood
-latest_peers : (side : Side) (epoch : ℕ) → is_own side epoch ≡ false → receiving_epoch side epoch ≡ Some epoch
-latest_peers side epoch peers =
-    cond-false (is_own side epoch) (if epoch == 0 then None else Some (epoch - 1)) (Some epoch) peers
-
-latest_own : (side : Side) (epoch : ℕ) → is_own side (epoch + 1) ≡ true → receiving_epoch side (epoch + 1) ≡ Some epoch
-latest_own side epoch own =
-    cond-true (is_own side (epoch + 1)) (if epoch + 1 == 0 then None else Some (epoch + 1 - 1)) (Some (epoch + 1)) own
-    ∙ cond-false (epoch + 1 == 0) None (Some (epoch + 1 - 1)) (ne_eqb (epoch + 1) 0 (λ same. omega arith))
-    ∙ ap Some (let same : epoch + 1 - 1 ≡ epoch = omega arith in same)
-
 pub receiving-turned : (k : Mechanism) (c : Conversation) (seeds : List (List ℕ)) (text : List ℕ) (v : View)
     → SameTurns k c.key c.seeds seeds
     → is_own v.side v.epoch ≡ false → v.epoch ≤ length c.seeds
@@ -108,10 +97,10 @@ pub receiving-turned : (k : Mechanism) (c : Conversation) (seeds : List (List �
     ≡ option_map (reception_of k c v) (receiving_epoch v.side v.epoch)
 receiving-turned k c seeds text v same peers within =
     ap (option_map (reception_of k (grown c seeds (v.epoch + 1) text) (after_turn v)))
-    (latest_own v.side v.epoch (own_after v.side v.epoch peers))
+    (latest-turn v.side v.epoch peers ∙ latest-peers v.side v.epoch peers)
     ∙ ap₂ (λ (turn : Turn) (r : ℕ). Some (record { chain = chain_of turn.stream r; reach = r }))
     (same v.epoch within) (reach_in-turned c seeds text v v.epoch peers peers (omega arith))
-    ∙ sym (ap (option_map (reception_of k c v)) (latest_peers v.side v.epoch peers))
+    ∙ sym (ap (option_map (reception_of k c v)) (latest-peers v.side v.epoch peers))
 
 -- ---- how many texts the last own epoch had
 

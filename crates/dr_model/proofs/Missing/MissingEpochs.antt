@@ -6,7 +6,7 @@ use Rattle.std.proofs.lemmas.Bool.{cases_eq}
 use Rattle.std.proofs.lemmas.Bool.Decides.{nat_tests}
 use Rattle.std.proofs.lemmas.List.{map-append}
 use Rattle.std.proofs.lemmas.List.Elements.{filter-append}
-use Rattle.dr_base.specs.Position.{is_own}
+use Rattle.dr_base.specs.Position.{is_own, position_at}
 use Rattle.dr_base.specs.declared.key.Kept.{Kept}
 use Rattle.dr_base.specs.declared.position.Position.{Position}
 use Rattle.fs_aead.specs.Table.{is_kept_at, kept_key, without}
@@ -15,7 +15,7 @@ use Rattle.dr_model.specs.Conversations.Conversation.{Conversation}
 use Rattle.dr_model.specs.Conversations.Indices.{missing_to}
 use Rattle.dr_model.specs.Conversations.Posts.{key_of, turn_of_epoch}
 use Rattle.dr_model.specs.Conversations.Views.{View, indices_in, reach_in, missing_in, missing_below}
-use Rattle.dr_model.proofs.Missing.MissingKeys.{at_index, key_in, keys_in, kept_key-append}
+use Rattle.dr_model.proofs.Missing.MissingKeys.{key_in, keys_in, kept_key-append}
 
 -- the keys of the missing positions of one epoch
 abbrev pub epoch_keys : Mechanism → Conversation → View → ℕ → List Kept
@@ -31,13 +31,13 @@ unless_own own keys = if own then [] else keys
 
 -- a key of each index
 mapped_at : (k : Mechanism) (c : Conversation) (epoch : ℕ) (indices : List ℕ)
-    → map (key_of k c) (map (at_index epoch) indices) ≡ map (key_in epoch (turn_of_epoch k c epoch).stream) indices
+    → map (key_of k c) (map (position_at epoch) indices) ≡ map (key_in epoch (turn_of_epoch k c epoch).stream) indices
 mapped_at k c epoch [] = refl
 mapped_at k c epoch (i ∷ rest) =
     ap (λ keys. key_in epoch (turn_of_epoch k c epoch).stream i ∷ keys) (mapped_at k c epoch rest)
 
 mapped_unless : (k : Mechanism) (c : Conversation) (epoch : ℕ) (indices : List ℕ) (own : Bool)
-    → map (key_of k c) (if own then [] else map (at_index epoch) indices)
+    → map (key_of k c) (if own then [] else map (position_at epoch) indices)
     ≡ unless_own own (map (key_in epoch (turn_of_epoch k c epoch).stream) indices)
 mapped_unless k c epoch indices true = refl
 mapped_unless k c epoch indices false = mapped_at k c epoch indices

@@ -7,14 +7,15 @@ use Rattle.fs_aead.proofs.Streams.{chain_of-zero, message_key-add}
 use Rattle.dr_model.specs.Conversations.Indices.{is_among, missing_to, reach}
 use Rattle.dr_model.proofs.Missing.Arrived.{is_among-last, is_among-other, is_among-beyond}
 use Rattle.dr_model.proofs.Missing.MissingIndices.{unless_among, unless, unless_not, missing_to-after}
-use Rattle.dr_model.proofs.Missing.MissingKeys.{at_index, key_in, keys_in, keys_in-suc}
+use Rattle.dr_model.proofs.Missing.MissingKeys.{key_in, keys_in, keys_in-suc}
+use Rattle.dr_base.specs.Position.{position_at}
 
 -- a key some steps after an index
 key_after : (epoch : ℕ) (stream : List ℕ) (r n : ℕ)
     → key_in epoch stream (suc (r + n))
-    ≡ record { position = at_index epoch (r + suc n); key = record { bytes = message_key (chain_of stream r) (suc n) } }
+    ≡ record { position = position_at epoch (r + suc n); key = record { bytes = message_key (chain_of stream r) (suc n) } }
 key_after epoch stream r n =
-    let make : ℕ → List ℕ → Kept = λ i bytes. record { position = at_index epoch i; key = record { bytes = bytes } } in
+    let make : ℕ → List ℕ → Kept = λ i bytes. record { position = position_at epoch i; key = record { bytes = bytes } } in
     ap₂ make (omega arith)
     (ap (message_key stream) (omega arith) ∙ sym (message_key-add stream r n)
     ∙ ap (message_key (chain_of stream r)) (add-one n))

@@ -1,7 +1,7 @@
 -- Where a position stands among those of all texts: once, if it was said.
 use Rattle.std.proofs.Common.{Bool, List, None, Option, Some, [], add-zero, ap, append-nil, append_assoc, ap₂, arith, cond, count_by, false, if◌then◌else◌, inl, inr, length, length-append, nat_le, nat_lt, refl, suc, sym, true, zero, ℕ, ◌&&◌, ◌++◌, ◌+◌, ◌==◌, ◌∙◌, ◌∷◌, ◌≡◌, ◌≢◌, ◌≤◌}
 use Rattle.std.specs.Prelude.{find}
-use Rattle.std.proofs.lemmas.Bool.{cases_Bool, eqb-true, eqb-false}
+use Rattle.std.proofs.lemmas.Bool.{cases_Bool, eqb-true, eqb-false, and_from, and_left}
 use Rattle.std.proofs.lemmas.Bool.Decides.{nat_tests}
 use Rattle.std.proofs.lemmas.List.Sums.{sum_by-cons}
 use Rattle.dr_base.specs.Position.{is_at}
@@ -59,16 +59,8 @@ given : (b : Bool) (p : Position) → b ≡ true → Some p ≡ (if b then Some 
 given true p h = refl
 given false p h = cc
 
-and_false : (a b : Bool) → a ≡ false → (a && b) ≡ false
-and_false true b h = cc
-and_false false b h = refl
-
 zero_more : (n : ℕ) → 0 + n ≡ n
 zero_more n = omega arith
-
-both_true : (a b : Bool) → a ≡ true → b ≡ true → (a && b) ≡ true
-both_true true b h k = k
-both_true false b h k = cc
 
 -- the next position lies after the first texts
 next_lies : (before rest : List Said) (s : Said) → lies before (before ++ s ∷ rest) (next_position before s.epoch) ≡ true
@@ -79,7 +71,7 @@ next_lies before rest s =
     ap length (texts_of-append before (s ∷ rest) s.epoch)
     ∙ length-append (texts_of before s.epoch) (texts_of (s ∷ rest) s.epoch) in
     let some : 1 ≤ length (texts_of (s ∷ rest) s.epoch) = omega (arith, ap length (texts_of-first s rest)) in
-    both_true (nat_lt n (n + 1)) (nat_le (n + 1) (length (texts_of (before ++ s ∷ rest) s.epoch))) (grind (arith, nat_tests))
+    and_from (nat_lt n (n + 1)) (nat_le (n + 1) (length (texts_of (before ++ s ∷ rest) s.epoch))) (grind (arith, nat_tests))
     (grind (arith, nat_tests))
 
 -- where the first text is passed
@@ -145,7 +137,7 @@ passed_by p before rest s h =
     ap length (texts_of-append before (s ∷ []) s.epoch) ∙ length-append (texts_of before s.epoch) (texts_of (s ∷ []) s.epoch)
     ∙ ap (λ m. n + m) (ap length (texts_of-first s [])) in
     ap (lies (before ++ s ∷ []) ((before ++ s ∷ []) ++ rest)) (sym at)
-    ∙ and_false (nat_lt (length (texts_of (before ++ s ∷ []) s.epoch)) (n + 1))
+    ∙ and_left (nat_lt (length (texts_of (before ++ s ∷ []) s.epoch)) (n + 1))
     (nat_le (n + 1) (length (texts_of ((before ++ s ∷ []) ++ rest) s.epoch))) (grind (arith, nat_tests))
 
 count-positions : (p : Position) (before rest : List Said)

@@ -3,7 +3,7 @@ use Rattle.std.proofs.Common.{◌≡◌, ℕ, ◌+◌, ◌-◌, ◌<◌, ◌≤�
 use Rattle.std.specs.Prelude.{All, max}
 use Rattle.std.proofs.lemmas.Bool.{cond-true, cond-false, le-leb}
 use Rattle.std.proofs.lemmas.List.{drop_at, length-map, take_at}
-use Rattle.dr_base.specs.Position.{is_own}
+use Rattle.dr_base.specs.Position.{is_own, position_at}
 use Rattle.dr_base.specs.declared.key.Kept.{Kept}
 use Rattle.fs_aead.specs.Chain.{chain_of, message_key}
 use Rattle.fs_aead.specs.Table.{shelved}
@@ -21,7 +21,7 @@ use Rattle.dr_model.specs.Conversations.ViewStates.{own_of, phase_of, state_of}
 use Rattle.dr_model.specs.Conversations.Views.{View, after_opening, indices_in, missing_of, reach_in}
 use Rattle.dr_model.proofs.Missing.EpochIndices.{indices_in-beyond, indices_in-same}
 use Rattle.dr_model.proofs.Missing.MissingEpochs.{epoch_keys, keys_below, keys_below-own, keys_below-peers}
-use Rattle.dr_model.proofs.Missing.MissingKeys.{at_index, keys_in}
+use Rattle.dr_model.proofs.Missing.MissingKeys.{keys_in}
 use Rattle.dr_model.proofs.Missing.PassedKeys.{keys_in-first}
 use Rattle.dr_model.proofs.Taking.KnownEpoch.{receiving-latest}
 use Rattle.dr_model.proofs.Taking.LatestEpoch.{latest_here, reach_in-latest}
@@ -29,13 +29,13 @@ use Rattle.dr_model.proofs.Worlds.TurnSizes.{turn_sizes}
 
 -- the view with an index of the next epoch
 abbrev pub opened_next : View → ℕ → View
-opened_next v i = record v { arrived = v.arrived ++ at_index (v.epoch + 1) i ∷ []; epoch = v.epoch + 1 }
+opened_next v i = record v { arrived = v.arrived ++ position_at (v.epoch + 1) i ∷ []; epoch = v.epoch + 1 }
 
 -- the next epoch is reached then
-pub after_opening-next : (v : View) (i : ℕ) → after_opening v (at_index (v.epoch + 1) i) ≡ opened_next v i
+pub after_opening-next : (v : View) (i : ℕ) → after_opening v (position_at (v.epoch + 1) i) ≡ opened_next v i
 after_opening-next v i =
     let same : max v.epoch (v.epoch + 1) ≡ v.epoch + 1 = omega arith in
-    ap (λ (epoch : ℕ). record v { arrived = v.arrived ++ at_index (v.epoch + 1) i ∷ []; epoch = epoch }) same
+    ap (λ (epoch : ℕ). record v { arrived = v.arrived ++ position_at (v.epoch + 1) i ∷ []; epoch = epoch }) same
 
 -- ---- the keys of the turn
 
@@ -86,7 +86,7 @@ answers k c epoch law lawful h =
 indices_next : (c : Conversation) (v : View) (i : ℕ) → All (HasArrived c v) v.arrived
     → indices_in (opened_next v i).arrived (v.epoch + 1) ≡ i ∷ []
 indices_next c v i arrivals =
-    indices_in-same v.arrived (at_index (v.epoch + 1) i) (v.epoch + 1) refl
+    indices_in-same v.arrived (position_at (v.epoch + 1) i) (v.epoch + 1) refl
     ∙ ap (λ indices. indices ++ i ∷ []) (indices_in-beyond c v v.arrived (v.epoch + 1) arrivals (omega arith))
 
 reach_one : (i : ℕ) → reach (i ∷ []) ≡ i
@@ -164,12 +164,12 @@ pub turn_way-is : (k : Mechanism) (c : Conversation) (v : View) (i : ℕ) (passe
     → Answers k c v.epoch → All (HasArrived c v) v.arrived → 1 ≤ i
     → is_own v.side v.epoch ≡ true → is_own v.side (v.epoch + 1) ≡ false → length keys ≡ passed
     → keys_below k c (opened_next v i) v.epoch ≡ keys_below k c v (v.epoch + 1) ++ keys
-    → turn_way k (state_of k c v) (own_of k c v) (fields_at k c (at_index (v.epoch + 1) i)) passed keys
+    → turn_way k (state_of k c v) (own_of k c v) (fields_at k c (position_at (v.epoch + 1) i)) passed keys
     ≡ within_limit (length (missing_of c (opened_next v i)))
     (record { key = message_key (turn_of_epoch k c (v.epoch + 1)).stream i; next = state_of k c (opened_next v i) })
 turn_way-is k c v i passed keys answered arrivals one own peers long earlier =
     let s = state_of k c v in
-    let f = fields_at k c (at_index (v.epoch + 1) i) in
+    let f = fields_at k c (position_at (v.epoch + 1) i) in
     let turn = turn_of_epoch k c (v.epoch + 1) in
     let next = opened_next v i in
     let root = (turn_of_epoch k c v.epoch).root in

@@ -2,7 +2,7 @@
 use Rattle.std.proofs.Common.{◌≡◌, ℕ, zero, suc, ◌+◌, ◌-◌, ◌<◌, ◌≤◌, true, false, nat_eq, nat_le, nat_lt, [], ◌++◌, length, Some, None, Err, refl, sym, ap, ap₂, ◌∙◌, append_assoc, append-nil, subst, arith, if◌then◌else◌}
 use Rattle.std.specs.Prelude.{All, option_map}
 use Rattle.std.proofs.lemmas.Bool.{cond-true, cond-false, eq-eqb, le-leb, le-ltb}
-use Rattle.dr_base.specs.Position.{is_own}
+use Rattle.dr_base.specs.Position.{is_own, position_at}
 use Rattle.fs_aead.specs.Chain.{chain_of, message_key}
 use Rattle.fs_aead.specs.Table.{shelved}
 use Rattle.fs_aead.proofs.Streams.{length-shelved}
@@ -18,7 +18,7 @@ use Rattle.dr_model.specs.Conversations.ViewStates.{own_of, reception_of, state_
 use Rattle.dr_model.specs.Conversations.Views.{View, indices_in, missing_of, reach_in}
 use Rattle.dr_model.proofs.Missing.EpochIndices.{indices_in-other, reach-said}
 use Rattle.dr_model.proofs.Missing.MissingEpochs.{epoch_keys, keys_below, keys_below-own, keys_below-peers, keys_below-same, keys_below-zero}
-use Rattle.dr_model.proofs.Missing.MissingKeys.{at_index, keys_in}
+use Rattle.dr_model.proofs.Missing.MissingKeys.{keys_in}
 use Rattle.dr_model.proofs.Missing.PassedKeys.{keys_in-end}
 use Rattle.dr_model.proofs.Taking.KnownEpoch.{receiving-latest}
 use Rattle.dr_model.proofs.Taking.LatestEpoch.{IsLatest, keys_below-latest, latest_before, reach_in-end, reach_in-latest}
@@ -31,7 +31,7 @@ epoch_keys-ended : (k : Mechanism) (c : Conversation) (v : View) (i epoch : ℕ)
     → epoch_keys k c (opened_next v i) epoch ≡ epoch_keys k c v epoch
 epoch_keys-ended k c v i epoch h =
     ap₂ (keys_in epoch (turn_of_epoch k c epoch).stream)
-    (indices_in-other v.arrived (at_index (v.epoch + 1) i) epoch (λ same. omega arith))
+    (indices_in-other v.arrived (position_at (v.epoch + 1) i) epoch (λ same. omega arith))
     (reach_in-end c (opened_next v i) epoch (omega arith) ∙ sym (reach_in-end c v epoch h))
 
 -- the latest one is read to its end then
@@ -45,7 +45,7 @@ epoch_keys-ends k c v i latest arrivals e =
     let indices = indices_in v.arrived latest in
     let before : reach_in c v latest ≡ reach indices = reach_in-latest c v latest (omega arith) in
     ap₂ (keys_in latest stream)
-    (indices_in-other v.arrived (at_index (v.epoch + 1) i) latest (λ same. omega arith))
+    (indices_in-other v.arrived (position_at (v.epoch + 1) i) latest (λ same. omega arith))
     (reach_in-end c (opened_next v i) latest (omega arith))
     ∙ keys_in-end latest stream indices (count_of c latest) (reach-said c v v.arrived latest arrivals)
     ∙ ap (λ r. keys_in latest stream indices r ++ shelved latest (chain_of stream r) r (count_of c latest - r)) (sym before)
@@ -90,12 +90,12 @@ next_way-latest : (k : Mechanism) (c : Conversation) (v : View) (i latest : ℕ)
     → All (HasArrived c v) v.arrived → 1 ≤ i
     → is_own v.side v.epoch ≡ true → is_own v.side (v.epoch + 1) ≡ false → IsLatest v.side v.epoch latest
     → v.epoch ≡ latest + 1
-    → next_way k (state_of k c v) (own_of k c v) (fields_at k c (at_index (v.epoch + 1) i)) (state_of k c v).receiving
+    → next_way k (state_of k c v) (own_of k c v) (fields_at k c (position_at (v.epoch + 1) i)) (state_of k c v).receiving
     ≡ within_limit (length (missing_of c (opened_next v i)))
     (record { key = message_key (turn_of_epoch k c (v.epoch + 1)).stream i; next = state_of k c (opened_next v i) })
 next_way-latest k c v i latest answered arrivals one own peers at e =
     let s = state_of k c v in
-    let f = fields_at k c (at_index (v.epoch + 1) i) in
+    let f = fields_at k c (position_at (v.epoch + 1) i) in
     let r = reach_in c v latest in
     let chain = chain_of (turn_of_epoch k c latest).stream r in
     let end = count_of c latest in
@@ -114,12 +114,12 @@ next_way-latest k c v i latest answered arrivals one own peers at e =
 next_way-first : (k : Mechanism) (c : Conversation) (v : View) (i : ℕ) → Answers k c v.epoch
     → All (HasArrived c v) v.arrived → 1 ≤ i
     → is_own v.side v.epoch ≡ true → is_own v.side (v.epoch + 1) ≡ false → v.epoch ≡ 0
-    → next_way k (state_of k c v) (own_of k c v) (fields_at k c (at_index (v.epoch + 1) i)) (state_of k c v).receiving
+    → next_way k (state_of k c v) (own_of k c v) (fields_at k c (position_at (v.epoch + 1) i)) (state_of k c v).receiving
     ≡ within_limit (length (missing_of c (opened_next v i)))
     (record { key = message_key (turn_of_epoch k c (v.epoch + 1)).stream i; next = state_of k c (opened_next v i) })
 next_way-first k c v i answered arrivals one own peers e =
     let s = state_of k c v in
-    let f = fields_at k c (at_index (v.epoch + 1) i) in
+    let f = fields_at k c (position_at (v.epoch + 1) i) in
     let none : receiving_epoch v.side v.epoch ≡ None =
     cond-true (is_own v.side v.epoch) (if nat_eq v.epoch 0 then None else Some (v.epoch - 1)) (Some v.epoch) own
     ∙ cond-true (nat_eq v.epoch 0) None (Some (v.epoch - 1)) (eq-eqb v.epoch 0 e) in
@@ -130,7 +130,7 @@ next_way-first k c v i answered arrivals one own peers e =
 next_way-is : (k : Mechanism) (c : Conversation) (v : View) (i epoch : ℕ) → Answers k c v.epoch
     → All (HasArrived c v) v.arrived → 1 ≤ i
     → is_own v.side v.epoch ≡ true → is_own v.side (v.epoch + 1) ≡ false → v.epoch ≡ epoch
-    → next_way k (state_of k c v) (own_of k c v) (fields_at k c (at_index (v.epoch + 1) i)) (state_of k c v).receiving
+    → next_way k (state_of k c v) (own_of k c v) (fields_at k c (position_at (v.epoch + 1) i)) (state_of k c v).receiving
     ≡ within_limit (length (missing_of c (opened_next v i)))
     (record { key = message_key (turn_of_epoch k c (v.epoch + 1)).stream i; next = state_of k c (opened_next v i) })
 next_way-is k c v i zero answered arrivals one own peers e = next_way-first k c v i answered arrivals one own peers e
@@ -143,10 +143,10 @@ next_way-is k c v i (suc latest) answered arrivals one own peers e =
 pub way_next : (k : Mechanism) (c : Conversation) (v : View) (i : ℕ) → Answers k c v.epoch → All (HasArrived c v) v.arrived
     → 1 ≤ i
     → is_own v.side v.epoch ≡ true → is_own v.side (v.epoch + 1) ≡ false
-    → epoch_way k (state_of k c v) (fields_at k c (at_index (v.epoch + 1) i)) (state_of k c v).phase
+    → epoch_way k (state_of k c v) (fields_at k c (position_at (v.epoch + 1) i)) (state_of k c v).phase
     ≡ within_limit (length (missing_of c (opened_next v i)))
     (record { key = message_key (turn_of_epoch k c (v.epoch + 1)).stream i; next = state_of k c (opened_next v i) })
 way_next k c v i answered arrivals one own peers =
-    ap (epoch_way k (state_of k c v) (fields_at k c (at_index (v.epoch + 1) i)))
+    ap (epoch_way k (state_of k c v) (fields_at k c (position_at (v.epoch + 1) i)))
     (cond-true (is_own v.side v.epoch) (in_own (own_of k c v)) (in_peers (turn_of_epoch k c v.epoch).public) own)
     ∙ next_way-is k c v i v.epoch answered arrivals one own peers refl

@@ -3,7 +3,7 @@ use Rattle.std.proofs.Common.{◌≡◌, ℕ, ◌+◌, ◌<◌, ◌≤◌, Bool,
 use Rattle.std.specs.Prelude.{All}
 use Rattle.std.proofs.lemmas.Bool.{not-false, cases_Bool, cases_eq, cases_lt, cond-true, cond-false, eq-eqb, ne_eqb, le-ltb}
 use Rattle.dr_base.specs.declared.limits.TheConstants.{KEPT_LIMIT}
-use Rattle.dr_base.specs.Position.{is_own}
+use Rattle.dr_base.specs.Position.{is_own, position_at}
 use Rattle.dr_base.specs.declared.position.Position.{Position}
 use Rattle.dr_base.specs.declared.position.Side.{Side}
 use Rattle.dr_base.proofs.Parity.{own_next}
@@ -22,7 +22,6 @@ use Rattle.dr_model.specs.Conversations.ViewStates.{state_of}
 use Rattle.dr_model.specs.Conversations.Views.{View, after_opening, has_opened, missing_of, reach_in}
 use Rattle.dr_model.specs.Theorems.Sessions.{received_in}
 use Rattle.dr_model.proofs.Missing.EpochIndices.{indices_in-beyond, is_among-indices}
-use Rattle.dr_model.proofs.Missing.MissingKeys.{at_index}
 use Rattle.dr_model.proofs.Taking.AlongChain.{way_chain}
 use Rattle.dr_model.proofs.Taking.KnownEpoch.{after_opening-known, length-kept, opened_here, way_kept, way_spent}
 use Rattle.dr_model.proofs.Taking.LatestEpoch.{IsLatest, is_latest, latest_of, near_reach}
@@ -114,9 +113,9 @@ answer_known k c v p place near own known =
 
 -- nothing of it was opened
 unopened_next : (c : Conversation) (v : View) (i : ℕ) → All (HasArrived c v) v.arrived
-    → has_opened v (at_index (v.epoch + 1) i) ≡ false
+    → has_opened v (position_at (v.epoch + 1) i) ≡ false
 unopened_next c v i arrivals =
-    sym (is_among-indices v.arrived (at_index (v.epoch + 1) i))
+    sym (is_among-indices v.arrived (position_at (v.epoch + 1) i))
     ∙ ap (λ indices. is_among indices i) (indices_in-beyond c v v.arrived (v.epoch + 1) arrivals (omega arith))
 
 -- what the side answers by the way
@@ -127,9 +126,9 @@ AnswersOn k c v p ways =
 answer_next : (k : Mechanism) (c : Conversation) (v : View) (i : ℕ) → IsLawfulMechanism k → IsLawfulConversation k c
     → All (HasArrived c v) v.arrived → 1 ≤ i
     → v.epoch < length c.seeds → is_own v.side (v.epoch + 1) ≡ false
-    → AnswersOn k c v (at_index (v.epoch + 1) i) (epoch_way k (state_of k c v) (fields_at k c (at_index (v.epoch + 1) i)) (state_of k c v).phase)
+    → AnswersOn k c v (position_at (v.epoch + 1) i) (epoch_way k (state_of k c v) (fields_at k c (position_at (v.epoch + 1) i)) (state_of k c v).phase)
 answer_next k c v i law lawful arrivals one begun peers =
-    let p = at_index (v.epoch + 1) i in
+    let p = position_at (v.epoch + 1) i in
     let own : is_own v.side v.epoch ≡ true = not-false (is_own v.side v.epoch) (sym (own_next v.side v.epoch) ∙ peers) in
     ap (opened_by (fields_at k c p)) (way_next k c v i (answers k c v.epoch law lawful begun) arrivals one own peers)
     ∙ answer_limit k c (opened_next v i) p
@@ -149,7 +148,7 @@ answer_peers k c side v p law lawful view place peers =
     let by_epoch = way_of-peers k s f refl peers near in
     elim (cases_eq p.epoch (v.epoch + 1)) as (λ _. AnswersOn k c v p (way_of k s f)) [
       | inl next ↦
-          let same : at_index (v.epoch + 1) p.index ≡ p = ap (λ epoch. at_index epoch p.index) (sym next) in
+          let same : position_at (v.epoch + 1) p.index ≡ p = ap (λ epoch. position_at epoch p.index) (sym next) in
           ap (opened_by f) (by_epoch
           ∙ cond-true (nat_eq p.epoch (v.epoch + 1)) (epoch_way k s f s.phase) (known_way s p s.receiving)
           (eq-eqb p.epoch (v.epoch + 1) next))

@@ -1,9 +1,8 @@
 -- The view of a side that has opened all, and whose boxes are empty.
-use Rattle.std.proofs.Common.{◌≡◌, ℕ, ◌+◌, ◌≤◌, ◌&&◌, Bool, true, false, not, cond, nat_le, List, [], ◌∷◌, length, count_by, filter, inl, inr, refl, sym, ◌∙◌, ap, ap₂, arith, if◌then◌else◌}
+use Rattle.std.proofs.Common.{◌≡◌, ℕ, ◌+◌, ◌≤◌, Bool, true, false, not, cond, List, [], ◌∷◌, length, count_by, filter, inl, inr, refl, sym, ◌∙◌, ap, ap₂, arith, if◌then◌else◌}
 use Rattle.std.specs.List.{list_any}
 use Rattle.std.specs.Prelude.{All}
-use Rattle.std.proofs.lemmas.Bool.{cases_Bool, cond-true, le-leb}
-use Rattle.std.proofs.lemmas.Bool.Decides.{nat_tests}
+use Rattle.std.proofs.lemmas.Bool.{cases_Bool, cond-true, le-leb, not-true, and_from}
 use Rattle.std.proofs.lemmas.List.Elements.{All-filter, All-head, filter_passes}
 use Rattle.std.proofs.lemmas.List.Sums.{sum_by-cons}
 use Rattle.dr_base.specs.Position.{is_at, is_own}
@@ -114,15 +113,13 @@ some_arrived k c side epoch some peers =
 
 -- ---- nothing is missing
 
-said_by : (i n : ℕ) → 1 ≤ i → i ≤ n → (nat_le 1 i && nat_le i n) ≡ true
-said_by i n one most = grind (arith, nat_tests)
-
 not_missed : (k : Mechanism) (c : Conversation) (side : Side) (p : Position)
     → All (HasArrived c (full_view k c side)) (positions_of_peer c side)
     → IsMissed c (full_view k c side) p → ⊥
 not_missed k c side p arrivals missed =
     let most = reach_in-most c (full_view k c side) p.epoch arrivals in
-    let said : is_said c p ≡ true = said_by p.index (count_of c p.epoch) missed.one (omega (arith, missed.most)) in
+    let said : is_said c p ≡ true = and_from _ _ (le-leb 1 p.index missed.one)
+    (le-leb p.index (count_of c p.epoch) (omega (arith, missed.most))) in
     let e : true ≡ false = sym (opened_all k c side p said missed.peers) ∙ missed.unopened in cc
 
 none_left : {X : Type 0} (P : X → Type 0) (xs : List X) → All P xs → ((x : X) → P x → ⊥) → length xs ≡ 0
@@ -130,10 +127,6 @@ none_left P [] all never = refl
 none_left P (x ∷ xs) all never = absurd (never x (All-head P x xs all))
 
 -- ---- it is lawful
-
-not_own : (b : Bool) → not b ≡ true → b ≡ false
-not_own false h = refl
-not_own true h = absurd (let e : false ≡ true = h in cc)
 
 arrived : (k : Mechanism) (c : Conversation) (side : Side) → IsLawfulConversation k c
     → All (HasArrived c (full_view k c side)) (positions_of_peer c side)
@@ -143,7 +136,7 @@ arrived k c side lawful i d below =
     let passes = filter_passes test (positions c) i d below in
     record {
       said = said;
-      peers = not_own _ passes;
+      peers = not-true _ passes;
       reached = said-begun c (length c.seeds) _ lawful.begun said;
     }
 

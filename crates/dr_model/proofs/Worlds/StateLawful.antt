@@ -1,11 +1,12 @@
 -- What a side keeps in a lawful world is a lawful state.
-use Rattle.std.proofs.Common.{◌≡◌, ◌≢◌, ℕ, zero, suc, ◌+◌, ◌-◌, ◌^◌, ◌<◌, ◌≤◌, ◌==◌, true, false, Bool, nat_le, List, [], ◌∷◌, length, map, Option, Some, None, refl, sym, ◌∙◌, ap, if◌then◌else◌, arith}
+use Rattle.std.proofs.Common.{◌≡◌, ◌≢◌, ℕ, zero, suc, ◌+◌, ◌-◌, ◌<◌, ◌≤◌, ◌==◌, true, false, Bool, nat_le, List, [], ◌∷◌, length, map, Option, Some, None, refl, sym, ◌∙◌, ap, if◌then◌else◌, arith, le_trans}
 use Rattle.std.specs.Prelude.{All, option_map, slice_index_or}
 use Rattle.std.proofs.lemmas.Bool.{cond-true, eqb-true}
 use Rattle.std.proofs.lemmas.Bool.Decides.{nat_tests}
 use Rattle.std.proofs.lemmas.List.{length-map}
 use Rattle.std.proofs.lemmas.List.Elements.{All-map, All-weaker}
-use Rattle.dr_base.specs.declared.limits.TheConstants.{INDEX_LIMIT, LAST_EPOCH}
+use Rattle.session_model.proofs.Latest.{latest-reached}
+use Rattle.dr_base.specs.declared.limits.TheConstants.{INDEX_LIMIT}
 use Rattle.dr_base.specs.Position.{is_own}
 use Rattle.dr_base.specs.declared.key.Kept.{Kept}
 use Rattle.dr_base.specs.declared.position.Position.{Position}
@@ -26,7 +27,7 @@ use Rattle.dr_model.specs.Conversations.Views.{View, reach_in, missing_in, missi
 use Rattle.dr_model.specs.Machines.Worlds.{World, view_of}
 use Rattle.dr_model.specs.Theorems.LawfulWorlds.{IsLawfulWorld}
 use Rattle.dr_model.proofs.Growth.GrowingStates.{phase_with}
-use Rattle.dr_model.proofs.Growth.GrowingViews.{missing_below-below, receiving_epoch-latest}
+use Rattle.dr_model.proofs.Growth.GrowingViews.{missing_below-below}
 use Rattle.dr_model.proofs.Missing.MissedPositions.{AllPairs-map, IsMissed, missing_below-ascending, missing_below-missed, reach_in-most}
 use Rattle.dr_model.proofs.Worlds.TurnSizes.{IsTurn, turn_sizes, length-session_of}
 use Rattle.dr_model.proofs.Worlds.WorldViews.{view_lawful}
@@ -75,9 +76,6 @@ lawful_previous epoch m n turn sent false few_m few_n = (counted n (nat_le 1 epo
 
 -- ---- the keys that it keeps
 
-within_both : (a b most : ℕ) → a ≤ b → b ≤ most → a ≤ most
-within_both a b most first second = omega arith
-
 -- in the order of their positions
 pub kept-ascending : (k : Mechanism) (c : Conversation) (v : View) → IsAscending (map (key_of k c) (missing_of c v))
 kept-ascending k c v =
@@ -94,9 +92,7 @@ kept-lawful k c side v world lawful =
     (λ p missed. record {
       peers = missed.peers;
       one = missed.one;
-      most = within_both p.index (count_of c p.epoch) INDEX_LIMIT
-          (within_both p.index (reach_in c v p.epoch) (count_of c p.epoch) missed.most
-          (reach_in-most c v p.epoch lawful.arrivals)) (world.few p.epoch);
+      most = le_trans (le_trans missed.most (reach_in-most c v p.epoch lawful.arrivals)) (world.few p.epoch);
     })
     (missing_of c v) (missing_below-missed c v (v.epoch + 1)))
 
@@ -156,7 +152,7 @@ lawful_reception : (k : Mechanism) (c : Conversation) (side : Side) (v : View) (
     → IsLawfulReception (map (key_of k c) (missing_of c v)) (option_map (reception_of k c v) o) o
 lawful_reception k c side v None law world lawful is = kept-none k c v is
 lawful_reception k c side v (Some t) law world lawful is =
-    let latest = receiving_epoch-latest v.side v.epoch t is in
+    let latest = latest-reached v.side v.epoch t is in
     let sizes = turn_sizes k c t law world (omega (arith, lawful.reached)) in (
       length-chain_of (turn_of_epoch k c t).stream (reach_in c v t) sizes.stream_long,
       omega (arith, reach_in-most c v t lawful.arrivals, world.few t),
@@ -174,7 +170,7 @@ state_lawful k c side v law world lawful =
     record {
       session_long = length-session_of c.key;
       root_long = sizes.root_long;
-      epoch_fits = within_both v.epoch (length c.seeds) LAST_EPOCH lawful.reached world.few_turns;
+      epoch_fits = le_trans lawful.reached world.few_turns;
       phase = lawful_phase k v.side v.epoch (pair_seed c v.epoch) (turn_of_epoch k c v.epoch)
           (count_of c v.epoch) own refl sizes (world.few v.epoch);
       previous = lawful_previous v.epoch (count_of c (v.epoch - 2)) (count_of c (v.epoch - 1)) (turn_of_epoch k c v.epoch)

@@ -1,7 +1,7 @@
 -- Places that differ, as many as there are, are all the places.
-use Rattle.std.proofs.Common.{◌≡◌, ◌≢◌, ◌⊎◌, inl, inr, ℕ, zero, suc, ◌<◌, Bool, true, false, eqb, ◌||◌, List, [], ◌∷◌, length, get_or, map, refl, sym, ap, ◌∙◌, arith, subst}
+use Rattle.std.proofs.Common.{◌≡◌, ◌≢◌, inl, inr, ℕ, zero, suc, ◌<◌, true, false, eqb, ◌||◌, List, [], ◌∷◌, length, get_or, map, refl, sym, ap, ◌∙◌, arith, subst}
 use Rattle.std.specs.List.{AllByRecursion, AllPairs, list_any}
-use Rattle.std.proofs.lemmas.Bool.{eqb-true, true≢false}
+use Rattle.std.proofs.lemmas.Bool.{eqb-true, true≢false, cases_Bool}
 use Rattle.std.proofs.lemmas.Bool.Decides.{Decides-eqb, eqb_tells}
 use Rattle.std.proofs.lemmas.List.{get_or_default}
 use Rattle.std.proofs.lemmas.List.Folds.{Any-from_list_any}
@@ -20,10 +20,6 @@ below_at n xs p l b (suc i) m = b i (omega arith)
 
 apart : (xs : List ℕ) (i j z : ℕ) → i < j → j < length xs → get_or xs i 0 ≢ get_or xs j 0 → get_or xs i z ≢ get_or xs j z
 apart xs i j z l m d = λ e. d (get_or_default xs i 0 z (omega arith) ∙ e ∙ get_or_default xs j z 0 m)
-
-bool_cases : (b : Bool) → (b ≡ true) ⊎ (b ≡ false)
-bool_cases true = inl refl
-bool_cases false = inr refl
 
 none_from : (q : ℕ) (xs : List ℕ) → list_any (eqb q) xs ≡ false → AllByRecursion (λ y. eqb q y ≡ false) xs
 none_from q [] e = tt
@@ -46,7 +42,7 @@ below_from n xs p l b q e =
 pub covers : (n : ℕ) (xs : List ℕ) → length xs ≡ n → ((i : ℕ) → i < length xs → get_or xs i 0 < n) → ((i j : ℕ) → i < j → j < length xs → get_or xs i 0 ≢ get_or xs j 0)
     → (q : ℕ) → q < n → (i : ℕ) × (i < length xs) × (get_or xs i 0 ≡ q)
 covers n xs e b d q l =
-    elim (bool_cases (list_any (eqb q) xs)) [
+    elim (cases_Bool (list_any (eqb q) xs)) [
       | inl t ↦ found q xs t
       | inr f ↦
           let pairs : AllPairs (λ (x y : ℕ). x ≢ y) xs = λ i j z m k. apart xs i j z m k (d i j m k) in

@@ -5,7 +5,7 @@ use Rattle.ratchet.specs.Seen.{seed_bytes}
 use Rattle.session_model.specs.Clients.{say_on}
 use Rattle.client.specs.Outcomes.{Acts, Outcome, said_as}
 use Rattle.duet.proofs.Acted.{said_acts}
-use Rattle.duet.proofs.StoppedActs.{is_ended}
+use Rattle.duet.proofs.Stopped.Acts.{is_ended}
 use Rattle.duet.proofs.acts.say.Goals as goal
 
 pub returns-in-Ok : goal.returns-in-Ok

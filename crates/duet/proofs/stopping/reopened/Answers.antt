@@ -4,7 +4,7 @@ use Rattle.std.specs.Prelude.{option_map}
 use Rattle.session_record.specs.Record.{record_read}
 use Rattle.dr_disk.specs.MemoryDisks.{state_of}
 use Rattle.client.proofs.Reopening.{not_refused}
-use Rattle.duet.proofs.StoppedActs.{only_memory}
+use Rattle.duet.proofs.Stopped.Acts.{only_memory}
 use Rattle.duet.proofs.stopping.reopened.Goals as goal
 
 pub want_of_memory-requires : goal.want_of_memory-requires

@@ -1,7 +1,8 @@
 use Rattle.std.proofs.Common.{◌≡◌, ◌<◌, ◌≤◌, ℕ, List, ℤ, pos, get_or, map, length, refl, sym, ap, ◌∙◌, arith}
+use Rattle.ntru_ring.proofs.Vectors.Mapped.{mapped}
 use Rattle.ntru_codec.specs.Coding.{encoded_length}
 use Rattle.ntru_codec.specs.Elements.{raised, rq_encoded}
-use Rattle.ntru_codec.proofs.ElementLaws.{mapped, limits-All, written-is, rq-below, length-rq, limit-rq}
+use Rattle.ntru_codec.proofs.ElementLaws.{limits-All, written-is, rq-below, length-rq, limit-rq}
 use Rattle.ntru_codec.proofs.elements.rq_encode.Goals as goal
 
 values-is : (a : List ℤ) (values : List ℕ) (k : ℕ) → length a ≡ 761 → 761 ≤ k → length values ≡ 761 → ((j : ℕ) → j < k → get_or values j 0 ≡ raised (get_or a j (pos 0))) → values ≡ map raised a

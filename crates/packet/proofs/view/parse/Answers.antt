@@ -2,7 +2,8 @@ use Rattle.std.proofs.Common.{sym, arith}
 use Rattle.std.proofs.lemmas.List.{length-take-le}
 use Rattle.packet.specs.Parts.{fields_of}
 use Rattle.packet.proofs.Read.{read_was_printed}
-use Rattle.packet.proofs.Viewed.{are_bytes, viewed, viewed_len}
+use Rattle.packet.proofs.Viewed.{viewed, viewed_len}
+use Rattle.dr_base.proofs.Bytes.{are_bytes}
 use Rattle.packet.proofs.view.parse.Goals as goal
 
 pub overflow_add-ad : goal.overflow_add-ad

@@ -1,5 +1,5 @@
 use Rattle.packet.specs.Packet.{header_of}
-use Rattle.packet.proofs.Putting.{then_puts}
+use Rattle.dr_base.proofs.Putting.{then_puts}
 use Rattle.packet.proofs.writing.put_header.Goals as goal
 
 pub returns : goal.returns

@@ -1,7 +1,7 @@
 use Rattle.std.proofs.Common.{length, arith}
 use Rattle.packet.specs.Packet.{packet_of}
 use Rattle.packet.proofs.Lengths.{length-header_of}
-use Rattle.packet.proofs.Putting.{then_puts}
+use Rattle.dr_base.proofs.Putting.{then_puts}
 use Rattle.packet.proofs.writing.write_into.Goals as goal
 
 pub put-at_tag-requires : goal.put-at_tag-requires

@@ -1,6 +1,6 @@
 use Rattle.std.proofs.Common.{List, ℕ, subst}
 use Rattle.dr_base.specs.Buffer.{Puts}
-use Rattle.grammar.proofs.Putting.{then_puts}
+use Rattle.dr_base.proofs.Putting.{then_puts}
 use Rattle.relay_core.specs.Record.{head_text}
 use Rattle.relay_core.proofs.writing.put_head.Goals as goal
 

@@ -1,6 +1,6 @@
 use Rattle.std.proofs.Common.{◌≡◌, List, ℕ, ◌∙◌, ap₂, subst}
 use Rattle.dr_base.specs.Buffer.{Puts}
-use Rattle.grammar.proofs.Putting.{then_puts}
+use Rattle.dr_base.proofs.Putting.{then_puts}
 use Rattle.relay_core.specs.Boxes.{Kept}
 use Rattle.relay_core.specs.Record.{kept_text}
 use Rattle.relay_core.proofs.writing.put_kept.Goals as goal

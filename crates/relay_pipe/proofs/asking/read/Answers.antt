@@ -1,6 +1,7 @@
 use Rattle.std.proofs.Common.{arith}
 use Rattle.relay_wire.specs.Seen.{replied_of}
-use Rattle.relay_pipe.proofs.Asked.{are_bytes, whole_reply}
+use Rattle.relay_pipe.proofs.Asked.{whole_reply}
+use Rattle.dr_base.proofs.Bytes.{are_bytes}
 use Rattle.relay_pipe.proofs.asking.read.Goals as goal
 
 pub returns-in-Ok-clause-reply : goal.returns-in-Ok-clause-reply

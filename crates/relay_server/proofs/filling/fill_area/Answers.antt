@@ -7,7 +7,7 @@ use Rattle.slot_store.specs.Store.{content}
 use Rattle.slot_store.specs.Kept.{content_or_empty}
 use Rattle.relay_server.proofs.FilledAreas.{none_there, place_ready, put_filled, put_moments, stands_on}
 use Rattle.relay_server.proofs.LoadedBoxes.{some_there}
-use Rattle.relay_server.proofs.Replacing.{there_is}
+use Rattle.relay_server.proofs.OneStore.{there_is}
 use Rattle.relay_server.proofs.filling.fill_area.Goals as goal
 
 pub returns-then-not-is_empty-clause-filled : goal.returns-then-not-is_empty-clause-filled

@@ -1,5 +1,5 @@
 use Rattle.std.proofs.Common.{arith}
-use Rattle.grammar.proofs.Fields.{are_bytes}
+use Rattle.dr_base.proofs.Bytes.{are_bytes}
 use Rattle.relay_server.proofs.LoadedBoxes.{refused, taken}
 use Rattle.relay_server.proofs.filling.load_record.Goals as goal
 

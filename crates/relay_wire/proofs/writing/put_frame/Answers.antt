@@ -2,7 +2,7 @@ use Rattle.std.proofs.Common.{◌≡◌, ◌+◌, ◌∷◌, ◌++◌, length, L
 use Rattle.std.specs.Int.{w16, to_be_bytes}
 use Rattle.std.proofs.lemmas.List.{length-append}
 use Rattle.dr_base.specs.Buffer.{Puts}
-use Rattle.grammar.proofs.Putting.{then_puts}
+use Rattle.dr_base.proofs.Putting.{then_puts}
 use Rattle.relay_wire.proofs.writing.put_frame.Goals as goal
 
 pub returns : goal.returns

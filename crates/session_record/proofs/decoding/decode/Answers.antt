@@ -1,5 +1,5 @@
 use Rattle.std.proofs.Common.{arith}
-use Rattle.packet.proofs.Viewed.{are_bytes}
+use Rattle.dr_base.proofs.Bytes.{are_bytes}
 use Rattle.session_record.specs.Seen.{client_read}
 use Rattle.session_record.proofs.decoding.decode.Goals as goal
 

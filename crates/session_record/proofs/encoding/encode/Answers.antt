@@ -1,6 +1,6 @@
 use Rattle.std.proofs.Common.{◌≡◌, ◌≤◌, List, ℕ, length, sym, ◌∙◌, arith, inl, inr}
 use Rattle.grammar.specs.Printer.{HasRoom}
-use Rattle.grammar.proofs.Putting.{then_puts}
+use Rattle.dr_base.proofs.Putting.{then_puts}
 use Rattle.session_record.specs.declared.limits.TheConstants.{RECORD_LIMIT}
 use Rattle.session_record.specs.Changes.{changed}
 use Rattle.session_record.specs.Record.{client_of, record_text}

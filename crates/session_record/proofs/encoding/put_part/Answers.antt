@@ -1,6 +1,6 @@
 use Rattle.std.proofs.Common.{subst}
 use Rattle.dr_base.specs.Buffer.{Puts}
-use Rattle.grammar.proofs.Putting.{then_puts}
+use Rattle.dr_base.proofs.Putting.{then_puts}
 use Rattle.session_model.specs.States.{State}
 use Rattle.session_record.specs.Record.{head_text, state_text}
 use Rattle.session_record.proofs.encoding.put_part.Goals as goal

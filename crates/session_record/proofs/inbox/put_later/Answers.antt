@@ -1,6 +1,6 @@
 use Rattle.std.proofs.Common.{◌≡◌, ◌-◌, drop, length, ◌∙◌, ap, sym}
 use Rattle.std.proofs.lemmas.List.{length-drop}
-use Rattle.grammar.proofs.Putting.{then_puts}
+use Rattle.dr_base.proofs.Putting.{then_puts}
 use Rattle.session_record.proofs.inbox.put_later.Goals as goal
 
 pub returns : goal.returns

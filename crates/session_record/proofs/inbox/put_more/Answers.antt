@@ -3,7 +3,7 @@ use Rattle.std.proofs.lemmas.List.{length_push}
 use Rattle.boxes.specs.Items.{item_at}
 use Rattle.grammar.specs.Printer.{print_items}
 use Rattle.grammar.proofs.Printing.{print_items-push}
-use Rattle.grammar.proofs.Putting.{then_puts}
+use Rattle.dr_base.proofs.Putting.{then_puts}
 use Rattle.session_record.specs.Lists.{entry_text}
 use Rattle.session_record.proofs.inbox.put_more.Goals as goal
 

@@ -4,7 +4,8 @@ use Rattle.std.proofs.lemmas.Result.{err_from_is_err_and}
 use Rattle.dr_base.specs.declared.key.Kept.{Kept}
 use Rattle.grammar.specs.Reader.{Read}
 use Rattle.grammar.proofs.Loops.{items-none, items-more, items-fault}
-use Rattle.session_record.specs.Lists.{kept_item, last_position, position_at}
+use Rattle.session_record.specs.Lists.{kept_item, last_position}
+use Rattle.dr_base.specs.Position.{position_at}
 use Rattle.session_record.proofs.Lasts.{last_of-push}
 use Rattle.session_record.proofs.kept.read_keys.Goals as goal
 

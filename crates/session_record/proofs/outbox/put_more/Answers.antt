@@ -2,7 +2,7 @@ use Rattle.std.proofs.Common.{◌≡◌, ◌+◌, ◌∷◌, ◌++◌, [], List,
 use Rattle.std.proofs.lemmas.List.{length_push}
 use Rattle.grammar.specs.Printer.{print_items}
 use Rattle.grammar.proofs.Printing.{print_items-push}
-use Rattle.grammar.proofs.Putting.{then_puts}
+use Rattle.dr_base.proofs.Putting.{then_puts}
 use Rattle.session_record.specs.Lists.{post_of, post_text}
 use Rattle.session_record.proofs.outbox.put_more.Goals as goal
 

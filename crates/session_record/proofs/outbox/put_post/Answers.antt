@@ -1,4 +1,4 @@
-use Rattle.grammar.proofs.Putting.{then_puts}
+use Rattle.dr_base.proofs.Putting.{then_puts}
 use Rattle.session_record.proofs.outbox.put_post.Goals as goal
 
 pub returns : goal.returns

@@ -1,10 +1,11 @@
 use Rattle.std.proofs.Common.{◌≡◌, subst, sym, ap, map, ◌∙◌, arith, pos}
 use Rattle.std.proofs.lemmas.Grind.{common_steps}
 use Rattle.std.proofs.lemmas.List.Elements.{All-from_get_or}
+use Rattle.ntru_ring.proofs.Vectors.Mapped.{mapped}
 use Rattle.ntru_ring.specs.Reduction.{IsWithin}
 use Rattle.sntrup_core.specs.Sampling.{short_coefficient, short_element}
 use Rattle.sntrup_core.specs.Core.{IsShort}
-use Rattle.sntrup_core.proofs.Shorts.{mapped, sorted-marked, sorted-all, short_coefficient-within, short_element-short}
+use Rattle.sntrup_core.proofs.Shorts.{sorted-marked, sorted-all, short_coefficient-within, short_element-short}
 use Rattle.sntrup_core.proofs.sampling.short_of.Goals as goal
 
 pub short_coefficient-requires : goal.short_coefficient-requires

@@ -1,8 +1,9 @@
 use Rattle.std.proofs.Common.{get_or, subst, sym, ◌∙◌, arith, pos}
 use Rattle.std.proofs.lemmas.List.Elements.{All-from_get_or}
+use Rattle.ntru_ring.proofs.Vectors.Mapped.{mapped}
 use Rattle.ntru_ring.specs.Reduction.{IsWithin}
 use Rattle.sntrup_core.specs.Sampling.{small_coefficient, small_element}
-use Rattle.sntrup_core.proofs.Shorts.{mapped, small_coefficient-within}
+use Rattle.sntrup_core.proofs.Shorts.{small_coefficient-within}
 use Rattle.sntrup_core.proofs.sampling.small_of.Goals as goal
 
 pub new-requires : goal.new-requires

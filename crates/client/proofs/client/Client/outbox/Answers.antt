@@ -1,5 +1,5 @@
 use Rattle.boxes.specs.Items.{item_at}
-use Rattle.client.proofs.LawfulPosts.{posts_some}
+use Rattle.client.proofs.Lawful.Posts.{posts_some}
 use Rattle.client.proofs.client.Client.outbox.Goals as goal
 
 pub returns-clause-some : goal.returns-clause-some

@@ -4,7 +4,7 @@ use Rattle.ratchet.specs.Seen.{seed_bytes}
 use Rattle.session_model.specs.Clients.{Client, say_check}
 use Rattle.session_model.specs.LawfulStates.{IsLawfulState}
 use Rattle.client.specs.Clients.{ClientNow}
-use Rattle.client.proofs.LawfulSaying.{passed_check, said_lawful}
+use Rattle.client.proofs.Lawful.Saying.{passed_check, said_lawful}
 use Rattle.client.proofs.client.Client.speak.Goals as goal
 
 pub send-requires-clause-lawful : goal.send-requires-clause-lawful

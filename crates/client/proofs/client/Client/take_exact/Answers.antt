@@ -4,7 +4,7 @@ use Rattle.cka.specs.Agreement.{agreement_size}
 use Rattle.packet.specs.Packet.{IsLawful}
 use Rattle.session_model.specs.Clients.{Client}
 use Rattle.session_model.specs.LawfulStates.{IsLawfulState}
-use Rattle.client.proofs.LawfulTaking.{taken_lawful}
+use Rattle.client.proofs.Lawful.Taking.{taken_lawful}
 use Rattle.client.proofs.client.Client.take_exact.Goals as goal
 
 pub receive-requires-clause-lawful : goal.receive-requires-clause-lawful

@@ -10,7 +10,7 @@ use Rattle.duet.specs.declared.acts.Ended.{Ended}
 use Rattle.duet.specs.Parties.{IsHeld}
 use Rattle.duet.specs.Stops.{stopped_step}
 use Rattle.scripts.specs.Stops.{takes_effect}
-use Rattle.duet.proofs.StoppedActs.{acknowledged_comes, cut_comes, cut_record, cut_undamaged, cut_within, left_lawful, made_lawful, refused_comes}
+use Rattle.duet.proofs.Stopped.Acts.{acknowledged_comes, cut_comes, cut_record, cut_undamaged, cut_within, left_lawful, made_lawful, refused_comes}
 use Rattle.duet.proofs.party.Party.stopped.Goals as goal
 
 pub invariant_of-result : goal.invariant_of-result

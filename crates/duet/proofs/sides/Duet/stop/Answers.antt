@@ -10,7 +10,7 @@ use Rattle.duet.specs.Held.{DuetNow, after}
 use Rattle.scripts.specs.Lined.{call_event}
 use Rattle.scripts.specs.Stops.{stopped}
 use Rattle.scripts.specs.declared.lined.StoppedCall.{StoppedCall}
-use Rattle.duet.proofs.StoppedSides.{done_side, sent_side, side_event, take_event}
+use Rattle.duet.proofs.Stopped.Sides.{done_side, sent_side, side_event, take_event}
 use Rattle.duet.proofs.sides.Duet.stop.Goals as goal
 
 pub returns-in-Sent : goal.returns-in-Sent

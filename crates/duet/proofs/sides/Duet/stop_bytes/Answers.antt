@@ -1,5 +1,5 @@
 use Rattle.std.proofs.Common.{arith}
-use Rattle.packet.proofs.Viewed.{are_bytes}
+use Rattle.dr_base.proofs.Bytes.{are_bytes}
 use Rattle.duet.proofs.sides.Duet.stop_bytes.Goals as goal
 
 pub stopped-requires : goal.stopped-requires

@@ -6,7 +6,7 @@ use Rattle.dr_model.specs.Machines.Steps.{Step}
 use Rattle.session_model.specs.Clients.{say_check, say_on}
 use Rattle.duet.specs.Held.{DuetNow, after}
 use Rattle.duet.specs.Stops.{stopped_step}
-use Rattle.duet.proofs.StoppedSides.{say_here, say_next, say_refused}
+use Rattle.duet.proofs.Stopped.Saying.{say_here, say_next, say_refused}
 use Rattle.duet.proofs.sides.Duet.stop_say.Goals as goal
 
 pub returns-in-Err : goal.returns-in-Err

@@ -5,7 +5,7 @@ use Rattle.session_model.specs.Clients.{Client}
 use Rattle.session_model.specs.Saying.{draft_send}
 use Rattle.session_model.specs.declared.answer.Summary.{Summary}
 use Rattle.duet.specs.Held.{DuetNow, gathered}
-use Rattle.duet.proofs.StoppedSides.{Made, speak_answer, speak_next, speak_room}
+use Rattle.duet.proofs.Stopped.Saying.{Made, speak_answer, speak_next, speak_room}
 use Rattle.duet.proofs.sides.Duet.stop_speak.Goals as goal
 
 pub gather-requires-clause-one : goal.gather-requires-clause-one

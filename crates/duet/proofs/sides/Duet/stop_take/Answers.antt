@@ -3,7 +3,7 @@ use Rattle.std.specs.Prelude.{IfOk}
 use Rattle.dr_model.specs.Machines.Sides.{Sides}
 use Rattle.dr_model.specs.Machines.Steps.{Step}
 use Rattle.duet.specs.Held.{after}
-use Rattle.duet.proofs.StoppedSides.{mapped_none, mapped_some, take_none, take_whole}
+use Rattle.duet.proofs.Stopped.Sides.{mapped_none, mapped_some, take_none, take_whole}
 use Rattle.duet.proofs.sides.Duet.stop_take.Goals as goal
 
 pub returns-in-None : goal.returns-in-None

@@ -2,7 +2,7 @@ use Rattle.std.proofs.Common.{◌≡◌, ℕ, Bool, true, false, List, Ok, refl,
 use Rattle.std.specs.Prelude.{not}
 use Rattle.grammar.specs.Reader.{Read}
 use Rattle.grammar.specs.Standing.{Standing}
-use Rattle.grammar.proofs.Fields.{are_bytes}
+use Rattle.dr_base.proofs.Bytes.{are_bytes}
 use Rattle.relay_core.specs.Boxes.{Kept}
 use Rattle.relay_core.specs.Lawful.{IsLawfulBox}
 use Rattle.relay_core.specs.Record.{HeadParts, head_fields, head_seen}

@@ -24,7 +24,7 @@ use Rattle.dr_model.proofs.Growth.Growing.{positions-said}
 use Rattle.dr_model.proofs.Taking.PacketFields.{IsLawful-fields, is_place, read-post}
 use Rattle.dr_model.proofs.Worlds.StateLawful.{lawful_state}
 use Rattle.dr_model.proofs.Worlds.WorldViews.{own_reached, view_lawful}
-use Rattle.client.proofs.LawfulSaying.{message_fits}
+use Rattle.client.proofs.Lawful.Saying.{message_fits}
 
 -- ---- kept keys
 

@@ -8,7 +8,8 @@ use Rattle.boxes.specs.Items.{Item, item_at}
 use Rattle.cka.specs.Agreement.{agreement_size}
 use Rattle.dr_base.specs.declared.limits.TheConstants.{INBOX_LIMIT, OUTBOX_LIMIT, TEXT_LIMIT}
 use Rattle.kem_laws.specs.Mechanism.{IsLawfulMechanism, Mechanism}
-use Rattle.packet.specs.Packet.{AreBytes, Fields, IsLawful}
+use Rattle.packet.specs.Packet.{Fields, IsLawful}
+use Rattle.dr_base.specs.Bytes.{AreBytes}
 use Rattle.packet.specs.Reading.{read_packet}
 use Rattle.packet.specs.declared.fault.Malformed.{Malformed}
 use Rattle.packet.proofs.Read.{read_was_printed}
@@ -18,10 +19,10 @@ use Rattle.session_model.specs.Taking.{ReceiveDraft, draft_receive}
 use Rattle.session_model.specs.declared.answer.Refusal.{Refusal}
 use Rattle.session_model.specs.declared.answer.Refusal.TheVariants.{NoPair}
 use Rattle.session_record.specs.Lawful.{IsLawfulClient, IsLawfulEntry, IsLawfulPost}
-use Rattle.client.proofs.LawfulDrafts.{send_lawful}
-use Rattle.client.proofs.LawfulSaying.{passed_check, said_lawful}
-use Rattle.client.proofs.LawfulTaking.{lets, passes, taken_lawful}
-use Rattle.client.proofs.LawfulWays.{receive_lawful}
+use Rattle.client.proofs.Lawful.Drafts.{send_lawful}
+use Rattle.client.proofs.Lawful.Saying.{passed_check, said_lawful}
+use Rattle.client.proofs.Lawful.Taking.{lets, passes, taken_lawful}
+use Rattle.client.proofs.Lawful.Ways.{receive_lawful}
 
 -- ---- a text is said
 

@@ -33,12 +33,12 @@ use Rattle.client.specs.Outcomes.{Acts, IsCutOff, IsDone, IsEffected, Outcome, a
 use Rattle.client.specs.Opening.{SaysNothing}
 use Rattle.client.specs.declared.refusals.OpenRefusal.{OpenRefusal}
 use Rattle.client.specs.declared.refusals.OpenRefusal.TheVariants.{Damaged, Memory, NoSession, StoreFault}
-use Rattle.client.proofs.LawfulActs.{done_lawful, say_lawful, sent_lawful, take_lawful}
+use Rattle.client.proofs.Lawful.Acts.{done_lawful, say_lawful, sent_lawful, take_lawful}
 use Rattle.duet.specs.Acts.{IsChecked, IsEnded, made_by}
 use Rattle.duet.specs.Parties.{HasRecord, IsHeld, IsWantOfMemory}
 use Rattle.duet.specs.Stops.{stopped_step}
 use Rattle.scripts.specs.Stops.{takes_effect}
-use Rattle.duet.proofs.StoppedSides.{idle_stopped}
+use Rattle.duet.proofs.Stopped.Sides.{idle_stopped}
 use Rattle.duet.specs.declared.acts.Act.{Act}
 use Rattle.duet.specs.declared.acts.Act.TheVariants.{Done, Say, Sent, Take}
 

@@ -27,7 +27,7 @@ use Rattle.session_model.specs.Ways.{Way, chain_way, epoch_way, kept_way, known_
 use Rattle.session_model.specs.declared.answer.Refusal.{Refusal}
 use Rattle.session_record.specs.Lawful.{IsLawfulClient, IsLawfulEntry}
 use Rattle.session_record.specs.Record.{client_of}
-use Rattle.client.proofs.LawfulSaying.{GoesOn, entries_stay, posts_stay}
+use Rattle.client.proofs.Lawful.Saying.{GoesOn, entries_stay, posts_stay}
 
 -- ---- kept keys have 32 bytes
 

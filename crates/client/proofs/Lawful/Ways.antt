@@ -24,13 +24,13 @@ use Rattle.ratchet.proofs.Fields.{agreement_later}
 use Rattle.ratchet.proofs.LawfulKept.{known_reception, lawful_along, lawful_without}
 use Rattle.ratchet.proofs.LawfulNext.{lawful_next}
 use Rattle.ratchet.proofs.LawfulTurn.{in_own_phase}
-use Rattle.ratchet.proofs.Parity.{latest-own, latest-peers}
+use Rattle.session_model.proofs.Latest.{latest-own, latest-peers}
 use Rattle.session_model.specs.LawfulStates.{IsLawfulReception, IsLawfulState}
 use Rattle.session_model.specs.States.{Own, Phase, Reception, State, in_own, in_peers, receiving_epoch}
 use Rattle.session_model.specs.Taking.{ReceiveDraft, draft_receive, opened_by}
 use Rattle.session_model.specs.Ways.{Way, chain_way, epoch_way, kept_way, known_way, next_way, position_of, turn_way, turned, way_of}
 use Rattle.session_model.specs.declared.answer.Refusal.{Refusal}
-use Rattle.client.proofs.LawfulTaking.{lets, passes}
+use Rattle.client.proofs.Lawful.Taking.{lets, passes}
 
 -- ---- in the peer's epochs so far
 

@@ -1,0 +1,5 @@
+-- Numbers that are bytes.
+use Rattle.std.specs.Prelude.{◌<◌, ℕ, List, All}
+
+abbrev pub AreBytes : List ℕ → Type 0
+AreBytes bytes = All (λ b. b < 256) bytes

@@ -1,0 +1,72 @@
+-- One store of many has another record: the others are as they were.
+use Rattle.std.proofs.Common.{◌≡◌, ◌≢◌, inl, inr, ℕ, zero, suc, ◌+◌, ◌<◌, ◌≤◌, Bool, true, List, [], ◌∷◌, length, Some, refl, sym, ◌∙◌, ap, subst, arith}
+use Rattle.std.specs.Prelude.{slice_get}
+use Rattle.std.proofs.lemmas.Bool.{cases_eq, cases_lt}
+use Rattle.dr_disk.specs.Bytes.{Torn}
+use Rattle.dr_disk.specs.Spans.{Frame}
+use Rattle.dr_disk.specs.State.{Always, DiskState}
+use Rattle.slot_store.specs.declared.area.Area.{Area}
+use Rattle.slot_store.specs.declared.store.SlotStore.{SlotStore}
+use Rattle.slot_store.specs.Laws.{IsLocal, SameWithin}
+use Rattle.slot_store.specs.Store.{Rests}
+use Rattle.relay_server.specs.Durable.{IsReplaced, area_of}
+
+pub there_is : {X : Type 0} (xs : List X) (k : ℕ) → k < length xs → (x : X) × (slice_get xs k ≡ Some x)
+there_is [] k inside = absurd (omega (arith, inside))
+there_is (x ∷ xs) zero inside = (x, refl)
+there_is (x ∷ xs) (suc k) inside = there_is xs k (omega (arith, inside))
+
+-- what is torn in one area is the same in each other
+pub apart : (j k : ℕ) (c d : List ℕ) → j ≢ k → Torn (area_of k).start ((area_of k).slot + (area_of k).slot) d c → SameWithin (area_of j) c d
+apart j k c d other torn = record {
+  size = torn.size;
+  bytes = λ i from to. torn.outside i (elim (cases_lt j k) [ inl below ↦ inl (omega (arith, below, to)) | inr above ↦ inr (omega (arith, above, other, from)) ]);
+}
+
+-- the store at a place was replaced
+pub record OneReplaced (n : ℕ) (stores news : List SlotStore) (t : List ℕ) (start now : DiskState) (done : Bool) : Type 0 where
+  pub areas : (k : ℕ) (store : SlotStore) → slice_get stores k ≡ Some store → store.area ≡ area_of k
+  pub rests : (k : ℕ) (store : SlotStore) → slice_get stores k ≡ Some store → Always (Rests store) start
+  pub inside : n < length stores
+  pub count : length news ≡ length stores
+  pub others : (j : ℕ) → j ≢ n → slice_get news j ≡ slice_get stores j
+  pub there : (old new : SlotStore) → slice_get stores n ≡ Some old → slice_get news n ≡ Some new → IsReplaced t old new start now done
+  pub local : IsLocal
+
+module _ (n : ℕ) (stores news : List SlotStore) (t : List ℕ) (start now : DiskState) (done : Bool) (r : OneReplaced n stores news t start now done) where
+  -- before and after
+  pub old_store : (s : SlotStore) × (slice_get stores n ≡ Some s)
+  old_store = there_is stores n r.inside
+
+  pub new_store : (s : SlotStore) × (slice_get news n ≡ Some s)
+  new_store = there_is news n (omega (arith, r.inside, r.count))
+
+  pub is_replaced : IsReplaced t old_store.0 new_store.0 start now done
+  is_replaced = r.there old_store.0 new_store.0 old_store.1 new_store.1
+
+  pub is_new : (j : ℕ) (store : SlotStore) → j ≡ n → slice_get news j ≡ Some store → new_store.0 ≡ store
+  is_new j store same there =
+      let e : Some new_store.0 ≡ Some store = sym new_store.1 ∙ subst (λ (m : ℕ). slice_get news m ≡ Some store) same there in cc
+
+  pub around_area : (c : List ℕ) → Frame start old_store.0.area.start (old_store.0.area.slot + old_store.0.area.slot) c
+      → Frame start (area_of n).start ((area_of n).slot + (area_of n).slot) c
+  around_area c f = subst (λ (a : Area). Frame start a.start (a.slot + a.slot) c) (r.areas n old_store.0 old_store.1) f
+
+  pub new_areas : (j : ℕ) (store : SlotStore) → slice_get news j ≡ Some store → store.area ≡ area_of j
+  new_areas j store there = elim (cases_eq j n) [
+    | inl same ↦
+        ap (λ (s : SlotStore). s.area) (sym (is_new j store same there)) ∙ is_replaced.same ∙ r.areas n old_store.0 old_store.1
+        ∙ ap area_of (sym same)
+    | inr other ↦ r.areas j store (sym (r.others j other) ∙ there)
+  ]
+
+  pub new_rests : done ≡ true → (j : ℕ) (store : SlotStore) → slice_get news j ≡ Some store → Always (Rests store) now
+  new_rests passed j store there c left = elim (cases_eq j n) [
+    | inl same ↦ subst (λ (s : SlotStore). Rests s c) (is_new j store same there) (is_replaced.rests passed c left)
+    | inr other ↦
+        let was : slice_get stores j ≡ Some store = sym (r.others j other) ∙ there in
+        let frame = around_area c (is_replaced.outside passed c left) in
+        let area = r.areas j store was in
+        r.local.rests store c frame.0 (subst (λ (a : Area). 1 ≤ a.slot) (sym area) (omega arith))
+        (subst (λ (a : Area). SameWithin a c frame.0) (sym area) (apart j n c frame.0 other frame.2)) (r.rests j store was frame.0 frame.1)
+  ]
