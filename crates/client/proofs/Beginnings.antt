@@ -1,5 +1,5 @@
 -- A client that is begun, and why none is.
-use Rattle.std.proofs.Common.{Bool, List, None, Option, Some, ◌+◌, false, inl, inr, refl, sym, true, ℕ, ⊎_elim, ◌∙◌, ◌≡◌, ◌⊎◌}
+use Rattle.std.proofs.Common.{Bool, List, None, Option, Some, ap, ◌+◌, false, inl, inr, refl, sym, true, ℕ, ⊎_elim, ◌∙◌, ◌≡◌, ◌⊎◌}
 use Rattle.std.specs.Prelude.{IsSome, is_some}
 use Rattle.dr_base.specs.Causes.{Rose}
 use Rattle.dr_base.specs.declared.position.Side.{Side}
@@ -20,13 +20,15 @@ use Rattle.slot_store.specs.Found.{found_as}
 use Rattle.slot_store.specs.Laws.{IsRead}
 use Rattle.slot_store.specs.Reading.{IsEntryOrLike, IsLikeRead, IsUndamaged, damaged, holds, no_content, reading}
 use Rattle.slot_store.specs.Slots.{recovered}
-use Rattle.slot_store.specs.Store.{IsOldOrNew, KeepsOutside}
+use Rattle.slot_store.specs.Store.{IsOldOrNew, KeepsOutside, Rests, content}
+use Rattle.slot_store.specs.declared.store.SlotStore.{SlotStore}
 use Rattle.slot_store.specs.declared.errors.OpenError.{OpenError}
 use Rattle.slot_store.specs.declared.errors.OpenError.TheVariants.{Damaged, Memory, StoreFault}
+use Rattle.slot_store.specs.declared.opening.Found.{Found}
 use Rattle.slot_store.specs.declared.opening.Found.TheVariants.{Content}
 use Rattle.client.specs.Beginning.{IsEntryOrFirst, IsFirst, IsUnbegun, begin_refusal, begun_client}
 use Rattle.client.specs.Clients.{client_area}
-use Rattle.client.specs.Opening.{IsReadAs, record_fault}
+use Rattle.client.specs.Opening.{IsReadAs, RestsAsRead, record_fault}
 
 -- the store refused
 pub unbegun : {X : Type 0} (state : X → DiskState) (k : Mechanism) (key : List ℕ) (start now : X) (error : OpenError)
@@ -45,6 +47,27 @@ pub held : (o : Option (List ℕ)) → is_some o ≡ true
     → (text : List ℕ) × (found_as Content o ≡ holds text)
 held None some = absurd (cc some)
 held (Some text) some = (text, refl)
+
+has_some : (o : Option (List ℕ)) → is_some o ≡ true → (text : List ℕ) × (o ≡ Some text)
+has_some None some = absurd (cc some)
+has_some (Some text) some = (text, refl)
+
+-- and the area is at rest for it
+pub rests_as_read : (k : Mechanism) → IsRead → (found : Found) (store : SlotStore) (start now : DiskState) → found ≡ Content
+    → is_some (content store) ≡ true → store.area ≡ client_area
+    → ((s : List ℕ) → start.seen ≡ Some s → reading (record_fault k) client_area s ≡ found_as found (content store))
+    → Always (λ c. Rests store c × IsLikeRead client_area start c) now → RestsAsRead start now
+rests_as_read k readings found store start now is some area verdict rest =
+    let text = has_some (content store) some in
+    record {
+      store = store;
+      area = area;
+      rests = λ c left. (rest c left).0;
+      read = λ s told.
+          readings.content (record_fault k) client_area s text.0
+          (verdict s told ∙ ap (λ f. found_as f (content store)) is ∙ ap (found_as Content) text.1)
+          ∙ sym text.1;
+    }
 
 module _ (k : Mechanism) (readings : IsRead) (key : List ℕ) (side : Side) (start mid now : DiskState) (lawful : IsLawful start)
     (none : IsReadAs k start no_content) (pair : IsSome (k.meaning.pair_of (agreement_seed key))) (alike : Always (IsLikeRead client_area start) mid)

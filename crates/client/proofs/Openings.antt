@@ -1,5 +1,5 @@
 -- A client that is opened, and why none is.
-use Rattle.std.proofs.Common.{Err, List, None, Ok, Result, Some, ap, arith, inl, inr, refl, subst, sym, ℕ, ⊎_elim, ◌∙◌, ◌≡◌, ◌⊎◌}
+use Rattle.std.proofs.Common.{Err, List, None, Ok, Option, Result, Some, ap, arith, inl, inr, refl, subst, sym, ℕ, ⊎_elim, ◌∙◌, ◌≡◌, ◌⊎◌}
 use Rattle.std.specs.Prelude.{IfOk, option_map}
 use Rattle.dr_base.specs.declared.position.Side.{Side}
 use Rattle.dr_base.specs.Causes.{Rose}
@@ -24,7 +24,7 @@ use Rattle.slot_store.specs.declared.opening.Found.{Found}
 use Rattle.slot_store.specs.declared.opening.Found.TheVariants.{Content}
 use Rattle.slot_store.specs.declared.store.SlotStore.{SlotStore}
 use Rattle.client.specs.Clients.{ClientNow, client_area}
-use Rattle.client.specs.Opening.{IsOpened, IsUnopened, OpensIn, Reads, open_refusal, record_fault}
+use Rattle.client.specs.Opening.{IsLeftAtRest, IsOpened, IsUnopened, OpensIn, Reads, open_refusal, record_fault}
 use Rattle.client.specs.InWorlds.{IsIn, StandsFor}
 use Rattle.client.specs.declared.refusals.OpenRefusal.{OpenRefusal}
 
@@ -40,8 +40,17 @@ unopened state k start now Memory hurt memory fault = memory refl
 unopened state k start now (StoreFault call) hurt memory fault = fault call refl
 unopened state k start now (Damaged slot at) hurt memory fault = let all = hurt slot at refl in (all.3, all.1, all.0)
 
+-- what was at rest is left so
+pub left_unopened : (fault_at : List ℕ → Option ℕ) (start now : DiskState) (error : OpenError) → Unwritten start now
+    → ((slot at : ℕ) → error ≡ Damaged slot at → Unwritten start now × IsQuiet start now × HavePassed 1 start now
+    × ((s : List ℕ) → start.seen ≡ Some s → reading fault_at client_area s ≡ damaged slot at))
+    → IsLeftAtRest start now (Err (open_refusal error))
+left_unopened fault_at start now Memory unwritten hurt = record { unwritten = unwritten; one_sync = tt }
+left_unopened fault_at start now (StoreFault call) unwritten hurt = record { unwritten = unwritten; one_sync = tt }
+left_unopened fault_at start now (Damaged slot at) unwritten hurt = record { unwritten = unwritten; one_sync = (hurt slot at refl).2 }
+
 -- what was read without damage, where there is a record
-read_as : (k : Mechanism) → IsRead → (found : Found) (store : SlotStore) (s text : List ℕ) (kept : Client)
+pub read_as : (k : Mechanism) → IsRead → (found : Found) (store : SlotStore) (s text : List ℕ) (kept : Client)
     → found ≡ Content → content store ≡ Some text → record_read k text ≡ Ok kept
     → reading (record_fault k) client_area s ≡ found_as found (content store)
     → option_map (record_read k) (recovered client_area s) ≡ Some (Ok kept)

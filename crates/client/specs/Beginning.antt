@@ -16,7 +16,7 @@ use Rattle.slot_store.specs.Store.{KeepsOutside}
 use Rattle.slot_store.specs.declared.errors.OpenError.{OpenError}
 use Rattle.slot_store.specs.declared.errors.OpenError.TheVariants.{Damaged as StoreDamaged, Memory as StoreMemory, StoreFault as DiskFault}
 use Rattle.client.specs.Clients.{ClientNow, IsReady, client_area}
-use Rattle.client.specs.Opening.{IsReadAs, record_fault}
+use Rattle.client.specs.Opening.{IsReadAs, RestsAsRead, record_fault}
 use Rattle.client.specs.declared.refusals.BeginRefusal.{BeginRefusal}
 use Rattle.client.specs.declared.refusals.BeginRefusal.TheVariants.{Damaged, Exists, Memory, NoPair, StoreFault}
 
@@ -63,6 +63,7 @@ IsUnbegun state k key start now Memory = now ≡ start
 IsUnbegun state k key start now (StoreFault call) = Rose ((state start).faults call) ((state now).faults call)
 IsUnbegun state k key start now (Damaged slot at) =
     IsReadAs k (state start) (damaged slot at) × IsQuiet (state start) (state now) × Unwritten (state start) (state now)
-IsUnbegun state k key start now Exists = HoldsRecord k (state start) × IsQuiet (state start) (state now)
+IsUnbegun state k key start now Exists =
+    HoldsRecord k (state start) × IsQuiet (state start) (state now) × RestsAsRead (state start) (state now)
 IsUnbegun state k key start now NoPair =
     IsReadAs k (state start) no_content × IsNone (k.meaning.pair_of (agreement_seed key)) × IsQuiet (state start) (state now)

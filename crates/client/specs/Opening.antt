@@ -3,7 +3,7 @@ use Rattle.std.specs.Prelude.{Err, IfOk, List, None, Ok, Option, Result, Some, o
 use Rattle.dr_base.specs.Causes.{Rose}
 use Rattle.dr_base.specs.declared.position.Side.{Side}
 use Rattle.dr_disk.specs.Calls.{Unwritten}
-use Rattle.dr_disk.specs.Spans.{IsQuiet, Span}
+use Rattle.dr_disk.specs.Spans.{HavePassed, IsQuiet, Span}
 use Rattle.dr_disk.specs.State.{Always, DiskState, IsSettled}
 use Rattle.dr_model.specs.Machines.Worlds.{World}
 use Rattle.kem_laws.specs.Mechanism.{Mechanism}
@@ -12,6 +12,8 @@ use Rattle.session_record.specs.Lawful.{IsLawfulClient}
 use Rattle.session_record.specs.Record.{record_read, record_text}
 use Rattle.slot_store.specs.Reading.{IsLikeRead, IsUndamaged, Reading, damaged, no_content, reading}
 use Rattle.slot_store.specs.Slots.{recovered}
+use Rattle.slot_store.specs.Store.{Rests, content}
+use Rattle.slot_store.specs.declared.store.SlotStore.{SlotStore}
 use Rattle.slot_store.specs.declared.errors.OpenError.{OpenError}
 use Rattle.slot_store.specs.declared.errors.OpenError.TheVariants.{Damaged as StoreDamaged, Memory as StoreMemory, StoreFault as DiskFault}
 use Rattle.client.specs.Clients.{ClientNow, IsReady, client_area}
@@ -47,6 +49,13 @@ pub record IsOpened (k : Mechanism) (client : ClientNow) (start now : DiskState)
   pub settled : IsSettled now
   pub quiet : IsQuiet start now
 
+-- at rest for the record that was read
+pub record RestsAsRead (start now : DiskState) : Type 0 where
+  pub store : SlotStore
+  pub area : store.area ≡ client_area
+  pub rests : Always (Rests store) now
+  pub read : (s : List ℕ) → start.seen ≡ Some s → recovered client_area s ≡ content store
+
 -- why no client was opened
 abbrev pub IsUnopened : {X : Type 0} → (X → DiskState) → Mechanism → X → X → OpenRefusal → Type 0
 IsUnopened state k start now Memory = now ≡ start
@@ -69,6 +78,17 @@ abbrev pub SaysNothing : OpenRefusal → Type 0
 SaysNothing Memory = ⊤
 SaysNothing (StoreFault call) = ⊤
 SaysNothing _ = ⊥
+
+-- one sync is all that was called besides reads, but where memory was wanting or a call failed
+abbrev pub HasOneSync : DiskState → DiskState → Result ClientNow OpenRefusal → Type 0
+HasOneSync start now (Err Memory) = ⊤
+HasOneSync start now (Err (StoreFault call)) = ⊤
+HasOneSync start now _ = HavePassed 1 start now
+
+-- what an opening does where the client's area was read at rest: no byte is written
+pub record IsLeftAtRest (start now : DiskState) (result : Result ClientNow OpenRefusal) : Type 0 where
+  pub unwritten : Unwritten start now
+  pub one_sync : HasOneSync start now result
 
 -- what a read gives stands for a side of a world
 pub record Reads (k : Mechanism) (w : World) (side : Side) (disk : DiskState) : Type 0 where

@@ -9,10 +9,11 @@ ghost use Rattle.dr_model.specs.Machines.Worlds.{World};
 ghost use Rattle.dr_model.specs.Theorems.LawfulWorlds.{IsLawfulWorld};
 ghost use Rattle.session_record.specs.Lawful.{IsLawfulClient};
 ghost use Rattle.session_record.specs.Record.{client_of, record_read, record_text};
+ghost use Rattle.slot_store.specs.AtRest.{IsReadAtRest};
 ghost use Rattle.slot_store.specs.Reading.{IsEntryOrLike, IsLikeRead};
 ghost use Rattle.slot_store.specs.Store.{IsWithin, content};
 ghost use Rattle.client.specs.Clients.{client_area};
-ghost use Rattle.client.specs.Opening.{IsOpened, IsUnopened, OpensIn, Reads, open_refusal, record_fault};
+ghost use Rattle.client.specs.Opening.{IsLeftAtRest, IsOpened, IsUnopened, OpensIn, Reads, open_refusal, record_fault};
 
 use crate::client::{Client, SLOT};
 use crate::refusals::OpenRefusal;
@@ -111,6 +112,8 @@ impl<K: Kem> Client<K> {
         // Meanwhile, and in each ending, crashes and reads give what they gave, but for what was tidied.
         ensures any_moment { Span (D.state disk.old) (D.state disk.new) (IsEntryOrLike client_area (D.state disk.old)) }
         ensures reads { (s : List ℕ) → (D.state disk.new).seen ≡ Some s → IsLikeRead client_area (D.state disk.old) s }
+        // Where all was read at rest, no byte is written.
+        ensures still { IsReadAtRest client_area (D.state disk.old) → IsLeftAtRest (D.state disk.old) (D.state disk.new) result }
         // In each world that a read stands for.
         ensures in_worlds { (w : World) (side : Side) → IsLawfulWorld K.mechanism w
             → Reads K.mechanism w side (D.state disk.old)
@@ -128,6 +131,7 @@ impl<K: Kem> Client<K> {
         // Meanwhile, and in each ending, crashes and reads give what they gave, but for what was tidied.
         ensures any_moment { Span (D.state disk.old) (D.state disk.new) (IsEntryOrLike client_area (D.state disk.old)) }
         ensures reads { (s : List ℕ) → (D.state disk.new).seen ≡ Some s → IsLikeRead client_area (D.state disk.old) s }
+        ensures still { IsReadAtRest client_area (D.state disk.old) → IsLeftAtRest (D.state disk.old) (D.state disk.new) result }
         ensures fate { (D.state disk.old).fate ≡ Fate.all_pass →
             IfErr result (λ e. (call : Call) → e ≢ OpenRefusal.StoreFault call) × ((D.state disk.new).fate ≡ Fate.all_pass) }
     {

@@ -88,12 +88,13 @@ module _ {X : Type 0} (state : X → DiskState) (k : Mechanism) (start mid now :
   settles act (acknowledged answer) acts = ready_by (has_effect answer) act answer acts
   settles act (faulted call) acts = tt
 
-  module _ (w : World) (side : Side) (opens : OpensIn k w side (state start) (state mid) (Ok client)) (asked : Asked) where
+  module _ (w : World) (side : Side) (stands : Reads k w side (state start)) (opens : OpensIn k w side (state start) (state mid) (Ok client))
+      (asked : Asked) where
     pub undrawn_in : asked.undrawn client.kept → now ≡ mid
         → RunsIn k w side asked (state start) (state now) (ending_by (worked_as undrawn)) []
     undrawn_in lacks same =
         stays_undrawn (subst asked.undrawn opens.client.0.keeps lacks)
-        (stays_on state k start mid now lawful client opened same side w opens.any_moment opens.client.1)
+        (stays_on state k start mid now lawful client opened same side w stands opening)
         (at_rest_in k w side client (state now) opens.client.0.keeps (still_ready state k start mid now lawful client opened same))
 
     -- what is asked of the client is asked of the side
@@ -107,19 +108,19 @@ module _ {X : Type 0} (state : X → DiskState) (k : Mechanism) (start mid now :
         absurd (let e : None ≡ Some call = sym opened.is_open ∙ settled in cc)
     runs_in act asks fair (refused refusal) settled acts =
         stays_refused act refusal (asked_in act asks) fair acts.0
-        (stays_on state k start mid now lawful client opened settled side w opens.any_moment opens.client.1)
+        (stays_on state k start mid now lawful client opened settled side w stands opening)
         (at_rest_in k w side client (state now) opens.client.0.keeps
         (still_ready state k start mid now lawful client opened settled))
     runs_in act asks fair undrawn settled acts = absurd acts
     runs_in act asks fair (acknowledged answer) settled acts =
         subst (λ a. RunsIn k w side asked (state start) (state now) Done (answer_line a)) acts.0
         (goes_on act (asked_in act asks) fair
-        (runs_on (state start) (state mid) (state now) lawful k side w (act_in k w side act).next opens.any_moment opens.client.1
+        (runs_on (state start) (state mid) (state now) lawful k side w (act_in k w side act).next stands opening opened.alike
         acts.2)
         (at_rest_in k (act_in k w side act).next side after (state now) acts.1.keeps settled))
     runs_in act asks fair (faulted call) settled acts =
         is_in_doubt act (asked_in act asks) fair
-        (runs_on (state start) (state mid) (state now) lawful k side w (act_in k w side act).next opens.any_moment opens.client.1
+        (runs_on (state start) (state mid) (state now) lawful k side w (act_in k w side act).next stands opening opened.alike
         acts.1)
 
   -- the whole of a command whose act is what it asks
@@ -135,6 +136,6 @@ module _ {X : Type 0} (state : X → DiskState) (k : Mechanism) (start mid now :
     acted = acted_as asked act asks outcome acts;
     in_worlds = λ w side lawful_world stands fair.
         let open_in = opens w side lawful_world stands in
-        runs_in w side open_in asked act asks (fairly w side fair) outcome (settles act outcome acts)
+        runs_in w side stands open_in asked act asks (fairly w side fair) outcome (settles act outcome acts)
         (acts_in w side open_in.client.0 fair);
   }

@@ -19,11 +19,11 @@ use Rattle.client.specs.Clients.{ClientNow, client_area}
 use Rattle.client.specs.InWorlds.{IsIn}
 use Rattle.client.specs.Opening.{Reads, record_fault}
 use Rattle.client.specs.declared.refusals.BeginRefusal.{BeginRefusal}
-use Rattle.client.proofs.Openings.{like_stands}
 use Rattle.session_commands.specs.Beginning.{Began, Begins, was_begun, wasnt_begun}
 use Rattle.session_commands.specs.Disks.{IsAtRest, RunsOn, StandsForOne}
 use Rattle.session_commands.specs.Lines.{session_line}
 use Rattle.session_commands.specs.Opening.{ending_of_begin}
+use Rattle.session_commands.proofs.Standing.{like_stands_for}
 
 -- where a world was read, no first record was put
 never_first : (k : Mechanism) → IsRead → (key : List ℕ) (side : Side) (w : World) (whose : Side) (start : DiskState) (c : List ℕ)
@@ -41,13 +41,13 @@ module _ {X : Type 0} (state : X → DiskState) (k : Mechanism) (readings : IsRe
   worlds_stay w whose reads = record {
     any_moment =
         widen (state start) (state now) (IsEntryOrFirst k key side (state start))
-        (λ c. (state start).image c ⊎ StandsForOne k whose w w c)
+        (λ c. (state start).image c ⊎ StandsForOne k whose w w (state start) c)
         (λ c s.
         ⊎_elim
-        (λ left. ⊎_elim (λ was. inl was) (λ like. inr (inl (like_stands k w whose (state start) c reads like))) left)
+        (λ left. ⊎_elim (λ was. inl was) (λ like. inr (like_stands_for k whose w w (state start) c reads like)) left)
         (λ first. absurd (never_first k readings key side w whose (state start) c reads first)) s) span;
     reads = λ s told.
-        ⊎_elim (λ like. inl (like_stands k w whose (state start) s reads like))
+        ⊎_elim (λ like. like_stands_for k whose w w (state start) s reads like)
         (λ first. absurd (never_first k readings key side w whose (state start) s reads first)) (seen s told);
   }
 

@@ -62,15 +62,15 @@ module _ {X W : Type 0} (state : X → DiskState) (coming : W → Option Seeds) 
       settles state k start mid now lawful client after opened opening (saying text (Some seed.bytes)) (said_as r) acts
   said_settles result (draw_failed asks rose same stays leaves) = leaves
 
-  says_runs_in : (w : World) (side : Side) → OpensIn k w side (state start) (state mid) (Ok client) → (outcome : Outcome)
+  says_runs_in : (w : World) (side : Side) → Reads k w side (state start) → OpensIn k w side (state start) (state mid) (Ok client) → (outcome : Outcome)
       → Settles state k start mid now lawful client after opened opening outcome
       → SaysIn coming faults k w side text client after (state mid) (state now) source left outcome
       → RunsIn k w side asked (state start) (state now) (ending_by (worked_as outcome)) (lines_by (worked_as outcome))
-  says_runs_in w side opens outcome settled (acted o draw drew fair acts) =
-      runs_in state k start mid now lawful client after opened opening w side opens asked (saying text draw) (asked_by draw drew)
+  says_runs_in w side stands opens outcome settled (acted o draw drew fair acts) =
+      runs_in state k start mid now lawful client after opened opening w side stands opens asked (saying text draw) (asked_by draw drew)
       (fair opened.is_open) o settled acts
-  says_runs_in w side opens outcome settled (stayed asks rose same keeps) =
-      undrawn_in state k start mid now lawful client after opened opening w side opens asked
+  says_runs_in w side stands opens outcome settled (stayed asks rose same keeps) =
+      undrawn_in state k start mid now lawful client after opened opening w side stands opens asked
       (record { needed = needs _ asks; rose = rose; none = same }) settled
 
   pub say_runs : (result : Result Position SayRefusal) → Says state coming faults k text client after mid now source left result
@@ -82,5 +82,5 @@ module _ {X W : Type 0} (state : X → DiskState) (coming : W → Option Seeds) 
     acted = said result says;
     in_worlds = λ w side lawful_world stands fair.
         let open_in = opens w side lawful_world stands in
-        says_runs_in w side open_in (said_as result) (said_settles result says) (says_in w side open_in.client.0);
+        says_runs_in w side stands open_in (said_as result) (said_settles result says) (says_in w side open_in.client.0);
   }

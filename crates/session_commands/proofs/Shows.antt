@@ -28,7 +28,7 @@ shown_runs state k shows start now lawful client opened opening opens = record {
   in_worlds = λ w side lawful_world stands.
       let open_in = opens w side lawful_world stands in
       subst (λ (kept : Client). ShowsIn k w side shows (state start) (state now) Done (shows kept)) (sym open_in.client.0.keeps)
-      (shows_world (stays_on state k start now now lawful client opened refl side w open_in.any_moment open_in.client.1)
+      (shows_world (stays_on state k start now now lawful client opened refl side w stands opening)
       (subst (λ (kept : Client). IsAtRest kept (state now)) open_in.client.0.keeps
       (record { store = client.store; ready = opened.ready })));
 }

@@ -1,25 +1,56 @@
 -- What a disk leaves over an opening, and what came after it.
-use Rattle.std.proofs.Common.{List, Some, inl, inr, subst, sym, ℕ, ⊎_elim, ◌≡◌, ◌⊎◌}
+use Rattle.std.proofs.Common.{List, Some, inl, inr, subst, sym, ℕ, ⊎_elim, ◌+◌, ◌≡◌, ◌⊎◌}
 use Rattle.dr_base.specs.declared.position.Side.{Side}
 use Rattle.dr_disk.specs.Spans.{IsQuiet, Span}
 use Rattle.dr_disk.specs.State.{Always, DiskState, IsLawful}
+use Rattle.dr_disk.proofs.Ranges.{torn_twice}
 use Rattle.dr_disk.proofs.Steps.{spans, stays, widen}
 use Rattle.dr_model.specs.Machines.Worlds.{World}
 use Rattle.kem_laws.specs.Mechanism.{Mechanism}
 use Rattle.session_model.specs.Clients.{Client}
 use Rattle.session_record.specs.Record.{record_text}
-use Rattle.slot_store.specs.Reading.{IsEntryOrLike, IsLikeRead}
-use Rattle.slot_store.specs.Store.{IsOldOrNew}
+use Rattle.slot_store.specs.Reading.{IsEntryOrLike, IsLikeRead, IsUndamaged}
+use Rattle.slot_store.specs.Store.{IsOldOrNew, KeepsOutside}
 use Rattle.client.specs.Clients.{ClientNow, IsReady, client_area}
-use Rattle.client.specs.InWorlds.{IsBetween, StandsFor, StandsForEither}
-use Rattle.client.specs.Opening.{IsOpened}
+use Rattle.client.specs.InWorlds.{IsBetween, StandsForEither}
+use Rattle.client.specs.Opening.{IsOpened, Reads}
 use Rattle.client.specs.Outcomes.{IsReplacing}
-use Rattle.session_commands.specs.Disks.{IsLeft, Leaves, LeavesEither, RunsOn, StandsForOne, is_after, is_before, is_like}
+use Rattle.client.proofs.Openings.{like_stands}
+use Rattle.session_commands.specs.Disks.{IsLeft, IsSound, Leaves, LeavesEither, RunsOn, StandsForOne, is_after, is_before, is_like}
+
+-- what is like what was read is sound
+pub like_sound : (start : DiskState) (c : List ℕ) → IsLikeRead client_area start c → IsSound start c
+like_sound start c like = record { read = like.read; told = like.told; undamaged = like.undamaged; outside = like.outside }
+
+-- so is what was left over such bytes, read without damage
+pub left_sound : (start mid : DiskState) (c : List ℕ) → Always (IsLikeRead client_area start) mid → IsUndamaged client_area c
+    → KeepsOutside client_area mid c → IsSound start c
+left_sound start mid c alike whole kept =
+    let like = alike kept.0 kept.1 in
+    record {
+      read = like.read;
+      told = like.told;
+      undamaged = λ _. whole;
+      outside = torn_twice client_area.start (client_area.slot + client_area.slot) like.read kept.0 c like.outside kept.2;
+    }
+
+pub like_stands_for : (k : Mechanism) (side : Side) (before after : World) (start : DiskState) (c : List ℕ) → Reads k before side start
+    → IsLikeRead client_area start c → StandsForOne k side before after start c
+like_stands_for k side before after start c reads like =
+    record { either = inl (like_stands k before side start c reads like); sound = like_sound start c like }
 
 module _ (start mid now : DiskState) (lawful : IsLawful now) where
-  left_by : (before after : Client) (c : List ℕ)
-      → IsOldOrNew mid client_area (Some (record_text before)) (Some (record_text after)) c → IsLeft before after start c
-  left_by before after c s = ⊎_elim (λ old. is_before old) (λ new. is_after new) s.either
+  module _ (alike : Always (IsLikeRead client_area start) mid) where
+    left_by : (before after : Client) (c : List ℕ)
+        → IsOldOrNew mid client_area (Some (record_text before)) (Some (record_text after)) c → IsLeft before after start c
+    left_by before after c s =
+        let sound = left_sound start mid c alike s.undamaged s.frame in
+        ⊎_elim (λ old. is_before (record { has = old; undamaged = s.undamaged; sound = sound }))
+        (λ new. is_after (record { has = new; undamaged = s.undamaged; sound = sound })) s.either
+
+    stands_by : (k : Mechanism) (side : Side) (before after : World) (c : List ℕ) → StandsForEither k side before after mid c
+        → StandsForOne k side before after start c
+    stands_by k side before after c s = record { either = s.either; sound = left_sound start mid c alike s.undamaged s.outside }
 
   pub leaves_either : (before after : Client) → Span start mid (IsEntryOrLike client_area start)
       → Always (IsLikeRead client_area start) mid → IsReplacing before after mid now → LeavesEither before after start now
@@ -29,33 +60,36 @@ module _ (start mid now : DiskState) (lawful : IsLawful now) where
         (widen start mid (IsEntryOrLike client_area start) (λ c. start.image c ⊎ IsLeft before after start c)
         (λ c s. ⊎_elim (λ was. inl was) (λ like. inr (is_like like)) s) opening)
         (widen mid now (IsOldOrNew mid client_area (Some (record_text before)) (Some (record_text after)))
-        (λ c. start.image c ⊎ IsLeft before after start c) (λ c s. inr (left_by before after c s)) replacing);
+        (λ c. start.image c ⊎ IsLeft before after start c) (λ c s. inr (left_by alike before after c s)) replacing);
     reads = λ s told.
-        ⊎_elim (λ was. is_like (alike s was)) (λ new. left_by before after s new) (replacing.last s (lawful.seen_now s told));
+        ⊎_elim (λ was. is_like (alike s was)) (λ new. left_by alike before after s new)
+        (replacing.last s (lawful.seen_now s told));
   }
 
-  pub runs_on : (k : Mechanism) (side : Side) (before after : World)
-      → Span start mid (λ c. start.image c ⊎ StandsFor k before side c) → Always (StandsFor k before side) mid
+  pub runs_on : (k : Mechanism) (side : Side) (before after : World) → Reads k before side start
+      → Span start mid (IsEntryOrLike client_area start) → Always (IsLikeRead client_area start) mid
       → IsBetween k side before after mid now → RunsOn k side before after start now
-  runs_on k side before after opening stand between = record {
+  runs_on k side before after stands opening alike between = record {
     any_moment =
-        spans start mid now (λ c. start.image c ⊎ StandsForOne k side before after c)
-        (widen start mid (λ c. start.image c ⊎ StandsFor k before side c) (λ c. start.image c ⊎ StandsForOne k side before after c)
-        (λ c s. ⊎_elim (λ was. inl was) (λ is. inr (inl is)) s) opening)
-        (widen mid now (StandsForEither k side before after mid) (λ c. start.image c ⊎ StandsForOne k side before after c)
-        (λ c s. inr s.either) between);
-    reads = λ s told. ⊎_elim (λ was. inl (stand s was)) (λ new. new.either) (between.last s (lawful.seen_now s told));
+        spans start mid now (λ c. start.image c ⊎ StandsForOne k side before after start c)
+        (widen start mid (IsEntryOrLike client_area start) (λ c. start.image c ⊎ StandsForOne k side before after start c)
+        (λ c s. ⊎_elim (λ was. inl was) (λ like. inr (like_stands_for k side before after start c stands like)) s) opening)
+        (widen mid now (StandsForEither k side before after mid) (λ c. start.image c ⊎ StandsForOne k side before after start c)
+        (λ c s. inr (stands_by alike k side before after c s)) between);
+    reads = λ s told.
+        ⊎_elim (λ was. like_stands_for k side before after start s stands (alike s was))
+        (λ new. stands_by alike k side before after s new) (between.last s (lawful.seen_now s told));
   }
 
 -- where only the opening was
-pub only_opened : (k : Mechanism) (side : Side) (w : World) (start now : DiskState)
-    → Span start now (λ c. start.image c ⊎ StandsFor k w side c) → ((s : List ℕ) → now.seen ≡ Some s → StandsFor k w side s)
-    → RunsOn k side w w start now
-only_opened k side w start now opening reads = record {
+pub only_opened : (k : Mechanism) (side : Side) (w : World) (start now : DiskState) → Reads k w side start
+    → Span start now (IsEntryOrLike client_area start)
+    → ((s : List ℕ) → now.seen ≡ Some s → IsLikeRead client_area start s) → RunsOn k side w w start now
+only_opened k side w start now stands opening reads = record {
   any_moment =
-      widen start now (λ c. start.image c ⊎ StandsFor k w side c) (λ c. start.image c ⊎ StandsForOne k side w w c)
-      (λ c s. ⊎_elim (λ was. inl was) (λ is. inr (inl is)) s) opening;
-  reads = λ s told. inl (reads s told);
+      widen start now (IsEntryOrLike client_area start) (λ c. start.image c ⊎ StandsForOne k side w w start c)
+      (λ c s. ⊎_elim (λ was. inl was) (λ like. inr (like_stands_for k side w w start c stands like)) s) opening;
+  reads = λ s told. like_stands_for k side w w start s stands (reads s told);
 }
 
 -- ---- where no call was made after the opening
@@ -76,10 +110,9 @@ module _ {X : Type 0} (state : X → DiskState) (k : Mechanism) (start mid now :
     quiet = subst (λ x. IsQuiet (state start) (state x)) (sym same) opened.quiet;
   }
 
-  pub stays_on : (side : Side) (w : World)
-      → Span (state start) (state mid) (λ c. (state start).image c ⊎ StandsFor k w side c)
-      → Always (StandsFor k w side) (state mid) → RunsOn k side w w (state start) (state now)
-  stays_on side w opening stand =
-      runs_on (state start) (state mid) (state now) lawful k side w w opening stand
+  pub stays_on : (side : Side) (w : World) → Reads k w side (state start)
+      → Span (state start) (state mid) (IsEntryOrLike client_area (state start)) → RunsOn k side w w (state start) (state now)
+  stays_on side w stands opening =
+      runs_on (state start) (state mid) (state now) lawful k side w w stands opening opened.alike
       (subst (λ x. IsBetween k side w w (state mid) (state x)) (sym same)
       (stays (state mid) (StandsForEither k side w w (state mid))))

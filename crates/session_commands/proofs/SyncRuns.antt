@@ -22,7 +22,9 @@ use Rattle.sync_model.specs.Moves.{Ending}
 use Rattle.sync_model.specs.Parties.{Party}
 use Rattle.sync_model.specs.declared.more.More.{More}
 use Rattle.client.specs.Clients.{ClientNow, IsReady, client_area}
-use Rattle.client.specs.InWorlds.{IsIn, StandsFor}
+use Rattle.client.specs.InWorlds.{IsIn}
+use Rattle.client.specs.Opening.{Reads}
+use Rattle.client.proofs.Openings.{like_stands}
 use Rattle.client.specs.Syncing.InWorlds.{IsReachedIn, LeadsTo, SyncsIn}
 use Rattle.client.specs.Syncing.Moments.{Moment, moment}
 use Rattle.client.specs.Syncing.SoFar.{IsReached, Stands, Talked}
@@ -31,6 +33,7 @@ use Rattle.client.specs.declared.syncing.faults.SyncFault.{SyncFault}
 use Rattle.client.specs.declared.syncing.faults.SyncFault.TheVariants.{Closed, Link, Peer, Refused, Store, Write}
 use Rattle.session_commands.specs.Disks.{IsAtRest}
 use Rattle.session_commands.specs.Syncing.{CameToEnd, IsStored, IsSyncLeft, LeavesCourse, RestsIn, StandsForCourse, SyncEnds, SyncRunsIn, is_as_read, is_of_course}
+use Rattle.session_commands.proofs.Standing.{left_sound, like_sound}
 
 -- ---- over a link that was opened before
 
@@ -110,6 +113,23 @@ module _ (p : Party Client) (kept : Client) (replies : List Replied) (link opene
 -- ---- what the disk holds
 
 module _ (start mid now : DiskState) (lawful : IsLawful now) where
+  module _ (alike : Always (IsLikeRead client_area start) mid) where
+    of_course : (p : Party Client) (kept : Client) (replies : List Replied) (c : List ℕ) → IsReached p kept replies mid c
+        → IsSyncLeft p kept replies start c
+    of_course p kept replies c r =
+        is_of_course r.front r.back r.split
+        (record { has = r.holds; undamaged = r.undamaged; sound = left_sound start mid c alike r.undamaged r.outside })
+
+    in_course : (k : Mechanism) (side : Side) (w : World) (replies : List Replied) (c : List ℕ) → IsReachedIn k [] side w replies mid c
+        → StandsForCourse k side w replies start c
+    in_course k side w replies c r = record {
+      front = r.front;
+      back = r.back;
+      split = r.split;
+      stands = r.stands;
+      sound = left_sound start mid c alike r.undamaged r.outside;
+    }
+
   pub leaves_course : (p : Party Client) (kept : Client) (replies : List Replied) → Span start mid (IsEntryOrLike client_area start)
       → Always (IsLikeRead client_area start) mid → Span mid now (IsReached p kept replies mid) → LeavesCourse p kept replies start now
   leaves_course p kept replies opening alike passed = record {
@@ -118,14 +138,20 @@ module _ (start mid now : DiskState) (lawful : IsLawful now) where
         (widen start mid (IsEntryOrLike client_area start) (λ c. start.image c ⊎ IsSyncLeft p kept replies start c)
         (λ c s. ⊎_elim (λ was. inl was) (λ like. inr (is_as_read like)) s) opening)
         (widen mid now (IsReached p kept replies mid) (λ c. start.image c ⊎ IsSyncLeft p kept replies start c)
-        (λ c r. inr (is_of_course r.front r.back r.split r.holds)) passed);
+        (λ c r. inr (of_course alike p kept replies c r)) passed);
     reads = λ s told.
-        ⊎_elim (λ was. is_as_read (alike s was)) (λ r. is_of_course r.front r.back r.split r.holds) (passed.last s (lawful.seen_now s told));
+        ⊎_elim (λ was. is_as_read (alike s was)) (λ r. of_course alike p kept replies s r) (passed.last s (lawful.seen_now s told));
   }
 
   module _ (k : Mechanism) (side : Side) (w : World) (replies : List Replied) where
-    stands_first : (c : List ℕ) → StandsFor k w side c → StandsForCourse k side w replies c
-    stands_first c stands = record { front = []; back = replies; split = refl; stands = stands }
+    stands_first : (c : List ℕ) → Reads k w side start → IsLikeRead client_area start c → StandsForCourse k side w replies start c
+    stands_first c reads like = record {
+      front = [];
+      back = replies;
+      split = refl;
+      stands = like_stands k w side start c reads like;
+      sound = like_sound start c like;
+    }
 
     module _ (client after : ClientNow) (taken wrote : Option (List ℕ)) (before middle : ℕ) (p : Party Client) (from to : Port) where
       abbrev ahead : Moment
@@ -148,20 +174,19 @@ module _ (start mid now : DiskState) (lawful : IsLawful now) where
       rests_in (Err (Store call)) ends leads = tt
       rests_in (Err Write) ends leads = at_rest ends.stands _ leads.0
 
-      pub sync_runs : (result : Result More SyncFault) → Span start mid (λ c. start.image c ⊎ StandsFor k w side c) → Always (StandsFor k w side) mid
-          → Ends p replies ahead behind from to result → SyncsIn k [] side w replies ahead behind result
-          → SyncRunsIn k side w client.kept replies start now result
-      sync_runs result opening stand ends syncs = record {
+      pub sync_runs : (result : Result More SyncFault) → Reads k w side start → Span start mid (IsEntryOrLike client_area start)
+          → Always (IsLikeRead client_area start) mid → Ends p replies ahead behind from to result
+          → SyncsIn k [] side w replies ahead behind result → SyncRunsIn k side w client.kept replies start now result
+      sync_runs result stands opening alike ends syncs = record {
         same = syncs.same;
         any_moment =
-            spans start mid now (λ c. start.image c ⊎ StandsForCourse k side w replies c)
-            (widen start mid (λ c. start.image c ⊎ StandsFor k w side c) (λ c. start.image c ⊎ StandsForCourse k side w replies c)
-            (λ c s. ⊎_elim (λ was. inl was) (λ stands. inr (stands_first c stands)) s) opening)
-            (widen mid now (IsReachedIn k [] side w replies mid) (λ c. start.image c ⊎ StandsForCourse k side w replies c)
-            (λ c r. inr (record { front = r.front; back = r.back; split = r.split; stands = r.stands })) syncs.passed);
+            spans start mid now (λ c. start.image c ⊎ StandsForCourse k side w replies start c)
+            (widen start mid (IsEntryOrLike client_area start) (λ c. start.image c ⊎ StandsForCourse k side w replies start c)
+            (λ c s. ⊎_elim (λ was. inl was) (λ like. inr (stands_first c stands like)) s) opening)
+            (widen mid now (IsReachedIn k [] side w replies mid) (λ c. start.image c ⊎ StandsForCourse k side w replies start c)
+            (λ c r. inr (in_course alike k side w replies c r)) syncs.passed);
         reads = λ s told.
-            ⊎_elim (λ was. stands_first s (stand s was))
-            (λ (r : IsReachedIn k [] side w replies mid s). record { front = r.front; back = r.back; split = r.split; stands = r.stands })
+            ⊎_elim (λ was. stands_first s stands (alike s was)) (λ r. in_course alike k side w replies s r)
             (syncs.passed.last s (lawful.seen_now s told));
         rests = rests_in result ends syncs.leads;
       }

@@ -26,14 +26,12 @@ module _ {X : Type 0} (state : X → DiskState) (k : Mechanism) (start now : X) 
   unopened_runs asked idle = record {
     acted = was_unopened refusal why (record { any_moment = opening; reads = reads }) idle;
     in_worlds = λ w side lawful stands fair.
-        let opens = in_worlds w side lawful stands in
-        stays_unopened refusal (only_opened k side w (state start) (state now) opens.any_moment opens.reads);
+        stays_unopened refusal (only_opened k side w (state start) (state now) stands opening reads);
   }
 
   pub unopened_shows : (shows : Client → List ℕ) → RunsShow state k shows start now (ending_of_open refusal) []
   unopened_shows shows = record {
     shown = wasnt_opened refusal why (record { any_moment = opening; reads = reads });
     in_worlds = λ w side lawful stands.
-        let opens = in_worlds w side lawful stands in
-        shows_nothing refusal (only_opened k side w (state start) (state now) opens.any_moment opens.reads);
+        shows_nothing refusal (only_opened k side w (state start) (state now) stands opening reads);
   }

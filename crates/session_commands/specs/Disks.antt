@@ -1,13 +1,14 @@
 -- What a client's disk holds, before a command and after it.
-use Rattle.std.specs.Prelude.{List, Ok, Some, option_map, ℕ, ◌⊎◌, ◌≡◌}
+use Rattle.std.specs.Prelude.{List, Ok, Some, option_map, ℕ, ◌+◌, ◌⊎◌, ◌≡◌}
 use Rattle.dr_base.specs.declared.position.Side.{Side}
+use Rattle.dr_disk.specs.Bytes.{Torn}
 use Rattle.dr_disk.specs.Spans.{IsQuiet, Span}
 use Rattle.dr_disk.specs.State.{DiskState}
 use Rattle.dr_model.specs.Machines.Worlds.{World}
 use Rattle.kem_laws.specs.Mechanism.{Mechanism}
 use Rattle.session_model.specs.Clients.{Client}
 use Rattle.session_record.specs.Record.{record_read, record_text}
-use Rattle.slot_store.specs.Reading.{IsEntryOrLike, IsLikeRead}
+use Rattle.slot_store.specs.Reading.{IsEntryOrLike, IsLikeRead, IsUndamaged}
 use Rattle.slot_store.specs.Slots.{recovered}
 use Rattle.slot_store.specs.declared.store.SlotStore.{SlotStore}
 use Rattle.client.specs.Clients.{IsReady, client_area}
@@ -22,11 +23,24 @@ pub record IsAtRest (kept : Client) (disk : DiskState) : Type 0 where
   pub store : SlotStore
   pub ready : IsReady kept store disk
 
+-- bytes that are read without damage where those were that a read gave at entry, and are the same outside the client's area
+pub record IsSound (start : DiskState) (c : List ℕ) : Type 0 where
+  pub read : List ℕ
+  pub told : start.seen ≡ Some read
+  pub undamaged : IsUndamaged client_area read → IsUndamaged client_area c
+  pub outside : Torn client_area.start (client_area.slot + client_area.slot) read c
+
+-- bytes with a client's record, read without damage, and the same outside the client's area as at entry
+pub record HasRecord (kept : Client) (start : DiskState) (c : List ℕ) : Type 0 where
+  pub has : recovered client_area c ≡ Some (record_text kept)
+  pub undamaged : IsUndamaged client_area c
+  pub sound : IsSound start c
+
 -- bytes like those that were read, or with the record of one of two clients
 pub data IsLeft (before after : Client) (start : DiskState) (c : List ℕ) : Type 0 where
   is_like : IsLikeRead client_area start c → IsLeft before after start c
-  is_before : recovered client_area c ≡ Some (record_text before) → IsLeft before after start c
-  is_after : recovered client_area c ≡ Some (record_text after) → IsLeft before after start c
+  is_before : HasRecord before start c → IsLeft before after start c
+  is_after : HasRecord after start c → IsLeft before after start c
 
 -- Each crash meanwhile leaves what one might have left at entry, or what is like what was read; a read gives such.
 pub record LeavesLike (start now : DiskState) : Type 0 where
@@ -46,10 +60,12 @@ pub record Leaves (before after : Client) (start now : DiskState) : Type 0 where
 
 -- ---- in worlds
 
-abbrev pub StandsForOne : Mechanism → Side → World → World → List ℕ → Type 0
-StandsForOne k side before after c = StandsFor k before side c ⊎ StandsFor k after side c
+-- bytes that stand for one of two worlds, and are sound
+pub record StandsForOne (k : Mechanism) (side : Side) (before after : World) (start : DiskState) (c : List ℕ) : Type 0 where
+  pub either : StandsFor k before side c ⊎ StandsFor k after side c
+  pub sound : IsSound start c
 
 -- Each crash meanwhile leaves what one might have left at entry, or what stands for one of two worlds; a read gives what does.
 pub record RunsOn (k : Mechanism) (side : Side) (before after : World) (start now : DiskState) : Type 0 where
-  pub any_moment : Span start now (λ c. start.image c ⊎ StandsForOne k side before after c)
-  pub reads : (s : List ℕ) → now.seen ≡ Some s → StandsForOne k side before after s
+  pub any_moment : Span start now (λ c. start.image c ⊎ StandsForOne k side before after start c)
+  pub reads : (s : List ℕ) → now.seen ≡ Some s → StandsForOne k side before after start s

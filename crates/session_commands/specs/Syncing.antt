@@ -23,9 +23,7 @@ use Rattle.relay_pipe.specs.declared.faults.PeerKind.TheVariants.{Ended, Frame, 
 use Rattle.relay_wire.specs.Replies.{IsLawfulReplied, Replied}
 use Rattle.session_model.specs.Clients.{Client}
 use Rattle.session_model.specs.declared.answer.Refusal.TheVariants.{InboxFull}
-use Rattle.session_record.specs.Record.{record_text}
 use Rattle.slot_store.specs.Reading.{IsLikeRead}
-use Rattle.slot_store.specs.Slots.{recovered}
 use Rattle.sync_model.specs.Courses.{all_lines, course_of}
 use Rattle.sync_model.specs.Moves.{Ending as CourseEnding, ended, over}
 use Rattle.sync_model.specs.Parties.{Party}
@@ -43,7 +41,7 @@ use Rattle.client.specs.declared.refusals.OpenRefusal.{OpenRefusal}
 use Rattle.client.specs.declared.syncing.faults.SyncFault.{SyncFault}
 use Rattle.client.specs.declared.syncing.faults.SyncFault.TheVariants.{Closed as SyncClosed, Link as SyncLink, Peer as SyncPeer, Refused as SyncRefused, Store as SyncStore, Write as SyncWrite}
 use Rattle.client.specs.declared.syncing.faults.SyncRefusal.TheVariants.{BoxFull as SyncBoxFull, InboxFull as SyncInboxFull, Unknown as SyncUnknown}
-use Rattle.session_commands.specs.Disks.{IsAtRest, IsKept, Leaves, LeavesLike, RunsOn}
+use Rattle.session_commands.specs.Disks.{HasRecord, IsAtRest, IsKept, IsSound, Leaves, LeavesLike, RunsOn}
 use Rattle.session_commands.specs.Opening.{ending_of_open}
 
 -- ---- how the command ends
@@ -90,8 +88,8 @@ HasWritten lines old new before now _ = (new ≡ appended old lines) × (now ≡
 -- bytes like those that were read, or with the record of what the course keeps after a beginning of the replies
 pub data IsSyncLeft (p : Party Client) (kept : Client) (replies : List Replied) (start : DiskState) (c : List ℕ) : Type 0 where
   is_as_read : IsLikeRead client_area start c → IsSyncLeft p kept replies start c
-  is_of_course : (front back : List Replied) → replies ≡ front ++ back
-      → recovered client_area c ≡ Some (record_text (course_of p kept front).state) → IsSyncLeft p kept replies start c
+  is_of_course : (front back : List Replied) → replies ≡ front ++ back → HasRecord (course_of p kept front).state start c
+      → IsSyncLeft p kept replies start c
 
 -- Each crash meanwhile leaves such, or what one might have left at entry; a read gives such.
 pub record LeavesCourse (p : Party Client) (kept : Client) (replies : List Replied) (start now : DiskState) : Type 0 where
@@ -129,12 +127,14 @@ SyncEnds p kept replies start now link left before after (Err (SyncClosed call))
 
 -- ---- in worlds
 
--- bytes that stand for the world that the course reaches after a beginning of the replies
-pub record StandsForCourse (k : Mechanism) (side : Side) (w : World) (replies : List Replied) (c : List ℕ) : Type 0 where
+-- bytes that stand for the world that the course reaches after a beginning of the replies, and are sound
+pub record StandsForCourse (k : Mechanism) (side : Side) (w : World) (replies : List Replied) (start : DiskState) (c : List ℕ)
+    : Type 0 where
   pub front : List Replied
   pub back : List Replied
   pub split : replies ≡ front ++ back
   pub stands : StandsFor k (course_in k [] side w front).state side c
+  pub sound : IsSound start c
 
 -- where no call on the disk failed, all is at rest for the world that the course reaches
 abbrev pub RestsIn : Mechanism → Side → World → List Replied → DiskState → Result More SyncFault → Type 0
@@ -144,8 +144,8 @@ RestsIn k side w replies now _ = IsAtRest (kept_in k (course_in k [] side w repl
 pub record SyncRunsIn (k : Mechanism) (side : Side) (w : World) (kept : Client) (replies : List Replied) (start now : DiskState)
     (result : Result More SyncFault) : Type 0 where
   pub same : IsSameCourse (IsKeptIn k side) (course_of (client_party k [] kept) kept replies) (course_in k [] side w replies)
-  pub any_moment : Span start now (λ c. start.image c ⊎ StandsForCourse k side w replies c)
-  pub reads : (s : List ℕ) → now.seen ≡ Some s → StandsForCourse k side w replies s
+  pub any_moment : Span start now (λ c. start.image c ⊎ StandsForCourse k side w replies start c)
+  pub reads : (s : List ℕ) → now.seen ≡ Some s → StandsForCourse k side w replies start s
   pub rests : RestsIn k side w replies now result
 
 -- ---- the command

@@ -1,11 +1,11 @@
 -- What a put and a retire begin with, in the words of callers.
-use Rattle.std.proofs.Common.{◌≡◌, ◌≢◌, ℕ, ◌+◌, ◌-◌, ◌≤◌, Bool, true, false, List, length, replicate, refl, sym, ◌∙◌, ap, ap₂, subst, arith}
+use Rattle.std.proofs.Common.{◌≡◌, ℕ, ◌+◌, true, false, List, length, sym, ◌∙◌, ap, ap₂, subst}
 use Rattle.std.specs.Prelude.{not, is_some, Option, Some, None}
 use Rattle.dr_disk.specs.State.{Always, DiskState, IsLawful}
 use Rattle.slot_store.specs.declared.store.SlotStore.{SlotStore}
 use Rattle.slot_store.specs.declared.area.Area.{Area}
-use Rattle.slot_store.specs.Slots.{Comes, Slot, Slots, content_of, is_open, place_of, record_of, slot_at, turn_of, wiped}
-use Rattle.slot_store.specs.Layout.{IsLaidOut, IsPut, Mark, laid}
+use Rattle.slot_store.specs.Slots.{Comes, Slot, Slots, is_open, place_of, record_of, slot_at, turn_of, wiped}
+use Rattle.slot_store.specs.Layout.{laid}
 use Rattle.slot_store.specs.Store.{Awaits, IsWithin, Rests, content, has_replaced, mark, slot_of}
 use Rattle.slot_store.proofs.Layouts.{laid_slot}
 use Rattle.slot_store.proofs.Newest.{gate_open, not_not}

@@ -1,5 +1,5 @@
 -- A slot's bytes after its gate, laid out piece by piece.
-use Rattle.std.proofs.Common.{◌≡◌, ℕ, ◌+◌, ◌-◌, ◌^◌, rules, ◌<◌, List, [], ◌++◌, length, take, drop, replicate, ◌∙◌, ap, arith, append_assoc, length-append}
+use Rattle.std.proofs.Common.{◌≡◌, ℕ, ◌+◌, ◌-◌, ◌^◌, rules, ◌<◌, List, ◌++◌, length, take, drop, replicate, ◌∙◌, ap, arith, append_assoc, length-append}
 use Rattle.std.specs.Int.{w32, to_be_bytes, from_be_bytes}
 use Rattle.std.specs.Prelude.{slice_range}
 use Rattle.std.proofs.lemmas.Nat.{from_be_bytes-to_be_bytes_4}

@@ -1,8 +1,8 @@
 -- A store's current slot is laid out from its record and its mark.
-use Rattle.std.proofs.Common.{◌≡◌, ◌≢◌, ◌⊎◌, inl, inr, ℕ, ◌-◌, Bool, true, false, List, Option, Some, None, refl, sym, ◌∙◌, ap, arith}
+use Rattle.std.proofs.Common.{◌≡◌, ◌≢◌, inl, inr, ℕ, false, Some, None, sym, ◌∙◌, ap}
 use Rattle.std.specs.Prelude.{if◌then◌else◌}
 use Rattle.std.proofs.lemmas.Bool.{cases_eq}
-use Rattle.slot_store.specs.Slots.{Slot, body_of, content_of, is_open, record_of, turn_of, wiped}
+use Rattle.slot_store.specs.Slots.{Slot, content_of, is_open, record_of, turn_of, wiped}
 use Rattle.slot_store.specs.Layout.{IsRecord, laid}
 use Rattle.slot_store.proofs.Newest.{closed, content_open, open_by_turn}
 

@@ -19,3 +19,5 @@ pub mod Undamaged
 pub mod Opened
 pub mod Local
 pub mod Shown
+pub mod Grammars
+pub mod ReadAtRest

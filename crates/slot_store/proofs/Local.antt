@@ -1,11 +1,11 @@
 -- A slot is what the bytes of its area say, and says what they are.
-use Rattle.std.proofs.Common.{◌≡◌, ◌⊎◌, inl, inr, ℕ, ◌+◌, ◌-◌, ◌<◌, ◌≤◌, min, Bool, true, false, List, length, get_or, take, drop, refl, sym, ◌∙◌, ap, ap₂, arith}
+use Rattle.std.proofs.Common.{◌≡◌, inl, inr, ℕ, ◌+◌, ◌-◌, ◌<◌, ◌≤◌, min, Bool, true, false, List, length, get_or, sym, ◌∙◌, ap, ap₂, arith}
 use Rattle.std.specs.Prelude.{not, slice_index, slice_range}
 use Rattle.std.proofs.lemmas.Bool.{cases_lt, cases_eq}
 use Rattle.std.proofs.lemmas.List.{ext_get_or}
 use Rattle.dr_disk.proofs.Ranges.{get_or-range, length-range}
 use Rattle.slot_store.specs.declared.area.Area.{Area}
-use Rattle.slot_store.specs.Slots.{Slot, place_of, slot_at, slot_from}
+use Rattle.slot_store.specs.Slots.{Slot, slot_at, slot_from}
 use Rattle.slot_store.specs.Laws.{SameWithin}
 
 same_range : (c d : List ℕ) (at end : ℕ) → length c ≡ length d → ((i : ℕ) → at ≤ i → i < end → slice_index c i ≡ slice_index d i) → slice_range c at end ≡ slice_range d at end

@@ -1,12 +1,12 @@
 -- Where two slots lie, and what stays of one while the other is written.
-use Rattle.std.proofs.Common.{◌≡◌, ◌⊎◌, inl, inr, ⊎_elim, ℕ, ◌+◌, ◌≤◌, Bool, true, false, List, length, refl, arith}
+use Rattle.std.proofs.Common.{◌≡◌, ◌⊎◌, inl, inr, ⊎_elim, ℕ, ◌+◌, ◌≤◌, Bool, true, false, List, arith}
 use Rattle.std.specs.Prelude.{not, slice_range, slice_index}
 use Rattle.dr_disk.specs.Bytes.{Torn}
 use Rattle.dr_disk.specs.State.{DiskState}
 use Rattle.dr_disk.specs.Spans.{ReadsOutside}
 use Rattle.dr_disk.proofs.Ranges.{range_kept, reads_twice, reads_wider}
 use Rattle.slot_store.specs.declared.area.Area.{Area}
-use Rattle.slot_store.specs.Slots.{Slot, place_of, slot_from}
+use Rattle.slot_store.specs.Slots.{place_of, slot_from}
 use Rattle.slot_store.specs.Store.{ReadsOutsideArea}
 
 pub apart : (area : Area) (k : Bool) → (place_of area k + area.slot ≤ place_of area (not k)) ⊎ (place_of area (not k) + area.slot ≤ place_of area k)

@@ -1,5 +1,5 @@
 -- The calls of a put, in the words of callers.
-use Rattle.std.proofs.Common.{◌≡◌, ℕ, ◌+◌, ◌-◌, [], ◌∷◌, Bool, List, length, Option, Some, sym, ◌∙◌, ap, subst}
+use Rattle.std.proofs.Common.{◌≡◌, ℕ, ◌+◌, [], ◌∷◌, List, length, Some, ◌∙◌, ap, subst}
 use Rattle.std.specs.Prelude.{is_some, not}
 use Rattle.dr_disk.specs.State.{Always, DiskState, IsLawful}
 use Rattle.dr_disk.specs.Spans.{Frame, HavePassed, Span}

@@ -1,13 +1,13 @@
 -- A slot without a fault is a record that was laid out.
-use Rattle.std.proofs.Common.{◌≡◌, ◌≢◌, ◌⊎◌, inl, inr, ℕ, zero, suc, ◌+◌, ◌-◌, ◌*◌, ◌≤◌, ◌<◌, ◌^◌, Bool, true, false, List, [], ◌∷◌, ◌++◌, length, take, drop, replicate, get_or, Option, Some, None, refl, sym, ◌∙◌, ap, ap₂, subst, arith, append_assoc, length-take, length-drop, if◌then◌else◌}
+use Rattle.std.proofs.Common.{◌≡◌, inl, inr, ℕ, zero, suc, ◌+◌, ◌-◌, ◌≤◌, ◌<◌, Bool, true, false, List, [], ◌∷◌, ◌++◌, length, take, drop, replicate, get_or, Option, Some, None, refl, sym, ◌∙◌, ap, ap₂, subst, arith, append_assoc, length-drop, if◌then◌else◌}
 use Rattle.std.specs.Prelude.{nat_le, slice_range, slice_index, ◌==◌}
-use Rattle.std.specs.Int.{w32, to_be_bytes, from_be_bytes}
+use Rattle.std.specs.Int.{w32, to_be_bytes}
 use Rattle.std.proofs.lemmas.Bool.{cases_lt}
 use Rattle.std.proofs.lemmas.Bool.Decides.{nat_tests}
 use Rattle.std.proofs.lemmas.Nat.{be_bytes_4}
 use Rattle.std.proofs.lemmas.List.{drop-drop, get_or_past, take-append-drop}
 use Rattle.dr_disk.proofs.Ranges.{get_or-range, length-range}
-use Rattle.slot_store.specs.Slots.{Slot, body_of, is_open, length_of, record_of, turn_of}
+use Rattle.slot_store.specs.Slots.{Slot, is_open, length_of, record_of, turn_of}
 use Rattle.slot_store.specs.Layout.{IsRecord}
 use Rattle.slot_store.specs.Reading.{fault_from, nonzero_from, slot_fault}
 

@@ -1,5 +1,5 @@
 -- The calls of a retire, in the words of callers.
-use Rattle.std.proofs.Common.{◌≡◌, inl, ℕ, ◌+◌, ◌-◌, ◌≤◌, ◌<◌, [], ◌∷◌, Bool, true, false, List, length, replicate, Option, Some, refl, sym, ◌∙◌, ap, subst, arith}
+use Rattle.std.proofs.Common.{◌≡◌, inl, ℕ, ◌+◌, ◌-◌, ◌≤◌, ◌<◌, [], ◌∷◌, true, false, List, length, replicate, Some, sym, ◌∙◌, ap, subst, arith}
 use Rattle.std.specs.Prelude.{not}
 use Rattle.std.proofs.lemmas.List.{length-replicate}
 use Rattle.dr_disk.specs.State.{Always, DiskState, IsLawful}
@@ -7,13 +7,13 @@ use Rattle.dr_disk.specs.Spans.{Frame, HavePassed, ReadsOutside, Span}
 use Rattle.dr_disk.specs.Calls.{IsWrittenOver}
 use Rattle.dr_disk.proofs.Ranges.{torn_self}
 use Rattle.slot_store.specs.declared.store.SlotStore.{SlotStore}
-use Rattle.slot_store.specs.Slots.{Comes, content_of, place_of, recovered, slot_at, turn_of, wiped}
+use Rattle.slot_store.specs.Slots.{Comes, content_of, place_of, recovered, slot_at}
 use Rattle.slot_store.specs.Stops.{retiring}
 use Rattle.slot_store.specs.Store.{Awaits, IsWithin, KeepsOutside, ReadsOutsideArea, Rests, content, has_replaced, mark, slot_of}
 use Rattle.slot_store.proofs.Begun.{laid_store, rests_as_slots, slots_as_rests, whole_store}
 use Rattle.slot_store.proofs.Newest.{closed, recovered_current}
 use Rattle.slot_store.proofs.Places.{reads_both}
-use Rattle.slot_store.proofs.Retiring.{IsNewer, Setting, ends, gate_part, rest_recovered, whole}
+use Rattle.slot_store.proofs.Retiring.{IsNewer, Setting, ends, gate_part, whole}
 use Rattle.slot_store.proofs.Undamaged.{undamaged}
 use Rattle.slot_store.specs.Reading.{IsUndamaged}
 

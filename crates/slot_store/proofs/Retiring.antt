@@ -1,5 +1,5 @@
 -- What each of the two writes of a retire leaves, with its sync.
-use Rattle.std.proofs.Common.{◌≡◌, ◌⊎◌, inl, inr, ℕ, ◌+◌, ◌-◌, ◌≤◌, Bool, true, List, [], ◌∷◌, length, get_or, replicate, sym, ◌∙◌, ap, subst, arith}
+use Rattle.std.proofs.Common.{◌≡◌, inl, inr, ℕ, ◌+◌, ◌-◌, ◌≤◌, Bool, true, List, [], ◌∷◌, length, get_or, replicate, sym, ◌∙◌, ap, subst, arith}
 use Rattle.std.specs.Prelude.{not, slice_range, slice_index}
 use Rattle.dr_disk.specs.Bytes.{Torn, overwritten}
 use Rattle.dr_disk.specs.State.{Always, DiskState, IsLawful}

@@ -1,7 +1,7 @@
 -- What a verdict shows of two slots.
-use Rattle.std.proofs.Common.{◌≡◌, ℕ, Bool, true, false, List, Option, Some, None, refl, sym, ◌∙◌, ap, subst}
+use Rattle.std.proofs.Common.{◌≡◌, ℕ, true, false, List, Option, Some, None, refl, ◌∙◌, ap, subst}
 use Rattle.slot_store.specs.Slots.{Slot, newest, record_of}
-use Rattle.slot_store.specs.Reading.{Reading, Verdict, damaged, faulty, holds, newer, no_content, none_open, number_of, seen_as, verdict_of}
+use Rattle.slot_store.specs.Reading.{Verdict, damaged, faulty, holds, newer, no_content, none_open, number_of, seen_as, verdict_of}
 use Rattle.slot_store.proofs.Opened.{newer_text}
 use Rattle.slot_store.proofs.Verdicts.{both_closed, first_newer, newest_first, newest_none, newest_second, second_newer}
 

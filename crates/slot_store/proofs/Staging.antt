@@ -1,9 +1,9 @@
 -- The slot that is to come, laid out.
-use Rattle.std.proofs.Common.{◌≡◌, ◌≢◌, ◌⊎◌, inl, inr, ℕ, ◌≤◌, ◌<◌, ◌^◌, Bool, true, false, List, length, Option, Some, None, refl, sym, ◌∙◌, ap, ap₂, subst, arith}
+use Rattle.std.proofs.Common.{◌≡◌, ◌≢◌, inl, inr, ℕ, ◌≤◌, ◌<◌, ◌^◌, Bool, true, false, List, length, Option, Some, refl, sym, ◌∙◌, ap, arith}
 use Rattle.std.specs.Prelude.{not, is_some, slice_index, ◌==◌}
 use Rattle.std.proofs.lemmas.Bool.{cases_eq}
 use Rattle.std.proofs.lemmas.Bool.Decides.{nat_tests}
-use Rattle.slot_store.specs.Slots.{Slot, body_of, content_of, is_open, next_turn, record_of, turn_of, wiped}
+use Rattle.slot_store.specs.Slots.{Slot, body_of, content_of, next_turn, turn_of, wiped}
 use Rattle.slot_store.specs.Layout.{IsRecord, Mark, next_mark}
 use Rattle.slot_store.proofs.LaidOut.{reads_back}
 use Rattle.slot_store.proofs.Layouts.{content_closed}

@@ -1,9 +1,9 @@
 -- Which slot a verdict names, what it recovers, and that the slot beside it doesn't count.
-use Rattle.std.proofs.Common.{◌≡◌, ◌⊎◌, inl, inr, ℕ, Bool, true, false, List, Option, Some, None, refl, sym, ◌∙◌, ap, arith}
-use Rattle.std.specs.Prelude.{not, ◌==◌}
+use Rattle.std.proofs.Common.{◌≡◌, ◌⊎◌, inl, inr, ℕ, Bool, true, false, List, Option, Some, None, refl, sym, ◌∙◌, arith}
+use Rattle.std.specs.Prelude.{◌==◌}
 use Rattle.std.proofs.lemmas.Bool.Decides.{nat_tests}
-use Rattle.slot_store.specs.Slots.{Comes, Slot, content_of, is_open, newest, next_turn, record_of, turn_of}
-use Rattle.slot_store.specs.Reading.{Verdict, faulty, judged, judged_by, newer, none_open, slot_fault, verdict_of}
+use Rattle.slot_store.specs.Slots.{Comes, Slot, is_open, newest, next_turn, record_of, turn_of}
+use Rattle.slot_store.specs.Reading.{faulty, judged, judged_by, newer, none_open, slot_fault, verdict_of}
 use Rattle.slot_store.proofs.Layouts.{content_closed}
 use Rattle.slot_store.proofs.Newest.{content_open, newest_closed_left, newest_closed_right, newest_left, newest_right}
 

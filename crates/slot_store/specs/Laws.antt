@@ -2,6 +2,7 @@
 use Rattle.std.specs.Prelude.{◌≡◌, ℕ, ◌+◌, ◌≤◌, ◌<◌, List, length, slice_index, Option, Some, None}
 use Rattle.slot_store.specs.declared.area.Area.{Area}
 use Rattle.slot_store.specs.declared.store.SlotStore.{SlotStore}
+use Rattle.slot_store.specs.AtRest.{IsAtRest}
 use Rattle.slot_store.specs.Slots.{recovered}
 use Rattle.slot_store.specs.Store.{Rests, content, mark}
 use Rattle.slot_store.specs.Reading.{IsUndamaged, holds, no_content, reading}
@@ -11,8 +12,10 @@ pub record SameWithin (area : Area) (c d : List ℕ) : Type 0 where
   pub size : length c ≡ length d
   pub bytes : (i : ℕ) → area.start ≤ i → i < area.start + (area.slot + area.slot) → slice_index c i ≡ slice_index d i
 
--- At rest an area has the store's record, which is read without damage, and no byte of it says more than the record and the mark.
+-- At rest an area has the store's record, which is read without damage, and no byte of it says more than the record and the mark;
+-- and so the next opening leaves it as it is.
 pub record IsResting : Type 0 where
+  pub at_rest : (store : SlotStore) (c : List ℕ) → Rests store c → IsAtRest store.area (mark store) (content store) c
   pub record_of : (store : SlotStore) (c : List ℕ) → Rests store c → recovered store.area c ≡ content store
   pub undamaged : (store : SlotStore) (c : List ℕ) → Rests store c → IsUndamaged store.area c
   pub same_bytes : (store other : SlotStore) (c d : List ℕ) → 1 ≤ store.area.slot → store.area ≡ other.area → mark store ≡ mark other → content store ≡ content other
@@ -29,3 +32,4 @@ pub record IsRead : Type 0 where
   pub content : (fault_at : List ℕ → Option ℕ) (area : Area) (c text : List ℕ) → reading fault_at area c ≡ holds text → recovered area c ≡ Some text
   pub fits_grammar : (fault_at : List ℕ → Option ℕ) (area : Area) (c text : List ℕ) → reading fault_at area c ≡ holds text → fault_at text ≡ None
   pub none : (fault_at : List ℕ → Option ℕ) (area : Area) (c : List ℕ) → reading fault_at area c ≡ no_content → recovered area c ≡ None
+  pub undamaged : (fault_at : List ℕ → Option ℕ) (area : Area) (c text : List ℕ) → reading fault_at area c ≡ holds text → IsUndamaged area c

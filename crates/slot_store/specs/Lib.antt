@@ -8,3 +8,4 @@ pub mod Laws
 pub mod Kept
 pub mod Judged
 pub mod Found
+pub mod AtRest

@@ -1,6 +1,5 @@
 -- What callers see of a store: its record, and the bytes that it rests on.
 use Rattle.std.specs.Prelude.{◌≡◌, ◌⊎◌, ℕ, ◌+◌, ◌≤◌, Bool, List, Option}
-use Rattle.dr_disk.specs.Bytes.{Torn}
 use Rattle.dr_disk.specs.State.{DiskState}
 use Rattle.dr_disk.specs.Spans.{Frame, ReadsOutside}
 use Rattle.slot_store.specs.declared.area.Area.{Area}

@@ -7,7 +7,9 @@ ghost use Rattle.dr_disk.specs.State.{Always, Fate, IsSettled};
 ghost use Rattle.dr_disk.specs.Spans.{HavePassed, IsQuiet, Span};
 ghost use Rattle.dr_disk.specs.Calls.{Unwritten};
 ghost use Rattle.slot_store.specs.Reading.{IsEntryOrLike, IsLikeRead, damaged, number_of, reading};
-ghost use Rattle.slot_store.specs.Store.{IsWithin, Rests, content};
+ghost use Rattle.slot_store.specs.Layout.{Mark};
+ghost use Rattle.slot_store.specs.AtRest.{IsAtRest, IsLeft, IsReadAtRest};
+ghost use Rattle.slot_store.specs.Store.{IsWithin, Rests, content, mark};
 
 use crate::area::Area;
 use crate::errors::OpenError;
@@ -69,6 +71,11 @@ impl SlotStore {
         ensures reads { (s : List ℕ) → (D.state disk.new).seen ≡ Option.Some s → IsLikeRead area (D.state disk.old) s }
         ensures at_rest { IfOk result (λ opened. Always (λ c. Rests opened.0 c × IsLikeRead area (D.state disk.old) c) (D.state disk.new)) }
         ensures settled { OnOk result (IsSettled (D.state disk.new)) }
+
+        // An area that was read at rest is left as it is, after one sync, with its record where it stood.
+        ensures still { IsReadAtRest area (D.state disk.old) → IsLeft (D.state disk.old) (D.state disk.new) result }
+        ensures mark { IfOk result (λ opened. (s : List ℕ) (mark' : Mark) (text : List ℕ) → (D.state disk.old).seen ≡ Option.Some s →
+            IsAtRest area mark' (Option.Some text) s → mark opened.0 ≡ mark') }
 
         // Each refusal has its cause. Where the area is damaged the first sync is all that was called besides reads.
         ensures damaged { IfErr result (λ e. (slot at : ℕ) → e ≡ OpenError.Damaged slot at →

@@ -74,6 +74,9 @@ fn settle<D: Disk>(
     requires passive { (s : List ℕ) → (D.state disk.old).seen ≡ Option.Some s → IsPassive area (not second) s }
     ensures area { IfOk result (λ store. store.area ≡ area) }
     ensures content { IfOk result (λ store. content store ≡ Option.Some (record_of (record { gate = 165; body = body.items }))) }
+    ensures second { IfOk result (λ store. store.second ≡ second) }
+    ensures slot { IfOk result (λ store. slot_of store ≡ record { gate = 165; body = body.items }) }
+    ensures still { record { gate = other_gate; body = other.items } ≡ wiped area.slot → disk.new ≡ disk.old }
     ensures any_moment { Span (D.state disk.old) (D.state disk.new) (IsLikeRead area (D.state disk.old)) }
     ensures at_rest { IfOk result (λ store. Always (λ c. Rests store c × IsLikeRead area (D.state disk.old) c) (D.state disk.new)) }
     ensures settled { OnOk result (IsSettled (D.state disk.new)) }
@@ -114,6 +117,8 @@ pub(crate) fn settle_empty<D: Disk>(
         (is_open (slot_at area false s) ≡ false) × (is_open (slot_at area true s) ≡ false) }
     ensures area { IfOk result (λ store. store.area ≡ area) }
     ensures content { IfOk result (λ store. content store ≡ Option.None) }
+    ensures still { record { gate = first_gate; body = first.items } ≡ wiped area.slot
+        → record { gate = second_gate; body = second.items } ≡ wiped area.slot → disk.new ≡ disk.old }
     ensures any_moment { Span (D.state disk.old) (D.state disk.new) (IsLikeRead area (D.state disk.old)) }
     ensures at_rest { IfOk result (λ store. Always (λ c. Rests store c × IsLikeRead area (D.state disk.old) c) (D.state disk.new)) }
     ensures settled { OnOk result (IsSettled (D.state disk.new)) }
@@ -164,6 +169,14 @@ pub(crate) fn settle_newer<G: Grammar, D: Disk>(
     ensures area { IfOk result (λ store. store.area ≡ area) }
     ensures content { IfOk result (λ store. content store ≡ Option.Some (record_of (chosen is_second
         (record { gate = first_gate; body = first.items }) (record { gate = second_gate; body = second.items })))) }
+    ensures second { IfOk result (λ store. store.second ≡ is_second) }
+    ensures slot { IfOk result (λ store. slot_of store ≡ record {
+      gate = 165;
+      body = (chosen is_second
+          (record { gate = first_gate; body = first.items }) (record { gate = second_gate; body = second.items })).body;
+    }) }
+    ensures still { chosen (not is_second) (record { gate = first_gate; body = first.items })
+        (record { gate = second_gate; body = second.items }) ≡ wiped area.slot → disk.new ≡ disk.old }
     ensures any_moment { Span (D.state disk.old) (D.state disk.new) (IsLikeRead area (D.state disk.old)) }
     ensures at_rest { IfOk result (λ store. Always (λ c. Rests store c × IsLikeRead area (D.state disk.old) c) (D.state disk.new)) }
     ensures settled { OnOk result (IsSettled (D.state disk.new)) }

@@ -60,6 +60,8 @@ fn shut<D: Disk>(disk: &mut D, area: Area, second: bool, gate: u8) -> Result<u8,
     ensures any_moment { Span (D.state disk.old) (D.state disk.new) (IsLikeBut area second IsShutting (D.state disk.old)) }
     ensures done { IfOk result (λ stands. Always (IsLikeBut area second (HasBodyUnder stands) (D.state disk.old)) (D.state disk.new)) }
     ensures shut { IfOk result (λ stands. stands ≢ 165) }
+    ensures closed { gate ≡ 0 → IfOk result (λ stands. stands ≡ 0) }
+    ensures still { gate ≡ 0 → disk.new ≡ disk.old }
     ensures settled { OnOk result (IsSettled (D.state disk.new)) }
     ensures ended { OnErr result ((n : ℕ) →
         (D.state disk.old).fate ≡ Fate.some_pass n → (D.state disk.new).fate ≡ Fate.some_pass 0) }
@@ -90,6 +92,7 @@ fn wipe<D: Disk>(
     requires within { IsWithin area (D.state disk.old) }
     requires zero { zeros.now ≡ replicate (area.slot - 1) 0 }
     requires read { (s : List ℕ) → (D.state disk.old).seen ≡ Option.Some s → blank ≡ true → (slot_at area second s).body ≡ replicate (area.slot - 1) 0 }
+    ensures still { blank ≡ true → disk.new ≡ disk.old }
     ensures any_moment { Span (D.state disk.old) (D.state disk.new) (IsLikeBut area second HasGate (D.state disk.old)) }
     ensures done { OnOk result (Always (IsLikeBut area second (HasZeros area.slot) (D.state disk.old)) (D.state disk.new)) }
     ensures settled { OnOk result (IsSettled (D.state disk.new)) }
@@ -115,6 +118,7 @@ fn clear<D: Disk>(disk: &mut D, area: Area, second: bool, gate: u8) -> Result<()
     requires ends { area.start + (area.slot + area.slot) < 18446744073709551616 }
     requires within { IsWithin area (D.state disk.old) }
     requires read { (s : List ℕ) → (D.state disk.old).seen ≡ Option.Some s → (slot_at area second s).gate ≡ gate }
+    ensures still { gate ≡ 0 → disk.new ≡ disk.old }
     ensures any_moment { Span (D.state disk.old) (D.state disk.new) (IsLikeBut area second HasBody (D.state disk.old)) }
     ensures done { OnOk result (Always (IsLikeBut area second (HasBodyUnder 0) (D.state disk.old)) (D.state disk.new)) }
     ensures settled { OnOk result (IsSettled (D.state disk.new)) }
@@ -149,6 +153,7 @@ pub(crate) fn tidy<D: Disk>(
     requires zero { zeros.now ≡ replicate (area.slot - 1) 0 }
     requires read { (s : List ℕ) → (D.state disk.old).seen ≡ Option.Some s → WasRead area second gate blank s }
     requires passive { (s : List ℕ) → (D.state disk.old).seen ≡ Option.Some s → IsPassive area second s }
+    ensures still { gate ≡ 0 → blank ≡ true → disk.new ≡ disk.old }
     ensures any_moment { Span (D.state disk.old) (D.state disk.new) (IsLikeRead area (D.state disk.old)) }
     ensures done { OnOk result (Always (IsTidied area second (D.state disk.old)) (D.state disk.new)) }
     ensures settled { OnOk result (IsSettled (D.state disk.new)) }

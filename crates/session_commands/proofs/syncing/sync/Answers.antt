@@ -21,8 +21,8 @@ returns-in-Err-clause-runs g c = record {
       subst (λ (e : Ending). RunsSync g.D.Disk.state g.L.Pipe.port g.K.Kem.mechanism c.args.disk.now c.open.new.disk c.args.link.now c.args.link.now
       (g.O.Sink.faults c.args.out.now) (g.O.Sink.faults c.finish.new.out) e []) (sym c.unopened.ensures)
       (wasnt_synced c.in-Err.refusal c.in-Err.ensures.unopened (record { any_moment = c.open.ensures.any_moment; reads = c.open.ensures.reads }) refl
-      (λ w side lawful stands. let opens = c.in-Err.ensures.in_worlds w side lawful stands in
-      only_opened g.K.Kem.mechanism side w (g.D.Disk.state c.args.disk.now) (g.D.Disk.state c.open.new.disk) opens.any_moment opens.reads));
+      (λ w side lawful stands.
+      only_opened g.K.Kem.mechanism side w (g.D.Disk.state c.args.disk.now) (g.D.Disk.state c.open.new.disk) stands c.open.ensures.any_moment c.open.ensures.reads));
   ends = c.finish.ensures.ends;
 }
 
@@ -35,8 +35,8 @@ returns-in-Err-open-clause-runs g c = record {
       (stood g.D.Disk.state g.K.Kem.mechanism c.args.disk.now c.open.new.disk c.open.new.disk (g.met.D.Disk.lawful c.open.new.disk) c.in-Ok.client
       c.in-Ok.ensures.opened refl c.open.ensures.any_moment)
       c.in-Err-open.ensures.told c.in-Err-open.ensures.flow c.in-Err-open.ensures.cause.failed
-      (λ w side lawful stands. let opens = c.in-Ok.ensures.in_worlds w side lawful stands in
-      only_opened g.K.Kem.mechanism side w (g.D.Disk.state c.args.disk.now) (g.D.Disk.state c.open.new.disk) opens.any_moment opens.reads);
+      (λ w side lawful stands.
+      only_opened g.K.Kem.mechanism side w (g.D.Disk.state c.args.disk.now) (g.D.Disk.state c.open.new.disk) stands c.open.ensures.any_moment c.open.ensures.reads);
   ends = c.finish-in-Err-open.ensures.ends;
 }
 
@@ -74,7 +74,7 @@ returns-clause-runs g c =
           sync_runs (g.D.Disk.state c.args.disk.now) (g.D.Disk.state c.open.new.disk) (g.D.Disk.state c.sync-synced.new.disk) (g.met.D.Disk.lawful c.sync-synced.new.disk)
           g.K.Kem.mechanism side w syncs.replies c.in-Ok.client c.sync-synced.new.self
           (g.O.Sink.taken c.args.out.now) (g.O.Sink.taken c.sync-synced.new.out) (g.O.Sink.faults c.args.out.now) (g.O.Sink.faults c.sync-synced.new.out)
-          (client_party g.K.Kem.mechanism [] c.in-Ok.client.kept) (g.L.Pipe.port c.open-in-Ok.new.self) (g.L.Pipe.port c.shut.new.self) c.sync-synced.result opens.any_moment opens.client.1 ends
+          (client_party g.K.Kem.mechanism [] c.in-Ok.client.kept) (g.L.Pipe.port c.open-in-Ok.new.self) (g.L.Pipe.port c.shut.new.self) c.sync-synced.result stands c.open.ensures.any_moment c.in-Ok.ensures.opened.alike ends
           (c.sync-synced.ensures.in_worlds w side syncs.replies opens.client.0 syncs.syncs fair));
       ends =
           c.close.ensures.ends (sync_lines (client_party g.K.Kem.mechanism [] c.in-Ok.client.kept) c.in-Ok.client.kept syncs.replies c.sync-synced.result) (g.O.Sink.taken c.args.out.now) (g.O.Sink.faults c.args.out.now)

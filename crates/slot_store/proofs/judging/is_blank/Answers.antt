@@ -1,4 +1,4 @@
-use Rattle.std.proofs.Common.{◌≡◌, ℕ, Option, None, Some, sym, ◌∙◌}
+use Rattle.std.proofs.Common.{◌≡◌, None, Some, sym, ◌∙◌}
 use Rattle.slot_store.proofs.Records.{all_zeros, blank_none}
 use Rattle.slot_store.proofs.judging.is_blank.Goals as goal
 

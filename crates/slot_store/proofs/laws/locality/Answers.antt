@@ -1,5 +1,5 @@
-use Rattle.std.proofs.Common.{◌≡◌, ◌∙◌, ap₂, true, false, not}
-use Rattle.slot_store.specs.Slots.{newest, recovered, slot_at}
+use Rattle.std.proofs.Common.{◌∙◌, ap₂, true, false, not}
+use Rattle.slot_store.specs.Slots.{newest, recovered}
 use Rattle.slot_store.specs.Reading.{reading, seen_as, verdict_of}
 use Rattle.slot_store.specs.Store.{Rests, mark}
 use Rattle.slot_store.proofs.Local.{same_slot}

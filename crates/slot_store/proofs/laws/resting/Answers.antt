@@ -1,14 +1,16 @@
-use Rattle.std.proofs.Common.{◌≡◌, List, ℕ, sym, ◌∙◌, ap, ap₂, not}
+use Rattle.std.proofs.Common.{◌≡◌, sym, ◌∙◌, ap, ap₂, not}
 use Rattle.slot_store.specs.Slots.{slot_at, wiped}
 use Rattle.slot_store.specs.Layout.{laid}
 use Rattle.slot_store.specs.Store.{Rests, content, mark}
 use Rattle.slot_store.proofs.Local.{by_current}
+use Rattle.slot_store.proofs.ReadAtRest.{rests_at_rest}
 use Rattle.slot_store.proofs.RetireCalls.{rests_recovered, rests_undamaged}
 use Rattle.slot_store.proofs.laws.resting.Goals as goal
 
 pub returns : goal.returns
 unfolding Rests
 returns c = record {
+  at_rest = rests_at_rest;
   record_of = rests_recovered;
   undamaged = rests_undamaged;
   same_bytes = λ store other c d least area marks contents size within rests rests'.

@@ -1,4 +1,4 @@
-use Rattle.slot_store.proofs.Opened.{opened_content, settled_rests, was_read, zeros_of}
+use Rattle.slot_store.proofs.Opened.{opened_content, settled_rests, was_read}
 use Rattle.slot_store.proofs.settling.settle.Goals as goal
 
 pub tidy-requires-clause-read : goal.tidy-requires-clause-read

@@ -1,6 +1,6 @@
 use Rattle.slot_store.proofs.Opened.{current_read, passive_read}
 use Rattle.slot_store.proofs.Verdicts.{first_newer, second_newer}
-use Rattle.std.proofs.Common.{◌≡◌, ◌∙◌, true, false, ap}
+use Rattle.std.proofs.Common.{◌∙◌, true, false, ap}
 use Rattle.slot_store.specs.Reading.{newer}
 use Rattle.slot_store.proofs.settling.settle_newer.Goals as goal
 

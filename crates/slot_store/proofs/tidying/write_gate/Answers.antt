@@ -1,4 +1,4 @@
-use Rattle.std.proofs.Common.{◌≡◌, ◌+◌, ℕ, [], ◌∷◌, subst, sym}
+use Rattle.std.proofs.Common.{[], ◌∷◌, subst}
 use Rattle.dr_disk.specs.State.{Always}
 use Rattle.dr_disk.specs.Spans.{Frame, Span}
 use Rattle.dr_disk.specs.Calls.{IsWrittenOver}

@@ -9,7 +9,7 @@ use Rattle.slot_store.specs.Store.{IsOldOrNew, content}
 use Rattle.client.specs.Beginning.{IsUnbegun, begun_client}
 use Rattle.client.specs.Clients.{client_area}
 use Rattle.client.specs.Opening.{IsReadAs}
-use Rattle.client.proofs.Beginnings.{first_left, first_moments, held, kept_first, none_by, unbegun}
+use Rattle.client.proofs.Beginnings.{first_left, first_moments, held, kept_first, none_by, rests_as_read, unbegun}
 use Rattle.client.proofs.client.Client.begin.Goals as goal
 
 pub returns-in-Err-clause-unbegun : goal.returns-in-Err-clause-unbegun
@@ -28,6 +28,10 @@ returns-in-Content-clause-unbegun g c =
             ∙ ap (λ f. found_as f (content c.in-Ok-open.store)) c.in-Content.is ∙ some.1,
       ),
       c.in-Ok-open.ensures.quiet,
+      rests_as_read g.K.Kem.mechanism c.readings.ensures c.in-Ok-open.found c.in-Ok-open.store
+          (g.D.Disk.state c.args.disk.now) (g.D.Disk.state c.open.new.disk) c.in-Content.is
+          (c.in-Ok-open.ensures.found ∙ ap has_content c.in-Content.is)
+          c.in-Ok-open.ensures.area c.in-Ok-open.ensures.read c.in-Ok-open.ensures.at_rest,
     )
 
 pub returns-in-Err-begin-clause-unbegun : goal.returns-in-Err-begin-clause-unbegun

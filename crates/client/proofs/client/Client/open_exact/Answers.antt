@@ -1,8 +1,8 @@
-use Rattle.std.proofs.Common.{ap, subst, sym, ◌∙◌}
+use Rattle.std.proofs.Common.{Err, ap, subst, sym, ◌∙◌}
 use Rattle.slot_store.specs.Found.{found_as}
 use Rattle.slot_store.specs.Store.{content}
-use Rattle.client.specs.Opening.{IsUnopened}
-use Rattle.client.proofs.Openings.{opened, unopened}
+use Rattle.client.specs.Opening.{IsLeftAtRest, IsUnopened, record_fault}
+use Rattle.client.proofs.Openings.{left_unopened, opened, unopened}
 use Rattle.client.proofs.client.Client.open_exact.Goals as goal
 
 pub returns-in-Err-clause-unopened : goal.returns-in-Err-clause-unopened
@@ -25,3 +25,20 @@ returns-in-Content-clause-opened g c =
     c.client_in.ensures.store c.in-Ok-open.ensures.area c.requires c.client_in.ensures.holds c.client_in.ensures.read
     c.in-Ok-open.ensures.read c.open.ensures.any_moment c.in-Ok-open.ensures.at_rest c.in-Ok-open.ensures.settled
     c.in-Ok-open.ensures.quiet
+
+pub returns-in-Err-clause-still : goal.returns-in-Err-clause-still
+returns-in-Err-clause-still g c = λ was.
+    let start = g.D.Disk.state c.args.disk.now in
+    let now = g.D.Disk.state c.open.new.disk in
+    subst (λ e. IsLeftAtRest start now (Err e)) (sym c.refusal.ensures)
+    (left_unopened (record_fault g.K.Kem.mechanism) start now c.in-Err.error (c.in-Err.ensures.still was).unwritten c.in-Err.ensures.damaged)
+
+pub returns-in-NoContent-clause-still : goal.returns-in-NoContent-clause-still
+returns-in-NoContent-clause-still g c = λ was.
+    let left = c.in-Ok-open.ensures.still was in
+    record { unwritten = left.unwritten; one_sync = left.one_sync }
+
+pub returns-in-Content-clause-still : goal.returns-in-Content-clause-still
+returns-in-Content-clause-still g c = λ was.
+    let left = c.in-Ok-open.ensures.still was in
+    record { unwritten = left.unwritten; one_sync = left.one_sync }

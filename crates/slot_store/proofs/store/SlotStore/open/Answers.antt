@@ -1,8 +1,12 @@
-use Rattle.std.proofs.Common.{arith, ◌≡◌, ℕ, List, Some, refl, sym, ◌∙◌, ap, subst}
+use Rattle.std.proofs.Common.{arith, sym, ◌∙◌, ap, subst, false, true}
+use Rattle.dr_disk.specs.Calls.{Unwritten}
+use Rattle.dr_disk.specs.Spans.{HavePassed}
+use Rattle.dr_disk.proofs.Steps.{quiet_twice}
 use Rattle.std.proofs.lemmas.Grind.{common_steps}
 use Rattle.slot_store.specs.Judged.{verdict_seen}
-use Rattle.slot_store.specs.Reading.{damaged, faulty, newer, none_open, number_of, reading}
+use Rattle.slot_store.specs.Reading.{faulty, newer, none_open, number_of}
 use Rattle.slot_store.proofs.Opened.{damaged_read, newer_text, read_newer, reading_by, reads_like, same_text, shut_read, verdict_at, whole}
+use Rattle.slot_store.proofs.ReadAtRest.{all_wiped, mark_read, not_none, other_wiped}
 use Rattle.slot_store.proofs.store.SlotStore.open.Goals as goal
 
 pub settle_empty-requires-clause-shut : goal.settle_empty-requires-clause-shut
@@ -89,7 +93,61 @@ pub returns-in-Ok-settle_empty-clause-at_rest : goal.returns-in-Ok-settle_empty-
 returns-in-Ok-settle_empty-clause-at_rest g c = grind (arith, common_steps)
 
 pub returns-in-Ok-settle_empty-clause-quiet : goal.returns-in-Ok-settle_empty-clause-quiet
-returns-in-Ok-settle_empty-clause-quiet g c = grind (arith, common_steps)
+returns-in-Ok-settle_empty-clause-quiet g c = quiet_twice (g.D.Disk.state c.args.disk.now) (g.D.Disk.state c.read_slots.new.disk) (g.D.Disk.state c.settle_empty.new.disk) c.in-Ok-read_slots.ensures.quiet c.in-Ok-settle_empty.ensures.quiet
 
 pub returns-in-Ok-settle_newer-clause-quiet : goal.returns-in-Ok-settle_newer-clause-quiet
-returns-in-Ok-settle_newer-clause-quiet g c = grind (arith, common_steps)
+returns-in-Ok-settle_newer-clause-quiet g c = quiet_twice (g.D.Disk.state c.args.disk.now) (g.D.Disk.state c.read_slots.new.disk) (g.D.Disk.state c.settle_newer.new.disk) c.in-Ok-read_slots.ensures.quiet c.in-Ok-settle_newer.ensures.quiet
+
+pub returns-in-Ok-settle_newer-clause-mark : goal.returns-in-Ok-settle_newer-clause-mark
+returns-in-Ok-settle_newer-clause-mark g c = λ s m text told rests.
+    let verdict = verdict_at g.G.Grammar.fault_at c.args.area.slot c.in-Ok-read_slots.gates.0 c.in-Ok-read_slots.gates.1 _ c.read_slots.new.first.items _ c.read_slots.new.second.items _ (newer c.in-Content.is_second)
+    c.deref.ensures.value c.deref-2.ensures.value c.judge_slots.ensures.verdict (ap verdict_seen c.in-Content.is) in
+    mark_read g.G.Grammar.fault_at c.args.area s _ _ (c.in-Ok-read_slots.ensures.first s told) (c.in-Ok-read_slots.ensures.second s told) m text rests _ c.in-Content.is_second verdict c.in-Ok-settle_newer.ensures.second c.in-Ok-settle_newer.ensures.slot
+
+pub returns-in-Ok-settle_newer-clause-still : goal.returns-in-Ok-settle_newer-clause-still
+returns-in-Ok-settle_newer-clause-still g c = λ was.
+    let verdict = verdict_at g.G.Grammar.fault_at c.args.area.slot c.in-Ok-read_slots.gates.0 c.in-Ok-read_slots.gates.1 _ c.read_slots.new.first.items _ c.read_slots.new.second.items _ (newer c.in-Content.is_second)
+    c.deref.ensures.value c.deref-2.ensures.value c.judge_slots.ensures.verdict (ap verdict_seen c.in-Content.is) in
+    let same = c.settle_newer.ensures.still (other_wiped g.G.Grammar.fault_at c.args.area was.bytes _ _ (c.in-Ok-read_slots.ensures.first was.bytes was.told) (c.in-Ok-read_slots.ensures.second was.bytes was.told) was.mark was.text was.rests c.in-Content.is_second verdict) in
+    record {
+      unwritten = subst (λ d. Unwritten (g.D.Disk.state c.args.disk.now) (g.D.Disk.state d)) (sym same) c.read_slots.ensures.unwritten;
+      one_sync = subst (λ d. HavePassed 1 (g.D.Disk.state c.args.disk.now) (g.D.Disk.state d)) (sym same) c.in-Ok-read_slots.ensures.passed;
+    }
+
+pub returns-in-Ok-settle_empty-clause-still : goal.returns-in-Ok-settle_empty-clause-still
+returns-in-Ok-settle_empty-clause-still g c = λ was.
+    let verdict = verdict_at g.G.Grammar.fault_at c.args.area.slot c.in-Ok-read_slots.gates.0 c.in-Ok-read_slots.gates.1 _ c.read_slots.new.first.items _ c.read_slots.new.second.items _ none_open
+    c.deref.ensures.value c.deref-2.ensures.value c.judge_slots.ensures.verdict (ap verdict_seen c.in-NoContent.is) in
+    let wiped = all_wiped g.G.Grammar.fault_at c.args.area was.bytes _ _ (c.in-Ok-read_slots.ensures.first was.bytes was.told) (c.in-Ok-read_slots.ensures.second was.bytes was.told) was.mark was.text was.rests verdict in
+    let same = c.settle_empty.ensures.still (wiped false) (wiped true) in
+    record {
+      unwritten = subst (λ d. Unwritten (g.D.Disk.state c.args.disk.now) (g.D.Disk.state d)) (sym same) c.read_slots.ensures.unwritten;
+      one_sync = subst (λ d. HavePassed 1 (g.D.Disk.state c.args.disk.now) (g.D.Disk.state d)) (sym same) c.in-Ok-read_slots.ensures.passed;
+    }
+
+pub returns-in-Err-settle_newer-clause-still : goal.returns-in-Err-settle_newer-clause-still
+returns-in-Err-settle_newer-clause-still g c = λ was.
+    let verdict = verdict_at g.G.Grammar.fault_at c.args.area.slot c.in-Ok-read_slots.gates.0 c.in-Ok-read_slots.gates.1 _ c.read_slots.new.first.items _ c.read_slots.new.second.items _ (newer c.in-Content.is_second)
+    c.deref.ensures.value c.deref-2.ensures.value c.judge_slots.ensures.verdict (ap verdict_seen c.in-Content.is) in
+    let same = c.settle_newer.ensures.still (other_wiped g.G.Grammar.fault_at c.args.area was.bytes _ _ (c.in-Ok-read_slots.ensures.first was.bytes was.told) (c.in-Ok-read_slots.ensures.second was.bytes was.told) was.mark was.text was.rests c.in-Content.is_second verdict) in
+    record {
+      unwritten = subst (λ d. Unwritten (g.D.Disk.state c.args.disk.now) (g.D.Disk.state d)) (sym same) c.read_slots.ensures.unwritten;
+      one_sync = tt;
+    }
+
+pub returns-in-Err-settle_empty-clause-still : goal.returns-in-Err-settle_empty-clause-still
+returns-in-Err-settle_empty-clause-still g c = λ was.
+    let verdict = verdict_at g.G.Grammar.fault_at c.args.area.slot c.in-Ok-read_slots.gates.0 c.in-Ok-read_slots.gates.1 _ c.read_slots.new.first.items _ c.read_slots.new.second.items _ none_open
+    c.deref.ensures.value c.deref-2.ensures.value c.judge_slots.ensures.verdict (ap verdict_seen c.in-NoContent.is) in
+    let wiped = all_wiped g.G.Grammar.fault_at c.args.area was.bytes _ _ (c.in-Ok-read_slots.ensures.first was.bytes was.told) (c.in-Ok-read_slots.ensures.second was.bytes was.told) was.mark was.text was.rests verdict in
+    let same = c.settle_empty.ensures.still (wiped false) (wiped true) in
+    record {
+      unwritten = subst (λ d. Unwritten (g.D.Disk.state c.args.disk.now) (g.D.Disk.state d)) (sym same) c.read_slots.ensures.unwritten;
+      one_sync = tt;
+    }
+
+pub returns-in-Ok-settle_empty-clause-mark : goal.returns-in-Ok-settle_empty-clause-mark
+returns-in-Ok-settle_empty-clause-mark g c = λ s m text told rests.
+    let verdict = verdict_at g.G.Grammar.fault_at c.args.area.slot c.in-Ok-read_slots.gates.0 c.in-Ok-read_slots.gates.1 _ c.read_slots.new.first.items _ c.read_slots.new.second.items _ none_open
+    c.deref.ensures.value c.deref-2.ensures.value c.judge_slots.ensures.verdict (ap verdict_seen c.in-NoContent.is) in
+    absurd (not_none g.G.Grammar.fault_at c.args.area s _ _ (c.in-Ok-read_slots.ensures.first s told) (c.in-Ok-read_slots.ensures.second s told) m text rests verdict)

@@ -1,7 +1,5 @@
-use Rattle.std.proofs.Common.{◌≡◌, ◌∙◌, List, ℕ, Some, subst}
-use Rattle.dr_disk.specs.Spans.{Span}
-use Rattle.slot_store.specs.Slots.{recovered}
-use Rattle.slot_store.specs.Store.{KeepsOutside, content}
+use Rattle.std.proofs.Common.{Some}
+use Rattle.slot_store.specs.Store.{content}
 use Rattle.slot_store.proofs.Replacing.{all_passed, few_late, few_soon, ends, reads, replaced, stopped}
 use Rattle.slot_store.proofs.store.SlotStore.replace.Goals as goal
 

@@ -1,4 +1,4 @@
-use Rattle.std.proofs.Common.{ℕ, ◌+◌, ◌≤◌, ◌<◌, ◌^◌, List, ◌≡◌, ◌≢◌, length, refl, ◌∙◌, ap, arith}
+use Rattle.std.proofs.Common.{ℕ, List, ◌∙◌, ap, arith}
 use Rattle.std.specs.Prelude.{slice_index}
 use Rattle.slot_store.specs.Slots.{next_turn}
 use Rattle.slot_store.specs.Store.{content, has_replaced, mark, slot_of}
