@@ -115,7 +115,7 @@ fn exchange<R: Clock + AllocGlobal, D: Disk, L: Link, A: Door>(
 
 /// The median time of an exchange, in microseconds.
 fn time_exchange<R: Clock + AllocGlobal + Files<File = File> + Net>(rt: &R) -> io::Result<u64> {
-    let mut disk = FileDisk::new(rt, RELAY, AREA, Sharing::Alone);
+    let mut disk = FileDisk::new(rt, RELAY, AREA, 0, Sharing::Alone);
     let mut link = TcpLink::new(rt);
     let mut door = TcpDoor::new(rt);
     if door.listen(PORT).is_err() {

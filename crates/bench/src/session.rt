@@ -179,8 +179,8 @@ fn play_on_files<K: Kem, R: Clock + AllocGlobal + Files<File = File>>(
     rt: &R,
     rounds: &mut Rounds,
 ) -> io::Result<()> {
-    let mut first = FileDisk::new(rt, FIRST, 2 * SLOT as u64, Sharing::InTurn);
-    let mut second = FileDisk::new(rt, SECOND, 2 * SLOT as u64, Sharing::InTurn);
+    let mut first = FileDisk::new(rt, FIRST, 2 * SLOT as u64, 0, Sharing::InTurn);
+    let mut second = FileDisk::new(rt, SECOND, 2 * SLOT as u64, 0, Sharing::InTurn);
     play::<K, FileDisk<R>, R>(rt, &mut first, &mut second, rounds)?;
     drop(first);
     drop(second);

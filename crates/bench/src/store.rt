@@ -62,7 +62,7 @@ fn replace<R: Clock + AllocGlobal + Files<File = File>>(
 
 /// The median time of that, in microseconds.
 fn time_store<R: Clock + AllocGlobal + Files<File = File>>(rt: &R, text: &[u8]) -> io::Result<u64> {
-    let mut disk = FileDisk::new(rt, STORE, 2 * SLOT as u64, Sharing::InTurn);
+    let mut disk = FileDisk::new(rt, STORE, 2 * SLOT as u64, 0, Sharing::InTurn);
     let mut times = Times::new(rt.alloc());
     for _ in 0..RUNS {
         replace(rt, &mut disk, text, &mut times)?;

@@ -1,4 +1,5 @@
 pub mod Bytes
+pub mod Descriptors
 pub mod State
 pub mod Spans
 pub mod Calls

@@ -1,6 +1,7 @@
 //! The disk over a file. It tells nothing of its content, and counts each error.
 
-ghost use Rattle.std.specs.Prelude.{◌≡◌, ◌≤◌, ◌+◌, length};
+ghost use Rattle.std.specs.Prelude.{◌≡◌, ◌<◌, ◌≤◌, ◌+◌, min, length};
+ghost use Rattle.std.specs.Int.{next_multiple_of};
 
 use crate::disk::Disk;
 use crate::handle::{Handle, Sharing};
@@ -13,10 +14,15 @@ use std::rt::Files;
 /// A disk over a file, of a stated size. The file is looked for at the first call, and locked until the disk is let
 /// go. Where there is none, reads give zeros, and only a write makes it, for its owner alone to read and write. Bytes
 /// past the file's end are read as 0.
+///
+/// The file takes its room in steps: before a write, zeros are written up to the end of the step that the write ends in,
+/// where the file ends before that. So a write fails for want of room only where it is the first one of its step, and a
+/// file that was to be made and found no room is removed again.
 #[derive(Drop)]
 pub struct FileDisk<'a, R: Files<File = File>> {
     handle: Handle<'a, R>,
     size: u64,
+    step: u64,
     reads: u64,
     writes: u64,
     syncs: u64,
@@ -30,16 +36,26 @@ impl<'a, R: Files<File = File>> Model for FileDisk<'a, R> {
     ghost view = { λ d. record { size = d.size; counts = record { reads = d.reads; writes = d.writes; syncs = d.syncs } } };
 }
 
+/// Where the file's room ends once it reaches `end`: at the end of a step, or of the disk.
+fn room_end(step: u64, size: u64, end: u64) -> u64
+    ensures by_steps { 0 < step → result ≡ min (next_multiple_of end step) size }
+    ensures at_once { step ≡ 0 → result ≡ size }
+{
+    end.checked_next_multiple_of(step).unwrap_or(size).min(size)
+}
+
 impl<'a, R: Files<File = File>> FileDisk<'a, R> {
     ghost use Rattle.dr_disk.specs.Memory.{no_faults};
 
-    /// A disk of `size` bytes over the file at `path`. No call is made.
-    pub fn new(files: &'a R, path: &'a str, size: u64, sharing: Sharing) -> Self
+    /// A disk of `size` bytes over the file at `path`, which takes its room in steps of `step` bytes, or all of it at once
+    /// where that is 0. No call is made.
+    pub fn new(files: &'a R, path: &'a str, size: u64, step: u64, sharing: Sharing) -> Self
         ensures { result ≡ record { size = size; counts = no_faults } }
     {
         FileDisk {
             handle: Handle::new(files, path, sharing),
             size,
+            step,
             reads: 0,
             writes: 0,
             syncs: 0,
@@ -69,7 +85,8 @@ impl<'a, R: Files<File = File>> Disk for FileDisk<'a, R> {
     }
 
     fn write_at(&mut self, at: u64, bytes: &[u8]) -> Result<(), Failed> {
-        match self.handle.write(at, bytes) {
+        let length = room_end(self.step, self.size, at + bytes.len() as u64);
+        match self.handle.write(at, bytes, length) {
             Ok(()) => Ok(()),
             Err(_) => {
                 count_fault(&mut self.writes);

@@ -1,5 +1,6 @@
 //! A disk that may stop inside any write: what a read gives, what a crash may leave, and how often its calls
-//! failed. The disks in memory tell all of it, and one of them fails where it is told to.
+//! failed. The disks in memory tell all of it, and one of them fails where it is told to. The disk over a file tells its size
+//! and its faults alone; its file takes its room in steps, and never has the descriptor of a standard stream.
 #![tactic(auto)]
 
 pub use call::{Call, Mode};
@@ -17,6 +18,7 @@ mod file;
 mod handle;
 mod memory;
 mod meter;
+mod own_file;
 mod platter;
 mod recording;
 mod steady;

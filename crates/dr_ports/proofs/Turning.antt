@@ -5,7 +5,7 @@ use Rattle.std.proofs.Math.Path.{fun_ext}
 use Rattle.std.proofs.lemmas.List.{get_or_default}
 use Rattle.dr_base.specs.declared.key.Key32.{Key32}
 use Rattle.dr_ports.specs.Memory.{Turning, coming_of}
-use Rattle.dr_ports.specs.Seeds.{Seeds, seed_before}
+use Rattle.dr_ports.specs.Seeds.{seed_before}
 
 -- the seed at a place, counted round
 abbrev seed_at : List Key32 → ℕ → List ℕ

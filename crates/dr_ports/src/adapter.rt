@@ -1,7 +1,9 @@
-//! Adapters over std's reader and writer and over a source of random bytes. They tell nothing of content, and count
-//! each error.
+//! Adapters over std's reader and writer and over a source of random bytes. They tell nothing of content to come, and
+//! count each error. A seed is what the source gave.
 
-ghost use Rattle.std.specs.Prelude.{◌≡◌, ℕ, None};
+ghost use Rattle.std.specs.Prelude.{◌≡◌, ℕ, [], ◌∷◌, None, IfOk, OnErr};
+ghost use Rattle.dr_ports.specs.Ports.{HasCause};
+ghost use Rattle.dr_ports.specs.Seeds.{drawn};
 
 use crate::port::{Draws, Sink, Source};
 use dr_base::{Failed, Key32};
@@ -86,7 +88,7 @@ impl<W: Write> Sink for WriterSink<W> {
     }
 }
 
-/// Draws from a source of random bytes, as the system's is. A contract sees its count of faults.
+/// Draws from a source of random bytes, as the system's is. A contract sees the source and its count of faults.
 #[derive(Drop)]
 pub struct RandomDraws<R> {
     source: R,
@@ -94,26 +96,36 @@ pub struct RandomDraws<R> {
 }
 
 impl<R> Model for RandomDraws<R> {
-    ghost Value = { ℕ };
+    ghost use Rattle.dr_ports.specs.Random.{Sourced};
 
-    ghost view = { λ d. d.faults };
+    ghost Value = { Sourced R };
+
+    ghost view = { λ d. record { source = d.source; faults = d.faults } };
 }
 
 impl<R: TryRng> RandomDraws<R> {
     /// Draws from this source, with no fault so far.
     pub fn new(source: R) -> Self
-        ensures { result ≡ 0 }
+        ensures { result ≡ record { source = source; faults = 0 } }
     {
         RandomDraws { source, faults: 0 }
     }
 }
 
 impl<R: TryRng> Draws for RandomDraws<R> {
-    ghost coming = { λ _. None };
+    ghost use Rattle.dr_ports.specs.Random.{untold};
 
-    ghost faults = { λ d. d };
+    ghost coming = { untold };
 
-    fn draw(&mut self) -> Result<Key32, Failed> {
+    ghost faults = { λ d. d.faults };
+
+    /// The next seed: 32 bytes that the source gave in one call. A call of the source that fails is a fault.
+    fn draw(&mut self) -> Result<Key32, Failed>
+        ensures given { IfOk result (λ seed. R.may_fill self.old.source seed.bytes self.new.source) }
+        ensures seed { IfOk result (λ seed. untold self.old ≡ drawn (seed.bytes ∷ []) (untold self.new)) }
+        ensures err { OnErr result (untold self.new ≡ untold self.old) }
+        ensures cause { HasCause self.old.faults self.new.faults result }
+    {
         let mut seed = Key32::default();
         match self.source.try_fill_bytes(&mut seed.bytes) {
             Ok(()) => Ok(seed),

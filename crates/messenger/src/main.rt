@@ -4,15 +4,32 @@
 
 use dr_disk::{FileDisk, Sharing};
 use dr_ports::{RandomDraws, ReaderSource, WriterSink};
-use messenger_cli::{DISK_SIZE, RELAY_DISK_SIZE, run_arguments};
+use messenger_cli::{AREA_SIZE, DISK_SIZE, RELAY_DISK_SIZE, run_arguments};
 use rand::rngs::SysRng;
+use standard::take_closed;
 use std::env;
 use std::process::ExitCode;
 use tcp_ports::{TcpDoor, TcpLink};
 
+mod standard;
+
 fn main(rt: HostRuntime) -> ExitCode {
-    let mut disk = FileDisk::new(&rt, "messenger.state", DISK_SIZE, Sharing::InTurn);
-    let mut relay_disk = FileDisk::new(&rt, "relay.state", RELAY_DISK_SIZE, Sharing::Alone);
+    let _placeholders = take_closed(&rt);
+    // A session's file has its whole size from its first write on, a relay's the areas up to its last box.
+    let mut disk = FileDisk::new(
+        &rt,
+        "messenger.state",
+        DISK_SIZE,
+        DISK_SIZE,
+        Sharing::InTurn,
+    );
+    let mut relay_disk = FileDisk::new(
+        &rt,
+        "relay.state",
+        RELAY_DISK_SIZE,
+        AREA_SIZE,
+        Sharing::Alone,
+    );
     let mut source = ReaderSource::new(rt.stdin());
     let mut out = WriterSink::new(rt.stdout());
     let mut link = TcpLink::new(&rt);

@@ -4,7 +4,7 @@
 pub use arguments::run_arguments;
 pub use endings::Status;
 pub use program::{DISK_SIZE, run};
-pub use relay_command::RELAY_DISK_SIZE;
+pub use relay_command::{AREA_SIZE, RELAY_DISK_SIZE};
 
 mod arguments;
 mod making;

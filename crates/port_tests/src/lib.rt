@@ -4,8 +4,16 @@
 #[cfg(test)]
 mod disks;
 #[cfg(test)]
+mod draws;
+#[cfg(test)]
+mod files;
+#[cfg(test)]
 mod ports;
 #[cfg(test)]
 mod slots;
 #[cfg(test)]
 mod sockets;
+#[cfg(test)]
+mod waiting;
+#[cfg(test)]
+mod watched;

@@ -3,11 +3,11 @@
 use dr_base::Key32;
 use dr_ports::{
     Door, Draws, Failed, InputError, Link, MemoryDoor, MemoryDraws, MemoryLink, MemoryPipe,
-    MemorySink, MemorySource, NullSink, Pipe, RandomDraws, ReaderSource, Sink, SteadyDraws,
+    MemorySink, MemorySource, NullSink, Pipe, ReaderSource, Sink, Source, SteadyDraws,
     SteadySource, WriterSink, read_whole, write_all,
 };
-use rand::rngs::SysRng;
 use std::alloc::{AllocError, Global};
+use std::fs::{File, OpenOptions};
 use std::io::Cursor;
 use std::test::Fail;
 
@@ -75,6 +75,8 @@ fn adapts_a_reader(rt: HostRuntime) -> Result<(), Fail> {
     let mut source = ReaderSource::new(b"text".as_slice());
     let text = read_whole(rt.alloc(), &mut source, 9)?;
     assert!(rt; text.as_slice() == b"text".as_slice());
+    let unreadable = OpenOptions::new().write(true).open(&rt, "/dev/null")?;
+    assert!(rt; ReaderSource::new(unreadable).read(&mut [0; 4]) == Err(Failed));
     Ok(())
 }
 
@@ -83,14 +85,8 @@ fn adapts_a_writer(rt: HostRuntime) -> Result<(), Fail> {
     let mut bytes = [0; 3];
     let mut sink = WriterSink::new(Cursor::new(bytes.as_mut_slice()));
     assert!(rt; write_all(&mut sink, b"four") == Err(Failed));
-    Ok(())
-}
-
-#[test]
-fn adapts_random_numbers(rt: HostRuntime) -> Result<(), Fail> {
-    let mut draws = RandomDraws::new(SysRng::new(&rt));
-    let (one, two) = (draws.draw()?, draws.draw()?);
-    assert!(rt; one.bytes != two.bytes);
+    let unwritable = File::open(&rt, "/dev/null")?;
+    assert!(rt; WriterSink::new(unwritable).write(b"lost") == Err(Failed));
     Ok(())
 }
 

@@ -2,6 +2,7 @@
 //! other, with a line for each.
 #![tactic(auto)]
 
+pub use relay_server::AREA_SIZE;
 pub use relaying::{RELAY_DISK_SIZE, relay};
 
 mod connecting;

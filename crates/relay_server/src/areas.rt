@@ -18,8 +18,8 @@ use std::alloc::Global;
 /// How many bytes a slot of a box has.
 const SLOT: u32 = 262_144;
 
-/// How many bytes lie between the beginnings of two areas.
-const AREA: u64 = 524_288;
+/// How many bytes the area of a box has. The areas follow one another.
+pub const AREA_SIZE: u64 = 524_288;
 
 /// The records of boxes, as a store's grammar.
 struct BoxRecords {}
@@ -42,7 +42,7 @@ fn open_area<D: Disk>(alloc: Global, disk: &mut D, k: usize) -> Result<SlotStore
     ensures reads { (s : List ℕ) → (D.state disk.new).seen ≡ Option.Some s → IsLikeRead (area_of k) (D.state disk.old) s }
 {
     let area = Area {
-        start: AREA * k as u64,
+        start: AREA_SIZE * k as u64,
         slot: SLOT,
     };
     match SlotStore::open::<BoxRecords, D>(alloc, disk, area) {

@@ -11,6 +11,7 @@
 //! ```
 #![tactic(auto)]
 
+pub use areas::AREA_SIZE;
 pub use durable::DurableBoxes;
 pub use errors::ServerOpenError;
 pub use law::crashes;

@@ -145,10 +145,10 @@ const FIRST: &str = "begin|first>^>0>session 70e0f9cd1a5863238d67aecce0c032e5;";
 fn keeps_a_session_in_a_file(rt: HostRuntime) -> Result<(), Fail> {
     let alloc = rt.alloc();
     let path = "kept-session";
-    let mut begins = FileDisk::new(&rt, path, DISK_SIZE, Sharing::InTurn);
+    let mut begins = FileDisk::new(&rt, path, DISK_SIZE, DISK_SIZE, Sharing::InTurn);
     assert!(rt; answers(alloc, &mut begins, FIRST)?);
     drop(begins);
-    let mut looks = FileDisk::new(&rt, path, DISK_SIZE, Sharing::InTurn);
+    let mut looks = FileDisk::new(&rt, path, DISK_SIZE, DISK_SIZE, Sharing::InTurn);
     let state =
         "state>>0>session 70e0f9cd1a5863238d67aecce0c032e5;side first;epoch 0;missing 0;inbox 0;outbox 0;";
     assert!(rt; answers(alloc, &mut looks, state)?);

@@ -1,55 +1,181 @@
 //! One connection, if there is one.
 
-ghost use Rattle.std.specs.Prelude.{◌≡◌, ◌<◌, ◌≤◌, length, IfOk};
+ghost use Rattle.std.specs.Prelude.{◌≡◌, ◌<◌, ◌≤◌, ◌↔◌, length, IsTrue, IfOk, OnErr, IfSome};
 ghost use Rattle.dr_ports.specs.Ports.{HasCause};
+ghost use Rattle.tcp_ports.specs.Descriptors.{IsOwn};
+ghost use Rattle.tcp_ports.specs.Times.{moved_on};
 
+use crate::patience::Patience;
 use dr_ports::Failed;
-use std::io::{Read, Write};
-use std::net::OpenStream;
-use std::time::Duration;
+use std::io;
+use std::io::{Error, ErrorKind, Read, Write};
+use std::net::{Net, OpenStream};
+use std::os::fd::AsRawFd;
+use std::time::{Clock, Duration, Instant};
 
-/// For how many seconds a call waits.
-const PATIENCE: u64 = 30;
+/// How often a call that a signal interrupts is tried.
+const TRIES: u32 = 1_000;
 
-/// A stream, if one stands, and how often receiving or sending has failed. A call without a stream has failed, and so has
-/// a write that takes nothing of a piece that isn't empty.
+/// The least descriptor that no standard stream has.
+const FIRST_OWN: i32 = 3;
+
+/// A stream, when it was taken, and how many bytes went over it.
 #[derive(Drop)]
-pub struct Connection<S: Read + Write + OpenStream + Drop> {
-    stream: Option<S>,
+struct Open<S: Drop> {
+    stream: S,
+    begun: Instant,
+    moved: u64,
+}
+
+/// A stream, if one stands, and how often receiving or sending has failed. A call without a stream has failed, so has one on a
+/// stream that has taken all the time that it may, and so has a write that takes nothing of a piece that isn't empty. A call that
+/// a signal interrupts is tried again.
+#[derive(Drop)]
+pub struct Connection<'a, R: Net + Clock> {
+    system: &'a R,
+    patience: Patience,
+    open: Option<Open<R::Stream>>,
     pub faults: u64,
 }
 
-/// Whether the stream is to give up after a while.
-fn is_bounded<S: OpenStream>(stream: &S) -> bool {
-    let patience = Some(Duration::from_secs(PATIENCE));
-    stream.set_read_timeout(patience).is_ok() && stream.set_write_timeout(patience).is_ok()
+/// Whether no standard stream has the descriptor. A program that was started with one of them closed is given its number for
+/// the next descriptor that it opens, and what it prints would go there.
+pub(crate) fn is_own<F: AsRawFd>(opened: &F) -> bool
+    ensures { IfSome (F.raw_fd opened.now) (λ descriptor. IsTrue result ↔ IsOwn descriptor) }
+{
+    opened.as_raw_fd() >= FIRST_OWN
 }
 
-impl<S: Read + Write + OpenStream + Drop> Connection<S> {
+impl<S: Drop> Open<S> {
+    /// For how long the next call may wait.
+    fn wait<C: Clock>(&self, clock: &C, patience: Patience) -> io::Result<Duration> {
+        match patience.left(self.begun.elapsed(clock)?, self.moved) {
+            Some(wait) => Ok(wait),
+            None => Err(Error::from(ErrorKind::TimedOut)),
+        }
+    }
+}
+
+impl<S: Read + OpenStream + Drop> Open<S> {
+    /// Receives the next bytes, in one call.
+    fn receive_once<C: Clock>(
+        &mut self,
+        clock: &C,
+        patience: Patience,
+        into: &mut [u8],
+    ) -> io::Result<usize>
+        ensures bound { IfOk result (λ count. count ≤ length into.old) }
+        ensures counted { IfOk result (λ count. self.new.moved ≡ moved_on self.old.moved count) }
+        ensures uncounted { OnErr result (self.new.moved ≡ self.old.moved) }
+        ensures begun { self.new.begun ≡ self.old.begun }
+    {
+        let wait = self.wait(clock, patience)?;
+        self.stream.set_read_timeout(Some(wait))?;
+        let count = self.stream.read(into)?;
+        self.moved = self.moved.saturating_add(count as u64);
+        Ok(count)
+    }
+
+    /// Receives the next bytes.
+    fn receive<C: Clock>(
+        &mut self,
+        clock: &C,
+        patience: Patience,
+        into: &mut [u8],
+    ) -> io::Result<usize>
+        ensures bound { IfOk result (λ count. count ≤ length into.old) }
+        ensures counted { IfOk result (λ count. self.new.moved ≡ moved_on self.old.moved count) }
+        ensures uncounted { OnErr result (self.new.moved ≡ self.old.moved) }
+        ensures begun { self.new.begun ≡ self.old.begun }
+    {
+        for _ in 0..TRIES {
+            match self.receive_once(clock, patience, into) {
+                Err(e) if e.kind() == ErrorKind::Interrupted => {}
+                ended => return ended,
+            }
+        }
+        Err(Error::from(ErrorKind::Interrupted))
+    }
+}
+
+impl<S: Write + OpenStream + Drop> Open<S> {
+    /// Sends a beginning of the bytes, in one call.
+    fn send_once<C: Clock>(
+        &mut self,
+        clock: &C,
+        patience: Patience,
+        bytes: &[u8],
+    ) -> io::Result<usize>
+        ensures bound { IfOk result (λ count. count ≤ length bytes.now) }
+        ensures counted { IfOk result (λ count. self.new.moved ≡ moved_on self.old.moved count) }
+        ensures uncounted { OnErr result (self.new.moved ≡ self.old.moved) }
+        ensures begun { self.new.begun ≡ self.old.begun }
+    {
+        let wait = self.wait(clock, patience)?;
+        self.stream.set_write_timeout(Some(wait))?;
+        let count = self.stream.write(bytes)?;
+        self.moved = self.moved.saturating_add(count as u64);
+        Ok(count)
+    }
+
+    /// Sends a beginning of the bytes.
+    fn send<C: Clock>(&mut self, clock: &C, patience: Patience, bytes: &[u8]) -> io::Result<usize>
+        ensures bound { IfOk result (λ count. count ≤ length bytes.now) }
+        ensures counted { IfOk result (λ count. self.new.moved ≡ moved_on self.old.moved count) }
+        ensures uncounted { OnErr result (self.new.moved ≡ self.old.moved) }
+        ensures begun { self.new.begun ≡ self.old.begun }
+    {
+        for _ in 0..TRIES {
+            match self.send_once(clock, patience, bytes) {
+                Err(e) if e.kind() == ErrorKind::Interrupted => {}
+                ended => return ended,
+            }
+        }
+        Err(Error::from(ErrorKind::Interrupted))
+    }
+}
+
+impl<'a, R: Net + Clock> Connection<'a, R> {
     /// No connection yet.
-    pub fn new() -> Self
+    pub fn new(system: &'a R, patience: Patience) -> Self
         ensures { result.faults ≡ 0 }
     {
         Connection {
-            stream: None,
+            system,
+            patience,
+            open: None,
             faults: 0,
         }
     }
 
-    /// Takes a stream in place of the one that stood, and answers whether that worked.
-    pub fn take(&mut self, stream: S) -> bool
+    /// Takes a stream in place of the one that stood, and answers whether that worked. A stream with the descriptor of a
+    /// standard stream is closed.
+    pub fn take(&mut self, stream: R::Stream) -> bool
         ensures { self.new.faults ≡ self.old.faults }
     {
-        let works = is_bounded(&stream);
-        self.stream = Some(stream);
-        works
+        self.open = None;
+        if !is_own(&stream) {
+            return false;
+        }
+        match Instant::now(self.system) {
+            Ok(begun) => {
+                let moved = 0;
+                self.open = Some(Open {
+                    stream,
+                    begun,
+                    moved,
+                });
+                true
+            }
+            Err(_) => false,
+        }
     }
 
     /// Ends the connection.
     pub fn shut(&mut self)
         ensures { self.new.faults ≡ self.old.faults }
     {
-        self.stream = None;
+        self.open = None;
     }
 
     /// Receives the next bytes.
@@ -57,8 +183,8 @@ impl<S: Read + Write + OpenStream + Drop> Connection<S> {
         ensures bound { IfOk result (λ count. count ≤ length into.old) }
         ensures cause { HasCause self.old.faults self.new.faults result }
     {
-        if let Some(stream) = &mut self.stream {
-            if let Ok(count) = stream.read(into) {
+        if let Some(open) = &mut self.open {
+            if let Ok(count) = open.receive(self.system, self.patience, into) {
                 return Ok(count);
             }
         }
@@ -72,8 +198,8 @@ impl<S: Read + Write + OpenStream + Drop> Connection<S> {
         ensures progress { IfOk result (λ count. 0 < length bytes.now → 0 < count) }
         ensures cause { HasCause self.old.faults self.new.faults result }
     {
-        if let Some(stream) = &mut self.stream {
-            if let Ok(count) = stream.write(bytes) {
+        if let Some(open) = &mut self.open {
+            if let Ok(count) = open.send(self.system, self.patience, bytes) {
                 if count > 0 || bytes.is_empty() {
                     return Ok(count);
                 }

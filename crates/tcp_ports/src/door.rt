@@ -4,21 +4,23 @@ ghost use Rattle.std.specs.Prelude.{◌≡◌};
 ghost use Rattle.dr_ports.specs.MemoryWires.{nobody};
 ghost use Rattle.tcp_ports.specs.Sockets.{untold_port};
 
-use crate::connection::Connection;
+use crate::connection::{Connection, is_own};
+use crate::patience::Patience;
 use dr_ports::{Door, Failed, Pipe};
 use std::marker::Model;
 use std::net::{Net, OpenListener, TcpListener};
+use std::time::Clock;
 
 /// A door over a TCP listener, at every address of this machine. A contract sees its counts of faults.
 #[derive(Drop)]
-pub struct TcpDoor<'a, R: Net> {
+pub struct TcpDoor<'a, R: Net + Clock> {
     net: &'a R,
     listener: Option<R::Listener>,
-    connection: Connection<R::Stream>,
+    connection: Connection<'a, R>,
     faults: u64,
 }
 
-impl<'a, R: Net> Model for TcpDoor<'a, R> {
+impl<'a, R: Net + Clock> Model for TcpDoor<'a, R> {
     ghost use Rattle.tcp_ports.specs.Sockets.{Counts};
 
     ghost Value = { Counts };
@@ -26,21 +28,29 @@ impl<'a, R: Net> Model for TcpDoor<'a, R> {
     ghost view = { λ d. record { flow = d.connection.faults; gate = d.faults } };
 }
 
-impl<'a, R: Net> TcpDoor<'a, R> {
-    /// A door that doesn't listen yet, with no fault so far.
+impl<'a, R: Net + Clock> TcpDoor<'a, R> {
+    /// A door that doesn't listen yet, with no fault so far. A call on a connection waits for five seconds at most, and the
+    /// connection may take a minute, and a second more for each 4,096 bytes.
     pub fn new(net: &'a R) -> TcpDoor<'a, R>
+        ensures { result ≡ record { flow = 0; gate = 0 } }
+    {
+        TcpDoor::with_patience(net, Patience::with_a_client())
+    }
+
+    /// The same with another patience.
+    pub fn with_patience(net: &'a R, patience: Patience) -> TcpDoor<'a, R>
         ensures { result ≡ record { flow = 0; gate = 0 } }
     {
         TcpDoor {
             net,
             listener: None,
-            connection: Connection::new(),
+            connection: Connection::new(net, patience),
             faults: 0,
         }
     }
 }
 
-impl<R: Net> Pipe for TcpDoor<'_, R> {
+impl<R: Net + Clock> Pipe for TcpDoor<'_, R> {
     ghost port = { untold_port };
 
     ghost Behind = { Unit {0} };
@@ -58,20 +68,21 @@ impl<R: Net> Pipe for TcpDoor<'_, R> {
     }
 }
 
-impl<R: Net> Door for TcpDoor<'_, R> {
+impl<R: Net + Clock> Door for TcpDoor<'_, R> {
     fn listen(&mut self, at: u16) -> Result<(), Failed> {
         match TcpListener::bind(self.net, ("0.0.0.0", at)) {
-            Ok(listener) => {
+            Ok(listener) if is_own(&listener) => {
                 self.listener = Some(listener);
                 Ok(())
             }
-            Err(_) => {
+            _ => {
                 self.faults = self.faults.saturating_add(1);
                 Err(Failed)
             }
         }
     }
 
+    // std's `accept` tries again where a signal interrupts it.
     fn accept(&mut self) -> Result<(), Failed> {
         if let Some(listener) = &self.listener {
             if let Ok((stream, _)) = listener.accept() {

@@ -5,19 +5,24 @@ ghost use Rattle.dr_ports.specs.MemoryWires.{nobody};
 ghost use Rattle.tcp_ports.specs.Sockets.{untold_port};
 
 use crate::connection::Connection;
+use crate::patience::Patience;
 use dr_ports::{Failed, Link, Pipe};
 use std::marker::Model;
-use std::net::{Net, TcpStream};
+use std::net::{Net, TcpStream, ToSocketAddrs};
+use std::time::{Clock, Duration};
+
+/// For how many seconds a link waits for each address of its host to answer.
+const CONNECTING: u64 = 10;
 
 /// A link over a TCP stream, to an address as `host:port`. A contract sees its counts of faults.
 #[derive(Drop)]
-pub struct TcpLink<'a, R: Net> {
+pub struct TcpLink<'a, R: Net + Clock> {
     net: &'a R,
-    connection: Connection<R::Stream>,
+    connection: Connection<'a, R>,
     faults: u64,
 }
 
-impl<'a, R: Net> Model for TcpLink<'a, R> {
+impl<'a, R: Net + Clock> Model for TcpLink<'a, R> {
     ghost use Rattle.tcp_ports.specs.Sockets.{Counts};
 
     ghost Value = { Counts };
@@ -25,20 +30,40 @@ impl<'a, R: Net> Model for TcpLink<'a, R> {
     ghost view = { λ l. record { flow = l.connection.faults; gate = l.faults } };
 }
 
-impl<'a, R: Net> TcpLink<'a, R> {
-    /// A link to nowhere yet, with no fault so far.
+impl<'a, R: Net + Clock> TcpLink<'a, R> {
+    /// A link to nowhere yet, with no fault so far. A call on it waits for a minute at most.
     pub fn new(net: &'a R) -> TcpLink<'a, R>
+        ensures { result ≡ record { flow = 0; gate = 0 } }
+    {
+        TcpLink::with_patience(net, Patience::with_a_relay())
+    }
+
+    /// The same with another patience.
+    pub fn with_patience(net: &'a R, patience: Patience) -> TcpLink<'a, R>
         ensures { result ≡ record { flow = 0; gate = 0 } }
     {
         TcpLink {
             net,
-            connection: Connection::new(),
+            connection: Connection::new(net, patience),
             faults: 0,
         }
     }
 }
 
-impl<R: Net> Pipe for TcpLink<'_, R> {
+/// A stream to the first of the addresses of the host that answers in time.
+fn connected<R: Net>(net: &R, address: &str) -> Option<R::Stream> {
+    let Ok(found) = address.to_socket_addrs(net) else {
+        return None;
+    };
+    for one in found {
+        if let Ok(stream) = TcpStream::connect_timeout(net, &one, Duration::from_secs(CONNECTING)) {
+            return Some(stream);
+        }
+    }
+    None
+}
+
+impl<R: Net + Clock> Pipe for TcpLink<'_, R> {
     ghost port = { untold_port };
 
     ghost Behind = { Unit {0} };
@@ -56,9 +81,9 @@ impl<R: Net> Pipe for TcpLink<'_, R> {
     }
 }
 
-impl<R: Net> Link for TcpLink<'_, R> {
+impl<R: Net + Clock> Link for TcpLink<'_, R> {
     fn open(&mut self, address: &str) -> Result<(), Failed> {
-        if let Ok(stream) = TcpStream::connect(self.net, address) {
+        if let Some(stream) = connected(self.net, address) {
             if self.connection.take(stream) {
                 return Ok(());
             }
