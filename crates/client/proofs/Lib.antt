@@ -1,8 +1,11 @@
+mod Ahead
 mod Areas
 mod Beginnings
 mod Drawing
+mod Exchanged
 pub mod Lawful
-mod Lifted
+pub mod Later
+pub mod Lifted
 mod OnePacket
 pub mod Openings
 mod Readiness
@@ -11,5 +14,5 @@ mod Replaced
 mod SameRecord
 mod Spending
 mod Spends
-mod Standing
+pub mod Standing
 pub mod Syncs

@@ -18,15 +18,16 @@ use Rattle.dr_model.specs.Theorems.LawfulWorlds.{IsLawfulWorld}
 use Rattle.dr_model.proofs.Growth.Growing.{positions-said}
 use Rattle.dr_model.proofs.Worlds.LastingPackets.{packets_last}
 use Rattle.client.specs.Moments.{AreLinked, IsLater, Known}
-use Rattle.client.proofs.Standing.{first_later, later, lawful_at}
+use Rattle.client.proofs.Later.{lawful_at}
+use Rattle.client.proofs.Standing.{first_later, later}
 
 -- an item of the outbox is the packet of a text that was said
-record IsPosted (k : Mechanism) (c : Conversation) (item : Item) : Type 0 where
-  place : Position
-  said : is_said c place ≡ true
-  is : item ≡ post_at k c place
+pub record IsPosted (k : Mechanism) (c : Conversation) (item : Item) : Type 0 where
+  pub place : Position
+  pub said : is_said c place ≡ true
+  pub is : item ≡ post_at k c place
 
-posted_all : (k : Mechanism) (c : Conversation) (v : View) → All (IsPosted k c) (outbox_of k c v)
+pub posted_all : (k : Mechanism) (c : Conversation) (v : View) → All (IsPosted k c) (outbox_of k c v)
 posted_all k c v =
     let own : Position → Bool = λ p. is_own v.side p.epoch in
     All-drop (IsPosted k c) v.dropped (map (post_at k c) (filter own (positions c)))
@@ -37,7 +38,7 @@ posted_all k c v =
       is = refl;
     }))
 
-got : {X : Type 0} (P : X → Type 0) (xs : List X) (n : ℕ) (x : X) → All P xs → slice_get xs n ≡ Some x → P x
+pub got : {X : Type 0} (P : X → Type 0) (xs : List X) (n : ℕ) (x : X) → All P xs → slice_get xs n ≡ Some x → P x
 got P [] n x all is = absurd (let e : None ≡ Some x = is in cc)
 got P (y ∷ ys) zero x all is = subst P (let e : Some y ≡ Some x = is in cc) (All-head P y ys all)
 got P (y ∷ ys) (suc n) x all is = got P ys n x (All-tail P y ys all) is

@@ -1,6 +1,6 @@
 -- What was used up is erased, and stays so.
 use Rattle.std.proofs.Common.{Bool, Err, List, None, Ok, Option, Result, Some, [], ap, false, if◌then◌else◌, inl, inr, map, subst, sym, true, ℕ, ⊎_elim, ◌++◌, ◌∙◌, ◌∷◌, ◌≡◌, ◌≤◌}
-use Rattle.std.specs.Prelude.{All, filter, nat_le, nat_lt, length, option_map, slice_get, slice_index_or}
+use Rattle.std.specs.Prelude.{All, Any, filter, nat_le, nat_lt, length, option_map, slice_get, slice_index_or}
 use Rattle.std.proofs.lemmas.List.Elements.{All-drop, All-filter, All-head, All-map, All-tail, filter_passes}
 use Rattle.boxes.specs.Items.{Item}
 use Rattle.dr_base.specs.Position.{is_own}
@@ -37,7 +37,8 @@ use Rattle.client.specs.Clients.{client_area}
 use Rattle.client.specs.InWorlds.{StandsFor}
 use Rattle.client.specs.Moments.{AreLinked, IsLater, Known}
 use Rattle.client.specs.Spent.{IsErasedOn, IsUsed}
-use Rattle.client.proofs.Standing.{first_later, later, later_twice, lawful_at, stands}
+use Rattle.client.proofs.Later.{later_twice, lawful_at}
+use Rattle.client.proofs.Standing.{among, first_later, later, stands}
 
 -- ---- a packet that was taken
 
@@ -49,18 +50,18 @@ opened_now w side p =
 opens_by : (w : World) (side : Side) (a b c d : Bool) (r s t u : Refusal) (p q : Position)
     → (settled w (if a then Err r else (if b then Err s else (if c then Err t else (if d then Err u else Ok
     (step (Opened p) (with_view w side (after_opening (view_of w side) p)))))))).answer ≡ Opened q
-    → has_opened (view_of (settled w (if a then Err r else (if b then Err s else (if c then Err t else (if d then Err u else Ok
-    (step (Opened p) (with_view w side (after_opening (view_of w side) p)))))))).next side) q ≡ true
+    → (p ≡ q) × (has_opened (view_of (settled w (if a then Err r else (if b then Err s else (if c then Err t else (if d then Err u else Ok
+    (step (Opened p) (with_view w side (after_opening (view_of w side) p)))))))).next side) q ≡ true)
 opens_by w side true b c d r s t u p q h = absurd (cc h)
 opens_by w side false true c d r s t u p q h = absurd (cc h)
 opens_by w side false false true d r s t u p q h = absurd (cc h)
 opens_by w side false false false true r s t u p q h = absurd (cc h)
 opens_by w side false false false false r s t u p q h =
     let same : p ≡ q = cc h in
-    subst (λ x. has_opened (view_of (with_view w side (after_opening (view_of w side) p)) side) x ≡ true) same (opened_now w side p)
+    (same, subst (λ x. has_opened (view_of (with_view w side (after_opening (view_of w side) p)) side) x ≡ true) same (opened_now w side p))
 
 opens_at : (w : World) (side : Side) (p q : Position) → (settled w (taking_in w side p)).answer ≡ Opened q
-    → has_opened (view_of (settled w (taking_in w side p)).next side) q ≡ true
+    → (p ≡ q) × (has_opened (view_of (settled w (taking_in w side p)).next side) q ≡ true)
 opens_at w side p q =
     let missing = length (missing_of w.conversation (after_opening (view_of w side) p)) in
     opens_by w side (is_own side p.epoch) (has_opened (view_of w side) p) (nat_lt 256 missing)
@@ -68,15 +69,20 @@ opens_at w side p q =
 
 opens_made : (k : Mechanism) (w : World) (side : Side) (bytes : List ℕ) (made : Option Position) (q : Position)
     → (settled w (taking_made k w side bytes made)).answer ≡ Opened q
-    → has_opened (view_of (settled w (taking_made k w side bytes made)).next side) q ≡ true
+    → (made ≡ Some q) × (has_opened (view_of (settled w (taking_made k w side bytes made)).next side) q ≡ true)
 opens_made k w side bytes None q h = absurd (cc h)
-opens_made k w side bytes (Some p) q h = opens_at w side p q h
+opens_made k w side bytes (Some p) q h = let opens = opens_at w side p q h in (ap Some opens.0, opens.1)
 
 -- a packet whose taking is answered so was opened
 pub taken_used : (k : Mechanism) (w : World) (side : Side) (bytes : List ℕ) (p : Position)
     → (settled w (taking_made k w side bytes (made_at k w bytes))).answer ≡ Opened p
     → has_opened (view_of (settled w (taking_made k w side bytes (made_at k w bytes))).next side) p ≡ true
-taken_used k w side bytes p h = opens_made k w side bytes (made_at k w bytes) p h
+taken_used k w side bytes p h = (opens_made k w side bytes (made_at k w bytes) p h).1
+
+-- and is the packet of that position
+pub taken_made : (k : Mechanism) (w : World) (side : Side) (bytes : List ℕ) (p : Position)
+    → (settled w (taking_made k w side bytes (made_at k w bytes))).answer ≡ Opened p → made_at k w bytes ≡ Some p
+taken_made k w side bytes p h = (opens_made k w side bytes (made_at k w bytes) p h).0
 
 -- ---- a text that was said
 
@@ -173,6 +179,14 @@ used_later k w last side p lawful later used =
     (⊎_elim (λ opened. inl (stays k w later.events side p opened))
     (λ said. inr ((packets_last k w later.events p lawful later.whole said.0).0, said.1)) used)
 
+-- bytes that stand for a later world
+pub erased_in : (k : Mechanism) → IsErased k → (w last : World) (side : Side) (p : Position) (c : List ℕ) (kept : Client)
+    → IsLawfulWorld k w → IsLater k w last → StandsFor k last side c → IsUsed w side p
+    → option_map (record_read k) (recovered client_area c) ≡ Some (Ok kept)
+    → Made (Holds kept.state) (the_message_key p.epoch p.index) → ⊥
+erased_in k erased w last side p c kept lawful later stood used =
+    erased_at k erased last side p c kept (lawful_at k w last lawful later) stood (used_later k w last side p lawful later used)
+
 -- ---- at every later moment
 
 pub erased_later : {X : Type 0} (state : X → DiskState) (xs : List X) (k : Mechanism) (side : Side) (first : World)
@@ -184,9 +198,10 @@ erased_later state xs k side first known erased lawful linked n m b le is p used
     let here = lawful_at k first w lawful (first_later state xs k side first known linked n m b le is) in
     let last = later state xs k side first known linked n m b le is in
     let still = stands state xs k side first known linked m b is in
-    let doubtful = later_twice k w (known m).last (known m).doubtful last still.doubtful_later in
-    ⊎_elim (λ stood. erased_at k erased (known m).last side p c kept (lawful_at k w (known m).last here last) stood
-    (used_later k w (known m).last side p here last used))
-    (λ stood. erased_at k erased (known m).doubtful side p c kept (lawful_at k w (known m).doubtful here doubtful) stood
-    (used_later k w (known m).doubtful side p here doubtful used))
+    ⊎_elim (λ stood. erased_in k erased w (known m).last side p c kept here last stood used)
+    (λ (at : Any (λ (v : World). StandsFor k v side c) (known m).doubtful).
+    erased_in k erased w at.1 side p c kept here
+    (later_twice k w (known m).last at.1 last
+    (among (IsLater k (known m).last) (known m).doubtful at.1 still.doubtful_later (at.0, at.2, at.3)))
+    at.4 used)
     (still.images c left)

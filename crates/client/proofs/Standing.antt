@@ -1,91 +1,141 @@
 -- What stands from moment to moment.
-use Rattle.std.proofs.Common.{List, None, Some, [], ap, arith, inl, refl, subst, suc, sym, zero, ℕ, ⊎_elim, ◌++◌, ◌+◌, ◌-◌, ◌∙◌, ◌∷◌, ◌≡◌, ◌≤◌}
-use Rattle.std.specs.Prelude.{slice_get}
-use Rattle.std.proofs.lemmas.List.Elements.{All-append, All-cons, All-nil}
+use Rattle.std.proofs.Common.{List, length, ◌++◌, None, Some, ap, arith, inl, inr, refl, subst, suc, sym, zero, ℕ, ⊎_elim, ◌+◌, ◌-◌, ◌<◌, ◌∙◌, ◌∷◌, ◌≡◌, ◌≤◌, ◌⊎◌, []}
+use Rattle.std.specs.Prelude.{All, Any, Contains, slice_get, slice_index_or}
+use Rattle.std.proofs.lemmas.List.{get_or-append-add, get_or_append_left, length-append}
+use Rattle.std.proofs.lemmas.List.Elements.{All-append, All-cons, All-nil, All-weaker}
 use Rattle.dr_base.specs.declared.position.Side.{Side}
 use Rattle.dr_disk.specs.State.{Always, DiskState}
-use Rattle.dr_model.specs.Machines.Acts.{Act, act_in, finishing, saying, sending, taking}
-use Rattle.dr_model.specs.Machines.Events.{Event, drops_done, drops_sent, says, seeds, takes_bytes}
-use Rattle.dr_model.specs.Machines.Worlds.{World, run_of, step_of}
-use Rattle.dr_model.specs.Theorems.Acting.{IsFairAct}
-use Rattle.dr_model.specs.Theorems.Fairness.{IsSeedWhole}
-use Rattle.dr_model.specs.Theorems.LawfulWorlds.{IsLawfulWorld}
-use Rattle.dr_model.proofs.Worlds.LawfulWorlds.{lawful_run}
+use Rattle.dr_model.specs.Machines.Acts.{act_in}
+use Rattle.dr_model.specs.Machines.Worlds.{World}
 use Rattle.kem_laws.specs.Mechanism.{Mechanism}
-use Rattle.session_model.specs.declared.answer.Amount.TheVariants.{Exactly}
-use Rattle.client.specs.InWorlds.{StandsFor, StandsForEither}
-use Rattle.client.specs.Moments.{AreLinked, IsLater, Known, Link, StandsStill, settled_in, was_acknowledged, was_cut, was_left, was_opened}
+use Rattle.sync_model.specs.Courses.{begun}
+use Rattle.client.specs.InWorlds.{StandsFor}
+use Rattle.client.specs.Moments.{AreLinked, IsActed, IsKnown, IsLater, IsOneOf, Known, Link, StandsStill, reached_by, settled_in, synced_in, was_acknowledged, was_cut, was_cut_in_sync, was_left, was_moved, was_opened, was_synced, with_doubts}
+use Rattle.client.specs.Syncing.InWorlds.{course_in}
+use Rattle.client.specs.Syncing.Parties.{world_party}
+use Rattle.client.proofs.Later.{act_later, acted_later, acted_none, acted_once, acted_twice, back_acted, front_later, itself, later_twice}
 
-runs_on : (k : Mechanism) (w : World) (hs es : List Event) → run_of k w (hs ++ es) ≡ run_of k (run_of k w hs) es
-runs_on k w [] es = refl
-runs_on k w (h ∷ hs) es = runs_on k (step_of k w h).next hs es
+-- what holds of all holds of one among them
+pub among : {X : Type 0} (P : X → Type 0) (xs : List X) (x : X) → All P xs → Contains xs x → P x
+among P xs x all at = subst P at.2 (all at.0 x at.1)
 
--- later, and later than that
-pub later_twice : (k : Mechanism) (first mid last : World) → IsLater k first mid → IsLater k mid last → IsLater k first last
-later_twice k first mid last one two = record {
-  events = one.events ++ two.events;
-  whole = All-append IsSeedWhole one.events two.events one.whole two.whole;
-  leads = runs_on k first one.events two.events ∙ ap (λ v. run_of k v two.events) one.leads ∙ two.leads;
-}
+-- one world in doubt
+pub one_known : (k : Mechanism) (w : World) (side : Side) (c : List ℕ) → StandsFor k w side c
+    → Any (λ v. StandsFor k v side c) (w ∷ [])
+one_known k w side c stood = (0, w, omega arith, refl, stood)
 
--- worlds stay lawful
-pub lawful_at : (k : Mechanism) (first w : World) → IsLawfulWorld k first → IsLater k first w → IsLawfulWorld k w
-lawful_at k first w lawful later = subst (IsLawfulWorld k) later.leads (lawful_run k first later.events lawful later.whole)
+pub only : {X : Type 0} (P : X → Type 0) (x : X) → Any P (x ∷ []) → P x
+only {X = X} P x at = by_place at.0 at.1 at.2 at.3 at.4
+  where
+    by_place : (n : ℕ) (y : X) → n < 1 → slice_index_or (x ∷ []) n y ≡ y → P y → P x
+    by_place zero y lt is holds = subst P (sym is) holds
+    by_place (suc n) y lt is holds = absurd (omega (arith, lt))
 
-itself : (k : Mechanism) (w : World) → IsLater k w w
-itself k w = record { events = []; whole = All-nil IsSeedWhole; leads = refl }
+-- ---- an element of two lists
 
-event_later : (k : Mechanism) (w : World) (h : Event) → IsSeedWhole h → IsLater k w (step_of k w h).next
-event_later k w h whole = record { events = h ∷ []; whole = All-cons IsSeedWhole h [] whole (All-nil IsSeedWhole); leads = refl }
+in_first : {X : Type 0} (P : X → Type 0) (xs ys : List X) → Any P xs → Any P (xs ++ ys)
+in_first P xs ys at =
+    (at.0, at.1, omega (arith, at.2, length-append xs ys), get_or_append_left xs ys at.1 at.0 at.2 ∙ at.3, at.4)
 
--- an act is an event, after its seed where one was drawn
-act_later : (k : Mechanism) (side : Side) (w : World) (act : Act) → IsFairAct k w side act
-    → IsLater k w (act_in k w side act).next
-act_later k side w (saying text None) fair = event_later k w (says side text) tt
-act_later k side w (saying text (Some seed)) fair =
-    later_twice k w (step_of k w (seeds seed)).next (act_in k w side (saying text (Some seed))).next
-    (event_later k w (seeds seed) fair.whole) (event_later k (step_of k w (seeds seed)).next (says side text) tt)
-act_later k side w (taking bytes) fair = event_later k w (takes_bytes side bytes) tt
-act_later k side w (finishing n) fair = event_later k w (drops_done side (Exactly n)) tt
-act_later k side w (sending n) fair = event_later k w (drops_sent side (Exactly n)) tt
+in_second : {X : Type 0} (P : X → Type 0) (xs ys : List X) → Any P ys → Any P (xs ++ ys)
+in_second P xs ys at =
+    (length xs + at.0, at.1, omega (arith, at.2, length-append xs ys), get_or-append-add xs ys at.0 at.1 ∙ at.3, at.4)
+
+-- what stood for a known world, or stands for one that is known or for one of more, is known with those
+more_known : (k : Mechanism) (side : Side) (known : Known) (worlds : List World) (w : World) (c : List ℕ) → IsOneOf known w
+    → IsKnown k side known c ⊎ (StandsFor k w side c ⊎ Any (λ v. StandsFor k v side c) worlds)
+    → IsKnown k side (with_doubts known worlds) c
+more_known k side known worlds w c which either =
+    ⊎_elim (λ was. ⊎_elim inl (λ at. inr (in_first (λ v. StandsFor k v side c) known.doubtful worlds at)) was)
+    (λ stood. ⊎_elim (λ is. ⊎_elim (λ e. inl (subst (λ v. StandsFor k v side c) e is))
+    (λ at. inr (in_first (λ v. StandsFor k v side c) known.doubtful worlds (at.0, w, at.1, at.2, is))) which)
+    (λ at. inr (in_second (λ v. StandsFor k v side c) known.doubtful worlds at)) stood) either
 
 module _ (k : Mechanism) (side : Side) (first : World) where
   abbrev Still : Known → DiskState → Type 0
   Still = StandsStill k side first
 
   settled_still : (w : World) (b : DiskState) → IsLater k first w → Always (StandsFor k w side) b → Still (settled_in w) b
-  settled_still w b later rests = record { images = λ c left. inl (rests c left); last_later = later; doubtful_later = itself k w }
+  settled_still w b later rests = record {
+    images = λ c left. inl (rests c left);
+    last_later = later;
+    doubtful_later = All-nil (IsLater k w);
+    doubtful_acted = All-nil (IsActed k side w);
+  }
+
+  -- what is acted is later
+  still_by : (known : Known) (b : DiskState) → Always (IsKnown k side known) b → IsLater k first known.last
+      → All (IsActed k side known.last) known.doubtful → Still known b
+  still_by known b images later acted = record {
+    images = images;
+    last_later = later;
+    doubtful_later = All-weaker (IsActed k side known.last) (IsLater k known.last) (λ w is. acted_later k side known.last w is) known.doubtful acted;
+    doubtful_acted = acted;
+  }
+
+  -- acts of this side lead from the last world to one that is opened
+  opened_acted : (known : Known) (a : DiskState) (w : World) → IsOneOf known w → Still known a → IsActed k side known.last w
+  opened_acted known a w which still =
+      ⊎_elim (λ e. subst (IsActed k side known.last) (sym e) (acted_none k side known.last))
+      (λ at. among (IsActed k side known.last) known.doubtful w still.doubtful_acted at) which
+
+  opened_later : (known : Known) (a : DiskState) (w : World) → IsOneOf known w → Still known a → IsLater k first w
+  opened_later known a w which still =
+      later_twice k first known.last w still.last_later (acted_later k side known.last w (opened_acted known a w which still))
+
+  -- more worlds in doubt, to which acts lead from one that is known
+  doubts_still : (known : Known) (a b : DiskState) (w : World) (worlds : List World) → IsOneOf known w → Still known a
+      → All (IsActed k side w) worlds
+      → ((c : List ℕ) → b.image c → a.image c ⊎ (StandsFor k w side c ⊎ Any (λ v. StandsFor k v side c) worlds))
+      → Still (with_doubts known worlds) b
+  doubts_still known a b w worlds which still acted left_by =
+      still_by (with_doubts known worlds) b
+      (λ c left. more_known k side known worlds w c which (⊎_elim (λ was. inl (still.images c was)) inr (left_by c left)))
+      still.last_later
+      (All-append (IsActed k side known.last) known.doubtful worlds still.doubtful_acted
+      (All-weaker (IsActed k side w) (IsActed k side known.last) (λ v is. acted_twice k side known.last w v (opened_acted known a w which still) is) worlds acted))
 
   goes_on : (a b : DiskState) (before after : Known) → Link k side a b before after → Still before a → Still after b
-  goes_on a b before after (was_acknowledged w act fair between rests) still =
+  goes_on a b before after (was_opened known w which rests) still = settled_still w b (opened_later known a w which still) rests
+  goes_on a b before after (was_acknowledged known w which act fair rests) still =
       let next = (act_in k w side act).next in
-      settled_still next b (later_twice k first w next still.last_later (act_later k side w act fair)) rests
-  goes_on a b before after (was_cut w act fair left_by) still = record {
-    images = λ c left. ⊎_elim (λ was. ⊎_elim (λ l. inl l) (λ l. inl l) (still.images c was))
-        (λ (s : StandsForEither k side w (act_in k w side act).next a c). s.either) (left_by c left);
-    last_later = still.last_later;
-    doubtful_later = act_later k side w act fair;
-  }
+      settled_still next b (later_twice k first w next (opened_later known a w which still) (act_later k side w act fair)) rests
+  goes_on a b before after (was_cut known w which act fair left_by) still =
+      let next = (act_in k w side act).next in
+      doubts_still known a b w (next ∷ []) which still
+      (All-cons (IsActed k side w) next [] (acted_once k side w act fair) (All-nil (IsActed k side w)))
+      (λ c left. ⊎_elim inl (λ stood. inr (⊎_elim inl (λ is. inr (one_known k next side c is)) stood)) (left_by c left))
+  goes_on a b before after (was_synced known w which prefix front back fair images) still =
+      still_by (synced_in k prefix side w front back) b images
+      (later_twice k first w (course_in k prefix side w front).state (opened_later known a w which still) (front_later k prefix side w front back fair))
+      (back_acted k prefix side w front back fair)
+  goes_on a b before after (was_cut_in_sync known w which prefix replies fair left_by) still =
+      doubts_still known a b w (reached_by (world_party k prefix side w) (begun (world_party k prefix side w) w) replies) which still
+      (back_acted k prefix side w [] replies fair) left_by
   goes_on a b before after (was_left known left_by) still = record {
     images = λ c left. ⊎_elim (still.images c) (λ is. is) (left_by c left);
     last_later = still.last_later;
     doubtful_later = still.doubtful_later;
+    doubtful_acted = still.doubtful_acted;
   }
-  goes_on a b before after (was_opened known w which rests) still =
-      let doubtful = later_twice k first known.last known.doubtful still.last_later still.doubtful_later in
-      settled_still w b
-      (⊎_elim (λ e. subst (IsLater k first) (sym e) still.last_later) (λ e. subst (IsLater k first) (sym e) doubtful) which)
-      rests
+  goes_on a b before after (was_moved known moved have left_by) still =
+      still_by moved b (λ c left. ⊎_elim (λ was. have.stands c (still.images c was)) (λ is. is) (left_by c left))
+      (later_twice k first known.last moved.last still.last_later have.last_later) have.doubtful_acted
 
   -- what was acknowledged or opened last comes later with each link
   last_later : (a b : DiskState) (before after : Known) → Link k side a b before after → Still before a
       → IsLater k before.last after.last
-  last_later a b before after (was_acknowledged w act fair between rests) still = act_later k side w act fair
-  last_later a b before after (was_cut w act fair left_by) still = itself k w
+  last_later a b before after (was_opened known w which rests) still = acted_later k side known.last w (opened_acted known a w which still)
+  last_later a b before after (was_acknowledged known w which act fair rests) still =
+      later_twice k known.last w (act_in k w side act).next (acted_later k side known.last w (opened_acted known a w which still))
+      (act_later k side w act fair)
+  last_later a b before after (was_cut known w which act fair left_by) still = itself k known.last
+  last_later a b before after (was_synced known w which prefix front back fair images) still =
+      later_twice k known.last w (course_in k prefix side w front).state (acted_later k side known.last w (opened_acted known a w which still))
+      (front_later k prefix side w front back fair)
+  last_later a b before after (was_cut_in_sync known w which prefix replies fair left_by) still = itself k known.last
   last_later a b before after (was_left known left_by) still = itself k known.last
-  last_later a b before after (was_opened known w which rests) still =
-      ⊎_elim (λ e. subst (IsLater k known.last) (sym e) (itself k known.last))
-      (λ e. subst (IsLater k known.last) (sym e) still.doubtful_later) which
+  last_later a b before after (was_moved known moved have left_by) still = have.last_later
 
 pub get_before : {X : Type 0} (xs : List X) (n : ℕ) (b : X) → slice_get xs (suc n) ≡ Some b → (a : X) × (slice_get xs n ≡ Some a)
 get_before [] n b h = absurd (let e : None ≡ Some b = h in cc)

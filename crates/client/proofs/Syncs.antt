@@ -12,4 +12,6 @@ pub mod Worlds
 pub mod Parties
 pub mod Carrying
 pub mod Transfers
+pub mod Spent
+pub mod Links
 pub mod Arrivals

@@ -7,4 +7,5 @@ pub mod Opening
 pub mod Beginning
 pub mod Grounds
 pub mod Moments
+pub mod Exchanges
 pub mod Syncing

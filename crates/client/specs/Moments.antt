@@ -1,5 +1,6 @@
--- Moments of a disk, with what lies between them: calls that were acknowledged, cut off or refused, crashes and openings.
-use Rattle.std.specs.Prelude.{All, List, Some, slice_get, ℕ, ◌+◌, ◌⊎◌, ◌≡◌}
+-- Moments of a disk, with what lies between them: calls that were acknowledged, cut off or refused, syncs, crashes and openings,
+-- and what the other side did meanwhile.
+use Rattle.std.specs.Prelude.{All, Any, Contains, List, Some, [], slice_get, ℕ, ⊤, ◌++◌, ◌+◌, ◌∷◌, ◌⊎◌, ◌≡◌}
 use Rattle.dr_base.specs.declared.position.Side.{Side}
 use Rattle.dr_disk.specs.State.{Always, DiskState}
 use Rattle.dr_model.specs.Machines.Acts.{Act, act_in}
@@ -8,41 +9,16 @@ use Rattle.dr_model.specs.Machines.Worlds.{World, run_of}
 use Rattle.dr_model.specs.Theorems.Acting.{IsFairAct}
 use Rattle.dr_model.specs.Theorems.Fairness.{IsSeedWhole}
 use Rattle.kem_laws.specs.Mechanism.{Mechanism}
+use Rattle.relay_wire.specs.Replies.{Replied}
 use Rattle.slot_store.specs.Reading.{IsLikeRead, IsUndamaged}
+use Rattle.sync_model.specs.Courses.{Course, begun, read_one}
+use Rattle.sync_model.specs.Parties.{Party}
 use Rattle.client.specs.Clients.{client_area}
-use Rattle.client.specs.InWorlds.{IsBetween, StandsFor, StandsForEither}
+use Rattle.client.specs.InWorlds.{StandsFor}
+use Rattle.client.specs.Syncing.InWorlds.{AreUnforged, course_in}
+use Rattle.client.specs.Syncing.Parties.{world_party}
 
--- The worlds that a disk may stand for: the one that was acknowledged or opened last, and the one that a call which failed
--- or was cut off would have led to. They are the same where no call has failed since.
-pub record Known : Type 0 where
-  pub last : World
-  pub doubtful : World
-
-abbrev pub settled_in : World → Known
-settled_in w = record { last = w; doubtful = w }
-
-abbrev pub IsKnown : Mechanism → Side → Known → List ℕ → Type 0
-IsKnown k side known c = StandsFor k known.last side c ⊎ StandsFor k known.doubtful side c
-
--- what lies between two moments, one after the other
-pub data Link (k : Mechanism) (side : Side) (a b : DiskState) : Known → Known → Type 0 where
-  -- an act was acknowledged
-  was_acknowledged : (w : World) (act : Act) → IsFairAct k w side act → IsBetween k side w (act_in k w side act).next a b
-      → Always (StandsFor k (act_in k w side act).next side) b
-      → Link k side a b (settled_in w) (settled_in (act_in k w side act).next)
-  -- a call on the disk failed in an act, or a crash cut it off: what stands now, the disk might have left meanwhile
-  was_cut : (w : World) (act : Act) → IsFairAct k w side act
-      → ((c : List ℕ) → b.image c → a.image c ⊎ StandsForEither k side w (act_in k w side act).next a c)
-      → Link k side a b (settled_in w) (record { last = w; doubtful = (act_in k w side act).next })
-  -- nothing but what stood before was left: by a refusal, a crash between two calls, or an opening that was cut off
-  was_left : (known : Known) → ((c : List ℕ) → b.image c → a.image c ⊎ IsKnown k side known c) → Link k side a b known known
-  -- the client was opened, in the world whose record was read
-  was_opened : (known : Known) (w : World) → (w ≡ known.last) ⊎ (w ≡ known.doubtful) → Always (StandsFor k w side) b
-      → Link k side a b known (settled_in w)
-
--- between two moments no image came but one that stood, one that is like what was read, or one that is read without damage
-abbrev pub LeavesWhole : DiskState → DiskState → Type 0
-LeavesWhole a b = (c : List ℕ) → b.image c → a.image c ⊎ (IsLikeRead client_area a c ⊎ IsUndamaged client_area c)
+-- ---- worlds
 
 -- a world that events lead to
 pub record IsLater (k : Mechanism) (w later : World) : Type 0 where
@@ -50,12 +26,103 @@ pub record IsLater (k : Mechanism) (w later : World) : Type 0 where
   pub whole : All IsSeedWhole events
   pub leads : run_of k w events ≡ later
 
--- Each image stands for the world that was acknowledged or opened last or for the doubtful one; the first leads to the one,
--- and that to the other.
+-- where acts of one side lead, one after the other
+abbrev pub acts_in : Mechanism → Side → World → List Act → World
+acts_in k side w [] = w
+acts_in k side w (act ∷ acts) = acts_in k side (act_in k w side act).next acts
+
+-- each is fair at its turn
+abbrev pub AreFairActs : Mechanism → Side → World → List Act → Type 0
+AreFairActs k side w [] = ⊤
+AreFairActs k side w (act ∷ acts) = IsFairAct k w side act × AreFairActs k side (act_in k w side act).next acts
+
+-- a world to which fair acts of one side lead
+pub record IsActed (k : Mechanism) (side : Side) (w later : World) : Type 0 where
+  pub acts : List Act
+  pub fair : AreFairActs k side w acts
+  pub leads : acts_in k side w acts ≡ later
+
+-- the worlds that a course reaches with each of these replies, in order
+abbrev pub reached_by : Party World → Course World → List Replied → List World
+reached_by p c [] = []
+reached_by p c (reply ∷ replies) = (read_one p c reply).state ∷ reached_by p (read_one p c reply) replies
+
+-- ---- what is known of a disk
+
+-- The worlds that a disk may stand for: the one that was acknowledged or opened last, and those in doubt, to which acts led or
+-- would have led that failed or were cut off since.
+pub record Known : Type 0 where
+  pub last : World
+  pub doubtful : List World
+
+-- none is in doubt
+abbrev pub settled_in : World → Known
+settled_in w = record { last = w; doubtful = [] }
+
+-- these are in doubt too
+abbrev pub with_doubts : Known → List World → Known
+with_doubts known worlds = record known { doubtful = known.doubtful ++ worlds }
+
+-- a sync came as far as the first of its replies lead it, and what it makes of those behind them is in doubt
+abbrev pub synced_in : Mechanism → List ℕ → Side → World → List Replied → List Replied → Known
+synced_in k prefix side w front back = record {
+  last = (course_in k prefix side w front).state;
+  doubtful = reached_by (world_party k prefix side w) (course_in k prefix side w front) back;
+}
+
+abbrev pub IsOneOf : Known → World → Type 0
+IsOneOf known w = (w ≡ known.last) ⊎ Contains known.doubtful w
+
+abbrev pub IsKnown : Mechanism → Side → Known → List ℕ → Type 0
+IsKnown k side known c = StandsFor k known.last side c ⊎ Any (λ w. StandsFor k w side c) known.doubtful
+
+-- Events that leave what a side keeps led the worlds on, as what the other side does: the last one, and with it those in doubt,
+-- to which acts of the side still lead from there. What stood for one of the worlds stands for one of those that they became.
+pub record HaveMoved (k : Mechanism) (side : Side) (known moved : Known) : Type 0 where
+  pub last_later : IsLater k known.last moved.last
+  pub doubtful_acted : All (IsActed k side moved.last) moved.doubtful
+  pub stands : (c : List ℕ) → IsKnown k side known c → IsKnown k side moved c
+
+-- ---- links
+
+-- What lies between two moments, one after the other. An opening may be part of each: it gives one of the worlds that were
+-- known, which is the last one where none was in doubt.
+pub data Link (k : Mechanism) (side : Side) (a b : DiskState) : Known → Known → Type 0 where
+  -- the client was opened, in the world whose record was read
+  was_opened : (known : Known) (w : World) → IsOneOf known w → Always (StandsFor k w side) b → Link k side a b known (settled_in w)
+  -- an act was acknowledged
+  was_acknowledged : (known : Known) (w : World) → IsOneOf known w → (act : Act) → IsFairAct k w side act
+      → Always (StandsFor k (act_in k w side act).next side) b → Link k side a b known (settled_in (act_in k w side act).next)
+  -- a call on the disk failed in an act, or a crash cut it off: what stands now, the disk might have left meanwhile
+  was_cut : (known : Known) (w : World) → IsOneOf known w → (act : Act) → IsFairAct k w side act
+      → ((c : List ℕ) → b.image c → a.image c ⊎ (StandsFor k w side c ⊎ StandsFor k (act_in k w side act).next side c))
+      → Link k side a b known (with_doubts known ((act_in k w side act).next ∷ []))
+  -- a sync ended: it has settled what was in doubt before, all but the step in which a call on the disk failed
+  was_synced : (known : Known) (w : World) → IsOneOf known w → (prefix : List ℕ) (front back : List Replied)
+      → AreUnforged k prefix side w (front ++ back) → Always (IsKnown k side (synced_in k prefix side w front back)) b
+      → Link k side a b known (synced_in k prefix side w front back)
+  -- a sync was cut off anywhere: what stands now, the disk might have left meanwhile
+  was_cut_in_sync : (known : Known) (w : World) → IsOneOf known w → (prefix : List ℕ) (replies : List Replied)
+      → AreUnforged k prefix side w replies
+      → ((c : List ℕ) → b.image c → a.image c ⊎ IsKnown k side (synced_in k prefix side w [] replies) c)
+      → Link k side a b known (with_doubts known (reached_by (world_party k prefix side w) (begun (world_party k prefix side w) w) replies))
+  -- nothing but what stood before was left: by a refusal, a crash between two calls, or an opening that was cut off
+  was_left : (known : Known) → ((c : List ℕ) → b.image c → a.image c ⊎ IsKnown k side known c) → Link k side a b known known
+  -- the other side went on, whatever is in doubt here, and nothing but what stood before was left
+  was_moved : (known moved : Known) → HaveMoved k side known moved
+      → ((c : List ℕ) → b.image c → a.image c ⊎ IsKnown k side moved c) → Link k side a b known moved
+
+-- between two moments no image came but one that stood, one that is like what was read, or one that is read without damage
+abbrev pub LeavesWhole : DiskState → DiskState → Type 0
+LeavesWhole a b = (c : List ℕ) → b.image c → a.image c ⊎ (IsLikeRead client_area a c ⊎ IsUndamaged client_area c)
+
+-- Each image stands for the world that was acknowledged or opened last or for one in doubt; the first leads to the one, and
+-- that to those, by acts of this side alone.
 pub record StandsStill (k : Mechanism) (side : Side) (first : World) (known : Known) (disk : DiskState) : Type 0 where
   pub images : Always (IsKnown k side known) disk
   pub last_later : IsLater k first known.last
-  pub doubtful_later : IsLater k known.last known.doubtful
+  pub doubtful_later : All (IsLater k known.last) known.doubtful
+  pub doubtful_acted : All (IsActed k side known.last) known.doubtful
 
 -- moments of a disk, from one on at which it stands for the first world, and a link from each to the next
 pub record AreLinked {X : Type 0} (state : X → DiskState) (moments : List X) (k : Mechanism) (side : Side) (first : World)

@@ -8,7 +8,7 @@ ghost use Rattle.dr_disk.specs.State.{Always};
 ghost use Rattle.dr_model.specs.Machines.WorldSides.{kept_in};
 ghost use Rattle.dr_model.specs.Machines.Worlds.{World};
 ghost use Rattle.dr_model.specs.Theorems.LawfulWorlds.{IsLawfulWorld};
-ghost use Rattle.kem_laws.specs.Mechanism.{Mechanism};
+ghost use Rattle.kem_laws.specs.Mechanism.{IsLawfulMechanism, Mechanism};
 ghost use Rattle.session_model.specs.Clients.{Client};
 ghost use Rattle.session_record.specs.Record.{record_text};
 ghost use Rattle.slot_store.specs.Laws.{SameWithin};
@@ -89,13 +89,20 @@ pub fn opens_again<D: Disk>(before: &D, after: &D)
     record_law();
 }
 
-/// The laws on which a client's claims rest.
-pub(crate) fn grounds<K: Kem>()
-    ensures { Grounds K.mechanism }
+/// The laws on which a client's claims rest, over any mechanism that keeps its law.
+pub fn client_grounds()
+    ensures { (k : Mechanism) → IsLawfulMechanism k → Grounds k }
 {
-    laws::<K>();
     acts_follow();
     erasure();
     record_law();
     resting();
+}
+
+/// The same over the mechanism of a client.
+pub(crate) fn grounds<K: Kem>()
+    ensures { Grounds K.mechanism }
+{
+    laws::<K>();
+    client_grounds();
 }

@@ -5,9 +5,10 @@
 #![tactic(auto)]
 
 pub use client::{Client, SLOT};
+pub use histories::{exchange, meanwhile, syncs_are_links};
 pub use laws::{
-    areas_are_their_records, crash_safety, opens_again, single_use, stays_undamaged,
-    used_keys_stay_erased,
+    areas_are_their_records, client_grounds, crash_safety, opens_again, single_use,
+    stays_undamaged, used_keys_stay_erased,
 };
 pub use refusals::{BeginRefusal, DropRefusal, OpenRefusal, SayRefusal, TakeRefusal};
 pub use syncing::{Names, SyncFault, SyncRefusal};
@@ -15,6 +16,7 @@ pub use syncing::{Names, SyncFault, SyncRefusal};
 mod beginning;
 mod client;
 mod dropping;
+mod histories;
 mod keeping;
 mod laws;
 mod opening;

@@ -9,3 +9,4 @@ mod Texts
 mod Unopened
 mod Syncs
 mod SyncRuns
+mod Linking

@@ -11,3 +11,4 @@ pub mod Beginning
 pub mod Runs
 pub mod Completing
 pub mod Syncing
+pub mod Histories

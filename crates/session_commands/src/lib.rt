@@ -7,6 +7,7 @@
 
 pub use beginning::begin;
 pub use dropping::{done, sent};
+pub use histories::{crashes_are_links, reads_known, runs_are_links};
 pub use input::{KEY_TEXT_LIMIT, PACKET_TEXT_LIMIT};
 pub use laws::complete;
 pub use saying::say;
@@ -18,6 +19,7 @@ mod beginning;
 mod closing;
 mod dropping;
 mod endings_of;
+mod histories;
 mod input;
 mod laws;
 mod lines;

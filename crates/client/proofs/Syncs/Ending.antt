@@ -1,6 +1,7 @@
 -- A sync ends with a round, or goes on after it.
-use Rattle.std.proofs.Common.{Err, List, Ok, Option, Some, [], ap, inl, inr, refl, subst, sym, ℕ, ◌++◌, ◌∙◌, ◌∷◌, ◌≡◌, append-nil}
+use Rattle.std.proofs.Common.{Err, List, Ok, Option, Some, [], ap, inl, inr, refl, subst, sym, ℕ, ⊎_elim, ◌++◌, ◌∙◌, ◌∷◌, ◌≡◌, append-nil}
 use Rattle.dr_base.specs.Causes.{Rose}
+use Rattle.dr_disk.specs.State.{DiskState}
 use Rattle.dr_disk.proofs.Steps.{quiet_twice}
 use Rattle.dr_ports.specs.Wires.{Port}
 use Rattle.dr_ports.specs.declared.pipe.Part.TheVariants.{Flow}
@@ -13,20 +14,32 @@ use Rattle.relay_pipe.proofs.Exchanged.{both}
 use Rattle.relay_wire.specs.Replies.{Replied}
 use Rattle.relay_wire.specs.Requests.{Asked}
 use Rattle.session_model.specs.Clients.{Client}
+use Rattle.session_record.specs.Record.{record_text}
+use Rattle.slot_store.specs.Slots.{recovered}
+use Rattle.slot_store.specs.Store.{IsOldOrNew}
+use Rattle.slot_store.specs.declared.area.Area.{Area}
+use Rattle.slot_store.specs.declared.store.SlotStore.{SlotStore}
+use Rattle.slot_store.proofs.RetireCalls.{rests_recovered}
 use Rattle.sync_model.specs.Carried.{replied_bytes, request_bytes}
 use Rattle.sync_model.specs.Courses.{as_list, course_of, last_line, made_requests}
 use Rattle.sync_model.specs.Moves.{Ending, Wait, asked_in, box_is_full, ended, inbox_full, move, no_such_box, over, wrong}
 use Rattle.sync_model.specs.Parties.{Party}
 use Rattle.sync_model.specs.declared.more.More.{More}
 use Rattle.sync_model.proofs.Reading.{bytes_last, lawful_last}
+use Rattle.client.specs.Clients.{IsReady, client_area}
 use Rattle.client.specs.Syncing.Moments.{Moment, Moved, Wrote, WroteBeginning}
 use Rattle.client.specs.Syncing.Rounds.{IsRound, IsStill, Turn, Turns, came_to_end, fault_in, goes_on, heard, stops, was_broken, was_unheard, was_unstored, was_unwritten, went_on}
 use Rattle.client.specs.Syncing.SoFar.{SoFar, Stands}
-use Rattle.client.specs.Syncing.Syncs.{Ends, IsCutOff, IsOver, IsUnheard, Syncs, is_cut, is_unread}
+use Rattle.client.specs.Syncing.Syncs.{Ends, HasRecord, IsCutOff, IsOver, IsUnheard, Syncs, is_cut, is_unread}
 use Rattle.client.specs.declared.syncing.faults.SyncFault.{SyncFault}
 use Rattle.client.specs.declared.syncing.faults.SyncFault.TheVariants.{Peer, Refused, Write}
 use Rattle.client.specs.declared.syncing.faults.SyncRefusal.TheVariants.{BoxFull, InboxFull, Unknown}
 use Rattle.client.proofs.Syncs.Going.{lines_more, on, passed_more, passed_still, stands_more, talked_more, then, wrote_as, wrote_beginning, wrote_more}
+
+-- an image of a disk at rest has the record
+pub rested : (store : SlotStore) (kept : Client) (disk : DiskState) → IsReady kept store disk → (c : List ℕ) → disk.image c → HasRecord kept c
+rested store kept disk ready c left =
+    subst (λ (a : Area). recovered a c ≡ Some (record_text kept)) ready.area (rests_recovered store c (ready.rests c left) ∙ ready.holds)
 
 some_is : (a b : SyncFault) → Some a ≡ Some b → a ≡ b
 some_is a b h = cc
@@ -112,6 +125,12 @@ module _ (p : Party Client) where
               closes = broken.closes;
               rose = subst (λ (n : ℕ). Rose n (c.disk.faults call)) (far.stands.quiet call) broken.rose;
               fate = λ all. broken.fate (far.stands.fate all);
+              leaves = λ d left.
+                  ⊎_elim (λ was. inl (rested b.client.store b.client.kept b.disk far.stands.ready d was ∙ ap (λ (x : Client). Some (record_text x)) far.stands.keeps))
+                  (λ (s : IsOldOrNew b.disk client_area (Some (record_text b.client.kept)) (Some (record_text (move p b.client.kept wait reply).state)) d).
+                  ⊎_elim (λ old. inl (old ∙ ap (λ (x : Client). Some (record_text x)) far.stands.keeps))
+                  (λ new. inr (new ∙ ap (λ (x : Client). Some (record_text x)) (sym next.state))) s.either)
+                  (broken.during.last d left);
               talked = talked_more p a b start mid wait far c now asked asks reply replied;
               wrote = still_wrote wrote;
             };

@@ -1,5 +1,5 @@
 -- A sync in the worlds that the client stands for.
-use Rattle.std.proofs.Common.{Err, List, Ok, Result, [], ap, refl, subst, ℕ, ⊎_elim, ◌++◌, ◌∙◌, ◌∷◌, ◌≡◌}
+use Rattle.std.proofs.Common.{Err, List, Ok, Result, [], ap, inl, inr, refl, subst, ℕ, ⊎_elim, ◌++◌, ◌∙◌, ◌∷◌, ◌≡◌}
 use Rattle.dr_base.specs.declared.position.Side.{Side}
 use Rattle.dr_disk.specs.State.{Always}
 use Rattle.dr_disk.proofs.Steps.{widen}
@@ -105,7 +105,15 @@ module _ (k : Mechanism) (grounds : Grounds k) (prefix : List ℕ) (side : Side)
     leads start now (Err (Refused refusal)) ends = stands_in ends.2.stands
     leads start now (Err (Store call)) ends =
         let before = kept_behind first w is_kept ends.before (ends.last ∷ []) replies ends.split fair in
-        (ends.before, ends.last, ends.split, record { lawful = before.lawful; keeps = ends.keeps ∙ before.keeps })
+        let stood = record_stands k grounds (course_in k prefix side w ends.before).state side (course_of (client_party k prefix first) first ends.before).state in (
+          ends.before,
+          ends.last,
+          ends.split,
+          record { lawful = before.lawful; keeps = ends.keeps ∙ before.keeps },
+          λ c left. ⊎_elim (λ old. inl (stood c before.lawful before.keeps old))
+              (λ new. inr (record_stands k grounds (course_in k prefix side w replies).state side (course_of (client_party k prefix first) first replies).state c there.lawful there.keeps new))
+              (ends.leaves c left),
+        )
     leads start now (Err Write) ends = stands_in ends.stands
 
     pub in_world : (start now : Port) (result : Result More SyncFault) → SyncsBy (client_party k prefix first) replies a b start now result

@@ -2,7 +2,7 @@
 use Rattle.std.specs.Prelude.{Err, List, Ok, Result, Some, [], drop, length, ◌++◌, ◌∷◌, ◌≡◌, ◌⊎◌, ℕ}
 use Rattle.std.specs.List.{AllByRecursion}
 use Rattle.dr_base.specs.Causes.{Rose}
-use Rattle.dr_disk.specs.State.{all_pass}
+use Rattle.dr_disk.specs.State.{Always, all_pass}
 use Rattle.dr_disk.specs.declared.call.Call.{Call}
 use Rattle.dr_ports.specs.Wires.{EndsAt, Port}
 use Rattle.dr_ports.specs.declared.pipe.Part.TheVariants.{Flow}
@@ -16,11 +16,14 @@ use Rattle.relay_wire.specs.Replies.{IsLawfulReplied, Replied, read_reply}
 use Rattle.relay_wire.specs.Requests.{Asked}
 use Rattle.relay_wire.specs.declared.reply.BadReply.{BadReply}
 use Rattle.session_model.specs.Clients.{Client}
+use Rattle.session_record.specs.Record.{record_text}
+use Rattle.slot_store.specs.Slots.{recovered}
 use Rattle.sync_model.specs.Carried.{replied_bytes, request_bytes}
 use Rattle.sync_model.specs.Courses.{all_lines, course_of, made_requests}
 use Rattle.sync_model.specs.Moves.{Ending, asked_in, ended, over, waits_by}
 use Rattle.sync_model.specs.Parties.{Party}
 use Rattle.sync_model.specs.declared.more.More.{More}
+use Rattle.client.specs.Clients.{client_area}
 use Rattle.client.specs.declared.syncing.faults.SyncFault.{SyncFault}
 use Rattle.client.specs.declared.syncing.faults.SyncFault.TheVariants.{Closed, Link, Peer, Refused, Store, Write}
 use Rattle.client.specs.Syncing.Moments.{Moment, Wrote, WroteBeginning}
@@ -71,6 +74,10 @@ pub record IsUnwritten (p : Party Client) (replies : List Replied) (a b : Moment
   pub talked : Talked p a.client.kept replies start now
   pub wrote : WroteBeginning (all_lines p (course_of p a.client.kept replies)) a b
 
+-- bytes with the record of a client
+abbrev pub HasRecord : Client → List ℕ → Type 0
+HasRecord kept c = recovered client_area c ≡ Some (record_text kept)
+
 -- a call on the disk failed, of this kind, in the step that the last reply asks for
 pub record IsUnstored (p : Party Client) (replies : List Replied) (call : Call) (a b : Moment) (start now : Port) : Type 0 where
   pub before : List Replied
@@ -80,6 +87,8 @@ pub record IsUnstored (p : Party Client) (replies : List Replied) (call : Call) 
   pub closes : b.client.closed ≡ Some call
   pub rose : Rose (a.disk.faults call) (b.disk.faults call)
   pub fate : a.disk.fate ≡ all_pass → ⊥
+  -- each image has the record of before that step, or the one after it
+  pub leaves : Always (λ c. HasRecord (course_of p a.client.kept before).state c ⊎ HasRecord (course_of p a.client.kept replies).state c) b.disk
   pub talked : Talked p a.client.kept replies start now
   pub wrote : Wrote (course_of p a.client.kept before).lines a b
 

@@ -9,7 +9,7 @@ ghost use Rattle.relay_wire.specs.Replies.{Replied};
 ghost use Rattle.client.specs.Clients.{IsReady};
 ghost use Rattle.client.specs.InWorlds.{IsIn};
 ghost use Rattle.client.specs.Syncing.Arrivals.{Opens};
-ghost use Rattle.client.specs.Syncing.InWorlds.{AreUnforged, SyncsIn};
+ghost use Rattle.client.specs.Syncing.InWorlds.{AreUnforged, SyncSpends, SyncsIn};
 ghost use Rattle.client.specs.Syncing.Moments.{moment};
 ghost use Rattle.client.specs.Syncing.Parties.{client_party, party_of};
 ghost use Rattle.client.specs.Syncing.Syncs.{Syncs, SyncsBy};
@@ -58,6 +58,14 @@ impl<K: Kem> Client<K> {
             → SyncsIn K.mechanism prefix.now side w replies
             (moment self.old (D.state disk.old) (O.taken out.old) (O.faults out.old))
             (moment self.new (D.state disk.new) (O.taken out.new) (O.faults out.new)) result }
+        // There, once a packet was opened, its key is used up, and nothing that a crash leaves gives it.
+        ensures spent { (w : World) (side : Side) (replies : List Replied) → IsIn K.mechanism w side self.old
+            → SyncsBy (client_party K.mechanism prefix.now self.old.kept) replies
+            (moment self.old (D.state disk.old) (O.taken out.old) (O.faults out.old))
+            (moment self.new (D.state disk.new) (O.taken out.new) (O.faults out.new))
+            (L.port link.old) (L.port link.new) result
+            → AreUnforged K.mechanism prefix.now side w replies
+            → SyncSpends K.mechanism prefix.now side w replies (D.state disk.new) result }
         // Over a link that carries a relay's replies, where no call fails: the own box is collected, and the outbox delivered.
         ensures transfer { self.old.closed ≡ None → Transfers (client_party K.mechanism prefix.now self.old.kept)
             (moment self.old (D.state disk.old) (O.taken out.old) (O.faults out.old))

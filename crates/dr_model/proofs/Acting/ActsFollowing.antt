@@ -33,7 +33,7 @@ lawful_draw k w side len (Some seed) lawful drawn = record {
   given = drawn.whole;
 }
 
-lawful_for : (k : Mechanism) (w : World) (side : Side) (act : Act) → IsLawfulWorld k w → IsFairAct k w side act
+pub lawful_for : (k : Mechanism) (w : World) (side : Side) (act : Act) → IsLawfulWorld k w → IsFairAct k w side act
     → IsLawfulWorld k (world_for w act)
 lawful_for k w side (saying text draw) lawful fair = lawful_draw k w side (length text) draw lawful fair
 lawful_for k w side (taking bytes) lawful fair = lawful
@@ -41,7 +41,7 @@ lawful_for k w side (finishing n) lawful fair = lawful
 lawful_for k w side (sending n) lawful fair = lawful
 
 -- and the event is fair
-fair_event : (k : Mechanism) (w : World) (side : Side) (act : Act) → IsFairAct k w side act
+pub fair_event : (k : Mechanism) (w : World) (side : Side) (act : Act) → IsFairAct k w side act
     → IsFair k (world_for w act) (event_of side act)
 fair_event k w side (saying text draw) fair = record { unforged = tt; whole = tt }
 fair_event k w side (taking bytes) fair = record { unforged = fair; whole = tt }
@@ -62,7 +62,7 @@ draw_keeps k w side None = refl
 draw_keeps k w First (Some seed) = refl
 draw_keeps k w Second (Some seed) = refl
 
-act_keeps : (k : Mechanism) (w : World) (side : Side) (act : Act)
+pub act_keeps : (k : Mechanism) (w : World) (side : Side) (act : Act)
     → client_of (sides_of k (world_for w act)) side ≡ kept_in k w side
 act_keeps k w side (saying text draw) = client_of-kept k (with_draw w draw) side ∙ draw_keeps k w side draw
 act_keeps k w side (taking bytes) = client_of-kept k w side
@@ -70,13 +70,13 @@ act_keeps k w side (finishing n) = client_of-kept k w side
 act_keeps k w side (sending n) = client_of-kept k w side
 
 -- the draw is the next one
-draw_given : (k : Mechanism) (w : World) (draw : Option (List ℕ)) → is_some draw ≡ true
+pub draw_given : (k : Mechanism) (w : World) (draw : Option (List ℕ)) → is_some draw ≡ true
     → (sides_of k (with_draw w draw)).draws.given ≡ draw
 draw_given k w (Some seed) some = refl
 draw_given k w None some = cc
 
 -- whether a text needs a seed doesn't depend on it
-same_need : (k : Mechanism) (w : World) (side : Side) (len : ℕ) (draw : Option (List ℕ)) → IsLawfulWorld k w
+pub same_need : (k : Mechanism) (w : World) (side : Side) (len : ℕ) (draw : Option (List ℕ)) → IsLawfulWorld k w
     → IsDrawn k w side len draw
     → is_some draw ≡ needs_seed (say_check (client_of (sides_of k (with_draw w draw)) side) len)
 same_need k w side len draw lawful drawn =

@@ -2,6 +2,7 @@ use Rattle.std.proofs.Common.{arith}
 use Rattle.std.proofs.lemmas.Grind.{common_steps}
 use Rattle.client.specs.Syncing.Moments.{moment}
 use Rattle.client.proofs.Syncs.Arrivals.{opens}
+use Rattle.client.proofs.Syncs.Spent.{sync_spends}
 use Rattle.client.proofs.Syncs.Transfers.{named_transfers}
 use Rattle.client.proofs.Syncs.Worlds.{in_world}
 use Rattle.client.proofs.client.Client.sync.Goals as goal
@@ -12,6 +13,14 @@ returns-clause-in_worlds g c = λ w side replies is_in syncs fair.
     (moment c.args.self.now (g.D.Disk.state c.args.disk.now) (g.O.Sink.taken c.args.out.now) (g.O.Sink.faults c.args.out.now))
     (moment c.sync_open.new.self (g.D.Disk.state c.sync_open.new.disk) (g.O.Sink.taken c.sync_open.new.out) (g.O.Sink.faults c.sync_open.new.out))
     is_in replies fair (g.L.Pipe.port c.args.link.now) (g.L.Pipe.port c.sync_open.new.link) c.sync_open.result syncs
+
+pub returns-clause-spent : goal.returns-clause-spent
+returns-clause-spent g c = λ w side replies is_in syncs fair.
+    let a = moment c.args.self.now (g.D.Disk.state c.args.disk.now) (g.O.Sink.taken c.args.out.now) (g.O.Sink.faults c.args.out.now) in
+    let b = moment c.sync_open.new.self (g.D.Disk.state c.sync_open.new.disk) (g.O.Sink.taken c.sync_open.new.out) (g.O.Sink.faults c.sync_open.new.out) in
+    sync_spends g.K.Kem.mechanism c.args.prefix.now side w c.grounds.ensures.erased is_in.lawful replies a b c.sync_open.result fair
+    (in_world g.K.Kem.mechanism c.grounds.ensures c.args.prefix.now side w a b is_in replies fair
+    (g.L.Pipe.port c.args.link.now) (g.L.Pipe.port c.sync_open.new.link) c.sync_open.result syncs)
 
 pub returns-clause-transfer : goal.returns-clause-transfer
 returns-clause-transfer g c = λ is_open.
@@ -43,6 +52,9 @@ returns-in-Some-clause-exact g c = grind (arith, common_steps)
 
 pub returns-in-Some-clause-in_worlds : goal.returns-in-Some-clause-in_worlds
 returns-in-Some-clause-in_worlds g c = grind (arith, common_steps)
+
+pub returns-in-Some-clause-spent : goal.returns-in-Some-clause-spent
+returns-in-Some-clause-spent g c = λ w side replies is_in syncs fair. absurd syncs.ends
 
 pub returns-in-Some-clause-transfer : goal.returns-in-Some-clause-transfer
 returns-in-Some-clause-transfer g c = grind (arith, common_steps)

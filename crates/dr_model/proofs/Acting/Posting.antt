@@ -1,0 +1,100 @@
+-- An act adds to the network's packets what depends on what the side keeps alone.
+use Rattle.std.proofs.Common.{◌≡◌, ℕ, Bool, true, false, List, [], ◌∷◌, ◌++◌, length, Option, Some, None, Result, Ok, Err, refl, sym, ◌∙◌, ap, ap₂, append-nil}
+use Rattle.std.specs.Prelude.{is_some}
+use Rattle.boxes.specs.Items.{Item}
+use Rattle.dr_base.specs.declared.position.Side.{Side}
+use Rattle.dr_base.specs.declared.position.Side.TheVariants.{First, Second}
+use Rattle.kem_laws.specs.Mechanism.{IsLawfulMechanism, Mechanism}
+use Rattle.session_model.specs.Clients.{Client, SaidText, TakenPacket, dropped_of, say_check, say_on, take_on}
+use Rattle.session_model.specs.declared.answer.Refusal.{Refusal}
+use Rattle.dr_model.specs.Conversations.Posts.{posts}
+use Rattle.dr_model.specs.Machines.Acts.{Act, act_in, event_of, finishing, needs_seed, saying, sending, taking, with_draw, world_for}
+use Rattle.dr_model.specs.Machines.Draws.{after_draw, drawn, given_or, next_seed}
+use Rattle.dr_model.specs.Machines.Sides.{Sides, client_of, done_on, opened_on, said_on, saying_on, sent_on, step_on, with_client}
+use Rattle.dr_model.specs.Machines.Steps.{Step}
+use Rattle.dr_model.specs.Machines.WorldSides.{kept_in, sides_of}
+use Rattle.dr_model.specs.Machines.Worlds.{World}
+use Rattle.dr_model.specs.Theorems.Acting.{IsFairAct}
+use Rattle.dr_model.specs.Theorems.LawfulWorlds.{IsLawfulWorld}
+use Rattle.dr_model.proofs.Acting.ActsFollowing.{act_keeps, draw_given, fair_event, lawful_for, same_need}
+use Rattle.dr_model.proofs.Worlds.Following.{step_follows}
+
+-- the packet of a text that was said, by what the side keeps
+abbrev said_posts : Result SaidText Refusal → List Item
+said_posts (Ok said) = said.post ∷ []
+said_posts (Err refusal) = []
+
+abbrev saying_posts : Mechanism → Client → List ℕ → Option (List ℕ) → Result Bool Refusal → List Item
+saying_posts k client text draw (Ok turns) = said_posts (say_on k client text (given_or [] draw))
+saying_posts k client text draw (Err refusal) = []
+
+abbrev pub act_posts : Mechanism → Client → Act → List Item
+act_posts k client (saying text draw) = saying_posts k client text draw (say_check client (length text))
+act_posts k client _ = []
+
+-- ---- on both sides
+
+client_leaves : (s : Sides) (side : Side) (client : Client) → (with_client s side client).posts ≡ s.posts ++ []
+client_leaves s First client = sym (append-nil s.posts)
+client_leaves s Second client = sym (append-nil s.posts)
+
+said_grows : (s : Sides) (side : Side) (r : Result SaidText Refusal) → (said_on s side r).next.posts ≡ s.posts ++ said_posts r
+said_grows s side (Ok said) = refl
+said_grows s side (Err refusal) = sym (append-nil s.posts)
+
+saying_grows : (k : Mechanism) (s : Sides) (side : Side) (text : List ℕ) (draw : Option (List ℕ)) (r : Result Bool Refusal)
+    → is_some draw ≡ needs_seed r → (is_some draw ≡ true → s.draws.given ≡ draw)
+    → (saying_on k s side text r).next.posts ≡ s.posts ++ saying_posts k (client_of s side) text draw r
+saying_grows k s side text draw (Err refusal) needed given = sym (append-nil s.posts)
+saying_grows k s side text None (Ok false) needed given = said_grows s side (say_on k (client_of s side) text [])
+saying_grows k s side text (Some seed) (Ok false) needed given = absurd (let e : true ≡ false = needed in cc)
+saying_grows k s side text None (Ok true) needed given = absurd (let e : false ≡ true = needed in cc)
+saying_grows k s side text (Some seed) (Ok true) needed given =
+    said_grows (record s { draws = after_draw s.draws }) side (say_on k (client_of s side) text (next_seed s.key s.draws))
+    ∙ ap (λ (seed : List ℕ). s.posts ++ said_posts (say_on k (client_of s side) text seed))
+    (ap (given_or (drawn s.key s.draws.made)) (given refl))
+
+taken_grows : (s : Sides) (side : Side) (r : Result TakenPacket Refusal) → (opened_on s side r).next.posts ≡ s.posts ++ []
+taken_grows s side (Ok taken) = client_leaves s side taken.next
+taken_grows s side (Err refusal) = sym (append-nil s.posts)
+
+done_grows : (s : Sides) (side : Side) (n : ℕ) (r : Result (List Item) Refusal) → (done_on s side n r).next.posts ≡ s.posts ++ []
+done_grows s side n (Ok inbox) = client_leaves s side (record (client_of s side) { inbox = inbox })
+done_grows s side n (Err refusal) = sym (append-nil s.posts)
+
+sent_grows : (s : Sides) (side : Side) (n : ℕ) (r : Result (List Item) Refusal) → (sent_on s side n r).next.posts ≡ s.posts ++ []
+sent_grows s side n (Ok outbox) = client_leaves s side (record (client_of s side) { outbox = outbox })
+sent_grows s side n (Err refusal) = sym (append-nil s.posts)
+
+-- ---- in a world
+
+acted_grows : (k : Mechanism) (w : World) (side : Side) (act : Act) → IsLawfulWorld k w → IsFairAct k w side act
+    → (step_on k (sides_of k (world_for w act)) (event_of side act)).next.posts
+    ≡ posts k (world_for w act).conversation ++ act_posts k (client_of (sides_of k (world_for w act)) side) act
+acted_grows k w side (saying text draw) lawful fair =
+    let s = sides_of k (with_draw w draw) in
+    saying_grows k s side text draw (say_check (client_of s side) (length text)) (same_need k w side (length text) draw lawful fair)
+    (draw_given k w draw)
+acted_grows k w side (taking bytes) lawful fair = taken_grows (sides_of k w) side (take_on k (client_of (sides_of k w) side) bytes)
+acted_grows k w side (finishing n) lawful fair =
+    done_grows (sides_of k w) side n (dropped_of n (client_of (sides_of k w) side).inbox)
+acted_grows k w side (sending n) lawful fair =
+    sent_grows (sides_of k w) side n (dropped_of n (client_of (sides_of k w) side).outbox)
+
+draw_leaves : (k : Mechanism) (w : World) (draw : Option (List ℕ)) → posts k (with_draw w draw).conversation ≡ posts k w.conversation
+draw_leaves k w None = refl
+draw_leaves k w (Some seed) = refl
+
+posts_for : (k : Mechanism) (w : World) (act : Act) → posts k (world_for w act).conversation ≡ posts k w.conversation
+posts_for k w (saying text draw) = draw_leaves k w draw
+posts_for k w (taking bytes) = refl
+posts_for k w (finishing n) = refl
+posts_for k w (sending n) = refl
+
+pub act_grows : (k : Mechanism) (w : World) (side : Side) (act : Act) → IsLawfulMechanism k → IsLawfulWorld k w → IsFairAct k w side act
+    → posts k (act_in k w side act).next.conversation ≡ posts k w.conversation ++ act_posts k (kept_in k w side) act
+act_grows k w side act law lawful fair =
+    sym (ap (λ (made : Step Sides). made.next.posts)
+    (step_follows k (world_for w act) (event_of side act) law (lawful_for k w side act lawful fair) (fair_event k w side act fair)))
+    ∙ acted_grows k w side act lawful fair
+    ∙ ap₂ (λ (before : List Item) (client : Client). before ++ act_posts k client act) (posts_for k w act) (act_keeps k w side act)
