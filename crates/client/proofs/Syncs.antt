@@ -15,3 +15,4 @@ pub mod Transfers
 pub mod Spent
 pub mod Links
 pub mod Arrivals
+pub mod GoingOver

@@ -7,3 +7,4 @@ pub mod Syncs
 pub mod InWorlds
 pub mod Transfers
 pub mod Arrivals
+pub mod GoingOver

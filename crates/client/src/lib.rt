@@ -11,7 +11,7 @@ pub use laws::{
     stays_undamaged, used_keys_stay_erased,
 };
 pub use refusals::{BeginRefusal, DropRefusal, OpenRefusal, SayRefusal, TakeRefusal};
-pub use syncing::{Names, SyncFault, SyncRefusal};
+pub use syncing::{Names, SyncFault, SyncRefusal, goes_over};
 
 mod beginning;
 mod client;

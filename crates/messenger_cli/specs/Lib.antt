@@ -5,3 +5,4 @@ pub mod Runs
 pub mod Held
 pub mod Performing
 pub mod Making
+pub mod Limits

@@ -33,6 +33,7 @@ use Rattle.client.specs.Syncing.Lines.{own_box, peers_box}
 use Rattle.client.specs.Syncing.Moments.{Moment}
 use Rattle.client.specs.Syncing.Parties.{client_party, is_full, party_of}
 use Rattle.client.specs.Syncing.Transfers.{Transfers}
+use Rattle.relay_wire.specs.Replies.{Replied}
 use Rattle.client.specs.declared.syncing.faults.SyncFault.{SyncFault}
 use Rattle.client.proofs.Syncs.Worlds.{answers, next_kept}
 
@@ -150,17 +151,16 @@ module _ (k : Mechanism) (grounds : Grounds k) (prefix own_name peers_name : Lis
         arrived = one.arrived ∙ at.arrived;
       })
 
-pub opens : (k : Mechanism) → Grounds k → (prefix : List ℕ) (a b : Moment) (start now : Port) (result : Result More SyncFault)
-    → Transfers (client_party k prefix a.client.kept) a b start now result → Opens k prefix a b start now
-opens k grounds prefix a b start now result transfers = λ w side is_in boxes own peers has carries unfailing ps holds expected.
-    let first = a.client.kept in
-    let taken = taken_behind k grounds prefix (own_box first) (peers_box first) side ps own.packets w first (record { lawful = is_in.lawful; keeps = is_in.keeps }) holds expected in
-    let collected = (transfers boxes own peers has taken.1 carries unfailing).0 in
+pub opens : (k : Mechanism) → Grounds k → (prefix : List ℕ) (first : Client) (replies : List Replied)
+    → Transfers (client_party k prefix first) first replies → Opens k prefix first replies
+opens k grounds prefix first replies transfers = λ w side is boxes own peers has carried past ps holds expected.
+    let taken = taken_behind k grounds prefix (own_box first) (peers_box first) side ps own.packets w first is holds expected in
+    let collected = (transfers boxes own peers has taken.1 carried past).0 in
     let behind = sent_behind k grounds prefix (own_box first) (peers_box first) side collected.count w ps (taken_all (client_party k prefix first) first own.packets) taken.0 in (
       collected,
       record {
         later = behind.later;
-        is_in = record { lawful = behind.is_kept.lawful; keeps = collected.keeps ∙ behind.is_kept.keeps };
+        is_kept = record { lawful = behind.is_kept.lawful; keeps = collected.keeps ∙ behind.is_kept.keeps };
         conversation = behind.conversation;
         arrived = behind.arrived;
       },

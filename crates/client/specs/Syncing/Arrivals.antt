@@ -10,14 +10,15 @@ use Rattle.dr_model.specs.Conversations.Views.{has_opened}
 use Rattle.dr_model.specs.Machines.Events.{takes}
 use Rattle.dr_model.specs.Machines.Worlds.{World, step_of, view_of}
 use Rattle.dr_model.specs.Theorems.Headline.{IsWithinLimits}
-use Rattle.dr_ports.specs.Wires.{Port}
 use Rattle.kem_laws.specs.Mechanism.{Mechanism}
 use Rattle.relay_core.specs.Boxes.{Box, Kept}
-use Rattle.client.specs.Clients.{ClientNow}
-use Rattle.client.specs.InWorlds.{IsIn}
-use Rattle.client.specs.Syncing.Moments.{Moment}
+use Rattle.relay_wire.specs.Replies.{Replied}
+use Rattle.session_model.specs.Clients.{Client}
+use Rattle.sync_model.specs.Carried.{IsCarried}
+use Rattle.sync_model.specs.Courses.{course_of}
+use Rattle.client.specs.Syncing.InWorlds.{IsKeptIn}
 use Rattle.client.specs.Syncing.Parties.{client_party}
-use Rattle.client.specs.Syncing.Transfers.{CarriesReplies, Collected, HasBoxes, IsUnfailing}
+use Rattle.client.specs.Syncing.Transfers.{Collected, HasBoxes, IsPast}
 
 -- the peer said a text at this position; its packet is within the limits, or was opened before
 pub record IsExpected (w : World) (side : Side) (p : Position) : Type 0 where
@@ -39,17 +40,18 @@ abbrev pub opened_too : List Position → List Position → List Position
 opened_too arrived [] = arrived
 opened_too arrived (p ∷ ps) = opened_too (if list_any (is_at p) arrived then arrived else arrived ++ p ∷ []) ps
 
--- the client is in a world of the same conversation, in which its side has opened these too
-pub record HasOpened (k : Mechanism) (w : World) (side : Side) (ps : List Position) (client : ClientNow) : Type 0 where
+-- what is kept is a side of a lawful world of the same conversation, which has opened these too
+pub record HasOpened (k : Mechanism) (w : World) (side : Side) (ps : List Position) (kept : Client) : Type 0 where
   pub later : World
-  pub is_in : IsIn k later side client
+  pub is_kept : IsKeptIn k side kept later
   pub conversation : later.conversation ≡ w.conversation
   pub arrived : (view_of later side).arrived ≡ opened_too (view_of w side).arrived ps
 
--- In each world that the client stands for: where the link carries a relay's replies, no call fails and the own box holds packets
--- that are expected at their turns, the box is collected and they are opened.
-abbrev pub Opens : Mechanism → List ℕ → Moment → Moment → Port → Port → Type 0
-Opens k prefix a b start now = (w : World) (side : Side) → IsIn k w side a.client → (boxes : List Box) (own peers : Box)
-    → HasBoxes (client_party k prefix a.client.kept) boxes own peers → CarriesReplies boxes start → IsUnfailing a b start now
-    → (ps : List Position) → Holds k w own ps → AreExpected k w side ps
-    → Collected (client_party k prefix a.client.kept) boxes own a b start now × HasOpened k w side ps b.client
+-- In each world that the client stands for: where the replies are those of a relay, the course has come to its end and the own box
+-- holds packets that are expected at their turns, the box is collected and they are opened.
+abbrev pub Opens : Mechanism → List ℕ → Client → List Replied → Type 0
+Opens k prefix first replies = (w : World) (side : Side) → IsKeptIn k side first w → (boxes : List Box) (own peers : Box)
+    → HasBoxes (client_party k prefix first) boxes own peers → IsCarried (client_party k prefix first) first boxes replies
+    → IsPast (client_party k prefix first) first replies → (ps : List Position) → Holds k w own ps → AreExpected k w side ps
+    → Collected (client_party k prefix first) first replies boxes own
+    × HasOpened k w side ps (course_of (client_party k prefix first) first replies).state

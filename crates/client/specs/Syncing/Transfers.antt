@@ -1,5 +1,5 @@
--- A sync over a link that carries the replies of a relay.
-use Rattle.std.specs.Prelude.{All, List, Ok, Result, Some, [], length, ℕ, ◌++◌, ◌≡◌}
+-- A sync whose replies are those of a relay.
+use Rattle.std.specs.Prelude.{All, List, Some, [], length, ℕ, ◌++◌, ◌≡◌}
 use Rattle.dr_base.specs.Causes.{Rose}
 use Rattle.dr_disk.specs.declared.call.Call.{Call}
 use Rattle.dr_ports.specs.Wires.{Port, Told}
@@ -7,13 +7,14 @@ use Rattle.dr_ports.specs.declared.pipe.Part.TheVariants.{Flow}
 use Rattle.relay_core.specs.Boxes.{Box, box_of}
 use Rattle.relay_core.specs.Lawful.{IsLawfulBox}
 use Rattle.relay_core.specs.Streams.{reply_bytes, served}
-use Rattle.relay_pipe.specs.Exchanging.{Exchanges}
+use Rattle.relay_wire.specs.Replies.{Replied}
 use Rattle.session_model.specs.Clients.{Client}
+use Rattle.sync_model.specs.Carried.{IsCarried, request_bytes}
+use Rattle.sync_model.specs.Courses.{course_of}
+use Rattle.sync_model.specs.Moves.{Ending, ended, over}
 use Rattle.sync_model.specs.Parties.{Party}
 use Rattle.sync_model.specs.Transfers.{Fits, HasRoom, emptied, posted, sent_all, taken_all}
-use Rattle.sync_model.specs.declared.more.More.{More}
 use Rattle.sync_model.specs.declared.more.More.TheVariants.{End}
-use Rattle.client.specs.declared.syncing.faults.SyncFault.{SyncFault}
 use Rattle.client.specs.Syncing.Moments.{Moment}
 
 -- ---- the relay, its link, and no fault
@@ -36,38 +37,47 @@ pub record IsUnfailing (a b : Moment) (start now : Port) : Type 0 where
   pub link : Rose (start.faults Flow) (now.faults Flow) → ⊥
   pub sink : Rose a.faults b.faults → ⊥
 
--- ---- what comes of it
+-- ---- what comes of it, by the replies that were read
 
--- the relay's boxes, which are lawful, once it has answered all that was sent
-pub record HaveAnswered (boxes after : List Box) (start now : Port) : Type 0 where
-  pub got : List ℕ
-  pub put : List ℕ
-  pub told : Exchanges got put start now
-  pub boxes_are : after ≡ (served boxes put).next
+-- the relay's boxes, which are lawful, once it has answered the requests that were made
+pub record HaveAnswered (p : Party Client) (first : Client) (replies : List Replied) (boxes after : List Box) : Type 0 where
+  pub boxes_are : after ≡ (served boxes (request_bytes (course_of p first replies).requests)).next
   pub lawful : All IsLawfulBox after
 
 -- The packets of the own box were taken in turn, and it is empty. This many of the outbox have left it since.
-pub record Collected (p : Party Client) (boxes : List Box) (own : Box) (a b : Moment) (start now : Port) : Type 0 where
+pub record Collected (p : Party Client) (first : Client) (replies : List Replied) (boxes : List Box) (own : Box) : Type 0 where
   pub after : List Box
-  pub answered : HaveAnswered boxes after start now
+  pub answered : HaveAnswered p first replies boxes after
   pub own_box : box_of p.own after ≡ Some (emptied own)
   pub count : ℕ
-  pub keeps : b.client.kept ≡ sent_all p count (taken_all p a.client.kept own.packets)
+  pub keeps : (course_of p first replies).state ≡ sent_all p count (taken_all p first own.packets)
 
 -- The packets of the own box were taken in turn, and it is empty. Those of the outbox stand in the peer's box, in order after
 -- those that stood, and the outbox is empty.
-pub record Delivered (p : Party Client) (boxes : List Box) (own peers : Box) (a b : Moment) (start now : Port) (result : Result More SyncFault) : Type 0 where
-  pub ends : result ≡ Ok End
+pub record Delivered (p : Party Client) (first : Client) (replies : List Replied) (boxes : List Box) (own peers : Box) : Type 0 where
+  pub ends : (course_of p first replies).wait ≡ over (ended End)
   pub after : List Box
-  pub answered : HaveAnswered boxes after start now
+  pub answered : HaveAnswered p first replies boxes after
   pub own_box : box_of p.own after ≡ Some (emptied own)
-  pub peers_box : box_of p.peers after ≡ Some (posted peers (p.outbox a.client.kept))
-  pub keeps : b.client.kept ≡ sent_all p (length (p.outbox a.client.kept)) (taken_all p a.client.kept own.packets)
-  pub leaves : b.client.kept.outbox ≡ []
+  pub peers_box : box_of p.peers after ≡ Some (posted peers (p.outbox first))
+  pub keeps : (course_of p first replies).state ≡ sent_all p (length (p.outbox first)) (taken_all p first own.packets)
+  pub leaves : (course_of p first replies).state.outbox ≡ []
 
--- Where the link carries a relay's replies, no call fails and each text of the own box finds room at its turn, the own box is
--- collected; and where the packets of the outbox fit into the peer's box, they are delivered.
-abbrev pub Transfers : Party Client → Moment → Moment → Port → Port → Result More SyncFault → Type 0
-Transfers p a b start now result = (boxes : List Box) (own peers : Box) → HasBoxes p boxes own peers → HasRoom p a.client.kept own.packets
-    → CarriesReplies boxes start → IsUnfailing a b start now
-    → Collected p boxes own a b start now × (Fits (p.outbox a.client.kept) peers → Delivered p boxes own peers a b start now result)
+-- the course has come to an end
+abbrev pub IsPast : Party Client → Client → List Replied → Type 0
+IsPast p first replies = (ending : Ending) × ((course_of p first replies).wait ≡ over ending)
+
+-- Where the replies are those of a relay with these boxes to the requests that were made, the course has come to its end and each
+-- text of the own box finds room at its turn, the own box is collected; and where the packets of the outbox fit into the peer's
+-- box, they are delivered.
+abbrev pub Transfers : Party Client → Client → List Replied → Type 0
+Transfers p first replies = (boxes : List Box) (own peers : Box) → HasBoxes p boxes own peers → HasRoom p first own.packets
+    → IsCarried p first boxes replies → IsPast p first replies
+    → Collected p first replies boxes own × (Fits (p.outbox first) peers → Delivered p first replies boxes own peers)
+
+-- ---- over a link that tells
+
+-- Where the link carries a relay's replies and no call fails, the replies are that relay's, and the course comes to its end.
+abbrev pub Carries : Party Client → List Replied → Moment → Moment → Port → Port → Type 0
+Carries p replies a b start now = (boxes : List Box) → All IsLawfulBox boxes → CarriesReplies boxes start → IsUnfailing a b start now
+    → IsCarried p a.client.kept boxes replies × IsPast p a.client.kept replies

@@ -13,7 +13,7 @@ ghost use Rattle.client.specs.Syncing.InWorlds.{AreUnforged, SyncSpends, SyncsIn
 ghost use Rattle.client.specs.Syncing.Moments.{moment};
 ghost use Rattle.client.specs.Syncing.Parties.{client_party, party_of};
 ghost use Rattle.client.specs.Syncing.Syncs.{Syncs, SyncsBy};
-ghost use Rattle.client.specs.Syncing.Transfers.{Transfers};
+ghost use Rattle.client.specs.Syncing.Transfers.{Carries, Transfers};
 
 use super::faults::SyncFault;
 use super::lines::write_end;
@@ -66,13 +66,28 @@ impl<K: Kem> Client<K> {
             (L.port link.old) (L.port link.new) result
             → AreUnforged K.mechanism prefix.now side w replies
             → SyncSpends K.mechanism prefix.now side w replies (D.state disk.new) result }
-        // Over a link that carries a relay's replies, where no call fails: the own box is collected, and the outbox delivered.
-        ensures transfer { self.old.closed ≡ None → Transfers (client_party K.mechanism prefix.now self.old.kept)
+        // By the replies that were read, where they are those of a relay with these boxes: the own box is collected, and the outbox
+        // delivered.
+        ensures transfer { self.old.closed ≡ None → (replies : List Replied)
+            → SyncsBy (client_party K.mechanism prefix.now self.old.kept) replies
             (moment self.old (D.state disk.old) (O.taken out.old) (O.faults out.old))
             (moment self.new (D.state disk.new) (O.taken out.new) (O.faults out.new))
-            (L.port link.old) (L.port link.new) result }
+            (L.port link.old) (L.port link.new) result
+            → Transfers (client_party K.mechanism prefix.now self.old.kept) self.old.kept replies }
         // And in each world that the client stands for, what the box holds of the peer's packets is opened, in order, each once.
-        ensures opens { self.old.closed ≡ None → Opens K.mechanism prefix.now
+        ensures opens { self.old.closed ≡ None → (replies : List Replied)
+            → SyncsBy (client_party K.mechanism prefix.now self.old.kept) replies
+            (moment self.old (D.state disk.old) (O.taken out.old) (O.faults out.old))
+            (moment self.new (D.state disk.new) (O.taken out.new) (O.faults out.new))
+            (L.port link.old) (L.port link.new) result
+            → Opens K.mechanism prefix.now self.old.kept replies }
+        // So they are over a link that tells that it carries a relay's replies, where no call fails.
+        ensures carries { self.old.closed ≡ None → (replies : List Replied)
+            → SyncsBy (client_party K.mechanism prefix.now self.old.kept) replies
+            (moment self.old (D.state disk.old) (O.taken out.old) (O.faults out.old))
+            (moment self.new (D.state disk.new) (O.taken out.new) (O.faults out.new))
+            (L.port link.old) (L.port link.new) result
+            → Carries (client_party K.mechanism prefix.now self.old.kept) replies
             (moment self.old (D.state disk.old) (O.taken out.old) (O.faults out.old))
             (moment self.new (D.state disk.new) (O.taken out.new) (O.faults out.new))
             (L.port link.old) (L.port link.new) }

@@ -3,7 +3,7 @@ use Rattle.std.proofs.lemmas.Grind.{common_steps}
 use Rattle.client.specs.Syncing.Moments.{moment}
 use Rattle.client.proofs.Syncs.Arrivals.{opens}
 use Rattle.client.proofs.Syncs.Spent.{sync_spends}
-use Rattle.client.proofs.Syncs.Transfers.{named_transfers}
+use Rattle.client.proofs.Syncs.Transfers.{carries, may_post, transfers}
 use Rattle.client.proofs.Syncs.Worlds.{in_world}
 use Rattle.client.proofs.client.Client.sync.Goals as goal
 
@@ -23,26 +23,26 @@ returns-clause-spent g c = λ w side replies is_in syncs fair.
     (g.L.Pipe.port c.args.link.now) (g.L.Pipe.port c.sync_open.new.link) c.sync_open.result syncs)
 
 pub returns-clause-transfer : goal.returns-clause-transfer
-returns-clause-transfer g c = λ is_open.
-    named_transfers g.K.Kem.mechanism c.args.prefix.now c.names-names.result.own c.names-names.result.peers
-    (moment c.args.self.now (g.D.Disk.state c.args.disk.now) (g.O.Sink.taken c.args.out.now) (g.O.Sink.faults c.args.out.now))
-    (moment c.sync_open.new.self (g.D.Disk.state c.sync_open.new.disk) (g.O.Sink.taken c.sync_open.new.out) (g.O.Sink.faults c.sync_open.new.out))
-    (g.L.Pipe.port c.args.link.now) (g.L.Pipe.port c.sync_open.new.link) c.sync_open.result c.names-names.ensures.own c.names-names.ensures.peers
-    c.names-names.ensures.own_lawful c.names-names.ensures.peers_lawful c.may_post.ensures.packets c.may_post.ensures.few
-    (g.met.L.Pipe.ahead c.sync_open.new.link) c.sync_open.ensures.exact
+returns-clause-transfer g c = λ is_open replies syncs.
+    transfers g.K.Kem.mechanism c.args.prefix.now c.args.self.now.kept replies
+    (may_post c.args.self.now.kept c.names-names.result.own c.names-names.result.peers c.names-names.ensures.own c.names-names.ensures.peers
+    c.names-names.ensures.own_lawful c.names-names.ensures.peers_lawful c.may_post.ensures.packets c.may_post.ensures.few) syncs.lawful
 
 pub returns-clause-opens : goal.returns-clause-opens
-returns-clause-opens g c = λ is_open.
-    opens g.K.Kem.mechanism c.grounds.ensures c.args.prefix.now
+returns-clause-opens g c = λ is_open replies syncs.
+    opens g.K.Kem.mechanism c.grounds.ensures c.args.prefix.now c.args.self.now.kept replies
+    (transfers g.K.Kem.mechanism c.args.prefix.now c.args.self.now.kept replies
+    (may_post c.args.self.now.kept c.names-names.result.own c.names-names.result.peers c.names-names.ensures.own c.names-names.ensures.peers
+    c.names-names.ensures.own_lawful c.names-names.ensures.peers_lawful c.may_post.ensures.packets c.may_post.ensures.few) syncs.lawful)
+
+pub returns-clause-carries : goal.returns-clause-carries
+returns-clause-carries g c = λ is_open replies syncs.
+    carries g.K.Kem.mechanism c.args.prefix.now
     (moment c.args.self.now (g.D.Disk.state c.args.disk.now) (g.O.Sink.taken c.args.out.now) (g.O.Sink.faults c.args.out.now))
     (moment c.sync_open.new.self (g.D.Disk.state c.sync_open.new.disk) (g.O.Sink.taken c.sync_open.new.out) (g.O.Sink.faults c.sync_open.new.out))
-    (g.L.Pipe.port c.args.link.now) (g.L.Pipe.port c.sync_open.new.link) c.sync_open.result
-    (named_transfers g.K.Kem.mechanism c.args.prefix.now c.names-names.result.own c.names-names.result.peers
-    (moment c.args.self.now (g.D.Disk.state c.args.disk.now) (g.O.Sink.taken c.args.out.now) (g.O.Sink.faults c.args.out.now))
-    (moment c.sync_open.new.self (g.D.Disk.state c.sync_open.new.disk) (g.O.Sink.taken c.sync_open.new.out) (g.O.Sink.faults c.sync_open.new.out))
-    (g.L.Pipe.port c.args.link.now) (g.L.Pipe.port c.sync_open.new.link) c.sync_open.result c.names-names.ensures.own c.names-names.ensures.peers
-    c.names-names.ensures.own_lawful c.names-names.ensures.peers_lawful c.may_post.ensures.packets c.may_post.ensures.few
-    (g.met.L.Pipe.ahead c.sync_open.new.link) c.sync_open.ensures.exact)
+    (g.L.Pipe.port c.args.link.now) (g.L.Pipe.port c.sync_open.new.link) c.sync_open.result replies
+    (may_post c.args.self.now.kept c.names-names.result.own c.names-names.result.peers c.names-names.ensures.own c.names-names.ensures.peers
+    c.names-names.ensures.own_lawful c.names-names.ensures.peers_lawful c.may_post.ensures.packets c.may_post.ensures.few) (g.met.L.Pipe.ahead c.sync_open.new.link) syncs
 
 pub returns-in-Some-clause-closed : goal.returns-in-Some-clause-closed
 returns-in-Some-clause-closed g c = grind (arith, common_steps)
@@ -64,3 +64,6 @@ returns-in-Some-clause-opens g c = grind (arith, common_steps)
 
 pub returns-clause-closed : goal.returns-clause-closed
 returns-clause-closed g c = grind (arith, common_steps)
+
+pub returns-in-Some-clause-carries : goal.returns-in-Some-clause-carries
+returns-in-Some-clause-carries g c = grind (arith, common_steps)

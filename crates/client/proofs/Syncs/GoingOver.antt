@@ -1,0 +1,93 @@
+-- What a sender's sync posts, its peer's sync opens.
+use Rattle.std.proofs.Common.{List, Option, Some, [], ap, ap₂, drop, refl, subst, sym, zero, suc, ℕ, ◌++◌, ◌+◌, ◌∙◌, ◌∷◌, ◌≡◌, append_assoc, append-nil}
+use Rattle.std.specs.Prelude.{All, filter, map}
+use Rattle.std.proofs.lemmas.List.{map-append}
+use Rattle.boxes.specs.Items.{Item}
+use Rattle.dr_base.specs.Position.{is_own, peer_of}
+use Rattle.dr_base.specs.declared.position.Position.{Position}
+use Rattle.dr_base.specs.declared.position.Side.{Side}
+use Rattle.dr_base.specs.declared.position.Side.TheVariants.{First, Second}
+use Rattle.dr_model.specs.Conversations.Conversation.{Conversation, positions}
+use Rattle.dr_model.specs.Conversations.Posts.{post_at, posts_of}
+use Rattle.dr_model.proofs.Taking.MadePositions.{position-post_at}
+use Rattle.dr_model.specs.Machines.WorldSides.{kept_in}
+use Rattle.dr_model.specs.Machines.Worlds.{World, view_of}
+use Rattle.dr_model.specs.Theorems.LawfulWorlds.{IsLawfulWorld}
+use Rattle.kem_laws.specs.Mechanism.{Mechanism}
+use Rattle.relay_core.specs.Boxes.{Box, Kept, box_of, with_packet}
+use Rattle.relay_core.specs.Lawful.{IsLawfulBox}
+use Rattle.session_model.specs.Clients.{Client}
+use Rattle.session_model.specs.Schedule.{session_of}
+use Rattle.sync_model.specs.Transfers.{emptied, posted}
+use Rattle.client.specs.Syncing.Arrivals.{Holds}
+use Rattle.client.specs.Syncing.GoingOver.{GoesOver, boxes_after, positions_of}
+use Rattle.client.specs.Syncing.InWorlds.{IsKeptIn}
+use Rattle.client.specs.Syncing.Lines.{box_name, own_box, peers_box}
+use Rattle.client.specs.Syncing.Parties.{client_party, waiting}
+
+-- ---- what waits are packets of the conversation
+
+bytes_by : (k : Mechanism) (c : Conversation) (ps : List Position) (n : ℕ)
+    → map (λ (item : Item). item.bytes) (drop n (map (post_at k c) ps))
+    ≡ map (λ (p : Position). (post_at k c p).bytes) (map (λ (item : Item). item.position) (drop n (map (post_at k c) ps)))
+bytes_by k c [] zero = refl
+bytes_by k c [] (suc n) = refl
+bytes_by k c (p ∷ ps) zero =
+    ap₂ (λ (b : List ℕ) (l : List (List ℕ)). b ∷ l) (ap (λ (q : Position). (post_at k c q).bytes) (sym (position-post_at k c p))) (bytes_by k c ps zero)
+bytes_by k c (p ∷ ps) (suc n) = bytes_by k c ps n
+
+waiting_is : (k : Mechanism) (w : World) (side : Side)
+    → waiting (kept_in k w side) ≡ map (λ (p : Position). (post_at k w.conversation p).bytes) (positions_of (kept_in k w side))
+waiting_is k w side =
+    let v = view_of w side in
+    bytes_by k w.conversation (filter (λ (p : Position). is_own v.side p.epoch) (positions w.conversation)) v.dropped
+
+-- ---- the names of the boxes
+
+side_in : (k : Mechanism) (w : World) (side : Side) → IsLawfulWorld k w → (view_of w side).side ≡ side
+side_in k w First lawful = lawful.first.side_is
+side_in k w Second lawful = lawful.second.side_is
+
+own_name : (k : Mechanism) (w : World) (side : Side) → IsLawfulWorld k w → own_box (kept_in k w side) ≡ box_name (session_of w.conversation.key) side
+own_name k w side lawful = ap (box_name (session_of w.conversation.key)) (side_in k w side lawful)
+
+peers_name : (k : Mechanism) (w : World) (side : Side) → IsLawfulWorld k w
+    → peers_box (kept_in k w side) ≡ box_name (session_of w.conversation.key) (peer_of side)
+peers_name k w side lawful = ap (λ s. box_name (session_of w.conversation.key) (peer_of s)) (side_in k w side lawful)
+
+peer_twice : (side : Side) → peer_of (peer_of side) ≡ side
+peer_twice First = refl
+peer_twice Second = refl
+
+-- ---- what stands in the peer's box
+
+posted_packets : (box : Box) (packets : List (List ℕ))
+    → map (λ (kept : Kept). kept.packet) (posted box packets).packets ≡ map (λ (kept : Kept). kept.packet) box.packets ++ packets
+posted_packets box [] = sym (append-nil (map (λ (kept : Kept). kept.packet) box.packets))
+posted_packets box (packet ∷ packets) =
+    posted_packets (with_packet box packet) packets
+    ∙ ap (λ (l : List (List ℕ)). l ++ packets) (map-append (λ (kept : Kept). kept.packet) box.packets (record { number = box.last + 1; packet = packet } ∷ []))
+    ∙ append_assoc (map (λ (kept : Kept). kept.packet) box.packets) (packet ∷ []) packets
+
+pub goes_over : (k : Mechanism) → GoesOver k
+goes_over k = λ prefix again w v side sender receiver boxes own peers replies others ps sends receives same transfers opens has room fits first next holds expected.
+    let out : waiting sender ≡ map (λ (p : Position). (post_at k w.conversation p).bytes) (positions_of sender) =
+    subst (λ (kept : Client). waiting kept ≡ map (λ (p : Position). (post_at k w.conversation p).bytes) (positions_of kept)) (sym sends.keeps) (waiting_is k w side) in
+    let delivered = (transfers boxes own peers has room first.carried first.past).1 fits in
+    let after = boxes_after k prefix sender boxes replies in
+    let own_is : own_box receiver ≡ peers_box sender =
+    ap own_box receives.keeps ∙ own_name k v (peer_of side) receives.lawful
+    ∙ ap (λ (c : Conversation). box_name (session_of c.key) (peer_of side)) same ∙ sym (peers_name k w side sends.lawful) ∙ ap peers_box (sym sends.keeps) in
+    let peers_is : peers_box receiver ≡ own_box sender =
+    ap peers_box receives.keeps ∙ peers_name k v (peer_of side) receives.lawful
+    ∙ ap₂ (λ (c : Conversation) (s : Side). box_name (session_of c.key) s) same (peer_twice side) ∙ sym (own_name k w side sends.lawful) ∙ ap own_box (sym sends.keeps) in
+    let there = delivered.answered.boxes_are in
+    let whole : Holds k v (posted peers (waiting sender)) (ps ++ positions_of sender) =
+    posted_packets peers (waiting sender)
+    ∙ ap₂ (λ (x y : List (List ℕ)). x ++ y) holds (out ∙ ap (λ (c : Conversation). map (λ (p : Position). (post_at k c p).bytes) (positions_of sender)) (sym same))
+    ∙ sym (map-append (λ (p : Position). (post_at k v.conversation p).bytes) ps (positions_of sender)) in
+    (opens v (peer_of side) receives after (posted peers (waiting sender)) (emptied own) (record {
+      lawful = subst (λ (bs : List Box). All IsLawfulBox bs) there delivered.answered.lawful;
+      own_box = ap (λ (n : List ℕ). box_of n after) own_is ∙ ap (box_of (peers_box sender)) (sym there) ∙ delivered.peers_box;
+      peers_box = ap (λ (n : List ℕ). box_of n after) peers_is ∙ ap (box_of (own_box sender)) (sym there) ∙ delivered.own_box;
+    }) next.carried next.past (ps ++ positions_of sender) whole expected).1
