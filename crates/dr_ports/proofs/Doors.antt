@@ -1,11 +1,13 @@
 -- A door in memory: its pipe gives and takes, and it goes on to the next connection.
-use Rattle.std.proofs.Common.{◌≡◌, ◌⊎◌, inl, inr, ℕ, zero, suc, ◌+◌, ◌-◌, ◌<◌, ◌≤◌, List, [], ◌∷◌, ◌++◌, length, take, drop, get_or, Some, option_map, refl, sym, ◌∙◌, ap, arith, add-zero}
+use Rattle.std.proofs.Common.{◌≡◌, ◌⊎◌, inl, inr, ℕ, zero, suc, ◌+◌, ◌-◌, ◌<◌, ◌≤◌, List, [], ◌∷◌, ◌++◌, length, take, drop, get_or, Option, Some, option_map, refl, sym, ◌∙◌, ap, ap₂, arith, add-zero}
 use Rattle.std.specs.Prelude.{nat_lt, Bool, false, if◌then◌else◌}
 use Rattle.std.proofs.lemmas.Bool.Decides.{nat_tests}
 use Rattle.std.proofs.lemmas.List.{get_or_default}
 use Rattle.std.proofs.Math.Path.{fun_ext}
-use Rattle.dr_ports.specs.Wires.{Told, Gave, Took, next_of, untold_fate}
-use Rattle.dr_ports.specs.MemoryWires.{Flowing, Doorway, AreEnds, start_of, connection_of, coming_to, port_of, door_port_of, wire_of}
+use Rattle.dr_ports.specs.declared.pipe.Stand.{Stand}
+use Rattle.dr_ports.specs.declared.pipe.Stand.TheVariants.{Up}
+use Rattle.dr_ports.specs.Wires.{Line, Told, Gave, Took, next_of, untold_fate}
+use Rattle.dr_ports.specs.MemoryWires.{Flowing, Doorway, AreEnds, start_of, connection_of, coming_to, door_line, place_at, port_of, door_port_of, wire_of}
 
 -- the ends never fall and lie within the bytes
 within : (size from : ℕ) (ends : List ℕ) → AreEnds size from ends → from ≤ size
@@ -41,31 +43,33 @@ follows all ends old new n (inr (stays, last)) =
     past all ends (new + n) (omega (arith, stays, last)) ∙ sym (past all ends (old + (n + 1)) (omega (arith, last)))
 
 pub went_on : (old new : Doorway) → new.pipe ≡ record old.pipe { held = connection_of old.pipe.all old.ends old.next; at = 0; before = old.pipe.before ++ old.pipe.sent; sent = [] }
-    → (new.next ≡ old.next + 1) ⊎ ((new.next ≡ old.next) × (length old.ends ≡ old.next)) → new.ends ≡ old.ends
+    → (new.next ≡ old.next + 1) ⊎ ((new.next ≡ old.next) × (length old.ends ≡ old.next)) → new.ends ≡ old.ends → new.port ≡ old.port → new.stand ≡ Up
     → (door_port_of new).told ≡ option_map next_of (door_port_of old).told
-went_on old new pipe next ends =
+went_on old new pipe next ends port stand =
     let always : List ℕ → List ℕ → List ℕ = λ bytes sent. bytes in
     let each : (n : ℕ) → coming_to new n ≡ coming_to old (n + 1) = λ n. ap always
     (ap (λ (f : Flowing). connection_of f.all new.ends (new.next + n)) pipe
     ∙ ap (λ (e : List ℕ). connection_of old.pipe.all e (new.next + n)) ends
     ∙ follows old.pipe.all old.ends old.next new.next n next) in
-    ap (λ (f : Flowing). Some (record { now = wire_of f; before = f.before; coming = coming_to new })) pipe
-    ∙ ap (λ (coming : ℕ → List ℕ → List ℕ). Some (record { now = record { gives = λ (sent : List ℕ). connection_of old.pipe.all old.ends old.next; received = []; sent = []; fate = untold_fate }; before = old.pipe.before ++ old.pipe.sent; coming = coming })) (fun_ext each)
-    ∙ ap (λ (n : ℕ). Some (record { now = record { gives = λ (sent : List ℕ). connection_of old.pipe.all old.ends n; received = []; sent = []; fate = untold_fate }; before = old.pipe.before ++ old.pipe.sent; coming = λ (m : ℕ). coming_to old (m + 1) })) (sym (add-zero old.next))
+    let line : door_line new ≡ record (door_line old) { stand = Up } = ap₂ (λ (p : Option ℕ) (s : Stand). record { place = place_at p; stand = s }) port stand in
+    ap (λ (l : Line). Some (record { now = wire_of new.pipe; before = new.pipe.before; coming = coming_to new; line = l })) line
+    ∙ ap (λ (f : Flowing). Some (record { now = wire_of f; before = f.before; coming = coming_to new; line = record (door_line old) { stand = Up } })) pipe
+    ∙ ap (λ (coming : ℕ → List ℕ → List ℕ). Some (record { now = record { gives = λ (sent : List ℕ). connection_of old.pipe.all old.ends old.next; received = []; sent = []; fate = untold_fate }; before = old.pipe.before ++ old.pipe.sent; coming = coming; line = record (door_line old) { stand = Up } })) (fun_ext each)
+    ∙ ap (λ (n : ℕ). Some (record { now = record { gives = λ (sent : List ℕ). connection_of old.pipe.all old.ends n; received = []; sent = []; fate = untold_fate }; before = old.pipe.before ++ old.pipe.sent; coming = λ (m : ℕ). coming_to old (m + 1); line = record (door_line old) { stand = Up } })) (sym (add-zero old.next))
 
 -- what the pipe gives and takes, the door gives and takes
 abbrev over : Doorway → List ℕ → ℕ → List ℕ → List ℕ
 over old all n sent = connection_of all old.ends (old.next + n)
 
-abbrev coming_as : (ℕ → List ℕ → List ℕ) → Told → Told
-coming_as coming t = record t { coming = coming }
+abbrev coming_as : (ℕ → List ℕ → List ℕ) → Line → Told → Told
+coming_as coming line t = record t { coming = coming; line = line }
 
 pub lent_gave : (old : Doorway) (pipe : Flowing) (piece : List ℕ) → Gave piece (port_of old.pipe) (port_of pipe) → pipe.all ≡ old.pipe.all → Gave piece (door_port_of old) (door_port_of (record old { pipe = pipe }))
 lent_gave old pipe piece gave same =
-    ap (option_map (coming_as (over old pipe.all))) gave
-    ∙ ap (λ (all : List ℕ). Some (record { now = record (wire_of old.pipe) { received = take old.pipe.at old.pipe.held ++ piece }; before = old.pipe.before; coming = over old all })) same
+    ap (option_map (coming_as (over old pipe.all) (door_line old))) gave
+    ∙ ap (λ (all : List ℕ). Some (record { now = record (wire_of old.pipe) { received = take old.pipe.at old.pipe.held ++ piece }; before = old.pipe.before; coming = over old all; line = door_line old })) same
 
 pub lent_took : (old : Doorway) (pipe : Flowing) (piece : List ℕ) → Took piece (port_of old.pipe) (port_of pipe) → pipe.all ≡ old.pipe.all → Took piece (door_port_of old) (door_port_of (record old { pipe = pipe }))
 lent_took old pipe piece took same =
-    ap (option_map (coming_as (over old pipe.all))) took
-    ∙ ap (λ (all : List ℕ). Some (record { now = record (wire_of old.pipe) { sent = old.pipe.sent ++ piece }; before = old.pipe.before; coming = over old all })) same
+    ap (option_map (coming_as (over old pipe.all) (door_line old))) took
+    ∙ ap (λ (all : List ℕ). Some (record { now = record (wire_of old.pipe) { sent = old.pipe.sent ++ piece }; before = old.pipe.before; coming = over old all; line = door_line old })) same

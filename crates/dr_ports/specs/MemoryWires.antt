@@ -1,11 +1,13 @@
 -- What pipes, links and doors in memory show.
-use Rattle.std.specs.Prelude.{◌≡◌, ◌≤◌, ◌<◌, ℕ, zero, suc, ◌+◌, ◌-◌, List, [], ◌∷◌, ◌++◌, length, take, drop, nat_lt, get_or, if◌then◌else◌, Some}
+use Rattle.std.specs.Prelude.{◌≡◌, ◌≤◌, ◌<◌, ℕ, zero, suc, ◌+◌, ◌-◌, List, [], ◌∷◌, ◌++◌, length, take, drop, nat_lt, get_or, if◌then◌else◌, Option, None, Some}
 use Rattle.std.proofs.lemmas.List.{take-append-drop}
 use Rattle.std.proofs.Common.{sym}
 use Rattle.dr_ports.specs.Memory.{Plan}
 use Rattle.dr_ports.specs.declared.pipe.Part.{Part}
 use Rattle.dr_ports.specs.declared.pipe.Part.TheVariants.{Flow, Gate}
-use Rattle.dr_ports.specs.Wires.{Port, IsAhead, Wire, untold_fate}
+use Rattle.dr_ports.specs.declared.pipe.Stand.{Stand}
+use Rattle.dr_ports.specs.declared.pipe.Stand.TheVariants.{Unbegun, Up}
+use Rattle.dr_ports.specs.Wires.{Port, IsAhead, Line, Place, Wire, at_address, at_port, nowhere, untold_fate}
 
 -- A pipe: the bytes of this connection and how many of them it gave, those that it took before this connection and on it,
 -- its room, and its plan. `all` has the bytes of all connections.
@@ -31,18 +33,22 @@ faults_of flow gate Gate = gate
 abbrev pub wire_of : Flowing → Wire
 wire_of f = record { gives = λ sent. f.held; received = take f.at f.held; sent = f.sent; fate = untold_fate }
 
--- a pipe whose far end sends this, with this many faults at the gate
-abbrev pub port_with : (ℕ → List ℕ → List ℕ) → ℕ → Flowing → Port
-port_with coming gate f = record {
-  told = Some (record { now = wire_of f; before = f.before; coming = coming });
+-- a pipe whose far end sends this, with this many faults at the gate, and where it goes
+abbrev pub port_with : (ℕ → List ℕ → List ℕ) → ℕ → Line → Flowing → Port
+port_with coming gate line f = record {
+  told = Some (record { now = wire_of f; before = f.before; coming = coming; line = line });
   faults = faults_of f.plan.faults gate;
 }
 
 abbrev pub nothing_comes : ℕ → List ℕ → List ℕ
 nothing_comes n sent = []
 
+-- a connection that stands, to no place that is told
+abbrev pub plain : Line
+plain = record { place = nowhere; stand = Up }
+
 abbrev pub port_of : Flowing → Port
-port_of f = port_with nothing_comes 0 f
+port_of f = port_with nothing_comes 0 plain f
 
 -- nobody stands behind it
 abbrev pub nobody : {T : Type 0} → T → List ℕ → Unit {0}
@@ -51,13 +57,20 @@ nobody port sent = tt
 pub is_ahead : (f : Flowing) → IsAhead (wire_of f)
 is_ahead f = (drop f.at f.held, sym (take-append-drop f.at f.held))
 
--- a link: its pipe, whose plan counts its openings too, and how often opening failed
+-- a link: its pipe, whose plan counts its openings too, the address that it connected to last, how that connection stands, and
+-- how often opening failed
 pub record Linking : Type 0 where
   pub pipe : Flowing
+  pub address : List ℕ
+  pub stand : Stand
   pub faults : ℕ
 
+abbrev pub place_to : List ℕ → Stand → Place
+place_to address Unbegun = nowhere
+place_to address stand = at_address address
+
 abbrev pub link_port_of : Linking → Port
-link_port_of l = port_with nothing_comes l.faults l.pipe
+link_port_of l = port_with nothing_comes l.faults (record { place = place_to l.address l.stand; stand = l.stand }) l.pipe
 
 -- never falling from here on, and within this many bytes
 abbrev pub AreEnds : ℕ → ℕ → List ℕ → Type 0
@@ -72,15 +85,25 @@ start_of ends (suc n) = get_or ends n 0
 abbrev pub connection_of : List ℕ → List ℕ → ℕ → List ℕ
 connection_of all ends n = if nat_lt n (length ends) then take (get_or ends n 0 - start_of ends n) (drop (start_of ends n) all) else []
 
--- a door: its pipe, where the bytes of each connection end, the number of the next one, and the plan of listening and accepting
+-- a door: its pipe, where the bytes of each connection end, the number of the next one, the plan of listening and accepting, the
+-- port that it waits at, and how the connection stands
 pub record Doorway : Type 0 where
   pub pipe : Flowing
   pub ends : List ℕ
   pub next : ℕ
   pub plan : Plan
+  pub port : Option ℕ
+  pub stand : Stand
 
 abbrev pub coming_to : Doorway → ℕ → List ℕ → List ℕ
 coming_to d n sent = connection_of d.pipe.all d.ends (d.next + n)
 
+abbrev pub place_at : Option ℕ → Place
+place_at None = nowhere
+place_at (Some port) = at_port port
+
+abbrev pub door_line : Doorway → Line
+door_line d = record { place = place_at d.port; stand = d.stand }
+
 abbrev pub door_port_of : Doorway → Port
-door_port_of d = port_with (coming_to d) d.plan.faults d.pipe
+door_port_of d = port_with (coming_to d) d.plan.faults (door_line d) d.pipe

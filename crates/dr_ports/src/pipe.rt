@@ -3,7 +3,7 @@
 ghost use Rattle.std.specs.Prelude.{◌≡◌, ℕ, ◌<◌, ◌≤◌, List, length, take, Option, option_map, IfOk, OnOk, OnErr, IfSome};
 ghost use Rattle.dr_ports.specs.Ports.{HasCause};
 ghost use Rattle.dr_ports.specs.declared.pipe.Part.TheVariants.{Flow, Gate};
-ghost use Rattle.dr_ports.specs.Wires.{Port, IsAhead, Gave, Took, EndsAt, ReceiveGoes, SendGoes, next_of};
+ghost use Rattle.dr_ports.specs.Wires.{Port, IsAhead, Gave, Took, EndsAt, ReceiveGoes, SendGoes, connected, hung_up, listens_at, next_of};
 
 use dr_base::Failed;
 
@@ -14,6 +14,22 @@ pub enum Part {
     Flow,
     /// Opening, listening and accepting.
     Gate,
+}
+
+/// How the connection of a port stands.
+#[derive(Clone, Copy)]
+pub enum Stand {
+    /// None has begun.
+    Unbegun,
+    /// It stands.
+    Up,
+    /// It has ended, after it gave and took this many bytes.
+    Ended {
+        /// How many it gave.
+        received: usize,
+        /// How many it took.
+        sent: usize,
+    },
 }
 
 /// Where bytes come from and go to.
@@ -56,34 +72,41 @@ pub trait Pipe {
 
 /// A pipe to an address.
 pub trait Link: Pipe {
-    /// Connects to an address.
+    /// Connects to an address. Where that fails, no connection has begun or ended.
     fn open(&mut self, address: &str) -> Result<(), Failed>
-        ensures told { (Self.port self.new).told ≡ (Self.port self.old).told }
+        ensures to { OnOk result ((Self.port self.new).told ≡ option_map (connected address.now) (Self.port self.old).told) }
+        ensures err { OnErr result ((Self.port self.new).told ≡ (Self.port self.old).told) }
         ensures cause { HasCause ((Self.port self.old).faults Gate) ((Self.port self.new).faults Gate) result }
         ensures flow { (Self.port self.new).faults Flow ≡ (Self.port self.old).faults Flow }
         ensures same { Self.behind self.new ≡ Self.behind self.old };
 
-    /// Ends the connection.
+    /// Ends the connection, if it stands.
     fn shut(&mut self)
-        ensures told { Self.port self.new ≡ Self.port self.old };
+        ensures told { (Self.port self.new).told ≡ option_map hung_up (Self.port self.old).told }
+        ensures gate { (Self.port self.new).faults Gate ≡ (Self.port self.old).faults Gate }
+        ensures flow { (Self.port self.new).faults Flow ≡ (Self.port self.old).faults Flow }
+        ensures same { Self.behind self.new ≡ Self.behind self.old };
 }
 
 /// Where connections come in. Its pipe is the connection that was accepted last.
 pub trait Door: Pipe {
-    /// Waits for connections at a port.
+    /// Waits for connections at a port. Where that fails, it waits where it did.
     fn listen(&mut self, at: u16) -> Result<(), Failed>
-        ensures told { (Self.port self.new).told ≡ (Self.port self.old).told }
+        ensures at { OnOk result ((Self.port self.new).told ≡ option_map (listens_at at) (Self.port self.old).told) }
+        ensures err { OnErr result ((Self.port self.new).told ≡ (Self.port self.old).told) }
         ensures cause { HasCause ((Self.port self.old).faults Gate) ((Self.port self.new).faults Gate) result }
         ensures flow { (Self.port self.new).faults Flow ≡ (Self.port self.old).faults Flow };
 
-    /// Takes the next connection.
+    /// Takes the next connection, which stands then.
     fn accept(&mut self) -> Result<(), Failed>
         ensures next { OnOk result ((Self.port self.new).told ≡ option_map next_of (Self.port self.old).told) }
         ensures err { OnErr result ((Self.port self.new).told ≡ (Self.port self.old).told) }
         ensures cause { HasCause ((Self.port self.old).faults Gate) ((Self.port self.new).faults Gate) result }
         ensures flow { (Self.port self.new).faults Flow ≡ (Self.port self.old).faults Flow };
 
-    /// Ends the connection.
+    /// Ends the connection, if it stands.
     fn shut(&mut self)
-        ensures told { Self.port self.new ≡ Self.port self.old };
+        ensures told { (Self.port self.new).told ≡ option_map hung_up (Self.port self.old).told }
+        ensures gate { (Self.port self.new).faults Gate ≡ (Self.port self.old).faults Gate }
+        ensures flow { (Self.port self.new).faults Flow ≡ (Self.port self.old).faults Flow };
 }

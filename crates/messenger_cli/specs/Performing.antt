@@ -59,9 +59,10 @@ pub record MakesAlone {X R S L A W : Type 0} (rounds number : ℕ) (old new : He
   pub writes : Writes (PlaysMade rounds number) old new code
   pub idle : IsIdle old new
 
--- a sync: the relay's disk, the source, the door and the draws are left alone
-pub record SyncsAlone {X R S L A W : Type 0} (seen : Seen X R S L A W) (old new : Held X R S L A W) (code : ℕ) : Type 0 where
-  pub writes : Writes (RunsSync seen.disk seen.link sntrup761_kem old.disk new.disk old.link new.link old.writes new.writes) old new code
+-- a sync at an address: the relay's disk, the source, the door and the draws are left alone
+pub record SyncsAlone {X R S L A W : Type 0} (seen : Seen X R S L A W) (address : List ℕ) (old new : Held X R S L A W) (code : ℕ)
+    : Type 0 where
+  pub writes : Writes (RunsSync seen.disk seen.link sntrup761_kem address old.disk new.disk old.link new.link old.writes new.writes) old new code
   pub relay_disk : new.relay_disk ≡ old.relay_disk
   pub source : new.source ≡ old.source
   pub door : new.door ≡ old.door
@@ -97,7 +98,7 @@ Performs seen shows_state old new code = WritesAlone (RunsShow seen.disk sntrup7
 Performs seen plays old new code = PlaysAlone seen old new code
 Performs seen (plays_made rounds number) old new code = MakesAlone rounds number old new code
 Performs seen (serves port count boxes) old new code = ServesAlone seen port count boxes old new code
-Performs seen (syncs address) old new code = SyncsAlone seen old new code
+Performs seen (syncs address) old new code = SyncsAlone seen address old new code
 
 -- What the program does on words: what the command that they are comes to, or the last line of words that are none.
 abbrev pub Answers : {X R S L A W : Type 0} → Seen X R S L A W → Option Work → Held X R S L A W → Held X R S L A W → ℕ → Type 0

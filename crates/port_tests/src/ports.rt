@@ -3,7 +3,7 @@
 use dr_base::Key32;
 use dr_ports::{
     Door, Draws, Failed, InputError, Link, MemoryDoor, MemoryDraws, MemoryLink, MemoryPipe,
-    MemorySink, MemorySource, NullSink, Pipe, ReaderSource, Sink, Source, SteadyDraws,
+    MemorySink, MemorySource, NullSink, Pipe, ReaderSource, Sink, Source, Stand, SteadyDraws,
     SteadySource, WriterSink, read_whole, write_all,
 };
 use std::alloc::{AllocError, Global};
@@ -103,16 +103,30 @@ fn pipes(pipe: &mut MemoryPipe) -> bool {
         && pipe.sent() == b"sen".as_slice()
 }
 
-/// Whether a link that holds `far` and fails at its first and third calls does so.
+/// Whether a link that holds `far` and fails at its first and third calls does so, and tells where it connected.
 fn links(link: &mut MemoryLink) -> bool {
     let mut piece = [0; 4];
     let passes = link.open("host:1") == Err(Failed)
-        && link.open("host:1") == Ok(())
+        && link.address().is_empty()
+        && link.open("host:2") == Ok(())
         && link.send(b"near") == Err(Failed)
         && link.send(b"near") == Ok(4)
+        && matches!(link.stand(), Stand::Up)
         && link.receive(&mut piece) == Ok(3);
     link.shut();
-    passes && link.sent() == b"near".as_slice()
+    passes && link.sent() == b"near".as_slice() && has_ended(link)
+}
+
+/// Whether it has ended a connection to `host:2`, after three bytes and four.
+fn has_ended(link: &MemoryLink) -> bool {
+    link.address() == b"host:2".as_slice()
+        && matches!(
+            link.stand(),
+            Stand::Ended {
+                received: 3,
+                sent: 4
+            }
+        )
 }
 
 #[test]
@@ -129,7 +143,9 @@ fn gives_and_takes(rt: HostRuntime) -> Result<(), Fail> {
 fn serves_one(door: &mut MemoryDoor) -> bool {
     let mut piece = [0; 4];
     door.listen(4000) == Err(Failed)
-        && door.listen(4000) == Ok(())
+        && door.port().is_none()
+        && door.listen(4001) == Ok(())
+        && matches!(door.stand(), Stand::Unbegun)
         && door.receive(&mut piece) == Ok(0)
         && door.accept() == Ok(())
         && door.accept() == Err(Failed)
@@ -156,6 +172,7 @@ fn accepts_in_turn(rt: HostRuntime) -> Result<(), Fail> {
     let mut door = MemoryDoor::new(rt.alloc(), b"onetwo", &[3, 6], 9, &[1, 4], &[3])?;
     assert!(rt; serves_one(&mut door));
     door.shut();
+    assert!(rt; door.port() == Some(4001));
     assert!(rt; serves_more(&mut door));
     Ok(())
 }

@@ -9,7 +9,7 @@ use Rattle.dr_ports.specs.Wires.{Port}
 use Rattle.endings.specs.declared.ending.Ending.{Ending}
 use Rattle.relay_server.specs.Durable.{IsSameBehind}
 use Rattle.relay_server.specs.Opening.{IsOpening}
-use Rattle.relay_command.specs.Connections.{Connection, Standing}
+use Rattle.relay_command.specs.Connections.{Connection, Standing, listening}
 use Rattle.relay_command.specs.Serving.{HaveCome, Serves, WereServed, was_stopped, was_unaccepted, was_unheard, went_on}
 use Rattle.relay_command.proofs.Rounds.{never}
 
@@ -41,9 +41,18 @@ module _ (words : List (List ℕ)) (s : Standing) (start mid now : DiskState) (f
     quiet = quiet_twice start mid now quiet were.quiet;
   }
 
-  pub lift : (port count code : ℕ) (ending : Ending) (lines : List ℕ) → Serves never s port count mid now from door code ending lines → Serves (IsOpening words start) s port count start now from door code ending lines
-  lift port count code ending lines (was_unheard were rose) = was_unheard (lift_served [] were) rose
-  lift port count code ending lines (was_unaccepted xs were less rose) = was_unaccepted xs (lift_served xs were) less rose
-  lift port count code ending lines (was_stopped xs x call come each stopped less rose gate) =
-      was_stopped xs x call (lift_come (xs ++ x ∷ []) come) each stopped less (let counts = span.counts call in omega (arith, rose, counts)) gate
-  lift port count code ending lines (went_on xs were most full gate) = went_on xs (lift_served xs were) most full gate
+-- the connections come once the door listens
+module _ (words : List (List ℕ)) (s : Standing) (start mid now : DiskState) (from door : Port) (sized : length s.boxes ≡ length words)
+    (span : Span start mid (IsOpening words start)) (quiet : IsQuiet start mid) (port count code : ℕ) where
+  lift_heard : (xs : List Connection) → WereServed never (listening port s) xs mid now door
+      → WereServed (IsOpening words start) (listening port s) xs start now door
+  lift_heard = lift_served words (listening port s) start mid now from door sized span quiet
+
+  pub lift : (ending : Ending) (lines : List ℕ) → Serves never s port count mid now from door code ending lines
+      → Serves (IsOpening words start) s port count start now from door code ending lines
+  lift ending lines (was_unheard were rose) = was_unheard (lift_served words s start mid now from door sized span quiet [] were) rose
+  lift ending lines (was_unaccepted xs were less rose) = was_unaccepted xs (lift_heard xs were) less rose
+  lift ending lines (was_stopped xs x call come each stopped less rose gate) =
+      was_stopped xs x call (lift_come words (listening port s) start mid now from door sized span quiet (xs ++ x ∷ []) come) each stopped less
+      (let counts = span.counts call in omega (arith, rose, counts)) gate
+  lift ending lines (went_on xs were most full gate) = went_on xs (lift_heard xs were) most full gate

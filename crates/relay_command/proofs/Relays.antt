@@ -11,7 +11,7 @@ use Rattle.endings.specs.Ends.{Ends}
 use Rattle.endings.specs.declared.ending.Ending.{Ending}
 use Rattle.relay_server.specs.declared.errors.ServerOpenError.{ServerOpenError}
 use Rattle.relay_server.specs.declared.errors.ServerOpenError.TheVariants.{BoxName, Damaged, Memory, StoreFault}
-use Rattle.relay_command.specs.Connections.{AreServed, Connection, Sent, Standing, Went, behind, behind_all, ended, failed, stopped}
+use Rattle.relay_command.specs.Connections.{AreServed, Connection, Sent, Standing, Went, behind, behind_all, ended, failed, listening, stopped}
 use Rattle.relay_command.specs.Serving.{Serves, was_stopped, was_unaccepted, was_unheard, went_on}
 use Rattle.relay_command.specs.Relaying.{Relays, RunsRelay, ending_of_open, had_bad_box, was_opened, was_unopened}
 use Rattle.relay_command.proofs.Connections.{behind_more}
@@ -66,12 +66,12 @@ serves_later : (earlier : List ℕ → Type 0) (s : Standing) (port count : ℕ)
     → Serves earlier s port count start now from door code ending lines → (part : Part) → from.faults part ≤ door.faults part
 serves_later earlier s port count start now from door code ending lines same (was_unheard were rose) Flow = omega (arith, same, were.come.faults)
 serves_later earlier s port count start now from door code ending lines same (was_unheard were rose) Gate = rose.0
-serves_later earlier s port count start now from door code ending lines same (was_unaccepted xs were less rose) Flow = omega (arith, same, were.come.faults, each_later s xs were.each)
+serves_later earlier s port count start now from door code ending lines same (was_unaccepted xs were less rose) Flow = omega (arith, same, were.come.faults, each_later (listening port s) xs were.each)
 serves_later earlier s port count start now from door code ending lines same (was_unaccepted xs were less rose) Gate = rose.0
 serves_later earlier s port count start now from door code ending lines same (was_stopped xs x call come each stop less rose gate) Flow =
-    omega (arith, same, come.faults, ap (λ (t : Standing). t.faults) (behind_more s xs x), each_later s xs each, stop.later)
+    omega (arith, same, come.faults, ap (λ (t : Standing). t.faults) (behind_more (listening port s) xs x), each_later (listening port s) xs each, stop.later)
 serves_later earlier s port count start now from door code ending lines same (was_stopped xs x call come each stop less rose gate) Gate = omega (arith, gate)
-serves_later earlier s port count start now from door code ending lines same (went_on xs were most full gate) Flow = omega (arith, same, were.come.faults, each_later s xs were.each)
+serves_later earlier s port count start now from door code ending lines same (went_on xs were most full gate) Flow = omega (arith, same, were.come.faults, each_later (listening port s) xs were.each)
 serves_later earlier s port count start now from door code ending lines same (went_on xs were most full gate) Gate = omega (arith, gate)
 
 pub door_later : {X Y : Type 0} (state : X → DiskState) (port_of : Y → Port) (words : List (List ℕ)) (port count : ℕ) (start now : X) (from door : Y) (code : ℕ) (ending : Ending) (lines : List ℕ)

@@ -21,7 +21,7 @@ use Rattle.relay_server.specs.Serving.{Reached}
 use Rattle.relay_command.specs.declared.connecting.Connected.{Connected}
 use Rattle.relay_command.specs.declared.connecting.Fault.{Fault}
 use Rattle.relay_command.specs.declared.connecting.Fault.TheVariants.{Accept, Store}
-use Rattle.relay_command.specs.Connections.{AreServed, Connection, HasRisen, Sent, Standing, behind, behind_all, lines_behind, port_line}
+use Rattle.relay_command.specs.Connections.{AreServed, Connection, HasRisen, Sent, Standing, behind, behind_all, lines_behind, listening, port_line}
 use Rattle.relay_command.specs.Serving.{HaveCome, IsStopped, Runs, WereServed, relay_lines, standing, was_stopped, was_unaccepted, went_on}
 use Rattle.relay_command.specs.Turns.{IsServedTurn, IsTurn, Turns, ending_of_fault, line_of}
 use Rattle.relay_command.proofs.Connections.{behind_more, line_is, lines_more, own_line, reached_before, reached_last, served_more}
@@ -64,7 +64,11 @@ rests_as s xs start now door server come each boxes ready quiet = record {
   quiet = quiet;
 }
 
-module _ (s : Standing) (port n : ℕ) (server : ServerNow) (start mid : DiskState) (from door : Port) (old out : Option (List ℕ)) (before middle : ℕ) (so : SoFar s port n server start mid from door old out before middle) where
+module _ (first : Standing) (port n : ℕ) (server : ServerNow) (start mid : DiskState) (from door : Port) (old out : Option (List ℕ)) (before middle : ℕ)
+    (so : SoFar (listening port first) port n server start mid from door old out before middle) where
+  abbrev s : Standing
+  s = listening port first
+
   -- what stands before the next connection
   here : standing server.boxes door ≡ behind_all s so.xs
   here =
@@ -125,7 +129,7 @@ module _ (s : Standing) (port n : ℕ) (server : ServerNow) (start mid : DiskSta
 
     -- or it couldn't be
     pub cut_then : (count : ℕ) → n < count → (new_out : Option (List ℕ)) (after : ℕ) → TookBeginning out new_out (line_of (n + 1) connected) → Rose middle after
-        → Runs s port count start now from later old new_out before after 5
+        → Runs first port count start now from later old new_out before after 5
     cut_then count less new_out after took rose = record {
       ending = Done;
       lines = relay_lines port s (so.xs ++ t.x ∷ []);
@@ -139,7 +143,7 @@ module _ (s : Standing) (port n : ℕ) (server : ServerNow) (start mid : DiskSta
 
   -- no connection more is served
   pub faulty : (count : ℕ) → n < count → (new : ServerNow) (now : DiskState) (later : Port) (fault : Fault) → Turns server new mid now door later (Err fault) → (code : ℕ) (new_out : Option (List ℕ)) (after : ℕ)
-      → Ends (ending_of_fault fault) [] out new_out middle after code → Runs s port count start now from later old new_out before after code
+      → Ends (ending_of_fault fault) [] out new_out middle after code → Runs first port count start now from later old new_out before after code
   faulty count less new now later Accept none code new_out after ends = record {
     ending = LinkFault;
     lines = relay_lines port s so.xs;
@@ -157,7 +161,7 @@ module _ (s : Standing) (port n : ℕ) (server : ServerNow) (start mid : DiskSta
   }
 
   -- all were served
-  pub all_served : (count : ℕ) → n ≡ count → (code : ℕ) (new_out : Option (List ℕ)) (after : ℕ) → Ends Done [] out new_out middle after code → Runs s port count start mid from door old new_out before after code
+  pub all_served : (count : ℕ) → n ≡ count → (code : ℕ) (new_out : Option (List ℕ)) (after : ℕ) → Ends Done [] out new_out middle after code → Runs first port count start mid from door old new_out before after code
   all_served count full code new_out after ends = record {
     ending = Done;
     lines = relay_lines port s so.xs;

@@ -4,7 +4,7 @@ use Rattle.std.specs.Prelude.{IfSome, option_map}
 use Rattle.dr_disk.specs.declared.call.Call.{Call}
 use Rattle.dr_disk.specs.State.{DiskState}
 use Rattle.dr_ports.specs.Ports.{Rose}
-use Rattle.dr_ports.specs.Wires.{IsAhead, Port, Told, next_of}
+use Rattle.dr_ports.specs.Wires.{IsAhead, Port, Told, hung_up, next_of}
 use Rattle.dr_ports.specs.declared.pipe.Part.TheVariants.{Flow, Gate}
 use Rattle.relay_core.specs.Boxes.{Box}
 use Rattle.relay_core.specs.Record.{box_text}
@@ -15,7 +15,7 @@ use Rattle.relay_server.specs.declared.serving.Ended.{Ended}
 use Rattle.relay_server.specs.declared.serving.ServeFault.{ServeFault}
 use Rattle.relay_server.specs.declared.serving.ServeFault.TheVariants.{Read, Store, Write}
 use Rattle.relay_command.specs.declared.connecting.Connected.TheVariants.{Ended as IsEnded, Failed}
-use Rattle.relay_command.specs.Connections.{Connection, IsBeginning, Went, ended, failed, stopped}
+use Rattle.relay_command.specs.Connections.{Connection, HasRisen, IsBeginning, Went, ended, failed, stopped}
 use Rattle.relay_command.proofs.Prefixes.{replies_on}
 use Rattle.relay_command.specs.Turns.{IsServedTurn, IsStoppedTurn, IsTurn, Turns, broken_as}
 
@@ -40,37 +40,47 @@ whole_of (Some t) at boxes got put is all ahead =
     let left : IsAhead now.now = subst (λ (o : Option Told). IfSome o (λ (x : Told). IsAhead x.now)) is ahead in
     ap (served boxes) left.1 ∙ all now left.0 is left.1
 
-module _ (old new : ServerNow) (start now : DiskState) (from accepted after : Port) (told : accepted.told ≡ option_map next_of from.told) (flow : accepted.faults Flow ≡ from.faults Flow)
-    (gate : after.faults Gate ≡ from.faults Gate) (ahead : IfSome after.told (λ t. IsAhead t.now)) where
+module _ (old new : ServerNow) (start now : DiskState) (from accepted after door : Port) (told : accepted.told ≡ option_map next_of from.told) (flow : accepted.faults Flow ≡ from.faults Flow)
+    (gate : after.faults Gate ≡ from.faults Gate) (shut : door.told ≡ option_map hung_up after.told) (still : door.faults Flow ≡ after.faults Flow)
+    (shut_gate : door.faults Gate ≡ after.faults Gate) (ahead : IfSome after.told (λ t. IsAhead t.now)) where
   abbrev connection : List ℕ → List ℕ → Went → Connection
-  connection got put went = record { got = got; put = put; went = went; faults = after.faults Flow }
+  connection got put went = record { got = got; put = put; went = went; faults = door.faults Flow }
 
   module _ (result : Result Ended ServeFault) (s : IsServed box_text old new accepted after start now result) where
-    turn_of : (put : List ℕ) (went : Went) → Answers old.boxes new.boxes s.got put accepted after → IsTurn old new start now from after (connection s.got put went)
+    exchanges : (put : List ℕ) → Answers old.boxes new.boxes s.got put accepted after
+        → after.told ≡ option_map (exchanged s.got put) (option_map next_of from.told)
+    exchanges put answers = answers.exchanges ∙ ap (option_map (exchanged s.got put)) told
+
+    turn_of : (put : List ℕ) (went : Went) → Answers old.boxes new.boxes s.got put accepted after → IsTurn old new start now from door (connection s.got put went)
     turn_of put went answers = record {
-      told = answers.exchanges ∙ ap (option_map (exchanged s.got put)) told;
+      told = shut ∙ ap (option_map hung_up) (exchanges put answers);
       faults = refl;
-      gate = gate;
+      gate = shut_gate ∙ gate;
       next = answers.next_is;
       count = s.count;
       during = s.during;
     }
 
+  risen : accepted.faults Flow ≤ after.faults Flow → Rose (accepted.faults Flow) (after.faults Flow)
+      → HasRisen (from.faults Flow) (door.faults Flow)
+  risen later rose =
+      (omega (arith, later, flow, still), subst (λ (n : ℕ). Rose (from.faults Flow) n) (sym still) (subst (λ (n : ℕ). Rose n (after.faults Flow)) flow rose))
+
   pub turn_ended : (answered : Ended) → IsServed box_text old new accepted after start now (Ok answered) → after.faults Flow ≡ accepted.faults Flow
-      → IsServedTurn old new start now from after (IsEnded answered.answered)
+      → IsServedTurn old new start now from door (IsEnded answered.answered)
   turn_ended answered s quiet =
       let put = reply_bytes (served old.boxes s.got) in
       let turn = turn_of (Ok answered) s put ended s.serves.0 in
       record {
         x = connection s.got put ended;
         turn = turn;
-        sent = (refl, whole_of from.told after.told old.boxes s.got put turn.told s.serves.4 ahead, quiet ∙ flow);
+        sent = (refl, whole_of from.told after.told old.boxes s.got put (exchanges (Ok answered) s put s.serves.0) s.serves.4 ahead, still ∙ quiet ∙ flow);
         how = (refl, s.serves.3);
         ready = s.serves.1;
         quiet = s.serves.2;
       }
 
-  turn_unread : IsServed box_text old new accepted after start now (Err Read) → accepted.faults Flow ≤ after.faults Flow → IsServedTurn old new start now from after Failed
+  turn_unread : IsServed box_text old new accepted after start now (Err Read) → accepted.faults Flow ≤ after.faults Flow → IsServedTurn old new start now from door Failed
   turn_unread s later =
       let put = reply_bytes (served old.boxes s.got) in
       let turn = turn_of (Err Read) s put failed s.serves.0 in
@@ -78,38 +88,38 @@ module _ (old new : ServerNow) (start now : DiskState) (from accepted after : Po
       record {
         x = connection s.got put failed;
         turn = turn;
-        sent = (all, begun_of from.told after.told old.boxes s.got put turn.told all ahead, (omega (arith, later, flow), subst (λ (n : ℕ). Rose n (after.faults Flow)) flow s.serves.3));
+        sent = (all, begun_of from.told after.told old.boxes s.got put (exchanges (Err Read) s put s.serves.0) all ahead, risen later s.serves.3);
         how = refl;
         ready = s.serves.1;
         quiet = s.serves.2;
       }
 
-  turn_unsent : IsServed box_text old new accepted after start now (Err Write) → accepted.faults Flow ≤ after.faults Flow → IsServedTurn old new start now from after Failed
+  turn_unsent : IsServed box_text old new accepted after start now (Err Write) → accepted.faults Flow ≤ after.faults Flow → IsServedTurn old new start now from door Failed
   turn_unsent s later =
       let turn = turn_of (Err Write) s s.serves.0 failed s.serves.2 in
       let some : IsBeginning s.serves.0 (reply_bytes (served old.boxes s.got)) = (s.serves.1, s.serves.3) in
       record {
         x = connection s.got s.serves.0 failed;
         turn = turn;
-        sent = (some, begun_of from.told after.told old.boxes s.got s.serves.0 turn.told some ahead, (omega (arith, later, flow), subst (λ (n : ℕ). Rose n (after.faults Flow)) flow s.serves.6));
+        sent = (some, begun_of from.told after.told old.boxes s.got s.serves.0 (exchanges (Err Write) s s.serves.0 s.serves.2) some ahead, risen later s.serves.6);
         how = refl;
         ready = s.serves.4;
         quiet = s.serves.5;
       }
 
-  turn_stopped : (call : Call) → IsServed box_text old new accepted after start now (Err (Store call)) → accepted.faults Flow ≤ after.faults Flow → IsStoppedTurn old new start now from after
+  turn_stopped : (call : Call) → IsServed box_text old new accepted after start now (Err (Store call)) → accepted.faults Flow ≤ after.faults Flow → IsStoppedTurn old new start now from door
   turn_stopped call s later =
       let turn = turn_of (Err (Store call)) s s.serves.0 stopped s.serves.2 in
       let some : IsBeginning s.serves.0 (reply_bytes (served old.boxes s.got)) = (reply_frame s.serves.1, s.serves.3) in
       record {
         x = connection s.got s.serves.0 stopped;
         turn = turn;
-        stopped = record { last = s.serves.1; replies = s.serves.3; begun = begun_of from.told after.told old.boxes s.got s.serves.0 turn.told some ahead; stands = subst (λ (bs : List Box). LastOrBefore box_text old.boxes bs s.got now) s.serves.2.next_is s.serves.5; later = omega (arith, later, flow) };
+        stopped = record { last = s.serves.1; replies = s.serves.3; begun = begun_of from.told after.told old.boxes s.got s.serves.0 (exchanges (Err (Store call)) s s.serves.0 s.serves.2) some ahead; stands = subst (λ (bs : List Box). LastOrBefore box_text old.boxes bs s.got now) s.serves.2.next_is s.serves.5; later = omega (arith, later, flow, still) };
         call = call;
         rose = s.serves.4;
       }
 
-  pub turn_broken : (fault : ServeFault) → IsServed box_text old new accepted after start now (Err fault) → accepted.faults Flow ≤ after.faults Flow → Turns old new start now from after (broken_as fault)
+  pub turn_broken : (fault : ServeFault) → IsServed box_text old new accepted after start now (Err fault) → accepted.faults Flow ≤ after.faults Flow → Turns old new start now from door (broken_as fault)
   turn_broken Read s later = turn_unread s later
   turn_broken Write s later = turn_unsent s later
   turn_broken (Store call) s later = turn_stopped call s later

@@ -1,7 +1,7 @@
 -- The connections of a relay, one after the other.
 use Rattle.std.specs.Prelude.{◌≡◌, ◌⊎◌, ⊤, ◌+◌, ◌≤◌, ℕ, List, [], ◌∷◌, ◌++◌, length, codes, decimal, Option, option_map, IfSome}
 use Rattle.dr_ports.specs.Ports.{Rose}
-use Rattle.dr_ports.specs.Wires.{Told, next_of}
+use Rattle.dr_ports.specs.Wires.{Told, hung_up, listens_at, next_of}
 use Rattle.relay_core.specs.Boxes.{Box}
 use Rattle.relay_core.specs.Record.{box_text}
 use Rattle.relay_core.specs.Streams.{reply_bytes, served}
@@ -26,11 +26,15 @@ pub record Standing : Type 0 where
   pub told : Option Told
   pub faults : ℕ
 
--- and after it: its requests were served, in order
+-- once the door listens at a port
+abbrev pub listening : ℕ → Standing → Standing
+listening port s = record s { told = option_map (listens_at port) s.told }
+
+-- and after a connection: it was accepted, its requests were served, in order, and it was ended
 abbrev pub behind : Standing → Connection → Standing
 behind s x = record {
   boxes = (served s.boxes x.got).next;
-  told = option_map (exchanged x.got x.put) (option_map next_of s.told);
+  told = option_map hung_up (option_map (exchanged x.got x.put) (option_map next_of s.told));
   faults = x.faults;
 }
 

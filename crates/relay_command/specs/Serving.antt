@@ -15,9 +15,9 @@ use Rattle.relay_core.specs.Streams.{Exchange, reply_bytes, reply_frame, served}
 use Rattle.relay_server.specs.Durable.{IsReady, IsSameBehind}
 use Rattle.relay_server.specs.Serving.{LastOrBefore}
 use Rattle.slot_store.specs.declared.store.SlotStore.{SlotStore}
-use Rattle.relay_command.specs.Connections.{AreServed, Connection, HasRisen, IsBegun, Standing, WereReached, behind_all, lines_behind, port_line}
+use Rattle.relay_command.specs.Connections.{AreServed, Connection, HasRisen, IsBegun, Standing, WereReached, behind_all, lines_behind, listening, port_line}
 
--- what stands before the first connection
+-- what stands at entry
 abbrev pub standing : List Box → Port → Standing
 standing boxes door = record { boxes = boxes; told = door.told; faults = door.faults Flow }
 
@@ -52,25 +52,27 @@ pub record IsStopped (s : Standing) (x : Connection) (now : DiskState) : Type 0 
 abbrev pub relay_lines : ℕ → Standing → List Connection → List ℕ
 relay_lines port s xs = port_line port ++ lines_behind 0 s xs
 
--- How it ends, with its lines. Where the lines were cut there may be fewer connections.
+-- How it ends, with its lines. All connections come while the door listens at the port. Where the lines were cut there may be
+-- fewer.
 pub data Serves (earlier : List ℕ → Type 0) (s : Standing) (port count : ℕ) (start now : DiskState) (from door : Port) (code : ℕ)
     : Ending → List ℕ → Type 0 where
-  -- it couldn't listen
+  -- it couldn't listen there
   was_unheard : WereServed earlier s [] start now door → HasRisen (from.faults Gate) (door.faults Gate)
       → Serves earlier s port count start now from door code LinkFault []
   -- the next connection couldn't be accepted
-  was_unaccepted : (xs : List Connection) → WereServed earlier s xs start now door → length xs < count
+  was_unaccepted : (xs : List Connection) → WereServed earlier (listening port s) xs start now door → length xs < count
       → HasRisen (from.faults Gate) (door.faults Gate)
-      → Serves earlier s port count start now from door code LinkFault (relay_lines port s xs)
+      → Serves earlier s port count start now from door code LinkFault (relay_lines port (listening port s) xs)
   -- a call on the disk failed while the next connection was served
-  was_stopped : (xs : List Connection) (x : Connection) (call : Call) → HaveCome earlier s (xs ++ x ∷ []) start now door → AreServed s xs
-      → IsStopped (behind_all s xs) x now → length xs < count → Rose (start.faults call) (now.faults call)
+  was_stopped : (xs : List Connection) (x : Connection) (call : Call)
+      → HaveCome earlier (listening port s) (xs ++ x ∷ []) start now door → AreServed (listening port s) xs
+      → IsStopped (behind_all (listening port s) xs) x now → length xs < count → Rose (start.faults call) (now.faults call)
       → door.faults Gate ≡ from.faults Gate
-      → Serves earlier s port count start now from door code DiskFault (relay_lines port s xs)
+      → Serves earlier s port count start now from door code DiskFault (relay_lines port (listening port s) xs)
   -- all were served, with status 0
-  went_on : (xs : List Connection) → WereServed earlier s xs start now door → length xs ≤ count → (code ≡ 0 → length xs ≡ count)
+  went_on : (xs : List Connection) → WereServed earlier (listening port s) xs start now door → length xs ≤ count → (code ≡ 0 → length xs ≡ count)
       → door.faults Gate ≡ from.faults Gate
-      → Serves earlier s port count start now from door code Done (relay_lines port s xs)
+      → Serves earlier s port count start now from door code Done (relay_lines port (listening port s) xs)
 
 -- and what was written of them
 pub record Runs (s : Standing) (port count : ℕ) (start now : DiskState) (from door : Port) (old new : Option (List ℕ)) (before after code : ℕ) : Type 0 where

@@ -56,9 +56,10 @@ fn open<A: Disk>(alloc: Global, boxes: &[&str], disk: &mut A) -> Result<Server, 
 ///
 /// The words are looked at first: `BadBox K` exactly where the K-th, from 1, is the first that is no lawful name, equals one
 /// before it, or is the 17th. Then the boxes are opened: want of memory, `DiskFault`, `DamagedArea` and `BoxName` as
-/// `relay_server::Server::open` tells them, with boxes counted from 1. Only then is the door touched: `LinkFault` where
-/// listening or accepting failed. A store that failed ends the command with `DiskFault`, and a line that couldn't be written
-/// ends it with status 5.
+/// `relay_server::Server::open` tells them, with boxes counted from 1. Only then is the door touched: it listens at the port, and
+/// each connection is accepted, served and ended, also where a call on it or on the disk failed. `LinkFault` where listening or
+/// accepting failed. A store that failed ends the command with `DiskFault`, and a line that couldn't be written ends it with
+/// status 5.
 pub fn relay<A: Disk, L: Door, O: Sink>(
     alloc: Global,
     port: u16,

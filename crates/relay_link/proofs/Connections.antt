@@ -5,7 +5,7 @@ use Rattle.std.proofs.Math.Seq.{take-add}
 use Rattle.std.proofs.lemmas.List.Concat.{flat_map-append}
 use Rattle.std.proofs.lemmas.List.{drop-append-le, length-drop, length-take-le, take-append-drop, take-append-le, take_all}
 use Rattle.dr_ports.specs.Wires.{Gave, IsAtEnd}
-use Rattle.dr_ports.specs.MemoryWires.{nothing_comes}
+use Rattle.dr_ports.specs.MemoryWires.{nothing_comes, plain}
 use Rattle.relay_core.specs.Boxes.{Box}
 use Rattle.relay_core.specs.Streams.{Exchange, Served, prepend, reply_bytes, reply_frame, served, served_within}
 use Rattle.relay_core.specs.declared.limits.TheConstants.{EXCHANGE_LIMIT}
@@ -94,7 +94,7 @@ module _ (c : Connection) (desk : DeskNow) (held : List ℕ) (is : IsServing c d
         ∙ take-append-le count (drop c.at desk.replies) _ (omega (arith, fits, length-drop c.at desk.replies)) ∙ sym given
 
     pub gave : Gave piece (port_of c) (port_of received)
-    gave = ap (λ (b : List ℕ). Some (record { now = record { gives = λ sent. reply_bytes (served c.start sent); received = b; sent = c.sent; fate = (wire_of c).fate }; before = []; coming = nothing_comes }))
+    gave = ap (λ (b : List ℕ). Some (record { now = record { gives = λ sent. reply_bytes (served c.start sent); received = b; sent = c.sent; fate = (wire_of c).fate }; before = []; coming = nothing_comes; line = plain }))
         (take-add c.at count (reply_bytes (served c.start c.sent)) ∙ ap (λ (b : List ℕ). take c.at (reply_bytes (served c.start c.sent)) ++ b) piece_is)
 
     pub serves_received : IsServing received desk held

@@ -4,7 +4,7 @@ use Rattle.std.specs.Prelude.{flat_map, nat_lt, if◌then◌else◌}
 use Rattle.std.proofs.lemmas.List.Concat.{flat_map-append}
 use Rattle.std.proofs.lemmas.Bool.Decides.{nat_tests}
 use Rattle.std.proofs.lemmas.List.{length-append, length_push, take-append-drop, take-append-le, take_all}
-use Rattle.dr_ports.specs.MemoryWires.{nothing_comes}
+use Rattle.dr_ports.specs.MemoryWires.{nothing_comes, plain}
 use Rattle.dr_ports.specs.Wires.{Took}
 use Rattle.relay_core.specs.Boxes.{Box, answers_read}
 use Rattle.relay_core.specs.Streams.{Exchange, Served, and_then, boxes_after, exchange_of, is_last, nothing_served, prepend, served, served_within, reply_bytes, reply_frame}
@@ -87,7 +87,7 @@ module _ (c : Connection) (desk : DeskNow) (held : List ℕ) (is : IsServing c d
   -- what was received is the same beginning
   pub took : Took piece (port_of c) (port_of sent)
   took =
-      ap (λ (b : List ℕ). Some (record { now = record { gives = λ to. reply_bytes (served c.start to); received = b; sent = c.sent ++ piece; fate = (wire_of c).fate }; before = []; coming = nothing_comes }))
+      ap (λ (b : List ℕ). Some (record { now = record { gives = λ to. reply_bytes (served c.start to); received = b; sent = c.sent ++ piece; fate = (wire_of c).fate }; before = []; coming = nothing_comes; line = plain }))
       (ap (λ (xs : List Exchange). take c.at (flat_map reply_frame xs)) grown
       ∙ ap (take c.at) (flat_map-append reply_frame (exchanges_of c) (served_within desk.left desk.boxes (frames_of (held ++ piece))).exchanges)
       ∙ take-append-le c.at (reply_bytes (served c.start c.sent)) _ (omega (arith, is.received, ap length is.replies, few_bytes)))

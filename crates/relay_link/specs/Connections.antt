@@ -2,7 +2,7 @@
 use Rattle.std.specs.Prelude.{◌⊎◌, ◌<◌, ◌≤◌, ℕ, ◌-◌, min, List, [], length, take, drop, flat_map, Option, Some, None}
 use Rattle.std.proofs.Common.{sym}
 use Rattle.std.proofs.lemmas.List.{take-append-drop}
-use Rattle.dr_ports.specs.MemoryWires.{faults_of, nothing_comes}
+use Rattle.dr_ports.specs.MemoryWires.{faults_of, nothing_comes, plain}
 use Rattle.dr_ports.specs.Wires.{IsAhead, Port, Wire, untold_fate}
 use Rattle.relay_core.specs.Boxes.{Box}
 use Rattle.relay_core.specs.Streams.{Exchange, served, reply_bytes, reply_frame}
@@ -50,7 +50,7 @@ wire_of c = record {
 
 abbrev pub port_of : Connection → Port
 port_of c = record {
-  told = Some (record { now = wire_of c; before = []; coming = nothing_comes });
+  told = Some (record { now = wire_of c; before = []; coming = nothing_comes; line = plain });
   faults = faults_of c.faults 0;
 }
 

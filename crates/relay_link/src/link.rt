@@ -11,15 +11,15 @@ ghost use Rattle.relay_link.specs.declared.limits.TheConstants.{REPLY_LIMIT, SEN
 use crate::desk::Desk;
 use crate::limits::{REPLY_LIMIT, SENT_LIMIT};
 use dr_base::put;
-use dr_ports::{Failed, Link, Pipe};
+use dr_ports::{Failed, Pipe};
 use relay_core::Relay;
 use relay_wire::{FrameReader, Name};
 use std::alloc::{AllocError, Global};
 use std::marker::Model;
 use std::snapshot::Snapshot;
 
-/// A link to a relay in memory. A contract sees one connection: what was sent and received on it, and the relay's boxes as it
-/// began.
+/// A link to a relay in memory. A contract sees one connection, which stands from the beginning on: what was sent and received on
+/// it, and the relay's boxes as it began.
 ///
 /// The relay answers each frame as soon as it is whole. This many of its replies come, and after them the link fails.
 #[derive(Drop)]
@@ -153,22 +153,4 @@ impl Pipe for RelayLink {
         }
         Ok(count)
     }
-}
-
-impl Link for RelayLink {
-    fn open(&mut self, address: &str) -> Result<(), Failed>
-        ensures told { (port_of self.new).told ≡ (port_of self.old).told }
-        ensures cause { HasCause ((port_of self.old).faults Gate) ((port_of self.new).faults Gate) result }
-        ensures flow { (port_of self.new).faults Flow ≡ (port_of self.old).faults Flow }
-        ensures same { behind_of self.new ≡ behind_of self.old }
-        ensures passes { IsOk result }
-        ensures still { self.new ≡ self.old }
-    {
-        Ok(())
-    }
-
-    fn shut(&mut self)
-        ensures told { port_of self.new ≡ port_of self.old }
-        ensures still { self.new ≡ self.old }
-    {}
 }

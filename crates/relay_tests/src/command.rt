@@ -1,7 +1,7 @@
 //! The worked exchange, names that are refused, and each fault once.
 
 use dr_disk::{Disk, MemoryDisk};
-use dr_ports::{MemoryDoor, MemorySink};
+use dr_ports::{MemoryDoor, MemorySink, Stand};
 use relay_command::{RELAY_DISK_SIZE, relay};
 use std::alloc::{AllocError, Global};
 use std::test::Fail;
@@ -80,7 +80,7 @@ fn ends_unasked(
     ends(alloc, disk, boxes, 0, &mut door, 4096, status, lines)
 }
 
-/// Whether the worked exchange is answered over this door, in this many connections.
+/// Whether the worked exchange is answered over this door, at its port, in this many connections, each of which has ended.
 fn is_exchanged(
     alloc: Global,
     disk: &mut MemoryDisk,
@@ -89,7 +89,8 @@ fn is_exchanged(
     lines: &[u8],
 ) -> Result<bool, AllocError> {
     let ended = ends(alloc, disk, &["a"], count, door, 4096, 0, lines)?;
-    Ok(ended && door.sent() == REPLIES)
+    let shut = door.port() == Some(4000) && matches!(door.stand(), Stand::Ended { .. });
+    Ok(ended && shut && door.sent() == REPLIES)
 }
 
 /// Whether the worked exchange is answered so, with the requests cut there, in this many connections.

@@ -1,6 +1,6 @@
 // Frames over a link to a relay: the replies that come, and one that is lost.
 
-use dr_ports::{Failed, Link, Pipe};
+use dr_ports::{Failed, Pipe};
 use relay_link::RelayLink;
 use relay_wire::Name;
 use std::alloc::Global;
@@ -43,7 +43,6 @@ const POST_B: &[u8] = b"\x00\x04\x01\x01b\x07";
 #[test]
 fn replies_come(rt: HostRuntime) -> Result<(), Fail> {
     let mut link = linked(rt.alloc())?;
-    assert!(rt; link.open("host:1") == Ok(()));
     assert!(rt; replies(&mut link, b"", b"") == Ok(true));
     // a fetch, a post and, in two pieces, a fetch
     send(&mut link, FETCH_A)?;
@@ -52,7 +51,6 @@ fn replies_come(rt: HostRuntime) -> Result<(), Fail> {
         b"\x00\x01\x83\x00\x09\x81\x00\x00\x00\x00\x00\x00\x00\x01\x00\x0a\x82\x00\x00\x00\x00\x00\x00\x00\x01\x07";
     assert!(rt; replies(&mut link, b"\x01a", all) == Ok(true));
     assert!(rt; replies(&mut link, b"", b"") == Ok(true));
-    link.shut();
     Ok(())
 }
 

@@ -3,6 +3,7 @@
 use crate::commands::{answers_over, are_answered};
 use crate::running::Network;
 use dr_disk::SteadyDisk;
+use dr_ports::{MemoryLink, Stand};
 use messenger_cli::DISK_SIZE;
 use std::alloc::{AllocError, Global};
 use std::test::Fail;
@@ -59,5 +60,12 @@ fn syncs_with_a_relay(rt: HostRuntime) -> Result<(), Fail> {
     let mut disk = SteadyDisk::new(alloc, DISK_SIZE)?;
     assert!(rt; answers_over(alloc, &mut disk, &mut network, SYNCED)?);
     assert!(rt; network.link.sent().starts_with(FETCHED));
+    assert!(rt; has_ended(&network.link));
     Ok(())
+}
+
+/// Whether the link was connected to `127.0.0.1:4000`, and that connection has ended once all replies had come.
+fn has_ended(link: &MemoryLink) -> bool {
+    link.address() == b"127.0.0.1:4000".as_slice()
+        && matches!(link.stand(), Stand::Ended { received: 17, .. })
 }

@@ -1,6 +1,5 @@
 -- A command that syncs, from its calls.
 use Rattle.std.proofs.Common.{Err, List, Ok, Option, Result, [], ap, arith, inl, inr, refl, subst, sym, ℕ, ⊎_elim, ◌≤◌, ◌∙◌, ◌≡◌, ◌⊎◌}
-use Rattle.std.specs.Prelude.{option_map}
 use Rattle.dr_base.specs.Causes.{Rose}
 use Rattle.dr_base.specs.declared.position.Side.{Side}
 use Rattle.dr_disk.specs.Spans.{IsQuiet, Span}
@@ -9,11 +8,8 @@ use Rattle.dr_disk.proofs.Steps.{quiet_twice, spans, widen}
 use Rattle.dr_model.specs.Machines.WorldSides.{kept_in}
 use Rattle.dr_model.specs.Machines.Worlds.{World}
 use Rattle.dr_ports.specs.Wires.{Port}
-use Rattle.dr_ports.specs.declared.pipe.Part.TheVariants.{Flow}
 use Rattle.kem_laws.specs.Mechanism.{Mechanism}
 use Rattle.relay_pipe.specs.Asking.{fault_at}
-use Rattle.relay_pipe.specs.Exchanging.{Exchanges, exchanged}
-use Rattle.relay_pipe.specs.declared.faults.PeerFault.{PeerFault}
 use Rattle.relay_wire.specs.Replies.{Replied}
 use Rattle.session_model.specs.Clients.{Client}
 use Rattle.slot_store.specs.Reading.{IsEntryOrLike, IsLikeRead}
@@ -35,43 +31,9 @@ use Rattle.session_commands.specs.Disks.{IsAtRest}
 use Rattle.session_commands.specs.Syncing.{CameToEnd, IsStored, IsSyncLeft, LeavesCourse, RestsIn, StandsForCourse, SyncEnds, SyncRunsIn, is_as_read, is_of_course}
 use Rattle.session_commands.proofs.Standing.{left_sound, like_sound}
 
--- ---- over a link that was opened before
+-- ---- after an opening of the client
 
-module _ (p : Party Client) (kept : Client) (replies : List Replied) (link opened now : Port) (told : opened.told ≡ link.told)
-    (quiet : opened.faults Flow ≡ link.faults Flow) where
-  from_link : (got put : List ℕ) → Exchanges got put opened now → Exchanges got put link now
-  from_link got put ex = ex ∙ ap (option_map (exchanged got put)) told
-
-  talked_from : Talked p kept replies opened now → Talked p kept replies link now
-  talked_from talked = record { told = from_link _ _ talked.told; waited = talked.waited; quiet = talked.quiet ∙ quiet }
-
-  cut_from : IsCutOff p kept replies opened now → IsCutOff p kept replies link now
-  cut_from cut = record {
-    asked = cut.asked;
-    waits = cut.waits;
-    put = cut.put;
-    left = cut.left;
-    rest = cut.rest;
-    split = cut.split;
-    told = from_link _ _ cut.told;
-    waited = cut.waited;
-    partial = cut.partial;
-    rose = subst (λ (n : ℕ). Rose n (now.faults Flow)) quiet cut.rose;
-  }
-
-  unheard_from : (fault : PeerFault) → IsUnheard p kept replies opened now fault → IsUnheard p kept replies link now fault
-  unheard_from fault cut = record {
-    asked = cut.asked;
-    waits = cut.waits;
-    rest = cut.rest;
-    told = from_link _ _ cut.told;
-    waited = cut.waited;
-    came = cut.came;
-    quiet = cut.quiet ∙ quiet;
-  }
-
-  -- ---- after an opening of the client
-
+module _ (p : Party Client) (kept : Client) (replies : List Replied) (opened now : Port) where
   module _ (start mid end : DiskState) (client after : ClientNow) (taken wrote : Option (List ℕ)) (before middle final : ℕ) (same : client.kept ≡ kept)
       (opening : IsQuiet start mid) (later : middle ≤ final) where
     abbrev from : Moment
@@ -89,26 +51,26 @@ module _ (p : Party Client) (kept : Client) (replies : List Replied) (link opene
       quiet = quiet_twice start mid end opening stands.quiet;
     }
 
-    came_by : (ending : Ending) → IsOver p replies ending from to opened now → CameToEnd p kept replies ending start end link now
+    came_by : (ending : Ending) → IsOver p replies ending from to opened now → CameToEnd p kept replies ending start end opened now
     came_by ending is = record {
       is_over = ap (λ (x : Client). (course_of p x replies).wait) (sym same) ∙ is.is_over;
-      talked = talked_from (subst (λ (x : Client). Talked p x replies opened now) same is.talked);
+      talked = subst (λ (x : Client). Talked p x replies opened now) same is.talked;
       stored = stored_by is.stands;
     }
 
     pub sync_ends : (result : Result More SyncFault) → Ends p replies from to opened now result
-        → SyncEnds p kept replies start end link now before final result
+        → SyncEnds p kept replies start end opened now before final result
     sync_ends (Ok which) ends = came_by _ ends
     sync_ends (Err (Closed call)) ends = ends
-    sync_ends (Err Link) ends = (cut_from (subst (λ (x : Client). IsCutOff p x replies opened now) same ends.1), stored_by ends.0)
+    sync_ends (Err Link) ends = (subst (λ (x : Client). IsCutOff p x replies opened now) same ends.1, stored_by ends.0)
     sync_ends (Err (Peer at what)) ends =
         ⊎_elim (λ over. inl (over.0, over.1, came_by over.0 over.2))
-        (λ cut. inr (unheard_from (fault_at at what) (subst (λ (x : Client). IsUnheard p x replies opened now (fault_at at what)) same cut.1), stored_by cut.0)) ends
+        (λ cut. inr (subst (λ (x : Client). IsUnheard p x replies opened now (fault_at at what)) same cut.1, stored_by cut.0)) ends
     sync_ends (Err (Refused refusal)) ends = (ends.0, ends.1, came_by ends.0 ends.2)
     sync_ends (Err (Store call)) ends =
-        (talked_from (subst (λ (x : Client). Talked p x replies opened now) same ends.talked), subst (λ (n : ℕ). Rose n (end.faults call)) (opening call) ends.rose)
+        (subst (λ (x : Client). Talked p x replies opened now) same ends.talked, subst (λ (n : ℕ). Rose n (end.faults call)) (opening call) ends.rose)
     sync_ends (Err Write) ends =
-        (talked_from (subst (λ (x : Client). Talked p x replies opened now) same ends.talked), stored_by ends.stands, omega (arith, ends.wrote.rose, later))
+        (subst (λ (x : Client). Talked p x replies opened now) same ends.talked, stored_by ends.stands, omega (arith, ends.wrote.rose, later))
 
 -- ---- what the disk holds
 

@@ -1,5 +1,5 @@
 -- What the command that syncs with a relay comes to, before its last line.
-use Rattle.std.specs.Prelude.{Err, List, Ok, Option, Result, Some, [], length, take, ℕ, ⊤, ◌++◌, ◌-◌, ◌<◌, ◌^◌, ◌≡◌, ◌⊎◌}
+use Rattle.std.specs.Prelude.{Err, List, Ok, Option, Result, Some, [], length, option_map, take, ℕ, ⊤, ◌++◌, ◌-◌, ◌<◌, ◌^◌, ◌≡◌, ◌⊎◌}
 use Rattle.std.specs.List.{AllByRecursion}
 use Rattle.dr_base.specs.Causes.{Rose}
 use Rattle.dr_base.specs.declared.position.Side.{Side}
@@ -9,7 +9,7 @@ use Rattle.dr_model.specs.Machines.WorldSides.{kept_in}
 use Rattle.dr_model.specs.Machines.Worlds.{World}
 use Rattle.dr_model.specs.Theorems.LawfulWorlds.{IsLawfulWorld}
 use Rattle.dr_ports.specs.Ports.{appended}
-use Rattle.dr_ports.specs.Wires.{Port}
+use Rattle.dr_ports.specs.Wires.{Port, connected, hung_up}
 use Rattle.dr_ports.specs.Writing.{TookBeginning}
 use Rattle.dr_ports.specs.declared.pipe.Part.TheVariants.{Flow, Gate}
 use Rattle.endings.specs.declared.ending.Ending.{Ending}
@@ -150,22 +150,33 @@ pub record SyncRunsIn (k : Mechanism) (side : Side) (w : World) (kept : Client) 
 
 -- ---- the command
 
--- The client wasn't opened, and the link is left alone; or the link wasn't opened; or the client synced, by these replies. What
--- is kept is what was read at entry. Each with what it is in a world that the disk reads at entry.
-pub data RunsSync {X L : Type 0} (state : X → DiskState) (port : L → Port) (k : Mechanism) (start now : X) (link left : L) (before after : ℕ)
-    : Ending → List ℕ → Type 0 where
+-- The link was connected to the address, this was done over it, and then the connection was ended.
+pub record HasTalkedTo (address : List ℕ) (link left : Port) (talk : Port → Port → Type 0) : Type 0 where
+  pub opened : Port
+  pub last : Port
+  pub connects : opened.told ≡ option_map (connected address) link.told
+  pub quiet : opened.faults Flow ≡ link.faults Flow
+  pub talks : talk opened last
+  pub ends : left.told ≡ option_map hung_up last.told
+  pub counts : left.faults Flow ≡ last.faults Flow
+
+-- The client wasn't opened, and the link is left alone; or the link wasn't opened; or the client synced at the address, by
+-- these replies. What is kept is what was read at entry. Each with what it is in a world that the disk reads at entry.
+pub data RunsSync {X L : Type 0} (state : X → DiskState) (port : L → Port) (k : Mechanism) (address : List ℕ) (start now : X) (link left : L)
+    (before after : ℕ) : Ending → List ℕ → Type 0 where
   wasnt_synced : (refusal : OpenRefusal) → IsUnopened state k start now refusal → LeavesLike (state start) (state now) → left ≡ link
       → ((w : World) (side : Side) → IsLawfulWorld k w → Reads k w side (state start) → RunsOn k side w w (state start) (state now))
-      → RunsSync state port k start now link left before after (ending_of_open refusal) []
+      → RunsSync state port k address start now link left before after (ending_of_open refusal) []
   wasnt_linked : (kept : Client) → IsKept k (state start) kept → Leaves kept kept (state start) (state now)
       → (port left).told ≡ (port link).told → (port left).faults Flow ≡ (port link).faults Flow
       → Rose ((port link).faults Gate) ((port left).faults Gate)
       → ((w : World) (side : Side) → IsLawfulWorld k w → Reads k w side (state start) → RunsOn k side w w (state start) (state now))
-      → RunsSync state port k start now link left before after LinkFault []
+      → RunsSync state port k address start now link left before after LinkFault []
   was_synced : (kept : Client) (replies : List Replied) (result : Result More SyncFault) → IsKept k (state start) kept
       → AllByRecursion IsLawfulReplied replies → LeavesCourse (client_party k [] kept) kept replies (state start) (state now)
-      → SyncEnds (client_party k [] kept) kept replies (state start) (state now) (port link) (port left) before after result
+      → HasTalkedTo address (port link) (port left) (λ opened last.
+      SyncEnds (client_party k [] kept) kept replies (state start) (state now) opened last before after result)
       → (port left).faults Gate ≡ (port link).faults Gate
       → ((w : World) (side : Side) → IsLawfulWorld k w → Reads k w side (state start) → AreUnforged k [] side w replies
       → SyncRunsIn k side w kept replies (state start) (state now) result)
-      → RunsSync state port k start now link left before after (ending_of_sync result) (sync_lines (client_party k [] kept) kept replies result)
+      → RunsSync state port k address start now link left before after (ending_of_sync result) (sync_lines (client_party k [] kept) kept replies result)

@@ -1,33 +1,36 @@
 //! A door in memory: connections one after the other, out of one list of bytes.
 
-ghost use Rattle.std.specs.Prelude.{◌≡◌, ◌⊎◌, ◌↔◌, ℕ, ◌+◌, ◌-◌, ◌<◌, ◌≤◌, min, List, [], ◌++◌, length, vec_len, take, Option, option_map, IfOk, OnOk, OnErr, IfSome, IsErr};
+ghost use Rattle.std.specs.Prelude.{◌≡◌, ◌⊎◌, ◌↔◌, ℕ, ◌+◌, ◌-◌, ◌<◌, ◌≤◌, min, List, [], ◌++◌, length, vec_len, take, Option, Some, None, option_map, IfOk, OnOk, OnErr, IfSome, IsErr};
 ghost use Rattle.dr_ports.specs.Ports.{HasCause, one_more};
 ghost use Rattle.dr_ports.specs.Memory.{Plan, IsDue};
 ghost use Rattle.dr_ports.specs.declared.pipe.Part.TheVariants.{Flow, Gate};
-ghost use Rattle.dr_ports.specs.Wires.{Gave, Took, EndsAt, ReceiveGoes, SendGoes, next_of};
+ghost use Rattle.dr_ports.specs.declared.pipe.Stand.TheVariants.{Unbegun, Up};
+ghost use Rattle.dr_ports.specs.Wires.{Gave, Took, EndsAt, ReceiveGoes, SendGoes, hung_up, listens_at, next_of};
 ghost use Rattle.dr_ports.specs.MemoryWires.{Doorway, AreEnds, HasNoRoom, connection_of, start_of, is_ahead, nobody, door_port_of};
 
 use crate::memory::pipe::MemoryPipe;
 use crate::memory::plan::CallPlan;
-use crate::pipe::{Door, Pipe};
+use crate::pipe::{Door, Pipe, Stand};
 use dr_base::Failed;
 use std::alloc::{AllocError, Global};
 use std::marker::Model;
 
 /// A door whose connections hold parts of one list of bytes, and take bytes into one stated room. Before the first connection
-/// it holds nothing.
+/// it holds nothing. It remembers the port that it waits at.
 #[derive(Drop)]
 pub struct MemoryDoor {
     pipe: MemoryPipe,
     ends: Vec<usize>,
     next: usize,
     plan: CallPlan,
+    port: Option<u16>,
+    stand: Stand,
 }
 
 impl Model for MemoryDoor {
     ghost Value = { Doorway };
 
-    ghost view = { λ d. record { pipe = d.pipe; ends = d.ends.items; next = d.next; plan = d.plan } };
+    ghost view = { λ d. record { pipe = d.pipe; ends = d.ends.items; next = d.next; plan = d.plan; port = d.port; stand = d.stand } };
 
     ghost invariant = { λ d. (d.next ≤ vec_len d.ends) × AreEnds (length d.pipe.all) 0 d.ends.items };
 }
@@ -58,6 +61,8 @@ impl MemoryDoor {
           ends = ends.now;
           next = 0;
           plan = record { fails = fails.now; calls = 0; faults = 0 };
+          port = None;
+          stand = Unbegun;
         }) }
     {
         let mut pipe = MemoryPipe::new(alloc, bytes, room, pipe_fails)?;
@@ -67,6 +72,8 @@ impl MemoryDoor {
             ends: Vec::from_slice(alloc, ends)?,
             next: 0,
             plan: CallPlan::new(alloc, fails)?,
+            port: None,
+            stand: Stand::Unbegun,
         })
     }
 
@@ -77,7 +84,21 @@ impl MemoryDoor {
         self.pipe.sent()
     }
 
-    // goes on to the next connection
+    /// The port that it waits at, if it listened.
+    pub fn port(&self) -> Option<u16>
+        ensures { result ≡ self.now.port }
+    {
+        self.port
+    }
+
+    /// How the connection stands.
+    pub fn stand(&self) -> Stand
+        ensures { result ≡ self.now.stand }
+    {
+        self.stand
+    }
+
+    // goes on to the next connection, which stands
     fn go_on(&mut self)
         ensures pipe { self.new.pipe ≡ record self.old.pipe {
           held = connection_of self.old.pipe.all self.old.ends self.old.next;
@@ -88,6 +109,8 @@ impl MemoryDoor {
         ensures next { (self.new.next ≡ self.old.next + 1) ⊎ ((self.new.next ≡ self.old.next) × (length self.old.ends ≡ self.old.next)) }
         ensures ends { self.new.ends ≡ self.old.ends }
         ensures plan { self.new.plan ≡ self.old.plan }
+        ensures port { self.new.port ≡ self.old.port }
+        ensures stand { self.new.stand ≡ Up }
     {
         if self.next < self.ends.len() {
             let start = self.start();
@@ -96,6 +119,7 @@ impl MemoryDoor {
         } else {
             self.pipe.go_on(0, 0);
         }
+        self.stand = Stand::Up;
     }
 
     // where the bytes of the next connection begin
@@ -159,12 +183,13 @@ impl Pipe for MemoryDoor {
 
 impl Door for MemoryDoor {
     fn listen(&mut self, at: u16) -> Result<(), Failed>
-        ensures told { (door_port_of self.new).told ≡ (door_port_of self.old).told }
+        ensures at { OnOk result ((door_port_of self.new).told ≡ option_map (listens_at at) (door_port_of self.old).told) }
+        ensures err { OnErr result ((door_port_of self.new).told ≡ (door_port_of self.old).told) }
         ensures cause { HasCause ((door_port_of self.old).faults Gate) ((door_port_of self.new).faults Gate) result }
         ensures flow { (door_port_of self.new).faults Flow ≡ (door_port_of self.old).faults Flow }
         ensures same { nobody self.new ≡ nobody self.old }
         ensures exact { IsErr result ↔ IsDue self.old.plan }
-        ensures stays { self.new ≡ record self.old { plan = self.new.plan } }
+        ensures stays { self.new ≡ record self.old { plan = self.new.plan; port = self.new.port; stand = self.new.stand } }
         ensures calls { self.new.plan.calls ≡ one_more self.old.plan.calls }
         ensures list { self.new.plan.fails ≡ self.old.plan.fails }
     {
@@ -172,6 +197,8 @@ impl Door for MemoryDoor {
             self.plan.count_fault();
             return Err(Failed);
         }
+        self.port = Some(at);
+        self.stand = Stand::Unbegun;
         Ok(())
     }
 
@@ -196,7 +223,12 @@ impl Door for MemoryDoor {
     }
 
     fn shut(&mut self)
-        ensures told { door_port_of self.new ≡ door_port_of self.old }
-        ensures same { self.new ≡ self.old }
-    {}
+        ensures told { (door_port_of self.new).told ≡ option_map hung_up (door_port_of self.old).told }
+        ensures gate { (door_port_of self.new).faults Gate ≡ (door_port_of self.old).faults Gate }
+        ensures flow { (door_port_of self.new).faults Flow ≡ (door_port_of self.old).faults Flow }
+        ensures same { nobody self.new ≡ nobody self.old }
+        ensures stays { self.new ≡ record self.old { stand = self.new.stand } }
+    {
+        self.stand = self.pipe.ended(self.stand);
+    }
 }

@@ -1,30 +1,39 @@
 //! A link in memory: a pipe that opening stands before.
 
-ghost use Rattle.std.specs.Prelude.{◌≡◌, ◌⊎◌, ◌↔◌, ℕ, ◌+◌, ◌-◌, ◌<◌, ◌≤◌, min, List, [], ◌++◌, length, take, Option, IfOk, OnOk, OnErr, IfSome, IsErr};
+ghost use Rattle.std.specs.Prelude.{◌≡◌, ◌⊎◌, ◌↔◌, ℕ, ◌+◌, ◌-◌, ◌<◌, ◌≤◌, min, List, [], ◌++◌, length, vec_capacity, take, Option, option_map, IfOk, OnOk, OnErr, IfSome, IsErr};
 ghost use Rattle.dr_ports.specs.Ports.{HasCause, one_more};
 ghost use Rattle.dr_ports.specs.Memory.{Plan, IsDue};
 ghost use Rattle.dr_ports.specs.declared.pipe.Part.TheVariants.{Flow, Gate};
-ghost use Rattle.dr_ports.specs.Wires.{Gave, Took, EndsAt, ReceiveGoes, SendGoes};
+ghost use Rattle.dr_ports.specs.declared.pipe.Stand.TheVariants.{Unbegun, Up};
+ghost use Rattle.dr_ports.specs.declared.memory.link.TheConstants.{ADDRESS_LIMIT};
+ghost use Rattle.dr_ports.specs.Wires.{Gave, Took, EndsAt, ReceiveGoes, SendGoes, connected, hung_up};
 ghost use Rattle.dr_ports.specs.MemoryWires.{Linking, HasNoRoom, is_ahead, nobody, link_port_of};
 
 use crate::memory::pipe::MemoryPipe;
-use crate::pipe::{Link, Pipe};
+use crate::pipe::{Link, Pipe, Stand};
 use dr_base::Failed;
 use std::alloc::{AllocError, Global};
 use std::marker::Model;
 
+/// How many bytes an address has at most: a name of 255, a colon and a port.
+pub const ADDRESS_LIMIT: usize = 261;
+
 /// A link that holds bytes, whatever its address, and takes bytes into a stated room. Its plan counts openings, receives and
-/// sends together.
+/// sends together. It remembers where it connected, and opening fails at an address that has more bytes than `ADDRESS_LIMIT`.
 #[derive(Drop)]
 pub struct MemoryLink {
     pipe: MemoryPipe,
+    address: Vec<u8>,
+    stand: Stand,
     faults: u64,
 }
 
 impl Model for MemoryLink {
     ghost Value = { Linking };
 
-    ghost view = { λ l. record { pipe = l.pipe; faults = l.faults } };
+    ghost view = { λ l. record { pipe = l.pipe; address = l.address.items; stand = l.stand; faults = l.faults } };
+
+    ghost invariant = { λ l. ADDRESS_LIMIT ≤ vec_capacity l.address };
 }
 
 impl MemoryLink {
@@ -41,11 +50,15 @@ impl MemoryLink {
             room = room;
             plan = record { fails = fails.now; calls = 0; faults = 0 };
           };
+          address = [];
+          stand = Unbegun;
           faults = 0;
         }) }
     {
         Ok(MemoryLink {
             pipe: MemoryPipe::new(alloc, bytes, room, fails)?,
+            address: Vec::with_capacity(alloc, ADDRESS_LIMIT)?,
+            stand: Stand::Unbegun,
             faults: 0,
         })
     }
@@ -55,6 +68,20 @@ impl MemoryLink {
         ensures { result.now ≡ self.now.pipe.before ++ self.now.pipe.sent }
     {
         self.pipe.sent()
+    }
+
+    /// The address that it connected to last; before the first connection it has no bytes.
+    pub fn address(&self) -> &[u8]
+        ensures { result.now ≡ self.now.address }
+    {
+        self.address.as_slice()
+    }
+
+    /// How its connection stands.
+    pub fn stand(&self) -> Stand
+        ensures { result ≡ self.now.stand }
+    {
+        self.stand
     }
 }
 
@@ -106,22 +133,32 @@ impl Pipe for MemoryLink {
 
 impl Link for MemoryLink {
     fn open(&mut self, address: &str) -> Result<(), Failed>
-        ensures told { (link_port_of self.new).told ≡ (link_port_of self.old).told }
+        ensures to { OnOk result ((link_port_of self.new).told ≡ option_map (connected address.now) (link_port_of self.old).told) }
+        ensures err { OnErr result ((link_port_of self.new).told ≡ (link_port_of self.old).told) }
         ensures cause { HasCause ((link_port_of self.old).faults Gate) ((link_port_of self.new).faults Gate) result }
         ensures flow { (link_port_of self.new).faults Flow ≡ (link_port_of self.old).faults Flow }
         ensures same { nobody self.new ≡ nobody self.old }
-        ensures exact { IsErr result ↔ IsDue self.old.pipe.plan }
+        ensures exact { IsErr result ↔ IsDue self.old.pipe.plan ⊎ (ADDRESS_LIMIT < length address.now) }
         ensures counted { self.new.pipe ≡ record self.old.pipe { plan = record self.old.pipe.plan { calls = one_more self.old.pipe.plan.calls } } }
     {
-        if self.pipe.begin_call() {
+        let is_due = self.pipe.begin_call();
+        if is_due || address.len() > ADDRESS_LIMIT {
             self.faults = self.faults.saturating_add(1);
             return Err(Failed);
         }
+        self.address.clear();
+        self.address.extend_from_slice(address.as_bytes()).unwrap();
+        self.stand = Stand::Up;
         Ok(())
     }
 
     fn shut(&mut self)
-        ensures told { link_port_of self.new ≡ link_port_of self.old }
-        ensures same { self.new ≡ self.old }
-    {}
+        ensures told { (link_port_of self.new).told ≡ option_map hung_up (link_port_of self.old).told }
+        ensures gate { (link_port_of self.new).faults Gate ≡ (link_port_of self.old).faults Gate }
+        ensures flow { (link_port_of self.new).faults Flow ≡ (link_port_of self.old).faults Flow }
+        ensures same { nobody self.new ≡ nobody self.old }
+        ensures stays { self.new ≡ record self.old { stand = self.new.stand } }
+    {
+        self.stand = self.pipe.ended(self.stand);
+    }
 }

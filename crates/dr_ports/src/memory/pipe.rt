@@ -4,12 +4,12 @@ ghost use Rattle.std.specs.Prelude.{◌≡◌, ◌⊎◌, ◌↔◌, ℕ, ◌+�
 ghost use Rattle.dr_ports.specs.Ports.{HasCause, one_more};
 ghost use Rattle.dr_ports.specs.Memory.{Plan, IsDue};
 ghost use Rattle.dr_ports.specs.declared.pipe.Part.TheVariants.{Flow, Gate};
-ghost use Rattle.dr_ports.specs.Wires.{Gave, Took, EndsAt, ReceiveGoes, SendGoes};
-ghost use Rattle.dr_ports.specs.MemoryWires.{Flowing, HasNoRoom, is_ahead, nobody, port_of};
+ghost use Rattle.dr_ports.specs.Wires.{Gave, Took, EndsAt, ReceiveGoes, SendGoes, ended_by};
+ghost use Rattle.dr_ports.specs.MemoryWires.{Flowing, HasNoRoom, is_ahead, nobody, port_of, wire_of};
 
 use crate::memory::plan::CallPlan;
 use crate::memory::source::copy_part;
-use crate::pipe::Pipe;
+use crate::pipe::{Pipe, Stand};
 use dr_base::Failed;
 use std::alloc::{AllocError, Global};
 use std::marker::Model;
@@ -100,6 +100,19 @@ impl MemoryPipe {
         ensures counted { self.new ≡ record self.old { plan = record self.old.plan { calls = one_more self.old.plan.calls } } }
     {
         self.plan.begin_call()
+    }
+
+    /// How a connection stands that stood so, once it is ended.
+    pub fn ended(&self, stand: Stand) -> Stand
+        ensures { result ≡ ended_by (wire_of self.now) stand }
+    {
+        match stand {
+            Stand::Up => Stand::Ended {
+                received: self.at,
+                sent: self.taken.len() - self.mark,
+            },
+            _ => stand,
+        }
     }
 
     // how many more bytes it has room for

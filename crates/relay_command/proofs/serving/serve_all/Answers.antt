@@ -11,20 +11,20 @@ use Rattle.relay_command.proofs.serving.serve_all.Goals as goal
 pub returns-in-Err-clause-runs : goal.returns-in-Err-clause-runs
 returns-in-Err-clause-runs g c =
     unheard c.args.port c.args.count c.args.server.now (g.A.Disk.state c.args.disk.now) (g.L.Pipe.port c.args.door.now) (g.L.Pipe.port c.listen.new.self) (g.O.Sink.taken c.args.out.now)
-    (g.O.Sink.faults c.args.out.now) c.requires c.in-Err.ensures.told c.in-Err.ensures.flow (c.in-Err.ensures.cause.later, c.in-Err.ensures.cause.failed) (g.O.Sink.taken c.finish.new.out)
+    (g.O.Sink.faults c.args.out.now) c.requires c.in-Err.ensures.flow c.in-Err.ensures.err (c.in-Err.ensures.cause.later, c.in-Err.ensures.cause.failed) (g.O.Sink.taken c.finish.new.out)
     (g.O.Sink.faults c.finish.new.out) c.finish.result.code c.finish.ensures.ends
 
 pub returns-in-Err-write_all-clause-runs : goal.returns-in-Err-write_all-clause-runs
 returns-in-Err-write_all-clause-runs g c =
     unwritten c.args.port c.args.count c.args.server.now (g.A.Disk.state c.args.disk.now) (g.L.Pipe.port c.args.door.now) (g.L.Pipe.port c.listen.new.self) (g.O.Sink.taken c.args.out.now)
-    (g.O.Sink.faults c.args.out.now) c.requires c.in-Ok.ensures.told c.in-Ok.ensures.flow c.in-Ok.ensures.cause.passed (g.O.Sink.taken c.write_all.new.out) (g.O.Sink.faults c.write_all.new.out)
+    (g.O.Sink.faults c.args.out.now) c.requires c.in-Ok.ensures.flow c.in-Ok.ensures.at c.in-Ok.ensures.cause.passed (g.O.Sink.taken c.write_all.new.out) (g.O.Sink.faults c.write_all.new.out)
     (subst (λ (l : List ℕ). TookBeginning (g.O.Sink.taken c.args.out.now) (g.O.Sink.taken c.write_all.new.out) l) (c.as_bytes.ensures ∙ c.port_line.ensures) c.in-Err-write_all.ensures.part)
     c.in-Err-write_all.ensures.cause.failed
 
 pub connections-init : goal.connections-init
 connections-init g c =
     none_yet c.args.port c.args.count c.args.server.now (g.A.Disk.state c.args.disk.now) (g.L.Pipe.port c.args.door.now) (g.L.Pipe.port c.listen.new.self) (g.O.Sink.taken c.args.out.now)
-    (g.O.Sink.faults c.args.out.now) c.requires c.in-Ok.ensures.told c.in-Ok.ensures.flow c.in-Ok.ensures.cause.passed (g.O.Sink.taken c.write_all.new.out) (g.O.Sink.faults c.write_all.new.out)
+    (g.O.Sink.faults c.args.out.now) c.requires c.in-Ok.ensures.flow c.in-Ok.ensures.at c.in-Ok.ensures.cause.passed (g.O.Sink.taken c.write_all.new.out) (g.O.Sink.faults c.write_all.new.out)
     (c.in-Ok-write_all.ensures.whole ∙ ap (appended (g.O.Sink.taken c.args.out.now)) (c.as_bytes.ensures ∙ c.port_line.ensures)) c.in-Ok-write_all.ensures.cause.passed
 
 pub returns-in-Err-serve_next-clause-runs : goal.returns-in-Err-serve_next-clause-runs

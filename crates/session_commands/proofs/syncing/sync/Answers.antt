@@ -1,7 +1,5 @@
-use Rattle.std.proofs.Common.{[], ap, refl, subst, sym, ◌∙◌}
+use Rattle.std.proofs.Common.{[], refl, subst, sym, ◌∙◌}
 use Rattle.dr_disk.proofs.Steps.{quiet_twice}
-use Rattle.dr_ports.specs.Wires.{Port}
-use Rattle.dr_ports.specs.declared.pipe.Part.TheVariants.{Flow, Gate}
 use Rattle.endings.specs.declared.ending.Ending.{Ending}
 use Rattle.endings.specs.declared.ending.Ending.TheVariants.{LinkFault}
 use Rattle.client.specs.Syncing.Moments.{moment}
@@ -18,7 +16,7 @@ returns-in-Err-clause-runs g c = record {
   ending = c.unopened.result;
   lines = [];
   came =
-      subst (λ (e : Ending). RunsSync g.D.Disk.state g.L.Pipe.port g.K.Kem.mechanism c.args.disk.now c.open.new.disk c.args.link.now c.args.link.now
+      subst (λ (e : Ending). RunsSync g.D.Disk.state g.L.Pipe.port g.K.Kem.mechanism c.args.address.now c.args.disk.now c.open.new.disk c.args.link.now c.args.link.now
       (g.O.Sink.faults c.args.out.now) (g.O.Sink.faults c.finish.new.out) e []) (sym c.unopened.ensures)
       (wasnt_synced c.in-Err.refusal c.in-Err.ensures.unopened (record { any_moment = c.open.ensures.any_moment; reads = c.open.ensures.reads }) refl
       (λ w side lawful stands.
@@ -34,7 +32,7 @@ returns-in-Err-open-clause-runs g c = record {
       wasnt_linked c.in-Ok.client.kept c.in-Ok.ensures.opened.read
       (stood g.D.Disk.state g.K.Kem.mechanism c.args.disk.now c.open.new.disk c.open.new.disk (g.met.D.Disk.lawful c.open.new.disk) c.in-Ok.client
       c.in-Ok.ensures.opened refl c.open.ensures.any_moment)
-      c.in-Err-open.ensures.told c.in-Err-open.ensures.flow c.in-Err-open.ensures.cause.failed
+      c.in-Err-open.ensures.err c.in-Err-open.ensures.flow c.in-Err-open.ensures.cause.failed
       (λ w side lawful stands.
       only_opened g.K.Kem.mechanism side w (g.D.Disk.state c.args.disk.now) (g.D.Disk.state c.open.new.disk) stands c.open.ensures.any_moment c.open.ensures.reads);
   ends = c.finish-in-Err-open.ensures.ends;
@@ -53,11 +51,7 @@ returns-clause-runs g c =
     let ends : Ends (client_party g.K.Kem.mechanism [] c.in-Ok.client.kept) syncs.replies
     (moment c.in-Ok.client (g.D.Disk.state c.open.new.disk) (g.O.Sink.taken c.args.out.now) (g.O.Sink.faults c.args.out.now))
     (moment c.sync-synced.new.self (g.D.Disk.state c.sync-synced.new.disk) (g.O.Sink.taken c.sync-synced.new.out) (g.O.Sink.faults c.sync-synced.new.out))
-    (g.L.Pipe.port c.open-in-Ok.new.self) (g.L.Pipe.port c.shut.new.self) c.sync-synced.result =
-    subst (λ (end : Port). Ends (client_party g.K.Kem.mechanism [] c.in-Ok.client.kept) syncs.replies
-    (moment c.in-Ok.client (g.D.Disk.state c.open.new.disk) (g.O.Sink.taken c.args.out.now) (g.O.Sink.faults c.args.out.now))
-    (moment c.sync-synced.new.self (g.D.Disk.state c.sync-synced.new.disk) (g.O.Sink.taken c.sync-synced.new.out) (g.O.Sink.faults c.sync-synced.new.out))
-    (g.L.Pipe.port c.open-in-Ok.new.self) end c.sync-synced.result) (sym c.shut.ensures.told) syncs.syncs.ends in
+    (g.L.Pipe.port c.open-in-Ok.new.self) (g.L.Pipe.port c.sync-synced.new.link) c.sync-synced.result = syncs.syncs.ends in
     record {
       ending = ending_of_sync c.sync-synced.result;
       lines = sync_lines (client_party g.K.Kem.mechanism [] c.in-Ok.client.kept) c.in-Ok.client.kept syncs.replies c.sync-synced.result;
@@ -65,23 +59,31 @@ returns-clause-runs g c =
           was_synced c.in-Ok.client.kept syncs.replies c.sync-synced.result c.in-Ok.ensures.opened.read syncs.syncs.lawful
           (leaves_course (g.D.Disk.state c.args.disk.now) (g.D.Disk.state c.open.new.disk) (g.D.Disk.state c.sync-synced.new.disk) (g.met.D.Disk.lawful c.sync-synced.new.disk)
           (client_party g.K.Kem.mechanism [] c.in-Ok.client.kept) c.in-Ok.client.kept syncs.replies c.open.ensures.any_moment c.in-Ok.ensures.opened.alike syncs.syncs.passed)
-          (sync_ends (client_party g.K.Kem.mechanism [] c.in-Ok.client.kept) c.in-Ok.client.kept syncs.replies (g.L.Pipe.port c.args.link.now) (g.L.Pipe.port c.open-in-Ok.new.self) (g.L.Pipe.port c.shut.new.self) c.in-Ok-open.ensures.told c.in-Ok-open.ensures.flow
-          (g.D.Disk.state c.args.disk.now) (g.D.Disk.state c.open.new.disk) (g.D.Disk.state c.sync-synced.new.disk) c.in-Ok.client c.sync-synced.new.self
-          (g.O.Sink.taken c.args.out.now) (g.O.Sink.taken c.sync-synced.new.out) (g.O.Sink.faults c.args.out.now) (g.O.Sink.faults c.sync-synced.new.out)
-          (g.O.Sink.faults c.close.new.out) refl c.in-Ok.ensures.opened.quiet c.close.ensures.later c.sync-synced.result ends)
-          (ap (λ (port : Port). port.faults Gate) c.shut.ensures.told ∙ c.sync-synced.ensures.gate ∙ c.in-Ok-open.ensures.cause.passed)
+          (record {
+            opened = g.L.Pipe.port c.open-in-Ok.new.self;
+            last = g.L.Pipe.port c.sync-synced.new.link;
+            connects = c.in-Ok-open.ensures.to;
+            quiet = c.in-Ok-open.ensures.flow;
+            ends = c.shut.ensures.told;
+            counts = c.shut.ensures.flow;
+            talks = sync_ends (client_party g.K.Kem.mechanism [] c.in-Ok.client.kept) c.in-Ok.client.kept syncs.replies (g.L.Pipe.port c.open-in-Ok.new.self) (g.L.Pipe.port c.sync-synced.new.link)
+                (g.D.Disk.state c.args.disk.now) (g.D.Disk.state c.open.new.disk) (g.D.Disk.state c.sync-synced.new.disk) c.in-Ok.client c.sync-synced.new.self
+                (g.O.Sink.taken c.args.out.now) (g.O.Sink.taken c.sync-synced.new.out) (g.O.Sink.faults c.args.out.now) (g.O.Sink.faults c.sync-synced.new.out)
+                (g.O.Sink.faults c.close.new.out) refl c.in-Ok.ensures.opened.quiet c.close.ensures.later c.sync-synced.result ends;
+          })
+          (c.shut.ensures.gate ∙ c.sync-synced.ensures.gate ∙ c.in-Ok-open.ensures.cause.passed)
           (λ w side lawful stands fair. let opens = c.in-Ok.ensures.in_worlds w side lawful stands in
           sync_runs (g.D.Disk.state c.args.disk.now) (g.D.Disk.state c.open.new.disk) (g.D.Disk.state c.sync-synced.new.disk) (g.met.D.Disk.lawful c.sync-synced.new.disk)
           g.K.Kem.mechanism side w syncs.replies c.in-Ok.client c.sync-synced.new.self
           (g.O.Sink.taken c.args.out.now) (g.O.Sink.taken c.sync-synced.new.out) (g.O.Sink.faults c.args.out.now) (g.O.Sink.faults c.sync-synced.new.out)
-          (client_party g.K.Kem.mechanism [] c.in-Ok.client.kept) (g.L.Pipe.port c.open-in-Ok.new.self) (g.L.Pipe.port c.shut.new.self) c.sync-synced.result stands c.open.ensures.any_moment c.in-Ok.ensures.opened.alike ends
+          (client_party g.K.Kem.mechanism [] c.in-Ok.client.kept) (g.L.Pipe.port c.open-in-Ok.new.self) (g.L.Pipe.port c.sync-synced.new.link) c.sync-synced.result stands c.open.ensures.any_moment c.in-Ok.ensures.opened.alike ends
           (c.sync-synced.ensures.in_worlds w side syncs.replies opens.client.0 syncs.syncs fair));
       ends =
           c.close.ensures.ends (sync_lines (client_party g.K.Kem.mechanism [] c.in-Ok.client.kept) c.in-Ok.client.kept syncs.replies c.sync-synced.result) (g.O.Sink.taken c.args.out.now) (g.O.Sink.faults c.args.out.now)
           (has_written (client_party g.K.Kem.mechanism [] c.in-Ok.client.kept) syncs.replies
           (moment c.in-Ok.client (g.D.Disk.state c.open.new.disk) (g.O.Sink.taken c.args.out.now) (g.O.Sink.faults c.args.out.now))
           (moment c.sync-synced.new.self (g.D.Disk.state c.sync-synced.new.disk) (g.O.Sink.taken c.sync-synced.new.out) (g.O.Sink.faults c.sync-synced.new.out))
-          (g.L.Pipe.port c.open-in-Ok.new.self) (g.L.Pipe.port c.shut.new.self) c.sync-synced.result ends);
+          (g.L.Pipe.port c.open-in-Ok.new.self) (g.L.Pipe.port c.sync-synced.new.link) c.sync-synced.result ends);
     }
 
 pub returns-clause-quiet : goal.returns-clause-quiet
@@ -96,6 +98,6 @@ returns-clause-quiet g c = λ zero.
       quiet_twice (g.D.Disk.state c.args.disk.now) (g.D.Disk.state c.open.new.disk) (g.D.Disk.state c.sync-synced.new.disk) c.in-Ok.ensures.opened.quiet quiet.0,
       c.close.ensures.quiet zero ∙ quiet.1,
       each_part (g.L.Pipe.port c.args.link.now).faults (g.L.Pipe.port c.shut.new.self).faults
-          (ap (λ (port : Port). port.faults Flow) c.shut.ensures.told ∙ quiet.2 ∙ c.in-Ok-open.ensures.flow)
-          (ap (λ (port : Port). port.faults Gate) c.shut.ensures.told ∙ c.sync-synced.ensures.gate ∙ c.in-Ok-open.ensures.cause.passed),
+          (c.shut.ensures.flow ∙ quiet.2 ∙ c.in-Ok-open.ensures.flow)
+          (c.shut.ensures.gate ∙ c.sync-synced.ensures.gate ∙ c.in-Ok-open.ensures.cause.passed),
     )

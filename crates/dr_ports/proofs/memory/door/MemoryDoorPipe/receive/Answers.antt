@@ -7,7 +7,7 @@ use Rattle.dr_ports.proofs.memory.door.MemoryDoorPipe.receive.Goals as goal
 
 pub returns-clause-content : goal.returns-clause-content
 returns-clause-content c =
-    let old : Doorway = record { pipe = c.self.inside.pipe; ends = c.self.inside.ends.items; next = c.self.inside.next; plan = c.self.inside.plan } in
+    let old : Doorway = record { pipe = c.self.inside.pipe; ends = c.self.inside.ends.items; next = c.self.inside.next; plan = c.self.inside.plan; port = c.self.inside.port; stand = c.self.inside.stand } in
     subst (λ (d : Doorway). IfOk c.receive.result (λ (count : ℕ). Gave (take count c.receive.new.into) (door_port_of d) (door_port_of (record old { pipe = c.receive.new.self })))) c.self.view_is
     (IfOk-weaker c.receive.result (λ (count : ℕ). Gave (take count c.receive.new.into) (port_of c.self.inside.pipe) (port_of c.receive.new.self))
     (λ (count : ℕ). Gave (take count c.receive.new.into) (door_port_of old) (door_port_of (record old { pipe = c.receive.new.self })))

@@ -7,7 +7,7 @@ use Rattle.dr_ports.proofs.memory.door.MemoryDoorPipe.send.Goals as goal
 
 pub returns-clause-content : goal.returns-clause-content
 returns-clause-content c =
-    let old : Doorway = record { pipe = c.self.inside.pipe; ends = c.self.inside.ends.items; next = c.self.inside.next; plan = c.self.inside.plan } in
+    let old : Doorway = record { pipe = c.self.inside.pipe; ends = c.self.inside.ends.items; next = c.self.inside.next; plan = c.self.inside.plan; port = c.self.inside.port; stand = c.self.inside.stand } in
     subst (λ (d : Doorway). IfOk c.send.result (λ (count : ℕ). Took (take count c.args.bytes.now) (door_port_of d) (door_port_of (record old { pipe = c.send.new.self })))) c.self.view_is
     (IfOk-weaker c.send.result (λ (count : ℕ). Took (take count c.args.bytes.now) (port_of c.self.inside.pipe) (port_of c.send.new.self))
     (λ (count : ℕ). Took (take count c.args.bytes.now) (door_port_of old) (door_port_of (record old { pipe = c.send.new.self })))
