@@ -32,11 +32,13 @@ use Rattle.sync_model.specs.declared.more.More.{More}
 use Rattle.client.specs.Clients.{client_area}
 use Rattle.client.specs.InWorlds.{StandsFor}
 use Rattle.client.specs.Opening.{IsUnopened, Reads}
+use Rattle.client.specs.Syncing.Arrivals.{Opens}
 use Rattle.client.specs.Syncing.InWorlds.{AreUnforged, IsKeptIn, course_in}
 use Rattle.client.specs.Syncing.Parties.{client_party}
 use Rattle.client.specs.Syncing.Rounds.{fault_in}
 use Rattle.client.specs.Syncing.SoFar.{Talked}
 use Rattle.client.specs.Syncing.Syncs.{IsCutOff, IsUnheard}
+use Rattle.client.specs.Syncing.Transfers.{Transfers}
 use Rattle.client.specs.declared.refusals.OpenRefusal.{OpenRefusal}
 use Rattle.client.specs.declared.syncing.faults.SyncFault.{SyncFault}
 use Rattle.client.specs.declared.syncing.faults.SyncFault.TheVariants.{Closed as SyncClosed, Link as SyncLink, Peer as SyncPeer, Refused as SyncRefused, Store as SyncStore, Write as SyncWrite}
@@ -161,7 +163,8 @@ pub record HasTalkedTo (address : List ℕ) (link left : Port) (talk : Port → 
   pub counts : left.faults Flow ≡ last.faults Flow
 
 -- The client wasn't opened, and the link is left alone; or the link wasn't opened; or the client synced at the address, by
--- these replies. What is kept is what was read at entry. Each with what it is in a world that the disk reads at entry.
+-- these replies. Where they are those of a relay, what comes of it. What is kept is what was read at entry. Each with what it
+-- is in a world that the disk reads at entry.
 pub data RunsSync {X L : Type 0} (state : X → DiskState) (port : L → Port) (k : Mechanism) (address : List ℕ) (start now : X) (link left : L)
     (before after : ℕ) : Ending → List ℕ → Type 0 where
   wasnt_synced : (refusal : OpenRefusal) → IsUnopened state k start now refusal → LeavesLike (state start) (state now) → left ≡ link
@@ -173,7 +176,8 @@ pub data RunsSync {X L : Type 0} (state : X → DiskState) (port : L → Port) (
       → ((w : World) (side : Side) → IsLawfulWorld k w → Reads k w side (state start) → RunsOn k side w w (state start) (state now))
       → RunsSync state port k address start now link left before after LinkFault []
   was_synced : (kept : Client) (replies : List Replied) (result : Result More SyncFault) → IsKept k (state start) kept
-      → AllByRecursion IsLawfulReplied replies → LeavesCourse (client_party k [] kept) kept replies (state start) (state now)
+      → AllByRecursion IsLawfulReplied replies → Transfers (client_party k [] kept) kept replies → Opens k [] kept replies
+      → LeavesCourse (client_party k [] kept) kept replies (state start) (state now)
       → HasTalkedTo address (port link) (port left) (λ opened last.
       SyncEnds (client_party k [] kept) kept replies (state start) (state now) opened last before after result)
       → (port left).faults Gate ≡ (port link).faults Gate

@@ -57,6 +57,8 @@ returns-clause-runs g c =
       lines = sync_lines (client_party g.K.Kem.mechanism [] c.in-Ok.client.kept) c.in-Ok.client.kept syncs.replies c.sync-synced.result;
       came =
           was_synced c.in-Ok.client.kept syncs.replies c.sync-synced.result c.in-Ok.ensures.opened.read syncs.syncs.lawful
+          (c.sync-synced.ensures.transfer c.in-Ok.ensures.opened.is_open syncs.replies syncs.syncs)
+          (c.sync-synced.ensures.opens c.in-Ok.ensures.opened.is_open syncs.replies syncs.syncs)
           (leaves_course (g.D.Disk.state c.args.disk.now) (g.D.Disk.state c.open.new.disk) (g.D.Disk.state c.sync-synced.new.disk) (g.met.D.Disk.lawful c.sync-synced.new.disk)
           (client_party g.K.Kem.mechanism [] c.in-Ok.client.kept) c.in-Ok.client.kept syncs.replies c.open.ensures.any_moment c.in-Ok.ensures.opened.alike syncs.syncs.passed)
           (record {
