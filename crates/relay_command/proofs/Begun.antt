@@ -10,11 +10,11 @@ use Rattle.endings.specs.declared.ending.Ending.TheVariants.{Done, LinkFault}
 use Rattle.endings.proofs.Closing.{ends_cut}
 use Rattle.relay_core.specs.Record.{box_text}
 use Rattle.relay_server.specs.Durable.{IsReady, ServerNow}
-use Rattle.relay_command.specs.Connections.{HasRisen, Standing, listening, port_line}
+use Rattle.relay_command.specs.Connections.{Connection, HasRisen, Standing, listening, port_line}
 use Rattle.relay_command.specs.Serving.{Runs, WereServed, relay_lines, standing, was_unheard, went_on}
 use Rattle.relay_command.proofs.Rounds.{SoFar, never, nothing_came, rests_as}
 
-module _ (port count : ℕ) (server : ServerNow) (start : DiskState) (from door : Port) (old : Option (List ℕ)) (before : ℕ)
+module _ (turns : List Connection → Type 0) (none : turns []) (port count : ℕ) (server : ServerNow) (start : DiskState) (from door : Port) (old : Option (List ℕ)) (before : ℕ)
     (ready : IsReady box_text server start) (flow : door.faults Flow ≡ from.faults Flow) where
   abbrev first : Standing
   first = standing server.boxes from
@@ -23,18 +23,18 @@ module _ (port count : ℕ) (server : ServerNow) (start : DiskState) (from door 
   heard = listening port first
 
   begun : (s : Standing) → server.boxes ≡ s.boxes → door.told ≡ s.told → door.faults Flow ≡ s.faults
-      → WereServed never s [] start start door
-  begun s boxes told faults = rests_as s [] start start door server (nothing_came s start door told faults) tt boxes ready (λ call. refl)
+      → WereServed never turns s [] start start door
+  begun s boxes told faults = rests_as turns s [] start start door server (nothing_came turns s start door none told faults) tt boxes ready (λ call. refl)
 
   -- it couldn't listen
   pub unheard : door.told ≡ from.told → HasRisen (from.faults Gate) (door.faults Gate) → (new : Option (List ℕ)) (after code : ℕ)
-      → Ends LinkFault [] old new before after code → Runs first port count start start from door old new before after code
+      → Ends LinkFault [] old new before after code → Runs turns first port count start start from door old new before after code
   unheard told rose new after code ends =
       record { ending = LinkFault; lines = []; came = was_unheard (begun first refl told flow) rose; ends = ends }
 
   -- it listens
   pub unwritten : door.told ≡ heard.told → door.faults Gate ≡ from.faults Gate → (new : Option (List ℕ)) (after : ℕ)
-      → TookBeginning old new (port_line port) → Rose before after → Runs first port count start start from door old new before after 5
+      → TookBeginning old new (port_line port) → Rose before after → Runs turns first port count start start from door old new before after 5
   unwritten told gate new after took rose = record {
     ending = Done;
     lines = relay_lines port heard [];
@@ -44,11 +44,11 @@ module _ (port count : ℕ) (server : ServerNow) (start : DiskState) (from door 
 
   pub none_yet : door.told ≡ heard.told → door.faults Gate ≡ from.faults Gate → (out : Option (List ℕ)) (middle : ℕ)
       → out ≡ appended old (port_line port) → middle ≡ before
-      → SoFar heard port 0 server start start from door old out before middle
+      → SoFar turns heard port 0 server start start from door old out before middle
   none_yet told gate out middle wrote writes = record {
     xs = [];
     count = refl;
-    come = nothing_came heard start door told flow;
+    come = nothing_came turns heard start door none told flow;
     each = tt;
     boxes = refl;
     sized = refl;

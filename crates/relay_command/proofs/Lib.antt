@@ -1,5 +1,6 @@
 pub mod Begun
 pub mod Connections
+pub mod InTurn
 pub mod Lifting
 pub mod NamesLemmas
 pub mod Opened

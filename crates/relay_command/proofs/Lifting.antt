@@ -13,7 +13,7 @@ use Rattle.relay_command.specs.Connections.{Connection, Standing, listening}
 use Rattle.relay_command.specs.Serving.{HaveCome, Serves, WereServed, was_stopped, was_unaccepted, was_unheard, went_on}
 use Rattle.relay_command.proofs.Rounds.{never}
 
-module _ (words : List (List ℕ)) (s : Standing) (start mid now : DiskState) (from door : Port) (sized : length s.boxes ≡ length words) (span : Span start mid (IsOpening words start)) (quiet : IsQuiet start mid) where
+module _ (words : List (List ℕ)) (turns : List Connection → Type 0) (s : Standing) (start mid now : DiskState) (from door : Port) (sized : length s.boxes ≡ length words) (span : Span start mid (IsOpening words start)) (quiet : IsQuiet start mid) where
   -- what an opening leaves after the areas
   same_behind : (c : List ℕ) → IsOpening words start c → IsSameBehind (length s.boxes) start c
   same_behind c is = (is.entry, is.image, subst (λ (n : ℕ). Torn 0 (524288 * n) is.entry c) (sym sized) is.outside)
@@ -24,16 +24,17 @@ module _ (words : List (List ℕ)) (s : Standing) (start mid now : DiskState) (f
       (λ is. let first = same_behind frame.0 is in (first.0, first.1, torn_twice 0 (524288 * length s.boxes) first.0 frame.0 c first.2 frame.2))
       (span.last frame.0 frame.1)
 
-  lift_come : (xs : List Connection) → HaveCome never s xs mid now door → HaveCome (IsOpening words start) s xs start now door
+  lift_come : (xs : List Connection) → HaveCome never turns s xs mid now door → HaveCome (IsOpening words start) turns s xs start now door
   lift_come xs come = record {
     told = come.told;
     faults = come.faults;
+    in_turn = come.in_turn;
     during = spans start mid now _
         (widen start mid _ _ (λ c is. (inl is, same_behind c is)) span)
         (widen mid now _ _ (λ c is. (⊎_elim (λ none. absurd none) (λ was. inr was) is.0, since_then c is.1)) come.during);
   }
 
-  lift_served : (xs : List Connection) → WereServed never s xs mid now door → WereServed (IsOpening words start) s xs start now door
+  lift_served : (xs : List Connection) → WereServed never turns s xs mid now door → WereServed (IsOpening words start) turns s xs start now door
   lift_served xs were = record {
     come = lift_come xs were.come;
     each = were.each;
@@ -42,17 +43,17 @@ module _ (words : List (List ℕ)) (s : Standing) (start mid now : DiskState) (f
   }
 
 -- the connections come once the door listens
-module _ (words : List (List ℕ)) (s : Standing) (start mid now : DiskState) (from door : Port) (sized : length s.boxes ≡ length words)
+module _ (words : List (List ℕ)) (turns : List Connection → Type 0) (s : Standing) (start mid now : DiskState) (from door : Port) (sized : length s.boxes ≡ length words)
     (span : Span start mid (IsOpening words start)) (quiet : IsQuiet start mid) (port count code : ℕ) where
-  lift_heard : (xs : List Connection) → WereServed never (listening port s) xs mid now door
-      → WereServed (IsOpening words start) (listening port s) xs start now door
-  lift_heard = lift_served words (listening port s) start mid now from door sized span quiet
+  lift_heard : (xs : List Connection) → WereServed never turns (listening port s) xs mid now door
+      → WereServed (IsOpening words start) turns (listening port s) xs start now door
+  lift_heard = lift_served words turns (listening port s) start mid now from door sized span quiet
 
-  pub lift : (ending : Ending) (lines : List ℕ) → Serves never s port count mid now from door code ending lines
-      → Serves (IsOpening words start) s port count start now from door code ending lines
-  lift ending lines (was_unheard were rose) = was_unheard (lift_served words s start mid now from door sized span quiet [] were) rose
+  pub lift : (ending : Ending) (lines : List ℕ) → Serves never turns s port count mid now from door code ending lines
+      → Serves (IsOpening words start) turns s port count start now from door code ending lines
+  lift ending lines (was_unheard were rose) = was_unheard (lift_served words turns s start mid now from door sized span quiet [] were) rose
   lift ending lines (was_unaccepted xs were less rose) = was_unaccepted xs (lift_heard xs were) less rose
   lift ending lines (was_stopped xs x call come each stopped less rose gate) =
-      was_stopped xs x call (lift_come words (listening port s) start mid now from door sized span quiet (xs ++ x ∷ []) come) each stopped less
+      was_stopped xs x call (lift_come words turns (listening port s) start mid now from door sized span quiet (xs ++ x ∷ []) come) each stopped less
       (let counts = span.counts call in omega (arith, rose, counts)) gate
   lift ending lines (went_on xs were most full gate) = went_on xs (lift_heard xs were) most full gate

@@ -5,6 +5,10 @@ use Rattle.dr_ports.specs.Wires.{Port}
 use Rattle.endings.specs.Ends.{Ends}
 use Rattle.endings.specs.declared.ending.Ending.{Ending}
 use Rattle.relay_server.specs.Durable.{ServerNow}
+use Rattle.relay_core.specs.Record.{box_text}
+use Rattle.relay_server.proofs.FrameByFrame.{at_rest}
+use Rattle.relay_command.specs.Connections.{listening}
+use Rattle.relay_command.specs.InTurn.{CameInTurn}
 use Rattle.relay_command.specs.Names.{AreNames}
 use Rattle.relay_command.specs.Relaying.{Opens, Relays, RunsRelay, was_opened, was_unopened}
 use Rattle.relay_command.specs.Serving.{Runs, standing}
@@ -23,12 +27,12 @@ module _ {X Y : Type 0} (state : X → DiskState) (port_of : Y → Port) (words 
 
   -- one was, and its connections were served
   pub opened_runs : (server : ServerNow) (now : X) (door : Y) → Opens words (state start) (state mid) (Ok server)
-      → Runs (standing server.boxes (port_of from)) port count (state mid) (state now) (port_of from) (port_of door) old new before after code
+      → Runs (λ xs. CameInTurn state port_of (listening port (standing server.boxes (port_of from))) mid xs now) (standing server.boxes (port_of from)) port count (state mid) (state now) (port_of from) (port_of door) old new before after code
       → RunsRelay state port_of words port count start now from door old new before after code
   opened_runs server now door opens runs = record {
     ending = runs.ending;
     lines = runs.lines;
-    came = was_opened names server.boxes opens.0.boxes runs.ending runs.lines
-        (lift words (standing server.boxes (port_of from)) (state start) (state mid) (state now) (port_of from) (port_of door) opens.0.boxes.count opens.1 opens.0.quiet port count code runs.ending runs.lines runs.came);
+    came = was_opened names server.boxes opens.0.boxes mid opens.1 (at_rest box_text server.boxes server (state mid) refl opens.0.ready) runs.ending runs.lines
+        (lift words (λ xs. CameInTurn state port_of (listening port (standing server.boxes (port_of from))) mid xs now) (standing server.boxes (port_of from)) (state start) (state mid) (state now) (port_of from) (port_of door) opens.0.boxes.count opens.1 opens.0.quiet port count code runs.ending runs.lines runs.came);
     ends = runs.ends;
   }

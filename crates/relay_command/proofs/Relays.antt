@@ -24,20 +24,20 @@ open_code (StoreFault call) e = omega (arith, e)
 open_code (Damaged area slot at) e = omega (arith, e)
 open_code (BoxName k) e = omega (arith, e)
 
-serves_quiet : (earlier : List ℕ → Type 0) (s : Standing) (port count : ℕ) (start now : DiskState) (from door : Port) (code : ℕ) (ending : Ending) (lines : List ℕ)
-    → Serves earlier s port count start now from door code ending lines → code_of ending ≡ 0 → IsQuiet start now × (door.faults Gate ≡ from.faults Gate)
-serves_quiet earlier s port count start now from door code ending lines (was_unheard were rose) e = absurd (omega (arith, e))
-serves_quiet earlier s port count start now from door code ending lines (was_unaccepted xs were less rose) e = absurd (omega (arith, e))
-serves_quiet earlier s port count start now from door code ending lines (was_stopped xs x call come each stop less rose gate) e = absurd (omega (arith, e))
-serves_quiet earlier s port count start now from door code ending lines (went_on xs were most full gate) e = (were.quiet, gate)
+serves_quiet : (earlier : List ℕ → Type 0) (turns : List Connection → Type 0) (s : Standing) (port count : ℕ) (start now : DiskState) (from door : Port) (code : ℕ) (ending : Ending) (lines : List ℕ)
+    → Serves earlier turns s port count start now from door code ending lines → code_of ending ≡ 0 → IsQuiet start now × (door.faults Gate ≡ from.faults Gate)
+serves_quiet earlier turns s port count start now from door code ending lines (was_unheard were rose) e = absurd (omega (arith, e))
+serves_quiet earlier turns s port count start now from door code ending lines (was_unaccepted xs were less rose) e = absurd (omega (arith, e))
+serves_quiet earlier turns s port count start now from door code ending lines (was_stopped xs x call come each stop less rose gate) e = absurd (omega (arith, e))
+serves_quiet earlier turns s port count start now from door code ending lines (went_on xs were most full gate) e = (were.quiet, gate)
 
 relays_quiet : {X Y : Type 0} (state : X → DiskState) (port_of : Y → Port) (words : List (List ℕ)) (port count : ℕ) (start now : X) (from door : Y) (code : ℕ) (ending : Ending) (lines : List ℕ)
     → Relays state port_of words port count start now from door code ending lines → code_of ending ≡ 0
     → IsQuiet (state start) (state now) × ((port_of door).faults Gate ≡ (port_of from).faults Gate)
 relays_quiet state port_of words port count start now from door code ending lines (had_bad_box k bad same left) e = absurd (omega (arith, e))
 relays_quiet state port_of words port count start now from door code ending lines (was_unopened names error why span left) e = absurd (open_code error e)
-relays_quiet state port_of words port count start now from door code ending lines (was_opened names boxes read ending' lines' serves) e =
-    serves_quiet _ _ _ _ _ _ _ _ _ _ _ serves e
+relays_quiet state port_of words port count start now from door code ending lines (was_opened names boxes read opened span rests ending' lines' serves) e =
+    serves_quiet _ _ _ _ _ _ _ _ _ _ _ _ serves e
 
 ended_by : (ending : Ending) (lines : List ℕ) (old new : Option (List ℕ)) (before now code : ℕ) → code ≡ 0 → Ends ending lines old new before now code → (code_of ending ≡ 0) × (now ≡ before)
 ended_by ending lines old new before now code zero (inl all) = (sym all.code_is ∙ zero, all.quiet)
@@ -62,35 +62,35 @@ each_later : (s : Standing) (xs : List Connection) → AreServed s xs → s.faul
 each_later s [] each = omega arith
 each_later s (x ∷ xs) each = let first = sent_later s x x.went each.0 in let next = each_later (behind s x) xs each.1 in omega (arith, first, next)
 
-serves_later : (earlier : List ℕ → Type 0) (s : Standing) (port count : ℕ) (start now : DiskState) (from door : Port) (code : ℕ) (ending : Ending) (lines : List ℕ) → from.faults Flow ≡ s.faults
-    → Serves earlier s port count start now from door code ending lines → (part : Part) → from.faults part ≤ door.faults part
-serves_later earlier s port count start now from door code ending lines same (was_unheard were rose) Flow = omega (arith, same, were.come.faults)
-serves_later earlier s port count start now from door code ending lines same (was_unheard were rose) Gate = rose.0
-serves_later earlier s port count start now from door code ending lines same (was_unaccepted xs were less rose) Flow = omega (arith, same, were.come.faults, each_later (listening port s) xs were.each)
-serves_later earlier s port count start now from door code ending lines same (was_unaccepted xs were less rose) Gate = rose.0
-serves_later earlier s port count start now from door code ending lines same (was_stopped xs x call come each stop less rose gate) Flow =
+serves_later : (earlier : List ℕ → Type 0) (turns : List Connection → Type 0) (s : Standing) (port count : ℕ) (start now : DiskState) (from door : Port) (code : ℕ) (ending : Ending) (lines : List ℕ) → from.faults Flow ≡ s.faults
+    → Serves earlier turns s port count start now from door code ending lines → (part : Part) → from.faults part ≤ door.faults part
+serves_later earlier turns s port count start now from door code ending lines same (was_unheard were rose) Flow = omega (arith, same, were.come.faults)
+serves_later earlier turns s port count start now from door code ending lines same (was_unheard were rose) Gate = rose.0
+serves_later earlier turns s port count start now from door code ending lines same (was_unaccepted xs were less rose) Flow = omega (arith, same, were.come.faults, each_later (listening port s) xs were.each)
+serves_later earlier turns s port count start now from door code ending lines same (was_unaccepted xs were less rose) Gate = rose.0
+serves_later earlier turns s port count start now from door code ending lines same (was_stopped xs x call come each stop less rose gate) Flow =
     omega (arith, same, come.faults, ap (λ (t : Standing). t.faults) (behind_more (listening port s) xs x), each_later (listening port s) xs each, stop.later)
-serves_later earlier s port count start now from door code ending lines same (was_stopped xs x call come each stop less rose gate) Gate = omega (arith, gate)
-serves_later earlier s port count start now from door code ending lines same (went_on xs were most full gate) Flow = omega (arith, same, were.come.faults, each_later (listening port s) xs were.each)
-serves_later earlier s port count start now from door code ending lines same (went_on xs were most full gate) Gate = omega (arith, gate)
+serves_later earlier turns s port count start now from door code ending lines same (was_stopped xs x call come each stop less rose gate) Gate = omega (arith, gate)
+serves_later earlier turns s port count start now from door code ending lines same (went_on xs were most full gate) Flow = omega (arith, same, were.come.faults, each_later (listening port s) xs were.each)
+serves_later earlier turns s port count start now from door code ending lines same (went_on xs were most full gate) Gate = omega (arith, gate)
 
 pub door_later : {X Y : Type 0} (state : X → DiskState) (port_of : Y → Port) (words : List (List ℕ)) (port count : ℕ) (start now : X) (from door : Y) (code : ℕ) (ending : Ending) (lines : List ℕ)
     → Relays state port_of words port count start now from door code ending lines → (part : Part) → (port_of from).faults part ≤ (port_of door).faults part
 door_later state port_of words port count start now from door code ending lines (had_bad_box k bad same left) part = omega (arith, ap (λ y. (port_of y).faults part) left)
 door_later state port_of words port count start now from door code ending lines (was_unopened names error why span left) part = omega (arith, ap (λ y. (port_of y).faults part) left)
-door_later state port_of words port count start now from door code ending lines (was_opened names boxes read ending' lines' serves) part =
-    serves_later _ _ _ _ _ _ _ _ _ _ _ refl serves part
+door_later state port_of words port count start now from door code ending lines (was_opened names boxes read opened span rests ending' lines' serves) part =
+    serves_later _ _ _ _ _ _ _ _ _ _ _ _ refl serves part
 
-serves_counts : (earlier : List ℕ → Type 0) (s : Standing) (port count : ℕ) (start now : DiskState) (from door : Port) (code : ℕ) (ending : Ending) (lines : List ℕ)
-    → Serves earlier s port count start now from door code ending lines → (call : Call) → start.faults call ≤ now.faults call
-serves_counts earlier s port count start now from door code ending lines (was_unheard were rose) call = were.come.during.counts call
-serves_counts earlier s port count start now from door code ending lines (was_unaccepted xs were less rose) call = were.come.during.counts call
-serves_counts earlier s port count start now from door code ending lines (was_stopped xs x c come each stop less rose gate) call = come.during.counts call
-serves_counts earlier s port count start now from door code ending lines (went_on xs were most full gate) call = were.come.during.counts call
+serves_counts : (earlier : List ℕ → Type 0) (turns : List Connection → Type 0) (s : Standing) (port count : ℕ) (start now : DiskState) (from door : Port) (code : ℕ) (ending : Ending) (lines : List ℕ)
+    → Serves earlier turns s port count start now from door code ending lines → (call : Call) → start.faults call ≤ now.faults call
+serves_counts earlier turns s port count start now from door code ending lines (was_unheard were rose) call = were.come.during.counts call
+serves_counts earlier turns s port count start now from door code ending lines (was_unaccepted xs were less rose) call = were.come.during.counts call
+serves_counts earlier turns s port count start now from door code ending lines (was_stopped xs x c come each stop less rose gate) call = come.during.counts call
+serves_counts earlier turns s port count start now from door code ending lines (went_on xs were most full gate) call = were.come.during.counts call
 
 pub disk_later : {X Y : Type 0} (state : X → DiskState) (port_of : Y → Port) (words : List (List ℕ)) (port count : ℕ) (start now : X) (from door : Y) (code : ℕ) (ending : Ending) (lines : List ℕ)
     → Relays state port_of words port count start now from door code ending lines → (call : Call) → (state start).faults call ≤ (state now).faults call
 disk_later state port_of words port count start now from door code ending lines (had_bad_box k bad same left) call = omega (arith, ap (λ x. (state x).faults call) same)
 disk_later state port_of words port count start now from door code ending lines (was_unopened names error why span left) call = span.counts call
-disk_later state port_of words port count start now from door code ending lines (was_opened names boxes read ending' lines' serves) call =
-    serves_counts _ _ _ _ _ _ _ _ _ _ _ serves call
+disk_later state port_of words port count start now from door code ending lines (was_opened names boxes read opened span rests ending' lines' serves) call =
+    serves_counts _ _ _ _ _ _ _ _ _ _ _ _ serves call

@@ -30,10 +30,10 @@ abbrev pub never : List ℕ → Type 0
 never c = ⊥
 
 -- n connections were served, and their lines written
-pub record SoFar (s : Standing) (port n : ℕ) (server : ServerNow) (start now : DiskState) (from door : Port) (old new : Option (List ℕ)) (before after : ℕ) : Type 0 where
+pub record SoFar (turns : List Connection → Type 0) (s : Standing) (port n : ℕ) (server : ServerNow) (start now : DiskState) (from door : Port) (old new : Option (List ℕ)) (before after : ℕ) : Type 0 where
   pub xs : List Connection
   pub count : length xs ≡ n
-  pub come : HaveCome never s xs start now door
+  pub come : HaveCome never turns s xs start now door
   pub each : AreServed s xs
   pub boxes : server.boxes ≡ (behind_all s xs).boxes
   pub sized : length server.boxes ≡ length s.boxes
@@ -44,28 +44,29 @@ pub record SoFar (s : Standing) (port n : ℕ) (server : ServerNow) (start now :
   pub writes : after ≡ before
 
 -- no call was made on the disk
-pub nothing_came : (s : Standing) (start : DiskState) (door : Port) → door.told ≡ s.told → door.faults Flow ≡ s.faults → HaveCome never s [] start start door
-nothing_came s start door told faults = record { told = told; faults = faults; during = stays start _ }
+pub nothing_came : (turns : List Connection → Type 0) (s : Standing) (start : DiskState) (door : Port) → turns [] → door.told ≡ s.told → door.faults Flow ≡ s.faults → HaveCome never turns s [] start start door
+nothing_came turns s start door none told faults = record { told = told; faults = faults; in_turn = none; during = stays start _ }
 
-pub still_came : (s : Standing) (xs : List Connection) (start mid now : DiskState) (door later : Port) → HaveCome never s xs start mid door → later.told ≡ door.told → later.faults Flow ≡ door.faults Flow
-    → Span mid now (λ c. ⊥) → HaveCome never s xs start now later
-still_came s xs start mid now door later come told faults still = record {
+pub still_came : (turns later_turns : List Connection → Type 0) (s : Standing) (xs : List Connection) (start mid now : DiskState) (door later : Port) → HaveCome never turns s xs start mid door → later_turns xs → later.told ≡ door.told → later.faults Flow ≡ door.faults Flow
+    → Span mid now (λ c. ⊥) → HaveCome never later_turns s xs start now later
+still_came turns later_turns s xs start mid now door later come in_turn told faults still = record {
   told = told ∙ come.told;
   faults = faults ∙ come.faults;
+  in_turn = in_turn;
   during = spans start mid now _ come.during (widen mid now _ _ (λ c none. absurd none) still);
 }
 
-pub rests_as : (s : Standing) (xs : List Connection) (start now : DiskState) (door : Port) (server : ServerNow) → HaveCome never s xs start now door → AreServed s xs → server.boxes ≡ (behind_all s xs).boxes → IsReady box_text server now
-    → IsQuiet start now → WereServed never s xs start now door
-rests_as s xs start now door server come each boxes ready quiet = record {
+pub rests_as : (turns : List Connection → Type 0) (s : Standing) (xs : List Connection) (start now : DiskState) (door : Port) (server : ServerNow) → HaveCome never turns s xs start now door → AreServed s xs → server.boxes ≡ (behind_all s xs).boxes → IsReady box_text server now
+    → IsQuiet start now → WereServed never turns s xs start now door
+rests_as turns s xs start now door server come each boxes ready quiet = record {
   come = come;
   each = each;
   rests = record { stores = server.stores; ready = subst (λ (bs : List Box). IsReady box_text (record { boxes = bs; stores = server.stores }) now) boxes ready };
   quiet = quiet;
 }
 
-module _ (first : Standing) (port n : ℕ) (server : ServerNow) (start mid : DiskState) (from door : Port) (old out : Option (List ℕ)) (before middle : ℕ)
-    (so : SoFar (listening port first) port n server start mid from door old out before middle) where
+module _ (turns : List Connection → Type 0) (first : Standing) (port n : ℕ) (server : ServerNow) (start mid : DiskState) (from door : Port) (old out : Option (List ℕ)) (before middle : ℕ)
+    (so : SoFar turns (listening port first) port n server start mid from door old out before middle) where
   abbrev s : Standing
   s = listening port first
 
@@ -76,15 +77,16 @@ module _ (first : Standing) (port n : ℕ) (server : ServerNow) (start mid : Dis
       ∙ ap (λ (t : Option Told). record { boxes = (behind_all s so.xs).boxes; told = t; faults = door.faults Flow }) so.come.told
       ∙ ap (λ (n : ℕ). record { boxes = (behind_all s so.xs).boxes; told = (behind_all s so.xs).told; faults = n }) so.come.faults
 
-  module _ (new : ServerNow) (now : DiskState) (later : Port) (x : Connection) (turn : IsTurn server new mid now door later x) where
+  module _ (order : Connection → Type 0) (new : ServerNow) (now : DiskState) (later : Port) (x : Connection) (turn : IsTurn order server new mid now door later x) where
     -- bytes of a moment of this connection
     outside : (c : List ℕ) → IsSameBehind (length server.boxes) mid c → IsSameBehind (length s.boxes) start c
     outside c frame =
         let sized = subst (λ (n : ℕ). Torn 0 (524288 * n) frame.0 c) so.sized frame.2 in
         ⊎_elim (λ was. (frame.0, was, sized)) (λ left. (left.1.0, left.1.1, torn_twice 0 (524288 * length s.boxes) left.1.0 frame.0 c left.1.2 sized)) (so.come.during.last frame.0 frame.1)
 
-    come_more : HaveCome never s (so.xs ++ x ∷ []) start now later
-    come_more = record {
+    come_more : (next : List Connection → Type 0) → next (so.xs ++ x ∷ []) → HaveCome never next s (so.xs ++ x ∷ []) start now later
+    come_more next in_turn = record {
+      in_turn = in_turn;
       told = turn.told ∙ ap (λ (t : Standing). (behind t x).told) here ∙ ap (λ (t : Standing). t.told) (sym (behind_more s so.xs x));
       faults = turn.faults ∙ ap (λ (t : Standing). t.faults) (sym (behind_more s so.xs x));
       during = spans start mid now _
@@ -98,7 +100,11 @@ module _ (first : Standing) (port n : ℕ) (server : ServerNow) (start mid : Dis
     count_more : length (so.xs ++ x ∷ []) ≡ n + 1
     count_more = omega (arith, length-append {A = Connection} so.xs (x ∷ []), so.count)
 
-  module _ (new : ServerNow) (now : DiskState) (later : Port) (connected : Connected) (t : IsServedTurn server new mid now door later connected) where
+  module _ (order : Connection → Type 0) (next : List Connection → Type 0) (one : (x : Connection) → turns so.xs → order x → next (so.xs ++ x ∷ [])) (new : ServerNow) (now : DiskState) (later : Port) (connected : Connected)
+      (t : IsServedTurn order server new mid now door later connected) where
+    came_then : HaveCome never next s (so.xs ++ t.x ∷ []) start now later
+    came_then = come_more order new now later t.x t.turn next (one t.x so.come.in_turn t.turn.in_order)
+
     each_more : AreServed s (so.xs ++ t.x ∷ [])
     each_more = served_more s so.xs t.x so.each (subst (λ (st : Standing). Sent st t.x t.x.went) here t.sent)
 
@@ -111,13 +117,13 @@ module _ (first : Standing) (port n : ℕ) (server : ServerNow) (start mid : Dis
         ∙ ap (λ (l : List ℕ). port_line port ++ l) (sym (lines_more 0 s so.xs t.x))
 
     -- its line was written
-    pub one_more : (new_out : Option (List ℕ)) (after : ℕ) → new_out ≡ appended out (line_of (n + 1) connected) → after ≡ middle → SoFar s port (n + 1) new start now from later old new_out before after
+    pub one_more : (new_out : Option (List ℕ)) (after : ℕ) → new_out ≡ appended out (line_of (n + 1) connected) → after ≡ middle → SoFar next s port (n + 1) new start now from later old new_out before after
     one_more new_out after wrote writes = record {
       xs = so.xs ++ t.x ∷ [];
-      count = count_more new now later t.x t.turn;
-      come = come_more new now later t.x t.turn;
+      count = count_more order new now later t.x t.turn;
+      come = came_then;
       each = each_more;
-      boxes = boxes_more new now later t.x t.turn;
+      boxes = boxes_more order new now later t.x t.turn;
       sized = t.turn.count ∙ so.sized;
       ready = t.ready;
       quiet = quiet_twice start mid now so.quiet t.quiet;
@@ -129,42 +135,43 @@ module _ (first : Standing) (port n : ℕ) (server : ServerNow) (start mid : Dis
 
     -- or it couldn't be
     pub cut_then : (count : ℕ) → n < count → (new_out : Option (List ℕ)) (after : ℕ) → TookBeginning out new_out (line_of (n + 1) connected) → Rose middle after
-        → Runs first port count start now from later old new_out before after 5
+        → Runs next first port count start now from later old new_out before after 5
     cut_then count less new_out after took rose = record {
       ending = Done;
       lines = relay_lines port s (so.xs ++ t.x ∷ []);
       came = went_on (so.xs ++ t.x ∷ [])
-          (rests_as s (so.xs ++ t.x ∷ []) start now later new (come_more new now later t.x t.turn) each_more (boxes_more new now later t.x t.turn) t.ready (quiet_twice start mid now so.quiet t.quiet))
-          (omega (arith, less, count_more new now later t.x t.turn)) (λ zero. absurd (omega arith)) (t.turn.gate ∙ so.gate);
+          (rests_as next s (so.xs ++ t.x ∷ []) start now later new came_then each_more (boxes_more order new now later t.x t.turn) t.ready (quiet_twice start mid now so.quiet t.quiet))
+          (omega (arith, less, count_more order new now later t.x t.turn)) (λ zero. absurd (omega arith)) (t.turn.gate ∙ so.gate);
       ends = ends_cut (relay_lines port s (so.xs ++ t.x ∷ [])) old new_out before after
           (subst (λ (l : List ℕ). TookBeginning old new_out l) lines_then (took_of_second old out new_out (relay_lines port s so.xs) (line_of (n + 1) connected) so.wrote took))
           (omega (arith, rose, so.writes));
     }
 
   -- no connection more is served
-  pub faulty : (count : ℕ) → n < count → (new : ServerNow) (now : DiskState) (later : Port) (fault : Fault) → Turns server new mid now door later (Err fault) → (code : ℕ) (new_out : Option (List ℕ)) (after : ℕ)
-      → Ends (ending_of_fault fault) [] out new_out middle after code → Runs first port count start now from later old new_out before after code
-  faulty count less new now later Accept none code new_out after ends = record {
+  pub faulty : (order : Connection → Type 0) (next : List Connection → Type 0) → ((x : Connection) → turns so.xs → order x → next (so.xs ++ x ∷ [])) → (new : ServerNow) (now : DiskState) (later : Port) → (turns so.xs → Span mid now (λ c. ⊥) → next so.xs)
+      → (count : ℕ) → n < count → (fault : Fault) → Turns order server new mid now door later (Err fault) → (code : ℕ) (new_out : Option (List ℕ)) (after : ℕ)
+      → Ends (ending_of_fault fault) [] out new_out middle after code → Runs next first port count start now from later old new_out before after code
+  faulty order next one new now later alone count less Accept none code new_out after ends = record {
     ending = LinkFault;
     lines = relay_lines port s so.xs;
     came = was_unaccepted so.xs
-        (rests_as s so.xs start now later new (still_came s so.xs start mid now door later so.come none.told none.faults none.still) so.each (none.next ∙ so.boxes) none.ready (quiet_twice start mid now so.quiet none.quiet))
+        (rests_as next s so.xs start now later new (still_came turns next s so.xs start mid now door later so.come (alone so.come.in_turn none.still) none.told none.faults none.still) so.each (none.next ∙ so.boxes) none.ready (quiet_twice start mid now so.quiet none.quiet))
         (omega (arith, less, so.count)) (subst (λ (n : ℕ). HasRisen n (later.faults Gate)) so.gate none.rose);
     ends = ends_behind LinkFault (relay_lines port s so.xs) old out new_out before middle after code so.wrote so.writes ends;
   }
-  faulty count less new now later Store t code new_out after ends = record {
+  faulty order next one new now later alone count less Store t code new_out after ends = record {
     ending = DiskFault;
     lines = relay_lines port s so.xs;
-    came = was_stopped so.xs t.x t.call (come_more new now later t.x t.turn) so.each (subst (λ (st : Standing). IsStopped st t.x now) here t.stopped)
+    came = was_stopped so.xs t.x t.call (come_more order new now later t.x t.turn next (one t.x so.come.in_turn t.turn.in_order)) so.each (subst (λ (st : Standing). IsStopped st t.x now) here t.stopped)
         (omega (arith, less, so.count)) (let counts = so.come.during.counts t.call in omega (arith, t.rose, counts)) (t.turn.gate ∙ so.gate);
     ends = ends_behind DiskFault (relay_lines port s so.xs) old out new_out before middle after code so.wrote so.writes ends;
   }
 
   -- all were served
-  pub all_served : (count : ℕ) → n ≡ count → (code : ℕ) (new_out : Option (List ℕ)) (after : ℕ) → Ends Done [] out new_out middle after code → Runs first port count start mid from door old new_out before after code
+  pub all_served : (count : ℕ) → n ≡ count → (code : ℕ) (new_out : Option (List ℕ)) (after : ℕ) → Ends Done [] out new_out middle after code → Runs turns first port count start mid from door old new_out before after code
   all_served count full code new_out after ends = record {
     ending = Done;
     lines = relay_lines port s so.xs;
-    came = went_on so.xs (rests_as s so.xs start mid door server so.come so.each so.boxes so.ready so.quiet) (omega (arith, full, so.count)) (λ zero. so.count ∙ full) so.gate;
+    came = went_on so.xs (rests_as turns s so.xs start mid door server so.come so.each so.boxes so.ready so.quiet) (omega (arith, full, so.count)) (λ zero. so.count ∙ full) so.gate;
     ends = ends_behind Done (relay_lines port s so.xs) old out new_out before middle after code so.wrote so.writes ends;
   }

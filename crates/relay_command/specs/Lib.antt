@@ -1,5 +1,6 @@
 pub mod Names
 pub mod Connections
+pub mod InTurn
 pub mod Serving
 pub mod Turns
 pub mod Relaying

@@ -11,6 +11,10 @@ use Rattle.relay_server.specs.Durable.{ServerNow}
 use Rattle.relay_server.specs.Opening.{AreRead, IsOpened, IsOpening, IsUnopened}
 use Rattle.relay_server.specs.declared.errors.ServerOpenError.{ServerOpenError}
 use Rattle.relay_server.specs.declared.errors.ServerOpenError.TheVariants.{BoxName, Damaged, Memory, StoreFault}
+use Rattle.relay_core.specs.Record.{box_text}
+use Rattle.relay_server.specs.FrameByFrame.{IsAtRest}
+use Rattle.relay_command.specs.Connections.{listening}
+use Rattle.relay_command.specs.InTurn.{CameInTurn}
 use Rattle.relay_command.specs.Names.{AreNames, IsFirstBad}
 use Rattle.relay_command.specs.Serving.{Serves, standing}
 
@@ -37,9 +41,12 @@ pub data Relays {X Y : Type 0} (state : X → DiskState) (port_of : Y → Port) 
   was_unopened : AreNames words → (error : ServerOpenError) → IsUnopened words (state start) (state now) error
       → Span (state start) (state now) (IsOpening words (state start)) → door ≡ from
       → Relays state port_of words port count start now from door code (ending_of_open error) []
-  -- the boxes that were read are served
-  was_opened : AreNames words → (boxes : List Box) → AreRead words boxes (state start) → (ending : Ending) (lines : List ℕ)
-      → Serves (IsOpening words (state start)) (standing boxes (port_of from)) port count (state start) (state now) (port_of from) (port_of door) code ending lines
+  -- the boxes that were read are served, from the disk on that the opening left
+  was_opened : AreNames words → (boxes : List Box) → AreRead words boxes (state start) → (opened : X)
+      → Span (state start) (state opened) (IsOpening words (state start)) → IsAtRest box_text boxes (state opened)
+      → (ending : Ending) (lines : List ℕ)
+      → Serves (IsOpening words (state start)) (λ xs. CameInTurn state port_of (listening port (standing boxes (port_of from))) opened xs now)
+      (standing boxes (port_of from)) port count (state start) (state now) (port_of from) (port_of door) code ending lines
       → Relays state port_of words port count start now from door code ending lines
 
 -- and what was written of them

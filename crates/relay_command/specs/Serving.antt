@@ -12,32 +12,30 @@ use Rattle.endings.specs.declared.ending.Ending.TheVariants.{DiskFault, Done, Li
 use Rattle.relay_core.specs.Boxes.{Box}
 use Rattle.relay_core.specs.Record.{box_text}
 use Rattle.relay_core.specs.Streams.{Exchange, reply_bytes, reply_frame, served}
-use Rattle.relay_server.specs.Durable.{IsReady, IsSameBehind}
+use Rattle.relay_server.specs.Durable.{IsSameBehind}
+use Rattle.relay_server.specs.FrameByFrame.{IsAtRest}
 use Rattle.relay_server.specs.Serving.{LastOrBefore}
-use Rattle.slot_store.specs.declared.store.SlotStore.{SlotStore}
 use Rattle.relay_command.specs.Connections.{AreServed, Connection, HasRisen, IsBegun, Standing, WereReached, behind_all, lines_behind, listening, port_line}
 
 -- what stands at entry
 abbrev pub standing : List Box → Port → Standing
 standing boxes door = record { boxes = boxes; told = door.told; faults = door.faults Flow }
 
--- each image is at rest for the boxes
-pub record IsAtRest (boxes : List Box) (disk : DiskState) : Type 0 where
-  pub stores : List SlotStore
-  pub ready : IsReady box_text (record { boxes = boxes; stores = stores }) disk
-
--- These connections came. Meanwhile each image was an earlier one of these, or stood for the boxes after a beginning of the
+-- These connections came, in turn. Meanwhile each image was an earlier one of these, or stood for the boxes after a beginning of the
 -- frames of one of them, and what lies after the boxes' areas is that of an image at the start.
-pub record HaveCome (earlier : List ℕ → Type 0) (s : Standing) (xs : List Connection) (start now : DiskState) (door : Port) : Type 0 where
+pub record HaveCome (earlier : List ℕ → Type 0) (turns : List Connection → Type 0) (s : Standing) (xs : List Connection)
+    (start now : DiskState) (door : Port) : Type 0 where
   pub told : door.told ≡ (behind_all s xs).told
   pub faults : door.faults Flow ≡ (behind_all s xs).faults
+  pub in_turn : turns xs
   pub during : Span start now (λ c. (earlier c ⊎ WereReached s xs c) × IsSameBehind (length s.boxes) start c)
 
 -- and they were served, and then all is at rest
-pub record WereServed (earlier : List ℕ → Type 0) (s : Standing) (xs : List Connection) (start now : DiskState) (door : Port) : Type 0 where
-  pub come : HaveCome earlier s xs start now door
+pub record WereServed (earlier : List ℕ → Type 0) (turns : List Connection → Type 0) (s : Standing) (xs : List Connection)
+    (start now : DiskState) (door : Port) : Type 0 where
+  pub come : HaveCome earlier turns s xs start now door
   pub each : AreServed s xs
-  pub rests : IsAtRest (behind_all s xs).boxes now
+  pub rests : IsAtRest box_text (behind_all s xs).boxes now
   pub quiet : IsQuiet start now
 
 -- A call on the disk failed in a connection: less was sent than the replies to what came, by the last one, and each image
@@ -54,29 +52,31 @@ relay_lines port s xs = port_line port ++ lines_behind 0 s xs
 
 -- How it ends, with its lines. All connections come while the door listens at the port. Where the lines were cut there may be
 -- fewer.
-pub data Serves (earlier : List ℕ → Type 0) (s : Standing) (port count : ℕ) (start now : DiskState) (from door : Port) (code : ℕ)
+pub data Serves (earlier : List ℕ → Type 0) (turns : List Connection → Type 0) (s : Standing) (port count : ℕ)
+    (start now : DiskState) (from door : Port) (code : ℕ)
     : Ending → List ℕ → Type 0 where
   -- it couldn't listen there
-  was_unheard : WereServed earlier s [] start now door → HasRisen (from.faults Gate) (door.faults Gate)
-      → Serves earlier s port count start now from door code LinkFault []
+  was_unheard : WereServed earlier turns s [] start now door → HasRisen (from.faults Gate) (door.faults Gate)
+      → Serves earlier turns s port count start now from door code LinkFault []
   -- the next connection couldn't be accepted
-  was_unaccepted : (xs : List Connection) → WereServed earlier (listening port s) xs start now door → length xs < count
+  was_unaccepted : (xs : List Connection) → WereServed earlier turns (listening port s) xs start now door → length xs < count
       → HasRisen (from.faults Gate) (door.faults Gate)
-      → Serves earlier s port count start now from door code LinkFault (relay_lines port (listening port s) xs)
+      → Serves earlier turns s port count start now from door code LinkFault (relay_lines port (listening port s) xs)
   -- a call on the disk failed while the next connection was served
   was_stopped : (xs : List Connection) (x : Connection) (call : Call)
-      → HaveCome earlier (listening port s) (xs ++ x ∷ []) start now door → AreServed (listening port s) xs
+      → HaveCome earlier turns (listening port s) (xs ++ x ∷ []) start now door → AreServed (listening port s) xs
       → IsStopped (behind_all (listening port s) xs) x now → length xs < count → Rose (start.faults call) (now.faults call)
       → door.faults Gate ≡ from.faults Gate
-      → Serves earlier s port count start now from door code DiskFault (relay_lines port (listening port s) xs)
+      → Serves earlier turns s port count start now from door code DiskFault (relay_lines port (listening port s) xs)
   -- all were served, with status 0
-  went_on : (xs : List Connection) → WereServed earlier (listening port s) xs start now door → length xs ≤ count → (code ≡ 0 → length xs ≡ count)
+  went_on : (xs : List Connection) → WereServed earlier turns (listening port s) xs start now door → length xs ≤ count → (code ≡ 0 → length xs ≡ count)
       → door.faults Gate ≡ from.faults Gate
-      → Serves earlier s port count start now from door code Done (relay_lines port (listening port s) xs)
+      → Serves earlier turns s port count start now from door code Done (relay_lines port (listening port s) xs)
 
 -- and what was written of them
-pub record Runs (s : Standing) (port count : ℕ) (start now : DiskState) (from door : Port) (old new : Option (List ℕ)) (before after code : ℕ) : Type 0 where
+pub record Runs (turns : List Connection → Type 0) (s : Standing) (port count : ℕ) (start now : DiskState) (from door : Port)
+    (old new : Option (List ℕ)) (before after code : ℕ) : Type 0 where
   pub ending : Ending
   pub lines : List ℕ
-  pub came : Serves (λ c. ⊥) s port count start now from door code ending lines
+  pub came : Serves (λ c. ⊥) turns s port count start now from door code ending lines
   pub ends : Ends ending lines old new before after code

@@ -31,28 +31,29 @@ abbrev pub line_of : ℕ → Connected → List ℕ
 line_of i (Ended replies) = connection_line i replies ended
 line_of i Failed = connection_line i 0 failed
 
--- A connection came.
-pub record IsTurn (old new : ServerNow) (start now : DiskState) (from door : Port) (x : Connection) : Type 0 where
+-- A connection came, in the order that is said of it.
+pub record IsTurn (order : Connection → Type 0) (old new : ServerNow) (start now : DiskState) (from door : Port) (x : Connection) : Type 0 where
   pub told : door.told ≡ (behind (standing old.boxes from) x).told
   pub faults : door.faults Flow ≡ x.faults
   pub gate : door.faults Gate ≡ from.faults Gate
   pub next : new.boxes ≡ (served old.boxes x.got).next
   pub count : length new.boxes ≡ length old.boxes
+  pub in_order : order x
   pub during : Span start now (λ c. Reached box_text old.boxes x.got c × IsSameBehind (length old.boxes) start c)
 
 -- and it was served
-pub record IsServedTurn (old new : ServerNow) (start now : DiskState) (from door : Port) (connected : Connected) : Type 0 where
+pub record IsServedTurn (order : Connection → Type 0) (old new : ServerNow) (start now : DiskState) (from door : Port) (connected : Connected) : Type 0 where
   pub x : Connection
-  pub turn : IsTurn old new start now from door x
+  pub turn : IsTurn order old new start now from door x
   pub sent : Sent (standing old.boxes from) x x.went
   pub how : IsConnected (standing old.boxes from) x connected
   pub ready : IsReady box_text new now
   pub quiet : IsQuiet start now
 
 -- a call on the disk failed meanwhile
-pub record IsStoppedTurn (old new : ServerNow) (start now : DiskState) (from door : Port) : Type 0 where
+pub record IsStoppedTurn (order : Connection → Type 0) (old new : ServerNow) (start now : DiskState) (from door : Port) : Type 0 where
   pub x : Connection
-  pub turn : IsTurn old new start now from door x
+  pub turn : IsTurn order old new start now from door x
   pub stopped : IsStopped (standing old.boxes from) x now
   pub call : Call
   pub rose : Rose (start.faults call) (now.faults call)
@@ -67,10 +68,10 @@ pub record IsNoTurn (old new : ServerNow) (start now : DiskState) (from door : P
   pub still : Span start now (λ c. ⊥)
   pub quiet : IsQuiet start now
 
-abbrev pub Turns : ServerNow → ServerNow → DiskState → DiskState → Port → Port → Result Connected Fault → Type 0
-Turns old new start now from door (Ok connected) = IsServedTurn old new start now from door connected
-Turns old new start now from door (Err Accept) = IsNoTurn old new start now from door
-Turns old new start now from door (Err Store) = IsStoppedTurn old new start now from door
+abbrev pub Turns : (Connection → Type 0) → ServerNow → ServerNow → DiskState → DiskState → Port → Port → Result Connected Fault → Type 0
+Turns order old new start now from door (Ok connected) = IsServedTurn order old new start now from door connected
+Turns order old new start now from door (Err Accept) = IsNoTurn old new start now from door
+Turns order old new start now from door (Err Store) = IsStoppedTurn order old new start now from door
 
 -- what a connection that broke off comes to
 abbrev pub broken_as : ServeFault → Result Connected Fault

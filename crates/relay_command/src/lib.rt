@@ -2,10 +2,12 @@
 //! other, with a line for each.
 #![tactic(auto)]
 
+pub use law::crashes;
 pub use relay_server::AREA_SIZE;
 pub use relaying::{RELAY_DISK_SIZE, relay};
 
 mod connecting;
+mod law;
 mod lines;
 mod names;
 mod relaying;

@@ -3,6 +3,8 @@
 ghost use Rattle.std.specs.Prelude.{◌≡◌, ◌≤◌};
 ghost use Rattle.relay_core.specs.Record.{box_text};
 ghost use Rattle.relay_server.specs.Durable.{IsReady};
+ghost use Rattle.relay_command.specs.Connections.{listening};
+ghost use Rattle.relay_command.specs.InTurn.{CameInTurn};
 ghost use Rattle.relay_command.specs.Serving.{Runs, standing};
 ghost use Rattle.relay_command.specs.Turns.{ending_of_fault};
 
@@ -33,8 +35,9 @@ pub(crate) fn serve_all<A: Disk, L: Door, O: Sink>(
     out: &mut O,
 ) -> Status
     requires { IsReady box_text server.old (A.state disk.old) }
-    ensures runs { Runs (standing server.old.boxes (L.port door.old)) port count (A.state disk.old) (A.state disk.new) (L.port door.old) (L.port door.new)
-        (O.taken out.old) (O.taken out.new) (O.faults out.old) (O.faults out.new) result.code }
+    ensures runs { Runs (λ xs. CameInTurn A.state L.port (listening port (standing server.old.boxes (L.port door.old))) disk.old xs disk.new)
+        (standing server.old.boxes (L.port door.old)) port count (A.state disk.old) (A.state disk.new)
+        (L.port door.old) (L.port door.new) (O.taken out.old) (O.taken out.new) (O.faults out.old) (O.faults out.new) result.code }
     ensures later { O.faults out.old ≤ O.faults out.new }
 {
     match door.listen(port) {

@@ -30,7 +30,7 @@ same_span : (text : Box → List ℕ) (boxes : List Box) (frames : List (List �
 same_span text boxes frames got a b is span = subst (λ (fs : List (List ℕ)). Span a b (λ c. ReachedIn text EXCHANGE_LIMIT boxes fs c × Frame a 0 (524288 * length boxes) c)) (sym is) span
 
 module _ (text : Box → List ℕ) (old : ServerNow) (boxes : List Box) (start now : Port) (dstart dnow : DiskState) (n : ℕ) (so : SoFar text EXCHANGE_LIMIT old boxes start now dstart dnow n) where
-  frames_are : frames_of (flat so.frames) ≡ so.frames
+  pub frames_are : frames_of (flat so.frames) ≡ so.frames
   frames_are = ap frames_of (sym (append-nil (flat so.frames))) ∙ frames_join so.frames [] so.each ∙ ap (λ (fs : List (List ℕ)). so.frames ++ fs) nothing_left ∙ append-nil so.frames
 
   -- no whole frame came
@@ -38,7 +38,7 @@ module _ (text : Box → List ℕ) (old : ServerNow) (boxes : List Box) (start n
     abbrev total : List ℕ
     total = flat so.frames ++ got
 
-    total_frames : frames_of total ≡ so.frames
+    pub total_frames : frames_of total ≡ so.frames
     total_frames = frames_join so.frames got so.each ∙ ap (λ (fs : List (List ℕ)). so.frames ++ fs) (no_frames got idle.partial) ∙ append-nil so.frames
 
     total_served : served old.boxes total ≡ ended_with so.exs boxes
@@ -79,7 +79,7 @@ module _ (text : Box → List ℕ) (old : ServerNow) (boxes : List Box) (start n
     all_whole : AllByRecursion IsFrame (so.frames ++ frame ∷ [])
     all_whole = whole_with text EXCHANGE_LIMIT old boxes start now dstart dnow n so frame put next after dafter under came
 
-    whole_frames : frames_of whole ≡ so.frames ++ frame ∷ []
+    pub whole_frames : frames_of whole ≡ so.frames ++ frame ∷ []
     whole_frames = ap frames_of (sym flat_is ∙ sym (append-nil (flat (so.frames ++ frame ∷ [])))) ∙ frames_join (so.frames ++ frame ∷ []) [] all_whole ∙ ap (λ (fs : List (List ℕ)). (so.frames ++ frame ∷ []) ++ fs) nothing_left ∙ append-nil (so.frames ++ frame ∷ [])
 
     whole_served : served old.boxes whole ≡ ended_with (so.exs ++ exchange_of boxes frame ∷ []) next

@@ -25,7 +25,7 @@ pub rose_since : (a b c : ℕ) → a ≤ b → Rose b c → Rose a c
 rose_since a b c le rose = omega (arith, le, rose)
 
 module _ (text : Box → List ℕ) (old server new : ServerNow) (start now after : Port) (dstart dnow dafter : DiskState) (n : ℕ) (so : SoFar text EXCHANGE_LIMIT old server.boxes start now dstart dnow n) (under : n < EXCHANGE_LIMIT) where
-  pub exit_fault : (fault : ServeFault) → IsQuiet dstart dnow → Rounds text server new now after dnow dafter (Err fault) → IsServed text old new start after dstart dafter (Err fault)
+  abbrev pub exit_fault : (fault : ServeFault) → IsQuiet dstart dnow → Rounds text server new now after dnow dafter (Err fault) → IsServed text old new start after dstart dafter (Err fault)
   exit_fault Read quiet r = record {
     got = flat so.frames ++ r.0;
     alone = λ name. isolated name old.boxes (flat so.frames ++ r.0);
@@ -63,7 +63,7 @@ module _ (text : Box → List ℕ) (old server new : ServerNow) (start now after
     );
   }
 
-  pub exit_end : (ended : Ended) → ended.answered ≡ n → IsQuiet dstart dafter → Rounds text server new now after dnow dafter (Ok AtEnd) → IsServed text old new start after dstart dafter (Ok ended)
+  abbrev pub exit_end : (ended : Ended) → ended.answered ≡ n → IsQuiet dstart dafter → Rounds text server new now after dnow dafter (Ok AtEnd) → IsServed text old new start after dstart dafter (Ok ended)
   exit_end ended is quiet r = record {
     got = flat so.frames ++ r.0;
     alone = λ name. isolated name old.boxes (flat so.frames ++ r.0);
@@ -78,7 +78,7 @@ module _ (text : Box → List ℕ) (old server new : ServerNow) (start now after
     );
   }
 
-  pub exit_last : (ended : Ended) (last : Bool) → ended.answered ≡ n + 1 → last ≡ true → IsQuiet dstart dafter → Rounds text server new now after dnow dafter (Ok (Answered last)) → IsServed text old new start after dstart dafter (Ok ended)
+  abbrev pub exit_last : (ended : Ended) (last : Bool) → ended.answered ≡ n + 1 → last ≡ true → IsQuiet dstart dafter → Rounds text server new now after dnow dafter (Ok (Answered last)) → IsServed text old new start after dstart dafter (Ok ended)
   exit_last ended last is is_last quiet r = record {
     got = flat so.frames ++ r.0;
     alone = λ name. isolated name old.boxes (flat so.frames ++ r.0);
@@ -96,10 +96,10 @@ module _ (text : Box → List ℕ) (old server new : ServerNow) (start now after
     );
   }
 
-  pub goes_on : (last : Bool) → last ≡ false → now.faults Flow ≤ after.faults Flow → Rounds text server new now after dnow dafter (Ok (Answered last)) → SoFar text EXCHANGE_LIMIT old new.boxes start after dstart dafter (n + 1)
+  abbrev pub goes_on : (last : Bool) → last ≡ false → now.faults Flow ≤ after.faults Flow → Rounds text server new now after dnow dafter (Ok (Answered last)) → SoFar text EXCHANGE_LIMIT old new.boxes start after dstart dafter (n + 1)
   goes_on last not_last later r = one_more_round text EXCHANGE_LIMIT old server.boxes start now dstart dnow n so r.0 (reply_to server.boxes r.0) new.boxes after dafter under r.1 refl (sym r.2 ∙ not_last) later
 
-pub exit_full : (text : Box → List ℕ) (old server : ServerNow) (start now : Port) (dstart dnow : DiskState) (n : ℕ) → SoFar text EXCHANGE_LIMIT old server.boxes start now dstart dnow n → n ≡ EXCHANGE_LIMIT → IsReady text server dnow → IsQuiet dstart dnow → (ended : Ended) → ended.answered ≡ EXCHANGE_LIMIT
+abbrev pub exit_full : (text : Box → List ℕ) (old server : ServerNow) (start now : Port) (dstart dnow : DiskState) (n : ℕ) → SoFar text EXCHANGE_LIMIT old server.boxes start now dstart dnow n → n ≡ EXCHANGE_LIMIT → IsReady text server dnow → IsQuiet dstart dnow → (ended : Ended) → ended.answered ≡ EXCHANGE_LIMIT
     → IsServed text old server start now dstart dnow (Ok ended)
 exit_full text old server start now dstart dnow n so full ready quiet ended is = record {
   got = flat so.frames;

@@ -1,4 +1,5 @@
 pub mod Exits
+pub mod FrameByFrame
 pub mod FilledAreas
 pub mod LoadedBoxes
 pub mod OneStore
@@ -6,6 +7,7 @@ pub mod OpenedAreas
 pub mod OpenedBoxes
 pub mod Replacing
 pub mod Rounds
+pub mod Sent
 pub mod Serve
 mod StorePlaces
 pub mod Ends

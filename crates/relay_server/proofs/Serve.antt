@@ -42,7 +42,7 @@ serves_frame most n boxes frame fs last lt is =
 -- ---- before the first round
 
 module _ (text : Box → List ℕ) (most : ℕ) (old : ServerNow) where
-  pub nothing_so_far : (start : Port) (dstart : DiskState) → Span dstart dstart (λ c. ReachedIn text most old.boxes [] c × Frame dstart 0 (524288 * length old.boxes) c) → SoFar text most old old.boxes start start dstart dstart 0
+  abbrev pub nothing_so_far : (start : Port) (dstart : DiskState) → Span dstart dstart (λ c. ReachedIn text most old.boxes [] c × Frame dstart 0 (524288 * length old.boxes) c) → SoFar text most old old.boxes start start dstart dstart 0
   nothing_so_far start dstart span = record {
     frames = [];
     each = tt;
@@ -100,7 +100,7 @@ module _ (text : Box → List ℕ) (most : ℕ) (old : ServerNow) where
       count_with = ap length came.next ∙ (change boxes (read_request (drop 2 frame))).count ∙ so.boxes_count
 
       -- another round may follow
-      pub one_more_round : put ≡ reply_to boxes frame → is_last (read_request (drop 2 frame)) ≡ false → now.faults Flow ≤ after.faults Flow → SoFar text most old next start after dstart dafter (n + 1)
+      abbrev pub one_more_round : put ≡ reply_to boxes frame → is_last (read_request (drop 2 frame)) ≡ false → now.faults Flow ≤ after.faults Flow → SoFar text most old next start after dstart dafter (n + 1)
       one_more_round is not_last later = record {
         frames = so.frames ++ frame ∷ [];
         each = whole_with;

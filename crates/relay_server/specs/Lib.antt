@@ -3,3 +3,4 @@ pub mod Opening
 pub mod Areas
 pub mod Filling
 pub mod Serving
+pub mod FrameByFrame

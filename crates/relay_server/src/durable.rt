@@ -15,7 +15,8 @@ ghost use Rattle.relay_core.specs.Boxes.{answers_read};
 ghost use Rattle.relay_core.specs.Record.{box_text};
 ghost use Rattle.relay_core.specs.Streams.{is_last};
 ghost use Rattle.relay_server.specs.Durable.{IsReady, IsReplaced, IsSameBehind, StandsForEither};
-ghost use Rattle.relay_server.specs.Serving.{IsServed, Rounds};
+ghost use Rattle.relay_server.specs.FrameByFrame.{IsServedInOrder};
+ghost use Rattle.relay_server.specs.Serving.{Rounds};
 
 use crate::answering::write_text;
 use crate::serving::{Ended, Round, ServeFault};
@@ -155,7 +156,7 @@ impl DurableBoxes {
         requires ready { IsReady box_text self.old (D.state disk.old) }
         requires room { FRAME_LIMIT ≤ length piece.old }
         requires out_room { FRAME_LIMIT ≤ length out.old }
-        ensures served { IsServed box_text self.old self.new (P.port pipe.old) (P.port pipe.new) (D.state disk.old) (D.state disk.new) result }
+        ensures served { IsServedInOrder D.state P.port box_text self.old self.new disk.old disk.new pipe.old pipe.new result }
         ensures later { (P.port pipe.old).faults Flow ≤ (P.port pipe.new).faults Flow }
         ensures flow { OnOk result ((P.port pipe.new).faults Flow ≡ (P.port pipe.old).faults Flow) }
         ensures gate { (P.port pipe.new).faults Gate ≡ (P.port pipe.old).faults Gate }

@@ -7,7 +7,7 @@ ghost use Rattle.relay_core.specs.Record.{box_text};
 ghost use Rattle.relay_core.specs.declared.limits.TheConstants.{RELAY_LIMIT};
 ghost use Rattle.relay_server.specs.Durable.{IsReady};
 ghost use Rattle.relay_server.specs.Opening.{IsOpened, IsOpening, IsUnopened};
-ghost use Rattle.relay_server.specs.Serving.{IsServed};
+ghost use Rattle.relay_server.specs.FrameByFrame.{IsServedInOrder};
 ghost use Rattle.relay_wire.specs.declared.limits.TheConstants.{FRAME_LIMIT};
 
 use crate::durable::DurableBoxes;
@@ -95,7 +95,7 @@ impl Server {
         pipe: &mut P,
     ) -> Result<Ended, ServeFault>
         requires { IsReady box_text self.old (D.state disk.old) }
-        ensures served { IsServed box_text self.old self.new (P.port pipe.old) (P.port pipe.new) (D.state disk.old) (D.state disk.new) result }
+        ensures served { IsServedInOrder D.state P.port box_text self.old self.new disk.old disk.new pipe.old pipe.new result }
         ensures later { (P.port pipe.old).faults Flow ≤ (P.port pipe.new).faults Flow }
         ensures flow { OnOk result ((P.port pipe.new).faults Flow ≡ (P.port pipe.old).faults Flow) }
         ensures gate { (P.port pipe.new).faults Gate ≡ (P.port pipe.old).faults Gate }

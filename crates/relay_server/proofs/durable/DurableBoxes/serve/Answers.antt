@@ -1,6 +1,7 @@
 use Rattle.std.proofs.Common.{◌+◌, ◌*◌, length, arith, refl, ◌∙◌, []}
 use Rattle.relay_server.proofs.Serve.{nothing_so_far}
-use Rattle.relay_server.proofs.Exits.{exit_fault, exit_end, exit_last, exit_full, goes_on}
+use Rattle.relay_server.proofs.Exits.{goes_on}
+use Rattle.relay_server.proofs.FrameByFrame.{answered_on, nothing_answered, order_end, order_fault, order_full, order_last}
 use Rattle.relay_server.proofs.Rounds.{no_call}
 use Rattle.dr_disk.specs.Spans.{Frame}
 use Rattle.relay_core.specs.declared.limits.TheConstants.{EXCHANGE_LIMIT}
@@ -11,6 +12,7 @@ use Rattle.relay_server.proofs.durable.DurableBoxes.serve.Goals as goal
 pub rounds-init : goal.rounds-init
 rounds-init g c = record {
   so = nothing_so_far box_text EXCHANGE_LIMIT c.args.self.now (g.P.Pipe.port c.args.pipe.now) (g.D.Disk.state c.args.disk.now) (no_call (g.D.Disk.state c.args.disk.now) (λ image. ReachedIn box_text EXCHANGE_LIMIT c.args.self.now.boxes [] image × Frame (g.D.Disk.state c.args.disk.now) 0 (524288 * length c.args.self.now.boxes) image));
+  answered = nothing_answered g.D.Disk.state g.P.Pipe.port box_text c.args.self.now c.args.disk.now c.args.pipe.now c.requires.ready;
   ready = c.requires.ready;
   fresh = c.clear.ensures;
   room = c.requires.room;
@@ -24,23 +26,27 @@ rounds-init g c = record {
 
 pub returns-in-Err-clause-served : goal.returns-in-Err-clause-served
 returns-in-Err-clause-served g c =
-    exit_fault box_text c.args.self.now c.rounds.self c.round.new.self (g.P.Pipe.port c.args.pipe.now) (g.P.Pipe.port c.rounds.pipe) (g.P.Pipe.port c.round.new.pipe)
-    (g.D.Disk.state c.args.disk.now) (g.D.Disk.state c.rounds.disk) (g.D.Disk.state c.round.new.disk) c.rounds.answered c.rounds.invariant.so c.rounds-test.true c.in-Err.fault c.rounds.invariant.quiet c.in-Err.ensures.rounds
+    order_fault g.D.Disk.state g.P.Pipe.port box_text c.args.self.now c.rounds.self c.round.new.self c.args.pipe.now c.rounds.pipe c.round.new.pipe
+    c.args.disk.now c.rounds.disk c.round.new.disk c.rounds.answered c.rounds.invariant.so c.rounds-test.true c.rounds.invariant.answered c.in-Err.fault c.rounds.invariant.quiet c.in-Err.ensures.rounds
 
 pub returns-in-Ok-AtEnd-clause-served : goal.returns-in-Ok-AtEnd-clause-served
 returns-in-Ok-AtEnd-clause-served g c =
-    exit_end box_text c.args.self.now c.rounds.self c.round.new.self (g.P.Pipe.port c.args.pipe.now) (g.P.Pipe.port c.rounds.pipe) (g.P.Pipe.port c.round.new.pipe)
-    (g.D.Disk.state c.args.disk.now) (g.D.Disk.state c.rounds.disk) (g.D.Disk.state c.round.new.disk) c.rounds.answered c.rounds.invariant.so c.rounds-test.true (record { answered = c.rounds.answered }) refl (λ call. c.in-Ok-AtEnd.ensures.quiet call ∙ c.rounds.invariant.quiet call) (rw c.in-Ok-AtEnd.field-0-is at c.in-Ok-AtEnd.ensures.rounds)
+    order_end g.D.Disk.state g.P.Pipe.port box_text c.args.self.now c.rounds.self c.round.new.self c.args.pipe.now c.rounds.pipe c.round.new.pipe
+    c.args.disk.now c.rounds.disk c.round.new.disk c.rounds.answered c.rounds.invariant.so c.rounds-test.true c.rounds.invariant.answered (record { answered = c.rounds.answered }) refl
+    (λ call. c.in-Ok-AtEnd.ensures.quiet call ∙ c.rounds.invariant.quiet call) (rw c.in-Ok-AtEnd.field-0-is at c.in-Ok-AtEnd.ensures.rounds)
 
 pub returns-then-last-clause-served : goal.returns-then-last-clause-served
 returns-then-last-clause-served g c =
-    exit_last box_text c.args.self.now c.rounds.self c.round.new.self (g.P.Pipe.port c.args.pipe.now) (g.P.Pipe.port c.rounds.pipe) (g.P.Pipe.port c.round.new.pipe)
-    (g.D.Disk.state c.args.disk.now) (g.D.Disk.state c.rounds.disk) (g.D.Disk.state c.round.new.disk) c.rounds.answered c.rounds.invariant.so c.rounds-test.true (record { answered = c.rounds.answered + 1 }) c.in-Ok-Answered.last refl c.if-last.true (λ call. c.in-Ok-Answered.ensures.quiet call ∙ c.rounds.invariant.quiet call) (rw c.in-Ok-Answered.field-0-is at c.in-Ok-Answered.ensures.rounds)
+    order_last g.D.Disk.state g.P.Pipe.port box_text c.args.self.now c.rounds.self c.round.new.self c.args.pipe.now c.rounds.pipe c.round.new.pipe
+    c.args.disk.now c.rounds.disk c.round.new.disk c.rounds.answered c.rounds.invariant.so c.rounds-test.true c.rounds.invariant.answered (record { answered = c.rounds.answered + 1 }) c.in-Ok-Answered.last refl c.if-last.true
+    (λ call. c.in-Ok-Answered.ensures.quiet call ∙ c.rounds.invariant.quiet call) (rw c.in-Ok-Answered.field-0-is at c.in-Ok-Answered.ensures.rounds)
 
 pub rounds-preserved : goal.rounds-preserved
 rounds-preserved g c = let rounds = rw c.in-Ok-Answered.field-0-is at c.in-Ok-Answered.ensures.rounds in record {
   so = goes_on box_text c.args.self.now c.rounds.self c.round.new.self (g.P.Pipe.port c.args.pipe.now) (g.P.Pipe.port c.rounds.pipe) (g.P.Pipe.port c.round.new.pipe)
       (g.D.Disk.state c.args.disk.now) (g.D.Disk.state c.rounds.disk) (g.D.Disk.state c.round.new.disk) c.rounds.answered c.rounds.invariant.so c.rounds-test.true c.in-Ok-Answered.last c.if-last.false c.in-Ok-Answered.ensures.later rounds;
+  answered = answered_on g.D.Disk.state g.P.Pipe.port box_text c.args.self.now c.rounds.self c.round.new.self c.args.pipe.now c.rounds.pipe c.round.new.pipe
+      c.args.disk.now c.rounds.disk c.round.new.disk c.rounds.answered c.rounds.invariant.so c.rounds-test.true c.rounds.invariant.answered c.in-Ok-Answered.last rounds;
   ready = rounds.3;
   fresh = c.in-Ok-Answered.ensures.fresh c.in-Ok-Answered.last c.in-Ok-Answered.field-0-is;
   room = omega (arith, c.in-Ok-Answered.ensures.piece, c.rounds.invariant.room);
@@ -54,5 +60,5 @@ rounds-preserved g c = let rounds = rw c.in-Ok-Answered.field-0-is at c.in-Ok-An
 
 pub returns-clause-served : goal.returns-clause-served
 returns-clause-served g c =
-    exit_full box_text c.args.self.now c.rounds.self (g.P.Pipe.port c.args.pipe.now) (g.P.Pipe.port c.rounds.pipe) (g.D.Disk.state c.args.disk.now) (g.D.Disk.state c.rounds.disk)
-    c.rounds.answered c.rounds.invariant.so (omega (arith, c.rounds-test.false, c.rounds.auto.answered-end)) c.rounds.invariant.ready c.rounds.invariant.quiet (record { answered = EXCHANGE_LIMIT }) refl
+    order_full g.D.Disk.state g.P.Pipe.port box_text c.args.self.now c.rounds.self c.args.pipe.now c.rounds.pipe c.args.disk.now c.rounds.disk
+    c.rounds.answered c.rounds.invariant.so c.rounds.invariant.answered (omega (arith, c.rounds-test.false, c.rounds.auto.answered-end)) c.rounds.invariant.ready c.rounds.invariant.quiet (record { answered = EXCHANGE_LIMIT }) refl

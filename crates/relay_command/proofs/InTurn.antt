@@ -1,0 +1,37 @@
+-- A connection in its turn.
+use Rattle.std.proofs.Common.{◌≡◌, List, [], ◌∷◌, ◌++◌, ℕ, Result, sym, subst}
+use Rattle.dr_disk.specs.State.{DiskState}
+use Rattle.dr_ports.specs.Wires.{Port}
+use Rattle.relay_core.specs.Boxes.{Box}
+use Rattle.relay_core.specs.Record.{box_text}
+use Rattle.relay_server.specs.Durable.{IsReady, ServerNow}
+use Rattle.relay_server.specs.Serving.{Exchanges}
+use Rattle.relay_server.specs.FrameByFrame.{IsInOrder, IsServedInOrder}
+use Rattle.relay_server.specs.declared.serving.Ended.{Ended}
+use Rattle.relay_server.specs.declared.serving.ServeFault.{ServeFault}
+use Rattle.relay_server.proofs.FrameByFrame.{at_rest}
+use Rattle.relay_command.specs.Connections.{Connection, Standing, behind_all}
+use Rattle.relay_command.specs.InTurn.{CameInTurn, WasServed, one_came}
+
+pub own_order : {X Y : Type 0} (state : X → DiskState) (port_of : Y → Port) (start now : X) (accepted served : Y)
+    (old new : ServerNow) (result : Result Ended ServeFault)
+    (s : IsServedInOrder state port_of box_text old new start now accepted served result) (x : Connection)
+    → x.got ≡ s.served.got → Exchanges x.got x.put (port_of accepted) (port_of served)
+    → WasServed state port_of old.boxes start now x
+own_order state port_of start now accepted served old new result s x same exchanges = record {
+  accepted = accepted;
+  served = served;
+  exchanges = exchanges;
+  in_order = subst (λ (got : List ℕ). IsInOrder state port_of box_text old.boxes got start now accepted served)
+      (sym same) s.in_order;
+}
+
+-- and so the connections are
+pub one_in_turn : {X Y : Type 0} (state : X → DiskState) (port_of : Y → Port) (s : Standing) (start disk next : X)
+    (xs : List Connection) (x : Connection) (server : ServerNow)
+    → CameInTurn state port_of s start xs disk → server.boxes ≡ (behind_all s xs).boxes
+    → IsReady box_text server (state disk) → WasServed state port_of server.boxes disk next x
+    → CameInTurn state port_of s start (xs ++ x ∷ []) next
+one_in_turn state port_of s start disk next xs x server came same ready was =
+    one_came xs x disk next came (at_rest box_text (behind_all s xs).boxes server (state disk) same ready)
+    (subst (λ (bs : List Box). WasServed state port_of bs disk next x) same was)
