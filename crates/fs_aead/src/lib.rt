@@ -4,8 +4,8 @@
 //! gone then: no later chain key leads back to an earlier message key. One stream seals, and one opens. A
 //! stream can't be copied, and each step takes it, so that no key is given twice. Where texts come out of
 //! order, the keys that were passed over wait in a table of fixed room, each for the text of its position.
-//! `Skipped` is such a table; one that stands in a larger value is worked on in place, by `copy_keys_into`,
-//! `room_for`, `take_key` and `ReceiveStream::advance_into`.
+//! `Skipped` is such a table. It has kilobytes, so it is changed where it stands: `Skipped::copy_from` makes it a
+//! copy of another.
 //!
 //! ```rust
 //! use dr_base::{Key32, Position};

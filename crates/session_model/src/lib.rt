@@ -1,5 +1,6 @@
 //! One side of a conversation as plain values: what a session keeps, what it answers to a text or a packet, and its
-//! boxes. The definitions stand in specs/; the code's share is the enums of answers and refusals.
+//! boxes. The definitions stand in specs/. The code's share is what a session keeps (`SessionPart` and its parts), its
+//! copying in place, and the enums of answers and refusals.
 #![tactic(auto)]
 
 pub use answer::{Amount, Answer, Refusal, Summary};
