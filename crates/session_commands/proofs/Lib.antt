@@ -10,3 +10,4 @@ mod Unopened
 mod Syncs
 mod SyncRuns
 mod Linking
+pub mod Wholeness

@@ -58,7 +58,7 @@ is_known k side known w c which stood =
     ⊎_elim (λ e. inl (subst (λ v. StandsFor k v side c) e stood)) (λ at. inr (at.0, w, at.1, at.2, stood)) which
 
 -- bytes that a crash between two moments leaves
-left_by : (start now : DiskState) (P : List ℕ → Type 0) (lawful : IsLawful start) → Span start now (λ c. start.image c ⊎ P c) → (c : List ℕ)
+pub left_by : (start now : DiskState) (P : List ℕ → Type 0) (lawful : IsLawful start) → Span start now (λ c. start.image c ⊎ P c) → (c : List ℕ)
     → IsLeftBetween start now c → start.image c ⊎ P c
 left_by start now P lawful span c left =
     ⊎_elim (λ here. ⊎_elim inl (λ is. is) (span.last c here))

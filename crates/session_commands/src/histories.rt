@@ -2,6 +2,7 @@
 
 ghost use Rattle.std.specs.Prelude.{◌≡◌, ℕ, [], List, Result, Some};
 ghost use Rattle.dr_base.specs.declared.position.Side.{Side};
+ghost use Rattle.dr_disk.specs.State.{Always};
 ghost use Rattle.dr_model.specs.Machines.Acts.{Act};
 ghost use Rattle.dr_model.specs.Machines.Worlds.{World};
 ghost use Rattle.dr_model.specs.Theorems.LawfulWorlds.{IsLawfulWorld};
@@ -9,12 +10,15 @@ ghost use Rattle.endings.specs.declared.ending.Ending.{Ending};
 ghost use Rattle.kem_laws.specs.Mechanism.{IsLawfulMechanism, Mechanism};
 ghost use Rattle.relay_wire.specs.Replies.{Replied};
 ghost use Rattle.session_model.specs.Clients.{Client};
+ghost use Rattle.slot_store.specs.Reading.{IsUndamaged};
 ghost use Rattle.sync_model.specs.declared.more.More.{More};
+ghost use Rattle.client.specs.Clients.{client_area};
 ghost use Rattle.client.specs.Moments.{IsOneOf, Known, Link, StandsStill};
 ghost use Rattle.client.specs.Opening.{Reads};
 ghost use Rattle.client.specs.Syncing.InWorlds.{AreUnforged};
 ghost use Rattle.client.specs.declared.syncing.faults.SyncFault.{SyncFault};
 ghost use Rattle.session_commands.specs.Asking.{asked_drop, asked_say, asked_take};
+ghost use Rattle.session_commands.specs.Completing.{ReadsWhole};
 ghost use Rattle.session_commands.specs.Disks.{RunsOn};
 ghost use Rattle.session_commands.specs.Histories.{IsLeftBetween, LinksActs, LinksCuts, cut_in_sync, shown_known, synced_known};
 ghost use Rattle.session_commands.specs.Showing.{ShowsIn};
@@ -24,11 +28,28 @@ use client::client_grounds;
 use dr_disk::Disk;
 use dr_ports::Draws;
 
-/// A command reads one of the worlds that are known of the disk at entry.
+/// A command reads one of the worlds that are known of the disk at entry; and reads it whole, where each image is read without
+/// damage. So what `complete` says of a command holds of it.
 pub fn reads_known<D: Disk>(disk: &D)
-    ensures { (k : Mechanism) (side : Side) (first : World) (known : Known) (bytes : List ℕ) → IsLawfulWorld k first
+    ensures known { (k : Mechanism) (side : Side) (first : World) (known : Known) (bytes : List ℕ) → IsLawfulWorld k first
         → StandsStill k side first known (D.state disk.now) → (D.state disk.now).seen ≡ Some bytes
         → (w : World) × IsOneOf known w × IsLawfulWorld k w × Reads k w side (D.state disk.now) }
+    ensures whole { (k : Mechanism) (side : Side) (first : World) (known : Known) (bytes : List ℕ) → IsLawfulWorld k first
+        → StandsStill k side first known (D.state disk.now) → Always (IsUndamaged client_area) (D.state disk.now)
+        → (D.state disk.now).seen ≡ Some bytes → (w : World) × IsOneOf known w × ReadsWhole k w side (D.state disk.now) }
+{}
+
+/// A disk of which each image is read without damage stays so over a command, and over a crash at any moment in it.
+pub fn stays_whole<D: Disk>(before: &D, after: &D, crashed: &D)
+    ensures acts { (k : Mechanism) (side : Side) (w next : World) → Always (IsUndamaged client_area) (D.state before.now)
+        → RunsOn k side w next (D.state before.now) (D.state after.now)
+        → ((c : List ℕ) → (D.state crashed.now).image c → IsLeftBetween (D.state before.now) (D.state after.now) c)
+        → Always (IsUndamaged client_area) (D.state crashed.now) }
+    ensures syncs { (k : Mechanism) (side : Side) (w : World) (kept : Client) (replies : List Replied) (result : Result More SyncFault)
+        → Always (IsUndamaged client_area) (D.state before.now)
+        → SyncRunsIn k side w kept replies (D.state before.now) (D.state after.now) result
+        → ((c : List ℕ) → (D.state crashed.now).image c → IsLeftBetween (D.state before.now) (D.state after.now) c)
+        → Always (IsUndamaged client_area) (D.state crashed.now) }
 {}
 
 /// What a command comes to, in a world that is known of the disk at entry, is a link from before it to after it. So the laws of
