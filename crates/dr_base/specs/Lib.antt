@@ -1,4 +1,5 @@
 pub mod Buffer
 pub mod Bytes
 pub mod Causes
+pub mod Descriptors
 pub mod Position

@@ -1,7 +1,7 @@
 //! Writers with a cursor: each puts bytes at a place of a buffer and answers the place after them.
 
 ghost use Rattle.std.specs.Prelude.{◌≡◌, ℕ, ◌+◌, ◌≤◌, length};
-ghost use Rattle.std.specs.Int.{w16, w32, w64, to_be_bytes};
+ghost use Rattle.std.specs.Int.{w8, w16, w32, w64, to_be_bytes};
 ghost use Rattle.dr_base.specs.Buffer.{Puts};
 
 use byteorder::{BigEndian, ByteOrder};
@@ -14,6 +14,14 @@ pub fn put(out: &mut [u8], at: usize, bytes: &[u8]) -> usize
     let next = at + bytes.len();
     out[at..next].copy_from_slice(bytes);
     next
+}
+
+/// Puts a number of one byte at a place.
+pub fn put_u8(out: &mut [u8], at: usize, number: u8) -> usize
+    requires { at + 1 ≤ length out.old }
+    ensures { Puts out.old out.new at (to_be_bytes w8 number) result }
+{
+    put(out, at, &[number])
 }
 
 /// Puts a number of two bytes at a place, the high byte first.

@@ -2,12 +2,12 @@
 //! at a place of a buffer, and the failure of a call on the outside.
 #![tactic(auto)]
 
-pub use buffer::{put, put_u16, put_u32, put_u64};
+pub use buffer::{put, put_u8, put_u16, put_u32, put_u64};
 pub use failed::Failed;
 pub use key::{Kept, Key32};
 pub use limits::{
-    AGREEMENT_LIMIT, CIPHERTEXT_LIMIT, INBOX_LIMIT, INDEX_LIMIT, KEPT_LIMIT, LAST_EPOCH,
-    OUTBOX_LIMIT, PACKET_LIMIT, PUBLIC_LIMIT, SECRET_LIMIT, TEXT_LIMIT,
+    AGREEMENT_LIMIT, CARRIED_LIMIT, CIPHERTEXT_LIMIT, INBOX_LIMIT, INDEX_LIMIT, KEPT_LIMIT,
+    LAST_EPOCH, OUTBOX_LIMIT, PACKET_FRAME, PACKET_LIMIT, PUBLIC_LIMIT, SECRET_LIMIT, TEXT_LIMIT,
 };
 pub use number::{read_u16, read_u32};
 pub use position::{Position, Side};

@@ -28,7 +28,14 @@ pub const SECRET_LIMIT: usize = 1763;
 pub const CIPHERTEXT_LIMIT: usize = 1039;
 
 /// The longest agreement message, in bytes: a ciphertext and a public key.
-pub const AGREEMENT_LIMIT: usize = 2197;
+pub const AGREEMENT_LIMIT: usize = CIPHERTEXT_LIMIT + PUBLIC_LIMIT;
 
-/// The longest packet, in bytes: 65, an agreement message and a text.
-pub const PACKET_LIMIT: usize = 3286;
+/// What a packet has beside its agreement message and its ciphertext, in bytes: its numbers, sizes and session id, and
+/// its tag.
+pub const PACKET_FRAME: usize = 33 + 32;
+
+/// The longest packet, in bytes.
+pub const PACKET_LIMIT: usize = PACKET_FRAME + AGREEMENT_LIMIT + TEXT_LIMIT;
+
+/// The longest packet that a relay carries, in bytes.
+pub const CARRIED_LIMIT: usize = 4000;

@@ -1,5 +1,4 @@
 pub mod Bytes
-pub mod Descriptors
 pub mod State
 pub mod Spans
 pub mod Calls

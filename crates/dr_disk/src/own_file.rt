@@ -2,7 +2,7 @@
 
 ghost use Rattle.std.specs.Prelude.{◌≤◌, ◌↔◌, length, IsOk, IfOk};
 ghost use Rattle.std.specs.Fd.{file_raw_fd};
-ghost use Rattle.dr_disk.specs.Descriptors.{IsOwn};
+ghost use Rattle.dr_base.specs.Descriptors.{IsOwn};
 
 use crate::handle::Sharing;
 use std::fs::{File, Metadata, Permissions};

@@ -1,8 +1,7 @@
 //! Writing the record of a box.
 
-ghost use Rattle.std.specs.Prelude.{◌≡◌, ◌+◌, ◌<◌, ◌≤◌, length, slice_get, IfSome};
+ghost use Rattle.std.specs.Prelude.{◌≡◌, ◌<◌, ◌≤◌, length, slice_get, IfSome};
 ghost use Rattle.std.specs.Option.{ForSome};
-ghost use Rattle.std.specs.Int.{w8, to_be_bytes};
 ghost use Rattle.dr_base.specs.Buffer.{Puts};
 ghost use Rattle.grammar.specs.Printer.{HasRoom, print_items};
 ghost use Rattle.relay_core.specs.declared.limits.TheConstants.{BOX_LIMIT, RECORD_LIMIT};
@@ -12,16 +11,8 @@ ghost use Rattle.relay_core.specs.Record.{box_text, head_text, kept_text};
 use crate::mailbox::{KeptPacket, Mailbox};
 use crate::reading::VERSION;
 use crate::relay::Relay;
-use dr_base::{put, put_u16, put_u64};
+use dr_base::{put, put_u8, put_u16, put_u64};
 use relay_wire::Name;
-
-/// Puts a number of one byte at a place.
-fn put_byte(out: &mut [u8], at: usize, number: u8) -> usize
-    requires { at + 1 ≤ length out.old }
-    ensures { Puts out.old out.new at (to_be_bytes w8 number) result }
-{
-    put(out, at, &[number])
-}
 
 /// Puts what stands before the packets at the beginning.
 fn put_head(out: &mut [u8], name: &Name, last: u64, count: usize) -> usize
@@ -30,11 +21,11 @@ fn put_head(out: &mut [u8], name: &Name, last: u64, count: usize) -> usize
     ensures { Puts out.old out.new 0 (head_text name.now last count) result }
 {
     let name = name.bytes();
-    let at_size = put_byte(out, 0, VERSION);
-    let at_name = put_byte(out, at_size, name.len() as u8);
+    let at_size = put_u8(out, 0, VERSION);
+    let at_name = put_u8(out, at_size, name.len() as u8);
     let at_last = put(out, at_name, name);
     let at_count = put_u64(out, at_last, last);
-    put_byte(out, at_count, count as u8)
+    put_u8(out, at_count, count as u8)
 }
 
 /// Puts a packet after its number at a place.

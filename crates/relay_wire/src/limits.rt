@@ -1,5 +1,7 @@
 //! The limits of the format. Each is said once, here.
 
+use dr_base::CARRIED_LIMIT;
+
 /// The greatest number of bytes in a frame's body. A body has at least one.
 pub const BODY_LIMIT: usize = 4096;
 
@@ -7,7 +9,7 @@ pub const BODY_LIMIT: usize = 4096;
 pub const FRAME_LIMIT: usize = 2 + BODY_LIMIT;
 
 /// The greatest number of bytes in a packet. A packet has at least one.
-pub const PACKET_LIMIT: usize = 4000;
+pub const PACKET_LIMIT: usize = CARRIED_LIMIT;
 
 /// The greatest number of bytes in a box's name. A name has at least one.
 pub const NAME_LIMIT: usize = 40;

@@ -11,10 +11,10 @@ use crate::change::Change;
 use crate::inbox::put_inbox;
 use crate::kept::{are_long, put_kept};
 use crate::keys::{put_phase, put_receiving};
-use crate::numbers::{VERSION, put_byte, side_code};
+use crate::numbers::{VERSION, side_code};
 use crate::outbox::put_outbox;
 use boxes::{Inbox, Outbox};
-use dr_base::{Key32, Side, put, put_u32};
+use dr_base::{Key32, Side, put, put_u8, put_u32};
 use kem_laws::{Kem, laws};
 use session_model::SessionPart;
 
@@ -23,8 +23,8 @@ fn put_head(out: &mut [u8], side: Side, session: &[u8; 16], root: &Key32, epoch:
     requires { length (head_text side session.now root.now.bytes epoch) ≤ length out.old }
     ensures { Puts out.old out.new 0 (head_text side session.now root.now.bytes epoch) result }
 {
-    let at_side = put_byte(out, 0, VERSION);
-    let at_session = put_byte(out, at_side, side_code(side));
+    let at_side = put_u8(out, 0, VERSION);
+    let at_session = put_u8(out, at_side, side_code(side));
     let at_root = put(out, at_session, session);
     let at_epoch = put(out, at_root, &root.bytes);
     put_u32(out, at_epoch, epoch)

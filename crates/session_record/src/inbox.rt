@@ -13,9 +13,9 @@ ghost use Rattle.session_record.specs.Fields.{up_to};
 ghost use Rattle.session_record.specs.Lists.{any, entry_field, entry_text, inbox_field};
 
 use crate::change::Change;
-use crate::numbers::{put_byte, read_len};
+use crate::numbers::read_len;
 use boxes::{Entry, Inbox};
-use dr_base::{INBOX_LIMIT, INDEX_LIMIT, Position, Side, TEXT_LIMIT, put, put_u16, put_u32};
+use dr_base::{INBOX_LIMIT, INDEX_LIMIT, Position, Side, TEXT_LIMIT, put, put_u8, put_u16, put_u32};
 use grammar::Cursor;
 
 /// A text after its length.
@@ -141,7 +141,7 @@ fn put_later(out: &mut [u8], at: usize, inbox: &Inbox, from: u32) -> usize
     requires room { at + length (print_counted w8 entry_text (drop from inbox.now)) ≤ length out.old }
     ensures { Puts out.old out.new at (print_counted w8 entry_text (drop from inbox.now)) result }
 {
-    let next = put_byte(out, at, (inbox.len() - from) as u8);
+    let next = put_u8(out, at, (inbox.len() - from) as u8);
     put_entries(out, next, inbox, from)
 }
 
@@ -152,7 +152,7 @@ fn put_more(out: &mut [u8], at: usize, inbox: &Inbox, position: Position, text: 
     requires room { at + length (print_counted w8 entry_text (inbox.now ++ item_at position text.now ∷ [])) ≤ length out.old }
     ensures { Puts out.old out.new at (print_counted w8 entry_text (inbox.now ++ item_at position text.now ∷ [])) result }
 {
-    let at_first = put_byte(out, at, inbox.len() as u8 + 1);
+    let at_first = put_u8(out, at, inbox.len() as u8 + 1);
     let at_last = put_entries(out, at_first, inbox, 0);
     put_entry(out, at_last, position, text)
 }

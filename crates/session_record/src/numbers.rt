@@ -1,13 +1,12 @@
 //! The fields of a record that are numbers.
 
-ghost use Rattle.std.specs.Prelude.{◌≡◌, ◌+◌, ◌≤◌, length, IfOk};
-ghost use Rattle.std.specs.Int.{w8, to_be_bytes};
-ghost use Rattle.dr_base.specs.Buffer.{Puts};
+ghost use Rattle.std.specs.Prelude.{◌≤◌, IfOk};
+ghost use Rattle.std.specs.Int.{w8};
 ghost use Rattle.grammar.specs.Reader.{checked, number};
 ghost use Rattle.grammar.specs.Standing.{Reads};
 ghost use Rattle.session_record.specs.Fields.{code_of, count_field, epoch_field, is_version, previous_field, side_field, up_to};
 
-use dr_base::{INDEX_LIMIT, LAST_EPOCH, Side, put};
+use dr_base::{INDEX_LIMIT, LAST_EPOCH, Side};
 use grammar::Cursor;
 
 /// The version of the record.
@@ -88,14 +87,6 @@ pub(crate) fn read_len(cursor: &mut Cursor<'_>, limit: usize) -> Result<u8, usiz
         return Err(at);
     }
     Ok(len)
-}
-
-/// Puts a number of one byte at a place.
-pub(crate) fn put_byte(out: &mut [u8], at: usize, number: u8) -> usize
-    requires { at + 1 ≤ length out.old }
-    ensures { Puts out.old out.new at (to_be_bytes w8 number) result }
-{
-    put(out, at, &[number])
 }
 
 /// The byte of a side.

@@ -12,10 +12,10 @@ ghost use Rattle.session_record.specs.Changes.{FitsOutbox, outbox_after};
 ghost use Rattle.session_record.specs.Lists.{outbox_field, post_field, post_of, post_text};
 
 use crate::change::Change;
-use crate::numbers::{put_byte, read_len};
+use crate::numbers::read_len;
 use boxes::Outbox;
 use cka::agreement_length;
-use dr_base::{OUTBOX_LIMIT, PACKET_LIMIT, Position, Side, put, put_u16};
+use dr_base::{OUTBOX_LIMIT, PACKET_LIMIT, Position, Side, put, put_u8, put_u16};
 use grammar::Cursor;
 use kem_laws::{Kem, laws};
 use packet::{grammar, parse};
@@ -150,7 +150,7 @@ fn put_later(out: &mut [u8], at: usize, outbox: &Outbox, from: u32) -> usize
     requires room { at + length (print_counted w8 post_text (drop from outbox.now)) ≤ length out.old }
     ensures { Puts out.old out.new at (print_counted w8 post_text (drop from outbox.now)) result }
 {
-    let next = put_byte(out, at, (outbox.len() - from) as u8);
+    let next = put_u8(out, at, (outbox.len() - from) as u8);
     put_posts(out, next, outbox, from)
 }
 
@@ -161,7 +161,7 @@ fn put_more<K: Kem>(out: &mut [u8], at: usize, outbox: &Outbox, packet: &[u8]) -
     requires room { at + length (print_counted w8 post_text (outbox.now ++ post_of K.mechanism packet.now ∷ [])) ≤ length out.old }
     ensures { Puts out.old out.new at (print_counted w8 post_text (outbox.now ++ post_of K.mechanism packet.now ∷ [])) result }
 {
-    let at_first = put_byte(out, at, outbox.len() as u8 + 1);
+    let at_first = put_u8(out, at, outbox.len() as u8 + 1);
     let at_last = put_posts(out, at_first, outbox, 0);
     put_post(out, at_last, packet)
 }

@@ -1,3 +1,2 @@
-pub mod Descriptors
 pub mod Sockets
 pub mod Times

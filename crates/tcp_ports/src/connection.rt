@@ -2,7 +2,7 @@
 
 ghost use Rattle.std.specs.Prelude.{◌≡◌, ◌<◌, ◌≤◌, ◌↔◌, length, IsTrue, IfOk, OnErr, IfSome};
 ghost use Rattle.dr_ports.specs.Ports.{HasCause};
-ghost use Rattle.tcp_ports.specs.Descriptors.{IsOwn};
+ghost use Rattle.dr_base.specs.Descriptors.{IsOwn};
 ghost use Rattle.tcp_ports.specs.Times.{moved_on};
 
 use crate::patience::Patience;

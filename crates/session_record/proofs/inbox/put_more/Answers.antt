@@ -11,13 +11,13 @@ pub put_entries-at_last-requires-clause-room : goal.put_entries-at_last-requires
 put_entries-at_last-requires-clause-room c =
     let item = item_at c.args.position c.args.text.now in
     let size = ap (λ (l : List ℕ). length l) (print_items-push entry_text c.args.inbox.now item) in
-    omega (arith, size, length-append (print_items entry_text c.args.inbox.now) (entry_text item), c.requires.room, c.put_byte-at_first.ensures.next_is)
+    omega (arith, size, length-append (print_items entry_text c.args.inbox.now) (entry_text item), c.requires.room, c.put_u8-at_first.ensures.next_is)
 
 pub put_entry-requires-clause-room : goal.put_entry-requires-clause-room
 put_entry-requires-clause-room c =
     let item = item_at c.args.position c.args.text.now in
     let size = ap (λ (l : List ℕ). length l) (print_items-push entry_text c.args.inbox.now item) in
-    omega (arith, size, length-append (print_items entry_text c.args.inbox.now) (entry_text item), c.requires.room, c.put_byte-at_first.ensures.next_is, c.put_entries-at_last.ensures.next_is)
+    omega (arith, size, length-append (print_items entry_text c.args.inbox.now) (entry_text item), c.requires.room, c.put_u8-at_first.ensures.next_is, c.put_entries-at_last.ensures.next_is)
 
 pub returns : goal.returns
 returns c =
@@ -25,4 +25,4 @@ returns c =
     let count : c.len.result + 1 ≡ length (c.args.inbox.now ++ item_at c.args.position c.args.text.now ∷ []) =
     ap (λ n. n + 1) c.len.ensures.value ∙ sym (length_push c.args.inbox.now item) in
     rw (print_items-push entry_text c.args.inbox.now item)
-    (then_puts (rw count at c.put_byte-at_first.ensures) (then_puts c.put_entries-at_last.ensures c.put_entry.ensures))
+    (then_puts (rw count at c.put_u8-at_first.ensures) (then_puts c.put_entries-at_last.ensures c.put_entry.ensures))

@@ -7,4 +7,4 @@ pub returns : goal.returns
 returns c =
     let count : c.len.result - c.args.from ≡ length (drop c.args.from c.args.outbox.now) =
     ap (λ n. n - c.args.from) c.len.ensures.value ∙ sym (length-drop c.args.from c.args.outbox.now) in
-    then_puts (rw count at c.put_byte-next.ensures) c.put_posts.ensures
+    then_puts (rw count at c.put_u8-next.ensures) c.put_posts.ensures
