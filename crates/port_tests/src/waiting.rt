@@ -5,21 +5,32 @@ use dr_ports::{Failed, Pipe};
 use std::test::Fail;
 use std::thread;
 use std::time::{Duration, Instant};
-use tcp_ports::{Patience, TcpDoor, TcpLink};
+use tcp_ports::{Patience, TcpDoor, TcpLink, Whole};
 
-/// The patience of so many milliseconds with each call, and with the whole, if that is bounded.
-fn patience(call: u64, whole: Option<u64>) -> Patience {
+/// The patience of so many milliseconds with each call.
+fn endless(call: u64) -> Patience {
     Patience {
         call: Duration::from_millis(call),
-        whole: whole.map(Duration::from_millis),
+        whole: None,
+    }
+}
+
+/// The patience of so many milliseconds with the whole, and ten seconds with each call.
+fn bounded(least: u64, most: u64) -> Patience {
+    Patience {
+        call: Duration::from_secs(10),
+        whole: Some(Whole {
+            least: Duration::from_millis(least),
+            most: Duration::from_millis(most),
+        }),
     }
 }
 
 // Neither end says anything.
 #[test]
 fn gives_up_a_silent_peer(rt: HostRuntime) -> Result<(), Fail> {
-    let mut door = TcpDoor::with_patience(&rt, patience(40, None));
-    let mut link = TcpLink::with_patience(&rt, patience(40, None));
+    let mut door = TcpDoor::with_patience(&rt, endless(40));
+    let mut link = TcpLink::with_patience(&rt, endless(40));
     assert!(rt; are_joined(&mut door, &mut link, 47617, "127.0.0.1:47617"));
     let start = Instant::now(&rt)?;
     assert!(rt;
@@ -42,25 +53,32 @@ fn trickled<P: Pipe, Q: Pipe>(rt: &HostRuntime, from: &mut P, to: &mut Q, bytes:
     100
 }
 
-// Each byte comes well within the time of a call, and at 20 milliseconds each 100 of them take two seconds.
+/// Whether a door with a patience gives up a peer that sends this 100 times, which takes two seconds and more.
+fn gives_up(rt: &HostRuntime, patience: Patience, bytes: &[u8]) -> bool {
+    let mut door = TcpDoor::with_patience(rt, patience);
+    let mut link = TcpLink::new(rt);
+    if !are_joined(&mut door, &mut link, 47618, "127.0.0.1:47618") {
+        return false;
+    }
+    let came = trickled(rt, &mut link, &mut door, bytes);
+    came > 0 && came < 100 && door.send(b"late") == Err(Failed)
+}
+
+// Each byte comes well within the time of a call.
 #[test]
 fn gives_up_a_slow_peer(rt: HostRuntime) -> Result<(), Fail> {
-    let mut door = TcpDoor::with_patience(&rt, patience(10_000, Some(1_000)));
-    let mut link = TcpLink::new(&rt);
-    assert!(rt; are_joined(&mut door, &mut link, 47618, "127.0.0.1:47618"));
-    let came = trickled(&rt, &mut link, &mut door, b"a");
-    assert!(rt; came > 0 && came < 100);
-    assert!(rt; door.send(b"late") == Err(Failed));
+    assert!(rt; gives_up(&rt, bounded(1_000, 100_000), b"a"));
     Ok(())
 }
 
-// 100 pieces of 4,096 bytes give it 100 seconds more.
+// 100 pieces of 4,096 bytes give it 100 seconds more, and it has that much where it may last so long.
 #[test]
-fn bears_with_a_busy_peer(rt: HostRuntime) -> Result<(), Fail> {
-    let mut door = TcpDoor::with_patience(&rt, patience(10_000, Some(1_000)));
+fn bears_with_a_busy_peer_for_its_time(rt: HostRuntime) -> Result<(), Fail> {
+    let mut door = TcpDoor::with_patience(&rt, bounded(1_000, 100_000));
     let mut link = TcpLink::new(&rt);
     assert!(rt; are_joined(&mut door, &mut link, 47619, "127.0.0.1:47619"));
     assert!(rt; trickled(&rt, &mut link, &mut door, &[7; 4096]) == 100);
+    assert!(rt; gives_up(&rt, bounded(1_000, 1_000), &[7; 4096]));
     Ok(())
 }
 
@@ -80,7 +98,7 @@ fn stuffed<P: Pipe>(to: &mut P, bytes: &[u8]) -> Option<u64> {
 // The peer reads nothing: of 64 MiB only what the system has room for is taken, which is told, and then the call gives up.
 #[test]
 fn gives_up_a_peer_that_reads_nothing(rt: HostRuntime) -> Result<(), Fail> {
-    let mut door = TcpDoor::with_patience(&rt, patience(200, Some(10_000)));
+    let mut door = TcpDoor::with_patience(&rt, endless(200));
     let mut link = TcpLink::new(&rt);
     assert!(rt; are_joined(&mut door, &mut link, 47620, "127.0.0.1:47620"));
     let bytes = vec![in rt.alloc(); 7; 67_108_864]?;

@@ -3,9 +3,9 @@
 ghost use Rattle.std.specs.Prelude.{◌≡◌, ◌<◌, ◌≤◌, ◌↔◌, length, IsTrue, IfOk, OnErr, IfSome};
 ghost use Rattle.dr_ports.specs.Ports.{HasCause};
 ghost use Rattle.dr_base.specs.Descriptors.{IsOwn};
-ghost use Rattle.tcp_ports.specs.Times.{moved_on};
+ghost use Rattle.tcp_ports.specs.Times.{received, sent};
 
-use crate::patience::Patience;
+use crate::patience::{Patience, Traffic};
 use dr_ports::Failed;
 use std::io;
 use std::io::{Error, ErrorKind, Read, Write};
@@ -19,12 +19,12 @@ const TRIES: u32 = 1_000;
 /// The least descriptor that no standard stream has.
 const FIRST_OWN: i32 = 3;
 
-/// A stream, when it was taken, and how many bytes went over it.
+/// A stream, when it was taken, and what went over it.
 #[derive(Drop)]
 struct Open<S: Drop> {
     stream: S,
     begun: Instant,
-    moved: u64,
+    traffic: Traffic,
 }
 
 /// A stream, if one stands, and how often receiving or sending has failed. A call without a stream has failed, so has one on a
@@ -49,7 +49,7 @@ pub(crate) fn is_own<F: AsRawFd>(opened: &F) -> bool
 impl<S: Drop> Open<S> {
     /// For how long the next call may wait.
     fn wait<C: Clock>(&self, clock: &C, patience: Patience) -> io::Result<Duration> {
-        match patience.left(self.begun.elapsed(clock)?, self.moved) {
+        match patience.left(self.begun.elapsed(clock)?, self.traffic) {
             Some(wait) => Ok(wait),
             None => Err(Error::from(ErrorKind::TimedOut)),
         }
@@ -65,14 +65,14 @@ impl<S: Read + OpenStream + Drop> Open<S> {
         into: &mut [u8],
     ) -> io::Result<usize>
         ensures bound { IfOk result (λ count. count ≤ length into.old) }
-        ensures counted { IfOk result (λ count. self.new.moved ≡ moved_on self.old.moved count) }
-        ensures uncounted { OnErr result (self.new.moved ≡ self.old.moved) }
+        ensures counted { IfOk result (λ count. self.new.traffic ≡ received self.old.traffic count) }
+        ensures uncounted { OnErr result (self.new.traffic ≡ self.old.traffic) }
         ensures begun { self.new.begun ≡ self.old.begun }
     {
         let wait = self.wait(clock, patience)?;
         self.stream.set_read_timeout(Some(wait))?;
         let count = self.stream.read(into)?;
-        self.moved = self.moved.saturating_add(count as u64);
+        self.traffic.bytes = self.traffic.bytes.saturating_add(count as u64);
         Ok(count)
     }
 
@@ -84,8 +84,8 @@ impl<S: Read + OpenStream + Drop> Open<S> {
         into: &mut [u8],
     ) -> io::Result<usize>
         ensures bound { IfOk result (λ count. count ≤ length into.old) }
-        ensures counted { IfOk result (λ count. self.new.moved ≡ moved_on self.old.moved count) }
-        ensures uncounted { OnErr result (self.new.moved ≡ self.old.moved) }
+        ensures counted { IfOk result (λ count. self.new.traffic ≡ received self.old.traffic count) }
+        ensures uncounted { OnErr result (self.new.traffic ≡ self.old.traffic) }
         ensures begun { self.new.begun ≡ self.old.begun }
     {
         for _ in 0..TRIES {
@@ -107,22 +107,23 @@ impl<S: Write + OpenStream + Drop> Open<S> {
         bytes: &[u8],
     ) -> io::Result<usize>
         ensures bound { IfOk result (λ count. count ≤ length bytes.now) }
-        ensures counted { IfOk result (λ count. self.new.moved ≡ moved_on self.old.moved count) }
-        ensures uncounted { OnErr result (self.new.moved ≡ self.old.moved) }
+        ensures counted { IfOk result (λ count. self.new.traffic ≡ sent self.old.traffic count) }
+        ensures uncounted { OnErr result (self.new.traffic ≡ self.old.traffic) }
         ensures begun { self.new.begun ≡ self.old.begun }
     {
         let wait = self.wait(clock, patience)?;
         self.stream.set_write_timeout(Some(wait))?;
         let count = self.stream.write(bytes)?;
-        self.moved = self.moved.saturating_add(count as u64);
+        self.traffic.bytes = self.traffic.bytes.saturating_add(count as u64);
+        self.traffic.pieces = self.traffic.pieces.saturating_add(1);
         Ok(count)
     }
 
     /// Sends a beginning of the bytes.
     fn send<C: Clock>(&mut self, clock: &C, patience: Patience, bytes: &[u8]) -> io::Result<usize>
         ensures bound { IfOk result (λ count. count ≤ length bytes.now) }
-        ensures counted { IfOk result (λ count. self.new.moved ≡ moved_on self.old.moved count) }
-        ensures uncounted { OnErr result (self.new.moved ≡ self.old.moved) }
+        ensures counted { IfOk result (λ count. self.new.traffic ≡ sent self.old.traffic count) }
+        ensures uncounted { OnErr result (self.new.traffic ≡ self.old.traffic) }
         ensures begun { self.new.begun ≡ self.old.begun }
     {
         for _ in 0..TRIES {
@@ -159,11 +160,14 @@ impl<'a, R: Net + Clock> Connection<'a, R> {
         }
         match Instant::now(self.system) {
             Ok(begun) => {
-                let moved = 0;
+                let traffic = Traffic {
+                    bytes: 0,
+                    pieces: 0,
+                };
                 self.open = Some(Open {
                     stream,
                     begun,
-                    moved,
+                    traffic,
                 });
                 true
             }

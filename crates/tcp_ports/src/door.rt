@@ -30,7 +30,7 @@ impl<'a, R: Net + Clock> Model for TcpDoor<'a, R> {
 
 impl<'a, R: Net + Clock> TcpDoor<'a, R> {
     /// A door that doesn't listen yet, with no fault so far. A call on a connection waits for five seconds at most, and the
-    /// connection may take a minute, and a second more for each 4,096 bytes.
+    /// connection may take ten seconds, one more for each reply and each `RATE` bytes, and a minute at most.
     pub fn new(net: &'a R) -> TcpDoor<'a, R>
         ensures { result ≡ record { flow = 0; gate = 0 } }
     {

@@ -3,7 +3,7 @@
 ghost use Rattle.std.specs.Prelude.{◌≡◌, ◌≤◌, ◌-◌, ◌*◌, ◌↔◌, min, Some, None, IsNone, IfNone, IfSome, IsSomeAnd};
 ghost use Rattle.std.specs.Duration.{as_nanos};
 ghost use Rattle.tcp_ports.specs.Times.{allowance};
-ghost use Rattle.tcp_ports.specs.declared.patience.TheConstants.{LINK_CALL, DOOR_CALL, DOOR_WHOLE};
+ghost use Rattle.tcp_ports.specs.declared.patience.TheConstants.{LINK_CALL, DOOR_CALL, DOOR_LEAST, DOOR_MOST};
 
 use std::time::Duration;
 
@@ -16,17 +16,38 @@ const LINK_CALL: u64 = 60;
 /// For how many seconds a call on a door's connection waits. Its peer's next bytes are at most a round trip away.
 const DOOR_CALL: u64 = 5;
 
-/// For how many seconds a door's connection stands, if hardly anything goes over it.
-const DOOR_WHOLE: u64 = 60;
+/// For how many seconds a door's connection stands, if nothing goes over it.
+const DOOR_LEAST: u64 = 10;
+
+/// For how many seconds a door's connection stands, whatever goes over it.
+const DOOR_MOST: u64 = 60;
+
+/// How long a connection as a whole may take.
+#[derive(Clone, Copy)]
+pub struct Whole {
+    /// How long where nothing goes over it. Each piece that was sent, and each `RATE` bytes that went in either direction,
+    /// give it a second more.
+    pub least: Duration,
+    /// How long at most.
+    pub most: Duration,
+}
+
+/// What went over a connection.
+#[derive(Clone, Copy)]
+pub struct Traffic {
+    /// How many bytes, in either direction.
+    pub bytes: u64,
+    /// In how many pieces its own side sent what it did.
+    pub pieces: u64,
+}
 
 /// How long each call on a connection waits, and how long the connection as a whole may take.
 #[derive(Clone, Copy)]
 pub struct Patience {
     /// For how long a call waits.
     pub call: Duration,
-    /// How long the connection may take where hardly anything goes over it, and a second more for each `RATE` bytes that
-    /// went in either direction. Without it the connection may take as long as its calls do.
-    pub whole: Option<Duration>,
+    /// How long the connection may take. Without it that is as long as its calls do.
+    pub whole: Option<Whole>,
 }
 
 impl Patience {
@@ -41,31 +62,37 @@ impl Patience {
         }
     }
 
-    /// The patience with who comes in by a door: five seconds for each call, and a minute in all, with a second more for each
-    /// `RATE` bytes. So one peer holds the others up for a bounded time, whatever it does.
+    /// The patience with who comes in by a door: five seconds for each call, ten in all with a second more for each reply and
+    /// each `RATE` bytes, and a minute at most. So a peer that does little is soon given up, one with a slow line isn't, and
+    /// none holds the others up for longer than that.
     pub fn with_a_client() -> Self
         ensures each { as_nanos result.call ≡ DOOR_CALL * 1_000_000_000 }
-        ensures bounded { IsSomeAnd result.whole (λ whole. as_nanos whole ≡ DOOR_WHOLE * 1_000_000_000) }
+        ensures bounded { IsSomeAnd result.whole (λ whole. (as_nanos whole.least ≡ DOOR_LEAST * 1_000_000_000)
+            × (as_nanos whole.most ≡ DOOR_MOST * 1_000_000_000)) }
     {
         Patience {
             call: Duration::from_secs(DOOR_CALL),
-            whole: Some(Duration::from_secs(DOOR_WHOLE)),
+            whole: Some(Whole {
+                least: Duration::from_secs(DOOR_LEAST),
+                most: Duration::from_secs(DOOR_MOST),
+            }),
         }
     }
 
-    /// For how long the next call may wait on a connection that has taken `gone` so far, with this many bytes. There is
+    /// For how long the next call may wait on a connection that has taken `gone` so far, with this traffic. There is
     /// none once the connection has taken all that it may.
-    pub fn left(&self, gone: Duration, moved: u64) -> Option<Duration>
+    pub fn left(&self, gone: Duration, traffic: Traffic) -> Option<Duration>
         ensures endless { IfNone self.now.whole (result ≡ Some self.now.call) }
-        ensures over { IfSome self.now.whole (λ whole. IsNone result ↔ (allowance (as_nanos whole) moved ≤ as_nanos gone)) }
+        ensures over { IfSome self.now.whole (λ whole. IsNone result ↔ (allowance whole traffic ≤ as_nanos gone)) }
         ensures left { IfSome self.now.whole (λ whole. IfSome result (λ wait.
-            as_nanos wait ≡ min (as_nanos self.now.call) (allowance (as_nanos whole) moved - as_nanos gone))) }
+            as_nanos wait ≡ min (as_nanos self.now.call) (allowance whole traffic - as_nanos gone))) }
     {
         let Some(whole) = self.whole else {
             return Some(self.call);
         };
-        let allowed = whole.saturating_add(Duration::from_secs(moved / RATE));
-        let left = allowed.saturating_sub(gone);
+        let earned = (traffic.bytes / RATE).saturating_add(traffic.pieces);
+        let allowed = whole.least.saturating_add(Duration::from_secs(earned));
+        let left = allowed.min(whole.most).saturating_sub(gone);
         if left.is_zero() {
             return None;
         }
