@@ -1,18 +1,12 @@
-//! Tests of the whole program over ports in memory: its commands, its scripts with the lines and the status that each must
-//! have, and each fault once.
+//! Tests of the whole program over ports in memory: each fault once, and the bytes that go to a relay and come from one. Its
+//! scripts and commands are tried on the built program.
 #![tactic(auto)]
 
 #[cfg(test)]
-mod arguments;
+mod answers;
 #[cfg(test)]
-mod commands;
-#[cfg(test)]
-mod lines;
+mod faults;
 #[cfg(test)]
 mod relays;
 #[cfg(test)]
 mod running;
-#[cfg(test)]
-mod scripted;
-#[cfg(test)]
-mod tables;

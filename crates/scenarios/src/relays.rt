@@ -1,6 +1,6 @@
 //! The commands that meet a relay, over links and doors in memory.
 
-use crate::commands::{answers_over, are_answered};
+use crate::answers::{answers_over, are_answered};
 use crate::running::Network;
 use dr_disk::SteadyDisk;
 use dr_ports::{MemoryLink, Stand};

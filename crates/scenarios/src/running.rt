@@ -3,8 +3,10 @@
 use dr_base::Key32;
 use dr_disk::{Disk, SteadyDisk};
 use dr_ports::{MemoryDoor, MemoryLink, Sink, Source, SteadyDraws};
-use messenger_cli::{DISK_SIZE, RELAY_DISK_SIZE, Status, run};
+use messenger_cli::{DISK_SIZE, RELAY_DISK_SIZE, Status, run, run_arguments};
 use std::alloc::{AllocError, Global};
+use std::env::Args;
+use std::io;
 
 /// The network of a run: a relay's disk, a link, and a door.
 #[derive(Drop)]
@@ -65,4 +67,42 @@ pub fn run_duet<S: Source, O: Sink>(
 ) -> Result<Status, AllocError> {
     let mut disk = SteadyDisk::new(alloc, DISK_SIZE)?;
     run_on(alloc, "duet", &mut disk, network, source, out)
+}
+
+/// Runs the program on its arguments over this disk and this network.
+fn run_over<S: Source, O: Sink>(
+    alloc: Global,
+    given: io::Result<Args>,
+    disk: &mut SteadyDisk,
+    network: &mut Network,
+    source: &mut S,
+    out: &mut O,
+) -> Result<Status, AllocError> {
+    let mut draws = SteadyDraws::new(alloc, &[Key32 { bytes: [7; 32] }])?;
+    if disk.size() < DISK_SIZE || network.relay_disk.size() < RELAY_DISK_SIZE {
+        return Err(AllocError);
+    }
+    Ok(run_arguments(
+        alloc,
+        given,
+        disk,
+        &mut network.relay_disk,
+        source,
+        out,
+        &mut network.link,
+        &mut network.door,
+        &mut draws,
+    ))
+}
+
+/// Runs the program on its arguments, on disks of the sizes that it asks for.
+pub fn run_given<S: Source, O: Sink>(
+    alloc: Global,
+    given: io::Result<Args>,
+    source: &mut S,
+    out: &mut O,
+) -> Result<Status, AllocError> {
+    let mut disk = SteadyDisk::new(alloc, DISK_SIZE)?;
+    let mut network = Network::new(alloc, b"", b"")?;
+    run_over(alloc, given, &mut disk, &mut network, source, out)
 }

@@ -1,23 +1,26 @@
-//! Scripts, with the lines and the status that each must have.
+//! Each fault once: reads, writes and disks that fail, and arguments that can't be read.
 
-use crate::lines::put_lines;
-use crate::running::{Network, run_duet};
-use crate::tables::{BAD_LINES, HEAD, KEPT, OVER_SNTRUP, SCENARIOS, STOPS, SYNCS};
+use crate::answers::answers;
+use crate::running::{Network, run_duet, run_given};
+use dr_disk::MemoryDisk;
 use dr_ports::{MemorySink, MemorySource};
+use messenger_cli::DISK_SIZE;
 use std::alloc::{AllocError, Global};
+use std::io;
+use std::io::ErrorKind;
 use std::test::Fail;
 
 /// A script whose last line doesn't end in a line feed.
-pub const HELLO: &[u8] =
+const HELLO: &[u8] =
     b"kem open\nkey 0000000000000000000000000000000000000000000000000000000000000000\nsecond say hi\nfirst take 0.1\nfirst inbox\nfirst take 0.1";
 
 /// What it is answered with.
-pub const HELLO_TRACE: &[u8] =
+const HELLO_TRACE: &[u8] =
     b"second said 0.1\nfirst opened 0.1\nfirst inbox 1\nfirst 0.1 \"hi\"\nfirst refused Spent 0.1\n";
 
 /// The status of a script, and whether just these bytes were written. The reads and the writes of these numbers fail,
 /// and there is room for this many bytes.
-pub fn outcome(
+fn outcome(
     alloc: Global,
     network: &mut Network,
     script: &[u8],
@@ -30,65 +33,6 @@ pub fn outcome(
     let mut out = MemorySink::new(alloc, room, writes)?;
     let status = run_duet(alloc, network, &mut source, &mut out)?;
     Ok((status.code, out.taken() == expected))
-}
-
-/// Whether a scenario's script is answered with its lines.
-fn holds(
-    alloc: Global,
-    network: &mut Network,
-    script: &str,
-    answers: &str,
-) -> Result<bool, AllocError> {
-    let mut text = Vec::new(alloc);
-    if !script.starts_with("kem") {
-        text.extend_from_slice(HEAD.as_bytes())?;
-    }
-    put_lines(&mut text, alloc, script)?;
-    let mut expected = Vec::new(alloc);
-    put_lines(&mut expected, alloc, answers)?;
-    let status = if answers.starts_with("refused: Script") {
-        3
-    } else {
-        0
-    };
-    Ok(
-        outcome(
-            alloc,
-            network,
-            text.as_slice(),
-            &[],
-            &[],
-            16384,
-            expected.as_slice(),
-        )? == (status, true),
-    )
-}
-
-#[test]
-fn answers_scripts(rt: HostRuntime) -> Result<(), Fail> {
-    let alloc = rt.alloc();
-    let mut network = Network::new(alloc, b"", b"")?;
-    let tables = [
-        (SCENARIOS, 9_u32),
-        (KEPT, 8),
-        (BAD_LINES, 17),
-        (OVER_SNTRUP, 5),
-        (STOPS, 30),
-        (SYNCS, 16),
-    ];
-    for (scenarios, held) in tables {
-        let mut count = 0_u32;
-        for scenario in scenarios.split("\n\n") {
-            if let Some((title, lines)) = scenario.split_once('\n') {
-                let (script, answers) = lines.split_once("\n=>\n").ok_or("no answers")?;
-                assert!(rt; holds(alloc, &mut network, script, answers)?, "{title}");
-                count = count.wrapping_add(1);
-            }
-        }
-        assert!(rt; count == held);
-    }
-    assert!(rt; outcome(alloc, &mut network, HELLO, &[], &[], 4096, HELLO_TRACE)? == (0, true));
-    Ok(())
 }
 
 #[test]
@@ -123,5 +67,31 @@ fn says_what_failed(rt: HostRuntime) -> Result<(), Fail> {
             b"refused: InputTooLong 65536\n"
         )? == (3, true)
     );
+    Ok(())
+}
+
+#[test]
+fn tells_a_disk_that_stops(rt: HostRuntime) -> Result<(), Fail> {
+    let alloc = rt.alloc();
+    let mut disk = MemoryDisk::new(alloc, DISK_SIZE)?;
+    disk.stop_after(0);
+    assert!(rt; answers(alloc, &mut disk, "begin|first>^>6>fault: disk;")?);
+    disk.go_on();
+    assert!(rt; answers(alloc, &mut disk, "state>>9>no session;")?);
+    Ok(())
+}
+
+#[test]
+fn asks_for_words(rt: HostRuntime) -> Result<(), Fail> {
+    let alloc = rt.alloc();
+    let mut source = MemorySource::new(alloc, HELLO, &[])?;
+    let mut out = MemorySink::new(alloc, 64, &[])?;
+    let cases = [(ErrorKind::InvalidData, 2), (ErrorKind::OutOfMemory, 13)];
+    for (kind, status) in cases {
+        let unread = Err(io::Error::from(kind));
+        let ended = run_given(alloc, unread, &mut source, &mut out)?;
+        assert!(rt; ended.code == status);
+    }
+    assert!(rt; out.taken() == b"usage\nno memory\n".as_slice());
     Ok(())
 }
