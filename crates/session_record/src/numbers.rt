@@ -1,6 +1,6 @@
 //! The fields of a record that are numbers.
 
-ghost use Rattle.std.specs.Prelude.{◌≤◌, IfOk};
+ghost use Rattle.std.specs.Prelude.{◌≡◌, ◌≤◌, IfOk};
 ghost use Rattle.std.specs.Int.{w8};
 ghost use Rattle.grammar.specs.Reader.{checked, number};
 ghost use Rattle.grammar.specs.Standing.{Reads};
