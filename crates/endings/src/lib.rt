@@ -2,7 +2,7 @@
 #![tactic(auto)]
 
 pub use ending::{Ending, PeerKind};
-pub use status::{Status, finish};
+pub use status::{Status, UNWRITTEN, finish};
 
 mod ending;
 mod status;

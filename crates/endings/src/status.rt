@@ -16,6 +16,9 @@ pub struct Status {
     pub code: u8,
 }
 
+/// What it ends with where a line couldn't be written.
+pub const UNWRITTEN: Status = Status { code: 5 };
+
 /// What is wrong with a relay's bytes.
 #[tactic(auto, unfolding(crate::specs::Ending::peer_kind_text))]
 fn peer_kind_name(kind: PeerKind) -> &'static [u8]
@@ -126,6 +129,6 @@ pub fn finish<O: Sink>(out: &mut O, ending: Ending) -> Status
         Ok(()) => Status {
             code: ending.code(),
         },
-        Err(Failed) => Status { code: 5 },
+        Err(Failed) => UNWRITTEN,
     }
 }

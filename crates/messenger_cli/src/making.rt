@@ -6,7 +6,7 @@ ghost use Rattle.messenger_cli.specs.Making.{IsTallyOf, PlaysMade};
 
 use dr_ports::{Failed, NullSink, Sink, write_all};
 use duet::{PlayError, Tally, play, summary_lines};
-use endings::{Ending, Status, finish};
+use endings::{Ending, Status, UNWRITTEN, finish};
 use kem_laws::OpenKem;
 use scripts::Script;
 use session_model::Refusal;
@@ -41,7 +41,7 @@ pub(crate) fn play_made<O: Sink>(alloc: Global, rounds: u32, number: u64, out: &
         Ok(tally) => tally,
     };
     match write_all(out, summary_lines(&tally).as_slice()) {
-        Err(Failed) => Status { code: 5 },
+        Err(Failed) => UNWRITTEN,
         Ok(()) => finish(out, Ending::Done),
     }
 }

@@ -6,7 +6,7 @@ ghost use Rattle.messenger_cli.specs.Runs.{IsCutOff, RunsDuet, Works};
 use crate::mechanisms::play_named;
 use dr_ports::{Failed, InputError, Sink, Source, read_whole};
 use duet::PlayError;
-use endings::{Ending, Status, finish};
+use endings::{Ending, Status, UNWRITTEN, finish};
 use scripts::{Script, ScriptError};
 use session_model::Refusal;
 use std::alloc::Global;
@@ -53,6 +53,6 @@ pub(crate) fn play_script<S: Source, O: Sink>(alloc: Global, source: &mut S, out
 {
     match work(alloc, source, out) {
         Ok(ending) => finish(out, ending),
-        Err(Failed) => Status { code: 5 },
+        Err(Failed) => UNWRITTEN,
     }
 }

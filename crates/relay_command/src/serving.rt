@@ -12,7 +12,7 @@ use crate::connecting::{Fault, serve_next};
 use crate::lines::{connection_line, port_line};
 use dr_disk::Disk;
 use dr_ports::{Door, Failed, Sink, write_all};
-use endings::{Ending, Status, finish};
+use endings::{Ending, Status, UNWRITTEN, finish};
 use relay_server::Server;
 
 /// How the command ends where no connection more is served.
@@ -45,7 +45,7 @@ pub(crate) fn serve_all<A: Disk, L: Door, O: Sink>(
         Ok(()) => {}
     }
     match write_all(out, port_line(port).as_bytes()) {
-        Err(Failed) => return Status { code: 5 },
+        Err(Failed) => return UNWRITTEN,
         Ok(()) => {}
     }
     'connections: for i in 0..count {
@@ -54,7 +54,7 @@ pub(crate) fn serve_all<A: Disk, L: Door, O: Sink>(
             Ok(connected) => connected,
         };
         match write_all(out, connection_line(u64::from(i) + 1, connected).as_bytes()) {
-            Err(Failed) => return Status { code: 5 },
+            Err(Failed) => return UNWRITTEN,
             Ok(()) => {}
         }
     }

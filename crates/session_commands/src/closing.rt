@@ -8,7 +8,7 @@ ghost use Rattle.session_commands.specs.Closing.{answer_line, ending_by, lines_b
 
 use answer_lines::put_answer;
 use dr_ports::{Failed, OutputLine, Sink, write_all};
-use endings::{Ending, Status, finish};
+use endings::{Ending, Status, UNWRITTEN, finish};
 use session_model::Answer;
 
 /// The line of an answer.
@@ -29,7 +29,7 @@ pub(crate) fn finish_written<O: Sink>(out: &mut O, wrote: Result<(), Failed>) ->
 {
     match wrote {
         Ok(()) => finish(out, Ending::Done),
-        Err(Failed) => Status { code: 5 },
+        Err(Failed) => UNWRITTEN,
     }
 }
 

@@ -14,7 +14,7 @@ use crate::endings_of::unopened;
 use client::{Client, SyncFault, SyncRefusal};
 use dr_disk::Disk;
 use dr_ports::{Failed, Link, Sink};
-use endings::{Ending, PeerKind, Status, finish};
+use endings::{Ending, PeerKind, Status, UNWRITTEN, finish};
 use kem_laws::Kem;
 use session_model::Refusal;
 use std::alloc::Global;
@@ -63,7 +63,7 @@ fn close_broken<O: Sink>(out: &mut O, fault: SyncFault) -> Status
     ensures later { O.faults out.old ≤ O.faults out.new }
 {
     match fault {
-        SyncFault::Write => Status { code: 5 },
+        SyncFault::Write => UNWRITTEN,
         _ => finish(out, broken_off(fault)),
     }
 }
