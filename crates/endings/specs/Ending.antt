@@ -3,8 +3,8 @@ use Rattle.std.specs.Prelude.{ℕ, List, [], ◌++◌, codes, decimal}
 use Rattle.answer_lines.specs.Answers.{refusal_text}
 use Rattle.endings.specs.declared.ending.Ending.{Ending}
 use Rattle.endings.specs.declared.ending.Ending.TheVariants.{Done, Usage, InputTooLong, BadKey, NotHex, BadBox, BoxName, BadLine, Refused, BoxFull, NoBox, ReadFault, DiskFault, LinkFault, DrawFault, NoSession, Exists, Damaged, DamagedArea, Peer, NoMemory}
-use Rattle.endings.specs.declared.ending.PeerKind.{PeerKind}
-use Rattle.endings.specs.declared.ending.PeerKind.TheVariants.{Frame, Kind, Size, Wrong, Ended}
+use Rattle.relay_pipe.specs.declared.faults.PeerKind.{PeerKind}
+use Rattle.relay_pipe.specs.declared.faults.PeerKind.TheVariants.{Frame, Kind, Size, Wrong, Ended}
 
 -- the status
 abbrev pub code_of : Ending → ℕ

@@ -3,22 +3,8 @@
 ghost use Rattle.std.specs.Prelude.{◌≡◌};
 ghost use Rattle.endings.specs.Ending.{code_of};
 
+use relay_pipe::PeerKind;
 use session_model::Refusal;
-
-/// What is wrong with the bytes that a relay sent in place of a reply.
-#[derive(Clone, Copy, PartialEq, Eq)]
-pub enum PeerKind {
-    /// A length that no frame has.
-    Frame,
-    /// A first byte that no reply has.
-    Kind,
-    /// A rest that isn't as the first byte asks.
-    Size,
-    /// A reply that doesn't answer the request.
-    Wrong,
-    /// The bytes ended inside a reply.
-    Ended,
-}
 
 /// How a command ended, but for a write that failed.
 #[derive(Clone, Copy)]

@@ -1,7 +1,7 @@
 //! How a command of the program ends: a row for each way, with its status and its last line, and the writing of that line.
 #![tactic(auto)]
 
-pub use ending::{Ending, PeerKind};
+pub use ending::Ending;
 pub use status::{Status, UNWRITTEN, finish};
 
 mod ending;

@@ -5,9 +5,10 @@ ghost use Rattle.answer_lines.specs.Answers.{refusal_text};
 ghost use Rattle.endings.specs.Ending.{ending_text, last_line, peer_kind_text};
 ghost use Rattle.endings.specs.Ends.{Ends};
 
-use crate::ending::{Ending, PeerKind};
+use crate::ending::Ending;
 use answer_lines::{put_named, put_refusal};
 use dr_ports::{Failed, OutputLine, ROOM, Sink, write_all};
+use relay_pipe::PeerKind;
 use session_model::Refusal;
 
 /// What the program ends with.

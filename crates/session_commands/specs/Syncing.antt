@@ -14,12 +14,8 @@ use Rattle.dr_ports.specs.Writing.{TookBeginning}
 use Rattle.dr_ports.specs.declared.pipe.Part.TheVariants.{Flow, Gate}
 use Rattle.endings.specs.declared.ending.Ending.{Ending}
 use Rattle.endings.specs.declared.ending.Ending.TheVariants.{BoxFull, DiskFault, Done, LinkFault, NoBox, Peer, Refused}
-use Rattle.endings.specs.declared.ending.PeerKind.{PeerKind as EndsKind}
-use Rattle.endings.specs.declared.ending.PeerKind.TheVariants.{Ended as EndsEnded, Frame as EndsFrame, Kind as EndsKindOf, Size as EndsSize, Wrong as EndsWrong}
 use Rattle.kem_laws.specs.Mechanism.{Mechanism}
 use Rattle.relay_pipe.specs.Asking.{fault_at}
-use Rattle.relay_pipe.specs.declared.faults.PeerKind.{PeerKind}
-use Rattle.relay_pipe.specs.declared.faults.PeerKind.TheVariants.{Ended, Frame, Kind, Size, Wrong}
 use Rattle.relay_wire.specs.Replies.{IsLawfulReplied, Replied}
 use Rattle.session_model.specs.Clients.{Client}
 use Rattle.session_model.specs.declared.answer.Refusal.TheVariants.{InboxFull}
@@ -48,18 +44,11 @@ use Rattle.session_commands.specs.Opening.{ending_of_open}
 
 -- ---- how the command ends
 
-abbrev pub peer_kind_of : PeerKind → EndsKind
-peer_kind_of Frame = EndsFrame
-peer_kind_of Kind = EndsKindOf
-peer_kind_of Size = EndsSize
-peer_kind_of Wrong = EndsWrong
-peer_kind_of Ended = EndsEnded
-
 -- a write that failed has no ending of its own: the status says it
 abbrev pub ending_of_fault : SyncFault → Ending
 ending_of_fault (SyncClosed call) = DiskFault
 ending_of_fault SyncLink = LinkFault
-ending_of_fault (SyncPeer at what) = Peer (peer_kind_of what) at
+ending_of_fault (SyncPeer at what) = Peer what at
 ending_of_fault (SyncRefused SyncInboxFull) = Refused InboxFull
 ending_of_fault (SyncRefused SyncBoxFull) = BoxFull
 ending_of_fault (SyncRefused SyncUnknown) = NoBox

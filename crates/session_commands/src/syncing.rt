@@ -8,30 +8,17 @@ ghost use Rattle.sync_model.specs.declared.more.More.{More};
 ghost use Rattle.endings.specs.Ends.{Ends};
 ghost use Rattle.client.specs.Clients.{client_area};
 ghost use Rattle.session_commands.specs.Runs.{Runs};
-ghost use Rattle.session_commands.specs.Syncing.{HasWritten, IsNear, RunsSync, ending_of_fault, ending_of_sync, peer_kind_of};
+ghost use Rattle.session_commands.specs.Syncing.{HasWritten, IsNear, RunsSync, ending_of_fault, ending_of_sync};
 
 use crate::endings_of::unopened;
 use client::{Client, SyncFault, SyncRefusal};
 use dr_disk::Disk;
 use dr_ports::{Failed, Link, Sink};
-use endings::{Ending, PeerKind, Status, UNWRITTEN, finish};
+use endings::{Ending, Status, UNWRITTEN, finish};
 use kem_laws::Kem;
 use session_model::Refusal;
 use std::alloc::Global;
 use sync_model::More;
-
-/// What is wrong with a relay's bytes.
-fn kind_of(kind: relay_pipe::PeerKind) -> PeerKind
-    ensures { result ≡ peer_kind_of kind }
-{
-    match kind {
-        relay_pipe::PeerKind::Frame => PeerKind::Frame,
-        relay_pipe::PeerKind::Kind => PeerKind::Kind,
-        relay_pipe::PeerKind::Size => PeerKind::Size,
-        relay_pipe::PeerKind::Wrong => PeerKind::Wrong,
-        relay_pipe::PeerKind::Ended => PeerKind::Ended,
-    }
-}
 
 /// How the command ends where a sync broke off.
 fn broken_off(fault: SyncFault) -> Ending
@@ -42,7 +29,7 @@ fn broken_off(fault: SyncFault) -> Ending
         SyncFault::Closed { .. } => Ending::DiskFault,
         SyncFault::Link => Ending::LinkFault,
         SyncFault::Peer { at, kind } => Ending::Peer {
-            kind: kind_of(kind),
+            kind,
             at: at as u32,
         },
         SyncFault::Refused(SyncRefusal::InboxFull) => Ending::Refused(Refusal::InboxFull),
