@@ -2,7 +2,7 @@
 
 ghost use Rattle.std.specs.Prelude.{◌≡◌, ℕ, ◌+◌, ◌≤◌, List, ◌++◌, length};
 ghost use Rattle.boxes.specs.Items.{item_at};
-ghost use Rattle.answer_lines.specs.declared.texts.TheConstants.{HEAD_LIMIT};
+ghost use Rattle.answer_lines.specs.declared.texts.TheConstants.{HEAD_LIMIT, TEXT_LINE_LIMIT};
 ghost use Rattle.answer_lines.specs.Texts.{escaped, is_plain, text_line};
 
 use crate::answers::put_position;
@@ -13,8 +13,12 @@ use dr_ports::OutputLine;
 /// The longest head of a text's line, in bytes.
 pub const HEAD_LIMIT: usize = 16;
 
-/// The line of a text: each of its 1,024 bytes takes four at most.
-pub type TextLine = ArrayVec<u8, 4192>;
+/// The longest line of a text, in bytes: each byte of the text takes four at most, and what stands
+/// around it has room.
+pub const TEXT_LINE_LIMIT: usize = 4 * TEXT_LIMIT + 96;
+
+/// The line of a text.
+pub type TextLine = ArrayVec<u8, TEXT_LINE_LIMIT>;
 
 /// Whether a byte stands for itself.
 fn is_plain(byte: u8) -> bool
@@ -26,7 +30,7 @@ fn is_plain(byte: u8) -> bool
 /// Puts one byte of a text after what stands.
 #[tactic(auto, using(crate::proofs::Escaping::plain_byte))]
 fn put_escaped(line: &mut TextLine, byte: u8)
-    requires { length line.old.items + 4 ≤ 4192 }
+    requires { length line.old.items + 4 ≤ TEXT_LINE_LIMIT }
     ensures bytes { line.new.items ≡ line.old.items ++ escaped byte }
     ensures len { length line.new.items ≤ length line.old.items + 4 }
 {

@@ -4,6 +4,7 @@ use Rattle.std.specs.Prelude.{All, Any, filter, nat_le, nat_lt, length, option_m
 use Rattle.std.proofs.lemmas.List.Elements.{All-drop, All-filter, All-head, All-map, All-tail, filter_passes}
 use Rattle.boxes.specs.Items.{Item}
 use Rattle.dr_base.specs.Position.{is_own}
+use Rattle.dr_base.specs.declared.limits.TheConstants.{INBOX_LIMIT, KEPT_LIMIT}
 use Rattle.dr_base.specs.declared.position.Position.{Position}
 use Rattle.dr_base.specs.declared.position.Side.{Side}
 use Rattle.dr_disk.specs.State.{Always, DiskState}
@@ -64,8 +65,9 @@ opens_at : (w : World) (side : Side) (p q : Position) → (settled w (taking_in 
     → (p ≡ q) × (has_opened (view_of (settled w (taking_in w side p)).next side) q ≡ true)
 opens_at w side p q =
     let missing = length (missing_of w.conversation (after_opening (view_of w side) p)) in
-    opens_by w side (is_own side p.epoch) (has_opened (view_of w side) p) (nat_lt 256 missing)
-    (nat_le 64 (length (inbox_in w side))) (OwnPacket p.epoch) (Spent p) (SkipLimit missing) InboxFull p q
+    opens_by w side (is_own side p.epoch) (has_opened (view_of w side) p)
+    (nat_lt KEPT_LIMIT missing) (nat_le INBOX_LIMIT (length (inbox_in w side)))
+    (OwnPacket p.epoch) (Spent p) (SkipLimit missing) InboxFull p q
 
 opens_made : (k : Mechanism) (w : World) (side : Side) (bytes : List ℕ) (made : Option Position) (q : Position)
     → (settled w (taking_made k w side bytes made)).answer ≡ Opened q

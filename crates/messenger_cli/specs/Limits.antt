@@ -9,6 +9,7 @@ use Rattle.relay_core.specs.declared.limits.TheConstants.{BOX_LIMIT, EXCHANGE_LI
 use Rattle.sync_model.specs.declared.limits.TheConstants.{ITEM_LIMIT}
 use Rattle.command_words.specs.declared.limits.TheConstants.{CONNECTION_LIMIT, PORT_LIMIT, ROUND_LIMIT}
 use Rattle.relay_command.specs.declared.relaying.TheConstants.{RELAY_DISK_SIZE}
+use Rattle.scripts.specs.declared.hexed.TheConstants.{HEX_LIMIT}
 use Rattle.messenger_cli.specs.declared.playing.TheConstants.{SCRIPT_LIMIT}
 use Rattle.messenger_cli.specs.declared.program.TheConstants.{DISK_SIZE}
 
@@ -28,11 +29,13 @@ pub record HasFiles : Type 0 where
   pub slot : SLOT ≡ 196608
   pub disk : DISK_SIZE ≡ 393216
 
--- of what is read: bytes of a key, of a packet in hex digits and of a script
+-- of what is read: bytes of a key, of a packet in hex digits, of a script, and of what a line of it
+-- gives in hex
 pub record HasInputs : Type 0 where
   pub key : KEY_TEXT_LIMIT ≡ 65
   pub packet : PACKET_TEXT_LIMIT ≡ 6573
   pub script : SCRIPT_LIMIT ≡ 65536
+  pub hex : HEX_LIMIT ≡ 4000
 
 -- of words: a port's number, connections of a relay, and rounds of a made script
 pub record HasWords : Type 0 where

@@ -5,6 +5,7 @@ use Rattle.std.specs.Int.{w8, w16, w32, to_be_bytes}
 use Rattle.std.proofs.lemmas.Bool.{leb-true, le-leb, eqb-true, eq-eqb}
 use Rattle.packet.specs.declared.fault.Kind.TheVariants.{Version, Epoch, Previous, Index, Agreement, Text}
 use Rattle.packet.specs.declared.fault.Malformed.{Malformed}
+use Rattle.dr_base.specs.declared.limits.TheConstants.{PACKET_FRAME}
 use Rattle.packet.specs.Packet.{agreement_len}
 use Rattle.dr_base.specs.Bytes.{AreBytes}
 use Rattle.packet.specs.Reading.{◌>>=◌, lawful, field, ended, read_packet, is_version, is_epoch, is_previous, is_index, is_text_len}
@@ -31,7 +32,7 @@ fault_in_message : (agreement : ℕ) (bytes : List ℕ) (fault : Malformed) (ses
       text_len ← lawful w16 (31 + size.0) Text is_text_len message.1
       ciphertext ← field (33 + size.0) text_len.0 text_len.1
       tag ← field (33 + size.0 + text_len.0) 32 ciphertext.1
-      ended (65 + size.0 + text_len.0) tag.1 (made session epoch previous index message.0 ciphertext.0 tag.0))
+      ended (PACKET_FRAME + size.0 + text_len.0) tag.1 (made session epoch previous index message.0 ciphertext.0 tag.0))
     ≡ Err fault
     → IsFault agreement bytes fault
 fault_in_message agreement bytes fault session epoch previous index rest head s5 e =

@@ -5,7 +5,7 @@ use Rattle.std.specs.List.{concat}
 use Rattle.std.specs.Int.{w16, w32, to_be_bytes}
 use Rattle.std.proofs.lemmas.Bool.{leb-true, le-leb, eqb-false}
 use Rattle.std.proofs.lemmas.List.{length-append, take_at}
-use Rattle.dr_base.specs.declared.limits.TheConstants.{TEXT_LIMIT}
+use Rattle.dr_base.specs.declared.limits.TheConstants.{PACKET_FRAME, TEXT_LIMIT}
 use Rattle.packet.specs.declared.fault.Kind.TheVariants.{Text}
 use Rattle.packet.specs.declared.fault.Malformed.{Malformed}
 use Rattle.packet.specs.Packet.{Fields, agreement_len}
@@ -35,7 +35,7 @@ pub fault_in_text : (agreement : ℕ) (bytes : List ℕ) (fault : Malformed) (se
       text_len ← lawful w16 (31 + length message) Text is_text_len rest
       ciphertext ← field (33 + length message) text_len.0 text_len.1
       tag ← field (33 + length message + text_len.0) 32 ciphertext.1
-      ended (65 + length message + text_len.0) tag.1 (made session epoch previous index message ciphertext.0 tag.0))
+      ended (PACKET_FRAME + length message + text_len.0) tag.1 (made session epoch previous index message ciphertext.0 tag.0))
     ≡ Err fault
     → IsFault agreement bytes fault
 fault_in_text agreement bytes fault session epoch previous index message rest head message_len message_fits s7 e =
@@ -72,16 +72,16 @@ fault_in_text agreement bytes fault session epoch previous index message rest he
     let g = field_read (33 + length message + text_len.0) 32 ciphertext.1 tag c.0.rest_small tag_is in
     let whole : Fields = made session epoch previous index message ciphertext.0 tag.0 in
     let s10 = one_more agreement bytes 9 (33 + length message + text_len.0)
-    (65 + length message + text_len.0) _ whole ciphertext.1 tag.1 s9 (omega arith)
+    (PACKET_FRAME + length message + text_len.0) _ whole ciphertext.1 tag.1 s9 (omega arith)
     (made_lawful agreement session epoch previous index message ciphertext.0 tag.0 head message_len (omega (arith, c.1)) g.1)
     (λ h. message_fits) refl g.0.parts (omega (arith, g.1)) g.0.rest_small in
     let end = failed (nat_eq (length tag.1) 0) whole _ fault e10 in
     let more : 0 < length tag.1 = not_empty (length tag.1) (eqb-false _ _ end.0) in
-    let long : IsLong agreement bytes (65 + length message + text_len.0) = record {
+    let long : IsLong agreement bytes (PACKET_FRAME + length message + text_len.0) = record {
       fields = whole;
       lawful = s10.lawful;
-      before = ap (take (65 + length message + text_len.0)) s10.parts ∙ take_at _ tag.1
-          (65 + length message + text_len.0) s10.len ∙ sym (packet_of-pieces whole);
+      before = ap (take (PACKET_FRAME + length message + text_len.0)) s10.parts ∙ take_at _ tag.1
+          (PACKET_FRAME + length message + text_len.0) s10.len ∙ sym (packet_of-pieces whole);
       more = omega (arith, ap length s10.parts, length-append (concat (pieces_of whole)) tag.1, s10.len, more);
     } in
     subst (IsFault agreement bytes) end.1 long)))

@@ -1,6 +1,7 @@
 -- Reading a packet in two halves: the numbers that come first, and what their sizes tell.
 use Rattle.std.specs.Prelude.{ℕ, ◌+◌, ◌==◌, List, Result, Ok}
 use Rattle.std.specs.Int.{w8, w16, w32}
+use Rattle.dr_base.specs.declared.limits.TheConstants.{PACKET_FRAME}
 use Rattle.packet.specs.declared.parts.Head.{Head as HeadPart}
 use Rattle.packet.specs.declared.fault.Kind.TheVariants.{Version, Epoch, Previous, Index, Agreement, Text}
 use Rattle.packet.specs.declared.fault.Malformed.{Malformed}
@@ -37,7 +38,7 @@ read_body head bytes = do
   text_len ← lawful w16 (31 + head.size) Text is_text_len message.1
   ciphertext ← field (33 + head.size) text_len.0 text_len.1
   tag ← field (33 + head.size + text_len.0) 32 ciphertext.1
-  ended (65 + head.size + text_len.0) tag.1
+  ended (PACKET_FRAME + head.size + text_len.0) tag.1
       (record {
         session = head.session;
         epoch = head.epoch;

@@ -1,7 +1,7 @@
 -- Reading a packet from left to right. A field is its value and the bytes after it, or the first fault.
 use Rattle.std.specs.Prelude.{◌≡◌, ℕ, ◌+◌, ◌-◌, ◌^◌, ◌==◌, ◌&&◌, ◌||◌, Bool, nat_lt, nat_le, List, length, take, drop, Result, Ok, Err, if◌then◌else◌}
 use Rattle.std.specs.Int.{Width, w8, w16, w32, byte_len, from_be_bytes}
-use Rattle.dr_base.specs.declared.limits.TheConstants.{TEXT_LIMIT, INDEX_LIMIT, LAST_EPOCH}
+use Rattle.dr_base.specs.declared.limits.TheConstants.{TEXT_LIMIT, INDEX_LIMIT, LAST_EPOCH, PACKET_FRAME}
 use Rattle.packet.specs.declared.fault.Kind.{Kind}
 use Rattle.packet.specs.declared.fault.Kind.TheVariants.{Version, Epoch, Previous, Index, Agreement, Text, Short, Long}
 use Rattle.packet.specs.declared.fault.Malformed.{Malformed}
@@ -70,7 +70,7 @@ read_packet agreement bytes = do
   text_len ← lawful w16 (31 + size.0) Text is_text_len message.1
   ciphertext ← field (33 + size.0) text_len.0 text_len.1
   tag ← field (33 + size.0 + text_len.0) 32 ciphertext.1
-  ended (65 + size.0 + text_len.0) tag.1
+  ended (PACKET_FRAME + size.0 + text_len.0) tag.1
       (record {
         session = session.0;
         epoch = epoch.0;

@@ -5,6 +5,7 @@ ghost use Rattle.std.specs.List.{concat};
 ghost use Rattle.packet.specs.declared.fault.Malformed.{Malformed};
 ghost use Rattle.packet.specs.Faults.{pieces_of, IsFault};
 ghost use Rattle.packet.specs.Packet.{Fields, IsLawful, ad_of, packet_of};
+ghost use Rattle.dr_base.specs.declared.limits.TheConstants.{PACKET_FRAME};
 ghost use Rattle.dr_base.specs.Bytes.{AreBytes};
 ghost use Rattle.packet.specs.Reading.{read_packet};
 
@@ -18,7 +19,7 @@ pub fn grammar()
         read_packet agreement bytes ≡ Ok f → IsLawful agreement f × (bytes ≡ packet_of f) }
     ensures ad_len { (agreement : ℕ) (f : Fields) → IsLawful agreement f → length (ad_of f) ≡ 33 + length f.agreement }
     ensures packet_len { (agreement : ℕ) (f : Fields) → IsLawful agreement f →
-        length (packet_of f) ≡ 65 + length f.agreement + length f.ciphertext }
+        length (packet_of f) ≡ PACKET_FRAME + length f.agreement + length f.ciphertext }
     // A packet is its fields one after another.
     ensures in_pieces { (f : Fields) → packet_of f ≡ concat (pieces_of f) }
     // The fault of bytes that are no packet is the first one: what stands before its place begins a lawful packet, and

@@ -6,6 +6,7 @@ ghost use Rattle.packet.specs.Reading.{Gives, read_packet};
 
 use crate::fault::{Kind, Malformed};
 use crate::fields;
+use dr_base::PACKET_FRAME;
 
 /// The numbers before the agreement message: its length is `size`.
 #[derive(Drop)]
@@ -63,7 +64,7 @@ fn read_body<'a>(head: &Head<'a>, bytes: &'a [u8]) -> Result<Parts<'a>, Malforme
     let (tag, rest) = fields::array_at(rest, 33 + size + text_len)?;
     if !rest.is_empty() {
         return Err(Malformed {
-            at: 65 + size + text_len,
+            at: PACKET_FRAME + size + text_len,
             kind: Kind::Long,
         });
     }

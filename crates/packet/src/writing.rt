@@ -7,7 +7,7 @@ ghost use Rattle.packet.specs.Packet.{IsLawful, header_of, packet_of};
 ghost use Rattle.packet.specs.Parts.{fields_at};
 
 use crate::fields::VERSION;
-use dr_base::{Position, TEXT_LIMIT, put, put_u32};
+use dr_base::{PACKET_FRAME, Position, TEXT_LIMIT, put, put_u32};
 
 /// Puts the two low bytes of a length at a place.
 fn put_len(out: &mut [u8], at: usize, len: usize) -> usize
@@ -74,10 +74,10 @@ pub fn write_into(
 ) -> usize
     requires lawful { let f = fields_at session.now position previous agreement.now ciphertext.now tag.now in
         IsLawful (length agreement.now) f }
-    requires room { 65 + length agreement.now + length ciphertext.now ≤ length out.old }
+    requires room { PACKET_FRAME + length agreement.now + length ciphertext.now ≤ length out.old }
     ensures len { let f = fields_at session.now position previous agreement.now ciphertext.now tag.now in
         result ≡ length (packet_of f) }
-    ensures size { result ≡ 65 + length agreement.now + length ciphertext.now }
+    ensures size { result ≡ PACKET_FRAME + length agreement.now + length ciphertext.now }
     ensures written { let f = fields_at session.now position previous agreement.now ciphertext.now tag.now in
         take result out.new ≡ packet_of f }
     ensures rest { drop result out.new ≡ drop result out.old }

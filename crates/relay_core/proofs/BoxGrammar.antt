@@ -13,11 +13,12 @@ use Rattle.dr_base.proofs.Widths.{exact8, exact16, exact64}
 use Rattle.grammar.proofs.Printing.{size-items}
 use Rattle.grammar.proofs.Lists.{items_grammar, items-from, length-items, sized_grammar}
 use Rattle.grammar.proofs.Whole.{whole_grammar}
-use Rattle.relay_core.specs.declared.limits.TheConstants.{BOX_LIMIT, RECORD_LIMIT}
+use Rattle.relay_core.specs.declared.limits.TheConstants.{BOX_LIMIT, BOX_ITEM_LIMIT, RECORD_LIMIT}
 use Rattle.relay_core.specs.Boxes.{Kept, Box}
 use Rattle.relay_core.specs.Lawful.{Rises, last_number, IsLawfulBox}
 use Rattle.relay_core.specs.Record.{HeadParts, is_version, is_name_size, is_count, name_field, head_fields, is_number, is_packet_size, packet_field, kept_of, kept_field, next_kept, box_of_parts, box_fields, box_read, head_text, kept_text, box_text}
 use Rattle.relay_core.proofs.Rising.{rises-append, rises-at}
+use Rattle.relay_wire.specs.declared.limits.TheConstants.{NAME_LIMIT, PACKET_LIMIT}
 use Rattle.relay_wire.specs.Names.{is_name, is_packet}
 
 -- ---- lengths after which names and packets stand
@@ -132,23 +133,24 @@ record_grammar = whole_grammar box_text IsLawfulBox box_fields box_grammar
 
 -- ---- sizes
 
-short_kept : (packet : List ℕ) → is_packet packet ≡ true → length packet ≤ 4000
+short_kept : (packet : List ℕ) → is_packet packet ≡ true → length packet ≤ PACKET_LIMIT
 unfolding is_packet
 short_kept packet is = most (length packet) is
   where
-    most : (n : ℕ) → is_packet_size n ≡ true → n ≤ 4000
+    most : (n : ℕ) → is_packet_size n ≡ true → n ≤ PACKET_LIMIT
     most n passes = grind (arith, nat_tests)
 
-short_box_name : (name : List ℕ) → is_name name ≡ true → length name ≤ 40
+short_box_name : (name : List ℕ) → is_name name ≡ true → length name ≤ NAME_LIMIT
 unfolding is_name
 short_box_name name is = most (length name) (and_parts _ _ is).0
   where
-    most : (n : ℕ) → is_name_size n ≡ true → n ≤ 40
+    most : (n : ℕ) → is_name_size n ≡ true → n ≤ NAME_LIMIT
     most n passes = grind (arith, nat_tests)
 
-packets_size : (list : List Kept) → All (λ (k : Kept). is_packet k.packet ≡ true) list → length (print_items kept_text list) ≤ 4010 * length list
+packets_size : (list : List Kept) → All (λ (k : Kept). is_packet k.packet ≡ true) list
+    → length (print_items kept_text list) ≤ BOX_ITEM_LIMIT * length list
 packets_size list are =
-    size-items kept_text 4010 list (λ k d inside. omega (arith, short_kept (get_or list k d).packet (are k d inside)))
+    size-items kept_text BOX_ITEM_LIMIT list (λ k d inside. omega (arith, short_kept (get_or list k d).packet (are k d inside)))
 
 pub record_size : (box : Box) → IsLawfulBox box → length (box_text box) ≤ RECORD_LIMIT
 unfolding box_text

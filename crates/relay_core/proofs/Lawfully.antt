@@ -2,6 +2,7 @@
 use Rattle.std.proofs.Common.{◌≡◌, ℕ, zero, suc, ◌+◌, ◌^◌, ◌<◌, Bool, true, false, List, [], ◌∷◌, length, get_or, Result, Ok, Err, refl, ap, subst, arith}
 use Rattle.std.specs.Prelude.{◌-◌, ◌||◌, ◌==◌, nat_le, All, if◌then◌else◌}
 use Rattle.std.proofs.lemmas.Bool.Decides.{nat_tests}
+use Rattle.relay_core.specs.declared.limits.TheConstants.{BOX_LIMIT}
 use Rattle.relay_core.specs.Boxes.{Kept, Box, Answer, Answers, answer_of, answers_of, answers_read, of_first, behind, is_named, is_full, has_number, oldest, stays, becomes, with_packet, without}
 use Rattle.relay_core.specs.Lawful.{IsLawfulBox, IsLawfulRead}
 use Rattle.relay_core.proofs.Rising.{lawful_post, lawful_without, rises-at}
@@ -32,7 +33,8 @@ lawful_oldest box (kept ∷ more) same lawful =
 below_last : (box : Box) → IsLawfulBox box → is_full box ≡ false → box.last + 1 < 2 ^ 64
 below_last box lawful room = (lawful_post_numbered box.last (length box.packets) lawful.numbered room)
   where
-    lawful_post_numbered : (last n : ℕ) → last < 2 ^ 64 → (nat_le 64 n || last == 2 ^ 64 - 1) ≡ false → last + 1 < 2 ^ 64
+    lawful_post_numbered : (last n : ℕ) → last < 2 ^ 64
+        → (nat_le BOX_LIMIT n || last == 2 ^ 64 - 1) ≡ false → last + 1 < 2 ^ 64
     lawful_post_numbered last n fits room = grind (arith, nat_tests)
 
 lawful_answer : (box : Box) (ask : Asking) → IsLawfulBox box → IsLawfulAsking ask → IsLawfulAnswer (answer_of box ask)

@@ -1,9 +1,9 @@
 //! Looking at a record without keeping anything of it.
 
-ghost use Rattle.std.specs.Prelude.{◌≡◌, ◌≤◌, Err, IfErr, IsOk, MatchResult};
+ghost use Rattle.std.specs.Prelude.{◌≡◌, ◌*◌, ◌≤◌, Err, IfErr, IsOk, MatchResult};
 ghost use Rattle.grammar.specs.Reader.{items};
 ghost use Rattle.grammar.specs.Standing.{Skims};
-ghost use Rattle.relay_core.specs.declared.limits.TheConstants.{BOX_LIMIT, RECORD_LIMIT};
+ghost use Rattle.relay_core.specs.declared.limits.TheConstants.{BOX_LIMIT, BOX_ITEM_LIMIT, RECORD_LIMIT};
 ghost use Rattle.relay_core.specs.Record.{EndsWithin, box_read, next_kept};
 
 use crate::reading::{read_head, read_kept};
@@ -13,7 +13,7 @@ use grammar::Cursor;
 fn skim_packets(cursor: &mut Cursor<'_>, last: u64, count: u8) -> Result<(), usize>
     requires { count ≤ BOX_LIMIT }
     ensures reads { Skims (items (next_kept last) count) cursor.old cursor.new result }
-    ensures within { EndsWithin 256640 cursor.old cursor.new result }
+    ensures within { EndsWithin (BOX_ITEM_LIMIT * BOX_LIMIT) cursor.old cursor.new result }
 {
     let mut low = 0;
     'packets: for _ in 0..count {

@@ -1,10 +1,10 @@
 //! Readers of the fields of a box's record.
 
-ghost use Rattle.std.specs.Prelude.{◌≡◌, ◌≤◌, true, IfOk};
+ghost use Rattle.std.specs.Prelude.{◌≡◌, ◌+◌, ◌≤◌, true, IfOk};
 ghost use Rattle.std.specs.Int.{w8};
 ghost use Rattle.grammar.specs.Reader.{checked, number};
 ghost use Rattle.grammar.specs.Standing.{Reads};
-ghost use Rattle.relay_core.specs.declared.limits.TheConstants.{BOX_LIMIT};
+ghost use Rattle.relay_core.specs.declared.limits.TheConstants.{BOX_LIMIT, BOX_HEAD_LIMIT, BOX_ITEM_LIMIT};
 ghost use Rattle.relay_core.specs.Record.{EndsWithin, head_fields, head_seen, is_count, is_version, kept_field, kept_of, name_field, packet_field};
 ghost use Rattle.relay_wire.specs.Names.{is_packet};
 
@@ -39,7 +39,7 @@ fn read_version(cursor: &mut Cursor<'_>) -> Result<(), usize>
 #[tactic(auto, unfolding(crate::specs::Record::name_field))]
 fn read_name<'a>(cursor: &mut Cursor<'a>) -> Result<&'a [u8], usize>
     ensures reads { Reads (λ name. name.now) name_field cursor.old cursor.new result }
-    ensures within { EndsWithin 41 cursor.old cursor.new result }
+    ensures within { EndsWithin (1 + NAME_LIMIT) cursor.old cursor.new result }
 {
     let at_size = cursor.at();
     let size = usize::from(cursor.number8()?);
@@ -72,7 +72,7 @@ fn read_count(cursor: &mut Cursor<'_>) -> Result<u8, usize>
 #[tactic(auto, unfolding(crate::specs::Record::head_fields))]
 pub(crate) fn read_head<'a>(cursor: &mut Cursor<'a>) -> Result<Head<'a>, usize>
     ensures reads { Reads head_seen head_fields cursor.old cursor.new result }
-    ensures within { EndsWithin 51 cursor.old cursor.new result }
+    ensures within { EndsWithin BOX_HEAD_LIMIT cursor.old cursor.new result }
     ensures few { IfOk result (λ head. head.count ≤ BOX_LIMIT) }
 {
     read_version(cursor)?;
@@ -86,7 +86,7 @@ pub(crate) fn read_head<'a>(cursor: &mut Cursor<'a>) -> Result<Head<'a>, usize>
 #[tactic(auto, unfolding(crate::specs::Record::packet_field, relay_wire::specs::Names::is_packet))]
 fn read_packet<'a>(cursor: &mut Cursor<'a>) -> Result<&'a [u8], usize>
     ensures reads { Reads (λ packet. packet.now) packet_field cursor.old cursor.new result }
-    ensures within { EndsWithin 4002 cursor.old cursor.new result }
+    ensures within { EndsWithin (2 + PACKET_LIMIT) cursor.old cursor.new result }
     ensures lawful { IfOk result (λ packet. is_packet packet.now ≡ true) }
 {
     let at = cursor.at();
@@ -105,7 +105,7 @@ pub(crate) fn read_kept<'a>(
     last: u64,
 ) -> Result<(u64, &'a [u8]), usize>
     ensures reads { Reads (λ kept. kept_of (kept.0, kept.1.now)) (kept_field low last) cursor.old cursor.new result }
-    ensures within { EndsWithin 4010 cursor.old cursor.new result }
+    ensures within { EndsWithin BOX_ITEM_LIMIT cursor.old cursor.new result }
     ensures lawful { IfOk result (λ kept. is_packet kept.1.now ≡ true) }
 {
     let at = cursor.at();

@@ -12,7 +12,7 @@ use std::marker::Model;
 
 /// The boxes of a relay, in the order of the names that it was made with. A contract sees the list of them.
 ///
-/// Each has room for 64 packets of 4,000 bytes, taken when the relay is made.
+/// Each has room for `BOX_LIMIT` packets of `PACKET_LIMIT` bytes, taken when the relay is made.
 #[derive(Drop)]
 pub struct Relay {
     pub(crate) boxes: Vec<Mailbox>,
@@ -28,7 +28,8 @@ impl Model for Relay {
 }
 
 impl Relay {
-    /// Empty boxes of these names, with all the memory that they will ever use. A relay has up to 16, no two alike.
+    /// Empty boxes of these names, with all the memory that they will ever use. A relay has up to
+    /// `RELAY_LIMIT`, no two alike.
     pub fn new(alloc: Global, names: &[Name]) -> Result<Relay, AllocError>
         ensures { IfOk result (λ relay. relay ≡ map empty_box names.now) }
     {

@@ -1,6 +1,6 @@
 //! Writing the record of a box.
 
-ghost use Rattle.std.specs.Prelude.{◌≡◌, ◌<◌, ◌≤◌, length, slice_get, IfSome};
+ghost use Rattle.std.specs.Prelude.{◌≡◌, ◌+◌, ◌<◌, ◌≤◌, length, slice_get, IfSome};
 ghost use Rattle.std.specs.Option.{ForSome};
 ghost use Rattle.dr_base.specs.Buffer.{Puts};
 ghost use Rattle.grammar.specs.Printer.{HasRoom, print_items};
@@ -66,8 +66,8 @@ impl Mailbox {
 }
 
 impl Relay {
-    /// Writes the record of the box at a place at the beginning, and answers how many bytes that has. A buffer of 256,691
-    /// bytes holds any.
+    /// Writes the record of the box at a place at the beginning, and answers how many bytes that
+    /// has. A buffer of `RECORD_LIMIT` bytes holds any.
     pub fn write_box(&self, place: usize, out: &mut [u8]) -> usize
         requires inside { place < length self.now }
         requires room { ForSome (slice_get self.now place) (λ box. HasRoom RECORD_LIMIT (box_text box) (length out.old)) }

@@ -1,8 +1,9 @@
 //! The wire of the relay: frames in any pieces, requests and replies.
 //!
-//! A frame is the length of its body, two bytes with the high one first, and the body of 1 to 4,096 bytes. A length
-//! that no body may have is a frame of its two bytes. A request names a box and posts a packet, fetches the oldest one
-//! or acknowledges one by its number; `specs/Requests` and `specs/Replies` have both formats byte by byte.
+//! A frame is the length of its body, two bytes with the high one first, and the body of 1 to
+//! `BODY_LIMIT` bytes. A length that no body may have is a frame of its two bytes. A request names a
+//! box and posts a packet, fetches the oldest one or acknowledges one by its number;
+//! `specs/Requests` and `specs/Replies` have both formats byte by byte.
 //!
 //! ```rust
 //! use relay_wire::{FrameReader, parse_request};

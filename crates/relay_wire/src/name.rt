@@ -8,7 +8,8 @@ use crate::limits::NAME_LIMIT;
 use arrayvec::ArrayVec;
 use std::marker::Model;
 
-/// A lawful name: 1 to 40 bytes of `a` to `z`, `0` to `9` and `-`. A contract sees its bytes.
+/// A lawful name: 1 to `NAME_LIMIT` bytes of `a` to `z`, `0` to `9` and `-`. A contract sees its
+/// bytes.
 #[derive(Drop)]
 pub struct Name {
     bytes: ArrayVec<u8, NAME_LIMIT>,

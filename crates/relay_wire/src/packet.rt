@@ -8,7 +8,7 @@ use crate::limits::PACKET_LIMIT;
 use arrayvec::ArrayVec;
 use std::marker::Model;
 
-/// A packet of 1 to 4,000 bytes. A contract sees its bytes.
+/// A packet of 1 to `PACKET_LIMIT` bytes. A contract sees its bytes.
 #[derive(Drop)]
 pub struct Packet {
     bytes: ArrayVec<u8, PACKET_LIMIT>,
@@ -37,7 +37,8 @@ fn copied(bytes: &[u8]) -> Packet
 }
 
 impl Packet {
-    /// The packet of these bytes, copied; nothing exactly where they are none or more than 4,000.
+    /// The packet of these bytes, copied; nothing exactly where they are none or more than
+    /// `PACKET_LIMIT`.
     #[tactic(auto, unfolding(crate::specs::Names::is_packet))]
     pub fn new(bytes: &[u8]) -> Option<Packet>
         ensures variant { is_some result ≡ is_packet bytes.now }

@@ -27,7 +27,7 @@ pub enum Reply {
 /// Why a frame is no reply.
 #[derive(Clone, Copy, Debug, PartialEq, Eq, Error)]
 pub enum BadReply {
-    /// Its length is 0 or above 4,096.
+    /// Its length is 0 or above `BODY_LIMIT`.
     #[error("the reply's length is none that a body may have")]
     Frame,
     /// Its first byte says nothing that may be replied.

@@ -58,8 +58,8 @@ abbrev pub IsAmount : Amount → Type 0
 IsAmount All = ⊤
 IsAmount (Exactly n) = n < 2 ^ 32
 
--- an event that a line can say: its numbers are below 2^32, a seed has 32 bytes, and given bytes are at most 4,000; what is
--- cut off is a call that may be stopped
+-- an event that a line can say: its numbers are below 2^32, a seed has 32 bytes, and given bytes
+-- are at most HEX_LIMIT; what is cut off is a call that may be stopped
 abbrev pub IsSayableEvent : Event → Type 0
 IsSayableEvent (seeds seed) = (length seed ≡ 32) × IsBytes seed
 IsSayableEvent (says side text) = ⊤

@@ -42,7 +42,7 @@ numbers_read halves = option_and_then (λ epoch. option_map (λ index. record { 
 unfoldable pub position_read : List ℕ → Option Position
 position_read text = option_and_then numbers_read (halves_of 46 text)
 
--- bytes in hex, at most 4,000
+-- bytes in hex, in at most DIGIT_LIMIT digits
 unfoldable pub hex_read : List ℕ → Option (List ℕ)
 hex_read text = if nat_le (length text) DIGIT_LIMIT then result_ok (decode_sized text (length text / 2)) else None
 

@@ -4,13 +4,14 @@ ghost use Rattle.std.specs.Prelude.{◌≡◌};
 ghost use Rattle.scripts.specs.Seen.{bytes_of_hex};
 
 use arrayvec::ArrayVec;
+use dr_base::CARRIED_LIMIT;
 use hex::decode_to_slice;
 
-/// The most bytes that a line writes in hex.
-pub const HEX_LIMIT: usize = 4000;
+/// The most bytes that a line writes in hex: those of a packet that a relay carries.
+pub const HEX_LIMIT: usize = CARRIED_LIMIT;
 
 /// The digits of that many bytes.
-pub const DIGIT_LIMIT: usize = 8000;
+pub const DIGIT_LIMIT: usize = 2 * HEX_LIMIT;
 
 /// The bytes of these digits, none where they aren't at most `HEX_LIMIT` bytes in hex.
 #[tactic(auto, unfolding(crate::specs::Words::hex_read))]

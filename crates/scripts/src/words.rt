@@ -76,7 +76,7 @@ pub fn parse_flip(side: Side, words: &[u8]) -> Option<Line<'_>>
     Some(Line::Flip(side, position, bit))
 }
 
-/// Whether a text is at most 4,000 bytes in hex.
+/// Whether a text is at most `HEX_LIMIT` bytes in hex.
 #[tactic(auto, unfolding(crate::specs::Words::hex_read))]
 fn is_hex(text: &[u8]) -> bool
     ensures { hex_read text.now ≡ (if result then Some (bytes_of_hex text.now) else None) }

@@ -13,13 +13,13 @@ use hex::decode_to_slice;
 use std::alloc::Global;
 
 /// The longest text of a packet, in bytes: two hex digits for each of its own, and a line feed.
-pub const PACKET_TEXT_LIMIT: usize = 6573;
+pub const PACKET_TEXT_LIMIT: usize = 2 * PACKET_LIMIT + 1;
 
-/// The longest text of a key, in bytes.
-pub const KEY_TEXT_LIMIT: usize = 65;
+/// The longest text of a key, in bytes: two hex digits for each of its 32, and a line feed.
+pub const KEY_TEXT_LIMIT: usize = 2 * 32 + 1;
 
 /// A packet that was read.
-pub(crate) type Packet = ArrayVec<u8, 3286>;
+pub(crate) type Packet = ArrayVec<u8, PACKET_LIMIT>;
 
 /// The text without one line feed at its end.
 #[tactic(auto, unfolding(crate::specs::Inputs::stripped))]

@@ -11,11 +11,15 @@ use dr_base::{PACKET_LIMIT, Position, Side};
 use dr_ports::{OutputLine, ROOM};
 use kem_laws::Kem;
 
-/// The line of a packet: two hex digits for each of its 3,286 bytes, after its position.
-pub(crate) type PacketLine = ArrayVec<u8, 6656>;
+/// The longest text of a packet's bytes: two hex digits for each.
+const DIGITS: usize = 2 * PACKET_LIMIT;
 
-/// The longest text of a packet's bytes.
-const DIGITS: usize = 6572;
+/// The longest line of a packet: its digits, and room for the position before them and for the line
+/// feed.
+const PACKET_LINE_LIMIT: usize = DIGITS + 84;
+
+/// The line of a packet: its bytes in hex, after its position.
+pub(crate) type PacketLine = ArrayVec<u8, PACKET_LINE_LIMIT>;
 
 /// The line of a packet in the outbox.
 #[tactic(auto, unfolding(crate::specs::Lines::packet_line))]

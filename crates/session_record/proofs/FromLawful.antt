@@ -16,7 +16,7 @@ use Rattle.session_model.specs.Clients.{Client}
 use Rattle.dr_base.specs.Position.{is_own, position_at}
 use Rattle.session_model.specs.LawfulStates.{IsLawfulKept, IsLawfulPhase, IsLawfulPrevious, IsLawfulReception}
 use Rattle.session_model.specs.States.{Phase, in_own, in_peers, Reception, State}
-use Rattle.dr_base.specs.declared.limits.TheConstants.{LAST_EPOCH, TEXT_LIMIT}
+use Rattle.dr_base.specs.declared.limits.TheConstants.{INBOX_LIMIT, INDEX_LIMIT, KEPT_LIMIT, LAST_EPOCH, OUTBOX_LIMIT, TEXT_LIMIT}
 use Rattle.kem_laws.specs.Mechanism.{Mechanism}
 use Rattle.grammar.specs.Printer.{AreItems, IsMaybe}
 use Rattle.grammar.proofs.Lists.{items-from}
@@ -52,7 +52,9 @@ own_before : (side : Side) (epoch : ℕ) → is_own side (suc epoch) ≡ true �
 own_before First epoch own = grind (arith, nat_tests)
 own_before Second epoch own = grind (arith, nat_tests)
 
-within_latest : (epoch t n reach latest : ℕ) → n ≤ 65535 → epoch ≤ latest + 1 → (t ≡ latest → n < reach + 1) → (t < latest → t + 1 < latest) → t ≤ latest → latest ≤ epoch → nat_le n (most_kept epoch reach t) ≡ true
+within_latest : (epoch t n reach latest : ℕ) → n ≤ INDEX_LIMIT → epoch ≤ latest + 1
+    → (t ≡ latest → n < reach + 1) → (t < latest → t + 1 < latest) → t ≤ latest → latest ≤ epoch
+    → nat_le n (most_kept epoch reach t) ≡ true
 within_latest epoch t n reach latest few near below apart most inside = grind (arith, nat_tests)
 
 -- the keys that a table may hold, each of 32 bytes
@@ -62,7 +64,7 @@ record AreKeys (side : Side) (list : List Kept) : Type 0 where
   up : IsAscending list
 
 kept_passes : (side : Side) (epoch reach latest : ℕ) (list : List Kept) → AreKeys side list
-    → is_own side latest ≡ false → epoch ≤ latest + 1 → latest ≤ epoch → epoch ≤ 2 ^ 32 - 2
+    → is_own side latest ≡ false → epoch ≤ latest + 1 → latest ≤ epoch → epoch ≤ LAST_EPOCH
     → AllBefore list (record { epoch = latest; index = reach + 1 })
     → (i : ℕ) (d : Kept) → i < length list → PassesKept side epoch reach (take i list) (get_or list i d)
 kept_passes side epoch reach latest list keys peers near within fits all i d inside =
@@ -94,10 +96,11 @@ record IsReceived (side : Side) (epoch : ℕ) (own : Bool) (receiving : Option R
   there : IsMaybe (not own || nat_lt 0 epoch) PassesReception receiving
   keys : AreItems (PassesKept side epoch (reach_of receiving)) (length kept) kept
 
-part_of : (r : Reception) → length r.chain ≡ 32 → r.reach ≤ 65535 → PassesReception r
-part_of r long few = record { chain_long = long; few = le-leb r.reach 65535 few }
+part_of : (r : Reception) → length r.chain ≡ 32 → r.reach ≤ INDEX_LIMIT → PassesReception r
+part_of r long few = record { chain_long = long; few = le-leb r.reach INDEX_LIMIT few }
 
-received : (side : Side) (epoch : ℕ) (own : Bool) → is_own side epoch ≡ own → epoch ≤ 2 ^ 32 - 2 → (receiving : Option Reception) (kept : List Kept) → AreKeys side kept
+received : (side : Side) (epoch : ℕ) (own : Bool) → is_own side epoch ≡ own → epoch ≤ LAST_EPOCH
+    → (receiving : Option Reception) (kept : List Kept) → AreKeys side kept
     → IsLawfulReception kept receiving (if own then (if epoch == 0 then None else Some (epoch - 1)) else Some epoch) → IsReceived side epoch own receiving kept
 received side zero true is fits None kept keys lawful = record {
   there = refl;
@@ -140,7 +143,7 @@ phase_part k side epoch (in_own own) l = (
     secret_good = good k own.secret l.1.secret_lawful;
     agreement_long = l.1.agreement_long;
     chain_long = l.1.chain_long;
-    few = le-leb own.sent 65535 l.1.few;
+    few = le-leb own.sent INDEX_LIMIT l.1.few;
   },
 )
 phase_part k side epoch (in_peers public) l = l
@@ -148,25 +151,28 @@ phase_part k side epoch (in_peers public) l = l
 previous_part : (k : Mechanism) (side : Side) (epoch previous : ℕ) (phase : Phase) → IsLawfulPhase k side epoch phase → IsLawfulPrevious previous epoch phase → is_previous side epoch previous ≡ true
 previous_part k side epoch previous (in_own own) l h = by_side (is_own side epoch) l.0 h.0 h.1
   where
-    by_side : (b : Bool) → b ≡ true → previous ≤ 65535 → (epoch ≤ 1 → previous ≡ 0) → (nat_le previous 65535 && ((previous == 0) || nat_le (if b then 2 else 1) epoch)) ≡ true
+    by_side : (b : Bool) → b ≡ true → previous ≤ INDEX_LIMIT → (epoch ≤ 1 → previous ≡ 0)
+        → (nat_le previous INDEX_LIMIT && ((previous == 0) || nat_le (if b then 2 else 1) epoch)) ≡ true
     by_side true is few none = grind (arith, nat_tests)
     by_side false is few none = absurd (let e : false ≡ true = is in cc)
 previous_part k side epoch previous (in_peers public) l h = by_side (is_own side epoch) l.0 h.0 h.1
   where
-    by_side : (b : Bool) → b ≡ false → previous ≤ 65535 → (epoch ≡ 0 → previous ≡ 0) → (nat_le previous 65535 && ((previous == 0) || nat_le (if b then 2 else 1) epoch)) ≡ true
+    by_side : (b : Bool) → b ≡ false → previous ≤ INDEX_LIMIT → (epoch ≡ 0 → previous ≡ 0)
+        → (nat_le previous INDEX_LIMIT && ((previous == 0) || nat_le (if b then 2 else 1) epoch)) ≡ true
     by_side false is few none = grind (arith, nat_tests)
     by_side true is few none = absurd (let e : true ≡ false = is in cc)
 
-epoch_part : (epoch : ℕ) → epoch ≤ 2 ^ 32 - 2 → up_to LAST_EPOCH epoch ≡ true
+epoch_part : (epoch : ℕ) → epoch ≤ LAST_EPOCH → up_to LAST_EPOCH epoch ≡ true
 epoch_part epoch fits = grind (arith, nat_tests)
 
 -- ---- the boxes
 
-entry_passes : (s : State) (before : List Item) (item : Item) → s.epoch ≤ 2 ^ 32 - 2 → IsLawfulEntry s item → PassesEntry s.side s.epoch before item
+entry_passes : (s : State) (before : List Item) (item : Item) → s.epoch ≤ LAST_EPOCH
+    → IsLawfulEntry s item → PassesEntry s.side s.epoch before item
 entry_passes s before item fits l = record {
   epoch_is = and_from _ _ (not_from_false _ l.peers) (le-leb _ _ l.reached);
   epoch_fits = omega (arith, l.reached);
-  index_is = and_from _ _ (le-leb 1 item.position.index l.from_one) (le-leb item.position.index 65535 l.most);
+  index_is = and_from _ _ (le-leb 1 item.position.index l.from_one) (le-leb item.position.index INDEX_LIMIT l.most);
   short = le-leb (length item.bytes) TEXT_LIMIT l.short;
 }
 
@@ -195,10 +201,10 @@ passes k c l =
       phase = phase_part k c.state.side c.state.epoch c.state.phase s.phase;
       previous = previous_part k c.state.side c.state.epoch c.state.previous c.state.phase s.phase s.previous;
       receiving = got.there;
-      few_kept = le-leb (length c.state.kept) 256 s.few;
+      few_kept = le-leb (length c.state.kept) KEPT_LIMIT s.few;
       kept = got.keys;
-      few_entries = le-leb (length c.inbox) 64 l.few_entries;
+      few_entries = le-leb (length c.inbox) INBOX_LIMIT l.few_entries;
       inbox = items-from (PassesEntry c.state.side c.state.epoch) c.inbox no_item (λ i d inside. entry_passes c.state (take i c.inbox) (get_or c.inbox i d) s.epoch_fits (l.inbox i d inside));
-      few_posts = le-leb (length c.outbox) 32 l.few_posts;
+      few_posts = le-leb (length c.outbox) OUTBOX_LIMIT l.few_posts;
       outbox = items-from (PassesPost k c.state.session c.state.side c.state.epoch) c.outbox no_item (λ i d inside. post_passes k c.state (take i c.outbox) (get_or c.outbox i d) (l.outbox i d inside));
     }

@@ -16,10 +16,10 @@ use Rattle.session_record.proofs.Passing.{Passes}
 use Rattle.session_record.proofs.FieldGrammars.{version_grammar, side_grammar, epoch_grammar, phase_grammar, previous_grammar, receiving_grammar}
 use Rattle.session_record.proofs.ListGrammars.{kept_list, inbox_list, outbox_list}
 
-below : (n most : ℕ) → most < 257 → up_to most n ≡ true → n < 2 ^ 16
+below : (n most : ℕ) → most < 2 ^ 16 → up_to most n ≡ true → n < 2 ^ 16
 below n most small passes = grind (arith, nat_tests)
 
-below_byte : (n most : ℕ) → most < 65 → up_to most n ≡ true → n < 2 ^ 8
+below_byte : (n most : ℕ) → most < 2 ^ 8 → up_to most n ≡ true → n < 2 ^ 8
 below_byte n most small passes = grind (arith, nat_tests)
 
 is_one : (n : ℕ) → is_version n ≡ true → 1 ≡ n

@@ -7,7 +7,7 @@ use Rattle.std.proofs.lemmas.List.Elements.{All-drop, All-push}
 use Rattle.boxes.specs.Items.{Item, item_at}
 use Rattle.cka.specs.Agreement.{agreement_size}
 use Rattle.dr_base.specs.declared.key.Kept.{Kept}
-use Rattle.dr_base.specs.declared.limits.TheConstants.{INBOX_LIMIT, OUTBOX_LIMIT, PACKET_LIMIT, TEXT_LIMIT}
+use Rattle.dr_base.specs.declared.limits.TheConstants.{INBOX_LIMIT, KEPT_LIMIT, OUTBOX_LIMIT, PACKET_LIMIT, TEXT_LIMIT}
 use Rattle.dr_base.specs.declared.position.Side.{Side}
 use Rattle.grammar.specs.Printer.{print_counted, print_maybe}
 use Rattle.grammar.proofs.Printing.{size-items}
@@ -17,7 +17,7 @@ use Rattle.session_model.specs.LawfulStates.{IsLawfulPhase, IsLawfulReception, I
 use Rattle.session_model.specs.States.{Phase, Reception, State, in_own, in_peers, receiving_epoch}
 use Rattle.session_record.specs.declared.change.Change.{Change}
 use Rattle.session_record.specs.declared.change.Change.TheVariants.{Same, Received, Said, Done, Sent}
-use Rattle.session_record.specs.declared.limits.TheConstants.{RECORD_LIMIT}
+use Rattle.session_record.specs.declared.limits.TheConstants.{ENTRIES_LIMIT, ENTRY_LIMIT, HEAD_SIZE, KEPT_SIZE, KEYS_LIMIT, PHASE_LIMIT, POSTS_LIMIT, POST_LIMIT, RECORD_LIMIT, STREAM_SIZE}
 use Rattle.session_record.specs.Changes.{FitsInbox, FitsOutbox, inbox_after, outbox_after}
 use Rattle.session_record.specs.Fields.{code_of, phase_text, reception_text}
 use Rattle.session_record.specs.Lists.{entry_text, kept_text, post_of, post_text}
@@ -57,25 +57,30 @@ text_size c =
 
 -- ---- how long each is at most
 
-size-head : (side : Side) (session root : List ℕ) (epoch : ℕ) → length session ≡ 16 → length root ≡ 32 → length (head_text side session root epoch) ≤ 54
+size-head : (side : Side) (session root : List ℕ) (epoch : ℕ) → length session ≡ 16
+    → length root ≡ 32 → length (head_text side session root epoch) ≤ HEAD_SIZE
 size-head side session root epoch long key =
     omega (arith, length-append session (root ++ to_be_bytes w32 epoch), length-append root (to_be_bytes w32 epoch), long, key)
 
-size-phase : (k : Mechanism) (side : Side) (epoch : ℕ) (phase : Phase) → IsLawfulMechanism k → IsLawfulPhase k side epoch phase → length (phase_text phase) ≤ 3996
+size-phase : (k : Mechanism) (side : Side) (epoch : ℕ) (phase : Phase) → IsLawfulMechanism k
+    → IsLawfulPhase k side epoch phase → length (phase_text phase) ≤ PHASE_LIMIT
 size-phase k side epoch (in_own own) law l =
     let message = message_fits (agreement_size k) epoch (omega (arith, law.public_fits, law.ciphertext_fits)) in
     let sent = to_be_bytes w32 own.sent in
     omega (arith, length-append own.secret (own.agreement ++ (own.chain ++ sent)), length-append own.agreement (own.chain ++ sent), length-append own.chain sent, l.1.secret_long, l.1.agreement_long, l.1.chain_long, law.secret_fits, message)
 size-phase k side epoch (in_peers public) law l = omega (arith, l.1, law.public_fits)
 
-size-receiving : (kept : List Kept) (receiving : Option Reception) (epoch : Option ℕ) → IsLawfulReception kept receiving epoch → length (print_maybe reception_text receiving) ≤ 36
+size-receiving : (kept : List Kept) (receiving : Option Reception) (epoch : Option ℕ)
+    → IsLawfulReception kept receiving epoch
+    → length (print_maybe reception_text receiving) ≤ STREAM_SIZE
 size-receiving kept None epoch l = omega arith
 size-receiving kept (Some r) None l = absurd l
 size-receiving kept (Some r) (Some epoch) l = omega (arith, length-append r.chain (to_be_bytes w32 r.reach), l.0)
 
-size-kept : (kept : List Kept) → All (λ (one : Kept). length one.key.bytes ≡ 32) kept → length kept ≤ 256 → length (print_counted w16 kept_text kept) ≤ 10242
+size-kept : (kept : List Kept) → All (λ (one : Kept). length one.key.bytes ≡ 32) kept
+    → length kept ≤ KEPT_LIMIT → length (print_counted w16 kept_text kept) ≤ KEYS_LIMIT
 size-kept kept long few =
-    let items = size-items kept_text 40 kept (λ i d inside. omega (arith, long i d inside)) in
+    let items = size-items kept_text KEPT_SIZE kept (λ i d inside. omega (arith, long i d inside)) in
     omega (arith, items, few)
 
 -- a box with no more items than it may hold, each no longer than it may be
@@ -83,14 +88,16 @@ pub record IsRoomy (limit room : ℕ) (box : List Item) : Type 0 where
   pub few : length box ≤ limit
   pub short : All (λ (item : Item). length item.bytes ≤ room) box
 
-size-inbox : (inbox : List Item) → IsRoomy INBOX_LIMIT TEXT_LIMIT inbox → length (print_counted w8 entry_text inbox) ≤ 66177
+size-inbox : (inbox : List Item) → IsRoomy INBOX_LIMIT TEXT_LIMIT inbox
+    → length (print_counted w8 entry_text inbox) ≤ ENTRIES_LIMIT
 size-inbox inbox box =
-    let items = size-items entry_text 1034 inbox (λ i d inside. omega (arith, box.short i d inside)) in
+    let items = size-items entry_text ENTRY_LIMIT inbox (λ i d inside. omega (arith, box.short i d inside)) in
     omega (arith, items, box.few)
 
-size-outbox : (outbox : List Item) → IsRoomy OUTBOX_LIMIT PACKET_LIMIT outbox → length (print_counted w8 post_text outbox) ≤ 105217
+size-outbox : (outbox : List Item) → IsRoomy OUTBOX_LIMIT PACKET_LIMIT outbox
+    → length (print_counted w8 post_text outbox) ≤ POSTS_LIMIT
 size-outbox outbox box =
-    let items = size-items post_text 3288 outbox (λ i d inside. omega (arith, box.short i d inside)) in
+    let items = size-items post_text POST_LIMIT outbox (λ i d inside. omega (arith, box.short i d inside)) in
     omega (arith, items, box.few)
 
 -- a client of which this is known has a text of at most RECORD_LIMIT bytes

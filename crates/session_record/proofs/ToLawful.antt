@@ -19,7 +19,7 @@ use Rattle.dr_base.specs.declared.position.Side.TheVariants.{First, Second}
 use Rattle.fs_aead.specs.Table.{AllBefore, IsAscending, IsBefore}
 use Rattle.session_model.specs.Clients.{Client}
 use Rattle.dr_base.specs.Position.{is_own, position_at}
-use Rattle.dr_base.specs.declared.limits.TheConstants.{TEXT_LIMIT}
+use Rattle.dr_base.specs.declared.limits.TheConstants.{INBOX_LIMIT, INDEX_LIMIT, KEPT_LIMIT, LAST_EPOCH, OUTBOX_LIMIT, TEXT_LIMIT}
 use Rattle.session_model.specs.LawfulStates.{IsLawfulKept, IsLawfulPhase, IsLawfulPrevious, IsLawfulReception}
 use Rattle.session_model.specs.States.{Phase, in_own, in_peers, Reception, State}
 use Rattle.kem_laws.specs.Mechanism.{Mechanism}
@@ -134,10 +134,10 @@ lawful_receiving side (suc epoch) true is (Some r) n kept there items =
     let before : suc epoch - 1 ≡ epoch = omega arith in
     subst (λ (b : Bool). IsLawfulReception kept (Some r) (if b then None else Some (suc epoch - 1))) (sym positive)
     (subst (λ (m : ℕ). IsLawfulReception kept (Some r) (Some m)) (sym before)
-    (there.1.chain_long, leb-true r.reach 65535 there.1.few, all_below side (suc epoch) epoch r.reach n kept (latest_own side epoch is) items))
+    (there.1.chain_long, leb-true r.reach INDEX_LIMIT there.1.few, all_below side (suc epoch) epoch r.reach n kept (latest_own side epoch is) items))
 lawful_receiving side epoch false is None n kept there items = absurd (let e : true ≡ false = there in cc)
 lawful_receiving side epoch false is (Some r) n kept there items =
-    (there.1.chain_long, leb-true r.reach 65535 there.1.few, all_below side epoch epoch r.reach n kept (latest_peers side epoch) items)
+    (there.1.chain_long, leb-true r.reach INDEX_LIMIT there.1.few, all_below side epoch epoch r.reach n kept (latest_peers side epoch) items)
 
 -- ---- the keys of the epoch
 
@@ -154,7 +154,7 @@ lawful_phase k side epoch (in_own own) l = (
     secret_lawful = good k (k.meaning.bad_byte own.secret) l.1.secret_good;
     agreement_long = l.1.agreement_long;
     chain_long = l.1.chain_long;
-    few = leb-true own.sent 65535 l.1.few;
+    few = leb-true own.sent INDEX_LIMIT l.1.few;
   },
 )
 lawful_phase k side epoch (in_peers public) l = l
@@ -163,18 +163,23 @@ lawful_previous : (k : Mechanism) (side : Side) (epoch previous : ℕ) (phase : 
     → IsLawfulPrevious previous epoch phase
 lawful_previous k side epoch previous (in_own own) l h = by_side (is_own side epoch) l.0 h
   where
-    by_side : (b : Bool) → b ≡ true → (nat_le previous 65535 && ((previous == 0) || nat_le (if b then 2 else 1) epoch)) ≡ true → (previous ≤ 65535) × (epoch ≤ 1 → previous ≡ 0)
+    by_side : (b : Bool) → b ≡ true
+        → (nat_le previous INDEX_LIMIT && ((previous == 0) || nat_le (if b then 2 else 1) epoch)) ≡ true
+        → (previous ≤ INDEX_LIMIT) × (epoch ≤ 1 → previous ≡ 0)
     by_side true is h = (grind (arith, nat_tests), λ first. grind (arith, nat_tests))
     by_side false is h = absurd (let e : false ≡ true = is in cc)
 lawful_previous k side epoch previous (in_peers public) l h = by_side (is_own side epoch) l.0 h
   where
-    by_side : (b : Bool) → b ≡ false → (nat_le previous 65535 && ((previous == 0) || nat_le (if b then 2 else 1) epoch)) ≡ true → (previous ≤ 65535) × (epoch ≡ 0 → previous ≡ 0)
+    by_side : (b : Bool) → b ≡ false
+        → (nat_le previous INDEX_LIMIT && ((previous == 0) || nat_le (if b then 2 else 1) epoch)) ≡ true
+        → (previous ≤ INDEX_LIMIT) × (epoch ≡ 0 → previous ≡ 0)
     by_side false is h = (grind (arith, nat_tests), λ first. grind (arith, nat_tests))
     by_side true is h = absurd (let e : true ≡ false = is in cc)
 
 -- ---- kept keys and boxes, one by one
 
-lawful_kept : (side : Side) (epoch reach : ℕ) (before : List Kept) (kept : Kept) → reach ≤ 65535 → PassesKept side epoch reach before kept → IsLawfulKept side kept
+lawful_kept : (side : Side) (epoch reach : ℕ) (before : List Kept) (kept : Kept)
+    → reach ≤ INDEX_LIMIT → PassesKept side epoch reach before kept → IsLawfulKept side kept
 lawful_kept side epoch reach before kept few l =
     let t = kept.position.epoch in
     let parts = and_parts (is_peers side epoch t) (nat_le (last_position before).epoch t) l.epoch_is in
@@ -185,12 +190,12 @@ lawful_entry : (s : State) (before : List Item) (item : Item) → PassesEntry s.
 lawful_entry s before item l =
     let t = item.position.epoch in
     let peers = and_parts (not (is_own s.side t)) (nat_le t s.epoch) l.epoch_is in
-    let index = and_parts (nat_le 1 item.position.index) (nat_le item.position.index 65535) l.index_is in
+    let index = and_parts (nat_le 1 item.position.index) (nat_le item.position.index INDEX_LIMIT) l.index_is in
     record {
       peers = not-true (is_own s.side t) peers.0;
       reached = leb-true t s.epoch peers.1;
       from_one = leb-true 1 item.position.index index.0;
-      most = leb-true item.position.index 65535 index.1;
+      most = leb-true item.position.index INDEX_LIMIT index.1;
       short = leb-true (length item.bytes) TEXT_LIMIT l.short;
     }
 
@@ -220,9 +225,10 @@ each_of Passing Lawful one n list no_items = λ i d inside. absurd (omega arith)
 each_of Passing Lawful one m list (and_item n before a were passes) = All-push Lawful before a (each_of Passing Lawful one n before were) (one before a passes)
 
 -- a stream's reach, or 0
-few_reach : (there : Bool) (receiving : Option Reception) → IsMaybe there PassesReception receiving → reach_of receiving ≤ 65535
+few_reach : (there : Bool) (receiving : Option Reception) → IsMaybe there PassesReception receiving
+    → reach_of receiving ≤ INDEX_LIMIT
 few_reach there None l = omega arith
-few_reach there (Some r) l = leb-true r.reach 65535 l.1.few
+few_reach there (Some r) l = leb-true r.reach INDEX_LIMIT l.1.few
 
 -- ---- the client
 
@@ -237,17 +243,17 @@ lawful k c l =
       state = record {
         session_long = l.session_long;
         root_long = l.root_long;
-        epoch_fits = leb-true c.state.epoch (2 ^ 32 - 2) l.epoch_fits;
+        epoch_fits = leb-true c.state.epoch LAST_EPOCH l.epoch_fits;
         phase = phase;
         previous = lawful_previous k c.state.side c.state.epoch c.state.previous c.state.phase phase l.previous;
         receiving = lawful_receiving c.state.side c.state.epoch (is_own c.state.side c.state.epoch) refl c.state.receiving (length c.state.kept) c.state.kept l.receiving l.kept;
         kept = (ups c.state.side c.state.epoch (reach_of c.state.receiving) (length c.state.kept) c.state.kept l.kept).up;
         each = each_of (PassesKept s.side s.epoch reach) (IsLawfulKept s.side) (λ before kept. lawful_kept s.side s.epoch reach before kept few) (length c.state.kept) c.state.kept l.kept;
-        few = leb-true (length c.state.kept) 256 l.few_kept;
+        few = leb-true (length c.state.kept) KEPT_LIMIT l.few_kept;
       };
       keys_long = each_of (PassesKept s.side s.epoch reach) (λ kept. length kept.key.bytes ≡ 32) (λ before kept passes. passes.key_long) (length c.state.kept) c.state.kept l.kept;
       inbox = each_of (PassesEntry s.side s.epoch) (IsLawfulEntry s) (lawful_entry s) (length c.inbox) c.inbox l.inbox;
-      few_entries = leb-true (length c.inbox) 64 l.few_entries;
+      few_entries = leb-true (length c.inbox) INBOX_LIMIT l.few_entries;
       outbox = each_of (PassesPost k s.session s.side s.epoch) (IsLawfulPost k s) (lawful_post k s) (length c.outbox) c.outbox l.outbox;
-      few_posts = leb-true (length c.outbox) 32 l.few_posts;
+      few_posts = leb-true (length c.outbox) OUTBOX_LIMIT l.few_posts;
     }

@@ -15,7 +15,9 @@ ghost use Rattle.session_record.specs.Lists.{any, entry_field, entry_text, inbox
 use crate::change::Change;
 use crate::numbers::read_len;
 use boxes::{Entry, Inbox};
-use dr_base::{INBOX_LIMIT, INDEX_LIMIT, Position, Side, TEXT_LIMIT, put, put_u8, put_u16, put_u32};
+use dr_base::{
+    INBOX_LIMIT, INDEX_LIMIT, Position, Side, TEXT_LIMIT, put, put_u8, put_u16, put_u32,
+};
 use grammar::Cursor;
 
 /// A text after its length.

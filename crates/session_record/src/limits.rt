@@ -1,5 +1,48 @@
-//! The greatest size of a record.
+//! The greatest sizes of a record and of what it consists of, in bytes.
 
-/// The longest record, in bytes: 54 of version, side, session id, root and epoch, 3,996 of the epoch's keys, 4 of the
-/// previous count, 36 of the receiving stream, 10,242 of kept keys, 66,177 of the inbox and 105,217 of the outbox.
-pub const RECORD_LIMIT: usize = 185726;
+use dr_base::{
+    AGREEMENT_LIMIT, INBOX_LIMIT, KEPT_LIMIT, OUTBOX_LIMIT, PACKET_LIMIT, SECRET_LIMIT, TEXT_LIMIT,
+};
+
+/// The version, the side, the session id, the root and the epoch.
+pub(crate) const HEAD_SIZE: usize = 1 + 1 + 16 + 32 + 4;
+
+/// A count of texts.
+pub(crate) const COUNT_SIZE: usize = 4;
+
+/// A stream: its chain key and how many texts it has had.
+pub(crate) const STREAM_SIZE: usize = 32 + COUNT_SIZE;
+
+/// The longest keys of an epoch: a secret, an agreement message and a stream.
+pub(crate) const PHASE_LIMIT: usize = SECRET_LIMIT + AGREEMENT_LIMIT + STREAM_SIZE;
+
+/// A position: an epoch and an index.
+pub(crate) const PLACE_SIZE: usize = 4 + 4;
+
+/// A kept key with its position.
+pub(crate) const KEPT_SIZE: usize = PLACE_SIZE + 32;
+
+/// The most kept keys, after their number.
+pub(crate) const KEYS_LIMIT: usize = 2 + KEPT_SIZE * KEPT_LIMIT;
+
+/// The longest text of an inbox, after its position and its length.
+pub(crate) const ENTRY_LIMIT: usize = PLACE_SIZE + 2 + TEXT_LIMIT;
+
+/// The longest inbox: its texts after their number.
+pub(crate) const ENTRIES_LIMIT: usize = 1 + ENTRY_LIMIT * INBOX_LIMIT;
+
+/// The longest packet of an outbox, after its length.
+pub(crate) const POST_LIMIT: usize = 2 + PACKET_LIMIT;
+
+/// The longest outbox: its packets after their number.
+pub(crate) const POSTS_LIMIT: usize = 1 + POST_LIMIT * OUTBOX_LIMIT;
+
+/// The longest record: its head, the keys of the epoch, the previous count, the receiving stream,
+/// the kept keys, the inbox and the outbox.
+pub const RECORD_LIMIT: usize = HEAD_SIZE
+    + PHASE_LIMIT
+    + COUNT_SIZE
+    + STREAM_SIZE
+    + KEYS_LIMIT
+    + ENTRIES_LIMIT
+    + POSTS_LIMIT;

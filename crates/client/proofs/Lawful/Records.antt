@@ -4,6 +4,7 @@ use Rattle.std.specs.Prelude.{All, filter, slice_index_or}
 use Rattle.std.proofs.lemmas.List.Elements.{All-drop, All-filter, All-map, filter_passes}
 use Rattle.cka.specs.Agreement.{agreement_size}
 use Rattle.dr_base.specs.Position.{is_own}
+use Rattle.dr_base.specs.declared.limits.TheConstants.{AGREEMENT_LIMIT}
 use Rattle.dr_base.specs.declared.position.Position.{Position}
 use Rattle.dr_base.specs.declared.position.Side.{Side}
 use Rattle.fs_aead.specs.Chain.{chain_message_key, chain_of, message_key}
@@ -67,7 +68,7 @@ post_lawful k c side v p law lawful view said own =
     let f = fields_at k c p in
     let mine : is_own side p.epoch ≡ true = sym (ap (λ s. is_own s p.epoch) view.side_is) ∙ own in
     let long = length-packet_of f fields.session_len fields.tag_len in
-    let message : length f.agreement ≤ 2197 =
+    let message : length f.agreement ≤ AGREEMENT_LIMIT =
     omega (
       arith,
       fields.agreement_is,

@@ -7,7 +7,7 @@ use Rattle.std.proofs.lemmas.List.Elements.{All-push, All-weaker}
 use Rattle.boxes.specs.Items.{Item}
 use Rattle.cka.specs.Agreement.{agreement_size, turn_of}
 use Rattle.dr_base.specs.Position.{is_own}
-use Rattle.dr_base.specs.declared.limits.TheConstants.{INDEX_LIMIT, OUTBOX_LIMIT, TEXT_LIMIT}
+use Rattle.dr_base.specs.declared.limits.TheConstants.{AGREEMENT_LIMIT, INDEX_LIMIT, OUTBOX_LIMIT, TEXT_LIMIT}
 use Rattle.dr_base.specs.declared.position.Position.{Position}
 use Rattle.dr_base.specs.declared.position.Side.{Side}
 use Rattle.etm_aead.specs.Undoing.{length-ciphertext_of, length-tag_of}
@@ -60,7 +60,8 @@ posts_stay k s next outbox on each =
 
 -- ---- a packet that was sealed
 
-pub message_fits : (agreement epoch : ℕ) → agreement ≤ 2197 → agreement_len agreement epoch ≤ 2197
+pub message_fits : (agreement epoch : ℕ) → agreement ≤ AGREEMENT_LIMIT
+    → agreement_len agreement epoch ≤ AGREEMENT_LIMIT
 message_fits agreement epoch fits = grind arith
 
 post_lawful : (k : Mechanism) (next : State) (p : Position) (previous : ℕ) (agreement key text : List ℕ) → IsLawfulMechanism k
@@ -71,7 +72,7 @@ post_lawful : (k : Mechanism) (next : State) (p : Position) (previous : ℕ) (ag
 unfolding posted
 post_lawful k next p previous agreement key text law l reached own few none one most message short =
     let f = sealing next.session p previous agreement key text in
-    let size : agreement_size k ≤ 2197 = omega (arith, law.public_fits, law.ciphertext_fits) in
+    let size : agreement_size k ≤ AGREEMENT_LIMIT = omega (arith, law.public_fits, law.ciphertext_fits) in
     let text_fits : length f.ciphertext ≤ TEXT_LIMIT = omega (arith, short, length-ciphertext_of key text) in
     let lawful : IsLawful (agreement_size k) f = record {
       session_len = l.session_long;
@@ -85,7 +86,7 @@ post_lawful k next p previous agreement key text law l reached own few none one 
       tag_len = length-tag_of _ _ _;
     } in
     let long = length-packet_of f lawful.session_len lawful.tag_len in
-    let fits : length agreement ≤ 2197 = omega (arith, message, message_fits (agreement_size k) p.epoch size) in
+    let fits : length agreement ≤ AGREEMENT_LIMIT = omega (arith, message, message_fits (agreement_size k) p.epoch size) in
     record {
       fields = f;
       reads = printed_is_read (agreement_size k) f (omega (arith, size)) lawful;

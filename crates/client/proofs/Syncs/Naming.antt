@@ -8,6 +8,7 @@ use Rattle.hex.specs.Hex.{encode_lower, encode_with, lower_digits}
 use Rattle.hex.proofs.HexLemmas.{length-encode_with}
 use Rattle.dr_base.specs.declared.position.Side.{Side}
 use Rattle.dr_base.specs.declared.position.Side.TheVariants.{First, Second}
+use Rattle.relay_wire.specs.declared.limits.TheConstants.{NAME_LIMIT}
 use Rattle.relay_wire.specs.Names.{is_name, is_name_byte}
 use Rattle.client.specs.Syncing.Lines.{box_name}
 
@@ -51,8 +52,8 @@ module _ (session : List ℕ) (long : length session ≡ 16) (are : AreSmall ses
   unfolding is_name
   named end two all =
       let size : length (encode_lower session ++ end) ≡ 34 = omega (arith, length-append (encode_lower session) end, length-encode_with lower_digits session, long, two) in
-      and_from (nat_le 1 (length (encode_lower session ++ end)) && nat_le (length (encode_lower session ++ end)) 40) (list_all is_name_byte (encode_lower session ++ end))
-      (ap (λ (n : ℕ). nat_le 1 n && nat_le n 40) size)
+      and_from (nat_le 1 (length (encode_lower session ++ end)) && nat_le (length (encode_lower session ++ end)) NAME_LIMIT) (list_all is_name_byte (encode_lower session ++ end))
+      (ap (λ (n : ℕ). nat_le 1 n && nat_le n NAME_LIMIT) size)
       (list_all-append is_name_byte (encode_lower session) end ∙ and_from (list_all is_name_byte (encode_lower session)) (list_all is_name_byte end) (digits_named session are) all)
 
   pub name_lawful : (side : Side) → is_name (box_name session side) ≡ true

@@ -120,7 +120,7 @@ packets-more : (k : Mechanism) (c : Conversation) (seeds : List (List ℕ)) (epo
     (v : View) → SameTurns k c.key c.seeds seeds
     → length c.seeds ≤ epoch + 1 → All (λ s. s.epoch ≤ length c.seeds) c.said → IsLawfulView k c side v
     → HasRoom k c side v epoch
-    → length (outbox_of k (grown c seeds epoch text) v) ≤ 32
+    → length (outbox_of k (grown c seeds epoch text) v) ≤ OUTBOX_LIMIT
 packets-more k c seeds epoch text side v same late begun lawful room =
     let d = grown c seeds epoch text in
     let post = post_at k d (next_position c.said epoch) in
@@ -132,8 +132,9 @@ packets-more k c seeds epoch text side v same late begun lawful room =
     (if is_own side epoch then post ∷ [] else []) =
     ap length (posts_of-grown k c seeds epoch text side same late begun)
     ∙ length-append (posts_of k c side) (if is_own side epoch then post ∷ [] else []) in
-    let fits : length (posts_of k d side) - v.dropped ≤ 32 =
-    one_more_fits (length (posts_of k c side)) (length (posts_of k d side)) v.dropped 32 post (is_own side epoch) more
+    let fits : length (posts_of k d side) - v.dropped ≤ OUTBOX_LIMIT =
+    one_more_fits (length (posts_of k c side)) (length (posts_of k d side)) v.dropped OUTBOX_LIMIT
+    post (is_own side epoch) more
     (let few = lawful.few_packets in omega arith) (λ own. let free = room own in omega arith) in
     omega arith
 

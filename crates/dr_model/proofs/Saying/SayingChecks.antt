@@ -102,7 +102,7 @@ tests_by p q r s false false false used false false h = cc
 -- a text that may be said is short, and there is room in the outbox and in the epoch, or for one epoch more
 pub record MaySay (c : Conversation) (epoch packets len : ℕ) (turns : Bool) : Type 0 where
   pub short : len ≤ TEXT_LIMIT
-  pub free : packets < 32
+  pub free : packets < OUTBOX_LIMIT
   pub room : (if turns then nat_le LAST_EPOCH epoch else nat_le INDEX_LIMIT (count_of c epoch)) ≡ false
 
 pub may_say-where : (k : Mechanism) (w : World) (side : Side) (len : ℕ) (turns : Bool) → may_say k w side len ≡ Ok turns

@@ -2,7 +2,7 @@
 use Rattle.std.proofs.Common.{◌≡◌, ℕ, ◌≤◌, true, List, [], length, refl, ap, arith}
 use Rattle.std.specs.Prelude.{is_some}
 use Rattle.std.proofs.lemmas.List.Elements.{All-nil}
-use Rattle.dr_base.specs.declared.limits.TheConstants.{TEXT_LIMIT}
+use Rattle.dr_base.specs.declared.limits.TheConstants.{OUTBOX_LIMIT, TEXT_LIMIT}
 use Rattle.dr_base.specs.declared.position.Side.{Side}
 use Rattle.dr_base.specs.declared.position.Side.TheVariants.{First, Second}
 use Rattle.fs_aead.specs.Chain.{chain_of}
@@ -39,7 +39,7 @@ opening_missing key Second = refl
 
 -- no packet stands in the outbox
 opening_packets : (k : Mechanism) (key : List ℕ) (side : Side)
-    → length (outbox_of k (opening_conversation key) (opening_view side)) ≤ 32
+    → length (outbox_of k (opening_conversation key) (opening_view side)) ≤ OUTBOX_LIMIT
 unfolding positions_after
 opening_packets k key First = omega arith
 opening_packets k key Second = omega arith

@@ -20,7 +20,8 @@ pub record IsLawfulConversation (k : Mechanism) (c : Conversation) : Type 0 wher
   pub begins : is_some (k.meaning.pair_of (agreement_seed c.key)) ≡ true
   pub turns : All (IsSeed k) c.seeds
   pub few_turns : length c.seeds ≤ LAST_EPOCH
-  -- texts have at most 1,024 bytes, an epoch at most 65,535 texts and, from epoch 1 on, one at least
+  -- texts have at most TEXT_LIMIT bytes, an epoch at most INDEX_LIMIT texts and, from epoch 1 on,
+  -- one at least
   pub short : All (λ s. length s.text ≤ TEXT_LIMIT) c.said
   pub begun : All (λ s. s.epoch ≤ length c.seeds) c.said
   pub few : (epoch : ℕ) → count_of c epoch ≤ INDEX_LIMIT
@@ -42,11 +43,11 @@ pub record IsLawfulView (k : Mechanism) (c : Conversation) (side : Side) (v : Vi
   pub arrivals : All (HasArrived c v) v.arrived
   pub once : (p : Position) → times_opened v p ≤ 1
   pub some : (epoch : ℕ) → 1 ≤ epoch → epoch ≤ v.epoch → is_own side epoch ≡ false → 1 ≤ length (indices_in v.arrived epoch)
-  -- at most 256 are missing
+  -- at most KEPT_LIMIT are missing
   pub near : length (missing_of c v) ≤ KEPT_LIMIT
   -- only what stands leaves a box
   pub done_fits : v.done ≤ length v.arrived
   pub dropped_fits : v.dropped ≤ length (posts_of k c side)
-  -- at most 64 texts stand in the inbox, and at most 32 packets in the outbox
+  -- at most INBOX_LIMIT texts stand in the inbox, and at most OUTBOX_LIMIT packets in the outbox
   pub few_texts : length (inbox_of c v) ≤ INBOX_LIMIT
   pub few_packets : length (outbox_of k c v) ≤ OUTBOX_LIMIT

@@ -21,7 +21,8 @@ use Rattle.dr_model.specs.Theorems.LawfulWorlds.{IsLawfulWorld}
 abbrev pub would_miss : World → Side → Position → ℕ
 would_miss w side p = length (missing_of w.conversation (after_opening (view_of w side) p))
 
--- a packet within the limits: at most 256 keys are kept once it is opened, and the inbox has room
+-- a packet within the limits: at most KEPT_LIMIT keys are kept once it is opened, and the inbox
+-- has room
 pub record IsWithinLimits (w : World) (side : Side) (p : Position) : Type 0 where
   pub near : would_miss w side p ≤ KEPT_LIMIT
   pub room : length (inbox_in w side) < INBOX_LIMIT

@@ -3,12 +3,14 @@ use Rattle.scripts.specs.Script.{script_of}
 use Rattle.duet.specs.Trace.{played}
 use Rattle.messenger_cli.specs.Mechanisms.{mechanism_of}
 use Rattle.dr_ports.proofs.Told.{appended-none}
+use Rattle.messenger_cli.specs.declared.playing.TheConstants.{SCRIPT_LIMIT}
 use Rattle.messenger_cli.proofs.Traces.{cut_short, has_no_pair, is_trace}
 use Rattle.messenger_cli.proofs.playing.work.Goals as goal
 
 pub returns-in-Ok-play_named-clause-ended : goal.returns-in-Ok-play_named-clause-ended
 returns-in-Ok-play_named-clause-ended g c =
-    let fits : length c.in-Ok.text.items ≤ 65536 = omega (arith, ap length c.as_slice.ensures.value, c.as_slice.ensures.len, c.in-Ok.ensures.fits) in
+    let fits : length c.in-Ok.text.items ≤ SCRIPT_LIMIT =
+    omega (arith, ap length c.as_slice.ensures.value, c.as_slice.ensures.len, c.in-Ok.ensures.fits) in
     record {
       lines = played (mechanism_of c.in-Ok-parse.script.kem) c.in-Ok-parse.script;
       reason = is_trace _ _ _ c.in-Ok.ensures.whole fits (ap script_of (sym c.as_slice.ensures.value) ∙ c.in-Ok-parse.ensures.ok) c.in-Ok-play_named.ensures.pair;
@@ -20,7 +22,8 @@ returns-in-Ok-play_named-clause-ended g c =
 
 pub returns-clause-cut : goal.returns-clause-cut
 returns-clause-cut g c =
-    let fits : length c.in-Ok.text.items ≤ 65536 = omega (arith, ap length c.as_slice.ensures.value, c.as_slice.ensures.len, c.in-Ok.ensures.fits) in
+    let fits : length c.in-Ok.text.items ≤ SCRIPT_LIMIT =
+    omega (arith, ap length c.as_slice.ensures.value, c.as_slice.ensures.len, c.in-Ok.ensures.fits) in
     let write = c.in-Err-Write.ensures.write (search rules) in
     record {
       lines = played (mechanism_of c.in-Ok-parse.script.kem) c.in-Ok-parse.script;
@@ -33,7 +36,8 @@ returns-clause-cut g c =
 
 pub returns-in-Err-NoPair-clause-ended : goal.returns-in-Err-NoPair-clause-ended
 returns-in-Err-NoPair-clause-ended g c =
-    let fits : length c.in-Ok.text.items ≤ 65536 = omega (arith, ap length c.as_slice.ensures.value, c.as_slice.ensures.len, c.in-Ok.ensures.fits) in
+    let fits : length c.in-Ok.text.items ≤ SCRIPT_LIMIT =
+    omega (arith, ap length c.as_slice.ensures.value, c.as_slice.ensures.len, c.in-Ok.ensures.fits) in
     let none = c.in-Err-NoPair.ensures.none (search rules) in
     record {
       lines = [];
@@ -46,7 +50,8 @@ returns-in-Err-NoPair-clause-ended g c =
 
 pub returns-in-Err-Memory-play_named-clause-ended : goal.returns-in-Err-Memory-play_named-clause-ended
 returns-in-Err-Memory-play_named-clause-ended g c =
-    let fits : length c.in-Ok.text.items ≤ 65536 = omega (arith, ap length c.as_slice.ensures.value, c.as_slice.ensures.len, c.in-Ok.ensures.fits) in
+    let fits : length c.in-Ok.text.items ≤ SCRIPT_LIMIT =
+    omega (arith, ap length c.as_slice.ensures.value, c.as_slice.ensures.len, c.in-Ok.ensures.fits) in
     let short = cut_short _ _ _ (played (mechanism_of c.in-Ok-parse.script.kem) c.in-Ok-parse.script) _
     (λ pairs. is_trace _ _ _ c.in-Ok.ensures.whole fits (ap script_of (sym c.as_slice.ensures.value) ∙ c.in-Ok-parse.ensures.ok) pairs)
     (c.in-Err-Memory-play_named.ensures.memory (search rules)) in
