@@ -5,7 +5,7 @@ use Rattle.session_model.specs.Clients.{Client}
 use Rattle.session_record.specs.Record.{record_text}
 use Rattle.slot_store.specs.Laws.{IsResting, SameWithin}
 use Rattle.slot_store.specs.Store.{mark}
-use Rattle.slot_store.specs.declared.area.Area.{Area}
+use Rattle.slot_store.specs.Areas.{Area}
 use Rattle.slot_store.specs.declared.store.SlotStore.{SlotStore}
 use Rattle.client.specs.Clients.{IsReady, client_area}
 

@@ -17,7 +17,7 @@ use Rattle.session_model.specs.declared.answer.Refusal.{Refusal}
 use Rattle.session_record.specs.Record.{record_read, record_text}
 use Rattle.slot_store.specs.Slots.{recovered}
 use Rattle.slot_store.specs.Store.{IsOldOrNew}
-use Rattle.slot_store.specs.declared.area.Area.{Area}
+use Rattle.slot_store.specs.Areas.{Area}
 use Rattle.slot_store.specs.declared.store.SlotStore.{SlotStore}
 use Rattle.client.specs.Clients.{ClientNow, IsReady, client_area}
 use Rattle.client.specs.InWorlds.{ActsIn, IsBetween, IsIn, StandsFor, StandsForEither}

@@ -4,6 +4,7 @@ pub mod Tears
 pub mod Filled
 pub mod Passing
 pub mod Steps
+pub mod Calling
 pub mod WrittenAndSynced
 pub mod Fresh
 pub mod Writes

@@ -2,6 +2,7 @@ pub mod Bytes
 pub mod State
 pub mod Spans
 pub mod Calls
+pub mod Called
 pub mod Memory
 pub mod MemoryLaws
 pub mod MemoryDisks

@@ -43,3 +43,7 @@ Always P disk = (c : List ℕ) → disk.image c → P c
 -- a crash leaves what a read gives
 abbrev pub IsSettled : DiskState → Type 0
 IsSettled disk = (c : List ℕ) → disk.image c → disk.seen ≡ Some c
+
+-- what a read gives has P, where it is told
+abbrev pub OnSeen : (List ℕ → Type 0) → DiskState → Type 0
+OnSeen P disk = (s : List ℕ) → disk.seen ≡ Some s → P s

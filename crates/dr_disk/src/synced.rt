@@ -1,10 +1,10 @@
 //! The one step of every store: a write and its sync.
 
-ghost use Rattle.std.specs.Prelude.{◌≡◌, ℕ, ◌+◌, ◌≤◌, length, IsOk, IfErr, OnOk, OnErr};
-ghost use Rattle.dr_base.specs.Causes.{Rose};
+ghost use Rattle.std.specs.Prelude.{◌+◌, ◌≤◌, length, OnOk, OnErr};
 ghost use Rattle.dr_disk.specs.declared.call.Call.TheVariants.{Sync};
-ghost use Rattle.dr_disk.specs.State.{Always, Fate, IsSettled};
-ghost use Rattle.dr_disk.specs.Spans.{GoesBy, Span, Frame, HavePassed, IsQuiet, ReadsOutside};
+ghost use Rattle.dr_disk.specs.State.{Always, IsSettled};
+ghost use Rattle.dr_disk.specs.Spans.{GoesBy, Span, Frame, ReadsOutside};
+ghost use Rattle.dr_disk.specs.Called.{Called, itself};
 ghost use Rattle.dr_disk.specs.Calls.{Goes, HasFault, IsCut, IsWrittenOver, LeavesSame, Unwritten};
 
 use crate::call::Call;
@@ -28,19 +28,16 @@ pub fn write_synced<D: Disk>(disk: &mut D, at: u64, bytes: &[u8]) -> Result<(), 
     requires { at + length bytes.now ≤ (D.state disk.old).size }
 
     // A crash meanwhile leaves the bytes outside as they were; once it is done, it leaves what was written.
-    ensures any_moment { Span (D.state disk.old) (D.state disk.new) (Frame (D.state disk.old) at (length bytes.now)) }
-    ensures done { OnOk result (Always (IsWrittenOver (D.state disk.old) at bytes.now) (D.state disk.new)) }
+    ensures any_moment { Span (D.state disk.old) (D.state disk.new)
+        (Frame (D.state disk.old) at (length bytes.now)) }
+    ensures done { OnOk result (Always (IsWrittenOver (D.state disk.old) at bytes.now)
+        (D.state disk.new)) }
     ensures settled { OnOk result (IsSettled (D.state disk.new)) }
     ensures reads { ReadsOutside at (length bytes.now) (D.state disk.old) (D.state disk.new) }
 
-    // Which calls passed, and what stands where one failed.
-    ensures passed { OnOk result (HavePassed 2 (D.state disk.old) (D.state disk.new)) }
+    // Which calls passed, and what stands where one of them failed.
+    ensures calls { Called 2 itself (D.state disk.old) (D.state disk.new) result }
     ensures stopped { OnErr result (IsCut at bytes.now (D.state disk.old) (D.state disk.new)) }
-    ensures ended { OnErr result ((n : ℕ) →
-        (D.state disk.old).fate ≡ Fate.some_pass n → (D.state disk.new).fate ≡ Fate.some_pass 0) }
-    ensures fate { (D.state disk.old).fate ≡ Fate.all_pass → IsOk result × ((D.state disk.new).fate ≡ Fate.all_pass) }
-    ensures fault { IfErr result (λ call. Rose ((D.state disk.old).faults call) ((D.state disk.new).faults call)) }
-    ensures quiet { OnOk result (IsQuiet (D.state disk.old) (D.state disk.new)) }
 {
     let Ok(()) = disk.write_at(at, bytes) else {
         return Err(Call::Write);

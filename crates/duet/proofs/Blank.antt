@@ -9,7 +9,7 @@ use Rattle.kem_laws.specs.Mechanism.{Mechanism}
 use Rattle.slot_store.specs.Reading.{damaged, holds, judged_by, no_content, reading, seen_as, slot_fault, verdict_of}
 use Rattle.slot_store.specs.Slots.{Slot, is_open, next_turn, place_of, slot_at, turn_of}
 use Rattle.slot_store.specs.Store.{IsWithin}
-use Rattle.slot_store.specs.declared.area.Area.{Area}
+use Rattle.slot_store.specs.Areas.{Area}
 use Rattle.client.specs.Beginning.{IsUnbegun}
 use Rattle.client.specs.Clients.{client_area}
 use Rattle.client.specs.Opening.{record_fault}

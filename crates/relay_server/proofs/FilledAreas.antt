@@ -10,7 +10,7 @@ use Rattle.dr_disk.specs.Spans.{Frame, Span}
 use Rattle.dr_disk.specs.State.{Always, DiskState}
 use Rattle.dr_disk.proofs.Ranges.{torn_self, torn_twice, torn_wider}
 use Rattle.dr_disk.proofs.Steps.{spans, widen}
-use Rattle.slot_store.specs.declared.area.Area.{Area}
+use Rattle.slot_store.specs.Areas.{Area}
 use Rattle.slot_store.specs.declared.store.SlotStore.{SlotStore}
 use Rattle.slot_store.specs.Laws.{IsLocal}
 use Rattle.slot_store.specs.Slots.{recovered}

@@ -5,7 +5,7 @@ use Rattle.std.proofs.lemmas.Bool.{cases_eq, cases_lt}
 use Rattle.dr_disk.specs.Bytes.{Torn}
 use Rattle.dr_disk.specs.Spans.{Frame}
 use Rattle.dr_disk.specs.State.{Always, DiskState}
-use Rattle.slot_store.specs.declared.area.Area.{Area}
+use Rattle.slot_store.specs.Areas.{Area}
 use Rattle.slot_store.specs.declared.store.SlotStore.{SlotStore}
 use Rattle.slot_store.specs.Laws.{IsLocal, SameWithin}
 use Rattle.slot_store.specs.Store.{Rests}

@@ -8,7 +8,7 @@ use Rattle.dr_disk.specs.State.{DiskState, Always}
 use Rattle.dr_disk.specs.Spans.{Span, Frame}
 use Rattle.dr_disk.proofs.Ranges.{torn_wider}
 use Rattle.dr_disk.proofs.Steps.{widen}
-use Rattle.slot_store.specs.declared.area.Area.{Area}
+use Rattle.slot_store.specs.Areas.{Area}
 use Rattle.slot_store.specs.declared.store.SlotStore.{SlotStore}
 use Rattle.slot_store.specs.Slots.{recovered}
 use Rattle.slot_store.specs.Store.{IsOldOrNew, Rests, content}

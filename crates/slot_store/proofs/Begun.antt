@@ -3,7 +3,7 @@ use Rattle.std.proofs.Common.{◌≡◌, ℕ, ◌+◌, true, false, List, length
 use Rattle.std.specs.Prelude.{not, is_some, Option, Some, None}
 use Rattle.dr_disk.specs.State.{Always, DiskState, IsLawful}
 use Rattle.slot_store.specs.declared.store.SlotStore.{SlotStore}
-use Rattle.slot_store.specs.declared.area.Area.{Area}
+use Rattle.slot_store.specs.Areas.{Area}
 use Rattle.slot_store.specs.Slots.{Comes, Slot, Slots, is_open, place_of, record_of, slot_at, turn_of, wiped}
 use Rattle.slot_store.specs.Layout.{laid}
 use Rattle.slot_store.specs.Store.{Awaits, IsWithin, Rests, content, has_replaced, mark, slot_of}

@@ -2,7 +2,7 @@
 use Rattle.std.proofs.Common.{◌≡◌, ℕ, ◌+◌, ◌≤◌, Bool, true, false, List, drop, Option, Some, None, refl, sym, ◌∙◌, ap, subst, arith}
 use Rattle.std.specs.Prelude.{nat_le, ◌==◌, if◌then◌else◌}
 use Rattle.std.proofs.lemmas.Bool.Decides.{nat_tests}
-use Rattle.slot_store.specs.declared.area.Area.{Area}
+use Rattle.slot_store.specs.Areas.{Area}
 use Rattle.slot_store.specs.Slots.{Slot, is_open, length_of, next_turn, record_of, recovered, slot_at, turn_of}
 use Rattle.slot_store.specs.Reading.{IsUndamaged, OpensAs, Verdict, chosen, damaged, fault_from, faulty, holds, judged, judged_by, newer, no_content, none_open, nonzero_from, number_of, reading, seen_as, slot_fault, verdict_of}
 use Rattle.slot_store.proofs.Records.{sound}

@@ -4,7 +4,7 @@ use Rattle.std.specs.Prelude.{not, slice_index, slice_range}
 use Rattle.std.proofs.lemmas.Bool.{cases_lt, cases_eq}
 use Rattle.std.proofs.lemmas.List.{ext_get_or}
 use Rattle.dr_disk.proofs.Ranges.{get_or-range, length-range}
-use Rattle.slot_store.specs.declared.area.Area.{Area}
+use Rattle.slot_store.specs.Areas.{Area}
 use Rattle.slot_store.specs.Slots.{Slot, slot_at, slot_from}
 use Rattle.slot_store.specs.Laws.{SameWithin}
 

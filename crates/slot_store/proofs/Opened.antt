@@ -1,16 +1,21 @@
 -- What an opened store rests on.
 use Rattle.std.proofs.Common.{◌≡◌, ◌⊎◌, inl, inr, ⊎_elim, ℕ, ◌+◌, ◌-◌, Bool, true, false, List, length, replicate, Option, Some, None, Result, Ok, Err, refl, sym, ◌∙◌, ap, ap₂, subst, arith}
 use Rattle.std.specs.Prelude.{IfOk, not}
+use Rattle.dr_base.specs.Causes.{Rose}
+use Rattle.dr_disk.specs.declared.call.Call.{Call}
 use Rattle.dr_disk.specs.State.{Always, DiskState, IsLawful, IsSettled}
+use Rattle.dr_disk.specs.Called.{Went, itself}
 use Rattle.dr_disk.specs.Spans.{Span}
 use Rattle.dr_disk.proofs.Ranges.{torn_self, torn_twice}
 use Rattle.dr_disk.proofs.Steps.{spans, widen}
-use Rattle.slot_store.specs.declared.area.Area.{Area}
+use Rattle.slot_store.specs.Areas.{Area}
 use Rattle.slot_store.specs.declared.store.SlotStore.{SlotStore}
 use Rattle.slot_store.specs.Slots.{Comes, Slot, content_of, is_open, record_of, slot_at, wiped}
 use Rattle.slot_store.specs.Layout.{IsRecord}
 use Rattle.slot_store.specs.Reading.{IsEntryOrLike, IsLikeRead, Verdict, chosen, damaged, holds, newer, none_open, reading, seen_as, verdict_of}
 use Rattle.slot_store.specs.Store.{Rests, content, slot_of}
+use Rattle.slot_store.specs.Opened.{IsRefused}
+use Rattle.slot_store.specs.Settling.{RestsAsRead}
 use Rattle.slot_store.specs.Tidying.{IsPassive, IsTidied, WasRead}
 use Rattle.slot_store.proofs.Begun.{slots_as_rests}
 use Rattle.slot_store.proofs.Layouts.{content_closed}
@@ -18,7 +23,7 @@ use Rattle.slot_store.proofs.Newest.{closed, content_open, gate_open, not_not, o
 use Rattle.slot_store.proofs.Records.{sound}
 use Rattle.slot_store.proofs.Verdicts.{both_closed, first_newer, second_newer}
 use Rattle.slot_store.specs.declared.opening.Found.TheVariants.{Content}
-use Rattle.slot_store.specs.declared.errors.OpenError.TheVariants.{Damaged}
+use Rattle.slot_store.specs.declared.errors.OpenError.TheVariants.{Damaged, StoreFault}
 use Rattle.slot_store.specs.Found.{found_as}
 
 -- how a slot was read, by code
@@ -99,6 +104,9 @@ module _ (area : Area) (start a b : DiskState) (read : Span start a start.image)
   as_read : (s : List ℕ) → start.seen ≡ Some s → IsLikeRead area start s
   as_read s told = record { read = s; told = told; same = refl; undamaged = λ whole. whole; outside = torn_self area.start (area.slot + area.slot) s }
 
+  pub at_rest_before : (store : SlotStore) → Always (RestsAsRead area a store) b → Always (RestsAsRead area start store) b
+  at_rest_before store rests c left = let is = rests c left in (is.0, like_before c is.1)
+
   pub reads_like : IsLawful b → IsSettled a → Span a b (IsLikeRead area a) → (s : List ℕ) → b.seen ≡ Some s → IsLikeRead area start s
   reads_like lawful settled next s told = ⊎_elim (λ left. as_read s (sym same ∙ settled s left)) (λ like. like_before s like) (next.last s (lawful.seen_now s told))
 
@@ -152,3 +160,12 @@ damaged_read number slot place at n is same =
     let one : n ≡ slot = cc in
     let two : place ≡ at = cc in
     ap₂ damaged (sym is ∙ one) two
+
+-- a call that failed
+pub refused_by : {T : Type 0} (fault_at : List ℕ → Option ℕ) (area : Area) (start now : DiskState) (call : Call) → Went {T = T} itself start now (Err call)
+    → IsRefused fault_at area start now (StoreFault call)
+refused_by fault_at area start now call went = record {
+  damaged = λ slot at is. absurd (let e : StoreFault call ≡ Damaged slot at = is in cc);
+  fault = λ other is. let e : call ≡ other = cc in subst (λ x. Rose (start.faults x) (now.faults x)) e went.fault;
+  ended = λ other n is told. went.ended n told;
+}

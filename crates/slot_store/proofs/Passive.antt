@@ -8,7 +8,7 @@ use Rattle.dr_disk.specs.State.{Always, DiskState, IsLawful}
 use Rattle.dr_disk.specs.Spans.{Span}
 use Rattle.dr_disk.proofs.Steps.{spans, widen}
 use Rattle.dr_disk.proofs.Ranges.{torn_twice}
-use Rattle.slot_store.specs.declared.area.Area.{Area}
+use Rattle.slot_store.specs.Areas.{Area}
 use Rattle.slot_store.specs.Slots.{Comes, Slot, content_of, is_open, recovered, slot_at, turn_of}
 use Rattle.slot_store.specs.Reading.{IsLikeRead}
 use Rattle.slot_store.specs.Tidying.{HasBody, HasBodyUnder, HasGate, HasZeros, IsLikeBut, IsPassive, IsShutting, IsTidied, WasRead}

@@ -5,7 +5,7 @@ use Rattle.dr_disk.specs.Bytes.{Torn}
 use Rattle.dr_disk.specs.State.{DiskState}
 use Rattle.dr_disk.specs.Spans.{ReadsOutside}
 use Rattle.dr_disk.proofs.Ranges.{range_kept, reads_twice, reads_wider}
-use Rattle.slot_store.specs.declared.area.Area.{Area}
+use Rattle.slot_store.specs.Areas.{Area}
 use Rattle.slot_store.specs.Slots.{place_of, slot_from}
 use Rattle.slot_store.specs.Store.{ReadsOutsideArea}
 

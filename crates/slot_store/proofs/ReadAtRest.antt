@@ -1,7 +1,7 @@
 -- What was read at rest: which slot is current, and that the other is wiped.
 use Rattle.std.proofs.Common.{◌≡◌, ◌⊎◌, inl, inr, ⊎_elim, ℕ, ◌≤◌, Bool, true, false, List, Option, Some, None, refl, sym, ◌∙◌, ap, arith}
 use Rattle.std.specs.Prelude.{not, is_some, if◌then◌else◌}
-use Rattle.slot_store.specs.declared.area.Area.{Area}
+use Rattle.slot_store.specs.Areas.{Area}
 use Rattle.slot_store.specs.declared.store.SlotStore.{SlotStore}
 use Rattle.slot_store.specs.Slots.{Slot, content_of, is_open, open_slot, record_of, slot_at, turn_of, wiped}
 use Rattle.slot_store.specs.Layout.{Mark}

@@ -1,15 +1,18 @@
 -- A put, and then a retire.
-use Rattle.std.proofs.Common.{◌≡◌, inr, ℕ, ◌+◌, ◌<◌, Bool, List, Option, Some, ◌∙◌, sym, ap, subst, arith}
+use Rattle.std.proofs.Common.{◌≡◌, inr, ℕ, ◌+◌, Bool, List, Option, Result, Some, ◌∙◌, ap, subst}
 use Rattle.std.specs.Prelude.{is_some}
 use Rattle.dr_disk.specs.State.{Always, DiskState, IsLawful}
-use Rattle.dr_disk.specs.Spans.{HavePassed, HavePassedAtLeast, Span}
+use Rattle.dr_disk.specs.Spans.{HavePassed, Span}
+use Rattle.dr_disk.specs.Called.{Called}
 use Rattle.dr_disk.proofs.Ranges.{frame_twice, reads_twice}
 use Rattle.dr_disk.proofs.Steps.{spans, widen}
-use Rattle.slot_store.specs.declared.area.Area.{Area}
+use Rattle.slot_store.specs.Areas.{Area}
+use Rattle.slot_store.specs.declared.errors.StoreFault.{StoreFault}
 use Rattle.slot_store.specs.declared.store.SlotStore.{SlotStore}
 use Rattle.slot_store.specs.Reading.{IsUndamaged}
 use Rattle.slot_store.specs.Slots.{recovered}
 use Rattle.slot_store.specs.Stops.{IsStopped, calls_of, retiring}
+use Rattle.slot_store.specs.Putting.{call_of}
 use Rattle.slot_store.specs.Store.{IsOldOrNew, KeepsOutside, ReadsOutsideArea, Rests, content}
 use Rattle.slot_store.proofs.Stopping.{stopped_late}
 
@@ -44,25 +47,7 @@ ends area put retired text start mid end same kept holds outside rest c left =
     (all.0, all.1 ∙ ap content kept ∙ holds, frame_twice start mid area.start (area.slot + area.slot) outside c (subst (λ a. KeepsOutside a mid c) same all.2))
 
 -- how many calls it took
-pub all_passed : (old new : Option (List ℕ)) (start mid end : DiskState) (replaces : Bool) → replaces ≡ is_some old → HavePassed 4 start mid → HavePassed (retiring replaces) mid end → HavePassed (calls_of old new) start end
+pub counted : {T : Type 0} (old new : Option (List ℕ)) (start now : DiskState) (result : Result T StoreFault) (replaces : Bool) → replaces ≡ is_some old
+    → Called (4 + retiring replaces) call_of start now result → Called (calls_of old new) call_of start now result
 unfolding calls_of
-all_passed old new start mid end replaces is four more m told =
-    let p = more m told in
-    let q = four p.0 p.1 in
-    (q.0, q.1, let e : retiring replaces ≡ retiring (is_some old) = ap retiring is in omega (arith, p.2, q.2))
-
-pub few_soon : (old new : Option (List ℕ)) (start now : DiskState) → ((l m : ℕ) → start.passed ≡ Some l → now.passed ≡ Some m → m < l + 4)
-    → (l m : ℕ) → start.passed ≡ Some l → now.passed ≡ Some m → m < l + calls_of old new
-unfolding calls_of
-few_soon old new start now few l m was told = let e = few l m was told in omega arith
-
-pub few_late : (old new : Option (List ℕ)) (start mid end : DiskState) (replaces : Bool) → replaces ≡ is_some old → HavePassed 4 start mid → ((l m : ℕ) → mid.passed ≡ Some l → end.passed ≡ Some m → m < l + retiring replaces) → HavePassedAtLeast mid end
-    → (l m : ℕ) → start.passed ≡ Some l → end.passed ≡ Some m → m < l + calls_of old new
-unfolding calls_of
-few_late old new start mid end replaces is four few passes l m was told =
-    let p = passes m told in
-    let q = four p.0 p.1 in
-    let same : l ≡ q.0 = let e : Some l ≡ Some q.0 = sym was ∙ q.1 in cc in
-    let e : retiring replaces ≡ retiring (is_some old) = ap retiring is in
-    let f = few p.0 m p.1 told in
-    omega (arith, q.2)
+counted old new start now result replaces is called = subst (λ r. Called (4 + retiring r) call_of start now result) is called

@@ -1,15 +1,18 @@
 -- The calls of a retire, in the words of callers.
-use Rattle.std.proofs.Common.{◌≡◌, inl, ℕ, ◌+◌, ◌-◌, ◌≤◌, ◌<◌, [], ◌∷◌, true, false, List, length, replicate, Some, sym, ◌∙◌, ap, subst, arith}
+use Rattle.std.proofs.Common.{◌≡◌, inl, ℕ, ◌+◌, ◌-◌, [], ◌∷◌, true, false, List, Result, length, replicate, sym, ◌∙◌, ap, subst, arith}
 use Rattle.std.specs.Prelude.{not}
 use Rattle.std.proofs.lemmas.List.{length-replicate}
 use Rattle.dr_disk.specs.State.{Always, DiskState, IsLawful}
 use Rattle.dr_disk.specs.Spans.{Frame, HavePassed, ReadsOutside, Span}
 use Rattle.dr_disk.specs.Calls.{IsWrittenOver}
+use Rattle.dr_disk.specs.Called.{Called}
 use Rattle.dr_disk.proofs.Ranges.{torn_self}
+use Rattle.slot_store.specs.declared.errors.StoreFault.{StoreFault}
 use Rattle.slot_store.specs.declared.store.SlotStore.{SlotStore}
 use Rattle.slot_store.specs.Slots.{Comes, content_of, place_of, recovered, slot_at}
 use Rattle.slot_store.specs.Stops.{retiring}
-use Rattle.slot_store.specs.Store.{Awaits, IsWithin, KeepsOutside, ReadsOutsideArea, Rests, content, has_replaced, mark, slot_of}
+use Rattle.slot_store.specs.Putting.{HasRested, KeepsRecord, call_of}
+use Rattle.slot_store.specs.Store.{Awaits, IsWithin, ReadsOutsideArea, Rests, content, has_replaced, mark, slot_of}
 use Rattle.slot_store.proofs.Begun.{laid_store, rests_as_slots, slots_as_rests, whole_store}
 use Rattle.slot_store.proofs.Newest.{closed, recovered_current}
 use Rattle.slot_store.proofs.Places.{reads_both}
@@ -34,10 +37,6 @@ rests_undamaged store c rests =
     let other = closed (slot_at store.area (not store.second) c) (λ opened. absurd (let e : 165 ≡ 0 = sym opened ∙ gate in omega arith)) in
     undamaged store.area c store.second (slot_of store) slots.current (inl other) (whole_store store) (rests_recovered store c rests)
 
--- what a crash leaves while a record is retired
-abbrev pub Retires : SlotStore → DiskState → List ℕ → Type 0
-Retires store start c = (recovered store.area c ≡ content store) × KeepsOutside store.area start c × IsUndamaged store.area c
-
 newer : (store : SlotStore) (c : List ℕ) → Awaits store c → IsNewer store.area store.second (slot_of store) c
 unfolding Awaits mark
 newer store c awaits = record {
@@ -47,7 +46,7 @@ newer store c awaits = record {
 
 -- with no record replaced nothing is left to retire
 pub alone : (store : SlotStore) (start : DiskState) → store.replaced ≡ false → Always (Awaits store) start
-    → Always (λ c. Rests store c × (recovered store.area c ≡ content store) × KeepsOutside store.area start c) start
+    → Always (HasRested store store start) start
 unfolding Awaits Rests mark has_replaced
 alone store start none awaits c left =
     let put = awaits c left in
@@ -77,7 +76,7 @@ setting store zeros start is within lawful awaits =
     }
 
 module _ (store : SlotStore) (start mid : DiskState) (p : ℕ) (zeros : List ℕ) (set : Setting store.area store.second (slot_of store) zeros start) (at : p ≡ place_of store.area (not store.second)) where
-  pub retire_first : Span start mid (Frame start p 1) → Span start mid (Retires store start)
+  pub retire_first : Span start mid (Frame start p 1) → Span start mid (KeepsRecord store start)
   unfolding content
   retire_first span = gate_part store.area store.second (slot_of store) zeros start set mid (subst (λ q. Span start mid (Frame start q 1)) at span)
 
@@ -85,12 +84,12 @@ module _ (store : SlotStore) (start mid : DiskState) (p : ℕ) (zeros : List ℕ
   over = subst (λ q. Always (IsWrittenOver start q (0 ∷ [])) mid) at
 
   pub retire_whole : (end : DiskState) → Span start mid (Frame start p 1) → Always (IsWrittenOver start p (0 ∷ [])) mid → Span mid end (Frame mid (p + 1) (length zeros))
-      → Span start end (Retires store start)
+      → Span start end (KeepsRecord store start)
   unfolding content
   retire_whole end span done next = whole store.area store.second (slot_of store) zeros start set mid end (subst (λ q. Span start mid (Frame start q 1)) at span) (over done) (subst (λ q. Span mid end (Frame mid (q + 1) (length zeros))) at next)
 
   pub retired : (end : DiskState) → IsLawful mid → Always (IsWrittenOver start p (0 ∷ [])) mid → Always (IsWrittenOver mid (p + 1) zeros) end
-      → Always (λ c. Rests store c × (recovered store.area c ≡ content store) × KeepsOutside store.area start c) end
+      → Always (HasRested store store start) end
   retired end lawful done next c left =
       let rest = ends store.area store.second (slot_of store) zeros start set mid end lawful (over done) (subst (λ q. Always (IsWrittenOver mid (q + 1) zeros) end) at next) c left in
       let rests = slots_as_rests store c rest.slots in
@@ -99,26 +98,7 @@ module _ (store : SlotStore) (start mid : DiskState) (p : ℕ) (zeros : List ℕ
   pub retire_reads : (end : DiskState) → ReadsOutside p 1 start mid → ReadsOutside (p + 1) (length zeros) mid end → ReadsOutsideArea store.area start end
   retire_reads end first next = reads_both store.area (not store.second) start mid end p 1 (p + 1) (length zeros) (omega (arith, at)) (omega (arith, at, set.least)) (omega (arith, at)) (omega (arith, at, set.size)) first next
 
--- how many calls passed before one failed
-pub few_of : (store : SlotStore) (start now : DiskState) → store.replaced ≡ true → ((l m : ℕ) → start.passed ≡ Some l → now.passed ≡ Some m → m < l + 4)
-    → (l m : ℕ) → start.passed ≡ Some l → now.passed ≡ Some m → m < l + retiring (has_replaced store)
-few_of store start now is few l m was told = subst (λ n. m < l + n) (sym (four_calls store is)) (few l m was told)
-
-pub few_first : (start mid : DiskState) → ((m : ℕ) → mid.passed ≡ Some m → (l : ℕ) × (start.passed ≡ Some l) × (l ≤ m) × (m ≤ l + 1)) → (l m : ℕ) → start.passed ≡ Some l → mid.passed ≡ Some m → m < l + 4
-few_first start mid passed l m was told =
-    let p = passed m told in
-    let same : l ≡ p.0 = let e : Some l ≡ Some p.0 = sym was ∙ p.1 in cc in
-    omega (arith, p.3)
-
-pub few_second : (start mid end : DiskState) → HavePassed 2 start mid → ((m : ℕ) → end.passed ≡ Some m → (l : ℕ) × (mid.passed ≡ Some l) × (l ≤ m) × (m ≤ l + 1)) → (l m : ℕ) → start.passed ≡ Some l → end.passed ≡ Some m → m < l + 4
-few_second start mid end two passed l m was told =
-    let p = passed m told in
-    let q = two p.0 p.1 in
-    let same : l ≡ q.0 = let e : Some l ≡ Some q.0 = sym was ∙ q.1 in cc in
-    omega (arith, p.3, q.2)
-
-pub both_passed : (store : SlotStore) (start mid end : DiskState) → store.replaced ≡ true → HavePassed 2 start mid → HavePassed 2 mid end → HavePassed (retiring (has_replaced store)) start end
-both_passed store start mid end is two more m told =
-    let p = more m told in
-    let q = two p.0 p.1 in
-    (q.0, q.1, let four = four_calls store is in omega (arith, p.2, q.2))
+-- how many calls it took
+pub counted : {T : Type 0} (store : SlotStore) (start now : DiskState) (result : Result T StoreFault) → store.replaced ≡ true
+    → Called 4 call_of start now result → Called (retiring (has_replaced store)) call_of start now result
+counted store start now result is called = subst (λ n. Called n call_of start now result) (sym (four_calls store is)) called

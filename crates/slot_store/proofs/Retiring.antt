@@ -9,7 +9,7 @@ use Rattle.dr_disk.proofs.Overwrites.{overwritten_in}
 use Rattle.dr_disk.proofs.Ranges.{frame_torn, overwritten_tears, range_kept, range_written, torn_self}
 use Rattle.dr_disk.proofs.Steps.{spans}
 use Rattle.dr_disk.proofs.Writes.{behind, during}
-use Rattle.slot_store.specs.declared.area.Area.{Area}
+use Rattle.slot_store.specs.Areas.{Area}
 use Rattle.slot_store.specs.Reading.{IsUndamaged}
 use Rattle.slot_store.specs.Slots.{Comes, Slot, Slots, content_of, is_open, next_turn, place_of, recovered, slot_at, turn_of, wiped}
 use Rattle.slot_store.proofs.Newest.{closed, recovered_current, recovered_newer}

@@ -8,7 +8,7 @@ use Rattle.dr_disk.specs.Bytes.{overwritten, overwritten_told}
 use Rattle.dr_disk.specs.State.{Always, DiskState, IsLawful}
 use Rattle.dr_disk.specs.Spans.{Frame, HavePassed, Span}
 use Rattle.dr_disk.specs.Calls.{IsCut, IsWrittenOver, written_by}
-use Rattle.slot_store.specs.declared.area.Area.{Area}
+use Rattle.slot_store.specs.Areas.{Area}
 use Rattle.slot_store.specs.Slots.{Slot, content_of, recovered, slot_at}
 use Rattle.slot_store.specs.Stops.{IsStopped, opens, shows, took}
 use Rattle.slot_store.proofs.Newest.{closed, recovered_current}

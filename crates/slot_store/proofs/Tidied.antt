@@ -8,7 +8,7 @@ use Rattle.dr_disk.specs.Calls.{IsWrittenOver}
 use Rattle.dr_disk.proofs.Overwrites.{overwritten_in}
 use Rattle.dr_disk.proofs.Ranges.{overwritten_tears, range_kept, range_written, torn_wider}
 use Rattle.dr_disk.proofs.Steps.{widen}
-use Rattle.slot_store.specs.declared.area.Area.{Area}
+use Rattle.slot_store.specs.Areas.{Area}
 use Rattle.slot_store.specs.Slots.{Slot, place_of, slot_at}
 use Rattle.slot_store.specs.Tidying.{HasBody, HasBodyUnder, HasGate, HasZeros, IsLikeBut}
 use Rattle.slot_store.proofs.Places.{apart_of_other, high, low, slot_beside}

@@ -3,7 +3,7 @@ use Rattle.std.proofs.Common.{◌≡◌, ◌⊎◌, inl, inr, ℕ, ◌+◌, ◌-
 use Rattle.std.specs.Prelude.{not, nat_le, ◌==◌, if◌then◌else◌}
 use Rattle.std.proofs.lemmas.Bool.Decides.{nat_tests}
 use Rattle.std.proofs.lemmas.List.{drop-drop, drop_at}
-use Rattle.slot_store.specs.declared.area.Area.{Area}
+use Rattle.slot_store.specs.Areas.{Area}
 use Rattle.slot_store.specs.Slots.{Comes, Slot, content_of, is_open, length_of, next_turn, record_of, recovered, slot_at, turn_of}
 use Rattle.slot_store.specs.Layout.{IsRecord}
 use Rattle.slot_store.specs.Reading.{IsUndamaged, OpensAs, Reading, Verdict, fault_from, holds, judged, judged_by, newer, none_open, nonzero_from, reading, seen_as, slot_fault, verdict_of}

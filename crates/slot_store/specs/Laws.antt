@@ -1,6 +1,6 @@
 -- What holds of the words that callers see.
 use Rattle.std.specs.Prelude.{◌≡◌, ℕ, ◌+◌, ◌≤◌, ◌<◌, List, length, slice_index, Option, Some, None}
-use Rattle.slot_store.specs.declared.area.Area.{Area}
+use Rattle.slot_store.specs.Areas.{Area}
 use Rattle.slot_store.specs.declared.store.SlotStore.{SlotStore}
 use Rattle.slot_store.specs.AtRest.{IsAtRest}
 use Rattle.slot_store.specs.Slots.{recovered}

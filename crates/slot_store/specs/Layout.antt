@@ -1,6 +1,6 @@
 -- An area at rest, laid out from its record and its mark.
 use Rattle.std.specs.Prelude.{◌≡◌, ℕ, ◌-◌, ◌≤◌, Bool, false, not, List, Option, Some, None}
-use Rattle.slot_store.specs.declared.area.Area.{Area}
+use Rattle.slot_store.specs.Areas.{Area}
 use Rattle.slot_store.specs.Slots.{Comes, Slot, body_of, next_turn, open_slot, record_of, slot_at, turn_of, wiped}
 
 -- which slot is current, slot 1 or slot 0, and its turn

@@ -1,9 +1,13 @@
+pub mod Areas
 pub mod Slots
 pub mod Layout
 pub mod Store
 pub mod Stops
 pub mod Reading
 pub mod Tidying
+pub mod Settling
+pub mod Putting
+pub mod Opened
 pub mod Laws
 pub mod Kept
 pub mod Judged

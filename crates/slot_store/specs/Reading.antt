@@ -2,8 +2,8 @@
 use Rattle.std.specs.Prelude.{◌≡◌, ◌⊎◌, ℕ, ◌+◌, ◌==◌, Bool, true, false, nat_le, List, [], ◌∷◌, drop, Option, Some, None, if◌then◌else◌}
 use Rattle.dr_disk.specs.Bytes.{Torn}
 use Rattle.dr_disk.specs.State.{DiskState}
-use Rattle.slot_store.specs.declared.area.Area.{Area}
-use Rattle.slot_store.specs.Slots.{Slot, is_open, length_of, next_turn, record_of, recovered, slot_at, turn_of}
+use Rattle.slot_store.specs.Areas.{Area}
+use Rattle.slot_store.specs.Slots.{Slot, Standing, is_open, length_of, neither, next_turn, none_follows, one, record_of, recovered, slot_at, standing, turn_of}
 
 -- the place of the first byte that isn't zero, counted from `at`
 abbrev pub nonzero_from : ℕ → List ℕ → Option ℕ
@@ -30,14 +30,15 @@ abbrev pub judged : Bool → Option ℕ → Verdict
 judged second None = newer second
 judged second (Some at) = faulty second at
 
--- by whether each slot is open and whether its turn follows the other's
+-- by the first fault of each slot
+abbrev pub judged_as : Standing → Option ℕ → Option ℕ → Verdict
+judged_as neither first second = none_open
+judged_as (one false) first second = judged false first
+judged_as (one true) first second = judged true second
+judged_as none_follows first second = faulty true 1
+
 abbrev pub judged_by : Bool → Bool → Bool → Bool → Option ℕ → Option ℕ → Verdict
-judged_by true true true before first second = judged true second
-judged_by true true false true first second = judged false first
-judged_by true true false false first second = faulty true 1
-judged_by true false after before first second = judged false first
-judged_by false true after before first second = judged true second
-judged_by false false after before first second = none_open
+judged_by first_open second_open after before first second = judged_as (standing first_open second_open after before) first second
 
 unfoldable pub verdict_of : (List ℕ → Option ℕ) → ℕ → Slot → Slot → Verdict
 verdict_of fault_at n first second =

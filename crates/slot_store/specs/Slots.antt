@@ -1,7 +1,7 @@
 -- Two slots, each with a gate, and the record that they stand for.
 use Rattle.std.specs.Prelude.{◌≡◌, ℕ, ◌+◌, ◌-◌, ◌≤◌, Bool, true, false, ◌&&◌, ◌==◌, nat_le, not, if◌then◌else◌, List, ◌∷◌, ◌++◌, length, replicate, slice_index, slice_range, Option, Some, None}
 use Rattle.std.specs.Int.{w32, to_be_bytes, from_be_bytes}
-use Rattle.slot_store.specs.declared.area.Area.{Area}
+use Rattle.slot_store.specs.Areas.{Area}
 
 -- the gate of a slot, and all after it: turn, length, record and zeros
 pub record Slot : Type 0 where
@@ -12,6 +12,9 @@ pub record Slot : Type 0 where
 abbrev pub place_of : Area → Bool → ℕ
 place_of area false = area.start
 place_of area true = area.start + area.slot
+
+abbrev pub slot_with : ℕ → List ℕ → Slot
+slot_with gate body = record { gate = gate; body = body }
 
 abbrev pub slot_from : ℕ → ℕ → List ℕ → Slot
 slot_from at n c = record { gate = slice_index c at; body = slice_range c (at + 1) (at + n) }
@@ -36,14 +39,30 @@ record_of slot = slice_range slot.body 5 (5 + length_of slot)
 abbrev pub next_turn : ℕ → ℕ
 next_turn turn = if turn == 3 then 1 else turn + 1
 
--- of two slots, by whether each is open and whether its turn follows the other's: the record of the newer open one
+-- of two slots: none is open, slot 1 or slot 0 is the newer open one, or both are open and neither follows the other
+pub data Standing : Type 0 where
+  neither : Standing
+  one : Bool → Standing
+  none_follows : Standing
+
+-- by whether each slot is open and whether its turn follows the other's
+abbrev pub standing : Bool → Bool → Bool → Bool → Standing
+standing true true true before = one true
+standing true true false true = one false
+standing true true false false = none_follows
+standing true false after before = one false
+standing false true after before = one true
+standing false false after before = neither
+
+-- the record of the newer open one
+abbrev pub picked : Standing → List ℕ → List ℕ → Option (List ℕ)
+picked neither first second = None
+picked (one false) first second = Some first
+picked (one true) first second = Some second
+picked none_follows first second = None
+
 abbrev pub pick : Bool → Bool → Bool → Bool → List ℕ → List ℕ → Option (List ℕ)
-pick true true true before first second = Some second
-pick true true false true first second = Some first
-pick true true false false first second = None
-pick true false after before first second = Some first
-pick false true after before first second = Some second
-pick false false after before first second = None
+pick first_open second_open after before first second = picked (standing first_open second_open after before) first second
 
 abbrev pub newest : Slot → Slot → Option (List ℕ)
 newest first second =

@@ -3,8 +3,12 @@ use Rattle.std.specs.Prelude.{◌≡◌, ℕ, ◌+◌, ◌-◌, ◌==◌, ◌&&�
 use Rattle.dr_disk.specs.declared.call.Mode.{Mode}
 use Rattle.dr_disk.specs.declared.call.Mode.TheVariants.{Old, New, Fill}
 use Rattle.dr_disk.specs.State.{DiskState}
-use Rattle.slot_store.specs.declared.area.Area.{Area}
+use Rattle.slot_store.specs.Areas.{Area}
 use Rattle.slot_store.specs.Slots.{recovered}
+
+-- how many writes and syncs a put makes
+abbrev pub putting : ℕ
+putting = 4
 
 -- how many writes and syncs a retire makes, by whether a record was replaced
 abbrev pub retiring : Bool → ℕ
@@ -13,7 +17,7 @@ retiring false = 0
 
 -- how many writes and syncs it takes to replace a record by another
 unfoldable pub calls_of : Option (List ℕ) → Option (List ℕ) → ℕ
-calls_of old new = 4 + retiring (is_some old)
+calls_of old new = putting + retiring (is_some old)
 
 -- whether a gate is open after a crash of this kind, where a5 was last asked for
 abbrev pub opens : Mode → Bool

@@ -2,7 +2,7 @@
 use Rattle.std.specs.Prelude.{◌≡◌, ◌⊎◌, ℕ, ◌+◌, ◌≤◌, Bool, List, Option}
 use Rattle.dr_disk.specs.State.{DiskState}
 use Rattle.dr_disk.specs.Spans.{Frame, ReadsOutside}
-use Rattle.slot_store.specs.declared.area.Area.{Area}
+use Rattle.slot_store.specs.Areas.{Area, size_of}
 use Rattle.slot_store.specs.declared.store.SlotStore.{SlotStore}
 use Rattle.slot_store.specs.Slots.{Slot, content_of, recovered, turn_of}
 use Rattle.slot_store.specs.Layout.{IsLaidOut, IsPut, Mark}
@@ -33,15 +33,15 @@ unfoldable pub Awaits : SlotStore → List ℕ → Type 0
 Awaits store c = IsPut store.area (mark store) (content store) (has_replaced store) c
 
 abbrev pub IsWithin : Area → DiskState → Type 0
-IsWithin area disk = area.start + (area.slot + area.slot) ≤ disk.size
+IsWithin area disk = area.start + size_of area ≤ disk.size
 
 -- outside the area these bytes are those of an image of that moment
 abbrev pub KeepsOutside : Area → DiskState → List ℕ → Type 0
-KeepsOutside area start = Frame start area.start (area.slot + area.slot)
+KeepsOutside area start = Frame start area.start (size_of area)
 
 -- outside the area a read gives what it gave
 abbrev pub ReadsOutsideArea : Area → DiskState → DiskState → Type 0
-ReadsOutsideArea area start now = ReadsOutside area.start (area.slot + area.slot) start now
+ReadsOutsideArea area start now = ReadsOutside area.start (size_of area) start now
 
 -- the record is the old one or the new one, and is read without damage; nothing outside the area has changed
 pub record IsOldOrNew (start : DiskState) (area : Area) (old new : Option (List ℕ)) (c : List ℕ) : Type 0 where

@@ -2,7 +2,7 @@
 use Rattle.std.specs.Prelude.{◌≡◌, ◌⊎◌, ℕ, ◌+◌, ◌-◌, not, Bool, true, false, List, replicate, Some}
 use Rattle.dr_disk.specs.Bytes.{Torn}
 use Rattle.dr_disk.specs.State.{DiskState}
-use Rattle.slot_store.specs.declared.area.Area.{Area}
+use Rattle.slot_store.specs.Areas.{Area}
 use Rattle.slot_store.specs.Slots.{Comes, Slot, is_open, slot_at, wiped}
 use Rattle.slot_store.specs.Reading.{IsLikeRead}
 

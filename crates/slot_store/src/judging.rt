@@ -1,11 +1,12 @@
 //! What two slots that were read stand for.
 
 ghost use Rattle.std.specs.Prelude.{◌≡◌, ◌≢◌, ◌≤◌, ◌<◌, ◌+◌, ◌^◌, false, true, length, replicate};
-ghost use Rattle.slot_store.specs.Slots.{is_open};
+ghost use Rattle.slot_store.specs.Slots.{is_open, slot_with};
 ghost use Rattle.slot_store.specs.Layout.{IsRecord};
 ghost use Rattle.slot_store.specs.Reading.{newer, judged, nonzero_from, slot_fault, verdict_of};
 ghost use Rattle.slot_store.specs.Judged.{verdict_seen};
 
+use crate::area::{Area, slot_size};
 use crate::grammar::Grammar;
 use crate::layout::{next, record_in, record_length};
 use crate::store::OPEN;
@@ -21,7 +22,7 @@ pub(crate) enum Judged {
 /// Whether a slot is open.
 fn open_slot(gate: u8, body: &[u8]) -> bool
     requires { 5 ≤ length body.now }
-    ensures { result ≡ is_open (record { gate = gate; body = body.now }) }
+    ensures { result ≡ is_open (slot_with gate body.now) }
 {
     gate == OPEN && body[0] >= 1 && body[0] <= 3
 }
@@ -45,7 +46,7 @@ fn nonzero(bytes: &[u8], from: u64) -> Option<u64>
 fn fault<G: Grammar>(slot: u32, gate: u8, body: &[u8]) -> Option<u64>
     requires long { length body.now + 1 ≡ slot }
     requires least { 6 ≤ slot }
-    ensures { result ≡ slot_fault G.fault_at slot (record { gate = gate; body = body.now }) }
+    ensures { result ≡ slot_fault G.fault_at slot (slot_with gate body.now) }
 {
     let len = record_length(body);
     if 6 + len > slot as usize {
@@ -61,7 +62,8 @@ fn fault<G: Grammar>(slot: u32, gate: u8, body: &[u8]) -> Option<u64>
 fn judged_by<G: Grammar>(second: bool, slot: u32, gate: u8, body: &[u8]) -> Judged
     requires long { length body.now + 1 ≡ slot }
     requires least { 6 ≤ slot }
-    ensures { verdict_seen result ≡ judged second (slot_fault G.fault_at slot (record { gate = gate; body = body.now })) }
+    ensures { verdict_seen result
+        ≡ judged second (slot_fault G.fault_at slot (slot_with gate body.now)) }
 {
     match fault::<G>(slot, gate, body) {
         None => Judged::Content { second },
@@ -82,7 +84,7 @@ pub(crate) fn judge<G: Grammar>(
     requires second_long { length second.now + 1 ≡ slot }
     requires least { 6 ≤ slot }
     ensures { verdict_seen result ≡ verdict_of G.fault_at slot
-        (record { gate = first_gate; body = first.now }) (record { gate = second_gate; body = second.now }) }
+        (slot_with first_gate first.now) (slot_with second_gate second.now) }
 {
     if open_slot(first_gate, first) {
         if open_slot(second_gate, second) {
@@ -107,21 +109,22 @@ pub(crate) fn judge<G: Grammar>(
 
 /// What two slots stand for. A slot that has a record is laid out.
 pub(crate) fn judge_slots<G: Grammar>(
-    slot: u32,
+    area: Area,
     first_gate: u8,
     first: &[u8],
     second_gate: u8,
     second: &[u8],
 ) -> Judged
-    requires first_long { length first.now + 1 ≡ slot }
-    requires second_long { length second.now + 1 ≡ slot }
-    requires least { 6 ≤ slot }
-    ensures verdict { verdict_seen result ≡ verdict_of G.fault_at slot
-        (record { gate = first_gate; body = first.now }) (record { gate = second_gate; body = second.now }) }
-    ensures first_laid { verdict_seen result ≡ newer false → IsRecord (record { gate = first_gate; body = first.now }) slot }
-    ensures second_laid { verdict_seen result ≡ newer true → IsRecord (record { gate = second_gate; body = second.now }) slot }
+    requires first_long { length first.now + 1 ≡ area.slot }
+    requires second_long { length second.now + 1 ≡ area.slot }
+    ensures verdict { verdict_seen result ≡ verdict_of G.fault_at area.slot
+        (slot_with first_gate first.now) (slot_with second_gate second.now) }
+    ensures first_laid { verdict_seen result ≡ newer false
+        → IsRecord (slot_with first_gate first.now) area.slot }
+    ensures second_laid { verdict_seen result ≡ newer true
+        → IsRecord (slot_with second_gate second.now) area.slot }
 {
-    judge::<G>(slot, first_gate, first, second_gate, second)
+    judge::<G>(slot_size(area), first_gate, first, second_gate, second)
 }
 
 /// Whether all bytes are zeros.

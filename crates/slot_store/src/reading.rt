@@ -1,12 +1,13 @@
 //! Both slots as they stand, after a sync.
 
-ghost use Rattle.std.specs.Prelude.{◌≡◌, ◌≤◌, ◌<◌, ◌+◌, ℕ, List, false, true, length, Option, IfErr, IfOk, IsOk, OnOk, OnErr};
-ghost use Rattle.dr_base.specs.Causes.{Rose};
+ghost use Rattle.std.specs.Prelude.{◌≡◌, ◌+◌, length, IfOk, OnOk};
 ghost use Rattle.dr_disk.specs.declared.call.Call.TheVariants.{Sync};
-ghost use Rattle.dr_disk.specs.State.{Fate, IsSettled};
-ghost use Rattle.dr_disk.specs.Spans.{GoesBy, HavePassed, IsQuiet, Span};
+ghost use Rattle.dr_disk.specs.State.{IsSettled, OnSeen};
+ghost use Rattle.dr_disk.specs.Spans.{GoesBy, HavePassed, Span};
 ghost use Rattle.dr_disk.specs.Calls.{Goes, HasFault, Unwritten};
-ghost use Rattle.slot_store.specs.Slots.{slot_at};
+ghost use Rattle.dr_disk.specs.Called.{Went, itself};
+ghost use Rattle.slot_store.specs.Slots.{slot_at, slot_with};
+ghost use Rattle.slot_store.specs.Settling.{AreRead};
 ghost use Rattle.slot_store.specs.Store.{IsWithin};
 
 use crate::area::{Area, place};
@@ -20,21 +21,14 @@ fn read_slot<D: Disk>(
     second: bool,
     body: &mut Vec<u8>,
 ) -> Result<u8, Call>
-    requires least { 6 ≤ area.slot }
-    requires ends { area.start + (area.slot + area.slot) < 18446744073709551616 }
     requires within { IsWithin area (D.state disk.old) }
     requires long { length body.old.items + 1 ≡ area.slot }
-    ensures slot { IfOk result (λ gate. (s : List ℕ) → (D.state disk.old).seen ≡ Option.Some s →
-        slot_at area second s ≡ record { gate = gate; body = body.new.items }) }
+    ensures slot { IfOk result (λ gate. OnSeen (λ s. slot_at area second s ≡ slot_with gate body.new.items) (D.state disk.old)) }
     ensures long { length body.new.items + 1 ≡ area.slot }
     ensures any_moment { Span (D.state disk.old) (D.state disk.new) (D.state disk.old).image }
     ensures unwritten { Unwritten (D.state disk.old) (D.state disk.new) }
     ensures passed { (D.state disk.new).passed ≡ (D.state disk.old).passed }
-    ensures ended { OnErr result ((n : ℕ) →
-        (D.state disk.old).fate ≡ Fate.some_pass n → (D.state disk.new).fate ≡ Fate.some_pass 0) }
-    ensures fate { (D.state disk.old).fate ≡ Fate.all_pass → IsOk result × ((D.state disk.new).fate ≡ Fate.all_pass) }
-    ensures quiet { OnOk result (IsQuiet (D.state disk.old) (D.state disk.new)) }
-    ensures fault { IfErr result (λ call. Rose ((D.state disk.old).faults call) ((D.state disk.new).faults call)) }
+    ensures calls { Went itself (D.state disk.old) (D.state disk.new) result }
 {
     let at = place(area, second);
     let mut gate = [0];
@@ -65,26 +59,18 @@ pub(crate) fn read_slots<D: Disk>(
     first: &mut Vec<u8>,
     second: &mut Vec<u8>,
 ) -> Result<(u8, u8), Call>
-    requires least { 6 ≤ area.slot }
-    requires ends { area.start + (area.slot + area.slot) < 18446744073709551616 }
     requires within { IsWithin area (D.state disk.old) }
     requires first_long { length first.old.items + 1 ≡ area.slot }
     requires second_long { length second.old.items + 1 ≡ area.slot }
-    ensures first { IfOk result (λ gates. (s : List ℕ) → (D.state disk.old).seen ≡ Option.Some s →
-        slot_at area false s ≡ record { gate = gates.0; body = first.new.items }) }
-    ensures second { IfOk result (λ gates. (s : List ℕ) → (D.state disk.old).seen ≡ Option.Some s →
-        slot_at area true s ≡ record { gate = gates.1; body = second.new.items }) }
+    ensures read { IfOk result (λ gates. AreRead area (slot_with gates.0 first.new.items)
+        (slot_with gates.1 second.new.items) (D.state disk.old)) }
     ensures first_long { length first.new.items + 1 ≡ area.slot }
     ensures second_long { length second.new.items + 1 ≡ area.slot }
     ensures any_moment { Span (D.state disk.old) (D.state disk.new) (D.state disk.old).image }
     ensures unwritten { Unwritten (D.state disk.old) (D.state disk.new) }
     ensures settled { OnOk result (IsSettled (D.state disk.new)) }
     ensures passed { OnOk result (HavePassed 1 (D.state disk.old) (D.state disk.new)) }
-    ensures ended { OnErr result ((n : ℕ) →
-        (D.state disk.old).fate ≡ Fate.some_pass n → (D.state disk.new).fate ≡ Fate.some_pass 0) }
-    ensures fate { (D.state disk.old).fate ≡ Fate.all_pass → IsOk result × ((D.state disk.new).fate ≡ Fate.all_pass) }
-    ensures quiet { OnOk result (IsQuiet (D.state disk.old) (D.state disk.new)) }
-    ensures fault { IfErr result (λ call. Rose ((D.state disk.old).faults call) ((D.state disk.new).faults call)) }
+    ensures calls { Went itself (D.state disk.old) (D.state disk.new) result }
 {
     let Ok(()) = settle_first(disk) else {
         return Err(Call::Sync);

@@ -1,13 +1,13 @@
 //! A store that is open: its record is put into the slot that isn't current, and then the old slot is wiped.
 
-ghost use Rattle.std.specs.Prelude.{◌≡◌, ◌≢◌, ◌≤◌, ◌<◌, ◌+◌, ◌-◌, ℕ, Bool, false, length, replicate, slice_index, is_some, not, Option, IfErr, IsOk, OnOk, OnErr};
-ghost use Rattle.dr_base.specs.Causes.{Rose};
-ghost use Rattle.dr_disk.specs.State.{Always, Fate};
-ghost use Rattle.dr_disk.specs.Spans.{HavePassed, IsQuiet, Span};
-ghost use Rattle.slot_store.specs.Slots.{Comes, record_of, recovered, wiped};
-ghost use Rattle.slot_store.specs.Layout.{IsRecord, next_mark};
-ghost use Rattle.slot_store.specs.Reading.{IsUndamaged};
-ghost use Rattle.slot_store.specs.Stops.{IsStopped, calls_of, retiring};
+ghost use Rattle.std.specs.Prelude.{◌≡◌, ◌≢◌, ◌≤◌, ◌<◌, ◌+◌, ◌-◌, length, replicate, is_some, not, Option, OnOk, OnErr};
+ghost use Rattle.dr_disk.specs.State.{Always};
+ghost use Rattle.dr_disk.specs.Spans.{Span};
+ghost use Rattle.dr_disk.specs.Called.{Called};
+ghost use Rattle.slot_store.specs.Areas.{Fits};
+ghost use Rattle.slot_store.specs.Slots.{Comes, record_of, wiped};
+ghost use Rattle.slot_store.specs.Layout.{IsRecord};
+ghost use Rattle.slot_store.specs.Stops.{IsStopped, calls_of, putting, retiring};
 
 use crate::area::{Area, other_place, place};
 use crate::errors::StoreFault;
@@ -39,7 +39,8 @@ pub struct SlotStore {
 }
 
 impl SlotStore {
-    ghost use Rattle.slot_store.specs.Store.{content, mark, has_replaced, Rests, Awaits, IsWithin, KeepsOutside, ReadsOutsideArea, IsOldOrNew, slot_of};
+    ghost use Rattle.slot_store.specs.Store.{content, has_replaced, Rests, Awaits, IsWithin, ReadsOutsideArea, IsOldOrNew, slot_of};
+    ghost use Rattle.slot_store.specs.Putting.{HasPut, HasReplaced, HasRested, IsNext, KeepsRecord, call_of};
     ghost use Rattle.slot_store.specs.Kept.{content_or_empty};
 
     /// The record that was opened or put last; empty where there is none.
@@ -54,18 +55,16 @@ impl SlotStore {
 
     /// Lays out the slot that is to come.
     fn stage(&mut self, text: &[u8])
-        requires { 6 + length text.now ≤ self.old.area.slot }
-        ensures area { self.new.area ≡ self.old.area }
+        requires { Fits self.old.area text.now }
         ensures place { self.new.second ≡ not self.old.second }
         ensures gate { self.new.gate ≡ 165 }
         ensures size { length self.new.body.items ≡ length self.old.body.items }
         ensures comes { Comes (slot_of self.old) (slot_of self.new) }
         ensures text { record_of (slot_of self.new) ≡ text.now }
         ensures holds { content self.new ≡ Option.Some text.now }
-        ensures mark { mark self.new ≡ next_mark (content self.old) (mark self.old) }
+        ensures next { IsNext self.old self.new }
         ensures replaced { has_replaced self.new ≡ is_some (content self.old) }
     {
-        let _slot = self.area.slot;
         let turn = next_of(self.gate, &self.body);
         lay_out_in(&mut self.body, turn, text);
         self.second = !self.second;
@@ -75,33 +74,24 @@ impl SlotStore {
 
     /// Puts a record into the slot that isn't current, behind a closed gate, and then opens the gate.
     pub fn put<D: Disk>(&mut self, disk: &mut D, text: &[u8]) -> Result<(), StoreFault>
-        requires fits { 6 + length text.now ≤ self.old.area.slot }
+        requires fits { Fits self.old.area text.now }
         requires within { IsWithin self.old.area (D.state disk.old) }
         requires at_rest { Always (Rests self.old) (D.state disk.old) }
 
         // Each crash meanwhile leaves the old record or the new; once it is done, the new one.
         ensures any_moment { Span (D.state disk.old) (D.state disk.new)
             (IsOldOrNew (D.state disk.old) self.old.area (content self.old) (Option.Some text.now)) }
-        ensures done { OnOk result (Always (λ c. Awaits self.new c
-            × (recovered self.new.area c ≡ Option.Some text.now)
-            × KeepsOutside self.old.area (D.state disk.old) c) (D.state disk.new)) }
+        ensures done { OnOk result (Always (HasPut self.old self.new text.now
+            (D.state disk.old)) (D.state disk.new)) }
         ensures reads { ReadsOutsideArea self.old.area (D.state disk.old) (D.state disk.new) }
         ensures holds { OnOk result (content self.new ≡ Option.Some text.now) }
-        ensures mark { mark self.new ≡ next_mark (content self.old) (mark self.old) }
+        ensures next { IsNext self.old self.new }
         ensures replaced { has_replaced self.new ≡ is_some (content self.old) }
-        ensures same { self.new.area ≡ self.old.area }
 
-        // Which calls passed, and what stands where one failed.
-        ensures passed { OnOk result (HavePassed 4 (D.state disk.old) (D.state disk.new)) }
+        // How the calls went, and what stands where one failed.
+        ensures calls { Called putting call_of (D.state disk.old) (D.state disk.new) result }
         ensures stopped { OnErr result (IsStopped self.old.area (content self.old) (Option.Some text.now)
             (D.state disk.old) (D.state disk.new)) }
-        ensures ended { OnErr result ((n : ℕ) →
-            (D.state disk.old).fate ≡ Fate.some_pass n → (D.state disk.new).fate ≡ Fate.some_pass 0) }
-        ensures few { OnErr result ((l m : ℕ) → (D.state disk.old).passed ≡ Option.Some l →
-            (D.state disk.new).passed ≡ Option.Some m → m < l + 4) }
-        ensures fate { (D.state disk.old).fate ≡ Fate.all_pass → IsOk result × ((D.state disk.new).fate ≡ Fate.all_pass) }
-        ensures fault { IfErr result (λ e. Rose ((D.state disk.old).faults e.call) ((D.state disk.new).faults e.call)) }
-        ensures quiet { OnOk result (IsQuiet (D.state disk.old) (D.state disk.new)) }
     {
         self.stage(text);
         let place = place(self.area, self.second);
@@ -121,23 +111,15 @@ impl SlotStore {
 
         // Each crash meanwhile leaves the record, read without damage; once it is done, the area is at rest.
         ensures any_moment { Span (D.state disk.old) (D.state disk.new)
-            (λ c. (recovered self.old.area c ≡ content self.old)
-            × KeepsOutside self.old.area (D.state disk.old) c × IsUndamaged self.old.area c) }
-        ensures at_rest { OnOk result (Always (λ c. Rests self.new c
-            × (recovered self.new.area c ≡ content self.new)
-            × KeepsOutside self.old.area (D.state disk.old) c) (D.state disk.new)) }
+            (KeepsRecord self.old (D.state disk.old)) }
+        ensures at_rest { OnOk result (Always (HasRested self.old self.new
+            (D.state disk.old)) (D.state disk.new)) }
         ensures reads { ReadsOutsideArea self.old.area (D.state disk.old) (D.state disk.new) }
         ensures same { self.new ≡ self.old }
 
-        // Which calls passed. No image has another record where one failed.
-        ensures passed { OnOk result (HavePassed (retiring (has_replaced self.old)) (D.state disk.old) (D.state disk.new)) }
-        ensures ended { OnErr result ((n : ℕ) →
-            (D.state disk.old).fate ≡ Fate.some_pass n → (D.state disk.new).fate ≡ Fate.some_pass 0) }
-        ensures few { OnErr result ((l m : ℕ) → (D.state disk.old).passed ≡ Option.Some l →
-            (D.state disk.new).passed ≡ Option.Some m → m < l + retiring (has_replaced self.old)) }
-        ensures fate { (D.state disk.old).fate ≡ Fate.all_pass → IsOk result × ((D.state disk.new).fate ≡ Fate.all_pass) }
-        ensures fault { IfErr result (λ e. Rose ((D.state disk.old).faults e.call) ((D.state disk.new).faults e.call)) }
-        ensures quiet { OnOk result (IsQuiet (D.state disk.old) (D.state disk.new)) }
+        // No image has another record where a call failed.
+        ensures calls { Called (retiring (has_replaced self.old)) call_of
+            (D.state disk.old) (D.state disk.new) result }
     {
         if !self.replaced {
             return Ok(());
@@ -154,33 +136,24 @@ impl SlotStore {
 
     /// Replaces the record: a put, and then a retire.
     pub fn replace<D: Disk>(&mut self, disk: &mut D, text: &[u8]) -> Result<(), StoreFault>
-        requires fits { 6 + length text.now ≤ self.old.area.slot }
+        requires fits { Fits self.old.area text.now }
         requires within { IsWithin self.old.area (D.state disk.old) }
         requires at_rest { Always (Rests self.old) (D.state disk.old) }
 
         // Each crash meanwhile leaves the old record or the new; once it is done, the area is at rest.
         ensures any_moment { Span (D.state disk.old) (D.state disk.new)
             (IsOldOrNew (D.state disk.old) self.old.area (content self.old) (Option.Some text.now)) }
-        ensures done { OnOk result (Always (λ c. Rests self.new c
-            × (recovered self.new.area c ≡ Option.Some text.now)
-            × KeepsOutside self.old.area (D.state disk.old) c) (D.state disk.new)) }
+        ensures done { OnOk result (Always (HasReplaced self.old self.new text.now
+            (D.state disk.old)) (D.state disk.new)) }
         ensures reads { ReadsOutsideArea self.old.area (D.state disk.old) (D.state disk.new) }
         ensures holds { OnOk result (content self.new ≡ Option.Some text.now) }
-        ensures mark { mark self.new ≡ next_mark (content self.old) (mark self.old) }
-        ensures same { self.new.area ≡ self.old.area }
+        ensures next { IsNext self.old self.new }
 
-        // Which calls passed, and what stands where one failed.
-        ensures passed { OnOk result (HavePassed (calls_of (content self.old) (Option.Some text.now))
-            (D.state disk.old) (D.state disk.new)) }
+        // How the calls went, and what stands where one failed.
+        ensures calls { Called (calls_of (content self.old) (Option.Some text.now)) call_of
+            (D.state disk.old) (D.state disk.new) result }
         ensures stopped { OnErr result (IsStopped self.old.area (content self.old) (Option.Some text.now)
             (D.state disk.old) (D.state disk.new)) }
-        ensures ended { OnErr result ((n : ℕ) →
-            (D.state disk.old).fate ≡ Fate.some_pass n → (D.state disk.new).fate ≡ Fate.some_pass 0) }
-        ensures few { OnErr result ((l m : ℕ) → (D.state disk.old).passed ≡ Option.Some l →
-            (D.state disk.new).passed ≡ Option.Some m → m < l + calls_of (content self.old) (Option.Some text.now)) }
-        ensures fate { (D.state disk.old).fate ≡ Fate.all_pass → IsOk result × ((D.state disk.new).fate ≡ Fate.all_pass) }
-        ensures fault { IfErr result (λ e. Rose ((D.state disk.old).faults e.call) ((D.state disk.new).faults e.call)) }
-        ensures quiet { OnOk result (IsQuiet (D.state disk.old) (D.state disk.new)) }
     {
         if let Err(fault) = self.put(disk, text) {
             return Err(fault);

@@ -1,4 +1,4 @@
-use Rattle.std.proofs.Common.{arith}
+use Rattle.std.proofs.Common.{◌≡◌, arith, false, refl, true}
 use Rattle.std.proofs.lemmas.Grind.{common_steps}
 use Rattle.session_record.specs.Changes.{changed}
 use Rattle.session_record.specs.Record.{client_of}
@@ -10,17 +10,23 @@ returns-in-Ok-clause-kept g c = λ before ready.
     kept before (changed g.K.Kem.mechanism (client_of c.args.part.now c.args.inbox.now c.args.outbox.now) c.args.change.now)
     c.args.store.now _ (g.D.Disk.state c.args.disk.now) (g.D.Disk.state c.replace.new.disk) ready c.encode-len.ensures.written
     c.replace.new.self c.replace.ensures.any_moment c.in-Ok.ensures.done c.replace.ensures.reads c.in-Ok.ensures.holds
-    c.replace.ensures.same c.in-Ok.ensures.passed c.in-Ok.ensures.quiet
+    c.replace.ensures.next.area c.in-Ok.ensures.calls.passed c.in-Ok.ensures.calls.went.quiet
 
 pub returns-in-Err-clause-lost : goal.returns-in-Err-clause-lost
 returns-in-Err-clause-lost g c = λ before ready.
     lost before (changed g.K.Kem.mechanism (client_of c.args.part.now c.args.inbox.now c.args.outbox.now) c.args.change.now)
     c.args.store.now _ (g.D.Disk.state c.args.disk.now) (g.D.Disk.state c.replace.new.disk) ready c.encode-len.ensures.written
-    c.in-Err.fault.call c.replace.ensures.any_moment c.replace.ensures.reads c.in-Err.ensures.stopped c.in-Err.ensures.few
-    c.in-Err.ensures.ended c.in-Err.ensures.fault
+    c.in-Err.fault.call c.replace.ensures.any_moment c.replace.ensures.reads c.in-Err.ensures.stopped c.in-Err.ensures.calls.few
+    c.in-Err.ensures.calls.went.ended c.in-Err.ensures.calls.went.fault
 
 pub returns-in-Ok-clause-room : goal.returns-in-Ok-clause-room
 returns-in-Ok-clause-room g c = grind (arith, common_steps)
 
 pub returns-in-Err-clause-room : goal.returns-in-Err-clause-room
 returns-in-Err-clause-room g c = grind (arith, common_steps)
+
+pub returns-in-Ok-clause-fate : goal.returns-in-Ok-clause-fate
+returns-in-Ok-clause-fate g c = λ all. (refl, (c.in-Ok.ensures.calls.went.fate all).1)
+
+pub returns-in-Err-clause-fate : goal.returns-in-Err-clause-fate
+returns-in-Err-clause-fate g c = λ all. absurd (let e : false ≡ true = (c.in-Err.ensures.calls.went.fate all).0 in cc)

@@ -1,19 +1,24 @@
-use Rattle.std.proofs.Common.{arith, ◌≡◌, true, false, refl}
+use Rattle.std.proofs.Common.{arith, refl}
 use Rattle.std.proofs.lemmas.Grind.{common_steps}
-use Rattle.dr_disk.proofs.Steps.{all_go, stop_fails}
+use Rattle.dr_disk.specs.Called.{itself}
+use Rattle.dr_disk.specs.declared.call.Call.TheVariants.{Write, Sync}
+use Rattle.dr_disk.proofs.Calling.{failed_at_first, failed_later, once_failed, once_passed, passed_both}
 use Rattle.dr_disk.proofs.WrittenAndSynced.{wrote_and_synced}
 use Rattle.dr_disk.proofs.synced.write_synced.Goals as goal
 
-pub returns-in_default-clause-fate : goal.returns-in_default-clause-fate
-returns-in_default-clause-fate g c = λ all.
-    let goes = all_go _ _ _ c.in_default.ensures.told all in
-    absurd (let e : false ≡ true = goes.0 in cc)
+pub returns-in_default-clause-calls : goal.returns-in_default-clause-calls
+returns-in_default-clause-calls g c =
+    failed_at_first 1 1 itself itself Write Write _ _ refl (once_failed Write _ _ _ c.in_default.ensures.told c.in_default.ensures.cause)
 
-pub returns-in_default-settle-clause-fate : goal.returns-in_default-settle-clause-fate
-returns-in_default-settle-clause-fate g c = λ all.
-    let first = all_go _ _ _ c.in-Ok.ensures.told all in
-    let goes = all_go _ _ _ c.in_default-settle.ensures.told first.1 in
-    absurd (let e : false ≡ true = goes.0 in cc)
+pub returns-in_default-settle-clause-calls : goal.returns-in_default-settle-clause-calls
+returns-in_default-settle-clause-calls g c =
+    failed_later 1 1 itself itself itself _ Sync Sync _ _ _ _ _ refl c.write_at.ensures.passes (once_passed Write _ _ _ c.in-Ok.ensures.told c.in-Ok.ensures.cause)
+    c.settle.ensures.passes (once_failed Sync _ _ _ c.in_default-settle.ensures.told c.in_default-settle.ensures.cause)
+
+pub returns-clause-calls : goal.returns-clause-calls
+returns-clause-calls g c =
+    passed_both 1 1 itself itself itself _ _ _ _ _ _ (once_passed Write _ _ _ c.in-Ok.ensures.told c.in-Ok.ensures.cause)
+    (once_passed Sync _ _ _ c.in-Ok-settle.ensures.told c.in-Ok-settle.ensures.cause)
 
 pub returns-in_default-settle-clause-any_moment : goal.returns-in_default-settle-clause-any_moment
 returns-in_default-settle-clause-any_moment g c =
@@ -22,14 +27,6 @@ returns-in_default-settle-clause-any_moment g c =
 pub returns-clause-any_moment : goal.returns-clause-any_moment
 returns-clause-any_moment g c =
     wrote_and_synced _ _ _ _ c.write_at.ensures.passes c.write_at.ensures.within _ c.settle.ensures.passes c.settle.ensures.unwritten
-
-pub returns-in_default-clause-ended : goal.returns-in_default-clause-ended
-returns-in_default-clause-ended g c = λ n told. stop_fails _ _ _ c.in_default.ensures.told refl n told
-
-pub returns-in_default-settle-clause-ended : goal.returns-in_default-settle-clause-ended
-returns-in_default-settle-clause-ended g c = λ n told.
-    let mid = c.write_at.ensures.passes.fates n told in
-    stop_fails _ _ _ c.in_default-settle.ensures.told refl mid.left mid.fate
 
 pub returns-in_default-settle-clause-stopped : goal.returns-in_default-settle-clause-stopped
 returns-in_default-settle-clause-stopped g c = grind (arith, common_steps)

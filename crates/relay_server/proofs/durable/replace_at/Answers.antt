@@ -33,7 +33,7 @@ returns-in-Ok-clause-there g c = λ old new was now.
     (put_there c.args.stores.now c.args.place c.replace.new.self new c.requires.inside now)
     (record {
       any_moment = c.replace.ensures.any_moment;
-      same = c.replace.ensures.same;
+      same = c.replace.ensures.next.area;
       holds = λ _. c.in-Ok.ensures.holds;
       rests = λ _ f left. (c.in-Ok.ensures.done f left).0;
       outside = λ _ f left. (c.in-Ok.ensures.done f left).2;
@@ -47,7 +47,7 @@ returns-in-Err-clause-there g c = λ old new was now.
     (put_there c.args.stores.now c.args.place c.replace.new.self new c.requires.inside now)
     (record {
       any_moment = c.replace.ensures.any_moment;
-      same = c.replace.ensures.same;
+      same = c.replace.ensures.next.area;
       holds = λ e. absurd cc;
       rests = λ e. absurd cc;
       outside = λ e. absurd cc;

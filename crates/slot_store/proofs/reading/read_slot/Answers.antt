@@ -1,22 +1,23 @@
-use Rattle.std.proofs.Common.{arith, ◌≡◌, false, true, refl, ◌∙◌}
+use Rattle.std.proofs.Common.{arith, refl}
 use Rattle.std.proofs.lemmas.Grind.{common_steps}
-use Rattle.dr_disk.proofs.Steps.{all_read, stop_reads}
+use Rattle.dr_disk.specs.Called.{itself}
+use Rattle.dr_disk.specs.declared.call.Call.TheVariants.{Read}
+use Rattle.dr_disk.proofs.Calling.{read_fails, reads_well, then_failed, then_passed}
 use Rattle.slot_store.proofs.reading.read_slot.Goals as goal
 
-pub returns-in_default-clause-fate : goal.returns-in_default-clause-fate
-returns-in_default-clause-fate g c = λ all.
-    absurd (let e : false ≡ true = (all_read _ _ _ c.in_default.ensures.told all).0 in cc)
+pub returns-in_default-clause-calls : goal.returns-in_default-clause-calls
+returns-in_default-clause-calls g c = read_fails itself Read _ _ _ c.in_default.ensures.told c.in_default.ensures.cause
 
-pub returns-in_default-read-clause-fate : goal.returns-in_default-read-clause-fate
-returns-in_default-read-clause-fate g c = λ all.
-    let one = all_read _ _ _ c.in-Ok.ensures.told all in
-    absurd (let e : false ≡ true = (all_read _ _ _ c.in_default-read.ensures.told one.1).0 in cc)
+pub returns-in_default-read-clause-calls : goal.returns-in_default-read-clause-calls
+returns-in_default-read-clause-calls g c =
+    then_failed {V = Unit {0}} itself itself itself _ Read Read _ _ _ _ refl c.read.ensures.passes
+    (reads_well itself Read (tt {0}) _ _ _ c.in-Ok.ensures.told c.in-Ok.ensures.cause)
+    (read_fails itself Read _ _ _ c.in_default-read.ensures.told c.in_default-read.ensures.cause)
 
-pub returns-in_default-clause-ended : goal.returns-in_default-clause-ended
-returns-in_default-clause-ended g c = λ n told. stop_reads _ _ _ c.in_default.ensures.told refl n told
-
-pub returns-in_default-read-clause-ended : goal.returns-in_default-read-clause-ended
-returns-in_default-read-clause-ended g c = λ n told. stop_reads _ _ _ c.in_default-read.ensures.told refl n (c.in-Ok.ensures.told.fate ∙ told)
+pub returns-clause-calls : goal.returns-clause-calls
+returns-clause-calls g c =
+    then_passed itself itself itself _ _ _ _ _ _ (reads_well itself Read (tt {0}) _ _ _ c.in-Ok.ensures.told c.in-Ok.ensures.cause)
+    (reads_well itself Read (tt {0}) _ _ _ c.in-Ok-read.ensures.told c.in-Ok-read.ensures.cause)
 
 pub returns-in_default-read-clause-long : goal.returns-in_default-read-clause-long
 returns-in_default-read-clause-long g c = grind (arith, common_steps)

@@ -1,6 +1,7 @@
 use Rattle.std.proofs.Common.{arith, None, Some, [], ap, refl, subst, sym, ◌∙◌}
 use Rattle.std.proofs.lemmas.Grind.{common_steps}
 use Rattle.dr_disk.specs.Spans.{Span}
+use Rattle.dr_disk.proofs.Steps.{quiet_twice}
 use Rattle.session_model.specs.States.{State}
 use Rattle.session_record.specs.Record.{client_of, record_text}
 use Rattle.slot_store.specs.Found.{found_as, has_content}
@@ -16,27 +17,27 @@ pub returns-in-Err-clause-unbegun : goal.returns-in-Err-clause-unbegun
 returns-in-Err-clause-unbegun g c =
     let k = g.K.Kem.mechanism in
     subst (IsUnbegun g.D.Disk.state k c.args.key.now.bytes c.args.disk.now c.open.new.disk) (sym c.refusal.ensures)
-    (unbegun g.D.Disk.state k c.args.key.now.bytes c.args.disk.now c.open.new.disk c.in-Err.error c.in-Err.ensures.damaged
-    c.in-Err.ensures.memory c.in-Err.ensures.fault)
+    (unbegun g.D.Disk.state k c.args.key.now.bytes c.args.disk.now c.open.new.disk c.in-Err.error c.in-Err.ensures.refused.damaged
+    c.in-Err.ensures.memory c.in-Err.ensures.refused.fault)
 
 pub returns-in-Content-clause-unbegun : goal.returns-in-Content-clause-unbegun
 returns-in-Content-clause-unbegun g c =
-    let some = held (content c.in-Ok-open.store) (c.in-Ok-open.ensures.found ∙ ap has_content c.in-Content.is) in (
+    let some = held (content c.in-Ok-open.store) (c.in-Ok-open.ensures.opened.found ∙ ap has_content c.in-Content.is) in (
       λ s told. (
         some.0,
-        c.in-Ok-open.ensures.read s told
+        c.in-Ok-open.ensures.opened.read s told
             ∙ ap (λ f. found_as f (content c.in-Ok-open.store)) c.in-Content.is ∙ some.1,
       ),
       c.in-Ok-open.ensures.quiet,
       rests_as_read g.K.Kem.mechanism c.readings.ensures c.in-Ok-open.found c.in-Ok-open.store
           (g.D.Disk.state c.args.disk.now) (g.D.Disk.state c.open.new.disk) c.in-Content.is
-          (c.in-Ok-open.ensures.found ∙ ap has_content c.in-Content.is)
-          c.in-Ok-open.ensures.area c.in-Ok-open.ensures.read c.in-Ok-open.ensures.at_rest,
+          (c.in-Ok-open.ensures.opened.found ∙ ap has_content c.in-Content.is)
+          c.in-Ok-open.ensures.opened.area c.in-Ok-open.ensures.opened.read c.in-Ok-open.ensures.opened.at_rest,
     )
 
 pub returns-in-Err-begin-clause-unbegun : goal.returns-in-Err-begin-clause-unbegun
 returns-in-Err-begin-clause-unbegun g c = (
-  λ s told. c.in-Ok-open.ensures.read s told ∙ ap (λ f. found_as f (content c.in-Ok-open.store)) c.in-NoContent.is,
+  λ s told. c.in-Ok-open.ensures.opened.read s told ∙ ap (λ f. found_as f (content c.in-Ok-open.store)) c.in-NoContent.is,
   none_by _ _ c.in-Err-begin.ensures.variant.1 refl,
   c.in-Ok-open.ensures.quiet,
 )
@@ -49,13 +50,13 @@ returns-in-Err-first-clause-any_moment g c =
     let mid = g.D.Disk.state c.open.new.disk in
     let now = g.D.Disk.state c.first.new.disk in
     let none : IsReadAs k start no_content =
-    λ s told. c.in-Ok-open.ensures.read s told ∙ ap (λ f. found_as f (content c.in-Ok-open.store)) c.in-NoContent.is in
+    λ s told. c.in-Ok-open.ensures.opened.read s told ∙ ap (λ f. found_as f (content c.in-Ok-open.store)) c.in-NoContent.is in
     let putting : Span mid now (IsOldOrNew mid client_area None (Some (record_text begun))) =
     subst (λ (s : State). Span mid now (IsOldOrNew mid client_area None (Some (record_text (client_of s [] [])))))
     c.in-Ok-begin.ensures.ok c.first.ensures.any_moment in
     first_moments k c.readings.ensures c.args.key.now.bytes c.args.side start mid now (g.met.D.Disk.lawful c.args.disk.now) none
     (c.in-Ok-begin.ensures.variant.0 refl)
-    (λ f left. (c.in-Ok-open.ensures.at_rest f left).1) c.open.ensures.any_moment putting
+    (λ f left. (c.in-Ok-open.ensures.opened.at_rest f left).1) c.open.ensures.any_moment putting
 
 pub returns-in-Err-first-clause-reads : goal.returns-in-Err-first-clause-reads
 returns-in-Err-first-clause-reads g c = λ s seen.
@@ -65,13 +66,13 @@ returns-in-Err-first-clause-reads g c = λ s seen.
     let mid = g.D.Disk.state c.open.new.disk in
     let now = g.D.Disk.state c.first.new.disk in
     let none : IsReadAs k start no_content =
-    λ s told. c.in-Ok-open.ensures.read s told ∙ ap (λ f. found_as f (content c.in-Ok-open.store)) c.in-NoContent.is in
+    λ s told. c.in-Ok-open.ensures.opened.read s told ∙ ap (λ f. found_as f (content c.in-Ok-open.store)) c.in-NoContent.is in
     let putting : Span mid now (IsOldOrNew mid client_area None (Some (record_text begun))) =
     subst (λ (s : State). Span mid now (IsOldOrNew mid client_area None (Some (record_text (client_of s [] [])))))
     c.in-Ok-begin.ensures.ok c.first.ensures.any_moment in
     first_left k c.readings.ensures c.args.key.now.bytes c.args.side start mid now (g.met.D.Disk.lawful c.args.disk.now) none
     (c.in-Ok-begin.ensures.variant.0 refl)
-    (λ f left. (c.in-Ok-open.ensures.at_rest f left).1) c.open.ensures.any_moment putting
+    (λ f left. (c.in-Ok-open.ensures.opened.at_rest f left).1) c.open.ensures.any_moment putting
     s ((g.met.D.Disk.lawful c.first.new.disk).seen_now s seen)
 
 pub returns-in-Ok-first-clause-any_moment : goal.returns-in-Ok-first-clause-any_moment
@@ -82,13 +83,13 @@ returns-in-Ok-first-clause-any_moment g c =
     let mid = g.D.Disk.state c.open.new.disk in
     let now = g.D.Disk.state c.first.new.disk in
     let none : IsReadAs k start no_content =
-    λ s told. c.in-Ok-open.ensures.read s told ∙ ap (λ f. found_as f (content c.in-Ok-open.store)) c.in-NoContent.is in
+    λ s told. c.in-Ok-open.ensures.opened.read s told ∙ ap (λ f. found_as f (content c.in-Ok-open.store)) c.in-NoContent.is in
     let putting : Span mid now (IsOldOrNew mid client_area None (Some (record_text begun))) =
     subst (λ (s : State). Span mid now (IsOldOrNew mid client_area None (Some (record_text (client_of s [] [])))))
     c.in-Ok-begin.ensures.ok c.first.ensures.any_moment in
     first_moments k c.readings.ensures c.args.key.now.bytes c.args.side start mid now (g.met.D.Disk.lawful c.args.disk.now) none
     (c.in-Ok-begin.ensures.variant.0 refl)
-    (λ f left. (c.in-Ok-open.ensures.at_rest f left).1) c.open.ensures.any_moment putting
+    (λ f left. (c.in-Ok-open.ensures.opened.at_rest f left).1) c.open.ensures.any_moment putting
 
 pub returns-in-Ok-first-clause-reads : goal.returns-in-Ok-first-clause-reads
 returns-in-Ok-first-clause-reads g c = λ s seen.
@@ -98,13 +99,13 @@ returns-in-Ok-first-clause-reads g c = λ s seen.
     let mid = g.D.Disk.state c.open.new.disk in
     let now = g.D.Disk.state c.first.new.disk in
     let none : IsReadAs k start no_content =
-    λ s told. c.in-Ok-open.ensures.read s told ∙ ap (λ f. found_as f (content c.in-Ok-open.store)) c.in-NoContent.is in
+    λ s told. c.in-Ok-open.ensures.opened.read s told ∙ ap (λ f. found_as f (content c.in-Ok-open.store)) c.in-NoContent.is in
     let putting : Span mid now (IsOldOrNew mid client_area None (Some (record_text begun))) =
     subst (λ (s : State). Span mid now (IsOldOrNew mid client_area None (Some (record_text (client_of s [] [])))))
     c.in-Ok-begin.ensures.ok c.first.ensures.any_moment in
     first_left k c.readings.ensures c.args.key.now.bytes c.args.side start mid now (g.met.D.Disk.lawful c.args.disk.now) none
     (c.in-Ok-begin.ensures.variant.0 refl)
-    (λ f left. (c.in-Ok-open.ensures.at_rest f left).1) c.open.ensures.any_moment putting
+    (λ f left. (c.in-Ok-open.ensures.opened.at_rest f left).1) c.open.ensures.any_moment putting
     s ((g.met.D.Disk.lawful c.first.new.disk).seen_now s seen)
 
 pub returns-in-Ok-first-clause-in_worlds : goal.returns-in-Ok-first-clause-in_worlds
@@ -132,3 +133,15 @@ returns-in-Content-clause-reads g c = grind (arith, common_steps)
 
 pub returns-in-Err-first-clause-fate : goal.returns-in-Err-first-clause-fate
 returns-in-Err-first-clause-fate g c = grind (arith, common_steps)
+
+pub returns-in-Ok-first-clause-begun : goal.returns-in-Ok-first-clause-begun
+returns-in-Ok-first-clause-begun g c = record {
+  is_open = c.in-Ok-first.ensures.open;
+  keeps = c.in-Ok-first.ensures.keeps ∙ ap (λ (s : State). client_of s [] []) c.in-Ok-begin.ensures.ok;
+  ready = c.in-Ok-first.ensures.ready;
+  read = λ s told. c.in-Ok-open.ensures.opened.read s told
+      ∙ ap (λ f. found_as f (content c.in-Ok-open.store)) c.in-NoContent.is;
+  pair = c.in-Ok-begin.ensures.variant.0 refl;
+  quiet = quiet_twice (g.D.Disk.state c.args.disk.now) (g.D.Disk.state c.open.new.disk) (g.D.Disk.state c.first.new.disk)
+      c.in-Ok-open.ensures.quiet c.in-Ok-first.ensures.quiet;
+}

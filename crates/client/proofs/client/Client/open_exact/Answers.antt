@@ -9,12 +9,12 @@ pub returns-in-Err-clause-unopened : goal.returns-in-Err-clause-unopened
 returns-in-Err-clause-unopened g c =
     let k = g.K.Kem.mechanism in
     subst (IsUnopened g.D.Disk.state k c.args.disk.now c.open.new.disk) (sym c.refusal.ensures)
-    (unopened g.D.Disk.state k c.args.disk.now c.open.new.disk c.in-Err.error c.in-Err.ensures.damaged c.in-Err.ensures.memory
-    c.in-Err.ensures.fault)
+    (unopened g.D.Disk.state k c.args.disk.now c.open.new.disk c.in-Err.error c.in-Err.ensures.refused.damaged c.in-Err.ensures.memory
+    c.in-Err.ensures.refused.fault)
 
 pub returns-in-NoContent-clause-unopened : goal.returns-in-NoContent-clause-unopened
 returns-in-NoContent-clause-unopened g c = (
-  λ s told. c.in-Ok-open.ensures.read s told ∙ ap (λ f. found_as f (content c.in-Ok-open.store)) c.in-NoContent.is,
+  λ s told. c.in-Ok-open.ensures.opened.read s told ∙ ap (λ f. found_as f (content c.in-Ok-open.store)) c.in-NoContent.is,
   c.in-Ok-open.ensures.quiet,
 )
 
@@ -22,8 +22,8 @@ pub returns-in-Content-clause-opened : goal.returns-in-Content-clause-opened
 returns-in-Content-clause-opened g c =
     opened g.K.Kem.mechanism c.readings.ensures c.in-Ok-open.found c.in-Ok-open.store c.client_in.result
     (g.D.Disk.state c.args.disk.now) (g.D.Disk.state c.open.new.disk) c.in-Content.is c.client_in.ensures.open
-    c.client_in.ensures.store c.in-Ok-open.ensures.area c.requires c.client_in.ensures.holds c.client_in.ensures.read
-    c.in-Ok-open.ensures.read c.open.ensures.any_moment c.in-Ok-open.ensures.at_rest c.in-Ok-open.ensures.settled
+    c.client_in.ensures.store c.in-Ok-open.ensures.opened.area c.requires c.client_in.ensures.holds c.client_in.ensures.read
+    c.in-Ok-open.ensures.opened.read c.open.ensures.any_moment c.in-Ok-open.ensures.opened.at_rest c.in-Ok-open.ensures.opened.settled
     c.in-Ok-open.ensures.quiet
 
 pub returns-in-Err-clause-still : goal.returns-in-Err-clause-still
@@ -31,7 +31,7 @@ returns-in-Err-clause-still g c = λ was.
     let start = g.D.Disk.state c.args.disk.now in
     let now = g.D.Disk.state c.open.new.disk in
     subst (λ e. IsLeftAtRest start now (Err e)) (sym c.refusal.ensures)
-    (left_unopened (record_fault g.K.Kem.mechanism) start now c.in-Err.error (c.in-Err.ensures.still was).unwritten c.in-Err.ensures.damaged)
+    (left_unopened (record_fault g.K.Kem.mechanism) start now c.in-Err.error (c.in-Err.ensures.still was).unwritten c.in-Err.ensures.refused.damaged)
 
 pub returns-in-NoContent-clause-still : goal.returns-in-NoContent-clause-still
 returns-in-NoContent-clause-still g c = λ was.

@@ -1,4 +1,4 @@
-use Rattle.std.proofs.Common.{ℕ, List, ◌∙◌, ap, arith}
+use Rattle.std.proofs.Common.{ℕ, List, ◌∙◌, ap, arith, refl}
 use Rattle.std.specs.Prelude.{slice_index}
 use Rattle.slot_store.specs.Slots.{next_turn}
 use Rattle.slot_store.specs.Store.{content, has_replaced, mark, slot_of}
@@ -10,12 +10,14 @@ unfolding content
 returns-clause-holds c =
     laid_content _ c.args.text.now c.next_of-turn.result _ c.lay_out_in.ensures c.next_of-turn.ensures.low c.next_of-turn.ensures.high (omega arith)
 
-pub returns-clause-mark : goal.returns-clause-mark
+pub returns-clause-next : goal.returns-clause-next
 unfolding content mark
-returns-clause-mark c =
+returns-clause-next c =
     let old = c.args.self.now in
-    next_marked (slot_of old) old.area.slot old.laid old.blank old.second _ c.args.text.now c.next_of-turn.result _ c.lay_out_in.ensures
-    (λ opens. c.next_of-turn.ensures.next opens ∙ ap (λ (l : List ℕ). next_turn (slice_index l 0)) c.deref.ensures.value) c.next_of-turn.ensures.first
+    record {
+      area = refl;
+      mark = next_marked (slot_of old) old.area.slot old.laid old.blank old.second _ c.args.text.now c.next_of-turn.result _ c.lay_out_in.ensures (λ opens. c.next_of-turn.ensures.next opens ∙ ap (λ (l : List ℕ). next_turn (slice_index l 0)) c.deref.ensures.value) c.next_of-turn.ensures.first;
+    }
 
 pub returns-clause-replaced : goal.returns-clause-replaced
 unfolding content has_replaced
