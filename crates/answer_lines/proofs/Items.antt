@@ -4,6 +4,7 @@ use Rattle.std.specs.Prelude.{flat_map}
 use Rattle.std.proofs.lemmas.Grind.{flat_map-append}
 use Rattle.std.proofs.lemmas.List.{take-append-drop, take_more}
 use Rattle.dr_ports.specs.Ports.{appended}
+use Rattle.dr_ports.specs.States.{SinkState}
 use Rattle.dr_ports.specs.Writing.{Writes}
 use Rattle.dr_ports.proofs.Told.{appended-appended}
 use Rattle.dr_ports.proofs.WritingLemmas.{writes_behind, writes_first}
@@ -34,11 +35,11 @@ took_line line old mid new items i d h e f =
     ∙ ap (appended old) (sym (lines_next line items i d h))
 
 -- a sink that took the lines so far, and failed in the next
-pub cut_in_lines : {A T E : Type 0} (line : A → List ℕ) (old mid new : Option (List ℕ)) (before middle now : ℕ) (items : List A) (i : ℕ) (d : A) (e : E)
-    → i < length items → mid ≡ appended old (flat_map line (take i items)) → middle ≡ before
-    → Writes {T = T} mid new middle now (line (get_or items i d)) (Err e)
-    → Writes {T = T} old new before now (flat_map line items) (Err e)
-cut_in_lines {A} {T} {E} line old mid new before middle now items i d e h so_far same w =
-    subst (λ lines. Writes {T = T} old new before now lines (Err e)) (sym (lines_whole line items i d h))
-    (writes_first old new before now (flat_map line (take i items) ++ line (get_or items i d)) (flat_map line (drop (i + 1) items)) e
-    (writes_behind old mid new before middle now (flat_map line (take i items)) (line (get_or items i d)) (Err e) so_far same w))
+pub cut_in_lines : {A T E : Type 0} (line : A → List ℕ) (old mid new : SinkState) (items : List A) (i : ℕ) (d : A) (e : E)
+    → i < length items → mid.taken ≡ appended old.taken (flat_map line (take i items)) → mid.faults ≡ old.faults
+    → Writes {T = T} mid new (line (get_or items i d)) (Err e)
+    → Writes {T = T} old new (flat_map line items) (Err e)
+cut_in_lines {A} {T} {E} line old mid new items i d e h so_far same w =
+    subst (λ lines. Writes {T = T} old new lines (Err e)) (sym (lines_whole line items i d h))
+    (writes_first old new (flat_map line (take i items) ++ line (get_or items i d)) (flat_map line (drop (i + 1) items)) e
+    (writes_behind old mid new (flat_map line (take i items)) (line (get_or items i d)) (Err e) so_far same w))

@@ -1,5 +1,5 @@
 -- What saying a text does, by whether a seed was drawn for it.
-use Rattle.std.proofs.Common.{Bool, Err, List, None, Ok, Option, Result, Some, [], ap, false, subst, sym, true, ℕ, ◌∙◌, ◌∷◌, ◌≡◌}
+use Rattle.std.proofs.Common.{Bool, Err, List, None, Ok, Result, Some, [], ap, false, subst, sym, true, ℕ, ◌∙◌, ◌∷◌, ◌≡◌}
 use Rattle.std.specs.Prelude.{OnOk, is_none, length, ◌&&◌}
 use Rattle.dr_base.specs.Causes.{Rose}
 use Rattle.dr_base.specs.declared.key.Key32.{Key32}
@@ -7,7 +7,8 @@ use Rattle.dr_base.specs.declared.position.Position.{Position}
 use Rattle.dr_disk.specs.State.{DiskState}
 use Rattle.dr_disk.specs.declared.call.Call.{Call}
 use Rattle.dr_model.specs.Machines.Acts.{needs_seed, said_by, saying_by}
-use Rattle.dr_ports.specs.Seeds.{Seeds, drawn}
+use Rattle.dr_ports.specs.Seeds.{drawn}
+use Rattle.dr_ports.specs.States.{DrawsState}
 use Rattle.kem_laws.specs.Mechanism.{Mechanism}
 use Rattle.session_model.specs.Clients.{say_check, say_on}
 use Rattle.session_model.specs.declared.answer.Refusal.{Refusal}
@@ -23,10 +24,10 @@ asks_by : (client : ClientNow) (len : ℕ) (r : Result Bool Refusal) → client.
 asks_by client len r unclosed is =
     ap (λ closed. is_none closed && needs_seed (say_check client.kept len)) unclosed ∙ ap needs_seed is
 
-module _ {X W : Type 0} (state : X → DiskState) (coming : W → Option Seeds) (faults : W → ℕ) (k : Mechanism)
+module _ {X W : Type 0} (state : X → DiskState) (draws : W → DrawsState) (k : Mechanism)
     (text : List ℕ) (old new : ClientNow) (start now : X) (source left : W) where
   abbrev Said : Result Position SayRefusal → Type 0
-  Said = Says state coming faults k text old new start now source left
+  Said = Says state draws k text old new start now source left
 
   pub says_closed : (call : Call) → old.closed ≡ Some call → new ≡ old → now ≡ start → left ≡ source → Said (Err (Closed call))
   says_closed call closed same stays leaves =
@@ -48,7 +49,7 @@ module _ {X W : Type 0} (state : X → DiskState) (coming : W → Option Seeds) 
 
   pub says_drawn : (result : Result Position SayRefusal) (seed : Key32) → old.closed ≡ None
       → say_check old.kept (length text) ≡ Ok true → length seed.bytes ≡ 32
-      → coming source ≡ drawn (seed.bytes ∷ []) (coming left) → faults left ≡ faults source
+      → (draws source).coming ≡ drawn (seed.bytes ∷ []) (draws left).coming → (draws left).faults ≡ (draws source).faults
       → Acts state (said_by (say_on k old.kept text seed.bytes)) old new start now (said_as result)
       → HandsBack (Some seed) result → Said result
   says_drawn result seed unclosed is long drew quiet acts back =
@@ -57,8 +58,8 @@ module _ {X W : Type 0} (state : X → DiskState) (coming : W → Option Seeds) 
       (sym (ap (saying_by k old.kept text (Some seed.bytes)) is)) acts)
       back
 
-  pub says_nothing : old.closed ≡ None → say_check old.kept (length text) ≡ Ok true → Rose (faults source) (faults left)
-      → coming left ≡ coming source → new ≡ old → now ≡ start → Said (Err DrawFault)
+  pub says_nothing : old.closed ≡ None → say_check old.kept (length text) ≡ Ok true → Rose (draws source).faults (draws left).faults
+      → (draws left).coming ≡ (draws source).coming → new ≡ old → now ≡ start → Said (Err DrawFault)
   says_nothing unclosed is rose same stays leaves =
       draw_failed (asks_by old (length text) (Ok true) unclosed is) rose same stays leaves
 

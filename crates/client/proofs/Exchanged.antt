@@ -13,7 +13,7 @@ use Rattle.dr_model.specs.Theorems.Acting.{ActsFollow, IsFairAct}
 use Rattle.dr_model.specs.Theorems.Fairness.{IsUnforged}
 use Rattle.dr_model.proofs.Taking.MadePositions.{position-post_at}
 use Rattle.dr_model.proofs.Taking.PacketsApart.{made_at-post, real}
-use Rattle.dr_ports.specs.Seeds.{Seeds}
+use Rattle.dr_ports.specs.States.{DrawsState}
 use Rattle.kem_laws.specs.Mechanism.{IsLawfulMechanism, Mechanism}
 use Rattle.session_model.specs.Clients.{Client}
 use Rattle.session_model.specs.declared.answer.Answer.{Answer}
@@ -56,16 +56,16 @@ record IsSaid (k : Mechanism) (w : World) (side : Side) (text : List ℕ) (old n
   fair : IsFairAct k w side (saying text draw)
   acts : ActsIn k w side (saying text draw) old new start now (acknowledged answer)
 
-said_in : {V : Type 0} (coming : V → Option Seeds) (faults : V → ℕ) (k : Mechanism) (w : World) (side : Side) (text : List ℕ)
+said_in : {V : Type 0} (draws : V → DrawsState) (k : Mechanism) (w : World) (side : Side) (text : List ℕ)
     (old new : ClientNow) (start now : DiskState) (source left : V) (answer : Answer) (outcome : Outcome) → outcome ≡ acknowledged answer
-    → old.closed ≡ None → SaysIn coming faults k w side text old new start now source left outcome
+    → old.closed ≡ None → SaysIn draws k w side text old new start now source left outcome
     → IsSaid k w side text old new start now answer
-said_in coming faults k w side text old new start now source left answer outcome is unclosed (acted ending draw drawn fair acts) = record {
+said_in draws k w side text old new start now source left answer outcome is unclosed (acted ending draw drawn fair acts) = record {
   draw = draw;
   fair = fair unclosed;
   acts = subst (ActsIn k w side (saying text draw) old new start now) is acts;
 }
-said_in coming faults k w side text old new start now source left answer outcome is unclosed (stayed asks rose same stays) =
+said_in draws k w side text old new start now source left answer outcome is unclosed (stayed asks rose same stays) =
     absurd (let e : undrawn ≡ acknowledged answer = is in cc)
 
 -- ---- a packet that stands in a client's outbox
@@ -99,13 +99,13 @@ module _ (k : Mechanism) (follow : ActsFollow k) where
 -- ---- the exchange
 
 module _ {D E V : Type 0} (state : D → DiskState) (lawful : (d : D) → IsLawful (state d)) (peers : E → DiskState)
-    (coming : V → Option Seeds) (faults : V → ℕ) (k : Mechanism) (law : IsLawfulMechanism k) (follow : ActsFollow k) (w : World)
+    (draws : V → DrawsState) (k : Mechanism) (law : IsLawfulMechanism k) (follow : ActsFollow k) (w : World)
     (asks : Call D) (hears answers : Call E) (crashed : D) (reads : Call D) (question answer : Item)
-    (happens : IsExchange state peers coming faults k asks hears answers crashed reads question answer)
+    (happens : IsExchange state peers draws k asks hears answers crashed reads question answer)
     (first : IsIn k w First asks.old) (second : IsIn k w Second hears.old) (rests : Always (StandsFor k w First) (state asks.start)) where
   asked : IsSaid k w First happens.text asks.old asks.new (state asks.start) (state asks.now) (Said happens.asked.position)
   asked =
-      said_in coming faults k w First happens.text asks.old asks.new (state asks.start) (state asks.now) happens.asked.source
+      said_in draws k w First happens.text asks.old asks.new (state asks.start) (state asks.now) happens.asked.source
       happens.asked.left (Said happens.asked.position) (acknowledged (Said happens.asked.position)) refl happens.asked.was_open
       (happens.asked.says w First first)
 
@@ -125,7 +125,7 @@ module _ {D E V : Type 0} (state : D → DiskState) (lawful : (d : D) → IsLawf
   -- and says a text
   answered : IsSaid k w2 Second happens.reply answers.old answers.new (peers answers.start) (peers answers.now) (Said happens.answered.position)
   answered =
-      said_in coming faults k w2 Second happens.reply answers.old answers.new (peers answers.start) (peers answers.now)
+      said_in draws k w2 Second happens.reply answers.old answers.new (peers answers.start) (peers answers.now)
       happens.answered.source happens.answered.left (Said happens.answered.position) (acknowledged (Said happens.answered.position)) refl
       happens.answered.was_open
       (happens.answered.says w2 Second (subst (IsIn k w2 Second) (sym happens.again) heard.1))

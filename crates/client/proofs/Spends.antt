@@ -10,7 +10,7 @@ use Rattle.dr_model.specs.Theorems.Acting.{IsFairAct}
 use Rattle.dr_model.specs.Theorems.Fairness.{IsUnforged}
 use Rattle.dr_model.proofs.Saying.SayingChecks.{same_check}
 use Rattle.dr_model.proofs.Worlds.WorldViews.{client_of-kept}
-use Rattle.dr_ports.specs.Seeds.{Seeds}
+use Rattle.dr_ports.specs.States.{DrawsState}
 use Rattle.kem_laws.specs.Mechanism.{Mechanism}
 use Rattle.session_model.specs.Clients.{Client, say_check}
 use Rattle.session_model.specs.declared.answer.Answer.TheVariants.{Said}
@@ -51,7 +51,7 @@ asked k w side client len asks is e unclosed =
     ∙ ap needs_seed (same_check k w side len is.lawful)
 
 module _ (k : Mechanism) (grounds : Grounds k) (w : World) (side : Side) (text : List ℕ) (old new : ClientNow)
-    (is : IsIn k w side old) {X W : Type 0} (state : X → DiskState) (coming : W → Option Seeds) (faults : W → ℕ)
+    (is : IsIn k w side old) {X W : Type 0} (state : X → DiskState) (draws : W → DrawsState)
     (start now : X) (source left : W) (ready : old.closed ≡ None → IsReady old.kept old.store (state start)) where
   fair_without : asks_seed old (length text) ≡ false → old.closed ≡ None → IsFairAct k w side (saying text None)
   fair_without none unclosed = record { needed = asked k w side old (length text) false is none unclosed; whole = tt }
@@ -60,8 +60,8 @@ module _ (k : Mechanism) (grounds : Grounds k) (w : World) (side : Side) (text :
       → IsFairAct k w side (saying text (Some seed))
   fair_with seed asks long unclosed = record { needed = asked k w side old (length text) true is asks unclosed; whole = long }
 
-  pub says_in : (result : Result Position SayRefusal) → Says state coming faults k text old new start now source left result
-      → SaysIn coming faults k w side text old new (state start) (state now) source left (said_as result)
+  pub says_in : (result : Result Position SayRefusal) → Says state draws k text old new start now source left result
+      → SaysIn draws k w side text old new (state start) (state now) source left (said_as result)
   says_in result (without_draw r none same acts) =
       acted (said_as r) None (was_unasked none same) (fair_without none)
       (lift k grounds w side (saying text None) old new is state start now ready (fair_without none) (said_as r) acts)
@@ -81,8 +81,8 @@ module _ (k : Mechanism) (grounds : Grounds k) (w : World) (side : Side) (text :
       record { used = used; erased = used_erased k grounds.erased next side p (state now) worlds.1.lawful worlds.3 used }
 
   pub say_spends : (result : Result Position SayRefusal)
-      → Says state coming faults k text old new start now source left result
-      → IfOk result (λ p. (draw : Option (List ℕ)) × IsDrawn coming faults old (length text) source left draw
+      → Says state draws k text old new start now source left result
+      → IfOk result (λ p. (draw : Option (List ℕ)) × IsDrawn draws old (length text) source left draw
       × IsSpent k (act_in k w side (saying text draw)).next side p (state now))
   say_spends result (without_draw (Ok p) none same acts) = (None, was_unasked none same, done_spends None p (fair_without none) acts)
   say_spends result (without_draw (Err e) none same acts) = tt

@@ -1,5 +1,5 @@
 -- The smallest exchange between both sides, as the clauses of their calls tell it.
-use Rattle.std.specs.Prelude.{List, None, Ok, Option, Some, [], slice_get, true, ℕ, ◌∷◌, ◌≡◌}
+use Rattle.std.specs.Prelude.{List, None, Ok, Some, [], slice_get, true, ℕ, ◌∷◌, ◌≡◌}
 use Rattle.boxes.specs.Items.{Item}
 use Rattle.dr_base.specs.declared.position.Position.{Position}
 use Rattle.dr_base.specs.declared.position.Side.{Side}
@@ -10,7 +10,7 @@ use Rattle.dr_model.specs.Machines.Acts.{taking}
 use Rattle.dr_model.specs.Machines.Worlds.{World, made_at, view_of}
 use Rattle.dr_model.specs.Theorems.Fairness.{IsUnforged}
 use Rattle.dr_model.specs.Theorems.LawfulWorlds.{IsLawfulWorld}
-use Rattle.dr_ports.specs.Seeds.{Seeds}
+use Rattle.dr_ports.specs.States.{DrawsState}
 use Rattle.kem_laws.specs.Mechanism.{Mechanism}
 use Rattle.client.specs.Clients.{ClientNow}
 use Rattle.client.specs.InWorlds.{ActsIn, IsIn}
@@ -27,14 +27,15 @@ pub record Call (D : Type 0) : Type 0 where
   pub now : D
 
 -- An open client said a text, and its packet stands in its outbox.
-pub record Spoke {D V : Type 0} (state : D → DiskState) (coming : V → Option Seeds) (faults : V → ℕ) (k : Mechanism) (call : Call D)
+pub record Spoke {D V : Type 0} (state : D → DiskState) (draws : V → DrawsState) (k : Mechanism)
+    (call : Call D)
     (text : List ℕ) (post : Item) : Type 0 where
   pub source : V
   pub left : V
   pub position : Position
   pub was_open : call.old.closed ≡ None
   pub says : (w : World) (side : Side) → IsIn k w side call.old
-      → SaysIn coming faults k w side text call.old call.new (state call.start) (state call.now) source left (said_as (Ok position))
+      → SaysIn draws k w side text call.old call.new (state call.start) (state call.now) source left (said_as (Ok position))
   pub at : ℕ
   pub stands : slice_get call.new.kept.outbox at ≡ Some post
 
@@ -46,14 +47,15 @@ pub record Took {D : Type 0} (state : D → DiskState) (k : Mechanism) (call : C
 
 -- First says a text. Second, whose disk is its own, takes the packet and says one. First's disk crashes, a client is opened from
 -- what the crash left, and that takes Second's packet.
-pub record IsExchange {D E V : Type 0} (state : D → DiskState) (peers : E → DiskState) (coming : V → Option Seeds) (faults : V → ℕ)
+pub record IsExchange {D E V : Type 0} (state : D → DiskState) (peers : E → DiskState)
+    (draws : V → DrawsState)
     (k : Mechanism) (asks : Call D) (hears answers : Call E) (crashed : D) (reads : Call D) (question answer : Item) : Type 0 where
   pub text : List ℕ
-  pub asked : Spoke state coming faults k asks text question
+  pub asked : Spoke state draws k asks text question
   pub heard : Took peers k hears question.bytes
   pub again : answers.old ≡ hears.new
   pub reply : List ℕ
-  pub answered : Spoke peers coming faults k answers reply answer
+  pub answered : Spoke peers draws k answers reply answer
   pub crashes : (c : List ℕ) → (state crashed).image c → (state asks.now).image c
   pub read : List ℕ
   pub told : (state crashed).seen ≡ Some read

@@ -8,7 +8,8 @@ use Rattle.dr_disk.specs.State.{DiskState}
 use Rattle.dr_model.specs.Machines.Acts.{act_on, needs_seed, saying}
 use Rattle.dr_model.specs.Machines.Worlds.{World}
 use Rattle.dr_model.specs.Theorems.Acting.{IsFairAct}
-use Rattle.dr_ports.specs.Seeds.{Seeds, drawn}
+use Rattle.dr_ports.specs.Seeds.{drawn}
+use Rattle.dr_ports.specs.States.{DrawsState}
 use Rattle.kem_laws.specs.Mechanism.{Mechanism}
 use Rattle.session_model.specs.Clients.{say_check}
 use Rattle.client.specs.Clients.{ClientNow}
@@ -28,33 +29,42 @@ HandsBack seed _ = ⊤
 
 -- The act with the seed that the source gave, or without one where none is asked for; where the source gives none, nothing
 -- changes and no call on the disk is made.
-pub data Says {X W : Type 0} (state : X → DiskState) (coming : W → Option Seeds) (faults : W → ℕ) (k : Mechanism)
+pub data Says {X W : Type 0} (state : X → DiskState) (draws : W → DrawsState) (k : Mechanism)
     (text : List ℕ) (old new : ClientNow) (start now : X) (source left : W) : Result Position SayRefusal → Type 0 where
   without_draw : (result : Result Position SayRefusal) → asks_seed old (length text) ≡ false → left ≡ source
       → Acts state (act_on k old.kept (saying text None)) old new start now (said_as result)
-      → Says state coming faults k text old new start now source left result
+      → Says state draws k text old new start now source left result
   with_draw : (result : Result Position SayRefusal) (seed : Key32) → asks_seed old (length text) ≡ true
-      → length seed.bytes ≡ 32 → coming source ≡ drawn (seed.bytes ∷ []) (coming left) → faults left ≡ faults source
+      → length seed.bytes ≡ 32
+      → (draws source).coming ≡ drawn (seed.bytes ∷ []) (draws left).coming → (draws left).faults ≡ (draws source).faults
       → Acts state (act_on k old.kept (saying text (Some seed.bytes))) old new start now (said_as result)
       → HandsBack (Some seed) result
-      → Says state coming faults k text old new start now source left result
-  draw_failed : asks_seed old (length text) ≡ true → Rose (faults source) (faults left) → coming left ≡ coming source
+      → Says state draws k text old new start now source left result
+  draw_failed : asks_seed old (length text) ≡ true → Rose (draws source).faults (draws left).faults
+      → (draws left).coming ≡ (draws source).coming
       → new ≡ old → now ≡ start
-      → Says state coming faults k text old new start now source left (Err DrawFault)
+      → Says state draws k text old new start now source left (Err DrawFault)
 
 -- Whether a seed was drawn for a text of this length, and which one: just where one is asked for, the next that the source gives.
-pub data IsDrawn {W : Type 0} (coming : W → Option Seeds) (faults : W → ℕ) (client : ClientNow) (len : ℕ) (source left : W)
+pub data IsDrawn {W : Type 0} (draws : W → DrawsState) (client : ClientNow) (len : ℕ)
+    (source left : W)
     : Option (List ℕ) → Type 0 where
-  was_unasked : asks_seed client len ≡ false → left ≡ source → IsDrawn coming faults client len source left None
-  was_drawn : (seed : List ℕ) → asks_seed client len ≡ true → length seed ≡ 32 → coming source ≡ drawn (seed ∷ []) (coming left)
-      → faults left ≡ faults source → IsDrawn coming faults client len source left (Some seed)
+  was_unasked : asks_seed client len ≡ false → left ≡ source
+      → IsDrawn draws client len source left None
+  was_drawn : (seed : List ℕ) → asks_seed client len ≡ true → length seed ≡ 32
+      → (draws source).coming ≡ drawn (seed ∷ []) (draws left).coming
+      → (draws left).faults ≡ (draws source).faults
+      → IsDrawn draws client len source left (Some seed)
 
 -- in a world that the client stands for: the act, with the seed that the source gave; or nothing, where it gave none
-pub data SaysIn {W : Type 0} (coming : W → Option Seeds) (faults : W → ℕ) (k : Mechanism) (w : World) (side : Side) (text : List ℕ)
+pub data SaysIn {W : Type 0} (draws : W → DrawsState) (k : Mechanism) (w : World) (side : Side)
+    (text : List ℕ)
     (old new : ClientNow) (start now : DiskState) (source left : W) : Outcome → Type 0 where
-  acted : (outcome : Outcome) (draw : Option (List ℕ)) → IsDrawn coming faults old (length text) source left draw
+  acted : (outcome : Outcome) (draw : Option (List ℕ))
+      → IsDrawn draws old (length text) source left draw
       → (old.closed ≡ None → IsFairAct k w side (saying text draw))
       → ActsIn k w side (saying text draw) old new start now outcome
-      → SaysIn coming faults k w side text old new start now source left outcome
-  stayed : asks_seed old (length text) ≡ true → Rose (faults source) (faults left) → coming left ≡ coming source → new ≡ old
-      → SaysIn coming faults k w side text old new start now source left undrawn
+      → SaysIn draws k w side text old new start now source left outcome
+  stayed : asks_seed old (length text) ≡ true → Rose (draws source).faults (draws left).faults
+      → (draws left).coming ≡ (draws source).coming → new ≡ old
+      → SaysIn draws k w side text old new start now source left undrawn

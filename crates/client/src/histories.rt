@@ -1,6 +1,6 @@
 //! Whole runs in which both sides talk. The functions have no code: a caller that needs a fact calls them.
 
-ghost use Rattle.std.specs.Prelude.{◌≡◌, ◌++◌, ◌⊎◌, ℕ, All, List, Option, Result};
+ghost use Rattle.std.specs.Prelude.{◌≡◌, ◌++◌, ◌⊎◌, ℕ, All, List, Result};
 ghost use Rattle.boxes.specs.Items.{Item};
 ghost use Rattle.dr_base.specs.Position.{peer_of};
 ghost use Rattle.dr_base.specs.declared.position.Side.{Side};
@@ -10,6 +10,7 @@ ghost use Rattle.dr_model.specs.Machines.Acts.{Act, act_in};
 ghost use Rattle.dr_model.specs.Machines.Worlds.{World};
 ghost use Rattle.dr_model.specs.Theorems.Acting.{IsFairAct};
 ghost use Rattle.dr_model.specs.Theorems.LawfulWorlds.{IsLawfulWorld};
+ghost use Rattle.dr_ports.specs.States.{SinkState};
 ghost use Rattle.kem_laws.specs.Mechanism.{IsLawfulMechanism, Mechanism};
 ghost use Rattle.relay_wire.specs.Replies.{Replied};
 ghost use Rattle.sync_model.specs.Courses.{begun};
@@ -42,8 +43,8 @@ pub fn meanwhile()
 /// on the disk failed in it. What a crash leaves while it goes on stands for the world before it, or for one that it reaches.
 pub fn syncs_are_links<D: Disk>(before: &D, after: &D)
     ensures ended { (k : Mechanism) (prefix : List ℕ) (side : Side) (w : World) (replies : List Replied) (old new : ClientNow)
-        (taken wrote : Option (List ℕ)) (faults later : ℕ) (result : Result More SyncFault) → AreUnforged k prefix side w replies
-        → SyncsIn k prefix side w replies (moment old (D.state before.now) taken faults) (moment new (D.state after.now) wrote later) result
+        (sink wrote : SinkState) (result : Result More SyncFault) → AreUnforged k prefix side w replies
+        → SyncsIn k prefix side w replies (moment old (D.state before.now) sink) (moment new (D.state after.now) wrote) result
         → (known : Known) → IsOneOf known w
         → (front back : List Replied) × (replies ≡ front ++ back) × AreLeft result back
         × IsIn k (course_in k prefix side w front).state side new
@@ -63,7 +64,7 @@ pub fn syncs_are_links<D: Disk>(before: &D, after: &D)
 pub fn exchange<D: Disk, E: Disk, W: Draws>()
     ensures { (k : Mechanism) → IsLawfulMechanism k → (w : World) (asks : Call D) (hears answers : Call E) (crashed : D) (reads : Call D)
         (question answer : Item)
-        → IsExchange D.state E.state W.coming W.faults k asks hears answers crashed reads question answer
+        → IsExchange D.state E.state W.at k asks hears answers crashed reads question answer
         → IsIn k w First asks.old → IsIn k w Second hears.old → Always (StandsFor k w First) (D.state asks.start)
         → IsHistory D.state k w asks crashed reads answer }
 {

@@ -56,17 +56,18 @@ impl<K: Kem> Client<K> {
     ) -> Result<Position, SayRefusal>
         requires { self.old.closed ≡ None → IsReady self.old.kept self.old.store (D.state disk.old) }
         // Exactly what the side makes of it, but for a failing draw or call on the disk.
-        ensures exact { Says D.state W.coming W.faults K.mechanism text.now
+        ensures exact { Says D.state W.at K.mechanism text.now
             self.old self.new disk.old disk.new draws.old draws.new result }
         ensures ready { OnOk result ((self.new.closed ≡ None)
             × IsReady self.new.kept self.new.store (D.state disk.new)) }
         // In each world that the client stands for, at every moment.
         ensures in_worlds { (w : World) (side : Side) → IsIn K.mechanism w side self.old
-            → SaysIn W.coming W.faults K.mechanism w side text.now self.old self.new (D.state disk.old) (D.state disk.new)
+            → SaysIn W.at K.mechanism w side text.now self.old self.new (D.state disk.old) (D.state disk.new)
             draws.old draws.new (said_as result) }
         // Once it is said, the key of its position is used up, and nothing that a crash leaves gives it.
         ensures spent { IfOk result (λ position. (w : World) (side : Side) → IsIn K.mechanism w side self.old
-            → (draw : Option (List ℕ)) × IsDrawn W.coming W.faults self.old (length text.now) draws.old draws.new draw
+            → (draw : Option (List ℕ))
+            × IsDrawn W.at self.old (length text.now) draws.old draws.new draw
             × IsSpent K.mechanism (act_in K.mechanism w side (saying text.now draw)).next side position (D.state disk.new)) }
         ensures fate { Passes (D.state disk.old) (D.state disk.new) (said_as result) }
     {
@@ -81,7 +82,7 @@ impl<K: Kem> Client<K> {
         draws: &mut W,
     ) -> Result<Position, SayRefusal>
         requires { self.old.closed ≡ None → IsReady self.old.kept self.old.store (D.state disk.old) }
-        ensures exact { Says D.state W.coming W.faults K.mechanism text.now
+        ensures exact { Says D.state W.at K.mechanism text.now
             self.old self.new disk.old disk.new draws.old draws.new result }
         ensures fate { Passes (D.state disk.old) (D.state disk.new) (said_as result) }
     {

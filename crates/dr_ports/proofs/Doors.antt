@@ -1,13 +1,14 @@
 -- A door in memory: its pipe gives and takes, and it goes on to the next connection.
-use Rattle.std.proofs.Common.{◌≡◌, ◌⊎◌, inl, inr, ℕ, zero, suc, ◌+◌, ◌-◌, ◌<◌, ◌≤◌, List, [], ◌∷◌, ◌++◌, length, take, drop, get_or, Option, Some, option_map, refl, sym, ◌∙◌, ap, ap₂, arith, add-zero}
+use Rattle.std.proofs.Common.{◌≡◌, ◌⊎◌, inl, inr, ℕ, zero, suc, ◌+◌, ◌-◌, ◌<◌, ◌≤◌, List, [], ◌∷◌, ◌++◌, length, take, drop, get_or, Option, Some, Result, Ok, Err, option_map, refl, sym, ◌∙◌, ap, ap₂, arith, add-zero}
 use Rattle.std.specs.Prelude.{nat_lt, Bool, false, if◌then◌else◌}
 use Rattle.std.proofs.lemmas.Bool.Decides.{nat_tests}
 use Rattle.std.proofs.lemmas.List.{get_or_default}
 use Rattle.std.proofs.Math.Path.{fun_ext}
 use Rattle.dr_ports.specs.declared.pipe.Stand.{Stand}
 use Rattle.dr_ports.specs.declared.pipe.Stand.TheVariants.{Up}
+use Rattle.dr_ports.specs.Calls.{Receives, Sends}
 use Rattle.dr_ports.specs.Wires.{Line, Told, Gave, Took, next_of, untold_fate}
-use Rattle.dr_ports.specs.MemoryWires.{Flowing, Doorway, AreEnds, start_of, connection_of, coming_to, door_line, place_at, port_of, door_port_of, wire_of}
+use Rattle.dr_ports.specs.MemoryWires.{Flowing, Doorway, AreEnds, start_of, connection_of, coming_to, door_line, gone_on, nobody, place_at, port_of, door_port_of, wire_of}
 
 -- the ends never fall and lie within the bytes
 within : (size from : ℕ) (ends : List ℕ) → AreEnds size from ends → from ≤ size
@@ -42,7 +43,7 @@ follows all ends old new n (inl on) = let same : new + n ≡ old + (n + 1) = ome
 follows all ends old new n (inr (stays, last)) =
     past all ends (new + n) (omega (arith, stays, last)) ∙ sym (past all ends (old + (n + 1)) (omega (arith, last)))
 
-pub went_on : (old new : Doorway) → new.pipe ≡ record old.pipe { held = connection_of old.pipe.all old.ends old.next; at = 0; before = old.pipe.before ++ old.pipe.sent; sent = [] }
+pub went_on : (old new : Doorway) → new.pipe ≡ gone_on (connection_of old.pipe.all old.ends old.next) old.pipe
     → (new.next ≡ old.next + 1) ⊎ ((new.next ≡ old.next) × (length old.ends ≡ old.next)) → new.ends ≡ old.ends → new.port ≡ old.port → new.stand ≡ Up
     → (door_port_of new).told ≡ option_map next_of (door_port_of old).told
 went_on old new pipe next ends port stand =
@@ -64,12 +65,67 @@ over old all n sent = connection_of all old.ends (old.next + n)
 abbrev coming_as : (ℕ → List ℕ → List ℕ) → Line → Told → Told
 coming_as coming line t = record t { coming = coming; line = line }
 
-pub lent_gave : (old : Doorway) (pipe : Flowing) (piece : List ℕ) → Gave piece (port_of old.pipe) (port_of pipe) → pipe.all ≡ old.pipe.all → Gave piece (door_port_of old) (door_port_of (record old { pipe = pipe }))
+lent_gave : (old : Doorway) (pipe : Flowing) (piece : List ℕ) → Gave piece (port_of old.pipe) (port_of pipe) → pipe.all ≡ old.pipe.all → Gave piece (door_port_of old) (door_port_of (record old { pipe = pipe }))
 lent_gave old pipe piece gave same =
     ap (option_map (coming_as (over old pipe.all) (door_line old))) gave
     ∙ ap (λ (all : List ℕ). Some (record { now = record (wire_of old.pipe) { received = take old.pipe.at old.pipe.held ++ piece }; before = old.pipe.before; coming = over old all; line = door_line old })) same
 
-pub lent_took : (old : Doorway) (pipe : Flowing) (piece : List ℕ) → Took piece (port_of old.pipe) (port_of pipe) → pipe.all ≡ old.pipe.all → Took piece (door_port_of old) (door_port_of (record old { pipe = pipe }))
+lent_took : (old : Doorway) (pipe : Flowing) (piece : List ℕ) → Took piece (port_of old.pipe) (port_of pipe) → pipe.all ≡ old.pipe.all → Took piece (door_port_of old) (door_port_of (record old { pipe = pipe }))
 lent_took old pipe piece took same =
     ap (option_map (coming_as (over old pipe.all) (door_line old))) took
     ∙ ap (λ (all : List ℕ). Some (record { now = record (wire_of old.pipe) { sent = old.pipe.sent ++ piece }; before = old.pipe.before; coming = over old all; line = door_line old })) same
+
+lent_stays : (old : Doorway) (pipe : Flowing) → (port_of pipe).told ≡ (port_of old.pipe).told → pipe.all ≡ old.pipe.all
+    → (door_port_of (record old { pipe = pipe })).told ≡ (door_port_of old).told
+lent_stays old pipe stays same =
+    ap (option_map (coming_as (over old pipe.all) (door_line old))) stays
+    ∙ ap (λ (all : List ℕ). Some (record { now = wire_of old.pipe; before = old.pipe.before; coming = over old all; line = door_line old })) same
+
+-- a receive on the pipe is one on the door, and so is a send
+pub lent_receives : {E : Type 0} (old : Doorway) (pipe : Flowing) (before after : List ℕ) (result : Result ℕ E)
+    → Receives (port_of old.pipe) (port_of pipe) (nobody old.pipe) (nobody pipe) before after result → pipe.all ≡ old.pipe.all
+    → Receives (door_port_of old) (door_port_of (record old { pipe = pipe })) (nobody old) (nobody (record old { pipe = pipe })) before after result
+lent_receives old pipe before after (Ok count) r same = record {
+  bound = r.bound;
+  content = lent_gave old pipe (take count after) r.content same;
+  end = r.end;
+  err = tt;
+  goes = r.goes;
+  cause = r.cause;
+  gate = refl;
+  same = refl;
+}
+lent_receives old pipe before after (Err e) r same = record {
+  bound = tt;
+  content = tt;
+  end = tt;
+  err = lent_stays old pipe r.err same;
+  goes = r.goes;
+  cause = r.cause;
+  gate = refl;
+  same = refl;
+}
+
+pub lent_sends : {E : Type 0} (old : Doorway) (pipe : Flowing) (bytes : List ℕ) (result : Result ℕ E)
+    → Sends (port_of old.pipe) (port_of pipe) (nobody old.pipe) (nobody pipe) bytes result → pipe.all ≡ old.pipe.all
+    → Sends (door_port_of old) (door_port_of (record old { pipe = pipe })) (nobody old) (nobody (record old { pipe = pipe })) bytes result
+lent_sends old pipe bytes (Ok count) r same = record {
+  bound = r.bound;
+  progress = r.progress;
+  content = lent_took old pipe (take count bytes) r.content same;
+  err = tt;
+  goes = r.goes;
+  cause = r.cause;
+  gate = refl;
+  same = refl;
+}
+lent_sends old pipe bytes (Err e) r same = record {
+  bound = tt;
+  progress = tt;
+  content = tt;
+  err = lent_stays old pipe r.err same;
+  goes = r.goes;
+  cause = r.cause;
+  gate = refl;
+  same = refl;
+}

@@ -2,6 +2,7 @@
 use Rattle.std.proofs.Common.{◌≡◌, ℕ, List, ◌++◌, take, drop, Option, Result, Ok, Err, sym, ◌∙◌, ap, append_assoc, arith}
 use Rattle.std.proofs.lemmas.List.{take-append-drop}
 use Rattle.dr_ports.specs.Ports.{appended}
+use Rattle.dr_ports.specs.States.{SinkState}
 use Rattle.dr_ports.specs.Writing.{TookBeginning, Writes}
 use Rattle.dr_ports.proofs.Told.{appended-appended}
 
@@ -28,19 +29,24 @@ took_of_second old mid new a b e t = record {
 }
 
 -- a write after one that passed
-pub writes_behind : {T E : Type 0} (old mid new : Option (List ℕ)) (before middle now : ℕ) (a b : List ℕ) (result : Result T E) → mid ≡ appended old a → middle ≡ before
-    → Writes mid new middle now b result → Writes old new before now (a ++ b) result
-writes_behind old mid new before middle now a b (Ok x) e same w = record {
-  whole = w.whole ∙ ap (λ m. appended m b) e ∙ appended-appended old a b;
+pub writes_behind : {T E : Type 0} (old mid new : SinkState) (a b : List ℕ) (result : Result T E)
+    → mid.taken ≡ appended old.taken a → mid.faults ≡ old.faults → Writes mid new b result → Writes old new (a ++ b) result
+writes_behind old mid new a b (Ok x) e same w = record {
+  whole = w.whole ∙ ap (λ m. appended m b) e ∙ appended-appended old.taken a b;
   part = w.part;
   cause = record { later = omega (arith, w.cause.later); failed = w.cause.failed; passed = w.cause.passed ∙ same };
 }
-writes_behind old mid new before middle now a b (Err x) e same w = record {
+writes_behind old mid new a b (Err x) e same w = record {
   whole = w.whole;
-  part = took_of_second old mid new a b e w.part;
+  part = took_of_second old.taken mid.taken new.taken a b e w.part;
   cause = record { later = omega (arith, w.cause.later); failed = omega (arith, w.cause.failed); passed = tt };
 }
 
 -- a write that failed, and what was to be written after it
-pub writes_first : {T E : Type 0} (old new : Option (List ℕ)) (before now : ℕ) (a b : List ℕ) (e : E) → Writes {T = T} old new before now a (Err e) → Writes {T = T} old new before now (a ++ b) (Err e)
-writes_first old new before now a b e w = record { whole = w.whole; part = took_of_first old new a b w.part; cause = w.cause }
+pub writes_first : {T E : Type 0} (old new : SinkState) (a b : List ℕ) (e : E) → Writes {T = T} old new a (Err e)
+    → Writes {T = T} old new (a ++ b) (Err e)
+writes_first old new a b e w = record {
+  whole = w.whole;
+  part = took_of_first old.taken new.taken a b w.part;
+  cause = w.cause;
+}

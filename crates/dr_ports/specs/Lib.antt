@@ -1,8 +1,11 @@
+pub mod Calls
+pub mod Drawing
 pub mod Memory
 pub mod MemoryWires
 pub mod Ports
 pub mod Random
 pub mod Reading
 pub mod Seeds
+pub mod States
 pub mod Wires
 pub mod Writing

@@ -1,10 +1,12 @@
 -- What pipes, links and doors in memory show.
-use Rattle.std.specs.Prelude.{◌≡◌, ◌≤◌, ◌<◌, ℕ, zero, suc, ◌+◌, ◌-◌, List, [], ◌∷◌, ◌++◌, length, take, drop, nat_lt, get_or, if◌then◌else◌, Option, None, Some}
+use Rattle.std.specs.Prelude.{◌≡◌, ◌⊎◌, ◌↔◌, ◌≤◌, ◌<◌, ℕ, min, zero, suc, ◌+◌, ◌-◌, List, [], ◌∷◌, ◌++◌, length, take, drop, nat_lt, get_or, if◌then◌else◌, Option, None, Some, Result, IfOk, IsErr}
 use Rattle.std.proofs.lemmas.List.{take-append-drop}
 use Rattle.std.proofs.Common.{sym}
-use Rattle.dr_ports.specs.Memory.{Plan}
+use Rattle.dr_ports.specs.Ports.{one_more}
+use Rattle.dr_ports.specs.Memory.{Plan, IsDue, IsPlayed, planned}
 use Rattle.dr_ports.specs.declared.pipe.Part.{Part}
 use Rattle.dr_ports.specs.declared.pipe.Part.TheVariants.{Flow, Gate}
+use Rattle.dr_ports.specs.declared.memory.link.TheConstants.{ADDRESS_LIMIT}
 use Rattle.dr_ports.specs.declared.pipe.Stand.{Stand}
 use Rattle.dr_ports.specs.declared.pipe.Stand.TheVariants.{Unbegun, Up}
 use Rattle.dr_ports.specs.Wires.{Port, IsAhead, Line, Place, Wire, at_address, at_port, nowhere, untold_fate}
@@ -20,10 +22,46 @@ pub record Flowing : Type 0 where
   pub room : ℕ
   pub plan : Plan
 
+-- it holds these bytes out of all, has given and taken none, and has room for this many
+abbrev pub fresh : List ℕ → List ℕ → ℕ → List ℕ → Flowing
+fresh all held room fails = record {
+  all = all;
+  held = held;
+  at = 0;
+  before = [];
+  sent = [];
+  room = room;
+  plan = planned fails;
+}
+
+-- another connection, which holds these bytes
+abbrev pub gone_on : List ℕ → Flowing → Flowing
+gone_on held pipe =
+    record pipe { held = held; at = 0; before = pipe.before ++ pipe.sent; sent = [] }
+
+-- a call of it is counted
+abbrev pub called : Flowing → Flowing
+called pipe = record pipe { plan = record pipe.plan { calls = one_more pipe.plan.calls } }
+
 -- it has no room for the first of these bytes
 pub record HasNoRoom (pipe : Flowing) (bytes : List ℕ) : Type 0 where
   pub no_room : length (pipe.before ++ pipe.sent) ≡ pipe.room
   pub needed : 0 < length bytes
+
+-- a receive into a piece: as many bytes are given as the piece has room for, and nothing else changes
+pub record GivesMost {E : Type 0} (old new : Flowing) (into : List ℕ) (result : Result ℕ E)
+    : Type 0 where
+  pub played : IsPlayed (IsDue old.plan) old.plan new.plan result
+  pub most : IfOk result (λ count. count ≡ min (length into) (length old.held - old.at))
+  pub stays : new ≡ record old { at = new.at; plan = new.plan }
+
+-- a send: as many of the bytes are taken as it has room for, and nothing else changes
+pub record TakesMost {E : Type 0} (old new : Flowing) (bytes : List ℕ) (result : Result ℕ E)
+    : Type 0 where
+  pub played : IsPlayed (IsDue old.plan ⊎ HasNoRoom old bytes) old.plan new.plan result
+  pub most : IfOk result (λ count.
+      count ≡ min (length bytes) (old.room - length (old.before ++ old.sent)))
+  pub stays : new ≡ record old { sent = new.sent; plan = new.plan }
 
 -- counts of faults
 abbrev pub faults_of : ℕ → ℕ → Part → ℕ
@@ -71,6 +109,12 @@ place_to address stand = at_address address
 
 abbrev pub link_port_of : Linking → Port
 link_port_of l = port_with nothing_comes l.faults (record { place = place_to l.address l.stand; stand = l.stand }) l.pipe
+
+-- an opening: it fails just where the plan says so or the address is too long, and counts the call
+pub record PlaysOpening {T E : Type 0} (old new : Linking) (address : List ℕ) (result : Result T E)
+    : Type 0 where
+  pub exact : IsErr result ↔ IsDue old.pipe.plan ⊎ (ADDRESS_LIMIT < length address)
+  pub counted : new.pipe ≡ called old.pipe
 
 -- never falling from here on, and within this many bytes
 abbrev pub AreEnds : ℕ → ℕ → List ℕ → Type 0

@@ -1,6 +1,6 @@
 -- Draws from a source of random bytes.
-use Rattle.std.specs.Prelude.{ℕ, Option, None}
-use Rattle.dr_ports.specs.Seeds.{Seeds}
+use Rattle.std.specs.Prelude.{ℕ, None}
+use Rattle.dr_ports.specs.States.{DrawsState}
 
 -- the source, and how often a call of it failed
 pub record Sourced (Source : Type 0) : Type 0 where
@@ -8,5 +8,5 @@ pub record Sourced (Source : Type 0) : Type 0 where
   pub faults : ℕ
 
 -- the seeds to come aren't told
-abbrev pub untold : {Source : Type 0} → Sourced Source → Option Seeds
-untold draws = None
+abbrev pub untold : {Source : Type 0} → Sourced Source → DrawsState
+untold draws = record { coming = None; faults = draws.faults }

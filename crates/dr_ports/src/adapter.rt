@@ -1,9 +1,9 @@
 //! Adapters over std's reader and writer and over a source of random bytes. They tell nothing of content to come, and
 //! count each error. A seed is what the source gave.
 
-ghost use Rattle.std.specs.Prelude.{◌≡◌, ℕ, [], ◌∷◌, None, IfOk, OnErr};
-ghost use Rattle.dr_ports.specs.Ports.{HasCause};
-ghost use Rattle.dr_ports.specs.Seeds.{drawn};
+ghost use Rattle.std.specs.Prelude.{◌≡◌, ℕ, None, IfOk};
+ghost use Rattle.dr_ports.specs.Drawing.{DrawsSeed};
+ghost use Rattle.dr_ports.specs.Random.{untold};
 
 use crate::port::{Draws, Sink, Source};
 use dr_base::{Failed, Key32};
@@ -34,9 +34,7 @@ impl<R: Read> ReaderSource<R> {
 }
 
 impl<R: Read> Source for ReaderSource<R> {
-    ghost left = { λ _. None };
-
-    ghost faults = { λ s. s };
+    ghost at = { λ s. record { left = None; faults = s } };
 
     fn read(&mut self, into: &mut [u8]) -> Result<usize, Failed> {
         match self.reader.read(into) {
@@ -73,9 +71,7 @@ impl<W: Write> WriterSink<W> {
 }
 
 impl<W: Write> Sink for WriterSink<W> {
-    ghost taken = { λ _. None };
-
-    ghost faults = { λ s. s };
+    ghost at = { λ s. record { taken = None; faults = s } };
 
     fn write(&mut self, bytes: &[u8]) -> Result<usize, Failed> {
         match self.writer.write(bytes) {
@@ -113,18 +109,12 @@ impl<R: TryRng> RandomDraws<R> {
 }
 
 impl<R: TryRng> Draws for RandomDraws<R> {
-    ghost use Rattle.dr_ports.specs.Random.{untold};
-
-    ghost coming = { untold };
-
-    ghost faults = { λ d. d.faults };
+    ghost at = { untold };
 
     /// The next seed: 32 bytes that the source gave in one call. A call of the source that fails is a fault.
     fn draw(&mut self) -> Result<Key32, Failed>
         ensures given { IfOk result (λ seed. R.may_fill self.old.source seed.bytes self.new.source) }
-        ensures seed { IfOk result (λ seed. untold self.old ≡ drawn (seed.bytes ∷ []) (untold self.new)) }
-        ensures err { OnErr result (untold self.new ≡ untold self.old) }
-        ensures cause { HasCause self.old.faults self.new.faults result }
+        ensures draws { DrawsSeed (untold self.old) (untold self.new) result }
     {
         let mut seed = Key32::default();
         match self.source.try_fill_bytes(&mut seed.bytes) {

@@ -1,6 +1,6 @@
 //! Reading a source to its end, or to one byte past a limit.
 
-ghost use Rattle.std.specs.Prelude.{◌≡◌, ℕ, ◌+◌, ◌^◌, ◌<◌, ◌≤◌, List, [], vec_len, length, take, drop, option_map, IfOk, OnErr, IfSome, IsErrOf};
+ghost use Rattle.std.specs.Prelude.{◌≡◌, ◌+◌, ◌^◌, ◌<◌, ◌≤◌, [], vec_len, length, take, drop, option_map, IfOk, OnErr, IfSome, IsErrOf};
 ghost use Rattle.dr_ports.specs.Ports.{Rose, HasCause, prepended};
 ghost use Rattle.dr_ports.specs.Reading.{GaveAtMost};
 ghost use Rattle.dr_ports.specs.declared.reading.InputError.TheVariants.{Memory};
@@ -38,10 +38,11 @@ fn read_at<S: Source>(source: &mut S, into: &mut [u8], at: usize) -> Result<usiz
     ensures bound { IfOk result (λ count. at + count ≤ length into.old) }
     ensures kept { take at into.new ≡ take at into.old }
     ensures content { IfOk result (λ count.
-        S.left source.old ≡ prepended (take count (drop at into.new)) (S.left source.new)) }
-    ensures end { IfOk result (λ count. count ≡ 0 → IfSome (S.left source.new) (λ bytes. bytes ≡ [])) }
-    ensures err { OnErr result (S.left source.new ≡ S.left source.old) }
-    ensures cause { HasCause (S.faults source.old) (S.faults source.new) result }
+        (S.at source.old).left ≡ prepended (take count (drop at into.new)) (S.at source.new).left) }
+    ensures end { IfOk result (λ count. count ≡ 0 →
+        IfSome (S.at source.new).left (λ bytes. bytes ≡ [])) }
+    ensures err { OnErr result ((S.at source.new).left ≡ (S.at source.old).left) }
+    ensures cause { HasCause (S.at source.old).faults (S.at source.new).faults result }
 {
     source.read(&mut into[at..])
 }
@@ -50,11 +51,12 @@ fn read_at<S: Source>(source: &mut S, into: &mut [u8], at: usize) -> Result<usiz
 fn fill<S: Source>(source: &mut S, into: &mut [u8]) -> Result<usize, Failed>
     ensures bound { IfOk result (λ count. count ≤ length into.old) }
     ensures content { IfOk result (λ count.
-        S.left source.old ≡ prepended (take count into.new) (S.left source.new)) }
+        (S.at source.old).left ≡ prepended (take count into.new) (S.at source.new).left) }
     ensures end { IfOk result (λ count. count < length into.old →
-        IfSome (S.left source.new) (λ bytes. bytes ≡ [])) }
-    ensures part { OnErr result (GaveAtMost (length into.old) (S.left source.old) (S.left source.new)) }
-    ensures cause { HasCause (S.faults source.old) (S.faults source.new) result }
+        IfSome (S.at source.new).left (λ bytes. bytes ≡ [])) }
+    ensures part { OnErr result
+        (GaveAtMost (length into.old) (S.at source.old).left (S.at source.new).left) }
+    ensures cause { HasCause (S.at source.old).faults (S.at source.new).faults result }
 {
     let mut count = 0;
     'pieces: while count < into.len() {
@@ -75,18 +77,23 @@ pub fn read_whole<S: Source>(
 ) -> Result<Vec<u8>, InputError>
     requires { limit < 2 ^ 32 }
     ensures fits { IfOk result (λ bytes. vec_len bytes ≤ limit) }
-    ensures whole { IfOk result (λ bytes. IfSome (S.left source.old) (λ left. bytes.items ≡ left)) }
+    ensures whole { IfOk result (λ bytes.
+        IfSome (S.at source.old).left (λ left. bytes.items ≡ left)) }
     ensures too_long { IsErrOf result InputError.TooLong →
-        IfSome (S.left source.old) (λ left. limit < length left) }
-    ensures fault { IsErrOf result InputError.Fault → Rose (S.faults source.old) (S.faults source.new) }
-    ensures quiet { (IsErrOf result InputError.Fault → ⊥) → S.faults source.new ≡ S.faults source.old }
-    ensures later { S.faults source.old ≤ S.faults source.new }
+        IfSome (S.at source.old).left (λ left. limit < length left) }
+    ensures fault { IsErrOf result InputError.Fault →
+        Rose (S.at source.old).faults (S.at source.new).faults }
+    ensures quiet { (IsErrOf result InputError.Fault → ⊥) →
+        (S.at source.new).faults ≡ (S.at source.old).faults }
+    ensures later { (S.at source.old).faults ≤ (S.at source.new).faults }
 
     // What is left in the source: nothing; or all after one byte past the limit; or, where a read failed, all after
     // what came before; or, for want of memory, all.
-    ensures drained { IfOk result (λ _. IfSome (S.left source.new) (λ left. left ≡ [])) }
-    ensures past { IsErrOf result InputError.TooLong → S.left source.new ≡ option_map (drop (limit + 1)) (S.left source.old) }
-    ensures part { IsErrOf result InputError.Fault → GaveAtMost (limit + 1) (S.left source.old) (S.left source.new) }
+    ensures drained { IfOk result (λ _. IfSome (S.at source.new).left (λ left. left ≡ [])) }
+    ensures past { IsErrOf result InputError.TooLong →
+        (S.at source.new).left ≡ option_map (drop (limit + 1)) (S.at source.old).left }
+    ensures part { IsErrOf result InputError.Fault →
+        GaveAtMost (limit + 1) (S.at source.old).left (S.at source.new).left }
     ensures unread { IsErrOf result InputError.Memory → source.new ≡ source.old }
 {
     let mut bytes = vec![in alloc; 0; limit + 1]?;

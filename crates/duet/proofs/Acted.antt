@@ -9,6 +9,7 @@ use Rattle.dr_disk.specs.declared.memory.MemoryDisk.{MemoryDisk}
 use Rattle.dr_model.specs.Machines.Acts.{needs_seed, said_by, saying_by}
 use Rattle.dr_model.specs.Machines.Steps.{Step, has_effect, step}
 use Rattle.dr_ports.specs.Seeds.{Seeds, drawn}
+use Rattle.dr_ports.specs.States.{DrawsState}
 use Rattle.kem_laws.specs.Mechanism.{Mechanism}
 use Rattle.ratchet.specs.Seen.{seed_bytes}
 use Rattle.session_model.specs.Clients.{Client, say_check, say_on}
@@ -94,24 +95,24 @@ asks_is client len b unclosed is =
     ap (λ closed. is_none closed && needs_seed (say_check client.kept len)) unclosed ∙ ap needs_seed is
 
 -- a text that was checked, with the seed that it needs
-pub said_acts : {W : Type 0} (coming : W → Option Seeds) (faults : W → ℕ) (k : Mechanism) (text : List ℕ) (old new : ClientNow)
+pub said_acts : {W : Type 0} (draws : W → DrawsState) (k : Mechanism) (text : List ℕ) (old new : ClientNow)
     (start now : MemoryDisk) (source left : W) (seed : Option Key32) (one : List ℕ) (result : Result Position SayRefusal)
     → old.closed ≡ None → say_check old.kept (length text) ≡ Ok (is_some seed)
-    → coming source ≡ Some (λ j. one) → faults source ≡ 0 → faults left ≡ 0 → ((key : Key32) → seed ≡ Some key → one ≡ key.bytes)
-    → Says state_of coming faults k text old new start now source left result
+    → (draws source).coming ≡ Some (λ j. one) → (draws source).faults ≡ 0 → (draws left).faults ≡ 0 → ((key : Key32) → seed ≡ Some key → one ≡ key.bytes)
+    → Says state_of draws k text old new start now source left result
     → Acts state_of (said_by (say_on k old.kept text (seed_bytes seed))) old new start now (said_as result)
-said_acts coming faults k text old new start now source left seed one result unclosed checked tells before after gives (without_draw ended asks leaves acts) =
+said_acts draws k text old new start now source left seed one result unclosed checked tells before after gives (without_draw ended asks leaves acts) =
     let none : is_some seed ≡ false = sym (asks_is old (length text) (is_some seed) unclosed checked) ∙ asks in
     subst (λ bytes. Acts state_of (said_by (say_on k old.kept text bytes)) old new start now (said_as result)) (none_drawn seed none)
     (subst (λ check. Acts state_of (saying_by k old.kept text None check) old new start now (said_as result)) checked acts)
-said_acts coming faults k text old new start now source left seed one result unclosed checked tells before after gives (with_draw ended key asks long drew quiet acts back) =
+said_acts draws k text old new start now source left seed one result unclosed checked tells before after gives (with_draw ended key asks long drew quiet acts back) =
     let some : is_some seed ≡ true = sym (asks_is old (length text) (is_some seed) unclosed checked) ∙ asks in
     let same : key.bytes ≡ seed_bytes seed =
-    sym (one_seed one key.bytes (coming left) (sym tells ∙ drew)) ∙ one_drawn seed one some gives in
+    sym (one_seed one key.bytes (draws left).coming (sym tells ∙ drew)) ∙ one_drawn seed one some gives in
     subst (λ bytes. Acts state_of (said_by (say_on k old.kept text bytes)) old new start now (said_as result)) same
     (subst (λ check. Acts state_of (saying_by k old.kept text (Some key.bytes) check) old new start now (said_as result)) checked acts)
-said_acts coming faults k text old new start now source left seed one result unclosed checked tells before after gives (draw_failed asks rose same stays leaves) =
-    absurd (let r : Rose 0 0 = subst (λ n. Rose n 0) before (subst (Rose (faults source)) after rose) in omega (arith, r))
+said_acts draws k text old new start now source left seed one result unclosed checked tells before after gives (draw_failed asks rose same stays leaves) =
+    absurd (let r : Rose 0 0 = subst (λ n. Rose n 0) before (subst (Rose (draws source).faults) after rose) in omega (arith, r))
 
 -- ---- an error acknowledges nothing
 

@@ -48,7 +48,7 @@ use Rattle.duet.specs.Meetings.{EndsBy, Plays, Reaches, Rests}
 module _ (k : Mechanism) (prefix : List ℕ) (kept : ℕ) (boxes : List Box) (a b : Moment) (now : Connection)
     (own : is_name (own_box a.client.kept) ≡ true) (peers : is_name (peers_box a.client.kept) ≡ true) (packets : ArePackets (waiting a.client.kept))
     (lawful_boxes : All IsLawfulBox boxes) (passes : a.disk.fate ≡ all_pass) (stands : behind_of now ≡ behind_of (connected kept boxes))
-    (lawful : IsLawful now) (later : a.faults ≤ b.faults) where
+    (lawful : IsLawful now) (later : a.sink.faults ≤ b.sink.faults) where
   abbrev first : Client
   first = a.client.kept
 
@@ -108,7 +108,7 @@ module _ (k : Mechanism) (prefix : List ℕ) (kept : ℕ) (boxes : List Box) (a 
     unwritten : IsUnwritten p replies a b start end → WroteBeginning (all_lines p m.course) a b
     unwritten is =
         let all = shown_so p kept first boxes replies now (talked_so is.talked) in record {
-          beginning = subst (TookBeginning a.taken b.taken) (sym all.1) (took_of_first a.taken b.taken (all_lines p course) all.0 is.wrote.beginning);
+          beginning = subst (TookBeginning a.sink.taken b.sink.taken) (sym all.1) (took_of_first a.sink.taken b.sink.taken (all_lines p course) all.0 is.wrote.beginning);
           rose = is.wrote.rose;
         }
 

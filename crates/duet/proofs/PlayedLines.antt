@@ -1,9 +1,10 @@
 -- A script that is played: what stands once some of its lines are answered.
-use Rattle.std.proofs.Common.{◌≡◌, ℕ, ◌+◌, ◌-◌, ◌^◌, ◌<◌, ◌≤◌, List, [], ◌∷◌, ◌++◌, length, Option, refl, sym, ◌∙◌, ap, arith, subst, append_assoc, append-nil}
+use Rattle.std.proofs.Common.{◌≡◌, ℕ, ◌+◌, ◌-◌, ◌^◌, ◌<◌, ◌≤◌, List, [], ◌∷◌, ◌++◌, length, refl, sym, ◌∙◌, ap, arith, subst, append_assoc, append-nil}
 use Rattle.std.proofs.lemmas.List.{length-append}
 use Rattle.dr_base.specs.declared.position.Side.{Side}
 use Rattle.dr_base.specs.declared.position.Side.TheVariants.{First, Second}
 use Rattle.dr_ports.specs.Ports.{appended}
+use Rattle.dr_ports.specs.States.{SinkState}
 use Rattle.dr_ports.specs.Writing.{TookBeginning}
 use Rattle.session_model.specs.declared.answer.Answer.{Answer}
 use Rattle.session_model.specs.declared.answer.Answer.TheVariants.{Said, Opened, Sent, Done, Inbox, State, Seeded, Stopped, Nothing, Refused}
@@ -66,7 +67,7 @@ deed_more k s (syncs side lost) n t b = wider n (n + 1) t (omega arith) b
 
 -- Some deeds were done, and these are left: what both sides hold, what was counted, and what a sink took.
 pub record IsPlaying (k : Mechanism) (script : Scripted) (left : List Deed) (duet : DuetNow) (tally : Tally)
-    (told taken : Option (List ℕ)) (before now : ℕ) : Type 0 where
+    (told mid : SinkState) : Type 0 where
   pub deeds : List Deed
   pub all : script.deeds ≡ deeds ++ left
   pub stands : beside duet ≡ after_by (deed_on k) (beginning k script) deeds
@@ -76,15 +77,15 @@ pub record IsPlaying (k : Mechanism) (script : Scripted) (left : List Deed) (due
   pub draws : duet.sides.draws.made ≤ length deeds
   pub counts : tally ≡ counted_by (deed_on k) (beginning k script) (opening_tally script.rounds) deeds
   pub below : IsBelow (length deeds + 1) tally
-  pub written : taken ≡ appended told (lines_by (deed_on k) (beginning k script) deeds)
-  pub quiet : now ≡ before
+  pub written : mid.taken ≡ appended told.taken (lines_by (deed_on k) (beginning k script) deeds)
+  pub quiet : mid.faults ≡ told.faults
 
 -- before the first
-pub plays_first : (k : Mechanism) (script : Scripted) (left : List Deed) (duet : DuetNow) (tally : Tally) (told : Option (List ℕ)) (before room : ℕ)
+pub plays_first : (k : Mechanism) (script : Scripted) (left : List Deed) (duet : DuetNow) (tally : Tally) (told : SinkState) (room : ℕ)
     → left ≡ script.deeds → room ≡ length script.deeds → duet ≡ opening_duet k script.key room → room < 2 ^ 32 - 1 → tally ≡ opening_tally script.rounds
-    → IsPlaying k script left duet tally told told before before
+    → IsPlaying k script left duet tally told told
 unfolding after_by counted_by
-plays_first k script left duet tally told before room all rooms begins few none = record {
+plays_first k script left duet tally told room all rooms begins few none = record {
   deeds = [];
   all = sym all;
   stands = ap beside begins ∙ opening_stands k script room;
@@ -94,7 +95,7 @@ plays_first k script left duet tally told before room all rooms begins few none 
   draws = omega (arith, ap (λ (d : DuetNow). d.sides.draws.made) begins);
   counts = none;
   below = subst (IsBelow 1) (sym none) (record { first = none_below; second = none_below });
-  written = no_lines_yet (deed_on k) told (beginning k script);
+  written = no_lines_yet (deed_on k) told.taken (beginning k script);
   quiet = refl;
 }
 
@@ -104,10 +105,10 @@ answered deeds left rest all deed whole first = omega (arith, ap length whole, l
 
 -- one deed more
 pub plays_on : (k : Mechanism) (script : Scripted) (left rest : List Deed) (deed : Deed) (duet next : DuetNow) (tally more : Tally)
-    (told taken new : Option (List ℕ)) (before now later : ℕ) → IsPlaying k script left duet tally told taken before now → left ≡ deed ∷ rest
+    (told mid new : SinkState) → IsPlaying k script left duet tally told mid → left ≡ deed ∷ rest
     → next ≡ after_deed duet (deed_on k (beside duet) deed) → more ≡ counted_all (deed_side deed) (deed_on k (beside duet) deed).answers tally
-    → new ≡ appended taken (deed_on k (beside duet) deed).lines → later ≡ now → IsPlaying k script rest next more told new before later
-plays_on k script left rest deed duet next tally more told taken new before now later p first steps counts wrote quiet =
+    → new.taken ≡ appended mid.taken (deed_on k (beside duet) deed).lines → new.faults ≡ mid.faults → IsPlaying k script rest next more told new
+plays_on k script left rest deed duet next tally more told mid new p first steps counts wrote quiet =
     let start = beginning k script in
     let size = length-append p.deeds (deed ∷ []) in
     let added = adds_few k (beside duet) deed in
@@ -125,38 +126,38 @@ plays_on k script left rest deed duet next tally more told taken new before now 
           ∙ sym (counted_by-push (deed_on k) start (opening_tally script.rounds) p.deeds deed);
       below = subst (IsBelow _) (sym counts)
           (wider _ _ _ (omega (arith, size)) (deed_more k (beside duet) deed (length p.deeds + 1) tally p.below));
-      written = wrote_more k start told taken new p.deeds deed (beside duet) wrote p.stands p.written;
+      written = wrote_more k start told.taken mid.taken new.taken p.deeds deed (beside duet) wrote p.stands p.written;
       quiet = quiet ∙ p.quiet;
     }
 
 -- a write failed in the lines of the next deed
 pub plays_cut : (k : Mechanism) (script : Scripted) (left rest : List Deed) (deed : Deed) (duet : DuetNow) (tally : Tally)
-    (told taken new : Option (List ℕ)) (before now : ℕ) → IsPlaying k script left duet tally told taken before now → left ≡ deed ∷ rest
-    → TookBeginning taken new (deed_on k (beside duet) deed).lines → TookBeginning told new (played k script)
+    (told mid new : SinkState) → IsPlaying k script left duet tally told mid → left ≡ deed ∷ rest
+    → TookBeginning mid.taken new.taken (deed_on k (beside duet) deed).lines → TookBeginning told.taken new.taken (played k script)
 unfolding played
-plays_cut k script left rest deed duet tally told taken new before now p first part =
-    wrote_part k (beginning k script) told taken new p.deeds rest script.deeds deed (beside duet) part
+plays_cut k script left rest deed duet tally told mid new p first part =
+    wrote_part k (beginning k script) told.taken mid.taken new.taken p.deeds rest script.deeds deed (beside duet) part
     (p.all ∙ ap (λ ds. p.deeds ++ ds) first ∙ sym (append_assoc p.deeds (deed ∷ []) rest)) p.stands p.written
 
 -- no memory was left for the next deed
-pub plays_short : (k : Mechanism) (script : Scripted) (left : List Deed) (duet : DuetNow) (tally : Tally) (told taken : Option (List ℕ)) (before now : ℕ)
-    → IsPlaying k script left duet tally told taken before now → TookBeginning told taken (played k script)
+pub plays_short : (k : Mechanism) (script : Scripted) (left : List Deed) (duet : DuetNow) (tally : Tally) (told mid : SinkState)
+    → IsPlaying k script left duet tally told mid → TookBeginning told.taken mid.taken (played k script)
 unfolding played
-plays_short k script left duet tally told taken before now p =
-    wrote_first k (beginning k script) told taken p.deeds left script.deeds p.all p.written
+plays_short k script left duet tally told mid p =
+    wrote_first k (beginning k script) told.taken mid.taken p.deeds left script.deeds p.all p.written
 
 -- the last was done
-pub plays_last : (k : Mechanism) (script : Scripted) (left : List Deed) (duet : DuetNow) (tally : Tally) (told taken : Option (List ℕ)) (before now : ℕ)
-    → IsPlaying k script left duet tally told taken before now → left ≡ [] → taken ≡ appended told (played k script)
+pub plays_last : (k : Mechanism) (script : Scripted) (left : List Deed) (duet : DuetNow) (tally : Tally) (told mid : SinkState)
+    → IsPlaying k script left duet tally told mid → left ≡ [] → mid.taken ≡ appended told.taken (played k script)
 unfolding played
-plays_last k script left duet tally told taken before now p none =
+plays_last k script left duet tally told mid p none =
     p.written
-    ∙ ap (λ ds. appended told (lines_by (deed_on k) (beginning k script) ds)) (sym (p.all ∙ ap (λ ds. p.deeds ++ ds) none ∙ append-nil p.deeds))
+    ∙ ap (λ ds. appended told.taken (lines_by (deed_on k) (beginning k script) ds)) (sym (p.all ∙ ap (λ ds. p.deeds ++ ds) none ∙ append-nil p.deeds))
 
-pub tallies_last : (k : Mechanism) (script : Scripted) (left : List Deed) (duet : DuetNow) (tally : Tally) (told taken : Option (List ℕ)) (before now : ℕ)
-    → IsPlaying k script left duet tally told taken before now → left ≡ [] → both_reached duet.sides tally ≡ tally_of k script
+pub tallies_last : (k : Mechanism) (script : Scripted) (left : List Deed) (duet : DuetNow) (tally : Tally) (told mid : SinkState)
+    → IsPlaying k script left duet tally told mid → left ≡ [] → both_reached duet.sides tally ≡ tally_of k script
 unfolding tally_of
-tallies_last k script left duet tally told taken before now p none =
+tallies_last k script left duet tally told mid p none =
     let whole : script.deeds ≡ p.deeds = p.all ∙ ap (λ ds. p.deeds ++ ds) none ∙ append-nil p.deeds in
     ap (λ (s : Beside Sides). both_reached s.ends tally) p.stands
     ∙ ap (both_reached (after_by (deed_on k) (beginning k script) p.deeds).ends) p.counts

@@ -4,6 +4,7 @@ use Rattle.std.specs.Prelude.{codes}
 use Rattle.dr_base.specs.declared.failed.Failed.{Failed}
 use Rattle.dr_base.specs.declared.position.Side.{Side}
 use Rattle.dr_ports.specs.Ports.{appended}
+use Rattle.dr_ports.specs.States.{SinkState}
 use Rattle.dr_ports.specs.Writing.{TookBeginning, Writes}
 use Rattle.dr_ports.proofs.WritingLemmas.{took_of_first, writes_behind}
 use Rattle.relay_core.specs.Boxes.{Box}
@@ -73,46 +74,46 @@ module _ (p : Party Client) (side : Side) (m : Meeting Client) (a b : Moment) (b
 
   -- it ended, and wrote its last line
   pub ended_lines : (which : More) → Plays p m a b boxes (Ok which)
-      → Writes {T = Unit} {E = Failed} a.taken b.taken a.faults b.faults lines (Ok tt)
+      → Writes {T = Unit} {E = Failed} a.sink b.sink lines (Ok tt)
   ended_lines which plays =
       let wait = plays.1.0 in
       let wrote = plays.1.1 in record {
         whole = wrote.bytes_are
-            ∙ ap (λ (w : Wait). appended a.taken (m.course.lines ++ courses.last_line p w)) wait
-            ∙ sym (ap (λ (w : Wait). appended a.taken (m.course.lines ++ closing_line p side w)) wait);
+            ∙ ap (λ (w : Wait). appended a.sink.taken (m.course.lines ++ courses.last_line p w)) wait
+            ∙ sym (ap (λ (w : Wait). appended a.sink.taken (m.course.lines ++ closing_line p side w)) wait);
         part = tt;
         cause = record { later = omega (arith, wrote.unfailing); failed = tt; passed = wrote.unfailing };
       }
 
-  behind : (bytes line : List ℕ) (taken : Option (List ℕ)) (faults : ℕ) (result : Result Unit Failed) → bytes ++ line ≡ lines
+  behind : (bytes line : List ℕ) (new : SinkState) (result : Result Unit Failed) → bytes ++ line ≡ lines
       → Wrote bytes a b
-      → Writes b.taken taken b.faults faults line result → Writes a.taken taken a.faults faults lines result
-  behind bytes line taken faults result is wrote told =
-      subst (λ (x : List ℕ). Writes a.taken taken a.faults faults x result) is
-      (writes_behind a.taken b.taken taken a.faults b.faults faults bytes line result wrote.bytes_are wrote.unfailing told)
+      → Writes b.sink new line result → Writes a.sink new lines result
+  behind bytes line new result is wrote told =
+      subst (λ (x : List ℕ). Writes a.sink new x result) is
+      (writes_behind a.sink b.sink new bytes line result wrote.bytes_are wrote.unfailing told)
 
   -- it broke off, and that is told after its lines
-  pub broken_lines : (fault : SyncFault) (taken : Option (List ℕ)) (faults : ℕ) (result : Result Unit Failed)
+  pub broken_lines : (fault : SyncFault) (new : SinkState) (result : Result Unit Failed)
       → Plays p m a b boxes (Err fault)
-      → Tells side fault b.taken taken b.faults faults result → Writes a.taken taken a.faults faults lines result
-  broken_lines (Refused refusal) taken faults result plays told =
+      → Tells side fault b.sink new result → Writes a.sink new lines result
+  broken_lines (Refused refusal) new result plays told =
       let by = plays.1 in
-      behind (all_lines p m.course) (fault_line side (Refused refusal)) taken faults result
+      behind (all_lines p m.course) (fault_line side (Refused refusal)) new result
       (ap (λ (w : Wait). (m.course.lines ++ courses.last_line p w) ++ fault_line side (Refused refusal)) by.2.0
       ∙ refused_by p side m.course.lines by.0 refusal by.1 ∙ sym (ap (λ (w : Wait). m.course.lines ++ closing_line p side w) by.2.0))
       by.2.1 told
-  broken_lines Link taken faults result plays told =
-      behind m.course.lines (fault_line side Link) taken faults result
+  broken_lines Link new result plays told =
+      behind m.course.lines (fault_line side Link) new result
       (ap (λ (b : List ℕ). m.course.lines ++ b) (waits_by p side m.course.state m.course.wait plays.1.0 plays.1.1)) plays.2 told
-  broken_lines Write taken faults (Ok u) plays told = absurd (let e = told.0 in cc)
-  broken_lines Write taken faults (Err failed) plays told =
+  broken_lines Write new (Ok u) plays told = absurd (let e = told.0 in cc)
+  broken_lines Write new (Err failed) plays told =
       let all = begins_by p side m.course.lines m.course.wait in
       let began = plays.1 in record {
         whole = tt;
-        part = subst (TookBeginning a.taken taken) (sym all.1)
-            (took_of_first a.taken taken (all_lines p m.course) all.0 (subst (λ (t : Option (List ℕ)). TookBeginning a.taken t (all_lines p m.course)) (sym told.1) began.beginning));
+        part = subst (TookBeginning a.sink.taken new.taken) (sym all.1)
+            (took_of_first a.sink.taken new.taken (all_lines p m.course) all.0 (subst (λ (t : Option (List ℕ)). TookBeginning a.sink.taken t (all_lines p m.course)) (sym told.1) began.beginning));
         cause = record { later = omega (arith, plays.2, told.2); failed = omega (arith, began.rose, told.2); passed = tt };
       }
-  broken_lines (Peer at what) taken faults result plays told = absurd plays
-  broken_lines (Store call) taken faults result plays told = absurd plays
-  broken_lines (Closed call) taken faults result plays told = absurd plays
+  broken_lines (Peer at what) new result plays told = absurd plays
+  broken_lines (Store call) new result plays told = absurd plays
+  broken_lines (Closed call) new result plays told = absurd plays

@@ -1,8 +1,9 @@
 -- A client syncs over a link to a relay in memory: a scene, by how it ends.
-use Rattle.std.specs.Prelude.{◌≡◌, ◌≤◌, ℕ, List, None, Some, Option, Result, Ok, Err, IsErr}
+use Rattle.std.specs.Prelude.{◌≡◌, ◌≤◌, List, None, Some, Result, Ok, Err, IsErr}
 use Rattle.dr_base.specs.declared.failed.Failed.{Failed}
 use Rattle.dr_base.specs.declared.position.Side.{Side}
 use Rattle.dr_disk.specs.State.{all_pass}
+use Rattle.dr_ports.specs.States.{SinkState}
 use Rattle.dr_ports.specs.Writing.{Writes}
 use Rattle.relay_wire.specs.Requests.{Asked}
 use Rattle.relay_core.specs.Boxes.{Box}
@@ -40,12 +41,13 @@ abbrev pub Plays : Party Client → Meeting Client → Moment → Moment → Lis
 Plays p m a b boxes (Ok which) = Reaches m b boxes × EndsBy p m a b (ended which)
 Plays p m a b boxes (Err (Refused refusal)) = Reaches m b boxes × ((ending : Ending) × (fault_in ending ≡ Some (Refused refusal)) × EndsBy p m a b ending)
 Plays p m a b boxes (Err Link) = Reaches m b boxes × ((asked : Asked) × (asked_in p m.course.state m.course.wait ≡ Some asked)) × Wrote m.course.lines a b
-Plays p m a b boxes (Err Write) = Rests b × WroteBeginning (all_lines p m.course) a b × (a.faults ≤ b.faults)
+Plays p m a b boxes (Err Write) = Rests b × WroteBeginning (all_lines p m.course) a b
+    × (a.sink.faults ≤ b.sink.faults)
 Plays p m a b boxes (Err (Peer at what)) = ⊥
 Plays p m a b boxes (Err (Store call)) = ⊥
 Plays p m a b boxes (Err (Closed call)) = ⊥
 
 -- the last line, where the client has written none: it is written, or nothing where a write has failed before
-abbrev pub Tells : Side → SyncFault → Option (List ℕ) → Option (List ℕ) → ℕ → ℕ → Result Unit Failed → Type 0
-Tells side Write old new before now result = IsErr result × (new ≡ old) × (now ≡ before)
-Tells side fault old new before now result = Writes old new before now (fault_line side fault) result
+abbrev pub Tells : Side → SyncFault → SinkState → SinkState → Result Unit Failed → Type 0
+Tells side Write old new result = IsErr result × (new.taken ≡ old.taken) × (new.faults ≡ old.faults)
+Tells side fault old new result = Writes old new (fault_line side fault) result

@@ -1,6 +1,7 @@
 -- What comes of one deed of a script that is played.
-use Rattle.std.specs.Prelude.{◌≡◌, ◌≤◌, ℕ, List, Option, Result, IfOk, OnOk, IsErrOf}
+use Rattle.std.specs.Prelude.{◌≡◌, ◌≤◌, Result, IfOk, OnOk, IsErrOf}
 use Rattle.dr_ports.specs.Ports.{Rose, appended}
+use Rattle.dr_ports.specs.States.{SinkState}
 use Rattle.dr_ports.specs.Writing.{TookBeginning}
 use Rattle.kem_laws.specs.Mechanism.{Mechanism}
 use Rattle.scripts.specs.Deeds.{Deed}
@@ -14,13 +15,14 @@ use Rattle.duet.specs.declared.tally.Tally.{Tally}
 
 -- a deed that was done is counted, and its lines are written; else no memory was left, and nothing is written, or a write failed
 -- and a beginning of them is
-pub record PlaysDeed (k : Mechanism) (deed : Deed) (duet : DuetNow) (tally more : Tally) (taken new : Option (List ℕ))
-    (before now : ℕ) (result : Result DuetNow Cut) : Type 0 where
+pub record PlaysDeed (k : Mechanism) (deed : Deed) (duet : DuetNow) (tally more : Tally)
+    (old new : SinkState) (result : Result DuetNow Cut) : Type 0 where
   pub next : IfOk result (λ next. next ≡ after_deed duet (deed_on k (beside duet) deed))
   pub counts : OnOk result (more ≡ counted_all (deed_side deed) (deed_on k (beside duet) deed).answers tally)
-  pub whole : OnOk result (new ≡ appended taken (deed_on k (beside duet) deed).lines)
-  pub memory : IsErrOf result Memory → new ≡ taken
-  pub part : IsErrOf result Write → TookBeginning taken new (deed_on k (beside duet) deed).lines
-  pub rose : IsErrOf result Write → Rose before now
-  pub later : before ≤ now
-  pub quiet : (IsErrOf result Write → ⊥) → now ≡ before
+  pub whole : OnOk result (new.taken ≡ appended old.taken (deed_on k (beside duet) deed).lines)
+  pub memory : IsErrOf result Memory → new.taken ≡ old.taken
+  pub part : IsErrOf result Write
+      → TookBeginning old.taken new.taken (deed_on k (beside duet) deed).lines
+  pub rose : IsErrOf result Write → Rose old.faults new.faults
+  pub later : old.faults ≤ new.faults
+  pub quiet : (IsErrOf result Write → ⊥) → new.faults ≡ old.faults

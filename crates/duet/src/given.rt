@@ -1,6 +1,6 @@
 //! A source of draws that gives one seed.
 
-ghost use Rattle.std.specs.Prelude.{◌≡◌, Option, Some};
+ghost use Rattle.std.specs.Prelude.{◌≡◌, Some};
 
 use dr_base::{Failed, Key32};
 use dr_ports::Draws;
@@ -26,9 +26,7 @@ impl Given {
 }
 
 impl Draws for Given {
-    ghost coming = { λ g. Some (λ _. g.seed.bytes) };
-
-    ghost faults = { λ _. 0 };
+    ghost at = { λ g. record { coming = Some (λ _. g.seed.bytes); faults = 0 } };
 
     fn draw(&mut self) -> Result<Key32, Failed> {
         Ok(Key32 {

@@ -29,8 +29,8 @@ pub fn meet<K: Kem, O: Sink>(
     requires { IsHeld client.old disk.old }
     ensures { let party = client_party K.mechanism prefix.now client.old.kept in
         Plays party (scene party (kept_before lost) client.old.kept (boxes_of link.old))
-        (moment client.old (state_of disk.old) (O.taken out.old) (O.faults out.old))
-        (moment client.new (state_of disk.new) (O.taken out.new) (O.faults out.new)) (boxes_of link.new) result }
+        (moment client.old (state_of disk.old) (O.at out.old))
+        (moment client.new (state_of disk.new) (O.at out.new)) (boxes_of link.new) result }
 {
     link.relay().lawful();
     client.may_post();

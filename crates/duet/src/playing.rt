@@ -1,6 +1,6 @@
 //! A script, played: each deed is done, and its lines are written before the next.
 
-ghost use Rattle.std.specs.Prelude.{◌≡◌, ℕ, ◌+◌, ◌-◌, ◌^◌, ◌<◌, ◌≤◌, ◌⊎◌, length, flat_map, slice_index_or, Ok, Err, IsNone, IsSome, IfOk, OnOk, IsErrOf, MatchResult};
+ghost use Rattle.std.specs.Prelude.{◌≡◌, ◌+◌, ◌-◌, ◌^◌, ◌<◌, ◌≤◌, ◌⊎◌, length, flat_map, slice_index_or, Ok, Err, IsNone, IsSome, IfOk, OnOk, IsErrOf, MatchResult};
 ghost use Rattle.dr_ports.specs.Ports.{Rose, appended};
 ghost use Rattle.dr_ports.specs.Writing.{TookBeginning, Writes};
 ghost use Rattle.boxes.specs.Items.{Item};
@@ -48,7 +48,7 @@ fn write_entry<K: Kem, O: Sink>(
     at: u32,
 ) -> Result<(), Failed>
     requires { at < length party.now.inbox }
-    ensures { (d : Item) → Writes (O.taken out.old) (O.taken out.new) (O.faults out.old) (O.faults out.new) (entry_line side (slice_index_or party.now.inbox at d)) result }
+    ensures { (d : Item) → Writes (O.at out.old) (O.at out.new) (entry_line side (slice_index_or party.now.inbox at d)) result }
 {
     match party.inbox_at(at as usize) {
         Some(entry) => write_all(
@@ -61,7 +61,7 @@ fn write_entry<K: Kem, O: Sink>(
 
 /// Writes the lines of a side's inbox, the oldest text first.
 fn write_inbox<K: Kem, O: Sink>(out: &mut O, side: Side, party: &Party<K>) -> Result<(), Failed>
-    ensures { Writes (O.taken out.old) (O.taken out.new) (O.faults out.old) (O.faults out.new) (flat_map (entry_line side) party.now.inbox) result }
+    ensures { Writes (O.at out.old) (O.at out.new) (flat_map (entry_line side) party.now.inbox) result }
 {
     'texts: for at in 0..party.inbox_len() {
         match write_entry(out, side, party, at) {
@@ -78,7 +78,7 @@ fn write_entries<K: Kem, O: Sink>(
     duet: &Duet<K>,
     line: &Line<'_>,
 ) -> Result<(), Failed>
-    ensures { Writes (O.taken out.old) (O.taken out.new) (O.faults out.old) (O.faults out.new)
+    ensures { Writes (O.at out.old) (O.at out.new)
         (flat_map (entry_line (acting_side (event_of line.now))) (shown (event_of line.now) duet.now.sides)) result }
 {
     match line {
@@ -91,7 +91,7 @@ fn write_entries<K: Kem, O: Sink>(
 fn tell<O: Sink>(side: Side, answer: Answer, tally: &mut Tally, out: &mut O) -> Result<(), Failed>
     requires few { IsBelow (2 ^ 32 - 1) tally.old }
     ensures counts { tally.new ≡ counted_of side answer tally.old }
-    ensures writes { Writes (O.taken out.old) (O.taken out.new) (O.faults out.old) (O.faults out.new) (reply_line side answer) result }
+    ensures writes { Writes (O.at out.old) (O.at out.new) (reply_line side answer) result }
 {
     tally.count(side, answer);
     match write_all(out, reply(side, answer).as_bytes()) {
@@ -115,7 +115,7 @@ fn play_line<K: Kem, O: Sink>(
     ensures counts { let k = K.mechanism in
         tally.new ≡ counted_of (acting_side (event_of line.now)) (step_on k duet.old.sides (event_of line.now)).answer tally.old }
     ensures writes { let k = K.mechanism in
-        Writes (O.taken out.old) (O.taken out.new) (O.faults out.old) (O.faults out.new)
+        Writes (O.at out.old) (O.at out.new)
         (reply_of (event_of line.now) (step_on k duet.old.sides (event_of line.now))) result }
 {
     let answer = duet.step(line);
@@ -154,8 +154,7 @@ fn play_stop<K: Kem, O: Sink>(
     requires room { length duet.sides.posts < duet.room }
     requires draws { duet.sides.draws.made < 2 ^ 32 - 1 }
     requires few { IsBelow (2 ^ 32 - 1) tally.old }
-    ensures { PlaysDeed K.mechanism (acts (stop_event stop.now)) duet tally.old tally.new (O.taken out.old) (O.taken out.new)
-        (O.faults out.old) (O.faults out.new) result }
+    ensures { PlaysDeed K.mechanism (acts (stop_event stop.now)) duet tally.old tally.new (O.at out.old) (O.at out.new) result }
 {
     match duet.stop(alloc, stop) {
         Err(AllocError) => Err(Cut::Memory),
@@ -177,8 +176,7 @@ fn play_deed<K: Kem, O: Sink>(
     requires room { length duet.sides.posts < duet.room }
     requires draws { duet.sides.draws.made < 2 ^ 32 - 1 }
     requires few { IsBelow (2 ^ 32 - 1) tally.old }
-    ensures { PlaysDeed K.mechanism (lined_deed line.now) duet tally.old tally.new (O.taken out.old) (O.taken out.new)
-        (O.faults out.old) (O.faults out.new) result }
+    ensures { PlaysDeed K.mechanism (lined_deed line.now) duet tally.old tally.new (O.at out.old) (O.at out.new) result }
 {
     let mut duet = duet;
     match line {
@@ -201,19 +199,23 @@ pub fn play<K: Kem, O: Sink>(
     script: &Script,
     out: &mut O,
 ) -> Result<Tally, PlayError>
-    ensures ok { OnOk result (O.taken out.new ≡ appended (O.taken out.old) (played K.mechanism script.now)) }
+    ensures ok { OnOk result ((O.at out.new).taken ≡ appended (O.at out.old).taken (played K.mechanism script.now)) }
     ensures tally { IfOk result (λ tally. tally ≡ tally_of K.mechanism script.now) }
     ensures pair { OnOk result (IsSome (K.mechanism.meaning.pair_of (agreement_seed script.now.key))) }
-    ensures none { IsErrOf result PlayError.NoPair → IsNone (K.mechanism.meaning.pair_of (agreement_seed script.now.key)) × (O.taken out.new ≡ O.taken out.old) }
+    ensures none { IsErrOf result PlayError.NoPair
+        → IsNone (K.mechanism.meaning.pair_of (agreement_seed script.now.key)) × ((O.at out.new).taken ≡ (O.at out.old).taken) }
     // None for the two sides, or none, after these lines, to open a side again.
-    ensures memory { IsErrOf result PlayError.Memory → (O.taken out.new ≡ O.taken out.old)
-        ⊎ (TookBeginning (O.taken out.old) (O.taken out.new) (played K.mechanism script.now) × IsSome (K.mechanism.meaning.pair_of (agreement_seed script.now.key))) }
+    ensures memory { IsErrOf result PlayError.Memory → ((O.at out.new).taken ≡ (O.at out.old).taken)
+        ⊎ (TookBeginning (O.at out.old).taken (O.at out.new).taken (played K.mechanism script.now)
+        × IsSome (K.mechanism.meaning.pair_of (agreement_seed script.now.key))) }
     ensures write { IsErrOf result PlayError.Write
-        → TookBeginning (O.taken out.old) (O.taken out.new) (played K.mechanism script.now)
-        × Rose (O.faults out.old) (O.faults out.new) × IsSome (K.mechanism.meaning.pair_of (agreement_seed script.now.key)) }
+        → TookBeginning (O.at out.old).taken (O.at out.new).taken (played K.mechanism script.now)
+        × Rose (O.at out.old).faults (O.at out.new).faults
+        × IsSome (K.mechanism.meaning.pair_of (agreement_seed script.now.key)) }
     // No other ending has a fault.
-    ensures quiet { (IsErrOf result PlayError.Write → ⊥) → O.faults out.new ≡ O.faults out.old }
-    ensures later { O.faults out.old ≤ O.faults out.new }
+    ensures quiet { (IsErrOf result PlayError.Write → ⊥)
+        → (O.at out.new).faults ≡ (O.at out.old).faults }
+    ensures later { (O.at out.old).faults ≤ (O.at out.new).faults }
 {
     let mut duet = match Duet::<K>::new(alloc, script.key(), script.len()) {
         Ok(duet) => duet,

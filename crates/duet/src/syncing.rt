@@ -37,7 +37,7 @@ fn fault_text(fault: SyncFault) -> &'static [u8]
 
 /// Writes why a sync of a side broke off, where it is no write that failed.
 fn tell<O: Sink>(out: &mut O, side: Side, fault: SyncFault) -> Result<(), Failed>
-    ensures { Tells side fault (O.taken out.old) (O.taken out.new) (O.faults out.old) (O.faults out.new) result }
+    ensures { Tells side fault (O.at out.old) (O.at out.new) result }
 {
     if matches!(fault, SyncFault::Write) {
         return Err(Failed);
@@ -61,7 +61,7 @@ impl<K: Kem> Party<K> {
         lost: Option<u32>,
     ) -> Result<(), Failed>
         ensures writes { let p = client_party K.mechanism (side_text side) self.old in
-            Writes (O.taken out.old) (O.taken out.new) (O.faults out.old) (O.faults out.new)
+            Writes (O.at out.old) (O.at out.new)
             (sync_lines p side (scene p (kept_before lost) self.old (boxes_of relay.old))) result }
         ensures keeps { let p = client_party K.mechanism (side_text side) self.old in
             OnOk result (self.new ≡ (scene p (kept_before lost) self.old (boxes_of relay.old)).course.state) }
@@ -90,7 +90,7 @@ impl<K: Kem> Duet<K> {
         side: Side,
         lost: Option<u32>,
     ) -> Result<(), Failed>
-        ensures writes { let k = K.mechanism in Writes (O.taken out.old) (O.taken out.new) (O.faults out.old) (O.faults out.new)
+        ensures writes { let k = K.mechanism in Writes (O.at out.old) (O.at out.new)
             (deed_on k (beside self.old) (syncs side lost)).lines result }
         ensures next { let k = K.mechanism in OnOk result (self.new ≡ after_deed self.old (deed_on k (beside self.old) (syncs side lost))) }
     {

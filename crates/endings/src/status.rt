@@ -1,6 +1,6 @@
 //! The end of a run: its last line, and its status.
 
-ghost use Rattle.std.specs.Prelude.{◌≡◌, ℕ, ◌+◌, ◌≤◌, List, ◌++◌, [], length, codes, decimal};
+ghost use Rattle.std.specs.Prelude.{◌≡◌, ◌+◌, ◌≤◌, ◌++◌, [], length, codes, decimal};
 ghost use Rattle.answer_lines.specs.Answers.{refusal_text};
 ghost use Rattle.endings.specs.Ending.{ending_text, last_line, peer_kind_text};
 ghost use Rattle.endings.specs.Ends.{Ends};
@@ -123,8 +123,8 @@ fn closing(ending: Ending) -> OutputLine
 
 /// Writes an ending's last line, and answers its status, or 5 where that write failed.
 pub fn finish<O: Sink>(out: &mut O, ending: Ending) -> Status
-    ensures ends { Ends ending [] (O.taken out.old) (O.taken out.new) (O.faults out.old) (O.faults out.new) result.code }
-    ensures later { O.faults out.old ≤ O.faults out.new }
+    ensures ends { Ends ending [] (O.at out.old) (O.at out.new) result.code }
+    ensures later { (O.at out.old).faults ≤ (O.at out.new).faults }
 {
     match write_all(out, closing(ending).as_bytes()) {
         Ok(()) => Status {

@@ -20,11 +20,11 @@ use Rattle.messenger_cli.specs.Runs.{RunsDuet}
 
 -- a command that comes to an ending with its lines, and what was written of them
 abbrev pub Writes : {X R S L A W : Type 0} → (Ending → List ℕ → Type 0) → Held X R S L A W → Held X R S L A W → ℕ → Type 0
-Writes comes old new code = Runs comes old.taken new.taken old.writes new.writes code
+Writes comes old new code = Runs comes old.sink new.sink code
 
 -- nothing was done: just this last line was written
 pub record EndsIdle {X R S L A W : Type 0} (ending : Ending) (old new : Held X R S L A W) (code : ℕ) : Type 0 where
-  pub ends : Ends ending [] old.taken new.taken old.writes new.writes code
+  pub ends : Ends ending [] old.sink new.sink code
   pub idle : IsIdle old new
 
 -- a command on the disk and the source
@@ -48,8 +48,7 @@ pub record WritesAlone {X R S L A W : Type 0} (comes : Ending → List ℕ → T
 
 -- a script is played: the disks, the link, the door and the draws are left alone
 pub record PlaysAlone {X R S L A W : Type 0} (seen : Seen X R S L A W) (old new : Held X R S L A W) (code : ℕ) : Type 0 where
-  pub plays : RunsDuet (seen.left old.source) (seen.left new.source) (seen.reads old.source) (seen.reads new.source) old.taken new.taken
-      old.writes new.writes code
+  pub plays : RunsDuet (seen.source old.source) (seen.source new.source) old.sink new.sink code
   pub disk : new.disk ≡ old.disk
   pub draws : new.draws ≡ old.draws
   pub offline : IsOffline old new
@@ -62,7 +61,7 @@ pub record MakesAlone {X R S L A W : Type 0} (rounds number : ℕ) (old new : He
 -- a sync at an address: the relay's disk, the source, the door and the draws are left alone
 pub record SyncsAlone {X R S L A W : Type 0} (seen : Seen X R S L A W) (address : List ℕ) (old new : Held X R S L A W) (code : ℕ)
     : Type 0 where
-  pub writes : Writes (RunsSync seen.disk seen.link sntrup761_kem address old.disk new.disk old.link new.link old.writes new.writes) old new code
+  pub writes : Writes (RunsSync seen.disk seen.link sntrup761_kem address old.disk new.disk old.link new.link old.sink.faults new.sink.faults) old new code
   pub relay_disk : new.relay_disk ≡ old.relay_disk
   pub source : new.source ≡ old.source
   pub door : new.door ≡ old.door
@@ -71,8 +70,7 @@ pub record SyncsAlone {X R S L A W : Type 0} (seen : Seen X R S L A W) (address 
 -- a relay serves: the session's disk, the source, the link and the draws are left alone
 pub record ServesAlone {X R S L A W : Type 0} (seen : Seen X R S L A W) (port count : ℕ) (boxes : List (List ℕ)) (old new : Held X R S L A W)
     (code : ℕ) : Type 0 where
-  pub serves : RunsRelay seen.relay_disk seen.door boxes port count old.relay_disk new.relay_disk old.door new.door old.taken new.taken
-      old.writes new.writes code
+  pub serves : RunsRelay seen.relay_disk seen.door boxes port count old.relay_disk new.relay_disk old.door new.door old.sink new.sink code
   pub disk : new.disk ≡ old.disk
   pub source : new.source ≡ old.source
   pub link : new.link ≡ old.link
@@ -81,13 +79,11 @@ pub record ServesAlone {X R S L A W : Type 0} (seen : Seen X R S L A W) (port co
 -- What a command comes to. Sessions are over sntrup761.
 abbrev pub Performs : {X R S L A W : Type 0} → Seen X R S L A W → Work → Held X R S L A W → Held X R S L A W → ℕ → Type 0
 Performs seen (begins side) old new code =
-    ReadsAndWrites (RunsBegin seen.disk sntrup761_kem side (seen.left old.source) (seen.left new.source) (seen.reads old.source)
-    (seen.reads new.source) old.disk new.disk) old new code
+    ReadsAndWrites (RunsBegin seen.disk sntrup761_kem side (seen.source old.source) (seen.source new.source) old.disk new.disk) old new code
 Performs seen (says text) old new code =
-    DrawsAndWrites (RunsAct seen.disk sntrup761_kem (asked_say seen.coming seen.draw_faults text old.draws new.draws) old.disk new.disk) old new code
+    DrawsAndWrites (RunsAct seen.disk sntrup761_kem (asked_say seen.draws text old.draws new.draws) old.disk new.disk) old new code
 Performs seen takes old new code =
-    ReadsAndWrites (RunsTake seen.disk sntrup761_kem (seen.left old.source) (seen.left new.source) (seen.reads old.source)
-    (seen.reads new.source) old.disk new.disk) old new code
+    ReadsAndWrites (RunsTake seen.disk sntrup761_kem (seen.source old.source) (seen.source new.source) old.disk new.disk) old new code
 Performs seen (drops_done n) old new code =
     WritesAlone (RunsAct seen.disk sntrup761_kem (asked_drop (finishing n)) old.disk new.disk) old new code
 Performs seen (drops_sent n) old new code =

@@ -1,6 +1,7 @@
 -- What the command `duet` comes to.
 use Rattle.std.specs.Prelude.{◌≡◌, ◌⊎◌, ℕ, ◌<◌, ◌≤◌, List, [], ◌++◌, length, Option, Ok, Err, IfSome, IsSome, IsNone}
 use Rattle.dr_ports.specs.Ports.{Rose, appended}
+use Rattle.dr_ports.specs.States.{SinkState, SourceState}
 use Rattle.dr_ports.specs.Writing.{TookBeginning}
 use Rattle.session_model.specs.Schedule.{agreement_seed}
 use Rattle.session_model.specs.declared.answer.Refusal.TheVariants.{NoPair}
@@ -52,28 +53,28 @@ HasReason left NoMemory lines = (lines ≡ []) ⊎ IfSome left (λ text. BeginsT
 HasReason left _ lines = ⊥
 
 -- The run of `duet`: an ending with its reason, the lines before it, what was read of the source, and what was written
--- of the lines. The source had `from` and has `left`.
-pub record RunsDuet (from left : Option (List ℕ)) (reads_before reads_now : ℕ) (old new : Option (List ℕ)) (before now code : ℕ) : Type 0 where
+-- of the lines. The source stood as `from` says and stands as `to` does.
+pub record RunsDuet (from to : SourceState) (old new : SinkState) (code : ℕ) : Type 0 where
   pub ending : Ending
   pub lines : List ℕ
-  pub reason : HasReason from ending lines
-  pub leaves : Leaves ending from left
-  pub reads : CountsReads ending reads_before reads_now
-  pub ends : Ends ending lines old new before now code
+  pub reason : HasReason from.left ending lines
+  pub leaves : Leaves ending from.left to.left
+  pub reads : CountsReads ending from.faults to.faults
+  pub ends : Ends ending lines old new code
 
 -- What the work of `duet` did before the last line: it wrote the lines and gives the ending, or a write failed.
-pub record Works (from left : Option (List ℕ)) (reads_before reads_now : ℕ) (old new : Option (List ℕ)) (before now : ℕ) (ending : Ending) : Type 0 where
+pub record Works (from to : SourceState) (old new : SinkState) (ending : Ending) : Type 0 where
   pub lines : List ℕ
-  pub reason : HasReason from ending lines
-  pub leaves : Leaves ending from left
-  pub reads : CountsReads ending reads_before reads_now
-  pub wrote : new ≡ appended old lines
-  pub quiet : now ≡ before
+  pub reason : HasReason from.left ending lines
+  pub leaves : Leaves ending from.left to.left
+  pub reads : CountsReads ending from.faults to.faults
+  pub wrote : new.taken ≡ appended old.taken lines
+  pub quiet : new.faults ≡ old.faults
 
-pub record IsCutOff (from left : Option (List ℕ)) (reads_before reads_now : ℕ) (old new : Option (List ℕ)) (before now : ℕ) : Type 0 where
+pub record IsCutOff (from to : SourceState) (old new : SinkState) : Type 0 where
   pub lines : List ℕ
-  pub reason : HasReason from Done lines
-  pub leaves : Leaves Done from left
-  pub reads : CountsReads Done reads_before reads_now
-  pub wrote : TookBeginning old new lines
-  pub rose : Rose before now
+  pub reason : HasReason from.left Done lines
+  pub leaves : Leaves Done from.left to.left
+  pub reads : CountsReads Done from.faults to.faults
+  pub wrote : TookBeginning old.taken new.taken lines
+  pub rose : Rose old.faults new.faults

@@ -31,10 +31,10 @@ fn tally_made(alloc: Global, rounds: u32, number: u64) -> Result<Tally, Ending>
 
 /// Plays the script of this many rounds that is made from a number, and writes what it comes to in six lines.
 pub(crate) fn play_made<O: Sink>(alloc: Global, rounds: u32, number: u64, out: &mut O) -> Status
-    ensures runs { Runs (PlaysMade rounds number) (O.taken out.old) (O.taken out.new) (O.faults out.old) (O.faults out.new) result.code }
-    ensures writes { O.faults out.old ≤ O.faults out.new }
+    ensures runs { Runs (PlaysMade rounds number) (O.at out.old) (O.at out.new) result.code }
+    ensures writes { (O.at out.old).faults ≤ (O.at out.new).faults }
     // Status 0 says that no write failed.
-    ensures quiet { result.code ≡ 0 → O.faults out.new ≡ O.faults out.old }
+    ensures quiet { result.code ≡ 0 → (O.at out.new).faults ≡ (O.at out.old).faults }
 {
     let tally = match tally_made(alloc, rounds, number) {
         Err(ending) => return finish(out, ending),

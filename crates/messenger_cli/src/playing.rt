@@ -1,6 +1,6 @@
 //! The command that plays a script.
 
-ghost use Rattle.std.specs.Prelude.{◌≡◌, ℕ, ◌≤◌, IfOk, OnErr};
+ghost use Rattle.std.specs.Prelude.{◌≡◌, ◌≤◌, IfOk, OnErr};
 ghost use Rattle.messenger_cli.specs.Runs.{IsCutOff, RunsDuet, Works};
 
 use crate::mechanisms::play_named;
@@ -16,12 +16,12 @@ pub const SCRIPT_LIMIT: usize = 65536;
 
 /// Reads a script from the source and plays it.
 fn work<S: Source, O: Sink>(alloc: Global, source: &mut S, out: &mut O) -> Result<Ending, Failed>
-    ensures ended { IfOk result (Works (S.left source.old) (S.left source.new) (S.faults source.old) (S.faults source.new)
-        (O.taken out.old) (O.taken out.new) (O.faults out.old) (O.faults out.new)) }
-    ensures cut { OnErr result (IsCutOff (S.left source.old) (S.left source.new) (S.faults source.old) (S.faults source.new)
-        (O.taken out.old) (O.taken out.new) (O.faults out.old) (O.faults out.new)) }
-    ensures reads { S.faults source.old ≤ S.faults source.new }
-    ensures writes { O.faults out.old ≤ O.faults out.new }
+    ensures ended { IfOk result (Works (S.at source.old) (S.at source.new)
+        (O.at out.old) (O.at out.new)) }
+    ensures cut { OnErr result (IsCutOff (S.at source.old) (S.at source.new)
+        (O.at out.old) (O.at out.new)) }
+    ensures reads { (S.at source.old).faults ≤ (S.at source.new).faults }
+    ensures writes { (O.at out.old).faults ≤ (O.at out.new).faults }
 {
     let text = match read_whole(alloc, source, SCRIPT_LIMIT) {
         Ok(text) => text,
@@ -44,12 +44,13 @@ fn work<S: Source, O: Sink>(alloc: Global, source: &mut S, out: &mut O) -> Resul
 
 /// Plays the script that the source holds, and writes its lines.
 pub(crate) fn play_script<S: Source, O: Sink>(alloc: Global, source: &mut S, out: &mut O) -> Status
-    ensures runs { RunsDuet (S.left source.old) (S.left source.new) (S.faults source.old) (S.faults source.new)
-        (O.taken out.old) (O.taken out.new) (O.faults out.old) (O.faults out.new) result.code }
-    ensures reads { S.faults source.old ≤ S.faults source.new }
-    ensures writes { O.faults out.old ≤ O.faults out.new }
+    ensures runs { RunsDuet (S.at source.old) (S.at source.new)
+        (O.at out.old) (O.at out.new) result.code }
+    ensures reads { (S.at source.old).faults ≤ (S.at source.new).faults }
+    ensures writes { (O.at out.old).faults ≤ (O.at out.new).faults }
     // Status 0 says that no read and no write failed.
-    ensures quiet { result.code ≡ 0 → (S.faults source.new ≡ S.faults source.old) × (O.faults out.new ≡ O.faults out.old) }
+    ensures quiet { result.code ≡ 0 → ((S.at source.new).faults ≡ (S.at source.old).faults)
+        × ((O.at out.new).faults ≡ (O.at out.old).faults) }
 {
     match work(alloc, source, out) {
         Ok(ending) => finish(out, ending),

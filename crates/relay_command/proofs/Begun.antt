@@ -1,7 +1,8 @@
 -- Before the first connection.
-use Rattle.std.proofs.Common.{◌≡◌, ℕ, List, [], Option, refl, sym, ◌∙◌, ap, subst, arith, append-nil}
+use Rattle.std.proofs.Common.{◌≡◌, ℕ, List, [], refl, sym, ◌∙◌, ap, subst, arith, append-nil}
 use Rattle.dr_disk.specs.State.{DiskState}
 use Rattle.dr_ports.specs.Ports.{Rose, appended}
+use Rattle.dr_ports.specs.States.{SinkState}
 use Rattle.dr_ports.specs.Writing.{TookBeginning}
 use Rattle.dr_ports.specs.Wires.{Port}
 use Rattle.dr_ports.specs.declared.pipe.Part.TheVariants.{Flow, Gate}
@@ -14,7 +15,7 @@ use Rattle.relay_command.specs.Connections.{Connection, HasRisen, Standing, list
 use Rattle.relay_command.specs.Serving.{Runs, WereServed, relay_lines, standing, was_unheard, went_on}
 use Rattle.relay_command.proofs.Rounds.{SoFar, never, nothing_came, rests_as}
 
-module _ (turns : List Connection → Type 0) (none : turns []) (port count : ℕ) (server : ServerNow) (start : DiskState) (from door : Port) (old : Option (List ℕ)) (before : ℕ)
+module _ (turns : List Connection → Type 0) (none : turns []) (port count : ℕ) (server : ServerNow) (start : DiskState) (from door : Port) (old : SinkState)
     (ready : IsReady box_text server start) (flow : door.faults Flow ≡ from.faults Flow) where
   abbrev first : Standing
   first = standing server.boxes from
@@ -27,25 +28,25 @@ module _ (turns : List Connection → Type 0) (none : turns []) (port count : �
   begun s boxes told faults = rests_as turns s [] start start door server (nothing_came turns s start door none told faults) tt boxes ready (λ call. refl)
 
   -- it couldn't listen
-  pub unheard : door.told ≡ from.told → HasRisen (from.faults Gate) (door.faults Gate) → (new : Option (List ℕ)) (after code : ℕ)
-      → Ends LinkFault [] old new before after code → Runs turns first port count start start from door old new before after code
-  unheard told rose new after code ends =
+  pub unheard : door.told ≡ from.told → HasRisen (from.faults Gate) (door.faults Gate) → (new : SinkState) (code : ℕ)
+      → Ends LinkFault [] old new code → Runs turns first port count start start from door old new code
+  unheard told rose new code ends =
       record { ending = LinkFault; lines = []; came = was_unheard (begun first refl told flow) rose; ends = ends }
 
   -- it listens
-  pub unwritten : door.told ≡ heard.told → door.faults Gate ≡ from.faults Gate → (new : Option (List ℕ)) (after : ℕ)
-      → TookBeginning old new (port_line port) → Rose before after → Runs turns first port count start start from door old new before after 5
-  unwritten told gate new after took rose = record {
+  pub unwritten : door.told ≡ heard.told → door.faults Gate ≡ from.faults Gate → (new : SinkState)
+      → TookBeginning old.taken new.taken (port_line port) → Rose old.faults new.faults → Runs turns first port count start start from door old new 5
+  unwritten told gate new took rose = record {
     ending = Done;
     lines = relay_lines port heard [];
     came = went_on [] (begun heard refl told flow) (omega arith) (λ zero. absurd (omega arith)) gate;
-    ends = ends_cut (relay_lines port heard []) old new before after (subst (λ (l : List ℕ). TookBeginning old new l) (sym (append-nil (port_line port))) took) rose;
+    ends = ends_cut (relay_lines port heard []) old new (subst (λ (l : List ℕ). TookBeginning old.taken new.taken l) (sym (append-nil (port_line port))) took) rose;
   }
 
-  pub none_yet : door.told ≡ heard.told → door.faults Gate ≡ from.faults Gate → (out : Option (List ℕ)) (middle : ℕ)
-      → out ≡ appended old (port_line port) → middle ≡ before
-      → SoFar turns heard port 0 server start start from door old out before middle
-  none_yet told gate out middle wrote writes = record {
+  pub none_yet : door.told ≡ heard.told → door.faults Gate ≡ from.faults Gate → (out : SinkState)
+      → out.taken ≡ appended old.taken (port_line port) → out.faults ≡ old.faults
+      → SoFar turns heard port 0 server start start from door old out
+  none_yet told gate out wrote writes = record {
     xs = [];
     count = refl;
     come = nothing_came turns heard start door none told flow;
@@ -55,6 +56,6 @@ module _ (turns : List Connection → Type 0) (none : turns []) (port count : �
     ready = ready;
     quiet = λ call. refl;
     gate = gate;
-    wrote = wrote ∙ ap (appended old) (sym (append-nil (port_line port)));
+    wrote = wrote ∙ ap (appended old.taken) (sym (append-nil (port_line port)));
     writes = writes;
   }

@@ -1,6 +1,7 @@
 -- The command, after its opening.
-use Rattle.std.proofs.Common.{ℕ, List, [], Option, Ok, Err, refl, subst, sym}
+use Rattle.std.proofs.Common.{ℕ, List, [], Ok, Err, refl, subst, sym}
 use Rattle.dr_disk.specs.State.{DiskState}
+use Rattle.dr_ports.specs.States.{SinkState}
 use Rattle.dr_ports.specs.Wires.{Port}
 use Rattle.endings.specs.Ends.{Ends}
 use Rattle.endings.specs.declared.ending.Ending.{Ending}
@@ -14,10 +15,10 @@ use Rattle.relay_command.specs.Relaying.{Opens, Relays, RunsRelay, was_opened, w
 use Rattle.relay_command.specs.Serving.{Runs, standing}
 use Rattle.relay_command.proofs.Lifting.{lift}
 
-module _ {X Y : Type 0} (state : X → DiskState) (port_of : Y → Port) (words : List (List ℕ)) (port count : ℕ) (names : AreNames words) (start mid : X) (from : Y) (old new : Option (List ℕ)) (before after code : ℕ) where
+module _ {X Y : Type 0} (state : X → DiskState) (port_of : Y → Port) (words : List (List ℕ)) (port count : ℕ) (names : AreNames words) (start mid : X) (from : Y) (old new : SinkState) (code : ℕ) where
   -- no server was opened
-  pub unopened_runs : (ending : Ending) → Opens words (state start) (state mid) (Err ending) → Ends ending [] old new before after code
-      → RunsRelay state port_of words port count start mid from from old new before after code
+  pub unopened_runs : (ending : Ending) → Opens words (state start) (state mid) (Err ending) → Ends ending [] old new code
+      → RunsRelay state port_of words port count start mid from from old new code
   unopened_runs ending opens ends = record {
     ending = ending;
     lines = [];
@@ -27,8 +28,8 @@ module _ {X Y : Type 0} (state : X → DiskState) (port_of : Y → Port) (words 
 
   -- one was, and its connections were served
   pub opened_runs : (server : ServerNow) (now : X) (door : Y) → Opens words (state start) (state mid) (Ok server)
-      → Runs (λ xs. CameInTurn state port_of (listening port (standing server.boxes (port_of from))) mid xs now) (standing server.boxes (port_of from)) port count (state mid) (state now) (port_of from) (port_of door) old new before after code
-      → RunsRelay state port_of words port count start now from door old new before after code
+      → Runs (λ xs. CameInTurn state port_of (listening port (standing server.boxes (port_of from))) mid xs now) (standing server.boxes (port_of from)) port count (state mid) (state now) (port_of from) (port_of door) old new code
+      → RunsRelay state port_of words port count start now from door old new code
   opened_runs server now door opens runs = record {
     ending = runs.ending;
     lines = runs.lines;

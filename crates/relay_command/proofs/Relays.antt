@@ -1,8 +1,9 @@
 -- What status 0 says, and that no count falls.
-use Rattle.std.proofs.Common.{◌≡◌, inl, inr, ℕ, ◌≤◌, List, [], ◌∷◌, Option, refl, sym, ◌∙◌, ap, arith}
+use Rattle.std.proofs.Common.{◌≡◌, inl, inr, ℕ, ◌≤◌, List, [], ◌∷◌, refl, sym, ◌∙◌, ap, arith}
 use Rattle.dr_disk.specs.declared.call.Call.{Call}
 use Rattle.dr_disk.specs.Spans.{IsQuiet}
 use Rattle.dr_disk.specs.State.{DiskState}
+use Rattle.dr_ports.specs.States.{SinkState}
 use Rattle.dr_ports.specs.Wires.{Port}
 use Rattle.dr_ports.specs.declared.pipe.Part.{Part}
 use Rattle.dr_ports.specs.declared.pipe.Part.TheVariants.{Flow, Gate}
@@ -39,15 +40,15 @@ relays_quiet state port_of words port count start now from door code ending line
 relays_quiet state port_of words port count start now from door code ending lines (was_opened names boxes read opened span rests ending' lines' serves) e =
     serves_quiet _ _ _ _ _ _ _ _ _ _ _ _ serves e
 
-ended_by : (ending : Ending) (lines : List ℕ) (old new : Option (List ℕ)) (before now code : ℕ) → code ≡ 0 → Ends ending lines old new before now code → (code_of ending ≡ 0) × (now ≡ before)
-ended_by ending lines old new before now code zero (inl all) = (sym all.code_is ∙ zero, all.quiet)
-ended_by ending lines old new before now code zero (inr cut) = absurd (omega (arith, zero, cut.code_is))
+ended_by : (ending : Ending) (lines : List ℕ) (old new : SinkState) (code : ℕ) → code ≡ 0 → Ends ending lines old new code → (code_of ending ≡ 0) × (new.faults ≡ old.faults)
+ended_by ending lines old new code zero (inl all) = (sym all.code_is ∙ zero, all.quiet)
+ended_by ending lines old new code zero (inr cut) = absurd (omega (arith, zero, cut.code_is))
 
-pub relay_quiet : {X Y : Type 0} (state : X → DiskState) (port_of : Y → Port) (words : List (List ℕ)) (port count : ℕ) (start now : X) (from door : Y) (old new : Option (List ℕ)) (before after code : ℕ)
-    → RunsRelay state port_of words port count start now from door old new before after code → code ≡ 0
-    → IsQuiet (state start) (state now) × ((port_of door).faults Gate ≡ (port_of from).faults Gate) × (after ≡ before)
-relay_quiet state port_of words port count start now from door old new before after code runs zero =
-    let end = ended_by runs.ending runs.lines old new before after code zero runs.ends in
+pub relay_quiet : {X Y : Type 0} (state : X → DiskState) (port_of : Y → Port) (words : List (List ℕ)) (port count : ℕ) (start now : X) (from door : Y) (old new : SinkState) (code : ℕ)
+    → RunsRelay state port_of words port count start now from door old new code → code ≡ 0
+    → IsQuiet (state start) (state now) × ((port_of door).faults Gate ≡ (port_of from).faults Gate) × (new.faults ≡ old.faults)
+relay_quiet state port_of words port count start now from door old new code runs zero =
+    let end = ended_by runs.ending runs.lines old new code zero runs.ends in
     let both = relays_quiet state port_of words port count start now from door code runs.ending runs.lines runs.came end.0 in
     (both.0, both.1, end.1)
 

@@ -6,6 +6,7 @@ use Rattle.dr_disk.specs.State.{DiskState}
 use Rattle.dr_disk.proofs.Ranges.{torn_twice}
 use Rattle.dr_disk.proofs.Steps.{quiet_twice, spans, stays, widen}
 use Rattle.dr_ports.specs.Ports.{Rose, appended}
+use Rattle.dr_ports.specs.States.{SinkState}
 use Rattle.dr_ports.specs.Writing.{TookBeginning}
 use Rattle.dr_ports.specs.Wires.{Port, Told}
 use Rattle.dr_ports.specs.declared.pipe.Part.TheVariants.{Flow, Gate}
@@ -30,7 +31,7 @@ abbrev pub never : List ℕ → Type 0
 never c = ⊥
 
 -- n connections were served, and their lines written
-pub record SoFar (turns : List Connection → Type 0) (s : Standing) (port n : ℕ) (server : ServerNow) (start now : DiskState) (from door : Port) (old new : Option (List ℕ)) (before after : ℕ) : Type 0 where
+pub record SoFar (turns : List Connection → Type 0) (s : Standing) (port n : ℕ) (server : ServerNow) (start now : DiskState) (from door : Port) (old new : SinkState) : Type 0 where
   pub xs : List Connection
   pub count : length xs ≡ n
   pub come : HaveCome never turns s xs start now door
@@ -40,8 +41,8 @@ pub record SoFar (turns : List Connection → Type 0) (s : Standing) (port n : �
   pub ready : IsReady box_text server now
   pub quiet : IsQuiet start now
   pub gate : door.faults Gate ≡ from.faults Gate
-  pub wrote : new ≡ appended old (relay_lines port s xs)
-  pub writes : after ≡ before
+  pub wrote : new.taken ≡ appended old.taken (relay_lines port s xs)
+  pub writes : new.faults ≡ old.faults
 
 -- no call was made on the disk
 pub nothing_came : (turns : List Connection → Type 0) (s : Standing) (start : DiskState) (door : Port) → turns [] → door.told ≡ s.told → door.faults Flow ≡ s.faults → HaveCome never turns s [] start start door
@@ -65,8 +66,8 @@ rests_as turns s xs start now door server come each boxes ready quiet = record {
   quiet = quiet;
 }
 
-module _ (turns : List Connection → Type 0) (first : Standing) (port n : ℕ) (server : ServerNow) (start mid : DiskState) (from door : Port) (old out : Option (List ℕ)) (before middle : ℕ)
-    (so : SoFar turns (listening port first) port n server start mid from door old out before middle) where
+module _ (turns : List Connection → Type 0) (first : Standing) (port n : ℕ) (server : ServerNow) (start mid : DiskState) (from door : Port) (old out : SinkState)
+    (so : SoFar turns (listening port first) port n server start mid from door old out) where
   abbrev s : Standing
   s = listening port first
 
@@ -117,8 +118,8 @@ module _ (turns : List Connection → Type 0) (first : Standing) (port n : ℕ) 
         ∙ ap (λ (l : List ℕ). port_line port ++ l) (sym (lines_more 0 s so.xs t.x))
 
     -- its line was written
-    pub one_more : (new_out : Option (List ℕ)) (after : ℕ) → new_out ≡ appended out (line_of (n + 1) connected) → after ≡ middle → SoFar next s port (n + 1) new start now from later old new_out before after
-    one_more new_out after wrote writes = record {
+    pub one_more : (new_out : SinkState) → new_out.taken ≡ appended out.taken (line_of (n + 1) connected) → new_out.faults ≡ out.faults → SoFar next s port (n + 1) new start now from later old new_out
+    one_more new_out wrote writes = record {
       xs = so.xs ++ t.x ∷ [];
       count = count_more order new now later t.x t.turn;
       come = came_then;
@@ -128,50 +129,50 @@ module _ (turns : List Connection → Type 0) (first : Standing) (port n : ℕ) 
       ready = t.ready;
       quiet = quiet_twice start mid now so.quiet t.quiet;
       gate = t.turn.gate ∙ so.gate;
-      wrote = wrote ∙ ap (λ (o : Option (List ℕ)). appended o (line_of (n + 1) connected)) so.wrote ∙ appended-appended old (relay_lines port s so.xs) (line_of (n + 1) connected)
-          ∙ ap (appended old) lines_then;
+      wrote = wrote ∙ ap (λ (o : Option (List ℕ)). appended o (line_of (n + 1) connected)) so.wrote ∙ appended-appended old.taken (relay_lines port s so.xs) (line_of (n + 1) connected)
+          ∙ ap (appended old.taken) lines_then;
       writes = writes ∙ so.writes;
     }
 
     -- or it couldn't be
-    pub cut_then : (count : ℕ) → n < count → (new_out : Option (List ℕ)) (after : ℕ) → TookBeginning out new_out (line_of (n + 1) connected) → Rose middle after
-        → Runs next first port count start now from later old new_out before after 5
-    cut_then count less new_out after took rose = record {
+    pub cut_then : (count : ℕ) → n < count → (new_out : SinkState) → TookBeginning out.taken new_out.taken (line_of (n + 1) connected) → Rose out.faults new_out.faults
+        → Runs next first port count start now from later old new_out 5
+    cut_then count less new_out took rose = record {
       ending = Done;
       lines = relay_lines port s (so.xs ++ t.x ∷ []);
       came = went_on (so.xs ++ t.x ∷ [])
           (rests_as next s (so.xs ++ t.x ∷ []) start now later new came_then each_more (boxes_more order new now later t.x t.turn) t.ready (quiet_twice start mid now so.quiet t.quiet))
           (omega (arith, less, count_more order new now later t.x t.turn)) (λ zero. absurd (omega arith)) (t.turn.gate ∙ so.gate);
-      ends = ends_cut (relay_lines port s (so.xs ++ t.x ∷ [])) old new_out before after
-          (subst (λ (l : List ℕ). TookBeginning old new_out l) lines_then (took_of_second old out new_out (relay_lines port s so.xs) (line_of (n + 1) connected) so.wrote took))
+      ends = ends_cut (relay_lines port s (so.xs ++ t.x ∷ [])) old new_out
+          (subst (λ (l : List ℕ). TookBeginning old.taken new_out.taken l) lines_then (took_of_second old.taken out.taken new_out.taken (relay_lines port s so.xs) (line_of (n + 1) connected) so.wrote took))
           (omega (arith, rose, so.writes));
     }
 
   -- no connection more is served
   pub faulty : (order : Connection → Type 0) (next : List Connection → Type 0) → ((x : Connection) → turns so.xs → order x → next (so.xs ++ x ∷ [])) → (new : ServerNow) (now : DiskState) (later : Port) → (turns so.xs → Span mid now (λ c. ⊥) → next so.xs)
-      → (count : ℕ) → n < count → (fault : Fault) → Turns order server new mid now door later (Err fault) → (code : ℕ) (new_out : Option (List ℕ)) (after : ℕ)
-      → Ends (ending_of_fault fault) [] out new_out middle after code → Runs next first port count start now from later old new_out before after code
-  faulty order next one new now later alone count less Accept none code new_out after ends = record {
+      → (count : ℕ) → n < count → (fault : Fault) → Turns order server new mid now door later (Err fault) → (code : ℕ) (new_out : SinkState)
+      → Ends (ending_of_fault fault) [] out new_out code → Runs next first port count start now from later old new_out code
+  faulty order next one new now later alone count less Accept none code new_out ends = record {
     ending = LinkFault;
     lines = relay_lines port s so.xs;
     came = was_unaccepted so.xs
         (rests_as next s so.xs start now later new (still_came turns next s so.xs start mid now door later so.come (alone so.come.in_turn none.still) none.told none.faults none.still) so.each (none.next ∙ so.boxes) none.ready (quiet_twice start mid now so.quiet none.quiet))
         (omega (arith, less, so.count)) (subst (λ (n : ℕ). HasRisen n (later.faults Gate)) so.gate none.rose);
-    ends = ends_behind LinkFault (relay_lines port s so.xs) old out new_out before middle after code so.wrote so.writes ends;
+    ends = ends_behind LinkFault (relay_lines port s so.xs) old out new_out code so.wrote so.writes ends;
   }
-  faulty order next one new now later alone count less Store t code new_out after ends = record {
+  faulty order next one new now later alone count less Store t code new_out ends = record {
     ending = DiskFault;
     lines = relay_lines port s so.xs;
     came = was_stopped so.xs t.x t.call (come_more order new now later t.x t.turn next (one t.x so.come.in_turn t.turn.in_order)) so.each (subst (λ (st : Standing). IsStopped st t.x now) here t.stopped)
         (omega (arith, less, so.count)) (let counts = so.come.during.counts t.call in omega (arith, t.rose, counts)) (t.turn.gate ∙ so.gate);
-    ends = ends_behind DiskFault (relay_lines port s so.xs) old out new_out before middle after code so.wrote so.writes ends;
+    ends = ends_behind DiskFault (relay_lines port s so.xs) old out new_out code so.wrote so.writes ends;
   }
 
   -- all were served
-  pub all_served : (count : ℕ) → n ≡ count → (code : ℕ) (new_out : Option (List ℕ)) (after : ℕ) → Ends Done [] out new_out middle after code → Runs turns first port count start mid from door old new_out before after code
-  all_served count full code new_out after ends = record {
+  pub all_served : (count : ℕ) → n ≡ count → (code : ℕ) (new_out : SinkState) → Ends Done [] out new_out code → Runs turns first port count start mid from door old new_out code
+  all_served count full code new_out ends = record {
     ending = Done;
     lines = relay_lines port s so.xs;
     came = went_on so.xs (rests_as turns s so.xs start mid door server so.come so.each so.boxes so.ready so.quiet) (omega (arith, full, so.count)) (λ zero. so.count ∙ full) so.gate;
-    ends = ends_behind Done (relay_lines port s so.xs) old out new_out before middle after code so.wrote so.writes ends;
+    ends = ends_behind Done (relay_lines port s so.xs) old out new_out code so.wrote so.writes ends;
   }

@@ -1,7 +1,8 @@
 -- The command as a whole: the names, the opening, and what follows.
-use Rattle.std.specs.Prelude.{◌≡◌, ◌+◌, ℕ, List, [], Option, Result, Ok, Err}
+use Rattle.std.specs.Prelude.{◌≡◌, ◌+◌, ℕ, List, [], Result, Ok, Err}
 use Rattle.dr_disk.specs.Spans.{Span}
 use Rattle.dr_disk.specs.State.{DiskState}
+use Rattle.dr_ports.specs.States.{SinkState}
 use Rattle.dr_ports.specs.Wires.{Port}
 use Rattle.endings.specs.Ends.{Ends}
 use Rattle.endings.specs.declared.ending.Ending.{Ending}
@@ -51,8 +52,8 @@ pub data Relays {X Y : Type 0} (state : X → DiskState) (port_of : Y → Port) 
 
 -- and what was written of them
 pub record RunsRelay {X Y : Type 0} (state : X → DiskState) (port_of : Y → Port) (words : List (List ℕ)) (port count : ℕ) (start now : X) (from door : Y)
-    (old new : Option (List ℕ)) (before after code : ℕ) : Type 0 where
+    (old new : SinkState) (code : ℕ) : Type 0 where
   pub ending : Ending
   pub lines : List ℕ
   pub came : Relays state port_of words port count start now from door code ending lines
-  pub ends : Ends ending lines old new before after code
+  pub ends : Ends ending lines old new code

@@ -1,9 +1,10 @@
 -- A relay whose boxes were opened: it listens and serves.
-use Rattle.std.specs.Prelude.{◌≡◌, ◌⊎◌, ◌<◌, ◌≤◌, ℕ, List, [], ◌∷◌, ◌++◌, length, Option}
+use Rattle.std.specs.Prelude.{◌≡◌, ◌⊎◌, ◌<◌, ◌≤◌, ℕ, List, [], ◌∷◌, ◌++◌, length}
 use Rattle.dr_disk.specs.declared.call.Call.{Call}
 use Rattle.dr_disk.specs.Spans.{IsQuiet, Span}
 use Rattle.dr_disk.specs.State.{DiskState}
 use Rattle.dr_ports.specs.Ports.{Rose}
+use Rattle.dr_ports.specs.States.{SinkState}
 use Rattle.dr_ports.specs.Wires.{Port}
 use Rattle.dr_ports.specs.declared.pipe.Part.TheVariants.{Flow, Gate}
 use Rattle.endings.specs.Ends.{Ends}
@@ -75,8 +76,8 @@ pub data Serves (earlier : List ℕ → Type 0) (turns : List Connection → Typ
 
 -- and what was written of them
 pub record Runs (turns : List Connection → Type 0) (s : Standing) (port count : ℕ) (start now : DiskState) (from door : Port)
-    (old new : Option (List ℕ)) (before after code : ℕ) : Type 0 where
+    (old new : SinkState) (code : ℕ) : Type 0 where
   pub ending : Ending
   pub lines : List ℕ
   pub came : Serves (λ c. ⊥) turns s port count start now from door code ending lines
-  pub ends : Ends ending lines old new before after code
+  pub ends : Ends ending lines old new code

@@ -71,12 +71,13 @@ pub fn relay<A: Disk, L: Door, O: Sink>(
 ) -> Status
     requires { RELAY_DISK_SIZE ≤ (A.state disk.old).size }
     ensures runs { RunsRelay A.state L.port (map (λ word. word.now) boxes.now) port count disk.old disk.new door.old door.new
-        (O.taken out.old) (O.taken out.new) (O.faults out.old) (O.faults out.new) result.code }
+        (O.at out.old) (O.at out.new) result.code }
     // Status 0 says that no call on the disk failed, nor listening, accepting or writing.
     ensures quiet { result.code ≡ 0 → IsQuiet (A.state disk.old) (A.state disk.new)
-        × ((L.port door.new).faults Gate ≡ (L.port door.old).faults Gate) × (O.faults out.new ≡ O.faults out.old) }
+        × ((L.port door.new).faults Gate ≡ (L.port door.old).faults Gate)
+        × ((O.at out.new).faults ≡ (O.at out.old).faults) }
     // No count falls.
-    ensures later { O.faults out.old ≤ O.faults out.new }
+    ensures later { (O.at out.old).faults ≤ (O.at out.new).faults }
     ensures counts { (call : Call) → (A.state disk.old).faults call ≤ (A.state disk.new).faults call }
     ensures door_counts { (part : Part) → (L.port door.old).faults part ≤ (L.port door.new).faults part }
 {

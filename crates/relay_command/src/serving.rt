@@ -37,8 +37,8 @@ pub(crate) fn serve_all<A: Disk, L: Door, O: Sink>(
     requires { IsReady box_text server.old (A.state disk.old) }
     ensures runs { Runs (λ xs. CameInTurn A.state L.port (listening port (standing server.old.boxes (L.port door.old))) disk.old xs disk.new)
         (standing server.old.boxes (L.port door.old)) port count (A.state disk.old) (A.state disk.new)
-        (L.port door.old) (L.port door.new) (O.taken out.old) (O.taken out.new) (O.faults out.old) (O.faults out.new) result.code }
-    ensures later { O.faults out.old ≤ O.faults out.new }
+        (L.port door.old) (L.port door.new) (O.at out.old) (O.at out.new) result.code }
+    ensures later { (O.at out.old).faults ≤ (O.at out.new).faults }
 {
     match door.listen(port) {
         Err(Failed) => return finish(out, Ending::LinkFault),

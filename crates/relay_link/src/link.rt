@@ -1,9 +1,7 @@
 //! A link to a relay in memory.
 
-ghost use Rattle.std.specs.Prelude.{◌≡◌, ◌⊎◌, ◌↔◌, ℕ, ◌+◌, ◌-◌, ◌<◌, ◌≤◌, min, List, [], ◌++◌, length, map, take, drop, Option, IfOk, OnOk, OnErr, IfSome, IsErr, IsOk};
-ghost use Rattle.dr_ports.specs.Ports.{HasCause, one_more};
-ghost use Rattle.dr_ports.specs.declared.pipe.Part.TheVariants.{Flow, Gate};
-ghost use Rattle.dr_ports.specs.Wires.{Gave, Took, EndsAt, ReceiveGoes, SendGoes};
+ghost use Rattle.std.specs.Prelude.{◌≡◌, ◌↔◌, ◌-◌, ◌≤◌, min, length, map, IfOk, IsErr};
+ghost use Rattle.dr_ports.specs.Calls.{Receives, Sends};
 ghost use Rattle.relay_core.specs.Boxes.{empty_box};
 ghost use Rattle.relay_link.specs.Connections.{Behind, HasLost, IsLawful, behind_of, boxes_of, coming_of, connected, is_ahead, kept_before, port_of};
 ghost use Rattle.relay_link.specs.declared.limits.TheConstants.{REPLY_LIMIT, SENT_LIMIT};
@@ -105,14 +103,8 @@ impl Pipe for RelayLink {
     ghost ahead = { λ l. is_ahead l };
 
     fn receive(&mut self, into: &mut [u8]) -> Result<usize, Failed>
-        ensures bound { IfOk result (λ count. count ≤ length into.old) }
-        ensures content { IfOk result (λ count. Gave (take count into.new) (port_of self.old) (port_of self.new)) }
-        ensures end { IfOk result (λ count. count ≡ 0 → 0 < length into.old → EndsAt (port_of self.old)) }
-        ensures err { OnErr result ((port_of self.new).told ≡ (port_of self.old).told) }
-        ensures goes { IfSome (port_of self.old).told (λ t. 0 < length into.old → ReceiveGoes t.now t.now.fate result) }
-        ensures cause { HasCause ((port_of self.old).faults Flow) ((port_of self.new).faults Flow) result }
-        ensures gate { (port_of self.new).faults Gate ≡ (port_of self.old).faults Gate }
-        ensures same { behind_of self.new ≡ behind_of self.old }
+        ensures receives { Receives (port_of self.old) (port_of self.new) (behind_of self.old)
+            (behind_of self.new) into.old into.new result }
         ensures exact { IsErr result ↔ (HasLost self.old × (self.old.at ≡ length (coming_of self.old))) }
         ensures most { IfOk result (λ count. count ≡ min (length into.old) (length (coming_of self.old) - self.old.at)) }
         ensures stays { self.new ≡ record self.old { at = self.new.at; faults = self.new.faults } }
@@ -129,14 +121,8 @@ impl Pipe for RelayLink {
     }
 
     fn send(&mut self, bytes: &[u8]) -> Result<usize, Failed>
-        ensures bound { IfOk result (λ count. count ≤ length bytes.now) }
-        ensures progress { IfOk result (λ count. 0 < length bytes.now → 0 < count) }
-        ensures content { IfOk result (λ count. Took (take count bytes.now) (port_of self.old) (port_of self.new)) }
-        ensures err { OnErr result ((port_of self.new).told ≡ (port_of self.old).told) }
-        ensures goes { IfSome (port_of self.old).told (λ t. SendGoes t.now.fate result) }
-        ensures cause { HasCause ((port_of self.old).faults Flow) ((port_of self.new).faults Flow) result }
-        ensures gate { (port_of self.new).faults Gate ≡ (port_of self.old).faults Gate }
-        ensures same { behind_of self.new ≡ behind_of self.old }
+        ensures sends { Sends (port_of self.old) (port_of self.new) (behind_of self.old)
+            (behind_of self.new) bytes.now result }
         ensures exact { IsErr result ↔ (length self.old.sent ≡ SENT_LIMIT) }
         ensures stays { self.new ≡ record self.old { sent = self.new.sent; faults = self.new.faults } }
     {

@@ -4,7 +4,7 @@ use Rattle.dr_base.specs.declared.position.Side.{Side}
 use Rattle.dr_disk.specs.Spans.{IsQuiet}
 use Rattle.dr_disk.specs.State.{DiskState}
 use Rattle.dr_model.specs.Machines.Acts.{Act}
-use Rattle.dr_ports.specs.Seeds.{Seeds}
+use Rattle.dr_ports.specs.States.{DrawsState, SinkState, SourceState}
 use Rattle.endings.specs.Ending.{code_of}
 use Rattle.endings.specs.Ends.{Ends}
 use Rattle.endings.specs.declared.ending.Ending.{Ending}
@@ -38,18 +38,18 @@ begin_code (BeginDamaged slot at) e = omega (arith, e)
 begin_code BeginExists e = omega (arith, e)
 begin_code BeginNoPair e = omega (arith, e)
 
-input_code : (limit : ℕ) (parse : List ℕ → Option (List ℕ)) (bad : Ending) (from left : Option (List ℕ)) (before now : ℕ)
-    (ending : Ending) → code_of bad ≡ 3 → IsNoInput limit parse bad from left before now ending → code_of ending ≡ 0 → ⊥
-input_code limit parse bad from left before now ending three (had_no_memory same quiet) e = omega (arith, e)
-input_code limit parse bad from left before now ending three (read_failed gave rose) e = omega (arith, e)
-input_code limit parse bad from left before now ending three (is_too_long long past quiet) e = omega (arith, e)
-input_code limit parse bad from left before now ending three (is_bad text drained quiet) e = omega (arith, three, e)
+input_code : (limit : ℕ) (parse : List ℕ → Option (List ℕ)) (bad : Ending) (from to : SourceState)
+    (ending : Ending) → code_of bad ≡ 3 → IsNoInput limit parse bad from to ending → code_of ending ≡ 0 → ⊥
+input_code limit parse bad from to ending three (had_no_memory same quiet) e = omega (arith, e)
+input_code limit parse bad from to ending three (read_failed gave rose) e = omega (arith, e)
+input_code limit parse bad from to ending three (is_too_long long past quiet) e = omega (arith, e)
+input_code limit parse bad from to ending three (is_bad text drained quiet) e = omega (arith, three, e)
 
 -- the ending of a status 0, whose lines were written
-ended : (ending : Ending) (lines : List ℕ) (old new : Option (List ℕ)) (before now code : ℕ) → code ≡ 0
-    → Ends ending lines old new before now code → (code_of ending ≡ 0) × (now ≡ before)
-ended ending lines old new before now code zero (inl all) = (sym all.code_is ∙ zero, all.quiet)
-ended ending lines old new before now code zero (inr cut) = absurd (omega (arith, zero, cut.code_is))
+ended : (ending : Ending) (lines : List ℕ) (old new : SinkState) (code : ℕ) → code ≡ 0
+    → Ends ending lines old new code → (code_of ending ≡ 0) × (new.faults ≡ old.faults)
+ended ending lines old new code zero (inl all) = (sym all.code_is ∙ zero, all.quiet)
+ended ending lines old new code zero (inr cut) = absurd (omega (arith, zero, cut.code_is))
 
 -- ---- what came to pass with it
 
@@ -66,34 +66,34 @@ acted_quiet state k asked start now Q so ending lines (was_cut kept act made cal
     absurd (omega (arith, e))
 
 pub act_quiet : {X : Type 0} (state : X → DiskState) (k : Mechanism) (asked : Asked) (start now : X) (Q : Type 0)
-    → ((kept : Client) (act : Act) → asked.acts kept act → Q) → (old new : Option (List ℕ)) (before after code : ℕ)
-    → Runs (RunsAct state k asked start now) old new before after code → code ≡ 0
-    → IsQuiet (state start) (state now) × (after ≡ before) × Q
-act_quiet state k asked start now Q so old new before after code runs zero =
-    let end = ended runs.ending runs.lines old new before after code zero runs.ends in
+    → ((kept : Client) (act : Act) → asked.acts kept act → Q) → (old new : SinkState) (code : ℕ)
+    → Runs (RunsAct state k asked start now) old new code → code ≡ 0
+    → IsQuiet (state start) (state now) × (new.faults ≡ old.faults) × Q
+act_quiet state k asked start now Q so old new code runs zero =
+    let end = ended runs.ending runs.lines old new code zero runs.ends in
     let both = acted_quiet state k asked start now Q so runs.ending runs.lines runs.came.acted end.0 in
     (both.0, end.1, both.1)
 
-pub no_draw_failed : {W : Type 0} (coming : W → Option Seeds) (faults : W → ℕ) (text : List ℕ) (source left : W) (kept : Client)
-    (act : Act) → SaysText coming faults text source left kept act → faults left ≡ faults source
-no_draw_failed coming faults text source left kept act (without_seed none same) = cc
-no_draw_failed coming faults text source left kept act (with_seed seed needed long drew quiet) = quiet
+pub no_draw_failed : {W : Type 0} (draws : W → DrawsState) (text : List ℕ) (source left : W) (kept : Client)
+    (act : Act) → SaysText draws text source left kept act → (draws left).faults ≡ (draws source).faults
+no_draw_failed draws text source left kept act (without_seed none same) = cc
+no_draw_failed draws text source left kept act (with_seed seed needed long drew quiet) = quiet
 
-take_came : {X : Type 0} (state : X → DiskState) (k : Mechanism) (from left : Option (List ℕ)) (reads_before reads_now : ℕ) (start now : X)
-    (ending : Ending) (lines : List ℕ) → RunsTake state k from left reads_before reads_now start now ending lines
-    → code_of ending ≡ 0 → IsQuiet (state start) (state now) × (reads_now ≡ reads_before)
-take_came state k from left reads_before reads_now start now ending lines (had_no_packet e none same) zero =
-    absurd (input_code _ _ _ _ _ _ _ e refl none zero)
-take_came state k from left reads_before reads_now start now ending lines (had_packet packet e l input runs) zero =
+take_came : {X : Type 0} (state : X → DiskState) (k : Mechanism) (from to : SourceState) (start now : X)
+    (ending : Ending) (lines : List ℕ) → RunsTake state k from to start now ending lines
+    → code_of ending ≡ 0 → IsQuiet (state start) (state now) × (to.faults ≡ from.faults)
+take_came state k from to start now ending lines (had_no_packet e none same) zero =
+    absurd (input_code _ _ _ _ _ e refl none zero)
+take_came state k from to start now ending lines (had_packet packet e l input runs) zero =
     ((acted_quiet state k _ start now (Unit {0}) (λ kept act asks. tt) e l runs.acted zero).0, input.quiet)
 
-pub take_quiet : {X : Type 0} (state : X → DiskState) (k : Mechanism) (from left : Option (List ℕ)) (reads_before reads_now : ℕ)
-    (start now : X) (old new : Option (List ℕ)) (before after code : ℕ)
-    → Runs (RunsTake state k from left reads_before reads_now start now) old new before after code → code ≡ 0
-    → IsQuiet (state start) (state now) × (after ≡ before) × (reads_now ≡ reads_before)
-take_quiet state k from left reads_before reads_now start now old new before after code runs zero =
-    let end = ended runs.ending runs.lines old new before after code zero runs.ends in
-    let both = take_came state k from left reads_before reads_now start now runs.ending runs.lines runs.came end.0 in
+pub take_quiet : {X : Type 0} (state : X → DiskState) (k : Mechanism) (from to : SourceState)
+    (start now : X) (old new : SinkState) (code : ℕ)
+    → Runs (RunsTake state k from to start now) old new code → code ≡ 0
+    → IsQuiet (state start) (state now) × (new.faults ≡ old.faults) × (to.faults ≡ from.faults)
+take_quiet state k from to start now old new code runs zero =
+    let end = ended runs.ending runs.lines old new code zero runs.ends in
+    let both = take_came state k from to start now runs.ending runs.lines runs.came end.0 in
     (both.0, end.1, both.1)
 
 shown_came : {X : Type 0} (state : X → DiskState) (k : Mechanism) (shows : Client → List ℕ) (start now : X) (ending : Ending)
@@ -102,10 +102,10 @@ shown_came state k shows start now ending lines (wasnt_opened refusal why leaves
 shown_came state k shows start now ending lines (was_shown kept is leaves) e = leaves.quiet
 
 pub show_quiet : {X : Type 0} (state : X → DiskState) (k : Mechanism) (shows : Client → List ℕ) (start now : X)
-    (old new : Option (List ℕ)) (before after code : ℕ) → Runs (RunsShow state k shows start now) old new before after code
-    → code ≡ 0 → IsQuiet (state start) (state now) × (after ≡ before)
-show_quiet state k shows start now old new before after code runs zero =
-    let end = ended runs.ending runs.lines old new before after code zero runs.ends in
+    (old new : SinkState) (code : ℕ) → Runs (RunsShow state k shows start now) old new code
+    → code ≡ 0 → IsQuiet (state start) (state now) × (new.faults ≡ old.faults)
+show_quiet state k shows start now old new code runs zero =
+    let end = ended runs.ending runs.lines old new code zero runs.ends in
     (shown_came state k shows start now runs.ending runs.lines runs.came.shown end.0, end.1)
 
 begun_came : {X : Type 0} (state : X → DiskState) (k : Mechanism) (key : List ℕ) (side : Side) (start now : X) (ending : Ending)
@@ -113,20 +113,18 @@ begun_came : {X : Type 0} (state : X → DiskState) (k : Mechanism) (key : List 
 begun_came state k key side start now ending lines (wasnt_begun refusal why) e = absurd (begin_code refusal e)
 begun_came state k key side start now ending lines (was_begun none pair lawful rests quiet) e = quiet
 
-begin_came : {X : Type 0} (state : X → DiskState) (k : Mechanism) (side : Side) (from left : Option (List ℕ))
-    (reads_before reads_now : ℕ) (start now : X) (ending : Ending) (lines : List ℕ)
-    → RunsBegin state k side from left reads_before reads_now start now ending lines → code_of ending ≡ 0
-    → IsQuiet (state start) (state now) × (reads_now ≡ reads_before)
-begin_came state k side from left reads_before reads_now start now ending lines (had_no_key e none same) zero =
-    absurd (input_code _ _ _ _ _ _ _ e refl none zero)
-begin_came state k side from left reads_before reads_now start now ending lines (had_key key e l input begins) zero =
+begin_came : {X : Type 0} (state : X → DiskState) (k : Mechanism) (side : Side) (from to : SourceState) (start now : X) (ending : Ending) (lines : List ℕ)
+    → RunsBegin state k side from to start now ending lines → code_of ending ≡ 0
+    → IsQuiet (state start) (state now) × (to.faults ≡ from.faults)
+begin_came state k side from to start now ending lines (had_no_key e none same) zero =
+    absurd (input_code _ _ _ _ _ e refl none zero)
+begin_came state k side from to start now ending lines (had_key key e l input begins) zero =
     (begun_came state k key side start now e l begins.began zero, input.quiet)
 
-pub begin_quiet : {X : Type 0} (state : X → DiskState) (k : Mechanism) (side : Side) (from left : Option (List ℕ))
-    (reads_before reads_now : ℕ) (start now : X) (old new : Option (List ℕ)) (before after code : ℕ)
-    → Runs (RunsBegin state k side from left reads_before reads_now start now) old new before after code → code ≡ 0
-    → IsQuiet (state start) (state now) × (after ≡ before) × (reads_now ≡ reads_before)
-begin_quiet state k side from left reads_before reads_now start now old new before after code runs zero =
-    let end = ended runs.ending runs.lines old new before after code zero runs.ends in
-    let both = begin_came state k side from left reads_before reads_now start now runs.ending runs.lines runs.came end.0 in
+pub begin_quiet : {X : Type 0} (state : X → DiskState) (k : Mechanism) (side : Side) (from to : SourceState) (start now : X) (old new : SinkState) (code : ℕ)
+    → Runs (RunsBegin state k side from to start now) old new code → code ≡ 0
+    → IsQuiet (state start) (state now) × (new.faults ≡ old.faults) × (to.faults ≡ from.faults)
+begin_quiet state k side from to start now old new code runs zero =
+    let end = ended runs.ending runs.lines old new code zero runs.ends in
+    let both = begin_came state k side from to start now runs.ending runs.lines runs.came end.0 in
     (both.0, end.1, both.1)

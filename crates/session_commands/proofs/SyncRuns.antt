@@ -1,5 +1,5 @@
 -- A command that syncs, from its calls.
-use Rattle.std.proofs.Common.{Err, List, Ok, Option, Result, [], ap, arith, inl, inr, refl, subst, sym, ℕ, ⊎_elim, ◌≤◌, ◌∙◌, ◌≡◌, ◌⊎◌}
+use Rattle.std.proofs.Common.{Err, List, Ok, Result, [], ap, arith, inl, inr, refl, subst, sym, ℕ, ⊎_elim, ◌≤◌, ◌∙◌, ◌≡◌, ◌⊎◌}
 use Rattle.dr_base.specs.Causes.{Rose}
 use Rattle.dr_base.specs.declared.position.Side.{Side}
 use Rattle.dr_disk.specs.Spans.{IsQuiet, Span}
@@ -7,6 +7,7 @@ use Rattle.dr_disk.specs.State.{Always, DiskState, IsLawful}
 use Rattle.dr_disk.proofs.Steps.{quiet_twice, spans, widen}
 use Rattle.dr_model.specs.Machines.WorldSides.{kept_in}
 use Rattle.dr_model.specs.Machines.Worlds.{World}
+use Rattle.dr_ports.specs.States.{SinkState}
 use Rattle.dr_ports.specs.Wires.{Port}
 use Rattle.kem_laws.specs.Mechanism.{Mechanism}
 use Rattle.relay_pipe.specs.Asking.{fault_at}
@@ -34,13 +35,13 @@ use Rattle.session_commands.proofs.Standing.{left_sound, like_sound}
 -- ---- after an opening of the client
 
 module _ (p : Party Client) (kept : Client) (replies : List Replied) (opened now : Port) where
-  module _ (start mid end : DiskState) (client after : ClientNow) (taken wrote : Option (List ℕ)) (before middle final : ℕ) (same : client.kept ≡ kept)
-      (opening : IsQuiet start mid) (later : middle ≤ final) where
+  module _ (start mid end : DiskState) (client after : ClientNow) (before wrote : SinkState) (final : ℕ) (same : client.kept ≡ kept)
+      (opening : IsQuiet start mid) (later : wrote.faults ≤ final) where
     abbrev from : Moment
-    from = moment client mid taken before
+    from = moment client mid before
 
     abbrev to : Moment
-    to = moment after end wrote middle
+    to = moment after end wrote
 
     stored_by : Stands p replies from to → IsStored p kept replies start end
     stored_by stands = record {
@@ -59,7 +60,7 @@ module _ (p : Party Client) (kept : Client) (replies : List Replied) (opened now
     }
 
     pub sync_ends : (result : Result More SyncFault) → Ends p replies from to opened now result
-        → SyncEnds p kept replies start end opened now before final result
+        → SyncEnds p kept replies start end opened now before.faults final result
     sync_ends (Ok which) ends = came_by _ ends
     sync_ends (Err (Closed call)) ends = ends
     sync_ends (Err Link) ends = (subst (λ (x : Client). IsCutOff p x replies opened now) same ends.1, stored_by ends.0)
@@ -115,12 +116,12 @@ module _ (start mid now : DiskState) (lawful : IsLawful now) where
       sound = like_sound start c like;
     }
 
-    module _ (client after : ClientNow) (taken wrote : Option (List ℕ)) (before middle : ℕ) (p : Party Client) (from to : Port) where
+    module _ (client after : ClientNow) (before wrote : SinkState) (p : Party Client) (from to : Port) where
       abbrev ahead : Moment
-      ahead = moment client mid taken before
+      ahead = moment client mid before
 
       abbrev behind : Moment
-      behind = moment after now wrote middle
+      behind = moment after now wrote
 
       at_rest : Stands p replies ahead behind → (last : World) → IsIn k last side after → IsAtRest (kept_in k last side) now
       at_rest stands last is =

@@ -1,10 +1,11 @@
 -- What a sync wrote, and the last line after it.
-use Rattle.std.proofs.Common.{Bool, Err, List, None, Ok, Option, Result, Some, [], ap, arith, false, inl, inr, length, refl, sym, take, true, ℕ, ⊎_elim, ◌+◌, ◌++◌, ◌-◌, ◌<◌, ◌^◌, ◌≤◌, ◌∙◌, ◌∷◌, ◌≡◌, append-nil}
+use Rattle.std.proofs.Common.{Bool, Err, List, None, Ok, Result, Some, [], ap, arith, false, inl, inr, length, refl, sym, take, true, ℕ, ⊎_elim, ◌+◌, ◌++◌, ◌-◌, ◌<◌, ◌^◌, ◌≤◌, ◌∙◌, ◌∷◌, ◌≡◌, append-nil}
 use Rattle.std.specs.Prelude.{IfErr, if◌then◌else◌, nat_le, ◌&&◌}
 use Rattle.std.proofs.lemmas.Bool.Decides.{nat_tests}
 use Rattle.std.proofs.lemmas.List.{length_push, take_at}
 use Rattle.dr_disk.specs.Spans.{IsQuiet}
 use Rattle.dr_ports.specs.Ports.{appended}
+use Rattle.dr_ports.specs.States.{SinkState}
 use Rattle.dr_ports.specs.Wires.{Port}
 use Rattle.dr_ports.specs.declared.pipe.Part.{Part}
 use Rattle.dr_ports.specs.declared.pipe.Part.TheVariants.{Flow, Gate}
@@ -54,11 +55,11 @@ module _ (p : Party Client) where
       let long : length replies - 1 ≡ length before = omega (arith, ap length split ∙ length_push before last) in
       sym (take_at before (last ∷ []) (length before) refl) ∙ ap (take (length before)) (sym split) ∙ ap (λ (n : ℕ). take n replies) (sym long)
 
-  wrote_so : (lines : List ℕ) (other : List ℕ) (a b : Moment) → lines ≡ other → Wrote lines a b → (b.taken ≡ appended a.taken other) × (b.faults ≡ a.faults)
-  wrote_so lines other a b is wrote = (wrote.bytes_are ∙ ap (appended a.taken) is, wrote.unfailing)
+  wrote_so : (lines : List ℕ) (other : List ℕ) (a b : Moment) → lines ≡ other → Wrote lines a b → (b.sink.taken ≡ appended a.sink.taken other) × (b.sink.faults ≡ a.sink.faults)
+  wrote_so lines other a b is wrote = (wrote.bytes_are ∙ ap (appended a.sink.taken) is, wrote.unfailing)
 
   pub has_written : (replies : List Replied) (a b : Moment) (start now : Port) (result : Result More SyncFault) → Ends p replies a b start now result
-      → HasWritten (sync_lines p a.client.kept replies result) a.taken b.taken a.faults b.faults result
+      → HasWritten (sync_lines p a.client.kept replies result) a.sink b.sink result
   has_written replies a b start now (Ok which) ends = (ends.wrote.bytes_are, ends.wrote.unfailing)
   has_written replies a b start now (Err (Closed call)) ends = absurd ends
   has_written replies a b start now (Err Link) ends = wrote_so _ _ a b (still_lines a.client.kept replies ends.1.asked ends.1.waits) ends.2
@@ -108,8 +109,8 @@ near p replies a b start now Write ends = tt
 
 -- ---- the last line
 
-module _ (lines : List ℕ) (old mid new : Option (List ℕ)) (before middle now : ℕ) where
-  has_all : (fault : SyncFault) → (fault ≡ Write → ⊥) → HasWritten lines old mid before middle (Err fault) → (mid ≡ appended old lines) × (middle ≡ before)
+module _ (lines : List ℕ) (old mid new : SinkState) where
+  has_all : (fault : SyncFault) → (fault ≡ Write → ⊥) → HasWritten lines old mid (Err fault) → (mid.taken ≡ appended old.taken lines) × (mid.faults ≡ old.faults)
   has_all (Closed call) not wrote = wrote
   has_all Link not wrote = wrote
   has_all (Peer at what) not wrote = wrote
@@ -117,10 +118,10 @@ module _ (lines : List ℕ) (old mid new : Option (List ℕ)) (before middle now
   has_all (Store call) not wrote = wrote
   has_all Write not wrote = absurd (not refl)
 
-  pub closes : (fault : SyncFault) (code : ℕ) → (fault ≡ Write → ⊥) → CommandEnds (ending_of_fault fault) [] mid new middle now code
-      → HasWritten lines old mid before middle (Err fault) → CommandEnds (ending_of_fault fault) lines old new before now code
+  pub closes : (fault : SyncFault) (code : ℕ) → (fault ≡ Write → ⊥) → CommandEnds (ending_of_fault fault) [] mid new code
+      → HasWritten lines old mid (Err fault) → CommandEnds (ending_of_fault fault) lines old new code
   closes fault code not ends wrote =
-      let all = has_all fault not wrote in ends_behind (ending_of_fault fault) lines old mid new before middle now code all.0 all.1 ends
+      let all = has_all fault not wrote in ends_behind (ending_of_fault fault) lines old mid new code all.0 all.1 ends
 
 fault_code : (fault : SyncFault) → (fault ≡ Write → ⊥) → code_of (ending_of_fault fault) ≡ 0 → ⊥
 fault_code (Closed call) not e = omega (arith, e)
@@ -132,10 +133,10 @@ fault_code (Refused Unknown) not e = omega (arith, e)
 fault_code (Store call) not e = omega (arith, e)
 fault_code Write not e = not refl
 
-pub not_done : (fault : SyncFault) (old new : Option (List ℕ)) (before now code : ℕ) → (fault ≡ Write → ⊥) → CommandEnds (ending_of_fault fault) [] old new before now code
+pub not_done : (fault : SyncFault) (old new : SinkState) (code : ℕ) → (fault ≡ Write → ⊥) → CommandEnds (ending_of_fault fault) [] old new code
     → code ≡ 0 → ⊥
-not_done fault old new before now code not (inl all) zero = fault_code fault not (sym all.code_is ∙ zero)
-not_done fault old new before now code not (inr cut) zero = omega (arith, zero, cut.code_is)
+not_done fault old new code not (inl all) zero = fault_code fault not (sym all.code_is ∙ zero)
+not_done fault old new code not (inr cut) zero = omega (arith, zero, cut.code_is)
 
 -- ---- a whole sync
 
@@ -145,7 +146,7 @@ near_result p a b start now (Err fault) syncs = near p syncs.replies a b start n
 
 -- a sync that did its work met no failing call
 pub done_quiet : (p : Party Client) (a b : Moment) (start now : Port) (result : Result More SyncFault) (which : More) → Syncs p a b start now result → result ≡ Ok which
-    → IsQuiet a.disk b.disk × (b.faults ≡ a.faults) × (now.faults Flow ≡ start.faults Flow)
+    → IsQuiet a.disk b.disk × (b.sink.faults ≡ a.sink.faults) × (now.faults Flow ≡ start.faults Flow)
 done_quiet p a b start now (Ok other) which syncs is = (syncs.syncs.ends.stands.quiet, syncs.syncs.ends.wrote.unfailing, syncs.syncs.ends.talked.quiet)
 done_quiet p a b start now (Err fault) which syncs is = absurd (let e : (Err fault) ≡ (Ok which) = is in cc)
 

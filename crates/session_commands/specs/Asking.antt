@@ -1,33 +1,37 @@
 -- What each command asks of the client.
-use Rattle.std.specs.Prelude.{List, None, Option, Some, [], false, length, true, ℕ, ⊤, ◌∷◌, ◌≡◌}
+use Rattle.std.specs.Prelude.{List, None, Some, [], false, length, true, ℕ, ⊤, ◌∷◌, ◌≡◌}
 use Rattle.dr_base.specs.Causes.{Rose}
 use Rattle.dr_model.specs.Machines.Acts.{Act, needs_seed, saying, taking}
 use Rattle.dr_model.specs.Theorems.Fairness.{IsUnforged}
-use Rattle.dr_ports.specs.Seeds.{Seeds, drawn}
+use Rattle.dr_ports.specs.Seeds.{drawn}
+use Rattle.dr_ports.specs.States.{DrawsState}
 use Rattle.kem_laws.specs.Mechanism.{Mechanism}
 use Rattle.session_model.specs.Clients.{Client, say_check}
 use Rattle.session_commands.specs.Acting.{Asked}
 
 -- a text, with a seed exactly where what is kept needs one: the one that the draws gave
-pub data SaysText {W : Type 0} (coming : W → Option Seeds) (faults : W → ℕ) (text : List ℕ) (source left : W) (kept : Client)
+pub data SaysText {W : Type 0} (draws : W → DrawsState) (text : List ℕ) (source left : W)
+    (kept : Client)
     : Act → Type 0 where
   without_seed : needs_seed (say_check kept (length text)) ≡ false → left ≡ source
-      → SaysText coming faults text source left kept (saying text None)
+      → SaysText draws text source left kept (saying text None)
   with_seed : (seed : List ℕ) → needs_seed (say_check kept (length text)) ≡ true → length seed ≡ 32
-      → coming source ≡ drawn (seed ∷ []) (coming left) → faults left ≡ faults source
-      → SaysText coming faults text source left kept (saying text (Some seed))
+      → (draws source).coming ≡ drawn (seed ∷ []) (draws left).coming
+      → (draws left).faults ≡ (draws source).faults
+      → SaysText draws text source left kept (saying text (Some seed))
 
 -- a seed is needed, and none could be drawn
-pub record LacksSeed {W : Type 0} (coming : W → Option Seeds) (faults : W → ℕ) (text : List ℕ) (source left : W) (kept : Client)
+pub record LacksSeed {W : Type 0} (draws : W → DrawsState) (text : List ℕ) (source left : W)
+    (kept : Client)
     : Type 0 where
   pub needed : needs_seed (say_check kept (length text)) ≡ true
-  pub rose : Rose (faults source) (faults left)
-  pub none : coming left ≡ coming source
+  pub rose : Rose (draws source).faults (draws left).faults
+  pub none : (draws left).coming ≡ (draws source).coming
 
-abbrev pub asked_say : {W : Type 0} → (W → Option Seeds) → (W → ℕ) → List ℕ → W → W → Asked
-asked_say coming faults text source left = record {
-  acts = SaysText coming faults text source left;
-  undrawn = LacksSeed coming faults text source left;
+abbrev pub asked_say : {W : Type 0} → (W → DrawsState) → List ℕ → W → W → Asked
+asked_say draws text source left = record {
+  acts = SaysText draws text source left;
+  undrawn = LacksSeed draws text source left;
   idle = left ≡ source;
   fair = λ w side. ⊤;
 }

@@ -1,11 +1,12 @@
 -- What the command that begins a session comes to, before its last line.
-use Rattle.std.specs.Prelude.{IsSome, List, Option, Some, [], ℕ, ◌≡◌, ◌⊎◌}
+use Rattle.std.specs.Prelude.{IsSome, List, Some, [], ℕ, ◌≡◌, ◌⊎◌}
 use Rattle.dr_base.specs.declared.position.Side.{Side}
 use Rattle.dr_disk.specs.Spans.{IsQuiet, Span}
 use Rattle.dr_disk.specs.State.{DiskState}
 use Rattle.dr_model.specs.Machines.WorldSides.{kept_in}
 use Rattle.dr_model.specs.Machines.Worlds.{World, opening_world}
 use Rattle.dr_model.specs.Theorems.LawfulWorlds.{IsLawfulWorld}
+use Rattle.dr_ports.specs.States.{SourceState}
 use Rattle.endings.specs.declared.ending.Ending.{Ending}
 use Rattle.endings.specs.declared.ending.Ending.TheVariants.{BadKey, Done}
 use Rattle.kem_laws.specs.Mechanism.{Mechanism}
@@ -41,9 +42,13 @@ pub record Begins {X : Type 0} (state : X → DiskState) (k : Mechanism) (key : 
   pub in_worlds : (w : World) (whose : Side) → Reads k w whose (state start) → RunsOn k whose w w (state start) (state now)
 
 -- The source holds no key, and the disk is left alone; or the session of the key is begun.
-pub data RunsBegin {X : Type 0} (state : X → DiskState) (k : Mechanism) (side : Side) (from left : Option (List ℕ)) (before after : ℕ)
+pub data RunsBegin {X : Type 0} (state : X → DiskState) (k : Mechanism) (side : Side)
+    (from to : SourceState)
     (start now : X) : Ending → List ℕ → Type 0 where
-  had_no_key : (ending : Ending) → IsNoInput KEY_TEXT_LIMIT key_of BadKey from left before after ending → now ≡ start
-      → RunsBegin state k side from left before after start now ending []
-  had_key : (key : List ℕ) (ending : Ending) (lines : List ℕ) → IsInput KEY_TEXT_LIMIT key_of from left before after key
-      → Begins state k key side start now ending lines → RunsBegin state k side from left before after start now ending lines
+  had_no_key : (ending : Ending) → IsNoInput KEY_TEXT_LIMIT key_of BadKey from to ending
+      → now ≡ start
+      → RunsBegin state k side from to start now ending []
+  had_key : (key : List ℕ) (ending : Ending) (lines : List ℕ)
+      → IsInput KEY_TEXT_LIMIT key_of from to key
+      → Begins state k key side start now ending lines
+      → RunsBegin state k side from to start now ending lines

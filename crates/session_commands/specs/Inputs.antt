@@ -2,6 +2,7 @@
 use Rattle.std.specs.Prelude.{Err, IfSome, List, None, Ok, Option, Result, Some, [], drop, get_or, if◌then◌else◌, length, nat_le, option_map, take, ℕ, ◌&&◌, ◌+◌, ◌-◌, ◌/◌, ◌<◌, ◌==◌, ◌≡◌, ◌≤◌}
 use Rattle.dr_base.specs.Causes.{Rose}
 use Rattle.dr_ports.specs.Reading.{GaveAtMost}
+use Rattle.dr_ports.specs.States.{SourceState}
 use Rattle.endings.specs.declared.ending.Ending.{Ending}
 use Rattle.endings.specs.declared.ending.Ending.TheVariants.{InputTooLong, NoMemory, ReadFault}
 use Rattle.hex.specs.Hex.{decode_sized}
@@ -24,25 +25,32 @@ packet_of text = where_ok (decode_sized (stripped text) (length (stripped text) 
 unfoldable pub key_of : List ℕ → Option (List ℕ)
 key_of text = where_ok (decode_sized (stripped text) 32)
 
--- All was read, and is this value. The source had `from` and has `left`.
-pub record IsInput (limit : ℕ) (parse : List ℕ → Option (List ℕ)) (from left : Option (List ℕ)) (before now : ℕ) (value : List ℕ) : Type 0 where
-  pub text : IfSome from (λ text. (length text ≤ limit) × (parse text ≡ Some value))
-  pub drained : IfSome left (λ rest. rest ≡ [])
-  pub quiet : now ≡ before
+-- All was read, and is this value. The source stood as `from` says and stands as `to` does.
+pub record IsInput (limit : ℕ) (parse : List ℕ → Option (List ℕ)) (from to : SourceState)
+    (value : List ℕ) : Type 0 where
+  pub text : IfSome from.left (λ text. (length text ≤ limit) × (parse text ≡ Some value))
+  pub drained : IfSome to.left (λ rest. rest ≡ [])
+  pub quiet : to.faults ≡ from.faults
 
 -- Why there is no value, by how the command then ends.
-pub data IsNoInput (limit : ℕ) (parse : List ℕ → Option (List ℕ)) (bad : Ending) (from left : Option (List ℕ)) (before now : ℕ)
+pub data IsNoInput (limit : ℕ) (parse : List ℕ → Option (List ℕ)) (bad : Ending)
+    (from to : SourceState)
     : Ending → Type 0 where
   -- nothing was read
-  had_no_memory : left ≡ from → now ≡ before → IsNoInput limit parse bad from left before now NoMemory
-  read_failed : GaveAtMost (limit + 1) from left → Rose before now → IsNoInput limit parse bad from left before now ReadFault
+  had_no_memory : to.left ≡ from.left → to.faults ≡ from.faults
+      → IsNoInput limit parse bad from to NoMemory
+  read_failed : GaveAtMost (limit + 1) from.left to.left → Rose from.faults to.faults
+      → IsNoInput limit parse bad from to ReadFault
   -- one byte past the limit was read
-  is_too_long : IfSome from (λ text. limit < length text) → left ≡ option_map (drop (limit + 1)) from → now ≡ before
-      → IsNoInput limit parse bad from left before now (InputTooLong limit)
-  is_bad : IfSome from (λ text. (length text ≤ limit) × (parse text ≡ None)) → IfSome left (λ rest. rest ≡ []) → now ≡ before
-      → IsNoInput limit parse bad from left before now bad
+  is_too_long : IfSome from.left (λ text. limit < length text)
+      → to.left ≡ option_map (drop (limit + 1)) from.left → to.faults ≡ from.faults
+      → IsNoInput limit parse bad from to (InputTooLong limit)
+  is_bad : IfSome from.left (λ text. (length text ≤ limit) × (parse text ≡ None))
+      → IfSome to.left (λ rest. rest ≡ []) → to.faults ≡ from.faults
+      → IsNoInput limit parse bad from to bad
 
 -- the value, or how the command ends
-abbrev pub ReadsInput : {V : Type 0} → (V → List ℕ) → ℕ → (List ℕ → Option (List ℕ)) → Ending → Option (List ℕ) → Option (List ℕ) → ℕ → ℕ → Result V Ending → Type 0
-ReadsInput bytes limit parse bad from left before now (Ok value) = IsInput limit parse from left before now (bytes value)
-ReadsInput bytes limit parse bad from left before now (Err ending) = IsNoInput limit parse bad from left before now ending
+abbrev pub ReadsInput : {V : Type 0} → (V → List ℕ) → ℕ → (List ℕ → Option (List ℕ)) → Ending
+    → SourceState → SourceState → Result V Ending → Type 0
+ReadsInput bytes limit parse bad from to (Ok value) = IsInput limit parse from to (bytes value)
+ReadsInput bytes limit parse bad from to (Err ending) = IsNoInput limit parse bad from to ending

@@ -1,6 +1,7 @@
 -- A command as a whole: how it ended, its lines, and what was written of them.
-use Rattle.std.specs.Prelude.{List, Option, [], ℕ, ◌≡◌}
+use Rattle.std.specs.Prelude.{List, [], ℕ, ◌≡◌}
 use Rattle.dr_disk.specs.State.{DiskState}
+use Rattle.dr_ports.specs.States.{SinkState, SourceState}
 use Rattle.endings.specs.Ends.{Ends}
 use Rattle.endings.specs.declared.ending.Ending.{Ending}
 use Rattle.endings.specs.declared.ending.Ending.TheVariants.{NotHex}
@@ -10,16 +11,20 @@ use Rattle.session_commands.specs.InWorlds.{RunsAct}
 use Rattle.session_commands.specs.Inputs.{IsInput, IsNoInput, packet_of}
 use Rattle.session_commands.specs.declared.input.TheConstants.{PACKET_TEXT_LIMIT}
 
-pub record Runs (comes : Ending → List ℕ → Type 0) (old new : Option (List ℕ)) (before now code : ℕ) : Type 0 where
+pub record Runs (comes : Ending → List ℕ → Type 0) (old new : SinkState) (code : ℕ) : Type 0 where
   pub ending : Ending
   pub lines : List ℕ
   pub came : comes ending lines
-  pub ends : Ends ending lines old new before now code
+  pub ends : Ends ending lines old new code
 
 -- Taking: the source holds no packet, and the disk is left alone; or the client takes it.
-pub data RunsTake {X : Type 0} (state : X → DiskState) (k : Mechanism) (from left : Option (List ℕ)) (before after : ℕ) (start now : X)
+pub data RunsTake {X : Type 0} (state : X → DiskState) (k : Mechanism) (from to : SourceState)
+    (start now : X)
     : Ending → List ℕ → Type 0 where
-  had_no_packet : (ending : Ending) → IsNoInput PACKET_TEXT_LIMIT packet_of NotHex from left before after ending → now ≡ start
-      → RunsTake state k from left before after start now ending []
-  had_packet : (packet : List ℕ) (ending : Ending) (lines : List ℕ) → IsInput PACKET_TEXT_LIMIT packet_of from left before after packet
-      → RunsAct state k (asked_take k packet) start now ending lines → RunsTake state k from left before after start now ending lines
+  had_no_packet : (ending : Ending) → IsNoInput PACKET_TEXT_LIMIT packet_of NotHex from to ending
+      → now ≡ start
+      → RunsTake state k from to start now ending []
+  had_packet : (packet : List ℕ) (ending : Ending) (lines : List ℕ)
+      → IsInput PACKET_TEXT_LIMIT packet_of from to packet
+      → RunsAct state k (asked_take k packet) start now ending lines
+      → RunsTake state k from to start now ending lines

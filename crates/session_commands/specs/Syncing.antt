@@ -1,5 +1,5 @@
 -- What the command that syncs with a relay comes to, before its last line.
-use Rattle.std.specs.Prelude.{Err, List, Ok, Option, Result, Some, [], length, option_map, take, ℕ, ⊤, ◌++◌, ◌-◌, ◌<◌, ◌^◌, ◌≡◌, ◌⊎◌}
+use Rattle.std.specs.Prelude.{Err, List, Ok, Result, Some, [], length, option_map, take, ℕ, ⊤, ◌++◌, ◌-◌, ◌<◌, ◌^◌, ◌≡◌, ◌⊎◌}
 use Rattle.std.specs.List.{AllByRecursion}
 use Rattle.dr_base.specs.Causes.{Rose}
 use Rattle.dr_base.specs.declared.position.Side.{Side}
@@ -9,6 +9,7 @@ use Rattle.dr_model.specs.Machines.WorldSides.{kept_in}
 use Rattle.dr_model.specs.Machines.Worlds.{World}
 use Rattle.dr_model.specs.Theorems.LawfulWorlds.{IsLawfulWorld}
 use Rattle.dr_ports.specs.Ports.{appended}
+use Rattle.dr_ports.specs.States.{SinkState}
 use Rattle.dr_ports.specs.Wires.{Port, connected, hung_up}
 use Rattle.dr_ports.specs.Writing.{TookBeginning}
 use Rattle.dr_ports.specs.declared.pipe.Part.TheVariants.{Flow, Gate}
@@ -70,9 +71,10 @@ sync_lines p kept replies (Err (SyncStore call)) = (course_of p kept (take (leng
 sync_lines p kept replies _ = all_lines p (course_of p kept replies)
 
 -- they were written, or a write failed after a beginning of them
-abbrev pub HasWritten : List ℕ → Option (List ℕ) → Option (List ℕ) → ℕ → ℕ → Result More SyncFault → Type 0
-HasWritten lines old new before now (Err SyncWrite) = TookBeginning old new lines × Rose before now
-HasWritten lines old new before now _ = (new ≡ appended old lines) × (now ≡ before)
+abbrev pub HasWritten : List ℕ → SinkState → SinkState → Result More SyncFault → Type 0
+HasWritten lines old new (Err SyncWrite) = TookBeginning old.taken new.taken lines
+    × Rose old.faults new.faults
+HasWritten lines old new _ = (new.taken ≡ appended old.taken lines) × (new.faults ≡ old.faults)
 
 -- ---- what the disk holds
 

@@ -46,9 +46,9 @@ fn read_and_begin<K: Kem, D: Disk, S: Source>(
     source: &mut S,
 ) -> Result<OutputLine, Ending>
     requires { IsWithin client_area (D.state disk.old) }
-    ensures runs { RunsBegin D.state K.mechanism side (S.left source.old) (S.left source.new) (S.faults source.old) (S.faults source.new)
+    ensures runs { RunsBegin D.state K.mechanism side (S.at source.old) (S.at source.new)
         disk.old disk.new (begun_ending result) (begun_lines result) }
-    ensures later { S.faults source.old ≤ S.faults source.new }
+    ensures later { (S.at source.old).faults ≤ (S.at source.new).faults }
 {
     match read_key(alloc, source) {
         Err(ending) => Err(ending),
@@ -65,13 +65,14 @@ pub fn begin<K: Kem, D: Disk, S: Source, O: Sink>(
     out: &mut O,
 ) -> Status
     requires { IsWithin client_area (D.state disk.old) }
-    ensures runs { Runs (RunsBegin D.state K.mechanism side (S.left source.old) (S.left source.new) (S.faults source.old) (S.faults source.new) disk.old disk.new)
-        (O.taken out.old) (O.taken out.new) (O.faults out.old) (O.faults out.new) result.code }
+    ensures runs { Runs (RunsBegin D.state K.mechanism side (S.at source.old) (S.at source.new) disk.old disk.new)
+        (O.at out.old) (O.at out.new) result.code }
     // Status 0 says that no call failed.
     ensures quiet { result.code ≡ 0 → IsQuiet (D.state disk.old) (D.state disk.new)
-        × (O.faults out.new ≡ O.faults out.old) × (S.faults source.new ≡ S.faults source.old) }
-    ensures reads { S.faults source.old ≤ S.faults source.new }
-    ensures later { O.faults out.old ≤ O.faults out.new }
+        × ((O.at out.new).faults ≡ (O.at out.old).faults)
+        × ((S.at source.new).faults ≡ (S.at source.old).faults) }
+    ensures reads { (S.at source.old).faults ≤ (S.at source.new).faults }
+    ensures later { (O.at out.old).faults ≤ (O.at out.new).faults }
 {
     match read_and_begin::<K, D, S>(alloc, side, disk, source) {
         Err(ending) => finish(out, ending),

@@ -1,6 +1,7 @@
 //! The end of a command: its lines, and its last line.
 
-ghost use Rattle.std.specs.Prelude.{◌≡◌, ◌≤◌, ℕ, List, Option};
+ghost use Rattle.std.specs.Prelude.{◌≡◌, ◌≤◌, ℕ, List};
+ghost use Rattle.dr_ports.specs.States.{SinkState};
 ghost use Rattle.dr_ports.specs.Writing.{Writes};
 ghost use Rattle.endings.specs.Ends.{Ends};
 ghost use Rattle.endings.specs.declared.ending.Ending.TheVariants.{Done};
@@ -23,9 +24,9 @@ fn answer_line(answer: Answer) -> OutputLine
 
 /// The status of a command that did its work and whose lines were written, or of which a write failed.
 pub(crate) fn finish_written<O: Sink>(out: &mut O, wrote: Result<(), Failed>) -> Status
-    ensures ends { (lines : List ℕ) (old : Option (List ℕ)) (before : ℕ) → Writes old (O.taken out.old) before (O.faults out.old) lines wrote
-        → Ends Done lines old (O.taken out.new) before (O.faults out.new) result.code }
-    ensures later { O.faults out.old ≤ O.faults out.new }
+    ensures ends { (lines : List ℕ) (old : SinkState) → Writes old (O.at out.old) lines wrote
+        → Ends Done lines old (O.at out.new) result.code }
+    ensures later { (O.at out.old).faults ≤ (O.at out.new).faults }
 {
     match wrote {
         Ok(()) => finish(out, Ending::Done),
@@ -35,8 +36,8 @@ pub(crate) fn finish_written<O: Sink>(out: &mut O, wrote: Result<(), Failed>) ->
 
 /// Writes the lines of a command that did its work.
 pub(crate) fn finish_with<O: Sink>(out: &mut O, lines: &[u8]) -> Status
-    ensures ends { Ends Done lines.now (O.taken out.old) (O.taken out.new) (O.faults out.old) (O.faults out.new) result.code }
-    ensures later { O.faults out.old ≤ O.faults out.new }
+    ensures ends { Ends Done lines.now (O.at out.old) (O.at out.new) result.code }
+    ensures later { (O.at out.old).faults ≤ (O.at out.new).faults }
 {
     let wrote = write_all(out, lines);
     finish_written(out, wrote)
@@ -44,8 +45,8 @@ pub(crate) fn finish_with<O: Sink>(out: &mut O, lines: &[u8]) -> Status
 
 /// Writes the line of an answer, or the last line of another ending.
 pub(crate) fn close<O: Sink>(out: &mut O, worked: Result<Answer, Ending>) -> Status
-    ensures ends { Ends (ending_by worked) (lines_by worked) (O.taken out.old) (O.taken out.new) (O.faults out.old) (O.faults out.new) result.code }
-    ensures later { O.faults out.old ≤ O.faults out.new }
+    ensures ends { Ends (ending_by worked) (lines_by worked) (O.at out.old) (O.at out.new) result.code }
+    ensures later { (O.at out.old).faults ≤ (O.at out.new).faults }
 {
     match worked {
         Ok(answer) => finish_with(out, answer_line(answer).as_bytes()),

@@ -38,10 +38,11 @@ fn drop_texts<K: Kem, D: Disk>(alloc: Global, n: u32, disk: &mut D) -> Result<An
 pub fn done<K: Kem, D: Disk, O: Sink>(alloc: Global, n: u32, disk: &mut D, out: &mut O) -> Status
     requires { IsWithin client_area (D.state disk.old) }
     ensures runs { Runs (RunsAct D.state K.mechanism (asked_drop (finishing n)) disk.old disk.new)
-        (O.taken out.old) (O.taken out.new) (O.faults out.old) (O.faults out.new) result.code }
+        (O.at out.old) (O.at out.new) result.code }
     // Status 0 says that no call failed.
-    ensures quiet { result.code ≡ 0 → IsQuiet (D.state disk.old) (D.state disk.new) × (O.faults out.new ≡ O.faults out.old) }
-    ensures later { O.faults out.old ≤ O.faults out.new }
+    ensures quiet { result.code ≡ 0 → IsQuiet (D.state disk.old) (D.state disk.new)
+        × ((O.at out.new).faults ≡ (O.at out.old).faults) }
+    ensures later { (O.at out.old).faults ≤ (O.at out.new).faults }
 {
     let worked = drop_texts::<K, D>(alloc, n, disk);
     close(out, worked)
@@ -65,10 +66,11 @@ fn drop_packets<K: Kem, D: Disk>(alloc: Global, n: u32, disk: &mut D) -> Result<
 pub fn sent<K: Kem, D: Disk, O: Sink>(alloc: Global, n: u32, disk: &mut D, out: &mut O) -> Status
     requires { IsWithin client_area (D.state disk.old) }
     ensures runs { Runs (RunsAct D.state K.mechanism (asked_drop (sending n)) disk.old disk.new)
-        (O.taken out.old) (O.taken out.new) (O.faults out.old) (O.faults out.new) result.code }
+        (O.at out.old) (O.at out.new) result.code }
     // Status 0 says that no call failed.
-    ensures quiet { result.code ≡ 0 → IsQuiet (D.state disk.old) (D.state disk.new) × (O.faults out.new ≡ O.faults out.old) }
-    ensures later { O.faults out.old ≤ O.faults out.new }
+    ensures quiet { result.code ≡ 0 → IsQuiet (D.state disk.old) (D.state disk.new)
+        × ((O.at out.new).faults ≡ (O.at out.old).faults) }
+    ensures later { (O.at out.old).faults ≤ (O.at out.new).faults }
 {
     let worked = drop_packets::<K, D>(alloc, n, disk);
     close(out, worked)

@@ -56,7 +56,7 @@ pub fn stays_whole<D: Disk>(before: &D, after: &D, crashed: &D)
 /// `client` over whole runs hold of runs of commands.
 pub fn runs_are_links<D: Disk, W: Draws>(before: &D, after: &D, draws: &W, left: &W)
     ensures says { (k : Mechanism) → IsLawfulMechanism k → (side : Side) (known : Known) (w : World) → IsOneOf known w → IsLawfulWorld k w
-        → (text : List ℕ) → LinksActs k side known w (asked_say W.coming W.faults text draws.now left.now) (D.state before.now) (D.state after.now) }
+        → (text : List ℕ) → LinksActs k side known w (asked_say W.at text draws.now left.now) (D.state before.now) (D.state after.now) }
     ensures takes { (k : Mechanism) → IsLawfulMechanism k → (side : Side) (known : Known) (w : World) → IsOneOf known w → IsLawfulWorld k w
         → (packet : List ℕ) → LinksActs k side known w (asked_take k packet) (D.state before.now) (D.state after.now) }
     ensures drops { (k : Mechanism) → IsLawfulMechanism k → (side : Side) (known : Known) (w : World) → IsOneOf known w → IsLawfulWorld k w
@@ -81,7 +81,7 @@ pub fn runs_are_links<D: Disk, W: Draws>(before: &D, after: &D, draws: &W, left:
 pub fn crashes_are_links<D: Disk, W: Draws>(before: &D, after: &D, crashed: &D, draws: &W, left: &W)
     ensures says { (k : Mechanism) (side : Side) (known : Known) (w : World) → IsOneOf known w
         → ((c : List ℕ) → (D.state crashed.now).image c → IsLeftBetween (D.state before.now) (D.state after.now) c)
-        → (text : List ℕ) → LinksCuts k side known w (asked_say W.coming W.faults text draws.now left.now) (D.state before.now) (D.state after.now) (D.state crashed.now) }
+        → (text : List ℕ) → LinksCuts k side known w (asked_say W.at text draws.now left.now) (D.state before.now) (D.state after.now) (D.state crashed.now) }
     ensures takes { (k : Mechanism) (side : Side) (known : Known) (w : World) → IsOneOf known w
         → ((c : List ℕ) → (D.state crashed.now).image c → IsLeftBetween (D.state before.now) (D.state after.now) c)
         → (packet : List ℕ) → LinksCuts k side known w (asked_take k packet) (D.state before.now) (D.state after.now) (D.state crashed.now) }

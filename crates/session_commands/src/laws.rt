@@ -20,8 +20,8 @@ use dr_ports::Draws;
 pub fn complete<D: Disk, W: Draws>(before: &D, after: &D, draws: &W, left: &W)
     ensures says { (k : Mechanism) (w : World) (side : Side) (text : List ℕ) (ending : Ending) (lines : List ℕ)
         → ReadsWhole k w side (D.state before.now) → NoneFailed (D.state before.now) (D.state after.now)
-        → IsAccepted k w side (asked_say W.coming W.faults text draws.now left.now)
-        → RunsAct D.state k (asked_say W.coming W.faults text draws.now left.now) before.now after.now ending lines → DidWork ending }
+        → IsAccepted k w side (asked_say W.at text draws.now left.now)
+        → RunsAct D.state k (asked_say W.at text draws.now left.now) before.now after.now ending lines → DidWork ending }
     ensures takes { (k : Mechanism) (w : World) (side : Side) (packet : List ℕ) (ending : Ending) (lines : List ℕ)
         → ReadsWhole k w side (D.state before.now) → NoneFailed (D.state before.now) (D.state after.now)
         → IsAccepted k w side (asked_take k packet)

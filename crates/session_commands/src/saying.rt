@@ -27,7 +27,7 @@ fn say_text<K: Kem, D: Disk, W: Draws>(
     draws: &mut W,
 ) -> Result<Answer, Ending>
     requires { IsWithin client_area (D.state disk.old) }
-    ensures { RunsAct D.state K.mechanism (asked_say W.coming W.faults text.now draws.old draws.new) disk.old disk.new
+    ensures { RunsAct D.state K.mechanism (asked_say W.at text.now draws.old draws.new) disk.old disk.new
         (ending_by result) (lines_by result) }
 {
     match Client::<K>::open(alloc, disk) {
@@ -48,12 +48,13 @@ pub fn say<K: Kem, D: Disk, O: Sink, W: Draws>(
     draws: &mut W,
 ) -> Status
     requires { IsWithin client_area (D.state disk.old) }
-    ensures runs { Runs (RunsAct D.state K.mechanism (asked_say W.coming W.faults text.now draws.old draws.new) disk.old disk.new)
-        (O.taken out.old) (O.taken out.new) (O.faults out.old) (O.faults out.new) result.code }
+    ensures runs { Runs (RunsAct D.state K.mechanism (asked_say W.at text.now draws.old draws.new) disk.old disk.new)
+        (O.at out.old) (O.at out.new) result.code }
     // Status 0 says that no call failed.
     ensures quiet { result.code ≡ 0 → IsQuiet (D.state disk.old) (D.state disk.new)
-        × (O.faults out.new ≡ O.faults out.old) × (W.faults draws.new ≡ W.faults draws.old) }
-    ensures later { O.faults out.old ≤ O.faults out.new }
+        × ((O.at out.new).faults ≡ (O.at out.old).faults)
+        × ((W.at draws.new).faults ≡ (W.at draws.old).faults) }
+    ensures later { (O.at out.old).faults ≤ (O.at out.new).faults }
 {
     let worked = say_text::<K, D, W>(alloc, text, disk, draws);
     close(out, worked)

@@ -25,7 +25,7 @@ use std::alloc::Global;
 /// Writes the line of a text.
 fn write_text<K: Kem, O: Sink>(client: &Client<K>, out: &mut O, at: usize) -> Result<(), Failed>
     requires { at < length client.now.kept.inbox }
-    ensures { (d : Item) → Writes (O.taken out.old) (O.taken out.new) (O.faults out.old) (O.faults out.new)
+    ensures { (d : Item) → Writes (O.at out.old) (O.at out.new)
         (text_line [] (slice_index_or client.now.kept.inbox at d)) result }
 {
     match client.inbox(at) {
@@ -37,7 +37,7 @@ fn write_text<K: Kem, O: Sink>(client: &Client<K>, out: &mut O, at: usize) -> Re
 /// Writes the line of a packet.
 fn write_packet<K: Kem, O: Sink>(client: &Client<K>, out: &mut O, at: usize) -> Result<(), Failed>
     requires { at < length client.now.kept.outbox }
-    ensures { (d : Item) → Writes (O.taken out.old) (O.taken out.new) (O.faults out.old) (O.faults out.new)
+    ensures { (d : Item) → Writes (O.at out.old) (O.at out.new)
         (packet_line (slice_index_or client.now.kept.outbox at d)) result }
 {
     match client.outbox(at) {
@@ -48,7 +48,7 @@ fn write_packet<K: Kem, O: Sink>(client: &Client<K>, out: &mut O, at: usize) -> 
 
 /// Writes the lines of the inbox.
 fn write_inbox<K: Kem, O: Sink>(client: &Client<K>, out: &mut O) -> Result<(), Failed>
-    ensures { Writes (O.taken out.old) (O.taken out.new) (O.faults out.old) (O.faults out.new) (inbox_lines client.now.kept) result }
+    ensures { Writes (O.at out.old) (O.at out.new) (inbox_lines client.now.kept) result }
 {
     'texts: for at in 0..client.state().inbox {
         match write_text(client, out, at as usize) {
@@ -61,7 +61,7 @@ fn write_inbox<K: Kem, O: Sink>(client: &Client<K>, out: &mut O) -> Result<(), F
 
 /// Writes the lines of the outbox.
 fn write_outbox<K: Kem, O: Sink>(client: &Client<K>, out: &mut O) -> Result<(), Failed>
-    ensures { Writes (O.taken out.old) (O.taken out.new) (O.faults out.old) (O.faults out.new) (outbox_lines client.now.kept) result }
+    ensures { Writes (O.at out.old) (O.at out.new) (outbox_lines client.now.kept) result }
 {
     'packets: for at in 0..client.state().outbox {
         match write_packet(client, out, at as usize) {
@@ -74,7 +74,7 @@ fn write_outbox<K: Kem, O: Sink>(client: &Client<K>, out: &mut O) -> Result<(), 
 
 /// Writes the six lines of what the client is and holds.
 fn write_state<K: Kem, O: Sink>(client: &Client<K>, out: &mut O) -> Result<(), Failed>
-    ensures { Writes (O.taken out.old) (O.taken out.new) (O.faults out.old) (O.faults out.new) (state_lines client.now.kept) result }
+    ensures { Writes (O.at out.old) (O.at out.new) (state_lines client.now.kept) result }
 {
     match write_all(out, name_lines(client).as_bytes()) {
         Err(Failed) => Err(Failed),
@@ -86,10 +86,11 @@ fn write_state<K: Kem, O: Sink>(client: &Client<K>, out: &mut O) -> Result<(), F
 pub fn inbox<K: Kem, D: Disk, O: Sink>(alloc: Global, disk: &mut D, out: &mut O) -> Status
     requires { IsWithin client_area (D.state disk.old) }
     ensures runs { Runs (RunsShow D.state K.mechanism inbox_lines disk.old disk.new)
-        (O.taken out.old) (O.taken out.new) (O.faults out.old) (O.faults out.new) result.code }
+        (O.at out.old) (O.at out.new) result.code }
     // Status 0 says that no call failed.
-    ensures quiet { result.code ≡ 0 → IsQuiet (D.state disk.old) (D.state disk.new) × (O.faults out.new ≡ O.faults out.old) }
-    ensures later { O.faults out.old ≤ O.faults out.new }
+    ensures quiet { result.code ≡ 0 → IsQuiet (D.state disk.old) (D.state disk.new)
+        × ((O.at out.new).faults ≡ (O.at out.old).faults) }
+    ensures later { (O.at out.old).faults ≤ (O.at out.new).faults }
 {
     match Client::<K>::open(alloc, disk) {
         Err(refusal) => finish(out, unopened(refusal)),
@@ -104,10 +105,11 @@ pub fn inbox<K: Kem, D: Disk, O: Sink>(alloc: Global, disk: &mut D, out: &mut O)
 pub fn outbox<K: Kem, D: Disk, O: Sink>(alloc: Global, disk: &mut D, out: &mut O) -> Status
     requires { IsWithin client_area (D.state disk.old) }
     ensures runs { Runs (RunsShow D.state K.mechanism outbox_lines disk.old disk.new)
-        (O.taken out.old) (O.taken out.new) (O.faults out.old) (O.faults out.new) result.code }
+        (O.at out.old) (O.at out.new) result.code }
     // Status 0 says that no call failed.
-    ensures quiet { result.code ≡ 0 → IsQuiet (D.state disk.old) (D.state disk.new) × (O.faults out.new ≡ O.faults out.old) }
-    ensures later { O.faults out.old ≤ O.faults out.new }
+    ensures quiet { result.code ≡ 0 → IsQuiet (D.state disk.old) (D.state disk.new)
+        × ((O.at out.new).faults ≡ (O.at out.old).faults) }
+    ensures later { (O.at out.old).faults ≤ (O.at out.new).faults }
 {
     match Client::<K>::open(alloc, disk) {
         Err(refusal) => finish(out, unopened(refusal)),
@@ -122,10 +124,11 @@ pub fn outbox<K: Kem, D: Disk, O: Sink>(alloc: Global, disk: &mut D, out: &mut O
 pub fn state<K: Kem, D: Disk, O: Sink>(alloc: Global, disk: &mut D, out: &mut O) -> Status
     requires { IsWithin client_area (D.state disk.old) }
     ensures runs { Runs (RunsShow D.state K.mechanism state_lines disk.old disk.new)
-        (O.taken out.old) (O.taken out.new) (O.faults out.old) (O.faults out.new) result.code }
+        (O.at out.old) (O.at out.new) result.code }
     // Status 0 says that no call failed.
-    ensures quiet { result.code ≡ 0 → IsQuiet (D.state disk.old) (D.state disk.new) × (O.faults out.new ≡ O.faults out.old) }
-    ensures later { O.faults out.old ≤ O.faults out.new }
+    ensures quiet { result.code ≡ 0 → IsQuiet (D.state disk.old) (D.state disk.new)
+        × ((O.at out.new).faults ≡ (O.at out.old).faults) }
+    ensures later { (O.at out.old).faults ≤ (O.at out.new).faults }
 {
     match Client::<K>::open(alloc, disk) {
         Err(refusal) => finish(out, unopened(refusal)),

@@ -1,7 +1,8 @@
 //! The command that syncs with a relay.
 
-ghost use Rattle.std.specs.Prelude.{◌≡◌, ◌≢◌, ◌≤◌, ℕ, List, Err, Ok, Option, IfErr};
+ghost use Rattle.std.specs.Prelude.{◌≡◌, ◌≢◌, ◌≤◌, ℕ, List, Err, Ok, IfErr};
 ghost use Rattle.dr_disk.specs.Spans.{IsQuiet};
+ghost use Rattle.dr_ports.specs.States.{SinkState};
 ghost use Rattle.dr_ports.specs.declared.pipe.Part.{Part};
 ghost use Rattle.slot_store.specs.Store.{IsWithin};
 ghost use Rattle.sync_model.specs.declared.more.More.{More};
@@ -43,11 +44,11 @@ fn broken_off(fault: SyncFault) -> Ending
 /// Writes the last line after those of a sync that broke off, if no write failed in it.
 fn close_broken<O: Sink>(out: &mut O, fault: SyncFault) -> Status
     requires { IsNear fault }
-    ensures ends { (lines : List ℕ) (old : Option (List ℕ)) (before : ℕ)
-        → HasWritten lines old (O.taken out.old) before (O.faults out.old) (Err fault)
-        → Ends (ending_of_fault fault) lines old (O.taken out.new) before (O.faults out.new) result.code }
+    ensures ends { (lines : List ℕ) (old : SinkState)
+        → HasWritten lines old (O.at out.old) (Err fault)
+        → Ends (ending_of_fault fault) lines old (O.at out.new) result.code }
     ensures fails { result.code ≢ 0 }
-    ensures later { O.faults out.old ≤ O.faults out.new }
+    ensures later { (O.at out.old).faults ≤ (O.at out.new).faults }
 {
     match fault {
         SyncFault::Write => UNWRITTEN,
@@ -58,12 +59,11 @@ fn close_broken<O: Sink>(out: &mut O, fault: SyncFault) -> Status
 /// Writes the last line after those of a sync.
 fn close<O: Sink>(out: &mut O, synced: Result<More, SyncFault>) -> Status
     requires { IfErr synced IsNear }
-    ensures ends { (lines : List ℕ) (old : Option (List ℕ)) (before : ℕ)
-        → HasWritten lines old (O.taken out.old) before (O.faults out.old) synced
-        → Ends (ending_of_sync synced) lines old (O.taken out.new) before (O.faults out.new) result.code }
+    ensures ends { (lines : List ℕ) (old : SinkState) → HasWritten lines old (O.at out.old) synced
+        → Ends (ending_of_sync synced) lines old (O.at out.new) result.code }
     ensures done { result.code ≡ 0 → (more : More) × (synced ≡ Ok more) }
-    ensures quiet { result.code ≡ 0 → O.faults out.new ≡ O.faults out.old }
-    ensures later { O.faults out.old ≤ O.faults out.new }
+    ensures quiet { result.code ≡ 0 → (O.at out.new).faults ≡ (O.at out.old).faults }
+    ensures later { (O.at out.old).faults ≤ (O.at out.new).faults }
 {
     match synced {
         Ok(_) => finish(out, Ending::Done),
@@ -81,12 +81,13 @@ pub fn sync<K: Kem, D: Disk, L: Link, O: Sink>(
     out: &mut O,
 ) -> Status
     requires { IsWithin client_area (D.state disk.old) }
-    ensures runs { Runs (RunsSync D.state L.port K.mechanism address.now disk.old disk.new link.old link.new (O.faults out.old) (O.faults out.new))
-        (O.taken out.old) (O.taken out.new) (O.faults out.old) (O.faults out.new) result.code }
+    ensures runs { Runs (RunsSync D.state L.port K.mechanism address.now disk.old disk.new link.old link.new (O.at out.old).faults (O.at out.new).faults)
+        (O.at out.old) (O.at out.new) result.code }
     // Status 0 says that no call failed.
-    ensures quiet { result.code ≡ 0 → IsQuiet (D.state disk.old) (D.state disk.new) × (O.faults out.new ≡ O.faults out.old)
+    ensures quiet { result.code ≡ 0 → IsQuiet (D.state disk.old) (D.state disk.new)
+        × ((O.at out.new).faults ≡ (O.at out.old).faults)
         × ((part : Part) → (L.port link.new).faults part ≡ (L.port link.old).faults part) }
-    ensures later { O.faults out.old ≤ O.faults out.new }
+    ensures later { (O.at out.old).faults ≤ (O.at out.new).faults }
 {
     match Client::<K>::open(alloc, disk) {
         Err(refusal) => finish(out, unopened(refusal)),

@@ -74,7 +74,7 @@ module _ (k : Mechanism) (prefix own peers : List ℕ) (s : Client) (n number : 
   took_wait full is = ap (λ (m : Move Client). m.wait) (took_is full is)
 
   module _ (a b : Moment) where
-    pub collected_unstored : (call : Call) → BrokenOff made.next call a b → b.taken ≡ a.taken → b.faults ≡ a.faults → Turns took a b (stops (Store call))
+    pub collected_unstored : (call : Call) → BrokenOff made.next call a b → b.sink.taken ≡ a.sink.taken → b.sink.faults ≡ a.sink.faults → Turns took a b (stops (Store call))
     collected_unstored call broken taken faults = turns_unstored took made.next took_state a b call broken (wrote_nothing a b taken faults)
 
     -- the answer that was shown is the step's
@@ -83,7 +83,7 @@ module _ (k : Mechanism) (prefix own peers : List ℕ) (s : Client) (n number : 
     stopping (Err fault) = Turns took a b (stops fault)
 
     shown : Moved made.next a b → (result : Result Unit SyncFault)
-        → IsAnswered (answer_line prefix made.answer) (is_full made.answer) a.taken b.taken a.faults b.faults result → stopping result
+        → IsAnswered (answer_line prefix made.answer) (is_full made.answer) a.sink b.sink result → stopping result
     shown moved result (was_written u room wrote quiet) =
         turns_on took made.next took_state a b (answer_line prefix made.answer) (acking n number) (took_lines false room) (took_wait false room) moved (record { bytes_are = wrote; unfailing = quiet })
     shown moved result (was_cut room beginning rose) =
@@ -92,6 +92,6 @@ module _ (k : Mechanism) (prefix own peers : List ℕ) (s : Client) (n number : 
         turns_to_end took made.next took_state a b inbox_full (Refused HasNoRoom) (took_lines true full) (took_wait true full) refl moved (wrote_nothing a b taken faults)
 
     pub collected : (answer : Answer) → answer ≡ made.answer → Moved made.next a b → (result : Result Unit SyncFault)
-        → IsAnswered (answer_line prefix answer) (is_full answer) a.taken b.taken a.faults b.faults result → stopping result
+        → IsAnswered (answer_line prefix answer) (is_full answer) a.sink b.sink result → stopping result
     collected answer is moved result answered =
-        shown moved result (subst (λ (x : Answer). IsAnswered (answer_line prefix x) (is_full x) a.taken b.taken a.faults b.faults result) is answered)
+        shown moved result (subst (λ (x : Answer). IsAnswered (answer_line prefix x) (is_full x) a.sink b.sink result) is answered)

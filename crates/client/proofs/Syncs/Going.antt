@@ -34,7 +34,7 @@ use Rattle.client.proofs.Syncs.Moving.{wrote_nothing}
 
 pub wrote_more : (x y : List ℕ) (a b c : Moment) → Wrote x a b → Wrote y b c → Wrote (x ++ y) a c
 wrote_more x y a b c one two = record {
-  bytes_are = two.bytes_are ∙ ap (λ (t : Option (List ℕ)). appended t y) one.bytes_are ∙ appended-appended a.taken x y;
+  bytes_are = two.bytes_are ∙ ap (λ (t : Option (List ℕ)). appended t y) one.bytes_are ∙ appended-appended a.sink.taken x y;
   unfailing = two.unfailing ∙ one.unfailing;
 }
 
@@ -50,9 +50,9 @@ wrote_beginning x y z a b c one two = record {
         ∙ ap (λ (w : List ℕ). w ++ z) (sym (append_assoc x two.beginning.beginning two.beginning.remainder))
         ∙ append_assoc (x ++ two.beginning.beginning) two.beginning.remainder z;
     took = two.beginning.took ∙ ap (λ (t : Option (List ℕ)). appended t two.beginning.beginning) one.bytes_are
-        ∙ appended-appended a.taken x two.beginning.beginning;
+        ∙ appended-appended a.sink.taken x two.beginning.beginning;
   };
-  rose = subst (λ (n : ℕ). Rose n c.faults) one.unfailing two.rose;
+  rose = subst (λ (n : ℕ). Rose n c.sink.faults) one.unfailing two.rose;
 }
 
 module _ (p : Party Client) where

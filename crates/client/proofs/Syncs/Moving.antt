@@ -25,8 +25,8 @@ still client disk is_open ready = record {
 }
 
 -- nothing was written
-pub wrote_nothing : (a b : Moment) → b.taken ≡ a.taken → b.faults ≡ a.faults → Wrote [] a b
-wrote_nothing a b taken faults = record { bytes_are = taken ∙ appended-none a.taken; unfailing = faults }
+pub wrote_nothing : (a b : Moment) → b.sink.taken ≡ a.sink.taken → b.sink.faults ≡ a.sink.faults → Wrote [] a b
+wrote_nothing a b taken faults = record { bytes_are = taken ∙ appended-none a.sink.taken; unfailing = faults }
 
 -- a refusal changes nothing
 pub refused_still : {X : Type 0} (state : X → DiskState) (made : Result (Step Client) Refusal) (refusal : Refusal) (old new : ClientNow) (start now : X)

@@ -1,10 +1,11 @@
 -- What a sync finds and leaves, but for the link.
-use Rattle.std.specs.Prelude.{Bool, Err, List, None, Ok, Option, Result, Some, false, true, ℕ, ◌≡◌}
+use Rattle.std.specs.Prelude.{Bool, Err, List, None, Ok, Result, Some, false, true, ℕ, ◌≡◌}
 use Rattle.dr_base.specs.Causes.{Rose}
 use Rattle.dr_disk.specs.Spans.{IsQuiet}
 use Rattle.dr_disk.specs.State.{DiskState, all_pass}
 use Rattle.dr_disk.specs.declared.call.Call.{Call}
 use Rattle.dr_ports.specs.Ports.{appended}
+use Rattle.dr_ports.specs.States.{SinkState}
 use Rattle.dr_ports.specs.Writing.{TookBeginning}
 use Rattle.dr_model.specs.Machines.Steps.{Step}
 use Rattle.session_model.specs.Clients.{Client}
@@ -15,15 +16,14 @@ use Rattle.client.specs.declared.syncing.faults.SyncFault.{SyncFault}
 use Rattle.client.specs.declared.syncing.faults.SyncFault.TheVariants.{Refused, Write}
 use Rattle.client.specs.declared.syncing.faults.SyncRefusal.TheVariants.{InboxFull}
 
--- at one moment: the client, its disk, and what the sink has taken, where it tells that, with its count of faults
+-- at one moment: the client, its disk, and how the sink stands
 pub record Moment : Type 1 where
   pub client : ClientNow
   pub disk : DiskState
-  pub taken : Option (List ℕ)
-  pub faults : ℕ
+  pub sink : SinkState
 
-abbrev pub moment : ClientNow → DiskState → Option (List ℕ) → ℕ → Moment
-moment client disk taken faults = record { client = client; disk = disk; taken = taken; faults = faults }
+abbrev pub moment : ClientNow → DiskState → SinkState → Moment
+moment client disk sink = record { client = client; disk = disk; sink = sink }
 
 -- From one moment to another the client came to keep this, and its disk holds that at rest; meanwhile each crash left the
 -- record of before or this one. No call on the disk failed, and where all pass, all pass from then on.
@@ -52,13 +52,13 @@ BrokenOff next call a b = IsBrokenOff next call a.client b.client a.disk b.disk
 
 -- these bytes were written, and no write failed
 pub record Wrote (bytes : List ℕ) (a b : Moment) : Type 0 where
-  pub bytes_are : b.taken ≡ appended a.taken bytes
-  pub unfailing : b.faults ≡ a.faults
+  pub bytes_are : b.sink.taken ≡ appended a.sink.taken bytes
+  pub unfailing : b.sink.faults ≡ a.sink.faults
 
 -- a write failed: a beginning of them was written
 pub record WroteBeginning (bytes : List ℕ) (a b : Moment) : Type 0 where
-  pub beginning : TookBeginning a.taken b.taken bytes
-  pub rose : Rose a.faults b.faults
+  pub beginning : TookBeginning a.sink.taken b.sink.taken bytes
+  pub rose : Rose a.sink.faults b.sink.faults
 
 -- ---- a step
 
@@ -74,7 +74,11 @@ HasGone made old new start now (Err call) = IsBrokenOff made.next call old new s
 -- ---- a line
 
 -- the answer to a packet was written, where there was room for its text
-pub data IsAnswered (line : List ℕ) (full : Bool) (old new : Option (List ℕ)) (before now : ℕ) : Result Unit SyncFault → Type 0 where
-  was_written : (u : Unit {0}) → full ≡ false → new ≡ appended old line → now ≡ before → IsAnswered line full old new before now (Ok u)
-  was_cut : full ≡ false → TookBeginning old new line → Rose before now → IsAnswered line full old new before now (Err Write)
-  had_no_room : full ≡ true → new ≡ old → now ≡ before → IsAnswered line full old new before now (Err (Refused InboxFull))
+pub data IsAnswered (line : List ℕ) (full : Bool) (old new : SinkState)
+    : Result Unit SyncFault → Type 0 where
+  was_written : (u : Unit {0}) → full ≡ false → new.taken ≡ appended old.taken line
+      → new.faults ≡ old.faults → IsAnswered line full old new (Ok u)
+  was_cut : full ≡ false → TookBeginning old.taken new.taken line → Rose old.faults new.faults
+      → IsAnswered line full old new (Err Write)
+  had_no_room : full ≡ true → new.taken ≡ old.taken → new.faults ≡ old.faults
+      → IsAnswered line full old new (Err (Refused InboxFull))

@@ -35,7 +35,7 @@ pub record CarriesReplies (boxes : List Box) (start : Port) : Type 0 where
 pub record IsUnfailing (a b : Moment) (start now : Port) : Type 0 where
   pub disk : (call : Call) → Rose (a.disk.faults call) (b.disk.faults call) → ⊥
   pub link : Rose (start.faults Flow) (now.faults Flow) → ⊥
-  pub sink : Rose a.faults b.faults → ⊥
+  pub sink : Rose a.sink.faults b.sink.faults → ⊥
 
 -- ---- what comes of it, by the replies that were read
 

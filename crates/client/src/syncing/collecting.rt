@@ -61,9 +61,8 @@ fn is_full(answer: Answer) -> bool
 
 /// Writes the answer to a packet, if there was room for its text.
 fn answered<O: Sink>(out: &mut O, prefix: &str, answer: Answer) -> Result<(), SyncFault>
-    ensures answers { IsAnswered (answer_line prefix.now answer) (is_full answer) (O.taken out.old) (O.taken out.new)
-        (O.faults out.old) (O.faults out.new) result }
-    ensures later { O.faults out.old ≤ O.faults out.new }
+    ensures answers { IsAnswered (answer_line prefix.now answer) (is_full answer) (O.at out.old) (O.at out.new) result }
+    ensures later { (O.at out.old).faults ≤ (O.at out.new).faults }
 {
     if is_full(answer) {
         return Err(SyncFault::Refused(SyncRefusal::InboxFull));
@@ -88,10 +87,10 @@ impl<K: Kem> Client<K> {
         requires ready { IsReady self.old.kept self.old.store (D.state disk.old) }
         ensures turns { (own peers : List ℕ) (n : ℕ) →
             Turns (move (party_of K.mechanism prefix.now own peers) self.old.kept (fetching n) (item number packet.now))
-            (moment self.old (D.state disk.old) (O.taken out.old) (O.faults out.old))
-            (moment self.new (D.state disk.new) (O.taken out.new) (O.faults out.new))
+            (moment self.old (D.state disk.old) (O.at out.old))
+            (moment self.new (D.state disk.new) (O.at out.new))
             (fetched_as (waiting self.new.kept) n result) }
-        ensures later { O.faults out.old ≤ O.faults out.new }
+        ensures later { (O.at out.old).faults ≤ (O.at out.new).faults }
     {
         match self.take_packet(disk, packet.bytes()) {
             Err(call) => Err(SyncFault::Store { call }),
@@ -114,10 +113,10 @@ impl<K: Kem> Client<K> {
         requires ready { IsReady self.old.kept self.old.store (D.state disk.old) }
         ensures turns { (own peers : List ℕ) (n : ℕ) →
             Turns (move (party_of K.mechanism prefix.now own peers) self.old.kept (fetching n) (replied_of reply))
-            (moment self.old (D.state disk.old) (O.taken out.old) (O.faults out.old))
-            (moment self.new (D.state disk.new) (O.taken out.new) (O.faults out.new))
+            (moment self.old (D.state disk.old) (O.at out.old))
+            (moment self.new (D.state disk.new) (O.at out.new))
             (fetched_as (waiting self.new.kept) n result) }
-        ensures later { O.faults out.old ≤ O.faults out.new }
+        ensures later { (O.at out.old).faults ≤ (O.at out.new).faults }
     {
         match reply {
             Reply::Empty => Ok(None),
@@ -140,10 +139,10 @@ impl<K: Kem> Client<K> {
         requires ready { IsReady self.old.kept self.old.store (D.state disk.old) }
         ensures round { (n : ℕ) → IsRound (party_of K.mechanism prefix.now names.now.own names.now.peers)
             (fetching n) (record { name = names.now.own; ask = fetches })
-            (moment self.old (D.state disk.old) (O.taken out.old) (O.faults out.old))
-            (moment self.new (D.state disk.new) (O.taken out.new) (O.faults out.new))
+            (moment self.old (D.state disk.old) (O.at out.old))
+            (moment self.new (D.state disk.new) (O.at out.new))
             (L.port link.old) (L.port link.new) (fetched_as (waiting self.new.kept) n result) }
-        ensures later { O.faults out.old ≤ O.faults out.new }
+        ensures later { (O.at out.old).faults ≤ (O.at out.new).faults }
         ensures flow { (L.port link.old).faults Flow ≤ (L.port link.new).faults Flow }
         ensures gate { (L.port link.new).faults Gate ≡ (L.port link.old).faults Gate }
         ensures stands { L.behind link.new ≡ L.behind link.old }
@@ -188,10 +187,10 @@ impl<K: Kem> Client<K> {
         requires is_open { self.old.closed ≡ None }
         requires ready { IsReady self.old.kept self.old.store (D.state disk.old) }
         ensures collects { Collects (party_of K.mechanism prefix.now names.now.own names.now.peers)
-            (moment self.old (D.state disk.old) (O.taken out.old) (O.faults out.old))
-            (moment self.new (D.state disk.new) (O.taken out.new) (O.faults out.new))
+            (moment self.old (D.state disk.old) (O.at out.old))
+            (moment self.new (D.state disk.new) (O.at out.new))
             (L.port link.old) (L.port link.new) result }
-        ensures later { O.faults out.old ≤ O.faults out.new }
+        ensures later { (O.at out.old).faults ≤ (O.at out.new).faults }
         ensures flow { (L.port link.old).faults Flow ≤ (L.port link.new).faults Flow }
         ensures gate { (L.port link.new).faults Gate ≡ (L.port link.old).faults Gate }
         ensures stands { L.behind link.new ≡ L.behind link.old }

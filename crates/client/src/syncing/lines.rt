@@ -11,7 +11,7 @@ use sync_model::More;
 
 /// Writes a line after a prefix.
 fn write_line<O: Sink>(out: &mut O, prefix: &str, line: &OutputLine) -> Result<(), Failed>
-    ensures { Writes (O.taken out.old) (O.taken out.new) (O.faults out.old) (O.faults out.new) (prefix.now ++ line.now) result }
+    ensures { Writes (O.at out.old) (O.at out.new) (prefix.now ++ line.now) result }
 {
     match write_all(out, prefix.as_bytes()) {
         Err(Failed) => Err(Failed),
@@ -22,7 +22,7 @@ fn write_line<O: Sink>(out: &mut O, prefix: &str, line: &OutputLine) -> Result<(
 /// Writes the answer to a packet.
 #[tactic(auto, unfolding(crate::specs::Syncing::Lines::answer_line))]
 pub(crate) fn write_answer<O: Sink>(out: &mut O, prefix: &str, answer: Answer) -> Result<(), Failed>
-    ensures { Writes (O.taken out.old) (O.taken out.new) (O.faults out.old) (O.faults out.new) (answer_line prefix.now answer) result }
+    ensures { Writes (O.at out.old) (O.at out.new) (answer_line prefix.now answer) result }
 {
     let mut line = OutputLine::new();
     put_answer(&mut line, answer);
@@ -33,7 +33,7 @@ pub(crate) fn write_answer<O: Sink>(out: &mut O, prefix: &str, answer: Answer) -
 /// Writes that the relay keeps a packet.
 #[tactic(auto, unfolding(crate::specs::Syncing::Lines::stored_line))]
 pub(crate) fn write_stored<O: Sink>(out: &mut O, prefix: &str, number: u64) -> Result<(), Failed>
-    ensures { Writes (O.taken out.old) (O.taken out.new) (O.faults out.old) (O.faults out.new) (stored_line prefix.now number) result }
+    ensures { Writes (O.at out.old) (O.at out.new) (stored_line prefix.now number) result }
 {
     let mut line = OutputLine::new();
     put_named(&mut line, b"stored ", number);
@@ -44,7 +44,7 @@ pub(crate) fn write_stored<O: Sink>(out: &mut O, prefix: &str, number: u64) -> R
 /// Writes the last line.
 #[tactic(auto, unfolding(crate::specs::Syncing::Lines::end_line))]
 pub(crate) fn write_end<O: Sink>(out: &mut O, prefix: &str, more: More) -> Result<(), Failed>
-    ensures { Writes (O.taken out.old) (O.taken out.new) (O.faults out.old) (O.faults out.new) (end_line prefix.now more) result }
+    ensures { Writes (O.at out.old) (O.at out.new) (end_line prefix.now more) result }
 {
     let mut line = OutputLine::new();
     match more {

@@ -37,11 +37,11 @@ impl<K: Kem> Client<K> {
         requires ready { IsReady self.old.kept self.old.store (D.state disk.old) }
         ensures turns { (own peers : List ℕ) (more : More) →
             Turns (move (party_of K.mechanism prefix.now own peers) self.old.kept (posting more) (stored number))
-            (moment self.old (D.state disk.old) (O.taken out.old) (O.faults out.old))
-            (moment self.new (D.state disk.new) (O.taken out.new) (O.faults out.new))
+            (moment self.old (D.state disk.old) (O.at out.old))
+            (moment self.new (D.state disk.new) (O.at out.new))
             (turn_of (waits_by (waiting self.new.kept) more) result) }
         ensures fewer { OnOk result (length self.new.kept.outbox < length self.old.kept.outbox) }
-        ensures later { O.faults out.old ≤ O.faults out.new }
+        ensures later { (O.at out.old).faults ≤ (O.at out.new).faults }
     {
         match self.drop_oldest(disk) {
             Err(call) => Err(SyncFault::Store { call }),
@@ -65,11 +65,11 @@ impl<K: Kem> Client<K> {
         requires ready { IsReady self.old.kept self.old.store (D.state disk.old) }
         ensures turns { (own peers : List ℕ) (more : More) →
             Turns (move (party_of K.mechanism prefix.now own peers) self.old.kept (posting more) (replied_of reply))
-            (moment self.old (D.state disk.old) (O.taken out.old) (O.faults out.old))
-            (moment self.new (D.state disk.new) (O.taken out.new) (O.faults out.new))
+            (moment self.old (D.state disk.old) (O.at out.old))
+            (moment self.new (D.state disk.new) (O.at out.new))
             (turn_of (waits_by (waiting self.new.kept) more) result) }
         ensures fewer { OnOk result (length self.new.kept.outbox < length self.old.kept.outbox) }
-        ensures later { O.faults out.old ≤ O.faults out.new }
+        ensures later { (O.at out.old).faults ≤ (O.at out.new).faults }
     {
         match reply {
             Reply::Stored(number) => self.delivered(disk, out, prefix, number),
@@ -94,11 +94,11 @@ impl<K: Kem> Client<K> {
         requires ready { IsReady self.old.kept self.old.store (D.state disk.old) }
         ensures round { (more : More) → IsRound (party_of K.mechanism prefix.now names.now.own names.now.peers)
             (posting more) (record { name = names.now.peers; ask = posts packet })
-            (moment self.old (D.state disk.old) (O.taken out.old) (O.faults out.old))
-            (moment self.new (D.state disk.new) (O.taken out.new) (O.faults out.new))
+            (moment self.old (D.state disk.old) (O.at out.old))
+            (moment self.new (D.state disk.new) (O.at out.new))
             (L.port link.old) (L.port link.new) (turn_of (waits_by (waiting self.new.kept) more) result) }
         ensures fewer { OnOk result (length self.new.kept.outbox < length self.old.kept.outbox) }
-        ensures later { O.faults out.old ≤ O.faults out.new }
+        ensures later { (O.at out.old).faults ≤ (O.at out.new).faults }
         ensures flow { (L.port link.old).faults Flow ≤ (L.port link.new).faults Flow }
         ensures gate { (L.port link.new).faults Gate ≡ (L.port link.old).faults Gate }
         ensures stands { L.behind link.new ≡ L.behind link.old }
@@ -123,14 +123,14 @@ impl<K: Kem> Client<K> {
         // From a sync so far, which began at an earlier moment.
         ensures posts { (more : More) (first : ClientNow) (before : D) (earlier : L) (empty : O) →
             SoFar (party_of K.mechanism prefix.now names.now.own names.now.peers)
-            (moment first (D.state before) (O.taken empty) (O.faults empty))
-            (moment self.old (D.state disk.old) (O.taken out.old) (O.faults out.old))
+            (moment first (D.state before) (O.at empty))
+            (moment self.old (D.state disk.old) (O.at out.old))
             (L.port earlier) (L.port link.old) (waits_by (waiting self.old.kept) more)
             → Posts (party_of K.mechanism prefix.now names.now.own names.now.peers) more
-            (moment first (D.state before) (O.taken empty) (O.faults empty))
-            (moment self.new (D.state disk.new) (O.taken out.new) (O.faults out.new))
+            (moment first (D.state before) (O.at empty))
+            (moment self.new (D.state disk.new) (O.at out.new))
             (L.port earlier) (L.port link.new) result }
-        ensures later { O.faults out.old ≤ O.faults out.new }
+        ensures later { (O.at out.old).faults ≤ (O.at out.new).faults }
         ensures flow { (L.port link.old).faults Flow ≤ (L.port link.new).faults Flow }
         ensures gate { (L.port link.new).faults Gate ≡ (L.port link.old).faults Gate }
         ensures stands { L.behind link.new ≡ L.behind link.old }

@@ -45,24 +45,24 @@ impl<K: Kem> Client<K> {
             × (self.new ≡ self.old) × (disk.new ≡ disk.old) × (link.new ≡ link.old) × (out.new ≡ out.old) }
         // Else exactly this, by how it ends.
         ensures exact { self.old.closed ≡ None → Syncs (client_party K.mechanism prefix.now self.old.kept)
-            (moment self.old (D.state disk.old) (O.taken out.old) (O.faults out.old))
-            (moment self.new (D.state disk.new) (O.taken out.new) (O.faults out.new))
+            (moment self.old (D.state disk.old) (O.at out.old))
+            (moment self.new (D.state disk.new) (O.at out.new))
             (L.port link.old) (L.port link.new) result }
         // And in each world that the client stands for, where no packet that is taken is forged.
         ensures in_worlds { (w : World) (side : Side) (replies : List Replied) → IsIn K.mechanism w side self.old
             → SyncsBy (client_party K.mechanism prefix.now self.old.kept) replies
-            (moment self.old (D.state disk.old) (O.taken out.old) (O.faults out.old))
-            (moment self.new (D.state disk.new) (O.taken out.new) (O.faults out.new))
+            (moment self.old (D.state disk.old) (O.at out.old))
+            (moment self.new (D.state disk.new) (O.at out.new))
             (L.port link.old) (L.port link.new) result
             → AreUnforged K.mechanism prefix.now side w replies
             → SyncsIn K.mechanism prefix.now side w replies
-            (moment self.old (D.state disk.old) (O.taken out.old) (O.faults out.old))
-            (moment self.new (D.state disk.new) (O.taken out.new) (O.faults out.new)) result }
+            (moment self.old (D.state disk.old) (O.at out.old))
+            (moment self.new (D.state disk.new) (O.at out.new)) result }
         // There, once a packet was opened, its key is used up, and nothing that a crash leaves gives it.
         ensures spent { (w : World) (side : Side) (replies : List Replied) → IsIn K.mechanism w side self.old
             → SyncsBy (client_party K.mechanism prefix.now self.old.kept) replies
-            (moment self.old (D.state disk.old) (O.taken out.old) (O.faults out.old))
-            (moment self.new (D.state disk.new) (O.taken out.new) (O.faults out.new))
+            (moment self.old (D.state disk.old) (O.at out.old))
+            (moment self.new (D.state disk.new) (O.at out.new))
             (L.port link.old) (L.port link.new) result
             → AreUnforged K.mechanism prefix.now side w replies
             → SyncSpends K.mechanism prefix.now side w replies (D.state disk.new) result }
@@ -70,28 +70,28 @@ impl<K: Kem> Client<K> {
         // delivered.
         ensures transfer { self.old.closed ≡ None → (replies : List Replied)
             → SyncsBy (client_party K.mechanism prefix.now self.old.kept) replies
-            (moment self.old (D.state disk.old) (O.taken out.old) (O.faults out.old))
-            (moment self.new (D.state disk.new) (O.taken out.new) (O.faults out.new))
+            (moment self.old (D.state disk.old) (O.at out.old))
+            (moment self.new (D.state disk.new) (O.at out.new))
             (L.port link.old) (L.port link.new) result
             → Transfers (client_party K.mechanism prefix.now self.old.kept) self.old.kept replies }
         // And in each world that the client stands for, what the box holds of the peer's packets is opened, in order, each once.
         ensures opens { self.old.closed ≡ None → (replies : List Replied)
             → SyncsBy (client_party K.mechanism prefix.now self.old.kept) replies
-            (moment self.old (D.state disk.old) (O.taken out.old) (O.faults out.old))
-            (moment self.new (D.state disk.new) (O.taken out.new) (O.faults out.new))
+            (moment self.old (D.state disk.old) (O.at out.old))
+            (moment self.new (D.state disk.new) (O.at out.new))
             (L.port link.old) (L.port link.new) result
             → Opens K.mechanism prefix.now self.old.kept replies }
         // So they are over a link that tells that it carries a relay's replies, where no call fails.
         ensures carries { self.old.closed ≡ None → (replies : List Replied)
             → SyncsBy (client_party K.mechanism prefix.now self.old.kept) replies
-            (moment self.old (D.state disk.old) (O.taken out.old) (O.faults out.old))
-            (moment self.new (D.state disk.new) (O.taken out.new) (O.faults out.new))
+            (moment self.old (D.state disk.old) (O.at out.old))
+            (moment self.new (D.state disk.new) (O.at out.new))
             (L.port link.old) (L.port link.new) result
             → Carries (client_party K.mechanism prefix.now self.old.kept) replies
-            (moment self.old (D.state disk.old) (O.taken out.old) (O.faults out.old))
-            (moment self.new (D.state disk.new) (O.taken out.new) (O.faults out.new))
+            (moment self.old (D.state disk.old) (O.at out.old))
+            (moment self.new (D.state disk.new) (O.at out.new))
             (L.port link.old) (L.port link.new) }
-        ensures later { O.faults out.old ≤ O.faults out.new }
+        ensures later { (O.at out.old).faults ≤ (O.at out.new).faults }
         ensures flow { (L.port link.old).faults Flow ≤ (L.port link.new).faults Flow }
         ensures gate { (L.port link.new).faults Gate ≡ (L.port link.old).faults Gate }
         ensures stands { L.behind link.new ≡ L.behind link.old }
@@ -116,10 +116,10 @@ impl<K: Kem> Client<K> {
         requires is_open { self.old.closed ≡ None }
         requires ready { IsReady self.old.kept self.old.store (D.state disk.old) }
         ensures exact { Syncs (party_of K.mechanism prefix.now names.now.own names.now.peers)
-            (moment self.old (D.state disk.old) (O.taken out.old) (O.faults out.old))
-            (moment self.new (D.state disk.new) (O.taken out.new) (O.faults out.new))
+            (moment self.old (D.state disk.old) (O.at out.old))
+            (moment self.new (D.state disk.new) (O.at out.new))
             (L.port link.old) (L.port link.new) result }
-        ensures later { O.faults out.old ≤ O.faults out.new }
+        ensures later { (O.at out.old).faults ≤ (O.at out.new).faults }
         ensures flow { (L.port link.old).faults Flow ≤ (L.port link.new).faults Flow }
         ensures gate { (L.port link.new).faults Gate ≡ (L.port link.old).faults Gate }
         ensures stands { L.behind link.new ≡ L.behind link.old }

@@ -1,12 +1,10 @@
 //! A door in memory: connections one after the other, out of one list of bytes.
 
-ghost use Rattle.std.specs.Prelude.{◌≡◌, ◌⊎◌, ◌↔◌, ℕ, ◌+◌, ◌-◌, ◌<◌, ◌≤◌, min, List, [], ◌++◌, length, vec_len, take, Option, Some, None, option_map, IfOk, OnOk, OnErr, IfSome, IsErr};
-ghost use Rattle.dr_ports.specs.Ports.{HasCause, one_more};
-ghost use Rattle.dr_ports.specs.Memory.{Plan, IsDue};
-ghost use Rattle.dr_ports.specs.declared.pipe.Part.TheVariants.{Flow, Gate};
+ghost use Rattle.std.specs.Prelude.{◌≡◌, ◌⊎◌, ◌+◌, ◌<◌, ◌≤◌, [], ◌++◌, length, vec_len, None, IfOk};
+ghost use Rattle.dr_ports.specs.Memory.{IsDue, IsPlayed, planned};
 ghost use Rattle.dr_ports.specs.declared.pipe.Stand.TheVariants.{Unbegun, Up};
-ghost use Rattle.dr_ports.specs.Wires.{Gave, Took, EndsAt, ReceiveGoes, SendGoes, hung_up, listens_at, next_of};
-ghost use Rattle.dr_ports.specs.MemoryWires.{Doorway, AreEnds, HasNoRoom, connection_of, start_of, is_ahead, nobody, door_port_of};
+ghost use Rattle.dr_ports.specs.Calls.{Receives, Sends, Listens, Accepts, HangsUp};
+ghost use Rattle.dr_ports.specs.MemoryWires.{Doorway, AreEnds, GivesMost, TakesMost, connection_of, fresh, gone_on, start_of, is_ahead, nobody, door_port_of};
 
 use crate::memory::pipe::MemoryPipe;
 use crate::memory::plan::CallPlan;
@@ -49,18 +47,10 @@ impl MemoryDoor {
     ) -> Result<Self, AllocError>
         requires { AreEnds (length bytes.now) 0 ends.now }
         ensures { IfOk result (λ door. door ≡ record {
-          pipe = record {
-            all = bytes.now;
-            held = [];
-            at = 0;
-            before = [];
-            sent = [];
-            room = room;
-            plan = record { fails = pipe_fails.now; calls = 0; faults = 0 };
-          };
+          pipe = fresh bytes.now [] room pipe_fails.now;
           ends = ends.now;
           next = 0;
-          plan = record { fails = fails.now; calls = 0; faults = 0 };
+          plan = planned fails.now;
           port = None;
           stand = Unbegun;
         }) }
@@ -100,12 +90,8 @@ impl MemoryDoor {
 
     // goes on to the next connection, which stands
     fn go_on(&mut self)
-        ensures pipe { self.new.pipe ≡ record self.old.pipe {
-          held = connection_of self.old.pipe.all self.old.ends self.old.next;
-          at = 0;
-          before = self.old.pipe.before ++ self.old.pipe.sent;
-          sent = [];
-        } }
+        ensures pipe { let held = connection_of self.old.pipe.all self.old.ends self.old.next in
+            self.new.pipe ≡ gone_on held self.old.pipe }
         ensures next { (self.new.next ≡ self.old.next + 1) ⊎ ((self.new.next ≡ self.old.next) × (length self.old.ends ≡ self.old.next)) }
         ensures ends { self.new.ends ≡ self.old.ends }
         ensures plan { self.new.plan ≡ self.old.plan }
@@ -145,37 +131,19 @@ impl Pipe for MemoryDoor {
     ghost ahead = { λ d. is_ahead d.pipe };
 
     fn receive(&mut self, into: &mut [u8]) -> Result<usize, Failed>
-        ensures bound { IfOk result (λ count. count ≤ length into.old) }
-        ensures content { IfOk result (λ count. Gave (take count into.new) (door_port_of self.old) (door_port_of self.new)) }
-        ensures end { IfOk result (λ count. count ≡ 0 → 0 < length into.old → EndsAt (door_port_of self.old)) }
-        ensures err { OnErr result ((door_port_of self.new).told ≡ (door_port_of self.old).told) }
-        ensures goes { IfSome (door_port_of self.old).told (λ t. 0 < length into.old → ReceiveGoes t.now t.now.fate result) }
-        ensures cause { HasCause ((door_port_of self.old).faults Flow) ((door_port_of self.new).faults Flow) result }
-        ensures gate { (door_port_of self.new).faults Gate ≡ (door_port_of self.old).faults Gate }
-        ensures same { nobody self.new ≡ nobody self.old }
-        ensures exact { IsErr result ↔ IsDue self.old.pipe.plan }
-        ensures most { IfOk result (λ count. count ≡ min (length into.old) (length self.old.pipe.held - self.old.pipe.at)) }
-        ensures stays { self.new ≡ record self.old { pipe = record self.old.pipe { at = self.new.pipe.at; plan = self.new.pipe.plan } } }
-        ensures calls { self.new.pipe.plan.calls ≡ one_more self.old.pipe.plan.calls }
-        ensures list { self.new.pipe.plan.fails ≡ self.old.pipe.plan.fails }
+        ensures receives { Receives (door_port_of self.old) (door_port_of self.new) (nobody self.old)
+            (nobody self.new) into.old into.new result }
+        ensures gives { GivesMost self.old.pipe self.new.pipe into.old result }
+        ensures stays { self.new ≡ record self.old { pipe = self.new.pipe } }
     {
         self.pipe.receive(into)
     }
 
     fn send(&mut self, bytes: &[u8]) -> Result<usize, Failed>
-        ensures bound { IfOk result (λ count. count ≤ length bytes.now) }
-        ensures progress { IfOk result (λ count. 0 < length bytes.now → 0 < count) }
-        ensures content { IfOk result (λ count. Took (take count bytes.now) (door_port_of self.old) (door_port_of self.new)) }
-        ensures err { OnErr result ((door_port_of self.new).told ≡ (door_port_of self.old).told) }
-        ensures goes { IfSome (door_port_of self.old).told (λ t. SendGoes t.now.fate result) }
-        ensures cause { HasCause ((door_port_of self.old).faults Flow) ((door_port_of self.new).faults Flow) result }
-        ensures gate { (door_port_of self.new).faults Gate ≡ (door_port_of self.old).faults Gate }
-        ensures same { nobody self.new ≡ nobody self.old }
-        ensures exact { IsErr result ↔ IsDue self.old.pipe.plan ⊎ HasNoRoom self.old.pipe bytes.now }
-        ensures most { IfOk result (λ count. count ≡ min (length bytes.now) (self.old.pipe.room - length (self.old.pipe.before ++ self.old.pipe.sent))) }
-        ensures stays { self.new ≡ record self.old { pipe = record self.old.pipe { sent = self.new.pipe.sent; plan = self.new.pipe.plan } } }
-        ensures calls { self.new.pipe.plan.calls ≡ one_more self.old.pipe.plan.calls }
-        ensures list { self.new.pipe.plan.fails ≡ self.old.pipe.plan.fails }
+        ensures sends { Sends (door_port_of self.old) (door_port_of self.new) (nobody self.old)
+            (nobody self.new) bytes.now result }
+        ensures takes { TakesMost self.old.pipe self.new.pipe bytes.now result }
+        ensures stays { self.new ≡ record self.old { pipe = self.new.pipe } }
     {
         self.pipe.send(bytes)
     }
@@ -183,15 +151,9 @@ impl Pipe for MemoryDoor {
 
 impl Door for MemoryDoor {
     fn listen(&mut self, at: u16) -> Result<(), Failed>
-        ensures at { OnOk result ((door_port_of self.new).told ≡ option_map (listens_at at) (door_port_of self.old).told) }
-        ensures err { OnErr result ((door_port_of self.new).told ≡ (door_port_of self.old).told) }
-        ensures cause { HasCause ((door_port_of self.old).faults Gate) ((door_port_of self.new).faults Gate) result }
-        ensures flow { (door_port_of self.new).faults Flow ≡ (door_port_of self.old).faults Flow }
-        ensures same { nobody self.new ≡ nobody self.old }
-        ensures exact { IsErr result ↔ IsDue self.old.plan }
+        ensures listens { Listens (door_port_of self.old) (door_port_of self.new) at result }
+        ensures played { IsPlayed (IsDue self.old.plan) self.old.plan self.new.plan result }
         ensures stays { self.new ≡ record self.old { plan = self.new.plan; port = self.new.port; stand = self.new.stand } }
-        ensures calls { self.new.plan.calls ≡ one_more self.old.plan.calls }
-        ensures list { self.new.plan.fails ≡ self.old.plan.fails }
     {
         if self.plan.begin_call() {
             self.plan.count_fault();
@@ -203,16 +165,10 @@ impl Door for MemoryDoor {
     }
 
     fn accept(&mut self) -> Result<(), Failed>
-        ensures next { OnOk result ((door_port_of self.new).told ≡ option_map next_of (door_port_of self.old).told) }
-        ensures err { OnErr result ((door_port_of self.new).told ≡ (door_port_of self.old).told) }
-        ensures cause { HasCause ((door_port_of self.old).faults Gate) ((door_port_of self.new).faults Gate) result }
-        ensures flow { (door_port_of self.new).faults Flow ≡ (door_port_of self.old).faults Flow }
-        ensures same { nobody self.new ≡ nobody self.old }
-        ensures exact { IsErr result ↔ IsDue self.old.plan }
-        ensures pipe { self.new.pipe.room ≡ self.old.pipe.room }
-        ensures pipe_plan { self.new.pipe.plan ≡ self.old.pipe.plan }
-        ensures calls { self.new.plan.calls ≡ one_more self.old.plan.calls }
-        ensures list { self.new.plan.fails ≡ self.old.plan.fails }
+        ensures accepts { Accepts (door_port_of self.old) (door_port_of self.new) result }
+        ensures played { IsPlayed (IsDue self.old.plan) self.old.plan self.new.plan result }
+        ensures room { self.new.pipe.room ≡ self.old.pipe.room }
+        ensures plan { self.new.pipe.plan ≡ self.old.pipe.plan }
     {
         if self.plan.begin_call() {
             self.plan.count_fault();
@@ -223,10 +179,7 @@ impl Door for MemoryDoor {
     }
 
     fn shut(&mut self)
-        ensures told { (door_port_of self.new).told ≡ option_map hung_up (door_port_of self.old).told }
-        ensures gate { (door_port_of self.new).faults Gate ≡ (door_port_of self.old).faults Gate }
-        ensures flow { (door_port_of self.new).faults Flow ≡ (door_port_of self.old).faults Flow }
-        ensures same { nobody self.new ≡ nobody self.old }
+        ensures shuts { HangsUp (door_port_of self.old) (door_port_of self.new) }
         ensures stays { self.new ≡ record self.old { stand = self.new.stand } }
     {
         self.stand = self.pipe.ended(self.stand);

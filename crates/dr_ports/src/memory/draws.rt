@@ -1,9 +1,9 @@
 //! Draws in memory: seeds that were handed in, given in turn.
 
-ghost use Rattle.std.specs.Prelude.{◌≡◌, ◌↔◌, ℕ, ◌+◌, ◌%◌, ◌<◌, [], ◌∷◌, length, vec_len, Some, IfOk, OnErr, IsOk, IsErr};
-ghost use Rattle.dr_ports.specs.Memory.{Plan, Drawing, Turning, IsDue, coming_of};
-ghost use Rattle.dr_ports.specs.Ports.{HasCause, one_more};
-ghost use Rattle.dr_ports.specs.Seeds.{drawn, seeds_before};
+ghost use Rattle.std.specs.Prelude.{◌≡◌, ◌+◌, ◌%◌, ◌<◌, [], ◌∷◌, length, vec_len, IfOk, IsOk};
+ghost use Rattle.dr_ports.specs.Drawing.{DrawsSeed};
+ghost use Rattle.dr_ports.specs.Memory.{Drawing, Turning, IsDue, IsPlayed, coming_of, draws_at, planned, turning_at};
+ghost use Rattle.dr_ports.specs.Seeds.{seeds_before};
 
 use crate::memory::plan::CallPlan;
 use crate::port::Draws;
@@ -62,14 +62,10 @@ impl SteadyDraws {
 }
 
 impl Draws for SteadyDraws {
-    ghost coming = { λ d. Some (coming_of d) };
-
-    ghost faults = { λ _. 0 };
+    ghost at = { turning_at };
 
     fn draw(&mut self) -> Result<Key32, Failed>
-        ensures seed { IfOk result (λ seed. Some (coming_of self.old) ≡ drawn (seed.bytes ∷ []) (Some (coming_of self.new))) }
-        ensures err { OnErr result (Some (coming_of self.new) ≡ Some (coming_of self.old)) }
-        ensures cause { HasCause 0 0 result }
+        ensures draws { DrawsSeed (turning_at self.old) (turning_at self.new) result }
         ensures list { self.new.seeds ≡ self.old.seeds }
         ensures never_fails { IsOk result }
     {
@@ -96,7 +92,7 @@ impl MemoryDraws {
         requires { 0 < length seeds.now }
         ensures { IfOk result (λ draws. draws ≡ record {
           turning = record { seeds = seeds.now; at = 0 };
-          plan = record { fails = fails.now; calls = 0; faults = 0 };
+          plan = planned fails.now;
         }) }
     {
         Ok(MemoryDraws {
@@ -107,17 +103,11 @@ impl MemoryDraws {
 }
 
 impl Draws for MemoryDraws {
-    ghost coming = { λ d. Some (coming_of d.turning) };
-
-    ghost faults = { λ d. d.plan.faults };
+    ghost at = { draws_at };
 
     fn draw(&mut self) -> Result<Key32, Failed>
-        ensures seed { IfOk result (λ seed. Some (coming_of self.old.turning) ≡ drawn (seed.bytes ∷ []) (Some (coming_of self.new.turning))) }
-        ensures err { OnErr result (Some (coming_of self.new.turning) ≡ Some (coming_of self.old.turning)) }
-        ensures cause { HasCause self.old.plan.faults self.new.plan.faults result }
-        ensures exact { IsErr result ↔ IsDue self.old.plan }
-        ensures count { self.new.plan.calls ≡ one_more self.old.plan.calls }
-        ensures list { self.new.plan.fails ≡ self.old.plan.fails }
+        ensures draws { DrawsSeed (draws_at self.old) (draws_at self.new) result }
+        ensures played { IsPlayed (IsDue self.old.plan) self.old.plan self.new.plan result }
         ensures seeds { self.new.turning.seeds ≡ self.old.turning.seeds }
     {
         if self.plan.begin_call() {

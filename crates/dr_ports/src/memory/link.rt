@@ -1,13 +1,10 @@
 //! A link in memory: a pipe that opening stands before.
 
-ghost use Rattle.std.specs.Prelude.{◌≡◌, ◌⊎◌, ◌↔◌, ℕ, ◌+◌, ◌-◌, ◌<◌, ◌≤◌, min, List, [], ◌++◌, length, vec_capacity, take, Option, option_map, IfOk, OnOk, OnErr, IfSome, IsErr};
-ghost use Rattle.dr_ports.specs.Ports.{HasCause, one_more};
-ghost use Rattle.dr_ports.specs.Memory.{Plan, IsDue};
-ghost use Rattle.dr_ports.specs.declared.pipe.Part.TheVariants.{Flow, Gate};
-ghost use Rattle.dr_ports.specs.declared.pipe.Stand.TheVariants.{Unbegun, Up};
+ghost use Rattle.std.specs.Prelude.{◌≡◌, ◌≤◌, [], ◌++◌, vec_capacity, IfOk};
+ghost use Rattle.dr_ports.specs.declared.pipe.Stand.TheVariants.{Unbegun};
 ghost use Rattle.dr_ports.specs.declared.memory.link.TheConstants.{ADDRESS_LIMIT};
-ghost use Rattle.dr_ports.specs.Wires.{Gave, Took, EndsAt, ReceiveGoes, SendGoes, connected, hung_up};
-ghost use Rattle.dr_ports.specs.MemoryWires.{Linking, HasNoRoom, is_ahead, nobody, link_port_of};
+ghost use Rattle.dr_ports.specs.Calls.{Receives, Sends, Opens, HangsUp};
+ghost use Rattle.dr_ports.specs.MemoryWires.{Linking, GivesMost, TakesMost, PlaysOpening, fresh, is_ahead, nobody, link_port_of};
 
 use crate::memory::pipe::MemoryPipe;
 use crate::pipe::{Link, Pipe, Stand};
@@ -41,15 +38,7 @@ impl MemoryLink {
     /// counted from 1.
     pub fn new(alloc: Global, bytes: &[u8], room: usize, fails: &[u64]) -> Result<Self, AllocError>
         ensures { IfOk result (λ link. link ≡ record {
-          pipe = record {
-            all = bytes.now;
-            held = bytes.now;
-            at = 0;
-            before = [];
-            sent = [];
-            room = room;
-            plan = record { fails = fails.now; calls = 0; faults = 0 };
-          };
+          pipe = fresh bytes.now bytes.now room fails.now;
           address = [];
           stand = Unbegun;
           faults = 0;
@@ -95,37 +84,17 @@ impl Pipe for MemoryLink {
     ghost ahead = { λ l. is_ahead l.pipe };
 
     fn receive(&mut self, into: &mut [u8]) -> Result<usize, Failed>
-        ensures bound { IfOk result (λ count. count ≤ length into.old) }
-        ensures content { IfOk result (λ count. Gave (take count into.new) (link_port_of self.old) (link_port_of self.new)) }
-        ensures end { IfOk result (λ count. count ≡ 0 → 0 < length into.old → EndsAt (link_port_of self.old)) }
-        ensures err { OnErr result ((link_port_of self.new).told ≡ (link_port_of self.old).told) }
-        ensures goes { IfSome (link_port_of self.old).told (λ t. 0 < length into.old → ReceiveGoes t.now t.now.fate result) }
-        ensures cause { HasCause ((link_port_of self.old).faults Flow) ((link_port_of self.new).faults Flow) result }
-        ensures gate { (link_port_of self.new).faults Gate ≡ (link_port_of self.old).faults Gate }
-        ensures same { nobody self.new ≡ nobody self.old }
-        ensures exact { IsErr result ↔ IsDue self.old.pipe.plan }
-        ensures most { IfOk result (λ count. count ≡ min (length into.old) (length self.old.pipe.held - self.old.pipe.at)) }
-        ensures stays { self.new.pipe ≡ record self.old.pipe { at = self.new.pipe.at; plan = self.new.pipe.plan } }
-        ensures calls { self.new.pipe.plan.calls ≡ one_more self.old.pipe.plan.calls }
-        ensures list { self.new.pipe.plan.fails ≡ self.old.pipe.plan.fails }
+        ensures receives { Receives (link_port_of self.old) (link_port_of self.new) (nobody self.old)
+            (nobody self.new) into.old into.new result }
+        ensures gives { GivesMost self.old.pipe self.new.pipe into.old result }
     {
         self.pipe.receive(into)
     }
 
     fn send(&mut self, bytes: &[u8]) -> Result<usize, Failed>
-        ensures bound { IfOk result (λ count. count ≤ length bytes.now) }
-        ensures progress { IfOk result (λ count. 0 < length bytes.now → 0 < count) }
-        ensures content { IfOk result (λ count. Took (take count bytes.now) (link_port_of self.old) (link_port_of self.new)) }
-        ensures err { OnErr result ((link_port_of self.new).told ≡ (link_port_of self.old).told) }
-        ensures goes { IfSome (link_port_of self.old).told (λ t. SendGoes t.now.fate result) }
-        ensures cause { HasCause ((link_port_of self.old).faults Flow) ((link_port_of self.new).faults Flow) result }
-        ensures gate { (link_port_of self.new).faults Gate ≡ (link_port_of self.old).faults Gate }
-        ensures same { nobody self.new ≡ nobody self.old }
-        ensures exact { IsErr result ↔ IsDue self.old.pipe.plan ⊎ HasNoRoom self.old.pipe bytes.now }
-        ensures most { IfOk result (λ count. count ≡ min (length bytes.now) (self.old.pipe.room - length (self.old.pipe.before ++ self.old.pipe.sent))) }
-        ensures stays { self.new.pipe ≡ record self.old.pipe { sent = self.new.pipe.sent; plan = self.new.pipe.plan } }
-        ensures calls { self.new.pipe.plan.calls ≡ one_more self.old.pipe.plan.calls }
-        ensures list { self.new.pipe.plan.fails ≡ self.old.pipe.plan.fails }
+        ensures sends { Sends (link_port_of self.old) (link_port_of self.new) (nobody self.old)
+            (nobody self.new) bytes.now result }
+        ensures takes { TakesMost self.old.pipe self.new.pipe bytes.now result }
     {
         self.pipe.send(bytes)
     }
@@ -133,13 +102,9 @@ impl Pipe for MemoryLink {
 
 impl Link for MemoryLink {
     fn open(&mut self, address: &str) -> Result<(), Failed>
-        ensures to { OnOk result ((link_port_of self.new).told ≡ option_map (connected address.now) (link_port_of self.old).told) }
-        ensures err { OnErr result ((link_port_of self.new).told ≡ (link_port_of self.old).told) }
-        ensures cause { HasCause ((link_port_of self.old).faults Gate) ((link_port_of self.new).faults Gate) result }
-        ensures flow { (link_port_of self.new).faults Flow ≡ (link_port_of self.old).faults Flow }
-        ensures same { nobody self.new ≡ nobody self.old }
-        ensures exact { IsErr result ↔ IsDue self.old.pipe.plan ⊎ (ADDRESS_LIMIT < length address.now) }
-        ensures counted { self.new.pipe ≡ record self.old.pipe { plan = record self.old.pipe.plan { calls = one_more self.old.pipe.plan.calls } } }
+        ensures opens { Opens (link_port_of self.old) (link_port_of self.new) (nobody self.old)
+            (nobody self.new) address.now result }
+        ensures plays { PlaysOpening self.old self.new address.now result }
     {
         let is_due = self.pipe.begin_call();
         if is_due || address.len() > ADDRESS_LIMIT {
@@ -153,9 +118,7 @@ impl Link for MemoryLink {
     }
 
     fn shut(&mut self)
-        ensures told { (link_port_of self.new).told ≡ option_map hung_up (link_port_of self.old).told }
-        ensures gate { (link_port_of self.new).faults Gate ≡ (link_port_of self.old).faults Gate }
-        ensures flow { (link_port_of self.new).faults Flow ≡ (link_port_of self.old).faults Flow }
+        ensures shuts { HangsUp (link_port_of self.old) (link_port_of self.new) }
         ensures same { nobody self.new ≡ nobody self.old }
         ensures stays { self.new ≡ record self.old { stand = self.new.stand } }
     {

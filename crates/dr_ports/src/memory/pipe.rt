@@ -1,11 +1,10 @@
 //! A pipe in memory: what it gives and takes is told, and it fails exactly where it is told to.
 
-ghost use Rattle.std.specs.Prelude.{◌≡◌, ◌⊎◌, ◌↔◌, ℕ, ◌+◌, ◌-◌, ◌<◌, ◌≤◌, min, List, [], ◌++◌, length, vec_len, vec_capacity, take, drop, Option, IfOk, OnOk, OnErr, IfSome, IsErr, IsTrue};
-ghost use Rattle.dr_ports.specs.Ports.{HasCause, one_more};
-ghost use Rattle.dr_ports.specs.Memory.{Plan, IsDue};
-ghost use Rattle.dr_ports.specs.declared.pipe.Part.TheVariants.{Flow, Gate};
-ghost use Rattle.dr_ports.specs.Wires.{Gave, Took, EndsAt, ReceiveGoes, SendGoes, ended_by};
-ghost use Rattle.dr_ports.specs.MemoryWires.{Flowing, HasNoRoom, is_ahead, nobody, port_of, wire_of};
+ghost use Rattle.std.specs.Prelude.{◌≡◌, ◌↔◌, ◌+◌, ◌-◌, ◌≤◌, min, ◌++◌, length, vec_len, vec_capacity, take, drop, IfOk, IsTrue};
+ghost use Rattle.dr_ports.specs.Memory.{IsDue};
+ghost use Rattle.dr_ports.specs.Wires.{ended_by};
+ghost use Rattle.dr_ports.specs.Calls.{Receives, Sends};
+ghost use Rattle.dr_ports.specs.MemoryWires.{Flowing, GivesMost, TakesMost, called, fresh, gone_on, is_ahead, nobody, port_of, wire_of};
 
 use crate::memory::plan::CallPlan;
 use crate::memory::source::copy_part;
@@ -48,15 +47,7 @@ impl MemoryPipe {
     /// A pipe that holds a copy of these bytes, has room for this many to be sent, and fails at the calls of these numbers,
     /// counted from 1.
     pub fn new(alloc: Global, bytes: &[u8], room: usize, fails: &[u64]) -> Result<Self, AllocError>
-        ensures { IfOk result (λ pipe. pipe ≡ record {
-          all = bytes.now;
-          held = bytes.now;
-          at = 0;
-          before = [];
-          sent = [];
-          room = room;
-          plan = record { fails = fails.now; calls = 0; faults = 0 };
-        }) }
+        ensures { IfOk result (λ pipe. pipe ≡ fresh bytes.now bytes.now room fails.now) }
     {
         Ok(MemoryPipe {
             bytes: Vec::from_slice(alloc, bytes)?,
@@ -81,12 +72,7 @@ impl MemoryPipe {
     pub fn go_on(&mut self, start: usize, end: usize)
         requires order { start ≤ end }
         requires within { end ≤ length self.old.all }
-        ensures { self.new ≡ record self.old {
-          held = take (end - start) (drop start self.old.all);
-          at = 0;
-          before = self.old.before ++ self.old.sent;
-          sent = [];
-        } }
+        ensures { self.new ≡ gone_on (take (end - start) (drop start self.old.all)) self.old }
     {
         self.start = start;
         self.end = end;
@@ -97,7 +83,7 @@ impl MemoryPipe {
     /// Counts a call, and says whether it is to fail.
     pub fn begin_call(&mut self) -> bool
         ensures due { IsTrue result ↔ IsDue self.old.plan }
-        ensures counted { self.new ≡ record self.old { plan = record self.old.plan { calls = one_more self.old.plan.calls } } }
+        ensures counted { self.new ≡ called self.old }
     {
         self.plan.begin_call()
     }
@@ -148,19 +134,9 @@ impl Pipe for MemoryPipe {
     ghost ahead = { λ p. is_ahead p };
 
     fn receive(&mut self, into: &mut [u8]) -> Result<usize, Failed>
-        ensures bound { IfOk result (λ count. count ≤ length into.old) }
-        ensures content { IfOk result (λ count. Gave (take count into.new) (port_of self.old) (port_of self.new)) }
-        ensures end { IfOk result (λ count. count ≡ 0 → 0 < length into.old → EndsAt (port_of self.old)) }
-        ensures err { OnErr result ((port_of self.new).told ≡ (port_of self.old).told) }
-        ensures goes { IfSome (port_of self.old).told (λ t. 0 < length into.old → ReceiveGoes t.now t.now.fate result) }
-        ensures cause { HasCause ((port_of self.old).faults Flow) ((port_of self.new).faults Flow) result }
-        ensures gate { (port_of self.new).faults Gate ≡ (port_of self.old).faults Gate }
-        ensures same { nobody self.new ≡ nobody self.old }
-        ensures exact { IsErr result ↔ IsDue self.old.plan }
-        ensures most { IfOk result (λ count. count ≡ min (length into.old) (length self.old.held - self.old.at)) }
-        ensures stays { self.new ≡ record self.old { at = self.new.at; plan = self.new.plan } }
-        ensures calls { self.new.plan.calls ≡ one_more self.old.plan.calls }
-        ensures list { self.new.plan.fails ≡ self.old.plan.fails }
+        ensures receives { Receives (port_of self.old) (port_of self.new) (nobody self.old)
+            (nobody self.new) into.old into.new result }
+        ensures gives { GivesMost self.old self.new into.old result }
     {
         if self.plan.begin_call() {
             self.plan.count_fault();
@@ -170,19 +146,9 @@ impl Pipe for MemoryPipe {
     }
 
     fn send(&mut self, bytes: &[u8]) -> Result<usize, Failed>
-        ensures bound { IfOk result (λ count. count ≤ length bytes.now) }
-        ensures progress { IfOk result (λ count. 0 < length bytes.now → 0 < count) }
-        ensures content { IfOk result (λ count. Took (take count bytes.now) (port_of self.old) (port_of self.new)) }
-        ensures err { OnErr result ((port_of self.new).told ≡ (port_of self.old).told) }
-        ensures goes { IfSome (port_of self.old).told (λ t. SendGoes t.now.fate result) }
-        ensures cause { HasCause ((port_of self.old).faults Flow) ((port_of self.new).faults Flow) result }
-        ensures gate { (port_of self.new).faults Gate ≡ (port_of self.old).faults Gate }
-        ensures same { nobody self.new ≡ nobody self.old }
-        ensures exact { IsErr result ↔ IsDue self.old.plan ⊎ HasNoRoom self.old bytes.now }
-        ensures most { IfOk result (λ count. count ≡ min (length bytes.now) (self.old.room - length (self.old.before ++ self.old.sent))) }
-        ensures stays { self.new ≡ record self.old { sent = self.new.sent; plan = self.new.plan } }
-        ensures calls { self.new.plan.calls ≡ one_more self.old.plan.calls }
-        ensures list { self.new.plan.fails ≡ self.old.plan.fails }
+        ensures sends { Sends (port_of self.old) (port_of self.new) (nobody self.old)
+            (nobody self.new) bytes.now result }
+        ensures takes { TakesMost self.old self.new bytes.now result }
     {
         let is_due = self.plan.begin_call();
         let left = self.left();

@@ -1,8 +1,8 @@
 //! Which calls of a port in memory are to fail.
 
-ghost use Rattle.std.specs.Prelude.{◌≡◌, ◌↔◌, ◌≤◌, [], IfOk, IsTrue};
+ghost use Rattle.std.specs.Prelude.{◌≡◌, ◌↔◌, ◌≤◌, IfOk, IsTrue};
 ghost use Rattle.dr_ports.specs.Ports.{one_more};
-ghost use Rattle.dr_ports.specs.Memory.{Plan, IsDue};
+ghost use Rattle.dr_ports.specs.Memory.{Plan, IsDue, planned};
 
 use std::alloc::{AllocError, Global};
 use std::marker::Model;
@@ -25,7 +25,7 @@ impl Model for CallPlan {
 impl CallPlan {
     /// A plan before its first call.
     pub fn new(alloc: Global, fails: &[u64]) -> Result<Self, AllocError>
-        ensures { IfOk result (λ plan. plan ≡ record { fails = fails.now; calls = 0; faults = 0 }) }
+        ensures { IfOk result (λ plan. plan ≡ planned fails.now) }
     {
         Ok(CallPlan {
             fails: Vec::from_slice(alloc, fails)?,

@@ -1,8 +1,8 @@
 //! Sinks in memory.
 
-ghost use Rattle.std.specs.Prelude.{◌≡◌, ◌⊎◌, ◌↔◌, ℕ, ◌+◌, ◌-◌, ◌<◌, ◌≤◌, min, List, [], ◌++◌, length, vec_len, vec_capacity, take, Option, Some, None, Ok, IfOk, OnOk, OnErr, IsErr};
-ghost use Rattle.dr_ports.specs.Ports.{HasCause, one_more, appended};
-ghost use Rattle.dr_ports.specs.Memory.{Plan, Taking, IsDue, IsFull};
+ghost use Rattle.std.specs.Prelude.{◌≡◌, ◌≤◌, [], length, vec_len, vec_capacity, None, Ok, IfOk};
+ghost use Rattle.dr_ports.specs.Writing.{WritesSome};
+ghost use Rattle.dr_ports.specs.Memory.{Taking, FillsUp, planned, sink_at};
 
 use crate::memory::plan::CallPlan;
 use crate::port::Sink;
@@ -30,11 +30,8 @@ impl Model for MemorySink {
 impl MemorySink {
     /// An empty sink with room for this many bytes, which fails at the calls of these numbers, counted from 1.
     pub fn new(alloc: Global, room: usize, fails: &[u64]) -> Result<Self, AllocError>
-        ensures { IfOk result (λ sink. sink ≡ record {
-          taken = [];
-          room = room;
-          plan = record { fails = fails.now; calls = 0; faults = 0 };
-        }) }
+        ensures { IfOk result (λ sink.
+            sink ≡ record { taken = []; room = room; plan = planned fails.now }) }
     {
         Ok(MemorySink {
             bytes: Vec::with_capacity(alloc, room)?,
@@ -52,23 +49,11 @@ impl MemorySink {
 }
 
 impl Sink for MemorySink {
-    ghost taken = { λ s. Some s.taken };
-
-    ghost faults = { λ s. s.plan.faults };
+    ghost at = { sink_at };
 
     fn write(&mut self, bytes: &[u8]) -> Result<usize, Failed>
-        ensures bound { IfOk result (λ count. count ≤ length bytes.now) }
-        ensures progress { IfOk result (λ count. 0 < length bytes.now → 0 < count) }
-        ensures content { IfOk result (λ count.
-            Some self.new.taken ≡ appended (Some self.old.taken) (take count bytes.now)) }
-        ensures err { OnErr result (Some self.new.taken ≡ Some self.old.taken) }
-        ensures cause { HasCause self.old.plan.faults self.new.plan.faults result }
-        ensures exact { IsErr result ↔ IsDue self.old.plan ⊎ IsFull self.old bytes.now }
-        ensures room { self.new.room ≡ self.old.room }
-        ensures count { self.new.plan.calls ≡ one_more self.old.plan.calls }
-        ensures list { self.new.plan.fails ≡ self.old.plan.fails }
-        ensures most { IfOk result (λ count.
-            count ≡ min (length bytes.now) (self.old.room - length self.old.taken)) }
+        ensures writes { WritesSome (sink_at self.old) (sink_at self.new) bytes.now result }
+        ensures fills { FillsUp self.old self.new bytes.now result }
     {
         let is_due = self.plan.begin_call();
         let left = self.room - self.bytes.len();
@@ -94,9 +79,7 @@ impl NullSink {
 }
 
 impl Sink for NullSink {
-    ghost taken = { λ _. None };
-
-    ghost faults = { λ _. 0 };
+    ghost at = { λ _. record { taken = None; faults = 0 } };
 
     fn write(&mut self, bytes: &[u8]) -> Result<usize, Failed>
         ensures { result ≡ Ok (length bytes.now) }

@@ -1,8 +1,8 @@
 //! Sources over bytes in memory.
 
-ghost use Rattle.std.specs.Prelude.{◌≡◌, ◌↔◌, ℕ, ◌+◌, ◌-◌, ◌<◌, ◌≤◌, min, List, [], ◌++◌, length, vec_len, take, drop, Option, Some, IfOk, OnOk, OnErr, IsOk, IsErr, IfSome};
-ghost use Rattle.dr_ports.specs.Ports.{HasCause, one_more, prepended};
-ghost use Rattle.dr_ports.specs.Memory.{Plan, Holding, IsDue};
+ghost use Rattle.std.specs.Prelude.{◌≡◌, ℕ, ◌+◌, ◌-◌, ◌≤◌, min, List, length, vec_len, take, drop, IfOk, IsOk};
+ghost use Rattle.dr_ports.specs.Reading.{Reads};
+ghost use Rattle.dr_ports.specs.Memory.{Holding, IsDue, IsPlayed, planned, source_at, steady_at};
 
 use crate::memory::plan::CallPlan;
 use crate::port::Source;
@@ -60,18 +60,10 @@ pub fn copy_part(bytes: &[u8], at: usize, count: usize, into: &mut [u8])
 }
 
 impl Source for SteadySource {
-    ghost left = { λ s. Some s };
-
-    ghost faults = { λ _. 0 };
+    ghost at = { steady_at };
 
     fn read(&mut self, into: &mut [u8]) -> Result<usize, Failed>
-        ensures bound { IfOk result (λ count. count ≤ length into.old) }
-        ensures content { IfOk result (λ count.
-            Some self.old ≡ prepended (take count into.new) (Some self.new)) }
-        ensures end { IfOk result (λ count. count ≡ 0 → 0 < length into.old →
-            IfSome (Some self.old) (λ bytes. bytes ≡ [])) }
-        ensures err { OnErr result (Some self.new ≡ Some self.old) }
-        ensures cause { HasCause 0 0 result }
+        ensures reads { Reads (steady_at self.old) (steady_at self.new) into.old into.new result }
         ensures never_fails { IsOk result }
     {
         Ok(self.give(into))
@@ -94,10 +86,8 @@ impl Model for MemorySource {
 impl MemorySource {
     /// A source that holds a copy of these bytes, and fails at the calls of these numbers, counted from 1.
     pub fn new(alloc: Global, bytes: &[u8], fails: &[u64]) -> Result<Self, AllocError>
-        ensures { IfOk result (λ source. source ≡ record {
-          left = bytes.now;
-          plan = record { fails = fails.now; calls = 0; faults = 0 };
-        }) }
+        ensures { IfOk result (λ source.
+            source ≡ record { left = bytes.now; plan = planned fails.now }) }
     {
         Ok(MemorySource {
             bytes: SteadySource::new(alloc, bytes)?,
@@ -107,21 +97,11 @@ impl MemorySource {
 }
 
 impl Source for MemorySource {
-    ghost left = { λ s. Some s.left };
-
-    ghost faults = { λ s. s.plan.faults };
+    ghost at = { source_at };
 
     fn read(&mut self, into: &mut [u8]) -> Result<usize, Failed>
-        ensures bound { IfOk result (λ count. count ≤ length into.old) }
-        ensures content { IfOk result (λ count.
-            Some self.old.left ≡ prepended (take count into.new) (Some self.new.left)) }
-        ensures end { IfOk result (λ count. count ≡ 0 → 0 < length into.old →
-            IfSome (Some self.old.left) (λ bytes. bytes ≡ [])) }
-        ensures err { OnErr result (Some self.new.left ≡ Some self.old.left) }
-        ensures cause { HasCause self.old.plan.faults self.new.plan.faults result }
-        ensures exact { IsErr result ↔ IsDue self.old.plan }
-        ensures count { self.new.plan.calls ≡ one_more self.old.plan.calls }
-        ensures list { self.new.plan.fails ≡ self.old.plan.fails }
+        ensures reads { Reads (source_at self.old) (source_at self.new) into.old into.new result }
+        ensures played { IsPlayed (IsDue self.old.plan) self.old.plan self.new.plan result }
     {
         if self.plan.begin_call() {
             self.plan.count_fault();

@@ -3,4 +3,4 @@ use Rattle.client.proofs.histories.exchange.Goals as goal
 
 pub returns : goal.returns
 returns g c = λ k law.
-    history g.D.Disk.state g.met.D.Disk.lawful g.E.Disk.state g.W.Draws.coming g.W.Draws.faults k law (c.acts_follow.ensures k law)
+    history g.D.Disk.state g.met.D.Disk.lawful g.E.Disk.state g.W.Draws.at k law (c.acts_follow.ensures k law)

@@ -5,8 +5,8 @@ use Rattle.dr_ports.proofs.writing.write_all.Given as goal
 abbrev pub invariant-pieces : goal.invariant-pieces
 invariant-pieces g l = record {
   within : l.done ≤ length l.bytes;
-  content : g.O.Sink.taken l.out ≡ appended (g.O.Sink.taken l.initial.out) (take l.done l.bytes);
-  quiet : g.O.Sink.faults l.out ≡ g.O.Sink.faults l.initial.out;
+  content : (g.O.Sink.at l.out).taken ≡ appended (g.O.Sink.at l.initial.out).taken (take l.done l.bytes);
+  quiet : (g.O.Sink.at l.out).faults ≡ (g.O.Sink.at l.initial.out).faults;
 }
 
 abbrev pub decreases-pieces : goal.decreases-pieces

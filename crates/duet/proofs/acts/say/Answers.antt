@@ -10,19 +10,19 @@ use Rattle.duet.proofs.acts.say.Goals as goal
 
 pub returns-in-Ok : goal.returns-in-Ok
 returns-in-Ok g c =
-    said_acts _ _ g.K.Kem.mechanism c.args.text.now c.args.client.now c.say.new.self c.args.disk.now c.say.new.disk _ _ c.args.seed
+    said_acts _ g.K.Kem.mechanism c.args.text.now c.args.client.now c.say.new.self c.args.disk.now c.say.new.disk _ _ c.args.seed
     c.new-source.result.seed.bytes (Ok c.in-Ok.position) c.requires.open c.requires.checked refl refl refl c.new-source.ensures c.in-Ok.ensures.exact
 
 pub say_ended-requires : goal.say_ended-requires
 say_ended-requires g c =
     is_ended state_of (said_by (say_on g.K.Kem.mechanism c.args.client.now.kept c.args.text.now (seed_bytes c.args.seed)))
     c.args.client.now c.say.new.self c.args.disk.now c.say.new.disk (said_as (Err c.in-Err.refusal)) c.requires.open
-    (said_acts _ _ g.K.Kem.mechanism c.args.text.now c.args.client.now c.say.new.self c.args.disk.now c.say.new.disk _ _ c.args.seed
+    (said_acts _ g.K.Kem.mechanism c.args.text.now c.args.client.now c.say.new.self c.args.disk.now c.say.new.disk _ _ c.args.seed
     c.new-source.result.seed.bytes (Err c.in-Err.refusal) c.requires.open c.requires.checked refl refl refl c.new-source.ensures c.in-Err.ensures.exact)
 
 pub returns-in-Err : goal.returns-in-Err
 returns-in-Err g c =
     subst (λ (o : Outcome). Acts state_of (said_by (say_on g.K.Kem.mechanism c.args.client.now.kept c.args.text.now (seed_bytes c.args.seed)))
     c.args.client.now c.say.new.self c.args.disk.now c.say.new.disk o) (sym c.say_ended.ensures)
-    (said_acts _ _ g.K.Kem.mechanism c.args.text.now c.args.client.now c.say.new.self c.args.disk.now c.say.new.disk _ _ c.args.seed
+    (said_acts _ g.K.Kem.mechanism c.args.text.now c.args.client.now c.say.new.self c.args.disk.now c.say.new.disk _ _ c.args.seed
     c.new-source.result.seed.bytes (Err c.in-Err.refusal) c.requires.open c.requires.checked refl refl refl c.new-source.ensures c.in-Err.ensures.exact)

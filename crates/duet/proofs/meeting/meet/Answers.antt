@@ -15,8 +15,8 @@ returns g c =
     let k = g.K.Kem.mechanism in
     let link = c.args.link.now in
     let now = c.sync-result.new.link in
-    let before = moment c.args.client.now (state_of c.args.disk.now) (g.O.Sink.taken c.args.out.now) (g.O.Sink.faults c.args.out.now) in
-    let after = moment c.sync-result.new.self (state_of c.sync-result.new.disk) (g.O.Sink.taken c.sync-result.new.out) (g.O.Sink.faults c.sync-result.new.out) in
+    let before = moment c.args.client.now (state_of c.args.disk.now) (g.O.Sink.at c.args.out.now) in
+    let after = moment c.sync-result.new.self (state_of c.sync-result.new.disk) (g.O.Sink.at c.sync-result.new.out) in
     plays k c.args.prefix.now (kept_before c.args.lost) (boxes_of link) before after now
     (sym (ap is_name c.names-names.ensures.own) ∙ c.names-names.ensures.own_lawful) (sym (ap is_name c.names-names.ensures.peers) ∙ c.names-names.ensures.peers_lawful)
     c.may_post.ensures.packets (subst (All IsLawfulBox) c.relay.ensures.boxes c.lawful.ensures) c.requires.passes

@@ -11,19 +11,19 @@ use Rattle.duet.proofs.playing.play.Goals as goal
 pub deeds-init : goal.deeds-init
 deeds-init g c =
     let k = g.K.Kem.mechanism in
-    plays_first k _ _ _ _ _ _ c.len.result c.lines-lines.ensures c.len.ensures
+    plays_first k _ _ _ _ _ c.len.result c.lines-lines.ensures c.len.ensures
     (c.in-Ok.ensures.ok ∙ ap (λ key. opening_duet k key c.len.result) c.key.ensures) c.in-Ok.ensures.few (c.new-tally.ensures ∙ ap opening_tally c.rounds.ensures)
 
 pub deeds-preserved : goal.deeds-preserved
 deeds-preserved g c =
     let e = c.in-Ok-play_deed.ensures in
-    plays_on _ _ _ _ _ _ _ _ _ _ _ _ _ _ _ c.deeds.invariant c.in-Some.ensures e.next e.counts e.whole (e.quiet (λ h. absurd (cc h)))
+    plays_on _ _ _ _ _ _ _ _ _ _ _ _ c.deeds.invariant c.in-Some.ensures e.next e.counts e.whole (e.quiet (λ h. absurd (cc h)))
 
 pub returns-in-Err-Memory-play_deed-clause-memory : goal.returns-in-Err-Memory-play_deed-clause-memory
 returns-in-Err-Memory-play_deed-clause-memory g c _ =
-    let short = plays_short _ _ _ _ _ _ _ _ _ c.deeds.invariant in
+    let short = plays_short _ _ _ _ _ _ _ c.deeds.invariant in
     inr (
-      subst (λ taken. TookBeginning (g.O.Sink.taken c.args.out.now) taken (played g.K.Kem.mechanism c.args.script.now))
+      subst (λ taken. TookBeginning (g.O.Sink.at c.args.out.now).taken taken (played g.K.Kem.mechanism c.args.script.now))
           (sym (c.in-Err-Memory-play_deed.ensures.memory (ap Err c.in-Err-Memory-play_deed.field-0-is))) short,
       subst (λ key. IsSome (g.K.Kem.mechanism.meaning.pair_of (agreement_seed key))) c.key.ensures c.in-Ok.ensures.pair,
     )
@@ -31,7 +31,7 @@ returns-in-Err-Memory-play_deed-clause-memory g c _ =
 pub returns-in-Err-Write-clause-write : goal.returns-in-Err-Write-clause-write
 returns-in-Err-Write-clause-write g c _ =
     let e = c.in-Err-Write.ensures in (
-      plays_cut _ _ _ _ _ _ _ _ _ _ _ _ c.deeds.invariant c.in-Some.ensures (e.part (ap Err c.in-Err-Write.field-0-is)),
+      plays_cut _ _ _ _ _ _ _ _ _ _ c.deeds.invariant c.in-Some.ensures (e.part (ap Err c.in-Err-Write.field-0-is)),
       omega (arith, e.rose (ap Err c.in-Err-Write.field-0-is), c.deeds.invariant.quiet),
       subst (λ key. IsSome (g.K.Kem.mechanism.meaning.pair_of (agreement_seed key))) c.key.ensures c.in-Ok.ensures.pair,
     )
@@ -40,7 +40,7 @@ pub returns-in-Err-Write-clause-later : goal.returns-in-Err-Write-clause-later
 returns-in-Err-Write-clause-later g c = omega (arith, c.in-Err-Write.ensures.later, c.deeds.invariant.quiet)
 
 pub returns-clause-ok : goal.returns-clause-ok
-returns-clause-ok g c = plays_last _ _ _ _ _ _ _ _ _ c.deeds.invariant c.in_default.ensures
+returns-clause-ok g c = plays_last _ _ _ _ _ _ _ c.deeds.invariant c.in_default.ensures
 
 pub returns-clause-tally : goal.returns-clause-tally
-returns-clause-tally g c = c.reached.ensures ∙ tallies_last _ _ _ _ _ _ _ _ _ c.deeds.invariant c.in_default.ensures
+returns-clause-tally g c = c.reached.ensures ∙ tallies_last _ _ _ _ _ _ _ c.deeds.invariant c.in_default.ensures

@@ -19,9 +19,9 @@ returns-in-Ok-clause-writes g c =
     let sides = c.args.duet.now.sides in
     let line = ap₂ reply_line c.side.ensures c.step-answer.ensures.answer in
     let texts = ap (λ (d : DuetNow). shown event d.sides) c.step-answer.ensures.next ∙ shown-entries k sides event in
-    writes_behind _ _ _ _ _ _ (reply_line (acting_side event) (step_on k sides event).answer) (flat_map (entry_line (acting_side event)) (step_on k sides event).entries) _
-    (c.in-Ok.ensures.writes.whole ∙ ap (appended (g.O.Sink.taken c.args.out.now)) line) c.in-Ok.ensures.writes.cause.passed
-    (subst (λ bytes. Writes (g.O.Sink.taken c.tell.new.out) (g.O.Sink.taken c.write_entries.new.out) (g.O.Sink.faults c.tell.new.out) (g.O.Sink.faults c.write_entries.new.out) bytes c.write_entries.result)
+    writes_behind _ _ _ (reply_line (acting_side event) (step_on k sides event).answer) (flat_map (entry_line (acting_side event)) (step_on k sides event).entries) _
+    (c.in-Ok.ensures.writes.whole ∙ ap (appended (g.O.Sink.at c.args.out.now).taken) line) c.in-Ok.ensures.writes.cause.passed
+    (subst (λ bytes. Writes (g.O.Sink.at c.tell.new.out) (g.O.Sink.at c.write_entries.new.out) bytes c.write_entries.result)
     (ap (flat_map (entry_line (acting_side event))) texts) c.write_entries.ensures)
 
 pub returns-in-Err-clause-writes : goal.returns-in-Err-clause-writes
@@ -31,6 +31,6 @@ returns-in-Err-clause-writes g c =
     let event = event_of c.args.line.now in
     let sides = c.args.duet.now.sides in
     let line = ap₂ reply_line c.side.ensures c.step-answer.ensures.answer in
-    writes_first _ _ _ _ (reply_line (acting_side event) (step_on k sides event).answer) (flat_map (entry_line (acting_side event)) (step_on k sides event).entries) _
-    (subst (λ bytes. Writes {T = Unit} (g.O.Sink.taken c.args.out.now) (g.O.Sink.taken c.tell.new.out) (g.O.Sink.faults c.args.out.now) (g.O.Sink.faults c.tell.new.out) bytes (Err c.in-Err.field-0))
+    writes_first _ _ (reply_line (acting_side event) (step_on k sides event).answer) (flat_map (entry_line (acting_side event)) (step_on k sides event).entries) _
+    (subst (λ bytes. Writes {T = Unit} (g.O.Sink.at c.args.out.now) (g.O.Sink.at c.tell.new.out) bytes (Err c.in-Err.field-0))
     line c.in-Err.ensures.writes)

@@ -10,6 +10,6 @@ returns-in-Ok g c =
     let t = c.tell-written.ensures in
     let e = c.in-Ok.ensures in
     let reply = stop_reply g.K.Kem.mechanism c.args.duet.sides c.args.stop.now _ _ c.side.ensures e.0 in
-    goes_written _ _ _ _ _ _ _ _ _ _ c.tell-written.result _ c.unless_failed.ensures (λ v is. e.1)
+    goes_written _ _ _ _ _ _ _ _ c.tell-written.result _ c.unless_failed.ensures (λ v is. e.1)
     (t.counts ∙ ap₂ (λ side answer. counted_of side answer c.args.tally.now) c.side.ensures e.0)
-    (subst (λ bytes. Writes (g.O.Sink.taken c.args.out.now) (g.O.Sink.taken c.tell-written.new.out) (g.O.Sink.faults c.args.out.now) (g.O.Sink.faults c.tell-written.new.out) bytes c.tell-written.result) reply t.writes)
+    (subst (λ bytes. Writes (g.O.Sink.at c.args.out.now) (g.O.Sink.at c.tell-written.new.out) bytes c.tell-written.result) reply t.writes)

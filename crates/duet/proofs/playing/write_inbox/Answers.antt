@@ -13,7 +13,7 @@ some = item_at (record { epoch = 0; index = 0 }) []
 pub returns-in-Err : goal.returns-in-Err
 returns-in-Err g c =
     let below : c.texts.at < length c.args.party.now.inbox = omega (arith, c.inbox_len-at-end.ensures) in
-    cut_in_lines (entry_line c.args.side) _ _ _ _ _ _ c.args.party.now.inbox c.texts.at some _ below c.texts.invariant.written c.texts.invariant.quiet (c.in-Err.ensures some)
+    cut_in_lines (entry_line c.args.side) _ _ _ c.args.party.now.inbox c.texts.at some _ below c.texts.invariant.written c.texts.invariant.quiet (c.in-Err.ensures some)
 
 pub texts-preserved : goal.texts-preserved
 texts-preserved g c =
@@ -28,7 +28,7 @@ pub returns : goal.returns
 returns g c =
     let all : length c.args.party.now.inbox ≤ c.texts.at = omega (arith, c.inbox_len-at-end.ensures) in
     record {
-      whole = c.texts.invariant.written ∙ ap (λ items. appended (g.O.Sink.taken c.args.out.now) (flat_map (entry_line c.args.side) items)) (take_all c.texts.at c.args.party.now.inbox all);
+      whole = c.texts.invariant.written ∙ ap (λ items. appended (g.O.Sink.at c.args.out.now).taken (flat_map (entry_line c.args.side) items)) (take_all c.texts.at c.args.party.now.inbox all);
       part = tt;
       cause = record { later = omega (arith, c.texts.invariant.quiet); failed = tt; passed = c.texts.invariant.quiet };
     }

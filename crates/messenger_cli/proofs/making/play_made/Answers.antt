@@ -12,7 +12,7 @@ returns-in-Ok-write_all-clause-runs g c =
       ending = Done;
       lines = c.as_slice.result.now;
       came = made_summary _ _ _ _ c.in-Ok.ensures.tally came;
-      ends = ends_behind Done _ _ _ _ _ _ _ _ wrote.whole wrote.cause.passed c.finish-in-Ok-write_all.ensures.ends;
+      ends = ends_behind Done _ _ _ _ _ wrote.whole wrote.cause.passed c.finish-in-Ok-write_all.ensures.ends;
     }
 
 pub returns-in-Err-write_all-clause-runs : goal.returns-in-Err-write_all-clause-runs
@@ -23,5 +23,5 @@ returns-in-Err-write_all-clause-runs g c =
       ending = Done;
       lines = c.as_slice.result.now;
       came = made_summary _ _ _ _ c.in-Ok.ensures.tally came;
-      ends = ends_cut _ _ _ _ _ wrote.part wrote.cause.failed;
+      ends = ends_cut _ _ _ wrote.part wrote.cause.failed;
     }

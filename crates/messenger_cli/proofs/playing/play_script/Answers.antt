@@ -11,7 +11,7 @@ returns-in-Ok-clause-runs g c =
       reason = works.reason;
       leaves = works.leaves;
       reads = works.reads;
-      ends = ends_behind c.in-Ok.ending works.lines _ _ _ _ _ _ _ works.wrote works.quiet c.finish.ensures.ends;
+      ends = ends_behind c.in-Ok.ending works.lines _ _ _ _ works.wrote works.quiet c.finish.ensures.ends;
     }
 
 pub returns-in-Err-clause-runs : goal.returns-in-Err-clause-runs
@@ -23,5 +23,5 @@ returns-in-Err-clause-runs g c =
       reason = cut.reason;
       leaves = cut.leaves;
       reads = cut.reads;
-      ends = ends_cut cut.lines _ _ _ _ cut.wrote cut.rose;
+      ends = ends_cut cut.lines _ _ cut.wrote cut.rose;
     }

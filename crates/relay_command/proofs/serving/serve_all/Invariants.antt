@@ -10,4 +10,4 @@ invariant-connections g l =
     SoFar
     (λ xs. CameInTurn g.A.Disk.state g.L.Pipe.port (listening l.port (standing l.fn.server.boxes (g.L.Pipe.port l.fn.door))) l.fn.disk xs l.disk)
     (listening l.port (standing l.fn.server.boxes (g.L.Pipe.port l.fn.door))) l.port l.i l.server (g.A.Disk.state l.fn.disk) (g.A.Disk.state l.disk) (g.L.Pipe.port l.fn.door) (g.L.Pipe.port l.door)
-    (g.O.Sink.taken l.fn.out) (g.O.Sink.taken l.out) (g.O.Sink.faults l.fn.out) (g.O.Sink.faults l.out)
+    (g.O.Sink.at l.fn.out) (g.O.Sink.at l.out)

@@ -10,7 +10,7 @@ returns-in-Err-clause-runs g c =
 
 pub returns-in-Err-clause-quiet : goal.returns-in-Err-clause-quiet
 returns-in-Err-clause-quiet g c = λ zero.
-    begin_quiet g.D.Disk.state g.K.Kem.mechanism c.args.side _ _ _ _ c.args.disk.now c.read_and_begin.new.disk _ _ _ _ _
+    begin_quiet g.D.Disk.state g.K.Kem.mechanism c.args.side _ _ c.args.disk.now c.read_and_begin.new.disk _ _ _
     (returns-in-Err-clause-runs g c) zero
 
 pub returns-in-Ok-clause-runs : goal.returns-in-Ok-clause-runs
@@ -20,11 +20,11 @@ returns-in-Ok-clause-runs g c = record {
   came = c.in-Ok.ensures.runs;
   ends =
       subst
-      (λ lines. Ends Done lines (g.O.Sink.taken c.args.out.now) (g.O.Sink.taken c.finish_with.new.out) (g.O.Sink.faults c.args.out.now) (g.O.Sink.faults c.finish_with.new.out) c.finish_with.result.code)
+      (λ lines. Ends Done lines (g.O.Sink.at c.args.out.now) (g.O.Sink.at c.finish_with.new.out) c.finish_with.result.code)
       c.as_bytes.ensures c.finish_with.ensures.ends;
 }
 
 pub returns-in-Ok-clause-quiet : goal.returns-in-Ok-clause-quiet
 returns-in-Ok-clause-quiet g c = λ zero.
-    begin_quiet g.D.Disk.state g.K.Kem.mechanism c.args.side _ _ _ _ c.args.disk.now c.read_and_begin.new.disk _ _ _ _ _
+    begin_quiet g.D.Disk.state g.K.Kem.mechanism c.args.side _ _ c.args.disk.now c.read_and_begin.new.disk _ _ _
     (returns-in-Ok-clause-runs g c) zero

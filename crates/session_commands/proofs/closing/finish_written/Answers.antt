@@ -5,13 +5,13 @@ use Rattle.endings.proofs.Closing.{ends_behind, ends_cut}
 use Rattle.session_commands.proofs.closing.finish_written.Goals as goal
 
 pub returns-in-Ok-clause-ends : goal.returns-in-Ok-clause-ends
-returns-in-Ok-clause-ends g c = λ lines old before writes.
+returns-in-Ok-clause-ends g c = λ lines old writes.
     let wrote =
-    subst (λ r. Writes old (g.O.Sink.taken c.args.out.now) before (g.O.Sink.faults c.args.out.now) lines r) c.in-Ok.is writes in
-    ends_behind Done lines old _ _ before _ _ _ wrote.whole wrote.cause.passed c.finish.ensures.ends
+    subst (λ r. Writes old (g.O.Sink.at c.args.out.now) lines r) c.in-Ok.is writes in
+    ends_behind Done lines old _ _ _ wrote.whole wrote.cause.passed c.finish.ensures.ends
 
 pub returns-in-Err-clause-ends : goal.returns-in-Err-clause-ends
-returns-in-Err-clause-ends g c = λ lines old before writes.
+returns-in-Err-clause-ends g c = λ lines old writes.
     let wrote =
-    subst (λ r. Writes old (g.O.Sink.taken c.args.out.now) before (g.O.Sink.faults c.args.out.now) lines r) c.in-Err.is writes in
-    ends_cut lines old _ before _ wrote.part wrote.cause.failed
+    subst (λ r. Writes old (g.O.Sink.at c.args.out.now) lines r) c.in-Err.is writes in
+    ends_cut lines old _ wrote.part wrote.cause.failed

@@ -16,5 +16,5 @@ pub returns-clause-quiet : goal.returns-clause-quiet
 returns-clause-quiet g c = λ zero.
     let all =
     act_quiet g.D.Disk.state g.K.Kem.mechanism (asked_drop (finishing c.args.n)) c.args.disk.now c.drop_texts-worked.new.disk (Unit {0})
-    (λ kept act asks. tt) _ _ _ _ _ (returns-clause-runs g c) zero in
+    (λ kept act asks. tt) _ _ _ (returns-clause-runs g c) zero in
     (all.0, all.1)

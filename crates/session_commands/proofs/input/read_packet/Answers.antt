@@ -6,7 +6,7 @@ use Rattle.session_commands.proofs.input.read_packet.Goals as goal
 
 pub returns-in-Err-Memory-clause-input : goal.returns-in-Err-Memory-clause-input
 returns-in-Err-Memory-clause-input g c =
-    let same = c.in-Err-Memory.ensures.unread (search rules) in had_no_memory (ap g.S.Source.left same) (ap g.S.Source.faults same)
+    let same = c.in-Err-Memory.ensures.unread (search rules) in had_no_memory (ap (λ s. (g.S.Source.at s).left) same) (ap (λ s. (g.S.Source.at s).faults) same)
 
 pub returns-in-Err-TooLong-clause-input : goal.returns-in-Err-TooLong-clause-input
 returns-in-Err-TooLong-clause-input g c =

@@ -5,7 +5,7 @@ use Rattle.session_commands.proofs.laws.complete.Goals as goal
 pub returns-clause-says : goal.returns-clause-says
 returns-clause-says g c = λ k w side text ending lines whole none accepted runs.
     act_completes g.D.Disk.state k w side
-    (asked_say g.W.Draws.coming g.W.Draws.faults text c.args.draws.now c.args.left.now) c.args.before.now c.args.after.now
+    (asked_say g.W.Draws.at text c.args.draws.now c.args.left.now) c.args.before.now c.args.after.now
     ending lines whole none accepted runs
 
 pub returns-clause-takes : goal.returns-clause-takes

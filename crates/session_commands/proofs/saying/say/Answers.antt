@@ -15,7 +15,7 @@ returns-clause-runs g c = record {
 pub returns-clause-quiet : goal.returns-clause-quiet
 returns-clause-quiet g c = λ zero.
     act_quiet g.D.Disk.state g.K.Kem.mechanism
-    (asked_say g.W.Draws.coming g.W.Draws.faults c.args.text.now c.args.draws.now c.say_text-worked.new.draws) c.args.disk.now
-    c.say_text-worked.new.disk (g.W.Draws.faults c.say_text-worked.new.draws ≡ g.W.Draws.faults c.args.draws.now)
-    (no_draw_failed g.W.Draws.coming g.W.Draws.faults c.args.text.now c.args.draws.now c.say_text-worked.new.draws) _ _ _ _ _
+    (asked_say g.W.Draws.at c.args.text.now c.args.draws.now c.say_text-worked.new.draws) c.args.disk.now
+    c.say_text-worked.new.disk ((g.W.Draws.at c.say_text-worked.new.draws).faults ≡ (g.W.Draws.at c.args.draws.now).faults)
+    (no_draw_failed g.W.Draws.at c.args.text.now c.args.draws.now c.say_text-worked.new.draws) _ _ _
     (returns-clause-runs g c) zero

@@ -20,7 +20,7 @@ returns-in-Err-clause-runs g c = record {
 
 pub returns-in-Err-clause-quiet : goal.returns-in-Err-clause-quiet
 returns-in-Err-clause-quiet g c = λ zero.
-    show_quiet g.D.Disk.state g.K.Kem.mechanism inbox_lines c.args.disk.now c.open.new.disk _ _ _ _ _
+    show_quiet g.D.Disk.state g.K.Kem.mechanism inbox_lines c.args.disk.now c.open.new.disk _ _ _
     (returns-in-Err-clause-runs g c) zero
 
 pub returns-in-Ok-clause-runs : goal.returns-in-Ok-clause-runs
@@ -31,10 +31,10 @@ returns-in-Ok-clause-runs g c = record {
       shown_runs g.D.Disk.state g.K.Kem.mechanism inbox_lines c.args.disk.now c.open.new.disk
       (g.met.D.Disk.lawful c.open.new.disk) c.in-Ok.client c.in-Ok.ensures.opened c.open.ensures.any_moment
       c.in-Ok.ensures.in_worlds;
-  ends = c.finish_written.ensures.ends _ _ _ c.write_inbox-wrote.ensures;
+  ends = c.finish_written.ensures.ends _ _ c.write_inbox-wrote.ensures;
 }
 
 pub returns-in-Ok-clause-quiet : goal.returns-in-Ok-clause-quiet
 returns-in-Ok-clause-quiet g c = λ zero.
-    show_quiet g.D.Disk.state g.K.Kem.mechanism inbox_lines c.args.disk.now c.open.new.disk _ _ _ _ _
+    show_quiet g.D.Disk.state g.K.Kem.mechanism inbox_lines c.args.disk.now c.open.new.disk _ _ _
     (returns-in-Ok-clause-runs g c) zero

@@ -18,7 +18,7 @@ pub returns-in-Err : goal.returns-in-Err
 returns-in-Err g c =
     let below : c.texts.at < length c.args.client.now.kept.inbox =
     omega (arith, ap (λ (s : Summary). s.inbox) c.state-at-end.ensures) in
-    cut_in_lines (text_line []) _ _ _ _ _ _ c.args.client.now.kept.inbox c.texts.at some _ below c.texts.invariant.written
+    cut_in_lines (text_line []) _ _ _ c.args.client.now.kept.inbox c.texts.at some _ below c.texts.invariant.written
     c.texts.invariant.quiet (c.in-Err.ensures some)
 
 pub texts-preserved : goal.texts-preserved
@@ -38,7 +38,7 @@ returns g c =
     record {
       whole =
           c.texts.invariant.written
-          ∙ ap (λ items. appended (g.O.Sink.taken c.args.out.now) (flat_map (text_line []) items)) (take_all c.texts.at c.args.client.now.kept.inbox all);
+          ∙ ap (λ items. appended (g.O.Sink.at c.args.out.now).taken (flat_map (text_line []) items)) (take_all c.texts.at c.args.client.now.kept.inbox all);
       part = tt;
       cause = record { later = omega (arith, c.texts.invariant.quiet); failed = tt; passed = c.texts.invariant.quiet };
     }

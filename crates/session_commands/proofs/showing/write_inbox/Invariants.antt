@@ -6,6 +6,6 @@ use Rattle.session_commands.proofs.showing.write_inbox.Given as goal
 
 abbrev pub invariant-texts : goal.invariant-texts
 invariant-texts g l = record {
-  written : g.O.Sink.taken l.out ≡ appended (g.O.Sink.taken l.fn.out) (flat_map (text_line []) (take l.at l.client.kept.inbox));
-  quiet : g.O.Sink.faults l.out ≡ g.O.Sink.faults l.fn.out;
+  written : (g.O.Sink.at l.out).taken ≡ appended (g.O.Sink.at l.fn.out).taken (flat_map (text_line []) (take l.at l.client.kept.inbox));
+  quiet : (g.O.Sink.at l.out).faults ≡ (g.O.Sink.at l.fn.out).faults;
 }

@@ -18,7 +18,7 @@ pub returns-in-Err : goal.returns-in-Err
 returns-in-Err g c =
     let below : c.packets.at < length c.args.client.now.kept.outbox =
     omega (arith, ap (λ (s : Summary). s.outbox) c.state-at-end.ensures) in
-    cut_in_lines packet_line _ _ _ _ _ _ c.args.client.now.kept.outbox c.packets.at some _ below c.packets.invariant.written
+    cut_in_lines packet_line _ _ _ c.args.client.now.kept.outbox c.packets.at some _ below c.packets.invariant.written
     c.packets.invariant.quiet (c.in-Err.ensures some)
 
 pub packets-preserved : goal.packets-preserved
@@ -38,7 +38,7 @@ returns g c =
     record {
       whole =
           c.packets.invariant.written
-          ∙ ap (λ items. appended (g.O.Sink.taken c.args.out.now) (flat_map packet_line items)) (take_all c.packets.at c.args.client.now.kept.outbox all);
+          ∙ ap (λ items. appended (g.O.Sink.at c.args.out.now).taken (flat_map packet_line items)) (take_all c.packets.at c.args.client.now.kept.outbox all);
       part = tt;
       cause = record { later = omega (arith, c.packets.invariant.quiet); failed = tt; passed = c.packets.invariant.quiet };
     }

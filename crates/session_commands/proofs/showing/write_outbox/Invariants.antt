@@ -6,6 +6,6 @@ use Rattle.session_commands.proofs.showing.write_outbox.Given as goal
 
 abbrev pub invariant-packets : goal.invariant-packets
 invariant-packets g l = record {
-  written : g.O.Sink.taken l.out ≡ appended (g.O.Sink.taken l.fn.out) (flat_map packet_line (take l.at l.client.kept.outbox));
-  quiet : g.O.Sink.faults l.out ≡ g.O.Sink.faults l.fn.out;
+  written : (g.O.Sink.at l.out).taken ≡ appended (g.O.Sink.at l.fn.out).taken (flat_map packet_line (take l.at l.client.kept.outbox));
+  quiet : (g.O.Sink.at l.out).faults ≡ (g.O.Sink.at l.fn.out).faults;
 }

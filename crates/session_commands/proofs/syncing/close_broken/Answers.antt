@@ -7,13 +7,10 @@ use Rattle.session_commands.proofs.syncing.close_broken.Goals as goal
 pub returns-in_default : goal.returns-in_default
 returns-in_default g c =
     let ends =
-    subst (λ (e : Ending). Ends e [] (g.O.Sink.taken c.args.out.now) (g.O.Sink.taken c.finish.new.out) (g.O.Sink.faults c.args.out.now)
-    (g.O.Sink.faults c.finish.new.out) c.finish.result.code) c.broken_off.ensures c.finish.ensures.ends in
+    subst (λ (e : Ending). Ends e [] (g.O.Sink.at c.args.out.now) (g.O.Sink.at c.finish.new.out) c.finish.result.code) c.broken_off.ensures c.finish.ensures.ends in
     record {
-      ends = λ lines old before wrote.
-          closes lines old (g.O.Sink.taken c.args.out.now) (g.O.Sink.taken c.finish.new.out) before (g.O.Sink.faults c.args.out.now)
-          (g.O.Sink.faults c.finish.new.out) c.args.fault c.finish.result.code c.in_default.not-Write ends wrote;
-      fails = not_done c.args.fault (g.O.Sink.taken c.args.out.now) (g.O.Sink.taken c.finish.new.out) (g.O.Sink.faults c.args.out.now)
-          (g.O.Sink.faults c.finish.new.out) c.finish.result.code c.in_default.not-Write ends;
+      ends = λ lines old wrote.
+          closes lines old (g.O.Sink.at c.args.out.now) (g.O.Sink.at c.finish.new.out) c.args.fault c.finish.result.code c.in_default.not-Write ends wrote;
+      fails = not_done c.args.fault (g.O.Sink.at c.args.out.now) (g.O.Sink.at c.finish.new.out) c.finish.result.code c.in_default.not-Write ends;
       later = c.finish.ensures.later;
     }

@@ -17,7 +17,7 @@ returns-in-Err-clause-runs g c = record {
   lines = [];
   came =
       subst (λ (e : Ending). RunsSync g.D.Disk.state g.L.Pipe.port g.K.Kem.mechanism c.args.address.now c.args.disk.now c.open.new.disk c.args.link.now c.args.link.now
-      (g.O.Sink.faults c.args.out.now) (g.O.Sink.faults c.finish.new.out) e []) (sym c.unopened.ensures)
+      (g.O.Sink.at c.args.out.now).faults (g.O.Sink.at c.finish.new.out).faults e []) (sym c.unopened.ensures)
       (wasnt_synced c.in-Err.refusal c.in-Err.ensures.unopened (record { any_moment = c.open.ensures.any_moment; reads = c.open.ensures.reads }) refl
       (λ w side lawful stands.
       only_opened g.K.Kem.mechanism side w (g.D.Disk.state c.args.disk.now) (g.D.Disk.state c.open.new.disk) stands c.open.ensures.any_moment c.open.ensures.reads));
@@ -41,16 +41,16 @@ returns-in-Err-open-clause-runs g c = record {
 pub close-requires : goal.close-requires
 close-requires g c =
     near_result (client_party g.K.Kem.mechanism [] c.in-Ok.client.kept)
-    (moment c.in-Ok.client (g.D.Disk.state c.open.new.disk) (g.O.Sink.taken c.args.out.now) (g.O.Sink.faults c.args.out.now))
-    (moment c.sync-synced.new.self (g.D.Disk.state c.sync-synced.new.disk) (g.O.Sink.taken c.sync-synced.new.out) (g.O.Sink.faults c.sync-synced.new.out))
+    (moment c.in-Ok.client (g.D.Disk.state c.open.new.disk) (g.O.Sink.at c.args.out.now))
+    (moment c.sync-synced.new.self (g.D.Disk.state c.sync-synced.new.disk) (g.O.Sink.at c.sync-synced.new.out))
     (g.L.Pipe.port c.open-in-Ok.new.self) (g.L.Pipe.port c.sync-synced.new.link) c.sync-synced.result (c.sync-synced.ensures.exact c.in-Ok.ensures.opened.is_open)
 
 pub returns-clause-runs : goal.returns-clause-runs
 returns-clause-runs g c =
     let syncs = c.sync-synced.ensures.exact c.in-Ok.ensures.opened.is_open in
     let ends : Ends (client_party g.K.Kem.mechanism [] c.in-Ok.client.kept) syncs.replies
-    (moment c.in-Ok.client (g.D.Disk.state c.open.new.disk) (g.O.Sink.taken c.args.out.now) (g.O.Sink.faults c.args.out.now))
-    (moment c.sync-synced.new.self (g.D.Disk.state c.sync-synced.new.disk) (g.O.Sink.taken c.sync-synced.new.out) (g.O.Sink.faults c.sync-synced.new.out))
+    (moment c.in-Ok.client (g.D.Disk.state c.open.new.disk) (g.O.Sink.at c.args.out.now))
+    (moment c.sync-synced.new.self (g.D.Disk.state c.sync-synced.new.disk) (g.O.Sink.at c.sync-synced.new.out))
     (g.L.Pipe.port c.open-in-Ok.new.self) (g.L.Pipe.port c.sync-synced.new.link) c.sync-synced.result = syncs.syncs.ends in
     record {
       ending = ending_of_sync c.sync-synced.result;
@@ -66,25 +66,25 @@ returns-clause-runs g c =
             last = g.L.Pipe.port c.sync-synced.new.link;
             connects = c.in-Ok-open.ensures.to;
             quiet = c.in-Ok-open.ensures.flow;
-            ends = c.shut.ensures.told;
-            counts = c.shut.ensures.flow;
+            ends = c.shut.ensures.shuts.told;
+            counts = c.shut.ensures.shuts.flow;
             talks = sync_ends (client_party g.K.Kem.mechanism [] c.in-Ok.client.kept) c.in-Ok.client.kept syncs.replies (g.L.Pipe.port c.open-in-Ok.new.self) (g.L.Pipe.port c.sync-synced.new.link)
                 (g.D.Disk.state c.args.disk.now) (g.D.Disk.state c.open.new.disk) (g.D.Disk.state c.sync-synced.new.disk) c.in-Ok.client c.sync-synced.new.self
-                (g.O.Sink.taken c.args.out.now) (g.O.Sink.taken c.sync-synced.new.out) (g.O.Sink.faults c.args.out.now) (g.O.Sink.faults c.sync-synced.new.out)
-                (g.O.Sink.faults c.close.new.out) refl c.in-Ok.ensures.opened.quiet c.close.ensures.later c.sync-synced.result ends;
+                (g.O.Sink.at c.args.out.now) (g.O.Sink.at c.sync-synced.new.out)
+                (g.O.Sink.at c.close.new.out).faults refl c.in-Ok.ensures.opened.quiet c.close.ensures.later c.sync-synced.result ends;
           })
-          (c.shut.ensures.gate ∙ c.sync-synced.ensures.gate ∙ c.in-Ok-open.ensures.cause.passed)
+          (c.shut.ensures.shuts.gate ∙ c.sync-synced.ensures.gate ∙ c.in-Ok-open.ensures.cause.passed)
           (λ w side lawful stands fair. let opens = c.in-Ok.ensures.in_worlds w side lawful stands in
           sync_runs (g.D.Disk.state c.args.disk.now) (g.D.Disk.state c.open.new.disk) (g.D.Disk.state c.sync-synced.new.disk) (g.met.D.Disk.lawful c.sync-synced.new.disk)
           g.K.Kem.mechanism side w syncs.replies c.in-Ok.client c.sync-synced.new.self
-          (g.O.Sink.taken c.args.out.now) (g.O.Sink.taken c.sync-synced.new.out) (g.O.Sink.faults c.args.out.now) (g.O.Sink.faults c.sync-synced.new.out)
+          (g.O.Sink.at c.args.out.now) (g.O.Sink.at c.sync-synced.new.out)
           (client_party g.K.Kem.mechanism [] c.in-Ok.client.kept) (g.L.Pipe.port c.open-in-Ok.new.self) (g.L.Pipe.port c.sync-synced.new.link) c.sync-synced.result stands c.open.ensures.any_moment c.in-Ok.ensures.opened.alike ends
           (c.sync-synced.ensures.in_worlds w side syncs.replies opens.client.0 syncs.syncs fair));
       ends =
-          c.close.ensures.ends (sync_lines (client_party g.K.Kem.mechanism [] c.in-Ok.client.kept) c.in-Ok.client.kept syncs.replies c.sync-synced.result) (g.O.Sink.taken c.args.out.now) (g.O.Sink.faults c.args.out.now)
+          c.close.ensures.ends (sync_lines (client_party g.K.Kem.mechanism [] c.in-Ok.client.kept) c.in-Ok.client.kept syncs.replies c.sync-synced.result) (g.O.Sink.at c.args.out.now)
           (has_written (client_party g.K.Kem.mechanism [] c.in-Ok.client.kept) syncs.replies
-          (moment c.in-Ok.client (g.D.Disk.state c.open.new.disk) (g.O.Sink.taken c.args.out.now) (g.O.Sink.faults c.args.out.now))
-          (moment c.sync-synced.new.self (g.D.Disk.state c.sync-synced.new.disk) (g.O.Sink.taken c.sync-synced.new.out) (g.O.Sink.faults c.sync-synced.new.out))
+          (moment c.in-Ok.client (g.D.Disk.state c.open.new.disk) (g.O.Sink.at c.args.out.now))
+          (moment c.sync-synced.new.self (g.D.Disk.state c.sync-synced.new.disk) (g.O.Sink.at c.sync-synced.new.out))
           (g.L.Pipe.port c.open-in-Ok.new.self) (g.L.Pipe.port c.sync-synced.new.link) c.sync-synced.result ends);
     }
 
@@ -94,12 +94,12 @@ returns-clause-quiet g c = λ zero.
     let done = c.close.ensures.done zero in
     let quiet =
     done_quiet (client_party g.K.Kem.mechanism [] c.in-Ok.client.kept)
-    (moment c.in-Ok.client (g.D.Disk.state c.open.new.disk) (g.O.Sink.taken c.args.out.now) (g.O.Sink.faults c.args.out.now))
-    (moment c.sync-synced.new.self (g.D.Disk.state c.sync-synced.new.disk) (g.O.Sink.taken c.sync-synced.new.out) (g.O.Sink.faults c.sync-synced.new.out))
+    (moment c.in-Ok.client (g.D.Disk.state c.open.new.disk) (g.O.Sink.at c.args.out.now))
+    (moment c.sync-synced.new.self (g.D.Disk.state c.sync-synced.new.disk) (g.O.Sink.at c.sync-synced.new.out))
     (g.L.Pipe.port c.open-in-Ok.new.self) (g.L.Pipe.port c.sync-synced.new.link) c.sync-synced.result done.0 syncs done.1 in (
       quiet_twice (g.D.Disk.state c.args.disk.now) (g.D.Disk.state c.open.new.disk) (g.D.Disk.state c.sync-synced.new.disk) c.in-Ok.ensures.opened.quiet quiet.0,
       c.close.ensures.quiet zero ∙ quiet.1,
       each_part (g.L.Pipe.port c.args.link.now).faults (g.L.Pipe.port c.shut.new.self).faults
-          (c.shut.ensures.flow ∙ quiet.2 ∙ c.in-Ok-open.ensures.flow)
-          (c.shut.ensures.gate ∙ c.sync-synced.ensures.gate ∙ c.in-Ok-open.ensures.cause.passed),
+          (c.shut.ensures.shuts.flow ∙ quiet.2 ∙ c.in-Ok-open.ensures.flow)
+          (c.shut.ensures.shuts.gate ∙ c.sync-synced.ensures.gate ∙ c.in-Ok-open.ensures.cause.passed),
     )

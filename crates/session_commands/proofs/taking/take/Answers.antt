@@ -12,5 +12,5 @@ returns-clause-runs g c = record {
 
 pub returns-clause-quiet : goal.returns-clause-quiet
 returns-clause-quiet g c = λ zero.
-    take_quiet g.D.Disk.state g.K.Kem.mechanism _ _ _ _ c.args.disk.now c.read_and_take-worked.new.disk _ _ _ _ _
+    take_quiet g.D.Disk.state g.K.Kem.mechanism _ _ c.args.disk.now c.read_and_take-worked.new.disk _ _ _
     (returns-clause-runs g c) zero

@@ -16,7 +16,7 @@ use Rattle.client.proofs.client.Client.collect_all.Goals as goal
 pub items-init : goal.items-init
 items-init g c = record {
   far = begins (party_of g.K.Kem.mechanism c.args.prefix.now c.args.names.now.own c.args.names.now.peers)
-      (moment c.args.self.now (g.D.Disk.state c.args.disk.now) (g.O.Sink.taken c.args.out.now) (g.O.Sink.faults c.args.out.now))
+      (moment c.args.self.now (g.D.Disk.state c.args.disk.now) (g.O.Sink.at c.args.out.now))
       (g.L.Pipe.port c.args.link.now) c.requires.is_open c.requires.ready;
   within = omega arith;
   later = omega arith;
@@ -27,41 +27,41 @@ items-init g c = record {
 
 pub returns-in-Err-clause-collects : goal.returns-in-Err-clause-collects
 returns-in-Err-clause-collects g c =
-    goes_round (party_of g.K.Kem.mechanism c.args.prefix.now c.args.names.now.own c.args.names.now.peers) (moment c.args.self.now (g.D.Disk.state c.args.disk.now) (g.O.Sink.taken c.args.out.now) (g.O.Sink.faults c.args.out.now)) (moment c.items.self (g.D.Disk.state c.items.disk) (g.O.Sink.taken c.items.out) (g.O.Sink.faults c.items.out))
+    goes_round (party_of g.K.Kem.mechanism c.args.prefix.now c.args.names.now.own c.args.names.now.peers) (moment c.args.self.now (g.D.Disk.state c.args.disk.now) (g.O.Sink.at c.args.out.now)) (moment c.items.self (g.D.Disk.state c.items.disk) (g.O.Sink.at c.items.out))
     (g.L.Pipe.port c.args.link.now) (g.L.Pipe.port c.items.link) (fetching c.items.count)
-    (subst (SoFar (party_of g.K.Kem.mechanism c.args.prefix.now c.args.names.now.own c.args.names.now.peers) (moment c.args.self.now (g.D.Disk.state c.args.disk.now) (g.O.Sink.taken c.args.out.now) (g.O.Sink.faults c.args.out.now)) (moment c.items.self (g.D.Disk.state c.items.disk) (g.O.Sink.taken c.items.out) (g.O.Sink.faults c.items.out)) (g.L.Pipe.port c.args.link.now) (g.L.Pipe.port c.items.link)) (fetches_now (waiting c.items.self.kept) c.items.count c.items-test.true) c.items.invariant.far)
-    (moment c.fetch.new.self (g.D.Disk.state c.fetch.new.disk) (g.O.Sink.taken c.fetch.new.out) (g.O.Sink.faults c.fetch.new.out)) (g.L.Pipe.port c.fetch.new.link)
+    (subst (SoFar (party_of g.K.Kem.mechanism c.args.prefix.now c.args.names.now.own c.args.names.now.peers) (moment c.args.self.now (g.D.Disk.state c.args.disk.now) (g.O.Sink.at c.args.out.now)) (moment c.items.self (g.D.Disk.state c.items.disk) (g.O.Sink.at c.items.out)) (g.L.Pipe.port c.args.link.now) (g.L.Pipe.port c.items.link)) (fetches_now (waiting c.items.self.kept) c.items.count c.items-test.true) c.items.invariant.far)
+    (moment c.fetch.new.self (g.D.Disk.state c.fetch.new.disk) (g.O.Sink.at c.fetch.new.out)) (g.L.Pipe.port c.fetch.new.link)
     (record { name = c.args.names.now.own; ask = fetches }) refl (stops c.in-Err.fault)
     (c.in-Err.ensures.round c.items.count)
 
 pub returns-in-Ok-None-clause-collects : goal.returns-in-Ok-None-clause-collects
 returns-in-Ok-None-clause-collects g c =
-    goes_round (party_of g.K.Kem.mechanism c.args.prefix.now c.args.names.now.own c.args.names.now.peers) (moment c.args.self.now (g.D.Disk.state c.args.disk.now) (g.O.Sink.taken c.args.out.now) (g.O.Sink.faults c.args.out.now)) (moment c.items.self (g.D.Disk.state c.items.disk) (g.O.Sink.taken c.items.out) (g.O.Sink.faults c.items.out))
+    goes_round (party_of g.K.Kem.mechanism c.args.prefix.now c.args.names.now.own c.args.names.now.peers) (moment c.args.self.now (g.D.Disk.state c.args.disk.now) (g.O.Sink.at c.args.out.now)) (moment c.items.self (g.D.Disk.state c.items.disk) (g.O.Sink.at c.items.out))
     (g.L.Pipe.port c.args.link.now) (g.L.Pipe.port c.items.link) (fetching c.items.count)
-    (subst (SoFar (party_of g.K.Kem.mechanism c.args.prefix.now c.args.names.now.own c.args.names.now.peers) (moment c.args.self.now (g.D.Disk.state c.args.disk.now) (g.O.Sink.taken c.args.out.now) (g.O.Sink.faults c.args.out.now)) (moment c.items.self (g.D.Disk.state c.items.disk) (g.O.Sink.taken c.items.out) (g.O.Sink.faults c.items.out)) (g.L.Pipe.port c.args.link.now) (g.L.Pipe.port c.items.link)) (fetches_now (waiting c.items.self.kept) c.items.count c.items-test.true) c.items.invariant.far)
-    (moment c.fetch.new.self (g.D.Disk.state c.fetch.new.disk) (g.O.Sink.taken c.fetch.new.out) (g.O.Sink.faults c.fetch.new.out)) (g.L.Pipe.port c.fetch.new.link)
+    (subst (SoFar (party_of g.K.Kem.mechanism c.args.prefix.now c.args.names.now.own c.args.names.now.peers) (moment c.args.self.now (g.D.Disk.state c.args.disk.now) (g.O.Sink.at c.args.out.now)) (moment c.items.self (g.D.Disk.state c.items.disk) (g.O.Sink.at c.items.out)) (g.L.Pipe.port c.args.link.now) (g.L.Pipe.port c.items.link)) (fetches_now (waiting c.items.self.kept) c.items.count c.items-test.true) c.items.invariant.far)
+    (moment c.fetch.new.self (g.D.Disk.state c.fetch.new.disk) (g.O.Sink.at c.fetch.new.out)) (g.L.Pipe.port c.fetch.new.link)
     (record { name = c.args.names.now.own; ask = fetches }) refl (goes_on (waits_by (waiting c.fetch.new.self.kept) End))
     ((rw c.in-Ok-None.field-0-is at c.in-Ok-None.ensures.round) c.items.count)
 
 pub returns-in-Err-acknowledge-clause-collects : goal.returns-in-Err-acknowledge-clause-collects
 returns-in-Err-acknowledge-clause-collects g c =
-    let far : SoFar (party_of g.K.Kem.mechanism c.args.prefix.now c.args.names.now.own c.args.names.now.peers) (moment c.args.self.now (g.D.Disk.state c.args.disk.now) (g.O.Sink.taken c.args.out.now) (g.O.Sink.faults c.args.out.now))
-    (moment c.fetch.new.self (g.D.Disk.state c.fetch.new.disk) (g.O.Sink.taken c.fetch.new.out) (g.O.Sink.faults c.fetch.new.out))
+    let far : SoFar (party_of g.K.Kem.mechanism c.args.prefix.now c.args.names.now.own c.args.names.now.peers) (moment c.args.self.now (g.D.Disk.state c.args.disk.now) (g.O.Sink.at c.args.out.now))
+    (moment c.fetch.new.self (g.D.Disk.state c.fetch.new.disk) (g.O.Sink.at c.fetch.new.out))
     (g.L.Pipe.port c.args.link.now) (g.L.Pipe.port c.fetch.new.link) (acking c.items.count c.in-Ok-Some.number) =
-    goes_round (party_of g.K.Kem.mechanism c.args.prefix.now c.args.names.now.own c.args.names.now.peers) (moment c.args.self.now (g.D.Disk.state c.args.disk.now) (g.O.Sink.taken c.args.out.now) (g.O.Sink.faults c.args.out.now)) (moment c.items.self (g.D.Disk.state c.items.disk) (g.O.Sink.taken c.items.out) (g.O.Sink.faults c.items.out))
+    goes_round (party_of g.K.Kem.mechanism c.args.prefix.now c.args.names.now.own c.args.names.now.peers) (moment c.args.self.now (g.D.Disk.state c.args.disk.now) (g.O.Sink.at c.args.out.now)) (moment c.items.self (g.D.Disk.state c.items.disk) (g.O.Sink.at c.items.out))
     (g.L.Pipe.port c.args.link.now) (g.L.Pipe.port c.items.link) (fetching c.items.count)
-    (subst (SoFar (party_of g.K.Kem.mechanism c.args.prefix.now c.args.names.now.own c.args.names.now.peers) (moment c.args.self.now (g.D.Disk.state c.args.disk.now) (g.O.Sink.taken c.args.out.now) (g.O.Sink.faults c.args.out.now)) (moment c.items.self (g.D.Disk.state c.items.disk) (g.O.Sink.taken c.items.out) (g.O.Sink.faults c.items.out)) (g.L.Pipe.port c.args.link.now) (g.L.Pipe.port c.items.link)) (fetches_now (waiting c.items.self.kept) c.items.count c.items-test.true) c.items.invariant.far)
-    (moment c.fetch.new.self (g.D.Disk.state c.fetch.new.disk) (g.O.Sink.taken c.fetch.new.out) (g.O.Sink.faults c.fetch.new.out)) (g.L.Pipe.port c.fetch.new.link)
+    (subst (SoFar (party_of g.K.Kem.mechanism c.args.prefix.now c.args.names.now.own c.args.names.now.peers) (moment c.args.self.now (g.D.Disk.state c.args.disk.now) (g.O.Sink.at c.args.out.now)) (moment c.items.self (g.D.Disk.state c.items.disk) (g.O.Sink.at c.items.out)) (g.L.Pipe.port c.args.link.now) (g.L.Pipe.port c.items.link)) (fetches_now (waiting c.items.self.kept) c.items.count c.items-test.true) c.items.invariant.far)
+    (moment c.fetch.new.self (g.D.Disk.state c.fetch.new.disk) (g.O.Sink.at c.fetch.new.out)) (g.L.Pipe.port c.fetch.new.link)
     (record { name = c.args.names.now.own; ask = fetches }) refl (goes_on (acking c.items.count c.in-Ok-Some.number))
     ((rw c.in-Ok-Some.field-0-is at c.in-Ok-Some.ensures.round) c.items.count) in
-    goes_round (party_of g.K.Kem.mechanism c.args.prefix.now c.args.names.now.own c.args.names.now.peers) (moment c.args.self.now (g.D.Disk.state c.args.disk.now) (g.O.Sink.taken c.args.out.now) (g.O.Sink.faults c.args.out.now))
-    (moment c.fetch.new.self (g.D.Disk.state c.fetch.new.disk) (g.O.Sink.taken c.fetch.new.out) (g.O.Sink.faults c.fetch.new.out))
+    goes_round (party_of g.K.Kem.mechanism c.args.prefix.now c.args.names.now.own c.args.names.now.peers) (moment c.args.self.now (g.D.Disk.state c.args.disk.now) (g.O.Sink.at c.args.out.now))
+    (moment c.fetch.new.self (g.D.Disk.state c.fetch.new.disk) (g.O.Sink.at c.fetch.new.out))
     (g.L.Pipe.port c.args.link.now) (g.L.Pipe.port c.fetch.new.link) (acking c.items.count c.in-Ok-Some.number) far
-    (moment c.acknowledge.new.self (g.D.Disk.state c.fetch.new.disk) (g.O.Sink.taken c.fetch.new.out) (g.O.Sink.faults c.fetch.new.out))
+    (moment c.acknowledge.new.self (g.D.Disk.state c.fetch.new.disk) (g.O.Sink.at c.fetch.new.out))
     (g.L.Pipe.port c.acknowledge.new.link) (record { name = c.args.names.now.own; ask = acks c.in-Ok-Some.number }) refl
     (stops c.in-Err-acknowledge.fault)
     (acks_round (party_of g.K.Kem.mechanism c.args.prefix.now c.args.names.now.own c.args.names.now.peers)
-    (moment c.fetch.new.self (g.D.Disk.state c.fetch.new.disk) (g.O.Sink.taken c.fetch.new.out) (g.O.Sink.faults c.fetch.new.out))
+    (moment c.fetch.new.self (g.D.Disk.state c.fetch.new.disk) (g.O.Sink.at c.fetch.new.out))
     c.acknowledge.new.self c.items.count c.in-Ok-Some.number (record { name = c.args.names.now.own; ask = acks c.in-Ok-Some.number })
     (g.L.Pipe.port c.fetch.new.link) (g.L.Pipe.port c.acknowledge.new.link) (stops c.in-Err-acknowledge.fault)
     c.acknowledge.ensures.same far.stands.is_open far.stands.ready
@@ -70,28 +70,28 @@ returns-in-Err-acknowledge-clause-collects g c =
 pub items-preserved : goal.items-preserved
 items-preserved g c = record {
   far =
-      subst (SoFar (party_of g.K.Kem.mechanism c.args.prefix.now c.args.names.now.own c.args.names.now.peers) (moment c.args.self.now (g.D.Disk.state c.args.disk.now) (g.O.Sink.taken c.args.out.now) (g.O.Sink.faults c.args.out.now))
-      (moment c.acknowledge.new.self (g.D.Disk.state c.fetch.new.disk) (g.O.Sink.taken c.fetch.new.out) (g.O.Sink.faults c.fetch.new.out))
+      subst (SoFar (party_of g.K.Kem.mechanism c.args.prefix.now c.args.names.now.own c.args.names.now.peers) (moment c.args.self.now (g.D.Disk.state c.args.disk.now) (g.O.Sink.at c.args.out.now))
+      (moment c.acknowledge.new.self (g.D.Disk.state c.fetch.new.disk) (g.O.Sink.at c.fetch.new.out))
       (g.L.Pipe.port c.args.link.now) (g.L.Pipe.port c.acknowledge.new.link))
       (one_more (party_of g.K.Kem.mechanism c.args.prefix.now c.args.names.now.own c.args.names.now.peers) c.fetch.new.self.kept c.items.count
       ∙ ap (λ (n : ClientNow). collecting (waiting n.kept) (c.items.count + 1)) (sym c.acknowledge.ensures.same))
-      (let far : SoFar (party_of g.K.Kem.mechanism c.args.prefix.now c.args.names.now.own c.args.names.now.peers) (moment c.args.self.now (g.D.Disk.state c.args.disk.now) (g.O.Sink.taken c.args.out.now) (g.O.Sink.faults c.args.out.now))
-      (moment c.fetch.new.self (g.D.Disk.state c.fetch.new.disk) (g.O.Sink.taken c.fetch.new.out) (g.O.Sink.faults c.fetch.new.out))
+      (let far : SoFar (party_of g.K.Kem.mechanism c.args.prefix.now c.args.names.now.own c.args.names.now.peers) (moment c.args.self.now (g.D.Disk.state c.args.disk.now) (g.O.Sink.at c.args.out.now))
+      (moment c.fetch.new.self (g.D.Disk.state c.fetch.new.disk) (g.O.Sink.at c.fetch.new.out))
       (g.L.Pipe.port c.args.link.now) (g.L.Pipe.port c.fetch.new.link) (acking c.items.count c.in-Ok-Some.number) =
-      goes_round (party_of g.K.Kem.mechanism c.args.prefix.now c.args.names.now.own c.args.names.now.peers) (moment c.args.self.now (g.D.Disk.state c.args.disk.now) (g.O.Sink.taken c.args.out.now) (g.O.Sink.faults c.args.out.now)) (moment c.items.self (g.D.Disk.state c.items.disk) (g.O.Sink.taken c.items.out) (g.O.Sink.faults c.items.out))
+      goes_round (party_of g.K.Kem.mechanism c.args.prefix.now c.args.names.now.own c.args.names.now.peers) (moment c.args.self.now (g.D.Disk.state c.args.disk.now) (g.O.Sink.at c.args.out.now)) (moment c.items.self (g.D.Disk.state c.items.disk) (g.O.Sink.at c.items.out))
       (g.L.Pipe.port c.args.link.now) (g.L.Pipe.port c.items.link) (fetching c.items.count)
-      (subst (SoFar (party_of g.K.Kem.mechanism c.args.prefix.now c.args.names.now.own c.args.names.now.peers) (moment c.args.self.now (g.D.Disk.state c.args.disk.now) (g.O.Sink.taken c.args.out.now) (g.O.Sink.faults c.args.out.now)) (moment c.items.self (g.D.Disk.state c.items.disk) (g.O.Sink.taken c.items.out) (g.O.Sink.faults c.items.out)) (g.L.Pipe.port c.args.link.now) (g.L.Pipe.port c.items.link)) (fetches_now (waiting c.items.self.kept) c.items.count c.items-test.true) c.items.invariant.far)
-      (moment c.fetch.new.self (g.D.Disk.state c.fetch.new.disk) (g.O.Sink.taken c.fetch.new.out) (g.O.Sink.faults c.fetch.new.out)) (g.L.Pipe.port c.fetch.new.link)
+      (subst (SoFar (party_of g.K.Kem.mechanism c.args.prefix.now c.args.names.now.own c.args.names.now.peers) (moment c.args.self.now (g.D.Disk.state c.args.disk.now) (g.O.Sink.at c.args.out.now)) (moment c.items.self (g.D.Disk.state c.items.disk) (g.O.Sink.at c.items.out)) (g.L.Pipe.port c.args.link.now) (g.L.Pipe.port c.items.link)) (fetches_now (waiting c.items.self.kept) c.items.count c.items-test.true) c.items.invariant.far)
+      (moment c.fetch.new.self (g.D.Disk.state c.fetch.new.disk) (g.O.Sink.at c.fetch.new.out)) (g.L.Pipe.port c.fetch.new.link)
       (record { name = c.args.names.now.own; ask = fetches }) refl (goes_on (acking c.items.count c.in-Ok-Some.number))
       ((rw c.in-Ok-Some.field-0-is at c.in-Ok-Some.ensures.round) c.items.count) in
-      goes_round (party_of g.K.Kem.mechanism c.args.prefix.now c.args.names.now.own c.args.names.now.peers) (moment c.args.self.now (g.D.Disk.state c.args.disk.now) (g.O.Sink.taken c.args.out.now) (g.O.Sink.faults c.args.out.now))
-      (moment c.fetch.new.self (g.D.Disk.state c.fetch.new.disk) (g.O.Sink.taken c.fetch.new.out) (g.O.Sink.faults c.fetch.new.out))
+      goes_round (party_of g.K.Kem.mechanism c.args.prefix.now c.args.names.now.own c.args.names.now.peers) (moment c.args.self.now (g.D.Disk.state c.args.disk.now) (g.O.Sink.at c.args.out.now))
+      (moment c.fetch.new.self (g.D.Disk.state c.fetch.new.disk) (g.O.Sink.at c.fetch.new.out))
       (g.L.Pipe.port c.args.link.now) (g.L.Pipe.port c.fetch.new.link) (acking c.items.count c.in-Ok-Some.number) far
-      (moment c.acknowledge.new.self (g.D.Disk.state c.fetch.new.disk) (g.O.Sink.taken c.fetch.new.out) (g.O.Sink.faults c.fetch.new.out))
+      (moment c.acknowledge.new.self (g.D.Disk.state c.fetch.new.disk) (g.O.Sink.at c.fetch.new.out))
       (g.L.Pipe.port c.acknowledge.new.link) (record { name = c.args.names.now.own; ask = acks c.in-Ok-Some.number }) refl
       (goes_on (acknowledged (party_of g.K.Kem.mechanism c.args.prefix.now c.args.names.now.own c.args.names.now.peers) c.fetch.new.self.kept c.items.count).wait)
       (acks_round (party_of g.K.Kem.mechanism c.args.prefix.now c.args.names.now.own c.args.names.now.peers)
-      (moment c.fetch.new.self (g.D.Disk.state c.fetch.new.disk) (g.O.Sink.taken c.fetch.new.out) (g.O.Sink.faults c.fetch.new.out))
+      (moment c.fetch.new.self (g.D.Disk.state c.fetch.new.disk) (g.O.Sink.at c.fetch.new.out))
       c.acknowledge.new.self c.items.count c.in-Ok-Some.number (record { name = c.args.names.now.own; ask = acks c.in-Ok-Some.number })
       (g.L.Pipe.port c.fetch.new.link) (g.L.Pipe.port c.acknowledge.new.link) (goes_on (acknowledged (party_of g.K.Kem.mechanism c.args.prefix.now c.args.names.now.own c.args.names.now.peers) c.fetch.new.self.kept c.items.count).wait)
       c.acknowledge.ensures.same far.stands.is_open far.stands.ready

@@ -9,11 +9,11 @@ use Rattle.client.proofs.client.Client.collect_all.Given as goal
 abbrev pub invariant-items : goal.invariant-items
 invariant-items g l = record {
   far : SoFar (party_of g.K.Kem.mechanism l.prefix l.names.own l.names.peers)
-      (moment l.fn.self (g.D.Disk.state l.fn.disk) (g.O.Sink.taken l.fn.out) (g.O.Sink.faults l.fn.out))
-      (moment l.self (g.D.Disk.state l.disk) (g.O.Sink.taken l.out) (g.O.Sink.faults l.out))
+      (moment l.fn.self (g.D.Disk.state l.fn.disk) (g.O.Sink.at l.fn.out))
+      (moment l.self (g.D.Disk.state l.disk) (g.O.Sink.at l.out))
       (g.L.Pipe.port l.fn.link) (g.L.Pipe.port l.link) (collecting (waiting l.self.kept) l.count);
   within : l.count ≤ ITEM_LIMIT;
-  later : g.O.Sink.faults l.fn.out ≤ g.O.Sink.faults l.out;
+  later : (g.O.Sink.at l.fn.out).faults ≤ (g.O.Sink.at l.out).faults;
   flow : (g.L.Pipe.port l.fn.link).faults Flow ≤ (g.L.Pipe.port l.link).faults Flow;
   gate : (g.L.Pipe.port l.link).faults Gate ≡ (g.L.Pipe.port l.fn.link).faults Gate;
   stands : g.L.Pipe.behind l.link ≡ g.L.Pipe.behind l.fn.link;

@@ -13,16 +13,16 @@ pub returns-in-Err-clause-turns : goal.returns-in-Err-clause-turns
 returns-in-Err-clause-turns g c = λ own peers which.
     turns_unstored (move (party_of g.K.Kem.mechanism c.args.prefix.now own peers) c.args.self.now.kept (posting which) (stored c.args.number))
     (sent_step g.K.Kem.mechanism c.args.self.now.kept).next refl
-    (moment c.args.self.now (g.D.Disk.state c.args.disk.now) (g.O.Sink.taken c.args.out.now) (g.O.Sink.faults c.args.out.now))
-    (moment c.drop_oldest.new.self (g.D.Disk.state c.drop_oldest.new.disk) (g.O.Sink.taken c.args.out.now) (g.O.Sink.faults c.args.out.now))
+    (moment c.args.self.now (g.D.Disk.state c.args.disk.now) (g.O.Sink.at c.args.out.now))
+    (moment c.drop_oldest.new.self (g.D.Disk.state c.drop_oldest.new.disk) (g.O.Sink.at c.args.out.now))
     c.in-Err.call c.in-Err.ensures.gone (wrote_nothing _ _ refl refl)
 
 pub returns-in-Err-write_stored-clause-turns : goal.returns-in-Err-write_stored-clause-turns
 returns-in-Err-write_stored-clause-turns g c = λ own peers which.
     turns_unwritten (move (party_of g.K.Kem.mechanism c.args.prefix.now own peers) c.args.self.now.kept (posting which) (stored c.args.number))
     (sent_step g.K.Kem.mechanism c.args.self.now.kept).next refl
-    (moment c.args.self.now (g.D.Disk.state c.args.disk.now) (g.O.Sink.taken c.args.out.now) (g.O.Sink.faults c.args.out.now))
-    (moment c.drop_oldest.new.self (g.D.Disk.state c.drop_oldest.new.disk) (g.O.Sink.taken c.write_stored.new.out) (g.O.Sink.faults c.write_stored.new.out))
+    (moment c.args.self.now (g.D.Disk.state c.args.disk.now) (g.O.Sink.at c.args.out.now))
+    (moment c.drop_oldest.new.self (g.D.Disk.state c.drop_oldest.new.disk) (g.O.Sink.at c.write_stored.new.out))
     (stored_line c.args.prefix.now c.args.number) refl c.in-Ok.ensures.gone
     (record { beginning = c.in-Err-write_stored.ensures.part; rose = c.in-Err-write_stored.ensures.cause.failed })
 
@@ -30,8 +30,8 @@ pub returns-in-Ok-write_stored-clause-turns : goal.returns-in-Ok-write_stored-cl
 returns-in-Ok-write_stored-clause-turns g c = λ own peers which.
     turns_on (move (party_of g.K.Kem.mechanism c.args.prefix.now own peers) c.args.self.now.kept (posting which) (stored c.args.number))
     (sent_step g.K.Kem.mechanism c.args.self.now.kept).next refl
-    (moment c.args.self.now (g.D.Disk.state c.args.disk.now) (g.O.Sink.taken c.args.out.now) (g.O.Sink.faults c.args.out.now))
-    (moment c.drop_oldest.new.self (g.D.Disk.state c.drop_oldest.new.disk) (g.O.Sink.taken c.write_stored.new.out) (g.O.Sink.faults c.write_stored.new.out))
+    (moment c.args.self.now (g.D.Disk.state c.args.disk.now) (g.O.Sink.at c.args.out.now))
+    (moment c.drop_oldest.new.self (g.D.Disk.state c.drop_oldest.new.disk) (g.O.Sink.at c.write_stored.new.out))
     (stored_line c.args.prefix.now c.args.number) (waits_by (waiting c.drop_oldest.new.self.kept) which) refl
     (ap (λ (kept : Client). waits_by (waiting kept) which) (sym c.in-Ok.ensures.gone.keeps)) c.in-Ok.ensures.gone
     (record { bytes_are = c.in-Ok-write_stored.ensures.whole; unfailing = c.in-Ok-write_stored.ensures.cause.passed })

@@ -15,36 +15,36 @@ use Rattle.client.proofs.client.Client.fetched.Goals as goal
 pub returns-in-Item-clause-turns : goal.returns-in-Item-clause-turns
 returns-in-Item-clause-turns g c = λ own peers n.
     subst (λ (r : Reply). Turns (move (party_of g.K.Kem.mechanism c.args.prefix.now own peers) c.args.self.now.kept (fetching n) (replied_of r))
-    (moment c.args.self.now (g.D.Disk.state c.args.disk.now) (g.O.Sink.taken c.args.out.now) (g.O.Sink.faults c.args.out.now))
-    (moment c.collect.new.self (g.D.Disk.state c.collect.new.disk) (g.O.Sink.taken c.collect.new.out) (g.O.Sink.faults c.collect.new.out))
+    (moment c.args.self.now (g.D.Disk.state c.args.disk.now) (g.O.Sink.at c.args.out.now))
+    (moment c.collect.new.self (g.D.Disk.state c.collect.new.disk) (g.O.Sink.at c.collect.new.out))
     (fetched_as (waiting c.collect.new.self.kept) n c.collect.result))
     (sym c.in-Item.is) (c.collect.ensures.turns own peers n)
 
 pub returns-in-Empty-clause-turns : goal.returns-in-Empty-clause-turns
 returns-in-Empty-clause-turns g c = λ own peers n.
     subst (λ (r : Reply). Turns (move (party_of g.K.Kem.mechanism c.args.prefix.now own peers) c.args.self.now.kept (fetching n) (replied_of r))
-    (moment c.args.self.now (g.D.Disk.state c.args.disk.now) (g.O.Sink.taken c.args.out.now) (g.O.Sink.faults c.args.out.now))
-    (moment c.args.self.now (g.D.Disk.state c.args.disk.now) (g.O.Sink.taken c.args.out.now) (g.O.Sink.faults c.args.out.now)) (goes_on (waits_by (waiting c.args.self.now.kept) End)))
+    (moment c.args.self.now (g.D.Disk.state c.args.disk.now) (g.O.Sink.at c.args.out.now))
+    (moment c.args.self.now (g.D.Disk.state c.args.disk.now) (g.O.Sink.at c.args.out.now)) (goes_on (waits_by (waiting c.args.self.now.kept) End)))
     (sym c.in-Empty.is)
     (idles_here (party_of g.K.Kem.mechanism c.args.prefix.now own peers)
-    (moment c.args.self.now (g.D.Disk.state c.args.disk.now) (g.O.Sink.taken c.args.out.now) (g.O.Sink.faults c.args.out.now))
+    (moment c.args.self.now (g.D.Disk.state c.args.disk.now) (g.O.Sink.at c.args.out.now))
     _ (goes_on (waits_by (waiting c.args.self.now.kept) End)) (idles_on (waits_by (waiting c.args.self.now.kept) End) refl) c.requires.is_open c.requires.ready)
 
 pub returns-in-Unknown-clause-turns : goal.returns-in-Unknown-clause-turns
 returns-in-Unknown-clause-turns g c = λ own peers n.
     subst (λ (r : Reply). Turns (move (party_of g.K.Kem.mechanism c.args.prefix.now own peers) c.args.self.now.kept (fetching n) (replied_of r))
-    (moment c.args.self.now (g.D.Disk.state c.args.disk.now) (g.O.Sink.taken c.args.out.now) (g.O.Sink.faults c.args.out.now))
-    (moment c.args.self.now (g.D.Disk.state c.args.disk.now) (g.O.Sink.taken c.args.out.now) (g.O.Sink.faults c.args.out.now)) (stops (Refused Unknown)))
+    (moment c.args.self.now (g.D.Disk.state c.args.disk.now) (g.O.Sink.at c.args.out.now))
+    (moment c.args.self.now (g.D.Disk.state c.args.disk.now) (g.O.Sink.at c.args.out.now)) (stops (Refused Unknown)))
     (sym c.in-Unknown.is)
     (idles_here (party_of g.K.Kem.mechanism c.args.prefix.now own peers)
-    (moment c.args.self.now (g.D.Disk.state c.args.disk.now) (g.O.Sink.taken c.args.out.now) (g.O.Sink.faults c.args.out.now))
+    (moment c.args.self.now (g.D.Disk.state c.args.disk.now) (g.O.Sink.at c.args.out.now))
     _ (stops (Refused Unknown)) (idles_to_end no_such_box (Refused Unknown) refl refl) c.requires.is_open c.requires.ready)
 
 pub returns-in_default : goal.returns-in_default
 returns-in_default g c = record {
   turns = λ own peers n.
       idles_here (party_of g.K.Kem.mechanism c.args.prefix.now own peers)
-      (moment c.args.self.now (g.D.Disk.state c.args.disk.now) (g.O.Sink.taken c.args.out.now) (g.O.Sink.faults c.args.out.now))
+      (moment c.args.self.now (g.D.Disk.state c.args.disk.now) (g.O.Sink.at c.args.out.now))
       (move (party_of g.K.Kem.mechanism c.args.prefix.now own peers) c.args.self.now.kept (fetching n) (replied_of c.args.reply)) (stops (Peer 2 Wrong))
       (fetched_wrong (party_of g.K.Kem.mechanism c.args.prefix.now own peers) c.args.self.now.kept n 0 c.args.reply c.in_default.not-Empty c.in_default.not-Unknown c.in_default.not-Item)
       c.requires.is_open c.requires.ready;

@@ -12,31 +12,31 @@ use Rattle.client.proofs.client.Client.post_all.Goals as goal
 
 pub returns-in-Err-clause-posts : goal.returns-in-Err-clause-posts
 returns-in-Err-clause-posts g c = λ which first before earlier empty far.
-    goes_round (party_of g.K.Kem.mechanism c.args.prefix.now c.args.names.now.own c.args.names.now.peers) (moment first (g.D.Disk.state before) (g.O.Sink.taken empty) (g.O.Sink.faults empty)) (moment c.packets.self (g.D.Disk.state c.packets.disk) (g.O.Sink.taken c.packets.out) (g.O.Sink.faults c.packets.out))
+    goes_round (party_of g.K.Kem.mechanism c.args.prefix.now c.args.names.now.own c.args.names.now.peers) (moment first (g.D.Disk.state before) (g.O.Sink.at empty)) (moment c.packets.self (g.D.Disk.state c.packets.disk) (g.O.Sink.at c.packets.out))
     (g.L.Pipe.port earlier) (g.L.Pipe.port c.packets.link) (posting which)
-    (subst (SoFar (party_of g.K.Kem.mechanism c.args.prefix.now c.args.names.now.own c.args.names.now.peers) (moment first (g.D.Disk.state before) (g.O.Sink.taken empty) (g.O.Sink.faults empty)) (moment c.packets.self (g.D.Disk.state c.packets.disk) (g.O.Sink.taken c.packets.out) (g.O.Sink.faults c.packets.out)) (g.L.Pipe.port earlier) (g.L.Pipe.port c.packets.link))
+    (subst (SoFar (party_of g.K.Kem.mechanism c.args.prefix.now c.args.names.now.own c.args.names.now.peers) (moment first (g.D.Disk.state before) (g.O.Sink.at empty)) (moment c.packets.self (g.D.Disk.state c.packets.disk) (g.O.Sink.at c.packets.out)) (g.L.Pipe.port earlier) (g.L.Pipe.port c.packets.link))
     (posts_now (waiting c.packets.self.kept) c.in-Some.packet (sym c.in-Some.is ∙ c.oldest.ensures) which) (c.packets.invariant.far which first before earlier empty far))
-    (moment c.post.new.self (g.D.Disk.state c.post.new.disk) (g.O.Sink.taken c.post.new.out) (g.O.Sink.faults c.post.new.out)) (g.L.Pipe.port c.post.new.link)
+    (moment c.post.new.self (g.D.Disk.state c.post.new.disk) (g.O.Sink.at c.post.new.out)) (g.L.Pipe.port c.post.new.link)
     (record { name = c.args.names.now.peers; ask = posts c.in-Some.packet }) (asks_post (waiting c.packets.self.kept) c.in-Some.packet (sym c.in-Some.is ∙ c.oldest.ensures) c.args.names.now.peers)
     (stops c.in-Err.fault) (c.in-Err.ensures.round which)
 
 pub packets-preserved : goal.packets-preserved
 packets-preserved g c = record {
   far = λ which first before earlier empty far.
-      goes_round (party_of g.K.Kem.mechanism c.args.prefix.now c.args.names.now.own c.args.names.now.peers) (moment first (g.D.Disk.state before) (g.O.Sink.taken empty) (g.O.Sink.faults empty)) (moment c.packets.self (g.D.Disk.state c.packets.disk) (g.O.Sink.taken c.packets.out) (g.O.Sink.faults c.packets.out))
+      goes_round (party_of g.K.Kem.mechanism c.args.prefix.now c.args.names.now.own c.args.names.now.peers) (moment first (g.D.Disk.state before) (g.O.Sink.at empty)) (moment c.packets.self (g.D.Disk.state c.packets.disk) (g.O.Sink.at c.packets.out))
       (g.L.Pipe.port earlier) (g.L.Pipe.port c.packets.link) (posting which)
-      (subst (SoFar (party_of g.K.Kem.mechanism c.args.prefix.now c.args.names.now.own c.args.names.now.peers) (moment first (g.D.Disk.state before) (g.O.Sink.taken empty) (g.O.Sink.faults empty)) (moment c.packets.self (g.D.Disk.state c.packets.disk) (g.O.Sink.taken c.packets.out) (g.O.Sink.faults c.packets.out)) (g.L.Pipe.port earlier) (g.L.Pipe.port c.packets.link))
+      (subst (SoFar (party_of g.K.Kem.mechanism c.args.prefix.now c.args.names.now.own c.args.names.now.peers) (moment first (g.D.Disk.state before) (g.O.Sink.at empty)) (moment c.packets.self (g.D.Disk.state c.packets.disk) (g.O.Sink.at c.packets.out)) (g.L.Pipe.port earlier) (g.L.Pipe.port c.packets.link))
       (posts_now (waiting c.packets.self.kept) c.in-Some.packet (sym c.in-Some.is ∙ c.oldest.ensures) which) (c.packets.invariant.far which first before earlier empty far))
-      (moment c.post.new.self (g.D.Disk.state c.post.new.disk) (g.O.Sink.taken c.post.new.out) (g.O.Sink.faults c.post.new.out)) (g.L.Pipe.port c.post.new.link)
+      (moment c.post.new.self (g.D.Disk.state c.post.new.disk) (g.O.Sink.at c.post.new.out)) (g.L.Pipe.port c.post.new.link)
       (record { name = c.args.names.now.peers; ask = posts c.in-Some.packet }) (asks_post (waiting c.packets.self.kept) c.in-Some.packet (sym c.in-Some.is ∙ c.oldest.ensures) c.args.names.now.peers)
       (goes_on (waits_by (waiting c.post.new.self.kept) which)) (c.in-Ok.ensures.round which);
   is_open = (goes_ready (party_of g.K.Kem.mechanism c.args.prefix.now c.args.names.now.own c.args.names.now.peers) (posting End) (waits_by (waiting c.post.new.self.kept) End) (record { name = c.args.names.now.peers; ask = posts c.in-Some.packet })
-      (moment c.packets.self (g.D.Disk.state c.packets.disk) (g.O.Sink.taken c.packets.out) (g.O.Sink.faults c.packets.out))
-      (moment c.post.new.self (g.D.Disk.state c.post.new.disk) (g.O.Sink.taken c.post.new.out) (g.O.Sink.faults c.post.new.out))
+      (moment c.packets.self (g.D.Disk.state c.packets.disk) (g.O.Sink.at c.packets.out))
+      (moment c.post.new.self (g.D.Disk.state c.post.new.disk) (g.O.Sink.at c.post.new.out))
       (g.L.Pipe.port c.packets.link) (g.L.Pipe.port c.post.new.link) (c.in-Ok.ensures.round End)).0;
   ready = (goes_ready (party_of g.K.Kem.mechanism c.args.prefix.now c.args.names.now.own c.args.names.now.peers) (posting End) (waits_by (waiting c.post.new.self.kept) End) (record { name = c.args.names.now.peers; ask = posts c.in-Some.packet })
-      (moment c.packets.self (g.D.Disk.state c.packets.disk) (g.O.Sink.taken c.packets.out) (g.O.Sink.faults c.packets.out))
-      (moment c.post.new.self (g.D.Disk.state c.post.new.disk) (g.O.Sink.taken c.post.new.out) (g.O.Sink.faults c.post.new.out))
+      (moment c.packets.self (g.D.Disk.state c.packets.disk) (g.O.Sink.at c.packets.out))
+      (moment c.post.new.self (g.D.Disk.state c.post.new.disk) (g.O.Sink.at c.post.new.out))
       (g.L.Pipe.port c.packets.link) (g.L.Pipe.port c.post.new.link) (c.in-Ok.ensures.round End)).1;
   later = omega (arith, c.packets.invariant.later, c.post.ensures.later);
   flow = omega (arith, c.packets.invariant.flow, c.post.ensures.flow);

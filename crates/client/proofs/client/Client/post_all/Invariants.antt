@@ -12,16 +12,16 @@ abbrev pub invariant-packets : goal.invariant-packets
 invariant-packets g l = record {
   far : (which : More) (first : ClientNow) (before : _) (earlier : _) (empty : _)
       → SoFar (party_of g.K.Kem.mechanism l.prefix l.names.own l.names.peers)
-      (moment first (g.D.Disk.state before) (g.O.Sink.taken empty) (g.O.Sink.faults empty))
-      (moment l.fn.self (g.D.Disk.state l.fn.disk) (g.O.Sink.taken l.fn.out) (g.O.Sink.faults l.fn.out))
+      (moment first (g.D.Disk.state before) (g.O.Sink.at empty))
+      (moment l.fn.self (g.D.Disk.state l.fn.disk) (g.O.Sink.at l.fn.out))
       (g.L.Pipe.port earlier) (g.L.Pipe.port l.fn.link) (waits_by (waiting l.fn.self.kept) which)
       → SoFar (party_of g.K.Kem.mechanism l.prefix l.names.own l.names.peers)
-      (moment first (g.D.Disk.state before) (g.O.Sink.taken empty) (g.O.Sink.faults empty))
-      (moment l.self (g.D.Disk.state l.disk) (g.O.Sink.taken l.out) (g.O.Sink.faults l.out))
+      (moment first (g.D.Disk.state before) (g.O.Sink.at empty))
+      (moment l.self (g.D.Disk.state l.disk) (g.O.Sink.at l.out))
       (g.L.Pipe.port earlier) (g.L.Pipe.port l.link) (waits_by (waiting l.self.kept) which);
   is_open : l.self.closed ≡ None;
   ready : IsReady l.self.kept l.self.store (g.D.Disk.state l.disk);
-  later : g.O.Sink.faults l.fn.out ≤ g.O.Sink.faults l.out;
+  later : (g.O.Sink.at l.fn.out).faults ≤ (g.O.Sink.at l.out).faults;
   flow : (g.L.Pipe.port l.fn.link).faults Flow ≤ (g.L.Pipe.port l.link).faults Flow;
   gate : (g.L.Pipe.port l.link).faults Gate ≡ (g.L.Pipe.port l.fn.link).faults Gate;
   stands : g.L.Pipe.behind l.link ≡ g.L.Pipe.behind l.fn.link;

@@ -10,7 +10,7 @@ use Rattle.client.proofs.client.Client.say.Goals as goal
 pub returns-clause-in_worlds : goal.returns-clause-in_worlds
 returns-clause-in_worlds g c = λ w side is.
     says_in g.K.Kem.mechanism c.grounds.ensures w side c.args.text.now c.args.self.now c.say_exact.new.self is
-    g.D.Disk.state g.W.Draws.coming g.W.Draws.faults c.args.disk.now c.say_exact.new.disk c.args.draws.now c.say_exact.new.draws
+    g.D.Disk.state g.W.Draws.at c.args.disk.now c.say_exact.new.disk c.args.draws.now c.say_exact.new.draws
     c.requires c.say_exact.result c.say_exact.ensures.exact
 
 pub returns-clause-spent : goal.returns-clause-spent
@@ -18,16 +18,16 @@ returns-clause-spent g c =
     let k = g.K.Kem.mechanism in
     if_ok
     (λ w side p. (draw : Option (List ℕ))
-    × IsDrawn g.W.Draws.coming g.W.Draws.faults c.args.self.now (length c.args.text.now) c.args.draws.now c.say_exact.new.draws draw
+    × IsDrawn g.W.Draws.at c.args.self.now (length c.args.text.now) c.args.draws.now c.say_exact.new.draws draw
     × IsSpent k (act_in k w side (saying c.args.text.now draw)).next side p (g.D.Disk.state c.say_exact.new.disk))
     (λ w side. IsIn k w side c.args.self.now) c.say_exact.result
     (λ w side is.
     say_spends k c.grounds.ensures w side c.args.text.now c.args.self.now c.say_exact.new.self is
-    g.D.Disk.state g.W.Draws.coming g.W.Draws.faults c.args.disk.now c.say_exact.new.disk c.args.draws.now c.say_exact.new.draws
+    g.D.Disk.state g.W.Draws.at c.args.disk.now c.say_exact.new.disk c.args.draws.now c.say_exact.new.draws
     c.requires c.say_exact.result c.say_exact.ensures.exact)
 
 pub returns-clause-ready : goal.returns-clause-ready
 returns-clause-ready g c =
-    ready_after g.D.Disk.state g.W.Draws.coming g.W.Draws.faults g.K.Kem.mechanism c.args.text.now c.args.self.now
+    ready_after g.D.Disk.state g.W.Draws.at g.K.Kem.mechanism c.args.text.now c.args.self.now
     c.say_exact.new.self c.args.disk.now c.say_exact.new.disk c.args.draws.now c.say_exact.new.draws c.say_exact.result
     c.say_exact.ensures.exact

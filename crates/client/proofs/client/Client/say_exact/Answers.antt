@@ -5,20 +5,20 @@ use Rattle.client.proofs.client.Client.say_exact.Goals as goal
 
 pub returns-in-Some-clause-exact : goal.returns-in-Some-clause-exact
 returns-in-Some-clause-exact g c =
-    says_closed g.D.Disk.state g.W.Draws.coming g.W.Draws.faults g.K.Kem.mechanism c.args.text.now c.args.self.now _
+    says_closed g.D.Disk.state g.W.Draws.at g.K.Kem.mechanism c.args.text.now c.args.self.now _
     c.args.disk.now _ c.args.draws.now _ c.in-Some.call
     (ap (λ (n : ClientNow). n.closed) (sym c.self.view_is) ∙ c.in-Some.is) refl refl refl
 
 pub returns-in-Err-clause-exact : goal.returns-in-Err-clause-exact
 returns-in-Err-clause-exact g c =
-    says_refused g.D.Disk.state g.W.Draws.coming g.W.Draws.faults g.K.Kem.mechanism c.args.text.now c.args.self.now _
+    says_refused g.D.Disk.state g.W.Draws.at g.K.Kem.mechanism c.args.text.now c.args.self.now _
     c.args.disk.now _ c.args.draws.now _ c.in-Err.refusal
     (ap (λ (n : ClientNow). n.closed) (sym c.self.view_is) ∙ c.in_default.is)
     (sym c.say_check.ensures ∙ c.in-Err.is) refl refl refl
 
 pub returns-in-Err-draw-clause-exact : goal.returns-in-Err-draw-clause-exact
 returns-in-Err-draw-clause-exact g c =
-    says_nothing g.D.Disk.state g.W.Draws.coming g.W.Draws.faults g.K.Kem.mechanism c.args.text.now c.args.self.now _
+    says_nothing g.D.Disk.state g.W.Draws.at g.K.Kem.mechanism c.args.text.now c.args.self.now _
     c.args.disk.now _ c.args.draws.now _
     (ap (λ (n : ClientNow). n.closed) (sym c.self.view_is) ∙ c.in_default.is)
     (sym c.say_check.ensures ∙ c.in-Ok-true.is ∙ ap Ok c.in-Ok-true.field-0-test)
@@ -26,7 +26,7 @@ returns-in-Err-draw-clause-exact g c =
 
 pub returns-in-Ok-clause-exact : goal.returns-in-Ok-clause-exact
 returns-in-Ok-clause-exact g c =
-    says_drawn g.D.Disk.state g.W.Draws.coming g.W.Draws.faults g.K.Kem.mechanism c.args.text.now c.args.self.now _
+    says_drawn g.D.Disk.state g.W.Draws.at g.K.Kem.mechanism c.args.text.now c.args.self.now _
     c.args.disk.now _ c.args.draws.now _ c.speak.result c.in-Ok.seed
     (ap (λ (n : ClientNow). n.closed) (sym c.self.view_is) ∙ c.in_default.is)
     (sym c.say_check.ensures ∙ c.in-Ok-true.is ∙ ap Ok c.in-Ok-true.field-0-test)
@@ -34,7 +34,7 @@ returns-in-Ok-clause-exact g c =
 
 pub returns-in-Ok-false-clause-exact : goal.returns-in-Ok-false-clause-exact
 returns-in-Ok-false-clause-exact g c =
-    says_plain g.D.Disk.state g.W.Draws.coming g.W.Draws.faults g.K.Kem.mechanism c.args.text.now c.args.self.now _
+    says_plain g.D.Disk.state g.W.Draws.at g.K.Kem.mechanism c.args.text.now c.args.self.now _
     c.args.disk.now _ c.args.draws.now _ c.speak-in-Ok-false.result
     (ap (λ (n : ClientNow). n.closed) (sym c.self.view_is) ∙ c.in_default.is)
     (sym c.say_check.ensures ∙ c.in-Ok-false.is ∙ ap Ok c.in-Ok-false.field-0-test)

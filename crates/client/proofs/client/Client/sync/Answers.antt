@@ -10,14 +10,14 @@ use Rattle.client.proofs.client.Client.sync.Goals as goal
 pub returns-clause-in_worlds : goal.returns-clause-in_worlds
 returns-clause-in_worlds g c = λ w side replies is_in syncs fair.
     in_world g.K.Kem.mechanism c.grounds.ensures c.args.prefix.now side w
-    (moment c.args.self.now (g.D.Disk.state c.args.disk.now) (g.O.Sink.taken c.args.out.now) (g.O.Sink.faults c.args.out.now))
-    (moment c.sync_open.new.self (g.D.Disk.state c.sync_open.new.disk) (g.O.Sink.taken c.sync_open.new.out) (g.O.Sink.faults c.sync_open.new.out))
+    (moment c.args.self.now (g.D.Disk.state c.args.disk.now) (g.O.Sink.at c.args.out.now))
+    (moment c.sync_open.new.self (g.D.Disk.state c.sync_open.new.disk) (g.O.Sink.at c.sync_open.new.out))
     is_in replies fair (g.L.Pipe.port c.args.link.now) (g.L.Pipe.port c.sync_open.new.link) c.sync_open.result syncs
 
 pub returns-clause-spent : goal.returns-clause-spent
 returns-clause-spent g c = λ w side replies is_in syncs fair.
-    let a = moment c.args.self.now (g.D.Disk.state c.args.disk.now) (g.O.Sink.taken c.args.out.now) (g.O.Sink.faults c.args.out.now) in
-    let b = moment c.sync_open.new.self (g.D.Disk.state c.sync_open.new.disk) (g.O.Sink.taken c.sync_open.new.out) (g.O.Sink.faults c.sync_open.new.out) in
+    let a = moment c.args.self.now (g.D.Disk.state c.args.disk.now) (g.O.Sink.at c.args.out.now) in
+    let b = moment c.sync_open.new.self (g.D.Disk.state c.sync_open.new.disk) (g.O.Sink.at c.sync_open.new.out) in
     sync_spends g.K.Kem.mechanism c.args.prefix.now side w c.grounds.ensures.erased is_in.lawful replies a b c.sync_open.result fair
     (in_world g.K.Kem.mechanism c.grounds.ensures c.args.prefix.now side w a b is_in replies fair
     (g.L.Pipe.port c.args.link.now) (g.L.Pipe.port c.sync_open.new.link) c.sync_open.result syncs)
@@ -38,8 +38,8 @@ returns-clause-opens g c = λ is_open replies syncs.
 pub returns-clause-carries : goal.returns-clause-carries
 returns-clause-carries g c = λ is_open replies syncs.
     carries g.K.Kem.mechanism c.args.prefix.now
-    (moment c.args.self.now (g.D.Disk.state c.args.disk.now) (g.O.Sink.taken c.args.out.now) (g.O.Sink.faults c.args.out.now))
-    (moment c.sync_open.new.self (g.D.Disk.state c.sync_open.new.disk) (g.O.Sink.taken c.sync_open.new.out) (g.O.Sink.faults c.sync_open.new.out))
+    (moment c.args.self.now (g.D.Disk.state c.args.disk.now) (g.O.Sink.at c.args.out.now))
+    (moment c.sync_open.new.self (g.D.Disk.state c.sync_open.new.disk) (g.O.Sink.at c.sync_open.new.out))
     (g.L.Pipe.port c.args.link.now) (g.L.Pipe.port c.sync_open.new.link) c.sync_open.result replies
     (may_post c.args.self.now.kept c.names-names.result.own c.names-names.result.peers c.names-names.ensures.own c.names-names.ensures.peers
     c.names-names.ensures.own_lawful c.names-names.ensures.peers_lawful c.may_post.ensures.packets c.may_post.ensures.few) (g.met.L.Pipe.ahead c.sync_open.new.link) syncs

@@ -11,14 +11,14 @@ use Rattle.client.proofs.client.Client.sync_open.Goals as goal
 pub returns-in-Err-write_end-clause-exact : goal.returns-in-Err-write_end-clause-exact
 returns-in-Err-write_end-clause-exact g c =
     let far : SoFar (party_of g.K.Kem.mechanism c.args.prefix.now c.args.names.now.own c.args.names.now.peers)
-    (moment c.args.self.now (g.D.Disk.state c.args.disk.now) (g.O.Sink.taken c.args.out.now) (g.O.Sink.faults c.args.out.now))
-    (moment c.post_all.new.self (g.D.Disk.state c.post_all.new.disk) (g.O.Sink.taken c.post_all.new.out) (g.O.Sink.faults c.post_all.new.out))
+    (moment c.args.self.now (g.D.Disk.state c.args.disk.now) (g.O.Sink.at c.args.out.now))
+    (moment c.post_all.new.self (g.D.Disk.state c.post_all.new.disk) (g.O.Sink.at c.post_all.new.out))
     (g.L.Pipe.port c.args.link.now) (g.L.Pipe.port c.post_all.new.link) (over (ended c.in-Ok.more)) =
     c.in-Ok-post_all.ensures.posts c.in-Ok.more c.args.self.now c.args.disk.now c.args.link.now c.args.out.now c.in-Ok.ensures.collects in
     ends_unwritten (party_of g.K.Kem.mechanism c.args.prefix.now c.args.names.now.own c.args.names.now.peers)
-    (moment c.args.self.now (g.D.Disk.state c.args.disk.now) (g.O.Sink.taken c.args.out.now) (g.O.Sink.faults c.args.out.now))
-    (moment c.post_all.new.self (g.D.Disk.state c.post_all.new.disk) (g.O.Sink.taken c.post_all.new.out) (g.O.Sink.faults c.post_all.new.out))
-    (moment c.post_all.new.self (g.D.Disk.state c.post_all.new.disk) (g.O.Sink.taken c.write_end.new.out) (g.O.Sink.faults c.write_end.new.out))
+    (moment c.args.self.now (g.D.Disk.state c.args.disk.now) (g.O.Sink.at c.args.out.now))
+    (moment c.post_all.new.self (g.D.Disk.state c.post_all.new.disk) (g.O.Sink.at c.post_all.new.out))
+    (moment c.post_all.new.self (g.D.Disk.state c.post_all.new.disk) (g.O.Sink.at c.write_end.new.out))
     (g.L.Pipe.port c.args.link.now) (g.L.Pipe.port c.post_all.new.link) c.in-Ok.more far
     (still c.post_all.new.self (g.D.Disk.state c.post_all.new.disk) far.stands.is_open far.stands.ready)
     (record { beginning = c.in-Err-write_end.ensures.part; rose = c.in-Err-write_end.ensures.cause.failed })
@@ -26,14 +26,14 @@ returns-in-Err-write_end-clause-exact g c =
 pub returns-in-Ok-write_end-clause-exact : goal.returns-in-Ok-write_end-clause-exact
 returns-in-Ok-write_end-clause-exact g c =
     let far : SoFar (party_of g.K.Kem.mechanism c.args.prefix.now c.args.names.now.own c.args.names.now.peers)
-    (moment c.args.self.now (g.D.Disk.state c.args.disk.now) (g.O.Sink.taken c.args.out.now) (g.O.Sink.faults c.args.out.now))
-    (moment c.post_all.new.self (g.D.Disk.state c.post_all.new.disk) (g.O.Sink.taken c.post_all.new.out) (g.O.Sink.faults c.post_all.new.out))
+    (moment c.args.self.now (g.D.Disk.state c.args.disk.now) (g.O.Sink.at c.args.out.now))
+    (moment c.post_all.new.self (g.D.Disk.state c.post_all.new.disk) (g.O.Sink.at c.post_all.new.out))
     (g.L.Pipe.port c.args.link.now) (g.L.Pipe.port c.post_all.new.link) (over (ended c.in-Ok.more)) =
     c.in-Ok-post_all.ensures.posts c.in-Ok.more c.args.self.now c.args.disk.now c.args.link.now c.args.out.now c.in-Ok.ensures.collects in
     ends_well (party_of g.K.Kem.mechanism c.args.prefix.now c.args.names.now.own c.args.names.now.peers)
-    (moment c.args.self.now (g.D.Disk.state c.args.disk.now) (g.O.Sink.taken c.args.out.now) (g.O.Sink.faults c.args.out.now))
-    (moment c.post_all.new.self (g.D.Disk.state c.post_all.new.disk) (g.O.Sink.taken c.post_all.new.out) (g.O.Sink.faults c.post_all.new.out))
-    (moment c.post_all.new.self (g.D.Disk.state c.post_all.new.disk) (g.O.Sink.taken c.write_end.new.out) (g.O.Sink.faults c.write_end.new.out))
+    (moment c.args.self.now (g.D.Disk.state c.args.disk.now) (g.O.Sink.at c.args.out.now))
+    (moment c.post_all.new.self (g.D.Disk.state c.post_all.new.disk) (g.O.Sink.at c.post_all.new.out))
+    (moment c.post_all.new.self (g.D.Disk.state c.post_all.new.disk) (g.O.Sink.at c.write_end.new.out))
     (g.L.Pipe.port c.args.link.now) (g.L.Pipe.port c.post_all.new.link) c.in-Ok.more far
     (still c.post_all.new.self (g.D.Disk.state c.post_all.new.disk) far.stands.is_open far.stands.ready)
     (record { bytes_are = c.in-Ok-write_end.ensures.whole; unfailing = c.in-Ok-write_end.ensures.cause.passed })

@@ -22,8 +22,8 @@ returns-clause-writes g c =
     let k = g.K.Kem.mechanism in
     let side = c.args.side in
     let boxes = boxes_of c.args.relay.now in
-    let before = moment c.self.inside.client (state_of c.self.inside.disk) (g.O.Sink.taken c.args.out.now) (g.O.Sink.faults c.args.out.now) in
-    let after = moment c.meet.new.client (state_of c.meet.new.disk) (g.O.Sink.taken c.meet.new.out) (g.O.Sink.faults c.meet.new.out) in
+    let before = moment c.self.inside.client (state_of c.self.inside.disk) (g.O.Sink.at c.args.out.now) in
+    let after = moment c.meet.new.client (state_of c.meet.new.disk) (g.O.Sink.at c.meet.new.out) in
     let Met : List ℕ → Client → Result More SyncFault → Type 0 =
     λ prefix client result. let p = client_party k prefix client in
     Plays p (scene p (kept_before c.args.lost) client boxes) before after (boxes_of c.meet.new.link) result in
@@ -34,13 +34,13 @@ returns-clause-writes g c =
     let m = scene p (kept_before c.args.lost) c.args.self.now boxes in
     elim c.match-meet.branch [
       | in-Ok w ↦
-          subst (λ r. Writes (g.O.Sink.taken c.args.out.now) (g.O.Sink.taken c.match-meet.out) (g.O.Sink.faults c.args.out.now) (g.O.Sink.faults c.match-meet.out) (sync_lines p side m) r) (sym w.result-is)
-          (subst (λ o. Writes {T = Unit} {E = Failed} (g.O.Sink.taken c.args.out.now) (g.O.Sink.taken o) (g.O.Sink.faults c.args.out.now) (g.O.Sink.faults o) (sync_lines p side m) (Ok tt)) (sym w.out-is)
+          subst (λ r. Writes (g.O.Sink.at c.args.out.now) (g.O.Sink.at c.match-meet.out) (sync_lines p side m) r) (sym w.result-is)
+          (subst (λ o. Writes {T = Unit} {E = Failed} (g.O.Sink.at c.args.out.now) (g.O.Sink.at o) (sync_lines p side m) (Ok tt)) (sym w.out-is)
           (ended_lines p side m before after (boxes_of c.meet.new.link) w.in-Ok.field-0 (subst (Met (side_text side) c.args.self.now) w.in-Ok.is met)))
       | in-Err w ↦
-          subst (λ r. Writes (g.O.Sink.taken c.args.out.now) (g.O.Sink.taken c.match-meet.out) (g.O.Sink.faults c.args.out.now) (g.O.Sink.faults c.match-meet.out) (sync_lines p side m) r) (sym w.result-is)
-          (subst (λ o. Writes {T = Unit} {E = Failed} (g.O.Sink.taken c.args.out.now) (g.O.Sink.taken o) (g.O.Sink.faults c.args.out.now) (g.O.Sink.faults o) (sync_lines p side m) w.tell.result) (sym w.out-is)
-          (broken_lines p side m before after (boxes_of c.meet.new.link) w.in-Err.fault (g.O.Sink.taken w.tell.new.out) (g.O.Sink.faults w.tell.new.out) w.tell.result
+          subst (λ r. Writes (g.O.Sink.at c.args.out.now) (g.O.Sink.at c.match-meet.out) (sync_lines p side m) r) (sym w.result-is)
+          (subst (λ o. Writes {T = Unit} {E = Failed} (g.O.Sink.at c.args.out.now) (g.O.Sink.at o) (sync_lines p side m) w.tell.result) (sym w.out-is)
+          (broken_lines p side m before after (boxes_of c.meet.new.link) w.in-Err.fault (g.O.Sink.at w.tell.new.out) w.tell.result
           (subst (Met (side_text side) c.args.self.now) w.in-Err.is met) w.tell.ensures))
     ]
 

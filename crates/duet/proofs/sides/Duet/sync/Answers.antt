@@ -21,12 +21,12 @@ pub returns-in-First-clause-writes : goal.returns-in-First-clause-writes
 returns-in-First-clause-writes g c =
     let side = c.args.side in
     let client = ap (λ (d : DuetNow). d.sides.first) c.self.view_is ∙ ap (client_of c.args.self.now.sides) (sym c.in-First.is) in
-    subst (λ (b : List ℕ). Writes (g.O.Sink.taken c.args.out.now) (g.O.Sink.taken c.sync.new.out) (g.O.Sink.faults c.args.out.now) (g.O.Sink.faults c.sync.new.out) b c.sync.result)
+    subst (λ (b : List ℕ). Writes (g.O.Sink.at c.args.out.now) (g.O.Sink.at c.sync.new.out) b c.sync.result)
     (ap₂ (lines_by g.K.Kem.mechanism side (kept_before c.args.lost)) client (ap (λ (d : DuetNow). d.boxes) c.self.view_is)) c.sync.ensures.writes
 
 pub returns-in-Second-clause-writes : goal.returns-in-Second-clause-writes
 returns-in-Second-clause-writes g c =
     let side = c.args.side in
     let client = ap (λ (d : DuetNow). d.sides.second) c.self.view_is ∙ ap (client_of c.args.self.now.sides) (sym c.in-Second.is) in
-    subst (λ (b : List ℕ). Writes (g.O.Sink.taken c.args.out.now) (g.O.Sink.taken c.sync-in-Second.new.out) (g.O.Sink.faults c.args.out.now) (g.O.Sink.faults c.sync-in-Second.new.out) b c.sync-in-Second.result)
+    subst (λ (b : List ℕ). Writes (g.O.Sink.at c.args.out.now) (g.O.Sink.at c.sync-in-Second.new.out) b c.sync-in-Second.result)
     (ap₂ (lines_by g.K.Kem.mechanism side (kept_before c.args.lost)) client (ap (λ (d : DuetNow). d.boxes) c.self.view_is)) c.sync-in-Second.ensures.writes

@@ -1,4 +1,4 @@
-use Rattle.std.proofs.Common.{sym, ap, arith, subst, length, take, Bool, List, ℕ, ◌∙◌, ◌+◌, ◌++◌, ◌≤◌, ◌≡◌}
+use Rattle.std.proofs.Common.{sym, rules, ap, arith, subst, length, take, Bool, List, ℕ, ◌∙◌, ◌+◌, ◌++◌, ◌≤◌, ◌≡◌}
 use Rattle.std.proofs.lemmas.Grind.{common_steps}
 use Rattle.std.specs.Prelude.{if◌then◌else◌, is_ok, vec_len}
 use Rattle.std.proofs.lemmas.List.{length-take, take-take}
@@ -42,23 +42,38 @@ invariant_of-self-in-Some c =
       omega (arith, c.extend_from_slice.ensures.capacity, c.self.invariant.2),
     )
 
-pub returns-in-None-clause-content : goal.returns-in-None-clause-content
-returns-in-None-clause-content c =
+pub returns-in-None-clause-sends : goal.returns-in-None-clause-sends
+returns-in-None-clause-sends c =
     let old : Connection = record { start = c.self.inside.start.value; kept = c.self.inside.desk.kept; sent = c.self.inside.sent.items; at = c.self.inside.at; faults = c.self.inside.faults } in
     let piece = take c.feed-count.result c.args.bytes.now in
     let items : c.extend_from_slice.new.self.items ≡ c.self.inside.sent.items ++ piece =
     c.extend_from_slice.ensures.items ∙ ap (λ (ok : Bool). if ok then c.self.inside.sent.items ++ piece else c.self.inside.sent.items) (ap is_ok c.unwrap.ensures) in
-    subst (λ (f : Connection). Took piece (port_of f) (port_of (record old { sent = c.extend_from_slice.new.self.items }))) c.self.view_is
-    (subst (λ (b : List ℕ). Took piece (port_of old) (port_of (record old { sent = b }))) (sym items) (took old c.self.inside.desk c.self.inside.reader.bytes c.self.invariant.0 piece))
+    record {
+      bound = search rules;
+      progress = search rules;
+      content = subst (λ (f : Connection). Took piece (port_of f) (port_of (record old { sent = c.extend_from_slice.new.self.items }))) c.self.view_is
+          (subst (λ (b : List ℕ). Took piece (port_of old) (port_of (record old { sent = b }))) (sym items) (took old c.self.inside.desk c.self.inside.reader.bytes c.self.invariant.0 piece));
+      err = tt;
+      goes = search rules;
+      cause = search rules;
+      gate = search rules;
+      same = search rules;
+    }
 
-pub returns-in-Some-clause-content : goal.returns-in-Some-clause-content
-returns-in-Some-clause-content c =
+pub returns-in-Some-clause-sends : goal.returns-in-Some-clause-sends
+returns-in-Some-clause-sends c =
     let old : Connection = record { start = c.self.inside.start.value; kept = c.self.inside.desk.kept; sent = c.self.inside.sent.items; at = c.self.inside.at; faults = c.self.inside.faults } in
     let piece = take c.feed-count.result c.args.bytes.now in
     let items : c.extend_from_slice.new.self.items ≡ c.self.inside.sent.items ++ piece =
     c.extend_from_slice.ensures.items ∙ ap (λ (ok : Bool). if ok then c.self.inside.sent.items ++ piece else c.self.inside.sent.items) (ap is_ok c.unwrap.ensures) in
-    subst (λ (f : Connection). Took piece (port_of f) (port_of (record old { sent = c.extend_from_slice.new.self.items }))) c.self.view_is
-    (subst (λ (b : List ℕ). Took piece (port_of old) (port_of (record old { sent = b }))) (sym items) (took old c.self.inside.desk c.self.inside.reader.bytes c.self.invariant.0 piece))
-
-pub returns-in-Some-clause-same : goal.returns-in-Some-clause-same
-returns-in-Some-clause-same c = grind (arith, common_steps)
+    record {
+      bound = search rules;
+      progress = search rules;
+      content = subst (λ (f : Connection). Took piece (port_of f) (port_of (record old { sent = c.extend_from_slice.new.self.items }))) c.self.view_is
+          (subst (λ (b : List ℕ). Took piece (port_of old) (port_of (record old { sent = b }))) (sym items) (took old c.self.inside.desk c.self.inside.reader.bytes c.self.invariant.0 piece));
+      err = tt;
+      goes = search rules;
+      cause = search rules;
+      gate = search rules;
+      same = grind (arith, common_steps);
+    }
