@@ -1,5 +1,5 @@
 -- A script that is played: what stands once some of its lines are answered.
-use Rattle.std.proofs.Common.{◌≡◌, ℕ, ◌+◌, ◌-◌, ◌^◌, ◌<◌, ◌≤◌, List, [], ◌∷◌, ◌++◌, length, refl, sym, ◌∙◌, ap, arith, subst, append_assoc, append-nil}
+use Rattle.std.proofs.Common.{Option, ◌≡◌, ℕ, ◌+◌, ◌-◌, ◌^◌, ◌<◌, ◌≤◌, List, [], ◌∷◌, ◌++◌, length, refl, sym, ◌∙◌, ap, arith, subst, append_assoc, append-nil}
 use Rattle.std.proofs.lemmas.List.{length-append}
 use Rattle.dr_base.specs.declared.position.Side.{Side}
 use Rattle.dr_base.specs.declared.position.Side.TheVariants.{First, Second}
@@ -132,11 +132,11 @@ plays_on k script left rest deed duet next tally more told mid new p first steps
 
 -- a write failed in the lines of the next deed
 pub plays_cut : (k : Mechanism) (script : Scripted) (left rest : List Deed) (deed : Deed) (duet : DuetNow) (tally : Tally)
-    (told mid new : SinkState) → IsPlaying k script left duet tally told mid → left ≡ deed ∷ rest
-    → TookBeginning mid.taken new.taken (deed_on k (beside duet) deed).lines → TookBeginning told.taken new.taken (played k script)
+    (told mid : SinkState) (new : Option (List ℕ)) → IsPlaying k script left duet tally told mid → left ≡ deed ∷ rest
+    → TookBeginning mid.taken new (deed_on k (beside duet) deed).lines → TookBeginning told.taken new (played k script)
 unfolding played
 plays_cut k script left rest deed duet tally told mid new p first part =
-    wrote_part k (beginning k script) told.taken mid.taken new.taken p.deeds rest script.deeds deed (beside duet) part
+    wrote_part k (beginning k script) told.taken mid.taken new p.deeds rest script.deeds deed (beside duet) part
     (p.all ∙ ap (λ ds. p.deeds ++ ds) first ∙ sym (append_assoc p.deeds (deed ∷ []) rest)) p.stands p.written
 
 -- no memory was left for the next deed

@@ -11,3 +11,7 @@ mod Syncs
 mod SyncRuns
 mod Linking
 pub mod Wholeness
+mod KnownWorlds
+mod WholeRuns
+mod Talks
+mod Talking

@@ -12,3 +12,5 @@ pub mod Runs
 pub mod Completing
 pub mod Syncing
 pub mod Histories
+pub mod WholeRuns
+pub mod Talks

@@ -14,6 +14,7 @@ pub use saying::say;
 pub use showing::{inbox, outbox, state};
 pub use syncing::sync;
 pub use taking::take;
+pub use whole_runs::{runs_are_linked, talk};
 
 mod beginning;
 mod closing;
@@ -27,3 +28,4 @@ mod saying;
 mod showing;
 mod syncing;
 mod taking;
+mod whole_runs;

@@ -1,0 +1,107 @@
+-- Runs of commands on one disk, one after the other, with crashes in them and between them, while
+-- the other side goes on.
+use Rattle.std.specs.Prelude.{List, Result, Some, [], slice_get, ℕ, ◌+◌, ◌≡◌}
+use Rattle.dr_base.specs.declared.position.Side.{Side}
+use Rattle.dr_disk.specs.State.{Always, DiskState}
+use Rattle.dr_model.specs.Machines.Acts.{finishing, sending}
+use Rattle.dr_model.specs.Machines.Worlds.{World}
+use Rattle.dr_ports.specs.States.{DrawsState}
+use Rattle.endings.specs.declared.ending.Ending.{Ending}
+use Rattle.kem_laws.specs.Mechanism.{Mechanism}
+use Rattle.relay_wire.specs.Replies.{Replied}
+use Rattle.session_model.specs.Clients.{Client}
+use Rattle.sync_model.specs.declared.more.More.{More}
+use Rattle.client.specs.InWorlds.{StandsFor}
+use Rattle.client.specs.Moments.{HaveMoved, IsOneOf, Known, settled_in}
+use Rattle.client.specs.Syncing.InWorlds.{AreUnforged}
+use Rattle.client.specs.declared.syncing.faults.SyncFault.{SyncFault}
+use Rattle.session_commands.specs.Acting.{Asked}
+use Rattle.session_commands.specs.Asking.{asked_drop, asked_say, asked_take}
+use Rattle.session_commands.specs.Disks.{RunsOn}
+use Rattle.session_commands.specs.Histories.{IsLeftBetween, acted_known, cut_in_sync, cut_known, shown_known, synced_known}
+use Rattle.session_commands.specs.InWorlds.{RunsIn}
+use Rattle.session_commands.specs.Showing.{ShowsIn}
+use Rattle.session_commands.specs.Syncing.{SyncRunsIn}
+
+-- A command that lets the client act once: it says a text, with the draws before and after it,
+-- takes a packet, or drops the first texts of the inbox or the first packets of the outbox.
+pub data Command (W : Type 0) : Type 0 where
+  says : (text : List ℕ) (source left : W) → Command W
+  takes : (packet : List ℕ) → Command W
+  drops_done : ℕ → Command W
+  drops_sent : ℕ → Command W
+
+abbrev pub asked_by : {W : Type 0} → (W → DrawsState) → Mechanism → Command W → Asked
+asked_by draws k (says text source left) = asked_say draws text source left
+asked_by draws k (takes packet) = asked_take k packet
+asked_by draws k (drops_done n) = asked_drop (finishing n)
+asked_by draws k (drops_sent n) = asked_drop (sending n)
+
+-- a crash now leaves only what one might have left then
+abbrev pub LeavesAlone : DiskState → DiskState → Type 0
+LeavesAlone start now = (c : List ℕ) → now.image c → start.image c
+
+-- what stands after a crash is what one might have left at a moment of the run
+abbrev pub IsCutFrom : DiskState → DiskState → DiskState → Type 0
+IsCutFrom start now crashed = (c : List ℕ) → crashed.image c → IsLeftBetween start now c
+
+-- What lies between two moments of one disk, with what is known of it before and after. A command
+-- reads one of the known worlds, and does there what its clauses say. Where a crash cut it off, it
+-- ran on towards a moment that didn't come to stand.
+pub data Ran {X W : Type 0} (state : X → DiskState) (draws : W → DrawsState)
+    (k : Mechanism) (side : Side) (a b : X) : Known → Known → Type 0 where
+  -- a command let the client act once
+  acted : (known : Known) (w : World) → IsOneOf known w
+      → (command : Command W) (ending : Ending) (lines : List ℕ)
+      → (runs : RunsIn k w side (asked_by draws k command) (state a) (state b)
+      ending lines)
+      → Ran state draws k side a b known (acted_known runs known)
+  was_cut_acting : (known : Known) (w : World) → IsOneOf known w
+      → (command : Command W) (now : X) (ending : Ending) (lines : List ℕ)
+      → (runs : RunsIn k w side (asked_by draws k command) (state a) (state now)
+      ending lines)
+      → IsCutFrom (state a) (state now) (state b)
+      → Ran state draws k side a b known (cut_known runs known)
+  -- one showed what is kept
+  showed : (known : Known) (w : World) → IsOneOf known w
+      → (shows : Client → List ℕ) (ending : Ending) (lines : List ℕ)
+      → (runs : ShowsIn k w side shows (state a) (state b) ending lines)
+      → Ran state draws k side a b known (shown_known runs known)
+  was_cut_showing : (known : Known) (w : World) → IsOneOf known w
+      → (shows : Client → List ℕ) (now : X) (ending : Ending) (lines : List ℕ)
+      → ShowsIn k w side shows (state a) (state now) ending lines
+      → IsCutFrom (state a) (state now) (state b)
+      → Ran state draws k side a b known known
+  -- one synced, by replies that bring no forged packet
+  synced : (known : Known) (w : World) → IsOneOf known w
+      → (kept : Client) (replies : List Replied) (result : Result More SyncFault)
+      → AreUnforged k [] side w replies
+      → SyncRunsIn k side w kept replies (state a) (state b) result
+      → Ran state draws k side a b known (synced_known k side w replies result known)
+  was_cut_syncing : (known : Known) (w : World) → IsOneOf known w
+      → (kept : Client) (replies : List Replied) (now : X) (result : Result More SyncFault)
+      → AreUnforged k [] side w replies
+      → SyncRunsIn k side w kept replies (state a) (state now) result
+      → IsCutFrom (state a) (state now) (state b)
+      → Ran state draws k side a b known (cut_in_sync k side w replies known)
+  -- one stayed in the world that it read
+  stayed : (known : Known) (w : World) → IsOneOf known w → RunsOn k side w w (state a) (state b)
+      → Ran state draws k side a b known known
+  was_cut_staying : (known : Known) (w : World) → IsOneOf known w → (now : X)
+      → RunsOn k side w w (state a) (state now) → IsCutFrom (state a) (state now) (state b)
+      → Ran state draws k side a b known known
+  -- a crash between two commands, or a command that left the disk alone
+  was_left_alone : (known : Known) → LeavesAlone (state a) (state b)
+      → Ran state draws k side a b known known
+  -- the other side went on, and the disk was left alone
+  peer_went_on : (known moved : Known) → HaveMoved k side known moved
+      → LeavesAlone (state a) (state b) → Ran state draws k side a b known moved
+
+-- moments of a disk, from one on at which it stands for the first world, and what ran from each to
+-- the next
+pub record AreRun {X W : Type 0} (state : X → DiskState) (draws : W → DrawsState) (moments : List X) (k : Mechanism) (side : Side) (first : World)
+    (known : ℕ → Known) : Type 0 where
+  pub begins : known 0 ≡ settled_in first
+  pub stands : (a : X) → slice_get moments 0 ≡ Some a → Always (StandsFor k first side) (state a)
+  pub ran : (n : ℕ) (a b : X) → slice_get moments n ≡ Some a → slice_get moments (n + 1) ≡ Some b
+      → Ran state draws k side a b (known n) (known (n + 1))
