@@ -1,6 +1,5 @@
 -- A record that replaced another, on the disk of a client.
-use Rattle.std.proofs.Common.{List, Option, Some, ap, arith, subst, ℕ, ◌+◌, ◌<◌, ◌∙◌, ◌≡◌}
-use Rattle.std.specs.Prelude.{is_some}
+use Rattle.std.proofs.Common.{List, Some, ap, ap₂, arith, subst, ℕ, ◌+◌, ◌<◌, ◌∙◌, ◌≡◌}
 use Rattle.dr_base.specs.Causes.{Rose}
 use Rattle.dr_disk.specs.Spans.{HavePassed, IsQuiet, Span}
 use Rattle.dr_disk.specs.State.{Always, DiskState, some_pass}
@@ -8,17 +7,12 @@ use Rattle.dr_disk.specs.declared.call.Call.{Call}
 use Rattle.session_model.specs.Clients.{Client}
 use Rattle.session_record.specs.Record.{record_text}
 use Rattle.slot_store.specs.Slots.{recovered}
-use Rattle.slot_store.specs.Stops.{IsStopped, calls_of, retiring}
+use Rattle.slot_store.specs.Stops.{IsStopped, calls_of}
 use Rattle.slot_store.specs.Store.{IsOldOrNew, KeepsOutside, ReadsOutsideArea, Rests, content}
 use Rattle.slot_store.specs.Areas.{Area}
 use Rattle.slot_store.specs.declared.store.SlotStore.{SlotStore}
 use Rattle.client.specs.Clients.{IsReady, client_area}
-use Rattle.client.specs.Outcomes.{IsKept, IsLost, IsReplacing}
-
--- replacing a record takes eight writes and syncs
-eight : (old new : Option (List ℕ)) (was : List ℕ) → old ≡ Some was → calls_of old new ≡ 8
-unfolding calls_of
-eight old new was is = ap (λ o. 4 + retiring (is_some o)) is
+use Rattle.client.specs.Outcomes.{IsKept, IsLost, IsReplacing, replacing_calls}
 
 module _ (before after : Client) (old : SlotStore) (text : List ℕ) (start now : DiskState) (ready : IsReady before old start)
     (written : text ≡ record_text after) where
@@ -27,6 +21,10 @@ module _ (before after : Client) (old : SlotStore) (text : List ℕ) (start now 
       subst (λ (a : Area). Span start now (IsOldOrNew start a (Some (record_text before)) (Some (record_text after)))) ready.area
       (subst (λ o. Span start now (IsOldOrNew start old.area o (Some (record_text after)))) ready.holds
       (subst (λ t. Span start now (IsOldOrNew start old.area (content old) (Some t))) written span))
+
+  -- of the records of the two
+  calls_are : calls_of (content old) (Some text) ≡ replacing_calls before after
+  calls_are = ap₂ calls_of ready.holds (ap Some written)
 
   reads_in : ReadsOutsideArea old.area start now → ReadsOutsideArea client_area start now
   reads_in reads = subst (λ (a : Area). ReadsOutsideArea a start now) ready.area reads
@@ -44,7 +42,7 @@ module _ (before after : Client) (old : SlotStore) (text : List ℕ) (start now 
     };
     any_moment = replacing span;
     reads = reads_in reads;
-    passed = subst (λ n. HavePassed n start now) (eight (content old) (Some text) (record_text before) ready.holds) passed;
+    passed = subst (λ n. HavePassed n start now) calls_are passed;
     quiet = quiet;
   }
 
@@ -60,8 +58,7 @@ module _ (before after : Client) (old : SlotStore) (text : List ℕ) (start now 
         subst (λ (a : Area). IsStopped a (Some (record_text before)) (Some (record_text after)) start now) ready.area
         (subst (λ o. IsStopped old.area o (Some (record_text after)) start now) ready.holds
         (subst (λ t. IsStopped old.area (content old) (Some t) start now) written stopped));
-    few = λ l m was is.
-        subst (λ n. m < l + n) (eight (content old) (Some text) (record_text before) ready.holds) (few l m was is);
+    few = λ l m was is. subst (λ n. m < l + n) calls_are (few l m was is);
     ended = ended;
     rose = rose;
   }

@@ -1,11 +1,11 @@
 -- Clients with one record: that of a text that was said has its packet alone, whose position is read from it.
-use Rattle.std.proofs.Common.{List, Some, [], refl, ap, ap₂, subst, sym, ℕ, ◌++◌, ◌∙◌, ◌∷◌, ◌≡◌}
+use Rattle.std.proofs.Common.{List, Some, [], refl, ap, ap₂, subst, sym, ℕ, ◌+◌, ◌++◌, ◌<◌, ◌∙◌, ◌∷◌, ◌≡◌}
 use Rattle.std.specs.Int.{to_be_bytes, w8}
 use Rattle.std.specs.Prelude.{length}
 use Rattle.std.proofs.lemmas.List.{length-append}
 use Rattle.boxes.specs.Items.{Item, item_at}
 use Rattle.dr_base.specs.declared.position.Position.{Position}
-use Rattle.dr_disk.specs.Spans.{Span}
+use Rattle.dr_disk.specs.Spans.{HavePassed, Span}
 use Rattle.dr_disk.specs.State.{DiskState}
 use Rattle.dr_disk.specs.declared.call.Call.{Call}
 use Rattle.grammar.specs.Printer.{print_counted, print_items}
@@ -17,7 +17,7 @@ use Rattle.session_model.specs.States.{State}
 use Rattle.session_record.specs.Lists.{post_of, post_text}
 use Rattle.session_record.specs.Record.{client_of, record_text}
 use Rattle.slot_store.specs.Store.{IsOldOrNew}
-use Rattle.slot_store.specs.Stops.{IsStopped}
+use Rattle.slot_store.specs.Stops.{IsStopped, calls_of}
 use Rattle.slot_store.specs.declared.store.SlotStore.{SlotStore}
 use Rattle.client.specs.Clients.{client_area}
 use Rattle.client.specs.Outcomes.{IsKept, IsLost}
@@ -70,7 +70,9 @@ kept_alike before after other store start now same kept = record {
   };
   any_moment = subst (λ text. Span start now (IsOldOrNew start client_area (Some (record_text before)) (Some text))) same kept.any_moment;
   reads = kept.reads;
-  passed = kept.passed;
+  passed =
+      subst (λ text. HavePassed (calls_of (Some (record_text before)) (Some text)) start now) same
+      kept.passed;
   quiet = kept.quiet;
 }
 
@@ -80,7 +82,9 @@ lost_alike before after other call start now same lost = record {
   any_moment = subst (λ text. Span start now (IsOldOrNew start client_area (Some (record_text before)) (Some text))) same lost.any_moment;
   reads = lost.reads;
   stopped = subst (λ text. IsStopped client_area (Some (record_text before)) (Some text) start now) same lost.stopped;
-  few = lost.few;
+  few = λ l m was is.
+      subst (λ text. m < l + calls_of (Some (record_text before)) (Some text)) same
+      (lost.few l m was is);
   ended = lost.ended;
   rose = lost.rose;
 }

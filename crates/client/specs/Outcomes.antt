@@ -12,7 +12,7 @@ use Rattle.session_model.specs.declared.answer.Answer.TheVariants.{Opened, Said}
 use Rattle.session_model.specs.declared.answer.Refusal.{Refusal}
 use Rattle.session_model.specs.declared.answer.Refusal.TheVariants.{Fewer, NoPair}
 use Rattle.session_record.specs.Record.{record_text}
-use Rattle.slot_store.specs.Stops.{IsStopped}
+use Rattle.slot_store.specs.Stops.{IsStopped, calls_of}
 use Rattle.slot_store.specs.Store.{IsOldOrNew, ReadsOutsideArea}
 use Rattle.slot_store.specs.declared.store.SlotStore.{SlotStore}
 use Rattle.client.specs.Clients.{ClientNow, IsReady, client_area}
@@ -61,12 +61,16 @@ abbrev pub IsReplacing : Client → Client → DiskState → DiskState → Type 
 IsReplacing before after start now =
     Span start now (IsOldOrNew start client_area (Some (record_text before)) (Some (record_text after)))
 
--- it was replaced, by eight writes and syncs, and the disk is at rest
+-- how many writes and syncs it takes
+abbrev pub replacing_calls : Client → Client → ℕ
+replacing_calls before after = calls_of (Some (record_text before)) (Some (record_text after))
+
+-- it was replaced, by so many writes and syncs, and the disk is at rest
 pub record IsKept (before after : Client) (store : SlotStore) (start now : DiskState) : Type 0 where
   pub ready : IsReady after store now
   pub any_moment : IsReplacing before after start now
   pub reads : ReadsOutsideArea client_area start now
-  pub passed : HavePassed 8 start now
+  pub passed : HavePassed (replacing_calls before after) start now
   pub quiet : IsQuiet start now
 
 -- a call on the disk failed meanwhile, of this kind
@@ -75,7 +79,8 @@ pub record IsLost (before after : Client) (call : Call) (start now : DiskState) 
   pub reads : ReadsOutsideArea client_area start now
   -- by how many writes and syncs passed: which of the two records each crash leaves, and a read gives
   pub stopped : IsStopped client_area (Some (record_text before)) (Some (record_text after)) start now
-  pub few : (l m : ℕ) → start.passed ≡ Some l → now.passed ≡ Some m → m < l + 8
+  pub few : (l m : ℕ) → start.passed ≡ Some l → now.passed ≡ Some m
+      → m < l + replacing_calls before after
   pub ended : (n : ℕ) → start.fate ≡ some_pass n → now.fate ≡ some_pass 0
   pub rose : Rose (start.faults call) (now.faults call)
 

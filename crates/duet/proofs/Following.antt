@@ -1,16 +1,20 @@
 -- The lines of both sides, and their run in numbers, are the machine's.
-use Rattle.std.proofs.Common.{◌≡◌, true, List, [], ◌∷◌, ◌++◌, refl, ◌∙◌, ap, ap₂, ℕ}
+use Rattle.std.proofs.Common.{◌≡◌, Bool, true, List, [], ◌∷◌, ◌++◌, Option, Some, None, refl, ◌∙◌, ap, ap₂, ℕ}
 use Rattle.std.specs.Prelude.{All, is_some}
 use Rattle.std.proofs.lemmas.List.{length-map}
 use Rattle.std.proofs.lemmas.List.Elements.{All-cons, All-head, All-nil, All-tail}
-use Rattle.dr_base.specs.declared.position.Side.TheVariants.{First}
+use Rattle.dr_base.specs.declared.position.Side.{Side}
+use Rattle.dr_base.specs.declared.position.Side.TheVariants.{First, Second}
+use Rattle.dr_disk.specs.declared.call.Mode.{Mode}
 use Rattle.dr_model.specs.Conversations.Posts.{key_of}
 use Rattle.dr_model.specs.Conversations.Views.{missing_of}
 use Rattle.dr_model.specs.Machines.Events.{Event}
-use Rattle.dr_model.specs.Machines.Sides.{Sides}
+use Rattle.dr_model.specs.Machines.Sides.{Sides, client_of, step_on}
 use Rattle.dr_model.specs.Machines.Steps.{Step}
 use Rattle.dr_model.specs.Machines.Worlds.{World, opening_world, step_of}
 use Rattle.dr_model.specs.Machines.WorldSides.{kept_in, sides_of}
+use Rattle.dr_model.specs.Theorems.Fairness.{IsSeedWhole, IsUnforgedEvent}
+use Rattle.session_model.specs.Clients.{Client}
 use Rattle.kem_laws.specs.Mechanism.{IsLawfulMechanism, Mechanism}
 use Rattle.session_model.specs.Schedule.{agreement_seed}
 use Rattle.dr_model.proofs.Worlds.Following.{step_follows}
@@ -19,9 +23,10 @@ use Rattle.dr_model.proofs.Worlds.SeenWorlds.{seen_world}
 use Rattle.relay_core.specs.Boxes.{Box, Kept, empty_box}
 use Rattle.client.specs.Syncing.Lines.{own_box, peers_box}
 use Rattle.duet.specs.Outcomes.{Beside, Played, acted, deed_in, deed_on}
-use Rattle.scripts.specs.Deeds.{Deed, acts, syncs}
-use Rattle.scripts.specs.Sides.{deed_side}
+use Rattle.scripts.specs.Deeds.{Deed, acts, stops, syncs}
+use Rattle.scripts.specs.Sides.{acting_side, deed_side}
 use Rattle.duet.specs.Replies.{reply_of}
+use Rattle.duet.specs.Stops.{cut_event, cut_of, stopped_in, stopped_on}
 use Rattle.scripts.specs.Script.{Scripted}
 use Rattle.duet.specs.Tally.{both_reached, both_reached_in, counted_all, counted_by, opening_tally, tally_in, tally_of}
 use Rattle.duet.specs.Trace.{IsUnforgedDeed, IsUnforgedPlay, IsUnforgedScript, after_by, beginning_in, lines_by, played, trace_of}
@@ -52,13 +57,64 @@ record DeedFollows (k : Mechanism) (s : Beside World) (deed : Deed) : Type 0 whe
   same : deed_on k (seen_beside k s) deed ≡ seen_played k (deed_in k s deed)
   honest : IsHonest k (deed_in k s deed).next
 
+event_follows : (k : Mechanism) (s : Beside World) (event : Event) → IsLawfulMechanism k
+    → IsHonest k s → IsSeedWhole event
+    → IsUnforgedEvent k s.ends event
+    → acted event s.boxes (step_on k (sides_of k s.ends) event)
+    ≡ seen_played k (acted event s.boxes (step_of k s.ends event))
+event_follows k s event law honest whole unforged =
+    ap (acted event s.boxes)
+    (step_follows k s.ends event law honest.lawful (record { unforged = unforged; whole = whole }))
+    ∙ same_acted k event s.boxes (step_of k s.ends event)
+
+-- an event that a disk cuts off makes up what it makes up by itself
+cut_whole : (cut : Option Bool) (event : Event) → IsSeedWhole event
+    → IsSeedWhole (cut_event cut event)
+cut_whole None event whole = whole
+cut_whole (Some replaced) event whole = whole
+
+cut_unforged : (k : Mechanism) (w : World) (cut : Option Bool) (event : Event)
+    → IsUnforgedEvent k w event
+    → IsUnforgedEvent k w (cut_event cut event)
+cut_unforged k w None event unforged = unforged
+cut_unforged k w (Some replaced) event unforged = unforged
+
+kept_side : (k : Mechanism) (w : World) (side : Side)
+    → client_of (sides_of k w) side ≡ kept_in k w side
+kept_side k w First = refl
+kept_side k w Second = refl
+
+-- both sides cut off what the machine does: their records before and after are the same
+same_stop : (k : Mechanism) (w : World) (n : ℕ) (mode : Mode) (call : Event)
+    → step_on k (sides_of k w) call ≡ seen_world k (step_of k w call)
+    → stopped_on k (sides_of k w) n mode call ≡ stopped_in k w n mode call
+unfolding stopped_on stopped_in
+same_stop k w n mode call same =
+    let side = acting_side call in
+    ap₂ (λ (before after : Client). cut_event (cut_of n mode before after) call)
+    (kept_side k w side)
+    (ap (λ (made : Step Sides). client_of made.next side) same
+    ∙ kept_side k (step_of k w call).next side)
+
 deed_follows : (k : Mechanism) (s : Beside World) (deed : Deed) → IsLawfulMechanism k → IsHonest k s → HasWholeSeed deed
     → IsUnforgedDeed k s deed → DeedFollows k s deed
+unfolding stopped_in
 deed_follows k s (acts event) law honest whole unforged = record {
-  same = ap (acted event s.boxes) (step_follows k s.ends event law honest.lawful (record { unforged = unforged; whole = whole }))
-      ∙ same_acted k event s.boxes (step_of k s.ends event);
+  same = event_follows k s event law honest whole unforged;
   honest = honest_next k s event honest whole;
 }
+deed_follows k s (stops n mode call) law honest whole unforged =
+    let side = acting_side call in
+    let cut = cut_of n mode (kept_in k s.ends side) (kept_in k (step_of k s.ends call).next side) in
+    let event = cut_event cut call in
+    let step = step_follows k s.ends call law honest.lawful
+    (record { unforged = unforged; whole = whole }) in record {
+      same = ap (λ (e : Event). acted e s.boxes (step_on k (sides_of k s.ends) e))
+          (same_stop k s.ends n mode call step)
+          ∙ event_follows k s event law honest (cut_whole cut call whole)
+          (cut_unforged k s.ends cut call unforged);
+      honest = honest_next k s event honest (cut_whole cut call whole);
+    }
 deed_follows k s (syncs side lost) law honest whole unforged = record {
   same = sync_follows k law side s.ends honest.lawful lost s.boxes (sync_fair k side s.ends s.boxes honest lost);
   honest = sync_honest k side s.ends s.boxes honest lost;

@@ -11,7 +11,7 @@ use Rattle.session_model.specs.declared.answer.Answer.TheVariants.{Said, Opened,
 use Rattle.dr_model.specs.Machines.Sides.{Sides}
 use Rattle.kem_laws.specs.Mechanism.{Mechanism}
 use Rattle.duet.specs.Outcomes.{Beside, Played, deed_on}
-use Rattle.scripts.specs.Deeds.{Deed, acts, syncs}
+use Rattle.scripts.specs.Deeds.{Deed, acts, stops, syncs}
 use Rattle.scripts.specs.Sides.{deed_side}
 use Rattle.duet.specs.Held.{DuetNow, after_deed, beside, opening_duet}
 use Rattle.scripts.specs.Script.{Scripted}
@@ -61,6 +61,7 @@ one_more n Second answer t b = record { first = side_wider n (n + 1) t.first (om
 deed_more : (k : Mechanism) (s : Beside Sides) (deed : Deed) (n : ℕ) (t : Tally) → IsBelow n t
     → IsBelow (n + 1) (counted_all (deed_side deed) (deed_on k s deed).answers t)
 deed_more k s (acts event) n t b = one_more n (deed_side (acts event)) _ t b
+deed_more k s (stops after mode call) n t b = one_more n (deed_side (stops after mode call)) _ t b
 deed_more k s (syncs side lost) n t b = wider n (n + 1) t (omega arith) b
 
 -- ---- a run

@@ -1,6 +1,6 @@
 -- What an event shows, and what it adds to the network and to the draws.
 use Rattle.std.proofs.Common.{◌≡◌, ℕ, ◌+◌, ◌≤◌, Bool, true, false, List, [], ◌∷◌, ◌++◌, length, Option, Some, None, Result, Ok, Err, if◌then◌else◌, refl, sym, ◌∙◌, ap, ap₂, append-nil, arith, length-append}
-use Rattle.std.specs.Prelude.{flat_map, nat_le}
+use Rattle.std.specs.Prelude.{flat_map}
 use Rattle.dr_base.specs.declared.position.Side.{Side}
 use Rattle.dr_base.specs.declared.position.Side.TheVariants.{First, Second}
 use Rattle.boxes.specs.Items.{Item}
@@ -15,12 +15,12 @@ use Rattle.dr_model.specs.Machines.Network.{flipped_at, held_at, held_nth}
 use Rattle.kem_laws.specs.Mechanism.{Mechanism}
 use Rattle.session_model.specs.declared.answer.Answer.{Answer}
 use Rattle.duet.specs.Outcomes.{Beside, deed_on}
-use Rattle.scripts.specs.Deeds.{Deed, acts, syncs}
+use Rattle.scripts.specs.Deeds.{Deed, acts, stops, syncs}
 use Rattle.duet.specs.Held.{shown}
-use Rattle.scripts.specs.Lined.{call_event, stop_event}
+use Rattle.scripts.specs.Lined.{call_event}
 use Rattle.duet.specs.Replies.{entry_line, reply_line, reply_of}
 use Rattle.scripts.specs.Sides.{acting_side}
-use Rattle.scripts.specs.Stops.{stopped, takes_effect}
+use Rattle.duet.specs.Stops.{cut_event, cut_of, stopped_on}
 use Rattle.scripts.specs.declared.lined.Stop.{Stop}
 use Rattle.scripts.specs.declared.lined.StoppedCall.{StoppedCall}
 use Rattle.scripts.specs.declared.lined.StoppedCall.TheVariants.{Done, Say, Sent, Take, TakeNth}
@@ -147,6 +147,9 @@ adds_none s Second kept = record { posts = omega arith; draws = omega arith }
 
 pub adds_few : (k : Mechanism) (s : Beside Sides) (deed : Deed) → AddsFew s.ends (deed_on k s deed).next.ends
 adds_few k s (acts event) = let step = shows k s.ends event in record { posts = step.posts; draws = step.draws }
+adds_few k s (stops n mode call) =
+    let step = shows k s.ends (stopped_on k s.ends n mode call) in
+    record { posts = step.posts; draws = step.draws }
 adds_few k s (syncs side lost) = adds_none s.ends side _
 
 -- ---- a call in which a disk stops shows no text
@@ -158,22 +161,32 @@ call_shows_none t (TakeNth side nth) = refl
 call_shows_none t (Sent side n) = refl
 call_shows_none t (Done side n) = refl
 
-stop_shows_none : (t : Sides) (stop : Stop) → shown (stop_event stop) t ≡ []
-unfolding stopped
-stop_shows_none t stop = by_count (nat_le 8 stop.after)
-  where
-    by_count : (b : Bool)
-        → shown (if b then call_event stop.call else cuts (takes_effect stop.after stop.mode) (call_event stop.call)) t ≡ []
-    by_count true = call_shows_none t stop.call
-    by_count false = call_shows_none t stop.call
+cut_shows_none : (t : Sides) (cut : Option Bool) (call : StoppedCall)
+    → shown (cut_event cut (call_event call)) t ≡ []
+cut_shows_none t None call = call_shows_none t call
+cut_shows_none t (Some replaced) call = call_shows_none t call
+
+cut_acting : (cut : Option Bool) (event : Event)
+    → acting_side (cut_event cut event) ≡ acting_side event
+cut_acting None event = refl
+cut_acting (Some replaced) event = refl
 
 -- so its reply is its line
-pub stop_reply : (k : Mechanism) (s : Sides) (stop : Stop) (side : Side) (answer : Answer) → side ≡ acting_side (stop_event stop)
-    → answer ≡ (step_on k s (stop_event stop)).answer → reply_line side answer ≡ reply_of (stop_event stop) (step_on k s (stop_event stop))
-unfolding reply_of
+pub stop_reply : (k : Mechanism) (s : Sides) (stop : Stop) (side : Side) (answer : Answer)
+    → let event = stopped_on k s stop.after stop.mode (call_event stop.call) in
+    side ≡ acting_side (call_event stop.call) → answer ≡ (step_on k s event).answer
+    → reply_line side answer ≡ reply_of event (step_on k s event)
+unfolding reply_of stopped_on
 stop_reply k s stop side answer own_is is =
-    let made = step_on k s (stop_event stop) in
-    let own = acting_side (stop_event stop) in
-    let none : made.entries ≡ [] = sym (shown-entries k s (stop_event stop)) ∙ stop_shows_none made.next stop in
-    ap₂ reply_line own_is is ∙ sym (append-nil (reply_line own made.answer))
-    ∙ ap (λ entries. reply_line own made.answer ++ flat_map (entry_line own) entries) (sym none)
+    let call = call_event stop.call in
+    let own = acting_side call in
+    let next = client_of (step_on k s call).next own in
+    let cut = cut_of stop.after stop.mode (client_of s own) next in
+    let event = cut_event cut call in
+    let made = step_on k s event in
+    let same = cut_acting cut call in
+    let none : made.entries ≡ [] =
+    sym (shown-entries k s event) ∙ cut_shows_none made.next cut stop.call in
+    let line = reply_line (acting_side event) made.answer in
+    ap₂ reply_line (own_is ∙ sym same) is ∙ sym (append-nil line)
+    ∙ ap (λ entries. line ++ flat_map (entry_line (acting_side event)) entries) (sym none)

@@ -18,9 +18,10 @@ use Rattle.dr_model.specs.Machines.Steps.{Step}
 use Rattle.dr_model.specs.Machines.Worlds.{World, step_of}
 use Rattle.client.specs.declared.syncing.faults.SyncFault.TheVariants.{Link, Refused}
 use Rattle.client.specs.declared.syncing.faults.SyncRefusal.TheVariants.{BoxFull, InboxFull, Unknown}
-use Rattle.scripts.specs.Deeds.{Deed, acts, syncs}
+use Rattle.scripts.specs.Deeds.{Deed, acts, stops, syncs}
 use Rattle.scripts.specs.Sides.{side_text}
 use Rattle.duet.specs.Replies.{fault_line, reply_of}
+use Rattle.duet.specs.Stops.{stopped_in, stopped_on}
 
 -- both sides, or the world that they stand for, and the relay's boxes
 pub record Beside (S : Type 0) : Type 0 where
@@ -90,11 +91,15 @@ synced_in k s side lost =
 -- what both sides and the relay make of it
 abbrev pub deed_on : Mechanism → Beside Sides → Deed → Played Sides
 deed_on k s (acts event) = acted event s.boxes (step_on k s.ends event)
+deed_on k s (stops n mode call) =
+    let event = stopped_on k s.ends n mode call in acted event s.boxes (step_on k s.ends event)
 deed_on k s (syncs side lost) = synced_on k s side lost
 
 -- and the machine
 abbrev pub deed_in : Mechanism → Beside World → Deed → Played World
 deed_in k s (acts event) = acted event s.boxes (step_of k s.ends event)
+deed_in k s (stops n mode call) =
+    let event = stopped_in k s.ends n mode call in acted event s.boxes (step_of k s.ends event)
 deed_in k s (syncs side lost) = synced_in k s side lost
 
 -- a relay with the boxes of both sides, which are empty

@@ -7,7 +7,7 @@ use Rattle.dr_model.specs.Theorems.Fairness.{IsUnforgedEvent}
 use Rattle.dr_model.specs.Machines.WorldSides.{kept_in, sides_of}
 use Rattle.kem_laws.specs.Mechanism.{Mechanism}
 use Rattle.duet.specs.Outcomes.{Beside, Played, deed_in, deed_on, opening_boxes}
-use Rattle.scripts.specs.Deeds.{Deed, acts, syncs}
+use Rattle.scripts.specs.Deeds.{Deed, acts, stops, syncs}
 use Rattle.scripts.specs.Script.{Scripted}
 
 -- the lines of deeds, each done from what stands
@@ -42,6 +42,7 @@ trace_of k script = lines_by (deed_in k) (beginning_in k script) script.deeds
 -- no packet that the deed makes up has a forged tag; a sync makes up none
 abbrev pub IsUnforgedDeed : Mechanism → Beside World → Deed → Type 0
 IsUnforgedDeed k s (acts event) = IsUnforgedEvent k s.ends event
+IsUnforgedDeed k s (stops n mode call) = IsUnforgedEvent k s.ends call
 IsUnforgedDeed k s (syncs side lost) = ⊤
 
 -- and so in a run

@@ -13,8 +13,7 @@ ghost use Rattle.scripts.specs.Seen.{event_of};
 ghost use Rattle.duet.specs.Tally.{IsBelow, counted_of, tally_of};
 ghost use Rattle.duet.specs.Playing.{PlaysDeed};
 ghost use Rattle.duet.specs.Trace.{played};
-ghost use Rattle.scripts.specs.Deeds.{acts};
-ghost use Rattle.scripts.specs.Lined.{lined_deed, stop_event};
+ghost use Rattle.scripts.specs.Lined.{lined_deed, stop_deed};
 
 use crate::party::{BeginError, Party};
 use crate::reply::reply;
@@ -143,7 +142,8 @@ fn unless_failed<K: Kem>(duet: Duet<K>, written: Result<(), Failed>) -> Result<D
     }
 }
 
-/// Plays an act that a stop cuts off: counts its answer, and writes its line. Gives both sides after it.
+/// Plays a call in which a disk stops: counts its answer, and writes its line. Gives both sides
+/// after it.
 fn play_stop<K: Kem, O: Sink>(
     alloc: Global,
     duet: Duet<K>,
@@ -154,7 +154,8 @@ fn play_stop<K: Kem, O: Sink>(
     requires room { length duet.sides.posts < duet.room }
     requires draws { duet.sides.draws.made < 2 ^ 32 - 1 }
     requires few { IsBelow (2 ^ 32 - 1) tally.old }
-    ensures { PlaysDeed K.mechanism (acts (stop_event stop.now)) duet tally.old tally.new (O.at out.old) (O.at out.new) result }
+    ensures { PlaysDeed K.mechanism (stop_deed stop.now) duet tally.old tally.new
+        (O.at out.old) (O.at out.new) result }
 {
     match duet.stop(alloc, stop) {
         Err(AllocError) => Err(Cut::Memory),

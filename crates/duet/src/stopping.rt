@@ -11,7 +11,7 @@ ghost use Rattle.client.specs.Clients.{client_area};
 ghost use Rattle.duet.specs.Acts.{IsChecked, made_by};
 ghost use Rattle.client.specs.Opening.{ReadsClient};
 ghost use Rattle.duet.specs.Parties.{HasRecord, IsWantOfMemory};
-ghost use Rattle.duet.specs.Stops.{stopped_step};
+ghost use Rattle.duet.specs.Stops.{stopped_client};
 
 use crate::acts::{Act, Ended, perform};
 use crate::party::Party;
@@ -58,7 +58,8 @@ impl<K: Kem> Party<K> {
         act: Act<'_>,
     ) -> Result<(Self, Answer), AllocError>
         requires { IsChecked self act }
-        ensures { IfOk result (λ pair. step pair.1 pair.0 ≡ stopped_step after mode self (settled self (made_by K.mechanism self act.entry))) }
+        ensures { let made = settled self (made_by K.mechanism self act.entry) in
+            IfOk result (λ pair. step pair.1 pair.0 ≡ stopped_client after mode self made) }
     {
         laws::<K>();
         let Party {

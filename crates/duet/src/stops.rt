@@ -11,9 +11,8 @@ ghost use Rattle.session_model.specs.Clients.{say_check, say_on, take_on};
 ghost use Rattle.dr_model.specs.Machines.Acts.{taken_by};
 ghost use Rattle.duet.specs.Acts.{IsChecked, made_by};
 ghost use Rattle.duet.specs.Held.{after, gathered, on_side, stepped};
-ghost use Rattle.scripts.specs.Lined.{stop_event};
-ghost use Rattle.duet.specs.Stops.{stopped_step};
-ghost use Rattle.scripts.specs.Stops.{stopped};
+ghost use Rattle.scripts.specs.Lined.{call_event};
+ghost use Rattle.duet.specs.Stops.{stopped_client, stopped_on, stopped_sides};
 
 use crate::acts::Act;
 use crate::network::{copied, held_at, held_nth};
@@ -37,7 +36,8 @@ impl<K: Kem> Duet<K> {
     ) -> Result<(Self, Answer), AllocError>
         requires { IsChecked (client_of self.sides side) act }
         ensures { let c = client_of self.sides side in
-            let made = on_side self.sides side (stopped_step stops.0 stops.1 c (settled c (made_by K.mechanism c act.entry))) in
+            let step = settled c (made_by K.mechanism c act.entry) in
+            let made = on_side self.sides side (stopped_client stops.0 stops.1 c step) in
             IfOk result (λ pair. (pair.1 ≡ made.answer) × (pair.0 ≡ after self made)) }
     {
         let Duet {
@@ -97,7 +97,8 @@ impl<K: Kem> Duet<K> {
         requires checked { say_check (client_of self.sides side) (length text.now) ≡ Ok (is_some seed) }
         requires whole { IfSome seed (λ key. length key.bytes ≡ 32) }
         ensures { let k = K.mechanism in
-            let made = stopped_step stops.0 stops.1 self.sides (said_on self.sides side (say_on k (client_of self.sides side) text.now (seed_bytes seed))) in
+            let said = say_on k (client_of self.sides side) text.now (seed_bytes seed) in
+            let made = stopped_sides side stops.0 stops.1 self.sides (said_on self.sides side said) in
             IfOk result (λ pair. (pair.1 ≡ made.answer) × (pair.0 ≡ after self made)) }
     {
         let held = self.party(side).summary().outbox;
@@ -131,8 +132,10 @@ impl<K: Kem> Duet<K> {
     ) -> Result<(Self, Answer), AllocError>
         requires room { length self.sides.posts < self.room }
         requires draws { self.sides.draws.made < 2 ^ 32 - 1 }
-        ensures { let k = K.mechanism in let event = stopped stops.0 stops.1 (says side text.now) in
-            IfOk result (λ pair. (pair.1 ≡ (step_on k self.sides event).answer) × (pair.0 ≡ stepped k self event)) }
+        ensures { let k = K.mechanism in
+            let event = stopped_on k self.sides stops.0 stops.1 (says side text.now) in
+            IfOk result (λ pair. (pair.1 ≡ (step_on k self.sides event).answer)
+            × (pair.0 ≡ stepped k self event)) }
     {
         match self.say_check(side, text.len()) {
             Err(refusal) => Ok((self, Answer::Refused(refusal))),
@@ -156,7 +159,8 @@ impl<K: Kem> Duet<K> {
         bytes: &[u8],
     ) -> Result<(Self, Answer), AllocError>
         ensures { let c = client_of self.sides side in
-            let made = on_side self.sides side (stopped_step stops.0 stops.1 c (settled c (taken_by (take_on K.mechanism c bytes.now)))) in
+            let step = settled c (taken_by (take_on K.mechanism c bytes.now)) in
+            let made = on_side self.sides side (stopped_client stops.0 stops.1 c step) in
             IfOk result (λ pair. (pair.1 ≡ made.answer) × (pair.0 ≡ after self made)) }
     {
         self.stopped(alloc, side, stops, Act::Take(bytes))
@@ -171,7 +175,8 @@ impl<K: Kem> Duet<K> {
         packet: Option<Packet>,
     ) -> Result<(Self, Answer), AllocError>
         ensures { let k = K.mechanism in
-            let made = stopped_step stops.0 stops.1 self.sides (taken_on k self.sides side (option_map (λ packet. packet.items) packet)) in
+            let taken = taken_on k self.sides side (option_map (λ packet. packet.items) packet) in
+            let made = stopped_sides side stops.0 stops.1 self.sides taken in
             IfOk result (λ pair. (pair.1 ≡ made.answer) × (pair.0 ≡ after self made)) }
     {
         match packet {
@@ -184,8 +189,10 @@ impl<K: Kem> Duet<K> {
     pub fn stop(self, alloc: Global, stop: &Stop<'_>) -> Result<(Self, Answer), AllocError>
         requires room { length self.sides.posts < self.room }
         requires draws { self.sides.draws.made < 2 ^ 32 - 1 }
-        ensures { let k = K.mechanism in
-            IfOk result (λ pair. (pair.1 ≡ (step_on k self.sides (stop_event stop.now)).answer) × (pair.0 ≡ stepped k self (stop_event stop.now))) }
+        ensures { let k = K.mechanism in let call = call_event stop.now.call in
+            let event = stopped_on k self.sides stop.now.after stop.now.mode call in
+            IfOk result (λ pair. (pair.1 ≡ (step_on k self.sides event).answer)
+            × (pair.0 ≡ stepped k self event)) }
     {
         let stops = (stop.after, stop.mode);
         match stop.call {

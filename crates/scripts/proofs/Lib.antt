@@ -5,6 +5,7 @@ pub mod Making
 pub mod PrintedDeeds
 pub mod PrintedLines
 pub mod PrintedParts
+pub mod PrintedStops
 pub mod Reading
 pub mod ScriptLines
 pub mod ScriptSeeds

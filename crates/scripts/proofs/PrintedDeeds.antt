@@ -1,27 +1,36 @@
 -- What any printed line is read as.
-use Rattle.std.proofs.Common.{◌≡◌, ℕ, ◌≤◌, List, ◌++◌, Option, Some, None, refl, ◌∙◌, ap, arith}
+use Rattle.std.proofs.Common.{◌≡◌, ℕ, ◌≤◌, List, ◌++◌, Option, Some, None, refl, ◌∙◌, ap, ap₂, arith}
 use Rattle.std.specs.Prelude.{nat_le, option_map}
 use Rattle.std.specs.Option.{option_and_then, option_or}
 use Rattle.std.proofs.lemmas.Bool.Decides.{nat_tests}
 use Rattle.std.proofs.lemmas.Bool.{cond-true}
 use Rattle.dr_base.specs.declared.position.Side.{Side}
 use Rattle.dr_base.specs.declared.position.Side.TheVariants.{First, Second}
-use Rattle.scripts.specs.Deeds.{Deed, acts, syncs}
+use Rattle.scripts.specs.Deeds.{Deed, acts, stops, syncs}
 use Rattle.scripts.specs.Printed.{IsReply, IsSayable, event_text, line_text, sync_text}
 use Rattle.scripts.specs.Sides.{side_text}
-use Rattle.scripts.specs.Words.{after_prefix, bytes_words, done_words, event_read, flip_words, if_some_reply, line_read, look_words, lose_words, plain_read, say_words, seed_read, sent_words, side_words, stop_words, sync_read, sync_words, take_words}
+use Rattle.scripts.specs.Words.{after_prefix, bytes_words, done_words, flip_words, if_some_reply, line_read, look_words, lose_words, plain_read, say_words, seed_read, sent_words, side_words, stop_line_read, stop_words, sync_read, sync_words, take_words}
 use Rattle.scripts.proofs.PrintedLines.{event_back}
 use Rattle.scripts.proofs.PrintedParts.{number_back}
+use Rattle.scripts.proofs.PrintedStops.{stop_line_back}
 
 -- ---- a sync
 
 -- no event's line begins so
-no_event : (side : Side) (lost : Option ℕ) → event_read (side_text side ++ sync_text lost) ≡ None
-unfolding event_read plain_read seed_read side_text sync_text after_prefix side_words say_words take_words flip_words bytes_words sent_words done_words look_words stop_words
+no_event : (side : Side) (lost : Option ℕ) → plain_read (side_text side ++ sync_text lost) ≡ None
+unfolding plain_read seed_read side_text sync_text after_prefix side_words say_words take_words flip_words bytes_words sent_words done_words look_words
 no_event First None = refl
 no_event First (Some lost) = refl
 no_event Second None = refl
 no_event Second (Some lost) = refl
+
+-- and no stop's
+no_stop : (side : Side) (lost : Option ℕ) → stop_line_read (side_text side ++ sync_text lost) ≡ None
+unfolding stop_line_read side_text sync_text after_prefix stop_words
+no_stop First None = refl
+no_stop First (Some lost) = refl
+no_stop Second None = refl
+no_stop Second (Some lost) = refl
 
 some_reply : (n : ℕ) → 1 ≤ n → if_some_reply n ≡ Some n
 some_reply n some = cond-true (nat_le 1 n) (Some n) None (grind (arith, nat_tests))
@@ -41,7 +50,13 @@ of_sync Second words lost h = ap (option_map (syncs Second)) h
 
 pub line_back : (deed : Deed) → IsSayable deed → line_read (line_text deed) ≡ Some deed
 unfolding line_read line_text
-line_back (acts event) h = ap (λ o. option_or (option_map acts o) (sync_read (event_text event))) (event_back event h)
+line_back (acts event) h =
+    ap (λ o. option_or (option_map acts o)
+    (option_or (stop_line_read (event_text event)) (sync_read (event_text event))))
+    (event_back event h)
+line_back (stops n mode call) h = stop_line_back n mode call h
 line_back (syncs side lost) h =
-    ap (λ o. option_or (option_map acts o) (sync_read (side_text side ++ sync_text lost))) (no_event side lost)
+    ap₂ (λ a b. option_or (option_map acts a)
+    (option_or b (sync_read (side_text side ++ sync_text lost))))
+    (no_event side lost) (no_stop side lost)
     ∙ of_sync side (sync_text lost) lost (words_synced lost h)

@@ -1,22 +1,60 @@
 -- The seeds of a script that was read have 32 bytes.
-use Rattle.std.proofs.Common.{◌≡◌, ℕ, suc, List, [], ◌∷◌, Option, Some, None, Result, Ok, Err, subst}
-use Rattle.std.specs.Prelude.{All, IfSome, IfOk, option_map, codes}
+use Rattle.std.proofs.Common.{◌≡◌, ℕ, suc, Bool, true, false, List, [], ◌∷◌, Option, Some, None, Result, Ok, Err, subst}
+use Rattle.std.specs.Prelude.{All, IfSome, IfOk, option_map, codes, if◌then◌else◌}
 use Rattle.std.specs.Option.{option_and_then, option_or}
 use Rattle.std.proofs.lemmas.List.Elements.{All-cons, All-nil}
 use Rattle.dr_base.specs.declared.position.Side.{Side}
 use Rattle.dr_base.specs.declared.position.Side.TheVariants.{First, Second}
+use Rattle.dr_disk.specs.declared.call.Mode.{Mode}
 use Rattle.dr_model.specs.Machines.Events.{Event}
 use Rattle.dr_model.specs.Theorems.Fairness.{IsSeedWhole}
-use Rattle.scripts.specs.Deeds.{Deed, acts, syncs}
+use Rattle.scripts.specs.Deeds.{Deed, acts, stops, syncs}
 use Rattle.scripts.specs.Script.{deeds_of, kem_read, key_read, keyed, after_kem, lines_of, or_bad, script_of, script_of_lines, scripted, Scripted, with_deed}
 use Rattle.scripts.specs.Deeds.{HasWholeSeed}
-use Rattle.scripts.specs.Words.{after_prefix, event_read, line_read, sync_read, sync_words}
+use Rattle.scripts.specs.Number.{number_read}
+use Rattle.scripts.specs.Words.{after_prefix, call_words, crash_read, halves_of, if_call, is_call, line_read, mode_read, plain_read, side_words, stop_line_read, stop_read, stop_words, sync_read, sync_words}
 use Rattle.scripts.specs.declared.script.KemName.{KemName}
-use Rattle.scripts.proofs.Seeds.{whole_event}
+use Rattle.scripts.proofs.Seeds.{whole_plain, whole_words}
+
+-- ---- a stop
+
+whole_if_call : (b : Bool) (event : Event) → IsSeedWhole event
+    → IfSome (if b then Some event else None) IsSeedWhole
+whole_if_call true event h = h
+whole_if_call false event h = tt
+
+whole_call : (o : Option Event) → IfSome o IsSeedWhole
+    → IfSome (option_and_then if_call o) IsSeedWhole
+whole_call None h = tt
+whole_call (Some event) h = whole_if_call (is_call event) event h
+
+whole_stops : (n : ℕ) (mode : Mode) (o : Option Event) → IfSome o IsSeedWhole
+    → IfSome (option_map (stops n mode) o) HasWholeSeed
+whole_stops n mode None h = tt
+whole_stops n mode (Some event) h = h
+
+whole_then : {A : Type 0} (f : A → Option Deed) (o : Option A)
+    → ((a : A) → IfSome (f a) HasWholeSeed)
+    → IfSome (option_and_then f o) HasWholeSeed
+whole_then f None h = tt
+whole_then f (Some a) h = h a
+
+whole_stop : (side : Side) (words : List ℕ) → IfSome (stop_words side words) HasWholeSeed
+unfolding stop_words call_words
+whole_stop side words =
+    whole_then (stop_read side)
+    (option_and_then (halves_of 32) (after_prefix (codes "stop ") words))
+    (λ halves. whole_then (λ n. option_and_then (crash_read side n) (halves_of 32 halves.1))
+    (number_read halves.0)
+    (λ n. whole_then (crash_read side n) (halves_of 32 halves.1)
+    (λ rest. whole_then (λ mode. option_map (stops n mode) (call_words side rest.1))
+    (mode_read rest.0)
+    (λ mode. whole_stops n mode (call_words side rest.1)
+    (whole_call (side_words side rest.1) (whole_words side rest.1))))))
 
 -- ---- any line
 
--- an event's, or a sync's, which gives none
+-- an event's, or another's
 whole_deed : (event : Option Event) (other : Option Deed) → IfSome event IsSeedWhole → IfSome other HasWholeSeed
     → IfSome (option_or (option_map acts event) other) HasWholeSeed
 whole_deed None other h i = i
@@ -26,20 +64,34 @@ whole_syncs : (side : Side) (o : Option (Option ℕ)) → IfSome (option_map (sy
 whole_syncs side None = tt
 whole_syncs side (Some lost) = tt
 
-both_syncs : (a b : Option Deed) → IfSome a HasWholeSeed → IfSome b HasWholeSeed → IfSome (option_or a b) HasWholeSeed
-both_syncs None b h i = i
-both_syncs (Some deed) b h i = h
+whole_or : (a b : Option Deed) → IfSome a HasWholeSeed → IfSome b HasWholeSeed
+    → IfSome (option_or a b) HasWholeSeed
+whole_or None b h i = i
+whole_or (Some deed) b h i = h
 
 whole_sync : (line : List ℕ) → IfSome (sync_read line) HasWholeSeed
 unfolding sync_read
 whole_sync line =
-    both_syncs (option_map (syncs First) (option_and_then sync_words (after_prefix (codes "first ") line))) (option_map (syncs Second) (option_and_then sync_words (after_prefix (codes "second ") line)))
+    whole_or (option_map (syncs First)
+    (option_and_then sync_words (after_prefix (codes "first ") line)))
+    (option_map (syncs Second) (option_and_then sync_words (after_prefix (codes "second ") line)))
     (whole_syncs First (option_and_then sync_words (after_prefix (codes "first ") line)))
     (whole_syncs Second (option_and_then sync_words (after_prefix (codes "second ") line)))
 
+whole_stop_line : (line : List ℕ) → IfSome (stop_line_read line) HasWholeSeed
+unfolding stop_line_read
+whole_stop_line line =
+    whole_or (option_and_then (stop_words First) (after_prefix (codes "first ") line))
+    (option_and_then (stop_words Second) (after_prefix (codes "second ") line))
+    (whole_then (stop_words First) (after_prefix (codes "first ") line) (whole_stop First))
+    (whole_then (stop_words Second) (after_prefix (codes "second ") line) (whole_stop Second))
+
 whole_line : (line : List ℕ) → IfSome (line_read line) HasWholeSeed
 unfolding line_read
-whole_line line = whole_deed (event_read line) (sync_read line) (whole_event line) (whole_sync line)
+whole_line line =
+    whole_deed (plain_read line) (option_or (stop_line_read line) (sync_read line))
+    (whole_plain line)
+    (whole_or (stop_line_read line) (sync_read line) (whole_stop_line line) (whole_sync line))
 
 -- ---- a script
 

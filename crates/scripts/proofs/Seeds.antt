@@ -1,16 +1,14 @@
 -- The seed that a line gives has 32 bytes.
 use Rattle.std.proofs.Common.{◌≡◌, ℕ, Bool, true, false, List, [], length, Option, Some, None, Result, Ok, Err, refl, ◌∙◌, sym, arith}
-use Rattle.std.specs.Prelude.{IfSome, nat_le, option_map, codes, if◌then◌else◌}
+use Rattle.std.specs.Prelude.{IfSome, option_map, codes, if◌then◌else◌}
 use Rattle.std.specs.Option.{option_and_then, option_or}
 use Rattle.std.specs.Result.{result_ok}
 use Rattle.hex.specs.Hex.{decode_sized}
 use Rattle.hex.proofs.HexLemmas.{decode_of-ok, decode_sized-ok, decode_sized-twice}
 use Rattle.dr_base.specs.declared.position.Side.{Side}
 use Rattle.dr_base.specs.declared.position.Side.TheVariants.{First, Second}
-use Rattle.dr_model.specs.Machines.Events.{Event, seeds, says, takes, takes_nth, flips, takes_bytes, drops_sent, drops_done, shows_inbox, shows_state, cuts}
-use Rattle.dr_disk.specs.declared.call.Mode.{Mode}
-use Rattle.scripts.specs.Stops.{stopped, takes_effect}
-use Rattle.scripts.specs.Words.{after_prefix, amount_read, bytes_words, call_words, crash_read, done_words, event_read, flip_words, flip_read, halves_of, hex_read, if_call, is_call, is_text, look_words, mode_read, packet_read, plain_read, position_read, say_words, seed_read, sent_words, stop_read, stop_words, take_words, side_words}
+use Rattle.dr_model.specs.Machines.Events.{Event, seeds, says, takes, takes_nth, flips, takes_bytes, drops_sent, drops_done, shows_inbox, shows_state}
+use Rattle.scripts.specs.Words.{after_prefix, amount_read, bytes_words, done_words, flip_words, flip_read, halves_of, hex_read, is_text, look_words, packet_read, plain_read, position_read, say_words, seed_read, sent_words, take_words, side_words}
 use Rattle.scripts.specs.Number.{number_read}
 use Rattle.dr_model.specs.Theorems.Fairness.{IsSeedWhole}
 
@@ -98,7 +96,7 @@ whole_look side words =
     whole_if (is_text (codes "inbox") words) (Some (shows_inbox side)) (if is_text (codes "state") words then Some (shows_state side) else None) tt
     (whole_if (is_text (codes "state") words) (Some (shows_state side)) None tt tt)
 
-whole_words : (side : Side) (words : List ℕ) → IfSome (side_words side words) IsSeedWhole
+pub whole_words : (side : Side) (words : List ℕ) → IfSome (side_words side words) IsSeedWhole
 unfolding side_words
 whole_words side words =
     let look = whole_look side words in
@@ -109,7 +107,7 @@ whole_words side words =
     let packet = whole_or (take_words side words) (option_or (flip_words side words) (option_or (bytes_words side words) (option_or (sent_words side words) (option_or (done_words side words) (look_words side words))))) (whole_take side words) flip in
     whole_or (say_words side words) (option_or (take_words side words) (option_or (flip_words side words) (option_or (bytes_words side words) (option_or (sent_words side words) (option_or (done_words side words) (look_words side words)))))) (whole_say side words) packet
 
-whole_plain : (line : List ℕ) → IfSome (plain_read line) IsSeedWhole
+pub whole_plain : (line : List ℕ) → IfSome (plain_read line) IsSeedWhole
 unfolding plain_read seed_read
 whole_plain line =
     whole_or (seed_read line) (option_or (option_and_then (side_words First) (after_prefix (codes "first ") line)) (option_and_then (side_words Second) (after_prefix (codes "second ") line)))
@@ -117,36 +115,3 @@ whole_plain line =
     (whole_or (option_and_then (side_words First) (after_prefix (codes "first ") line)) (option_and_then (side_words Second) (after_prefix (codes "second ") line))
     (whole_then (side_words First) (after_prefix (codes "first ") line) (whole_words First))
     (whole_then (side_words Second) (after_prefix (codes "second ") line) (whole_words Second)))
-
--- ---- a stop
-
-whole_call : (o : Option Event) → IfSome o IsSeedWhole → IfSome (option_and_then if_call o) IsSeedWhole
-whole_call None h = tt
-whole_call (Some event) h = whole_if (is_call event) (Some event) None h tt
-
-whole_stopped : (n : ℕ) (mode : Mode) (o : Option Event) → IfSome o IsSeedWhole → IfSome (option_map (stopped n mode) o) IsSeedWhole
-unfolding stopped
-whole_stopped n mode None h = tt
-whole_stopped n mode (Some event) h = by_count (nat_le 8 n)
-  where
-    by_count : (b : Bool) → IsSeedWhole (if b then event else cuts (takes_effect n mode) event)
-    by_count true = h
-    by_count false = h
-
-whole_stop : (side : Side) (words : List ℕ) → IfSome (stop_words side words) IsSeedWhole
-unfolding stop_words call_words
-whole_stop side words =
-    whole_then (stop_read side) (option_and_then (halves_of 32) (after_prefix (codes "stop ") words))
-    (λ halves. whole_then (λ n. option_and_then (crash_read side n) (halves_of 32 halves.1)) (number_read halves.0)
-    (λ n. whole_then (crash_read side n) (halves_of 32 halves.1)
-    (λ rest. whole_then (λ mode. option_map (stopped n mode) (call_words side rest.1)) (mode_read rest.0)
-    (λ mode. whole_stopped n mode (call_words side rest.1) (whole_call (side_words side rest.1) (whole_words side rest.1))))))
-
-pub whole_event : (line : List ℕ) → IfSome (event_read line) IsSeedWhole
-unfolding event_read
-whole_event line =
-    whole_or (plain_read line) (option_or (option_and_then (stop_words First) (after_prefix (codes "first ") line)) (option_and_then (stop_words Second) (after_prefix (codes "second ") line)))
-    (whole_plain line)
-    (whole_or (option_and_then (stop_words First) (after_prefix (codes "first ") line)) (option_and_then (stop_words Second) (after_prefix (codes "second ") line))
-    (whole_then (stop_words First) (after_prefix (codes "first ") line) (whole_stop First))
-    (whole_then (stop_words Second) (after_prefix (codes "second ") line) (whole_stop Second)))

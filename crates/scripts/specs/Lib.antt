@@ -8,5 +8,4 @@ pub mod Script
 pub mod ScriptCodes
 pub mod Seen
 pub mod Sides
-pub mod Stops
 pub mod Words

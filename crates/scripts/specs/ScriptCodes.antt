@@ -3,29 +3,61 @@ use Rattle.std.specs.Prelude.{Bool, List, Option, false, refl, true, ℕ, ◌≡
 use Rattle.std.proofs.Common.{inl, inr}
 use Rattle.std.specs.Coded.{Coded, code_by, coded_bool, coded_list, coded_option, coded_ℕ, coded×, coded⊎}
 use Rattle.dr_base.specs.declared.position.Side.{Side}
+use Rattle.dr_disk.specs.declared.call.Mode.{Mode}
+use Rattle.dr_disk.specs.declared.call.Mode.TheVariants.{Fill, New, Old}
 use Rattle.dr_model.specs.Machines.EventCodes.{event_code, side_code}
 use Rattle.dr_model.specs.Machines.Events.{Event}
-use Rattle.scripts.specs.Deeds.{Deed, acts, syncs}
+use Rattle.scripts.specs.Deeds.{Deed, acts, stops, syncs}
 use Rattle.scripts.specs.Script.{Scripted}
 use Rattle.scripts.specs.declared.script.KemName.{KemName}
 use Rattle.scripts.specs.declared.script.KemName.TheVariants.{Open, Sntrup761}
 
 -- ---- a deed
 
-abbrev stored : Deed → Event ⊎ (Side × Option ℕ)
-stored (acts event) = inl event
-stored (syncs side lost) = inr (side, lost)
+-- the mode of a crash: the old bytes or the new ones, or a byte
+abbrev stored_mode : Mode → Bool ⊎ ℕ
+stored_mode Old = inl false
+stored_mode New = inl true
+stored_mode (Fill byte) = inr byte
 
-abbrev deed_by : Event ⊎ (Side × Option ℕ) → Deed
+abbrev mode_by : Bool ⊎ ℕ → Mode
+mode_by (inl false) = Old
+mode_by (inl true) = New
+mode_by (inr byte) = Fill byte
+
+pub same_mode : (mode : Mode) → mode_by (stored_mode mode) ≡ mode
+same_mode Old = refl
+same_mode New = refl
+same_mode (Fill byte) = refl
+
+abbrev pub mode_code : Coded Mode
+mode_code = code_by (Bool ⊎ ℕ) (coded⊎ coded_bool coded_ℕ) stored_mode mode_by same_mode
+
+abbrev StoredDeed : Type 0
+StoredDeed = Event ⊎ ((ℕ × (Mode × Event)) ⊎ (Side × Option ℕ))
+
+abbrev stored : Deed → StoredDeed
+stored (acts event) = inl event
+stored (stops n mode call) = inr (inl (n, (mode, call)))
+stored (syncs side lost) = inr (inr (side, lost))
+
+abbrev deed_by : StoredDeed → Deed
 deed_by (inl event) = acts event
-deed_by (inr sync) = syncs sync.0 sync.1
+deed_by (inr (inl stop)) = stops stop.0 stop.1.0 stop.1.1
+deed_by (inr (inr sync)) = syncs sync.0 sync.1
 
 pub same_deed : (deed : Deed) → deed_by (stored deed) ≡ deed
 same_deed (acts event) = refl
+same_deed (stops n mode call) = refl
 same_deed (syncs side lost) = refl
 
 abbrev pub deed_code : Coded Deed
-deed_code = code_by (Event ⊎ (Side × Option ℕ)) (coded⊎ event_code (coded× side_code (coded_option coded_ℕ))) stored deed_by same_deed
+deed_code =
+    code_by StoredDeed
+    (coded⊎ event_code
+    (coded⊎ (coded× coded_ℕ (coded× mode_code event_code))
+    (coded× side_code (coded_option coded_ℕ))))
+    stored deed_by same_deed
 
 -- ---- a script
 

@@ -13,10 +13,9 @@ use Rattle.dr_base.specs.declared.position.Side.TheVariants.{First, Second}
 use Rattle.session_model.specs.declared.answer.Amount.{Amount}
 use Rattle.session_model.specs.declared.answer.Amount.TheVariants.{All, Exactly}
 use Rattle.dr_model.specs.Machines.Events.{Event, seeds, says, takes, takes_nth, flips, takes_bytes, drops_sent, drops_done, shows_inbox, shows_state}
-use Rattle.scripts.specs.Deeds.{Deed, acts, syncs}
+use Rattle.scripts.specs.Deeds.{Deed, acts, stops, syncs}
 use Rattle.scripts.specs.Number.{number_read}
 use Rattle.scripts.specs.declared.hexed.TheConstants.{DIGIT_LIMIT}
-use Rattle.scripts.specs.Stops.{stopped}
 
 -- what follows a prefix
 unfoldable pub after_prefix : List ℕ → List ℕ → Option (List ℕ)
@@ -100,7 +99,7 @@ side_words side words =
     option_or (say_words side words) (option_or (take_words side words) (option_or (flip_words side words) (option_or (bytes_words side words)
     (option_or (sent_words side words) (option_or (done_words side words) (look_words side words))))))
 
--- what a line says without a stop
+-- the event that a line says
 unfoldable pub plain_read : List ℕ → Option Event
 plain_read line =
     option_or (seed_read line) (option_or (option_and_then (side_words First) (after_prefix (codes "first ") line))
@@ -115,7 +114,7 @@ mode_read text =
     else (if is_text (codes "new") text then Some New
     else option_map (λ bytes. Fill (slice_index bytes 0)) (result_ok (decode_sized text 1)))
 
--- what a stop may cut off: a text, a packet as the network holds it, or a number of items
+-- in what a disk may stop: a text, a packet as the network holds it, or a number of items
 abbrev pub is_call : Event → Bool
 is_call (says side text) = true
 is_call (takes side p) = true
@@ -131,22 +130,23 @@ unfoldable pub call_words : Side → List ℕ → Option Event
 call_words side words = option_and_then if_call (side_words side words)
 
 -- a mode, a space and a call
-abbrev pub crash_read : Side → ℕ → List ℕ × List ℕ → Option Event
-crash_read side n halves = option_and_then (λ mode. option_map (stopped n mode) (call_words side halves.1)) (mode_read halves.0)
+abbrev pub crash_read : Side → ℕ → List ℕ × List ℕ → Option Deed
+crash_read side n halves =
+    option_and_then (λ mode. option_map (stops n mode) (call_words side halves.1)) (mode_read halves.0)
 
 -- a number, a space, and the rest
-abbrev pub stop_read : Side → List ℕ × List ℕ → Option Event
+abbrev pub stop_read : Side → List ℕ × List ℕ → Option Deed
 stop_read side halves = option_and_then (λ n. option_and_then (crash_read side n) (halves_of 32 halves.1)) (number_read halves.0)
 
--- `stop`, how many writes and syncs pass, the mode of the crash, and the call that it cuts off
-unfoldable pub stop_words : Side → List ℕ → Option Event
+-- `stop`, how many writes and syncs pass, the mode of the crash, and the call
+unfoldable pub stop_words : Side → List ℕ → Option Deed
 stop_words side words = option_and_then (stop_read side) (option_and_then (halves_of 32) (after_prefix (codes "stop ") words))
 
--- the event that a line says
-unfoldable pub event_read : List ℕ → Option Event
-event_read line =
-    option_or (plain_read line) (option_or (option_and_then (stop_words First) (after_prefix (codes "first ") line))
-    (option_and_then (stop_words Second) (after_prefix (codes "second ") line)))
+-- the stop that a line says
+unfoldable pub stop_line_read : List ℕ → Option Deed
+stop_line_read line =
+    option_or (option_and_then (stop_words First) (after_prefix (codes "first ") line))
+    (option_and_then (stop_words Second) (after_prefix (codes "second ") line))
 
 -- ---- a sync
 
@@ -172,4 +172,5 @@ sync_read line =
 
 -- what a line says; every other line is bad
 unfoldable pub line_read : List ℕ → Option Deed
-line_read line = option_or (option_map acts (event_read line)) (sync_read line)
+line_read line =
+    option_or (option_map acts (plain_read line)) (option_or (stop_line_read line) (sync_read line))

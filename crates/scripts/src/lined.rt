@@ -1,12 +1,11 @@
 //! Lines of a script, which may stop the disk of their side, or sync it.
 
 ghost use Rattle.std.specs.Prelude.{◌≡◌, option_map};
-ghost use Rattle.scripts.specs.Lined.{call_event, lined_deed, stop_event};
-ghost use Rattle.scripts.specs.Deeds.{acts};
+ghost use Rattle.scripts.specs.Lined.{call_event, lined_deed, stop_deed};
 ghost use Rattle.scripts.specs.Sides.{deed_side};
 ghost use Rattle.scripts.specs.Sides.{acting_side};
 ghost use Rattle.scripts.specs.Seen.{event_of};
-ghost use Rattle.scripts.specs.Words.{call_words, event_read, if_call, line_read, mode_read, stop_words};
+ghost use Rattle.scripts.specs.Words.{call_words, if_call, line_read, mode_read, stop_line_read, stop_words};
 
 use crate::line::{Line, parse_words};
 use crate::number::number;
@@ -59,33 +58,14 @@ impl<'a> Lined<'a> {
     pub fn parse(line: &'a [u8]) -> Option<Self>
         ensures { option_map lined_deed result ≡ line_read line.entry.now }
     {
-        if let Some(found) = Self::parse_event(line) {
-            return Some(found);
-        }
-        match parse_sync(line) {
-            Some((side, lost)) => Some(Lined::Syncing(side, lost)),
-            None => None,
-        }
-    }
-
-    /// Reads a line that says an event.
-    #[tactic(auto, unfolding(crate::specs::Words::event_read))]
-    fn parse_event(line: &'a [u8]) -> Option<Self>
-        ensures { option_map lined_deed result ≡ option_map acts (event_read line.entry.now) }
-    {
         if let Some(found) = Line::parse(line) {
             return Some(Lined::Plain(found));
         }
-        if let Some(words) = after_prefix(line, b"first ") {
-            if let Some(found) = parse_stop(Side::First, words) {
-                return Some(Lined::Stopping(found));
-            }
+        if let Some(found) = Stop::parse(line) {
+            return Some(Lined::Stopping(found));
         }
-        match after_prefix(line, b"second ") {
-            Some(words) => match parse_stop(Side::Second, words) {
-                Some(found) => Some(Lined::Stopping(found)),
-                None => None,
-            },
+        match parse_sync(line) {
+            Some((side, lost)) => Some(Lined::Syncing(side, lost)),
             None => None,
         }
     }
@@ -103,10 +83,25 @@ impl<'a> Lined<'a> {
 }
 
 impl<'a> Stop<'a> {
+    /// Reads a line that stops a disk.
+    #[tactic(auto, unfolding(crate::specs::Words::stop_line_read))]
+    fn parse(line: &'a [u8]) -> Option<Self>
+        ensures { option_map stop_deed result ≡ stop_line_read line.entry.now }
+    {
+        if let Some(words) = after_prefix(line, b"first ") {
+            if let Some(found) = parse_stop(Side::First, words) {
+                return Some(found);
+            }
+        }
+        match after_prefix(line, b"second ") {
+            Some(words) => parse_stop(Side::Second, words),
+            None => None,
+        }
+    }
+
     /// The side whose disk stops.
-    #[tactic(auto, unfolding(crate::specs::Stops::stopped))]
     pub fn side(&self) -> Side
-        ensures { result ≡ acting_side (stop_event self.now) }
+        ensures { result ≡ acting_side (call_event self.now.call) }
     {
         match self.call {
             StoppedCall::Say(side, _) => side,
@@ -160,10 +155,10 @@ fn parse_call(side: Side, words: &[u8]) -> Option<StoppedCall<'_>>
     }
 }
 
-/// Reads `stop`, how many writes and syncs pass, the mode of the crash, and the call that it cuts off.
+/// Reads `stop`, how many writes and syncs pass, the mode of the crash, and the call.
 #[tactic(auto, unfolding(crate::specs::Words::stop_words))]
 fn parse_stop(side: Side, words: &[u8]) -> Option<Stop<'_>>
-    ensures { option_map stop_event result ≡ stop_words side words.entry.now }
+    ensures { option_map stop_deed result ≡ stop_words side words.entry.now }
 {
     let text = after_prefix(words, b"stop ")?;
     let (after, rest) = cut_at(text, b' ')?;

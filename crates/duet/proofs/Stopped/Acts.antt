@@ -1,7 +1,7 @@
 -- What an act comes to on a disk that stops in it.
 use Rattle.std.proofs.Common.{Bool, Err, List, None, Ok, Option, Result, Some, ap, arith, false, if◌then◌else◌, inl, inr, length, refl, subst, sym, true, ℕ, ◌-◌, ◌<◌, ◌∙◌, ◌≡◌, ◌≤◌}
 use Rattle.std.specs.Prelude.{IfSome, is_some, nat_le}
-use Rattle.std.proofs.lemmas.Bool.{cond-false, cond-true}
+use Rattle.std.proofs.lemmas.Bool.{cond-false, cond-true, le-leb}
 use Rattle.std.proofs.lemmas.Bool.Decides.{nat_tests}
 use Rattle.boxes.specs.Items.{Item}
 use Rattle.dr_base.specs.declared.key.Key32.{Key32}
@@ -29,15 +29,14 @@ use Rattle.slot_store.specs.Store.{IsWithin}
 use Rattle.slot_store.specs.Areas.{Area}
 use Rattle.slot_store.specs.declared.store.SlotStore.{SlotStore}
 use Rattle.client.specs.Clients.{ClientNow, IsReady, client_area}
-use Rattle.client.specs.Outcomes.{Acts, IsCutOff, IsDone, IsEffected, Outcome, acknowledged, faulted, is_closed, refused, undrawn}
+use Rattle.client.specs.Outcomes.{Acts, IsCutOff, IsDone, IsEffected, Outcome, acknowledged, faulted, is_closed, refused, replacing_calls, undrawn}
 use Rattle.client.specs.Opening.{SaysNothing}
 use Rattle.client.specs.declared.refusals.OpenRefusal.{OpenRefusal}
 use Rattle.client.specs.declared.refusals.OpenRefusal.TheVariants.{Damaged, Memory, NoSession, StoreFault}
 use Rattle.client.proofs.Lawful.Acts.{done_lawful, say_lawful, sent_lawful, take_lawful}
 use Rattle.duet.specs.Acts.{IsChecked, IsEnded, made_by}
 use Rattle.duet.specs.Parties.{HasRecord, IsHeld, IsWantOfMemory}
-use Rattle.duet.specs.Stops.{stopped_step}
-use Rattle.scripts.specs.Stops.{takes_effect}
+use Rattle.duet.specs.Stops.{cut_by, cut_of, is_replaced, stopped_client}
 use Rattle.duet.proofs.Stopped.Sides.{idle_stopped}
 use Rattle.duet.specs.declared.acts.Act.{Act}
 use Rattle.duet.specs.declared.acts.Act.TheVariants.{Done, Say, Sent, Take}
@@ -54,17 +53,29 @@ is_ended state made old new start now (faulted call) unclosed acts = tt
 
 -- ---- the step
 
+not_yet : (calls n : ℕ) → n < calls → nat_le calls n ≡ false
+not_yet calls n few = grind (arith, nat_tests)
+
 -- enough calls pass
-enough : (n : ℕ) (mode : Mode) (before : Client) (made : Step Client) → 8 ≤ n → stopped_step n mode before made ≡ made
-unfolding stopped_step
-enough n mode before made many = cond-true (nat_le 8 n) made _ (grind (arith, nat_tests))
+enough : (n : ℕ) (mode : Mode) (before : Client) (made : Step Client)
+    → replacing_calls before made.next ≤ n
+    → stopped_client n mode before made ≡ made
+unfolding stopped_client cut_of
+enough n mode before made many =
+    ap (λ cut. cut_by cut before made)
+    (cond-true (nat_le (replacing_calls before made.next) n) None _
+    (le-leb (replacing_calls before made.next) n many))
 
 -- the step is cut off
-cut : (n : ℕ) (mode : Mode) (before : Client) (made : Step Client) → has_effect made.answer ≡ true → n < 8
-    → stopped_step n mode before made ≡ step Stopped (if takes_effect n mode then made.next else before)
-unfolding stopped_step
+cut : (n : ℕ) (mode : Mode) (before : Client) (made : Step Client) → has_effect made.answer ≡ true
+    → n < replacing_calls before made.next
+    → stopped_client n mode before made
+    ≡ step Stopped (if is_replaced n mode before made.next then made.next else before)
+unfolding stopped_client cut_of
 cut n mode before made effect few =
-    cond-false (nat_le 8 n) made _ (grind (arith, nat_tests)) ∙ cond-true (has_effect made.answer) _ made effect
+    let calls = replacing_calls before made.next in
+    ap (λ cut. cut_by cut before made) (cond-false (nat_le calls n) None _ (not_yet calls n few))
+    ∙ cond-true (has_effect made.answer) _ made effect
 
 -- ---- the disk
 
@@ -104,7 +115,8 @@ module _ (n : ℕ) (mode : Mode) (made : Result (Step Client) Refusal) (old new 
     (held : IsHeld old disk) where
   abbrev Comes : Answer → Type 0
   Comes answer =
-      (step answer new.kept ≡ stopped_step n mode old.kept (settled old.kept made)) × IsHeld new (going_on now)
+      (step answer new.kept ≡ stopped_client n mode old.kept (settled old.kept made))
+      × IsHeld new (going_on now)
 
   stays : new ≡ old → now ≡ stopped_after n disk → IsHeld new (going_on now)
   stays same still =
@@ -112,8 +124,11 @@ module _ (n : ℕ) (mode : Mode) (made : Result (Step Client) Refusal) (old new 
       (subst (λ (c : ClientNow). IsHeld c (going_on (stopped_after n disk))) (sym same)
       (held_going old (stopped_after n disk) held.is_open (ready_stopped n old.kept old.store disk held.ready)))
 
-  -- this many calls passed where the record was replaced
-  many : (answer : Answer) → IsDone made old new (state_of (stopped_after n disk)) (state_of now) answer → IsCounted (state_of now) → 8 ≤ n
+  -- enough calls passed where the record was replaced
+  many : (answer : Answer)
+      → IsDone made old new (state_of (stopped_after n disk)) (state_of now) answer
+      → IsCounted (state_of now)
+      → replacing_calls old.kept new.kept ≤ n
   many answer done told =
       let gone = done.disk.any_moment.fates n refl in
       let m = told gone.left gone.fate in
@@ -124,12 +139,12 @@ module _ (n : ℕ) (mode : Mode) (made : Result (Step Client) Refusal) (old new 
   effected : (answer : Answer) (b : Bool) → has_effect answer ≡ b
       → IsEffected state_of b made old new (stopped_after n disk) now answer → IsCounted (state_of now) → Comes answer
   effected answer true effect done told = (
-    sym (ap (λ r. stopped_step n mode old.kept (settled old.kept r)) done.made_is
+    sym (ap (λ r. stopped_client n mode old.kept (settled old.kept r)) done.made_is
         ∙ enough n mode old.kept (step answer new.kept) (many answer done told)),
     held_going new now done.stays_open done.disk.ready,
   )
   effected answer false effect idle told = (
-    sym (ap (λ r. stopped_step n mode old.kept (settled old.kept r)) idle.0
+    sym (ap (λ r. stopped_client n mode old.kept (settled old.kept r)) idle.0
         ∙ idle_stopped n mode old.kept (step answer new.kept) effect),
     stays idle.2 idle.3,
   )
@@ -142,14 +157,15 @@ module _ (n : ℕ) (mode : Mode) (made : Result (Step Client) Refusal) (old new 
       → Comes (Refused refusal)
   refused_comes refusal acts = (
     ap (λ (c : ClientNow). step (Refused refusal) c.kept) acts.2
-        ∙ sym (ap (λ r. stopped_step n mode old.kept (settled old.kept r)) acts.1
+        ∙ sym (ap (λ r. stopped_client n mode old.kept (settled old.kept r)) acts.1
         ∙ idle_stopped n mode old.kept (step (Refused refusal) old.kept) refl),
     stays acts.2 acts.3,
   )
 
   -- how many calls passed where one failed
   passed_all : (call : Call) (c : IsCutOff made old new (state_of (stopped_after n disk)) (state_of now) call)
-      → IsCounted (state_of now) → ((state_of now).passed ≡ Some n) × (n < 8)
+      → IsCounted (state_of now) → ((state_of now).passed ≡ Some n)
+      × (n < replacing_calls old.kept c.next.next)
   passed_all call c told =
       let gone = c.disk.any_moment.fates n refl in
       let over = c.disk.ended n refl in
@@ -160,7 +176,7 @@ module _ (n : ℕ) (mode : Mode) (made : Result (Step Client) Refusal) (old new 
 
   -- what the client kept, or what it would have kept
   abbrev pub Left : (call : Call) → IsCutOff made old new (state_of (stopped_after n disk)) (state_of now) call → Client
-  Left call c = if takes_effect n mode then c.next.next else old.kept
+  Left call c = if is_replaced n mode old.kept c.next.next then c.next.next else old.kept
 
   chosen : (b : Bool) (a z : Client) → (if b then Some (record_text a) else Some (record_text z)) ≡ Some (record_text (if b then a else z))
   chosen true a z = refl
@@ -169,7 +185,6 @@ module _ (n : ℕ) (mode : Mode) (made : Result (Step Client) Refusal) (old new 
   -- and that its record stands where the disk has crashed
   pub cut_record : (call : Call) (c : IsCutOff made old new (state_of (stopped_after n disk)) (state_of now) call) (left : MemoryDisk)
       → IsCounted (state_of now) → IsLeftBy mode (state_of now) (state_of left) → HasRecord (Left call c) (state_of left)
-  unfolding took
   cut_record call c left told by = λ s seen.
       let passed = (passed_all call c told).0 in
       let same : by.bytes ≡ s = let e : Some by.bytes ≡ Some s = sym by.fresh.seen ∙ seen in cc in
@@ -177,7 +192,7 @@ module _ (n : ℕ) (mode : Mode) (made : Result (Step Client) Refusal) (old new 
       ap (recovered client_area) (sym same) ∙ c.disk.stopped.crash 0 n mode by.bytes refl passed by.left
       ∙ ap (λ j. if took (Some (record_text old.kept)) (Some (record_text c.next.next)) j mode then Some (record_text c.next.next)
       else Some (record_text old.kept)) off
-      ∙ chosen (takes_effect n mode) c.next.next old.kept
+      ∙ chosen (is_replaced n mode old.kept c.next.next) c.next.next old.kept
 
   -- which is read without damage
   pub cut_undamaged : (call : Call) (c : IsCutOff made old new (state_of (stopped_after n disk)) (state_of now) call) (left : MemoryDisk)
@@ -191,9 +206,10 @@ module _ (n : ℕ) (mode : Mode) (made : Result (Step Client) Refusal) (old new 
       ]
 
   pub cut_comes : (call : Call) (c : IsCutOff made old new (state_of (stopped_after n disk)) (state_of now) call)
-      → IsCounted (state_of now) → step Stopped (Left call c) ≡ stopped_step n mode old.kept (settled old.kept made)
+      → IsCounted (state_of now) → step Stopped (Left call c)
+      ≡ stopped_client n mode old.kept (settled old.kept made)
   cut_comes call c told =
-      sym (ap (λ r. stopped_step n mode old.kept (settled old.kept r)) c.made_is
+      sym (ap (λ r. stopped_client n mode old.kept (settled old.kept r)) c.made_is
       ∙ cut n mode old.kept c.next c.effect (passed_all call c told).1)
 
   pub cut_within : (call : Call) (c : IsCutOff made old new (state_of (stopped_after n disk)) (state_of now) call) (left : MemoryDisk)

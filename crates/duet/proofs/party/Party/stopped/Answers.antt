@@ -8,8 +8,7 @@ use Rattle.client.specs.Outcomes.{Acts, acknowledged, faulted, refused}
 use Rattle.duet.specs.Acts.{IsChecked, ended_as, made_by}
 use Rattle.duet.specs.declared.acts.Ended.{Ended}
 use Rattle.duet.specs.Parties.{IsHeld}
-use Rattle.duet.specs.Stops.{stopped_step}
-use Rattle.scripts.specs.Stops.{takes_effect}
+use Rattle.duet.specs.Stops.{is_replaced, stopped_client}
 use Rattle.duet.proofs.Stopped.Acts.{acknowledged_comes, cut_comes, cut_record, cut_undamaged, cut_within, left_lawful, made_lawful, refused_comes}
 use Rattle.duet.proofs.party.Party.stopped.Goals as goal
 
@@ -35,7 +34,8 @@ returns-in-Acknowledged g c =
     c.stop_after.ensures (subst (λ (e : Ended). Acts state_of made client c.perform.new.client c.stop_after.new.self c.perform.new.disk (ended_as e)) c.in-Acknowledged.is c.perform.ensures) in
     let comes = acknowledged_comes c.args.after c.args.mode made client c.perform.new.client disk c.perform.new.disk c.self.invariant
     c.in-Acknowledged.answer acts c.go_on.ensures.told in
-    comes.0 ∙ ap (λ (x : Client). stopped_step c.args.after c.args.mode x (settled x (made_by k x c.args.act))) c.self.view_is
+    comes.0 ∙ ap (λ (x : Client). stopped_client c.args.after c.args.mode x
+    (settled x (made_by k x c.args.act))) c.self.view_is
 
 pub returns-in-Refused : goal.returns-in-Refused
 returns-in-Refused g c =
@@ -47,7 +47,8 @@ returns-in-Refused g c =
     c.stop_after.ensures (subst (λ (e : Ended). Acts state_of made client c.perform.new.client c.stop_after.new.self c.perform.new.disk (ended_as e)) c.in-Refused.is c.perform.ensures) in
     let comes = refused_comes c.args.after c.args.mode made client c.perform.new.client disk c.perform.new.disk c.self.invariant
     c.in-Refused.refusal acts in
-    comes.0 ∙ ap (λ (x : Client). stopped_step c.args.after c.args.mode x (settled x (made_by k x c.args.act))) c.self.view_is
+    comes.0 ∙ ap (λ (x : Client). stopped_client c.args.after c.args.mode x
+    (settled x (made_by k x c.args.act))) c.self.view_is
 
 pub reopened-requires-clause-within : goal.reopened-requires-clause-within
 reopened-requires-clause-within g c =
@@ -73,8 +74,9 @@ reopened-requires-clause-holds g c =
     let checked = subst (λ (x : Client). IsChecked x c.args.act) (sym c.self.view_is) c.requires in
     let next = made_lawful k client.kept c.args.act cut.next c.laws.ensures.law c.lawful.ensures checked cut.made_is in
     record {
-      kept = if takes_effect n mode then cut.next.next else client.kept;
-      lawful = left_lawful k (takes_effect n mode) cut.next.next client.kept next c.lawful.ensures;
+      kept = if is_replaced n mode client.kept cut.next.next then cut.next.next else client.kept;
+      lawful = left_lawful k (is_replaced n mode client.kept cut.next.next) cut.next.next client.kept
+          next c.lawful.ensures;
       bytes = c.crash.ensures.left.bytes;
       told = c.crash.ensures.left.fresh.seen;
       has = cut_record n mode made client c.perform.new.client disk c.perform.new.disk c.self.invariant c.in-Faulted.field-0 cut
@@ -95,10 +97,12 @@ returns-in-Ok g c =
     c.stop_after.ensures (subst (λ (e : Ended). Acts state_of made client c.perform.new.client c.stop_after.new.self c.perform.new.disk (ended_as e)) c.in-Faulted.is c.perform.ensures) in
     let checked = subst (λ (x : Client). IsChecked x c.args.act) (sym c.self.view_is) c.requires in
     let next = made_lawful k client.kept c.args.act cut.next c.laws.ensures.law c.lawful.ensures checked cut.made_is in
-    let lawful = left_lawful k (takes_effect n mode) cut.next.next client.kept next c.lawful.ensures in
+    let lawful = left_lawful k (is_replaced n mode client.kept cut.next.next) cut.next.next
+    client.kept next c.lawful.ensures in
     let has = cut_record n mode made client c.perform.new.client disk c.perform.new.disk c.self.invariant c.in-Faulted.field-0 cut
     c.crash.result c.crash.ensures.told c.crash.ensures.left in
     let comes = cut_comes n mode made client c.perform.new.client disk c.perform.new.disk c.self.invariant c.in-Faulted.field-0 cut
     c.crash.ensures.told in
     ap (step Stopped) (c.in-Ok.ensures _ lawful has) ∙ comes
-    ∙ ap (λ (x : Client). stopped_step n mode x (settled x (made_by k x c.args.act))) c.self.view_is
+    ∙ ap (λ (x : Client). stopped_client n mode x
+    (settled x (made_by k x c.args.act))) c.self.view_is

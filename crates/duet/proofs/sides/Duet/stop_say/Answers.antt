@@ -5,7 +5,7 @@ use Rattle.dr_model.specs.Machines.Sides.{Sides, client_of, said_on}
 use Rattle.dr_model.specs.Machines.Steps.{Step}
 use Rattle.session_model.specs.Clients.{say_check, say_on}
 use Rattle.duet.specs.Held.{DuetNow, after}
-use Rattle.duet.specs.Stops.{stopped_step}
+use Rattle.duet.specs.Stops.{stopped_sides}
 use Rattle.duet.proofs.Stopped.Saying.{say_here, say_next, say_refused}
 use Rattle.duet.proofs.sides.Duet.stop_say.Goals as goal
 
@@ -31,9 +31,14 @@ returns-in-Ok-true g c =
     let text = c.args.text.now in
     let t : Sides = record s { draws = after_draw s.draws } in
     subst (λ (m : Step Sides). IfOk c.stop_speak.result (λ pair. (pair.1 ≡ m.answer) × (pair.0 ≡ after c.args.self m)))
-    (ap (λ bytes. stopped_step n mode t (said_on t side (say_on k (client_of t side) text bytes))) c.draw-seed.ensures.seed
+    (ap (λ bytes. stopped_sides side n mode t
+    (said_on t side (say_on k (client_of t side) text bytes))) c.draw-seed.ensures.seed
     ∙ sym (say_next k s side n mode text (let e : say_check (client_of s side) (length text) ≡ Ok true = search rules in e)))
     (subst (λ (d : DuetNow). IfOk c.stop_speak.result (λ pair.
-    (pair.1 ≡ (stopped_step n mode d.sides (said_on d.sides side (say_on k (client_of d.sides side) text c.draw-seed.result.bytes))).answer)
-    × (pair.0 ≡ after d (stopped_step n mode d.sides (said_on d.sides side (say_on k (client_of d.sides side) text c.draw-seed.result.bytes))))))
+    (pair.1 ≡ (stopped_sides side n mode d.sides
+    (said_on d.sides side
+    (say_on k (client_of d.sides side) text c.draw-seed.result.bytes))).answer)
+    × (pair.0 ≡ after d
+    (stopped_sides side n mode d.sides
+    (said_on d.sides side (say_on k (client_of d.sides side) text c.draw-seed.result.bytes))))))
     c.draw-seed.ensures.draws c.stop_speak.ensures)

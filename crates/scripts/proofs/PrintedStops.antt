@@ -1,0 +1,151 @@
+-- What the printed line of a stop is read as.
+use Rattle.std.proofs.Common.{◌≡◌, ℕ, ◌/◌, ◌%◌, ◌^◌, ◌<◌, Bool, true, false, List, [], ◌∷◌, ◌++◌, Some, None, refl, sym, ◌∙◌, ap, ap₂, arith}
+use Rattle.std.specs.Prelude.{◌==◌, ◌&&◌, codes, decimal, option_map, slice_index}
+use Rattle.std.specs.Option.{option_and_then, option_or}
+use Rattle.std.specs.Result.{result_ok}
+use Rattle.std.proofs.lemmas.Bool.{cond-true, cond-false, eqb-true}
+use Rattle.hex.specs.Hex.{encode_lower, encode_with, hex_digit_value, lower_digits}
+use Rattle.hex.proofs.HexLemmas.{IsDigits-lower_digits, decode_sized-encode_lower}
+use Rattle.dr_base.specs.declared.position.Side.{Side}
+use Rattle.dr_base.specs.declared.position.Side.TheVariants.{First, Second}
+use Rattle.dr_disk.specs.declared.call.Mode.{Mode}
+use Rattle.dr_disk.specs.declared.call.Mode.TheVariants.{Fill, New, Old}
+use Rattle.dr_model.specs.Machines.Events.{Event, seeds, says, takes, takes_nth, flips, takes_bytes, drops_sent, drops_done, shows_inbox, shows_state, cuts}
+use Rattle.scripts.specs.Deeds.{Deed, acts, stops}
+use Rattle.scripts.specs.Printed.{IsMode, IsSayable, line_text, mode_text, stop_text, words_text}
+use Rattle.scripts.specs.Sides.{acting_side, side_text}
+use Rattle.scripts.specs.Words.{after_prefix, bytes_words, call_words, crash_read, done_words, flip_words, halves_of, if_call, is_call, is_text, line_read, look_words, mode_read, plain_read, say_words, seed_read, sent_words, side_words, stop_line_read, stop_read, stop_words, sync_read, take_words}
+use Rattle.scripts.proofs.PrintedLines.{IsOwn, spaced, words_back}
+use Rattle.scripts.proofs.PrintedParts.{Without, digits_of, digits_without, halves_back, number_back}
+
+-- ---- how a disk crashes
+
+-- no digit is a space
+not_space : (c d : ℕ) (b : Bool) → (c == 32) ≡ b → hex_digit_value c ≡ Some d → (c == 32) ≡ false
+not_space c d false is digit = is
+not_space c d true is digit =
+    let space : c ≡ 32 = eqb-true c 32 is in
+    absurd (let e : None ≡ Some d = sym (ap hex_digit_value space) ∙ digit in cc)
+
+digit_spaceless : (d : ℕ) → d < 16 → (slice_index lower_digits d == 32) ≡ false
+digit_spaceless d below =
+    not_space (slice_index lower_digits d) d _ refl (IsDigits-lower_digits d below)
+
+mode_spaceless : (mode : Mode) → IsMode mode → Without 32 (mode_text mode)
+unfolding mode_text encode_with
+mode_spaceless Old h = (refl, (refl, (refl, tt)))
+mode_spaceless New h = (refl, (refl, (refl, tt)))
+mode_spaceless (Fill byte) h =
+    let below : byte < 256 = h 0 in (
+      digit_spaceless (byte / 16) (omega (arith, below)),
+      (digit_spaceless (byte % 16) (omega arith), tt),
+    )
+
+neither : (a b : Bool) → (a && (b && false)) ≡ false
+neither true true = refl
+neither true false = refl
+neither false b = refl
+
+-- two digits are no text of three bytes
+not_three : (c d x y z : ℕ) → is_text (x ∷ y ∷ z ∷ []) (c ∷ d ∷ []) ≡ false
+not_three c d x y z = neither (c == x) (d == y)
+
+not_word : (byte x y z : ℕ) → is_text (x ∷ y ∷ z ∷ []) (encode_lower (byte ∷ [])) ≡ false
+unfolding encode_with
+not_word byte x y z =
+    not_three (slice_index lower_digits (byte / 16)) (slice_index lower_digits (byte % 16)) x y z
+
+mode_back : (mode : Mode) → IsMode mode → mode_read (mode_text mode) ≡ Some mode
+unfolding mode_read mode_text
+mode_back Old h = refl
+mode_back New h = refl
+mode_back (Fill byte) h =
+    let digits = encode_lower (byte ∷ []) in
+    cond-false (is_text (codes "old") digits) _ _ (not_word byte 111 108 100)
+    ∙ cond-false (is_text (codes "new") digits) _ _ (not_word byte 110 101 119)
+    ∙ ap (λ r. option_map (λ bytes. Fill (slice_index bytes 0)) (result_ok r))
+    (decode_sized-encode_lower (byte ∷ []) 1 refl h)
+
+-- ---- a stop
+
+call_back : (side : Side) (event : Event) (words : List ℕ) → is_call event ≡ true
+    → side_words side words ≡ Some event
+    → call_words side words ≡ Some event
+unfolding call_words
+call_back side event words call h =
+    ap (option_and_then if_call) h ∙ cond-true (is_call event) (Some event) None call
+
+-- after the number of calls
+crash_back : (side : Side) (n : ℕ) (mode : Mode) (event : Event) (words : List ℕ) → IsMode mode
+    → call_words side words ≡ Some event
+    → option_and_then (crash_read side n) (halves_of 32 (mode_text mode ++ codes " " ++ words))
+    ≡ Some (stops n mode event)
+crash_back side n mode event words h call =
+    ap (λ xs. option_and_then (crash_read side n) (halves_of 32 xs)) (spaced (mode_text mode) words)
+    ∙ ap (option_and_then (crash_read side n))
+    (halves_back (mode_text mode) words 32 (mode_spaceless mode h))
+    ∙ ap (option_and_then (λ m. option_map (stops n m) (call_words side words))) (mode_back mode h)
+    ∙ ap (option_map (stops n mode)) call
+
+counted_back : (side : Side) (n : ℕ) (mode : Mode) (event : Event) (words : List ℕ) → n < 2 ^ 32
+    → IsMode mode
+    → call_words side words ≡ Some event
+    → option_and_then (stop_read side)
+    (halves_of 32 (decimal n ++ codes " " ++ (mode_text mode ++ codes " " ++ words)))
+    ≡ Some (stops n mode event)
+counted_back side n mode event words small h call =
+    let rest : List ℕ = mode_text mode ++ codes " " ++ words in
+    ap (λ xs. option_and_then (stop_read side) (halves_of 32 xs)) (spaced (decimal n) rest)
+    ∙ ap (option_and_then (stop_read side))
+    (halves_back (decimal n) rest 32
+    (digits_without (decimal n) 32 (omega arith) (digits_of n small)))
+    ∙ ap (option_and_then (λ m. option_and_then (crash_read side m) (halves_of 32 rest)))
+    (number_back n small)
+    ∙ crash_back side n mode event words h call
+
+stop_back : (side : Side) (n : ℕ) (mode : Mode) (event : Event) (words : List ℕ) → n < 2 ^ 32
+    → IsMode mode
+    → call_words side words ≡ Some event
+    → stop_words side (stop_text n mode words) ≡ Some (stops n mode event)
+unfolding stop_words stop_text after_prefix
+stop_back side n mode event words small h call = counted_back side n mode event words small h call
+
+-- no event's line begins so
+no_event : (side : Side) (n : ℕ) (mode : Mode) (words : List ℕ)
+    → plain_read (side_text side ++ stop_text n mode words) ≡ None
+unfolding plain_read seed_read side_text stop_text after_prefix side_words say_words take_words flip_words bytes_words sent_words done_words look_words
+no_event First n mode words = refl
+no_event Second n mode words = refl
+
+of_stop : (side : Side) (words : List ℕ) (deed : Deed) → stop_words side words ≡ Some deed
+    → stop_line_read (side_text side ++ words) ≡ Some deed
+unfolding stop_line_read after_prefix side_text
+of_stop First words deed h = ap (λ o. option_or o None) h
+of_stop Second words deed h = h
+
+-- a call is a side's
+call_own : (event : Event) → is_call event ≡ true → IsOwn event
+call_own (seeds seed) h = cc
+call_own (says side text) h = tt
+call_own (takes side p) h = tt
+call_own (takes_nth side nth) h = tt
+call_own (flips side p bit) h = tt
+call_own (takes_bytes side bytes) h = tt
+call_own (drops_sent side amount) h = tt
+call_own (drops_done side amount) h = tt
+call_own (shows_inbox side) h = tt
+call_own (shows_state side) h = tt
+call_own (cuts took event) h = tt
+
+pub stop_line_back : (n : ℕ) (mode : Mode) (call : Event) → IsSayable (stops n mode call)
+    → line_read (line_text (stops n mode call)) ≡ Some (stops n mode call)
+unfolding line_read line_text
+stop_line_back n mode call h =
+    let side = acting_side call in
+    let words = words_text call in
+    let said = call_back side call words h.2 (words_back call h.3 (call_own call h.2)) in
+    let back = of_stop side (stop_text n mode words) (stops n mode call)
+    (stop_back side n mode call words h.0 h.1 said) in
+    ap₂ (λ a b. option_or (option_map acts a)
+    (option_or b (sync_read (side_text side ++ stop_text n mode words))))
+    (no_event side n mode words) back
