@@ -12,7 +12,7 @@ use Rattle.dr_ports.specs.States.{DrawsState}
 use Rattle.kem_laws.specs.Mechanism.{Mechanism}
 use Rattle.session_model.specs.Clients.{say_check, say_on}
 use Rattle.session_model.specs.declared.answer.Refusal.{Refusal}
-use Rattle.client.specs.Clients.{ClientNow, IsReady}
+use Rattle.client.specs.Clients.{ClientNow, IsOpenOn}
 use Rattle.client.specs.Outcomes.{Acts, said_as}
 use Rattle.client.specs.Saying.{HandsBack, Says, asks_seed, draw_failed, with_draw, without_draw}
 use Rattle.client.specs.declared.refusals.SayRefusal.{SayRefusal}
@@ -65,7 +65,7 @@ module _ {X W : Type 0} (state : X → DiskState) (draws : W → DrawsState) (k 
 
   -- a text that was said leaves the client open, and its disk at rest
   pub ready_after : (result : Result Position SayRefusal) → Said result
-      → OnOk result ((new.closed ≡ None) × IsReady new.kept new.store (state now))
+      → OnOk result (IsOpenOn new (state now))
   ready_after result (without_draw (Ok p) none leaves acts) = (acts.stays_open, acts.disk.ready)
   ready_after result (without_draw (Err e) none leaves acts) = tt
   ready_after result (with_draw (Ok p) seed asks long drew quiet acts back) = (acts.stays_open, acts.disk.ready)

@@ -19,7 +19,7 @@ use Rattle.slot_store.specs.Slots.{recovered}
 use Rattle.slot_store.specs.Store.{IsOldOrNew}
 use Rattle.slot_store.specs.Areas.{Area}
 use Rattle.slot_store.specs.declared.store.SlotStore.{SlotStore}
-use Rattle.client.specs.Clients.{ClientNow, IsReady, client_area}
+use Rattle.client.specs.Clients.{ClientNow, IsReady, MayActOn, client_area}
 use Rattle.client.specs.InWorlds.{ActsIn, IsBetween, IsIn, StandsFor, StandsForEither}
 use Rattle.client.specs.Outcomes.{Acts, IsDone, IsEffected, IsReplacing, Outcome, acknowledged, faulted, is_closed, refused, undrawn}
 use Rattle.client.specs.Grounds.{Grounds}
@@ -94,7 +94,7 @@ module _ (k : Mechanism) (grounds : Grounds k) (w : World) (side : Side) (act : 
       )
 
   module _ {X : Type 0} (state : X → DiskState) (start now : X)
-      (ready : old.closed ≡ None → IsReady old.kept old.store (state start)) (fair : old.closed ≡ None → IsFairAct k w side act) where
+      (ready : MayActOn old (state start)) (fair : old.closed ≡ None → IsFairAct k w side act) where
     effected_in : (effect : Bool) (answer : Answer) → IsEffected state effect (act_on k old.kept act) old new start now answer
         → ActsIn k w side act old new (state start) (state now) (acknowledged answer)
     effected_in true answer acts = done_in (fair acts.was_open) (state start) (state now) answer acts

@@ -7,7 +7,7 @@ use Rattle.dr_disk.specs.Calls.{Unwritten}
 use Rattle.dr_disk.specs.Spans.{HavePassed, IsQuiet, Span}
 use Rattle.dr_disk.specs.State.{Always, DiskState, IsSettled}
 use Rattle.dr_disk.specs.declared.call.Call.{Call}
-use Rattle.dr_disk.proofs.Steps.{widen}
+use Rattle.dr_disk.proofs.Steps.{stays, widen}
 use Rattle.dr_model.specs.Machines.Worlds.{World}
 use Rattle.dr_model.specs.Theorems.LawfulWorlds.{IsLawfulWorld}
 use Rattle.kem_laws.specs.Mechanism.{Mechanism}
@@ -27,6 +27,7 @@ use Rattle.client.specs.Clients.{ClientNow, client_area}
 use Rattle.client.specs.Opening.{IsLeftAtRest, IsOpened, IsUnopened, OpensIn, Reads, open_refusal, record_fault}
 use Rattle.client.specs.InWorlds.{IsIn, StandsFor}
 use Rattle.client.specs.declared.refusals.OpenRefusal.{OpenRefusal}
+use Rattle.client.specs.declared.refusals.OpenRefusal.TheVariants.{Memory as MemoryIsWanting}
 
 -- the store refused
 pub unopened : {X : Type 0} (state : X → DiskState) (k : Mechanism) (start now : X) (error : OpenError)
@@ -111,4 +112,13 @@ opens_in k w side start now result lawful reads is span seen = record {
       widen start now (IsEntryOrLike client_area start) (λ c. start.image c ⊎ StandsFor k w side c)
       (λ c s. ⊎_elim (λ was. inl was) (λ like. inr (like_stands k w side start c reads like)) s) span;
   reads = λ s told. like_stands k w side start s reads (seen s told);
+}
+
+-- where nothing was done
+pub unopened_in : (k : Mechanism) (w : World) (side : Side) (disk : DiskState) → Reads k w side disk
+    → OpensIn k w side disk disk (Err MemoryIsWanting)
+unopened_in k w side disk reads = record {
+  client = tt;
+  any_moment = stays disk (λ c. disk.image c ⊎ StandsFor k w side c);
+  reads = λ s told. let same : reads.bytes ≡ s = cc (sym reads.told ∙ told) in subst (StandsFor k w side) same reads.stands;
 }

@@ -14,7 +14,7 @@ use Rattle.dr_ports.specs.States.{DrawsState}
 use Rattle.kem_laws.specs.Mechanism.{Mechanism}
 use Rattle.session_model.specs.Clients.{Client, say_check}
 use Rattle.session_model.specs.declared.answer.Answer.TheVariants.{Said}
-use Rattle.client.specs.Clients.{ClientNow, IsReady}
+use Rattle.client.specs.Clients.{ClientNow, MayActOn}
 use Rattle.client.specs.Grounds.{Grounds}
 use Rattle.client.specs.InWorlds.{ActsIn, IsIn}
 use Rattle.client.specs.Outcomes.{IsDone, acknowledged, said_as, taken_as}
@@ -52,7 +52,7 @@ asked k w side client len asks is e unclosed =
 
 module _ (k : Mechanism) (grounds : Grounds k) (w : World) (side : Side) (text : List ℕ) (old new : ClientNow)
     (is : IsIn k w side old) {X W : Type 0} (state : X → DiskState) (draws : W → DrawsState)
-    (start now : X) (source left : W) (ready : old.closed ≡ None → IsReady old.kept old.store (state start)) where
+    (start now : X) (source left : W) (ready : MayActOn old (state start)) where
   fair_without : asks_seed old (length text) ≡ false → old.closed ≡ None → IsFairAct k w side (saying text None)
   fair_without none unclosed = record { needed = asked k w side old (length text) false is none unclosed; whole = tt }
 

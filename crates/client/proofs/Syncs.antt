@@ -14,5 +14,6 @@ pub mod Carrying
 pub mod Transfers
 pub mod Spent
 pub mod Links
+pub mod Requests
 pub mod Arrivals
 pub mod GoingOver

@@ -1,5 +1,5 @@
 -- A client on a disk.
-use Rattle.std.specs.Prelude.{List, Option, Some, length, ℕ, ◌≡◌}
+use Rattle.std.specs.Prelude.{List, None, Option, Some, length, ℕ, ◌≡◌}
 use Rattle.dr_disk.specs.State.{Always, DiskState}
 use Rattle.dr_disk.specs.declared.call.Call.{Call}
 use Rattle.kem_laws.specs.Mechanism.{Mechanism}
@@ -29,6 +29,14 @@ pub record IsReady (kept : Client) (store : SlotStore) (disk : DiskState) : Type
   pub within : IsWithin client_area disk
   pub holds : content store ≡ Some (record_text kept)
   pub rests : Always (Rests store) disk
+
+-- an open client, whose disk is at rest for what it keeps
+abbrev pub IsOpenOn : ClientNow → DiskState → Type 0
+IsOpenOn client disk = (client.closed ≡ None) × IsReady client.kept client.store disk
+
+-- where a client is open, this disk is at rest for what it keeps
+abbrev pub MayActOn : ClientNow → DiskState → Type 0
+MayActOn client disk = client.closed ≡ None → IsReady client.kept client.store disk
 
 -- what is kept is lawful, beside the room in which its record is put together
 pub record IsWhole (k : Mechanism) (kept : Client) (room : List ℕ) : Type 0 where

@@ -1,5 +1,6 @@
 pub mod Clients
 pub mod Outcomes
+pub mod Acting
 pub mod InWorlds
 pub mod Saying
 pub mod Spent

@@ -1,5 +1,6 @@
 pub mod Lines
 pub mod Parties
+pub mod Links
 pub mod Moments
 pub mod Rounds
 pub mod SoFar

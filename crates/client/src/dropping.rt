@@ -1,11 +1,12 @@
 //! The oldest items of a box are dropped.
 
-ghost use Rattle.std.specs.Prelude.{◌≡◌, ◌≤◌, ◌<◌, None, OnOk, length};
+ghost use Rattle.std.specs.Prelude.{◌≤◌, ◌<◌, OnOk, length};
 ghost use Rattle.dr_base.specs.declared.position.Side.{Side};
 ghost use Rattle.dr_model.specs.Machines.Acts.{act_on, finishing, sending};
 ghost use Rattle.dr_model.specs.Machines.Worlds.{World};
 ghost use Rattle.session_model.specs.declared.answer.Answer.TheVariants.{Done, Sent};
-ghost use Rattle.client.specs.Clients.{IsReady};
+ghost use Rattle.client.specs.Acting.{IsAct};
+ghost use Rattle.client.specs.Clients.{IsOpenOn, MayActOn};
 ghost use Rattle.client.specs.InWorlds.{ActsIn, IsIn};
 ghost use Rattle.client.specs.Outcomes.{Acts, Passes, dropped_as};
 
@@ -22,12 +23,11 @@ impl<K: Kem> Client<K> {
     /// exactly where fewer stand. Neither changes anything or calls the disk, and dropping none doesn't either.
     /// `StoreFault` only where a call on the disk failed: then the client is closed, and shows what it showed.
     pub fn done<D: Disk>(&mut self, disk: &mut D, n: u32) -> Result<(), DropRefusal>
-        requires { self.old.closed ≡ None → IsReady self.old.kept self.old.store (D.state disk.old) }
+        requires { MayActOn self.old (D.state disk.old) }
         // Exactly what the side makes of it, but for a failing call on the disk.
         ensures exact { Acts D.state (act_on K.mechanism self.old.kept (finishing n))
             self.old self.new disk.old disk.new (dropped_as (Done n) result) }
-        ensures ready { OnOk result ((self.new.closed ≡ None)
-            × IsReady self.new.kept self.new.store (D.state disk.new)) }
+        ensures ready { OnOk result (IsOpenOn self.new (D.state disk.new)) }
         // In each world that the client stands for, at every moment.
         ensures in_worlds { (w : World) (side : Side) → IsIn K.mechanism w side self.old
             → ActsIn K.mechanism w side (finishing n) self.old self.new (D.state disk.old) (D.state disk.new)
@@ -39,10 +39,9 @@ impl<K: Kem> Client<K> {
     }
 
     fn done_exact<D: Disk>(&mut self, disk: &mut D, n: u32) -> Result<(), DropRefusal>
-        requires { self.old.closed ≡ None → IsReady self.old.kept self.old.store (D.state disk.old) }
-        ensures exact { Acts D.state (act_on K.mechanism self.old.kept (finishing n))
+        requires { MayActOn self.old (D.state disk.old) }
+        ensures { IsAct D.state (act_on K.mechanism self.old.kept (finishing n))
             self.old self.new disk.old disk.new (dropped_as (Done n) result) }
-        ensures fate { Passes (D.state disk.old) (D.state disk.new) (dropped_as (Done n) result) }
     {
         if let Some(call) = self.closed {
             return Err(DropRefusal::Closed { call });
@@ -61,11 +60,9 @@ impl<K: Kem> Client<K> {
     fn drop_texts<D: Disk>(&mut self, disk: &mut D, n: u32) -> Result<(), DropRefusal>
         requires some { 0 < n }
         requires enough { n ≤ length self.old.kept.inbox }
-        requires open { self.old.closed ≡ None }
-        requires ready { IsReady self.old.kept self.old.store (D.state disk.old) }
-        ensures exact { Acts D.state (act_on K.mechanism self.old.kept (finishing n))
+        requires open { IsOpenOn self.old (D.state disk.old) }
+        ensures { IsAct D.state (act_on K.mechanism self.old.kept (finishing n))
             self.old self.new disk.old disk.new (dropped_as (Done n) result) }
-        ensures fate { Passes (D.state disk.old) (D.state disk.new) (dropped_as (Done n) result) }
     {
         match keep(
             &mut self.store,
@@ -89,12 +86,11 @@ impl<K: Kem> Client<K> {
 
     /// Drops the `n` oldest packets of the outbox, which were sent. Refuses as `done` does.
     pub fn sent<D: Disk>(&mut self, disk: &mut D, n: u32) -> Result<(), DropRefusal>
-        requires { self.old.closed ≡ None → IsReady self.old.kept self.old.store (D.state disk.old) }
+        requires { MayActOn self.old (D.state disk.old) }
         // Exactly what the side makes of it, but for a failing call on the disk.
         ensures exact { Acts D.state (act_on K.mechanism self.old.kept (sending n))
             self.old self.new disk.old disk.new (dropped_as (Sent n) result) }
-        ensures ready { OnOk result ((self.new.closed ≡ None)
-            × IsReady self.new.kept self.new.store (D.state disk.new)) }
+        ensures ready { OnOk result (IsOpenOn self.new (D.state disk.new)) }
         // In each world that the client stands for, at every moment.
         ensures in_worlds { (w : World) (side : Side) → IsIn K.mechanism w side self.old
             → ActsIn K.mechanism w side (sending n) self.old self.new (D.state disk.old) (D.state disk.new)
@@ -106,10 +102,9 @@ impl<K: Kem> Client<K> {
     }
 
     pub(crate) fn sent_exact<D: Disk>(&mut self, disk: &mut D, n: u32) -> Result<(), DropRefusal>
-        requires { self.old.closed ≡ None → IsReady self.old.kept self.old.store (D.state disk.old) }
-        ensures exact { Acts D.state (act_on K.mechanism self.old.kept (sending n))
+        requires { MayActOn self.old (D.state disk.old) }
+        ensures { IsAct D.state (act_on K.mechanism self.old.kept (sending n))
             self.old self.new disk.old disk.new (dropped_as (Sent n) result) }
-        ensures fate { Passes (D.state disk.old) (D.state disk.new) (dropped_as (Sent n) result) }
     {
         if let Some(call) = self.closed {
             return Err(DropRefusal::Closed { call });
@@ -128,11 +123,9 @@ impl<K: Kem> Client<K> {
     fn drop_packets<D: Disk>(&mut self, disk: &mut D, n: u32) -> Result<(), DropRefusal>
         requires some { 0 < n }
         requires enough { n ≤ length self.old.kept.outbox }
-        requires open { self.old.closed ≡ None }
-        requires ready { IsReady self.old.kept self.old.store (D.state disk.old) }
-        ensures exact { Acts D.state (act_on K.mechanism self.old.kept (sending n))
+        requires open { IsOpenOn self.old (D.state disk.old) }
+        ensures { IsAct D.state (act_on K.mechanism self.old.kept (sending n))
             self.old self.new disk.old disk.new (dropped_as (Sent n) result) }
-        ensures fate { Passes (D.state disk.old) (D.state disk.new) (dropped_as (Sent n) result) }
     {
         match keep(
             &mut self.store,

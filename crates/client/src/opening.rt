@@ -121,20 +121,6 @@ impl<K: Kem> Client<K> {
         ensures fate { (D.state disk.old).fate ≡ Fate.all_pass →
             IfErr result (λ e. (call : Call) → e ≢ OpenRefusal.StoreFault call) × ((D.state disk.new).fate ≡ Fate.all_pass) }
     {
-        Client::open_exact(alloc, disk)
-    }
-
-    fn open_exact<D: Disk>(alloc: Global, disk: &mut D) -> Result<Client<K>, OpenRefusal>
-        requires { IsWithin client_area (D.state disk.old) }
-        ensures opened { IfOk result (λ client. IsOpened K.mechanism client (D.state disk.old) (D.state disk.new)) }
-        ensures unopened { IfErr result (IsUnopened D.state K.mechanism disk.old disk.new) }
-        // Meanwhile, and in each ending, crashes and reads give what they gave, but for what was tidied.
-        ensures any_moment { Span (D.state disk.old) (D.state disk.new) (IsEntryOrLike client_area (D.state disk.old)) }
-        ensures reads { (s : List ℕ) → (D.state disk.new).seen ≡ Some s → IsLikeRead client_area (D.state disk.old) s }
-        ensures still { IsReadAtRest client_area (D.state disk.old) → IsLeftAtRest (D.state disk.old) (D.state disk.new) result }
-        ensures fate { (D.state disk.old).fate ≡ Fate.all_pass →
-            IfErr result (λ e. (call : Call) → e ≢ OpenRefusal.StoreFault call) × ((D.state disk.new).fate ≡ Fate.all_pass) }
-    {
         readings();
         let Ok(room) = Room::<K>::new(alloc) else {
             return Err(OpenRefusal::Memory);

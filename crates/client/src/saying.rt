@@ -1,6 +1,6 @@
 //! Texts are said.
 
-ghost use Rattle.std.specs.Prelude.{◌≡◌, ◌<◌, ◌++◌, ◌∷◌, ℕ, List, [], Option, None, Some, Ok, IfOk, OnOk, is_some, length};
+ghost use Rattle.std.specs.Prelude.{◌≡◌, ◌<◌, ◌++◌, ◌∷◌, ℕ, List, [], Option, Some, Ok, IfOk, OnOk, is_some, length};
 ghost use Rattle.dr_base.specs.declared.position.Side.{Side};
 ghost use Rattle.dr_model.specs.Machines.Acts.{act_in, said_by, saying};
 ghost use Rattle.dr_model.specs.Machines.Worlds.{World};
@@ -9,9 +9,10 @@ ghost use Rattle.session_model.specs.Clients.{accept_send, say_check, say_on};
 ghost use Rattle.session_model.specs.Drafts.{IsSendDraft};
 ghost use Rattle.session_record.specs.Lawful.{IsLawfulClient};
 ghost use Rattle.session_record.specs.Record.{client_of};
-ghost use Rattle.client.specs.Clients.{IsReady};
+ghost use Rattle.client.specs.Acting.{IsAct};
+ghost use Rattle.client.specs.Clients.{IsOpenOn, MayActOn};
 ghost use Rattle.client.specs.InWorlds.{IsIn};
-ghost use Rattle.client.specs.Outcomes.{Acts, Passes, said_as};
+ghost use Rattle.client.specs.Outcomes.{Passes, said_as};
 ghost use Rattle.client.specs.Saying.{HandsBack, IsDrawn, Says, SaysIn};
 ghost use Rattle.client.specs.Spent.{IsSpent};
 
@@ -54,12 +55,11 @@ impl<K: Kem> Client<K> {
         text: &[u8],
         draws: &mut W,
     ) -> Result<Position, SayRefusal>
-        requires { self.old.closed ≡ None → IsReady self.old.kept self.old.store (D.state disk.old) }
+        requires { MayActOn self.old (D.state disk.old) }
         // Exactly what the side makes of it, but for a failing draw or call on the disk.
         ensures exact { Says D.state W.at K.mechanism text.now
             self.old self.new disk.old disk.new draws.old draws.new result }
-        ensures ready { OnOk result ((self.new.closed ≡ None)
-            × IsReady self.new.kept self.new.store (D.state disk.new)) }
+        ensures ready { OnOk result (IsOpenOn self.new (D.state disk.new)) }
         // In each world that the client stands for, at every moment.
         ensures in_worlds { (w : World) (side : Side) → IsIn K.mechanism w side self.old
             → SaysIn W.at K.mechanism w side text.now self.old self.new (D.state disk.old) (D.state disk.new)
@@ -81,7 +81,7 @@ impl<K: Kem> Client<K> {
         text: &[u8],
         draws: &mut W,
     ) -> Result<Position, SayRefusal>
-        requires { self.old.closed ≡ None → IsReady self.old.kept self.old.store (D.state disk.old) }
+        requires { MayActOn self.old (D.state disk.old) }
         ensures exact { Says D.state W.at K.mechanism text.now
             self.old self.new disk.old disk.new draws.old draws.new result }
         ensures fate { Passes (D.state disk.old) (D.state disk.new) (said_as result) }
@@ -111,12 +111,11 @@ impl<K: Kem> Client<K> {
         seed: Option<Key32>,
     ) -> Result<Position, SayRefusal>
         requires checked { say_check self.old.kept (length text.now) ≡ Ok (is_some seed) }
-        requires open { self.old.closed ≡ None }
-        requires ready { IsReady self.old.kept self.old.store (D.state disk.old) }
-        ensures exact { Acts D.state (said_by (say_on K.mechanism self.old.kept text.now (seed_bytes seed)))
+        requires open { IsOpenOn self.old (D.state disk.old) }
+        ensures acts { IsAct D.state
+            (said_by (say_on K.mechanism self.old.kept text.now (seed_bytes seed)))
             self.old self.new disk.old disk.new (said_as result) }
         ensures seed { HandsBack seed result }
-        ensures fate { Passes (D.state disk.old) (D.state disk.new) (said_as result) }
     {
         laws::<K>();
         match self.session.draft_send(&mut self.work, text, seed) {
@@ -134,10 +133,9 @@ impl<K: Kem> Client<K> {
         requires lawful { IsLawfulClient K.mechanism
             (client_of draft.next self.old.kept.inbox (self.old.kept.outbox ++ draft.post ∷ [])) }
         requires room { length self.old.kept.outbox < OUTBOX_LIMIT }
-        requires open { self.old.closed ≡ None }
-        requires ready { IsReady self.old.kept self.old.store (D.state disk.old) }
-        ensures exact { Acts D.state (said_by (accept_send self.old.kept (Some draft))) self.old self.new disk.old disk.new (said_as result) }
-        ensures fate { Passes (D.state disk.old) (D.state disk.new) (said_as result) }
+        requires open { IsOpenOn self.old (D.state disk.old) }
+        ensures { IsAct D.state (said_by (accept_send self.old.kept (Some draft)))
+            self.old self.new disk.old disk.new (said_as result) }
     {
         let position = draft.position();
         match keep(

@@ -1,6 +1,6 @@
 //! Packets are taken.
 
-ghost use Rattle.std.specs.Prelude.{◌≡◌, ◌<◌, ◌++◌, ◌∷◌, [], None, Ok, IfOk, OnOk, length};
+ghost use Rattle.std.specs.Prelude.{◌<◌, ◌++◌, ◌∷◌, [], Ok, IfOk, OnOk, length};
 ghost use Rattle.boxes.specs.Items.{item_at};
 ghost use Rattle.dr_base.specs.declared.position.Side.{Side};
 ghost use Rattle.dr_model.specs.Machines.Acts.{act_in, act_on, taken_by, taking};
@@ -10,7 +10,8 @@ ghost use Rattle.session_model.specs.Clients.{accept_receive};
 ghost use Rattle.session_model.specs.Drafts.{IsReceiveDraft};
 ghost use Rattle.session_record.specs.Lawful.{IsLawfulClient};
 ghost use Rattle.session_record.specs.Record.{client_of};
-ghost use Rattle.client.specs.Clients.{IsReady};
+ghost use Rattle.client.specs.Acting.{IsAct};
+ghost use Rattle.client.specs.Clients.{IsOpenOn, MayActOn};
 ghost use Rattle.client.specs.InWorlds.{ActsIn, IsIn};
 ghost use Rattle.client.specs.Outcomes.{Acts, Passes, taken_as};
 ghost use Rattle.client.specs.Spent.{IsSpent};
@@ -32,12 +33,11 @@ impl<K: Kem> Client<K> {
     /// failed before, then the first reason against the packet, then a full inbox. None of these changes anything or calls
     /// the disk. `StoreFault` only where a call on the disk failed: then the client is closed, and shows what it showed.
     pub fn take<D: Disk>(&mut self, disk: &mut D, packet: &[u8]) -> Result<Position, TakeRefusal>
-        requires { self.old.closed ≡ None → IsReady self.old.kept self.old.store (D.state disk.old) }
+        requires { MayActOn self.old (D.state disk.old) }
         // Exactly what the side makes of it, but for a failing call on the disk.
         ensures exact { Acts D.state (act_on K.mechanism self.old.kept (taking packet.now))
             self.old self.new disk.old disk.new (taken_as result) }
-        ensures ready { OnOk result ((self.new.closed ≡ None)
-            × IsReady self.new.kept self.new.store (D.state disk.new)) }
+        ensures ready { OnOk result (IsOpenOn self.new (D.state disk.new)) }
         // In each world that the client stands for, at every moment, where no tag is forged.
         ensures in_worlds { (w : World) (side : Side) → IsIn K.mechanism w side self.old
             → IsUnforged K.mechanism w side packet.now
@@ -59,9 +59,9 @@ impl<K: Kem> Client<K> {
         disk: &mut D,
         packet: &[u8],
     ) -> Result<Position, TakeRefusal>
-        requires { self.old.closed ≡ None → IsReady self.old.kept self.old.store (D.state disk.old) }
-        ensures exact { Acts D.state (act_on K.mechanism self.old.kept (taking packet.now)) self.old self.new disk.old disk.new (taken_as result) }
-        ensures fate { Passes (D.state disk.old) (D.state disk.new) (taken_as result) }
+        requires { MayActOn self.old (D.state disk.old) }
+        ensures { IsAct D.state (act_on K.mechanism self.old.kept (taking packet.now))
+            self.old self.new disk.old disk.new (taken_as result) }
     {
         if let Some(call) = self.closed {
             return Err(TakeRefusal::Closed { call });
@@ -87,10 +87,9 @@ impl<K: Kem> Client<K> {
         requires draft { IsReceiveDraft K.mechanism self.old.kept.state draft }
         requires lawful { length self.old.kept.inbox < INBOX_LIMIT → IsLawfulClient K.mechanism
             (client_of draft.next (self.old.kept.inbox ++ item_at draft.position draft.text ∷ []) self.old.kept.outbox) }
-        requires open { self.old.closed ≡ None }
-        requires ready { IsReady self.old.kept self.old.store (D.state disk.old) }
-        ensures exact { Acts D.state (taken_by (accept_receive self.old.kept (Ok draft))) self.old self.new disk.old disk.new (taken_as result) }
-        ensures fate { Passes (D.state disk.old) (D.state disk.new) (taken_as result) }
+        requires open { IsOpenOn self.old (D.state disk.old) }
+        ensures { IsAct D.state (taken_by (accept_receive self.old.kept (Ok draft)))
+            self.old self.new disk.old disk.new (taken_as result) }
     {
         if self.inbox.len() as usize >= INBOX_LIMIT {
             draft.discard();

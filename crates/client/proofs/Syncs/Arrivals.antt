@@ -16,7 +16,6 @@ use Rattle.dr_model.specs.Theorems.Fairness.{IsUnforged}
 use Rattle.dr_model.specs.Theorems.Headline.{IsWithinLimits}
 use Rattle.dr_model.proofs.Taking.PacketsApart.{by_bytes, real}
 use Rattle.dr_model.proofs.Worlds.Runs.{opened_within, refusal_changes_nothing, repeats}
-use Rattle.dr_ports.specs.Wires.{Port}
 use Rattle.kem_laws.specs.Mechanism.{Mechanism}
 use Rattle.relay_core.specs.Boxes.{Kept}
 use Rattle.session_model.specs.Clients.{Client}
@@ -24,17 +23,14 @@ use Rattle.session_model.specs.declared.answer.Refusal.{Refusal}
 use Rattle.session_model.specs.declared.answer.Refusal.TheVariants.{Spent}
 use Rattle.sync_model.specs.Parties.{Party}
 use Rattle.sync_model.specs.Transfers.{HasRoom, sent_all, taken_all}
-use Rattle.sync_model.specs.declared.more.More.{More}
 use Rattle.sync_model.proofs.Cases.{by_test}
 use Rattle.client.specs.Grounds.{Grounds}
 use Rattle.client.specs.Syncing.Arrivals.{AreExpected, IsExpected, Opens, opened_too}
 use Rattle.client.specs.Syncing.InWorlds.{IsKeptIn}
 use Rattle.client.specs.Syncing.Lines.{own_box, peers_box}
-use Rattle.client.specs.Syncing.Moments.{Moment}
 use Rattle.client.specs.Syncing.Parties.{client_party, is_full, party_of}
 use Rattle.client.specs.Syncing.Transfers.{Transfers}
 use Rattle.relay_wire.specs.Replies.{Replied}
-use Rattle.client.specs.declared.syncing.faults.SyncFault.{SyncFault}
 use Rattle.client.proofs.Syncs.Worlds.{answers, next_kept}
 
 head_is : (a b : List ℕ) (xs bs : List (List ℕ)) → a ∷ xs ≡ b ∷ bs → a ≡ b

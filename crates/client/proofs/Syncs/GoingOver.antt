@@ -1,5 +1,5 @@
 -- What a sender's sync posts, its peer's sync opens.
-use Rattle.std.proofs.Common.{List, Option, Some, [], ap, ap₂, drop, refl, subst, sym, zero, suc, ℕ, ◌++◌, ◌+◌, ◌∙◌, ◌∷◌, ◌≡◌, append_assoc, append-nil}
+use Rattle.std.proofs.Common.{List, [], ap, ap₂, drop, refl, subst, sym, zero, suc, ℕ, ◌++◌, ◌+◌, ◌∙◌, ◌∷◌, ◌≡◌, append_assoc, append-nil}
 use Rattle.std.specs.Prelude.{All, filter, map}
 use Rattle.std.proofs.lemmas.List.{map-append}
 use Rattle.boxes.specs.Items.{Item}
@@ -8,7 +8,7 @@ use Rattle.dr_base.specs.declared.position.Position.{Position}
 use Rattle.dr_base.specs.declared.position.Side.{Side}
 use Rattle.dr_base.specs.declared.position.Side.TheVariants.{First, Second}
 use Rattle.dr_model.specs.Conversations.Conversation.{Conversation, positions}
-use Rattle.dr_model.specs.Conversations.Posts.{post_at, posts_of}
+use Rattle.dr_model.specs.Conversations.Posts.{post_at}
 use Rattle.dr_model.proofs.Taking.MadePositions.{position-post_at}
 use Rattle.dr_model.specs.Machines.WorldSides.{kept_in}
 use Rattle.dr_model.specs.Machines.Worlds.{World, view_of}
@@ -21,9 +21,8 @@ use Rattle.session_model.specs.Schedule.{session_of}
 use Rattle.sync_model.specs.Transfers.{emptied, posted}
 use Rattle.client.specs.Syncing.Arrivals.{Holds}
 use Rattle.client.specs.Syncing.GoingOver.{GoesOver, boxes_after, positions_of}
-use Rattle.client.specs.Syncing.InWorlds.{IsKeptIn}
 use Rattle.client.specs.Syncing.Lines.{box_name, own_box, peers_box}
-use Rattle.client.specs.Syncing.Parties.{client_party, waiting}
+use Rattle.client.specs.Syncing.Parties.{waiting}
 
 -- ---- what waits are packets of the conversation
 

@@ -10,7 +10,7 @@ use Rattle.sync_model.specs.Parties.{Party}
 use Rattle.sync_model.specs.declared.limits.TheConstants.{ITEM_LIMIT}
 use Rattle.sync_model.specs.declared.more.More.{More}
 use Rattle.sync_model.specs.declared.more.More.TheVariants.{More as MoreStands}
-use Rattle.client.specs.Clients.{ClientNow, IsReady}
+use Rattle.client.specs.Clients.{ClientNow, IsOpenOn, IsReady}
 use Rattle.client.specs.Syncing.Moments.{Moment}
 use Rattle.client.specs.Syncing.Rounds.{Hears, Idles, IsRound, Turn, goes_on, heard, was_broken, was_unheard, went_on}
 use Rattle.client.specs.Syncing.SoFar.{collecting}
@@ -56,5 +56,5 @@ asks_post (x ∷ xs) packet is name = ap (λ (b : List ℕ). Some (record { name
 
 -- a round that the sync goes on after leaves the client open and ready
 pub goes_ready : (p : Party Client) (wait next : Wait) (asked : Asked) (a b : Moment) (start now : Port) → IsRound p wait asked a b start now (goes_on next)
-    → (b.client.closed ≡ None) × IsReady b.client.kept b.client.store b.disk
+    → IsOpenOn b.client b.disk
 goes_ready p wait next asked a b start now (heard reply turning replied (went_on n waits moved wrote)) = (moved.is_open, moved.ready)

@@ -1,5 +1,5 @@
 -- A sync whose replies are those of a relay.
-use Rattle.std.proofs.Common.{Err, List, None, Ok, Result, Some, [], ap, arith, inl, inr, length, refl, subst, sym, true, ℕ, ◌++◌, ◌∙◌, ◌∷◌, ◌≡◌, ◌≤◌, append_assoc}
+use Rattle.std.proofs.Common.{Err, List, Ok, Result, [], ap, arith, inl, inr, length, refl, subst, sym, true, ℕ, ◌++◌, ◌∙◌, ◌∷◌, ◌≡◌, ◌≤◌, append_assoc}
 use Rattle.std.specs.Prelude.{All, IfSome, map}
 use Rattle.std.specs.List.{AllByRecursion}
 use Rattle.std.proofs.lemmas.List.{length-map}
@@ -22,15 +22,13 @@ use Rattle.sync_model.specs.Moves.{Ending, ended, over}
 use Rattle.sync_model.specs.Parties.{Party}
 use Rattle.sync_model.specs.Transfers.{CanTransfer, Fits, HasRoom, sent_all, taken_all}
 use Rattle.sync_model.specs.declared.more.More.{More}
-use Rattle.sync_model.specs.declared.more.More.TheVariants.{End}
 use Rattle.sync_model.proofs.Arriving.{can_transfer, ends_collected, ends_delivered, ends_lawful, no_more}
 use Rattle.sync_model.proofs.Asking.{ArePackets, are_made}
 use Rattle.sync_model.proofs.Meeting.{outbox_kept, outbox_leaves}
 use Rattle.sync_model.proofs.Pending.{not_cut, not_unread, pending}
 use Rattle.client.specs.Syncing.Lines.{own_box, peers_box}
 use Rattle.client.specs.Syncing.Moments.{Moment}
-use Rattle.client.specs.Syncing.Parties.{client_party, party_of, waiting}
-use Rattle.client.specs.Syncing.Rounds.{fault_in}
+use Rattle.client.specs.Syncing.Parties.{client_party, waiting}
 use Rattle.client.specs.Syncing.SoFar.{Talked}
 use Rattle.client.specs.Syncing.Syncs.{Ends, IsNoReply, IsOver, IsUnheard, SyncsBy, is_cut, is_unread}
 use Rattle.client.specs.Syncing.Transfers.{Carries, CarriesReplies, Collected, Delivered, HasBoxes, HaveAnswered, IsPast, IsUnfailing, Transfers}

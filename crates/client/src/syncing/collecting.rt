@@ -1,14 +1,14 @@
 //! The first part of a sync: the packets of the own box are taken.
 
-ghost use Rattle.std.specs.Prelude.{◌≡◌, ◌≤◌, None, ℕ, List};
-ghost use Rattle.dr_ports.specs.declared.pipe.Part.TheVariants.{Flow, Gate};
+ghost use Rattle.std.specs.Prelude.{◌≡◌, ◌≤◌, ℕ, List};
 ghost use Rattle.relay_wire.specs.Replies.{item};
 ghost use Rattle.relay_wire.specs.Requests.{acks, fetches};
 ghost use Rattle.relay_wire.specs.Seen.{replied_of};
 ghost use Rattle.session_model.specs.Clients.{Client as Kept};
 ghost use Rattle.sync_model.specs.Moves.{acking, acknowledged, fetching, move};
 ghost use Rattle.sync_model.specs.Parties.{Party};
-ghost use Rattle.client.specs.Clients.{IsReady};
+ghost use Rattle.client.specs.Clients.{IsOpenOn};
+ghost use Rattle.client.specs.Syncing.Links.{LeavesLink};
 ghost use Rattle.client.specs.Syncing.Moments.{IsAnswered, moment};
 ghost use Rattle.client.specs.Syncing.Parties.{is_full, is_no_room, party_of, waiting};
 ghost use Rattle.client.specs.Syncing.Rounds.{Hears, Idles, IsRound, Turns, fetched_as, turn_of};
@@ -83,8 +83,7 @@ impl<K: Kem> Client<K> {
         number: u64,
         packet: &Packet,
     ) -> Result<Option<u64>, SyncFault>
-        requires is_open { self.old.closed ≡ None }
-        requires ready { IsReady self.old.kept self.old.store (D.state disk.old) }
+        requires { IsOpenOn self.old (D.state disk.old) }
         ensures turns { (own peers : List ℕ) (n : ℕ) →
             Turns (move (party_of K.mechanism prefix.now own peers) self.old.kept (fetching n) (item number packet.now))
             (moment self.old (D.state disk.old) (O.at out.old))
@@ -109,8 +108,7 @@ impl<K: Kem> Client<K> {
         prefix: &str,
         reply: Reply,
     ) -> Result<Option<u64>, SyncFault>
-        requires is_open { self.old.closed ≡ None }
-        requires ready { IsReady self.old.kept self.old.store (D.state disk.old) }
+        requires { IsOpenOn self.old (D.state disk.old) }
         ensures turns { (own peers : List ℕ) (n : ℕ) →
             Turns (move (party_of K.mechanism prefix.now own peers) self.old.kept (fetching n) (replied_of reply))
             (moment self.old (D.state disk.old) (O.at out.old))
@@ -135,17 +133,14 @@ impl<K: Kem> Client<K> {
         prefix: &str,
         names: &Names,
     ) -> Result<Option<u64>, SyncFault>
-        requires is_open { self.old.closed ≡ None }
-        requires ready { IsReady self.old.kept self.old.store (D.state disk.old) }
+        requires { IsOpenOn self.old (D.state disk.old) }
         ensures round { (n : ℕ) → IsRound (party_of K.mechanism prefix.now names.now.own names.now.peers)
             (fetching n) (record { name = names.now.own; ask = fetches })
             (moment self.old (D.state disk.old) (O.at out.old))
             (moment self.new (D.state disk.new) (O.at out.new))
             (L.port link.old) (L.port link.new) (fetched_as (waiting self.new.kept) n result) }
         ensures later { (O.at out.old).faults ≤ (O.at out.new).faults }
-        ensures flow { (L.port link.old).faults Flow ≤ (L.port link.new).faults Flow }
-        ensures gate { (L.port link.new).faults Gate ≡ (L.port link.old).faults Gate }
-        ensures stands { L.behind link.new ≡ L.behind link.old }
+        ensures link { LeavesLink L.port L.behind link.old link.new }
     {
         match self.ask(link, &Request::fetch(names.own.copied())) {
             Err(fault) => Err(fault),
@@ -165,9 +160,7 @@ impl<K: Kem> Client<K> {
             (λ reply turn. Idles p kept (move p kept (acking n number) reply) turn) (Unit {0})
             (turn_of (acknowledged p kept n).wait result) }
         ensures same { self.new ≡ self.old }
-        ensures flow { (L.port link.old).faults Flow ≤ (L.port link.new).faults Flow }
-        ensures gate { (L.port link.new).faults Gate ≡ (L.port link.old).faults Gate }
-        ensures stands { L.behind link.new ≡ L.behind link.old }
+        ensures link { LeavesLink L.port L.behind link.old link.new }
     {
         match self.ask(link, &Request::ack(names.own.copied(), number)) {
             Err(fault) => Err(fault),
@@ -184,16 +177,13 @@ impl<K: Kem> Client<K> {
         prefix: &str,
         names: &Names,
     ) -> Result<More, SyncFault>
-        requires is_open { self.old.closed ≡ None }
-        requires ready { IsReady self.old.kept self.old.store (D.state disk.old) }
+        requires { IsOpenOn self.old (D.state disk.old) }
         ensures collects { Collects (party_of K.mechanism prefix.now names.now.own names.now.peers)
             (moment self.old (D.state disk.old) (O.at out.old))
             (moment self.new (D.state disk.new) (O.at out.new))
             (L.port link.old) (L.port link.new) result }
         ensures later { (O.at out.old).faults ≤ (O.at out.new).faults }
-        ensures flow { (L.port link.old).faults Flow ≤ (L.port link.new).faults Flow }
-        ensures gate { (L.port link.new).faults Gate ≡ (L.port link.old).faults Gate }
-        ensures stands { L.behind link.new ≡ L.behind link.old }
+        ensures link { LeavesLink L.port L.behind link.old link.new }
     {
         let mut count = 0;
         'items: while count < ITEM_LIMIT {

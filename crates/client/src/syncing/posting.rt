@@ -1,13 +1,13 @@
 //! The second part of a sync: the packets of the outbox are posted to the peer's box.
 
-ghost use Rattle.std.specs.Prelude.{◌≡◌, ◌<◌, ◌≤◌, None, OnOk, Some, length, slice_get, ℕ, List};
-ghost use Rattle.dr_ports.specs.declared.pipe.Part.TheVariants.{Flow, Gate};
+ghost use Rattle.std.specs.Prelude.{◌<◌, ◌≤◌, OnOk, length, ℕ, List};
 ghost use Rattle.relay_wire.specs.Replies.{stored};
 ghost use Rattle.relay_wire.specs.Requests.{posts};
 ghost use Rattle.relay_wire.specs.Seen.{replied_of};
 ghost use Rattle.sync_model.specs.Moves.{move, posting, waits_by};
 ghost use Rattle.sync_model.specs.declared.more.More.{More};
-ghost use Rattle.client.specs.Clients.{ClientNow, IsReady};
+ghost use Rattle.client.specs.Clients.{ClientNow, IsOpenOn};
+ghost use Rattle.client.specs.Syncing.Links.{LeavesLink};
 ghost use Rattle.client.specs.Syncing.Moments.{moment};
 ghost use Rattle.client.specs.Syncing.Parties.{party_of, waiting};
 ghost use Rattle.client.specs.Syncing.Rounds.{IsRound, Turns, turn_of};
@@ -33,8 +33,7 @@ impl<K: Kem> Client<K> {
         number: u64,
     ) -> Result<(), SyncFault>
         requires some { 0 < length self.old.kept.outbox }
-        requires is_open { self.old.closed ≡ None }
-        requires ready { IsReady self.old.kept self.old.store (D.state disk.old) }
+        requires open { IsOpenOn self.old (D.state disk.old) }
         ensures turns { (own peers : List ℕ) (more : More) →
             Turns (move (party_of K.mechanism prefix.now own peers) self.old.kept (posting more) (stored number))
             (moment self.old (D.state disk.old) (O.at out.old))
@@ -61,8 +60,7 @@ impl<K: Kem> Client<K> {
         reply: Reply,
     ) -> Result<(), SyncFault>
         requires some { 0 < length self.old.kept.outbox }
-        requires is_open { self.old.closed ≡ None }
-        requires ready { IsReady self.old.kept self.old.store (D.state disk.old) }
+        requires open { IsOpenOn self.old (D.state disk.old) }
         ensures turns { (own peers : List ℕ) (more : More) →
             Turns (move (party_of K.mechanism prefix.now own peers) self.old.kept (posting more) (replied_of reply))
             (moment self.old (D.state disk.old) (O.at out.old))
@@ -90,8 +88,7 @@ impl<K: Kem> Client<K> {
         packet: Packet,
     ) -> Result<(), SyncFault>
         requires some { 0 < length self.old.kept.outbox }
-        requires is_open { self.old.closed ≡ None }
-        requires ready { IsReady self.old.kept self.old.store (D.state disk.old) }
+        requires open { IsOpenOn self.old (D.state disk.old) }
         ensures round { (more : More) → IsRound (party_of K.mechanism prefix.now names.now.own names.now.peers)
             (posting more) (record { name = names.now.peers; ask = posts packet })
             (moment self.old (D.state disk.old) (O.at out.old))
@@ -99,9 +96,7 @@ impl<K: Kem> Client<K> {
             (L.port link.old) (L.port link.new) (turn_of (waits_by (waiting self.new.kept) more) result) }
         ensures fewer { OnOk result (length self.new.kept.outbox < length self.old.kept.outbox) }
         ensures later { (O.at out.old).faults ≤ (O.at out.new).faults }
-        ensures flow { (L.port link.old).faults Flow ≤ (L.port link.new).faults Flow }
-        ensures gate { (L.port link.new).faults Gate ≡ (L.port link.old).faults Gate }
-        ensures stands { L.behind link.new ≡ L.behind link.old }
+        ensures link { LeavesLink L.port L.behind link.old link.new }
     {
         match self.ask(link, &Request::post(names.peers.copied(), packet)) {
             Err(fault) => Err(fault),
@@ -118,8 +113,7 @@ impl<K: Kem> Client<K> {
         prefix: &str,
         names: &Names,
     ) -> Result<(), SyncFault>
-        requires is_open { self.old.closed ≡ None }
-        requires ready { IsReady self.old.kept self.old.store (D.state disk.old) }
+        requires { IsOpenOn self.old (D.state disk.old) }
         // From a sync so far, which began at an earlier moment.
         ensures posts { (more : More) (first : ClientNow) (before : D) (earlier : L) (empty : O) →
             SoFar (party_of K.mechanism prefix.now names.now.own names.now.peers)
@@ -131,9 +125,7 @@ impl<K: Kem> Client<K> {
             (moment self.new (D.state disk.new) (O.at out.new))
             (L.port earlier) (L.port link.new) result }
         ensures later { (O.at out.old).faults ≤ (O.at out.new).faults }
-        ensures flow { (L.port link.old).faults Flow ≤ (L.port link.new).faults Flow }
-        ensures gate { (L.port link.new).faults Gate ≡ (L.port link.old).faults Gate }
-        ensures stands { L.behind link.new ≡ L.behind link.old }
+        ensures link { LeavesLink L.port L.behind link.old link.new }
     {
         'packets: while let Some(packet) = self.oldest() {
             match self.post(disk, link, out, prefix, names, packet) {

@@ -1,16 +1,16 @@
 //! What a sync has a client do, and what it asks of the relay.
 
-ghost use Rattle.std.specs.Prelude.{◌≡◌, ◌<◌, ◌≤◌, None, OnOk, length, slice_get, true};
+ghost use Rattle.std.specs.Prelude.{◌≡◌, ◌<◌, ◌≤◌, OnOk, length, slice_get, true};
 ghost use Rattle.std.specs.List.{AllByRecursion};
 ghost use Rattle.dr_base.specs.declared.limits.TheConstants.{OUTBOX_LIMIT};
-ghost use Rattle.dr_ports.specs.declared.pipe.Part.TheVariants.{Flow, Gate};
 ghost use Rattle.dr_ports.specs.Wires.{Port};
 ghost use Rattle.relay_pipe.specs.Asking.{Asks};
 ghost use Rattle.relay_wire.specs.Names.{is_packet};
 ghost use Rattle.relay_wire.specs.Requests.{Asked};
-ghost use Rattle.client.specs.Clients.{IsReady};
+ghost use Rattle.client.specs.Clients.{IsOpenOn};
 ghost use Rattle.client.specs.Syncing.Parties.{sent_step, taken_step, waiting};
 ghost use Rattle.client.specs.Syncing.Rounds.{Answers};
+ghost use Rattle.client.specs.Syncing.Links.{LeavesLink};
 ghost use Rattle.client.specs.Syncing.Moments.{HasGone, IsTaken};
 
 use super::faults::SyncFault;
@@ -54,9 +54,7 @@ impl<K: Kem> Client<K> {
     ) -> Result<Reply, SyncFault>
         ensures answers { Answers request.now (L.port link.old) (L.port link.new) result }
         ensures same { self.new ≡ self.old }
-        ensures later { (L.port link.old).faults Flow ≤ (L.port link.new).faults Flow }
-        ensures gate { (L.port link.new).faults Gate ≡ (L.port link.old).faults Gate }
-        ensures stands { L.behind link.new ≡ L.behind link.old }
+        ensures link { LeavesLink L.port L.behind link.old link.new }
     {
         heard(ask(link, &mut self.reader, request))
     }
@@ -67,8 +65,7 @@ impl<K: Kem> Client<K> {
         disk: &mut D,
         packet: &[u8],
     ) -> Result<Answer, Call>
-        requires is_open { self.old.closed ≡ None }
-        requires ready { IsReady self.old.kept self.old.store (D.state disk.old) }
+        requires { IsOpenOn self.old (D.state disk.old) }
         ensures { IsTaken (taken_step K.mechanism self.old.kept packet.now) self.old self.new (D.state disk.old) (D.state disk.new) result }
     {
         match self.take_exact(disk, packet) {
@@ -82,8 +79,7 @@ impl<K: Kem> Client<K> {
     /// Drops the oldest packet of the outbox, which was sent.
     pub(crate) fn drop_oldest<D: Disk>(&mut self, disk: &mut D) -> Result<(), Call>
         requires some { 0 < length self.old.kept.outbox }
-        requires is_open { self.old.closed ≡ None }
-        requires ready { IsReady self.old.kept self.old.store (D.state disk.old) }
+        requires open { IsOpenOn self.old (D.state disk.old) }
         ensures gone { HasGone (sent_step K.mechanism self.old.kept) self.old self.new (D.state disk.old) (D.state disk.new) result }
         ensures fewer { OnOk result (length self.new.kept.outbox < length self.old.kept.outbox) }
     {

@@ -6,10 +6,11 @@ ghost use Rattle.dr_disk.specs.declared.call.Call.{Call};
 ghost use Rattle.dr_model.specs.Machines.Worlds.{World};
 ghost use Rattle.dr_ports.specs.declared.pipe.Part.TheVariants.{Flow, Gate};
 ghost use Rattle.relay_wire.specs.Replies.{Replied};
-ghost use Rattle.client.specs.Clients.{IsReady};
+ghost use Rattle.client.specs.Clients.{IsOpenOn, MayActOn};
 ghost use Rattle.client.specs.InWorlds.{IsIn};
 ghost use Rattle.client.specs.Syncing.Arrivals.{Opens};
 ghost use Rattle.client.specs.Syncing.InWorlds.{AreUnforged, SyncSpends, SyncsIn};
+ghost use Rattle.client.specs.Syncing.Links.{LeavesLink};
 ghost use Rattle.client.specs.Syncing.Moments.{moment};
 ghost use Rattle.client.specs.Syncing.Parties.{client_party, party_of};
 ghost use Rattle.client.specs.Syncing.Syncs.{Syncs, SyncsBy};
@@ -39,7 +40,7 @@ impl<K: Kem> Client<K> {
         out: &mut O,
         prefix: &str,
     ) -> Result<More, SyncFault>
-        requires { self.old.closed ≡ None → IsReady self.old.kept self.old.store (D.state disk.old) }
+        requires { MayActOn self.old (D.state disk.old) }
         // Closed exactly where a call on the disk failed before; then nothing is done.
         ensures closed { (call : Call) → self.old.closed ≡ Some call → (result ≡ Err (SyncFault.Closed call))
             × (self.new ≡ self.old) × (disk.new ≡ disk.old) × (link.new ≡ link.old) × (out.new ≡ out.old) }
@@ -113,16 +114,13 @@ impl<K: Kem> Client<K> {
         prefix: &str,
         names: &Names,
     ) -> Result<More, SyncFault>
-        requires is_open { self.old.closed ≡ None }
-        requires ready { IsReady self.old.kept self.old.store (D.state disk.old) }
+        requires { IsOpenOn self.old (D.state disk.old) }
         ensures exact { Syncs (party_of K.mechanism prefix.now names.now.own names.now.peers)
             (moment self.old (D.state disk.old) (O.at out.old))
             (moment self.new (D.state disk.new) (O.at out.new))
             (L.port link.old) (L.port link.new) result }
         ensures later { (O.at out.old).faults ≤ (O.at out.new).faults }
-        ensures flow { (L.port link.old).faults Flow ≤ (L.port link.new).faults Flow }
-        ensures gate { (L.port link.new).faults Gate ≡ (L.port link.old).faults Gate }
-        ensures stands { L.behind link.new ≡ L.behind link.old }
+        ensures link { LeavesLink L.port L.behind link.old link.new }
     {
         match self.collect_all(disk, link, out, prefix, names) {
             Err(fault) => Err(fault),

@@ -11,18 +11,17 @@ use Rattle.client.specs.Syncing.SoFar.{SoFar, collecting}
 use Rattle.client.proofs.Syncs.Ending.{goes_round}
 use Rattle.client.proofs.Syncs.Going.{begins}
 use Rattle.client.proofs.Syncs.Looping.{acks_round, fetches_now, one_more}
+use Rattle.client.proofs.Syncs.Requests.{leaves_again, leaves_all}
 use Rattle.client.proofs.client.Client.collect_all.Goals as goal
 
 pub items-init : goal.items-init
 items-init g c = record {
   far = begins (party_of g.K.Kem.mechanism c.args.prefix.now c.args.names.now.own c.args.names.now.peers)
       (moment c.args.self.now (g.D.Disk.state c.args.disk.now) (g.O.Sink.at c.args.out.now))
-      (g.L.Pipe.port c.args.link.now) c.requires.is_open c.requires.ready;
+      (g.L.Pipe.port c.args.link.now) c.requires.0 c.requires.1;
   within = omega arith;
   later = omega arith;
-  flow = omega arith;
-  gate = refl;
-  stands = refl;
+  link = leaves_all g.L.Pipe.port g.L.Pipe.behind c.args.link.now;
 }
 
 pub returns-in-Err-clause-collects : goal.returns-in-Err-clause-collects
@@ -98,19 +97,21 @@ items-preserved g c = record {
       (c.in-Ok.ensures.round (party_of g.K.Kem.mechanism c.args.prefix.now c.args.names.now.own c.args.names.now.peers) c.fetch.new.self.kept c.items.count)));
   within = omega (arith, c.items-test.true);
   later = omega (arith, c.items.invariant.later, c.fetch.ensures.later);
-  flow = omega (arith, c.items.invariant.flow, c.fetch.ensures.flow, c.acknowledge.ensures.flow);
-  gate = c.acknowledge.ensures.gate ∙ c.fetch.ensures.gate ∙ c.items.invariant.gate;
-  stands = c.acknowledge.ensures.stands ∙ c.fetch.ensures.stands ∙ c.items.invariant.stands;
+  link =
+      leaves_again g.L.Pipe.port g.L.Pipe.behind _ _ _
+      (leaves_again g.L.Pipe.port g.L.Pipe.behind _ _ _ c.items.invariant.link c.fetch.ensures.link) c.acknowledge.ensures.link;
 }
 
-pub returns-in-Err-clause-stands : goal.returns-in-Err-clause-stands
-returns-in-Err-clause-stands g c = grind (arith, common_steps)
+pub returns-in-Err-clause-link : goal.returns-in-Err-clause-link
+returns-in-Err-clause-link g c = leaves_again g.L.Pipe.port g.L.Pipe.behind _ _ _ c.items.invariant.link c.fetch.ensures.link
 
-pub returns-in-Ok-None-clause-stands : goal.returns-in-Ok-None-clause-stands
-returns-in-Ok-None-clause-stands g c = grind (arith, common_steps)
+pub returns-in-Ok-None-clause-link : goal.returns-in-Ok-None-clause-link
+returns-in-Ok-None-clause-link g c = leaves_again g.L.Pipe.port g.L.Pipe.behind _ _ _ c.items.invariant.link c.fetch.ensures.link
 
-pub returns-in-Err-acknowledge-clause-stands : goal.returns-in-Err-acknowledge-clause-stands
-returns-in-Err-acknowledge-clause-stands g c = grind (arith, common_steps)
+pub returns-in-Err-acknowledge-clause-link : goal.returns-in-Err-acknowledge-clause-link
+returns-in-Err-acknowledge-clause-link g c =
+    leaves_again g.L.Pipe.port g.L.Pipe.behind _ _ _
+    (leaves_again g.L.Pipe.port g.L.Pipe.behind _ _ _ c.items.invariant.link c.fetch.ensures.link) c.acknowledge.ensures.link
 
 pub returns-clause-collects : goal.returns-clause-collects
 returns-clause-collects g c = grind (arith, common_steps)

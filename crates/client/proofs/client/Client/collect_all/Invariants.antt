@@ -1,8 +1,8 @@
+use Rattle.client.specs.Syncing.Links.{LeavesLink}
 use Rattle.client.specs.Syncing.Moments.{moment}
 use Rattle.client.specs.Syncing.Parties.{party_of, waiting}
 use Rattle.client.specs.Syncing.SoFar.{SoFar, collecting}
-use Rattle.dr_ports.specs.declared.pipe.Part.TheVariants.{Flow, Gate}
-use Rattle.std.proofs.Common.{◌-◌, ◌≡◌, ◌≤◌}
+use Rattle.std.proofs.Common.{◌-◌, ◌≤◌}
 use Rattle.sync_model.specs.declared.limits.TheConstants.{ITEM_LIMIT}
 use Rattle.client.proofs.client.Client.collect_all.Given as goal
 
@@ -14,9 +14,7 @@ invariant-items g l = record {
       (g.L.Pipe.port l.fn.link) (g.L.Pipe.port l.link) (collecting (waiting l.self.kept) l.count);
   within : l.count ≤ ITEM_LIMIT;
   later : (g.O.Sink.at l.fn.out).faults ≤ (g.O.Sink.at l.out).faults;
-  flow : (g.L.Pipe.port l.fn.link).faults Flow ≤ (g.L.Pipe.port l.link).faults Flow;
-  gate : (g.L.Pipe.port l.link).faults Gate ≡ (g.L.Pipe.port l.fn.link).faults Gate;
-  stands : g.L.Pipe.behind l.link ≡ g.L.Pipe.behind l.fn.link;
+  link : LeavesLink g.L.Pipe.port g.L.Pipe.behind l.fn.link l.link;
 }
 
 abbrev pub decreases-items : goal.decreases-items

@@ -15,3 +15,9 @@ pub returns-clause-ready : goal.returns-clause-ready
 returns-clause-ready g c =
     dropped_ready g.D.Disk.state (act_on g.K.Kem.mechanism c.args.self.now.kept (finishing c.args.n)) c.args.self.now
     c.done_exact.new.self c.args.disk.now c.done_exact.new.disk c.requires (Done c.args.n) c.done_exact.result c.done_exact.ensures.exact
+
+pub returns-clause-exact : goal.returns-clause-exact
+returns-clause-exact g c = c.done_exact.ensures.exact
+
+pub returns-clause-fate : goal.returns-clause-fate
+returns-clause-fate g c = c.done_exact.ensures.fate

@@ -5,5 +5,5 @@ use Rattle.client.proofs.client.Client.drop_texts.Goals as goal
 pub invariant_of-self-in-Ok : goal.invariant_of-self-in-Ok
 invariant_of-self-in-Ok c = grind (arith, common_steps)
 
-pub returns-in-Err-clause-exact : goal.returns-in-Err-clause-exact
-returns-in-Err-clause-exact c = grind (arith, common_steps)
+pub returns-in-Err : goal.returns-in-Err
+returns-in-Err g c = record { exact = grind (arith, common_steps); fate = grind (arith, common_steps) }

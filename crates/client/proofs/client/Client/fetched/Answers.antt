@@ -28,7 +28,7 @@ returns-in-Empty-clause-turns g c = λ own peers n.
     (sym c.in-Empty.is)
     (idles_here (party_of g.K.Kem.mechanism c.args.prefix.now own peers)
     (moment c.args.self.now (g.D.Disk.state c.args.disk.now) (g.O.Sink.at c.args.out.now))
-    _ (goes_on (waits_by (waiting c.args.self.now.kept) End)) (idles_on (waits_by (waiting c.args.self.now.kept) End) refl) c.requires.is_open c.requires.ready)
+    _ (goes_on (waits_by (waiting c.args.self.now.kept) End)) (idles_on (waits_by (waiting c.args.self.now.kept) End) refl) c.requires.0 c.requires.1)
 
 pub returns-in-Unknown-clause-turns : goal.returns-in-Unknown-clause-turns
 returns-in-Unknown-clause-turns g c = λ own peers n.
@@ -38,7 +38,7 @@ returns-in-Unknown-clause-turns g c = λ own peers n.
     (sym c.in-Unknown.is)
     (idles_here (party_of g.K.Kem.mechanism c.args.prefix.now own peers)
     (moment c.args.self.now (g.D.Disk.state c.args.disk.now) (g.O.Sink.at c.args.out.now))
-    _ (stops (Refused Unknown)) (idles_to_end no_such_box (Refused Unknown) refl refl) c.requires.is_open c.requires.ready)
+    _ (stops (Refused Unknown)) (idles_to_end no_such_box (Refused Unknown) refl refl) c.requires.0 c.requires.1)
 
 pub returns-in_default : goal.returns-in_default
 returns-in_default g c = record {
@@ -47,6 +47,6 @@ returns-in_default g c = record {
       (moment c.args.self.now (g.D.Disk.state c.args.disk.now) (g.O.Sink.at c.args.out.now))
       (move (party_of g.K.Kem.mechanism c.args.prefix.now own peers) c.args.self.now.kept (fetching n) (replied_of c.args.reply)) (stops (Peer 2 Wrong))
       (fetched_wrong (party_of g.K.Kem.mechanism c.args.prefix.now own peers) c.args.self.now.kept n 0 c.args.reply c.in_default.not-Empty c.in_default.not-Unknown c.in_default.not-Item)
-      c.requires.is_open c.requires.ready;
+      c.requires.0 c.requires.1;
   later = omega arith;
 }

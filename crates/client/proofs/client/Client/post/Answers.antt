@@ -21,7 +21,7 @@ returns-in-Err-clause-round g c = λ which.
     (moment c.ask.new.self (g.D.Disk.state c.args.disk.now) (g.O.Sink.at c.args.out.now)))
     c.in-Err.fault c.in-Err.ensures.answers
     (still_again (moment c.args.self.now (g.D.Disk.state c.args.disk.now) (g.O.Sink.at c.args.out.now))
-    c.ask.new.self c.ask.ensures.same c.requires.is_open c.requires.ready)
+    c.ask.new.self c.ask.ensures.same c.requires.open.0 c.requires.open.1)
 
 pub returns-in-Ok-clause-round : goal.returns-in-Ok-clause-round
 returns-in-Ok-clause-round g c = λ which.

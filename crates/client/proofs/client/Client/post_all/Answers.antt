@@ -8,6 +8,7 @@ use Rattle.client.specs.Syncing.Rounds.{goes_on, stops}
 use Rattle.client.specs.Syncing.SoFar.{SoFar}
 use Rattle.client.proofs.Syncs.Ending.{goes_round}
 use Rattle.client.proofs.Syncs.Looping.{asks_post, goes_ready, posts_now}
+use Rattle.client.proofs.Syncs.Requests.{leaves_again, leaves_all}
 use Rattle.client.proofs.client.Client.post_all.Goals as goal
 
 pub returns-in-Err-clause-posts : goal.returns-in-Err-clause-posts
@@ -30,16 +31,21 @@ packets-preserved g c = record {
       (moment c.post.new.self (g.D.Disk.state c.post.new.disk) (g.O.Sink.at c.post.new.out)) (g.L.Pipe.port c.post.new.link)
       (record { name = c.args.names.now.peers; ask = posts c.in-Some.packet }) (asks_post (waiting c.packets.self.kept) c.in-Some.packet (sym c.in-Some.is ∙ c.oldest.ensures) c.args.names.now.peers)
       (goes_on (waits_by (waiting c.post.new.self.kept) which)) (c.in-Ok.ensures.round which);
-  is_open = (goes_ready (party_of g.K.Kem.mechanism c.args.prefix.now c.args.names.now.own c.args.names.now.peers) (posting End) (waits_by (waiting c.post.new.self.kept) End) (record { name = c.args.names.now.peers; ask = posts c.in-Some.packet })
+  ready = goes_ready (party_of g.K.Kem.mechanism c.args.prefix.now c.args.names.now.own c.args.names.now.peers) (posting End) (waits_by (waiting c.post.new.self.kept) End) (record { name = c.args.names.now.peers; ask = posts c.in-Some.packet })
       (moment c.packets.self (g.D.Disk.state c.packets.disk) (g.O.Sink.at c.packets.out))
       (moment c.post.new.self (g.D.Disk.state c.post.new.disk) (g.O.Sink.at c.post.new.out))
-      (g.L.Pipe.port c.packets.link) (g.L.Pipe.port c.post.new.link) (c.in-Ok.ensures.round End)).0;
-  ready = (goes_ready (party_of g.K.Kem.mechanism c.args.prefix.now c.args.names.now.own c.args.names.now.peers) (posting End) (waits_by (waiting c.post.new.self.kept) End) (record { name = c.args.names.now.peers; ask = posts c.in-Some.packet })
-      (moment c.packets.self (g.D.Disk.state c.packets.disk) (g.O.Sink.at c.packets.out))
-      (moment c.post.new.self (g.D.Disk.state c.post.new.disk) (g.O.Sink.at c.post.new.out))
-      (g.L.Pipe.port c.packets.link) (g.L.Pipe.port c.post.new.link) (c.in-Ok.ensures.round End)).1;
+      (g.L.Pipe.port c.packets.link) (g.L.Pipe.port c.post.new.link) (c.in-Ok.ensures.round End);
   later = omega (arith, c.packets.invariant.later, c.post.ensures.later);
-  flow = omega (arith, c.packets.invariant.flow, c.post.ensures.flow);
-  gate = c.post.ensures.gate ∙ c.packets.invariant.gate;
-  stands = c.post.ensures.stands ∙ c.packets.invariant.stands;
+  link = leaves_again g.L.Pipe.port g.L.Pipe.behind _ _ _ c.packets.invariant.link c.post.ensures.link;
 }
+
+pub packets-init : goal.packets-init
+packets-init g c = record {
+  far = λ which first before earlier empty far. far;
+  ready = c.requires;
+  later = omega arith;
+  link = leaves_all g.L.Pipe.port g.L.Pipe.behind c.args.link.now;
+}
+
+pub returns-in-Err-clause-link : goal.returns-in-Err-clause-link
+returns-in-Err-clause-link g c = leaves_again g.L.Pipe.port g.L.Pipe.behind _ _ _ c.packets.invariant.link c.post.ensures.link

@@ -1,9 +1,9 @@
-use Rattle.client.specs.Clients.{ClientNow, IsReady}
+use Rattle.client.specs.Clients.{ClientNow, IsOpenOn}
+use Rattle.client.specs.Syncing.Links.{LeavesLink}
 use Rattle.client.specs.Syncing.Moments.{moment}
 use Rattle.client.specs.Syncing.Parties.{party_of, waiting}
 use Rattle.client.specs.Syncing.SoFar.{SoFar}
-use Rattle.dr_ports.specs.declared.pipe.Part.TheVariants.{Flow, Gate}
-use Rattle.std.proofs.Common.{None, length, ◌≡◌, ◌≤◌}
+use Rattle.std.proofs.Common.{length, ◌≤◌}
 use Rattle.sync_model.specs.Moves.{waits_by}
 use Rattle.sync_model.specs.declared.more.More.{More}
 use Rattle.client.proofs.client.Client.post_all.Given as goal
@@ -19,12 +19,9 @@ invariant-packets g l = record {
       (moment first (g.D.Disk.state before) (g.O.Sink.at empty))
       (moment l.self (g.D.Disk.state l.disk) (g.O.Sink.at l.out))
       (g.L.Pipe.port earlier) (g.L.Pipe.port l.link) (waits_by (waiting l.self.kept) which);
-  is_open : l.self.closed ≡ None;
-  ready : IsReady l.self.kept l.self.store (g.D.Disk.state l.disk);
+  ready : IsOpenOn l.self (g.D.Disk.state l.disk);
   later : (g.O.Sink.at l.fn.out).faults ≤ (g.O.Sink.at l.out).faults;
-  flow : (g.L.Pipe.port l.fn.link).faults Flow ≤ (g.L.Pipe.port l.link).faults Flow;
-  gate : (g.L.Pipe.port l.link).faults Gate ≡ (g.L.Pipe.port l.fn.link).faults Gate;
-  stands : g.L.Pipe.behind l.link ≡ g.L.Pipe.behind l.fn.link;
+  link : LeavesLink g.L.Pipe.port g.L.Pipe.behind l.fn.link l.link;
 }
 
 abbrev pub decreases-packets : goal.decreases-packets

@@ -27,7 +27,7 @@ returns-in-BoxFull-clause-turns g c = λ own peers which.
     (sym c.in-BoxFull.is)
     (idles_here (party_of g.K.Kem.mechanism c.args.prefix.now own peers)
     (moment c.args.self.now (g.D.Disk.state c.args.disk.now) (g.O.Sink.at c.args.out.now))
-    _ (stops (Refused BoxFull)) (idles_to_end box_is_full (Refused BoxFull) refl refl) c.requires.is_open c.requires.ready)
+    _ (stops (Refused BoxFull)) (idles_to_end box_is_full (Refused BoxFull) refl refl) c.requires.open.0 c.requires.open.1)
 
 pub returns-in-Unknown-clause-turns : goal.returns-in-Unknown-clause-turns
 returns-in-Unknown-clause-turns g c = λ own peers which.
@@ -37,7 +37,7 @@ returns-in-Unknown-clause-turns g c = λ own peers which.
     (sym c.in-Unknown.is)
     (idles_here (party_of g.K.Kem.mechanism c.args.prefix.now own peers)
     (moment c.args.self.now (g.D.Disk.state c.args.disk.now) (g.O.Sink.at c.args.out.now))
-    _ (stops (Refused Unknown)) (idles_to_end no_such_box (Refused Unknown) refl refl) c.requires.is_open c.requires.ready)
+    _ (stops (Refused Unknown)) (idles_to_end no_such_box (Refused Unknown) refl refl) c.requires.open.0 c.requires.open.1)
 
 pub returns-in_default : goal.returns-in_default
 returns-in_default g c = record {
@@ -46,7 +46,7 @@ returns-in_default g c = record {
       (moment c.args.self.now (g.D.Disk.state c.args.disk.now) (g.O.Sink.at c.args.out.now))
       (move (party_of g.K.Kem.mechanism c.args.prefix.now own peers) c.args.self.now.kept (posting which) (replied_of c.args.reply)) (stops (Peer 2 Wrong))
       (posted_wrong (party_of g.K.Kem.mechanism c.args.prefix.now own peers) c.args.self.now.kept which c.args.reply c.in_default.not-BoxFull c.in_default.not-Unknown c.in_default.not-Stored)
-      c.requires.is_open c.requires.ready;
+      c.requires.open.0 c.requires.open.1;
   fewer = tt;
   later = omega arith;
 }

@@ -30,7 +30,7 @@ returns-in-Ok-clause-exact g c =
     c.args.disk.now _ c.args.draws.now _ c.speak.result c.in-Ok.seed
     (ap (λ (n : ClientNow). n.closed) (sym c.self.view_is) ∙ c.in_default.is)
     (sym c.say_check.ensures ∙ c.in-Ok-true.is ∙ ap Ok c.in-Ok-true.field-0-test)
-    (omega arith) c.in-Ok.ensures.seed c.in-Ok.ensures.cause.passed c.speak.ensures.exact c.speak.ensures.seed
+    (omega arith) c.in-Ok.ensures.seed c.in-Ok.ensures.cause.passed c.speak.ensures.acts.exact c.speak.ensures.seed
 
 pub returns-in-Ok-false-clause-exact : goal.returns-in-Ok-false-clause-exact
 returns-in-Ok-false-clause-exact g c =
@@ -38,4 +38,4 @@ returns-in-Ok-false-clause-exact g c =
     c.args.disk.now _ c.args.draws.now _ c.speak-in-Ok-false.result
     (ap (λ (n : ClientNow). n.closed) (sym c.self.view_is) ∙ c.in_default.is)
     (sym c.say_check.ensures ∙ c.in-Ok-false.is ∙ ap Ok c.in-Ok-false.field-0-test)
-    refl c.speak-in-Ok-false.ensures.exact
+    refl c.speak-in-Ok-false.ensures.acts.exact

@@ -15,3 +15,9 @@ pub returns-clause-ready : goal.returns-clause-ready
 returns-clause-ready g c =
     dropped_ready g.D.Disk.state (act_on g.K.Kem.mechanism c.args.self.now.kept (sending c.args.n)) c.args.self.now
     c.sent_exact.new.self c.args.disk.now c.sent_exact.new.disk c.requires (Sent c.args.n) c.sent_exact.result c.sent_exact.ensures.exact
+
+pub returns-clause-exact : goal.returns-clause-exact
+returns-clause-exact g c = c.sent_exact.ensures.exact
+
+pub returns-clause-fate : goal.returns-clause-fate
+returns-clause-fate g c = c.sent_exact.ensures.fate

@@ -6,6 +6,7 @@ use Rattle.client.specs.Syncing.Parties.{party_of}
 use Rattle.client.specs.Syncing.SoFar.{SoFar}
 use Rattle.client.proofs.Syncs.Ending.{ends_unwritten, ends_well}
 use Rattle.client.proofs.Syncs.Moving.{still}
+use Rattle.client.proofs.Syncs.Requests.{leaves_again}
 use Rattle.client.proofs.client.Client.sync_open.Goals as goal
 
 pub returns-in-Err-write_end-clause-exact : goal.returns-in-Err-write_end-clause-exact
@@ -41,17 +42,14 @@ returns-in-Ok-write_end-clause-exact g c =
 pub returns-in-Err-post_all-clause-exact : goal.returns-in-Err-post_all-clause-exact
 returns-in-Err-post_all-clause-exact g c = grind (arith, common_steps)
 
-pub returns-in-Err-post_all-clause-stands : goal.returns-in-Err-post_all-clause-stands
-returns-in-Err-post_all-clause-stands g c = grind (arith, common_steps)
+pub returns-in-Err-post_all-clause-link : goal.returns-in-Err-post_all-clause-link
+returns-in-Err-post_all-clause-link g c =
+    leaves_again g.L.Pipe.port g.L.Pipe.behind _ _ _ c.collect_all.ensures.link c.post_all.ensures.link
 
-pub returns-in-Err-write_end-clause-stands : goal.returns-in-Err-write_end-clause-stands
-returns-in-Err-write_end-clause-stands g c = grind (arith, common_steps)
+pub returns-in-Err-write_end-clause-link : goal.returns-in-Err-write_end-clause-link
+returns-in-Err-write_end-clause-link g c =
+    leaves_again g.L.Pipe.port g.L.Pipe.behind _ _ _ c.collect_all.ensures.link c.post_all.ensures.link
 
-pub returns-in-Ok-write_end-clause-flow : goal.returns-in-Ok-write_end-clause-flow
-returns-in-Ok-write_end-clause-flow g c = grind (arith, common_steps)
-
-pub returns-in-Ok-write_end-clause-gate : goal.returns-in-Ok-write_end-clause-gate
-returns-in-Ok-write_end-clause-gate g c = grind (arith, common_steps)
-
-pub returns-in-Ok-write_end-clause-stands : goal.returns-in-Ok-write_end-clause-stands
-returns-in-Ok-write_end-clause-stands g c = grind (arith, common_steps)
+pub returns-in-Ok-write_end-clause-link : goal.returns-in-Ok-write_end-clause-link
+returns-in-Ok-write_end-clause-link g c =
+    leaves_again g.L.Pipe.port g.L.Pipe.behind _ _ _ c.collect_all.ensures.link c.post_all.ensures.link

@@ -24,3 +24,9 @@ pub returns-clause-ready : goal.returns-clause-ready
 returns-clause-ready g c =
     taken_ready g.D.Disk.state (act_on g.K.Kem.mechanism c.args.self.now.kept (taking c.args.packet.now)) c.args.self.now
     c.take_exact.new.self c.args.disk.now c.take_exact.new.disk c.requires c.take_exact.result c.take_exact.ensures.exact
+
+pub returns-clause-exact : goal.returns-clause-exact
+returns-clause-exact g c = c.take_exact.ensures.exact
+
+pub returns-clause-fate : goal.returns-clause-fate
+returns-clause-fate g c = c.take_exact.ensures.fate
