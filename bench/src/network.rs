@@ -9,7 +9,7 @@ use crate::store::time_bare;
 use dr_disk::{Disk, FileDisk, Sharing};
 use dr_ports::{Door, Link};
 use relay_pipe::send_all;
-use relay_server::Server;
+use relay_server::{AREA_SIZE, Server};
 use relay_wire::Name;
 use std::alloc::Global;
 use std::fs::File;
@@ -30,8 +30,6 @@ const ADDRESS: &str = "127.0.0.1:47614";
 
 /// The file of the relay, with the area of one box, and the size of its slots.
 const RELAY: &str = "bench-relay";
-
-const AREA: u64 = 524_288;
 
 const SLOT: usize = 262_144;
 
@@ -103,7 +101,7 @@ fn exchange<R: Clock + AllocGlobal, D: Disk, L: Link, A: Door>(
     let Some(name) = Name::new(b"a") else {
         return Err(Error::from(ErrorKind::InvalidInput));
     };
-    if disk.size() < AREA {
+    if disk.size() < AREA_SIZE {
         return Err(Error::from(ErrorKind::InvalidInput));
     }
     let bytes = requests(rt.alloc(), number)?;
@@ -115,7 +113,7 @@ fn exchange<R: Clock + AllocGlobal, D: Disk, L: Link, A: Door>(
 
 /// The median time of an exchange, in microseconds.
 fn time_exchange<R: Clock + AllocGlobal + Files<File = File> + Net>(rt: &R) -> io::Result<u64> {
-    let mut disk = FileDisk::new(rt, RELAY, AREA, 0, Sharing::Alone);
+    let mut disk = FileDisk::new(rt, RELAY, AREA_SIZE, 0, Sharing::Alone);
     let mut link = TcpLink::new(rt);
     let mut door = TcpDoor::new(rt);
     if door.listen(PORT).is_err() {

@@ -14,9 +14,8 @@ pub same_area : IsResting → (kept other : Client) (store again : SlotStore) (a
     → mark again ≡ mark store → (c d : List ℕ) → a.image c → b.image d → SameWithin client_area c d
 same_area resting kept other store again a b sound good ready twin size same marks c d left right =
     let long : length c ≡ length d = sound.sized c left ∙ sym size ∙ sym (good.sized d right) in
-    let least : 1 ≤ store.area.slot = omega (arith, ap (λ (x : Area). x.slot) ready.area) in
-    let inside : store.area.start + (store.area.slot + store.area.slot) ≤ length c =
-    omega (arith, ap (λ (x : Area). x.slot) ready.area, ap (λ (x : Area). x.start) ready.area, ready.within, sound.sized c left) in
     subst (λ (x : Area). SameWithin x c d) ready.area
-    (resting.same_bytes store again c d least (ready.area ∙ sym twin.area) (sym marks)
-    (ready.holds ∙ sym (twin.holds ∙ ap Some same)) long inside (ready.rests c left) (twin.rests d right))
+    (resting.same_bytes store again c d (omega (arith, ap (λ (x : Area). x.slot) ready.area)) (ready.area ∙ sym twin.area) (sym marks)
+    (ready.holds ∙ sym (twin.holds ∙ ap Some same)) long
+    (omega (arith, ap (λ (x : Area). x.slot) ready.area, ap (λ (x : Area). x.start) ready.area, ready.within, sound.sized c left))
+    (ready.rests c left) (twin.rests d right))

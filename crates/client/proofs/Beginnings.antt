@@ -26,6 +26,7 @@ use Rattle.slot_store.specs.declared.errors.OpenError.{OpenError}
 use Rattle.slot_store.specs.declared.errors.OpenError.TheVariants.{Damaged, Memory, StoreFault}
 use Rattle.slot_store.specs.declared.opening.Found.{Found}
 use Rattle.slot_store.specs.declared.opening.Found.TheVariants.{Content}
+use Rattle.slot_store.specs.Areas.{size_of}
 use Rattle.client.specs.Beginning.{IsEntryOrFirst, IsFirst, IsUnbegun, begin_refusal, begun_client}
 use Rattle.client.specs.Clients.{client_area}
 use Rattle.client.specs.Opening.{IsReadAs, RestsAsRead, record_fault}
@@ -82,7 +83,7 @@ module _ (k : Mechanism) (readings : IsRead) (key : List ℕ) (side : Side) (sta
         told = like.told;
         same = without ∙ sym (readings.none (record_fault k) client_area like.read (none like.read like.told));
         undamaged = λ _. whole;
-        outside = torn_twice 0 (client_area.slot + client_area.slot) like.read kept.0 c like.outside kept.2;
+        outside = torn_twice 0 (size_of client_area) like.read kept.0 c like.outside kept.2;
       }
 
   outside_mid : Always (KeepsOutside client_area start) mid
@@ -97,7 +98,7 @@ module _ (k : Mechanism) (readings : IsRead) (key : List ℕ) (side : Side) (sta
         pair = pair;
         holds = new;
         undamaged = s.undamaged;
-        outside = frame_twice start mid 0 (client_area.slot + client_area.slot) outside_mid c s.frame;
+        outside = frame_twice start mid 0 (size_of client_area) outside_mid c s.frame;
       })) s.either
 
   pub first_moments : Span start now (IsEntryOrFirst k key side start)

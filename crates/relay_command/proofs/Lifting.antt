@@ -1,27 +1,27 @@
 -- What was served after an opening.
-use Rattle.std.proofs.Common.{◌≡◌, inl, inr, ⊎_elim, ℕ, ◌*◌, List, [], ◌∷◌, ◌++◌, length, subst, sym, arith}
-use Rattle.dr_disk.specs.Bytes.{Torn}
+use Rattle.std.proofs.Common.{◌≡◌, inl, inr, ⊎_elim, ℕ, List, [], ◌∷◌, ◌++◌, length, subst, sym, ◌∙◌, arith}
 use Rattle.dr_disk.specs.Spans.{IsQuiet, Span}
 use Rattle.dr_disk.specs.State.{DiskState}
 use Rattle.dr_disk.proofs.Ranges.{torn_twice}
 use Rattle.dr_disk.proofs.Steps.{quiet_twice, spans, widen}
 use Rattle.dr_ports.specs.Wires.{Port}
+use Rattle.dr_ports.specs.declared.pipe.Part.TheVariants.{Gate}
 use Rattle.endings.specs.declared.ending.Ending.{Ending}
-use Rattle.relay_server.specs.Durable.{IsSameBehind}
+use Rattle.relay_server.specs.Places.{IsSameBehind, areas_size, SameBehind}
 use Rattle.relay_server.specs.Opening.{IsOpening}
-use Rattle.relay_command.specs.Connections.{Connection, Standing, listening}
-use Rattle.relay_command.specs.Serving.{HaveCome, Serves, WereServed, was_stopped, was_unaccepted, was_unheard, went_on}
+use Rattle.relay_command.specs.Connections.{Connection, HasRisen, Standing}
+use Rattle.relay_command.specs.Serving.{HaveCome, Serves, WereServed, was_stopped, was_unaccepted, went_on}
 use Rattle.relay_command.proofs.Rounds.{never}
 
 module _ (words : List (List ℕ)) (turns : List Connection → Type 0) (s : Standing) (start mid now : DiskState) (from door : Port) (sized : length s.boxes ≡ length words) (span : Span start mid (IsOpening words start)) (quiet : IsQuiet start mid) where
   -- what an opening leaves after the areas
   same_behind : (c : List ℕ) → IsOpening words start c → IsSameBehind (length s.boxes) start c
-  same_behind c is = (is.entry, is.image, subst (λ (n : ℕ). Torn 0 (524288 * n) is.entry c) (sym sized) is.outside)
+  same_behind c is = (is.entry, is.image, subst (λ (n : ℕ). SameBehind n is.entry c) (sym sized) is.outside)
 
   since_then : (c : List ℕ) → IsSameBehind (length s.boxes) mid c → IsSameBehind (length s.boxes) start c
   since_then c frame = ⊎_elim
       (λ was. (frame.0, was, frame.2))
-      (λ is. let first = same_behind frame.0 is in (first.0, first.1, torn_twice 0 (524288 * length s.boxes) first.0 frame.0 c first.2 frame.2))
+      (λ is. let first = same_behind frame.0 is in (first.0, first.1, torn_twice 0 (areas_size (length s.boxes)) first.0 frame.0 c first.2 frame.2))
       (span.last frame.0 frame.1)
 
   lift_come : (xs : List Connection) → HaveCome never turns s xs mid now door → HaveCome (IsOpening words start) turns s xs start now door
@@ -42,18 +42,16 @@ module _ (words : List (List ℕ)) (turns : List Connection → Type 0) (s : Sta
     quiet = quiet_twice start mid now quiet were.quiet;
   }
 
--- the connections come once the door listens
-module _ (words : List (List ℕ)) (turns : List Connection → Type 0) (s : Standing) (start mid now : DiskState) (from door : Port) (sized : length s.boxes ≡ length words)
-    (span : Span start mid (IsOpening words start)) (quiet : IsQuiet start mid) (port count code : ℕ) where
-  lift_heard : (xs : List Connection) → WereServed never turns (listening port s) xs mid now door
-      → WereServed (IsOpening words start) turns (listening port s) xs start now door
-  lift_heard = lift_served words turns (listening port s) start mid now from door sized span quiet
+-- they come once the door listens
+module _ (words : List (List ℕ)) (turns : List Connection → Type 0) (s : Standing) (start mid now : DiskState) (from heard door : Port) (sized : length s.boxes ≡ length words)
+    (span : Span start mid (IsOpening words start)) (quiet : IsQuiet start mid) (gate_is : heard.faults Gate ≡ from.faults Gate) (port count code : ℕ) where
+  abbrev served : (xs : List Connection) → WereServed never turns s xs mid now door → WereServed (IsOpening words start) turns s xs start now door
+  served = lift_served words turns s start mid now from door sized span quiet
 
-  pub lift : (ending : Ending) (lines : List ℕ) → Serves never turns s port count mid now from door code ending lines
+  pub lift : (ending : Ending) (lines : List ℕ) → Serves never turns s port count mid now heard door code ending lines
       → Serves (IsOpening words start) turns s port count start now from door code ending lines
-  lift ending lines (was_unheard were rose) = was_unheard (lift_served words turns s start mid now from door sized span quiet [] were) rose
-  lift ending lines (was_unaccepted xs were less rose) = was_unaccepted xs (lift_heard xs were) less rose
+  lift ending lines (was_unaccepted xs were less rose) = was_unaccepted xs (served xs were) less (subst (λ (n : ℕ). HasRisen n (door.faults Gate)) gate_is rose)
   lift ending lines (was_stopped xs x call come each stopped less rose gate) =
-      was_stopped xs x call (lift_come words turns (listening port s) start mid now from door sized span quiet (xs ++ x ∷ []) come) each stopped less
-      (let counts = span.counts call in omega (arith, rose, counts)) gate
-  lift ending lines (went_on xs were most full gate) = went_on xs (lift_heard xs were) most full gate
+      was_stopped xs x call (lift_come words turns s start mid now from door sized span quiet (xs ++ x ∷ []) come) each stopped less
+      (let counts = span.counts call in omega (arith, rose, counts)) (gate ∙ gate_is)
+  lift ending lines (went_on xs were most full gate) = went_on xs (served xs were) most full (gate ∙ gate_is)

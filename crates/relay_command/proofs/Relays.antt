@@ -12,9 +12,9 @@ use Rattle.endings.specs.Ends.{Ends}
 use Rattle.endings.specs.declared.ending.Ending.{Ending}
 use Rattle.relay_server.specs.declared.errors.ServerOpenError.{ServerOpenError}
 use Rattle.relay_server.specs.declared.errors.ServerOpenError.TheVariants.{BoxName, Damaged, Memory, StoreFault}
-use Rattle.relay_command.specs.Connections.{AreServed, Connection, Sent, Standing, Went, behind, behind_all, ended, failed, listening, stopped}
-use Rattle.relay_command.specs.Serving.{Serves, was_stopped, was_unaccepted, was_unheard, went_on}
-use Rattle.relay_command.specs.Relaying.{Relays, RunsRelay, ending_of_open, had_bad_box, was_opened, was_unopened}
+use Rattle.relay_command.specs.Connections.{AreServed, Connection, Sent, Standing, Went, behind, behind_all, ended, failed, stopped}
+use Rattle.relay_command.specs.Serving.{Serves, was_stopped, was_unaccepted, went_on}
+use Rattle.relay_command.specs.Relaying.{Relays, RunsRelay, ending_of_open, had_bad_box, was_opened, was_unheard, was_unopened, was_unsettled}
 use Rattle.relay_command.proofs.Connections.{behind_more}
 
 -- ---- status 0
@@ -27,7 +27,6 @@ open_code (BoxName k) e = omega (arith, e)
 
 serves_quiet : (earlier : List ℕ → Type 0) (turns : List Connection → Type 0) (s : Standing) (port count : ℕ) (start now : DiskState) (from door : Port) (code : ℕ) (ending : Ending) (lines : List ℕ)
     → Serves earlier turns s port count start now from door code ending lines → code_of ending ≡ 0 → IsQuiet start now × (door.faults Gate ≡ from.faults Gate)
-serves_quiet earlier turns s port count start now from door code ending lines (was_unheard were rose) e = absurd (omega (arith, e))
 serves_quiet earlier turns s port count start now from door code ending lines (was_unaccepted xs were less rose) e = absurd (omega (arith, e))
 serves_quiet earlier turns s port count start now from door code ending lines (was_stopped xs x call come each stop less rose gate) e = absurd (omega (arith, e))
 serves_quiet earlier turns s port count start now from door code ending lines (went_on xs were most full gate) e = (were.quiet, gate)
@@ -36,7 +35,9 @@ relays_quiet : {X Y : Type 0} (state : X → DiskState) (port_of : Y → Port) (
     → Relays state port_of words port count start now from door code ending lines → code_of ending ≡ 0
     → IsQuiet (state start) (state now) × ((port_of door).faults Gate ≡ (port_of from).faults Gate)
 relays_quiet state port_of words port count start now from door code ending lines (had_bad_box k bad same left) e = absurd (omega (arith, e))
-relays_quiet state port_of words port count start now from door code ending lines (was_unopened names error why span left) e = absurd (open_code error e)
+relays_quiet state port_of words port count start now from door code ending lines (was_unopened names error why looks left) e = absurd (open_code error e)
+relays_quiet state port_of words port count start now from door code ending lines (was_unheard names looked is looks unheard) e = absurd (omega (arith, e))
+relays_quiet state port_of words port count start now from door code ending lines (was_unsettled names boxes read span call rose heard) e = absurd (omega (arith, e))
 relays_quiet state port_of words port count start now from door code ending lines (was_opened names boxes read opened span rests ending' lines' serves) e =
     serves_quiet _ _ _ _ _ _ _ _ _ _ _ _ serves e
 
@@ -65,26 +66,27 @@ each_later s (x ∷ xs) each = let first = sent_later s x x.went each.0 in let n
 
 serves_later : (earlier : List ℕ → Type 0) (turns : List Connection → Type 0) (s : Standing) (port count : ℕ) (start now : DiskState) (from door : Port) (code : ℕ) (ending : Ending) (lines : List ℕ) → from.faults Flow ≡ s.faults
     → Serves earlier turns s port count start now from door code ending lines → (part : Part) → from.faults part ≤ door.faults part
-serves_later earlier turns s port count start now from door code ending lines same (was_unheard were rose) Flow = omega (arith, same, were.come.faults)
-serves_later earlier turns s port count start now from door code ending lines same (was_unheard were rose) Gate = rose.0
-serves_later earlier turns s port count start now from door code ending lines same (was_unaccepted xs were less rose) Flow = omega (arith, same, were.come.faults, each_later (listening port s) xs were.each)
+serves_later earlier turns s port count start now from door code ending lines same (was_unaccepted xs were less rose) Flow = omega (arith, same, were.come.faults, each_later s xs were.each)
 serves_later earlier turns s port count start now from door code ending lines same (was_unaccepted xs were less rose) Gate = rose.0
 serves_later earlier turns s port count start now from door code ending lines same (was_stopped xs x call come each stop less rose gate) Flow =
-    omega (arith, same, come.faults, ap (λ (t : Standing). t.faults) (behind_more (listening port s) xs x), each_later (listening port s) xs each, stop.later)
+    omega (arith, same, come.faults, ap (λ (t : Standing). t.faults) (behind_more s xs x), each_later s xs each, stop.later)
 serves_later earlier turns s port count start now from door code ending lines same (was_stopped xs x call come each stop less rose gate) Gate = omega (arith, gate)
-serves_later earlier turns s port count start now from door code ending lines same (went_on xs were most full gate) Flow = omega (arith, same, were.come.faults, each_later (listening port s) xs were.each)
+serves_later earlier turns s port count start now from door code ending lines same (went_on xs were most full gate) Flow = omega (arith, same, were.come.faults, each_later s xs were.each)
 serves_later earlier turns s port count start now from door code ending lines same (went_on xs were most full gate) Gate = omega (arith, gate)
 
 pub door_later : {X Y : Type 0} (state : X → DiskState) (port_of : Y → Port) (words : List (List ℕ)) (port count : ℕ) (start now : X) (from door : Y) (code : ℕ) (ending : Ending) (lines : List ℕ)
     → Relays state port_of words port count start now from door code ending lines → (part : Part) → (port_of from).faults part ≤ (port_of door).faults part
 door_later state port_of words port count start now from door code ending lines (had_bad_box k bad same left) part = omega (arith, ap (λ y. (port_of y).faults part) left)
-door_later state port_of words port count start now from door code ending lines (was_unopened names error why span left) part = omega (arith, ap (λ y. (port_of y).faults part) left)
+door_later state port_of words port count start now from door code ending lines (was_unopened names error why looks left) part = omega (arith, ap (λ y. (port_of y).faults part) left)
+door_later state port_of words port count start now from door code ending lines (was_unheard names looked is looks unheard) Flow = omega (arith, unheard.flow)
+door_later state port_of words port count start now from door code ending lines (was_unheard names looked is looks unheard) Gate = unheard.rose.0
+door_later state port_of words port count start now from door code ending lines (was_unsettled names boxes read span call rose heard) Flow = omega (arith, heard.flow)
+door_later state port_of words port count start now from door code ending lines (was_unsettled names boxes read span call rose heard) Gate = omega (arith, heard.gate)
 door_later state port_of words port count start now from door code ending lines (was_opened names boxes read opened span rests ending' lines' serves) part =
     serves_later _ _ _ _ _ _ _ _ _ _ _ _ refl serves part
 
 serves_counts : (earlier : List ℕ → Type 0) (turns : List Connection → Type 0) (s : Standing) (port count : ℕ) (start now : DiskState) (from door : Port) (code : ℕ) (ending : Ending) (lines : List ℕ)
     → Serves earlier turns s port count start now from door code ending lines → (call : Call) → start.faults call ≤ now.faults call
-serves_counts earlier turns s port count start now from door code ending lines (was_unheard were rose) call = were.come.during.counts call
 serves_counts earlier turns s port count start now from door code ending lines (was_unaccepted xs were less rose) call = were.come.during.counts call
 serves_counts earlier turns s port count start now from door code ending lines (was_stopped xs x c come each stop less rose gate) call = come.during.counts call
 serves_counts earlier turns s port count start now from door code ending lines (went_on xs were most full gate) call = were.come.during.counts call
@@ -92,6 +94,8 @@ serves_counts earlier turns s port count start now from door code ending lines (
 pub disk_later : {X Y : Type 0} (state : X → DiskState) (port_of : Y → Port) (words : List (List ℕ)) (port count : ℕ) (start now : X) (from door : Y) (code : ℕ) (ending : Ending) (lines : List ℕ)
     → Relays state port_of words port count start now from door code ending lines → (call : Call) → (state start).faults call ≤ (state now).faults call
 disk_later state port_of words port count start now from door code ending lines (had_bad_box k bad same left) call = omega (arith, ap (λ x. (state x).faults call) same)
-disk_later state port_of words port count start now from door code ending lines (was_unopened names error why span left) call = span.counts call
+disk_later state port_of words port count start now from door code ending lines (was_unopened names error why looks left) call = looks.during.counts call
+disk_later state port_of words port count start now from door code ending lines (was_unheard names looked is looks unheard) call = looks.during.counts call
+disk_later state port_of words port count start now from door code ending lines (was_unsettled names boxes read span call' rose heard) call = span.counts call
 disk_later state port_of words port count start now from door code ending lines (was_opened names boxes read opened span rests ending' lines' serves) call =
     serves_counts _ _ _ _ _ _ _ _ _ _ _ _ serves call

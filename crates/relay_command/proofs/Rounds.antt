@@ -1,6 +1,5 @@
 -- Connection after connection.
-use Rattle.std.proofs.Common.{◌≡◌, inr, ⊎_elim, ℕ, ◌+◌, ◌*◌, ◌<◌, List, [], ◌∷◌, ◌++◌, length, Option, Err, sym, ◌∙◌, ap, subst, arith, append_assoc, length-append}
-use Rattle.dr_disk.specs.Bytes.{Torn}
+use Rattle.std.proofs.Common.{◌≡◌, inr, ⊎_elim, ℕ, ◌+◌, ◌<◌, List, [], ◌∷◌, ◌++◌, length, Option, Err, sym, ◌∙◌, ap, subst, arith, append_assoc, length-append}
 use Rattle.dr_disk.specs.Spans.{IsQuiet, Span}
 use Rattle.dr_disk.specs.State.{DiskState}
 use Rattle.dr_disk.proofs.Ranges.{torn_twice}
@@ -17,12 +16,13 @@ use Rattle.endings.specs.declared.ending.Ending.TheVariants.{DiskFault, Done, Li
 use Rattle.endings.proofs.Closing.{ends_behind, ends_cut}
 use Rattle.relay_core.specs.Boxes.{Box}
 use Rattle.relay_core.specs.Record.{box_text}
-use Rattle.relay_server.specs.Durable.{IsReady, IsSameBehind, ServerNow}
+use Rattle.relay_server.specs.Durable.{IsReady, ServerNow}
+use Rattle.relay_server.specs.Places.{IsSameBehind, areas_size, SameBehind}
 use Rattle.relay_server.specs.Serving.{Reached}
 use Rattle.relay_command.specs.declared.connecting.Connected.{Connected}
 use Rattle.relay_command.specs.declared.connecting.Fault.{Fault}
 use Rattle.relay_command.specs.declared.connecting.Fault.TheVariants.{Accept, Store}
-use Rattle.relay_command.specs.Connections.{AreServed, Connection, HasRisen, Sent, Standing, behind, behind_all, lines_behind, listening, port_line}
+use Rattle.relay_command.specs.Connections.{AreServed, Connection, HasRisen, Sent, Standing, behind, behind_all, lines_behind, port_line}
 use Rattle.relay_command.specs.Serving.{HaveCome, IsStopped, Runs, WereServed, relay_lines, standing, was_stopped, was_unaccepted, went_on}
 use Rattle.relay_command.specs.Turns.{IsServedTurn, IsTurn, Turns, ending_of_fault, line_of}
 use Rattle.relay_command.proofs.Connections.{behind_more, line_is, lines_more, own_line, reached_before, reached_last, served_more}
@@ -66,13 +66,10 @@ rests_as turns s xs start now door server come each boxes ready quiet = record {
   quiet = quiet;
 }
 
-module _ (turns : List Connection → Type 0) (first : Standing) (port n : ℕ) (server : ServerNow) (start mid : DiskState) (from door : Port) (old out : SinkState)
-    (so : SoFar turns (listening port first) port n server start mid from door old out) where
-  abbrev s : Standing
-  s = listening port first
-
+module _ (turns : List Connection → Type 0) (s : Standing) (port n : ℕ) (server : ServerNow) (start mid : DiskState) (from door : Port) (old out : SinkState)
+    (so : SoFar turns s port n server start mid from door old out) where
   -- what stands before the next connection
-  here : standing server.boxes door ≡ behind_all s so.xs
+  pub here : standing server.boxes door ≡ behind_all s so.xs
   here =
       ap (λ (bs : List Box). record { boxes = bs; told = door.told; faults = door.faults Flow }) so.boxes
       ∙ ap (λ (t : Option Told). record { boxes = (behind_all s so.xs).boxes; told = t; faults = door.faults Flow }) so.come.told
@@ -82,8 +79,8 @@ module _ (turns : List Connection → Type 0) (first : Standing) (port n : ℕ) 
     -- bytes of a moment of this connection
     outside : (c : List ℕ) → IsSameBehind (length server.boxes) mid c → IsSameBehind (length s.boxes) start c
     outside c frame =
-        let sized = subst (λ (n : ℕ). Torn 0 (524288 * n) frame.0 c) so.sized frame.2 in
-        ⊎_elim (λ was. (frame.0, was, sized)) (λ left. (left.1.0, left.1.1, torn_twice 0 (524288 * length s.boxes) left.1.0 frame.0 c left.1.2 sized)) (so.come.during.last frame.0 frame.1)
+        let sized = subst (λ (n : ℕ). SameBehind n frame.0 c) so.sized frame.2 in
+        ⊎_elim (λ was. (frame.0, was, sized)) (λ left. (left.1.0, left.1.1, torn_twice 0 (areas_size (length s.boxes)) left.1.0 frame.0 c left.1.2 sized)) (so.come.during.last frame.0 frame.1)
 
     come_more : (next : List Connection → Type 0) → next (so.xs ++ x ∷ []) → HaveCome never next s (so.xs ++ x ∷ []) start now later
     come_more next in_turn = record {
@@ -136,7 +133,7 @@ module _ (turns : List Connection → Type 0) (first : Standing) (port n : ℕ) 
 
     -- or it couldn't be
     pub cut_then : (count : ℕ) → n < count → (new_out : SinkState) → TookBeginning out.taken new_out.taken (line_of (n + 1) connected) → Rose out.faults new_out.faults
-        → Runs next first port count start now from later old new_out 5
+        → Runs next s port count start now from later old new_out 5
     cut_then count less new_out took rose = record {
       ending = Done;
       lines = relay_lines port s (so.xs ++ t.x ∷ []);
@@ -151,7 +148,7 @@ module _ (turns : List Connection → Type 0) (first : Standing) (port n : ℕ) 
   -- no connection more is served
   pub faulty : (order : Connection → Type 0) (next : List Connection → Type 0) → ((x : Connection) → turns so.xs → order x → next (so.xs ++ x ∷ [])) → (new : ServerNow) (now : DiskState) (later : Port) → (turns so.xs → Span mid now (λ c. ⊥) → next so.xs)
       → (count : ℕ) → n < count → (fault : Fault) → Turns order server new mid now door later (Err fault) → (code : ℕ) (new_out : SinkState)
-      → Ends (ending_of_fault fault) [] out new_out code → Runs next first port count start now from later old new_out code
+      → Ends (ending_of_fault fault) [] out new_out code → Runs next s port count start now from later old new_out code
   faulty order next one new now later alone count less Accept none code new_out ends = record {
     ending = LinkFault;
     lines = relay_lines port s so.xs;
@@ -169,7 +166,7 @@ module _ (turns : List Connection → Type 0) (first : Standing) (port n : ℕ) 
   }
 
   -- all were served
-  pub all_served : (count : ℕ) → n ≡ count → (code : ℕ) (new_out : SinkState) → Ends Done [] out new_out code → Runs turns first port count start mid from door old new_out code
+  pub all_served : (count : ℕ) → n ≡ count → (code : ℕ) (new_out : SinkState) → Ends Done [] out new_out code → Runs turns s port count start mid from door old new_out code
   all_served count full code new_out ends = record {
     ending = Done;
     lines = relay_lines port s so.xs;

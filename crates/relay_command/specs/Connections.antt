@@ -1,7 +1,8 @@
 -- The connections of a relay, one after the other.
 use Rattle.std.specs.Prelude.{◌≡◌, ◌⊎◌, ⊤, ◌+◌, ◌≤◌, ℕ, List, [], ◌∷◌, ◌++◌, length, codes, decimal, Option, option_map, IfSome}
 use Rattle.dr_ports.specs.Ports.{Rose}
-use Rattle.dr_ports.specs.Wires.{Told, hung_up, listens_at, next_of}
+use Rattle.dr_ports.specs.declared.pipe.Part.TheVariants.{Flow, Gate}
+use Rattle.dr_ports.specs.Wires.{Port, Told, hung_up, listens_at, next_of}
 use Rattle.relay_core.specs.Boxes.{Box}
 use Rattle.relay_core.specs.Record.{box_text}
 use Rattle.relay_core.specs.Streams.{reply_bytes, served}
@@ -42,11 +43,25 @@ abbrev pub behind_all : Standing → List Connection → Standing
 behind_all s [] = s
 behind_all s (x ∷ xs) = behind_all (behind s x) xs
 
--- ---- what was sent
+-- ---- the door
 
 -- a count has risen, or stands at its type's end; it hasn't fallen
 abbrev pub HasRisen : ℕ → ℕ → Type 0
 HasRisen before now = (before ≤ now) × Rose before now
+
+-- it listens at a port, and nothing more was done
+pub record IsHeard (port : ℕ) (from door : Port) : Type 0 where
+  pub told : door.told ≡ option_map (listens_at port) from.told
+  pub flow : door.faults Flow ≡ from.faults Flow
+  pub gate : door.faults Gate ≡ from.faults Gate
+
+-- it couldn't listen
+pub record IsUnheard (from door : Port) : Type 0 where
+  pub told : door.told ≡ from.told
+  pub flow : door.faults Flow ≡ from.faults Flow
+  pub rose : HasRisen (from.faults Gate) (door.faults Gate)
+
+-- ---- what was sent
 
 -- where the door tells all that the connection holds: nothing more of it would be answered than what it gave
 abbrev pub IsAnswered : Standing → Connection → Type 0

@@ -1,22 +1,23 @@
 -- The connections of a relay in turn, on a disk: between two of them all is at rest, so what a crash leaves never goes
 -- back behind the latest connection.
-use Rattle.std.specs.Prelude.{List, [], ◌∷◌, ◌++◌, ℕ}
+use Rattle.std.specs.Prelude.{◌≡◌, List, [], ◌∷◌, ◌++◌, ℕ, option_map}
 use Rattle.dr_disk.specs.Spans.{Span}
 use Rattle.dr_disk.specs.State.{DiskState}
-use Rattle.dr_ports.specs.Wires.{Port}
-use Rattle.relay_core.specs.Boxes.{Box}
+use Rattle.dr_ports.specs.Wires.{Port, next_of}
 use Rattle.relay_core.specs.Record.{box_text}
 use Rattle.relay_server.specs.Serving.{Exchanges}
 use Rattle.relay_server.specs.FrameByFrame.{IsAtRest, IsInOrder, IsMoment}
 use Rattle.relay_command.specs.Connections.{Connection, Standing, behind_all}
 
--- A connection was served frame by frame, from one disk on until another; its pipe gave and took what it is said to.
-pub record WasServed {X Y : Type 0} (state : X → DiskState) (port_of : Y → Port) (boxes : List Box)
+-- A connection was accepted at a door that told what stood before it, and served frame by frame,
+-- from one disk on until another; its pipe gave and took what it is said to.
+pub record WasServed {X Y : Type 0} (state : X → DiskState) (port_of : Y → Port) (s : Standing)
     (start now : X) (x : Connection) : Type 0 where
   pub accepted : Y
   pub served : Y
+  pub told : (port_of accepted).told ≡ option_map next_of s.told
   pub exchanges : Exchanges x.got x.put (port_of accepted) (port_of served)
-  pub in_order : IsInOrder state port_of box_text boxes x.got start now accepted served
+  pub in_order : IsInOrder state port_of box_text s.boxes x.got start now accepted served
 
 -- These connections came in turn: before each the disk is at rest for the boxes that those before it left.
 pub data CameInTurn {X Y : Type 0} (state : X → DiskState) (port_of : Y → Port) (s : Standing) (start : X)
@@ -24,7 +25,7 @@ pub data CameInTurn {X Y : Type 0} (state : X → DiskState) (port_of : Y → Po
   none_came : CameInTurn state port_of s start [] start
   one_came : (xs : List Connection) (x : Connection) (disk next : X)
       → CameInTurn state port_of s start xs disk → IsAtRest box_text (behind_all s xs).boxes (state disk)
-      → WasServed state port_of (behind_all s xs).boxes disk next x
+      → WasServed state port_of (behind_all s xs) disk next x
       → CameInTurn state port_of s start (xs ++ x ∷ []) next
   -- nothing new could be left meanwhile
   left_alone : (xs : List Connection) (disk next : X) → CameInTurn state port_of s start xs disk

@@ -1,4 +1,4 @@
--- A relay whose boxes were opened: it listens and serves.
+-- A relay whose boxes were opened and that listens: it serves.
 use Rattle.std.specs.Prelude.{◌≡◌, ◌⊎◌, ◌<◌, ◌≤◌, ℕ, List, [], ◌∷◌, ◌++◌, length}
 use Rattle.dr_disk.specs.declared.call.Call.{Call}
 use Rattle.dr_disk.specs.Spans.{IsQuiet, Span}
@@ -13,10 +13,10 @@ use Rattle.endings.specs.declared.ending.Ending.TheVariants.{DiskFault, Done, Li
 use Rattle.relay_core.specs.Boxes.{Box}
 use Rattle.relay_core.specs.Record.{box_text}
 use Rattle.relay_core.specs.Streams.{Exchange, reply_bytes, reply_frame, served}
-use Rattle.relay_server.specs.Durable.{IsSameBehind}
+use Rattle.relay_server.specs.Places.{IsSameBehind}
 use Rattle.relay_server.specs.FrameByFrame.{IsAtRest}
 use Rattle.relay_server.specs.Serving.{LastOrBefore}
-use Rattle.relay_command.specs.Connections.{AreServed, Connection, HasRisen, IsBegun, Standing, WereReached, behind_all, lines_behind, listening, port_line}
+use Rattle.relay_command.specs.Connections.{AreServed, Connection, HasRisen, IsBegun, Standing, WereReached, behind_all, lines_behind, port_line}
 
 -- what stands at entry
 abbrev pub standing : List Box → Port → Standing
@@ -51,28 +51,24 @@ pub record IsStopped (s : Standing) (x : Connection) (now : DiskState) : Type 0 
 abbrev pub relay_lines : ℕ → Standing → List Connection → List ℕ
 relay_lines port s xs = port_line port ++ lines_behind 0 s xs
 
--- How it ends, with its lines. All connections come while the door listens at the port. Where the lines were cut there may be
--- fewer.
+-- How it ends, with its lines. Where the lines were cut there may be fewer connections.
 pub data Serves (earlier : List ℕ → Type 0) (turns : List Connection → Type 0) (s : Standing) (port count : ℕ)
     (start now : DiskState) (from door : Port) (code : ℕ)
     : Ending → List ℕ → Type 0 where
-  -- it couldn't listen there
-  was_unheard : WereServed earlier turns s [] start now door → HasRisen (from.faults Gate) (door.faults Gate)
-      → Serves earlier turns s port count start now from door code LinkFault []
   -- the next connection couldn't be accepted
-  was_unaccepted : (xs : List Connection) → WereServed earlier turns (listening port s) xs start now door → length xs < count
+  was_unaccepted : (xs : List Connection) → WereServed earlier turns s xs start now door → length xs < count
       → HasRisen (from.faults Gate) (door.faults Gate)
-      → Serves earlier turns s port count start now from door code LinkFault (relay_lines port (listening port s) xs)
+      → Serves earlier turns s port count start now from door code LinkFault (relay_lines port s xs)
   -- a call on the disk failed while the next connection was served
   was_stopped : (xs : List Connection) (x : Connection) (call : Call)
-      → HaveCome earlier turns (listening port s) (xs ++ x ∷ []) start now door → AreServed (listening port s) xs
-      → IsStopped (behind_all (listening port s) xs) x now → length xs < count → Rose (start.faults call) (now.faults call)
+      → HaveCome earlier turns s (xs ++ x ∷ []) start now door → AreServed s xs
+      → IsStopped (behind_all s xs) x now → length xs < count → Rose (start.faults call) (now.faults call)
       → door.faults Gate ≡ from.faults Gate
-      → Serves earlier turns s port count start now from door code DiskFault (relay_lines port (listening port s) xs)
+      → Serves earlier turns s port count start now from door code DiskFault (relay_lines port s xs)
   -- all were served, with status 0
-  went_on : (xs : List Connection) → WereServed earlier turns (listening port s) xs start now door → length xs ≤ count → (code ≡ 0 → length xs ≡ count)
+  went_on : (xs : List Connection) → WereServed earlier turns s xs start now door → length xs ≤ count → (code ≡ 0 → length xs ≡ count)
       → door.faults Gate ≡ from.faults Gate
-      → Serves earlier turns s port count start now from door code Done (relay_lines port (listening port s) xs)
+      → Serves earlier turns s port count start now from door code Done (relay_lines port s xs)
 
 -- and what was written of them
 pub record Runs (turns : List Connection → Type 0) (s : Standing) (port count : ℕ) (start now : DiskState) (from door : Port)

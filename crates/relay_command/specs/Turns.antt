@@ -10,7 +10,8 @@ use Rattle.endings.specs.declared.ending.Ending.{Ending as Closing}
 use Rattle.endings.specs.declared.ending.Ending.TheVariants.{DiskFault, LinkFault}
 use Rattle.relay_core.specs.Record.{box_text}
 use Rattle.relay_core.specs.Streams.{served}
-use Rattle.relay_server.specs.Durable.{IsReady, IsSameBehind, ServerNow}
+use Rattle.relay_server.specs.Durable.{IsReady, ServerNow}
+use Rattle.relay_server.specs.Places.{IsSameBehind}
 use Rattle.relay_server.specs.Serving.{Reached}
 use Rattle.relay_server.specs.declared.serving.ServeFault.{ServeFault}
 use Rattle.relay_server.specs.declared.serving.ServeFault.TheVariants.{Read, Store as FaultOf, Write}

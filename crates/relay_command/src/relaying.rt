@@ -7,21 +7,22 @@ ghost use Rattle.dr_ports.specs.declared.pipe.Part.{Part};
 ghost use Rattle.dr_ports.specs.declared.pipe.Part.TheVariants.{Gate};
 ghost use Rattle.relay_core.specs.declared.limits.TheConstants.{RELAY_LIMIT};
 ghost use Rattle.relay_command.specs.Names.{AreNames};
-ghost use Rattle.relay_command.specs.Relaying.{Opens, RunsRelay, ending_of_open};
+ghost use Rattle.relay_command.specs.Relaying.{Looks, RunsRelay, ending_of_open};
 ghost use Rattle.relay_command.specs.declared.relaying.TheConstants.{RELAY_DISK_SIZE};
 
 use crate::names::{check_names, names_of};
 use crate::serving::serve_all;
 use dr_disk::Disk;
-use dr_ports::{Door, Sink};
+use dr_ports::{Door, Failed, Sink};
 use endings::{Ending, Status, finish};
-use relay_server::{Server, ServerOpenError};
+use relay_core::RELAY_LIMIT;
+use relay_server::{AREA_SIZE, Looked, Server, ServerOpenError};
 use std::alloc::Global;
 
 /// The size of the disk of a relay, in bytes: the areas of 16 boxes.
-pub const RELAY_DISK_SIZE: u64 = 8388608;
+pub const RELAY_DISK_SIZE: u64 = AREA_SIZE * RELAY_LIMIT as u64;
 
-/// How the command ends where no server was opened. Boxes are counted from 1 here.
+/// How the command ends where the look is refused. Boxes are counted from 1 here.
 fn unopened(error: ServerOpenError) -> Ending
     requires { (k : ℕ) → error ≡ ServerOpenError.BoxName k → k < RELAY_LIMIT }
     ensures { result ≡ ending_of_open error }
@@ -34,32 +35,35 @@ fn unopened(error: ServerOpenError) -> Ending
     }
 }
 
-/// Opens the server of these boxes.
-fn open<A: Disk>(alloc: Global, boxes: &[&str], disk: &mut A) -> Result<Server, Ending>
+/// Looks at the areas of these boxes.
+fn look<A: Disk>(alloc: Global, boxes: &[&str], disk: &mut A) -> Result<Looked, Ending>
     requires names { AreNames (map (λ word. word.now) boxes.now) }
     requires few { length boxes.now ≤ RELAY_LIMIT }
     requires within { RELAY_DISK_SIZE ≤ (A.state disk.old).size }
-    ensures { Opens (map (λ word. word.now) boxes.now) (A.state disk.old) (A.state disk.new) result }
+    ensures { Looks (map (λ word. word.now) boxes.now) (A.state disk.old) (A.state disk.new) result }
 {
     let Ok(names) = names_of(alloc, boxes) else {
         return Err(Ending::NoMemory);
     };
-    match Server::open(alloc, disk, names.as_slice()) {
+    match Server::look(alloc, disk, names.as_slice()) {
         Err(error) => Err(unopened(error)),
-        Ok(server) => Ok(server),
+        Ok(looked) => Ok(looked),
     }
 }
 
-/// Serves a relay with these boxes on this many connections at a port: the line `relay PORT` once it listens, and for the I-th
-/// connection `connection I ended N`, with N the number of its replies, or `connection I failed`, where receiving or sending
-/// failed.
+/// Serves a relay with these boxes on this many connections at a port: the line `relay PORT` once
+/// it listens, and for the I-th connection `connection I ended N`, with N the number of its
+/// replies, or `connection I failed`, where receiving or sending failed.
 ///
-/// The words are looked at first: `BadBox K` exactly where the K-th, from 1, is the first that is no lawful name, equals one
-/// before it, or is the 17th. Then the boxes are opened: want of memory, `DiskFault`, `DamagedArea` and `BoxName` as
-/// `relay_server::Server::open` tells them, with boxes counted from 1. Only then is the door touched: it listens at the port, and
-/// each connection is accepted, served and ended, also where a call on it or on the disk failed. `LinkFault` where listening or
-/// accepting failed. A store that failed ends the command with `DiskFault`, and a line that couldn't be written ends it with
-/// status 5.
+/// The words are looked at first: `BadBox K` exactly where the K-th, from 1, is the first that is
+/// no lawful name, equals one before it, or is the 17th. Then the areas are looked at: want of
+/// memory, `DiskFault`, `DamagedArea` and `BoxName` as `relay_server::Server::look` tells them,
+/// with boxes counted from 1. Only then is the door touched: it listens at the port. `LinkFault`
+/// where it couldn't, and then no record was put, and no byte written where the areas were read at
+/// rest or as zeros. Once it listens, each area without a record gets an empty box's, and each
+/// connection is accepted, served and ended, also where a call on it or on the disk failed.
+/// `LinkFault` where accepting failed. A call on the disk that failed ends the command with
+/// `DiskFault`, and a line that couldn't be written ends it with status 5.
 pub fn relay<A: Disk, L: Door, O: Sink>(
     alloc: Global,
     port: u16,
@@ -85,8 +89,16 @@ pub fn relay<A: Disk, L: Door, O: Sink>(
         Err(number) => return finish(out, Ending::BadBox(number)),
         Ok(()) => {}
     }
-    match open(alloc, boxes, disk) {
-        Err(ending) => finish(out, ending),
+    let looked = match look(alloc, boxes, disk) {
+        Err(ending) => return finish(out, ending),
+        Ok(looked) => looked,
+    };
+    match door.listen(port) {
+        Err(Failed) => return finish(out, Ending::LinkFault),
+        Ok(()) => {}
+    }
+    match looked.settle(disk) {
+        Err(_) => finish(out, Ending::DiskFault),
         Ok(mut server) => serve_all(port, count, &mut server, disk, door, out),
     }
 }

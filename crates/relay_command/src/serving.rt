@@ -1,9 +1,8 @@
-//! A relay whose boxes were opened listens, and serves its connections.
+//! A relay that listens serves its connections.
 
 ghost use Rattle.std.specs.Prelude.{◌≡◌, ◌≤◌};
 ghost use Rattle.relay_core.specs.Record.{box_text};
 ghost use Rattle.relay_server.specs.Durable.{IsReady};
-ghost use Rattle.relay_command.specs.Connections.{listening};
 ghost use Rattle.relay_command.specs.InTurn.{CameInTurn};
 ghost use Rattle.relay_command.specs.Serving.{Runs, standing};
 ghost use Rattle.relay_command.specs.Turns.{ending_of_fault};
@@ -25,7 +24,8 @@ fn ending_of(fault: Fault) -> Ending
     }
 }
 
-/// Listens at a port, writes the line that says so, and serves this many connections, with a line for each.
+/// Writes the line that says that the door listens at a port, and serves this many connections,
+/// with a line for each.
 pub(crate) fn serve_all<A: Disk, L: Door, O: Sink>(
     port: u16,
     count: u32,
@@ -35,15 +35,11 @@ pub(crate) fn serve_all<A: Disk, L: Door, O: Sink>(
     out: &mut O,
 ) -> Status
     requires { IsReady box_text server.old (A.state disk.old) }
-    ensures runs { Runs (λ xs. CameInTurn A.state L.port (listening port (standing server.old.boxes (L.port door.old))) disk.old xs disk.new)
+    ensures runs { Runs (λ xs. CameInTurn A.state L.port (standing server.old.boxes (L.port door.old)) disk.old xs disk.new)
         (standing server.old.boxes (L.port door.old)) port count (A.state disk.old) (A.state disk.new)
         (L.port door.old) (L.port door.new) (O.at out.old) (O.at out.new) result.code }
     ensures later { (O.at out.old).faults ≤ (O.at out.new).faults }
 {
-    match door.listen(port) {
-        Err(Failed) => return finish(out, Ending::LinkFault),
-        Ok(()) => {}
-    }
     match write_all(out, port_line(port).as_bytes()) {
         Err(Failed) => return UNWRITTEN,
         Ok(()) => {}

@@ -1,11 +1,11 @@
 -- Where the rounds of a connection end.
-use Rattle.std.proofs.Common.{◌≡◌, ℕ, zero, ◌+◌, ◌-◌, ◌*◌, ◌<◌, true, List, [], ◌∷◌, ◌++◌, length, drop, Option, sym, ◌∙◌, ap, subst, arith, append_assoc, append-nil}
+use Rattle.std.proofs.Common.{◌≡◌, ℕ, zero, ◌+◌, ◌-◌, ◌<◌, true, List, [], ◌∷◌, ◌++◌, length, drop, Option, sym, ◌∙◌, ap, subst, arith, append_assoc, append-nil}
 use Rattle.std.specs.Prelude.{flat_map, IfSome}
 use Rattle.std.specs.List.{AllByRecursion}
 use Rattle.std.proofs.lemmas.List.{length_push, append_cancel_left}
 use Rattle.std.proofs.lemmas.List.Concat.{flat_map-append}
 use Rattle.dr_disk.specs.State.{DiskState, Always}
-use Rattle.dr_disk.specs.Spans.{Frame, Span}
+use Rattle.dr_disk.specs.Spans.{Span}
 use Rattle.dr_disk.proofs.Steps.{spans, widen}
 use Rattle.dr_ports.specs.Wires.{Port, Told, EndsAt, IsAtEnd}
 use Rattle.relay_wire.specs.Requests.{read_request}
@@ -18,6 +18,7 @@ use Rattle.relay_pipe.proofs.Exchanged.{both}
 use Rattle.relay_server.specs.Durable.{ServerNow, StandsForEither}
 use Rattle.relay_server.specs.Serving.{Exchanges, Idle, Came, reply_to, ReachedIn, Reached, IsAll, LastOrBefore, Answers, SoFar}
 use Rattle.relay_server.proofs.Serve.{ended_with, serves_frame, so_served, with_frame, span_with, whole_with, flat_with, count_with}
+use Rattle.relay_server.specs.Places.{IsSameBehind}
 
 served_is : (boxes : List Box) (frames : List (List ℕ)) (rest : List ℕ) → AllByRecursion IsFrame frames → served boxes (flat frames ++ rest) ≡ served_within EXCHANGE_LIMIT boxes (frames ++ frames_of rest)
 unfolding served
@@ -26,8 +27,8 @@ served_is boxes frames rest whole = ap (served_within EXCHANGE_LIMIT boxes) (fra
 nothing_left : frames_of [] ≡ []
 nothing_left = no_frames [] (omega arith)
 
-same_span : (text : Box → List ℕ) (boxes : List Box) (frames : List (List ℕ)) (got : List ℕ) (a b : DiskState) → frames_of got ≡ frames → Span a b (λ c. ReachedIn text EXCHANGE_LIMIT boxes frames c × Frame a 0 (524288 * length boxes) c) → Span a b (λ c. Reached text boxes got c × Frame a 0 (524288 * length boxes) c)
-same_span text boxes frames got a b is span = subst (λ (fs : List (List ℕ)). Span a b (λ c. ReachedIn text EXCHANGE_LIMIT boxes fs c × Frame a 0 (524288 * length boxes) c)) (sym is) span
+same_span : (text : Box → List ℕ) (boxes : List Box) (frames : List (List ℕ)) (got : List ℕ) (a b : DiskState) → frames_of got ≡ frames → Span a b (λ c. ReachedIn text EXCHANGE_LIMIT boxes frames c × IsSameBehind (length boxes) a c) → Span a b (λ c. Reached text boxes got c × IsSameBehind (length boxes) a c)
+same_span text boxes frames got a b is span = subst (λ (fs : List (List ℕ)). Span a b (λ c. ReachedIn text EXCHANGE_LIMIT boxes fs c × IsSameBehind (length boxes) a c)) (sym is) span
 
 module _ (text : Box → List ℕ) (old : ServerNow) (boxes : List Box) (start now : Port) (dstart dnow : DiskState) (n : ℕ) (so : SoFar text EXCHANGE_LIMIT old boxes start now dstart dnow n) where
   pub frames_are : frames_of (flat so.frames) ≡ so.frames
@@ -53,7 +54,7 @@ module _ (text : Box → List ℕ) (old : ServerNow) (boxes : List Box) (start n
       next_is = idle.same ∙ ap (λ (s : Served). s.next) (sym total_served);
     }
 
-    pub idle_during : Span dstart dafter (λ c. Reached text old.boxes total c × Frame dstart 0 (524288 * length old.boxes) c)
+    pub idle_during : Span dstart dafter (λ c. Reached text old.boxes total c × IsSameBehind (length old.boxes) dstart c)
     idle_during = same_span text old.boxes so.frames total dstart dafter total_frames (spans dstart dnow dafter _ so.during (widen dnow dafter _ _ (λ c none. absurd none) idle.still))
 
     pub idle_boxes : length next ≡ length old.boxes
@@ -88,7 +89,7 @@ module _ (text : Box → List ℕ) (old : ServerNow) (boxes : List Box) (start n
         ∙ ap (λ (fs : List (List ℕ)). served_within EXCHANGE_LIMIT old.boxes ((so.frames ++ frame ∷ []) ++ fs)) nothing_left ∙ ap (served_within EXCHANGE_LIMIT old.boxes) (append-nil (so.frames ++ frame ∷ []))
         ∙ with_frame text EXCHANGE_LIMIT old boxes start now dstart dnow n so frame put next after dafter under came
 
-    pub came_during : Span dstart dafter (λ c. Reached text old.boxes whole c × Frame dstart 0 (524288 * length old.boxes) c)
+    pub came_during : Span dstart dafter (λ c. Reached text old.boxes whole c × IsSameBehind (length old.boxes) dstart c)
     came_during = same_span text old.boxes (so.frames ++ frame ∷ []) whole dstart dafter whole_frames (span_with text EXCHANGE_LIMIT old boxes start now dstart dnow n so frame put next after dafter under came)
 
     pub came_boxes : length next ≡ length old.boxes
@@ -139,7 +140,7 @@ module _ (text : Box → List ℕ) (old : ServerNow) (boxes : List Box) (start n
       next_is = ap (λ (s : Served). s.next) (sym full_here);
     }
 
-    pub full_during : Span dstart dnow (λ c. Reached text old.boxes (flat so.frames) c × Frame dstart 0 (524288 * length old.boxes) c)
+    pub full_during : Span dstart dnow (λ c. Reached text old.boxes (flat so.frames) c × IsSameBehind (length old.boxes) dstart c)
     full_during = same_span text old.boxes so.frames (flat so.frames) dstart dnow frames_are so.during
 
     pub full_count : length (served old.boxes (flat so.frames)).exchanges ≡ EXCHANGE_LIMIT

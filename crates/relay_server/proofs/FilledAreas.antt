@@ -1,32 +1,31 @@
 -- Boxes that are loaded, and areas that get an empty box's record.
-use Rattle.std.proofs.Common.{◌≡◌, ◌≢◌, inl, inr, ⊎_elim, ℕ, ◌+◌, ◌*◌, ◌<◌, ◌≤◌, Bool, true, List, ◌++◌, length, Option, Some, None, refl, sym, ◌∙◌, ap, subst, arith, length-append}
+use Rattle.std.proofs.Common.{◌≡◌, ◌≢◌, inl, inr, ⊎_elim, ℕ, ◌+◌, ◌<◌, ◌≤◌, Bool, true, List, ◌++◌, length, Option, Some, None, refl, sym, ◌∙◌, ap, subst, arith, length-append}
 use Rattle.std.specs.Prelude.{slice_get}
 use Rattle.std.specs.Int.{w8, w64, to_be_bytes}
 use Rattle.grammar.specs.Printer.{print_items, print_sized}
 use Rattle.slot_store.specs.Kept.{content_or_empty}
 use Rattle.std.proofs.lemmas.Bool.{cases_eq}
-use Rattle.std.proofs.lemmas.Option.{slice_get_within}
-use Rattle.dr_disk.specs.Spans.{Frame, Span}
+use Rattle.dr_disk.specs.Spans.{Span}
 use Rattle.dr_disk.specs.State.{Always, DiskState}
 use Rattle.dr_disk.proofs.Ranges.{torn_self, torn_twice, torn_wider}
 use Rattle.dr_disk.proofs.Steps.{spans, widen}
-use Rattle.slot_store.specs.Areas.{Area}
+use Rattle.slot_store.specs.Areas.{Area, Fits, size_of}
 use Rattle.slot_store.specs.declared.store.SlotStore.{SlotStore}
 use Rattle.slot_store.specs.Laws.{IsLocal}
 use Rattle.slot_store.specs.Slots.{recovered}
-use Rattle.slot_store.specs.Store.{IsOldOrNew, IsWithin, Rests, content}
+use Rattle.slot_store.specs.Store.{IsOldOrNew, IsWithin, Rests, content, KeepsOutside}
 use Rattle.relay_core.specs.declared.limits.TheConstants.{RECORD_LIMIT}
 use Rattle.relay_core.specs.Boxes.{Box, empty_box}
 use Rattle.relay_core.specs.Record.{box_text, head_text, kept_text}
-use Rattle.relay_server.specs.Durable.{IsReady, IsReplaced, area_of}
+use Rattle.relay_server.specs.Durable.{IsReplaced}
+use Rattle.relay_server.specs.Places.{area_of, areas_size}
 use Rattle.relay_server.specs.Filling.{AreFilled, HasBox, IsFilling}
 use Rattle.relay_server.specs.Opening.{StaysOrBegins}
-use Rattle.relay_server.proofs.Replacing.{with_stores}
 use Rattle.relay_server.proofs.OneStore.{there_is, OneReplaced, old_store, new_store, is_replaced, is_new, around_area, new_areas, new_rests}
 use Rattle.relay_server.proofs.OpenedAreas.{other_same}
 
 filling_self : (boxes : List Box) (start : DiskState) (c : List ℕ) → start.image c → IsFilling boxes start c
-filling_self boxes start c left = record { entry = c; image = left; each = λ k box there. inl refl; outside = torn_self 0 (524288 * length boxes) c }
+filling_self boxes start c left = record { entry = c; image = left; each = λ k box there. inl refl; outside = torn_self 0 (areas_size (length boxes)) c }
 
 -- stays or begins, twice
 twice : (name : List ℕ) (a b c : Option (List ℕ)) → StaysOrBegins name a b → StaysOrBegins name b c → StaysOrBegins name a c
@@ -43,7 +42,7 @@ filling_on boxes start d now first next = spans start d now (IsFilling boxes sta
       entry = was.entry;
       image = was.image;
       each = λ k box there. twice box.name _ _ _ (was.each k box there) (is.each k box there);
-      outside = torn_twice 0 (524288 * length boxes) was.entry is.entry c was.outside is.outside;
+      outside = torn_twice 0 (areas_size (length boxes)) was.entry is.entry c was.outside is.outside;
     }) next)
 
 -- ---- a record is never empty
@@ -72,11 +71,11 @@ stays_text n k box None t has is = absurd (let e : None ≡ Some t = is in cc)
 stays_text n k box (Some s) t has is = has
 
 -- what a call in one area needs
-pub place_ready : (n : ℕ) (boxes : List Box) (stores : List SlotStore) (d : DiskState) (m : ℕ) → AreFilled n boxes stores d → n < length boxes → m ≤ RECORD_LIMIT → (store : SlotStore) → slice_get stores n ≡ Some store
-    → (6 + m ≤ store.area.slot) × IsWithin store.area d × Always (Rests store) d
-place_ready n boxes stores d m filled inside few store there =
+pub place_ready : (n : ℕ) (boxes : List Box) (stores : List SlotStore) (d : DiskState) (t : List ℕ) → AreFilled n boxes stores d → n < length boxes → length t ≤ RECORD_LIMIT → (store : SlotStore) → slice_get stores n ≡ Some store
+    → Fits store.area t × IsWithin store.area d × Always (Rests store) d
+place_ready n boxes stores d t filled inside few store there =
     let area = filled.areas n store there in
-    (subst (λ (a : Area). 6 + m ≤ a.slot) (sym area) (omega (arith, few)), subst (λ (a : Area). IsWithin a d) (sym area) (omega (arith, inside, filled.within)), filled.rests n store there)
+    (subst (λ (a : Area). Fits a t) (sym area) (omega (arith, few)), subst (λ (a : Area). IsWithin a d) (sym area) (omega (arith, inside, filled.within)), filled.rests n store there)
 
 pub stands_on : (n : ℕ) (boxes : List Box) (stores : List SlotStore) (d : DiskState) (store : SlotStore) (t : List ℕ) → AreFilled n boxes stores d → slice_get stores n ≡ Some store → content store ≡ Some t → AreFilled (n + 1) boxes stores d
 stands_on n boxes stores d store t filled here has = record {
@@ -134,8 +133,8 @@ module _ (n : ℕ) (boxes : List Box) (stores news : List SlotStore) (t : List �
   old_area : the_old.0.area ≡ area_of n
   old_area = r.filled.areas n the_old.0 the_old.1
 
-  framed : (c : List ℕ) → Frame start the_old.0.area.start (the_old.0.area.slot + the_old.0.area.slot) c
-      → Frame start (area_of n).start ((area_of n).slot + (area_of n).slot) c
+  framed : (c : List ℕ) → KeepsOutside the_old.0.area start c
+      → KeepsOutside (area_of n) start c
   framed = around_area n stores news t start now done one_store
 
   -- before, the area has no record
@@ -166,7 +165,7 @@ module _ (n : ℕ) (boxes : List Box) (stores news : List SlotStore) (t : List �
               subst (λ (m : ℕ). StaysOrBegins box.name (recovered (area_of m) frame.0) (recovered (area_of m) c)) (sym same) (either c box here o frame.0 frame.1)
           | inr other ↦ inl (other_same r.local k n frame.0 c other frame.2)
         ];
-        outside = torn_wider (area_of n).start ((area_of n).slot + (area_of n).slot) 0 (524288 * length boxes) frame.0 c (omega arith) (omega (arith, r.inside)) frame.2;
+        outside = torn_wider (area_of n).start (size_of (area_of n)) 0 (areas_size (length boxes)) frame.0 c (omega arith) (omega (arith, r.inside)) frame.2;
       }
 
   pub put_moments : Span start now (IsFilling boxes start)
@@ -186,18 +185,3 @@ module _ (n : ℕ) (boxes : List Box) (stores news : List SlotStore) (t : List �
       | inr other ↦ later_text n j box (content store) (r.filled.each j store box (sym (r.others j other) ∙ there) boxed) other
     ];
   }
-
--- ---- all areas have their boxes
-
-has_text : (n k : ℕ) (box : Box) (text : Option (List ℕ)) → k < n → HasBox n k box text → text ≡ Some (box_text box)
-has_text n k box None less has = absurd (omega (arith, less, has.0))
-has_text n k box (Some t) less has = ap (λ (x : List ℕ). Some x) has
-
-pub filled_ready : (boxes : List Box) (stores : List SlotStore) (disk : DiskState) → AreFilled (length boxes) boxes stores disk → IsReady box_text (with_stores boxes stores) disk
-filled_ready boxes stores disk filled = record {
-  count = filled.count;
-  within = λ k inside. omega (arith, inside, filled.within);
-  areas = filled.areas;
-  holds = λ k store box there boxed. has_text (length boxes) k box (content store) (slice_get_within boxes k box boxed) (filled.each k store box there boxed);
-  rests = filled.rests;
-}

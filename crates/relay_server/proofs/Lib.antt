@@ -9,5 +9,6 @@ pub mod Replacing
 pub mod Rounds
 pub mod Sent
 pub mod Serve
+pub mod Settled
 mod StorePlaces
 pub mod Ends

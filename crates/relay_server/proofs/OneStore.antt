@@ -1,15 +1,15 @@
 -- One store of many has another record: the others are as they were.
-use Rattle.std.proofs.Common.{◌≡◌, ◌≢◌, inl, inr, ℕ, zero, suc, ◌+◌, ◌<◌, ◌≤◌, Bool, true, List, [], ◌∷◌, length, Some, refl, sym, ◌∙◌, ap, subst, arith}
+use Rattle.std.proofs.Common.{◌≡◌, ◌≢◌, inl, inr, ℕ, zero, suc, ◌<◌, ◌≤◌, Bool, true, List, [], ◌∷◌, length, Some, refl, sym, ◌∙◌, ap, subst, arith}
 use Rattle.std.specs.Prelude.{slice_get}
 use Rattle.std.proofs.lemmas.Bool.{cases_eq, cases_lt}
 use Rattle.dr_disk.specs.Bytes.{Torn}
-use Rattle.dr_disk.specs.Spans.{Frame}
 use Rattle.dr_disk.specs.State.{Always, DiskState}
-use Rattle.slot_store.specs.Areas.{Area}
+use Rattle.slot_store.specs.Areas.{Area, size_of}
 use Rattle.slot_store.specs.declared.store.SlotStore.{SlotStore}
 use Rattle.slot_store.specs.Laws.{IsLocal, SameWithin}
-use Rattle.slot_store.specs.Store.{Rests}
-use Rattle.relay_server.specs.Durable.{IsReplaced, area_of}
+use Rattle.slot_store.specs.Store.{Rests, KeepsOutside}
+use Rattle.relay_server.specs.Durable.{IsReplaced}
+use Rattle.relay_server.specs.Places.{area_of}
 
 pub there_is : {X : Type 0} (xs : List X) (k : ℕ) → k < length xs → (x : X) × (slice_get xs k ≡ Some x)
 there_is [] k inside = absurd (omega (arith, inside))
@@ -17,7 +17,7 @@ there_is (x ∷ xs) zero inside = (x, refl)
 there_is (x ∷ xs) (suc k) inside = there_is xs k (omega (arith, inside))
 
 -- what is torn in one area is the same in each other
-pub apart : (j k : ℕ) (c d : List ℕ) → j ≢ k → Torn (area_of k).start ((area_of k).slot + (area_of k).slot) d c → SameWithin (area_of j) c d
+pub apart : (j k : ℕ) (c d : List ℕ) → j ≢ k → Torn (area_of k).start (size_of (area_of k)) d c → SameWithin (area_of j) c d
 apart j k c d other torn = record {
   size = torn.size;
   bytes = λ i from to. torn.outside i (elim (cases_lt j k) [ inl below ↦ inl (omega (arith, below, to)) | inr above ↦ inr (omega (arith, above, other, from)) ]);
@@ -48,9 +48,9 @@ module _ (n : ℕ) (stores news : List SlotStore) (t : List ℕ) (start now : Di
   is_new j store same there =
       let e : Some new_store.0 ≡ Some store = sym new_store.1 ∙ subst (λ (m : ℕ). slice_get news m ≡ Some store) same there in cc
 
-  pub around_area : (c : List ℕ) → Frame start old_store.0.area.start (old_store.0.area.slot + old_store.0.area.slot) c
-      → Frame start (area_of n).start ((area_of n).slot + (area_of n).slot) c
-  around_area c f = subst (λ (a : Area). Frame start a.start (a.slot + a.slot) c) (r.areas n old_store.0 old_store.1) f
+  pub around_area : (c : List ℕ) → KeepsOutside old_store.0.area start c
+      → KeepsOutside (area_of n) start c
+  around_area c f = subst (λ (a : Area). KeepsOutside a start c) (r.areas n old_store.0 old_store.1) f
 
   pub new_areas : (j : ℕ) (store : SlotStore) → slice_get news j ≡ Some store → store.area ≡ area_of j
   new_areas j store there = elim (cases_eq j n) [

@@ -1,14 +1,16 @@
 -- Areas that are opened one after the other.
-use Rattle.std.proofs.Common.{◌≡◌, ◌≢◌, ◌⊎◌, inl, inr, ⊎_elim, ℕ, zero, suc, ◌+◌, ◌*◌, ◌<◌, ◌≤◌, true, false, List, [], ◌∷◌, ◌++◌, length, Option, Some, None, refl, sym, ◌∙◌, ap, subst, arith, length-append}
+use Rattle.std.proofs.Common.{◌≡◌, ◌≢◌, ◌⊎◌, inl, inr, ⊎_elim, ℕ, zero, suc, ◌+◌, ◌<◌, ◌≤◌, true, false, List, [], ◌∷◌, ◌++◌, length, Option, Some, None, refl, sym, ◌∙◌, ap, subst, arith, length-append}
 use Rattle.std.specs.Prelude.{slice_get, is_some}
 use Rattle.std.proofs.lemmas.Bool.{cases_eq}
 use Rattle.std.proofs.lemmas.Option.{slice_get_within}
 use Rattle.dr_disk.specs.Bytes.{Torn}
+use Rattle.dr_disk.specs.Calls.{Unwritten}
 use Rattle.dr_disk.specs.Spans.{IsQuiet, Span}
 use Rattle.dr_disk.specs.State.{Always, DiskState, IsLawful}
 use Rattle.dr_disk.proofs.Ranges.{torn_self, torn_twice, torn_wider}
 use Rattle.dr_disk.proofs.Steps.{quiet_twice, spans, stays, widen}
-use Rattle.slot_store.specs.Areas.{Area}
+use Rattle.slot_store.specs.Areas.{Area, size_of}
+use Rattle.slot_store.specs.AtRest.{IsReadAtRest}
 use Rattle.slot_store.specs.declared.opening.Found.{Found}
 use Rattle.slot_store.specs.declared.opening.Found.TheVariants.{Content, NoContent}
 use Rattle.slot_store.specs.declared.store.SlotStore.{SlotStore}
@@ -17,8 +19,8 @@ use Rattle.slot_store.specs.Laws.{IsLocal, SameWithin}
 use Rattle.slot_store.specs.Reading.{IsEntryOrLike, IsLikeRead, damaged}
 use Rattle.slot_store.specs.Slots.{recovered}
 use Rattle.slot_store.specs.Store.{Rests, content}
-use Rattle.relay_server.specs.Areas.{AreOpened, AreRefused, IsAreaOpened, IsAreaRefused, IsLikeEntry, reading_of}
-use Rattle.relay_server.specs.Durable.{area_of}
+use Rattle.relay_server.specs.Areas.{AreAtRest, AreOpened, AreRefused, HasLooked, IsAreaOpened, IsAreaRefused, IsLikeEntry, reading_of}
+use Rattle.relay_server.specs.Places.{area_of, areas_size}
 use Rattle.relay_server.specs.Opening.{IsFirstDamaged, IsWhole, OfRead, area_read, box_fault}
 use Rattle.relay_server.specs.declared.errors.ServerOpenError.{ServerOpenError}
 use Rattle.relay_server.specs.declared.errors.ServerOpenError.TheVariants.{BoxName, Damaged, Memory, StoreFault}
@@ -55,11 +57,15 @@ pushed {X} [] x y (suc k) is = absurd (let e : None ≡ Some y = is in cc)
 pushed (z ∷ xs) x y zero is = inl is
 pushed (z ∷ xs) x y (suc k) is = ⊎_elim (λ old. inl old) (λ new. inr (ap suc new.0, new.1)) (pushed xs x y k is)
 
+-- no call was made
+pub unlooked : (count : ℕ) (start : DiskState) → HasLooked count start start
+unlooked count start = record { during = stays start (IsLikeEntry count start); still = λ rest. record { seen = refl; images = λ c left. left } }
+
 -- no area was opened yet
 pub none_opened : (count : ℕ) (start : DiskState) (stores : List SlotStore) → stores ≡ [] → AreOpened 0 count stores start start
 none_opened count start stores is = subst (λ (xs : List SlotStore). AreOpened 0 count xs start start) (sym is) (record {
   count_is = refl;
-  during = stays start (IsLikeEntry count start);
+  looked = unlooked count start;
   quiet = λ call. refl;
   areas = λ k store there. absurd (let e : None ≡ Some store = there in cc);
   clean = λ k store text there. absurd (let e : None ≡ Some store = there in cc);
@@ -69,16 +75,17 @@ none_opened count start stores is = subst (λ (xs : List SlotStore). AreOpened 0
 })
 
 pub entry_self : (count : ℕ) (start : DiskState) (c : List ℕ) → start.image c → IsLikeEntry count start c
-entry_self count start c left = record { entry = c; image = left; same = λ k. refl; outside = torn_self 0 (524288 * count) c }
+entry_self count start c left = record { entry = c; image = left; same = λ k. refl; outside = torn_self 0 (areas_size count) c }
 
 -- what is torn in one area is read in each other as it was
-pub other_same : IsLocal → (j k : ℕ) (d c : List ℕ) → j ≢ k → Torn (area_of k).start ((area_of k).slot + (area_of k).slot) d c → recovered (area_of j) c ≡ recovered (area_of j) d
+pub other_same : IsLocal → (j k : ℕ) (d c : List ℕ) → j ≢ k → Torn (area_of k).start (size_of (area_of k)) d c → recovered (area_of j) c ≡ recovered (area_of j) d
 other_same local j k d c other torn = local.record_of (area_of j) c d (omega arith) (apart j k c d other torn)
 
 module _ (local : IsLocal) (n count : ℕ) (start d now : DiskState) (stores : List SlotStore) (lawful : IsLawful d) (less : n < count)
-    (so_far : AreOpened n count stores start d) (span : Span d now (IsEntryOrLike (area_of n) d)) where
+    (so_far : AreOpened n count stores start d) (span : Span d now (IsEntryOrLike (area_of n) d))
+    (still : IsReadAtRest (area_of n) d → Unwritten d now) where
   entry_of : (c : List ℕ) → d.image c → IsLikeEntry count start c
-  entry_of c left = ⊎_elim (λ was. entry_self count start c was) (λ is. is) (so_far.during.last c left)
+  entry_of c left = ⊎_elim (λ was. entry_self count start c was) (λ is. is) (so_far.looked.during.last c left)
 
   like_step : (c : List ℕ) → IsEntryOrLike (area_of n) d c → IsLikeEntry count start c
   like_step c is = ⊎_elim (entry_of c) (λ like.
@@ -90,12 +97,23 @@ module _ (local : IsLocal) (n count : ℕ) (start d now : DiskState) (stores : L
           | inl here ↦ subst (λ (m : ℕ). recovered (area_of m) c ≡ recovered (area_of m) like.read) (sym here) like.same ∙ before.same k
           | inr other ↦ other_same local k n like.read c other like.outside ∙ before.same k
         ];
-        outside = torn_twice 0 (524288 * count) before.entry like.read c before.outside
-            (torn_wider (area_of n).start ((area_of n).slot + (area_of n).slot) 0 (524288 * count) like.read c (omega arith) (omega (arith, less)) like.outside);
+        outside = torn_twice 0 (areas_size count) before.entry like.read c before.outside
+            (torn_wider (area_of n).start (size_of (area_of n)) 0 (areas_size count) like.read c (omega arith) (omega (arith, less)) like.outside);
       }) is
 
-  pub opening_span : Span start now (IsLikeEntry count start)
-  opening_span = spans start d now (IsLikeEntry count start) so_far.during (widen d now _ _ like_step span)
+  opening_span : Span start now (IsLikeEntry count start)
+  opening_span = spans start d now (IsLikeEntry count start) so_far.looked.during (widen d now _ _ like_step span)
+
+  -- where all are read at rest nothing was written before, and so this one is read at rest
+  unwritten_on : AreAtRest count start → Unwritten start now
+  unwritten_on rest =
+      let first = so_far.looked.still rest in
+      let here = rest n less in
+      let next = still (record { bytes = here.bytes; told = first.seen ∙ here.told; mark = here.mark; text = here.text; rests = here.rests }) in
+      record { seen = next.seen ∙ first.seen; images = λ c left. first.images c (next.images c left) }
+
+  pub opening_looked : HasLooked count start now
+  opening_looked = record { during = opening_span; still = unwritten_on }
 
   -- the area that comes next is read as it was at first
   unread : (s r : List ℕ) → start.seen ≡ Some s → d.seen ≡ Some r → area_read n s ≡ area_read n r
@@ -112,12 +130,12 @@ module _ (local : IsLocal) (n count : ℕ) (start d now : DiskState) (stores : L
     before = λ j below.
         let there = there_is stores j (omega (arith, so_far.count_is, below)) in
         subst IsWhole (sym (so_far.read s was j there.0 there.1)) (whole_of (content there.0));
-    here = let r = so_far.during.told s was in unread s r.0 was r.1 ∙ here r.0 r.1;
+    here = let r = so_far.looked.during.told s was in unread s r.0 was r.1 ∙ here r.0 r.1;
   }
 
   pub refused : (e : ServerOpenError) → IsAreaRefused n d now e → AreRefused count start now e
   refused Memory is = quiet_twice start d now so_far.quiet is
-  refused (StoreFault call) is = omega (arith, is, so_far.during.counts call)
+  refused (StoreFault call) is = omega (arith, is, so_far.looked.during.counts call)
   refused (Damaged area slot at) is =
       (omega (arith, less, is.0), quiet_twice start d now so_far.quiet is.1, subst (λ (k : ℕ). OfRead start (IsFirstDamaged count k slot at)) (sym is.0) (damaged_first slot at is.2))
   refused (BoxName k) is = absurd is
@@ -140,7 +158,7 @@ module _ (local : IsLocal) (n count : ℕ) (start d now : DiskState) (stores : L
     pub one_more : AreOpened (n + 1) count (stores ++ store ∷ []) start now
     one_more = record {
       count_is = omega (arith, length-append {A = SlotStore} stores (store ∷ []), so_far.count_is);
-      during = opening_span;
+      looked = opening_looked;
       quiet = quiet_twice start d now so_far.quiet one.quiet;
       areas = λ k other there. ⊎_elim (λ old. so_far.areas k other old)
           (λ new. subst (λ (x : SlotStore). x.area ≡ area_of k) new.1 (one.area ∙ ap area_of (sym (new.0 ∙ so_far.count_is)))) (pushed stores store other k there);
@@ -149,13 +167,13 @@ module _ (local : IsLocal) (n count : ℕ) (start d now : DiskState) (stores : L
       rests = λ k other there. ⊎_elim (λ old. old_rests k other (below_n k other old) old)
           (λ new. subst (λ (x : SlotStore). Always (Rests x) now) new.1 one.rests) (pushed stores store other k there);
       read = λ s was k other there.
-          let r = so_far.during.told s was in
+          let r = so_far.looked.during.told s was in
           ⊎_elim (λ old. so_far.read s was k other old)
           (λ new. subst (λ (m : ℕ). area_read m s ≡ reading_of (content other)) (sym (new.0 ∙ so_far.count_is))
           (unread s r.0 was r.1 ∙ one.read r.0 r.1 ∙ ap (λ (x : SlotStore). reading_of (content x)) new.1)) (pushed stores store other k there);
       untouched = λ s r was is.
           let like = reads r is in
-          torn_twice 0 (524288 * (n + 1)) s like.read r
-          (torn_wider 0 (524288 * n) 0 (524288 * (n + 1)) s like.read (omega arith) (omega arith) (so_far.untouched s like.read was like.told))
-          (torn_wider (area_of n).start ((area_of n).slot + (area_of n).slot) 0 (524288 * (n + 1)) like.read r (omega arith) (omega arith) like.outside);
+          torn_twice 0 (areas_size (n + 1)) s like.read r
+          (torn_wider 0 (areas_size n) 0 (areas_size (n + 1)) s like.read (omega arith) (omega arith) (so_far.untouched s like.read was like.told))
+          (torn_wider (area_of n).start (size_of (area_of n)) 0 (areas_size (n + 1)) like.read r (omega arith) (omega arith) like.outside);
     }

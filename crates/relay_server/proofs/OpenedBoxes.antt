@@ -1,26 +1,26 @@
 -- A server that is opened, and why none is.
-use Rattle.std.proofs.Common.{◌≡◌, inl, ⊎_elim, ℕ, zero, suc, ◌*◌, ◌<◌, ◌≤◌, List, [], ◌∷◌, length, map, Option, Some, None, sym, ◌∙◌, ap, subst, arith}
+use Rattle.std.proofs.Common.{◌≡◌, inl, ⊎_elim, ℕ, zero, suc, ◌<◌, List, [], ◌∷◌, length, map, Option, Some, None, sym, ◌∙◌, ap, subst, arith}
 use Rattle.std.specs.Prelude.{slice_get}
 use Rattle.std.proofs.lemmas.Option.{slice_get_within}
 use Rattle.std.proofs.lemmas.List.{length-map}
 use Rattle.dr_base.specs.Causes.{Rose}
 use Rattle.dr_disk.specs.declared.call.Call.{Call}
-use Rattle.dr_disk.specs.Spans.{IsQuiet, Span}
+use Rattle.dr_disk.specs.Spans.{Span}
 use Rattle.dr_disk.specs.State.{DiskState}
-use Rattle.dr_disk.specs.Bytes.{Torn}
 use Rattle.dr_disk.proofs.Ranges.{torn_twice}
 use Rattle.dr_disk.proofs.Steps.{quiet_twice, spans, widen}
 use Rattle.slot_store.specs.declared.store.SlotStore.{SlotStore}
 use Rattle.slot_store.specs.Slots.{recovered}
 use Rattle.slot_store.specs.Store.{content}
 use Rattle.relay_core.specs.Boxes.{Box, empty_box}
-use Rattle.relay_server.specs.Areas.{AreOpened, IsLikeEntry, reading_of}
-use Rattle.relay_server.specs.Durable.{area_of}
+use Rattle.relay_server.specs.Areas.{AreOpened, HasLooked, IsLikeEntry, reading_of}
+use Rattle.relay_server.specs.Places.{HasRoom, SameBehind, area_of, areas_size}
+use Rattle.relay_server.specs.Durable.{ServerNow}
+use Rattle.relay_server.specs.Looking.{HasSettled, IsLooked}
 use Rattle.relay_server.specs.Filling.{AreFilled, AreLoaded, HasBox, IsFilling, IsFirstOthers, IsKept, IsOthers}
-use Rattle.relay_server.specs.Opening.{GivesBox, HasOtherName, IsOpened, IsOpening, IsUnopened, IsWhole, StaysOrBegins}
+use Rattle.relay_server.specs.Opening.{AreRead, GivesBox, HasOtherName, IsOpened, IsOpening, IsUnopened, IsWhole, StaysOrBegins}
 use Rattle.relay_server.specs.declared.errors.ServerOpenError.TheVariants.{BoxName}
 use Rattle.relay_server.proofs.OpenedAreas.{entry_self, whole_of}
-use Rattle.relay_server.proofs.FilledAreas.{filled_ready}
 use Rattle.relay_server.proofs.Replacing.{with_stores}
 use Rattle.relay_server.proofs.OneStore.{there_is}
 
@@ -54,8 +54,8 @@ other_of name (Some text) is = is
 opening_like : (names : List (List ℕ)) (start : DiskState) (c : List ℕ) → IsLikeEntry (length names) start c → IsOpening names start c
 opening_like names start c like = record { entry = like.entry; image = like.image; each = λ k name there. inl (like.same k); outside = like.outside }
 
-pub areas_moments : (names : List (List ℕ)) (start now : DiskState) → Span start now (IsLikeEntry (length names) start) → Span start now (IsOpening names start)
-areas_moments names start now span = widen start now _ _ (opening_like names start) span
+pub look_moments : (names : List (List ℕ)) (start now : DiskState) → HasLooked (length names) start now → Span start now (IsOpening names start)
+look_moments names start now looks = widen start now _ _ (opening_like names start) looks.during
 
 module _ (names : List (List ℕ)) (start mid : DiskState) (stores : List SlotStore) (opened : AreOpened (length names) (length names) stores start mid) where
   store_at : (k : ℕ) → k < length names → (s : SlotStore) × (slice_get stores k ≡ Some s)
@@ -95,10 +95,10 @@ module _ (names : List (List ℕ)) (start mid : DiskState) (stores : List SlotSt
         let at = store_at k (slice_get_within names k name named) in
         name_of name box (content at.0) (kept_at k name box at.0 named boxed at.1)
 
-    pub to_fill : 524288 * length names ≤ start.size → AreFilled 0 boxes stores mid
+    to_fill : HasRoom (length names) start → AreFilled 0 boxes stores mid
     to_fill fits = record {
       count = opened.count_is ∙ sym count_is;
-      within = omega (arith, fits, count_is, opened.during.size);
+      within = omega (arith, fits, count_is, opened.looked.during.size);
       areas = opened.areas;
       rests = opened.rests;
       each = λ k store box there boxed.
@@ -106,37 +106,47 @@ module _ (names : List (List ℕ)) (start mid : DiskState) (stores : List SlotSt
           has_of k name.0 box (content store) (kept_at k name.0 box store name.1 boxed there);
     }
 
-    module _ (now : DiskState) (span : Span mid now (IsFilling boxes mid)) where
-      filling_is : (c : List ℕ) → IsFilling boxes mid c → IsOpening names start c
-      filling_is c is =
-          let like : IsLikeEntry (length names) start is.entry = ⊎_elim (entry_self (length names) start is.entry) (λ p. p) (opened.during.last is.entry is.image) in
-          record {
-            entry = like.entry;
-            image = like.image;
-            each = λ k name named.
-                let box = there_is boxes k (omega (arith, slice_get_within names k name named, count_is)) in
-                subst (λ (o : Option (List ℕ)). StaysOrBegins name o (recovered (area_of k) c)) (like.same k)
-                (subst (λ (n : List ℕ). StaysOrBegins n (recovered (area_of k) is.entry) (recovered (area_of k) c)) (named_at k name box.0 named box.1) (is.each k box.0 box.1));
-            outside = torn_twice 0 (524288 * length names) like.entry is.entry c like.outside (subst (λ (n : ℕ). Torn 0 (524288 * n) is.entry c) count_is is.outside);
-          }
+    pub looked_then : HasRoom (length names) start → IsLooked names (with_stores boxes stores) start mid
+    looked_then fits = record {
+      unsettled = to_fill fits;
+      boxes = record {
+        count = count_is;
+        named = named_at;
+        read = λ s was k name box named boxed.
+            let at = store_at k (slice_get_within names k name named) in
+            subst (GivesBox name box) (sym (opened.read s was k at.0 at.1)) (gives_of name box (content at.0) (kept_at k name box at.0 named boxed at.1));
+      };
+      quiet = opened.quiet;
+    }
 
-      pub whole_moments : Span start now (IsOpening names start)
-      whole_moments = spans start mid now (IsOpening names start) (areas_moments names start mid opened.during) (widen mid now _ _ filling_is span)
+-- ---- settled after a look
 
-      -- a call on the disk failed
-      pub fault_then : (call : Call) → Rose (mid.faults call) (now.faults call) → Rose (start.faults call) (now.faults call)
-      fault_then call rose = omega (arith, rose, opened.during.counts call)
-
-      -- all areas have their boxes
-      pub opened_then : (news : List SlotStore) → AreFilled (length boxes) boxes news now → IsQuiet mid now → IsOpened names (with_stores boxes news) start now
-      opened_then news filled quiet = record {
-        ready = filled_ready boxes news now filled;
-        boxes = record {
-          count = count_is;
-          named = named_at;
-          read = λ s was k name box named boxed.
-              let at = store_at k (slice_get_within names k name named) in
-              subst (GivesBox name box) (sym (opened.read s was k at.0 at.1)) (gives_of name box (content at.0) (kept_at k name box at.0 named boxed at.1));
-        };
-        quiet = quiet_twice start mid now opened.quiet quiet;
+module _ (names : List (List ℕ)) (start mid now : DiskState) (looked : ServerNow) (is_looked : IsLooked names looked start mid)
+    (looks : HasLooked (length names) start mid) (span : Span mid now (IsFilling looked.boxes mid)) where
+  filling_is : (c : List ℕ) → IsFilling looked.boxes mid c → IsOpening names start c
+  filling_is c is =
+      let like : IsLikeEntry (length names) start is.entry = ⊎_elim (entry_self (length names) start is.entry) (λ p. p) (looks.during.last is.entry is.image) in
+      record {
+        entry = like.entry;
+        image = like.image;
+        each = λ k name named.
+            let box = there_is looked.boxes k (omega (arith, slice_get_within names k name named, is_looked.boxes.count)) in
+            subst (λ (o : Option (List ℕ)). StaysOrBegins name o (recovered (area_of k) c)) (like.same k)
+            (subst (λ (n : List ℕ). StaysOrBegins n (recovered (area_of k) is.entry) (recovered (area_of k) c)) (is_looked.boxes.named k name box.0 named box.1) (is.each k box.0 box.1));
+        outside = torn_twice 0 (areas_size (length names)) like.entry is.entry c like.outside (subst (λ (n : ℕ). SameBehind n is.entry c) is_looked.boxes.count is.outside);
       }
+
+  pub settled_moments : Span start now (IsOpening names start)
+  settled_moments = spans start mid now (IsOpening names start) (look_moments names start mid looks) (widen mid now _ _ filling_is span)
+
+  -- a call on the disk failed
+  pub fault_then : (call : Call) → Rose (mid.faults call) (now.faults call) → Rose (start.faults call) (now.faults call)
+  fault_then call rose = omega (arith, rose, looks.during.counts call)
+
+  -- all areas have their boxes
+  pub opened_then : (server : ServerNow) → HasSettled looked server mid now → IsOpened names server start now
+  opened_then server settled = record {
+    ready = settled.ready;
+    boxes = subst (λ (bs : List Box). AreRead names bs start) (sym settled.boxes) is_looked.boxes;
+    quiet = quiet_twice start mid now is_looked.quiet settled.quiet;
+  }

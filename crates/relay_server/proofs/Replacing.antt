@@ -1,21 +1,22 @@
 -- One record of many is replaced: the other boxes stay.
-use Rattle.std.proofs.Common.{◌≡◌, ◌≢◌, inl, inr, ⊎_elim, ℕ, ◌+◌, ◌*◌, ◌<◌, Bool, true, List, length, Some, sym, ◌∙◌, ap, subst, arith}
+use Rattle.std.proofs.Common.{◌≡◌, ◌≢◌, inl, inr, ⊎_elim, ℕ, ◌<◌, Bool, true, List, length, Some, sym, ◌∙◌, ap, subst, arith}
 use Rattle.std.specs.Prelude.{slice_get}
 use Rattle.std.proofs.lemmas.Bool.{cases_eq}
 use Rattle.std.proofs.lemmas.Option.{slice_get_within}
 use Rattle.relay_server.proofs.OneStore.{there_is, apart, OneReplaced, old_store, new_store, is_replaced, is_new, around_area, new_areas, new_rests}
 use Rattle.dr_disk.specs.State.{DiskState, Always}
-use Rattle.dr_disk.specs.Spans.{Span, Frame}
+use Rattle.dr_disk.specs.Spans.{Span}
 use Rattle.dr_disk.proofs.Ranges.{torn_wider}
 use Rattle.dr_disk.proofs.Steps.{widen}
-use Rattle.slot_store.specs.Areas.{Area}
+use Rattle.slot_store.specs.Areas.{Area, size_of}
 use Rattle.slot_store.specs.declared.store.SlotStore.{SlotStore}
 use Rattle.slot_store.specs.Slots.{recovered}
-use Rattle.slot_store.specs.Store.{IsOldOrNew, Rests, content}
+use Rattle.slot_store.specs.Store.{IsOldOrNew, Rests, content, KeepsOutside}
 use Rattle.slot_store.specs.Laws.{IsLocal}
 use Rattle.relay_core.specs.Boxes.{Box, Answers}
 use Rattle.relay_core.specs.Changes.{ChangesOne, IsChange}
-use Rattle.relay_server.specs.Durable.{area_of, ServerNow, StandsFor, IsReady, StandsForEither, IsReplaced}
+use Rattle.relay_server.specs.Durable.{ServerNow, StandsFor, IsReady, StandsForEither, IsReplaced}
+use Rattle.relay_server.specs.Places.{area_of, areas_size, IsSameBehind}
 
 abbrev pub with_stores : List Box → List SlotStore → ServerNow
 with_stores boxes stores = record { boxes = boxes; stores = stores }
@@ -65,12 +66,12 @@ module _ (text : Box → List ℕ) (boxes next : List Box) (stores news : List S
       let s = there_is stores j (let i : j < length boxes = slice_get_within boxes j box there in omega (arith, i, r.ready.count)) in
       ap (λ (a : Area). recovered a d) (sym (r.ready.areas j s.0 s.1)) ∙ r.resting s.0 d (r.ready.rests j s.0 s.1 d left) ∙ r.ready.holds j s.0 box s.1 there
 
-  framed : (c : List ℕ) → Frame start the_old.0.area.start (the_old.0.area.slot + the_old.0.area.slot) c
-      → Frame start (area_of k).start ((area_of k).slot + (area_of k).slot) c
+  framed : (c : List ℕ) → KeepsOutside the_old.0.area start c
+      → KeepsOutside (area_of k) start c
   framed = around_area k stores news t start now done one_store
 
   -- each other box is as it was
-  other_stands : (j : ℕ) (box : Box) (c : List ℕ) → j ≢ k → slice_get boxes j ≡ Some box → Frame start (area_of k).start ((area_of k).slot + (area_of k).slot) c → recovered (area_of j) c ≡ Some (text box)
+  other_stands : (j : ℕ) (box : Box) (c : List ℕ) → j ≢ k → slice_get boxes j ≡ Some box → KeepsOutside (area_of k) start c → recovered (area_of j) c ≡ Some (text box)
   other_stands j box c other there frame =
       r.local.record_of (area_of j) c frame.0 (omega arith) (apart j k c frame.0 other frame.2) ∙ stands_at j box frame.0 there frame.1
 
@@ -91,12 +92,12 @@ module _ (text : Box → List ℕ) (boxes next : List Box) (stores news : List S
       o.either
 
   -- what lies after the areas is as it was
-  behind : (c : List ℕ) → Frame start the_old.0.area.start (the_old.0.area.slot + the_old.0.area.slot) c → Frame start 0 (524288 * length boxes) c
+  behind : (c : List ℕ) → KeepsOutside the_old.0.area start c → IsSameBehind (length boxes) start c
   behind c frame =
       let f = framed c frame in
-      (f.0, f.1, torn_wider (area_of k).start ((area_of k).slot + (area_of k).slot) 0 (524288 * length boxes) f.0 c (omega arith) (omega (arith, r.one.inside)) f.2)
+      (f.0, f.1, torn_wider (area_of k).start (size_of (area_of k)) 0 (areas_size (length boxes)) f.0 c (omega arith) (omega (arith, r.one.inside)) f.2)
 
-  pub any_moment : Span start now (λ c. StandsForEither text boxes next c × Frame start 0 (524288 * length boxes) c)
+  pub any_moment : Span start now (λ c. StandsForEither text boxes next c × IsSameBehind (length boxes) start c)
   any_moment = widen start now _ _ (λ c o. (each c o, behind c o.frame)) is.any_moment
 
   pub now_stands : Always (StandsForEither text boxes next) now
@@ -146,8 +147,8 @@ module _ (text : Box → List ℕ) (server : ServerNow) (boxes next : List Box) 
     resting = r.resting;
   }
 
-  pub known_moments : Span start now (λ c. StandsForEither text server.boxes next c × Frame start 0 (524288 * length server.boxes) c)
-  known_moments = subst (λ (s : ServerNow). Span start now (λ c. StandsForEither text s.boxes next c × Frame start 0 (524288 * length s.boxes) c)) r.seen (any_moment text boxes next olds news k t start now done replacing)
+  pub known_moments : Span start now (λ c. StandsForEither text server.boxes next c × IsSameBehind (length server.boxes) start c)
+  known_moments = subst (λ (s : ServerNow). Span start now (λ c. StandsForEither text s.boxes next c × IsSameBehind (length s.boxes) start c)) r.seen (any_moment text boxes next olds news k t start now done replacing)
 
   pub known_now : Always (StandsForEither text server.boxes next) now
   known_now = subst (λ (s : ServerNow). Always (StandsForEither text s.boxes next) now) r.seen (now_stands text boxes next olds news k t start now done replacing)

@@ -1,12 +1,11 @@
 -- Round after round.
-use Rattle.std.proofs.Common.{◌≡◌, ⊎_elim, ℕ, suc, ◌+◌, ◌-◌, ◌*◌, ◌<◌, ◌≤◌, Bool, true, false, List, [], ◌∷◌, ◌++◌, length, drop, refl, sym, ◌∙◌, ap, subst, arith, append_assoc, append-nil}
+use Rattle.std.proofs.Common.{◌≡◌, ⊎_elim, ℕ, suc, ◌+◌, ◌-◌, ◌<◌, ◌≤◌, Bool, true, false, List, [], ◌∷◌, ◌++◌, length, drop, refl, sym, ◌∙◌, ap, subst, arith, append_assoc, append-nil}
 use Rattle.std.specs.Prelude.{flat_map, if◌then◌else◌}
 use Rattle.std.specs.List.{AllByRecursion}
 use Rattle.std.proofs.lemmas.List.{length_push}
 use Rattle.std.proofs.lemmas.List.Concat.{flat_map-append}
 use Rattle.dr_disk.specs.State.{DiskState}
-use Rattle.dr_disk.specs.Bytes.{Torn}
-use Rattle.dr_disk.specs.Spans.{Frame, Span}
+use Rattle.dr_disk.specs.Spans.{Span}
 use Rattle.dr_disk.proofs.Ranges.{torn_twice}
 use Rattle.dr_disk.proofs.Steps.{spans, widen}
 use Rattle.dr_ports.specs.declared.pipe.Part.TheVariants.{Flow}
@@ -21,6 +20,7 @@ use Rattle.relay_core.proofs.Served.{served_nothing}
 use Rattle.relay_pipe.proofs.Exchanged.{both, nothing_yet}
 use Rattle.relay_server.specs.Durable.{ServerNow, StandsFor}
 use Rattle.relay_server.specs.Serving.{Exchanges, Came, reply_to, ReachedIn, SoFar}
+use Rattle.relay_server.specs.Places.{areas_size, SameBehind, IsSameBehind}
 
 -- ---- what is answered
 
@@ -42,7 +42,7 @@ serves_frame most n boxes frame fs last lt is =
 -- ---- before the first round
 
 module _ (text : Box → List ℕ) (most : ℕ) (old : ServerNow) where
-  abbrev pub nothing_so_far : (start : Port) (dstart : DiskState) → Span dstart dstart (λ c. ReachedIn text most old.boxes [] c × Frame dstart 0 (524288 * length old.boxes) c) → SoFar text most old old.boxes start start dstart dstart 0
+  abbrev pub nothing_so_far : (start : Port) (dstart : DiskState) → Span dstart dstart (λ c. ReachedIn text most old.boxes [] c × IsSameBehind (length old.boxes) dstart c) → SoFar text most old old.boxes start start dstart dstart 0
   nothing_so_far start dstart span = record {
     frames = [];
     each = tt;
@@ -74,12 +74,12 @@ module _ (text : Box → List ℕ) (most : ℕ) (old : ServerNow) where
           by_end false = ap (and_then (exchange_of boxes frame)) (served_nothing (most - (n + 1)) (boxes_after boxes frame))
 
       -- what lies after the areas, of a moment of this round
-      behind_with : (c : List ℕ) → Frame dnow 0 (524288 * length boxes) c → Frame dstart 0 (524288 * length old.boxes) c
+      behind_with : (c : List ℕ) → IsSameBehind (length boxes) dnow c → IsSameBehind (length old.boxes) dstart c
       behind_with c frame =
-          let sized = subst (λ (n : ℕ). Torn 0 (524288 * n) frame.0 c) so.boxes_count frame.2 in
-          ⊎_elim (λ was. (frame.0, was, sized)) (λ left. (left.1.0, left.1.1, torn_twice 0 (524288 * length old.boxes) left.1.0 frame.0 c left.1.2 sized)) (so.during.last frame.0 frame.1)
+          let sized = subst (λ (n : ℕ). SameBehind n frame.0 c) so.boxes_count frame.2 in
+          ⊎_elim (λ was. (frame.0, was, sized)) (λ left. (left.1.0, left.1.1, torn_twice 0 (areas_size (length old.boxes)) left.1.0 frame.0 c left.1.2 sized)) (so.during.last frame.0 frame.1)
 
-      pub span_with : Span dstart dafter (λ c. ReachedIn text most old.boxes (so.frames ++ frame ∷ []) c × Frame dstart 0 (524288 * length old.boxes) c)
+      pub span_with : Span dstart dafter (λ c. ReachedIn text most old.boxes (so.frames ++ frame ∷ []) c × IsSameBehind (length old.boxes) dstart c)
       span_with = spans dstart dnow dafter _
           (widen dstart dnow _ _ (λ c r. (record { front = r.0.front; back = r.0.back ++ frame ∷ []; split = ap (λ (fs : List (List ℕ)). fs ++ frame ∷ []) r.0.split ∙ append_assoc r.0.front r.0.back (frame ∷ []); stands = r.0.stands }, r.1)) so.during)
           (widen dnow dafter _ _ (λ c e. (

@@ -1,14 +1,15 @@
 -- The areas of a relay, opened one after the other.
-use Rattle.std.specs.Prelude.{◌≡◌, ℕ, ◌*◌, ◌<◌, List, length, slice_get, Option, Some, None}
+use Rattle.std.specs.Prelude.{◌≡◌, ℕ, ◌<◌, List, length, slice_get, Option, Some, None}
 use Rattle.dr_base.specs.Causes.{Rose}
-use Rattle.dr_disk.specs.Bytes.{Torn}
 use Rattle.dr_disk.specs.Spans.{IsQuiet, Span}
 use Rattle.dr_disk.specs.State.{DiskState, Always}
 use Rattle.slot_store.specs.declared.store.SlotStore.{SlotStore}
 use Rattle.slot_store.specs.Reading.{IsLikeRead, Reading, damaged, holds, no_content}
 use Rattle.slot_store.specs.Slots.{recovered}
 use Rattle.slot_store.specs.Store.{Rests, content}
-use Rattle.relay_server.specs.Durable.{area_of}
+use Rattle.dr_disk.specs.Calls.{Unwritten}
+use Rattle.slot_store.specs.AtRest.{IsReadAtRest}
+use Rattle.relay_server.specs.Places.{area_of, SameBehind}
 use Rattle.relay_server.specs.Opening.{IsFirstDamaged, OfRead, area_read, box_fault}
 use Rattle.relay_server.specs.declared.errors.ServerOpenError.{ServerOpenError}
 use Rattle.relay_server.specs.declared.errors.ServerOpenError.TheVariants.{BoxName, Damaged, Memory, StoreFault}
@@ -40,18 +41,28 @@ pub record IsLikeEntry (count : ℕ) (start : DiskState) (c : List ℕ) : Type 0
   pub entry : List ℕ
   pub image : start.image entry
   pub same : (k : ℕ) → recovered (area_of k) c ≡ recovered (area_of k) entry
-  pub outside : Torn 0 (524288 * count) entry c
+  pub outside : SameBehind count entry c
+
+-- what a read gives has each of this many areas at rest
+abbrev pub AreAtRest : ℕ → DiskState → Type 0
+AreAtRest count disk = (k : ℕ) → k < count → IsReadAtRest (area_of k) disk
+
+-- This many areas were looked at: nothing was begun, and where they were read at rest no byte was
+-- written.
+pub record HasLooked (count : ℕ) (start now : DiskState) : Type 0 where
+  pub during : Span start now (IsLikeEntry count start)
+  pub still : AreAtRest count start → Unwritten start now
 
 -- the first n of this many areas were opened
 pub record AreOpened (n count : ℕ) (stores : List SlotStore) (start now : DiskState) : Type 0 where
   pub count_is : length stores ≡ n
-  pub during : Span start now (IsLikeEntry count start)
+  pub looked : HasLooked count start now
   pub quiet : IsQuiet start now
   pub areas : (k : ℕ) (store : SlotStore) → slice_get stores k ≡ Some store → store.area ≡ area_of k
   pub clean : (k : ℕ) (store : SlotStore) (text : List ℕ) → slice_get stores k ≡ Some store → content store ≡ Some text → box_fault text ≡ None
   pub rests : (k : ℕ) (store : SlotStore) → slice_get stores k ≡ Some store → Always (Rests store) now
   pub read : OfRead start (λ s. (k : ℕ) (store : SlotStore) → slice_get stores k ≡ Some store → area_read k s ≡ reading_of (content store))
-  pub untouched : (s r : List ℕ) → start.seen ≡ Some s → now.seen ≡ Some r → Torn 0 (524288 * n) s r
+  pub untouched : (s r : List ℕ) → start.seen ≡ Some s → now.seen ≡ Some r → SameBehind n s r
 
 -- why they weren't
 abbrev pub AreRefused : ℕ → DiskState → DiskState → ServerOpenError → Type 0

@@ -1,20 +1,12 @@
 -- A relay on a disk: its boxes, each a record in an area of its own.
-use Rattle.std.specs.Prelude.{◌≡◌, ◌⊎◌, ℕ, ◌+◌, ◌*◌, ◌<◌, Bool, true, List, length, slice_get, Some}
+use Rattle.std.specs.Prelude.{◌≡◌, ◌⊎◌, ℕ, ◌<◌, Bool, true, List, length, slice_get, Some}
 use Rattle.dr_disk.specs.State.{DiskState, Always}
-use Rattle.dr_disk.specs.Spans.{Span, Frame}
-use Rattle.slot_store.specs.Areas.{Area}
+use Rattle.dr_disk.specs.Spans.{Span}
 use Rattle.slot_store.specs.declared.store.SlotStore.{SlotStore}
 use Rattle.slot_store.specs.Slots.{recovered}
-use Rattle.slot_store.specs.Store.{IsOldOrNew, IsWithin, Rests, content}
+use Rattle.slot_store.specs.Store.{IsOldOrNew, IsWithin, Rests, content, KeepsOutside}
 use Rattle.relay_core.specs.Boxes.{Box}
-
--- the area of a box
-abbrev pub area_of : ℕ → Area
-area_of k = record { start = 524288 * k; slot = 262144 }
-
--- what lies after this many areas is as an image of that moment has it
-abbrev pub IsSameBehind : ℕ → DiskState → List ℕ → Type 0
-IsSameBehind count start = Frame start 0 (524288 * count)
+use Rattle.relay_server.specs.Places.{area_of}
 
 -- a server: its boxes, and a store for each
 pub record ServerNow : Type 0 where
@@ -43,4 +35,4 @@ pub record IsReplaced (text : List ℕ) (old new : SlotStore) (start now : DiskS
   pub same : new.area ≡ old.area
   pub holds : done ≡ true → content new ≡ Some text
   pub rests : done ≡ true → Always (Rests new) now
-  pub outside : done ≡ true → Always (Frame start old.area.start (old.area.slot + old.area.slot)) now
+  pub outside : done ≡ true → Always (KeepsOutside old.area start) now

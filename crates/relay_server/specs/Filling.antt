@@ -1,13 +1,12 @@
 -- The boxes are loaded, and each area without a record gets an empty box's.
-use Rattle.std.specs.Prelude.{◌≡◌, ◌≢◌, ℕ, ◌*◌, ◌<◌, ◌≤◌, List, length, slice_get, Option, Some, None, Ok}
-use Rattle.dr_disk.specs.Bytes.{Torn}
+use Rattle.std.specs.Prelude.{◌≡◌, ◌≢◌, ℕ, ◌<◌, ◌≤◌, List, length, slice_get, Option, Some, None, Ok}
 use Rattle.dr_disk.specs.State.{DiskState, Always}
 use Rattle.slot_store.specs.declared.store.SlotStore.{SlotStore}
 use Rattle.slot_store.specs.Slots.{recovered}
 use Rattle.slot_store.specs.Store.{Rests, content}
 use Rattle.relay_core.specs.Boxes.{Box, empty_box}
 use Rattle.relay_core.specs.Record.{box_read, box_text}
-use Rattle.relay_server.specs.Durable.{area_of}
+use Rattle.relay_server.specs.Places.{area_of, HasRoom, SameBehind}
 use Rattle.relay_server.specs.Opening.{StaysOrBegins}
 
 -- a box is the one of its store's record, and has the name that it had; without a record it is as it was
@@ -47,7 +46,7 @@ HasBox n k box (Some text) = text ≡ box_text box
 
 pub record AreFilled (n : ℕ) (boxes : List Box) (stores : List SlotStore) (disk : DiskState) : Type 0 where
   pub count : length stores ≡ length boxes
-  pub within : 524288 * length boxes ≤ disk.size
+  pub within : HasRoom (length boxes) disk
   pub areas : (k : ℕ) (store : SlotStore) → slice_get stores k ≡ Some store → store.area ≡ area_of k
   pub rests : (k : ℕ) (store : SlotStore) → slice_get stores k ≡ Some store → Always (Rests store) disk
   pub each : (k : ℕ) (store : SlotStore) (box : Box) → slice_get stores k ≡ Some store → slice_get boxes k ≡ Some box → HasBox n k box (content store)
@@ -56,4 +55,4 @@ pub record IsFilling (boxes : List Box) (start : DiskState) (c : List ℕ) : Typ
   pub entry : List ℕ
   pub image : start.image entry
   pub each : (k : ℕ) (box : Box) → slice_get boxes k ≡ Some box → StaysOrBegins box.name (recovered (area_of k) entry) (recovered (area_of k) c)
-  pub outside : Torn 0 (524288 * length boxes) entry c
+  pub outside : SameBehind (length boxes) entry c

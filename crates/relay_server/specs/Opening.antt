@@ -1,15 +1,15 @@
 -- A relay that is opened from a disk: area by area, then the records are loaded, then each area without one gets an empty
 -- box's.
-use Rattle.std.specs.Prelude.{◌≡◌, ◌≢◌, ◌⊎◌, ℕ, ◌*◌, ◌<◌, List, length, slice_get, Option, Some, None, Result, Ok, Err}
+use Rattle.std.specs.Prelude.{◌≡◌, ◌≢◌, ◌⊎◌, ℕ, ◌<◌, List, length, slice_get, Option, Some, None, Result, Ok, Err}
 use Rattle.dr_base.specs.Causes.{Rose}
-use Rattle.dr_disk.specs.Bytes.{Torn}
 use Rattle.dr_disk.specs.Spans.{IsQuiet}
 use Rattle.dr_disk.specs.State.{DiskState}
 use Rattle.slot_store.specs.Reading.{Reading, damaged, holds, no_content, reading}
 use Rattle.slot_store.specs.Slots.{recovered}
 use Rattle.relay_core.specs.Boxes.{Box, empty_box}
 use Rattle.relay_core.specs.Record.{box_read, box_text}
-use Rattle.relay_server.specs.Durable.{IsReady, ServerNow, area_of}
+use Rattle.relay_server.specs.Durable.{IsReady, ServerNow}
+use Rattle.relay_server.specs.Places.{area_of, SameBehind}
 use Rattle.relay_server.specs.declared.errors.ServerOpenError.{ServerOpenError}
 use Rattle.relay_server.specs.declared.errors.ServerOpenError.TheVariants.{BoxName, Damaged, Memory, StoreFault}
 
@@ -73,7 +73,7 @@ pub record IsOpening (names : List (List ℕ)) (start : DiskState) (c : List ℕ
   pub entry : List ℕ
   pub image : start.image entry
   pub each : (k : ℕ) (name : List ℕ) → slice_get names k ≡ Some name → StaysOrBegins name (recovered (area_of k) entry) (recovered (area_of k) c)
-  pub outside : Torn 0 (524288 * length names) entry c
+  pub outside : SameBehind (length names) entry c
 
 -- ---- how it ends
 

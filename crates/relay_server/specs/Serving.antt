@@ -15,7 +15,8 @@ use Rattle.relay_core.specs.Boxes.{Box, answers_read, box_of}
 use Rattle.relay_core.specs.Streams.{Exchange, prepend, served, served_within, reply_frame, reply_bytes, is_last, IsIsolated, asks, told}
 use Rattle.relay_core.specs.Alone.{box_after}
 use Rattle.relay_core.specs.Record.{box_text}
-use Rattle.relay_server.specs.Durable.{ServerNow, IsReady, IsSameBehind, StandsFor, StandsForEither}
+use Rattle.relay_server.specs.Durable.{ServerNow, IsReady, StandsFor, StandsForEither}
+use Rattle.relay_server.specs.Places.{IsSameBehind}
 use Rattle.relay_server.specs.declared.serving.Ended.{Ended}
 use Rattle.relay_server.specs.declared.serving.Round.{Round}
 use Rattle.relay_server.specs.declared.serving.Round.TheVariants.{AtEnd, Answered}

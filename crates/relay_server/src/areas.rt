@@ -1,25 +1,22 @@
 //! The stores of a relay's areas are opened, one after the other.
 
 ghost use Rattle.std.specs.Prelude.{◌≡◌, ◌<◌, ◌≤◌, ◌*◌, ℕ, List, Option, IfErr, IfOk, length};
+ghost use Rattle.dr_disk.specs.Calls.{Unwritten};
 ghost use Rattle.dr_disk.specs.Spans.{Span};
+ghost use Rattle.slot_store.specs.AtRest.{IsReadAtRest};
 ghost use Rattle.slot_store.specs.Reading.{IsEntryOrLike, IsLikeRead};
 ghost use Rattle.slot_store.specs.Store.{IsWithin};
 ghost use Rattle.relay_core.specs.declared.limits.TheConstants.{RELAY_LIMIT};
-ghost use Rattle.relay_server.specs.Areas.{AreOpened, AreRefused, IsAreaOpened, IsAreaRefused, IsLikeEntry};
-ghost use Rattle.relay_server.specs.Durable.{area_of};
+ghost use Rattle.relay_server.specs.Areas.{AreOpened, AreRefused, HasLooked, IsAreaOpened, IsAreaRefused};
+ghost use Rattle.relay_server.specs.Places.{HasRoom, area_of};
 ghost use Rattle.relay_server.specs.Opening.{box_fault};
 
 use crate::errors::ServerOpenError;
+use crate::limits::{AREA_SIZE, SLOT};
 use dr_disk::Disk;
 use relay_core::check_box;
 use slot_store::{Area, Grammar, OpenError, SlotStore, locality};
 use std::alloc::Global;
-
-/// How many bytes a slot of a box has.
-const SLOT: u32 = 262_144;
-
-/// How many bytes the area of a box has. The areas follow one another.
-pub const AREA_SIZE: u64 = 524_288;
 
 /// The records of boxes, as a store's grammar.
 struct BoxRecords {}
@@ -39,6 +36,7 @@ fn open_area<D: Disk>(alloc: Global, disk: &mut D, k: usize) -> Result<SlotStore
     ensures opened { IfOk result (λ store. IsAreaOpened k store (D.state disk.old) (D.state disk.new)) }
     ensures refused { IfErr result (IsAreaRefused k (D.state disk.old) (D.state disk.new)) }
     ensures any_moment { Span (D.state disk.old) (D.state disk.new) (IsEntryOrLike (area_of k) (D.state disk.old)) }
+    ensures still { IsReadAtRest (area_of k) (D.state disk.old) → Unwritten (D.state disk.old) (D.state disk.new) }
     ensures reads { (s : List ℕ) → (D.state disk.new).seen ≡ Option.Some s → IsLikeRead (area_of k) (D.state disk.old) s }
 {
     let area = Area {
@@ -64,10 +62,10 @@ pub(crate) fn open_areas<D: Disk>(
     count: usize,
 ) -> Result<Vec<SlotStore>, ServerOpenError>
     requires few { count ≤ RELAY_LIMIT }
-    requires within { 524288 * count ≤ (D.state disk.old).size }
+    requires within { HasRoom count (D.state disk.old) }
     ensures opened { IfOk result (λ stores. AreOpened count count stores.items (D.state disk.old) (D.state disk.new)) }
     ensures refused { IfErr result (AreRefused count (D.state disk.old) (D.state disk.new)) }
-    ensures any_moment { Span (D.state disk.old) (D.state disk.new) (IsLikeEntry count (D.state disk.old)) }
+    ensures looks { HasLooked count (D.state disk.old) (D.state disk.new) }
 {
     locality();
     let mut stores = Vec::new(alloc);

@@ -6,6 +6,7 @@ ghost use Rattle.dr_ports.specs.declared.pipe.Part.TheVariants.{Flow, Gate};
 ghost use Rattle.dr_disk.specs.State.{Always};
 ghost use Rattle.dr_disk.specs.Spans.{IsQuiet, Span};
 ghost use Rattle.slot_store.specs.declared.store.SlotStore.{SlotStore};
+ghost use Rattle.slot_store.specs.Areas.{Fits};
 ghost use Rattle.slot_store.specs.Store.{IsWithin, Rests};
 ghost use Rattle.relay_wire.specs.Frames.{framed};
 ghost use Rattle.relay_wire.specs.Requests.{read_request};
@@ -14,7 +15,8 @@ ghost use Rattle.relay_wire.specs.declared.limits.TheConstants.{FRAME_LIMIT};
 ghost use Rattle.relay_core.specs.Boxes.{answers_read};
 ghost use Rattle.relay_core.specs.Record.{box_text};
 ghost use Rattle.relay_core.specs.Streams.{is_last};
-ghost use Rattle.relay_server.specs.Durable.{IsReady, IsReplaced, IsSameBehind, StandsForEither};
+ghost use Rattle.relay_server.specs.Durable.{IsReady, IsReplaced, StandsForEither};
+ghost use Rattle.relay_server.specs.Places.{IsSameBehind};
 ghost use Rattle.relay_server.specs.FrameByFrame.{IsServedInOrder};
 ghost use Rattle.relay_server.specs.Serving.{Rounds};
 
@@ -57,7 +59,7 @@ pub(crate) fn replace_at<D: Disk>(
 ) -> Result<(), Call>
     requires inside { place < length stores.old }
     requires ready { (store : SlotStore) → slice_get stores.old place ≡ Option.Some store
-        → (6 + length text.now ≤ store.area.slot) × IsWithin store.area (D.state disk.old) × Always (Rests store) (D.state disk.old) }
+        → Fits store.area text.now × IsWithin store.area (D.state disk.old) × Always (Rests store) (D.state disk.old) }
     ensures others { (j : ℕ) → j ≢ place → slice_get stores.new j ≡ slice_get stores.old j }
     ensures there { (old new : SlotStore) → slice_get stores.old place ≡ Option.Some old → slice_get stores.new place ≡ Option.Some new
         → IsReplaced text.now old new (D.state disk.old) (D.state disk.new) (is_ok result) }

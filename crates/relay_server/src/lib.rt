@@ -11,12 +11,12 @@
 //! ```
 #![tactic(auto)]
 
-pub use areas::AREA_SIZE;
 pub use durable::DurableBoxes;
 pub use errors::ServerOpenError;
 pub use law::crashes;
+pub use limits::AREA_SIZE;
 pub use relay_core::Answered;
-pub use server::Server;
+pub use server::{Looked, Server};
 pub use serving::{Ended, Round, ServeFault};
 
 mod answering;
@@ -25,6 +25,7 @@ mod durable;
 mod errors;
 mod filling;
 mod law;
+mod limits;
 mod opening;
 mod server;
 mod serving;

@@ -1,16 +1,21 @@
-//! A relay's boxes are opened from a disk.
+//! A relay's boxes are opened from a disk: a look, and then a settling.
 
-ghost use Rattle.std.specs.Prelude.{◌≡◌, ◌≤◌, ◌*◌, map, length, IfErr, IfOk};
+ghost use Rattle.std.specs.Prelude.{◌≡◌, ◌≤◌, map, length, IfErr, IfOk, OnOk};
+ghost use Rattle.dr_base.specs.Causes.{Rose};
 ghost use Rattle.dr_disk.specs.Spans.{Span};
 ghost use Rattle.relay_core.specs.Boxes.{empty_box};
 ghost use Rattle.relay_core.specs.declared.limits.TheConstants.{RECORD_LIMIT, RELAY_LIMIT};
-ghost use Rattle.relay_server.specs.Opening.{IsOpened, IsOpening, IsUnopened};
+ghost use Rattle.relay_server.specs.Areas.{HasLooked};
+ghost use Rattle.relay_server.specs.Filling.{IsFilling};
+ghost use Rattle.relay_server.specs.Looking.{HasSettled, IsLooked, IsUnsettled};
+ghost use Rattle.relay_server.specs.Opening.{IsUnopened};
+ghost use Rattle.relay_server.specs.Places.{HasRoom};
 
 use crate::areas::open_areas;
 use crate::durable::DurableBoxes;
 use crate::errors::ServerOpenError;
 use crate::filling::{fill_areas, load_boxes};
-use dr_disk::Disk;
+use dr_disk::{Call, Disk};
 use relay_core::{RECORD_LIMIT, Relay};
 use relay_wire::Name;
 use slot_store::{locality, readings};
@@ -24,34 +29,34 @@ fn record_room(alloc: Global) -> Result<Vec<u8>, AllocError>
 }
 
 impl DurableBoxes {
-    /// Opens the boxes of these names, 1 to 16 and no two alike: each lives in the area of its place. The areas are opened
-    /// in order, and then their records are loaded; once all have their names, each area without a record gets an empty
-    /// box's.
+    /// Looks at the boxes of these names, 1 to 16 and no two alike: each lives in the area of its
+    /// place. The areas are opened in order, and then their records are loaded. No record is put.
     ///
-    /// `Damaged` exactly where an area that was read is damaged, and `BoxName` exactly where none is and one has a record
-    /// of another name: the first one, by what was read. `StoreFault` only where a call on the disk failed. Memory may be
-    /// wanting for an area once those before it were opened.
-    pub fn open<D: Disk>(
+    /// `Damaged` exactly where an area that was read is damaged, and `BoxName` exactly where none
+    /// is and one has a record of another name: the first one, by what was read. `StoreFault` only
+    /// where a call on the disk failed. Memory may be wanting for an area once those before it were
+    /// opened.
+    pub fn look<D: Disk>(
         alloc: Global,
         disk: &mut D,
         names: &[Name],
     ) -> Result<DurableBoxes, ServerOpenError>
         requires few { length names.now ≤ RELAY_LIMIT }
-        requires within { 524288 * length names.now ≤ (D.state disk.old).size }
-        ensures opened { IfOk result (λ boxes. IsOpened names.now boxes (D.state disk.old) (D.state disk.new)) }
+        requires within { HasRoom (length names.now) (D.state disk.old) }
+        ensures looked { IfOk result (λ boxes. IsLooked names.now boxes (D.state disk.old) (D.state disk.new)) }
         ensures unopened { IfErr result (IsUnopened names.now (D.state disk.old) (D.state disk.new)) }
         // Meanwhile, and in each ending.
-        ensures any_moment { Span (D.state disk.old) (D.state disk.new) (IsOpening names.now (D.state disk.old)) }
+        ensures looks { HasLooked (length names.now) (D.state disk.old) (D.state disk.new) }
     {
         locality();
         readings();
         let Ok(mut relay) = Relay::new(alloc, names) else {
             return Err(ServerOpenError::Memory);
         };
-        let Ok(mut text) = record_room(alloc) else {
+        let Ok(text) = record_room(alloc) else {
             return Err(ServerOpenError::Memory);
         };
-        let mut stores = match open_areas(alloc, disk, names.len()) {
+        let stores = match open_areas(alloc, disk, names.len()) {
             Ok(stores) => stores,
             Err(error) => return Err(error),
         };
@@ -59,14 +64,20 @@ impl DurableBoxes {
             Ok(()) => {}
             Err(k) => return Err(ServerOpenError::BoxName { k }),
         }
-        match fill_areas(&relay, &mut stores, &mut text, disk) {
-            Ok(()) => {}
-            Err(call) => return Err(ServerOpenError::StoreFault { call }),
-        }
         Ok(DurableBoxes {
             relay,
             stores,
             text,
         })
+    }
+
+    /// Gives each area without a record an empty box's.
+    pub fn settle<D: Disk>(&mut self, disk: &mut D) -> Result<(), Call>
+        requires { IsUnsettled self.old (D.state disk.old) }
+        ensures settled { OnOk result (HasSettled self.old self.new (D.state disk.old) (D.state disk.new)) }
+        ensures any_moment { Span (D.state disk.old) (D.state disk.new) (IsFilling self.old.boxes (D.state disk.old)) }
+        ensures fault { IfErr result (λ call. Rose ((D.state disk.old).faults call) ((D.state disk.new).faults call)) }
+    {
+        fill_areas(&self.relay, &mut self.stores, &mut self.text, disk)
     }
 }

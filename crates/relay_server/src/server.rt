@@ -1,25 +1,31 @@
 //! A server: its boxes, and the room for one connection.
 
-ghost use Rattle.std.specs.Prelude.{◌≡◌, ◌≤◌, ◌*◌, length, IfErr, IfOk, OnOk};
+ghost use Rattle.std.specs.Prelude.{◌≡◌, ◌≤◌, length, IfErr, IfOk, OnOk};
+ghost use Rattle.dr_base.specs.Causes.{Rose};
 ghost use Rattle.dr_disk.specs.Spans.{IsQuiet, Span};
 ghost use Rattle.dr_ports.specs.declared.pipe.Part.TheVariants.{Flow, Gate};
 ghost use Rattle.relay_core.specs.Record.{box_text};
 ghost use Rattle.relay_core.specs.declared.limits.TheConstants.{RELAY_LIMIT};
+ghost use Rattle.relay_server.specs.Areas.{HasLooked};
 ghost use Rattle.relay_server.specs.Durable.{IsReady};
+ghost use Rattle.relay_server.specs.Filling.{IsFilling};
+ghost use Rattle.relay_server.specs.Looking.{HasSettled, IsLooked, IsUnsettled};
 ghost use Rattle.relay_server.specs.Opening.{IsOpened, IsOpening, IsUnopened};
+ghost use Rattle.relay_server.specs.Places.{HasRoom};
 ghost use Rattle.relay_server.specs.FrameByFrame.{IsServedInOrder};
 ghost use Rattle.relay_wire.specs.declared.limits.TheConstants.{FRAME_LIMIT};
 
 use crate::durable::DurableBoxes;
 use crate::errors::ServerOpenError;
 use crate::serving::{Ended, ServeFault};
-use dr_disk::Disk;
+use dr_disk::{Call, Disk};
 use dr_ports::Pipe;
 use relay_wire::{FRAME_LIMIT, FrameReader, Name};
 use std::alloc::{AllocError, Global};
 use std::marker::Model;
 
-/// A relay's server, with all the memory that it will ever use. A contract sees its boxes, and a store for each.
+/// A relay's server, with all the memory that it will ever use. A contract sees its boxes, and a
+/// store for each.
 #[derive(Drop)]
 pub struct Server {
     boxes: DurableBoxes,
@@ -40,6 +46,36 @@ impl Model for Server {
     ghost invariant = { λ s. (length s.piece.items ≡ FRAME_LIMIT) × (length s.out.items ≡ FRAME_LIMIT) };
 }
 
+/// A server that looked at its areas and put nothing yet. A contract sees what it sees of a server.
+#[derive(Drop)]
+pub struct Looked {
+    server: Server,
+}
+
+impl Model for Looked {
+    ghost use Rattle.relay_server.specs.Durable.{ServerNow};
+
+    ghost Value = { ServerNow };
+
+    ghost view = { λ l. l.server };
+}
+
+impl Looked {
+    /// Gives each area without a record an empty box's. Then the server is ready.
+    pub fn settle<D: Disk>(self, disk: &mut D) -> Result<Server, Call>
+        requires { IsUnsettled self (D.state disk.old) }
+        ensures settled { IfOk result (λ server. HasSettled self server (D.state disk.old) (D.state disk.new)) }
+        ensures any_moment { Span (D.state disk.old) (D.state disk.new) (IsFilling self.boxes (D.state disk.old)) }
+        ensures fault { IfErr result (λ call. Rose ((D.state disk.old).faults call) ((D.state disk.new).faults call)) }
+    {
+        let mut server = self.server;
+        match server.boxes.settle(disk) {
+            Ok(()) => Ok(server),
+            Err(call) => Err(call),
+        }
+    }
+}
+
 /// Room for a frame.
 fn frame_room(alloc: Global) -> Result<Vec<u8>, AllocError>
     ensures { IfOk result (λ room. length room.items ≡ FRAME_LIMIT) }
@@ -48,24 +84,26 @@ fn frame_room(alloc: Global) -> Result<Vec<u8>, AllocError>
 }
 
 impl Server {
-    /// Opens the server of the boxes of these names, 1 to 16 and no two alike: each lives in the area of its place, two
-    /// slots of 262,144 bytes. The areas are opened in order, and then their records are loaded; once all have their
-    /// names, each area without a record gets an empty box's.
+    /// Looks at the boxes of these names, 1 to 16 and no two alike: each lives in the area of its
+    /// place, two slots of 262,144 bytes. The areas are opened in order, and then their records are
+    /// loaded. No record is put, and where all areas are read at rest, or as zeros, no byte is
+    /// written.
     ///
-    /// `Damaged` exactly where an area that was read is damaged, and `BoxName` exactly where none is and one has a record
-    /// of another name: the first one, by what was read. `StoreFault` only where a call on the disk failed. Memory may be
-    /// wanting for an area once those before it were opened.
-    pub fn open<D: Disk>(
+    /// `Damaged` exactly where an area that was read is damaged, and `BoxName` exactly where none
+    /// is and one has a record of another name: the first one, by what was read. `StoreFault` only
+    /// where a call on the disk failed. Memory may be wanting for an area once those before it were
+    /// opened.
+    pub fn look<D: Disk>(
         alloc: Global,
         disk: &mut D,
         names: &[Name],
-    ) -> Result<Server, ServerOpenError>
+    ) -> Result<Looked, ServerOpenError>
         requires few { length names.now ≤ RELAY_LIMIT }
-        requires within { 524288 * length names.now ≤ (D.state disk.old).size }
-        ensures opened { IfOk result (λ server. IsOpened names.now server (D.state disk.old) (D.state disk.new)) }
+        requires within { HasRoom (length names.now) (D.state disk.old) }
+        ensures looked { IfOk result (λ looked. IsLooked names.now looked (D.state disk.old) (D.state disk.new)) }
         ensures unopened { IfErr result (IsUnopened names.now (D.state disk.old) (D.state disk.new)) }
         // Meanwhile, and in each ending.
-        ensures any_moment { Span (D.state disk.old) (D.state disk.new) (IsOpening names.now (D.state disk.old)) }
+        ensures looks { HasLooked (length names.now) (D.state disk.old) (D.state disk.new) }
     {
         let Ok(reader) = FrameReader::new(alloc) else {
             return Err(ServerOpenError::Memory);
@@ -76,19 +114,49 @@ impl Server {
         let Ok(out) = frame_room(alloc) else {
             return Err(ServerOpenError::Memory);
         };
-        match DurableBoxes::open(alloc, disk, names) {
-            Ok(boxes) => Ok(Server {
-                boxes,
-                reader,
-                piece,
-                out,
+        match DurableBoxes::look(alloc, disk, names) {
+            Ok(boxes) => Ok(Looked {
+                server: Server {
+                    boxes,
+                    reader,
+                    piece,
+                    out,
+                },
             }),
             Err(error) => Err(error),
         }
     }
 
-    /// Serves a connection: answers its frames in order until it ends, until a frame had no lawful length, or until
-    /// 65,536 frames were answered. A frame that the end cuts is dropped. It takes no memory.
+    /// Opens the server of the boxes of these names: a look, and then a settling. Once all areas
+    /// have their names, each one without a record gets an empty box's.
+    ///
+    /// The errors are those of `look`, and `StoreFault` also where a call on the disk failed while
+    /// a record was put.
+    pub fn open<D: Disk>(
+        alloc: Global,
+        disk: &mut D,
+        names: &[Name],
+    ) -> Result<Server, ServerOpenError>
+        requires few { length names.now ≤ RELAY_LIMIT }
+        requires within { HasRoom (length names.now) (D.state disk.old) }
+        ensures opened { IfOk result (λ server. IsOpened names.now server (D.state disk.old) (D.state disk.new)) }
+        ensures unopened { IfErr result (IsUnopened names.now (D.state disk.old) (D.state disk.new)) }
+        // Meanwhile, and in each ending.
+        ensures any_moment { Span (D.state disk.old) (D.state disk.new) (IsOpening names.now (D.state disk.old)) }
+    {
+        let looked = match Server::look(alloc, disk, names) {
+            Ok(looked) => looked,
+            Err(error) => return Err(error),
+        };
+        match looked.settle(disk) {
+            Ok(server) => Ok(server),
+            Err(call) => Err(ServerOpenError::StoreFault { call }),
+        }
+    }
+
+    /// Serves a connection: answers its frames in order until it ends, until a frame had no lawful
+    /// length, or until 65,536 frames were answered. A frame that the end cuts is dropped. It takes
+    /// no memory.
     pub fn serve<D: Disk, P: Pipe>(
         &mut self,
         disk: &mut D,

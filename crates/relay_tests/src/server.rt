@@ -6,13 +6,10 @@ ghost use Rattle.relay_server.specs.Durable.{IsReady};
 
 use dr_disk::{Call, Disk, MemoryDisk, Mode};
 use dr_ports::MemoryPipe;
-use relay_server::{Ended, ServeFault, Server, ServerOpenError};
+use relay_server::{AREA_SIZE, Ended, ServeFault, Server, ServerOpenError};
 use relay_wire::Name;
 use std::alloc::Global;
 use std::test::Fail;
-
-/// How many bytes a disk of one box has.
-const SIZE: u64 = 524_288;
 
 /// Requests for the boxes `a` and `b`, bytes that are none, a frame of no lawful length, and one request more.
 const REQUESTS: &[u8] = b"\x00\x03\x02\x01a\x00\x04\x01\x01a\x07\x00\x03\x02\x01a\
@@ -36,7 +33,7 @@ const EMPTY: &[u8] = b"\x00\x01\x83";
 
 /// A disk without a record.
 pub fn blank(alloc: Global) -> Result<MemoryDisk, Fail> {
-    Ok(MemoryDisk::new(alloc, SIZE)?)
+    Ok(MemoryDisk::new(alloc, AREA_SIZE)?)
 }
 
 /// The server of one box, or why none is opened.
@@ -46,7 +43,7 @@ pub fn open<D: Disk>(alloc: Global, disk: &mut D, name: &[u8]) -> Result<Server,
     let Some(name) = Name::new(name) else {
         return Err(ServerOpenError::Memory);
     };
-    if disk.size() < 524_288 {
+    if disk.size() < AREA_SIZE {
         return Err(ServerOpenError::Memory);
     }
     Server::open(alloc, disk, &[name])

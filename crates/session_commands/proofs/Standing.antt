@@ -11,6 +11,7 @@ use Rattle.session_model.specs.Clients.{Client}
 use Rattle.session_record.specs.Record.{record_text}
 use Rattle.slot_store.specs.Reading.{IsEntryOrLike, IsLikeRead, IsUndamaged}
 use Rattle.slot_store.specs.Store.{IsOldOrNew, KeepsOutside}
+use Rattle.slot_store.specs.Areas.{size_of}
 use Rattle.client.specs.Clients.{ClientNow, IsReady, client_area}
 use Rattle.client.specs.InWorlds.{IsBetween, StandsForEither}
 use Rattle.client.specs.Opening.{IsOpened, Reads}
@@ -31,7 +32,7 @@ left_sound start mid c alike whole kept =
       read = like.read;
       told = like.told;
       undamaged = λ _. whole;
-      outside = torn_twice client_area.start (client_area.slot + client_area.slot) like.read kept.0 c like.outside kept.2;
+      outside = torn_twice client_area.start (size_of client_area) like.read kept.0 c like.outside kept.2;
     }
 
 pub like_stands_for : (k : Mechanism) (side : Side) (before after : World) (start : DiskState) (c : List ℕ) → Reads k before side start

@@ -11,6 +11,7 @@ use Rattle.session_record.specs.Record.{record_read, record_text}
 use Rattle.slot_store.specs.Reading.{IsEntryOrLike, IsLikeRead, IsUndamaged}
 use Rattle.slot_store.specs.Slots.{recovered}
 use Rattle.slot_store.specs.declared.store.SlotStore.{SlotStore}
+use Rattle.slot_store.specs.Areas.{size_of}
 use Rattle.client.specs.Clients.{IsReady, client_area}
 use Rattle.client.specs.InWorlds.{StandsFor}
 
@@ -28,7 +29,7 @@ pub record IsSound (start : DiskState) (c : List ℕ) : Type 0 where
   pub read : List ℕ
   pub told : start.seen ≡ Some read
   pub undamaged : IsUndamaged client_area read → IsUndamaged client_area c
-  pub outside : Torn client_area.start (client_area.slot + client_area.slot) read c
+  pub outside : Torn client_area.start (size_of client_area) read c
 
 -- bytes with a client's record, read without damage, and the same outside the client's area as at entry
 pub record HasRecord (kept : Client) (start : DiskState) (c : List ℕ) : Type 0 where

@@ -21,7 +21,7 @@ returns-then-not-is_empty-clause-filled g c =
 
 pub replace_at-requires-clause-ready : goal.replace_at-requires-clause-ready
 replace_at-requires-clause-ready g c = λ store there.
-    place_ready c.args.place c.args.relay.now c.args.stores.now (g.D.Disk.state c.args.disk.now) (length (take c.write_text-len.result c.write_text-len.new.out)) c.requires.filled c.requires.inside (omega (arith, length-take c.write_text-len.result c.write_text-len.new.out, c.write_text-len.ensures.len)) store there
+    place_ready c.args.place c.args.relay.now c.args.stores.now (g.D.Disk.state c.args.disk.now) (take c.write_text-len.result c.write_text-len.new.out) c.requires.filled c.requires.inside (omega (arith, length-take c.write_text-len.result c.write_text-len.new.out, c.write_text-len.ensures.len)) store there
 
 pub returns-clause-any_moment : goal.returns-clause-any_moment
 returns-clause-any_moment g c =

@@ -1,6 +1,8 @@
-use Rattle.std.proofs.Common.{arith, refl}
-use Rattle.std.proofs.lemmas.Grind.{common_steps}
-use Rattle.relay_server.proofs.Rounds.{pulled_part}
+use Rattle.std.proofs.Common.{refl, subst, sym, ◌∙◌, ℕ}
+use Rattle.dr_ports.specs.Ports.{Rose}
+use Rattle.dr_ports.specs.declared.pipe.Part.TheVariants.{Flow}
+use Rattle.relay_core.specs.Record.{box_text}
+use Rattle.relay_server.proofs.Rounds.{came_part, pulled_part}
 use Rattle.relay_server.proofs.durable.DurableBoxes.round.Goals as goal
 
 pub returns-in-Err-clause-rounds : goal.returns-in-Err-clause-rounds
@@ -13,4 +15,18 @@ returns-in-Err-clause-rounds g c = (
 )
 
 pub returns-in-Err-send_all-clause-rounds : goal.returns-in-Err-send_all-clause-rounds
-returns-in-Err-send_all-clause-rounds g c = grind (arith, common_steps)
+returns-in-Err-send_all-clause-rounds g c =
+    let pulls = rw c.in-Ok-Some.field-0-is at c.in-Ok-Some.ensures.pulls in
+    let part = c.in-Err-send_all.ensures.part in
+    let rose : Rose ((g.P.Pipe.port c.next_frame.new.pipe).faults Flow) ((g.P.Pipe.port c.send_all.new.pipe).faults Flow) = c.in-Err-send_all.ensures.cause.failed in (
+      c.in-Ok-Some.frame.bytes,
+      part.beginning,
+      part.remainder,
+      came_part box_text c.args.reader.now c.next_frame.new.reader c.in-Ok-Some.frame.bytes part.beginning c.args.self.now.boxes c.answer.new.self.boxes
+          (g.P.Pipe.port c.args.pipe.now) (g.P.Pipe.port c.next_frame.new.pipe) (g.P.Pipe.port c.send_all.new.pipe)
+          (g.D.Disk.state c.args.disk.now) (g.D.Disk.state c.answer.new.disk) c.requires.fresh pulls.0 pulls.1 pulls.2 part.took c.answer.ensures.next c.answer.ensures.any_moment,
+      sym c.in-Ok.ensures.reply ∙ part.split,
+      subst (λ (n : ℕ). Rose n ((g.P.Pipe.port c.send_all.new.pipe).faults Flow)) c.in-Ok-Some.ensures.cause.passed rose,
+      c.in-Ok.ensures.ready,
+      c.in-Ok.ensures.quiet,
+    )

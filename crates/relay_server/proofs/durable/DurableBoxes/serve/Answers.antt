@@ -1,17 +1,17 @@
-use Rattle.std.proofs.Common.{◌+◌, ◌*◌, length, arith, refl, ◌∙◌, []}
+use Rattle.std.proofs.Common.{◌+◌, length, arith, refl, ◌∙◌, []}
 use Rattle.relay_server.proofs.Serve.{nothing_so_far}
 use Rattle.relay_server.proofs.Exits.{goes_on}
 use Rattle.relay_server.proofs.FrameByFrame.{answered_on, nothing_answered, order_end, order_fault, order_full, order_last}
 use Rattle.relay_server.proofs.Rounds.{no_call}
-use Rattle.dr_disk.specs.Spans.{Frame}
 use Rattle.relay_core.specs.declared.limits.TheConstants.{EXCHANGE_LIMIT}
 use Rattle.relay_core.specs.Record.{box_text}
 use Rattle.relay_server.specs.Serving.{ReachedIn}
 use Rattle.relay_server.proofs.durable.DurableBoxes.serve.Goals as goal
+use Rattle.relay_server.specs.Places.{IsSameBehind}
 
 pub rounds-init : goal.rounds-init
 rounds-init g c = record {
-  so = nothing_so_far box_text EXCHANGE_LIMIT c.args.self.now (g.P.Pipe.port c.args.pipe.now) (g.D.Disk.state c.args.disk.now) (no_call (g.D.Disk.state c.args.disk.now) (λ image. ReachedIn box_text EXCHANGE_LIMIT c.args.self.now.boxes [] image × Frame (g.D.Disk.state c.args.disk.now) 0 (524288 * length c.args.self.now.boxes) image));
+  so = nothing_so_far box_text EXCHANGE_LIMIT c.args.self.now (g.P.Pipe.port c.args.pipe.now) (g.D.Disk.state c.args.disk.now) (no_call (g.D.Disk.state c.args.disk.now) (λ image. ReachedIn box_text EXCHANGE_LIMIT c.args.self.now.boxes [] image × IsSameBehind (length c.args.self.now.boxes) (g.D.Disk.state c.args.disk.now) image));
   answered = nothing_answered g.D.Disk.state g.P.Pipe.port box_text c.args.self.now c.args.disk.now c.args.pipe.now c.requires.ready;
   ready = c.requires.ready;
   fresh = c.clear.ensures;
