@@ -4,6 +4,7 @@ ghost use Rattle.std.specs.Prelude.{◌≡◌, ℕ, ◌+◌, ◌≤◌, List, �
 ghost use Rattle.boxes.specs.Items.{item_at};
 ghost use Rattle.answer_lines.specs.declared.texts.TheConstants.{HEAD_LIMIT, TEXT_LINE_LIMIT};
 ghost use Rattle.answer_lines.specs.Texts.{escaped, is_plain, text_line};
+ghost use Rattle.answer_lines.specs.Limits.{HasLimits};
 
 use crate::answers::put_position;
 use arrayvec::ArrayVec;
@@ -64,3 +65,8 @@ pub fn text_line(head: &[u8], position: Position, text: &[u8]) -> TextLine
     line.try_extend_from_slice(b"\"\n").unwrap();
     line
 }
+
+/// The limits of this crate as numbers. The function has no code.
+pub fn limits_in_numbers()
+    ensures { HasLimits }
+{}

@@ -10,3 +10,4 @@ pub mod Grounds
 pub mod Moments
 pub mod Exchanges
 pub mod Syncing
+pub mod Limits

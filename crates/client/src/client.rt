@@ -2,6 +2,7 @@
 
 ghost use Rattle.std.specs.Prelude.{◌≡◌, ◌↔◌, ◌<◌, ◌≤◌, length, option_map, slice_get, IfSome, IsSome};
 ghost use Rattle.dr_base.specs.declared.limits.TheConstants.{PACKET_LIMIT, TEXT_LIMIT};
+ghost use Rattle.client.specs.Limits.{HasLimits};
 
 use boxes::{Entry, Inbox, Outbox};
 use dr_base::{Position, Side};
@@ -106,3 +107,8 @@ impl<K: Kem> Client<K> {
         }
     }
 }
+
+/// The limits of this crate as numbers. The function has no code.
+pub fn limits_in_numbers()
+    ensures { HasLimits }
+{}

@@ -4,7 +4,7 @@
 //! before the call or the one after it. A call on the disk that fails closes the client, and the disk is opened again.
 #![tactic(auto)]
 
-pub use client::{Client, SLOT};
+pub use client::{Client, SLOT, limits_in_numbers};
 pub use histories::{exchange, meanwhile, syncs_are_links};
 pub use laws::{
     areas_are_their_records, client_grounds, crash_safety, opens_again, single_use,

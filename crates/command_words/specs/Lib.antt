@@ -3,3 +3,4 @@ pub mod Numbers
 pub mod Commands
 pub mod Application
 pub mod Seen
+pub mod Limits

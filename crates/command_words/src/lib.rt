@@ -14,7 +14,7 @@
 #![tactic(auto)]
 
 pub use command::Command;
-pub use limits::{CONNECTION_LIMIT, PORT_LIMIT, ROUND_LIMIT};
+pub use limits::{CONNECTION_LIMIT, PORT_LIMIT, ROUND_LIMIT, limits_in_numbers};
 pub use words::parse;
 
 mod application;

@@ -1,5 +1,7 @@
 //! The greatest numbers that a command takes.
 
+ghost use Rattle.command_words.specs.Limits.{HasLimits};
+
 /// The greatest port.
 pub const PORT_LIMIT: u32 = 65_535;
 
@@ -8,3 +10,8 @@ pub const CONNECTION_LIMIT: u32 = 1_000_000;
 
 /// The most rounds of a script that is made.
 pub const ROUND_LIMIT: u32 = 1_000;
+
+/// The limits of this crate as numbers. The function has no code.
+pub fn limits_in_numbers()
+    ensures { HasLimits }
+{}

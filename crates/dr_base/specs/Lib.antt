@@ -3,3 +3,4 @@ pub mod Bytes
 pub mod Causes
 pub mod Descriptors
 pub mod Position
+pub mod Limits

@@ -1,5 +1,7 @@
 //! The limits of the product. Code and definitions cite these names.
 
+ghost use Rattle.dr_base.specs.Limits.{HasLimits};
+
 /// The longest text, in bytes.
 pub const TEXT_LIMIT: usize = 1024;
 
@@ -39,3 +41,11 @@ pub const PACKET_LIMIT: usize = PACKET_FRAME + AGREEMENT_LIMIT + TEXT_LIMIT;
 
 /// The longest packet that a relay carries, in bytes.
 pub const CARRIED_LIMIT: usize = 4000;
+
+/// How many bytes a page of a disk's area has.
+pub const PAGE: usize = 4096;
+
+/// The limits of this crate as numbers. The function has no code.
+pub fn limits_in_numbers()
+    ensures { HasLimits }
+{}

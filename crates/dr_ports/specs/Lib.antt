@@ -9,3 +9,4 @@ pub mod Seeds
 pub mod States
 pub mod Wires
 pub mod Writing
+pub mod Limits

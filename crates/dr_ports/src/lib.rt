@@ -12,7 +12,7 @@ pub use memory::pipe::MemoryPipe;
 pub use memory::plan::CallPlan;
 pub use memory::sink::{MemorySink, NullSink};
 pub use memory::source::{MemorySource, SteadySource};
-pub use output_line::{OutputLine, ROOM};
+pub use output_line::{OutputLine, ROOM, limits_in_numbers};
 pub use pipe::{Door, Link, Part, Pipe, Stand};
 pub use port::{Draws, Sink, Source};
 pub use reading::{InputError, read_whole};

@@ -1,6 +1,7 @@
 //! A line that is put together before it is written.
 
 ghost use Rattle.std.specs.Prelude.{◌≡◌, ℕ, ◌+◌, ◌≤◌, List, [], ◌++◌, length, decimal};
+ghost use Rattle.dr_ports.specs.Limits.{HasLimits};
 
 use arrayvec::ArrayVec;
 use itoa::Buffer;
@@ -57,3 +58,8 @@ impl OutputLine {
         self.bytes.as_slice()
     }
 }
+
+/// The limits of this crate as numbers. The function has no code.
+pub fn limits_in_numbers()
+    ensures { HasLimits }
+{}

@@ -4,3 +4,4 @@ pub mod InTurn
 pub mod Serving
 pub mod Turns
 pub mod Relaying
+pub mod Limits

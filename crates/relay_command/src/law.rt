@@ -4,6 +4,7 @@ ghost use Rattle.std.specs.Prelude.{List, ℕ};
 ghost use Rattle.relay_server.specs.FrameByFrame.{StandsForSent};
 ghost use Rattle.relay_command.specs.Connections.{Connection, Standing, behind_all};
 ghost use Rattle.relay_command.specs.InTurn.{WasLeftIn};
+ghost use Rattle.relay_command.specs.Limits.{HasLimits};
 
 use dr_disk::Disk;
 use dr_ports::Door;
@@ -18,3 +19,8 @@ pub fn crashes<A: Disk, L: Door>()
 {
     crashes_in_one::<A, L>();
 }
+
+/// The limits of this crate as numbers. The function has no code.
+pub fn limits_in_numbers()
+    ensures { HasLimits }
+{}

@@ -2,7 +2,7 @@
 //! other, with a line for each.
 #![tactic(auto)]
 
-pub use law::crashes;
+pub use law::{crashes, limits_in_numbers};
 pub use relay_server::AREA_SIZE;
 pub use relaying::{RELAY_DISK_SIZE, relay};
 

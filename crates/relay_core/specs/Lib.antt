@@ -5,3 +5,4 @@ pub mod Record
 pub mod Streams
 pub mod Changes
 pub mod Loading
+pub mod Limits

@@ -16,7 +16,7 @@
 pub use answering::{Answered, answer_frame};
 pub use checking::check_box;
 pub use law::{changes, isolation, lawfulness, records};
-pub use limits::{BOX_LIMIT, EXCHANGE_LIMIT, RECORD_LIMIT, RELAY_LIMIT};
+pub use limits::{BOX_LIMIT, EXCHANGE_LIMIT, RECORD_LIMIT, RELAY_LIMIT, limits_in_numbers};
 pub use loading::Loaded;
 pub use relay::Relay;
 

@@ -3,3 +3,4 @@ pub mod Connections
 pub mod Serving
 pub mod Bringing
 pub mod Playing
+pub mod Limits

@@ -12,7 +12,7 @@
 #![tactic(auto)]
 
 pub use law::plays;
-pub use limits::{REPLY_LIMIT, SENT_LIMIT};
+pub use limits::{REPLY_LIMIT, SENT_LIMIT, limits_in_numbers};
 pub use link::RelayLink;
 
 mod desk;

@@ -6,3 +6,4 @@ pub mod Filling
 pub mod Looking
 pub mod Serving
 pub mod FrameByFrame
+pub mod Limits

@@ -4,3 +4,4 @@ pub mod Requests
 pub mod Replies
 pub mod Seen
 pub mod Framed
+pub mod Limits

@@ -18,7 +18,7 @@
 
 pub use frame::Frame;
 pub use law::{bodies, streams};
-pub use limits::{BODY_LIMIT, FRAME_LIMIT, NAME_LIMIT, PACKET_LIMIT};
+pub use limits::{BODY_LIMIT, FRAME_LIMIT, NAME_LIMIT, PACKET_LIMIT, limits_in_numbers};
 pub use name::Name;
 pub use packet::Packet;
 pub use reader::FrameReader;

@@ -1,5 +1,7 @@
 //! The limits of the format. Each is said once, here.
 
+ghost use Rattle.relay_wire.specs.Limits.{HasLimits};
+
 use dr_base::CARRIED_LIMIT;
 
 /// The greatest number of bytes in a frame's body. A body has at least one.
@@ -13,3 +15,8 @@ pub const PACKET_LIMIT: usize = CARRIED_LIMIT;
 
 /// The greatest number of bytes in a box's name. A name has at least one.
 pub const NAME_LIMIT: usize = 40;
+
+/// The limits of this crate as numbers. The function has no code.
+pub fn limits_in_numbers()
+    ensures { HasLimits }
+{}

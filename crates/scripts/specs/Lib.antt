@@ -9,3 +9,4 @@ pub mod ScriptCodes
 pub mod Seen
 pub mod Sides
 pub mod Words
+pub mod Limits

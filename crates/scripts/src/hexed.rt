@@ -2,6 +2,7 @@
 
 ghost use Rattle.std.specs.Prelude.{◌≡◌};
 ghost use Rattle.scripts.specs.Seen.{bytes_of_hex};
+ghost use Rattle.scripts.specs.Limits.{HasLimits};
 
 use arrayvec::ArrayVec;
 use dr_base::CARRIED_LIMIT;
@@ -29,3 +30,8 @@ pub fn hex_bytes(digits: &[u8]) -> ArrayVec<u8, HEX_LIMIT>
     }
     bytes
 }
+
+/// The limits of this crate as numbers. The function has no code.
+pub fn limits_in_numbers()
+    ensures { HasLimits }
+{}

@@ -1,7 +1,7 @@
 //! Scripts of a conversation: what their lines say, read from a text, or made from a number.
 #![tactic(auto)]
 
-pub use hexed::{HEX_LIMIT, hex_bytes};
+pub use hexed::{HEX_LIMIT, hex_bytes, limits_in_numbers};
 pub use laws::lines_print_back;
 pub use line::Line;
 pub use lined::{Lined, Stop, StoppedCall};

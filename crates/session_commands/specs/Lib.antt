@@ -14,3 +14,4 @@ pub mod Syncing
 pub mod Histories
 pub mod WholeRuns
 pub mod Talks
+pub mod Limits

@@ -4,6 +4,7 @@ ghost use Rattle.std.specs.Prelude.{◌≡◌, ◌≤◌, length, option_map};
 ghost use Rattle.dr_base.specs.declared.key.Key32.{Key32};
 ghost use Rattle.endings.specs.declared.ending.Ending.TheVariants.{BadKey, NotHex};
 ghost use Rattle.session_commands.specs.Inputs.{ReadsInput, key_of, packet_of, stripped};
+ghost use Rattle.session_commands.specs.Limits.{HasLimits};
 
 use arrayvec::ArrayVec;
 use dr_base::{Key32, PACKET_LIMIT};
@@ -97,3 +98,8 @@ pub(crate) fn read_key<S: Source>(alloc: Global, source: &mut S) -> Result<Key32
         None => Err(Ending::BadKey),
     }
 }
+
+/// The limits of this crate as numbers. The function has no code.
+pub fn limits_in_numbers()
+    ensures { HasLimits }
+{}

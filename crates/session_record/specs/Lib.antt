@@ -4,3 +4,4 @@ pub mod Record
 pub mod Lawful
 pub mod Changes
 pub mod Seen
+pub mod Limits

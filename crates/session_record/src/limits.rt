@@ -1,5 +1,7 @@
 //! The greatest sizes of a record and of what it consists of, in bytes.
 
+ghost use Rattle.session_record.specs.Limits.{HasLimits};
+
 use dr_base::{
     AGREEMENT_LIMIT, INBOX_LIMIT, KEPT_LIMIT, OUTBOX_LIMIT, PACKET_LIMIT, SECRET_LIMIT, TEXT_LIMIT,
 };
@@ -46,3 +48,8 @@ pub const RECORD_LIMIT: usize = HEAD_SIZE
     + KEYS_LIMIT
     + ENTRIES_LIMIT
     + POSTS_LIMIT;
+
+/// The limits of this crate as numbers. The function has no code.
+pub fn limits_in_numbers()
+    ensures { HasLimits }
+{}

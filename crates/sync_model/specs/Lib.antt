@@ -5,3 +5,4 @@ pub mod Simulation
 pub mod Transfers
 pub mod Carried
 pub mod Scenes
+pub mod Limits

@@ -7,7 +7,7 @@
 #![tactic(auto)]
 
 pub use laws::{acts_alike, carries, simulates, stages, transfer};
-pub use limits::ITEM_LIMIT;
+pub use limits::{ITEM_LIMIT, limits_in_numbers};
 pub use more::More;
 
 mod laws;

@@ -5,7 +5,7 @@
 
 pub use door::TcpDoor;
 pub use link::TcpLink;
-pub use patience::{Patience, RATE, Traffic, Whole};
+pub use patience::{Patience, RATE, Traffic, Whole, limits_in_numbers};
 
 mod connection;
 mod door;

@@ -4,6 +4,7 @@ ghost use Rattle.std.specs.Prelude.{◌≡◌, ◌≤◌, ◌-◌, ◌*◌, ◌�
 ghost use Rattle.std.specs.Duration.{as_nanos};
 ghost use Rattle.tcp_ports.specs.Times.{allowance};
 ghost use Rattle.tcp_ports.specs.declared.patience.TheConstants.{LINK_CALL, DOOR_CALL, DOOR_LEAST, DOOR_MOST};
+ghost use Rattle.tcp_ports.specs.Limits.{HasLimits};
 
 use std::time::Duration;
 
@@ -99,3 +100,8 @@ impl Patience {
         Some(self.call.min(left))
     }
 }
+
+/// The limits of this crate as numbers. The function has no code.
+pub fn limits_in_numbers()
+    ensures { HasLimits }
+{}
