@@ -1,8 +1,8 @@
 //! Clients on disks in memory: beginning, opening, and each act once.
 
-ghost use Rattle.std.specs.Prelude.{◌≡◌, None, IfOk, OnOk, true};
+ghost use Rattle.std.specs.Prelude.{◌≡◌, IfOk, OnSome, true};
 ghost use Rattle.dr_disk.specs.MemoryDisks.{state_of};
-ghost use Rattle.client.specs.Clients.{IsReady};
+ghost use Rattle.client.specs.Clients.{IsOpenOn, MayActOn};
 
 use client::{BeginRefusal, Client, OpenRefusal, SLOT};
 use dr_base::{Key32, Side};
@@ -10,7 +10,6 @@ use dr_disk::{Disk, MemoryDisk};
 use dr_ports::SteadyDraws;
 use kem_laws::OpenKem;
 use std::alloc::Global;
-use std::test::Fail;
 
 /// A new disk that holds a client's area.
 pub const SIZE: u64 = 393216;
@@ -24,56 +23,58 @@ pub enum Act {
     Sent,
 }
 
-/// Begins a client, whose key is zeros.
-pub fn begin(alloc: Global, side: Side, disk: &mut MemoryDisk) -> Result<Client<OpenKem>, Fail>
-    ensures open { IfOk result (λ client. client.closed ≡ None) }
-    ensures ready { IfOk result (λ client. IsReady client.kept client.store (state_of disk.new)) }
+/// Begins a client, whose key has this byte 32 times.
+pub fn begin(
+    alloc: Global,
+    side: Side,
+    byte: u8,
+    disk: &mut MemoryDisk,
+) -> Result<Client<OpenKem>, BeginRefusal>
+    ensures { IfOk result (λ client. IsOpenOn client (state_of disk.new)) }
 {
     if disk.size() < 2 * SLOT as u64 {
-        return Err(Fail::from("no room"));
+        return Err(BeginRefusal::Memory);
     }
-    let key = Key32 { bytes: [0; 32] };
-    Ok(Client::<OpenKem>::begin(alloc, disk, side, &key)?)
+    let key = Key32 { bytes: [byte; 32] };
+    Client::<OpenKem>::begin(alloc, disk, side, &key)
 }
 
-/// Says the text "hi", takes a packet, or drops the oldest item of a box. Answers whether that was acknowledged.
+/// Says the text "hi". Answers whether that was acknowledged.
+fn say(alloc: Global, client: &mut Client<OpenKem>, disk: &mut MemoryDisk) -> bool
+    requires { MayActOn client.old (state_of disk.old) }
+    ensures { result ≡ true → IsOpenOn client.new (state_of disk.new) }
+{
+    match SteadyDraws::new(alloc, &[Key32 { bytes: [9; 32] }]) {
+        Ok(mut draws) => client.say(disk, b"hi", &mut draws).is_ok(),
+        Err(_) => false,
+    }
+}
+
+/// Says that text, takes a packet, or drops the oldest item of a box. Answers whether that was
+/// acknowledged.
 pub fn perform(
     alloc: Global,
     act: Act,
     packet: &[u8],
     client: &mut Client<OpenKem>,
     disk: &mut MemoryDisk,
-) -> Result<bool, Fail>
-    requires { client.old.closed ≡ None → IsReady client.old.kept client.old.store (state_of disk.old) }
-    ensures open { IfOk result (λ done. done ≡ true → client.new.closed ≡ None) }
-    ensures ready { IfOk result (λ done. done ≡ true → IsReady client.new.kept client.new.store (state_of disk.new)) }
+) -> bool
+    requires { MayActOn client.old (state_of disk.old) }
+    ensures { result ≡ true → IsOpenOn client.new (state_of disk.new) }
 {
     match act {
-        Act::Say => {
-            let mut draws = SteadyDraws::new(alloc, &[Key32 { bytes: [9; 32] }])?;
-            Ok(client.say(disk, b"hi", &mut draws).is_ok())
-        }
-        Act::Take => Ok(client.take(disk, packet).is_ok()),
-        Act::Done => Ok(client.done(disk, 1).is_ok()),
-        Act::Sent => Ok(client.sent(disk, 1).is_ok()),
+        Act::Say => say(alloc, client, disk),
+        Act::Take => client.take(disk, packet).is_ok(),
+        Act::Done => client.done(disk, 1).is_ok(),
+        Act::Sent => client.sent(disk, 1).is_ok(),
     }
 }
 
-/// Does what must be acknowledged.
-pub fn perform_well(
-    alloc: Global,
-    what: Act,
-    packet: &[u8],
-    client: &mut Client<OpenKem>,
-    disk: &mut MemoryDisk,
-) -> Result<(), Fail>
-    requires { client.old.closed ≡ None → IsReady client.old.kept client.old.store (state_of disk.old) }
-    ensures { OnOk result ((client.new.closed ≡ None) × IsReady client.new.kept client.new.store (state_of disk.new)) }
-{
-    if perform(alloc, what, packet, client, disk)? {
-        Ok(())
-    } else {
-        Err(Fail::from("refused"))
+/// The oldest packet of a client's outbox.
+fn posted(alloc: Global, client: &Client<OpenKem>) -> Option<Vec<u8>> {
+    match client.outbox(0) {
+        Some((_, packet)) => packet.to_vec(alloc).ok(),
+        None => None,
     }
 }
 
@@ -82,81 +83,111 @@ pub fn said_packet(
     alloc: Global,
     client: &mut Client<OpenKem>,
     disk: &mut MemoryDisk,
-) -> Result<Vec<u8>, Fail>
-    requires { client.old.closed ≡ None → IsReady client.old.kept client.old.store (state_of disk.old) }
-    ensures { OnOk result ((client.new.closed ≡ None) × IsReady client.new.kept client.new.store (state_of disk.new)) }
+) -> Option<Vec<u8>>
+    requires { MayActOn client.old (state_of disk.old) }
+    ensures { OnSome result (IsOpenOn client.new (state_of disk.new)) }
 {
-    perform_well(alloc, Act::Say, &[], client, disk)?;
-    match client.outbox(0) {
-        Some((_, packet)) => Ok(packet.to_vec(alloc)?),
-        None => Err(Fail::from("no packet")),
+    if !say(alloc, client, disk) {
+        return None;
     }
+    posted(alloc, client)
 }
 
 /// The packet of the text "hi", which Second says.
-pub fn packet_of_second(alloc: Global) -> Result<Vec<u8>, Fail> {
-    let mut disk = MemoryDisk::new(alloc, SIZE)?;
-    let mut client = begin(alloc, Side::Second, &mut disk)?;
-    said_packet(alloc, &mut client, &mut disk)
+pub fn packet_of_second(alloc: Global) -> Option<Vec<u8>> {
+    let Ok(mut disk) = MemoryDisk::new(alloc, SIZE) else {
+        return None;
+    };
+    match begin(alloc, Side::Second, 0, &mut disk) {
+        Ok(mut client) => said_packet(alloc, &mut client, &mut disk),
+        Err(_) => None,
+    }
 }
 
-/// Whether a disk has no session.
-fn is_empty(alloc: Global, disk: &mut MemoryDisk) -> bool {
-    disk.size() >= 2 * SLOT as u64
-        && matches!(
-            Client::<OpenKem>::open(alloc, disk),
-            Err(OpenRefusal::NoSession)
-        )
+/// How many texts and packets an opening finds, or why it refuses.
+pub fn opened(alloc: Global, disk: &mut MemoryDisk) -> Result<(u32, u32), OpenRefusal> {
+    if disk.size() < 2 * SLOT as u64 {
+        return Err(OpenRefusal::Memory);
+    }
+    match Client::<OpenKem>::open(alloc, disk) {
+        Ok(client) => {
+            let state = client.state();
+            Ok((state.inbox, state.outbox))
+        }
+        Err(refusal) => Err(refusal),
+    }
 }
 
-/// Whether a session can't be begun, since one stands.
-fn is_begun(alloc: Global, disk: &mut MemoryDisk) -> bool {
-    let key = Key32 { bytes: [7; 32] };
-    disk.size() >= 2 * SLOT as u64
-        && matches!(
-            Client::<OpenKem>::begin(alloc, disk, Side::First, &key),
-            Err(BeginRefusal::Exists)
-        )
+/// Begins First on a disk, with a key of this byte.
+fn begun(alloc: Global, byte: u8, disk: &mut MemoryDisk) -> Result<(), BeginRefusal> {
+    match begin(alloc, Side::First, byte, disk) {
+        Ok(_) => Ok(()),
+        Err(refusal) => Err(refusal),
+    }
 }
 
-// An empty disk has no session, and a session is begun once.
-#[test]
-fn begun_once(rt: HostRuntime) -> Result<(), Fail> {
-    let alloc = rt.alloc();
-    let mut disk = MemoryDisk::new(alloc, SIZE)?;
-    let was_empty = is_empty(alloc, &mut disk);
-    begin(alloc, Side::First, &mut disk)?;
-    assert!(rt; was_empty && is_begun(alloc, &mut disk));
-    Ok(())
+/// Whether an empty disk has no session, and one is begun once.
+fn is_begun_once(alloc: Global, disk: &mut MemoryDisk) -> bool {
+    matches!(opened(alloc, disk), Err(OpenRefusal::NoSession))
+        && begun(alloc, 0, disk).is_ok()
+        && matches!(begun(alloc, 7, disk), Err(BeginRefusal::Exists))
 }
 
-/// Takes a packet, and is done with its text: whether one text stood between.
+/// Whether a client takes a packet, whose text stands then, and is done with it.
 fn takes_and_finishes(
     alloc: Global,
     packet: &[u8],
     client: &mut Client<OpenKem>,
     disk: &mut MemoryDisk,
-) -> Result<bool, Fail>
-    requires { client.old.closed ≡ None → IsReady client.old.kept client.old.store (state_of disk.old) }
+) -> bool
+    requires { MayActOn client.old (state_of disk.old) }
 {
-    perform_well(alloc, Act::Take, packet, client, disk)?;
-    let before = client.state().inbox;
-    perform_well(alloc, Act::Done, packet, client, disk)?;
-    Ok(before == 1 && client.state().inbox == 0)
+    perform(alloc, Act::Take, packet, client, disk)
+        && client.state().inbox == 1
+        && perform(alloc, Act::Done, packet, client, disk)
+        && client.state().inbox == 0
 }
 
-/// Whether First takes a packet, and is done with its text.
-fn first_takes(alloc: Global, packet: &[u8]) -> Result<bool, Fail> {
-    let mut disk = MemoryDisk::new(alloc, SIZE)?;
-    let mut client = begin(alloc, Side::First, &mut disk)?;
-    takes_and_finishes(alloc, packet, &mut client, &mut disk)
+/// Whether First does so with a packet.
+fn first_takes(alloc: Global, packet: &[u8], disk: &mut MemoryDisk) -> bool {
+    match begin(alloc, Side::First, 0, disk) {
+        Ok(mut client) => takes_and_finishes(alloc, packet, &mut client, disk),
+        Err(_) => false,
+    }
+}
+
+/// Whether First does so with the packet that Second says.
+fn goes_over(alloc: Global, disk: &mut MemoryDisk) -> bool {
+    match packet_of_second(alloc) {
+        Some(packet) => first_takes(alloc, packet.as_slice(), disk),
+        None => false,
+    }
+}
+
+/// Whether this disk is one side's that takes what the other says, or is begun once.
+fn takes_or_begins(alloc: Global, disk: &mut MemoryDisk, is_taking: bool) -> bool {
+    if is_taking {
+        goes_over(alloc, disk)
+    } else {
+        is_begun_once(alloc, disk)
+    }
+}
+
+/// Whether a new disk is one side's that takes what the other says, or is begun once.
+fn goes(alloc: Global, is_taking: bool) -> bool {
+    match MemoryDisk::new(alloc, SIZE) {
+        Ok(mut disk) => takes_or_begins(alloc, &mut disk, is_taking),
+        Err(_) => false,
+    }
+}
+
+#[test]
+fn begun_once(rt: HostRuntime) {
+    assert!(rt; goes(rt.alloc(), false));
 }
 
 // What one side says the other takes.
 #[test]
-fn said_and_taken(rt: HostRuntime) -> Result<(), Fail> {
-    let alloc = rt.alloc();
-    let packet = packet_of_second(alloc)?;
-    assert!(rt; first_takes(alloc, packet.as_slice())?);
-    Ok(())
+fn said_and_taken(rt: HostRuntime) {
+    assert!(rt; goes(rt.alloc(), true));
 }

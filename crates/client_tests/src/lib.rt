@@ -4,6 +4,12 @@
 #[cfg(test)]
 mod acts;
 #[cfg(test)]
+mod faults;
+#[cfg(test)]
+mod firsts;
+#[cfg(test)]
+mod openings;
+#[cfg(test)]
 mod stops;
 #[cfg(test)]
 mod syncs;

@@ -1,37 +1,30 @@
-//! Each act, and an opening, stopped at each write and sync: what an opening then finds.
+//! Each act stopped at each write and sync: what an opening then finds.
 
-ghost use Rattle.std.specs.Prelude.{◌≡◌, None};
+ghost use Rattle.std.specs.Prelude.{◌≡◌, true};
 ghost use Rattle.dr_disk.specs.MemoryDisks.{state_of};
-ghost use Rattle.client.specs.Clients.{IsReady};
+ghost use Rattle.client.specs.Clients.{IsOpenOn, IsReady};
 
-use crate::acts::{Act, SIZE, begin, packet_of_second, perform, perform_well};
-use client::{Client, SLOT};
+use crate::acts::{Act, SIZE, begin, opened, packet_of_second, perform};
+use client::Client;
 use dr_base::Side;
-use dr_disk::{Disk, MemoryDisk, Mode};
+use dr_disk::{MemoryDisk, Mode};
 use kem_laws::OpenKem;
 use std::alloc::Global;
-use std::test::Fail;
 
 /// No opening makes this many writes and syncs.
-const MANY: u32 = 6;
+pub const MANY: u32 = 6;
 
-/// How many texts and packets stand.
-#[derive(Clone, Copy, Debug, PartialEq, Eq)]
-struct Boxes {
-    inbox: u32,
-    outbox: u32,
-}
-
-/// An act of a side, after another one or none.
+/// An act of a side, after another one or none, with the packet that it takes.
 #[derive(Clone, Copy)]
-struct Row {
-    side: Side,
-    earlier: Option<Act>,
-    act: Act,
+pub struct Row<'a> {
+    pub side: Side,
+    pub earlier: Option<Act>,
+    pub act: Act,
+    pub packet: &'a [u8],
 }
 
 /// From this many writes and syncs on, such a crash leaves what the act made.
-const MODES: [(Mode, u32); 5] = [
+pub const MODES: [(Mode, u32); 5] = [
     (Mode::Old, 4),
     (Mode::New, 2),
     (Mode::Fill(0), 4),
@@ -39,20 +32,15 @@ const MODES: [(Mode, u32); 5] = [
     (Mode::Fill(0xff), 4),
 ];
 
-/// Acts on a disk that stops after `k` writes and syncs. Answers whether that was acknowledged.
-fn act_stopped(
-    alloc: Global,
-    row: Row,
-    packet: &[u8],
-    disk: &mut MemoryDisk,
-    k: u32,
-) -> Result<bool, Fail> {
-    let mut client = begin(alloc, row.side, disk)?;
-    if let Some(earlier) = row.earlier {
-        perform_well(alloc, earlier, packet, &mut client, disk)?;
+/// Acts first where there is such an act. Answers whether that was acknowledged.
+fn prepare(alloc: Global, row: Row<'_>, client: &mut Client<OpenKem>, disk: &mut MemoryDisk) -> bool
+    requires { IsOpenOn client.old (state_of disk.old) }
+    ensures { result ≡ true → IsOpenOn client.new (state_of disk.new) }
+{
+    match row.earlier {
+        Some(earlier) => perform(alloc, earlier, row.packet, client, disk),
+        None => true,
     }
-    stop(&client, disk, k);
-    perform(alloc, row.act, packet, &mut client, disk)
 }
 
 /// Stops the disk of a client that is ready.
@@ -63,92 +51,154 @@ pub fn stop(client: &Client<OpenKem>, disk: &mut MemoryDisk, k: u32)
     disk.stop_after(k);
 }
 
-/// What an opening finds, or nothing where it refuses.
-fn found(alloc: Global, disk: &mut MemoryDisk) -> Option<Boxes> {
-    if disk.size() < 2 * SLOT as u64 {
+/// Acts on a disk that stops after `k` writes and syncs then. Answers whether that was
+/// acknowledged, if it came to it.
+fn act(
+    alloc: Global,
+    row: Row<'_>,
+    client: &mut Client<OpenKem>,
+    disk: &mut MemoryDisk,
+    k: u32,
+) -> Option<bool>
+    requires { IsOpenOn client.old (state_of disk.old) }
+{
+    if !prepare(alloc, row, client, disk) {
         return None;
     }
-    let Ok(client) = Client::<OpenKem>::open(alloc, disk) else {
-        return None;
-    };
-    let state = client.state();
-    Some(Boxes {
-        inbox: state.inbox,
-        outbox: state.outbox,
-    })
+    stop(client, disk, k);
+    Some(perform(alloc, row.act, row.packet, client, disk))
 }
 
-/// Acts on a disk that stops after `k` writes and syncs and crashes so, opens it until that stops after `j`, lets it crash
-/// so again, and opens it. Answers whether the act was acknowledged, and what the last opening finds.
-fn stopped_twice(
-    alloc: Global,
-    row: Row,
-    packet: &[u8],
-    (k, j): (u32, u32),
-    mode: Mode,
-) -> Result<(bool, Option<Boxes>), Fail> {
-    let mut disk = MemoryDisk::new(alloc, SIZE)?;
-    let acknowledged = act_stopped(alloc, row, packet, &mut disk, k)?;
+/// The same of a client that is begun.
+fn act_stopped(alloc: Global, row: Row<'_>, disk: &mut MemoryDisk, k: u32) -> Option<bool> {
+    match begin(alloc, row.side, 0, disk) {
+        Ok(mut client) => act(alloc, row, &mut client, disk, k),
+        Err(_) => None,
+    }
+}
+
+/// How many texts and packets an opening finds, or nothing where it refuses.
+fn found(alloc: Global, disk: &mut MemoryDisk) -> Option<(u32, u32)> {
+    match opened(alloc, disk) {
+        Ok(boxes) => Some(boxes),
+        Err(_) => None,
+    }
+}
+
+/// Crashes a disk, opens it until that stops after `j` writes and syncs, crashes it again, and
+/// answers what an opening finds.
+fn found_twice(alloc: Global, disk: MemoryDisk, j: u32, mode: Mode) -> Option<(u32, u32)> {
     let mut left = disk.crash(mode);
     left.stop_after(j);
     let _until = found(alloc, &mut left);
-    let mut last = left.crash(mode);
-    Ok((acknowledged, found(alloc, &mut last)))
+    found(alloc, &mut left.crash(mode))
+}
+
+/// Acts on a disk that stops after `k` writes and syncs, and crashes so twice, the second time
+/// while it is opened. Answers whether the act was acknowledged, and what the last opening finds.
+pub fn stopped_twice(
+    alloc: Global,
+    row: Row<'_>,
+    (k, j): (u32, u32),
+    mode: Mode,
+) -> Option<(bool, Option<(u32, u32)>)> {
+    let Ok(mut disk) = MemoryDisk::new(alloc, SIZE) else {
+        return None;
+    };
+    match act_stopped(alloc, row, &mut disk, k) {
+        Some(done) => Some((done, found_twice(alloc, disk, j, mode))),
+        None => None,
+    }
+}
+
+/// Whether an act is acknowledged from the eighth call on, and what it made stands from this call
+/// on.
+fn is_told(
+    alloc: Global,
+    row: Row<'_>,
+    k: u32,
+    (mode, from): (Mode, u32),
+    (before, after): ((u32, u32), (u32, u32)),
+) -> bool {
+    match stopped_twice(alloc, row, (k, MANY), mode) {
+        Some((done, Some(boxes))) => {
+            let expected = if k >= from { after } else { before };
+            done == (k >= 8) && boxes.0 == expected.0 && boxes.1 == expected.1
+        }
+        _ => false,
+    }
+}
+
+/// Whether that is so wherever the disk stops, and whatever a crash leaves.
+fn are_told(alloc: Global, row: Row<'_>, before: (u32, u32), after: (u32, u32)) -> bool {
+    for crash in MODES {
+        for k in 0u32..10 {
+            if !is_told(alloc, row, k, crash, (before, after)) {
+                return false;
+            }
+        }
+    }
+    true
+}
+
+/// Whether all of it is so of an act of this side.
+fn stand(
+    alloc: Global,
+    side: Side,
+    earlier: Option<Act>,
+    act: Act,
+    packet: &[u8],
+    before: (u32, u32),
+    after: (u32, u32),
+) -> bool {
+    let row = Row {
+        side,
+        earlier,
+        act,
+        packet,
+    };
+    are_told(alloc, row, before, after)
+}
+
+/// Whether it is of each act of First's on this packet.
+fn stand_taken(alloc: Global, packet: &[u8]) -> bool {
+    let first = Side::First;
+    stand(alloc, first, None, Act::Take, packet, (0, 0), (1, 0))
+        && stand(
+            alloc,
+            first,
+            Some(Act::Take),
+            Act::Done,
+            packet,
+            (1, 0),
+            (0, 0),
+        )
+}
+
+/// Whether it is of those on the packet that Second says.
+fn stand_received(alloc: Global) -> bool {
+    match packet_of_second(alloc) {
+        Some(packet) => stand_taken(alloc, packet.as_slice()),
+        None => false,
+    }
 }
 
 // Each act: from the fourth call on what it made stands; between the second and the fourth where the gate became a5.
 #[test]
-fn acts_stopped(rt: HostRuntime) -> Result<(), Fail> {
+fn acts_stopped(rt: HostRuntime) {
     let alloc = rt.alloc();
-    let packet = packet_of_second(alloc)?;
-    let none = Boxes {
-        inbox: 0,
-        outbox: 0,
-    };
-    let text = Boxes {
-        inbox: 1,
-        outbox: 0,
-    };
-    let post = Boxes {
-        inbox: 0,
-        outbox: 1,
-    };
-    let rows = [
-        (Side::Second, None, Act::Say, none, post),
-        (Side::Second, Some(Act::Say), Act::Sent, post, none),
-        (Side::First, None, Act::Take, none, text),
-        (Side::First, Some(Act::Take), Act::Done, text, none),
-    ];
-    for (side, earlier, act, before, after) in rows {
-        let row = Row { side, earlier, act };
-        for (mode, from) in MODES {
-            for k in 0u32..10 {
-                let (done, boxes) = stopped_twice(alloc, row, packet.as_slice(), (k, MANY), mode)?;
-                assert!(rt; done == (k >= 8));
-                assert!(rt; boxes == Some(if k >= from { after } else { before }));
-            }
-        }
-    }
-    Ok(())
-}
-
-// An opening of what a text that was being said has left: a further stop changes nothing of what the next one finds.
-#[test]
-fn openings_stopped(rt: HostRuntime) -> Result<(), Fail> {
-    let alloc = rt.alloc();
-    let row = Row {
-        side: Side::Second,
-        earlier: None,
-        act: Act::Say,
-    };
-    for (mode, from) in MODES {
-        for k in 0u32..8 {
-            for j in 0u32..MANY {
-                let (_, boxes) = stopped_twice(alloc, row, &[], (k, j), mode)?;
-                let outbox = if k >= from { 1 } else { 0 };
-                assert!(rt; boxes == Some(Boxes { inbox: 0, outbox }));
-            }
-        }
-    }
-    Ok(())
+    let second = Side::Second;
+    assert!(rt; stand(alloc, second, None, Act::Say, &[], (0, 0), (0, 1)));
+    assert!(rt;
+        stand(
+            alloc,
+            second,
+            Some(Act::Say),
+            Act::Sent,
+            &[],
+            (0, 1),
+            (0, 0)
+        )
+    );
+    assert!(rt; stand_received(alloc));
 }

@@ -1,11 +1,11 @@
 //! Draws over a source of random bytes: the system's, one that counts, and one that fails.
 
-use dr_ports::{Draws, RandomDraws};
+use dr_base::Key32;
+use dr_ports::{Draws, Failed, RandomDraws};
 use rand::TryRng;
 use rand::rngs::SysRng;
 use std::io;
 use std::io::{Error, ErrorKind};
-use std::test::Fail;
 
 /// A source whose bytes count up, and which fails after so many calls.
 #[derive(Drop)]
@@ -68,18 +68,38 @@ fn counts_from<D: Draws>(draws: &mut D, first: u8) -> bool {
     true
 }
 
-#[test]
-fn draws_all_that_a_source_gives(rt: HostRuntime) -> Result<(), Fail> {
-    let mut draws = RandomDraws::new(Counting { next: 0, calls: 2 });
-    assert!(rt; counts_from(&mut draws, 1) && counts_from(&mut draws, 33));
-    assert!(rt; draws.draw().is_err() && draws.draw().is_err());
-    Ok(())
+/// Whether two seeds count up from 1, and no third one is given.
+fn count_up<D: Draws>(draws: &mut D) -> bool {
+    counts_from(draws, 1)
+        && counts_from(draws, 33)
+        && draws.draw().is_err()
+        && draws.draw().is_err()
 }
 
 #[test]
-fn draws_from_the_system(rt: HostRuntime) -> Result<(), Fail> {
+fn draws_all_that_a_source_gives(rt: HostRuntime) {
+    let mut draws = RandomDraws::new(Counting { next: 0, calls: 2 });
+    assert!(rt; count_up(&mut draws));
+}
+
+/// Whether the next seed is another one.
+fn has_others<D: Draws>(draws: &mut D, one: &Key32) -> bool {
+    match draws.draw() {
+        Ok(two) => two.bytes != one.bytes,
+        Err(Failed) => false,
+    }
+}
+
+/// Whether two seeds are given that differ.
+fn differ<D: Draws>(draws: &mut D) -> bool {
+    match draws.draw() {
+        Ok(one) => has_others(draws, &one),
+        Err(Failed) => false,
+    }
+}
+
+#[test]
+fn draws_from_the_system(rt: HostRuntime) {
     let mut draws = RandomDraws::new(SysRng::new(&rt));
-    let (one, two) = (draws.draw()?, draws.draw()?);
-    assert!(rt; one.bytes != two.bytes);
-    Ok(())
+    assert!(rt; differ(&mut draws));
 }

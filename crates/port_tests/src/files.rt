@@ -1,21 +1,14 @@
-//! The disk over a file: it is made and locked when it is first needed, takes its room in steps, and hands errors on.
+//! The disk over a file: it is made and locked when it is first needed, and takes its room in
+//! steps.
 
 use crate::disks::{seen, works};
-use crate::watched::Watched;
-use dr_base::Failed;
-use dr_disk::{Disk, FileDisk, Sharing, write_synced};
+use dr_disk::{Disk, FileDisk, Sharing};
+use std::fs;
 use std::os::unix::fs::PermissionsExt;
-use std::test::Fail;
-use std::{fs, io};
 
 /// Whether a disk reads as zeros and is synced.
 fn is_blank<D: Disk>(disk: &mut D) -> bool {
     seen(disk) == [0; 4] && disk.sync().is_ok()
-}
-
-/// Whether a disk works, and another one over its file, which it would have alone, fails.
-fn locks<D: Disk>(writes: &mut D, waits: &mut D) -> bool {
-    works(writes) && waits.sync().is_err()
 }
 
 /// Whether a disk reads what was written, and the one that looked before there was a file fails to write.
@@ -24,8 +17,16 @@ fn is_late<D: Disk>(reads: &mut D, late: &mut D) -> bool {
 }
 
 /// Whether the file's mode is 600.
-fn is_private(rt: &HostRuntime, path: &str) -> io::Result<bool> {
-    Ok(fs::metadata(rt, path)?.permissions().mode() & 0o777 == 0o600)
+fn is_private(rt: &HostRuntime, path: &str) -> bool {
+    match fs::metadata(rt, path) {
+        Ok(metadata) => metadata.permissions().mode() & 0o777 == 0o600,
+        Err(_) => false,
+    }
+}
+
+/// Whether there is no file at a path.
+pub fn is_absent(rt: &HostRuntime, path: &str) -> bool {
+    matches!(fs::exists(rt, path), Ok(false))
 }
 
 /// A disk of four bytes over the file of the test.
@@ -33,82 +34,97 @@ fn file_disk(rt: &HostRuntime, sharing: Sharing) -> FileDisk<'_, HostRuntime> {
     FileDisk::new(rt, "disk/state", 4, 0, sharing)
 }
 
+/// Whether a disk works, and another one over its file, which it would have alone, fails.
+fn lock<D: Disk>(writes: &mut D, waits: &mut D) -> bool {
+    works(writes) && waits.sync().is_err()
+}
+
+/// Whether that is so of the file of the test.
+fn is_locked(rt: &HostRuntime) -> bool {
+    let mut writes = file_disk(rt, Sharing::InTurn);
+    let mut waits = file_disk(rt, Sharing::Alone);
+    lock(&mut writes, &mut waits)
+}
+
+/// Whether the file of these disks is made by the first write, locked, and private.
+fn make<D: Disk>(rt: &HostRuntime, late: &mut D, reads: &mut D) -> bool {
+    is_blank(late)
+        && is_absent(rt, "disk/state")
+        && is_locked(rt)
+        && is_private(rt, "disk/state")
+        && is_late(reads, late)
+}
+
+/// Whether that is so of the file of the test.
+fn is_made(rt: &HostRuntime) -> bool {
+    let mut late = file_disk(rt, Sharing::Alone);
+    let mut reads = file_disk(rt, Sharing::InTurn);
+    make(rt, &mut late, &mut reads)
+}
+
+/// Whether a folder is made.
+pub fn makes_folder(rt: &HostRuntime, path: &str) -> bool {
+    fs::create_dir(rt, path).is_ok()
+}
+
+/// Whether a folder is removed.
+pub fn removes_folder(rt: &HostRuntime, path: &str) -> bool {
+    fs::remove_dir_all(rt, path).is_ok()
+}
+
 #[test]
-fn adapter_file(rt: HostRuntime) -> Result<(), Fail> {
-    fs::create_dir(&rt, "disk")?;
-    let mut late = file_disk(&rt, Sharing::Alone);
-    assert!(rt; is_blank(&mut late) && !fs::exists(&rt, "disk/state")?);
-    let is_locked = locks(
-        &mut file_disk(&rt, Sharing::InTurn),
-        &mut file_disk(&rt, Sharing::Alone),
-    );
-    assert!(rt; is_locked && is_private(&rt, "disk/state")?);
-    assert!(rt; is_late(&mut file_disk(&rt, Sharing::InTurn), &mut late));
-    fs::remove_dir_all(&rt, "disk")?;
-    Ok(())
+fn adapter_file(rt: HostRuntime) {
+    assert!(rt; makes_folder(&rt, "disk"));
+    assert!(rt; is_made(&rt));
+    assert!(rt; removes_folder(&rt, "disk"));
 }
 
-/// Whether a write of one byte at this place passes.
-fn writes_at<D: Disk>(disk: &mut D, at: u64) -> bool {
-    disk.size() == 10 && at < 10 && disk.write_at(at, &[7]) == Ok(())
+/// Whether a file has this many bytes.
+fn has_length(rt: &HostRuntime, path: &str, bytes: u64) -> bool {
+    match fs::metadata(rt, path) {
+        Ok(metadata) => metadata.len() == bytes,
+        Err(_) => false,
+    }
 }
 
-/// How many bytes a file has.
-fn length(rt: &HostRuntime, path: &str) -> io::Result<u64> {
-    Ok(fs::metadata(rt, path)?.len())
+/// Whether a write of one byte at this place passes, and leaves a file of so many bytes.
+fn grows<D: Disk>(rt: &HostRuntime, disk: &mut D, at: u64, bytes: u64) -> bool {
+    disk.size() == 10
+        && at < 10
+        && disk.write_at(at, &[7]) == Ok(())
+        && has_length(rt, "steps", bytes)
 }
 
-// A disk of ten bytes with steps of four. Its file has three bytes before it.
+/// Whether these bytes are written to a file.
+pub fn is_written(rt: &HostRuntime, path: &str, bytes: &[u8]) -> bool {
+    fs::write(rt, path, bytes).is_ok()
+}
+
+/// Whether a file holds these bytes.
+fn holds(rt: &HostRuntime, path: &str, expected: &[u8]) -> bool {
+    match fs::read(rt, path) {
+        Ok(bytes) => bytes.as_slice() == expected,
+        Err(_) => false,
+    }
+}
+
+/// Whether a disk of ten bytes with steps of four grows so.
+fn grows_in_steps<D: Disk>(rt: &HostRuntime, disk: &mut D) -> bool {
+    grows(rt, disk, 1, 4)
+        && grows(rt, disk, 4, 8)
+        && grows(rt, disk, 9, 10)
+        && grows(rt, disk, 0, 10)
+}
+
+/// Whether that is so of a disk whose file has three bytes before it.
+fn takes_room(rt: &HostRuntime) -> bool {
+    let mut disk = FileDisk::new(rt, "steps", 10, 4, Sharing::InTurn);
+    is_written(rt, "steps", b"old") && grows_in_steps(rt, &mut disk)
+}
+
 #[test]
-fn takes_its_room_in_steps(rt: HostRuntime) -> Result<(), Fail> {
-    let path = "steps";
-    fs::write(&rt, path, b"old")?;
-    let mut disk = FileDisk::new(&rt, path, 10, 4, Sharing::InTurn);
-    assert!(rt; writes_at(&mut disk, 1) && length(&rt, path)? == 4);
-    assert!(rt; writes_at(&mut disk, 4) && length(&rt, path)? == 8);
-    assert!(rt; writes_at(&mut disk, 9) && length(&rt, path)? == 10);
-    assert!(rt; writes_at(&mut disk, 0) && length(&rt, path)? == 10);
-    let bytes = fs::read(&rt, path)?;
-    assert!(rt; bytes.as_slice() == b"\x07\x07d\0\x07\0\0\0\0\x07".as_slice());
-    fs::remove_file(&rt, path)?;
-    Ok(())
-}
-
-// /dev/null can't be synced, /dev/full not be written to, and of one's own memory the first page not be read.
-#[test]
-fn hands_errors_on(rt: HostRuntime) -> Result<(), Fail> {
-    let mut unsynced = FileDisk::new(&rt, "/dev/null", 4, 0, Sharing::InTurn);
-    assert!(rt; unsynced.write_at(0, &[1]) == Ok(()) && unsynced.sync() == Err(Failed));
-    assert!(rt; unsynced.read(0, &mut [0; 4]) == Ok(()) && unsynced.sync() == Err(Failed));
-    let mut full = FileDisk::new(&rt, "/dev/full", 4, 0, Sharing::InTurn);
-    assert!(rt; full.write_at(0, &[1]) == Err(Failed));
-    let mut unread = FileDisk::new(&rt, "/proc/self/mem", 4, 0, Sharing::InTurn);
-    assert!(rt; unread.read(0, &mut [0; 4]) == Err(Failed));
-    let mut astray = FileDisk::new(&rt, "no/folder", 4, 0, Sharing::InTurn);
-    assert!(rt; astray.read(0, &mut [0; 4]) == Ok(()) && astray.write_at(0, &[1]) == Err(Failed));
-    Ok(())
-}
-
-// Another program made the file and ended before it synced it.
-#[test]
-fn syncs_the_folder_once(rt: HostRuntime) -> Result<(), Fail> {
-    fs::create_dir(&rt, "folder")?;
-    fs::write(&rt, "folder/state", b"")?;
-    let files = Watched::new(&rt, false);
-    let mut disk = FileDisk::new(&files, "folder/state", 4, 0, Sharing::InTurn);
-    assert!(rt; disk.sync() == Ok(()) && files.folders() == 0);
-    assert!(rt; write_synced(&mut disk, 0, &[1]).is_ok() && files.folders() == 1);
-    assert!(rt; write_synced(&mut disk, 0, &[2]).is_ok() && files.folders() == 1);
-    fs::remove_dir_all(&rt, "folder")?;
-    Ok(())
-}
-
-// Whatever is made here can't be written to, as on a full disk.
-#[test]
-fn leaves_no_file_without_room(rt: HostRuntime) -> Result<(), Fail> {
-    let files = Watched::new(&rt, true);
-    let mut disk = FileDisk::new(&files, "unmade", 4, 0, Sharing::InTurn);
-    assert!(rt; disk.write_at(0, &[1]) == Err(Failed) && files.made() == 1);
-    assert!(rt; !fs::exists(&rt, "unmade")? && disk.read(0, &mut [0; 4]) == Ok(()));
-    Ok(())
+fn takes_its_room_in_steps(rt: HostRuntime) {
+    assert!(rt; takes_room(&rt));
+    assert!(rt; holds(&rt, "steps", b"\x07\x07d\0\x07\0\0\0\0\x07"));
+    assert!(rt; fs::remove_file(&rt, "steps").is_ok());
 }

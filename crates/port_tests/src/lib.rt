@@ -6,6 +6,8 @@ mod disks;
 #[cfg(test)]
 mod draws;
 #[cfg(test)]
+mod failing;
+#[cfg(test)]
 mod files;
 #[cfg(test)]
 mod ports;
@@ -17,3 +19,5 @@ mod sockets;
 mod waiting;
 #[cfg(test)]
 mod watched;
+#[cfg(test)]
+mod whole;

@@ -1,8 +1,8 @@
 //! How long a connection waits for a peer that is silent, slow, or doesn't read.
 
 use crate::sockets::are_joined;
-use dr_ports::{Failed, Pipe};
-use std::test::Fail;
+use dr_ports::{Door, Failed, Link, Pipe};
+use std::alloc::Global;
 use std::thread;
 use std::time::{Duration, Instant};
 use tcp_ports::{Patience, TcpDoor, TcpLink, Whole};
@@ -26,19 +26,27 @@ fn bounded(least: u64, most: u64) -> Patience {
     }
 }
 
-// Neither end says anything.
-#[test]
-fn gives_up_a_silent_peer(rt: HostRuntime) -> Result<(), Fail> {
-    let mut door = TcpDoor::with_patience(&rt, endless(40));
-    let mut link = TcpLink::with_patience(&rt, endless(40));
-    assert!(rt; are_joined(&mut door, &mut link, 47617, "127.0.0.1:47617"));
-    let start = Instant::now(&rt)?;
-    assert!(rt;
-        door.receive(&mut [0; 4]) == Err(Failed) && link.receive(&mut [0; 4]) == Err(Failed)
-    );
-    let took = start.elapsed(&rt)?;
-    assert!(rt; took >= Duration::from_millis(70) && took < Duration::from_secs(20));
-    Ok(())
+/// Whether both ends fail to receive.
+fn hear_nothing<D: Pipe, L: Pipe>(door: &mut D, link: &mut L) -> bool {
+    door.receive(&mut [0; 4]) == Err(Failed) && link.receive(&mut [0; 4]) == Err(Failed)
+}
+
+/// Whether both ends of a connection on which nothing is said give it up, after two times 35
+/// milliseconds at least.
+fn give_up<D: Door, L: Link>(rt: &HostRuntime, door: &mut D, link: &mut L) -> bool {
+    if !are_joined(door, link, 47617, "127.0.0.1:47617") {
+        return false;
+    }
+    let Ok(start) = Instant::now(rt) else {
+        return false;
+    };
+    let is_silent = hear_nothing(door, link);
+    match start.elapsed(rt) {
+        Ok(took) => {
+            is_silent && took >= Duration::from_millis(70) && took < Duration::from_secs(20)
+        }
+        Err(_) => false,
+    }
 }
 
 /// Sends this to a pipe in pieces that are received at the other one, with a pause after each, and answers how many came.
@@ -53,33 +61,23 @@ fn trickled<P: Pipe, Q: Pipe>(rt: &HostRuntime, from: &mut P, to: &mut Q, bytes:
     100
 }
 
-/// Whether a door with a patience gives up a peer that sends this 100 times, which takes two seconds and more.
-fn gives_up(rt: &HostRuntime, patience: Patience, bytes: &[u8]) -> bool {
-    let mut door = TcpDoor::with_patience(rt, patience);
-    let mut link = TcpLink::new(rt);
-    if !are_joined(&mut door, &mut link, 47618, "127.0.0.1:47618") {
+/// Whether a door gives up a peer that sends this 100 times, which takes two seconds and more.
+fn breaks_off<D: Door, L: Link>(
+    rt: &HostRuntime,
+    door: &mut D,
+    link: &mut L,
+    bytes: &[u8],
+) -> bool {
+    if !are_joined(door, link, 47618, "127.0.0.1:47618") {
         return false;
     }
-    let came = trickled(rt, &mut link, &mut door, bytes);
+    let came = trickled(rt, link, door, bytes);
     came > 0 && came < 100 && door.send(b"late") == Err(Failed)
 }
 
-// Each byte comes well within the time of a call.
-#[test]
-fn gives_up_a_slow_peer(rt: HostRuntime) -> Result<(), Fail> {
-    assert!(rt; gives_up(&rt, bounded(1_000, 100_000), b"a"));
-    Ok(())
-}
-
-// 100 pieces of 4,096 bytes give it 100 seconds more, and it has that much where it may last so long.
-#[test]
-fn bears_with_a_busy_peer_for_its_time(rt: HostRuntime) -> Result<(), Fail> {
-    let mut door = TcpDoor::with_patience(&rt, bounded(1_000, 100_000));
-    let mut link = TcpLink::new(&rt);
-    assert!(rt; are_joined(&mut door, &mut link, 47619, "127.0.0.1:47619"));
-    assert!(rt; trickled(&rt, &mut link, &mut door, &[7; 4096]) == 100);
-    assert!(rt; gives_up(&rt, bounded(1_000, 1_000), &[7; 4096]));
-    Ok(())
+/// Whether a door receives all that a peer sends.
+fn bears<D: Door, L: Link>(rt: &HostRuntime, door: &mut D, link: &mut L) -> bool {
+    are_joined(door, link, 47619, "127.0.0.1:47619") && trickled(rt, link, door, &[7; 4096]) == 100
 }
 
 /// Sends this until that fails, and answers how many bytes the call before that took. There is no answer where a call took all.
@@ -95,14 +93,67 @@ fn stuffed<P: Pipe>(to: &mut P, bytes: &[u8]) -> Option<u64> {
     None
 }
 
-// The peer reads nothing: of 64 MiB only what the system has room for is taken, which is told, and then the call gives up.
+/// Whether a door takes some of 64 MiB, and gives up its peer then.
+fn is_stuffed<D: Door, L: Link>(alloc: Global, door: &mut D, link: &mut L) -> bool {
+    let Ok(bytes) = vec![in alloc; 7; 67_108_864] else {
+        return false;
+    };
+    are_joined(door, link, 47620, "127.0.0.1:47620")
+        && matches!(stuffed(door, &bytes), Some(count) if count > 0)
+}
+
+/// What a door meets: a peer that says nothing, one that sends bytes one by one, one that sends
+/// much, which it bears with or gives up, and one that reads nothing.
+#[derive(Clone, Copy)]
+enum Peer {
+    Silent,
+    Slow,
+    Busy,
+    Endless,
+    Deaf,
+}
+
+/// Whether a door and a link do what they should with such a peer.
+fn meets<D: Door, L: Link>(rt: &HostRuntime, door: &mut D, link: &mut L, peer: Peer) -> bool {
+    match peer {
+        Peer::Silent => give_up(rt, door, link),
+        Peer::Slow => breaks_off(rt, door, link, b"a"),
+        Peer::Busy => bears(rt, door, link),
+        Peer::Endless => breaks_off(rt, door, link, &[7; 4096]),
+        Peer::Deaf => is_stuffed(rt.alloc(), door, link),
+    }
+}
+
+/// Whether a door and a link with these patiences do.
+fn meet(rt: &HostRuntime, near: Patience, far: Patience, peer: Peer) -> bool {
+    let mut door = TcpDoor::with_patience(rt, near);
+    let mut link = TcpLink::with_patience(rt, far);
+    meets(rt, &mut door, &mut link, peer)
+}
+
+// Neither end says anything.
 #[test]
-fn gives_up_a_peer_that_reads_nothing(rt: HostRuntime) -> Result<(), Fail> {
-    let mut door = TcpDoor::with_patience(&rt, endless(200));
-    let mut link = TcpLink::new(&rt);
-    assert!(rt; are_joined(&mut door, &mut link, 47620, "127.0.0.1:47620"));
-    let bytes = vec![in rt.alloc(); 7; 67_108_864]?;
-    let taken = stuffed(&mut door, &bytes);
-    assert!(rt; taken.is_some_and(|count| count > 0));
-    Ok(())
+fn gives_up_a_silent_peer(rt: HostRuntime) {
+    assert!(rt; meet(&rt, endless(40), endless(40), Peer::Silent));
+}
+
+// Each byte comes well within the time of a call.
+#[test]
+fn gives_up_a_slow_peer(rt: HostRuntime) {
+    let relay = Patience::with_a_relay();
+    assert!(rt; meet(&rt, bounded(1_000, 100_000), relay, Peer::Slow));
+}
+
+// 100 pieces of 4,096 bytes give it 100 seconds more, and it has that much where it may last so long.
+#[test]
+fn bears_with_a_busy_peer_for_its_time(rt: HostRuntime) {
+    let relay = Patience::with_a_relay();
+    assert!(rt; meet(&rt, bounded(1_000, 100_000), relay, Peer::Busy));
+    assert!(rt; meet(&rt, bounded(1_000, 1_000), relay, Peer::Endless));
+}
+
+// Only what the system has room for is taken, which is told, and then the call gives up.
+#[test]
+fn gives_up_a_peer_that_reads_nothing(rt: HostRuntime) {
+    assert!(rt; meet(&rt, endless(200), Patience::with_a_relay(), Peer::Deaf));
 }

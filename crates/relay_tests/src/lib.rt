@@ -6,6 +6,8 @@ mod command;
 #[cfg(test)]
 mod exchanges;
 #[cfg(test)]
+mod faults;
+#[cfg(test)]
 mod frames;
 #[cfg(test)]
 mod links;
@@ -13,5 +15,7 @@ mod links;
 mod loopback;
 #[cfg(test)]
 mod mailboxes;
+#[cfg(test)]
+mod records;
 #[cfg(test)]
 mod server;

@@ -1,18 +1,22 @@
-// Frames over a link to a relay: the replies that come, and one that is lost.
+//! Frames over a link to a relay: the replies that come, and one that is lost.
 
 use dr_ports::{Failed, Pipe};
 use relay_link::RelayLink;
 use relay_wire::Name;
 use std::alloc::Global;
-use std::test::Fail;
 
 /// A link to a relay with the boxes `a` and `b`.
-fn linked(alloc: Global) -> Result<RelayLink, Fail> {
-    let names = [
-        Name::new(b"a").ok_or("no name")?,
-        Name::new(b"b").ok_or("no name")?,
-    ];
-    Ok(RelayLink::new(alloc, &names)?)
+fn linked(alloc: Global) -> Option<RelayLink> {
+    let Some(a) = Name::new(b"a") else {
+        return None;
+    };
+    let Some(b) = Name::new(b"b") else {
+        return None;
+    };
+    match RelayLink::new(alloc, &[a, b]) {
+        Ok(link) => Some(link),
+        Err(_) => None,
+    }
 }
 
 /// Sends all bytes, however many the link takes at once.
@@ -27,11 +31,16 @@ fn send(link: &mut RelayLink, bytes: &[u8]) -> Result<(), Failed> {
 }
 
 /// Whether a request has this reply.
-fn replies(link: &mut RelayLink, request: &[u8], reply: &[u8]) -> Result<bool, Failed> {
+fn replied(link: &mut RelayLink, request: &[u8], reply: &[u8]) -> Result<bool, Failed> {
     let mut piece = [0; 40];
     send(link, request)?;
     let count = link.receive(&mut piece)?;
     Ok(&piece[..count] == reply)
+}
+
+/// Whether a request has this reply, and no call fails.
+fn replies(link: &mut RelayLink, request: &[u8], reply: &[u8]) -> bool {
+    matches!(replied(link, request, reply), Ok(true))
 }
 
 const FETCH_A: &[u8] = b"\x00\x03\x02\x01a";
@@ -40,37 +49,65 @@ const FETCH_B: &[u8] = b"\x00\x03\x02\x01b";
 
 const POST_B: &[u8] = b"\x00\x04\x01\x01b\x07";
 
-#[test]
-fn replies_come(rt: HostRuntime) -> Result<(), Fail> {
-    let mut link = linked(rt.alloc())?;
-    assert!(rt; replies(&mut link, b"", b"") == Ok(true));
-    // a fetch, a post and, in two pieces, a fetch
-    send(&mut link, FETCH_A)?;
-    send(&mut link, b"\x00\x04\x01\x01a\x07\x00\x03\x02")?;
-    let all =
-        b"\x00\x01\x83\x00\x09\x81\x00\x00\x00\x00\x00\x00\x00\x01\x00\x0a\x82\x00\x00\x00\x00\x00\x00\x00\x01\x07";
-    assert!(rt; replies(&mut link, b"\x01a", all) == Ok(true));
-    assert!(rt; replies(&mut link, b"", b"") == Ok(true));
-    Ok(())
+/// The replies to a fetch, a post and a fetch.
+const THREE: &[u8] = b"\x00\x01\x83\x00\x09\x81\x00\x00\x00\x00\x00\x00\x00\x01\
+    \x00\x0a\x82\x00\x00\x00\x00\x00\x00\x00\x01\x07";
+
+/// Whether all replies come to a fetch, a post and, in two pieces, a fetch.
+fn come(link: &mut RelayLink) -> bool {
+    replies(link, b"", b"")
+        && send(link, FETCH_A) == Ok(())
+        && send(link, b"\x00\x04\x01\x01a\x07\x00\x03\x02") == Ok(())
+        && replies(link, b"\x01a", THREE)
+        && replies(link, b"", b"")
+}
+
+/// Whether they come over a new link.
+fn all_come(alloc: Global) -> bool {
+    match linked(alloc) {
+        Some(mut link) => come(&mut link),
+        None => false,
+    }
 }
 
 #[test]
-fn a_lost_reply_breaks_the_link(rt: HostRuntime) -> Result<(), Fail> {
-    let mut link = linked(rt.alloc())?;
+fn replies_come(rt: HostRuntime) {
+    assert!(rt; all_come(rt.alloc()));
+}
+
+/// Whether the second reply of a connection is lost.
+fn loses(link: &mut RelayLink) -> bool {
     link.connect(Some(2));
-    assert!(rt; replies(&mut link, FETCH_A, b"\x00\x01\x83") == Ok(true));
-    assert!(rt; replies(&mut link, POST_B, b"") == Err(Failed));
-    // the packet stands, and is posted once more
+    replies(link, FETCH_A, b"\x00\x01\x83") && replied(link, POST_B, b"") == Err(Failed)
+}
+
+/// Whether the packet is posted once more.
+fn posts_again(link: &mut RelayLink) -> bool {
     link.connect(None);
-    assert!(rt; replies(&mut link, FETCH_A, b"\x00\x01\x83") == Ok(true));
     let stored = b"\x00\x09\x81\x00\x00\x00\x00\x00\x00\x00\x02";
-    assert!(rt; replies(&mut link, POST_B, stored) == Ok(true));
+    replies(link, FETCH_A, b"\x00\x01\x83") && replies(link, POST_B, stored)
+}
+
+/// Whether both stand in the box, and the second one once the first is acknowledged.
+fn holds_both(link: &mut RelayLink) -> bool {
     link.connect(None);
     let first = b"\x00\x0a\x82\x00\x00\x00\x00\x00\x00\x00\x01\x07";
-    assert!(rt; replies(&mut link, FETCH_B, first) == Ok(true));
     let ack = b"\x00\x0b\x03\x01b\x00\x00\x00\x00\x00\x00\x00\x01";
-    assert!(rt; replies(&mut link, ack, b"\x00\x01\x84") == Ok(true));
     let second = b"\x00\x0a\x82\x00\x00\x00\x00\x00\x00\x00\x02\x07";
-    assert!(rt; replies(&mut link, FETCH_B, second) == Ok(true));
-    Ok(())
+    replies(link, FETCH_B, first)
+        && replies(link, ack, b"\x00\x01\x84")
+        && replies(link, FETCH_B, second)
+}
+
+/// Whether that is so of a new link.
+fn loses_one(alloc: Global) -> bool {
+    match linked(alloc) {
+        Some(mut link) => loses(&mut link) && posts_again(&mut link) && holds_both(&mut link),
+        None => false,
+    }
+}
+
+#[test]
+fn a_lost_reply_breaks_the_link(rt: HostRuntime) {
+    assert!(rt; loses_one(rt.alloc()));
 }

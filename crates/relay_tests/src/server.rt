@@ -8,8 +8,7 @@ use dr_disk::{Call, Disk, MemoryDisk, Mode};
 use dr_ports::MemoryPipe;
 use relay_server::{AREA_SIZE, Ended, ServeFault, Server, ServerOpenError};
 use relay_wire::Name;
-use std::alloc::Global;
-use std::test::Fail;
+use std::alloc::{AllocError, Global};
 
 /// Requests for the boxes `a` and `b`, bytes that are none, a frame of no lawful length, and one request more.
 const REQUESTS: &[u8] = b"\x00\x03\x02\x01a\x00\x04\x01\x01a\x07\x00\x03\x02\x01a\
@@ -32,8 +31,8 @@ const ITEM: &[u8] = b"\x00\x0a\x82\x00\x00\x00\x00\x00\x00\x00\x01\x07";
 const EMPTY: &[u8] = b"\x00\x01\x83";
 
 /// A disk without a record.
-pub fn blank(alloc: Global) -> Result<MemoryDisk, Fail> {
-    Ok(MemoryDisk::new(alloc, AREA_SIZE)?)
+pub fn blank(alloc: Global) -> Result<MemoryDisk, AllocError> {
+    MemoryDisk::new(alloc, AREA_SIZE)
 }
 
 /// The server of one box, or why none is opened.
@@ -49,87 +48,144 @@ pub fn open<D: Disk>(alloc: Global, disk: &mut D, name: &[u8]) -> Result<Server,
     Server::open(alloc, disk, &[name])
 }
 
-/// Opens the server of the box `a`, serves a connection, and answers how that ended, after what was sent.
-fn serve<D: Disk>(
+/// Serves a connection. Answers how many replies it had, or how it broke off.
+fn serve_on<D: Disk>(
+    server: &mut Server,
+    disk: &mut D,
+    pipe: &mut MemoryPipe,
+) -> Result<u32, ServeFault>
+    requires { IsReady box_text server.old (D.state disk.old) }
+{
+    match server.serve(disk, pipe) {
+        Ok(Ended { answered }) => Ok(answered),
+        Err(fault) => Err(fault),
+    }
+}
+
+/// Opens the server of the box `a` and serves a connection. Answers how many replies it had, if it
+/// ended well.
+fn serve<D: Disk>(alloc: Global, disk: &mut D, pipe: &mut MemoryPipe) -> Option<u32> {
+    match open(alloc, disk, b"a") {
+        Ok(mut server) => serve_on(&mut server, disk, pipe).ok(),
+        Err(_) => None,
+    }
+}
+
+/// Whether a connection that holds these requests has these replies, this many.
+fn serves<D: Disk>(
     alloc: Global,
     disk: &mut D,
     requests: &[u8],
-    sent: &mut Vec<u8>,
-) -> Result<Result<Ended, ServeFault>, Fail> {
-    let mut pipe = MemoryPipe::new(alloc, requests, 4096, &[])?;
-    let mut server = open(alloc, disk, b"a")?;
-    let ended = server.serve(disk, &mut pipe);
-    sent.extend_from_slice(pipe.sent())?;
-    Ok(ended)
+    count: u32,
+    replies: &[u8],
+) -> bool {
+    match MemoryPipe::new(alloc, requests, 4096, &[]) {
+        Ok(mut pipe) => serve(alloc, disk, &mut pipe) == Some(count) && pipe.sent() == replies,
+        Err(_) => false,
+    }
 }
 
-#[test]
-fn a_worked_connection_in_two(rt: HostRuntime) -> Result<(), Fail> {
-    let mut sent = Vec::new(rt.alloc());
-    let mut disk = blank(rt.alloc())?;
+/// Whether the worked connection is served in two, on one disk.
+fn serves_both<D: Disk>(alloc: Global, disk: &mut D) -> bool {
     let (front, back) = REQUESTS.split_at(16);
-    let first = serve(rt.alloc(), &mut disk, front, &mut sent)?;
-    assert!(rt; first == Ok(Ended { answered: 3 }));
-    let next = serve(rt.alloc(), &mut disk, back, &mut sent)?;
-    assert!(rt; next == Ok(Ended { answered: 5 }));
-    assert!(rt; sent.as_slice() == REPLIES);
-    Ok(())
+    let (first, next) = REPLIES.split_at(26);
+    serves(alloc, disk, front, 3, first) && serves(alloc, disk, back, 5, next)
 }
 
-/// Whether a post on a disk that stops after this many writes and syncs ends with a fault of the store, and sends nothing.
-fn fails(alloc: Global, disk: &mut MemoryDisk, passes: u32) -> Result<bool, Fail> {
-    let mut server = open(alloc, disk, b"a")?;
-    let mut pipe = MemoryPipe::new(alloc, POST, 4096, &[])?;
-    disk.stop_after(passes);
-    let ended = server.serve(disk, &mut pipe);
-    Ok(matches!(ended, Err(ServeFault::Store(_))) && pipe.sent().is_empty())
+/// Whether the connection of this pipe, on a disk that stops after this many writes and syncs, ends
+/// with a fault of the store.
+fn stops(alloc: Global, disk: &mut MemoryDisk, passes: u32, pipe: &mut MemoryPipe) -> bool {
+    match open(alloc, disk, b"a") {
+        Ok(mut server) => {
+            disk.stop_after(passes);
+            matches!(serve_on(&mut server, disk, pipe), Err(ServeFault::Store(_)))
+        }
+        Err(_) => false,
+    }
 }
 
-/// Whether the box `a` on a disk shows this.
-fn shows(alloc: Global, disk: &mut MemoryDisk, replies: &[u8]) -> Result<bool, Fail> {
-    let mut sent = Vec::new(alloc);
-    let _ended = serve(alloc, disk, FETCH, &mut sent)?;
-    Ok(sent.as_slice() == replies)
+/// Whether a post on such a disk ends so, and nothing is sent.
+fn fails(alloc: Global, disk: &mut MemoryDisk, passes: u32) -> bool {
+    match MemoryPipe::new(alloc, POST, 4096, &[]) {
+        Ok(mut pipe) => stops(alloc, disk, passes, &mut pipe) && pipe.sent().is_empty(),
+        Err(_) => false,
+    }
 }
 
 /// Whether such a post fails, and the box shows this after a crash that leaves what was asked.
-fn leaves(alloc: Global, passes: u32, replies: &[u8]) -> Result<bool, Fail> {
-    let mut disk = blank(alloc)?;
-    let has_failed = fails(alloc, &mut disk, passes)?;
+fn leaves(alloc: Global, passes: u32, replies: &[u8]) -> bool {
+    let Ok(mut disk) = blank(alloc) else {
+        return false;
+    };
+    let has_failed = fails(alloc, &mut disk, passes);
     let mut left = disk.crash(Mode::New);
-    Ok(has_failed && shows(alloc, &mut left, replies)?)
+    has_failed && serves(alloc, &mut left, FETCH, 1, replies)
 }
 
 #[test]
-fn a_post_that_is_stopped(rt: HostRuntime) -> Result<(), Fail> {
-    let rows: [(u32, &[u8]); 2] = [(1, EMPTY), (2, ITEM)];
-    for (passes, replies) in rows {
-        assert!(rt; leaves(rt.alloc(), passes, replies)?);
+fn a_post_that_is_stopped(rt: HostRuntime) {
+    assert!(rt; leaves(rt.alloc(), 1, EMPTY));
+    assert!(rt; leaves(rt.alloc(), 2, ITEM));
+}
+
+/// Why the server of this box isn't opened, if it isn't.
+fn refusal<D: Disk>(alloc: Global, disk: &mut D, name: &[u8]) -> Option<ServerOpenError> {
+    match open(alloc, disk, name) {
+        Ok(_) => None,
+        Err(error) => Some(error),
     }
-    Ok(())
+}
+
+/// Sets the gate of a slot that begins there.
+pub fn set_gate<D: Disk>(disk: &mut D, at: u64) -> bool {
+    at < 262_145 && disk.size() > 262_146 && disk.write_at(at, b"\xa5\x01").is_ok()
+}
+
+/// Whether the server of another box is refused, and that of a damaged area.
+fn refuse<D: Disk>(alloc: Global, disk: &mut D) -> bool {
+    let damaged = ServerOpenError::Damaged {
+        area: 0,
+        slot: 1,
+        at: 1,
+    };
+    refusal(alloc, disk, b"b").is_none()
+        && refusal(alloc, disk, b"a") == Some(ServerOpenError::BoxName { k: 0 })
+        && set_gate(disk, 0)
+        && set_gate(disk, 262_144)
+        && refusal(alloc, disk, b"b") == Some(damaged)
+}
+
+/// Whether the server isn't opened on a disk that is damaged, and not on one that stops.
+fn refuses(alloc: Global, disk: &mut MemoryDisk) -> bool {
+    let is_damaged = refuse(alloc, disk);
+    disk.stop_after(0);
+    let stopped = ServerOpenError::StoreFault { call: Call::Sync };
+    is_damaged && refusal(alloc, disk, b"b") == Some(stopped)
+}
+
+/// Whether the worked connection is served on a disk, or servers on it are refused.
+fn takes(alloc: Global, disk: &mut MemoryDisk, is_served: bool) -> bool {
+    if is_served {
+        serves_both(alloc, disk)
+    } else {
+        refuses(alloc, disk)
+    }
+}
+
+/// The same on a new disk.
+fn goes(alloc: Global, is_served: bool) -> bool {
+    match blank(alloc) {
+        Ok(mut disk) => takes(alloc, &mut disk, is_served),
+        Err(_) => false,
+    }
 }
 
 #[test]
-fn openings_that_are_refused(rt: HostRuntime) -> Result<(), Fail> {
-    let mut disk = blank(rt.alloc())?;
-    assert!(rt; open(rt.alloc(), &mut disk, b"b").is_ok());
-    let other = open(rt.alloc(), &mut disk, b"a").err();
-    assert!(rt; other == Some(ServerOpenError::BoxName { k: 0 }));
-    assert!(rt; disk.size() > 262_145);
-    assert!(rt; disk.write_at(0, b"\xa5\x01").is_ok());
-    assert!(rt; disk.size() > 262_145);
-    assert!(rt; disk.write_at(262_144, b"\xa5\x01").is_ok());
-    let damaged = open(rt.alloc(), &mut disk, b"b").err();
-    assert!(rt;
-        damaged
-            == Some(ServerOpenError::Damaged {
-                area: 0,
-                slot: 1,
-                at: 1
-            })
-    );
-    disk.stop_after(0);
-    let stopped = open(rt.alloc(), &mut disk, b"b").err();
-    assert!(rt; stopped == Some(ServerOpenError::StoreFault { call: Call::Sync }));
-    Ok(())
+fn a_worked_connection_in_two(rt: HostRuntime) {
+    assert!(rt; goes(rt.alloc(), true));
+}
+
+#[test]
+fn openings_that_are_refused(rt: HostRuntime) {
+    assert!(rt; goes(rt.alloc(), false));
 }
