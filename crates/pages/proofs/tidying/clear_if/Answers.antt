@@ -1,0 +1,18 @@
+use Rattle.pages.proofs.Hushed.{gate_shots}
+use Rattle.pages.proofs.tidying.clear_if.Goals as goal
+
+pub returns-in-Ok-clause-shots : goal.returns-in-Ok-clause-shots
+returns-in-Ok-clause-shots g c = record {
+  any_moment = gate_shots g.T.Directory.names c.args.layout c.args.second
+      (g.D.Disk.state c.args.disk.now)
+      (g.D.Disk.state c.close.new.disk) c.requires.ready c.requires.mute c.close.ensures.frame;
+  calls = c.in-Ok.ensures.calls.went;
+}
+
+pub returns-in-Err-clause-shots : goal.returns-in-Err-clause-shots
+returns-in-Err-clause-shots g c = record {
+  any_moment = gate_shots g.T.Directory.names c.args.layout c.args.second
+      (g.D.Disk.state c.args.disk.now)
+      (g.D.Disk.state c.close.new.disk) c.requires.ready c.requires.mute c.close.ensures.frame;
+  calls = c.in-Err.ensures.calls.went;
+}

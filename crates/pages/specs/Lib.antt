@@ -1,0 +1,14 @@
+pub mod Layouts
+pub mod Areas
+pub mod Tables
+pub mod Around
+pub mod Snapshots
+pub mod Writing
+pub mod Runs
+pub mod Stops
+pub mod Commits
+pub mod Retiring
+pub mod Replacing
+pub mod Clearing
+pub mod Tidying
+pub mod Limits
