@@ -1,8 +1,8 @@
 -- A record that replaced another, on the disk of a client.
 use Rattle.std.proofs.Common.{List, Some, ap, ap₂, arith, subst, ℕ, ◌+◌, ◌<◌, ◌∙◌, ◌≡◌}
 use Rattle.dr_base.specs.Causes.{Rose}
-use Rattle.dr_disk.specs.Spans.{HavePassed, IsQuiet, Span}
-use Rattle.dr_disk.specs.State.{Always, DiskState, some_pass}
+use Rattle.dr_disk.specs.Spans.{FailsLater, HasFailedAsTold, HavePassed, IsQuiet, Span}
+use Rattle.dr_disk.specs.State.{Always, DiskState}
 use Rattle.dr_disk.specs.declared.call.Call.{Call}
 use Rattle.session_model.specs.Clients.{Client}
 use Rattle.session_record.specs.Record.{record_text}
@@ -32,8 +32,9 @@ module _ (before after : Client) (old : SlotStore) (text : List ℕ) (start now 
   pub kept : (new : SlotStore) → Span start now (IsOldOrNew start old.area (content old) (Some text))
       → Always (λ c. Rests new c × (recovered new.area c ≡ Some text) × KeepsOutside old.area start c) now
       → ReadsOutsideArea old.area start now → content new ≡ Some text → new.area ≡ old.area
-      → HavePassed (calls_of (content old) (Some text)) start now → IsQuiet start now → IsKept before after new start now
-  kept new span rest reads holds same passed quiet = record {
+      → HavePassed (calls_of (content old) (Some text)) start now → FailsLater start now
+      → IsQuiet start now → IsKept before after new start now
+  kept new span rest reads holds same passed ahead quiet = record {
     ready = record {
       area = same ∙ ready.area;
       within = omega (arith, ready.within, span.size);
@@ -43,13 +44,14 @@ module _ (before after : Client) (old : SlotStore) (text : List ℕ) (start now 
     any_moment = replacing span;
     reads = reads_in reads;
     passed = subst (λ n. HavePassed n start now) calls_are passed;
+    ahead = ahead;
     quiet = quiet;
   }
 
   pub lost : (call : Call) → Span start now (IsOldOrNew start old.area (content old) (Some text))
       → ReadsOutsideArea old.area start now → IsStopped old.area (content old) (Some text) start now
       → ((l m : ℕ) → start.passed ≡ Some l → now.passed ≡ Some m → m < l + calls_of (content old) (Some text))
-      → ((n : ℕ) → start.fate ≡ some_pass n → now.fate ≡ some_pass 0) → Rose (start.faults call) (now.faults call)
+      → HasFailedAsTold start now → Rose (start.faults call) (now.faults call)
       → IsLost before after call start now
   lost call span reads stopped few ended rose = record {
     any_moment = replacing span;

@@ -73,6 +73,7 @@ kept_alike before after other store start now same kept = record {
   passed =
       subst (λ text. HavePassed (calls_of (Some (record_text before)) (Some text)) start now) same
       kept.passed;
+  ahead = kept.ahead;
   quiet = kept.quiet;
 }
 

@@ -2,8 +2,8 @@
 use Rattle.std.specs.Prelude.{Err, None, Ok, Result, Some, Bool, true, false, ℕ, ◌+◌, ◌<◌, ◌≡◌}
 use Rattle.dr_base.specs.Causes.{Rose}
 use Rattle.dr_base.specs.declared.position.Position.{Position}
-use Rattle.dr_disk.specs.Spans.{HavePassed, IsQuiet, Span}
-use Rattle.dr_disk.specs.State.{DiskState, all_pass, some_pass}
+use Rattle.dr_disk.specs.Spans.{FailsLater, HasFailedAsTold, HavePassed, IsQuiet, Span}
+use Rattle.dr_disk.specs.State.{DiskState, all_pass}
 use Rattle.dr_disk.specs.declared.call.Call.{Call}
 use Rattle.dr_model.specs.Machines.Steps.{Step, has_effect, step}
 use Rattle.session_model.specs.Clients.{Client}
@@ -71,6 +71,7 @@ pub record IsKept (before after : Client) (store : SlotStore) (start now : DiskS
   pub any_moment : IsReplacing before after start now
   pub reads : ReadsOutsideArea client_area start now
   pub passed : HavePassed (replacing_calls before after) start now
+  pub ahead : FailsLater start now
   pub quiet : IsQuiet start now
 
 -- a call on the disk failed meanwhile, of this kind
@@ -81,7 +82,7 @@ pub record IsLost (before after : Client) (call : Call) (start now : DiskState) 
   pub stopped : IsStopped client_area (Some (record_text before)) (Some (record_text after)) start now
   pub few : (l m : ℕ) → start.passed ≡ Some l → now.passed ≡ Some m
       → m < l + replacing_calls before after
-  pub ended : (n : ℕ) → start.fate ≡ some_pass n → now.fate ≡ some_pass 0
+  pub ended : HasFailedAsTold start now
   pub rose : Rose (start.faults call) (now.faults call)
 
 -- ---- what a call does, over what its step makes of what the client keeps

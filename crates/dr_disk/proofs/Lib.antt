@@ -3,8 +3,11 @@ pub mod Ranges
 pub mod Tears
 pub mod Filled
 pub mod Passing
+pub mod Fates
 pub mod Steps
 pub mod Calling
+pub mod Exactly
+pub mod Metering
 pub mod WrittenAndSynced
 pub mod Fresh
 pub mod Writes

@@ -1,9 +1,8 @@
 -- Events one after the other.
-use Rattle.std.proofs.Common.{◌≡◌, ◌⊎◌, inl, inr, ⊎_elim, subst, ℕ, ◌+◌, ◌≤◌, Bool, List, [], ◌∷◌, ◌++◌, length, take, drop, refl, sym, ◌∙◌, ap, ap₂, arith, length-append, length-drop}
+use Rattle.std.proofs.Common.{◌≡◌, ◌⊎◌, inl, inr, ⊎_elim, subst, ℕ, ◌+◌, ◌≤◌, Bool, List, [], ◌∷◌, ◌++◌, length, take, drop, refl, sym, ◌∙◌, ap, ap₂, arith, length-append, length-drop, Some, None}
 use Rattle.std.proofs.lemmas.Bool.{cases_lt}
 use Rattle.std.proofs.lemmas.List.{drop-append-le, take_all, take-append-le, nil_from_length}
 use Rattle.dr_disk.specs.declared.tape.Recorded.{Recorded}
-use Rattle.dr_disk.specs.State.{some_pass, untold_fate}
 use Rattle.dr_disk.specs.Spans.{GoesBy}
 use Rattle.dr_disk.specs.Memory.{Counts, IsImage}
 use Rattle.dr_disk.specs.Recorded.{Bits, Event, WasImage, after, blank, event_of, events_of, recording_state, replayed, total_of}
@@ -52,7 +51,8 @@ goes_on size events events' event bytes bytes' durable durable' asked asked' mar
   later = omega (arith, ap (λ (es : List Event). length es) more, length-append events (event ∷ []));
   passes = λ m told. counted passed passed' m on told;
   keeps = refl;
-  fates = λ n told. absurd (let e : untold_fate ≡ some_pass n = told in cc);
+  fates = λ n told. absurd (let e : None ≡ Some n = told in cc);
+  all = λ is. is;
   told = λ s is. (bytes', refl);
   each = λ t c le was. ⊎_elim (λ before. inl before) (λ now. inr (subst (λ (d : List ℕ). IsImage d marks' c) (sym kept) (subst (λ (m : List Bool). IsImage (replayed (blank size) events').durable m c) (sym unsynced) now))) (was_image size events events' event t c more was);
   last = λ c left. inr left;

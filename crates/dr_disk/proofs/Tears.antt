@@ -1,8 +1,9 @@
 -- What a write of a disk in memory may leave.
-use Rattle.std.proofs.Common.{subst, ◌≡◌, ◌⊎◌, inl, inr, ⊎_elim, ℕ, ◌+◌, ◌-◌, ◌<◌, ◌≤◌, Bool, true, false, List, length, take, drop, get_or, replicate, refl, sym, ◌∙◌, ap, arith, length-drop, Some, Option}
+use Rattle.std.proofs.Common.{subst, ◌≡◌, ◌⊎◌, inl, inr, ⊎_elim, ℕ, ◌+◌, ◌-◌, ◌<◌, ◌≤◌, Bool, true, false, List, length, take, drop, get_or, replicate, refl, sym, ◌∙◌, ap, arith, length-drop, Some}
 use Rattle.std.proofs.lemmas.Bool.{cases_lt, false≢true}
 use Rattle.std.proofs.lemmas.List.{ext_get_or, get_or_past, get_or-take, get_or-drop, length-replicate, get_or-replicate, length-take-le}
 use Rattle.dr_disk.specs.Bytes.{overwritten, Torn}
+use Rattle.dr_disk.specs.State.{Fate}
 use Rattle.dr_disk.specs.Calls.{WrittenIn}
 use Rattle.dr_disk.specs.Memory.{Counts, IsImage, marked, memory_state}
 use Rattle.dr_disk.proofs.Overwrites.{length-overwritten, overwritten_outside, overwritten_in}
@@ -89,15 +90,15 @@ now_agrees durable bytes bytes' marks marks' at new fits each is now agrees =
     subst (λ (m : List Bool). IsImage durable m bytes') (sym is) (subst (λ (b : List ℕ). IsImage durable (marked marks at (length new)) b) (sym now) (agrees_written bytes durable marks at new agrees each fits))
 
 -- what was written, for a write that failed and one that passed
-module _ (bytes durable durable' : List ℕ) (marks marks' : List Bool) (at n : ℕ) (asked asked' : List ℕ) (stop stop' : Option ℕ) (passed passed' : ℕ) (counts counts' : Counts)
+module _ (bytes durable durable' : List ℕ) (marks marks' : List Bool) (at n : ℕ) (asked asked' : List ℕ) (fate fate' : Fate) (passed passed' : ℕ) (counts counts' : Counts)
     (each : length marks ≡ length durable) (is_marked : marks' ≡ marked marks at n) (is_durable : durable' ≡ durable) where
   images_torn : at + n ≤ length durable → (c : List ℕ) → IsImage durable' marks' c → (d : List ℕ) × IsImage durable marks d × Torn at n d c
   images_torn fits c is = image_torn durable marks at n fits each c (subst (λ (m : List Bool). IsImage durable m c) is_marked (subst (λ (l : List ℕ). IsImage l marks' c) is_durable is))
 
-  pub within_failed : (bytes' : List ℕ) → bytes' ≡ bytes → at + n ≤ length durable → WrittenIn at n (memory_state bytes durable asked marks stop passed counts) (memory_state bytes' durable' asked' marks' stop' passed' counts')
+  pub within_failed : (bytes' : List ℕ) → bytes' ≡ bytes → at + n ≤ length durable → WrittenIn at n (memory_state bytes durable asked marks fate passed counts) (memory_state bytes' durable' asked' marks' fate' passed' counts')
   within_failed bytes' same fits = record { images = images_torn fits; seen = λ s told. (s, ap Some (sym same) ∙ told, torn_self at n s) }
 
-  pub within_written : (new bytes' : List ℕ) → length new ≡ n → at + length new ≤ length bytes → length bytes ≡ length durable → bytes' ≡ overwritten bytes at new → WrittenIn at n (memory_state bytes durable asked marks stop passed counts) (memory_state bytes' durable' asked' marks' stop' passed' counts')
+  pub within_written : (new bytes' : List ℕ) → length new ≡ n → at + length new ≤ length bytes → length bytes ≡ length durable → bytes' ≡ overwritten bytes at new → WrittenIn at n (memory_state bytes durable asked marks fate passed counts) (memory_state bytes' durable' asked' marks' fate' passed' counts')
   within_written new bytes' is_n fits same is = record {
     images = images_torn (omega arith);
     seen = λ s told. (bytes, refl, let now : s ≡ overwritten bytes at new = cc in subst (λ (l : List ℕ). Torn at n bytes l) (sym now) (subst (λ k. Torn at k bytes (overwritten bytes at new)) is_n (overwritten_tears bytes at new fits)));

@@ -5,7 +5,7 @@ use Rattle.dr_disk.specs.declared.call.Call.{Call}
 use Rattle.dr_disk.specs.declared.call.Mode.{Mode}
 use Rattle.dr_disk.specs.declared.call.Mode.TheVariants.{Old, New, Fill}
 use Rattle.dr_disk.specs.Bytes.{Torn, overwritten, overwritten_told}
-use Rattle.dr_disk.specs.State.{DiskState, Fate, untold_fate, all_pass, some_pass}
+use Rattle.dr_disk.specs.State.{DiskState, Fate, untold_fate, all_pass, some_pass, all_but, to_failure}
 use Rattle.dr_disk.specs.Spans.{HavePassed, IsQuiet, ReadsOutside}
 
 -- A call fails only where the count of its own kind rose, and no count rose where it passes.
@@ -46,12 +46,28 @@ passes_next untold_fate = None
 passes_next all_pass = Some true
 passes_next (some_pass zero) = Some false
 passes_next (some_pass (suc n)) = Some true
+passes_next (all_but zero) = Some false
+passes_next (all_but (suc n)) = Some true
+
+-- whether a read passes, where it is told: of one call that fails it is a write or a sync
+abbrev pub read_passes : Fate → Option Bool
+read_passes untold_fate = None
+read_passes all_pass = Some true
+read_passes (some_pass zero) = Some false
+read_passes (some_pass (suc n)) = Some true
+read_passes (all_but n) = Some true
 
 abbrev pub after_call : Fate → Fate
 after_call untold_fate = untold_fate
 after_call all_pass = all_pass
 after_call (some_pass zero) = some_pass zero
 after_call (some_pass (suc n)) = some_pass n
+after_call (all_but zero) = all_pass
+after_call (all_but (suc n)) = all_but n
+
+-- where a call is told to fail at a, b tells how many have passed
+abbrev pub TellsPassed : DiskState → DiskState → Type 0
+TellsPassed a b = (n : ℕ) → to_failure a.fate ≡ Some n → (m : ℕ) × (b.passed ≡ Some m)
 
 -- a write or a sync passes or fails as was told, and is counted where it passes
 pub record Goes {T E : Type 0} (a b : DiskState) (result : Result T E) : Type 0 where
@@ -59,6 +75,7 @@ pub record Goes {T E : Type 0} (a b : DiskState) (result : Result T E) : Type 0 
   pub failed : OnErr result (b.passed ≡ a.passed)
   pub keeps : b.keeps ≡ a.keeps
   pub fate : b.fate ≡ after_call a.fate
+  pub counted : TellsPassed a b
   pub told : (passes : Bool) → passes_next a.fate ≡ Some passes → is_ok result ≡ passes
 
 -- a read, which is not counted
@@ -66,8 +83,9 @@ pub record ReadGoes {T E : Type 0} (a b : DiskState) (result : Result T E) : Typ
   pub passed : b.passed ≡ a.passed
   pub keeps : b.keeps ≡ a.keeps
   pub fate : b.fate ≡ a.fate
+  pub counted : TellsPassed a b
   pub leaves : LeavesSame a b
-  pub told : (passes : Bool) → passes_next a.fate ≡ Some passes → is_ok result ≡ passes
+  pub told : (passes : Bool) → read_passes a.fate ≡ Some passes → is_ok result ≡ passes
 
 -- A write with its sync, of which one failed: with none or one of them passed, what a crash and a read give.
 pub record IsCut (at : ℕ) (bytes : List ℕ) (a b : DiskState) : Type 0 where

@@ -5,7 +5,7 @@ use Rattle.dr_disk.specs.declared.call.Call.TheVariants.{Read, Write, Sync}
 use Rattle.dr_disk.specs.declared.call.Mode.{Mode}
 use Rattle.dr_disk.specs.declared.call.Mode.TheVariants.{Old, New, Fill}
 use Rattle.dr_disk.specs.Bytes.{overwritten}
-use Rattle.dr_disk.specs.State.{DiskState, Fate, all_pass, some_pass}
+use Rattle.dr_disk.specs.State.{DiskState, Fate}
 
 -- what a crash may leave: the bytes without a mark are the durable ones
 pub record IsImage (durable : List ℕ) (marks : List Bool) (c : List ℕ) : Type 0 where
@@ -47,15 +47,10 @@ count_of counts Sync = counts.syncs
 abbrev pub told_count : ℕ → Option ℕ
 told_count n = if nat_lt n (2 ^ 64 - 1) then Some n else None
 
--- by how many more writes and syncs pass, where there is a stop
-abbrev pub fate_of : Option ℕ → Fate
-fate_of None = all_pass
-fate_of (Some n) = some_pass n
-
 -- the bytes as read, as the last good sync left them, and as last asked for; which are unsynced; how the next calls
 -- go; how many passed and how many failed
-abbrev pub memory_state : List ℕ → List ℕ → List ℕ → List Bool → Option ℕ → ℕ → Counts → DiskState
-memory_state bytes durable asked marks stop passed counts = record {
+abbrev pub memory_state : List ℕ → List ℕ → List ℕ → List Bool → Fate → ℕ → Counts → DiskState
+memory_state bytes durable asked marks fate passed counts = record {
   size = length bytes;
   seen = Some bytes;
   image = IsImage durable marks;
@@ -65,5 +60,5 @@ memory_state bytes durable asked marks stop passed counts = record {
   leaves = λ mode. Some (left_by durable asked marks mode);
   passed = told_count passed;
   keeps = true;
-  fate = fate_of stop;
+  fate = fate;
 }

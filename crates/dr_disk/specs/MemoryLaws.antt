@@ -1,9 +1,9 @@
 -- The bytes in memory keep the laws of disks.
-use Rattle.std.specs.Prelude.{◌≡◌, ℕ, zero, suc, Bool, false, true, List, [], ◌∷◌, length, slice_index, get_or, Option}
+use Rattle.std.specs.Prelude.{◌≡◌, ℕ, zero, suc, Bool, false, true, List, [], ◌∷◌, length, slice_index, get_or}
 use Rattle.std.proofs.Common.{refl, ap, arith, sym, ◌∙◌, subst}
 use Rattle.dr_disk.specs.declared.call.Mode.{Mode}
 use Rattle.dr_disk.specs.declared.call.Mode.TheVariants.{Old, New, Fill}
-use Rattle.dr_disk.specs.State.{IsLawful}
+use Rattle.dr_disk.specs.State.{Fate, IsLawful}
 use Rattle.dr_disk.specs.Memory.{Counts, IsImage, filled, left_by, memory_state}
 
 filled_image : (byte : ℕ) (durable : List ℕ) (marks : List Bool) → length marks ≡ length durable → IsImage durable marks (filled byte durable marks)
@@ -29,10 +29,11 @@ left_image durable asked marks each asks Old = record { size = refl; same = λ i
 left_image durable asked marks each asks New = asks
 left_image durable asked marks each asks (Fill byte) = filled_image byte durable marks each
 
-pub memory_lawful : (bytes durable asked : List ℕ) (marks : List Bool) (stop : Option ℕ) (passed : ℕ) (counts : Counts)
+pub memory_lawful : (bytes durable asked : List ℕ) (marks : List Bool) (fate : Fate) (passed : ℕ)
+    (counts : Counts)
     → IsImage durable marks bytes → IsImage durable marks asked → length marks ≡ length durable
-    → IsLawful (memory_state bytes durable asked marks stop passed counts)
-memory_lawful bytes durable asked marks stop passed counts agrees asks each = record {
+    → IsLawful (memory_state bytes durable asked marks fate passed counts)
+memory_lawful bytes durable asked marks fate passed counts agrees asks each = record {
   sized = λ c is. is.size ∙ sym agrees.size;
   seen_now = λ s told. let same : bytes ≡ s = cc in subst (IsImage durable marks) same agrees;
   only_now = λ c none. absurd none;

@@ -1,13 +1,29 @@
 -- What a disk tells of itself at one moment.
-use Rattle.std.specs.Prelude.{◌≡◌, ℕ, List, length, Option, Some, Bool}
+use Rattle.std.specs.Prelude.{◌≡◌, ℕ, List, length, Option, Some, None, Bool}
 use Rattle.dr_disk.specs.declared.call.Call.{Call}
 use Rattle.dr_disk.specs.declared.call.Mode.{Mode}
 
--- how the next writes and syncs go, where it is told: all pass, or this many, and then every call fails
+-- How the next writes and syncs go, where it is told: all pass; this many, and then every call
+-- fails; or this many, then one fails, and from then on all pass.
 pub data Fate : Type 0 where
   untold_fate : Fate
   all_pass : Fate
   some_pass : ℕ → Fate
+  all_but : ℕ → Fate
+
+-- how many pass before one that fails, where one is told to
+abbrev pub to_failure : Fate → Option ℕ
+to_failure untold_fate = None
+to_failure all_pass = None
+to_failure (some_pass n) = Some n
+to_failure (all_but n) = Some n
+
+-- what is told once that one has failed
+abbrev pub after_failure : Fate → Fate
+after_failure untold_fate = untold_fate
+after_failure all_pass = all_pass
+after_failure (some_pass n) = some_pass 0
+after_failure (all_but n) = all_pass
 
 -- A disk that tells nothing of its content has `seen` None, and `image` and `since` hold of nothing.
 pub record DiskState : Type 1 where

@@ -1,6 +1,6 @@
-//! A disk in memory that can be stopped, and that can crash.
+//! A disk in memory that can be stopped or made to fail once, and that can crash.
 
-ghost use Rattle.std.specs.Prelude.{◌≡◌, ◌≤◌, ◌+◌, ℕ, IfOk, Option, Some, None};
+ghost use Rattle.std.specs.Prelude.{◌≡◌, ◌≤◌, ◌+◌, ℕ, IfOk, Some};
 ghost use Rattle.dr_base.specs.Causes.{one_more};
 ghost use Rattle.dr_disk.specs.Memory.{told_count};
 
@@ -11,8 +11,9 @@ use crate::platter::Platter;
 use dr_base::Failed;
 use std::alloc::{AllocError, Global};
 
-/// A disk in memory. It tells what reads give, what a crash of each kind would leave, and how many writes and syncs
-/// have passed since it was made or was last stopped. No call fails until it is stopped.
+/// A disk in memory. It tells what reads give, what a crash of each kind would leave, and how
+/// many writes and syncs have passed since it was made or was last told to stop or to fail. Until
+/// then no call fails.
 #[derive(Drop)]
 pub struct MemoryDisk {
     pub(crate) platter: Platter,
@@ -40,8 +41,8 @@ pub(crate) fn count_passed(passed: &mut u64)
 }
 
 impl MemoryDisk {
-    ghost use Rattle.dr_disk.specs.MemoryDisks.{IsBlank, IsLeftBy, state_of, stopped_after, going_on};
-    ghost use Rattle.dr_disk.specs.State.{Fate};
+    ghost use Rattle.dr_disk.specs.MemoryDisks.{IsBlank, IsLeftBy, state_of, stopped_after, failing_at, going_on};
+    ghost use Rattle.dr_disk.specs.State.{to_failure};
 
     /// A disk of this many zeros, with all the memory that it will ever use.
     pub fn new(alloc: Global, size: u64) -> Result<MemoryDisk, AllocError>
@@ -63,18 +64,31 @@ impl MemoryDisk {
         self.meter.stop_after(k);
     }
 
-    /// Lifts a stop. A disk that had one has told how many calls have passed.
+    /// Lets the `k`-th of the further writes and syncs fail, which are counted anew. The others
+    /// pass, and so do reads.
+    pub fn fail_at(&mut self, k: u32)
+        requires { 1 ≤ k }
+        ensures { self.new ≡ failing_at k self.old }
+    {
+        self.meter.fail_at(k);
+    }
+
+    /// Lets all calls pass. A disk with a stop, or with a failure to come, has told how many have
+    /// passed.
     pub fn go_on(&mut self)
         ensures lifted { self.new ≡ going_on self.old }
-        ensures told { (n : ℕ) → (state_of self.old).fate ≡ Fate.some_pass n → (m : ℕ) × ((state_of self.old).passed ≡ Some m) }
+        ensures told { (n : ℕ) → to_failure (state_of self.old).fate ≡ Some n
+            → (m : ℕ) × ((state_of self.old).passed ≡ Some m) }
     {
         self.meter.go_on();
     }
 
-    /// The disk after a crash of this kind. It has no stop. One that was stopped has told how many calls have passed.
+    /// The disk after a crash of this kind, all of whose calls pass. One with a stop, or with a
+    /// failure to come, has told how many have passed.
     pub fn crash(self, mode: Mode) -> MemoryDisk
         ensures left { IsLeftBy mode (state_of self) (state_of result) }
-        ensures told { (n : ℕ) → (state_of self).fate ≡ Fate.some_pass n → (m : ℕ) × ((state_of self).passed ≡ Some m) }
+        ensures told { (n : ℕ) → to_failure (state_of self).fate ≡ Some n
+            → (m : ℕ) × ((state_of self).passed ≡ Some m) }
     {
         let MemoryDisk {
             platter,
@@ -101,7 +115,8 @@ impl Disk for MemoryDisk {
     ghost state = { state_of };
 
     ghost lawful = { λ m. memory_lawful m.platter.bytes.items m.platter.durable.items m.platter.asked.items
-        m.platter.marks.items m.meter.stop m.meter.passed (record { reads = m.reads; writes = m.writes; syncs = m.syncs })
+        m.platter.marks.items m.meter.fate m.meter.passed
+        (record { reads = m.reads; writes = m.writes; syncs = m.syncs })
         m.platter.agrees m.platter.asks m.platter.one_mark_each };
 
     fn size(&self) -> u64 {
@@ -109,7 +124,7 @@ impl Disk for MemoryDisk {
     }
 
     fn read(&mut self, at: u64, into: &mut [u8]) -> Result<(), Failed> {
-        if self.meter.is_over() {
+        if !self.meter.passes_reads() {
             count_fault(&mut self.reads);
             return Err(Failed);
         }

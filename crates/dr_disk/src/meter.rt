@@ -1,107 +1,104 @@
-//! How many writes and syncs of a disk have passed, and how many more will.
+//! How many writes and syncs of a disk have passed, and how the next ones go.
 
-ghost use Rattle.std.specs.Prelude.{◌≡◌, ◌≤◌, ◌+◌, ℕ, None, Some, not, true, false};
-ghost use Rattle.dr_disk.specs.Calls.{after_call, passes_next};
-ghost use Rattle.dr_disk.specs.Memory.{fate_of, told_count};
-ghost use Rattle.dr_disk.specs.Metered.{IsCounted, Metered};
-ghost use Rattle.dr_disk.specs.State.{Fate};
+ghost use Rattle.std.specs.Prelude.{◌≡◌, ◌≤◌, ◌+◌, ◌-◌, ℕ, Some, true, false};
+ghost use Rattle.dr_disk.specs.Calls.{after_call, passes_next, read_passes};
+ghost use Rattle.dr_disk.specs.Memory.{told_count};
+ghost use Rattle.dr_disk.specs.Metered.{Metered};
+ghost use Rattle.dr_disk.specs.State.{all_but, all_pass, some_pass, to_failure};
 
 use crate::memory::count_passed;
+use crate::plan::Plan;
 use std::marker::Model;
 
-/// By how many more writes and syncs pass, where there is a stop, and how many have passed. While a stop stands that
+/// How the next writes and syncs go, and how many have passed. While one is told to fail, that
 /// count doesn't come to its end.
 #[derive(Drop)]
 pub struct Meter {
-    stop: Option<u64>,
+    plan: Plan,
     passed: u64,
 }
 
 impl Model for Meter {
-    ghost use Rattle.dr_disk.specs.Metered.{IsCounted, Metered};
+    ghost use Rattle.dr_disk.specs.Metered.{IsCounted, Metered, fate_of};
 
     ghost Value = { Metered };
 
-    ghost view = { λ m. record { stop = m.stop; passed = m.passed } };
+    ghost view = { λ m. record { fate = fate_of m.plan; passed = m.passed } };
 
-    ghost invariant = { λ m. IsCounted m.stop m.passed };
-}
-
-/// Takes a write or a sync off the stop, if there is one. False: the call fails.
-fn take_off(stop: &mut Option<u64>) -> bool
-    ensures fate { fate_of stop.new ≡ after_call (fate_of stop.old) }
-    ensures told { passes_next (fate_of stop.old) ≡ Some result }
-    ensures room { (passed now : ℕ) → IsCounted stop.old passed → result ≡ true → now ≤ passed + 1 → IsCounted stop.new now }
-    ensures same { result ≡ false → stop.new ≡ stop.old }
-{
-    match stop {
-        None => true,
-        Some(left) => {
-            if *left == 0 {
-                false
-            } else {
-                *left -= 1;
-                true
-            }
-        }
-    }
+    ghost invariant = { λ m. IsCounted (fate_of m.plan) m.passed };
 }
 
 impl Meter {
-    /// No stop, and nothing has passed.
+    /// All pass, and none has passed.
     pub(crate) fn new() -> Meter
-        ensures { result ≡ record { stop = None; passed = 0 } }
+        ensures { result ≡ record { fate = all_pass; passed = 0 } }
     {
         Meter {
-            stop: None,
+            plan: Plan::Passing,
             passed: 0,
         }
     }
 
-    /// Lets this many more pass, which are counted anew.
+    /// Lets this many more pass, which are counted anew, and then no call.
     pub(crate) fn stop_after(&mut self, k: u32)
-        ensures { self.new ≡ record { stop = Some k; passed = 0 } }
+        ensures { self.new ≡ record { fate = some_pass k; passed = 0 } }
     {
-        self.stop = Some(k as u64);
+        self.plan = Plan::Stopping(k as u64);
         self.passed = 0;
     }
 
-    /// Lifts the stop. One that stood has told the count.
-    pub(crate) fn go_on(&mut self)
-        ensures value { self.new ≡ record self.old { stop = None } }
-        ensures told { (n : ℕ) → fate_of self.old.stop ≡ Fate.some_pass n → told_count self.old.passed ≡ Some self.old.passed }
+    /// Lets the `k`-th of those to come fail, which are counted anew, and the others pass.
+    pub(crate) fn fail_at(&mut self, k: u32)
+        requires { 1 ≤ k }
+        ensures { self.new ≡ record { fate = all_but (k - 1); passed = 0 } }
     {
-        self.stop = None;
+        self.plan = Plan::Failing(k as u64 - 1);
+        self.passed = 0;
     }
 
-    /// The count without the stop. One that stood has told it.
+    /// Lets all pass. Where one was told to fail, the count is told.
+    pub(crate) fn go_on(&mut self)
+        ensures value { self.new ≡ record self.old { fate = all_pass } }
+        ensures told { (n : ℕ) → to_failure self.old.fate ≡ Some n
+            → told_count self.old.passed ≡ Some self.old.passed }
+    {
+        self.plan = Plan::Passing;
+    }
+
+    /// The same count, and all pass. Where one was told to fail, the count is told.
     pub(crate) fn lifted(self) -> Meter
-        ensures value { result ≡ record self { stop = None } }
-        ensures told { (n : ℕ) → fate_of self.stop ≡ Fate.some_pass n → told_count self.passed ≡ Some self.passed }
+        ensures value { result ≡ record self { fate = all_pass } }
+        ensures told { (n : ℕ) → to_failure self.fate ≡ Some n
+            → told_count self.passed ≡ Some self.passed }
     {
         Meter {
-            stop: None,
+            plan: Plan::Passing,
             passed: self.passed,
         }
     }
 
-    /// Whether no more will pass.
-    pub(crate) fn is_over(&self) -> bool
-        ensures { passes_next (fate_of self.now.stop) ≡ Some (not result) }
+    /// Whether reads pass. Where one was told to fail, the count is told.
+    pub(crate) fn passes_reads(&self) -> bool
+        ensures told { read_passes self.now.fate ≡ Some result }
+        ensures counted { (n : ℕ) → to_failure self.now.fate ≡ Some n
+            → told_count self.now.passed ≡ Some self.now.passed }
     {
-        self.stop == Some(0)
+        self.plan.passes_reads()
     }
 
-    /// Whether the next write or sync passes, which is counted.
+    /// Whether the next write or sync passes; it is counted then. Where one was told to fail, the
+    /// count is told.
     pub(crate) fn passes(&mut self) -> bool
-        ensures fate { fate_of self.new.stop ≡ after_call (fate_of self.old.stop) }
-        ensures told { passes_next (fate_of self.old.stop) ≡ Some result }
+        ensures fate { self.new.fate ≡ after_call self.old.fate }
+        ensures told { passes_next self.old.fate ≡ Some result }
         ensures one { result ≡ true → (m : ℕ) → told_count self.new.passed ≡ Some m →
             (l : ℕ) × (told_count self.old.passed ≡ Some l) × (m ≡ l + 1) }
         ensures stays { result ≡ false → self.new.passed ≡ self.old.passed }
         ensures no_less { self.old.passed ≤ self.new.passed }
+        ensures counted { (n : ℕ) → to_failure self.old.fate ≡ Some n
+            → told_count self.new.passed ≡ Some self.new.passed }
     {
-        if !take_off(&mut self.stop) {
+        if !self.plan.take_off() {
             return false;
         }
         count_passed(&mut self.passed);

@@ -31,15 +31,16 @@ impl SteadyDisk {
 }
 
 impl Disk for SteadyDisk {
-    ghost use Rattle.std.specs.Prelude.{None};
     ghost use Rattle.dr_disk.specs.Memory.{no_faults};
     ghost use Rattle.dr_disk.specs.MemoryLaws.{memory_lawful};
+    ghost use Rattle.dr_disk.specs.State.{all_pass};
     ghost use Rattle.dr_disk.specs.SteadyDisks.{steady_state_of};
 
     ghost state = { steady_state_of };
 
     ghost lawful = { λ d. memory_lawful d.platter.bytes.items d.platter.durable.items d.platter.asked.items
-        d.platter.marks.items None d.passed no_faults d.platter.agrees d.platter.asks d.platter.one_mark_each };
+        d.platter.marks.items all_pass d.passed no_faults
+        d.platter.agrees d.platter.asks d.platter.one_mark_each };
 
     fn size(&self) -> u64 {
         self.platter.bytes.len() as u64

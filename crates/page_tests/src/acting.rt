@@ -6,8 +6,8 @@ ghost use Rattle.pages.specs.Tables.{AreZeros, next_turn};
 ghost use Rattle.pages.specs.Writing.{ArePages};
 ghost use Rattle.page_tests.specs.Standing.{IsLawful, Stands, area_of, none_named};
 
-use dr_disk::MemoryDisk;
 use dr_base::PAGE;
+use dr_disk::MemoryDisk;
 use pages::{Directory, LOWER_PAGES, Layout, put, retire};
 
 /// How many pages the area has.

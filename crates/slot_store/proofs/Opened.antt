@@ -167,5 +167,5 @@ pub refused_by : {T : Type 0} (fault_at : List ℕ → Option ℕ) (area : Area)
 refused_by fault_at area start now call went = record {
   damaged = λ slot at is. absurd (let e : StoreFault call ≡ Damaged slot at = is in cc);
   fault = λ other is. let e : call ≡ other = cc in subst (λ x. Rose (start.faults x) (now.faults x)) e went.fault;
-  ended = λ other n is told. went.ended n told;
+  ended = λ other is. went.ended;
 }

@@ -2,8 +2,8 @@
 use Rattle.std.specs.Prelude.{◌≡◌, ℕ, List, Option, Some, None, is_some}
 use Rattle.dr_base.specs.Causes.{Rose}
 use Rattle.dr_disk.specs.declared.call.Call.{Call}
-use Rattle.dr_disk.specs.State.{Always, DiskState, IsSettled, OnSeen, some_pass}
-use Rattle.dr_disk.specs.Spans.{HavePassed, IsQuiet}
+use Rattle.dr_disk.specs.State.{Always, DiskState, IsSettled, OnSeen}
+use Rattle.dr_disk.specs.Spans.{HasFailedAsTold, HavePassed, IsQuiet}
 use Rattle.dr_disk.specs.Calls.{Unwritten}
 use Rattle.slot_store.specs.Areas.{Area}
 use Rattle.slot_store.specs.declared.errors.OpenError.{OpenError}
@@ -34,4 +34,4 @@ pub record IsRefused (fault_at : List ℕ → Option ℕ) (area : Area) (start n
   pub damaged : (slot at : ℕ) → error ≡ Damaged slot at → Unwritten start now × IsQuiet start now
       × HavePassed 1 start now × OnSeen (λ s. reading fault_at area s ≡ damaged slot at) start
   pub fault : (call : Call) → error ≡ StoreFault call → Rose (start.faults call) (now.faults call)
-  pub ended : (call : Call) (n : ℕ) → error ≡ StoreFault call → start.fate ≡ some_pass n → now.fate ≡ some_pass 0
+  pub ended : (call : Call) → error ≡ StoreFault call → HasFailedAsTold start now

@@ -3,7 +3,7 @@
 ghost use Rattle.std.specs.Prelude.{◌≡◌, ◌≢◌, ◌≤◌, ◌+◌, length, IfErr, IfOk, OnOk};
 ghost use Rattle.dr_disk.specs.declared.call.Call.{Call};
 ghost use Rattle.dr_disk.specs.State.{Fate, OnSeen};
-ghost use Rattle.dr_disk.specs.Spans.{IsQuiet, Span};
+ghost use Rattle.dr_disk.specs.Spans.{FailsLater, IsQuiet, Span};
 ghost use Rattle.slot_store.specs.Reading.{IsEntryOrLike, IsLikeRead, number_of};
 ghost use Rattle.slot_store.specs.AtRest.{IsLeft, IsReadAtRest};
 ghost use Rattle.slot_store.specs.Store.{IsWithin};
@@ -71,6 +71,7 @@ impl SlotStore {
             (D.state disk.old) (D.state disk.new)) }
         ensures memory { IfErr result (λ e. e ≡ OpenError.Memory → disk.new ≡ disk.old) }
         ensures quiet { OnOk result (IsQuiet (D.state disk.old) (D.state disk.new)) }
+        ensures ahead { OnOk result (FailsLater (D.state disk.old) (D.state disk.new)) }
         ensures fate { (D.state disk.old).fate ≡ Fate.all_pass →
             IfErr result (λ e. (call : Call) → e ≢ OpenError.StoreFault call) × ((D.state disk.new).fate ≡ Fate.all_pass) }
     {

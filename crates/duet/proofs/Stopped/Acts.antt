@@ -1,5 +1,5 @@
 -- What an act comes to on a disk that stops in it.
-use Rattle.std.proofs.Common.{Bool, Err, List, None, Ok, Option, Result, Some, ap, arith, false, if◌then◌else◌, inl, inr, length, refl, subst, sym, true, ℕ, ◌-◌, ◌<◌, ◌∙◌, ◌≡◌, ◌≤◌}
+use Rattle.std.proofs.Common.{Bool, Err, List, None, Ok, Option, Result, Some, ap, arith, false, if◌then◌else◌, inl, inr, length, refl, subst, sym, true, ℕ, ◌+◌, ◌-◌, ◌<◌, ◌∙◌, ◌≡◌, ◌≤◌}
 use Rattle.std.specs.Prelude.{IfSome, is_some, nat_le}
 use Rattle.std.proofs.lemmas.Bool.{cond-false, cond-true, le-leb}
 use Rattle.std.proofs.lemmas.Bool.Decides.{nat_tests}
@@ -7,8 +7,9 @@ use Rattle.boxes.specs.Items.{Item}
 use Rattle.dr_base.specs.declared.key.Key32.{Key32}
 use Rattle.dr_disk.specs.MemoryDisks.{IsLeftBy, going_on, state_of, stopped_after}
 use Rattle.dr_disk.specs.MemoryLaws.{memory_lawful}
-use Rattle.dr_disk.specs.State.{DiskState, IsLawful, some_pass}
+use Rattle.dr_disk.specs.State.{DiskState, IsLawful, to_failure}
 use Rattle.dr_disk.specs.declared.call.Call.{Call}
+use Rattle.dr_disk.proofs.Exactly.{enough as enough_told, too_few}
 use Rattle.dr_disk.specs.declared.call.Mode.{Mode}
 use Rattle.dr_disk.specs.declared.memory.MemoryDisk.{MemoryDisk}
 use Rattle.dr_model.specs.Machines.Acts.{finished_by, said_by, sent_by, taken_by}
@@ -86,14 +87,15 @@ only_memory (StoreFault call) says passes = absurd (passes call refl)
 only_memory (Damaged slot at) says passes = says
 only_memory NoSession says passes = says
 
--- the count of a disk is told while it has a stop
+-- the count of a disk is told while a call on it is told to fail
 abbrev pub IsCounted : DiskState → Type 0
-IsCounted disk = (j : ℕ) → disk.fate ≡ some_pass j → (m : ℕ) × (disk.passed ≡ Some m)
+IsCounted disk = (j : ℕ) → to_failure disk.fate ≡ Some j → (m : ℕ) × (disk.passed ≡ Some m)
 
 lawful_disk : (d : MemoryDisk) → IsLawful (state_of d)
 lawful_disk d =
-    memory_lawful d.platter.bytes.items d.platter.durable.items d.platter.asked.items d.platter.marks.items d.meter.stop
-    d.meter.passed (record { reads = d.reads; writes = d.writes; syncs = d.syncs }) d.platter.agrees d.platter.asks
+    memory_lawful d.platter.bytes.items d.platter.durable.items d.platter.asked.items
+    d.platter.marks.items d.meter.fate d.meter.passed
+    (record { reads = d.reads; writes = d.writes; syncs = d.syncs }) d.platter.agrees d.platter.asks
     d.platter.one_mark_each
 
 pub ready_stopped : (n : ℕ) (client : Client) (store : SlotStore) (disk : MemoryDisk) → IsReady client store (state_of disk)
@@ -130,11 +132,10 @@ module _ (n : ℕ) (mode : Mode) (made : Result (Step Client) Refusal) (old new 
       → IsCounted (state_of now)
       → replacing_calls old.kept new.kept ≤ n
   many answer done told =
-      let gone = done.disk.any_moment.fates n refl in
-      let m = told gone.left gone.fate in
-      let passed = done.disk.passed m.0 m.1 in
-      let none : passed.0 ≡ 0 = let e : Some passed.0 ≡ Some 0 = sym passed.1 in cc in
-      omega (arith, none, passed.2, gone.counted passed.0 m.0 passed.1 m.1)
+      let left = done.disk.ahead n refl in
+      let m = told left.0 left.1 in
+      enough_told (replacing_calls old.kept new.kept) n (state_of (stopped_after n disk))
+      (state_of now) refl done.disk.any_moment.fates done.disk.ahead done.disk.passed m.0 m.1
 
   effected : (answer : Answer) (b : Bool) → has_effect answer ≡ b
       → IsEffected state_of b made old new (stopped_after n disk) now answer → IsCounted (state_of now) → Comes answer
@@ -164,15 +165,15 @@ module _ (n : ℕ) (mode : Mode) (made : Result (Step Client) Refusal) (old new 
 
   -- how many calls passed where one failed
   passed_all : (call : Call) (c : IsCutOff made old new (state_of (stopped_after n disk)) (state_of now) call)
-      → IsCounted (state_of now) → ((state_of now).passed ≡ Some n)
-      × (n < replacing_calls old.kept c.next.next)
-  passed_all call c told =
-      let gone = c.disk.any_moment.fates n refl in
-      let over = c.disk.ended n refl in
-      let none : gone.left ≡ 0 = let e : some_pass gone.left ≡ some_pass 0 = sym gone.fate ∙ over in cc in
-      let m = told 0 over in
-      let all : m.0 ≡ n = omega (arith, none, gone.counted 0 m.0 refl m.1) in
-      (m.1 ∙ ap Some all, omega (arith, all, c.disk.few 0 m.0 refl m.1))
+      → ((state_of now).passed ≡ Some n) × (n < replacing_calls old.kept c.next.next)
+  passed_all call c =
+      let end = c.disk.ended n refl in
+      let none : end.1 ≡ 0 = let e : Some end.1 ≡ Some 0 = sym end.2 in cc in
+      let all : end.1 + n ≡ n = omega (arith, none) in (
+        end.3 ∙ ap Some all,
+        too_few (replacing_calls old.kept c.next.next) n (state_of (stopped_after n disk))
+            (state_of now) refl c.disk.ended c.disk.few,
+      )
 
   -- what the client kept, or what it would have kept
   abbrev pub Left : (call : Call) → IsCutOff made old new (state_of (stopped_after n disk)) (state_of now) call → Client
@@ -184,9 +185,9 @@ module _ (n : ℕ) (mode : Mode) (made : Result (Step Client) Refusal) (old new 
 
   -- and that its record stands where the disk has crashed
   pub cut_record : (call : Call) (c : IsCutOff made old new (state_of (stopped_after n disk)) (state_of now) call) (left : MemoryDisk)
-      → IsCounted (state_of now) → IsLeftBy mode (state_of now) (state_of left) → HasRecord (Left call c) (state_of left)
-  cut_record call c left told by = λ s seen.
-      let passed = (passed_all call c told).0 in
+      → IsLeftBy mode (state_of now) (state_of left) → HasRecord (Left call c) (state_of left)
+  cut_record call c left by = λ s seen.
+      let passed = (passed_all call c).0 in
       let same : by.bytes ≡ s = let e : Some by.bytes ≡ Some s = sym by.fresh.seen ∙ seen in cc in
       let off : n - 0 ≡ n = omega arith in
       ap (recovered client_area) (sym same) ∙ c.disk.stopped.crash 0 n mode by.bytes refl passed by.left
@@ -206,11 +207,10 @@ module _ (n : ℕ) (mode : Mode) (made : Result (Step Client) Refusal) (old new 
       ]
 
   pub cut_comes : (call : Call) (c : IsCutOff made old new (state_of (stopped_after n disk)) (state_of now) call)
-      → IsCounted (state_of now) → step Stopped (Left call c)
-      ≡ stopped_client n mode old.kept (settled old.kept made)
-  cut_comes call c told =
+      → step Stopped (Left call c) ≡ stopped_client n mode old.kept (settled old.kept made)
+  cut_comes call c =
       sym (ap (λ r. stopped_client n mode old.kept (settled old.kept r)) c.made_is
-      ∙ cut n mode old.kept c.next c.effect (passed_all call c told).1)
+      ∙ cut n mode old.kept c.next c.effect (passed_all call c).1)
 
   pub cut_within : (call : Call) (c : IsCutOff made old new (state_of (stopped_after n disk)) (state_of now) call) (left : MemoryDisk)
       → IsLeftBy mode (state_of now) (state_of left) → IsWithin client_area (state_of left)

@@ -10,7 +10,8 @@ returns-in-Ok-clause-kept g c = λ before ready.
     kept before (changed g.K.Kem.mechanism (client_of c.args.part.now c.args.inbox.now c.args.outbox.now) c.args.change.now)
     c.args.store.now _ (g.D.Disk.state c.args.disk.now) (g.D.Disk.state c.replace.new.disk) ready c.encode-len.ensures.written
     c.replace.new.self c.replace.ensures.any_moment c.in-Ok.ensures.done c.replace.ensures.reads c.in-Ok.ensures.holds
-    c.replace.ensures.next.area c.in-Ok.ensures.calls.passed c.in-Ok.ensures.calls.went.quiet
+    c.replace.ensures.next.area c.in-Ok.ensures.calls.passed c.in-Ok.ensures.calls.went.ahead
+    c.in-Ok.ensures.calls.went.quiet
 
 pub returns-in-Err-clause-lost : goal.returns-in-Err-clause-lost
 returns-in-Err-clause-lost g c = λ before ready.

@@ -3,6 +3,7 @@ use Rattle.std.proofs.lemmas.Grind.{common_steps}
 use Rattle.dr_disk.specs.Called.{itself}
 use Rattle.dr_disk.specs.declared.call.Call.TheVariants.{Read}
 use Rattle.dr_disk.proofs.Calling.{read_fails, reads_well, then_failed, then_passed}
+use Rattle.dr_disk.proofs.Steps.{unwritten_twice}
 use Rattle.slot_store.proofs.reading.read_slot.Goals as goal
 
 pub returns-in_default-clause-calls : goal.returns-in_default-clause-calls
@@ -29,7 +30,11 @@ pub returns-clause-long : goal.returns-clause-long
 returns-clause-long g c = grind (arith, common_steps)
 
 pub returns-in_default-read-clause-any_moment : goal.returns-in_default-read-clause-any_moment
-returns-in_default-read-clause-any_moment g c = grind (arith, common_steps)
+returns-in_default-read-clause-any_moment g c =
+    unwritten_twice _ _ _ c.read.ensures.passes c.read.ensures.unwritten c.read-2.ensures.passes
+    c.read-2.ensures.unwritten
 
 pub returns-clause-any_moment : goal.returns-clause-any_moment
-returns-clause-any_moment g c = grind (arith, common_steps)
+returns-clause-any_moment g c =
+    unwritten_twice _ _ _ c.read.ensures.passes c.read.ensures.unwritten c.read-2.ensures.passes
+    c.read-2.ensures.unwritten

@@ -11,6 +11,6 @@ returns-clause-left c =
     let platter = c.crash.result in
     subst
     (λ (m : Metered). IsLeftBy c.args.mode (state_of c.args.self) (memory_state platter.bytes.items platter.durable.items
-    platter.asked.items platter.marks.items m.stop m.passed
+    platter.asked.items platter.marks.items m.fate m.passed
     (record { reads = c.args.self.reads; writes = c.args.self.writes; syncs = c.args.self.syncs }))) (sym c.lifted.ensures.value)
     (left_by_crash _ _ _ _ _ _ _ _ _ _ _ _ _ made.bytes made.durable made.asked made.marks)

@@ -11,5 +11,5 @@ returns c =
     let platter = c.in_ok-new.field-0 in
     subst
     (λ (m : Metered). IsBlank c.args.size (memory_state platter.bytes.items platter.durable.items platter.asked.items
-    platter.marks.items m.stop m.passed no_faults)) (sym c.new-2.ensures)
+    platter.marks.items m.fate m.passed no_faults)) (sym c.new-2.ensures)
     (blank _ _ _ _ _ made.bytes made.durable made.asked made.marks)

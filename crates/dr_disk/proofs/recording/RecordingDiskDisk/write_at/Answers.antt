@@ -1,7 +1,8 @@
-use Rattle.std.proofs.Common.{ℕ, Bool, false, List, None, length, refl, ◌∙◌, ap, arith}
+use Rattle.std.proofs.Common.{ℕ, Bool, false, List, length, refl, ◌∙◌, ap, arith}
 use Rattle.std.proofs.lemmas.Grind.{common_steps}
 use Rattle.dr_disk.specs.declared.tape.Recorded.{Recorded}
 use Rattle.dr_disk.specs.Bytes.{overwritten}
+use Rattle.dr_disk.specs.State.{all_pass}
 use Rattle.dr_disk.specs.Memory.{marked, no_faults}
 use Rattle.dr_disk.proofs.Filled.{left_recorded}
 use Rattle.dr_disk.proofs.Overwrites.{length-overwritten}
@@ -49,7 +50,7 @@ returns-clause-passes c =
 pub returns-clause-within : goal.returns-clause-within
 returns-clause-within c =
     let platter = c.args.self.now.platter in
-    let within = within_written platter.bytes.items platter.durable.items _ platter.marks.items _ c.args.at (length c.args.bytes.now) platter.asked.items platter.asked.items None None 0 0 no_faults no_faults
+    let within = within_written platter.bytes.items platter.durable.items _ platter.marks.items _ c.args.at (length c.args.bytes.now) platter.asked.items platter.asked.items all_pass all_pass 0 0 no_faults no_faults
     platter.one_mark_each c.write-2.ensures.marks c.write-2.ensures.durable c.args.bytes.now _ refl c.requires platter.agrees.size c.write-2.ensures.bytes in
     record { images = within.images; seen = within.seen }
 

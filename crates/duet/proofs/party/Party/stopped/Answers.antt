@@ -80,7 +80,8 @@ reopened-requires-clause-holds g c =
       bytes = c.crash.ensures.left.bytes;
       told = c.crash.ensures.left.fresh.seen;
       has = cut_record n mode made client c.perform.new.client disk c.perform.new.disk c.self.invariant c.in-Faulted.field-0 cut
-          c.crash.result c.crash.ensures.told c.crash.ensures.left c.crash.ensures.left.bytes c.crash.ensures.left.fresh.seen;
+          c.crash.result c.crash.ensures.left c.crash.ensures.left.bytes
+          c.crash.ensures.left.fresh.seen;
       undamaged = cut_undamaged n mode made client c.perform.new.client disk c.perform.new.disk c.self.invariant c.in-Faulted.field-0 cut
           c.crash.result c.crash.ensures.left;
     }
@@ -100,9 +101,9 @@ returns-in-Ok g c =
     let lawful = left_lawful k (is_replaced n mode client.kept cut.next.next) cut.next.next
     client.kept next c.lawful.ensures in
     let has = cut_record n mode made client c.perform.new.client disk c.perform.new.disk c.self.invariant c.in-Faulted.field-0 cut
-    c.crash.result c.crash.ensures.told c.crash.ensures.left in
-    let comes = cut_comes n mode made client c.perform.new.client disk c.perform.new.disk c.self.invariant c.in-Faulted.field-0 cut
-    c.crash.ensures.told in
+    c.crash.result c.crash.ensures.left in
+    let comes = cut_comes n mode made client c.perform.new.client disk c.perform.new.disk
+    c.self.invariant c.in-Faulted.field-0 cut in
     ap (step Stopped) (c.in-Ok.ensures _ lawful has) ∙ comes
     ∙ ap (λ (x : Client). stopped_client n mode x
     (settled x (made_by k x c.args.act))) c.self.view_is

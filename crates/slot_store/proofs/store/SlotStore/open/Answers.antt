@@ -4,6 +4,7 @@ use Rattle.dr_disk.specs.Calls.{Unwritten}
 use Rattle.dr_disk.specs.Spans.{HavePassed}
 use Rattle.dr_disk.specs.Called.{itself}
 use Rattle.dr_disk.proofs.Calling.{then_failed}
+use Rattle.dr_disk.proofs.Fates.{later_twice}
 use Rattle.dr_disk.proofs.Steps.{quiet_twice}
 use Rattle.std.proofs.lemmas.Grind.{common_steps}
 use Rattle.slot_store.specs.declared.errors.OpenError.TheVariants.{Damaged, StoreFault}
@@ -61,6 +62,20 @@ returns-in-Ok-settle_empty-clause-quiet g c = quiet_twice (g.D.Disk.state c.args
 
 pub returns-in-Ok-settle_newer-clause-quiet : goal.returns-in-Ok-settle_newer-clause-quiet
 returns-in-Ok-settle_newer-clause-quiet g c = quiet_twice (g.D.Disk.state c.args.disk.now) (g.D.Disk.state c.read_slots.new.disk) (g.D.Disk.state c.settle_newer.new.disk) c.in-Ok-read_slots.ensures.calls.quiet c.in-Ok-settle_newer.ensures.settles.calls.quiet
+
+pub returns-in-Ok-settle_empty-clause-ahead : goal.returns-in-Ok-settle_empty-clause-ahead
+returns-in-Ok-settle_empty-clause-ahead g c =
+    let state = g.D.Disk.state in
+    later_twice (state c.args.disk.now) (state c.read_slots.new.disk)
+    (state c.settle_empty.new.disk) c.in-Ok-read_slots.ensures.calls.ahead
+    c.in-Ok-settle_empty.ensures.settles.calls.ahead
+
+pub returns-in-Ok-settle_newer-clause-ahead : goal.returns-in-Ok-settle_newer-clause-ahead
+returns-in-Ok-settle_newer-clause-ahead g c =
+    let state = g.D.Disk.state in
+    later_twice (state c.args.disk.now) (state c.read_slots.new.disk)
+    (state c.settle_newer.new.disk) c.in-Ok-read_slots.ensures.calls.ahead
+    c.in-Ok-settle_newer.ensures.settles.calls.ahead
 
 pub returns-in-Ok-settle_newer-clause-still : goal.returns-in-Ok-settle_newer-clause-still
 returns-in-Ok-settle_newer-clause-still g c = λ was.
@@ -139,7 +154,7 @@ returns-in-Damaged-clause-refused g c =
     record {
       damaged = λ slot at is. (c.read_slots.ensures.unwritten, c.in-Ok-read_slots.ensures.calls.quiet, c.in-Ok-read_slots.ensures.passed, λ s told. reading_by g.G.Grammar.fault_at c.args.area s _ _ _ (c.in-Ok-read_slots.ensures.read.first s told) (c.in-Ok-read_slots.ensures.read.second s told) verdict ∙ damaged_read (number_of c.in-Damaged.second) slot c.in-Damaged.at at _ c.number.ensures is);
       fault = λ call is. absurd (let e : Damaged _ _ ≡ StoreFault call = is in cc);
-      ended = λ call n is told. absurd (let e : Damaged _ _ ≡ StoreFault call = is in cc);
+      ended = λ call is. absurd (let e : Damaged _ _ ≡ StoreFault call = is in cc);
     }
 
 pub returns-in-Err-clause-refused : goal.returns-in-Err-clause-refused
