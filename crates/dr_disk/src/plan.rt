@@ -1,6 +1,6 @@
 //! What a disk in memory is told of its next writes and syncs.
 
-ghost use Rattle.std.specs.Prelude.{◌≡◌, ◌≤◌, ◌+◌, ℕ, Some, not, true, false};
+ghost use Rattle.std.specs.Prelude.{◌≡◌, ◌≤◌, ◌+◌, ℕ, Some, true, false};
 ghost use Rattle.dr_disk.specs.Calls.{after_call, passes_next, read_passes};
 ghost use Rattle.dr_disk.specs.Metered.{IsCounted, fate_of};
 

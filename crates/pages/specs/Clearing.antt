@@ -11,10 +11,8 @@ use Rattle.pages.specs.Tables.{standing, table_at}
 use Rattle.pages.specs.Around.{IsSameOutside}
 use Rattle.pages.specs.Snapshots.{IsUnnamed, page_of, snapshot}
 
--- the bytes stand for what those of an image of that moment stand for: the same table counts,
--- with
--- its pages and the same
--- around
+-- the bytes stand for what those of an image of that moment stand for: the same table counts, with
+-- its pages and the same around
 pub record IsSameShots (names : List ℕ → List ℕ) (l : Layout) (start : DiskState) (c : List ℕ)
     : Type 0 where
   pub entry : List ℕ
@@ -23,8 +21,7 @@ pub record IsSameShots (names : List ℕ → List ℕ) (l : Layout) (start : Dis
   pub counts_same : standing l c ≡ standing l entry
   pub outside : IsSameOutside l entry c
 
--- Each crash meanwhile leaves what one at the beginning might have left, by what counts and
--- by what
+-- Each crash meanwhile leaves what one at the beginning might have left, by what counts and by what
 -- lies around.
 pub record KeepsShots {T : Type 0}
     (names : List ℕ → List ℕ) (l : Layout) (start now : DiskState) (result : Result T Call)
@@ -66,8 +63,7 @@ pub record IsPageCleared (l : Layout) (number : ℕ) (marked : Bool) (start : Di
     pub kept : (n : ℕ) → IsPage l n → (n ≡ number → marked ≡ true)
         → page_of l s n ≡ page_of l read n
 
--- pages below this number that have no mark are zeros, and the others are as they were read
--- at that
+-- pages below this number that have no mark are zeros, and the others are as they were read at that
 -- moment
 pub record AreCleared (l : Layout) (named : List Bool) (i : ℕ) (start : DiskState) (s : List ℕ)
     : Type 0 where

@@ -70,8 +70,7 @@ pub record IsCommitted
   pub rest : (m : ℕ) → IsPage l m → IsNoneOf m numbers → page_of l c m ≡ page_of l read m
 
 -- Each crash meanwhile leaves the old snapshot or the new. Where no call failed the new one stands,
--- and else one of both by
--- how many calls passed.
+-- and else one of both by how many calls passed.
 pub record TakesPlace {T : Type 0}
     (names : List ℕ → List ℕ) (l : Layout) (numbers : List ℕ) (was new : Snapshot)
     (start now : DiskState)

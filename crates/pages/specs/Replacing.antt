@@ -23,8 +23,7 @@ pub record IsChange
       (open_table body)
 
 -- At the beginning each page that the old table doesn't name is zeros, and each that the new one
--- doesn't name is dropped, or
--- was named by neither and isn't written.
+-- doesn't name is dropped, or was named by neither and isn't written.
 pub record IsCovered
     (names : List ℕ → List ℕ) (l : Layout) (numbers body dropped : List ℕ) (was : Snapshot)
     (start : DiskState)
@@ -43,8 +42,7 @@ pub record IsAtRest (names : List ℕ → List ℕ) (l : Layout) (now : Snapshot
     pub blank : (m : ℕ) → IsPage l m → IsBeside names l m now.table → page_of l c m ≡ blank_page
 
 -- Each crash meanwhile leaves the old snapshot or the new. Where no call failed the new one is at
--- rest, and else one of both
--- stands by how many calls passed.
+-- rest, and else one of both stands by how many calls passed.
 pub record Replaces {T : Type 0}
     (names : List ℕ → List ℕ) (l : Layout) (numbers body dropped : List ℕ) (was new : Snapshot)
     (start now : DiskState) (result : Result T Call)

@@ -8,10 +8,8 @@ use Rattle.dr_disk.specs.Called.{Called, Went, itself}
 use Rattle.pages.specs.declared.layout.Layout.{Layout}
 use Rattle.pages.specs.Around.{KeepsOutside, ReadsAround}
 
--- This many writes and syncs, which leave all around tables and pages; where none failed, a
--- crash
--- leaves what a read
--- gives.
+-- This many writes and syncs, which leave all around tables and pages; where none failed, a crash
+-- leaves what a read gives.
 pub record Runs {T : Type 0} (l : Layout) (n : ℕ) (start now : DiskState) (result : Result T Call)
     : Type 0
   where

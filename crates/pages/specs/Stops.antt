@@ -21,8 +21,8 @@ opens New = true
 opens (Fill byte) = byte == OPEN
 
 -- Of a put of n pages: whether a crash leaves the new snapshot, where this many calls passed and
--- the next one failed. The
--- gate is written once the table was synced, n + 2 calls, and is synced last.
+-- the next one failed. The gate is written once the table was synced, n + 2 calls, and is synced
+-- last.
 unfoldable pub took : ℕ → ℕ → Mode → Bool
 took n passed mode = nat_le (puts n) passed || (nat_le (n + 2) passed && opens mode)
 

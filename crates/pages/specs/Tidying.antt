@@ -42,8 +42,7 @@ pub record IsReady (names : List ℕ → List ℕ) (l : Layout) (disk : DiskStat
   pub named : Always (AreNamed names l) disk
 
 -- How table k was read, which is to be wiped: its gate, and whether all after it is zeros. A page
--- without a mark is named by
--- no open table, and the table doesn't count, or is closed.
+-- without a mark is named by no open table, and the table doesn't count, or is closed.
 pub record IsToTidy
     (names : List ℕ → List ℕ) (l : Layout) (k : Bool) (gate : ℕ) (blank : Bool) (named : List Bool)
     (disk : DiskState)
