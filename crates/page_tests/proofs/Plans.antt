@@ -10,7 +10,8 @@ use Rattle.dr_disk.proofs.Ranges.{get_or-range}
 use Rattle.dr_disk.specs.State.{Always, DiskState}
 use Rattle.dr_disk.specs.Spans.{Span}
 use Rattle.dr_disk.specs.Calls.{Unwritten}
-use Rattle.pages.specs.declared.layout.TheConstants.{OPEN, PAGE}
+use Rattle.dr_base.specs.declared.limits.TheConstants.{PAGE}
+use Rattle.pages.specs.declared.layout.TheConstants.{OPEN}
 use Rattle.pages.specs.Layouts.{IsPage, IsSound}
 use Rattle.pages.specs.Tables.{Comes, IsBody, Table, is_open, next_turn, open_table, table_at, turn_of}
 use Rattle.pages.specs.Around.{KeepsOutside}

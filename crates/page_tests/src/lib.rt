@@ -1,10 +1,12 @@
-//! Tests of pages over disks in memory, by the bytes of an independent implementation.
+//! Tests of records in pages, in memory and on disks, by the bytes of an independent implementation.
 #![tactic(auto)]
 
 #[cfg(test)]
 mod acting;
 #[cfg(test)]
 mod building;
+#[cfg(test)]
+mod planned;
 #[cfg(test)]
 mod rows;
 #[cfg(test)]

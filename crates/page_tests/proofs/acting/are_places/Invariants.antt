@@ -1,6 +1,6 @@
 -- the places so far have pages
 use Rattle.std.proofs.Common.{◌≤◌, ◌<◌, ◌+◌, ◌*◌, ℕ, get_or}
-use Rattle.pages.specs.declared.layout.TheConstants.{PAGE}
+use Rattle.dr_base.specs.declared.limits.TheConstants.{PAGE}
 use Rattle.page_tests.proofs.acting.are_places.Given as goal
 
 abbrev pub invariant-places : goal.invariant-places
