@@ -21,7 +21,7 @@ use Rattle.pages.specs.Commits.{IsCommitted, IsPlan, next_shot}
 use Rattle.pages.specs.Retiring.{IsCleared, IsNewest, IsOver}
 use Rattle.pages.proofs.SoundLayouts.{area_sound}
 use Rattle.pages.proofs.Replaced.{newest_new, over_new}
-use Rattle.page_tests.specs.declared.acting.TheConstants.{PAGES, SIZE}
+use Rattle.page_tests.specs.declared.limits.TheConstants.{PAGES, SIZE}
 use Rattle.page_tests.specs.Standing.{Stands, area_of, none_named, shown}
 
 pub sound_of : (size : ℕ) → size ≡ SIZE → IsSound area_of size

@@ -6,7 +6,7 @@ use Rattle.pages.specs.Areas.{row_layout}
 use Rattle.pages.specs.Tables.{IsBody, Table, next_turn, turn_of}
 use Rattle.pages.specs.Snapshots.{IsStill, Snapshot}
 use Rattle.pages.specs.Writing.{ArePages, ArePieces}
-use Rattle.page_tests.specs.declared.acting.TheConstants.{PAGES, SIZE}
+use Rattle.page_tests.specs.declared.limits.TheConstants.{PAGES, SIZE}
 
 abbrev pub none_named : List ℕ → List ℕ
 none_named body = []

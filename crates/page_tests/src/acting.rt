@@ -6,15 +6,10 @@ ghost use Rattle.pages.specs.Tables.{AreZeros, next_turn};
 ghost use Rattle.pages.specs.Writing.{ArePages};
 ghost use Rattle.page_tests.specs.Standing.{IsLawful, Stands, area_of, none_named};
 
+use crate::limits::PAGES;
 use dr_base::PAGE;
 use dr_disk::MemoryDisk;
 use pages::{Directory, LOWER_PAGES, Layout, put, retire};
-
-/// How many pages the area has.
-pub(crate) const PAGES: u32 = 96;
-
-/// How many bytes the disk has.
-pub(crate) const SIZE: u64 = 393_216;
 
 /// Tables that are taken to name no page: what a call writes doesn't depend on what a table says.
 pub(crate) struct Unread;

@@ -3,8 +3,8 @@
 ghost use Rattle.std.specs.Prelude.{◌≡◌, ◌<◌, All, true, replicate};
 ghost use Rattle.dr_base.specs.declared.limits.TheConstants.{PAGE};
 
-use crate::acting::PAGES;
 use crate::building::{filled, laid_out, spread};
+use crate::limits::PAGES;
 use crate::rows::{Row, last_rows};
 use dr_base::PAGE;
 use record_pages::{

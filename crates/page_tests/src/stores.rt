@@ -5,8 +5,9 @@ ghost use Rattle.dr_disk.specs.Calls.{Unwritten};
 ghost use Rattle.dr_disk.specs.MemoryDisks.{state_of};
 ghost use Rattle.page_tests.specs.Standing.{Stands};
 
-use crate::acting::{SIZE, area, store};
+use crate::acting::{area, store};
 use crate::building::{filled, laid_out, spread};
+use crate::limits::SIZE;
 use crate::rows::{Row, last_rows};
 use dr_base::PAGE;
 use dr_disk::{Disk, MemoryDisk};

@@ -1,6 +1,6 @@
 -- the numbers so far are pages
 use Rattle.std.proofs.Common.{◌≤◌, ◌<◌, ℕ, get_or}
-use Rattle.page_tests.specs.declared.acting.TheConstants.{PAGES}
+use Rattle.page_tests.specs.declared.limits.TheConstants.{PAGES}
 use Rattle.page_tests.proofs.acting.are_pages.Given as goal
 
 abbrev pub invariant-numbers : goal.invariant-numbers
