@@ -28,10 +28,8 @@ const PORT: u16 = 47614;
 
 const ADDRESS: &str = "127.0.0.1:47614";
 
-/// The file of the relay, with the area of one box, and the size of its slots.
+/// The file of the relay, with the area of one box.
 const RELAY: &str = "bench-relay";
-
-const SLOT: usize = 262_144;
 
 /// How many bytes the replies have: a number, the packet, that it was dropped, and that a frame has no lawful length.
 const REPLIES: usize = 1053;
@@ -130,7 +128,7 @@ fn time_exchange<R: Clock + AllocGlobal + Files<File = File> + Net>(rt: &R) -> i
 pub fn report<R: Clock + Print + AllocGlobal + Files<File = File> + Net>(rt: &R) -> io::Result<()> {
     let each = time_exchange(rt)?;
     fs::remove_file(rt, RELAY)?;
-    let bare = time_bare(rt, SLOT)?.saturating_mul(2);
+    let bare = time_bare(rt, 1)?.saturating_mul(2);
     println!(rt;
         "a packet of 1,024 bytes posted, fetched and acknowledged over loopback, on a file: {each} us; its writes and syncs alone: {bare} us"
     )

@@ -3,6 +3,7 @@
 ghost use Rattle.std.specs.Prelude.{ℕ, List, None};
 
 use crate::clock::Times;
+use dr_base::PAGE;
 use dr_disk::{Disk, FileDisk, Sharing};
 use slot_store::{Area, Grammar, SlotStore};
 use std::fs::{File, OpenOptions};
@@ -15,10 +16,12 @@ use std::{fs, io};
 /// How often each thing is measured.
 const RUNS: usize = 41;
 
-/// A client's slot, its longest record, and the files that are written.
-const SLOT: u32 = 196_608;
+/// A client's area, its longest record and that one's pages, and the files that are written.
+const AREA: u64 = 393_216;
 
 const RECORD: usize = 185_726;
+
+const RECORD_PAGES: usize = 46;
 
 const STORE: &str = "bench-store";
 
@@ -42,12 +45,13 @@ fn replace<R: Clock + AllocGlobal + Files<File = File>>(
     text: &[u8],
     times: &mut Times,
 ) -> io::Result<()> {
-    if disk.size() < 2 * SLOT as u64 || text.len() > RECORD {
+    if disk.size() < AREA || text.len() > RECORD {
         return Err(Error::from(ErrorKind::InvalidInput));
     }
     let area = Area {
         start: 0,
-        slot: SLOT,
+        pages: 96,
+        most: 46,
     };
     let Ok((mut store, _found)) = SlotStore::open::<AnyText, FileDisk<R>>(rt.alloc(), disk, area)
     else {
@@ -60,36 +64,61 @@ fn replace<R: Clock + AllocGlobal + Files<File = File>>(
     times.add(rt, start)
 }
 
-/// The median time of that, in microseconds.
-fn time_store<R: Clock + AllocGlobal + Files<File = File>>(rt: &R, text: &[u8]) -> io::Result<u64> {
-    let mut disk = FileDisk::new(rt, STORE, 2 * SLOT as u64, 0, Sharing::InTurn);
+/// Changes the first of these bytes, or the first of each page.
+fn change(text: &mut [u8], every_page: bool, byte: u8) {
+    text[0] = byte;
+    if every_page {
+        for page in text.chunks_mut(PAGE) {
+            page[0] = byte;
+        }
+    }
+}
+
+/// The median time of that, in microseconds, where one page changes or every page.
+fn time_store<R: Clock + AllocGlobal + Files<File = File>>(
+    rt: &R,
+    text: &mut [u8],
+    every_page: bool,
+) -> io::Result<u64> {
+    let mut disk = FileDisk::new(rt, STORE, AREA, 0, Sharing::InTurn);
     let mut times = Times::new(rt.alloc());
-    for _ in 0..RUNS {
+    for run in 0..RUNS {
+        change(text, every_page, run as u8);
         replace(rt, &mut disk, text, &mut times)?;
     }
     Ok(times.median()? / 1000)
 }
 
-/// The writes and syncs with which a record in slots of this size is replaced.
-fn replace_bare(file: &File, body: &[u8], zeros: &[u8], slot: u64) -> io::Result<()> {
-    file.write_all_at(body, 1)?;
+/// Writes so many pages, from one on.
+fn write_pages(file: &File, first: u64, count: usize, page: &[u8]) -> io::Result<()> {
+    for at in 0..count as u64 {
+        file.write_all_at(page, PAGE as u64 * (first + at))?;
+    }
+    Ok(())
+}
+
+/// The writes and syncs with which a record is replaced of which so many pages change.
+fn replace_bare(file: &File, count: usize, page: &[u8], zeros: &[u8]) -> io::Result<()> {
+    write_pages(file, 2, count, page)?;
+    file.write_all_at(&page[1..], 1)?;
     file.sync_data()?;
     file.write_all_at(&[0xa5], 0)?;
     file.sync_data()?;
-    file.write_all_at(&[0], slot)?;
+    file.write_all_at(&[0], PAGE as u64)?;
     file.sync_data()?;
-    file.write_all_at(zeros, slot.saturating_add(1))?;
+    file.write_all_at(&zeros[1..], PAGE as u64 + 1)?;
+    write_pages(file, 2 + count as u64, count, zeros)?;
     file.sync_data()
 }
 
 /// The median time of that on a new file, in nanoseconds.
-fn time_bare_on<R: Clock + AllocGlobal>(rt: &R, file: &File, slot: usize) -> io::Result<u64> {
-    let body = vec![in rt.alloc(); 1; slot.saturating_sub(1)]?;
-    let zeros = vec![in rt.alloc(); 0; slot.saturating_sub(1)]?;
+fn time_bare_on<R: Clock + AllocGlobal>(rt: &R, file: &File, count: usize) -> io::Result<u64> {
+    let page = vec![in rt.alloc(); 1; PAGE]?;
+    let zeros = vec![in rt.alloc(); 0; PAGE]?;
     let mut times = Times::new(rt.alloc());
     for _ in 0..RUNS {
         let start = Instant::now(rt)?;
-        replace_bare(file, &body, &zeros, slot as u64)?;
+        replace_bare(file, count, &page, &zeros)?;
         times.add(rt, start)?;
     }
     times.median()
@@ -98,25 +127,30 @@ fn time_bare_on<R: Clock + AllocGlobal>(rt: &R, file: &File, slot: usize) -> io:
 /// The same in microseconds, on a file that is made for it and removed.
 pub fn time_bare<R: Clock + AllocGlobal + Files<File = File>>(
     rt: &R,
-    slot: usize,
+    count: usize,
 ) -> io::Result<u64> {
     let file = OpenOptions::new()
         .read(true)
         .write(true)
         .create(true)
         .open(rt, BARE)?;
-    let nanos = time_bare_on(rt, &file, slot)?;
+    let nanos = time_bare_on(rt, &file, count)?;
     fs::remove_file(rt, BARE)?;
     Ok(nanos / 1000)
 }
 
-/// Prints a line, and removes the files.
+/// Prints a line for a record of which all pages change and one for one page, and removes the files.
 pub fn report<R: Clock + Print + AllocGlobal + Files<File = File>>(rt: &R) -> io::Result<()> {
-    let text = vec![in rt.alloc(); 7; RECORD]?;
-    let store = time_store(rt, &text)?;
-    let bare = time_bare(rt, SLOT as usize)?;
+    let mut text = vec![in rt.alloc(); 7; RECORD]?;
+    let all = time_store(rt, &mut text, true)?;
+    let one = time_store(rt, &mut text, false)?;
+    let bare_all = time_bare(rt, RECORD_PAGES)?;
+    let bare_one = time_bare(rt, 1)?;
     fs::remove_file(rt, STORE)?;
     println!(rt;
-        "a record of 185,726 bytes replaced on a file: {store} us; its writes and syncs alone: {bare} us"
+        "a record of 185,726 bytes replaced on a file: {all} us; its writes and syncs alone: {bare_all} us"
+    )?;
+    println!(rt;
+        "the same where one page changes: {one} us; its writes and syncs alone: {bare_one} us"
     )
 }

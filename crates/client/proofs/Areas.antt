@@ -15,7 +15,7 @@ pub same_area : IsResting → (kept other : Client) (store again : SlotStore) (a
 same_area resting kept other store again a b sound good ready twin size same marks c d left right =
     let long : length c ≡ length d = sound.sized c left ∙ sym size ∙ sym (good.sized d right) in
     subst (λ (x : Area). SameWithin x c d) ready.area
-    (resting.same_bytes store again c d (omega (arith, ap (λ (x : Area). x.slot) ready.area)) (ready.area ∙ sym twin.area) (sym marks)
+    (resting.same_bytes store again c d (ready.area ∙ sym twin.area) (sym marks)
     (ready.holds ∙ sym (twin.holds ∙ ap Some same)) long
-    (omega (arith, ap (λ (x : Area). x.slot) ready.area, ap (λ (x : Area). x.start) ready.area, ready.within, sound.sized c left))
+    (omega (arith, ap (λ (x : Area). x.pages) ready.area, ap (λ (x : Area). x.start) ready.area, ready.within, sound.sized c left))
     (ready.rests c left) (twin.rests d right))

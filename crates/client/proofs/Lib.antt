@@ -12,6 +12,7 @@ mod Readiness
 pub mod Reopening
 mod Replaced
 mod SameRecord
+mod Kept
 mod Spending
 mod Spends
 pub mod Standing

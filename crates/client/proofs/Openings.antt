@@ -16,7 +16,7 @@ use Rattle.session_record.specs.Record.{record_read, record_text}
 use Rattle.slot_store.specs.Found.{found_as}
 use Rattle.slot_store.specs.Laws.{IsRead}
 use Rattle.slot_store.specs.Reading.{IsEntryOrLike, IsLikeRead, damaged, holds, reading}
-use Rattle.slot_store.specs.Slots.{recovered}
+use Rattle.slot_store.specs.Records.{recovered}
 use Rattle.slot_store.specs.Store.{IsWithin, Rests, content}
 use Rattle.slot_store.specs.declared.errors.OpenError.{OpenError}
 use Rattle.slot_store.specs.declared.errors.OpenError.TheVariants.{Damaged, Memory, StoreFault}

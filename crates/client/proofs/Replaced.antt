@@ -6,7 +6,7 @@ use Rattle.dr_disk.specs.State.{Always, DiskState}
 use Rattle.dr_disk.specs.declared.call.Call.{Call}
 use Rattle.session_model.specs.Clients.{Client}
 use Rattle.session_record.specs.Record.{record_text}
-use Rattle.slot_store.specs.Slots.{recovered}
+use Rattle.slot_store.specs.Records.{recovered}
 use Rattle.slot_store.specs.Stops.{IsStopped, calls_of}
 use Rattle.slot_store.specs.Store.{IsOldOrNew, KeepsOutside, ReadsOutsideArea, Rests, content}
 use Rattle.slot_store.specs.Areas.{Area}

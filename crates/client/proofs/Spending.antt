@@ -16,7 +16,7 @@ use Rattle.session_model.specs.declared.answer.Answer.TheVariants.{Opened, Said}
 use Rattle.session_model.specs.declared.answer.Refusal.{Refusal}
 use Rattle.session_model.specs.declared.answer.Refusal.TheVariants.{InboxFull, OwnPacket, SkipLimit, Spent}
 use Rattle.session_record.specs.Record.{record_read}
-use Rattle.slot_store.specs.Slots.{recovered}
+use Rattle.slot_store.specs.Records.{recovered}
 use Rattle.dr_model.specs.Conversations.Conversation.{Conversation, is_said, positions}
 use Rattle.dr_model.specs.Conversations.Posts.{post_at}
 use Rattle.dr_model.specs.Conversations.Views.{View, after_opening, has_opened, missing_of, outbox_of}

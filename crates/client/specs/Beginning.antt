@@ -11,7 +11,7 @@ use Rattle.session_model.specs.Schedule.{agreement_seed}
 use Rattle.session_model.specs.States.{opening_state}
 use Rattle.session_record.specs.Record.{client_of, record_text}
 use Rattle.slot_store.specs.Reading.{IsEntryOrLike, IsUndamaged, damaged, holds, no_content, reading}
-use Rattle.slot_store.specs.Slots.{recovered}
+use Rattle.slot_store.specs.Records.{recovered}
 use Rattle.slot_store.specs.Store.{KeepsOutside}
 use Rattle.slot_store.specs.declared.errors.OpenError.{OpenError}
 use Rattle.slot_store.specs.declared.errors.OpenError.TheVariants.{Damaged as StoreDamaged, Memory as StoreMemory, StoreFault as DiskFault}
@@ -44,7 +44,7 @@ begin_refusal StoreMemory = Memory
 begin_refusal (DiskFault call) = StoreFault call
 begin_refusal (StoreDamaged slot at) = Damaged slot at
 
--- A client that was begun, where no slot was open.
+-- A client that was begun, where no table was open.
 pub record IsBegun (k : Mechanism) (key : List ℕ) (side : Side) (client : ClientNow) (start now : DiskState) : Type 0 where
   pub is_open : client.closed ≡ None
   pub keeps : client.kept ≡ begun_client k key side

@@ -10,11 +10,11 @@ use Rattle.session_record.specs.declared.limits.TheConstants.{RECORD_LIMIT}
 use Rattle.slot_store.specs.Store.{IsWithin, Rests, content}
 use Rattle.slot_store.specs.Areas.{Area}
 use Rattle.slot_store.specs.declared.store.SlotStore.{SlotStore}
-use Rattle.client.specs.declared.client.TheConstants.{SLOT}
+use Rattle.client.specs.declared.client.TheConstants.{AREA_PAGES, RECORD_PAGES}
 
 -- where a client lies on its disk
 abbrev pub client_area : Area
-client_area = record { start = 0; slot = SLOT }
+client_area = record { start = 0; pages = AREA_PAGES; most = RECORD_PAGES }
 
 pub record ClientNow : Type 0 where
   -- what it keeps

@@ -11,7 +11,7 @@ use Rattle.kem_laws.specs.Mechanism.{Mechanism}
 use Rattle.session_model.specs.declared.answer.Answer.TheVariants.{Refused}
 use Rattle.session_record.specs.Record.{record_read}
 use Rattle.slot_store.specs.Reading.{IsUndamaged}
-use Rattle.slot_store.specs.Slots.{recovered}
+use Rattle.slot_store.specs.Records.{recovered}
 use Rattle.slot_store.specs.Store.{KeepsOutside}
 use Rattle.client.specs.Clients.{ClientNow, client_area}
 use Rattle.client.specs.Outcomes.{Outcome, acknowledged, faulted, is_closed, refused, undrawn}

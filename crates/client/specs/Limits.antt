@@ -1,7 +1,9 @@
 -- The places of a client, as numbers.
 use Rattle.std.specs.Prelude.{◌≡◌}
-use Rattle.client.specs.declared.client.TheConstants.{SLOT}
+use Rattle.client.specs.declared.client.TheConstants.{AREA_PAGES, AREA_SIZE, RECORD_PAGES}
 
--- bytes of a slot
+-- pages of the area and of a record, and the area's bytes
 pub record HasLimits : Type 0 where
-  pub slot : SLOT ≡ 196608
+  pub pages : AREA_PAGES ≡ 96
+  pub most : RECORD_PAGES ≡ 46
+  pub area : AREA_SIZE ≡ 393216

@@ -13,7 +13,7 @@ use Rattle.dr_model.specs.Secrets.Secret.{the_message_key}
 use Rattle.kem_laws.specs.Mechanism.{Mechanism}
 use Rattle.session_model.specs.Clients.{Client}
 use Rattle.session_record.specs.Record.{record_read}
-use Rattle.slot_store.specs.Slots.{recovered}
+use Rattle.slot_store.specs.Records.{recovered}
 use Rattle.client.specs.Clients.{client_area}
 
 -- the side has opened the packet of a position, or has said its text

@@ -14,7 +14,7 @@ ghost use Rattle.client.specs.Beginning.{IsBegun, IsEntryOrFirst, IsFirst, IsUnb
 ghost use Rattle.client.specs.Clients.{IsReady, client_area};
 ghost use Rattle.client.specs.InWorlds.{IsIn};
 
-use crate::client::{Client, SLOT};
+use crate::client::{AREA_PAGES, Client, RECORD_PAGES};
 use crate::keeping::lawful_part;
 use crate::opening::Records;
 use crate::refusals::BeginRefusal;
@@ -88,7 +88,7 @@ fn refusal(error: OpenError) -> BeginRefusal
 
 impl<K: Kem> Client<K> {
     /// Begins the session of a side on a disk that holds none: the disk is opened, and the first record is put. `Exists`
-    /// exactly where a slot is open and its record reads, `Damaged` exactly where what was read is no record; then nothing
+    /// exactly where a table is open and its record reads, `Damaged` exactly where what was read is no record; then nothing
     /// was written. `NoPair` exactly where the agreement seed of the key has none. `StoreFault` only where a call on the
     /// disk failed, and with `Memory` none was made.
     pub fn begin<D: Disk>(
@@ -118,7 +118,8 @@ impl<K: Kem> Client<K> {
         };
         let area = Area {
             start: 0,
-            slot: SLOT,
+            pages: AREA_PAGES,
+            most: RECORD_PAGES,
         };
         match SlotStore::open::<Records<K>, D>(alloc, disk, area) {
             Err(error) => Err(refusal(error)),

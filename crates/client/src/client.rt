@@ -5,7 +5,7 @@ ghost use Rattle.dr_base.specs.declared.limits.TheConstants.{PACKET_LIMIT, TEXT_
 ghost use Rattle.client.specs.Limits.{HasLimits};
 
 use boxes::{Entry, Inbox, Outbox};
-use dr_base::{Position, Side};
+use dr_base::{PAGE, Position, Side};
 use dr_disk::Call;
 use kem_laws::Kem;
 use ratchet::Session;
@@ -15,8 +15,14 @@ use session_record::RECORD_LIMIT;
 use slot_store::SlotStore;
 use std::marker::Model;
 
-/// The size of a slot of a client's area, in bytes. The area begins at 0 and has two slots.
-pub const SLOT: u32 = 196608;
+/// How many pages the area of a client has, which begins at 0.
+pub const AREA_PAGES: u32 = 96;
+
+/// The most pages of a client's record.
+pub const RECORD_PAGES: u32 = 46;
+
+/// How many bytes the area has.
+pub const AREA_SIZE: u64 = PAGE as u64 * AREA_PAGES as u64;
 
 /// A side of a conversation on a disk, which each call is lent as the last one left it. A contract sees what it keeps,
 /// its store, and the call on the disk that closed it. It takes all its memory when it is begun or opened.

@@ -59,7 +59,7 @@ pub fn used_keys_stay_erased<D: Disk>(moments: &[D])
     erasure();
 }
 
-/// Between calls a client's whole area is a function of its record, and of the slot and the turn of its store: on two disks
+/// Between calls a client's whole area is a function of its record, and of the table, the turn and the page numbers of its store: on two disks
 /// of one size, where these are the same, all that a crash leaves is the same within the area.
 pub fn areas_are_their_records<D: Disk>(first: &D, second: &D)
     ensures { (kept other : Client) (store again : SlotStore) → IsReady kept store (D.state first.now)

@@ -1,10 +1,10 @@
-//! One side of a conversation, kept on a disk: a session with its boxes, whose whole state is one record in two slots.
+//! One side of a conversation, kept on a disk: a session with its boxes, whose whole state is one record in pages.
 //!
 //! Each call that changes something replaces the record before it answers, so a crash at any moment leaves the state
 //! before the call or the one after it. A call on the disk that fails closes the client, and the disk is opened again.
 #![tactic(auto)]
 
-pub use client::{Client, SLOT, limits_in_numbers};
+pub use client::{AREA_PAGES, AREA_SIZE, Client, RECORD_PAGES, limits_in_numbers};
 pub use histories::{exchange, meanwhile, syncs_are_links};
 pub use laws::{
     areas_are_their_records, client_grounds, crash_safety, opens_again, single_use,

@@ -15,7 +15,7 @@ ghost use Rattle.slot_store.specs.Store.{IsWithin, content};
 ghost use Rattle.client.specs.Clients.{client_area};
 ghost use Rattle.client.specs.Opening.{IsLeftAtRest, IsOpened, IsUnopened, OpensIn, Reads, open_refusal, record_fault};
 
-use crate::client::{Client, SLOT};
+use crate::client::{AREA_PAGES, Client, RECORD_PAGES};
 use crate::refusals::OpenRefusal;
 use crate::room::Room;
 use boxes::{Inbox, Outbox};
@@ -102,8 +102,8 @@ fn client_in<K: Kem>(room: Room<K>, store: SlotStore) -> Client<K>
 }
 
 impl<K: Kem> Client<K> {
-    /// Opens the client that the disk holds: a sync, the reading of both slots, and the wiping of each slot that isn't
-    /// current. `NoSession` exactly where no slot is open, `Damaged` exactly where what was read is no record; then
+    /// Opens the client that the disk holds: a sync, the reading of its record, and the wiping of all else.
+    /// `NoSession` exactly where no table is open, `Damaged` exactly where what was read is no record; then
     /// nothing was written. `StoreFault` only where a call on the disk failed, and with `Memory` none was made.
     pub fn open<D: Disk>(alloc: Global, disk: &mut D) -> Result<Client<K>, OpenRefusal>
         requires { IsWithin client_area (D.state disk.old) }
@@ -127,7 +127,8 @@ impl<K: Kem> Client<K> {
         };
         let area = Area {
             start: 0,
-            slot: SLOT,
+            pages: AREA_PAGES,
+            most: RECORD_PAGES,
         };
         match SlotStore::open::<Records<K>, D>(alloc, disk, area) {
             Err(error) => Err(refusal(error)),

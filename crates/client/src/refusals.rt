@@ -70,10 +70,11 @@ pub enum OpenRefusal {
     /// A call on the disk failed, of this kind.
     #[error("a call on the disk failed")]
     StoreFault { call: Call },
-    /// What was read is no client's: the slot, 0 or 1, and the first place in it that no record's slot has.
+    /// What was read is no client's: the table, 0 or 1, and the first place in it that no record's
+    /// table has, or 4,096 and the first place in the record's pages.
     #[error("slot {slot} is damaged at {at}")]
     Damaged { slot: u32, at: u64 },
-    /// No slot is open.
+    /// No table is open.
     #[error("no session was begun")]
     NoSession,
 }
@@ -87,7 +88,8 @@ pub enum BeginRefusal {
     /// A call on the disk failed, of this kind.
     #[error("a call on the disk failed")]
     StoreFault { call: Call },
-    /// What was read is no client's: the slot, 0 or 1, and the first place in it that no record's slot has.
+    /// What was read is no client's: the table, 0 or 1, and the first place in it that no record's
+    /// table has, or 4,096 and the first place in the record's pages.
     #[error("slot {slot} is damaged at {at}")]
     Damaged { slot: u32, at: u64 },
     /// A session was begun before.

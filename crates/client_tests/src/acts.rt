@@ -4,7 +4,7 @@ ghost use Rattle.std.specs.Prelude.{◌≡◌, IfOk, OnSome, true};
 ghost use Rattle.dr_disk.specs.MemoryDisks.{state_of};
 ghost use Rattle.client.specs.Clients.{IsOpenOn, MayActOn};
 
-use client::{BeginRefusal, Client, OpenRefusal, SLOT};
+use client::{BeginRefusal, Client, OpenRefusal};
 use dr_base::{Key32, Side};
 use dr_disk::{Disk, MemoryDisk};
 use dr_ports::SteadyDraws;
@@ -32,7 +32,7 @@ pub fn begin(
 ) -> Result<Client<OpenKem>, BeginRefusal>
     ensures { IfOk result (λ client. IsOpenOn client (state_of disk.new)) }
 {
-    if disk.size() < 2 * SLOT as u64 {
+    if disk.size() < SIZE {
         return Err(BeginRefusal::Memory);
     }
     let key = Key32 { bytes: [byte; 32] };
@@ -106,7 +106,7 @@ pub fn packet_of_second(alloc: Global) -> Option<Vec<u8>> {
 
 /// How many texts and packets an opening finds, or why it refuses.
 pub fn opened(alloc: Global, disk: &mut MemoryDisk) -> Result<(u32, u32), OpenRefusal> {
-    if disk.size() < 2 * SLOT as u64 {
+    if disk.size() < SIZE {
         return Err(OpenRefusal::Memory);
     }
     match Client::<OpenKem>::open(alloc, disk) {

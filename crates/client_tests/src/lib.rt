@@ -4,6 +4,10 @@
 #[cfg(test)]
 mod acts;
 #[cfg(test)]
+mod changes;
+#[cfg(test)]
+mod damaged;
+#[cfg(test)]
 mod faults;
 #[cfg(test)]
 mod firsts;

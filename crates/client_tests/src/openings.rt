@@ -24,7 +24,7 @@ fn finds_said(alloc: Global, k: u32, j: u32, (mode, from): (Mode, u32)) -> bool 
 /// Whether it does wherever it is stopped.
 fn find_said(alloc: Global) -> bool {
     for crash in MODES {
-        for k in 0u32..8 {
+        for k in 0u32..10 {
             for j in 0u32..MANY {
                 if !finds_said(alloc, k, j, crash) {
                     return false;

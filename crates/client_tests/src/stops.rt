@@ -12,7 +12,7 @@ use kem_laws::OpenKem;
 use std::alloc::Global;
 
 /// No opening makes this many writes and syncs.
-pub const MANY: u32 = 6;
+pub const MANY: u32 = 8;
 
 /// An act of a side, after another one or none, with the packet that it takes.
 #[derive(Clone, Copy)]
@@ -25,11 +25,11 @@ pub struct Row<'a> {
 
 /// From this many writes and syncs on, such a crash leaves what the act made.
 pub const MODES: [(Mode, u32); 5] = [
-    (Mode::Old, 4),
-    (Mode::New, 2),
-    (Mode::Fill(0), 4),
-    (Mode::Fill(0xa5), 2),
-    (Mode::Fill(0xff), 4),
+    (Mode::Old, 5),
+    (Mode::New, 3),
+    (Mode::Fill(0), 5),
+    (Mode::Fill(0xa5), 3),
+    (Mode::Fill(0xff), 5),
 ];
 
 /// Acts first where there is such an act. Answers whether that was acknowledged.
@@ -111,8 +111,8 @@ pub fn stopped_twice(
     }
 }
 
-/// Whether an act is acknowledged from the eighth call on, and what it made stands from this call
-/// on.
+/// Whether an act is acknowledged from the tenth call on, one page being written and one wiped, and
+/// what it made stands from this call on.
 fn is_told(
     alloc: Global,
     row: Row<'_>,
@@ -123,7 +123,7 @@ fn is_told(
     match stopped_twice(alloc, row, (k, MANY), mode) {
         Some((done, Some(boxes))) => {
             let expected = if k >= from { after } else { before };
-            done == (k >= 8) && boxes.0 == expected.0 && boxes.1 == expected.1
+            done == (k >= 10) && boxes.0 == expected.0 && boxes.1 == expected.1
         }
         _ => false,
     }
@@ -132,7 +132,7 @@ fn is_told(
 /// Whether that is so wherever the disk stops, and whatever a crash leaves.
 fn are_told(alloc: Global, row: Row<'_>, before: (u32, u32), after: (u32, u32)) -> bool {
     for crash in MODES {
-        for k in 0u32..10 {
+        for k in 0u32..12 {
             if !is_told(alloc, row, k, crash, (before, after)) {
                 return false;
             }
@@ -183,7 +183,7 @@ fn stand_received(alloc: Global) -> bool {
     }
 }
 
-// Each act: from the fourth call on what it made stands; between the second and the fourth where the gate became a5.
+// Each act: from the fifth call on what it made stands; from the third to the fifth where the gate became a5.
 #[test]
 fn acts_stopped(rt: HostRuntime) {
     let alloc = rt.alloc();

@@ -1,6 +1,6 @@
 //! What a command on a disk in memory comes to.
 
-use client::SLOT;
+use client::AREA_SIZE;
 use dr_base::{Key32, Side};
 use dr_disk::{Disk, MemoryDisk};
 use dr_ports::{MemoryDraws, MemorySink, MemorySource};
@@ -31,7 +31,7 @@ fn begun(
     fails: &[u64],
     out: &mut MemorySink,
 ) -> Result<u8, Fail> {
-    if disk.size() < 2 * SLOT as u64 {
+    if disk.size() < AREA_SIZE {
         return Err(Fail::from("no room"));
     }
     let mut source = MemorySource::new(alloc, text, fails)?;
@@ -53,7 +53,7 @@ fn taken(
     fails: &[u64],
     out: &mut MemorySink,
 ) -> Result<u8, Fail> {
-    if disk.size() < 2 * SLOT as u64 {
+    if disk.size() < AREA_SIZE {
         return Err(Fail::from("no room"));
     }
     let mut source = MemorySource::new(alloc, text, fails)?;
@@ -74,7 +74,7 @@ fn said(
     fails: &[u64],
     out: &mut MemorySink,
 ) -> Result<u8, Fail> {
-    if disk.size() < 2 * SLOT as u64 {
+    if disk.size() < AREA_SIZE {
         return Err(Fail::from("no room"));
     }
     let mut draws = MemoryDraws::new(alloc, &[Key32 { bytes: [9; 32] }], fails)?;
@@ -92,7 +92,7 @@ fn status_of(
     fails: &[u64],
     out: &mut MemorySink,
 ) -> Result<u8, Fail> {
-    if disk.size() < 2 * SLOT as u64 {
+    if disk.size() < AREA_SIZE {
         return Err(Fail::from("no room"));
     }
     let status = match command {

@@ -14,7 +14,7 @@ ghost use Rattle.client.specs.declared.refusals.BeginRefusal.TheVariants.{NoPair
 use crate::calls::{drop_packets, drop_texts, newest, say_text, take_bytes};
 use crate::post::Post;
 use boxes::Entry;
-use client::{BeginRefusal, Client, Names, SLOT};
+use client::{AREA_SIZE, BeginRefusal, Client, Names};
 use dr_base::{Key32, Position, Side, TEXT_LIMIT};
 use dr_disk::MemoryDisk;
 use kem_laws::Kem;
@@ -22,8 +22,8 @@ use session_model::{Amount, Refusal, Summary};
 use std::alloc::Global;
 use std::marker::Model;
 
-/// The size of a side's disk, in bytes: the two slots of a client.
-const DISK_SIZE: u64 = 2 * SLOT as u64;
+/// The size of a side's disk, in bytes: the area of a client.
+const DISK_SIZE: u64 = AREA_SIZE;
 
 /// A side of a conversation: a client that is open, on a disk in memory whose calls all pass. A contract sees what the
 /// client keeps.

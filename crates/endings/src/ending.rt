@@ -43,9 +43,9 @@ pub enum Ending {
     NoSession,
     /// A session was begun before.
     Exists,
-    /// A client's slot, 0 or 1, is damaged at this place.
+    /// A client's table, 0 or 1, or its record is damaged at this place.
     Damaged { slot: u32, at: u64 },
-    /// A slot of a relay's area, from 0, is damaged at this place.
+    /// A table of a relay's area, from 0, or its record is damaged at this place.
     DamagedArea { area: u32, slot: u32, at: u64 },
     /// The relay sent bytes that are no reply, at this place of the reply's frame.
     Peer { kind: PeerKind, at: u32 },

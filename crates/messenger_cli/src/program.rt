@@ -12,15 +12,15 @@ ghost use Rattle.messenger_cli.specs.Held.{held, seen};
 ghost use Rattle.messenger_cli.specs.Performing.{RunsProgram};
 
 use crate::performing::perform;
-use client::SLOT;
+use client::AREA_SIZE;
 use command_words::parse;
 use dr_disk::Disk;
 use dr_ports::{Door, Draws, Link, Sink, Source};
 use endings::{Ending, Status, finish};
 use std::alloc::{AllocError, Global};
 
-/// The size of the disk of a session, in bytes: two slots of a client.
-pub const DISK_SIZE: u64 = 2 * SLOT as u64;
+/// The size of the disk of a session, in bytes: the area of a client.
+pub const DISK_SIZE: u64 = AREA_SIZE;
 
 /// Runs the program on its words, the arguments after its name: the session is kept on `disk` and a relay's boxes on
 /// `relay_disk`, which are lent as the last run left them; texts come from `source`, lines go to `out`, a sync goes over

@@ -1,16 +1,15 @@
-//! Tests of records in pages, in memory and on disks, by the bytes of an independent implementation.
+//! Tests of a record's store on disks, by the bytes of an independent implementation.
 #![tactic(auto)]
 
-pub use limits::{PAGES, SIZE};
-
-#[cfg(test)]
-mod acting;
 #[cfg(test)]
 mod building;
-mod limits;
 #[cfg(test)]
-mod planned;
+mod damage;
+#[cfg(test)]
+mod disks;
 #[cfg(test)]
 mod rows;
+#[cfg(test)]
+mod stops;
 #[cfg(test)]
 mod stores;

@@ -1,96 +1,71 @@
-//! One record after the other in an area.
+//! Stores whose records are any bytes but none.
 
-ghost use Rattle.std.specs.Prelude.{◌≡◌, true, not, IfOk};
-ghost use Rattle.dr_disk.specs.Calls.{Unwritten};
-ghost use Rattle.dr_disk.specs.MemoryDisks.{state_of};
-ghost use Rattle.page_tests.specs.Standing.{Stands};
+ghost use Rattle.std.specs.Prelude.{◌≡◌, ◌==◌, length, Some, None, if◌then◌else◌};
 
-use crate::acting::{area, store};
-use crate::building::{filled, laid_out, spread};
-use crate::limits::SIZE;
-use crate::rows::{Row, last_rows};
-use dr_base::PAGE;
-use dr_disk::{Disk, MemoryDisk};
-use hex::decode;
-use sha2::{Digest, Sha256};
-use std::alloc::{AllocError, Global};
-use std::test::Fail;
+use dr_disk::Disk;
+use slot_store::{Area, Found, Grammar, OpenError, SlotStore};
+use std::alloc::Global;
 
-/// Stores a row's record after one with this turn, whose table is table 1 where `second` is.
-/// Answers whether it did.
-fn step(
+/// How many bytes the disk has, which is one area.
+pub(crate) const SIZE: u64 = 393_216;
+
+/// Every text but the empty one.
+pub(crate) struct Texts;
+
+impl Grammar for Texts {
+    ghost fault_at = { λ text. if length text == 0 then Some 0 else None };
+
+    fn check(text: &[u8]) -> Result<(), u32> {
+        if text.is_empty() {
+            return Err(0);
+        }
+        Ok(())
+    }
+}
+
+/// The area: 96 pages, of which a record has at most 46.
+pub(crate) fn area() -> Area
+    ensures { result ≡ record { start = 0; pages = 96; most = 46 } }
+{
+    Area {
+        start: 0,
+        pages: 96,
+        most: 46,
+    }
+}
+
+/// Opens the area, and replaces its record. Answers whether it did.
+pub(crate) fn puts<D: Disk>(alloc: Global, disk: &mut D, text: &[u8]) -> bool {
+    if disk.size() < SIZE || text.len() > 188_416 {
+        return false;
+    }
+    match SlotStore::open::<Texts, D>(alloc, disk, area()) {
+        Ok((mut store, _)) => store.replace(disk, text).is_ok(),
+        Err(_) => false,
+    }
+}
+
+/// Whether an opening of an area at the beginning of a disk finds this content, with this text; or
+/// why none is opened.
+pub(crate) fn finds<D: Disk>(
     alloc: Global,
-    disk: &mut MemoryDisk,
-    row: &Row,
-    second: bool,
-    turn: u8,
-    next: u8,
-) -> Result<bool, AllocError>
-    requires { Stands second turn (state_of disk.old) }
-    ensures { IfOk result (λ did. did ≡ true → Stands (not second) next (state_of disk.new)) }
-{
-    let text = filled(alloc, row.text)?;
-    let body = laid_out(alloc, next, row.length, row.numbers)?;
-    let fresh = spread(alloc, row.fresh)?;
-    let places = spread(alloc, row.places)?;
-    let dropped = spread(alloc, row.dropped)?;
-    let page = vec![in alloc; 0; PAGE]?;
-    let rest = vec![in alloc; 0; PAGE - 1]?;
-    let area = area();
-    Ok(store(
-        disk, area, second, turn, next, &fresh, &places, &text, &body, &dropped, &page, &rest,
-    ))
-}
-
-/// All bytes of a disk, where they can be read.
-fn bytes_of(alloc: Global, disk: &mut MemoryDisk) -> Result<Option<Vec<u8>>, AllocError>
-    ensures unwritten { Unwritten (state_of disk.old) (state_of disk.new) }
-    ensures size { (state_of disk.new).size ≡ (state_of disk.old).size }
-{
-    let mut bytes = vec![in alloc; 0; SIZE as usize]?;
-    if disk.size() != SIZE {
-        return Ok(None);
+    disk: &mut D,
+    pages: u32,
+    most: u32,
+    content: Found,
+    text: &[u8],
+) -> Result<bool, OpenError> {
+    if most > 2045 || pages > 65536 || pages < 2 + 2 * most {
+        return Err(OpenError::Memory);
     }
-    match disk.read(0, &mut bytes) {
-        Ok(()) => Ok(Some(bytes)),
-        Err(_) => Ok(None),
+    if disk.size() < 4096 * u64::from(pages) {
+        return Err(OpenError::Memory);
     }
-}
-
-/// Whether these are bytes with this SHA-256, in hex.
-fn has_digest(alloc: Global, bytes: Option<Vec<u8>>, sha256: &str) -> Result<bool, Fail> {
-    let Some(bytes) = bytes else {
-        return Ok(false);
+    let area = Area {
+        start: 0,
+        pages,
+        most,
     };
-    Ok(Sha256::digest(&bytes).as_slice() == decode(alloc, sha256)?.as_slice())
-}
-
-/// The number of the first row after which the disk isn't as told, if there is one.
-fn first_wrong(alloc: Global, disk: &mut MemoryDisk, rows: &[Row]) -> Result<Option<usize>, Fail>
-    requires { Stands true 0 (state_of disk.old) }
-{
-    let mut second = true;
-    let mut turn = 0;
-    'rows: for at in 0..rows.len() {
-        let next = rows[at].turn;
-        if !step(alloc, disk, &rows[at], second, turn, next)? {
-            return Ok(Some(at));
-        }
-        turn = next;
-        second = !second;
-        let bytes = bytes_of(alloc, disk)?;
-        if !has_digest(alloc, bytes, rows[at].sha256)? {
-            return Ok(Some(at));
-        }
-    }
-    Ok(None)
-}
-
-// Records that grow and shrink, of one page to the most. The first is stored in table 0.
-#[test]
-fn whole_disks(rt: HostRuntime) -> Result<(), Fail> {
-    let alloc = rt.alloc();
-    let mut disk = MemoryDisk::new(alloc, SIZE)?;
-    assert!(rt; first_wrong(alloc, &mut disk, &last_rows())? == None);
-    Ok(())
+    let (store, found) = SlotStore::open::<Texts, D>(alloc, disk, area)?;
+    Ok(found == content && store.content() == text)
 }

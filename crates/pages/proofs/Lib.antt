@@ -12,7 +12,6 @@ pub mod PutCalls
 pub mod Closing
 pub mod Retired
 pub mod RetireRuns
-pub mod Replaced
 pub mod Cleared
 pub mod Hushed
 pub mod TidyCalls

@@ -41,6 +41,16 @@ second true b o one two = absurd (let e : true ≡ false = one in cc)
 second false true o one two = refl
 second false false o one two = absurd (let e : false ≡ true = two in cc)
 
+-- once so many calls passed, the new one counts
+pub took_true : (n m : ℕ) (mode : Mode) → n + 4 ≤ m → took n m mode ≡ true
+unfolding took
+took_true n m mode many = let e : nat_le (n + 4) m ≡ true = grind (arith, nat_tests) in
+    ap (λ b. b || (nat_le (n + 2) m && opens mode)) e
+
+pub shows_true : (n m : ℕ) → n + 3 ≤ m → shows n m ≡ true
+unfolding shows
+shows_true n m many = let e : nat_le (n + 3) m ≡ true = grind (arith, nat_tests) in e
+
 -- which snapshot counts, by how many calls passed
 module _ (old new : Shot) (n m : ℕ) where
   pub took_none : (mode : Mode) → m ≤ n + 1 → (if took n m mode then new else old) ≡ old
@@ -55,19 +65,9 @@ module _ (old new : Shot) (n m : ℕ) where
       (second (nat_le (n + 4) m) (nat_le (n + 2) m) (opens mode) (grind (arith, nat_tests))
       (grind (arith, nat_tests)))
 
-  pub took_all : (mode : Mode) → n + 4 ≤ m → (if took n m mode then new else old) ≡ new
-  unfolding took
-  took_all mode many = ap (λ t. if t then new else old) (let e : nat_le (n + 4) m ≡ true = grind
-      (arith, nat_tests) in ap (λ b. b || (nat_le (n + 2) m && opens mode)) e)
-
   pub shows_none : m ≤ n + 2 → (if shows n m then new else old) ≡ old
   unfolding shows
   shows_none few = ap (λ t. if t then new else old) (let e : nat_le (n + 3) m ≡ false = grind
-      (arith, nat_tests) in e)
-
-  pub shows_all : n + 3 ≤ m → (if shows n m then new else old) ≡ new
-  unfolding shows
-  shows_all many = ap (λ t. if t then new else old) (let e : nat_le (n + 3) m ≡ true = grind
       (arith, nat_tests) in e)
 
 module _ (names : List ℕ → List ℕ) (l : Layout) (body : List ℕ) (was : Snapshot)
@@ -168,7 +168,7 @@ module _ (names : List ℕ → List ℕ) (l : Layout) (body : List ℕ) (was : S
           ∙ sym (shows_none Old_ New_ 0 (m - before) (omega arith))
       read_by false before m n s two_more is low high told =
           let here : m - before ≡ 3 = grind (arith, nat_tests) in
-          written (a.seen) refl told ∙ sym (shows_all Old_ New_ 0 (m - before) (omega arith))
+          written (a.seen) refl told ∙ sym (ap (λ t. if t then New_ else Old_) (shows_true 0 (m - before) (omega arith)))
         where
           written : (seen : Option (List ℕ)) → a.seen ≡ seen
               → overwritten_told seen at (OPEN ∷ []) ≡ Some s → snapshot names l s ≡ New_

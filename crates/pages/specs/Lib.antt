@@ -8,7 +8,7 @@ pub mod Runs
 pub mod Stops
 pub mod Commits
 pub mod Retiring
-pub mod Replacing
+pub mod Resting
 pub mod Clearing
 pub mod Tidying
 pub mod Limits

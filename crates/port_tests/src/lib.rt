@@ -12,12 +12,8 @@ mod files;
 #[cfg(test)]
 mod ports;
 #[cfg(test)]
-mod slots;
-#[cfg(test)]
 mod sockets;
 #[cfg(test)]
 mod waiting;
 #[cfg(test)]
 mod watched;
-#[cfg(test)]
-mod whole;

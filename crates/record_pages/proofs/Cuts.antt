@@ -21,11 +21,11 @@ pages_from (suc n) (suc at) text lt =
     pages_from n at (drop PAGE text) (omega arith)
     ∙ ap (λ (page : List ℕ). filled_page page ∷ drop (suc at) (pages_of n (drop PAGE text))) (later at text)
 
-cut_long : (n : ℕ) (bytes : List ℕ) → length (cut n bytes) ≡ n
+pub cut_long : (n : ℕ) (bytes : List ℕ) → length (cut n bytes) ≡ n
 cut_long zero bytes = refl
 cut_long (suc n) bytes = ap suc (cut_long n (drop PAGE bytes))
 
-pages_long : (n : ℕ) (text : List ℕ) → length (pages_of n text) ≡ n
+pub pages_long : (n : ℕ) (text : List ℕ) → length (pages_of n text) ≡ n
 pages_long zero text = refl
 pages_long (suc n) text = ap suc (pages_long n (drop PAGE text))
 

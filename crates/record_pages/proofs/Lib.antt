@@ -1,4 +1,4 @@
-mod Nonzero
+mod FirstNonzero
 mod Pieces
 mod FreeNumbers
 mod Entries
@@ -9,3 +9,9 @@ mod Turns
 pub mod Planned
 pub mod Dropped
 pub mod TableTexts
+pub mod LawfulEntries
+pub mod FreeEnough
+pub mod Renumbered
+pub mod PlanEntries
+pub mod ChangedPlaces
+pub mod Filled

@@ -24,6 +24,7 @@ fn read_numbers(body: &[u8], count: usize, pages: u32, numbers: &mut Vec<u32>) -
     requires kept { count ≤ vec_capacity numbers.old }
     ensures fault { result ≡ entry_fault pages [] 6 (record_names body.now) }
     ensures numbers { result ≡ None → numbers.new.items ≡ record_names body.now }
+    ensures capacity { vec_capacity numbers.old ≤ vec_capacity numbers.new }
 {
     numbers.clear();
     'entries: for at in 0..count {
@@ -37,8 +38,8 @@ fn read_numbers(body: &[u8], count: usize, pages: u32, numbers: &mut Vec<u32>) -
 }
 
 /// The place of the first byte that isn't zero, counted from a place.
-#[tactic(auto, using(crate::proofs::Nonzero::goes_on, crate::proofs::Nonzero::ends))]
-fn nonzero(bytes: &[u8], from: u32) -> Option<u32>
+#[tactic(auto, using(crate::proofs::FirstNonzero::goes_on, crate::proofs::FirstNonzero::ends))]
+pub fn nonzero(bytes: &[u8], from: u32) -> Option<u32>
     requires { from + length bytes.now < 4294967296 }
     ensures { result ≡ nonzero_from from bytes.now }
 {
@@ -58,6 +59,7 @@ pub fn table_fault(body: &[u8], pages: u32, most: u32, numbers: &mut Vec<u32>) -
     requires kept { most ≤ vec_capacity numbers.old }
     ensures fault { result ≡ table_fault pages most body.now }
     ensures numbers { result ≡ None → numbers.new.items ≡ record_names body.now }
+    ensures capacity { vec_capacity numbers.old ≤ vec_capacity numbers.new }
 {
     let count = page_count(record_length(body) as usize);
     if count > most as usize {

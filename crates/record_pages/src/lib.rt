@@ -4,7 +4,7 @@
 
 pub use cutting::{holds_piece, page_count};
 pub use free::fill_free;
-pub use judging::table_fault;
+pub use judging::{nonzero, table_fault};
 pub use planning::{Plan, plan_pages};
 pub use table::{lay_out_table, number_at, record_length};
 

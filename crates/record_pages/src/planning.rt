@@ -77,6 +77,9 @@ pub fn plan_pages(
         (cut (length numbers.old.items) bytes.now) (pages_in text.now) }
     ensures dropped { plan.new.dropped.items ≡ dropped
         (cut (length numbers.old.items) bytes.now) numbers.old.items (pages_in text.now) }
+    ensures room { vec_capacity numbers.old ≤ vec_capacity numbers.new }
+    ensures places_room { vec_capacity plan.old.places ≤ vec_capacity plan.new.places }
+    ensures dropped_room { vec_capacity plan.old.dropped ≤ vec_capacity plan.new.dropped }
 {
     let held = numbers.len();
     let count = page_count(text.len());

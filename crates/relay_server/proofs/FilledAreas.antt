@@ -3,6 +3,7 @@ use Rattle.std.proofs.Common.{◌≡◌, ◌≢◌, inl, inr, ⊎_elim, ℕ, ◌
 use Rattle.std.specs.Prelude.{slice_get}
 use Rattle.std.specs.Int.{w8, w64, to_be_bytes}
 use Rattle.grammar.specs.Printer.{print_items, print_sized}
+use Rattle.slot_store.proofs.Standing.{text_fits}
 use Rattle.slot_store.specs.Kept.{content_or_empty}
 use Rattle.std.proofs.lemmas.Bool.{cases_eq}
 use Rattle.dr_disk.specs.Spans.{Span}
@@ -12,7 +13,7 @@ use Rattle.dr_disk.proofs.Steps.{spans, widen}
 use Rattle.slot_store.specs.Areas.{Area, Fits, size_of}
 use Rattle.slot_store.specs.declared.store.SlotStore.{SlotStore}
 use Rattle.slot_store.specs.Laws.{IsLocal}
-use Rattle.slot_store.specs.Slots.{recovered}
+use Rattle.slot_store.specs.Records.{recovered}
 use Rattle.slot_store.specs.Store.{IsOldOrNew, IsWithin, Rests, content, KeepsOutside}
 use Rattle.relay_core.specs.declared.limits.TheConstants.{RECORD_LIMIT}
 use Rattle.relay_core.specs.Boxes.{Box, empty_box}
@@ -75,7 +76,7 @@ pub place_ready : (n : ℕ) (boxes : List Box) (stores : List SlotStore) (d : Di
     → Fits store.area t × IsWithin store.area d × Always (Rests store) d
 place_ready n boxes stores d t filled inside few store there =
     let area = filled.areas n store there in
-    (subst (λ (a : Area). Fits a t) (sym area) (omega (arith, few)), subst (λ (a : Area). IsWithin a d) (sym area) (omega (arith, inside, filled.within)), filled.rests n store there)
+    (subst (λ (a : Area). Fits a t) (sym area) (text_fits (area_of n) t (omega (arith, few))), subst (λ (a : Area). IsWithin a d) (sym area) (omega (arith, inside, filled.within)), filled.rests n store there)
 
 pub stands_on : (n : ℕ) (boxes : List Box) (stores : List SlotStore) (d : DiskState) (store : SlotStore) (t : List ℕ) → AreFilled n boxes stores d → slice_get stores n ≡ Some store → content store ≡ Some t → AreFilled (n + 1) boxes stores d
 stands_on n boxes stores d store t filled here has = record {

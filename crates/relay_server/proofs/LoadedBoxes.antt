@@ -1,5 +1,5 @@
 -- Boxes that are loaded from their stores.
-use Rattle.std.proofs.Common.{◌≡◌, ◌≢◌, inl, inr, ℕ, zero, suc, ◌+◌, ◌<◌, List, [], ◌∷◌, length, Option, Some, None, Result, Ok, Err, refl, sym, ◌∙◌, ap, subst, arith}
+use Rattle.std.proofs.Common.{◌≡◌, ◌≢◌, inl, inr, ℕ, zero, suc, ◌+◌, ◌<◌, ◌≤◌, List, [], ◌∷◌, length, Option, Some, None, Result, Ok, Err, refl, sym, ◌∙◌, ap, subst, arith}
 use Rattle.std.specs.Prelude.{IfOk, IfSome, slice_get, slice_set}
 use Rattle.std.proofs.lemmas.Bool.{cases_eq}
 use Rattle.slot_store.specs.declared.store.SlotStore.{SlotStore}
@@ -81,6 +81,9 @@ unchanged old k o is = subst (IsLoadedAt k old old) (sym is) (refl, λ j other. 
 
 -- ---- all boxes
 
+from_itself : (n : ℕ) → n ≤ n
+from_itself n = omega arith
+
 pub none_loaded : (old : List Box) (stores : List SlotStore) → AreLoaded 0 old old stores
 none_loaded old stores = record {
   count = refl;
@@ -97,7 +100,7 @@ loaded_on n old boxes news stores store so_far here one = record {
         let at : slice_get stores n ≡ Some other = subst (λ (m : ℕ). slice_get stores m ≡ Some other) same there in
         let e : Some store ≡ Some other = sym here ∙ at in
         let f : store ≡ other = cc in
-        let first : slice_get boxes n ≡ Some was = so_far.others n (omega arith) ∙ subst (λ (m : ℕ). slice_get old m ≡ Some was) same wased in
+        let first : slice_get boxes n ≡ Some was = so_far.others n (from_itself n) ∙ subst (λ (m : ℕ). slice_get old m ≡ Some was) same wased in
         subst (λ (x : SlotStore). IsKept was box (content x)) f (one.2 was box first (subst (λ (m : ℕ). slice_get news m ≡ Some box) same boxed))
     | inr another ↦ so_far.loaded k was box other (omega (arith, less, another)) wased (sym (one.1 k another) ∙ boxed) there
   ];
@@ -114,5 +117,5 @@ others_first n old boxes stores store so_far inside here other = record {
   here = λ was found wased there.
       let e : Some store ≡ Some found = sym here ∙ there in
       let f : store ≡ found = cc in
-      subst (λ (x : SlotStore). IsOthers was (content x)) f (other was (so_far.others n (omega arith) ∙ wased));
+      subst (λ (x : SlotStore). IsOthers was (content x)) f (other was (so_far.others n (from_itself n) ∙ wased));
 }

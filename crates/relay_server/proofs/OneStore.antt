@@ -1,5 +1,5 @@
 -- One store of many has another record: the others are as they were.
-use Rattle.std.proofs.Common.{◌≡◌, ◌≢◌, inl, inr, ℕ, zero, suc, ◌<◌, ◌≤◌, Bool, true, List, [], ◌∷◌, length, Some, refl, sym, ◌∙◌, ap, subst, arith}
+use Rattle.std.proofs.Common.{◌≡◌, ◌≢◌, inl, inr, ℕ, zero, suc, ◌<◌, Bool, true, List, [], ◌∷◌, length, Some, refl, sym, ◌∙◌, ap, subst, arith}
 use Rattle.std.specs.Prelude.{slice_get}
 use Rattle.std.proofs.lemmas.Bool.{cases_eq, cases_lt}
 use Rattle.dr_disk.specs.Bytes.{Torn}
@@ -67,6 +67,6 @@ module _ (n : ℕ) (stores news : List SlotStore) (t : List ℕ) (start now : Di
         let was : slice_get stores j ≡ Some store = sym (r.others j other) ∙ there in
         let frame = around_area c (is_replaced.outside passed c left) in
         let area = r.areas j store was in
-        r.local.rests store c frame.0 (subst (λ (a : Area). 1 ≤ a.slot) (sym area) (omega arith))
+        r.local.rests store c frame.0
         (subst (λ (a : Area). SameWithin a c frame.0) (sym area) (apart j n c frame.0 other frame.2)) (r.rests j store was frame.0 frame.1)
   ]

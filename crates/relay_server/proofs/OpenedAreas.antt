@@ -1,5 +1,5 @@
 -- Areas that are opened one after the other.
-use Rattle.std.proofs.Common.{◌≡◌, ◌≢◌, ◌⊎◌, inl, inr, ⊎_elim, ℕ, zero, suc, ◌+◌, ◌<◌, ◌≤◌, true, false, List, [], ◌∷◌, ◌++◌, length, Option, Some, None, refl, sym, ◌∙◌, ap, subst, arith, length-append}
+use Rattle.std.proofs.Common.{◌≡◌, ◌≢◌, ◌⊎◌, inl, inr, ⊎_elim, ℕ, zero, suc, ◌+◌, ◌<◌, true, false, List, [], ◌∷◌, ◌++◌, length, Option, Some, None, refl, sym, ◌∙◌, ap, subst, arith, length-append}
 use Rattle.std.specs.Prelude.{slice_get, is_some}
 use Rattle.std.proofs.lemmas.Bool.{cases_eq}
 use Rattle.std.proofs.lemmas.Option.{slice_get_within}
@@ -17,7 +17,7 @@ use Rattle.slot_store.specs.declared.store.SlotStore.{SlotStore}
 use Rattle.slot_store.specs.Found.{found_as, has_content}
 use Rattle.slot_store.specs.Laws.{IsLocal, SameWithin}
 use Rattle.slot_store.specs.Reading.{IsEntryOrLike, IsLikeRead, damaged}
-use Rattle.slot_store.specs.Slots.{recovered}
+use Rattle.slot_store.specs.Records.{recovered}
 use Rattle.slot_store.specs.Store.{Rests, content}
 use Rattle.relay_server.specs.Areas.{AreAtRest, AreOpened, AreRefused, HasLooked, IsAreaOpened, IsAreaRefused, IsLikeEntry, reading_of}
 use Rattle.relay_server.specs.Places.{area_of, areas_size}
@@ -148,7 +148,7 @@ module _ (local : IsLocal) (n count : ℕ) (start d now : DiskState) (stores : L
     old_rests k other apart_from there c left =
         let like = one.alike c left in
         let area = so_far.areas k other there in
-        local.rests other c like.read (subst (λ (a : Area). 1 ≤ a.slot) (sym area) (omega arith))
+        local.rests other c like.read
         (subst (λ (a : Area). SameWithin a c like.read) (sym area) (apart k n c like.read apart_from like.outside))
         (so_far.rests k other there like.read (lawful.seen_now like.read like.told))
 

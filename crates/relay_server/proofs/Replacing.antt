@@ -10,7 +10,7 @@ use Rattle.dr_disk.proofs.Ranges.{torn_wider}
 use Rattle.dr_disk.proofs.Steps.{widen}
 use Rattle.slot_store.specs.Areas.{Area, size_of}
 use Rattle.slot_store.specs.declared.store.SlotStore.{SlotStore}
-use Rattle.slot_store.specs.Slots.{recovered}
+use Rattle.slot_store.specs.Records.{recovered}
 use Rattle.slot_store.specs.Store.{IsOldOrNew, Rests, content, KeepsOutside}
 use Rattle.slot_store.specs.Laws.{IsLocal}
 use Rattle.relay_core.specs.Boxes.{Box, Answers}

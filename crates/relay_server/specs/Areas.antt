@@ -5,7 +5,7 @@ use Rattle.dr_disk.specs.Spans.{IsQuiet, Span}
 use Rattle.dr_disk.specs.State.{DiskState, Always}
 use Rattle.slot_store.specs.declared.store.SlotStore.{SlotStore}
 use Rattle.slot_store.specs.Reading.{IsLikeRead, Reading, damaged, holds, no_content}
-use Rattle.slot_store.specs.Slots.{recovered}
+use Rattle.slot_store.specs.Records.{recovered}
 use Rattle.slot_store.specs.Store.{Rests, content}
 use Rattle.dr_disk.specs.Calls.{Unwritten}
 use Rattle.slot_store.specs.AtRest.{IsReadAtRest}

@@ -3,7 +3,7 @@ use Rattle.std.specs.Prelude.{◌≡◌, ◌⊎◌, ℕ, ◌<◌, Bool, true, Li
 use Rattle.dr_disk.specs.State.{DiskState, Always}
 use Rattle.dr_disk.specs.Spans.{Span}
 use Rattle.slot_store.specs.declared.store.SlotStore.{SlotStore}
-use Rattle.slot_store.specs.Slots.{recovered}
+use Rattle.slot_store.specs.Records.{recovered}
 use Rattle.slot_store.specs.Store.{IsOldOrNew, IsWithin, Rests, content, KeepsOutside}
 use Rattle.relay_core.specs.Boxes.{Box}
 use Rattle.relay_server.specs.Places.{area_of}

@@ -2,7 +2,7 @@
 use Rattle.std.specs.Prelude.{◌≡◌, ◌≢◌, ℕ, ◌<◌, ◌≤◌, List, length, slice_get, Option, Some, None, Ok}
 use Rattle.dr_disk.specs.State.{DiskState, Always}
 use Rattle.slot_store.specs.declared.store.SlotStore.{SlotStore}
-use Rattle.slot_store.specs.Slots.{recovered}
+use Rattle.slot_store.specs.Records.{recovered}
 use Rattle.slot_store.specs.Store.{Rests, content}
 use Rattle.relay_core.specs.Boxes.{Box, empty_box}
 use Rattle.relay_core.specs.Record.{box_read, box_text}

@@ -1,8 +1,9 @@
 -- The places of a relay, as numbers.
 use Rattle.std.specs.Prelude.{◌≡◌}
-use Rattle.relay_server.specs.declared.limits.TheConstants.{AREA_SIZE, SLOT}
+use Rattle.relay_server.specs.declared.limits.TheConstants.{AREA_SIZE, BOX_PAGES, RECORD_PAGES}
 
--- bytes of a slot and of a box's area
+-- pages of a box's area and of its record, and the area's bytes
 pub record HasLimits : Type 0 where
-  pub slot : SLOT ≡ 262144
+  pub pages : BOX_PAGES ≡ 128
+  pub most : RECORD_PAGES ≡ 63
   pub area : AREA_SIZE ≡ 524288

@@ -5,7 +5,7 @@ use Rattle.dr_base.specs.Causes.{Rose}
 use Rattle.dr_disk.specs.Spans.{IsQuiet}
 use Rattle.dr_disk.specs.State.{DiskState}
 use Rattle.slot_store.specs.Reading.{Reading, damaged, holds, no_content, reading}
-use Rattle.slot_store.specs.Slots.{recovered}
+use Rattle.slot_store.specs.Records.{recovered}
 use Rattle.relay_core.specs.Boxes.{Box, empty_box}
 use Rattle.relay_core.specs.Record.{box_read, box_text}
 use Rattle.relay_server.specs.Durable.{IsReady, ServerNow}

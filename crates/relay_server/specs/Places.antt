@@ -1,10 +1,10 @@
--- Where the boxes of a relay lie on its disk: area after area, each with two slots.
+-- Where the boxes of a relay lie on its disk: area after area.
 use Rattle.std.specs.Prelude.{◌≤◌, ◌*◌, ℕ, List}
 use Rattle.dr_disk.specs.Bytes.{Torn}
 use Rattle.dr_disk.specs.Spans.{Frame}
 use Rattle.dr_disk.specs.State.{DiskState}
 use Rattle.slot_store.specs.Areas.{Area}
-use Rattle.relay_server.specs.declared.limits.TheConstants.{AREA_SIZE, SLOT}
+use Rattle.relay_server.specs.declared.limits.TheConstants.{AREA_SIZE, BOX_PAGES, RECORD_PAGES}
 
 -- how many bytes this many areas have
 abbrev pub areas_size : ℕ → ℕ
@@ -12,7 +12,7 @@ areas_size n = AREA_SIZE * n
 
 -- the area of a box
 abbrev pub area_of : ℕ → Area
-area_of k = record { start = areas_size k; slot = SLOT }
+area_of k = record { start = areas_size k; pages = BOX_PAGES; most = RECORD_PAGES }
 
 -- a disk has room for this many areas
 abbrev pub HasRoom : ℕ → DiskState → Type 0

@@ -12,7 +12,7 @@ ghost use Rattle.relay_server.specs.Places.{HasRoom, area_of};
 ghost use Rattle.relay_server.specs.Opening.{box_fault};
 
 use crate::errors::ServerOpenError;
-use crate::limits::{AREA_SIZE, SLOT};
+use crate::limits::{AREA_SIZE, BOX_PAGES, RECORD_PAGES};
 use dr_disk::Disk;
 use relay_core::check_box;
 use slot_store::{Area, Grammar, OpenError, SlotStore, locality};
@@ -41,7 +41,8 @@ fn open_area<D: Disk>(alloc: Global, disk: &mut D, k: usize) -> Result<SlotStore
 {
     let area = Area {
         start: AREA_SIZE * k as u64,
-        slot: SLOT,
+        pages: BOX_PAGES,
+        most: RECORD_PAGES,
     };
     match SlotStore::open::<BoxRecords, D>(alloc, disk, area) {
         Ok((store, _found)) => Ok(store),

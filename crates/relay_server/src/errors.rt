@@ -12,8 +12,9 @@ pub enum ServerOpenError {
     /// A call on the disk failed, of this kind.
     #[error("a call on the disk failed")]
     StoreFault { call: Call },
-    /// What was read of an area is no store's with a box: the slot, 0 or 1, and the first place in it that no record's
-    /// slot has. Nothing was written to this area, nor to those after it.
+    /// What was read of an area is no store's with a box: the table, 0 or 1, and the first place in
+    /// it that no record's table has, or 4,096 and the first place in the record's pages. Nothing
+    /// was written to this area, nor to those after it.
     #[error("slot {slot} of area {area} is damaged at {at}")]
     Damaged { area: u32, slot: u32, at: u64 },
     /// The area of this box has the record of a box of another name. No record was put.

@@ -85,7 +85,7 @@ fn frame_room(alloc: Global) -> Result<Vec<u8>, AllocError>
 
 impl Server {
     /// Looks at the boxes of these names, 1 to 16 and no two alike: each lives in the area of its
-    /// place, two slots of 262,144 bytes. The areas are opened in order, and then their records are
+    /// place, 128 pages of 4,096 bytes. The areas are opened in order, and then their records are
     /// loaded. No record is put, and where all areas are read at rest, or as zeros, no byte is
     /// written.
     ///

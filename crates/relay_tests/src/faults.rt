@@ -88,7 +88,7 @@ fn damage(alloc: Global, disk: &mut MemoryDisk) -> bool {
     let lines = b"damaged area 0 slot 1 at 1\n";
     ends_unasked(alloc, disk, &["a"], 0, b"relay 4000\n")
         && set_gate(disk, 0)
-        && set_gate(disk, 262_144)
+        && set_gate(disk, 4_096)
         && ends_over(alloc, disk, &[], &[], 4096, 11, lines)
 }
 

@@ -124,8 +124,8 @@ fn leaves(alloc: Global, passes: u32, replies: &[u8]) -> bool {
 
 #[test]
 fn a_post_that_is_stopped(rt: HostRuntime) {
-    assert!(rt; leaves(rt.alloc(), 1, EMPTY));
-    assert!(rt; leaves(rt.alloc(), 2, ITEM));
+    assert!(rt; leaves(rt.alloc(), 2, EMPTY));
+    assert!(rt; leaves(rt.alloc(), 3, ITEM));
 }
 
 /// Why the server of this box isn't opened, if it isn't.
@@ -136,9 +136,9 @@ fn refusal<D: Disk>(alloc: Global, disk: &mut D, name: &[u8]) -> Option<ServerOp
     }
 }
 
-/// Sets the gate of a slot that begins there.
+/// Sets the gate of a table that begins there.
 pub fn set_gate<D: Disk>(disk: &mut D, at: u64) -> bool {
-    at < 262_145 && disk.size() > 262_146 && disk.write_at(at, b"\xa5\x01").is_ok()
+    at < 4_097 && disk.size() > 4_098 && disk.write_at(at, b"\xa5\x01").is_ok()
 }
 
 /// Whether the server of another box is refused, and that of a damaged area.
@@ -151,7 +151,7 @@ fn refuse<D: Disk>(alloc: Global, disk: &mut D) -> bool {
     refusal(alloc, disk, b"b").is_none()
         && refusal(alloc, disk, b"a") == Some(ServerOpenError::BoxName { k: 0 })
         && set_gate(disk, 0)
-        && set_gate(disk, 262_144)
+        && set_gate(disk, 4_096)
         && refusal(alloc, disk, b"b") == Some(damaged)
 }
 

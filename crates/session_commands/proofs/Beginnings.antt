@@ -13,7 +13,7 @@ use Rattle.session_model.specs.Clients.{Client}
 use Rattle.session_record.specs.Record.{record_read}
 use Rattle.slot_store.specs.Laws.{IsRead}
 use Rattle.slot_store.specs.Reading.{IsLikeRead}
-use Rattle.slot_store.specs.Slots.{recovered}
+use Rattle.slot_store.specs.Records.{recovered}
 use Rattle.client.specs.Beginning.{IsBegun, IsEntryOrFirst, IsFirst, IsUnbegun}
 use Rattle.client.specs.Clients.{ClientNow, client_area}
 use Rattle.client.specs.InWorlds.{IsIn}

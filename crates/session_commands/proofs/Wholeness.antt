@@ -11,7 +11,7 @@ use Rattle.relay_wire.specs.Replies.{Replied}
 use Rattle.session_model.specs.Clients.{Client}
 use Rattle.session_record.specs.Record.{record_read}
 use Rattle.slot_store.specs.Reading.{IsUndamaged, OpensAs, holds, reading}
-use Rattle.slot_store.specs.Slots.{recovered}
+use Rattle.slot_store.specs.Records.{recovered}
 use Rattle.sync_model.specs.declared.more.More.{More}
 use Rattle.client.specs.Clients.{client_area}
 use Rattle.client.specs.Opening.{Reads, fault_of, record_fault}

@@ -26,7 +26,7 @@ DidWork ending = (ending ≡ Done) ⊎ (ending ≡ NoMemory)
 abbrev pub NoneFailed : DiskState → DiskState → Type 0
 NoneFailed start now = (call : Call) → Rose (start.faults call) (now.faults call) → ⊥
 
--- the disk reads a side of a lawful world, and nothing of the record's slot is damaged
+-- the disk reads a side of a lawful world, and nothing of the record's area is damaged
 pub record ReadsWhole (k : Mechanism) (w : World) (side : Side) (disk : DiskState) : Type 0 where
   pub lawful : IsLawfulWorld k w
   pub reads : Reads k w side disk

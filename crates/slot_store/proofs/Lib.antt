@@ -1,23 +1,42 @@
-pub mod LaidOut
-pub mod Newest
-pub mod Places
-pub mod Putting
-pub mod Stopping
-pub mod Retiring
-pub mod Replacing
-pub mod Layouts
-pub mod Staging
-pub mod Begun
-pub mod PutCalls
-pub mod RetireCalls
-pub mod Nonzero
-pub mod Tidied
-pub mod Passive
-pub mod Verdicts
-pub mod Records
-pub mod Undamaged
-pub mod Opened
-pub mod Local
-pub mod Shown
-pub mod Grammars
-pub mod ReadAtRest
+mod Paging
+mod HasPlan
+mod PlanFacts
+mod PutShots
+mod Putting
+mod PutDone
+mod Stopping
+mod PutCalls
+mod Retiring
+mod RetireCalls
+mod Replacing
+mod Joined
+mod Entries
+pub mod Laid
+pub mod Standing
+mod Named
+mod Local
+mod WithinArea
+mod Shown
+pub mod Blank
+mod RestBytes
+mod Replanned
+pub mod Contents
+mod FilledIn
+mod ReadPages
+mod Printed
+mod Filled
+mod Standings
+mod Marks
+mod Alike
+mod Settled
+mod Looked
+mod Wiping
+mod LoadedPages
+mod NewerSettled
+mod EmptySettled
+mod AtRestRead
+mod OpenedStore
+mod NewerRead
+mod EmptyRead
+mod Answered
+mod JudgedRead

@@ -1,50 +1,181 @@
 -- The calls of a put, in the words of callers.
-use Rattle.std.proofs.Common.{◌≡◌, ℕ, ◌+◌, [], ◌∷◌, List, length, Some, ◌∙◌, ap, subst}
-use Rattle.std.specs.Prelude.{is_some, not}
-use Rattle.dr_disk.specs.State.{Always, DiskState, IsLawful}
-use Rattle.dr_disk.specs.Spans.{Frame, HavePassed, Span}
-use Rattle.dr_disk.specs.Calls.{IsCut, IsWrittenOver}
+use Rattle.std.proofs.Common.{◌≡◌, ℕ, ◌+◌, ◌<◌, List, Some, Result, Ok, Err, length, length-take-le, take, sym, ◌∙◌, ap, subst, arith}
+use Rattle.dr_disk.specs.declared.call.Call.{Call}
+use Rattle.dr_disk.specs.State.{Always, DiskState}
+use Rattle.dr_disk.specs.Spans.{HavePassed, Span}
+use Rattle.dr_disk.specs.Called.{Called, itself}
+use Rattle.dr_disk.proofs.Calling.{failed_as, passed_as}
+use Rattle.pages.specs.declared.layout.Layout.{Layout}
+use Rattle.pages.specs.Around.{ReadsAround}
+use Rattle.pages.specs.Commits.{IsPlan, TakesPlace, next_shot}
+use Rattle.pages.specs.Runs.{Runs}
+use Rattle.pages.specs.Snapshots.{Snapshot}
+use Rattle.pages.specs.Stops.{puts}
+use Rattle.pages.specs.Writing.{AreToWrite, piece_at}
+use Rattle.record_pages.specs.Pages.{pages_in}
+use Rattle.record_pages.specs.Tables.{record_names}
+use Rattle.slot_store.specs.declared.errors.StoreFault.{StoreFault}
 use Rattle.slot_store.specs.declared.store.SlotStore.{SlotStore}
-use Rattle.slot_store.specs.Slots.{Comes, place_of, recovered}
-use Rattle.slot_store.specs.Stops.{IsStopped}
-use Rattle.slot_store.specs.Store.{Awaits, IsOldOrNew, KeepsOutside, content, has_replaced, slot_of}
-use Rattle.slot_store.proofs.Begun.{awaiting}
-use Rattle.slot_store.proofs.Putting.{Setting, body_part, ends, put_recovered, whole}
-use Rattle.slot_store.proofs.Stopping.{stopped_first, stopped_second}
+use Rattle.slot_store.specs.Areas.{Fits, layout_of}
+use Rattle.slot_store.specs.Layout.{table_for}
+use Rattle.slot_store.specs.Putting.{HasPut, IsStaged, call_of}
+use Rattle.slot_store.specs.Stops.{IsStopped, putting}
+use Rattle.slot_store.specs.Store.{IsOldOrNew, ReadsOutsideArea, content, mark}
+use Rattle.slot_store.proofs.HasPlan.{fresh}
+use Rattle.slot_store.proofs.PlanFacts.{plans}
+use Rattle.slot_store.proofs.PutDone.{has_put, put_whole}
+use Rattle.slot_store.proofs.PutShots.{reads_of}
+use Rattle.slot_store.proofs.Putting.{Setting, next_is, plan, shot_new, shot_old, to_write}
+use Rattle.slot_store.proofs.Stopping.{put_counts, put_stopped}
 
-module _ (old new : SlotStore) (text : List ℕ) (start mid : DiskState) (p : ℕ) (bytes : List ℕ) (set : Setting old.area old.second (slot_of old) (slot_of new) text start)
-    (at : p ≡ place_of old.area (not old.second)) (is : bytes ≡ new.body.items) where
-  first : Span start mid (Frame start (p + 1) (length bytes)) → Span start mid (Frame start (place_of old.area (not old.second) + 1) (length new.body.items))
-  first span = subst (λ (l : List ℕ). Span start mid (Frame start (place_of old.area (not old.second) + 1) (length l))) is (subst (λ q. Span start mid (Frame start (q + 1) (length bytes))) at span)
+-- ---- how many calls
 
-  over : Always (IsWrittenOver start (p + 1) bytes) mid → Always (IsWrittenOver start (place_of old.area (not old.second) + 1) new.body.items) mid
-  over done = subst (λ (l : List ℕ). Always (IsWrittenOver start (place_of old.area (not old.second) + 1) l) mid) is (subst (λ q. Always (IsWrittenOver start (q + 1) bytes) mid) at done)
+pub called_err : {T U : Type 0} (n m : ℕ) (call : Call) (e : StoreFault) (a b : DiskState) → n ≡ m
+    → call ≡ call_of e → Called {T = U} n itself a b (Err call)
+    → Called {T = T} m call_of a b (Err e)
+called_err {T = T} {U = U} n m call e a b same is called = record {
+  passed = tt;
+  few = λ l k was now. subst (λ x. k < l + x) same (called.few l k was now);
+  went = failed_as {T = T} {U = U} itself call_of call e a b is called.went;
+}
 
-  pub put_first : Span start mid (Frame start (p + 1) (length bytes)) → Span start mid (IsOldOrNew start old.area (content old) (Some text))
-  unfolding content
-  put_first span = body_part old.area old.second (slot_of old) (slot_of new) text start set mid (first span)
+pub called_ok : {T U : Type 0} (n m : ℕ) (x : U) (y : T) (a b : DiskState) → n ≡ m
+    → Called n itself a b (Ok x) → Called m call_of a b (Ok y)
+called_ok n m x y a b same called = record {
+  passed = subst (λ k. HavePassed k a b) same called.passed;
+  few = tt;
+  went = passed_as itself call_of y x a b called.went;
+}
 
-  pub put_whole : (end : DiskState) → Span start mid (Frame start (p + 1) (length bytes)) → Always (IsWrittenOver start (p + 1) bytes) mid → Span mid end (Frame mid p 1)
-      → Span start end (IsOldOrNew start old.area (content old) (Some text))
-  unfolding content
-  put_whole end span done gate = whole old.area old.second (slot_of old) (slot_of new) text start set mid end (first span) (over done) (subst (λ q. Span mid end (Frame mid q 1)) at gate)
+-- ---- by the arguments of the call
 
-  pub put_done : (end : DiskState) → IsLawful mid → new.area ≡ old.area → new.second ≡ not old.second → has_replaced new ≡ is_some (content old) → Comes (slot_of old) (slot_of new)
-      → Always (IsWrittenOver start (p + 1) bytes) mid → Always (IsWrittenOver mid p (165 ∷ [])) end
-      → Always (λ c. Awaits new c × (recovered new.area c ≡ Some text) × KeepsOutside old.area start c) end
-  put_done end lawful same place replaced comes done gate c left =
-      let put = ends old.area old.second (slot_of old) (slot_of new) text start set mid end lawful (over done) (subst (λ q. Always (IsWrittenOver mid q (165 ∷ [])) end) at gate) c left in (
-        awaiting old new c same place replaced comes put.slots.current put.slots.other,
-        ap (λ a. recovered a c) same ∙ put_recovered old.area old.second (slot_of old) (slot_of new) text start set c put,
-        put.around,
-      )
+-- a put's call, of so many of these free numbers
+pub record IsCall (old new : SlotStore) (text : List ℕ) (start : DiskState) (lay : Layout) (k : ℕ)
+    (free places bytes body : List ℕ) : Type 0 where
+  pub set : Setting old new text start
+  pub lay_is : lay ≡ layout_of new.area
+  pub k_is : k ≡ length new.draft.plan.places.items
+  pub free_are : free ≡ new.draft.free.items
+  pub places_are : places ≡ new.draft.plan.places.items
+  pub bytes_are : bytes ≡ new.kept.bytes.items
+  pub body_is : body ≡ new.draft.body.items
 
-  pub put_cut_first : IsLawful mid → Span start mid (Frame start (p + 1) (length bytes)) → IsCut (p + 1) bytes start mid → IsStopped old.area (content old) (Some text) start mid
-  unfolding content
-  put_cut_first lawful span cut = stopped_first old.area old.second (slot_of old) (slot_of new) text start set mid lawful (first span)
-      (subst (λ (l : List ℕ). IsCut (place_of old.area (not old.second) + 1) l start mid) is (subst (λ q. IsCut (q + 1) bytes start mid) at cut))
+-- so many numbers are free
+pub enough_free : (old new : SlotStore) (text : List ℕ) (k : ℕ) (free : List ℕ)
+    → IsStaged old new text → Fits old.area text → k ≡ length new.draft.plan.places.items
+    → free ≡ new.draft.free.items → k ≡ length (take k free)
+enough_free old new text k free staged fits k_is free_are = sym (length-take-le k free
+    (let e : length free ≡ length new.draft.free.items = ap (λ (l : List ℕ). length l) free_are in
+    omega (arith, k_is, e, (plans old new text staged fits).enough)))
 
-  pub put_cut_second : (end : DiskState) → IsLawful mid → mid.keeps ≡ start.keeps → Always (IsWrittenOver start (p + 1) bytes) mid → HavePassed 2 start mid → IsCut p (165 ∷ []) mid end
+module _ {old new : SlotStore} {text : List ℕ} {start : DiskState} {lay : Layout} {k : ℕ}
+    {free places bytes body : List ℕ}
+    (call : IsCall old new text start lay k free places bytes body) where
+  abbrev L : Layout
+  L = layout_of old.area
+
+  abbrev Before : Snapshot
+  Before = shot_old old
+
+  abbrev After : Snapshot
+  After = shot_new new text
+
+  same_layout : lay ≡ L
+  same_layout = call.lay_is ∙ ap layout_of call.set.staged.next.area
+
+  numbers_are : take k free ≡ fresh new
+  numbers_are = ap (λ n. take n free) call.k_is
+      ∙ ap (λ (l : List ℕ). take (length new.draft.plan.places.items) l) call.free_are
+
+  body_laid : body ≡ table_for (mark new) text
+  body_laid = call.body_is ∙ call.set.staged.body
+
+  content_is : piece_at bytes places ≡ piece_at new.kept.bytes.items new.draft.plan.places.items
+  content_is = ap (λ (bs : List ℕ). piece_at bs places) call.bytes_are
+      ∙ ap (λ (ps : List ℕ). piece_at new.kept.bytes.items ps) call.places_are
+
+  pub to_write_here : AreToWrite record_names lay (take k free) places bytes start
+  to_write_here =
+      subst (λ (x : Layout). AreToWrite record_names x (take k free) places bytes start)
+      (sym same_layout)
+      (subst (λ (ns : List ℕ). AreToWrite record_names L ns places bytes start) (sym numbers_are)
+      (subst (λ (ps : List ℕ). AreToWrite record_names L (fresh new) ps bytes start)
+      (sym call.places_are)
+      (subst (λ (bs : List ℕ). AreToWrite record_names L (fresh new)
+      new.draft.plan.places.items bs start) (sym call.bytes_are)
+      (to_write call.set))))
+
+  plan_here : IsPlan record_names lay old.second (take k free) (piece_at bytes places) body Before
+      (pages_in text) start
+  plan_here =
+      subst (λ (x : Layout). IsPlan record_names x old.second (take k free) (piece_at bytes places)
+      body Before (pages_in text) start) (sym same_layout)
+      (subst (λ (ns : List ℕ). IsPlan record_names L old.second ns (piece_at bytes places) body
+      Before (pages_in text) start) (sym numbers_are)
+      (subst (λ (b : List ℕ). IsPlan record_names L old.second (fresh new) (piece_at bytes places)
+      b Before (pages_in text) start) (sym body_laid)
+      (subst (λ (at : ℕ → List ℕ). IsPlan record_names L old.second (fresh new) at
+      (table_for (mark new) text) Before (pages_in text) start) (sym content_is)
+      (plan call.set))))
+
+  module _ {T : Type 0} (end : DiskState) (result : Result T Call)
+      (takes : (before : Snapshot) (after : List (List ℕ))
+      → IsPlan record_names lay old.second (take k free) (piece_at bytes places) body before after
+      start
+      → TakesPlace record_names lay (take k free) before (next_shot before body after) start end
+      result) where
+    took_place : TakesPlace record_names L (fresh new) Before After start end result
+    took_place =
+        subst (λ (x : Layout). TakesPlace record_names x (fresh new) Before After start end result)
+        same_layout
+        (subst (λ (ns : List ℕ). TakesPlace record_names lay ns Before After start end result)
+        numbers_are
+        (subst (λ (s : Snapshot). TakesPlace record_names lay (take k free) Before s start end
+        result) (ap (λ (b : List ℕ). next_shot Before b (pages_in text)) body_laid
+        ∙ next_is call.set)
+        (takes Before (pages_in text) plan_here)))
+
+    pub whole_here : Span start end (IsOldOrNew start old.area (content old) (Some text))
+    whole_here = put_whole call.set end took_place.any_moment
+
+  pub done_here : {T : Type 0} (end : DiskState) (x : T)
+      → ((before : Snapshot) (after : List (List ℕ))
+      → IsPlan record_names lay old.second (take k free) (piece_at bytes places) body before after
+      start
+      → TakesPlace record_names lay (take k free) before (next_shot before body after) start end
+      (Ok x))
+      → Always (HasPut old new text start) end
+  done_here end x takes c left = has_put call.set c ((took_place end (Ok x) takes).done c left)
+
+  pub stopped_here : {T : Type 0} (end : DiskState) (failed : Call)
+      → ((before : Snapshot) (after : List (List ℕ))
+      → IsPlan record_names lay old.second (take k free) (piece_at bytes places) body before after
+      start
+      → TakesPlace {T = T} record_names lay (take k free) before (next_shot before body after) start
+      end (Err failed))
       → IsStopped old.area (content old) (Some text) start end
-  unfolding content
-  put_cut_second end lawful keeps done two cut = stopped_second old.area old.second (slot_of old) (slot_of new) text start set mid end lawful (over done) two (subst (λ q. IsCut q (165 ∷ []) mid end) at cut) keeps
+  stopped_here {T = T} end failed takes = put_stopped call.set end
+      (took_place {T = T} end (Err failed) takes).stopped
+
+  pub reads_here : (end : DiskState) → ReadsAround lay start end
+      → ReadsOutsideArea old.area start end
+  reads_here end reads = reads_of old.area old.lawful start end
+      (subst (λ (x : Layout). ReadsAround x start end) same_layout reads)
+
+  counts_here : puts (length (take k free)) ≡ putting (content old) (Some text)
+  counts_here = ap (λ (ns : List ℕ). puts (length ns)) numbers_are
+      ∙ put_counts call.set
+
+  pub passed_here : {T U : Type 0} (end : DiskState) (x : U) (y : T)
+      → Runs lay (puts (length (take k free))) start end (Ok x)
+      → Called (putting (content old) (Some text)) call_of start end (Ok y)
+  passed_here end x y runs = called_ok (puts (length (take k free)))
+      (putting (content old) (Some text)) x y start end counts_here runs.calls
+
+  pub failed_here : {T U : Type 0} (end : DiskState) (failed : Call) (e : StoreFault)
+      → Runs {T = U} lay (puts (length (take k free))) start end (Err failed)
+      → failed ≡ call_of e
+      → Called {T = T} (putting (content old) (Some text)) call_of start end (Err e)
+  failed_here {T = T} {U = U} end failed e runs same = called_err {T = T} {U = U}
+      (puts (length (take k free))) (putting (content old) (Some text)) failed e start end
+      counts_here same runs.calls

@@ -1,168 +1,154 @@
--- What each of the two writes of a put leaves, with its sync.
-use Rattle.std.proofs.Common.{◌≡◌, ◌≢◌, inl, inr, ℕ, ◌+◌, ◌-◌, ◌≤◌, Bool, true, List, [], ◌∷◌, length, get_or, Some, sym, ◌∙◌, ap, subst, arith}
-use Rattle.std.specs.Prelude.{not, slice_range, slice_index}
-use Rattle.std.proofs.lemmas.Bool.{cases_eq}
-use Rattle.dr_disk.specs.Bytes.{Torn, overwritten}
+-- A put: what it begins with.
+use Rattle.std.proofs.Common.{◌≡◌, ◌≢◌, ℕ, ◌^◌, ◌<◌, true, List, [], ◌∷◌, Option, Some, None, length, map, refl, sym, ◌∙◌, ap, subst}
+use Rattle.std.specs.Prelude.{All, not, slice_index}
+use Rattle.std.proofs.lemmas.List.Elements.{All-head, All-tail}
 use Rattle.dr_disk.specs.State.{Always, DiskState, IsLawful}
-use Rattle.dr_disk.specs.Spans.{Frame, Span}
-use Rattle.dr_disk.specs.Calls.{IsWrittenOver}
-use Rattle.dr_disk.proofs.Overwrites.{overwritten_in}
-use Rattle.dr_disk.proofs.Ranges.{frame_torn, overwritten_tears, range_kept, range_written, torn_self}
-use Rattle.dr_disk.proofs.Steps.{spans}
-use Rattle.dr_disk.proofs.Writes.{behind, during}
-use Rattle.slot_store.specs.Areas.{Area}
-use Rattle.slot_store.specs.Reading.{IsUndamaged}
-use Rattle.slot_store.specs.Slots.{Comes, Slot, Slots, content_of, is_open, place_of, record_of, recovered, slot_at, wiped}
-use Rattle.slot_store.specs.Store.{IsOldOrNew}
-use Rattle.slot_store.proofs.Newest.{closed, content_open, not_not, recovered_current, recovered_other}
-use Rattle.slot_store.proofs.Places.{apart, high, low, slot_beside}
-use Rattle.slot_store.proofs.Undamaged.{IsWhole, undamaged}
+use Rattle.pages.specs.declared.layout.Layout.{Layout}
+use Rattle.pages.specs.Layouts.{IsPage}
+use Rattle.pages.specs.Tables.{Comes, is_open, open_table}
+use Rattle.pages.specs.Snapshots.{IsBeside, Snapshot, page_of}
+use Rattle.pages.specs.Writing.{AreToWrite, AreUnnamed, AreWritten, piece_at}
+use Rattle.pages.specs.Commits.{IsPlan, next_shot}
+use Rattle.record_pages.specs.Pages.{pages_in}
+use Rattle.record_pages.specs.Tables.{record_names}
+use Rattle.slot_store.specs.declared.store.SlotStore.{SlotStore}
+use Rattle.slot_store.specs.Areas.{Fits, layout_of}
+use Rattle.slot_store.specs.Layout.{IsLaidOut, IsMarked, Mark, laid, pages_held, table_for}
+use Rattle.slot_store.specs.Putting.{IsStaged}
+use Rattle.slot_store.specs.Store.{IsWithin, Rests, content, mark}
+use Rattle.slot_store.proofs.HasPlan.{AreOthers, HasPlan, fresh}
+use Rattle.slot_store.proofs.Laid.{laid_names, laid_open}
+use Rattle.slot_store.proofs.PlanFacts.{plans, store_named}
+use Rattle.slot_store.proofs.PutShots.{comes_next, laid_second, layout_sound, own_names, still_unnamed}
+use Rattle.slot_store.proofs.Standing.{store_marked}
 
--- what a put begins with: the current slot, and the one that is to come
-pub record Setting (area : Area) (k : Bool) (cur new : Slot) (text : List ℕ) (start : DiskState) : Type 0 where
-  pub least : 6 ≤ area.slot
-  pub size : length new.body + 1 ≡ area.slot
-  pub within : area.start + (area.slot + area.slot) ≤ start.size
+-- a text that was staged, over a disk that rests
+pub record Setting (old new : SlotStore) (text : List ℕ) (start : DiskState) : Type 0 where
+  pub staged : IsStaged old new text
+  pub fits : Fits old.area text
+  pub ends : start.size < 2 ^ 64
+  pub within : IsWithin old.area start
   pub lawful : IsLawful start
-  pub gate : new.gate ≡ 165
-  pub comes : Comes cur new
-  pub holds : record_of new ≡ text
-  pub whole : is_open cur ≡ true → IsWhole area.slot cur
-  pub comes_whole : IsWhole area.slot new
-  pub rests : (c : List ℕ) → start.image c → Slots area k cur (wiped area.slot) c
+  pub rests : Always (Rests old) start
 
-module _ (area : Area) (k : Bool) (cur new : Slot) (text : List ℕ) (start : DiskState) (set : Setting area k cur new text start) where
-  abbrev pub there : ℕ
-  there = place_of area (not k)
+-- the old store's snapshot, and the one that is to come
+abbrev pub shot_old : SlotStore → Snapshot
+shot_old old = laid (mark old) (content old)
 
-  abbrev pub Around : List ℕ → Type 0
-  Around = Frame start area.start (area.slot + area.slot)
+abbrev pub shot_new : SlotStore → List ℕ → Snapshot
+shot_new new text = laid (mark new) (Some text)
 
-  abbrev pub Goal : List ℕ → Type 0
-  Goal = IsOldOrNew start area (content_of cur) (Some text)
+module _ {old new : SlotStore} {text : List ℕ} {start : DiskState}
+    (set : Setting old new text start) where
+  abbrev l : Layout
+  l = layout_of old.area
 
-  -- before the first write; after it, torn or done; after the second, torn or done
-  pub record AtRest (c : List ℕ) : Type 0 where
-    pub slots : Slots area k cur (wiped area.slot) c
-    pub around : Around c
+  abbrev was : Snapshot
+  was = shot_old old
 
-  pub record Shut (c : List ℕ) : Type 0 where
-    pub current : slot_at area k c ≡ cur
-    pub shut : slice_index c there ≡ 0
-    pub around : Around c
+  abbrev next : Snapshot
+  next = shot_new new text
 
-  pub record Staged (c : List ℕ) : Type 0 where
-    pub current : slot_at area k c ≡ cur
-    pub shut : slice_index c there ≡ 0
-    pub body : slice_range c (there + 1) (there + area.slot) ≡ new.body
-    pub around : Around c
+  abbrev content_at : ℕ → List ℕ
+  content_at = piece_at new.kept.bytes.items new.draft.plan.places.items
 
-  pub record Gated (c : List ℕ) : Type 0 where
-    pub current : slot_at area k c ≡ cur
-    pub body : slice_range c (there + 1) (there + area.slot) ≡ new.body
-    pub around : Around c
+  pub planned : HasPlan old new text
+  planned = plans old new text set.staged set.fits
 
-  pub record Put (c : List ℕ) : Type 0 where
-    pub slots : Slots area k cur new c
-    pub around : Around c
+  marked : IsMarked old.area (mark new) text
+  marked = subst (λ a. IsMarked a (mark new) text) set.staged.next.area
+      (store_marked new text set.staged.holds)
 
-  -- what each of them stands for
-  pub old_of : (c : List ℕ) → slot_at area k c ≡ cur → slice_index c there ≡ 0 → recovered area c ≡ content_of cur
-  old_of c is shut = recovered_current area k c (closed (slot_at area (not k) c) (λ opened. absurd (let e : 165 ≡ 0 = sym opened ∙ shut in omega arith))) ∙ ap content_of is
+  pub next_open : is_open next.table ≡ true
+  next_open = laid_open old.area (mark new) text marked
 
-  pub put_recovered : (c : List ℕ) → Put c → recovered area c ≡ Some text
-  put_recovered c s =
-      recovered_other area k c (subst (λ x. Comes x (slot_at area (not k) c)) (sym s.slots.current) (subst (λ x. Comes cur x) (sym s.slots.other) set.comes))
-      ∙ ap (λ x. Some (record_of x)) s.slots.other ∙ ap (λ (t : List ℕ). Some t) set.holds
+  pub laid_out : (c : List ℕ) → start.image c → IsLaidOut old.area (mark old) (content old) c
+  unfolding Rests
+  laid_out c left = set.rests c left
 
-  -- and that they are read without damage
-  old_opens : (c : List ℕ) → slot_at area k c ≡ cur → slice_index c there ≢ 165 → IsUndamaged area c
-  old_opens c is shut =
-      let other = closed (slot_at area (not k) c) shut in
-      undamaged area c k cur is (inl other) set.whole (recovered_current area k c other ∙ ap content_of is)
+  pub new_names : record_names (table_for (mark new) text) ≡ new.kept.numbers.items
+  unfolding mark
+  new_names = laid_names old.area (mark new) text old.lawful marked
 
-  put_opens : (c : List ℕ) → Put c → IsUndamaged area c
-  put_opens c s =
-      let before : Comes (slot_at area (not (not k)) c) new =
-      subst (λ (j : Bool). Comes (slot_at area j c) new) (sym (not_not k)) (subst (λ x. Comes x new) (sym s.slots.current) set.comes)
-      in
-      undamaged area c (not k) new s.slots.other (inr (subst (λ x. Comes (slot_at area (not (not k)) c) x) (sym s.slots.other) before)) (λ _. set.comes_whole)
-      (put_recovered c s ∙ ap (λ (t : List ℕ). Some t) (sym set.holds) ∙ sym (content_open new set.comes.opened))
+  was_place : was.second ≡ old.second
+  unfolding mark
+  was_place = laid_second (mark old) (content old)
 
-  shut_goal : (c : List ℕ) → Shut c → Goal c
-  shut_goal c s = record {
-    either = inl (old_of c s.current s.shut);
-    undamaged = old_opens c s.current (λ opened. absurd (let e : 165 ≡ 0 = sym opened ∙ s.shut in omega arith));
-    frame = s.around;
+  pub new_place : not was.second ≡ (mark new).second
+  new_place = ap not (laid_second (mark old) (content old))
+      ∙ sym (ap (λ (m : Mark). m.second) set.staged.next.mark)
+
+  pub next_is : next_shot was (table_for (mark new) text) (pages_in text) ≡ next
+  next_is = λ i. record {
+    second = new_place i;
+    table = open_table (table_for (mark new) text);
+    pages = pages_in text;
   }
 
-  gated_goal : (c : List ℕ) → Gated c → Goal c
-  gated_goal c s = elim (cases_eq (slice_index c there) 165) [
-    | inl is ↦
-        let put : Put c = record { slots = record { current = s.current; other = λ i. record { gate = (is ∙ sym set.gate) i; body = s.body i } }; around = s.around } in
-        record { either = inr (put_recovered c put); undamaged = put_opens c put; frame = s.around }
-    | inr shut ↦ record {
-      either = inl (recovered_current area k c (closed (slot_at area (not k) c) shut) ∙ ap content_of s.current);
-      undamaged = old_opens c s.current shut;
-      frame = s.around;
-    }
-  ]
+  beside_old : (j : ℕ) → j < length (fresh new)
+      → IsBeside record_names l (slice_index (fresh new) j) was.table
+  beside_old j lt = subst (AreOthers old.area (slice_index (fresh new) j)) (sym (own_names old))
+      (planned.beside j lt)
 
-  -- the writes
-  kept_current : (at n : ℕ) (d c : List ℕ) → there ≤ at → at + n ≤ there + area.slot → slot_at area k d ≡ cur → Torn at n d c → slot_at area k c ≡ cur
-  kept_current at n d c le ge is torn = slot_beside at n d c (place_of area k) there area.slot (apart area k) le ge (omega (arith, set.least)) torn ∙ is
+  unnamed : AreUnnamed record_names l (fresh new) start
+  unnamed j lt c left = still_unnamed record_names l was c (slice_index (fresh new) j)
+      (laid_out c left).still (beside_old j lt)
 
-  kept_around : (at n : ℕ) (d c : List ℕ) → there ≤ at → at + n ≤ there + area.slot → Around d → Torn at n d c → Around c
-  kept_around at n d c le ge around torn = frame_torn start area.start (area.slot + area.slot) at n d c (omega (arith, low area (not k))) (omega (arith, high area (not k))) around torn
-
-  fits : (c : List ℕ) → Around c → there + area.slot ≤ length c
-  fits c around = omega (arith, high area (not k), set.within, around.2.size, set.lawful.sized around.0 around.1)
-
-  pub tear_body : (d c : List ℕ) → AtRest d → Torn (there + 1) (length new.body) d c → Shut c
-  tear_body d c rest torn = record {
-    current = kept_current (there + 1) (length new.body) d c (omega arith) (omega (arith, set.size)) rest.slots.current torn;
-    shut = torn.outside there (inl (omega arith)) ∙ ap (λ s. s.gate) rest.slots.other;
-    around = kept_around (there + 1) (length new.body) d c (omega arith) (omega (arith, set.size)) rest.around torn;
+  pub to_write : AreToWrite record_names l (fresh new) new.draft.plan.places.items
+      new.kept.bytes.items start
+  to_write = record {
+    free = record {
+      sound = layout_sound old.area old.lawful start.size set.ends set.within;
+      pages = planned.pages;
+      unnamed = unnamed;
+    };
+    pieces = planned.pieces;
   }
 
-  write_body : (s : List ℕ) → AtRest s → Staged (overwritten s (there + 1) new.body)
-  write_body s rest =
-      let room : there + 1 + length new.body ≤ length s = omega (arith, fits s rest.around, set.size) in
-      let shut = tear_body s (overwritten s (there + 1) new.body) rest (overwritten_tears s (there + 1) new.body room) in
-      record { current = shut.current; shut = shut.shut; body = range_written s (there + 1) new.body (there + area.slot) (omega (arith, set.size)) (fits s rest.around); around = shut.around }
-
-  pub tear_gate : (d c : List ℕ) → Staged d → Torn there 1 d c → Gated c
-  tear_gate d c staged torn = record {
-    current = kept_current there 1 d c (omega arith) (omega (arith, set.least)) staged.current torn;
-    body = range_kept there 1 d c (there + 1) (there + area.slot) torn (inr (omega arith)) ∙ staged.body;
-    around = kept_around there 1 d c (omega arith) (omega (arith, set.least)) staged.around torn;
+  pub comes : Comes was.table (open_table (table_for (mark new) text))
+  comes = record {
+    opened = next_open;
+    next = λ low high. comes_next (mark old) (mark new) (content old) text
+        (ap (λ (m : Mark). m.turn) set.staged.next.mark) low;
   }
 
-  -- a byte in the gate's place
-  pub gate_at : (s : List ℕ) (byte : ℕ) → Staged s → (Gated (overwritten s there (byte ∷ []))) × (slice_index (overwritten s there (byte ∷ [])) there ≡ byte)
-  gate_at s byte staged =
-      let room : there + 1 ≤ length s = omega (arith, fits s staged.around, set.least) in (
-        tear_gate s (overwritten s there (byte ∷ [])) staged (overwritten_tears s there (byte ∷ []) room),
-        overwritten_in s there (byte ∷ []) room there 0 (omega arith) (omega arith) ∙ ap (λ n. get_or (byte ∷ []) n 0) (let e : there - there ≡ 0 = omega arith in e),
-      )
+  -- the pages that stay
+  old_pages : (c : List ℕ) → start.image c
+      → map (page_of l c) old.kept.numbers.items ≡ pages_held (content old)
+  old_pages c left = ap (λ (ns : List ℕ). map (page_of l c) ns) (sym (own_names old))
+      ∙ (laid_out c left).still.pages ∙ held (content old)
+    where
+      held : (text : Option (List ℕ)) → (laid (mark old) text).pages ≡ pages_held text
+      held None = refl
+      held (Some text) = refl
 
-  pub write_gate : (s : List ℕ) → Staged s → Put (overwritten s there (165 ∷ []))
-  write_gate s staged =
-      let now = gate_at s 165 staged in
-      record { slots = record { current = now.0.current; other = λ i. record { gate = (now.1 ∙ sym set.gate) i; body = now.0.body i } }; around = now.0.around }
+  pages_next : (s : List ℕ) → AreWritten l (fresh new) content_at (length (fresh new)) start s
+      → map (page_of l s) (record_names (table_for (mark new) text)) ≡ pages_in text
+  pages_next s written = ap (λ (ns : List ℕ). map (page_of l s) ns) new_names
+      ∙ planned.holds (page_of l s)
+      (kept old.kept.numbers.items (store_named old) (λ j lt. planned.beside j lt)
+      ∙ old_pages written.read (set.lawful.seen_now written.read written.told))
+      (λ j lt. written.written planned.distinct j lt)
+    where
+      kept : (ns : List ℕ) → All (IsPage l) ns
+          → ((j : ℕ) → j < length (fresh new) → AreOthers old.area (slice_index (fresh new) j) ns)
+          → map (page_of l s) ns ≡ map (page_of l written.read) ns
+      kept [] all others = refl
+      kept (n ∷ ns) all others =
+          ap (λ p. p ∷ map (page_of l s) ns) (written.others n (All-head (IsPage l) n ns all)
+          (λ j lt. (All-head (λ m. IsPage l m × (m ≢ slice_index (fresh new) j)) n ns
+          (others j lt)).1))
+          ∙ ap (λ ps. page_of l written.read n ∷ ps) (kept ns (All-tail (IsPage l) n ns all)
+          (λ j lt. All-tail (λ m. IsPage l m × (m ≢ slice_index (fresh new) j)) n ns (others j lt)))
 
-  pub at_rest : Always AtRest start
-  at_rest c left = record { slots = set.rests c left; around = (c, left, torn_self area.start (area.slot + area.slot) c) }
-
-  -- the two, each with its sync
-  pub body_part : (a : DiskState) → Span start a (Frame start (there + 1) (length new.body)) → Span start a Goal
-  body_part a = during start a AtRest at_rest (there + 1) (length new.body) Goal (λ d c rest torn. shut_goal c (tear_body d c rest torn))
-
-  pub staged : (a : DiskState) → Always (IsWrittenOver start (there + 1) new.body) a → Always Staged a
-  staged a = behind start a AtRest at_rest (there + 1) (length new.body) Staged new.body set.lawful write_body
-
-  pub whole : (a b : DiskState) → Span start a (Frame start (there + 1) (length new.body)) → Always (IsWrittenOver start (there + 1) new.body) a → Span a b (Frame a there 1) → Span start b Goal
-  whole a b first over next = spans start a b Goal (body_part a first) (during a b Staged (staged a over) there 1 Goal (λ d c st torn. gated_goal c (tear_gate d c st torn)) next)
-
-  pub ends : (a b : DiskState) → IsLawful a → Always (IsWrittenOver start (there + 1) new.body) a → Always (IsWrittenOver a there (165 ∷ [])) b → Always Put b
-  ends a b lawful over = behind a b Staged (staged a over) there 1 Put (165 ∷ []) lawful write_gate
+  pub plan : IsPlan record_names l old.second (fresh new) content_at (table_for (mark new) text) was
+      (pages_in text) start
+  plan = record {
+    place = was_place;
+    still = λ c left. (laid_out c left).still;
+    beside = beside_old;
+    comes = comes;
+    was_named = subst (All (IsPage l)) (sym (own_names old)) (store_named old);
+    named = subst (All (IsPage l)) (sym new_names) planned.named;
+    holds = pages_next;
+  }

@@ -1,53 +1,88 @@
 -- A put, and then a retire.
-use Rattle.std.proofs.Common.{◌≡◌, inr, ℕ, ◌+◌, Bool, List, Option, Result, Some, ◌∙◌, ap, subst}
+use Rattle.std.proofs.Common.{◌≡◌, inr, ℕ, ◌+◌, List, Result, Some, length, sym, ◌∙◌, ap, subst}
 use Rattle.std.specs.Prelude.{is_some}
 use Rattle.dr_disk.specs.State.{Always, DiskState, IsLawful}
 use Rattle.dr_disk.specs.Spans.{HavePassed, Span}
 use Rattle.dr_disk.specs.Called.{Called}
 use Rattle.dr_disk.proofs.Ranges.{frame_twice, reads_twice}
 use Rattle.dr_disk.proofs.Steps.{spans, widen}
-use Rattle.slot_store.specs.Areas.{Area}
+use Rattle.slot_store.specs.Areas.{Fits, size_of}
 use Rattle.slot_store.specs.declared.errors.StoreFault.{StoreFault}
 use Rattle.slot_store.specs.declared.store.SlotStore.{SlotStore}
+use Rattle.slot_store.specs.Putting.{HasPut, HasReplaced, HasRested, IsStaged, KeepsRecord, call_of, retire_calls}
 use Rattle.slot_store.specs.Reading.{IsUndamaged}
-use Rattle.slot_store.specs.Slots.{recovered}
-use Rattle.slot_store.specs.Stops.{IsStopped, calls_of, retiring}
-use Rattle.slot_store.specs.Putting.{call_of}
-use Rattle.slot_store.specs.Store.{IsOldOrNew, KeepsOutside, ReadsOutsideArea, Rests, content}
+use Rattle.slot_store.specs.Records.{recovered}
+use Rattle.slot_store.specs.Stops.{IsStopped, calls_of, putting, retiring, wipes_of}
+use Rattle.slot_store.specs.Store.{IsOldOrNew, KeepsOutside, ReadsOutsideArea, content, has_replaced}
+use Rattle.slot_store.proofs.PlanFacts.{plans}
 use Rattle.slot_store.proofs.Stopping.{stopped_late}
 
--- what a crash leaves while a record is retired
-abbrev pub Retires : Area → Option (List ℕ) → DiskState → List ℕ → Type 0
-Retires area now mid c = (recovered area c ≡ now) × KeepsOutside area mid c × IsUndamaged area c
+module _ (old put : SlotStore) (text : List ℕ) (staged : IsStaged old put text)
+    (start mid : DiskState) where
+  abbrev Either : List ℕ → Type 0
+  Either = IsOldOrNew start old.area (content old) (Some text)
 
--- each image has the old record or the new one
-pub replaced : (area : Area) (old new : Option (List ℕ)) (start mid end : DiskState) → Span start mid (IsOldOrNew start area old new) → Always (KeepsOutside area start) mid
-    → (now : Option (List ℕ)) → now ≡ new → (area' : Area) → area' ≡ area → Span mid end (Retires area' now mid) → Span start end (IsOldOrNew start area old new)
-replaced area old new start mid end first outside now is area' same next = spans start mid end (IsOldOrNew start area old new) first
-    (widen mid end (Retires area now mid) (IsOldOrNew start area old new)
-    (λ c s. record { either = inr (s.0 ∙ is); undamaged = s.2; frame = frame_twice start mid area.start (area.slot + area.slot) outside c s.1 })
-    (subst (λ a. Span mid end (Retires a now mid)) same next))
+  reads_same : (end : DiskState) → ReadsOutsideArea put.area mid end
+      → ReadsOutsideArea old.area mid end
+  reads_same end = subst (λ a. ReadsOutsideArea a mid end) staged.next.area
 
-pub reads : (area area' : Area) (start mid end : DiskState) → area' ≡ area → ReadsOutsideArea area start mid → ReadsOutsideArea area' mid end → ReadsOutsideArea area start end
-reads area area' start mid end same first next = reads_twice area.start (area.slot + area.slot) start mid end first (subst (λ a. ReadsOutsideArea a mid end) same next)
+  pub reads_both : (end : DiskState) → ReadsOutsideArea old.area start mid
+      → ReadsOutsideArea put.area mid end → ReadsOutsideArea old.area start end
+  reads_both end first next = reads_twice old.area.start (size_of old.area) start mid end first
+      (reads_same end next)
 
--- a call of the retire failed: each image has the new record
-pub stopped : (area : Area) (old new : Option (List ℕ)) (start mid end : DiskState) → IsLawful end → (now : Option (List ℕ)) → now ≡ new → (area' : Area) → area' ≡ area
-    → Always (λ c. recovered area' c ≡ new) mid → Span mid end (Retires area' now mid) → HavePassed 4 start mid → IsStopped area old new start end
-stopped area old new start mid end lawful now is area' same put next four =
-    stopped_late area old new start mid end lawful (λ f left. subst (λ a. recovered a f ≡ new) same (put f left)) (Retires area now mid)
-    (subst (λ a. Span mid end (Retires a now mid)) same next) (λ c s. s.0 ∙ is) four
+  -- how many calls the retire makes
+  pub retire_count : Fits old.area text
+      → retire_calls put ≡ retiring (is_some (content old)) (wipes_of (content old) (Some text))
+  unfolding retire_calls has_replaced
+  retire_count fits =
+      ap (λ r. retiring r (length put.draft.plan.dropped.items)) staged.replaced
+      ∙ ap (λ n. retiring (is_some (content old)) n) (plans old put text staged fits).wipes
 
--- at the end
-pub ends : (area : Area) (put retired : SlotStore) (text : List ℕ) (start mid end : DiskState) → put.area ≡ area → retired ≡ put → content put ≡ Some text → Always (KeepsOutside area start) mid
-    → Always (λ c. Rests retired c × (recovered retired.area c ≡ content retired) × KeepsOutside put.area mid c) end
-    → Always (λ c. Rests retired c × (recovered retired.area c ≡ Some text) × KeepsOutside area start c) end
-ends area put retired text start mid end same kept holds outside rest c left =
-    let all = rest c left in
-    (all.0, all.1 ∙ ap content kept ∙ holds, frame_twice start mid area.start (area.slot + area.slot) outside c (subst (λ a. KeepsOutside a mid c) same all.2))
+  pub counted : {T : Type 0} (now : DiskState) (result : Result T StoreFault) → Fits old.area text
+      → Called (putting (content old) (Some text) + retire_calls put) call_of start now result
+      → Called (calls_of (content old) (Some text)) call_of start now result
+  unfolding calls_of
+  counted now result fits called = subst (λ n. Called n call_of start now result)
+      (ap (λ n. putting (content old) (Some text) + n) (retire_count fits)) called
 
--- how many calls it took
-pub counted : {T : Type 0} (old new : Option (List ℕ)) (start now : DiskState) (result : Result T StoreFault) (replaces : Bool) → replaces ≡ is_some old
-    → Called (4 + retiring replaces) call_of start now result → Called (calls_of old new) call_of start now result
-unfolding calls_of
-counted old new start now result replaces is called = subst (λ r. Called (4 + retiring r) call_of start now result) is called
+  module _ (done : Always (HasPut old put text start) mid) where
+    outside : Always (KeepsOutside old.area start) mid
+    outside c left = (done c left).2
+
+    area_kept : (c : List ℕ) → KeepsRecord put mid c → KeepsOutside old.area start c
+    area_kept c kept = frame_twice start mid old.area.start (size_of old.area) outside c
+        (subst (λ a. KeepsOutside a mid c) staged.next.area kept.1)
+
+    is_new : (c : List ℕ) → KeepsRecord put mid c → recovered old.area c ≡ Some text
+    is_new c kept = ap (λ a. recovered a c) (sym staged.next.area) ∙ kept.0 ∙ staged.holds
+
+    either : (c : List ℕ) → KeepsRecord put mid c → Either c
+    either c kept = record {
+      either = inr (is_new c kept);
+      undamaged = subst (λ a. IsUndamaged a c) staged.next.area kept.2;
+      frame = area_kept c kept;
+    }
+
+    pub replace_whole : (end : DiskState) → Span start mid Either → Span mid end (KeepsRecord put mid)
+        → Span start end Either
+    replace_whole end first next = spans start mid end Either first
+        (widen mid end (KeepsRecord put mid) Either either next)
+
+    pub replace_stopped : (end : DiskState) → IsLawful end → Span mid end (KeepsRecord put mid)
+        → HavePassed (putting (content old) (Some text)) start mid
+        → IsStopped old.area (content old) (Some text) start end
+    replace_stopped end lawful span passed = stopped_late old.area (content old) (Some text) start
+        mid end lawful
+        (λ c left. ap (λ a. recovered a c) (sym staged.next.area) ∙ (done c left).1)
+        (KeepsRecord put mid) span is_new passed
+
+    pub replace_done : (new : SlotStore) (end : DiskState) → new ≡ put
+        → Always (HasRested put new mid) end → Always (HasReplaced old new text start) end
+    replace_done new end same rested c left =
+        let rest = rested c left in (
+          rest.0,
+          rest.1 ∙ ap content same ∙ staged.holds,
+          frame_twice start mid old.area.start (size_of old.area) outside c
+              (subst (λ a. KeepsOutside a mid c) staged.next.area rest.2),
+        )

@@ -1,104 +1,131 @@
 -- The calls of a retire, in the words of callers.
-use Rattle.std.proofs.Common.{◌≡◌, inl, ℕ, ◌+◌, ◌-◌, [], ◌∷◌, true, false, List, Result, length, replicate, sym, ◌∙◌, ap, subst, arith}
-use Rattle.std.specs.Prelude.{not}
-use Rattle.std.proofs.lemmas.List.{length-replicate}
+use Rattle.std.proofs.Common.{◌≡◌, ℕ, ◌-◌, ◌^◌, ◌<◌, true, false, List, Result, Ok, Err, length, replicate, take, refl, sym, ◌∙◌, ap, subst, arith}
+use Rattle.dr_base.specs.declared.limits.TheConstants.{PAGE}
+use Rattle.dr_disk.specs.declared.call.Call.{Call}
 use Rattle.dr_disk.specs.State.{Always, DiskState, IsLawful}
-use Rattle.dr_disk.specs.Spans.{Frame, HavePassed, ReadsOutside, Span}
-use Rattle.dr_disk.specs.Calls.{IsWrittenOver}
+use Rattle.dr_disk.specs.Spans.{HavePassed, Span}
 use Rattle.dr_disk.specs.Called.{Called}
-use Rattle.dr_disk.proofs.Ranges.{torn_self}
+use Rattle.pages.specs.declared.layout.Layout.{Layout}
+use Rattle.pages.specs.Around.{KeepsOutside, ReadsAround}
+use Rattle.pages.specs.Snapshots.{Snapshot}
+use Rattle.pages.specs.Stops.{retires as page_retires}
+use Rattle.pages.specs.Tables.{AreZeros, Table}
+use Rattle.pages.specs.Retiring.{IsNewest, IsOver, Retires}
+use Rattle.pages.specs.Runs.{Runs}
+use Rattle.pages.specs.Writing.{AreFree}
+use Rattle.record_pages.specs.Tables.{record_names}
 use Rattle.slot_store.specs.declared.errors.StoreFault.{StoreFault}
 use Rattle.slot_store.specs.declared.store.SlotStore.{SlotStore}
-use Rattle.slot_store.specs.Slots.{Comes, content_of, place_of, recovered, slot_at}
+use Rattle.slot_store.specs.Areas.{layout_of}
+use Rattle.slot_store.specs.Putting.{HasRested, KeepsRecord, call_of, retire_calls}
 use Rattle.slot_store.specs.Stops.{retiring}
-use Rattle.slot_store.specs.Putting.{HasRested, KeepsRecord, call_of}
-use Rattle.slot_store.specs.Store.{Awaits, IsWithin, ReadsOutsideArea, Rests, content, has_replaced, mark, slot_of}
-use Rattle.slot_store.proofs.Begun.{laid_store, rests_as_slots, slots_as_rests, whole_store}
-use Rattle.slot_store.proofs.Newest.{closed, recovered_current}
-use Rattle.slot_store.proofs.Places.{reads_both}
-use Rattle.slot_store.proofs.Retiring.{IsNewer, Setting, ends, gate_part, whole}
-use Rattle.slot_store.proofs.Undamaged.{undamaged}
-use Rattle.slot_store.specs.Reading.{IsUndamaged}
+use Rattle.slot_store.specs.Store.{Awaits, IsWithin, ReadsOutsideArea}
+use Rattle.slot_store.proofs.PutCalls.{called_err, called_ok}
+use Rattle.slot_store.proofs.PutShots.{reads_of}
+use Rattle.slot_store.proofs.Retiring.{free, newest, retire_done, retire_whole}
 
--- at rest an area has the store's record
-pub rests_recovered : (store : SlotStore) (c : List ℕ) → Rests store c → recovered store.area c ≡ content store
-unfolding content
-rests_recovered store c rests =
-    let slots = rests_as_slots store c rests in
-    let gate = ap (λ s. s.gate) slots.other in
-    recovered_current store.area store.second c (closed (slot_at store.area (not store.second) c) (λ opened. absurd (let e : 165 ≡ 0 = sym opened ∙ gate in omega arith)))
-    ∙ ap content_of slots.current
+module _ (store : SlotStore) where
+  pub no_calls : (start : DiskState) → store.replaced ≡ false
+      → HavePassed (retire_calls store) start start
+  unfolding retire_calls
+  no_calls start none m told = (
+    m,
+    told,
+    let e : retiring store.replaced (length store.draft.plan.dropped.items) ≡ 0 = ap
+        (λ r. retiring r (length store.draft.plan.dropped.items)) none in omega (arith, e),
+  )
 
-pub rests_undamaged : (store : SlotStore) (c : List ℕ) → Rests store c → IsUndamaged store.area c
-unfolding content
-rests_undamaged store c rests =
-    let slots = rests_as_slots store c rests in
-    let gate = ap (λ s. s.gate) slots.other in
-    let other = closed (slot_at store.area (not store.second) c) (λ opened. absurd (let e : 165 ≡ 0 = sym opened ∙ gate in omega arith)) in
-    undamaged store.area c store.second (slot_of store) slots.current (inl other) (whole_store store) (rests_recovered store c rests)
+  pub all_calls : store.replaced ≡ true
+      → page_retires (length store.draft.plan.dropped.items) ≡ retire_calls store
+  unfolding retire_calls
+  all_calls is = sym (ap (λ r. retiring r (length store.draft.plan.dropped.items)) is)
 
-newer : (store : SlotStore) (c : List ℕ) → Awaits store c → IsNewer store.area store.second (slot_of store) c
-unfolding Awaits mark
-newer store c awaits = record {
-  current = awaits.current ∙ laid_store store;
-  comes = subst (λ s. Comes (slot_at store.area (not store.second) c) s) (laid_store store) awaits.comes;
-}
+  -- a page of zeros, and zeros for all of a table after its gate
+  pub zeros_here : (lay : Layout) (page rest : List ℕ) → lay ≡ layout_of store.area
+      → page ≡ store.draft.zeros.items → rest ≡ take (PAGE - 1) store.draft.zeros.items
+      → AreZeros lay page rest
+  zeros_here lay page rest lay_is page_is rest_is = record {
+    page_zero = page_is ∙ store.room.zero;
+    rest_zero = rest_is ∙ ap (λ (z : List ℕ). take (PAGE - 1) z) store.room.zero
+        ∙ (let e : take (PAGE - 1) (replicate PAGE 0) ≡ replicate (PAGE - 1) 0 = refl in e)
+        ∙ ap (λ (x : Layout). replicate (x.table - 1) 0) (sym lay_is);
+  }
 
--- with no record replaced nothing is left to retire
-pub alone : (store : SlotStore) (start : DiskState) → store.replaced ≡ false → Always (Awaits store) start
-    → Always (HasRested store store start) start
-unfolding Awaits Rests mark has_replaced
-alone store start none awaits c left =
-    let put = awaits c left in
-    let rests : Rests store c = record { current = put.current; other = put.alone none } in
-    (rests, rests_recovered store c rests, (c, left, torn_self store.area.start (store.area.slot + store.area.slot) c))
+-- ---- by the arguments of the call
 
-pub no_calls : (store : SlotStore) (start : DiskState) → store.replaced ≡ false → HavePassed (retiring (has_replaced store)) start start
-unfolding has_replaced
-no_calls store start none m told = (m, told, let e : retiring store.replaced ≡ 0 = ap retiring none in omega arith)
+module _ (store : SlotStore) (start : DiskState) (awaits : Always (Awaits store) start)
+    (lay : Layout) (numbers : List ℕ) (lay_is : lay ≡ layout_of store.area)
+    (numbers_are : numbers ≡ store.draft.plan.dropped.items) where
+  abbrev Here : Layout
+  Here = layout_of store.area
 
-pub four_calls : (store : SlotStore) → store.replaced ≡ true → retiring (has_replaced store) ≡ 4
-unfolding has_replaced
-four_calls store is = ap retiring is
+  abbrev Dropped : List ℕ
+  Dropped = store.draft.plan.dropped.items
 
-pub setting : (store : SlotStore) (zeros : List ℕ) (start : DiskState) → zeros ≡ store.zeros.items → IsWithin store.area start → IsLawful start → Always (Awaits store) start
-    → Setting store.area store.second (slot_of store) zeros start
-setting store zeros start is within lawful awaits =
-    let zero : zeros ≡ replicate (store.area.slot - 1) 0 = is ∙ store.zero in
-    record {
-      least = store.least;
-      zero = zero;
-      size = omega (arith, ap (λ (l : List ℕ). length l) zero, length-replicate {A = ℕ} (store.area.slot - 1) 0, store.least);
-      within = within;
-      lawful = lawful;
-      whole = whole_store store;
-      put = λ c left. newer store c (awaits c left);
-    }
+  abbrev placed : Table → List (List ℕ) → Snapshot
+  placed table pages = record { second = store.second; table = table; pages = pages }
 
-module _ (store : SlotStore) (start mid : DiskState) (p : ℕ) (zeros : List ℕ) (set : Setting store.area store.second (slot_of store) zeros start) (at : p ≡ place_of store.area (not store.second)) where
-  pub retire_first : Span start mid (Frame start p 1) → Span start mid (KeepsRecord store start)
-  unfolding content
-  retire_first span = gate_part store.area store.second (slot_of store) zeros start set mid (subst (λ q. Span start mid (Frame start q 1)) at span)
+  pub free_here : start.size < 2 ^ 64 → IsWithin store.area start
+      → AreFree record_names lay numbers start
+  free_here ends within =
+      subst (λ (x : Layout). AreFree record_names x numbers start) (sym lay_is)
+      (subst (λ (ns : List ℕ). AreFree record_names Here ns start) (sym numbers_are)
+      (free store start awaits ends within))
 
-  over : Always (IsWrittenOver start p (0 ∷ [])) mid → Always (IsWrittenOver start (place_of store.area (not store.second)) (0 ∷ [])) mid
-  over = subst (λ q. Always (IsWrittenOver start q (0 ∷ [])) mid) at
+  pub newest_here : Always (IsNewest lay store.second) start
+  newest_here = subst (λ (x : Layout). Always (IsNewest x store.second) start) (sym lay_is)
+      (newest store start awaits)
 
-  pub retire_whole : (end : DiskState) → Span start mid (Frame start p 1) → Always (IsWrittenOver start p (0 ∷ [])) mid → Span mid end (Frame mid (p + 1) (length zeros))
-      → Span start end (KeepsRecord store start)
-  unfolding content
-  retire_whole end span done next = whole store.area store.second (slot_of store) zeros start set mid end (subst (λ q. Span start mid (Frame start q 1)) at span) (over done) (subst (λ q. Span mid end (Frame mid (q + 1) (length zeros))) at next)
+  module _ {T : Type 0} (end : DiskState) (result : Result T Call)
+      (runs : Runs lay (page_retires (length numbers)) start end result)
+      (takes : (table : Table) (pages : List (List ℕ))
+      → IsOver record_names lay store.second numbers table pages start
+      → Retires record_names lay numbers (placed table pages) start end result) where
+    around : Span start end (KeepsOutside Here start)
+    around = subst (λ (x : Layout). Span start end (KeepsOutside x start)) lay_is runs.around
 
-  pub retired : (end : DiskState) → IsLawful mid → Always (IsWrittenOver start p (0 ∷ [])) mid → Always (IsWrittenOver mid (p + 1) zeros) end
-      → Always (HasRested store store start) end
-  retired end lawful done next c left =
-      let rest = ends store.area store.second (slot_of store) zeros start set mid end lawful (over done) (subst (λ q. Always (IsWrittenOver mid (q + 1) zeros) end) at next) c left in
-      let rests = slots_as_rests store c rest.slots in
-      (rests, rests_recovered store c rests, rest.around)
+    retires_here : (table : Table) (pages : List (List ℕ))
+        → IsOver record_names Here store.second Dropped table pages start
+        → Retires record_names Here Dropped (placed table pages) start end result
+    retires_here table pages over =
+        subst (λ (x : Layout). Retires record_names x Dropped (placed table pages) start end result)
+        lay_is
+        (subst (λ (ns : List ℕ). Retires record_names lay ns (placed table pages) start end result)
+        numbers_are
+        (takes table pages
+        (subst (λ (x : Layout). IsOver record_names x store.second numbers table pages start)
+        (sym lay_is)
+        (subst (λ (ns : List ℕ). IsOver record_names Here store.second ns table pages start)
+        (sym numbers_are) over))))
 
-  pub retire_reads : (end : DiskState) → ReadsOutside p 1 start mid → ReadsOutside (p + 1) (length zeros) mid end → ReadsOutsideArea store.area start end
-  retire_reads end first next = reads_both store.area (not store.second) start mid end p 1 (p + 1) (length zeros) (omega (arith, at)) (omega (arith, at, set.least)) (omega (arith, at)) (omega (arith, at, set.size)) first next
+    pub whole_here : Span start end (KeepsRecord store start)
+    whole_here = retire_whole store start awaits end result around retires_here
 
--- how many calls it took
-pub counted : {T : Type 0} (store : SlotStore) (start now : DiskState) (result : Result T StoreFault) → store.replaced ≡ true
-    → Called 4 call_of start now result → Called (retiring (has_replaced store)) call_of start now result
-counted store start now result is called = subst (λ n. Called n call_of start now result) (sym (four_calls store is)) called
+    pub reads_here : ReadsOutsideArea store.area start end
+    reads_here = reads_of store.area store.lawful start end
+        (subst (λ (x : Layout). ReadsAround x start end) lay_is runs.reads)
+
+  pub done_here : {T : Type 0} (end : DiskState) (x : T)
+      → Runs lay (page_retires (length numbers)) start end (Ok x)
+      → ((table : Table) (pages : List (List ℕ))
+      → IsOver record_names lay store.second numbers table pages start
+      → Retires record_names lay numbers (placed table pages) start end (Ok x))
+      → IsLawful start → Always (HasRested store store start) end
+  done_here end x runs takes lawful = retire_done store start awaits end x
+      (around end (Ok x) runs takes) (retires_here end (Ok x) runs takes) lawful
+
+  pub passed_here : {T U : Type 0} (end : DiskState) (x : U) (y : T)
+      → Runs lay (page_retires (length numbers)) start end (Ok x)
+      → store.replaced ≡ true → Called (retire_calls store) call_of start end (Ok y)
+  passed_here end x y runs is = called_ok (page_retires (length numbers)) (retire_calls store) x y
+      start end (ap (λ (ns : List ℕ). page_retires (length ns)) numbers_are ∙ all_calls store is)
+      runs.calls
+
+  pub failed_here : {T U : Type 0} (end : DiskState) (call : Call) (e : StoreFault)
+      → Runs {T = U} lay (page_retires (length numbers)) start end (Err call)
+      → call ≡ call_of e → store.replaced ≡ true
+      → Called {T = T} (retire_calls store) call_of start end (Err e)
+  failed_here {T = T} {U = U} end call e runs same is = called_err {T = T} {U = U}
+      (page_retires (length numbers)) (retire_calls store) call e start end
+      (ap (λ (ns : List ℕ). page_retires (length ns)) numbers_are ∙ all_calls store is) same
+      runs.calls

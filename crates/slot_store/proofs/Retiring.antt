@@ -1,135 +1,189 @@
--- What each of the two writes of a retire leaves, with its sync.
-use Rattle.std.proofs.Common.{◌≡◌, inl, inr, ℕ, ◌+◌, ◌-◌, ◌≤◌, Bool, true, List, [], ◌∷◌, length, get_or, replicate, sym, ◌∙◌, ap, subst, arith}
-use Rattle.std.specs.Prelude.{not, slice_range, slice_index}
-use Rattle.dr_disk.specs.Bytes.{Torn, overwritten}
+-- A retire: what it begins with, and what it leaves.
+use Rattle.std.proofs.Common.{◌≡◌, inl, ⊎_elim, ℕ, ◌^◌, ◌<◌, false, List, Result, Ok, refl, sym, ◌∙◌, ap, subst}
+use Rattle.std.specs.Prelude.{All, not, slice_index}
+use Rattle.dr_disk.specs.declared.call.Call.{Call}
 use Rattle.dr_disk.specs.State.{Always, DiskState, IsLawful}
-use Rattle.dr_disk.specs.Spans.{Frame, Span}
-use Rattle.dr_disk.specs.Calls.{IsWrittenOver}
-use Rattle.dr_disk.proofs.Overwrites.{overwritten_in}
-use Rattle.dr_disk.proofs.Ranges.{frame_torn, overwritten_tears, range_kept, range_written, torn_self}
-use Rattle.dr_disk.proofs.Steps.{spans}
-use Rattle.dr_disk.proofs.Writes.{behind, during}
-use Rattle.slot_store.specs.Areas.{Area}
-use Rattle.slot_store.specs.Reading.{IsUndamaged}
-use Rattle.slot_store.specs.Slots.{Comes, Slot, Slots, content_of, is_open, next_turn, place_of, recovered, slot_at, turn_of, wiped}
-use Rattle.slot_store.proofs.Newest.{closed, recovered_current, recovered_newer}
-use Rattle.slot_store.proofs.Places.{apart, high, low, slot_beside}
-use Rattle.slot_store.proofs.Undamaged.{IsWhole, undamaged}
+use Rattle.dr_disk.specs.Spans.{Span}
+use Rattle.dr_disk.proofs.Ranges.{torn_self}
+use Rattle.dr_disk.proofs.Steps.{widen}
+use Rattle.pages.specs.declared.layout.Layout.{Layout}
+use Rattle.pages.specs.Around.{KeepsOutside}
+use Rattle.pages.specs.Layouts.{IsPage, blank_page}
+use Rattle.pages.specs.Tables.{Comes, Table, counts, table_at}
+use Rattle.pages.specs.Snapshots.{IsBeside, Snapshot, kept_shot, page_of, shot}
+use Rattle.pages.specs.Writing.{AreFree, AreUnnamed, IsOneOf}
+use Rattle.pages.specs.Retiring.{IsCleared, IsKept, IsNewest, IsOver, Retires}
+use Rattle.pages.specs.Resting.{IsAtRest}
+use Rattle.pages.proofs.Newest.{newest_stands}
+use Rattle.record_pages.specs.Tables.{record_names}
+use Rattle.slot_store.specs.declared.store.SlotStore.{SlotStore}
+use Rattle.slot_store.specs.Areas.{layout_of, size_of}
+use Rattle.slot_store.specs.Layout.{IsLaidOut, IsPut, laid}
+use Rattle.slot_store.specs.Putting.{HasRested, KeepsRecord}
+use Rattle.slot_store.specs.Store.{Awaits, IsWithin, Rests, content, has_replaced, mark}
+use Rattle.slot_store.proofs.Standing.{kept_recovered, kept_undamaged, rests_recovered}
+use Rattle.slot_store.proofs.PlanFacts.{drops_distinct, drops_pages, store_named}
+use Rattle.slot_store.proofs.PutShots.{frame_of, kept_open, laid_second, layout_sound, one_or_none, own_names}
 
--- the current slot, and newer than the other
-pub record IsNewer (area : Area) (k : Bool) (cur : Slot) (c : List ℕ) : Type 0 where
-  pub current : slot_at area k c ≡ cur
-  pub comes : Comes (slot_at area (not k) c) cur
+-- where each crash that leaves Q tells that each leaves P
+pub span_if : (a b : DiskState) (P Q : List ℕ → Type 0) → Span a b Q
+    → ((c : List ℕ) → Q c → Span a b P) → Span a b P
+span_if a b P Q span to = record {
+  size = span.size;
+  counts = span.counts;
+  later = span.later;
+  passes = span.passes;
+  keeps = span.keeps;
+  fates = span.fates;
+  all = span.all;
+  told = span.told;
+  each = λ t c le left. ⊎_elim (λ was. inl was) (λ is. (to c is).each t c le left)
+      (span.each t c le left);
+  last = λ c left. ⊎_elim (λ was. inl was) (λ is. (to c is).last c left) (span.last c left);
+}
 
--- what a retire begins with
-pub record Setting (area : Area) (k : Bool) (cur : Slot) (zeros : List ℕ) (start : DiskState) : Type 0 where
-  pub least : 6 ≤ area.slot
-  pub zero : zeros ≡ replicate (area.slot - 1) 0
-  pub size : length zeros + 1 ≡ area.slot
-  pub within : area.start + (area.slot + area.slot) ≤ start.size
-  pub lawful : IsLawful start
-  pub whole : is_open cur ≡ true → IsWhole area.slot cur
-  pub put : Always (IsNewer area k cur) start
+module _ (store : SlotStore) (start : DiskState) (awaits : Always (Awaits store) start) where
+  abbrev pub l : Layout
+  l = layout_of store.area
 
-module _ (area : Area) (k : Bool) (cur : Slot) (zeros : List ℕ) (start : DiskState) (set : Setting area k cur zeros start) where
-  abbrev there : ℕ
-  there = place_of area (not k)
+  abbrev pub now : Snapshot
+  now = laid (mark store) (content store)
 
-  abbrev Around : List ℕ → Type 0
-  Around = Frame start area.start (area.slot + area.slot)
+  abbrev pub dropped : List ℕ
+  dropped = store.draft.plan.dropped.items
 
-  abbrev Goal : List ℕ → Type 0
-  Goal c = (recovered area c ≡ content_of cur) × Around c × IsUndamaged area c
+  put : (c : List ℕ) → start.image c
+      → IsPut store.area (mark store) (content store) store.replaced dropped c
+  unfolding Awaits has_replaced
+  put c left = awaits c left
 
-  -- before the first write and while it is torn; after it; while the second is torn; after it
-  record Newer (c : List ℕ) : Type 0 where
-    newer : IsNewer area k cur c
-    around : Around c
+  place : (mark store).second ≡ store.second
+  unfolding mark
+  place = refl
 
-  record Shut (c : List ℕ) : Type 0 where
-    newer : IsNewer area k cur c
-    shut : slice_index c there ≡ 0
-    around : Around c
+  -- with no record replaced nothing is left to retire
+  pub alone : store.replaced ≡ false → Always (HasRested store store start) start
+  unfolding Rests
+  alone none c left =
+      let rests : Rests store c = (put c left).alone none in (
+        rests,
+        rests_recovered store c rests,
+        (c, left, torn_self store.area.start (size_of store.area) c),
+      )
 
-  record Lone (c : List ℕ) : Type 0 where
-    current : slot_at area k c ≡ cur
-    shut : slice_index c there ≡ 0
-    around : Around c
+  -- ---- before
 
-  pub record Rest (c : List ℕ) : Type 0 where
-    pub slots : Slots area k cur (wiped area.slot) c
-    pub around : Around c
+  current : (c : List ℕ) → start.image c → table_at l store.second c ≡ now.table
+  current c left = ap (λ k. table_at l k c) (sym place) ∙ (put c left).current
 
-  newer_goal : (c : List ℕ) → Newer c → Goal c
-  newer_goal c s =
-      let is = recovered_newer area k c cur s.newer.current s.newer.comes in
-      let other = inr (subst (λ x. Comes (slot_at area (not k) c) x) (sym s.newer.current) s.newer.comes) in
-      (is, s.around, undamaged area c k cur s.newer.current other set.whole is)
+  pub newest : Always (IsNewest l store.second) start
+  newest c left = subst (λ k. Comes (table_at l (not k) c) (table_at l k c)) place
+      (subst (λ t. Comes (table_at l (not (mark store).second) c) t) (sym (put c left).current)
+      (put c left).comes)
 
-  lone_goal : (c : List ℕ) → Lone c → Goal c
-  lone_goal c s =
-      let other = closed (slot_at area (not k) c) (λ opened. absurd (let e : 165 ≡ 0 = sym opened ∙ s.shut in omega arith)) in
-      let is = recovered_current area k c other ∙ ap content_of s.current in
-      (is, s.around, undamaged area c k cur s.current (inl other) set.whole is)
+  unnamed : AreUnnamed record_names l dropped start
+  unnamed j lt c left k table is_so =
+      let e : counts store.second (table_at l store.second c) ≡ counts k table = sym
+      (newest_stands l store.second c (newest c left)) ∙ is_so in
+      let same : table_at l store.second c ≡ table = cc in
+      subst (λ t. IsBeside record_names l (slice_index dropped j) t) (sym (current c left) ∙ same)
+      ((put c left).beside j lt)
 
-  kept_current : (at n : ℕ) (d c : List ℕ) → there ≤ at → at + n ≤ there + area.slot → slot_at area k d ≡ cur → Torn at n d c → slot_at area k c ≡ cur
-  kept_current at n d c le ge is torn = slot_beside at n d c (place_of area k) there area.slot (apart area k) le ge (omega (arith, set.least)) torn ∙ is
-
-  kept_around : (at n : ℕ) (d c : List ℕ) → there ≤ at → at + n ≤ there + area.slot → Around d → Torn at n d c → Around c
-  kept_around at n d c le ge around torn = frame_torn start area.start (area.slot + area.slot) at n d c (omega (arith, low area (not k))) (omega (arith, high area (not k))) around torn
-
-  fits : (c : List ℕ) → Around c → there + area.slot ≤ length c
-  fits c around = omega (arith, high area (not k), set.within, around.2.size, set.lawful.sized around.0 around.1)
-
-  -- the gate may tear, and the turn stays
-  tear_gate : (d c : List ℕ) → Newer d → Torn there 1 d c → Newer c
-  tear_gate d c s torn =
-      let same : slice_range c (there + 1) (there + area.slot) ≡ slice_range d (there + 1) (there + area.slot) = range_kept there 1 d c (there + 1) (there + area.slot) torn (inr (omega arith)) in
-      let turn : turn_of (slot_at area (not k) c) ≡ turn_of (slot_at area (not k) d) = ap (λ (l : List ℕ). slice_index l 0) same in
-      record {
-        newer = record {
-          current = kept_current there 1 d c (omega arith) (omega (arith, set.least)) s.newer.current torn;
-          comes = record { opened = s.newer.comes.opened; next = subst (λ t. 1 ≤ t → t ≤ 3 → turn_of cur ≡ next_turn t) (sym turn) s.newer.comes.next };
-        };
-        around = kept_around there 1 d c (omega arith) (omega (arith, set.least)) s.around torn;
-      }
-
-  write_gate : (s : List ℕ) → Newer s → Shut (overwritten s there (0 ∷ []))
-  write_gate s newer =
-      let room : there + 1 ≤ length s = omega (arith, fits s newer.around, set.least) in
-      let after = tear_gate s (overwritten s there (0 ∷ [])) newer (overwritten_tears s there (0 ∷ []) room) in
-      let shut : slice_index (overwritten s there (0 ∷ [])) there ≡ 0 = overwritten_in s there (0 ∷ []) room there 0 (omega arith) (omega arith) ∙ ap (λ n. get_or (0 ∷ []) n 0) (let e : there - there ≡ 0 = omega arith in e) in
-      record { newer = after.newer; shut = shut; around = after.around }
-
-  tear_body : (d c : List ℕ) → Shut d → Torn (there + 1) (length zeros) d c → Lone c
-  tear_body d c s torn = record {
-    current = kept_current (there + 1) (length zeros) d c (omega arith) (omega (arith, set.size)) s.newer.current torn;
-    shut = torn.outside there (inl (omega arith)) ∙ s.shut;
-    around = kept_around (there + 1) (length zeros) d c (omega arith) (omega (arith, set.size)) s.around torn;
+  pub free : start.size < 2 ^ 64 → IsWithin store.area start → AreFree record_names l dropped start
+  free ends within = record {
+    sound = layout_sound store.area store.lawful start.size ends within;
+    pages = drops_pages store;
+    unnamed = unnamed;
   }
 
-  write_body : (s : List ℕ) → Shut s → Rest (overwritten s (there + 1) zeros)
-  write_body s shut =
-      let room : there + 1 + length zeros ≤ length s = omega (arith, fits s shut.around, set.size) in
-      let lone = tear_body s (overwritten s (there + 1) zeros) shut (overwritten_tears s (there + 1) zeros room) in
-      let body = range_written s (there + 1) zeros (there + area.slot) (omega (arith, set.size)) (fits s shut.around) ∙ set.zero in
-      record { slots = record { current = lone.current; other = λ i. record { gate = lone.shut i; body = body i } }; around = lone.around }
+  -- an image tells that the dropped pages are beside the record's table
+  pub over : (d : List ℕ) → start.image d
+      → IsOver record_names l store.second dropped now.table now.pages start
+  over d entry = record {
+    current = current;
+    pages_are = λ c left. (put c left).pages;
+    named = subst (All (IsPage l)) (sym (own_names store)) (store_named store);
+    beside = (put d entry).beside;
+  }
 
-  pub rest_recovered : (c : List ℕ) → Rest c → recovered area c ≡ content_of cur
-  rest_recovered c s = (lone_goal c (record { current = s.slots.current; shut = ap (λ x. x.gate) s.slots.other; around = s.around })).0
+  -- ---- meanwhile, and once it is done
 
-  newer : Always Newer start
-  newer c left = record { newer = set.put c left; around = (c, left, torn_self area.start (area.slot + area.slot) c) }
+  abbrev pub Placed : Snapshot
+  Placed = record { second = store.second; table = now.table; pages = now.pages }
 
-  -- the two, each with its sync
-  pub gate_part : (a : DiskState) → Span start a (Frame start there 1) → Span start a Goal
-  gate_part a = during start a Newer newer there 1 Goal (λ d c s torn. newer_goal c (tear_gate d c s torn))
+  placed_is : Placed ≡ now
+  placed_is = λ i. record {
+    second = (sym place ∙ sym (laid_second (mark store) (content store))) i;
+    table = now.table;
+    pages = now.pages;
+  }
 
-  shut : (a : DiskState) → Always (IsWrittenOver start there (0 ∷ [])) a → Always Shut a
-  shut a = behind start a Newer newer there 1 Shut (0 ∷ []) set.lawful write_gate
+  opened : (d : List ℕ) → start.image d → shot Placed ≡ kept_shot now
+  opened d entry = ap shot placed_is ∙ sym (kept_open now (put d entry).comes.opened)
 
-  pub whole : (a b : DiskState) → Span start a (Frame start there 1) → Always (IsWrittenOver start there (0 ∷ [])) a → Span a b (Frame a (there + 1) (length zeros)) → Span start b Goal
-  whole a b first over next = spans start a b Goal (gate_part a first) (during a b Shut (shut a over) (there + 1) (length zeros) Goal (λ d c s torn. lone_goal c (tear_body d c s torn)) next)
+  kept : (c : List ℕ) → IsKept record_names l Placed start c → KeepsRecord store start c
+  kept c is =
+      let same = is.same ∙ opened is.around.0 is.around.1 in (
+        kept_recovered store c same,
+        frame_of store.area store.lawful start c is.around,
+        kept_undamaged store c same,
+      )
 
-  pub ends : (a b : DiskState) → IsLawful a → Always (IsWrittenOver start there (0 ∷ [])) a → Always (IsWrittenOver a (there + 1) zeros) b → Always Rest b
-  ends a b lawful over = behind a b Shut (shut a over) (there + 1) (length zeros) Rest zeros lawful write_body
+  module _ (lawful : IsLawful start) (c : List ℕ)
+      (cleared : IsCleared record_names l dropped Placed start c) where
+    before : IsPut store.area (mark store) (content store) store.replaced dropped cleared.read
+    before = put cleared.read (lawful.seen_now cleared.read cleared.told)
+
+    blank : (m : ℕ) → IsPage l m → IsBeside record_names l m now.table
+        → page_of l c m ≡ blank_page
+    blank m is beside = ⊎_elim one
+        (λ none. cleared.rest m is none ∙ ⊎_elim (λ j. absurd (none j.0 j.1 j.2)) (λ zeros. zeros)
+        (before.blank m is beside))
+        (one_or_none m dropped)
+      where
+        one : IsOneOf m dropped → page_of l c m ≡ blank_page
+        one j = ap (page_of l c) j.2 ∙ cleared.blank (drops_distinct store) j.0 j.1
+
+    laid_out : IsLaidOut store.area (mark store) (content store) c
+    laid_out = subst (λ s. IsAtRest record_names l s c) placed_is
+        (record { still = cleared.still; other = cleared.other; blank = blank })
+
+    rests : Rests store c
+    unfolding Rests
+    rests = laid_out
+
+    rested : HasRested store store start c
+    rested = (
+      rests,
+      rests_recovered store c rests,
+      frame_of store.area store.lawful start c cleared.around,
+    )
+
+  module _ {T : Type 0} (end : DiskState) (result : Result T Call)
+      (span : Span start end (KeepsOutside l start))
+      (retires : (table : Table) (pages : List (List ℕ))
+      → IsOver record_names l store.second dropped table pages start
+      → Retires record_names l dropped
+      (record { second = store.second; table = table; pages = pages }) start end result) where
+    by_image : (d : List ℕ) → start.image d
+        → Retires record_names l dropped Placed start end result
+    by_image d entry = retires now.table now.pages (over d entry)
+
+    pub retire_whole : Span start end (KeepsRecord store start)
+    retire_whole = span_if start end (KeepsRecord store start) (KeepsOutside l start) span
+        (λ c around. widen start end (IsKept record_names l Placed start) (KeepsRecord store start)
+        kept (by_image around.0 around.1).any_moment)
+
+  pub retire_done : {T : Type 0} (end : DiskState) (x : T)
+      → Span start end (KeepsOutside l start)
+      → ((table : Table) (pages : List (List ℕ))
+      → IsOver record_names l store.second dropped table pages start
+      → Retires record_names l dropped
+      (record { second = store.second; table = table; pages = pages }) start end (Ok x))
+      → IsLawful start → Always (HasRested store store start) end
+  retire_done end x span retires lawful c left = ⊎_elim (λ entry. at c entry left)
+      (λ around. at around.0 around.1 left) (span.last c left)
+    where
+      at : (d : List ℕ) → start.image d → end.image c → HasRested store store start c
+      at d entry left = rested lawful c
+          ((by_image end (Ok x) span retires d entry).done c left)

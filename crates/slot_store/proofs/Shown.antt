@@ -1,37 +1,66 @@
--- What a verdict shows of two slots.
-use Rattle.std.proofs.Common.{◌≡◌, ℕ, true, false, List, Option, Some, None, refl, ◌∙◌, ap, subst}
-use Rattle.slot_store.specs.Slots.{Slot, newest, record_of}
-use Rattle.slot_store.specs.Reading.{Verdict, damaged, faulty, holds, newer, no_content, none_open, number_of, seen_as, verdict_of}
-use Rattle.slot_store.proofs.Opened.{newer_text}
-use Rattle.slot_store.proofs.Verdicts.{both_closed, first_newer, newest_first, newest_none, newest_second, second_newer}
+-- What a shot is read as, and what it stands for.
+use Rattle.std.proofs.Common.{◌≡◌, ℕ, ◌+◌, Bool, List, [], drop, Option, Some, None, refl, sym, ◌∙◌, ap, ap₂}
+use Rattle.pages.specs.Snapshots.{Shot, Snapshot, no_shot, shot, unclear}
+use Rattle.record_pages.specs.Pages.{joined}
+use Rattle.record_pages.specs.Tables.{length_in, nonzero_from, or_else, table_fault}
+use Rattle.slot_store.specs.Areas.{Area}
+use Rattle.slot_store.specs.Reading.{behind_table, damaged, holds, judged, no_content, number_of, read_as}
+use Rattle.slot_store.specs.Records.{faultless, record_in, shown}
 
-module _ (fault_at : List ℕ → Option ℕ) (n : ℕ) (a b : Slot) where
-  texts : (text kept : List ℕ) → holds kept ≡ holds text → kept ≡ text
-  texts text kept h = cc
+-- no fault: none of the table, none of the record, and none behind it
+pub record IsSound (t r z : Option ℕ) (said text : List ℕ) : Type 0 where
+  pub table : t ≡ None
+  pub record_is : r ≡ None
+  pub zeros : z ≡ None
+  pub same : said ≡ text
 
-  text_by : (v : Verdict) (text : List ℕ) → verdict_of fault_at n a b ≡ v → seen_as v a b ≡ holds text → newest a b ≡ Some text
-  text_by none_open text is h = absurd (let e : no_content ≡ holds text = h in cc)
-  text_by (newer true) text is h = newest_second fault_at n a b (second_newer fault_at n a b is) ∙ ap (λ (l : List ℕ). Some l) (texts text (record_of b) h)
-  text_by (newer false) text is h = newest_first fault_at n a b (first_newer fault_at n a b is) ∙ ap (λ (l : List ℕ). Some l) (texts text (record_of a) h)
-  text_by (faulty k at) text is h = absurd (let e : damaged (number_of k) at ≡ holds text = h in cc)
+module _ (second : Bool) (said text : List ℕ) where
+  pub sound_by : (t r z : Option ℕ) → judged second (or_else t (behind_table (or_else r z))) said ≡ holds text
+      → IsSound t r z said text
+  sound_by (Some at) r z is = absurd (let e : damaged (number_of second) at ≡ holds text = is in cc)
+  sound_by None (Some at) z is = absurd (let e : damaged (number_of second) (4096 + at) ≡ holds text = is in cc)
+  sound_by None None (Some at) is = absurd (let e : damaged (number_of second) (4096 + at) ≡ holds text = is in cc)
+  sound_by None None None is = record { table = refl; record_is = refl; zeros = refl; same = let e : holds said ≡ holds text = is in cc }
 
-  pub text_shown : (text : List ℕ) → seen_as (verdict_of fault_at n a b) a b ≡ holds text → newest a b ≡ Some text
-  text_shown text h = text_by (verdict_of fault_at n a b) text refl h
+  pub never_none : (f : Option ℕ) → judged second f said ≡ no_content → ⊥
+  never_none None is = let e : holds said ≡ no_content = is in cc
+  never_none (Some at) is = let e : damaged (number_of second) at ≡ no_content = is in cc
 
-  fits_by : (v : Verdict) (text : List ℕ) → verdict_of fault_at n a b ≡ v → seen_as v a b ≡ holds text → fault_at text ≡ None
-  fits_by none_open text is h = absurd (let e : no_content ≡ holds text = h in cc)
-  fits_by (newer true) text is h = subst (λ (l : List ℕ). fault_at l ≡ None) (texts text (record_of b) h) (newer_text fault_at n a b true is)
-  fits_by (newer false) text is h = subst (λ (l : List ℕ). fault_at l ≡ None) (texts text (record_of a) h) (newer_text fault_at n a b false is)
-  fits_by (faulty k at) text is h = absurd (let e : damaged (number_of k) at ≡ holds text = h in cc)
+module _ (fault_at : List ℕ → Option ℕ) (area : Area) (text : List ℕ) where
+  abbrev zeros_in : Snapshot → Option ℕ
+  zeros_in s = nonzero_from (length_in s.table.body) (drop (length_in s.table.body) (joined s.pages))
 
-  pub fits : (text : List ℕ) → seen_as (verdict_of fault_at n a b) a b ≡ holds text → fault_at text ≡ None
-  fits text h = fits_by (verdict_of fault_at n a b) text refl h
+  sound_shot : (s : Snapshot) → read_as fault_at area (shot s) ≡ holds text
+      → IsSound (table_fault area.pages area.most s.table.body) (fault_at (record_in s.table.body s.pages)) (zeros_in s)
+      (record_in s.table.body s.pages) text
+  sound_shot s is = sound_by s.second (record_in s.table.body s.pages) text (table_fault area.pages area.most s.table.body)
+      (fault_at (record_in s.table.body s.pages)) (zeros_in s) is
 
-  none_by : (v : Verdict) → verdict_of fault_at n a b ≡ v → seen_as v a b ≡ no_content → newest a b ≡ None
-  none_by none_open is h = newest_none a b (both_closed fault_at n a b is)
-  none_by (newer true) is h = absurd (let e : holds (record_of b) ≡ no_content = h in cc)
-  none_by (newer false) is h = absurd (let e : holds (record_of a) ≡ no_content = h in cc)
-  none_by (faulty k at) is h = absurd (let e : damaged (number_of k) at ≡ no_content = h in cc)
+  pub holds_shown : (sh : Shot) → read_as fault_at area sh ≡ holds text → shown area sh ≡ Some text
+  holds_shown no_shot is = absurd (let e : no_content ≡ holds text = is in cc)
+  holds_shown unclear is = absurd (let e : damaged 1 1 ≡ holds text = is in cc)
+  holds_shown (shot s) is =
+      let sound = sound_shot s is in
+      ap (λ f. faultless f (record_in s.table.body s.pages)) sound.table ∙ ap (λ (l : List ℕ). Some l) sound.same
 
-  pub none_shown : seen_as (verdict_of fault_at n a b) a b ≡ no_content → newest a b ≡ None
-  none_shown h = none_by (verdict_of fault_at n a b) refl h
+  pub holds_text : (sh : Shot) → read_as fault_at area sh ≡ holds text → fault_at text ≡ None
+  holds_text no_shot is = absurd (let e : no_content ≡ holds text = is in cc)
+  holds_text unclear is = absurd (let e : damaged 1 1 ≡ holds text = is in cc)
+  holds_text (shot s) is = let sound = sound_shot s is in ap fault_at (sym sound.same) ∙ sound.record_is
+
+  pub holds_again : (sh : Shot) → read_as fault_at area sh ≡ holds text → (other_at : List ℕ → Option ℕ) → other_at text ≡ None
+      → read_as other_at area sh ≡ holds text
+  holds_again no_shot is other_at none = absurd (let e : no_content ≡ holds text = is in cc)
+  holds_again unclear is other_at none = absurd (let e : damaged 1 1 ≡ holds text = is in cc)
+  holds_again (shot s) is other_at none =
+      let sound = sound_shot s is in
+      ap₂ (λ t r. judged s.second (or_else t (behind_table (or_else r (zeros_in s)))) (record_in s.table.body s.pages))
+      sound.table (ap other_at sound.same ∙ none)
+      ∙ ap₂ (λ z (l : List ℕ). judged s.second (behind_table z) l) sound.zeros sound.same
+
+-- where there is none, no table is open
+module _ (fault_at : List ℕ → Option ℕ) (area : Area) where
+  pub none_shown : (sh : Shot) → read_as fault_at area sh ≡ no_content → shown area sh ≡ None
+  none_shown no_shot is = refl
+  none_shown unclear is = refl
+  none_shown (shot s) is = absurd (never_none s.second (record_in s.table.body s.pages) [] _ is)

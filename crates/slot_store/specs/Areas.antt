@@ -1,20 +1,34 @@
 -- Where a store lies on its disk.
-use Rattle.std.specs.Prelude.{ℕ, ◌+◌, ◌<◌, ◌≤◌, List, length}
+use Rattle.std.specs.Prelude.{ℕ, ◌+◌, ◌*◌, ◌^◌, ◌<◌, ◌≤◌, List, length}
+use Rattle.dr_base.specs.declared.limits.TheConstants.{PAGE}
+use Rattle.pages.specs.declared.layout.Layout.{Layout}
+use Rattle.pages.specs.declared.layout.TheConstants.{LOWER_PAGES}
+use Rattle.pages.specs.Areas.{row_layout}
+use Rattle.record_pages.specs.Pages.{page_count}
 
--- two slots of this size, one after the other, from `start` on
+-- so many pages from `start` on, of which the first two are the tables; the most pages of a record
 pub record Area : Type 0 where
   pub start : ℕ
-  pub slot : ℕ
+  pub pages : ℕ
+  pub most : ℕ
 
 -- how many bytes it has
 abbrev pub size_of : Area → ℕ
-size_of area = area.slot + area.slot
+size_of area = PAGE * area.pages
 
--- What holds of every area: a slot has room for an empty record, and no place is 2^64 or more.
+-- What holds of every area: there is room for the pages of two records, each number has two bytes, one table names all pages of a
+-- record, and no place is 2^64 or more.
 pub record IsArea (area : Area) : Type 0 where
-  pub least : 6 ≤ area.slot
-  pub ends : area.start + size_of area < 18446744073709551616
+  pub least : 2 + 2 * area.most ≤ area.pages
+  pub short : area.pages ≤ 65536
+  pub named : area.most ≤ 2045
+  pub ends : area.start + size_of area < 2 ^ 64
+  pub upper : area.start + PAGE * LOWER_PAGES < 2 ^ 64
 
--- a slot has room for a text
+-- its tables and pages
+abbrev pub layout_of : Area → Layout
+layout_of area = row_layout area.start area.pages
+
+-- a text has no more pages than a record may have
 abbrev pub Fits : Area → List ℕ → Type 0
-Fits area text = 6 + length text ≤ area.slot
+Fits area text = page_count (length text) ≤ area.most

@@ -1,16 +1,15 @@
 -- Opening an area that is at rest.
-use Rattle.std.specs.Prelude.{◌≡◌, ℕ, ◌≤◌, List, Option, Some, Result, OnOk, is_some, true}
+use Rattle.std.specs.Prelude.{◌≡◌, ℕ, List, Option, Some, Result, OnOk}
 use Rattle.dr_disk.specs.Calls.{Unwritten}
 use Rattle.dr_disk.specs.Spans.{HavePassed}
 use Rattle.dr_disk.specs.State.{DiskState}
 use Rattle.slot_store.specs.Areas.{Area}
-use Rattle.slot_store.specs.Layout.{IsLaidOut, Mark}
+use Rattle.slot_store.specs.Layout.{IsLaidOut, IsMarked, Mark}
 
--- at rest for a record, whose slot is open, or for none
+-- at rest for a record, whose table is open, or for none
 pub record IsAtRest (area : Area) (mark : Mark) (text : Option (List ℕ)) (c : List ℕ) : Type 0 where
   pub laid_out : IsLaidOut area mark text c
-  pub low : is_some text ≡ true → 1 ≤ mark.turn
-  pub high : is_some text ≡ true → mark.turn ≤ 3
+  pub marked : (record_text : List ℕ) → text ≡ Some record_text → IsMarked area mark record_text
 
 -- what a read gives is at rest
 pub record IsReadAtRest (area : Area) (disk : DiskState) : Type 0 where

@@ -1,9 +1,14 @@
--- What the code answers of two slots that were read.
+-- Which of two tables counts, as code answers it.
+use Rattle.std.specs.Prelude.{ℕ, List, true, false}
+use Rattle.pages.specs.Tables.{Standing, Table, alike, counts, none_open}
 use Rattle.slot_store.specs.declared.judging.Judged.{Judged}
-use Rattle.slot_store.specs.declared.judging.Judged.TheVariants.{NoContent, Content, Damaged}
-use Rattle.slot_store.specs.Reading.{Verdict, faulty, newer, none_open}
+use Rattle.slot_store.specs.declared.judging.Judged.TheVariants.{Alike, Newer, NoneOpen}
 
-abbrev pub verdict_seen : Judged → Verdict
-verdict_seen NoContent = none_open
-verdict_seen (Content second) = newer second
-verdict_seen (Damaged second at) = faulty second at
+abbrev pub table_with : ℕ → List ℕ → Table
+table_with gate body = record { gate = gate; body = body }
+
+abbrev pub standing_seen : Judged → Table → Table → Standing
+standing_seen NoneOpen first second = none_open
+standing_seen (Newer false) first second = counts false first
+standing_seen (Newer true) first second = counts true second
+standing_seen Alike first second = alike

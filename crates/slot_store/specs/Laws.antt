@@ -1,16 +1,16 @@
 -- What holds of the words that callers see.
 use Rattle.std.specs.Prelude.{◌≡◌, ℕ, ◌+◌, ◌≤◌, ◌<◌, List, length, slice_index, Option, Some, None}
-use Rattle.slot_store.specs.Areas.{Area}
+use Rattle.slot_store.specs.Areas.{Area, size_of}
 use Rattle.slot_store.specs.declared.store.SlotStore.{SlotStore}
 use Rattle.slot_store.specs.AtRest.{IsAtRest}
-use Rattle.slot_store.specs.Slots.{recovered}
+use Rattle.slot_store.specs.Records.{recovered}
 use Rattle.slot_store.specs.Store.{Rests, content, mark}
 use Rattle.slot_store.specs.Reading.{IsUndamaged, holds, no_content, reading}
 
 -- bytes that are the same within an area
 pub record SameWithin (area : Area) (c d : List ℕ) : Type 0 where
   pub size : length c ≡ length d
-  pub bytes : (i : ℕ) → area.start ≤ i → i < area.start + (area.slot + area.slot) → slice_index c i ≡ slice_index d i
+  pub bytes : (i : ℕ) → area.start ≤ i → i < area.start + size_of area → slice_index c i ≡ slice_index d i
 
 -- At rest an area has the store's record, which is read without damage, and no byte of it says more than the record and the mark;
 -- and so the next opening leaves it as it is.
@@ -18,14 +18,14 @@ pub record IsResting : Type 0 where
   pub at_rest : (store : SlotStore) (c : List ℕ) → Rests store c → IsAtRest store.area (mark store) (content store) c
   pub record_of : (store : SlotStore) (c : List ℕ) → Rests store c → recovered store.area c ≡ content store
   pub undamaged : (store : SlotStore) (c : List ℕ) → Rests store c → IsUndamaged store.area c
-  pub same_bytes : (store other : SlotStore) (c d : List ℕ) → 1 ≤ store.area.slot → store.area ≡ other.area → mark store ≡ mark other → content store ≡ content other
-      → length c ≡ length d → store.area.start + (store.area.slot + store.area.slot) ≤ length c → Rests store c → Rests other d → SameWithin store.area c d
+  pub same_bytes : (store other : SlotStore) (c d : List ℕ) → store.area ≡ other.area → mark store ≡ mark other → content store ≡ content other
+      → length c ≡ length d → store.area.start + size_of store.area ≤ length c → Rests store c → Rests other d → SameWithin store.area c d
 
 -- What a store says of bytes, it says of those within its area alone.
 pub record IsLocal : Type 0 where
-  pub record_of : (area : Area) (c d : List ℕ) → 1 ≤ area.slot → SameWithin area c d → recovered area c ≡ recovered area d
-  pub rests : (store : SlotStore) (c d : List ℕ) → 1 ≤ store.area.slot → SameWithin store.area c d → Rests store d → Rests store c
-  pub reads : (fault_at : List ℕ → Option ℕ) (area : Area) (c d : List ℕ) → 1 ≤ area.slot → SameWithin area c d → reading fault_at area c ≡ reading fault_at area d
+  pub record_of : (area : Area) (c d : List ℕ) → 2 ≤ area.pages → SameWithin area c d → recovered area c ≡ recovered area d
+  pub rests : (store : SlotStore) (c d : List ℕ) → SameWithin store.area c d → Rests store d → Rests store c
+  pub reads : (fault_at : List ℕ → Option ℕ) (area : Area) (c d : List ℕ) → 2 ≤ area.pages → SameWithin area c d → reading fault_at area c ≡ reading fault_at area d
 
 -- Bytes that are read without damage stand for what was read.
 pub record IsRead : Type 0 where

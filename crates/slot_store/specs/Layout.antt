@@ -1,37 +1,74 @@
 -- An area at rest, laid out from its record and its mark.
-use Rattle.std.specs.Prelude.{◌≡◌, ℕ, ◌-◌, ◌≤◌, Bool, false, not, List, Option, Some, None}
-use Rattle.slot_store.specs.Areas.{Area}
-use Rattle.slot_store.specs.Slots.{Comes, Slot, body_of, next_turn, open_slot, record_of, slot_at, turn_of, wiped}
+use Rattle.std.specs.Prelude.{◌≡◌, ◌⊎◌, ℕ, ◌+◌, ◌-◌, ◌*◌, ◌≤◌, ◌<◌, Bool, false, not, List, [], length, map, slice_index, Option, Some, None}
+use Rattle.dr_base.specs.declared.limits.TheConstants.{PAGE}
+use Rattle.pages.specs.Layouts.{IsPage, blank_page}
+use Rattle.pages.specs.Tables.{Comes, next_turn, open_table, table_at, wiped}
+use Rattle.pages.specs.Snapshots.{IsBeside, Snapshot, page_of}
+use Rattle.pages.specs.Writing.{IsOneOf}
+use Rattle.pages.specs.Resting.{IsAtRest as AreAtRest}
+use Rattle.record_pages.specs.Pages.{page_count, pages_in}
+use Rattle.record_pages.specs.Plans.{free_from, numbered}
+use Rattle.record_pages.specs.Tables.{entry_fault, record_names, table_body}
+use Rattle.slot_store.specs.Areas.{Area, Fits, layout_of}
 
--- which slot is current, slot 1 or slot 0, and its turn
+-- which table is current, table 1 or table 0, its turn, and the numbers of the record's pages
 pub record Mark : Type 0 where
   pub second : Bool
   pub turn : ℕ
+  pub numbers : List ℕ
 
--- the mark of the next record: the other slot, and the turn that follows, or 1 where no record stands
-abbrev pub next_mark : Option (List ℕ) → Mark → Mark
-next_mark (Some text) mark = record { second = not mark.second; turn = next_turn mark.turn }
-next_mark None mark = record { second = not mark.second; turn = 1 }
+-- of a record that fits: a turn, and the numbers of its pages, each once
+pub record IsMarked (area : Area) (mark : Mark) (text : List ℕ) : Type 0 where
+  pub low : 1 ≤ mark.turn
+  pub high : mark.turn ≤ 3
+  pub fits : Fits area text
+  pub each : length mark.numbers ≡ page_count (length text)
+  pub entries : entry_fault area.pages [] 6 mark.numbers ≡ None
 
--- the current slot, in n bytes: a record under an open gate, or zeros
-abbrev pub laid : ℕ → ℕ → Option (List ℕ) → Slot
-laid n turn (Some text) = open_slot turn text n
-laid n turn None = wiped n
+abbrev pub pages_held : Option (List ℕ) → List (List ℕ)
+pages_held None = []
+pages_held (Some text) = pages_in text
 
--- at rest: the current slot is laid out, and the other is all zeros
-pub record IsLaidOut (area : Area) (mark : Mark) (text : Option (List ℕ)) (c : List ℕ) : Type 0 where
-  pub current : slot_at area mark.second c ≡ laid area.slot mark.turn text
-  pub other : slot_at area (not mark.second) c ≡ wiped area.slot
+-- the numbers that no page of the record has, ascending
+abbrev pub free_in : Area → List ℕ → List ℕ
+free_in area numbers = free_from numbers (area.pages - 2) 2
 
--- put and not yet retired: the current slot is laid out and newer than the other, which is all zeros where no record
--- was replaced
-pub record IsPut (area : Area) (mark : Mark) (text : Option (List ℕ)) (replaced : Bool) (c : List ℕ) : Type 0 where
-  pub current : slot_at area mark.second c ≡ laid area.slot mark.turn text
-  pub comes : Comes (slot_at area (not mark.second) c) (laid area.slot mark.turn text)
-  pub alone : replaced ≡ false → slot_at area (not mark.second) c ≡ wiped area.slot
+-- the mark of the next record: the other table, the turn that follows, and for each page that changes the next free number
+abbrev pub next_mark : Area → Option (List ℕ) → Mark → List ℕ → Mark
+next_mark area old mark text = record {
+  second = not mark.second;
+  turn = next_turn mark.turn;
+  numbers = numbered (pages_held old) mark.numbers (pages_in text) (free_in area mark.numbers);
+}
 
--- what a store keeps of its current slot: a record that is laid out under an open gate
-pub record IsRecord (slot : Slot) (n : ℕ) : Type 0 where
-  pub low : 1 ≤ turn_of slot
-  pub high : turn_of slot ≤ 3
-  pub body : slot.body ≡ body_of (turn_of slot) (record_of slot) (n - 1)
+-- the table after its gate
+abbrev pub table_for : Mark → List ℕ → List ℕ
+table_for mark text =
+    table_body mark.turn (length text) mark.numbers (PAGE - (6 + 2 * length mark.numbers))
+
+-- a record's open table and its pages, or a table of zeros
+abbrev pub laid : Mark → Option (List ℕ) → Snapshot
+laid mark (Some text) = record {
+  second = mark.second;
+  table = open_table (table_for mark text);
+  pages = pages_in text;
+}
+laid mark None = record { second = mark.second; table = wiped PAGE; pages = [] }
+
+-- at rest: the record stands, and the other table and all pages that aren't its own are zeros
+abbrev pub IsLaidOut : Area → Mark → Option (List ℕ) → List ℕ → Type 0
+IsLaidOut area mark text c = AreAtRest record_names (layout_of area) (laid mark text) c
+
+-- Put and not yet retired: the record stands and is newer than what the other table says, and all other pages are zeros, but
+-- for those that are to be wiped. Where no record was replaced it is at rest.
+pub record IsPut (area : Area) (mark : Mark) (text : Option (List ℕ)) (replaced : Bool) (dropped : List ℕ) (c : List ℕ) : Type 0
+  where
+    pub current : table_at (layout_of area) mark.second c ≡ (laid mark text).table
+    pub pages : map (page_of (layout_of area) c) (record_names (laid mark text).table.body) ≡ (laid mark text).pages
+    pub comes : Comes (table_at (layout_of area) (not mark.second) c) (laid mark text).table
+    pub beside : (j : ℕ) → j < length dropped
+        → IsBeside record_names (layout_of area) (slice_index dropped j) (laid mark text).table
+    pub blank : (m : ℕ) → IsPage (layout_of area) m
+        → IsBeside record_names (layout_of area) m (laid mark text).table
+        → IsOneOf m dropped ⊎ (page_of (layout_of area) c m ≡ blank_page)
+    pub alone : replaced ≡ false → IsLaidOut area mark text c

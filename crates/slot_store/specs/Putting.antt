@@ -1,22 +1,41 @@
 -- What stands once a record was put, retired or replaced.
-use Rattle.std.specs.Prelude.{◌≡◌, List, ℕ, Some}
+use Rattle.std.specs.Prelude.{◌≡◌, ℕ, List, length, Some, is_some}
 use Rattle.dr_disk.specs.State.{DiskState}
 use Rattle.dr_disk.specs.declared.call.Call.{Call}
+use Rattle.record_pages.specs.Pages.{pages_in}
+use Rattle.record_pages.specs.Plans.{changed_places, dropped}
 use Rattle.slot_store.specs.declared.errors.StoreFault.{StoreFault}
 use Rattle.slot_store.specs.declared.store.SlotStore.{SlotStore}
-use Rattle.slot_store.specs.Slots.{recovered}
-use Rattle.slot_store.specs.Layout.{next_mark}
+use Rattle.slot_store.specs.Records.{recovered}
+use Rattle.slot_store.specs.Stops.{retiring}
+use Rattle.slot_store.specs.Layout.{free_in, next_mark, pages_held, table_for}
 use Rattle.slot_store.specs.Reading.{IsUndamaged}
-use Rattle.slot_store.specs.Store.{Awaits, KeepsOutside, Rests, content, mark}
+use Rattle.slot_store.specs.Store.{Awaits, KeepsOutside, Rests, content, has_replaced, mark}
 
 -- the call that failed
 abbrev pub call_of : StoreFault → Call
 call_of fault = fault.call
 
--- a store of the same area, whose record lies where the next one does
-pub record IsNext (old new : SlotStore) : Type 0 where
+-- how many writes and syncs the store's next retire makes
+unfoldable pub retire_calls : SlotStore → ℕ
+retire_calls store = retiring store.replaced (length store.draft.plan.dropped.items)
+
+-- a store of the same area, whose record is this text and lies where the next one does
+pub record IsNext (old new : SlotStore) (text : List ℕ) : Type 0 where
   pub area : new.area ≡ old.area
-  pub mark : mark new ≡ next_mark (content old) (mark old)
+  pub mark : mark new ≡ next_mark old.area (content old) (mark old) text
+
+-- a store in whose memory a text has taken the place of the record
+pub record IsStaged (old new : SlotStore) (text : List ℕ) : Type 0 where
+  pub next : IsNext old new text
+  pub holds : content new ≡ Some text
+  pub replaced : has_replaced new ≡ is_some (content old)
+  -- what is to be written, and what is to be wiped
+  pub free : new.draft.free.items ≡ free_in old.area old.kept.numbers.items
+  pub places : new.draft.plan.places.items ≡ changed_places 0 (pages_held (content old)) (pages_in text)
+  pub dropped : new.draft.plan.dropped.items
+      ≡ dropped (pages_held (content old)) old.kept.numbers.items (pages_in text)
+  pub body : new.draft.body.items ≡ table_for (mark new) text
 
 -- each image has the text, which was put and not yet retired
 abbrev pub HasPut : SlotStore → SlotStore → List ℕ → DiskState → List ℕ → Type 0

@@ -1,37 +1,41 @@
--- What stands where a call on the disk failed, by how many writes and syncs passed before it.
-use Rattle.std.specs.Prelude.{◌≡◌, ℕ, ◌+◌, ◌-◌, ◌==◌, ◌&&◌, ◌||◌, Bool, true, false, nat_le, List, Option, Some, is_some, if◌then◌else◌}
+-- How many calls a record's change makes, and what stands where one of them failed.
+use Rattle.std.specs.Prelude.{◌≡◌, ℕ, ◌+◌, ◌-◌, Bool, true, false, List, length, Option, Some, is_some, if◌then◌else◌}
 use Rattle.dr_disk.specs.declared.call.Mode.{Mode}
-use Rattle.dr_disk.specs.declared.call.Mode.TheVariants.{Old, New, Fill}
 use Rattle.dr_disk.specs.State.{DiskState}
+use Rattle.pages.specs.Stops.{puts, retires, shows as page_shows, took as page_took}
+use Rattle.record_pages.specs.Plans.{changed}
 use Rattle.slot_store.specs.Areas.{Area}
-use Rattle.slot_store.specs.Slots.{recovered}
+use Rattle.slot_store.specs.Layout.{pages_held}
+use Rattle.slot_store.specs.Records.{recovered}
 
--- how many writes and syncs a put makes
-abbrev pub putting : ℕ
-putting = 4
+-- c, the pages that are written: those of the new record that the old one doesn't have at their place
+unfoldable pub writes_of : Option (List ℕ) → Option (List ℕ) → ℕ
+writes_of old new = length (changed (pages_held old) (pages_held new))
 
--- how many writes and syncs a retire makes, by whether a record was replaced
-abbrev pub retiring : Bool → ℕ
-retiring true = 4
-retiring false = 0
+-- d, the pages that are wiped: those of the old record that the new one doesn't have at their place
+abbrev pub wipes_of : Option (List ℕ) → Option (List ℕ) → ℕ
+wipes_of old new = writes_of new old
+
+-- how many writes and syncs a retire makes that wipes so many pages, by whether a record was replaced
+abbrev pub retiring : Bool → ℕ → ℕ
+retiring true n = retires n
+retiring false n = 0
+
+-- how many writes and syncs it takes to put a record in place of another
+abbrev pub putting : Option (List ℕ) → Option (List ℕ) → ℕ
+putting old new = puts (writes_of old new)
 
 -- how many writes and syncs it takes to replace a record by another
 unfoldable pub calls_of : Option (List ℕ) → Option (List ℕ) → ℕ
-calls_of old new = putting + retiring (is_some old)
-
--- whether a gate is open after a crash of this kind, where a5 was last asked for
-abbrev pub opens : Mode → Bool
-opens Old = false
-opens New = true
-opens (Fill byte) = byte == 165
+calls_of old new = putting old new + retiring (is_some old) (wipes_of old new)
 
 -- whether a crash of a kind leaves the new record, where this many writes and syncs passed and the next one failed
 unfoldable pub took : Option (List ℕ) → Option (List ℕ) → ℕ → Mode → Bool
-took old new n mode = nat_le 4 n || (nat_le 2 n && opens mode)
+took old new n mode = page_took (writes_of old new) n mode
 
 -- whether a read gives the new record then, on a disk on which a write that fails leaves what reads give
 unfoldable pub shows : Option (List ℕ) → Option (List ℕ) → ℕ → Bool
-shows old new n = nat_le 3 n
+shows old new n = page_shows (writes_of old new) n
 
 -- After a call that failed while a record was being replaced: what a crash leaves, and what a read gives.
 pub record IsStopped (area : Area) (old new : Option (List ℕ)) (start now : DiskState) : Type 0 where

@@ -1,24 +1,20 @@
 -- What callers see of a store: its record, and the bytes that it rests on.
-use Rattle.std.specs.Prelude.{◌≡◌, ◌⊎◌, ℕ, ◌+◌, ◌≤◌, Bool, List, Option}
+use Rattle.std.specs.Prelude.{◌≡◌, ◌⊎◌, ℕ, ◌+◌, ◌≤◌, ◌==◌, Bool, List, take, Option, Some, None, if◌then◌else◌}
 use Rattle.dr_disk.specs.State.{DiskState}
 use Rattle.dr_disk.specs.Spans.{Frame, ReadsOutside}
-use Rattle.slot_store.specs.Areas.{Area, size_of}
 use Rattle.slot_store.specs.declared.store.SlotStore.{SlotStore}
-use Rattle.slot_store.specs.Slots.{Slot, content_of, recovered, turn_of}
+use Rattle.slot_store.specs.Areas.{Area, size_of}
+use Rattle.slot_store.specs.Records.{recovered}
 use Rattle.slot_store.specs.Layout.{IsLaidOut, IsPut, Mark}
 use Rattle.slot_store.specs.Reading.{IsUndamaged}
 
--- the store's current slot
-abbrev pub slot_of : SlotStore → Slot
-slot_of store = record { gate = store.gate; body = store.body.items }
-
--- the record opened or put last
+-- the record opened or put last; none where there is no turn
 unfoldable pub content : SlotStore → Option (List ℕ)
-content store = content_of (slot_of store)
+content store = if store.turn == 0 then None else Some (take store.kept.len store.kept.bytes.items)
 
 -- where that record lies
 unfoldable pub mark : SlotStore → Mark
-mark store = record { second = store.second; turn = turn_of (slot_of store) }
+mark store = record { second = store.second; turn = store.turn; numbers = store.kept.numbers.items }
 
 -- the last put replaced a record, which retiring wipes
 unfoldable pub has_replaced : SlotStore → Bool
@@ -30,7 +26,8 @@ Rests store c = IsLaidOut store.area (mark store) (content store) c
 
 -- these bytes have the store's record, which was put and not yet retired
 unfoldable pub Awaits : SlotStore → List ℕ → Type 0
-Awaits store c = IsPut store.area (mark store) (content store) (has_replaced store) c
+Awaits store c =
+    IsPut store.area (mark store) (content store) (has_replaced store) store.draft.plan.dropped.items c
 
 abbrev pub IsWithin : Area → DiskState → Type 0
 IsWithin area disk = area.start + size_of area ≤ disk.size

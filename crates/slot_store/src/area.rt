@@ -1,16 +1,20 @@
 //! Where a store lies on its disk.
 
-ghost use Rattle.std.specs.Prelude.{◌≡◌, not};
-ghost use Rattle.slot_store.specs.Areas.{IsArea};
-ghost use Rattle.slot_store.specs.Slots.{place_of};
+ghost use Rattle.std.specs.Prelude.{◌≡◌};
+ghost use Rattle.slot_store.specs.Areas.{IsArea, layout_of};
 
+use dr_base::PAGE;
+use pages::{LOWER_PAGES, Layout};
 use std::marker::Model;
 
-/// Two slots of `slot` bytes each, at least 6, one after the other, from `start` on. They end before 2^64.
+/// So many pages of 4,096 bytes, one after the other from `start` on, of which the first two are the tables. A record has at
+/// most `most` pages: of these there is room for twice as many, and 2,045 are the limit. There are at most 65,536 pages, and
+/// they end before 2^64.
 #[derive(Clone, Copy, Debug, PartialEq, Eq)]
 pub struct Area {
     pub start: u64,
-    pub slot: u32,
+    pub pages: u32,
+    pub most: u32,
 }
 
 impl Model for Area {
@@ -18,41 +22,41 @@ impl Model for Area {
 
     ghost Value = { Laid };
 
-    ghost view = { λ a. record { start = a.start; slot = a.slot } };
+    ghost view = { λ a. record { start = a.start; pages = a.pages; most = a.most } };
 
-    ghost inverse = { λ a. record { start = a.start; slot = a.slot } };
+    ghost inverse = { λ a. record { start = a.start; pages = a.pages; most = a.most } };
 
-    ghost invariant = { λ a. IsArea (record { start = a.start; slot = a.slot }) };
+    ghost invariant = { λ a. IsArea (record { start = a.start; pages = a.pages; most = a.most }) };
 }
 
-/// How many bytes a slot has.
-pub(crate) fn slot_size(area: Area) -> u32
-    ensures size { result ≡ area.slot }
+/// Its tables and pages.
+pub(crate) fn layout(area: Area) -> Layout
+    ensures layout { result ≡ layout_of area }
     ensures lawful { IsArea area }
 {
-    area.slot
-}
-
-/// Where a slot begins.
-pub(crate) fn place(area: Area, second: bool) -> u64
-    ensures place { result ≡ place_of area second }
-    ensures lawful { IsArea area }
-{
-    if second {
-        area.start + area.slot as u64
-    } else {
-        area.start
+    Layout {
+        first: area.start,
+        second: area.start + PAGE as u64,
+        table: PAGE as u32,
+        lower: area.start,
+        upper: area.start + PAGE as u64 * LOWER_PAGES as u64,
+        least: 2,
+        count: area.pages,
     }
 }
 
-/// Where the other slot begins.
-pub(crate) fn other_place(area: Area, second: bool) -> u64
-    ensures place { result ≡ place_of area (not second) }
+/// How many pages it has.
+pub(crate) fn page_total(area: Area) -> u32
+    ensures total { result ≡ area.pages }
     ensures lawful { IsArea area }
 {
-    if second {
-        area.start
-    } else {
-        area.start + area.slot as u64
-    }
+    area.pages
+}
+
+/// How many pages a record has at most.
+pub(crate) fn record_most(area: Area) -> u32
+    ensures most { result ≡ area.most }
+    ensures lawful { IsArea area }
+{
+    area.most
 }

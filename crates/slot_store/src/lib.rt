@@ -1,7 +1,7 @@
-//! One record in two slots of a disk, replaced so that a crash at any moment leaves the old one or the new.
+//! One record in pages of a disk, replaced so that a crash at any moment leaves the old one or the new.
 //!
-//! A slot is its gate (a5: open), its turn (1, 2 or 3), the record's length in four bytes, the record, and zeros to
-//! the slot's end. Of two open slots the newer is the one whose turn follows the other's in 1, 2, 3, 1.
+//! Of two tables the newer open one names the record's pages. What changes of a record is written to pages that it doesn't
+//! name, then the other table, and then its gate is opened.
 #![tactic(auto)]
 
 pub use area::Area;
@@ -12,13 +12,18 @@ pub use opening::Found;
 pub use store::SlotStore;
 
 mod area;
+mod draft;
 mod errors;
 mod grammar;
 mod judging;
+mod kept;
 mod laws;
-mod layout;
+mod loading;
 mod opening;
+mod outcome;
+mod planning;
 mod reading;
+mod scratch;
 mod settling;
 mod store;
-mod tidying;
+mod table;

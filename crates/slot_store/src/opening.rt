@@ -1,21 +1,27 @@
-//! Opening a store: a sync, the reading of both slots, and the wiping of each slot that isn't current.
+//! Opening a store: a sync, the reading of both tables and of the record's pages, and the wiping of
+//! all else.
 
-ghost use Rattle.std.specs.Prelude.{◌≡◌, ◌≢◌, ◌≤◌, ◌+◌, length, IfErr, IfOk, OnOk};
+ghost use Rattle.std.specs.Prelude.{◌≡◌, ◌≢◌, IfErr, IfOk, OnOk};
 ghost use Rattle.dr_disk.specs.declared.call.Call.{Call};
 ghost use Rattle.dr_disk.specs.State.{Fate, OnSeen};
 ghost use Rattle.dr_disk.specs.Spans.{FailsLater, IsQuiet, Span};
-ghost use Rattle.slot_store.specs.Reading.{IsEntryOrLike, IsLikeRead, number_of};
+ghost use Rattle.slot_store.specs.Reading.{IsEntryOrLike, IsLikeRead};
 ghost use Rattle.slot_store.specs.AtRest.{IsLeft, IsReadAtRest};
+ghost use Rattle.slot_store.specs.Outcome.{IsForStore, answer_of};
+ghost use Rattle.slot_store.specs.Scratch.{IsScratch};
 ghost use Rattle.slot_store.specs.Store.{IsWithin};
 
-use crate::area::Area;
+use crate::area::{Area, record_most};
+use crate::draft::Draft;
 use crate::errors::OpenError;
 use crate::grammar::Grammar;
-use crate::judging::{Judged, judge_slots};
-use crate::reading::read_slots;
-use crate::settling::{settle_empty, settle_newer};
+use crate::kept::Kept;
+use crate::outcome::{Outcome, open_read};
+use crate::planning::take_draft;
+use crate::reading::read_tables;
+use crate::scratch::Scratch;
 use crate::store::SlotStore;
-use dr_disk::Disk;
+use dr_disk::{Call, Disk};
 use std::alloc::{AllocError, Global};
 
 /// What a store was opened with.
@@ -27,27 +33,34 @@ pub enum Found {
     Content,
 }
 
-/// The number of a slot.
-fn number(second: bool) -> u32
-    ensures { result ≡ number_of second }
+/// All memory that a store needs, and what opening needs besides.
+fn take_memory(alloc: Global, area: Area) -> Result<(Kept, Draft, Scratch), AllocError>
+    ensures store { IfOk result (λ memory. IsForStore area memory.0 memory.1) }
+    ensures scratch { IfOk result (λ memory. IsScratch area memory.2) }
 {
-    if second { 1 } else { 0 }
+    let kept = Kept::none(alloc, record_most(area))?;
+    let draft = take_draft(alloc, area)?;
+    let scratch = Scratch::take(alloc, area)?;
+    Ok((kept, draft, scratch))
 }
 
-/// Room for both slots, but for their gates.
-fn buffers(alloc: Global, area: Area) -> Result<(Vec<u8>, Vec<u8>), AllocError>
-    ensures first { IfOk result (λ both. length both.0.items + 1 ≡ area.slot) }
-    ensures second { IfOk result (λ both. length both.1.items + 1 ≡ area.slot) }
+/// What callers are told.
+fn answer(outcome: Result<Outcome, Call>) -> Result<(SlotStore, Found), OpenError>
+    ensures { result ≡ answer_of outcome }
 {
-    let size = area.slot as usize - 1;
-    Ok((vec![in alloc; 0; size]?, vec![in alloc; 0; size]?))
+    match outcome {
+        Ok(Outcome::Stored { store, found }) => Ok((store, found)),
+        Ok(Outcome::Refused { slot, at }) => Err(OpenError::Damaged { slot, at }),
+        Err(call) => Err(OpenError::StoreFault { call }),
+    }
 }
 
 impl SlotStore {
     ghost use Rattle.slot_store.specs.Opened.{IsOpened, IsRefused};
 
-    /// Opens the store of an area: a sync, the reading of both slots, and the wiping of each slot that isn't current.
-    /// Without a record the first put will use slot 0 and turn 1.
+    /// Opens the store of an area: a sync, the reading of both tables and of the record's pages, and
+    /// the wiping of all that doesn't count. Without a record the first put will use table 0 and
+    /// turn 1.
     pub fn open<G: Grammar, D: Disk>(
         alloc: Global,
         disk: &mut D,
@@ -55,7 +68,8 @@ impl SlotStore {
     ) -> Result<(SlotStore, Found), OpenError>
         requires { IsWithin area (D.state disk.old) }
 
-        // What was read. Meanwhile, and in each ending, crashes and reads give what they gave, but for what was tidied.
+        // What was read. Meanwhile, and in each ending, crashes and reads give what they gave, but
+        // for what was tidied.
         ensures opened { IfOk result (λ both. IsOpened G.fault_at area
             (D.state disk.old) (D.state disk.new) both.0 both.1) }
         ensures any_moment { Span (D.state disk.old) (D.state disk.new)
@@ -73,46 +87,30 @@ impl SlotStore {
         ensures quiet { OnOk result (IsQuiet (D.state disk.old) (D.state disk.new)) }
         ensures ahead { OnOk result (FailsLater (D.state disk.old) (D.state disk.new)) }
         ensures fate { (D.state disk.old).fate ≡ Fate.all_pass →
-            IfErr result (λ e. (call : Call) → e ≢ OpenError.StoreFault call) × ((D.state disk.new).fate ≡ Fate.all_pass) }
+            IfErr result (λ e. (call : Call) → e ≢ OpenError.StoreFault call)
+            × ((D.state disk.new).fate ≡ Fate.all_pass) }
     {
         let _size = disk.size();
-        let Ok((mut first, mut second)) = buffers(alloc, area) else {
+        let Ok((kept, draft, mut scratch)) = take_memory(alloc, area) else {
             return Err(OpenError::Memory);
         };
-        let (first_gate, second_gate) = match read_slots(disk, area, &mut first, &mut second) {
+        let (first_gate, second_gate) = match read_tables(
+            disk,
+            area,
+            &mut scratch.first,
+            &mut scratch.second,
+        ) {
             Ok(gates) => gates,
             Err(call) => return Err(OpenError::StoreFault { call }),
         };
-        match judge_slots::<G>(area, first_gate, &first, second_gate, &second) {
-            Judged::Damaged { second, at } => Err(OpenError::Damaged {
-                slot: number(second),
-                at,
-            }),
-            Judged::NoContent => match settle_empty(
-                disk,
-                area,
-                first_gate,
-                first,
-                second_gate,
-                second,
-            ) {
-                Ok(store) => Ok((store, Found::NoContent)),
-                Err(call) => Err(OpenError::StoreFault { call }),
-            },
-            Judged::Content { second: is_second } => {
-                match settle_newer::<G, D>(
-                    disk,
-                    area,
-                    is_second,
-                    first_gate,
-                    first,
-                    second_gate,
-                    second,
-                ) {
-                    Ok(store) => Ok((store, Found::Content)),
-                    Err(call) => Err(OpenError::StoreFault { call }),
-                }
-            }
-        }
+        answer(open_read::<G, D>(
+            disk,
+            area,
+            kept,
+            draft,
+            first_gate,
+            second_gate,
+            &mut scratch,
+        ))
     }
 }

@@ -1,34 +1,45 @@
-//! Both slots as they stand, after a sync.
+//! Both tables as they stand, after a sync.
 
-ghost use Rattle.std.specs.Prelude.{◌≡◌, ◌+◌, length, IfOk, OnOk};
+ghost use Rattle.std.specs.Prelude.{◌≡◌, ◌+◌, false, true, length, IfOk, OnOk};
+ghost use Rattle.dr_base.specs.declared.limits.TheConstants.{PAGE};
 ghost use Rattle.dr_disk.specs.declared.call.Call.TheVariants.{Sync};
 ghost use Rattle.dr_disk.specs.State.{IsSettled, OnSeen};
 ghost use Rattle.dr_disk.specs.Spans.{GoesBy, HavePassed, Span};
 ghost use Rattle.dr_disk.specs.Calls.{Goes, HasFault, Unwritten};
 ghost use Rattle.dr_disk.specs.Called.{Went, itself};
-ghost use Rattle.slot_store.specs.Slots.{slot_at, slot_with};
+ghost use Rattle.pages.specs.Layouts.{table_place};
+ghost use Rattle.pages.specs.Runs.{Looks};
+ghost use Rattle.pages.specs.Tables.{table_at};
+ghost use Rattle.slot_store.specs.Areas.{layout_of};
+ghost use Rattle.slot_store.specs.Judged.{table_with};
 ghost use Rattle.slot_store.specs.Settling.{AreRead};
 ghost use Rattle.slot_store.specs.Store.{IsWithin};
 
-use crate::area::{Area, place};
+use crate::area::{Area, layout};
 use dr_base::Failed;
 use dr_disk::{Call, Disk};
 
-/// Reads a slot. Answers its gate, and fills in all after it.
-fn read_slot<D: Disk>(
+/// Where a table begins.
+fn place(area: Area, second: bool) -> u64
+    ensures { result ≡ table_place (layout_of area) second }
+{
+    let layout = layout(area);
+    if second { layout.second } else { layout.first }
+}
+
+/// Reads a table. Answers its gate, and fills in all after it.
+fn read_table<D: Disk>(
     disk: &mut D,
     area: Area,
     second: bool,
     body: &mut Vec<u8>,
 ) -> Result<u8, Call>
     requires within { IsWithin area (D.state disk.old) }
-    requires long { length body.old.items + 1 ≡ area.slot }
-    ensures slot { IfOk result (λ gate. OnSeen (λ s. slot_at area second s ≡ slot_with gate body.new.items) (D.state disk.old)) }
-    ensures long { length body.new.items + 1 ≡ area.slot }
-    ensures any_moment { Span (D.state disk.old) (D.state disk.new) (D.state disk.old).image }
-    ensures unwritten { Unwritten (D.state disk.old) (D.state disk.new) }
-    ensures passed { (D.state disk.new).passed ≡ (D.state disk.old).passed }
-    ensures calls { Went itself (D.state disk.old) (D.state disk.new) result }
+    requires long { length body.old.items + 1 ≡ PAGE }
+    ensures table { IfOk result (λ gate. OnSeen (λ s. table_at (layout_of area) second s
+        ≡ table_with gate body.new.items) (D.state disk.old)) }
+    ensures long { length body.new.items + 1 ≡ PAGE }
+    ensures looks { Looks (D.state disk.old) (D.state disk.new) result }
 {
     let at = place(area, second);
     let mut gate = [0];
@@ -52,20 +63,20 @@ fn settle_first<D: Disk>(disk: &mut D) -> Result<(), Failed>
     disk.sync()
 }
 
-/// Syncs, and reads both slots. Answers their gates, and fills in all after them.
-pub(crate) fn read_slots<D: Disk>(
+/// Syncs, and reads both tables. Answers their gates, and fills in all after them.
+pub(crate) fn read_tables<D: Disk>(
     disk: &mut D,
     area: Area,
     first: &mut Vec<u8>,
     second: &mut Vec<u8>,
 ) -> Result<(u8, u8), Call>
     requires within { IsWithin area (D.state disk.old) }
-    requires first_long { length first.old.items + 1 ≡ area.slot }
-    requires second_long { length second.old.items + 1 ≡ area.slot }
-    ensures read { IfOk result (λ gates. AreRead area (slot_with gates.0 first.new.items)
-        (slot_with gates.1 second.new.items) (D.state disk.old)) }
-    ensures first_long { length first.new.items + 1 ≡ area.slot }
-    ensures second_long { length second.new.items + 1 ≡ area.slot }
+    requires first_long { length first.old.items + 1 ≡ PAGE }
+    requires second_long { length second.old.items + 1 ≡ PAGE }
+    ensures read { IfOk result (λ gates. AreRead area (table_with gates.0 first.new.items)
+        (table_with gates.1 second.new.items) (D.state disk.old)) }
+    ensures first_long { length first.new.items + 1 ≡ PAGE }
+    ensures second_long { length second.new.items + 1 ≡ PAGE }
     ensures any_moment { Span (D.state disk.old) (D.state disk.new) (D.state disk.old).image }
     ensures unwritten { Unwritten (D.state disk.old) (D.state disk.new) }
     ensures settled { OnOk result (IsSettled (D.state disk.new)) }
@@ -75,11 +86,11 @@ pub(crate) fn read_slots<D: Disk>(
     let Ok(()) = settle_first(disk) else {
         return Err(Call::Sync);
     };
-    let first_gate = match read_slot(disk, area, false, first) {
+    let first_gate = match read_table(disk, area, false, first) {
         Ok(gate) => gate,
         Err(call) => return Err(call),
     };
-    match read_slot(disk, area, true, second) {
+    match read_table(disk, area, true, second) {
         Ok(second_gate) => Ok((first_gate, second_gate)),
         Err(call) => Err(call),
     }

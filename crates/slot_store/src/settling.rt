@@ -1,152 +1,163 @@
-//! A store over what was read: its record, or none, with each other slot wiped.
+//! What doesn't count is wiped: the other table, and the pages that the record doesn't have.
 
-ghost use Rattle.std.specs.Prelude.{◌≡◌, ◌≢◌, ◌≤◌, ◌<◌, ◌+◌, ◌^◌, false, true, not, length, replicate, Option, IfOk};
-ghost use Rattle.dr_disk.specs.State.{OnSeen};
-ghost use Rattle.slot_store.specs.Slots.{is_open, record_of, slot_at, slot_with, wiped};
-ghost use Rattle.slot_store.specs.Layout.{IsRecord};
-ghost use Rattle.slot_store.specs.Reading.{chosen, newer, verdict_of};
-ghost use Rattle.slot_store.specs.Settling.{AreRead, IsReady, IsStoreOf, IsZeros, SettlesStore};
-ghost use Rattle.slot_store.specs.Store.{content};
-ghost use Rattle.slot_store.specs.Tidying.{IsPassive};
+ghost use Rattle.std.specs.Prelude.{◌≡◌, ◌≢◌, ◌+◌, ◌-◌, ◌<◌, ◌||◌, ℕ, All, false, true, not, length, replicate, get_or, OnOk};
+ghost use Rattle.dr_base.specs.declared.limits.TheConstants.{PAGE};
+ghost use Rattle.dr_disk.specs.State.{Always, IsSettled, OnSeen};
+ghost use Rattle.pages.specs.declared.layout.TheConstants.{OPEN};
+ghost use Rattle.pages.specs.Clearing.{AreReadBlank, AreUnmarked, KeepsShots};
+ghost use Rattle.pages.specs.Runs.{IsUntouched};
+ghost use Rattle.pages.specs.Tables.{table_at};
+ghost use Rattle.pages.specs.Tidying.{AreNamed, IsMute, IsTidied};
+ghost use Rattle.record_pages.specs.Plans.{is_among};
+ghost use Rattle.record_pages.specs.Tables.{record_names};
+ghost use Rattle.slot_store.specs.Areas.{layout_of};
+ghost use Rattle.slot_store.specs.Judged.{table_with};
+ghost use Rattle.slot_store.specs.Settling.{AreRead, HasShot, IsReady, Settles};
 
-use crate::area::{Area, slot_size};
-use crate::grammar::Grammar;
-use crate::judging::is_blank;
-use crate::store::{OPEN, SlotStore};
-use crate::tidying::tidy;
+use crate::area::{Area, layout};
+use crate::store::SlotStore;
+use crate::table::RecordTable;
+use dr_base::PAGE;
 use dr_disk::{Call, Disk};
+use pages::is_blank;
 
-/// Makes all bytes zeros, and answers whether they were.
-fn blank_out(bytes: &mut Vec<u8>) -> bool
-    requires { length bytes.old.items < 2 ^ 39 }
-    ensures zeros { bytes.new.items ≡ replicate (length bytes.old.items) 0 }
-    ensures blank { result ≡ true → bytes.old.items ≡ replicate (length bytes.old.items) 0 }
-    ensures others { result ≡ false → bytes.old.items ≢ replicate (length bytes.old.items) 0 }
+/// Marks the pages of these numbers.
+fn mark_pages(numbers: &[u32], named: &mut [bool])
+    requires inside { All (λ n. n < length named.old) numbers.now }
+    ensures marks { (n : ℕ) → get_or named.new n false
+        ≡ (get_or named.old n false || is_among numbers.now n) }
+    ensures long { length named.new ≡ length named.old }
 {
-    let blank = is_blank(bytes);
-    bytes.fill(0);
-    blank
-}
-
-/// A store over a current slot with this gate and body, the other slot being zeros.
-fn store_of(area: Area, second: bool, gate: u8, body: Vec<u8>, zeros: Vec<u8>) -> SlotStore
-    requires long { length body.items + 1 ≡ area.slot }
-    requires zero { IsZeros area zeros.items }
-    requires laid { gate ≡ 165 → IsRecord (slot_with gate body.items) area.slot }
-    requires blank { gate ≢ 165 → slot_with gate body.items ≡ wiped area.slot }
-    ensures { IsStoreOf area second (slot_with gate body.items) result }
-{
-    let _slot = slot_size(area);
-    SlotStore {
-        area,
-        second,
-        gate,
-        body,
-        replaced: false,
-        zeros,
+    'numbers: for i in 0..numbers.len() {
+        named[numbers[i] as usize] = true;
     }
 }
 
-/// A store whose record was read in one slot. The other is wiped.
-fn settle<D: Disk>(
+/// Wipes a table that doesn't count, and all pages without a mark. It was read with this gate, and
+/// with these bytes after it.
+fn wipe_table<D: Disk>(
     disk: &mut D,
     area: Area,
     second: bool,
-    body: Vec<u8>,
-    other_gate: u8,
-    other: Vec<u8>,
-) -> Result<SlotStore, Call>
+    gate: u8,
+    body: &[u8],
+    named: &[bool],
+    page: &mut [u8],
+    zeros: &[u8],
+) -> Result<(), Call>
     requires ready { IsReady area (D.state disk.old) }
-    requires long { length body.items + 1 ≡ area.slot }
-    requires other_long { length other.items + 1 ≡ area.slot }
-    requires laid { IsRecord (slot_with 165 body.items) area.slot }
-    requires current { OnSeen (λ s. slot_at area second s ≡ slot_with 165 body.items)
+    requires long { length body.now + 1 ≡ PAGE }
+    requires marks { length named.now ≡ area.pages }
+    requires room { length page.old ≡ PAGE }
+    requires zero { zeros.now ≡ replicate PAGE 0 }
+    requires read { OnSeen (λ s. table_at (layout_of area) second s ≡ table_with gate body.now)
         (D.state disk.old) }
-    requires beside { OnSeen (λ s. slot_at area (not second) s ≡ slot_with other_gate other.items)
-        (D.state disk.old) }
-    requires passive { OnSeen (IsPassive area (not second)) (D.state disk.old) }
-    ensures content { IfOk result (λ store. content store ≡ Option.Some
-        (record_of (slot_with 165 body.items))) }
-    ensures store { IfOk result (IsStoreOf area second (slot_with 165 body.items)) }
-    ensures still { slot_with other_gate other.items ≡ wiped area.slot → disk.new ≡ disk.old }
-    ensures settles { SettlesStore area (D.state disk.old) (D.state disk.new) result }
+    requires counts { Always (AreNamed record_names (layout_of area)) (D.state disk.old) }
+    requires unnamed { AreUnmarked record_names (layout_of area) named.now (D.state disk.old) }
+    requires mute { gate ≡ OPEN → Always (IsMute (layout_of area) second) (D.state disk.old) }
+    ensures shots { KeepsShots record_names (layout_of area)
+        (D.state disk.old) (D.state disk.new) result }
+    ensures done { OnOk result (Always
+        (IsTidied (layout_of area) second named.now (D.state disk.old)) (D.state disk.new)) }
+    ensures settled { OnOk result (IsSettled (D.state disk.new)) }
+    ensures still { gate ≡ 0 → body.now ≡ replicate (PAGE - 1) 0
+        → AreReadBlank (layout_of area) named.now (D.state disk.old)
+        → IsUntouched (D.state disk.old) (D.state disk.new) }
 {
-    let mut zeros = other;
-    let blank = blank_out(&mut zeros);
-    match tidy(disk, area, !second, other_gate, blank, &zeros) {
+    let _size = disk.size();
+    let blank = is_blank(body);
+    match pages::tidy::<RecordTable, D>(
+        disk,
+        layout(area),
+        second,
+        gate,
+        blank,
+        named,
+        page,
+        zeros,
+        &zeros[..PAGE - 1],
+    ) {
+        Ok(()) => Ok(()),
         Err(call) => Err(call),
-        Ok(()) => Ok(store_of(area, second, OPEN, body, zeros)),
     }
 }
 
-/// A store without a record. Both slots are wiped, and the first put will use slot 0.
+/// Wipes what doesn't count beside a store's record: the other table, which was read with this gate
+/// and with these bytes after it, and all pages that the record doesn't have.
+pub(crate) fn settle_newer<D: Disk>(
+    disk: &mut D,
+    store: &SlotStore,
+    gate: u8,
+    other: &[u8],
+    named: &mut [bool],
+    page: &mut [u8],
+) -> Result<(), Call>
+    requires ready { IsReady store.now.area (D.state disk.old) }
+    requires turn { store.now.turn ≢ 0 }
+    requires long { length other.now + 1 ≡ PAGE }
+    requires marks { named.old ≡ replicate store.now.area.pages false }
+    requires room { length page.old ≡ PAGE }
+    requires shown { OnSeen (HasShot store.now) (D.state disk.old) }
+    requires read { OnSeen (λ s. table_at (layout_of store.now.area) (not store.now.second) s
+        ≡ table_with gate other.now) (D.state disk.old) }
+    ensures { Settles store.now (D.state disk.old) (D.state disk.new) result }
+{
+    mark_pages(&store.kept.numbers, named);
+    wipe_table(
+        disk,
+        store.area,
+        !store.second,
+        gate,
+        other,
+        named,
+        page,
+        &store.draft.zeros,
+    )
+}
+
+/// Wipes all of the area of a store that has no record.
 pub(crate) fn settle_empty<D: Disk>(
     disk: &mut D,
-    area: Area,
+    store: &SlotStore,
     first_gate: u8,
-    first: Vec<u8>,
+    first: &[u8],
     second_gate: u8,
-    second: Vec<u8>,
-) -> Result<SlotStore, Call>
-    requires ready { IsReady area (D.state disk.old) }
-    requires first_long { length first.items + 1 ≡ area.slot }
-    requires second_long { length second.items + 1 ≡ area.slot }
-    requires read { AreRead area (slot_with first_gate first.items)
-        (slot_with second_gate second.items) (D.state disk.old) }
-    requires shut { OnSeen (λ s. (is_open (slot_at area false s) ≡ false)
-        × (is_open (slot_at area true s) ≡ false)) (D.state disk.old) }
-    ensures area { IfOk result (λ store. store.area ≡ area) }
-    ensures content { IfOk result (λ store. content store ≡ Option.None) }
-    ensures still { slot_with first_gate first.items ≡ wiped area.slot
-        → slot_with second_gate second.items ≡ wiped area.slot → disk.new ≡ disk.old }
-    ensures settles { SettlesStore area (D.state disk.old) (D.state disk.new) result }
+    second: &[u8],
+    named: &[bool],
+    page: &mut [u8],
+) -> Result<(), Call>
+    requires ready { IsReady store.now.area (D.state disk.old) }
+    requires turn { store.now.turn ≡ 0 }
+    requires first_long { length first.now + 1 ≡ PAGE }
+    requires second_long { length second.now + 1 ≡ PAGE }
+    requires marks { named.now ≡ replicate store.now.area.pages false }
+    requires room { length page.old ≡ PAGE }
+    requires shown { OnSeen (HasShot store.now) (D.state disk.old) }
+    requires read { AreRead store.now.area (table_with first_gate first.now)
+        (table_with second_gate second.now) (D.state disk.old) }
+    ensures { Settles store.now (D.state disk.old) (D.state disk.new) result }
 {
-    let mut body = first;
-    let mut zeros = second;
-    let first_blank = blank_out(&mut body);
-    let second_blank = blank_out(&mut zeros);
-    match tidy(disk, area, false, first_gate, first_blank, &zeros) {
+    match wipe_table(
+        disk,
+        store.area,
+        false,
+        first_gate,
+        first,
+        named,
+        page,
+        &store.draft.zeros,
+    ) {
         Ok(()) => {}
         Err(call) => return Err(call),
     }
-    match tidy(disk, area, true, second_gate, second_blank, &zeros) {
-        Err(call) => Err(call),
-        Ok(()) => Ok(store_of(area, true, 0, body, zeros)),
-    }
-}
-
-/// A store whose record was read in the newer slot.
-pub(crate) fn settle_newer<G: Grammar, D: Disk>(
-    disk: &mut D,
-    area: Area,
-    is_second: bool,
-    first_gate: u8,
-    first: Vec<u8>,
-    second_gate: u8,
-    second: Vec<u8>,
-) -> Result<SlotStore, Call>
-    requires ready { IsReady area (D.state disk.old) }
-    requires first_long { length first.items + 1 ≡ area.slot }
-    requires second_long { length second.items + 1 ≡ area.slot }
-    requires verdict { verdict_of G.fault_at area.slot (slot_with first_gate first.items)
-        (slot_with second_gate second.items) ≡ newer is_second }
-    requires first_laid { is_second ≡ false
-        → IsRecord (slot_with first_gate first.items) area.slot }
-    requires second_laid { is_second ≡ true
-        → IsRecord (slot_with second_gate second.items) area.slot }
-    requires read { AreRead area (slot_with first_gate first.items)
-        (slot_with second_gate second.items) (D.state disk.old) }
-    ensures content { IfOk result (λ store. content store ≡ Option.Some (record_of (chosen is_second
-        (slot_with first_gate first.items) (slot_with second_gate second.items)))) }
-    ensures store { IfOk result (IsStoreOf area is_second (slot_with 165
-        (chosen is_second (slot_with first_gate first.items) (slot_with second_gate second.items)).body)) }
-    ensures still { chosen (not is_second) (slot_with first_gate first.items)
-        (slot_with second_gate second.items) ≡ wiped area.slot → disk.new ≡ disk.old }
-    ensures settles { SettlesStore area (D.state disk.old) (D.state disk.new) result }
-{
-    if is_second {
-        settle(disk, area, true, second, first_gate, first)
-    } else {
-        settle(disk, area, false, first, second_gate, second)
-    }
+    wipe_table(
+        disk,
+        store.area,
+        true,
+        second_gate,
+        second,
+        named,
+        page,
+        &store.draft.zeros,
+    )
 }

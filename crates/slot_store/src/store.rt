@@ -1,78 +1,81 @@
-//! A store that is open: its record is put into the slot that isn't current, and then the old slot is wiped.
+//! A store that is open: what changes of its record is put into pages that it doesn't name, then the table that names them,
+//! and then the old table is wiped with the pages that it alone names.
 
-ghost use Rattle.std.specs.Prelude.{◌≡◌, ◌≢◌, ◌≤◌, ◌<◌, ◌+◌, ◌-◌, length, replicate, is_some, not, Option, OnOk, OnErr};
+ghost use Rattle.std.specs.Prelude.{◌≡◌, ◌≤◌, ◌+◌, ◌*◌, [], length, vec_capacity, None, Option, OnOk, OnErr};
+ghost use Rattle.dr_base.specs.declared.limits.TheConstants.{PAGE};
 ghost use Rattle.dr_disk.specs.State.{Always};
 ghost use Rattle.dr_disk.specs.Spans.{Span};
 ghost use Rattle.dr_disk.specs.Called.{Called};
-ghost use Rattle.slot_store.specs.Areas.{Fits};
-ghost use Rattle.slot_store.specs.Slots.{Comes, record_of, wiped};
-ghost use Rattle.slot_store.specs.Layout.{IsRecord};
-ghost use Rattle.slot_store.specs.Stops.{IsStopped, calls_of, putting, retiring};
+ghost use Rattle.record_pages.specs.Tables.{entry_fault};
+ghost use Rattle.slot_store.specs.Areas.{Fits, IsArea};
+ghost use Rattle.slot_store.specs.Memory.{HasRoom};
+ghost use Rattle.slot_store.specs.Stops.{IsStopped, calls_of, putting};
 
-use crate::area::{Area, other_place, place};
+use crate::area::{Area, layout};
+use crate::draft::Draft;
 use crate::errors::StoreFault;
-use crate::layout::{lay_out_in, next_of, record_in};
-use dr_disk::{Disk, write_synced};
-
-/// The gate of an open slot.
-pub(crate) const OPEN: u8 = 0xa5;
+use crate::kept::Kept;
+use crate::planning::replan;
+use crate::table::{RecordTable, next};
+use dr_base::PAGE;
+use dr_disk::Disk;
+use record_pages::lay_out_table;
 
 /// A store over an area of a disk, in memory that was taken at opening.
 #[derive(Drop)]
 pub struct SlotStore {
     pub(crate) area: Area,
-    /// The current slot is slot 1.
+    /// The current table is table 1.
     pub(crate) second: bool,
-    /// The current slot: its gate, a5 or 0, and all after it.
-    pub(crate) gate: u8,
-    pub(crate) body: Vec<u8>,
+    /// The current table's turn, 1, 2 or 3; 0 where there is no record.
+    pub(crate) turn: u8,
+    pub(crate) kept: Kept,
+    /// What the last put changed.
+    pub(crate) draft: Draft,
     /// The last put replaced a record, which stands until it is retired.
     pub(crate) replaced: bool,
-    pub(crate) zeros: Vec<u8>,
-    ghost zero: { zeros.items ≡ replicate (area.slot - 1) 0 },
-    ghost size: { length body.items + 1 ≡ area.slot },
-    ghost least: { 6 ≤ area.slot },
-    ghost most: { area.slot < 4294967296 },
-    ghost ends: { area.start + (area.slot + area.slot) < 18446744073709551616 },
-    ghost laid: { gate ≡ 165 → IsRecord (record { gate = gate; body = body.items }) area.slot },
-    ghost blank: { gate ≢ 165 → record { gate = gate; body = body.items } ≡ wiped area.slot },
+    ghost lawful: { IsArea area },
+    ghost turns: { turn ≤ 3 },
+    ghost none: { turn ≡ 0 → kept.len ≡ 0 },
+    ghost long: { length kept.bytes.items ≡ PAGE * area.most },
+    ghost entries: { entry_fault area.pages [] 6 kept.numbers.items ≡ None },
+    ghost numbers: { area.most ≤ vec_capacity kept.numbers },
+    ghost drops: { entry_fault area.pages [] 6 draft.plan.dropped.items ≡ None },
+    ghost room: { HasRoom area draft },
 }
 
 impl SlotStore {
-    ghost use Rattle.slot_store.specs.Store.{content, has_replaced, Rests, Awaits, IsWithin, ReadsOutsideArea, IsOldOrNew, slot_of};
-    ghost use Rattle.slot_store.specs.Putting.{HasPut, HasReplaced, HasRested, IsNext, KeepsRecord, call_of};
+    ghost use Rattle.slot_store.specs.Store.{content, Rests, Awaits, IsWithin, ReadsOutsideArea, IsOldOrNew};
+    ghost use Rattle.slot_store.specs.Putting.{HasPut, HasReplaced, HasRested, IsNext, IsStaged, KeepsRecord, call_of, retire_calls};
     ghost use Rattle.slot_store.specs.Kept.{content_or_empty};
 
     /// The record that was opened or put last; empty where there is none.
     pub fn content(&self) -> &[u8]
         ensures { result.now ≡ content_or_empty (content self.now) }
     {
-        if self.gate != OPEN {
-            return &self.body[..0];
-        }
-        record_in(&self.body)
+        self.kept.text()
     }
 
-    /// Lays out the slot that is to come.
+    /// Puts a text in place of the record in memory: what is written, what is wiped, and the table that is to come.
     fn stage(&mut self, text: &[u8])
         requires { Fits self.old.area text.now }
-        ensures place { self.new.second ≡ not self.old.second }
-        ensures gate { self.new.gate ≡ 165 }
-        ensures size { length self.new.body.items ≡ length self.old.body.items }
-        ensures comes { Comes (slot_of self.old) (slot_of self.new) }
-        ensures text { record_of (slot_of self.new) ≡ text.now }
-        ensures holds { content self.new ≡ Option.Some text.now }
-        ensures next { IsNext self.old self.new }
-        ensures replaced { has_replaced self.new ≡ is_some (content self.old) }
+        ensures { IsStaged self.old self.new text.now }
     {
-        let turn = next_of(self.gate, &self.body);
-        lay_out_in(&mut self.body, turn, text);
+        let turn = next(self.turn);
+        self.replaced = self.turn != 0;
+        replan(self.area, &mut self.kept, &mut self.draft, text);
+        lay_out_table(
+            &mut self.draft.body,
+            turn,
+            text.len() as u32,
+            &self.kept.numbers,
+        );
+        self.turn = turn;
         self.second = !self.second;
-        self.replaced = self.gate == OPEN;
-        self.gate = OPEN;
     }
 
-    /// Puts a record into the slot that isn't current, behind a closed gate, and then opens the gate.
+    /// Puts a record: what changes into pages that no table names, then the table that isn't current, behind a closed gate,
+    /// and then the gate is opened.
     pub fn put<D: Disk>(&mut self, disk: &mut D, text: &[u8]) -> Result<(), StoreFault>
         requires fits { Fits self.old.area text.now }
         requires within { IsWithin self.old.area (D.state disk.old) }
@@ -84,27 +87,35 @@ impl SlotStore {
         ensures done { OnOk result (Always (HasPut self.old self.new text.now
             (D.state disk.old)) (D.state disk.new)) }
         ensures reads { ReadsOutsideArea self.old.area (D.state disk.old) (D.state disk.new) }
-        ensures holds { OnOk result (content self.new ≡ Option.Some text.now) }
-        ensures next { IsNext self.old self.new }
-        ensures replaced { has_replaced self.new ≡ is_some (content self.old) }
+        ensures staged { IsStaged self.old self.new text.now }
 
         // How the calls went, and what stands where one failed.
-        ensures calls { Called putting call_of (D.state disk.old) (D.state disk.new) result }
+        ensures calls { Called (putting (content self.old) (Option.Some text.now)) call_of
+            (D.state disk.old) (D.state disk.new) result }
         ensures stopped { OnErr result (IsStopped self.old.area (content self.old) (Option.Some text.now)
             (D.state disk.old) (D.state disk.new)) }
     {
+        let _size = disk.size();
+        let was = self.second;
         self.stage(text);
-        let place = place(self.area, self.second);
-        if let Err(call) = write_synced(disk, place + 1, &self.body) {
-            return Err(StoreFault { call });
+        let store = &*self;
+        let fresh = &store.draft.free[..store.draft.plan.places.len()];
+        match pages::put::<RecordTable, D>(
+            disk,
+            layout(store.area),
+            was,
+            fresh,
+            &store.draft.plan.places,
+            &store.kept.bytes,
+            &store.draft.body,
+        ) {
+            Ok(()) => Ok(()),
+            Err(call) => Err(StoreFault { call }),
         }
-        if let Err(call) = write_synced(disk, place, &[OPEN]) {
-            return Err(StoreFault { call });
-        }
-        Ok(())
     }
 
-    /// Closes the gate of the slot whose record was replaced, if there is one, and then wipes all after it.
+    /// Closes the gate of the table whose record was replaced, if there is one, and wipes it and the pages that it alone
+    /// names.
     pub fn retire<D: Disk>(&mut self, disk: &mut D) -> Result<(), StoreFault>
         requires within { IsWithin self.old.area (D.state disk.old) }
         requires awaits { Always (Awaits self.old) (D.state disk.old) }
@@ -118,20 +129,25 @@ impl SlotStore {
         ensures same { self.new ≡ self.old }
 
         // No image has another record where a call failed.
-        ensures calls { Called (retiring (has_replaced self.old)) call_of
+        ensures calls { Called (retire_calls self.old) call_of
             (D.state disk.old) (D.state disk.new) result }
     {
         if !self.replaced {
             return Ok(());
         }
-        let place = other_place(self.area, self.second);
-        if let Err(call) = write_synced(disk, place, &[0]) {
-            return Err(StoreFault { call });
+        let _size = disk.size();
+        let store = &*self;
+        match pages::retire::<RecordTable, D>(
+            disk,
+            layout(store.area),
+            store.second,
+            &store.draft.plan.dropped,
+            &store.draft.zeros,
+            &store.draft.zeros[..PAGE - 1],
+        ) {
+            Ok(()) => Ok(()),
+            Err(call) => Err(StoreFault { call }),
         }
-        if let Err(call) = write_synced(disk, place + 1, &self.zeros) {
-            return Err(StoreFault { call });
-        }
-        Ok(())
     }
 
     /// Replaces the record: a put, and then a retire.
@@ -147,7 +163,7 @@ impl SlotStore {
             (D.state disk.old)) (D.state disk.new)) }
         ensures reads { ReadsOutsideArea self.old.area (D.state disk.old) (D.state disk.new) }
         ensures holds { OnOk result (content self.new ≡ Option.Some text.now) }
-        ensures next { IsNext self.old self.new }
+        ensures next { IsNext self.old self.new text.now }
 
         // How the calls went, and what stands where one failed.
         ensures calls { Called (calls_of (content self.old) (Option.Some text.now)) call_of
@@ -155,12 +171,13 @@ impl SlotStore {
         ensures stopped { OnErr result (IsStopped self.old.area (content self.old) (Option.Some text.now)
             (D.state disk.old) (D.state disk.new)) }
     {
-        if let Err(fault) = self.put(disk, text) {
-            return Err(fault);
+        match self.put(disk, text) {
+            Ok(()) => {}
+            Err(fault) => return Err(fault),
         }
-        if let Err(fault) = self.retire(disk) {
-            return Err(fault);
+        match self.retire(disk) {
+            Ok(()) => Ok(()),
+            Err(fault) => Err(fault),
         }
-        Ok(())
     }
 }

@@ -15,11 +15,11 @@ use Rattle.relay_wire.specs.Replies.{Replied}
 use Rattle.relay_wire.specs.Requests.{Asked}
 use Rattle.session_model.specs.Clients.{Client}
 use Rattle.session_record.specs.Record.{record_text}
-use Rattle.slot_store.specs.Slots.{recovered}
+use Rattle.slot_store.specs.Records.{recovered}
 use Rattle.slot_store.specs.Store.{IsOldOrNew}
 use Rattle.slot_store.specs.Areas.{Area}
 use Rattle.slot_store.specs.declared.store.SlotStore.{SlotStore}
-use Rattle.slot_store.proofs.RetireCalls.{rests_recovered}
+use Rattle.slot_store.proofs.Standing.{rests_recovered}
 use Rattle.sync_model.specs.Carried.{replied_bytes, request_bytes}
 use Rattle.sync_model.specs.Courses.{as_list, course_of, last_line, made_requests}
 use Rattle.sync_model.specs.Moves.{Ending, Wait, asked_in, box_is_full, ended, inbox_full, move, no_such_box, over, wrong}

@@ -17,7 +17,7 @@ use Rattle.relay_wire.specs.Requests.{Asked}
 use Rattle.relay_wire.specs.declared.reply.BadReply.{BadReply}
 use Rattle.session_model.specs.Clients.{Client}
 use Rattle.session_record.specs.Record.{record_text}
-use Rattle.slot_store.specs.Slots.{recovered}
+use Rattle.slot_store.specs.Records.{recovered}
 use Rattle.sync_model.specs.Carried.{replied_bytes, request_bytes}
 use Rattle.sync_model.specs.Courses.{all_lines, course_of, made_requests}
 use Rattle.sync_model.specs.Moves.{Ending, asked_in, ended, over, waits_by}

@@ -22,9 +22,9 @@ use Rattle.session_model.specs.declared.answer.Answer.TheVariants.{Done as Answe
 use Rattle.session_model.specs.declared.answer.Refusal.{Refusal}
 use Rattle.session_record.specs.Lawful.{IsLawfulClient}
 use Rattle.session_record.specs.Record.{record_text}
-use Rattle.slot_store.proofs.RetireCalls.{rests_undamaged}
+use Rattle.slot_store.proofs.Standing.{rests_undamaged}
 use Rattle.slot_store.specs.Reading.{IsUndamaged}
-use Rattle.slot_store.specs.Slots.{recovered}
+use Rattle.slot_store.specs.Records.{recovered}
 use Rattle.slot_store.specs.Stops.{took}
 use Rattle.slot_store.specs.Store.{IsWithin}
 use Rattle.slot_store.specs.Areas.{Area}

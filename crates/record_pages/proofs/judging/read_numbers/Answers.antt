@@ -32,6 +32,7 @@ entries-preserved c =
           ∙ next_fault c.args.pages c.args.count c.entries.at c.args.body.now c.entries.numbers.items c.entries-test.true is
           ∙ ap (λ l. entry_fault c.args.pages l (6 + 2 * (c.entries.at + 1)) (numbers_in (c.args.count - (c.entries.at + 1)) (drop (5 + 2 * (c.entries.at + 1)) c.args.body.now))) (sym more);
       room = omega (arith, c.entries.invariant.room, c.push.ensures.capacity);
+      capacity = omega (arith, c.entries.invariant.capacity, c.push.ensures.capacity);
     }
 
 pub returns-clause-numbers : goal.returns-clause-numbers

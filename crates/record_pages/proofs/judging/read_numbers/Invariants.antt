@@ -7,4 +7,5 @@ invariant-entries l = record {
   read : l.numbers.items ≡ numbers_in l.at (drop 5 l.body);
   fault : entry_fault l.pages [] 6 (record_names l.body) ≡ entry_fault l.pages l.numbers.items (6 + 2 * l.at) (numbers_in (l.count - l.at) (drop (5 + 2 * l.at) l.body));
   room : l.count ≤ vec_capacity l.numbers;
+  capacity : vec_capacity l.fn.numbers ≤ vec_capacity l.numbers;
 }

@@ -1,15 +1,15 @@
-use Rattle.slot_store.specs.Slots.{recovered, slot_at}
-use Rattle.slot_store.specs.Reading.{reading}
-use Rattle.std.proofs.Common.{true, false}
-use Rattle.slot_store.proofs.Grammars.{whole}
-use Rattle.slot_store.proofs.Shown.{fits, none_shown, text_shown}
+use Rattle.std.proofs.Common.{sym, subst}
+use Rattle.slot_store.specs.Reading.{OpensAs, reading}
+use Rattle.slot_store.specs.Records.{recovered, shot_in}
+use Rattle.slot_store.proofs.Shown.{holds_again, holds_shown, holds_text, none_shown}
 use Rattle.slot_store.proofs.laws.readings.Goals as goal
 
 pub returns : goal.returns
 unfolding recovered reading
 returns c = record {
-  content = λ fault_at area c text is. text_shown fault_at area.slot (slot_at area false c) (slot_at area true c) text is;
-  fits_grammar = λ fault_at area c text is. fits fault_at area.slot (slot_at area false c) (slot_at area true c) text is;
-  none = λ fault_at area c is. none_shown fault_at area.slot (slot_at area false c) (slot_at area true c) is;
-  undamaged = whole;
+  content = λ fault_at area c text is. holds_shown fault_at area text (shot_in area c) is;
+  fits_grammar = λ fault_at area c text is. holds_text fault_at area text (shot_in area c) is;
+  none = λ fault_at area c is. none_shown fault_at area (shot_in area c) is;
+  undamaged = λ fault_at area c text is. subst (λ o. OpensAs area o c) (sym (holds_shown fault_at area text (shot_in area c) is))
+      (holds_again fault_at area text (shot_in area c) is);
 }

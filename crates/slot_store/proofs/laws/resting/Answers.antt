@@ -1,24 +1,25 @@
-use Rattle.std.proofs.Common.{◌≡◌, sym, ◌∙◌, ap, ap₂, not}
-use Rattle.slot_store.specs.Slots.{slot_at, wiped}
+use Rattle.std.proofs.Common.{ap₂, sym, subst}
+use Rattle.pages.specs.Resting.{IsAtRest as AreAtRest}
+use Rattle.record_pages.specs.Tables.{record_names}
+use Rattle.slot_store.specs.Areas.{layout_of}
 use Rattle.slot_store.specs.Layout.{laid}
 use Rattle.slot_store.specs.Store.{Rests, content, mark}
-use Rattle.slot_store.proofs.Local.{by_current}
-use Rattle.slot_store.proofs.ReadAtRest.{rests_at_rest}
-use Rattle.slot_store.proofs.RetireCalls.{rests_recovered, rests_undamaged}
+use Rattle.slot_store.proofs.Entries.{entries_within}
+use Rattle.slot_store.proofs.Named.{store_names}
+use Rattle.slot_store.proofs.RestBytes.{rest_bytes}
+use Rattle.slot_store.proofs.Standing.{rests_recovered, rests_undamaged, store_marked}
 use Rattle.slot_store.proofs.laws.resting.Goals as goal
 
 pub returns : goal.returns
 unfolding Rests
 returns c = record {
-  at_rest = rests_at_rest;
+  at_rest = λ store c rests. record { laid_out = rests; marked = store_marked store };
   record_of = rests_recovered;
   undamaged = rests_undamaged;
-  same_bytes = λ store other c d least area marks contents size within rests rests'.
-      let place : (mark store).second ≡ (mark other).second = ap (λ m. m.second) marks in
-      record {
-        size = size;
-        bytes = by_current store.area (mark store).second c d
-            (rests.current ∙ ap₂ (λ m t. laid store.area.slot m.turn t) marks contents ∙ ap (λ a. laid a.slot (mark other).turn (content other)) area ∙ sym rests'.current ∙ ap₂ (λ a k. slot_at a k d) (sym area) (sym place))
-            (rests.other ∙ ap (λ a. wiped a.slot) area ∙ sym rests'.other ∙ ap₂ (λ a k. slot_at a (not k) d) (sym area) (sym place));
-      };
+  same_bytes = λ store other c d area marks contents size within rests rests'. record {
+    size = size;
+    bytes = rest_bytes store.area (laid (mark store) (content store)) c d (entries_within store.area _ (store_names store)) rests
+        (subst (λ a. AreAtRest record_names (layout_of a) (laid (mark store) (content store)) d) (sym area)
+        (subst (λ s. AreAtRest record_names (layout_of other.area) s d) (sym (ap₂ laid marks contents)) rests'));
+  };
 }

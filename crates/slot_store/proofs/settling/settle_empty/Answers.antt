@@ -1,44 +1,102 @@
-use Rattle.std.proofs.Common.{arith, refl, ◌∙◌}
-use Rattle.std.proofs.lemmas.Grind.{common_steps}
+use Rattle.std.proofs.Common.{false, true, refl, ◌∙◌}
 use Rattle.dr_disk.specs.Called.{itself}
-use Rattle.dr_disk.proofs.Calling.{failed_as, then_failed, then_passed}
-use Rattle.slot_store.proofs.Opened.{both_moment, empty_content, empty_rests, second_passive, wiped_of, zeros_of}
+use Rattle.dr_disk.proofs.Calling.{failed_as, then_any}
+use Rattle.pages.proofs.Looking.{untouched_twice}
+use Rattle.slot_store.proofs.Alike.{both_moments, left_like, like_shots}
+use Rattle.slot_store.proofs.EmptySettled.{empty_blank, empty_body, empty_closed, empty_gate, later_closed, none_counts, none_mute, none_unnamed, second_read, twice_rests}
+use Rattle.slot_store.proofs.Marks.{no_marks}
+use Rattle.slot_store.proofs.Wiping.{on_ok}
 use Rattle.slot_store.proofs.settling.settle_empty.Goals as goal
 
-pub tidy-requires-2-clause-passive : goal.tidy-requires-2-clause-passive
-tidy-requires-2-clause-passive g c =
-    second_passive c.args.area (g.D.Disk.state c.args.disk.now) (g.D.Disk.state c.tidy.new.disk) (g.met.D.Disk.lawful c.tidy.new.disk) c.in-Ok.ensures.settles.done
-    (λ s told. (c.requires.shut s told).1)
+pub wipe_table-requires-clause-counts : goal.wipe_table-requires-clause-counts
+wipe_table-requires-clause-counts g c =
+    let start = g.D.Disk.state c.args.disk.now in
+    none_counts c.args.store.now start (empty_closed c.args.store.now c.requires.turn start c.requires.ready.settled c.requires.shown)
 
-pub returns-in-Err-clause-settles : goal.returns-in-Err-clause-settles
-returns-in-Err-clause-settles g c = record {
-  any_moment = c.tidy.ensures.settles.any_moment;
-  done = tt;
-  settled = tt;
-  calls = failed_as itself itself _ _ _ _ refl c.in-Err.ensures.settles.calls;
-}
+pub wipe_table-requires-clause-unnamed : goal.wipe_table-requires-clause-unnamed
+wipe_table-requires-clause-unnamed g c =
+    let start = g.D.Disk.state c.args.disk.now in
+    none_unnamed c.args.store.now start (empty_closed c.args.store.now c.requires.turn start c.requires.ready.settled c.requires.shown)
+    c.args.named.now
 
-pub returns-in-Err-tidy-clause-settles : goal.returns-in-Err-tidy-clause-settles
-returns-in-Err-tidy-clause-settles g c = record {
-  any_moment = both_moment c.args.area (g.D.Disk.state c.args.disk.now) (g.D.Disk.state c.tidy.new.disk) (g.met.D.Disk.lawful c.tidy.new.disk) c.in-Ok.ensures.settles.done (g.D.Disk.state c.tidy-2.new.disk) c.tidy.ensures.settles.any_moment c.tidy-2.ensures.settles.any_moment;
-  done = tt;
-  settled = tt;
-  calls = then_failed itself itself itself _ _ _ _ _ _ _ refl c.tidy.ensures.settles.any_moment c.in-Ok.ensures.settles.calls c.in-Err-tidy.ensures.settles.calls;
-}
+pub wipe_table-requires-clause-mute : goal.wipe_table-requires-clause-mute
+wipe_table-requires-clause-mute g c =
+    let start = g.D.Disk.state c.args.disk.now in
+    none_mute c.args.store.now start (empty_closed c.args.store.now c.requires.turn start c.requires.ready.settled c.requires.shown)
+    false c.args.first_gate c.args.first.now c.requires.ready.settled c.requires.read.first_is
 
-pub returns-in-Ok-tidy-clause-content : goal.returns-in-Ok-tidy-clause-content
-returns-in-Ok-tidy-clause-content g c = empty_content c.store_of.result _ c.store_of.ensures.slot
+pub returns-in-Err : goal.returns-in-Err
+returns-in-Err g c =
+    let store = c.args.store.now in
+    let start = g.D.Disk.state c.args.disk.now in
+    let a = g.D.Disk.state c.wipe_table.new.disk in
+    record {
+      any_moment = like_shots store.area start store.lawful c.requires.ready.settled a c.wipe_table.ensures.shots.any_moment;
+      done = tt;
+      settled = tt;
+      calls = failed_as itself itself _ _ _ _ refl c.in-Err.ensures.shots.calls;
+      still = λ rests. c.wipe_table.ensures.still
+          (empty_gate store c.requires.turn start rests false c.args.first_gate c.args.first.now c.requires.read.first_is)
+          (empty_body store c.requires.turn start rests false c.args.first_gate c.args.first.now c.requires.read.first_is)
+          (empty_blank store c.requires.turn c.args.named.now start rests);
+    }
 
-pub returns-in-Ok-tidy-clause-settles : goal.returns-in-Ok-tidy-clause-settles
-returns-in-Ok-tidy-clause-settles g c = record {
-  any_moment = both_moment c.args.area (g.D.Disk.state c.args.disk.now) (g.D.Disk.state c.tidy.new.disk) (g.met.D.Disk.lawful c.tidy.new.disk) c.in-Ok.ensures.settles.done (g.D.Disk.state c.tidy-2.new.disk) c.tidy.ensures.settles.any_moment c.tidy-2.ensures.settles.any_moment;
-  done = empty_rests c.args.area (g.D.Disk.state c.args.disk.now) (g.D.Disk.state c.tidy.new.disk) (g.met.D.Disk.lawful c.tidy.new.disk) c.in-Ok.ensures.settles.done (g.D.Disk.state c.tidy-2.new.disk) c.store_of.result
-      c.store_of.ensures.area c.store_of.ensures.second
-      (c.store_of.ensures.slot ∙ wiped_of c.args.area.slot _ (zeros_of c.args.area.slot _ c.args.first.items c.blank_out-first_blank.ensures.zeros c.requires.first_long))
-      c.in-Ok-tidy.ensures.settles.done;
-  settled = c.in-Ok-tidy.ensures.settles.settled;
-  calls = then_passed itself itself itself _ _ _ _ _ _ c.in-Ok.ensures.settles.calls c.in-Ok-tidy.ensures.settles.calls;
-}
+pub wipe_table-requires-2-clause-counts : goal.wipe_table-requires-2-clause-counts
+wipe_table-requires-2-clause-counts g c =
+    let start = g.D.Disk.state c.args.disk.now in
+    let a = g.D.Disk.state c.wipe_table.new.disk in
+    none_counts c.args.store.now a
+    (later_closed c.args.store.now c.requires.turn start c.requires.ready.settled c.requires.shown a c.wipe_table.ensures.shots.any_moment)
 
-pub store_of-requires-clause-long : goal.store_of-requires-clause-long
-store_of-requires-clause-long g c = grind (arith, common_steps)
+pub wipe_table-requires-2-clause-unnamed : goal.wipe_table-requires-2-clause-unnamed
+wipe_table-requires-2-clause-unnamed g c =
+    let start = g.D.Disk.state c.args.disk.now in
+    let a = g.D.Disk.state c.wipe_table.new.disk in
+    none_unnamed c.args.store.now a
+    (later_closed c.args.store.now c.requires.turn start c.requires.ready.settled c.requires.shown a c.wipe_table.ensures.shots.any_moment)
+    c.args.named.now
+
+pub wipe_table-requires-2-clause-read : goal.wipe_table-requires-2-clause-read
+wipe_table-requires-2-clause-read g c =
+    let start = g.D.Disk.state c.args.disk.now in
+    let a = g.D.Disk.state c.wipe_table.new.disk in
+    second_read c.args.store.now c.args.named.now _ start a (g.met.D.Disk.lawful c.wipe_table.new.disk) c.in-Ok.ensures.done c.requires.read.second_is
+
+pub wipe_table-requires-2-clause-mute : goal.wipe_table-requires-2-clause-mute
+wipe_table-requires-2-clause-mute g c =
+    let start = g.D.Disk.state c.args.disk.now in
+    let a = g.D.Disk.state c.wipe_table.new.disk in
+    none_mute c.args.store.now a
+    (later_closed c.args.store.now c.requires.turn start c.requires.ready.settled c.requires.shown a c.wipe_table.ensures.shots.any_moment)
+    true c.args.second_gate c.args.second.now c.in-Ok.ensures.settled
+    (second_read c.args.store.now c.args.named.now _ start a (g.met.D.Disk.lawful c.wipe_table.new.disk) c.in-Ok.ensures.done c.requires.read.second_is)
+
+pub returns : goal.returns
+returns g c =
+    let store = c.args.store.now in
+    let start = g.D.Disk.state c.args.disk.now in
+    let a = g.D.Disk.state c.wipe_table.new.disk in
+    let b = g.D.Disk.state c.wipe_table-2.new.disk in
+    let lawful = g.met.D.Disk.lawful c.wipe_table.new.disk in
+    let settled = c.requires.ready.settled in
+    let first = like_shots store.area start store.lawful settled a c.wipe_table.ensures.shots.any_moment in
+    let next = like_shots store.area a store.lawful c.in-Ok.ensures.settled b c.wipe_table-2.ensures.shots.any_moment in
+    let span = both_moments store.area start a b lawful (left_like store.area start store.lawful settled a first) first next in
+    record {
+      any_moment = span;
+      done = on_ok c.wipe_table-2.result
+          (λ tidied. twice_rests store c.requires.turn c.args.named.now (λ n. no_marks c.args.named.now store.area.pages n c.requires.marks)
+          start a b lawful c.in-Ok.ensures.done tidied (left_like store.area start store.lawful settled b span))
+          c.wipe_table-2.ensures.done;
+      settled = c.wipe_table-2.ensures.settled;
+      calls = then_any _ start a b _ c.wipe_table-2.result first c.in-Ok.ensures.shots.calls c.wipe_table-2.ensures.shots.calls;
+      still = λ rests.
+          let one = c.wipe_table.ensures.still
+          (empty_gate store c.requires.turn start rests false c.args.first_gate c.args.first.now c.requires.read.first_is)
+          (empty_body store c.requires.turn start rests false c.args.first_gate c.args.first.now c.requires.read.first_is)
+          (empty_blank store c.requires.turn c.args.named.now start rests) in
+          untouched_twice start a b one (c.wipe_table-2.ensures.still
+          (empty_gate store c.requires.turn start rests true c.args.second_gate c.args.second.now c.requires.read.second_is)
+          (empty_body store c.requires.turn start rests true c.args.second_gate c.args.second.now c.requires.read.second_is)
+          (empty_blank store c.requires.turn c.args.named.now a (rests.0, one.unwritten.seen ∙ rests.1, rests.2)));
+    }

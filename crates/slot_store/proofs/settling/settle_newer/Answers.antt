@@ -1,25 +1,65 @@
-use Rattle.slot_store.proofs.Opened.{current_read, passive_read}
-use Rattle.slot_store.proofs.Verdicts.{first_newer, second_newer}
-use Rattle.std.proofs.Common.{◌∙◌, true, false, ap}
-use Rattle.slot_store.specs.Reading.{newer}
+use Rattle.std.proofs.Common.{◌≡◌, ◌<◌, All, false, ℕ, List, length, get_or, sym, ◌∙◌, ap, subst, arith}
+use Rattle.std.specs.Prelude.{◌||◌}
+use Rattle.std.proofs.lemmas.List.{length-replicate}
+use Rattle.std.proofs.lemmas.List.Elements.{All-weaker}
+use Rattle.pages.specs.Layouts.{IsPage}
+use Rattle.record_pages.specs.Plans.{is_among}
+use Rattle.slot_store.specs.Areas.{layout_of}
+use Rattle.slot_store.proofs.Entries.{entries_within}
+use Rattle.slot_store.proofs.Alike.{like_shots}
+use Rattle.slot_store.proofs.Marks.{marks_of}
+use Rattle.slot_store.proofs.NewerSettled.{newer_blank, newer_body, newer_counts, newer_gate, newer_mute, newer_rests, newer_unnamed}
+use Rattle.slot_store.proofs.Wiping.{on_ok}
 use Rattle.slot_store.proofs.settling.settle_newer.Goals as goal
 
-pub settle-requires-clause-current : goal.settle-requires-clause-current
-settle-requires-clause-current g c = λ s told.
-    let is = second_newer g.G.Grammar.fault_at c.args.area.slot _ _ (c.requires.verdict ∙ ap newer c.if-is_second.true) in
-    current_read c.args.area true s c.args.second_gate c.args.second.items is.opened (c.requires.read.second s told)
+pub wipe_table-requires-clause-counts : goal.wipe_table-requires-clause-counts
+wipe_table-requires-clause-counts g c =
+    newer_counts c.args.store.now c.requires.turn (g.D.Disk.state c.args.disk.now) c.requires.ready.settled c.requires.shown
 
-pub settle-requires-clause-passive : goal.settle-requires-clause-passive
-settle-requires-clause-passive g c = λ s told.
-    let is = second_newer g.G.Grammar.fault_at c.args.area.slot _ _ (c.requires.verdict ∙ ap newer c.if-is_second.true) in
-    passive_read c.args.area false s _ _ (c.requires.read.first s told) (c.requires.read.second s told) is.passive
+pub wipe_table-requires-clause-mute : goal.wipe_table-requires-clause-mute
+wipe_table-requires-clause-mute g c =
+    newer_mute c.args.store.now c.requires.turn (g.D.Disk.state c.args.disk.now) c.requires.ready.settled c.requires.shown
+    c.args.gate c.args.other.now c.requires.read
 
-pub settle-requires-else-is_second-clause-current : goal.settle-requires-else-is_second-clause-current
-settle-requires-else-is_second-clause-current g c = λ s told.
-    let is = first_newer g.G.Grammar.fault_at c.args.area.slot _ _ (c.requires.verdict ∙ ap newer c.if-is_second.false) in
-    current_read c.args.area false s c.args.first_gate c.args.first.items is.opened (c.requires.read.first s told)
+pub wipe_table-requires-clause-unnamed : goal.wipe_table-requires-clause-unnamed
+wipe_table-requires-clause-unnamed g c =
+    let marks = marks_of c.args.named.now _ c.args.store.now.area.pages c.args.store.now.kept.numbers.items c.requires.marks
+    (subst (λ (ns : List ℕ). (n : ℕ) → get_or c.mark_pages.new.named n false ≡ (get_or c.args.named.now n false || is_among ns n))
+    c.deref.ensures.value c.mark_pages.ensures.marks) in
+    newer_unnamed c.args.store.now c.requires.turn (g.D.Disk.state c.args.disk.now) c.requires.ready.settled c.requires.shown _ marks
 
-pub settle-requires-else-is_second-clause-passive : goal.settle-requires-else-is_second-clause-passive
-settle-requires-else-is_second-clause-passive g c = λ s told.
-    let is = first_newer g.G.Grammar.fault_at c.args.area.slot _ _ (c.requires.verdict ∙ ap newer c.if-is_second.false) in
-    passive_read c.args.area true s _ _ (c.requires.read.second s told) (c.requires.read.first s told) is.passive
+pub wipe_table-requires-clause-marks : goal.wipe_table-requires-clause-marks
+wipe_table-requires-clause-marks g c =
+    c.mark_pages.ensures.long ∙ ap length c.requires.marks ∙ length-replicate c.args.store.now.area.pages false
+
+pub mark_pages-requires : goal.mark_pages-requires
+mark_pages-requires g c =
+    let long : length c.args.named.now ≡ c.args.store.now.area.pages = ap length c.requires.marks ∙ length-replicate c.args.store.now.area.pages false in
+    record {
+      inside = subst (λ (ns : List ℕ). All (λ n. n < length c.args.named.now) ns) (sym c.deref.ensures.value)
+          (All-weaker (IsPage (layout_of c.args.store.now.area)) (λ n. n < length c.args.named.now) (λ n is. omega (arith, is.1, long))
+          c.args.store.now.kept.numbers.items (entries_within c.args.store.now.area c.args.store.now.kept.numbers.items c.args.store.now.entries));
+    }
+
+pub returns : goal.returns
+returns g c =
+    let store = c.args.store.now in
+    let start = g.D.Disk.state c.args.disk.now in
+    let now = g.D.Disk.state c.wipe_table.new.disk in
+    let settled = c.requires.ready.settled in
+    let marks = marks_of c.args.named.now _ c.args.store.now.area.pages c.args.store.now.kept.numbers.items c.requires.marks
+    (subst (λ (ns : List ℕ). (n : ℕ) → get_or c.mark_pages.new.named n false ≡ (get_or c.args.named.now n false || is_among ns n))
+    c.deref.ensures.value c.mark_pages.ensures.marks) in
+    let span = like_shots store.area start store.lawful settled now c.wipe_table.ensures.shots.any_moment in
+    record {
+      any_moment = span;
+      done = on_ok c.wipe_table.result
+          (λ tidied. newer_rests store c.requires.turn start settled c.requires.shown c.mark_pages.new.named marks now span tidied)
+          c.wipe_table.ensures.done;
+      settled = c.wipe_table.ensures.settled;
+      calls = c.wipe_table.ensures.shots.calls;
+      still = λ rests. c.wipe_table.ensures.still
+          (newer_gate store c.requires.turn start settled c.requires.shown c.args.gate c.args.other.now c.requires.read rests)
+          (newer_body store c.requires.turn start settled c.requires.shown c.args.gate c.args.other.now c.requires.read rests)
+          (newer_blank store c.requires.turn start settled c.requires.shown c.mark_pages.new.named marks rests);
+    }

@@ -1,4 +1,4 @@
-use Rattle.std.proofs.Common.{arith, None, Some, [], ap, refl, subst, sym, ◌∙◌}
+use Rattle.std.proofs.Common.{inl, arith, None, Some, [], ap, refl, subst, sym, ◌∙◌}
 use Rattle.std.proofs.lemmas.Grind.{common_steps}
 use Rattle.dr_disk.specs.Spans.{Span}
 use Rattle.dr_disk.proofs.Steps.{quiet_twice}
@@ -129,7 +129,7 @@ pub first-requires-clause-none : goal.first-requires-clause-none
 first-requires-clause-none g c = grind (arith, common_steps)
 
 pub returns-in-Content-clause-reads : goal.returns-in-Content-clause-reads
-returns-in-Content-clause-reads g c = grind (arith, common_steps)
+returns-in-Content-clause-reads g c = λ s told. inl (c.open.ensures.reads s told)
 
 pub returns-in-Err-first-clause-fate : goal.returns-in-Err-first-clause-fate
 returns-in-Err-first-clause-fate g c = grind (arith, common_steps)

@@ -50,6 +50,18 @@ returns-in-Refused g c =
     comes.0 ∙ ap (λ (x : Client). stopped_client c.args.after c.args.mode x
     (settled x (made_by k x c.args.act))) c.self.view_is
 
+pub invariant_of-result-in-Refused : goal.invariant_of-result-in-Refused
+invariant_of-result-in-Refused g c =
+    let k = g.K.Kem.mechanism in
+    let client = c.self.inside.client in
+    let disk = c.self.inside.disk in
+    let made = made_by k client.kept c.args.act in
+    let acts = subst (λ (d : MemoryDisk). Acts state_of made client c.perform.new.client d c.perform.new.disk (refused c.in-Refused.refusal))
+    c.stop_after.ensures (subst (λ (e : Ended). Acts state_of made client c.perform.new.client c.stop_after.new.self c.perform.new.disk (ended_as e)) c.in-Refused.is c.perform.ensures) in
+    let comes = refused_comes c.args.after c.args.mode made client c.perform.new.client disk c.perform.new.disk c.self.invariant
+    c.in-Refused.refusal acts in
+    subst (λ (d : MemoryDisk). IsHeld c.perform.new.client d) (sym c.go_on-in-Refused.ensures.lifted) comes.1
+
 pub reopened-requires-clause-within : goal.reopened-requires-clause-within
 reopened-requires-clause-within g c =
     let k = g.K.Kem.mechanism in

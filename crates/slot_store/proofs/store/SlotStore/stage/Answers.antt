@@ -1,26 +1,19 @@
-use Rattle.std.proofs.Common.{ℕ, List, ◌∙◌, ap, arith, refl}
-use Rattle.std.specs.Prelude.{slice_index}
-use Rattle.slot_store.specs.Slots.{next_turn}
-use Rattle.slot_store.specs.Store.{content, has_replaced, mark, slot_of}
-use Rattle.slot_store.proofs.Staging.{has_record, laid_content, next_marked}
+use Rattle.std.proofs.Common.{◌≡◌, ◌+◌, ℕ, List, length, refl, ap, ◌∙◌, arith}
+use Rattle.std.proofs.lemmas.List.{with_items_is}
+use Rattle.dr_base.specs.declared.limits.TheConstants.{PAGE}
+use Rattle.slot_store.proofs.Contents.{body_is, is_staged, small_numbers}
 use Rattle.slot_store.proofs.store.SlotStore.stage.Goals as goal
 
-pub returns-clause-holds : goal.returns-clause-holds
-unfolding content
-returns-clause-holds c =
-    laid_content _ c.args.text.now c.next_of-turn.result _ c.lay_out_in.ensures c.next_of-turn.ensures.low c.next_of-turn.ensures.high (omega arith)
+pub lay_out_table-requires-clause-small : goal.lay_out_table-requires-clause-small
+lay_out_table-requires-clause-small c =
+    small_numbers c.args.self.now.area c.replan.new.kept.numbers.items c.deref.result.now c.args.self.now.lawful c.deref.ensures.value c.replan.ensures.entries
 
-pub returns-clause-next : goal.returns-clause-next
-unfolding content mark
-returns-clause-next c =
-    let old = c.args.self.now in
-    record {
-      area = refl;
-      mark = next_marked (slot_of old) old.area.slot old.laid old.blank old.second _ c.args.text.now c.next_of-turn.result _ c.lay_out_in.ensures (λ opens. c.next_of-turn.ensures.next opens ∙ ap (λ (l : List ℕ). next_turn (slice_index l 0)) c.deref.ensures.value) c.next_of-turn.ensures.first;
-    }
-
-pub returns-clause-replaced : goal.returns-clause-replaced
-unfolding content has_replaced
-returns-clause-replaced c =
-    let old = c.args.self.now in
-    has_record (slot_of old) old.area.slot old.laid old.blank
+pub returns : goal.returns
+returns c =
+    let long : length c.deref_mut.result.now + 1 ≡ PAGE =
+    omega (arith, ap (λ (l : List ℕ). length l) c.deref_mut.ensures.value, c.replan.ensures.room.body) in
+    is_staged c.args.self.now _ c.args.text.now refl refl c.next-turn.ensures.next c.next-turn.ensures.low refl c.replan.ensures.text
+    c.replan.ensures.numbers c.replan.ensures.free c.replan.ensures.places c.replan.ensures.dropped
+    (with_items_is c.replan.new.draft.body c.lay_out_table.new.body (c.lay_out_table.auto.body ∙ c.deref_mut.ensures.len)
+    ∙ c.lay_out_table.ensures
+    ∙ body_is c.next-turn.result (length c.args.text.now) (length c.deref_mut.result.now) c.replan.new.kept.numbers.items c.deref.result.now c.deref.ensures.value long)

@@ -1,0 +1,106 @@
+-- What was read into memory by a table without a fault.
+use Rattle.std.proofs.Common.{◌≡◌, ℕ, ◌+◌, ◌-◌, ◌*◌, ◌≤◌, List, [], ◌++◌, length, take, drop, map, replicate, Option, Some, None, refl, sym, ◌∙◌, ap, ap₂, arith, length-drop}
+use Rattle.std.proofs.lemmas.List.{drop-append-le, drop-replicate, length-take-le, replicate-append-replicate, take-append-drop}
+use Rattle.std.proofs.lemmas.List.Elements.{All-get_or}
+use Rattle.dr_base.specs.declared.limits.TheConstants.{PAGE}
+use Rattle.pages.specs.Layouts.{IsPage}
+use Rattle.pages.specs.Snapshots.{page_of}
+use Rattle.pages.specs.Writing.{ArePages}
+use Rattle.record_pages.specs.Pages.{cut, joined, page_count, pages_in}
+use Rattle.record_pages.specs.Tables.{entry_fault, length_in, nonzero_from, or_else, record_names, table_fault}
+use Rattle.slot_store.specs.Areas.{Area, IsArea, layout_of}
+use Rattle.slot_store.specs.Loading.{pages_named}
+use Rattle.slot_store.specs.Reading.{behind_table, fault_in, record_fault}
+use Rattle.slot_store.proofs.Entries.{entries_within}
+use Rattle.slot_store.proofs.Filled.{cut_filled, page_room}
+use Rattle.slot_store.proofs.Printed.{all_zeros, names_long, sound}
+use Rattle.slot_store.proofs.ReadPages.{joined_cut}
+
+-- no fault in the record, and none behind it
+pub behind_none : (r z : Option ℕ) → behind_table (or_else r z) ≡ None → (r ≡ None) × (z ≡ None)
+behind_none None None is = (refl, refl)
+behind_none None (Some at) is = absurd (let e : Some (PAGE + at) ≡ None = is in cc)
+behind_none (Some at) z is = absurd (let e : Some (PAGE + at) ≡ None = is in cc)
+
+-- as code was told
+pub faultless_by : (area : Area) (p m : ℕ) (body : List ℕ) (r : Option ℕ) → p ≡ area.pages → m ≡ area.most → r ≡ table_fault p m body
+    → r ≡ None → table_fault area.pages area.most body ≡ None
+faultless_by area p m body r pages most is none = ap₂ (λ x y. table_fault x y body) (sym pages) (sym most) ∙ sym is ∙ none
+
+pub zeros_of : (items old : List ℕ) (len : ℕ) → old ≡ items → len ≡ 0 → drop len items ≡ replicate (length items - len) 0
+    → old ≡ replicate (length old) 0
+zeros_of items old len is zero blank =
+    is ∙ sym (ap (λ k. drop k items) zero) ∙ blank
+    ∙ ap (λ k. replicate k 0) (let e : length items - len ≡ length old = omega (arith, ap (λ (l : List ℕ). length l) is, zero) in e)
+
+module _ (area : Area) (body numbers : List ℕ) (len : ℕ) (lawful : IsArea area)
+    (faultless : table_fault area.pages area.most body ≡ None) (names : numbers ≡ record_names body)
+    (says : len ≡ length_in body) where
+  pub count : length numbers ≡ page_count len
+  count = ap (λ (l : List ℕ). length l) names ∙ names_long body ∙ ap page_count (sym says)
+
+  pub few : length numbers ≤ area.most
+  few = omega (arith, count, ap page_count says, (sound area.pages area.most body faultless).fits)
+
+  pub fits : len ≤ PAGE * length numbers
+  fits = omega (arith, page_room len, count)
+
+  pub lawful_entries : entry_fault area.pages [] 6 numbers ≡ None
+  lawful_entries = ap (entry_fault area.pages [] 6) names ∙ (sound area.pages area.most body faultless).entries
+
+  pub are_pages : ArePages (layout_of area) numbers
+  are_pages j lt = All-get_or (IsPage (layout_of area)) numbers j 0 lt (entries_within area numbers lawful_entries)
+
+  module _ (bytes s : List ℕ) (size : length bytes ≡ PAGE * area.most)
+      (read : cut (length numbers) bytes ≡ map (page_of (layout_of area) s) numbers) where
+    room : PAGE * length numbers ≤ length bytes
+    room = omega (arith, few, size)
+
+    named : pages_named area body s ≡ cut (length numbers) bytes
+    named = ap (λ (l : List ℕ). map (page_of (layout_of area) s) l) (sym names) ∙ sym read
+
+    -- a fault in the pages
+    pub loaded_fault : (fault_at : List ℕ → Option ℕ) (r : Option ℕ)
+        → r ≡ behind_table (or_else (fault_at (take len (take (PAGE * length numbers) bytes)))
+        (nonzero_from len (drop len (take (PAGE * length numbers) bytes))))
+        → fault_in fault_at area body (pages_named area body s) ≡ r
+    loaded_fault fault_at r is =
+        ap (λ f. or_else f (behind_table (record_fault fault_at body (pages_named area body s)))) faultless
+        ∙ ap₂ (λ k (l : List ℕ). behind_table (or_else (fault_at (take k l)) (nonzero_from k (drop k l)))) (sym says)
+        (ap joined named ∙ joined_cut (length numbers) bytes)
+        ∙ sym is
+
+    -- no fault: the pages are the record's
+    pub loaded_pages : nonzero_from len (drop len (take (PAGE * length numbers) bytes)) ≡ None
+        → pages_named area body s ≡ pages_in (take len bytes)
+    loaded_pages none = named ∙ sym (cut_filled (length numbers) len bytes count room
+        (all_zeros (drop len (take (PAGE * length numbers) bytes)) len none))
+
+  -- behind the record there are zeros, where there were before
+  module _ (bytes old : List ℕ) (size : length bytes ≡ PAGE * area.most) (same_size : length bytes ≡ length old)
+      (behind : drop (PAGE * length numbers) bytes ≡ drop (PAGE * length numbers) old)
+      (blank : old ≡ replicate (length old) 0)
+      (none : nonzero_from len (drop len (take (PAGE * length numbers) bytes)) ≡ None) where
+    n : ℕ
+    n = PAGE * length numbers
+
+    long : length (take (PAGE * length numbers) bytes) ≡ PAGE * length numbers
+    long = length-take-le (PAGE * length numbers) bytes (omega (arith, few, size))
+
+    front : drop len (take (PAGE * length numbers) bytes) ≡ replicate (PAGE * length numbers - len) 0
+    front = all_zeros (drop len (take (PAGE * length numbers) bytes)) len none
+        ∙ ap (λ k. replicate k 0) (length-drop len (take (PAGE * length numbers) bytes) ∙ ap (λ k. k - len) long)
+
+    back : drop (PAGE * length numbers) bytes ≡ replicate (length bytes - PAGE * length numbers) 0
+    back = behind ∙ ap (λ (l : List ℕ). drop (PAGE * length numbers) l) blank
+        ∙ drop-replicate (PAGE * length numbers) (length old) 0
+        ∙ ap (λ k. replicate (k - PAGE * length numbers) 0) (sym same_size)
+
+    pub loaded_blank : drop len bytes ≡ replicate (length bytes - len) 0
+    loaded_blank =
+        ap (λ (l : List ℕ). drop len l) (sym (take-append-drop (PAGE * length numbers) bytes))
+        ∙ drop-append-le len (take (PAGE * length numbers) bytes) (drop (PAGE * length numbers) bytes) (omega (arith, long, fits))
+        ∙ ap₂ (λ (x y : List ℕ). x ++ y) front back
+        ∙ replicate-append-replicate (PAGE * length numbers - len) (length bytes - PAGE * length numbers) 0
+        ∙ ap (λ k. replicate k 0)
+        (let e : PAGE * length numbers - len + (length bytes - PAGE * length numbers) ≡ length bytes - len = omega (arith, few, size, fits) in e)

@@ -1,0 +1,135 @@
+-- A store's table and its area, as pages of a disk know them.
+use Rattle.std.proofs.Common.{◌≡◌, ◌≢◌, ◌⊎◌, inl, inr, ⊎_elim, ℕ, zero, suc, ◌+◌, ◌^◌, ◌≤◌, ◌<◌, Bool, true, false, List, [], ◌∷◌, Option, Some, None, length, take, refl, sym, ◌∙◌, ap, subst, arith}
+use Rattle.std.specs.Prelude.{if◌then◌else◌, ◌==◌, not}
+use Rattle.std.proofs.lemmas.Bool.{cases_eq}
+use Rattle.std.proofs.lemmas.Bool.Decides.{nat_tests}
+use Rattle.dr_base.specs.declared.limits.TheConstants.{PAGE}
+use Rattle.dr_disk.specs.State.{DiskState}
+use Rattle.dr_disk.specs.Spans.{Frame, ReadsOutside}
+use Rattle.pages.specs.declared.layout.Layout.{Layout}
+use Rattle.pages.specs.declared.layout.TheConstants.{OPEN}
+use Rattle.pages.specs.Around.{KeepsOutside, ReadsAround}
+use Rattle.pages.specs.Layouts.{IsSound}
+use Rattle.pages.specs.Tables.{alone, counts, is_open, next_turn, none_open, open_table, table_at, turn_of, wiped}
+use Rattle.pages.specs.Snapshots.{IsBeside, IsStill, IsUnnamed, Snapshot, kept_shot, no_shot, shot}
+use Rattle.pages.specs.Writing.{IsNoneOf, IsOneOf}
+use Rattle.pages.proofs.Newest.{closed, stands_alone}
+use Rattle.pages.proofs.SoundLayouts.{area_sound}
+use Rattle.record_pages.specs.Pages.{page_count}
+use Rattle.record_pages.specs.Tables.{record_names}
+use Rattle.slot_store.proofs.Paging.{each_of}
+use Rattle.slot_store.specs.declared.store.SlotStore.{SlotStore}
+use Rattle.slot_store.specs.Areas.{Area, IsArea, layout_of, size_of}
+use Rattle.slot_store.specs.Layout.{Mark, laid, table_for}
+use Rattle.slot_store.specs.Store.{content, mark}
+use Rattle.slot_store.proofs.Laid.{laid_names}
+use Rattle.slot_store.proofs.Named.{blank_names}
+use Rattle.slot_store.proofs.Standing.{outside_torn, store_marked}
+
+-- ---- numbers
+
+-- a number is one of these, or none
+pub one_or_none : (m : ℕ) (ns : List ℕ) → IsOneOf m ns ⊎ IsNoneOf m ns
+one_or_none m [] = inr (λ j lt. absurd (omega arith))
+one_or_none m (n ∷ ns) = ⊎_elim
+    (λ is. inl (0, let e : 0 < suc (length ns) = omega arith in e, is))
+    (λ isnt. ⊎_elim (λ one. inl (
+      suc one.0,
+      let e : suc one.0 < suc (length ns) = omega (arith, one.1) in e,
+      one.2,
+    )) (λ none. inr (later isnt none)) (one_or_none m ns))
+    (cases_eq m n)
+  where
+    later : m ≢ n → IsNoneOf m ns → IsNoneOf m (n ∷ ns)
+    later isnt none zero lt = isnt
+    later isnt none (suc j) lt = none j (omega arith)
+
+-- ---- tables
+
+-- what one table names, beside a closed one
+pub still_unnamed : (names : List ℕ → List ℕ) (l : Layout) (was : Snapshot) (c : List ℕ) (n : ℕ)
+    → IsStill names l was c → IsBeside names l n was.table → IsUnnamed names l n c
+still_unnamed names l was c n still beside k table is_so = by (is_open was.table)
+    (sym (stands_alone l was.second c (closed (table_at l (not was.second) c)
+    (λ opened. absurd (let e : OPEN ≡ 0 = sym opened ∙ still.shut in omega arith)))
+    ∙ ap (λ t. alone was.second t) still.current) ∙ is_so)
+  where
+    by : (o : Bool) → (if o then counts was.second was.table else none_open) ≡ counts k table
+        → IsBeside names l n table
+    by true is = let same : was.table ≡ table = cc in subst (λ t. IsBeside names l n t) same beside
+    by false is = absurd (let e : none_open ≡ counts k table = is in cc)
+
+pub kept_open : (s : Snapshot) → is_open s.table ≡ true → kept_shot s ≡ shot s
+kept_open s opened = ap (λ o. if o then shot s else no_shot) opened
+
+-- ---- laid out
+
+pub laid_second : (mark : Mark) (text : Option (List ℕ)) → (laid mark text).second ≡ mark.second
+laid_second mark None = refl
+laid_second mark (Some text) = refl
+
+-- ---- an area
+
+module _ (area : Area) (lawful : IsArea area) where
+  pub layout_sound : (size : ℕ) → size < 2 ^ 64 → area.start + size_of area ≤ size
+      → IsSound (layout_of area) size
+  layout_sound size ends within = area_sound area.start area.pages size ends
+      (omega (arith, lawful.least)) within
+
+  pub frame_of : (start : DiskState) (c : List ℕ) → KeepsOutside (layout_of area) start c
+      → Frame start area.start (size_of area) c
+  frame_of start c around = (
+    around.0,
+    around.1,
+    outside_torn area around.0 c (omega (arith, lawful.least)) around.2,
+  )
+
+  pub reads_of : (start now : DiskState) → ReadsAround (layout_of area) start now
+      → ReadsOutside area.start (size_of area) start now
+  reads_of start now reads s told =
+      let was = reads s told in
+      (was.0, was.1, outside_torn area was.0 s (omega (arith, lawful.least)) was.2)
+
+-- ---- a store's table
+
+pub none_turn : (store : SlotStore) → content store ≡ None → store.turn ≡ 0
+unfolding content
+none_turn store none = by (store.turn == 0) refl none
+  where
+    by : (b : Bool) → (store.turn == 0) ≡ b
+        → (if b then None else Some (take store.kept.len store.kept.bytes.items)) ≡ None
+        → store.turn ≡ 0
+    by true is none = grind (arith, nat_tests)
+    by false isnt none = absurd (let e : Some (take store.kept.len store.kept.bytes.items) ≡ None
+        = none in cc)
+
+no_numbers : (store : SlotStore) → content store ≡ None → store.kept.numbers.items ≡ []
+no_numbers store none = by (store.kept.numbers.items) (each_of store.kept
+    ∙ ap page_count (store.none (none_turn store none)))
+  where
+    by : (ns : List ℕ) → length ns ≡ page_count 0 → ns ≡ []
+    by [] is = refl
+    by (n ∷ ns) is = absurd (let e : suc (length ns) ≡ 0 = is in omega arith)
+
+text_names : (store : SlotStore) (text : List ℕ) → content store ≡ Some text
+    → record_names (table_for (mark store) text) ≡ store.kept.numbers.items
+unfolding mark
+text_names store text is = laid_names store.area (mark store) text store.lawful
+    (store_marked store text is)
+
+pub own_names : (store : SlotStore)
+    → record_names (laid (mark store) (content store)).table.body ≡ store.kept.numbers.items
+own_names store = by (content store) refl
+  where
+    by : (text : Option (List ℕ)) → content store ≡ text
+        → record_names (laid (mark store) text).table.body ≡ store.kept.numbers.items
+    by None is = blank_names ∙ sym (no_numbers store is)
+    by (Some text) is = text_names store text is
+
+-- the turn of the table that is to come follows
+pub comes_next : (was now : Mark) (old : Option (List ℕ)) (text : List ℕ)
+    → now.turn ≡ next_turn was.turn → 1 ≤ turn_of (laid was old).table
+    → turn_of (open_table (table_for now text)) ≡ next_turn (turn_of (laid was old).table)
+comes_next was now None text is low = absurd (let e : turn_of (wiped PAGE) ≡ 0 = refl in omega
+    (arith, low, e))
+comes_next was now (Some old) text is low = is

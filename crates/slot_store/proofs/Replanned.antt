@@ -1,0 +1,116 @@
+-- A record in memory and the text that takes its place: what the plan gives.
+use Rattle.std.proofs.Common.{◌≡◌, ℕ, ◌-◌, ◌*◌, ◌<◌, ◌≤◌, List, [], ◌++◌, length, take, drop, replicate, None, sym, ◌∙◌, ap, arith, length-append, length-take-le}
+use Rattle.std.proofs.lemmas.List.{length-replicate}
+use Rattle.std.proofs.Math.Seq.{drop-append_seam}
+use Rattle.dr_base.specs.declared.limits.TheConstants.{PAGE}
+use Rattle.record_pages.specs.Pages.{cut, page_count, pages_in}
+use Rattle.record_pages.specs.Plans.{changed, changed_places, dropped, free_from, numbered}
+use Rattle.record_pages.specs.Tables.{entry_fault}
+use Rattle.record_pages.proofs.Filled.{count_fits, count_least, cut_kept, pages_in_long, room_for}
+use Rattle.record_pages.proofs.FreeEnough.{free_enough}
+use Rattle.record_pages.proofs.LawfulEntries.{entries_lawful, lawful_entries}
+use Rattle.record_pages.proofs.PlanEntries.{ArePlanned, plan_entries}
+use Rattle.record_pages.proofs.Renumbered.{changed_few, numbered_long, numbered_short}
+use Rattle.slot_store.proofs.Paging.{each_of}
+use Rattle.slot_store.specs.declared.kept.Kept.{Kept}
+use Rattle.slot_store.specs.Areas.{Area, Fits, IsArea}
+use Rattle.slot_store.specs.Layout.{free_in}
+
+-- a record in memory, and the numbers of its pages
+pub record IsKept (area : Area) (len : ℕ) (bytes numbers : List ℕ) : Type 0 where
+  pub inside : len ≤ length bytes
+  pub blank : drop len bytes ≡ replicate (length bytes - len) 0
+  pub each : length numbers ≡ page_count len
+  pub long : length bytes ≡ PAGE * area.most
+  pub entries : entry_fault area.pages [] 6 numbers ≡ None
+
+pub kept_is : (area : Area) (kept : Kept) → length kept.bytes.items ≡ PAGE * area.most → entry_fault area.pages [] 6 kept.numbers.items ≡ None
+    → IsKept area kept.len kept.bytes.items kept.numbers.items
+kept_is area kept long entries = record { inside = kept.fits; blank = kept.blank; each = each_of kept; long = long; entries = entries }
+
+-- a text and zeros
+pub zeros_behind : (text all : List ℕ) (k : ℕ) → all ≡ text ++ replicate k 0 → drop (length text) all ≡ replicate (length all - length text) 0
+zeros_behind text all k is =
+    let long : k ≡ length all - length text =
+    omega (arith, ap (λ (l : List ℕ). length l) is, length-append text (replicate k 0), length-replicate {A = ℕ} k 0) in
+    ap (λ (l : List ℕ). drop (length text) l) is ∙ drop-append_seam text (replicate k 0) ∙ ap (λ n. replicate n 0) long
+
+-- the free numbers, as they were filled in
+pub filled_is : (area : Area) (numbers now free : List ℕ) (total : ℕ) → now ≡ numbers → total ≡ area.pages → free ≡ free_from now (total - 2) 2
+    → free ≡ free_in area numbers
+filled_is area numbers now free total is all filled =
+    filled ∙ ap (λ (l : List ℕ). free_from l (total - 2) 2) is ∙ ap (λ k. free_from numbers (k - 2) 2) all
+
+module _ (area : Area) (lawful : IsArea area) (len : ℕ) (bytes numbers : List ℕ) (kept : IsKept area len bytes numbers) where
+  pub held_few : length numbers ≤ area.most
+  held_few = omega (arith, kept.each, count_least len area.most (omega (arith, kept.inside, kept.long)))
+
+  pub held_room : PAGE * length numbers ≤ length bytes
+  held_room = omega (arith, held_few, kept.long)
+
+  -- its pages, in memory
+  pub old_pages : cut (length numbers) bytes ≡ pages_in (take len bytes)
+  old_pages =
+      ap (λ k. cut k bytes) kept.each
+      ∙ cut_kept len bytes kept.inside kept.blank (room_for len area.most bytes kept.inside kept.long)
+
+  pub old_long : length numbers ≡ length (pages_in (take len bytes))
+  old_long =
+      kept.each ∙ ap (λ k. page_count k) (sym (length-take-le len bytes kept.inside))
+      ∙ sym (pages_in_long (take len bytes))
+
+  -- ---- and a text that fits
+  module _ (text : List ℕ) (fits : Fits area text) where
+    abbrev pub old : List (List ℕ)
+    old = pages_in (take len bytes)
+
+    abbrev pub new : List (List ℕ)
+    new = pages_in text
+
+    abbrev pub fresh : List ℕ
+    fresh = take (length (changed old new)) (free_in area numbers)
+
+    pub free_room : page_count (length text) ≤ length (free_in area numbers)
+    free_room = omega (arith, fits, held_few, lawful.least, free_enough area.pages numbers)
+
+    pub free_left : length (changed old new) ≤ length (free_in area numbers)
+    free_left = omega (arith, free_room, changed_few old new, pages_in_long text)
+
+    pub text_room : length text ≤ length bytes
+    text_room = omega (arith, count_fits (length text) area.most fits, kept.long)
+
+    pub text_short : length text < 4294967296
+    text_short = omega (arith, count_fits (length text) area.most fits, lawful.named)
+
+    pub plan_is : ArePlanned area.pages old numbers new fresh
+    plan_is = plan_entries area.pages old numbers new (entries_lawful area.pages numbers kept.entries) old_long free_left
+
+    pub named_lawful : entry_fault area.pages [] 6 (numbered old numbers new (free_in area numbers)) ≡ None
+    named_lawful =
+        ap (λ (l : List ℕ). entry_fault area.pages [] 6 l) (numbered_short old numbers new (free_in area numbers))
+        ∙ lawful_entries area.pages (numbered old numbers new fresh) plan_is.named_are
+
+    pub dropped_lawful : entry_fault area.pages [] 6 (dropped old numbers new) ≡ None
+    dropped_lawful = lawful_entries area.pages (dropped old numbers new) plan_is.dropped_are
+
+    pub named_long : length (numbered old numbers new (free_in area numbers)) ≡ page_count (length text)
+    named_long = numbered_long old numbers new (free_in area numbers) old_long ∙ pages_in_long text
+
+    -- ---- as the code has it: over these bytes and these free numbers
+    module _ (lent given : List ℕ) (is : lent ≡ bytes) (free : given ≡ free_in area numbers) where
+      pub given_room : page_count (length text) ≤ length given
+      given_room = omega (arith, free_room, ap (λ (l : List ℕ). length l) free)
+
+      lent_pages : cut (length numbers) lent ≡ old
+      lent_pages = ap (λ (l : List ℕ). cut (length numbers) l) is ∙ old_pages
+
+      pub numbers_are : numbered (cut (length numbers) lent) numbers new given ≡ numbered old numbers new (free_in area numbers)
+      numbers_are =
+          ap (λ (l : List (List ℕ)). numbered l numbers new given) lent_pages
+          ∙ ap (λ (l : List ℕ). numbered old numbers new l) free
+
+      pub places_are : changed_places 0 (cut (length numbers) lent) new ≡ changed_places 0 old new
+      places_are = ap (λ (l : List (List ℕ)). changed_places 0 l new) lent_pages
+
+      pub dropped_are : dropped (cut (length numbers) lent) numbers new ≡ dropped old numbers new
+      dropped_are = ap (λ (l : List (List ℕ)). dropped l numbers new) lent_pages

@@ -1,0 +1,32 @@
+use Rattle.std.proofs.Common.{◌-◌, take, refl, sym, subst, arith}
+use Rattle.dr_base.specs.declared.limits.TheConstants.{PAGE}
+use Rattle.pages.specs.Clearing.{AreReadBlank}
+use Rattle.pages.specs.Tables.{AreZeros}
+use Rattle.pages.specs.Tidying.{IsToTidy}
+use Rattle.record_pages.specs.Tables.{record_names}
+use Rattle.slot_store.proofs.Wiping.{blank_true, to_tidy, zeros_for}
+use Rattle.slot_store.proofs.settling.wipe_table.Goals as goal
+
+pub tidy-requires-clause-read : goal.tidy-requires-clause-read
+tidy-requires-clause-read g c =
+    let start = g.D.Disk.state c.args.disk.now in
+    subst (λ l. IsToTidy record_names l c.args.second c.args.gate c.is_blank-blank.result c.args.named.now start)
+    (sym c.layout.ensures.layout)
+    (to_tidy c.args.area c.args.second c.args.gate c.args.body.now start c.requires.ready c.requires.read
+    c.is_blank-blank.result c.args.named.now c.layout.ensures.lawful (omega arith) c.requires.long c.is_blank-blank.ensures.zeros
+    c.requires.counts c.requires.unnamed c.requires.mute)
+
+pub tidy-requires-clause-zeros : goal.tidy-requires-clause-zeros
+tidy-requires-clause-zeros g c =
+    subst (λ l. AreZeros l c.args.zeros.now (take (PAGE - 1) c.args.zeros.now)) (sym c.layout.ensures.layout)
+    (zeros_for c.args.area c.args.zeros.now (take (PAGE - 1) c.args.zeros.now) c.requires.zero refl)
+
+pub returns-in-Ok-clause-still : goal.returns-in-Ok-clause-still
+returns-in-Ok-clause-still g c = λ gate zero blank. c.tidy.ensures.still gate
+    (blank_true c.is_blank-blank.result c.args.body.now c.is_blank-blank.ensures.others zero c.requires.long)
+    (subst (λ l. AreReadBlank l c.args.named.now (g.D.Disk.state c.args.disk.now)) (sym c.layout.ensures.layout) blank)
+
+pub returns-in-Err-clause-still : goal.returns-in-Err-clause-still
+returns-in-Err-clause-still g c = λ gate zero blank. c.tidy.ensures.still gate
+    (blank_true c.is_blank-blank.result c.args.body.now c.is_blank-blank.ensures.others zero c.requires.long)
+    (subst (λ l. AreReadBlank l c.args.named.now (g.D.Disk.state c.args.disk.now)) (sym c.layout.ensures.layout) blank)

@@ -1,0 +1,49 @@
+-- What opening an area comes to, once its tables were read.
+use Rattle.std.specs.Prelude.{◌≡◌, ℕ, List, [], Option, Result, Ok, Err, IfOk}
+use Rattle.dr_disk.specs.declared.call.Call.{Call}
+use Rattle.dr_disk.specs.State.{DiskState, OnSeen}
+use Rattle.dr_disk.specs.Spans.{Span}
+use Rattle.dr_disk.specs.Called.{Went, itself}
+use Rattle.pages.specs.Runs.{IsUntouched}
+use Rattle.slot_store.specs.declared.draft.Draft.{Draft}
+use Rattle.slot_store.specs.declared.errors.OpenError.{OpenError}
+use Rattle.slot_store.specs.declared.errors.OpenError.TheVariants.{Damaged, StoreFault}
+use Rattle.slot_store.specs.declared.kept.Kept.{Kept}
+use Rattle.slot_store.specs.declared.opening.Found.{Found}
+use Rattle.slot_store.specs.declared.outcome.Outcome.{Outcome}
+use Rattle.slot_store.specs.declared.outcome.Outcome.TheVariants.{Refused, Stored}
+use Rattle.slot_store.specs.declared.store.SlotStore.{SlotStore}
+use Rattle.slot_store.specs.Areas.{Area}
+use Rattle.slot_store.specs.AtRest.{IsReadAtRest}
+use Rattle.slot_store.specs.Loading.{HasRecordRoom}
+use Rattle.slot_store.specs.Memory.{HasRoom}
+use Rattle.slot_store.specs.Opened.{IsOpened}
+use Rattle.slot_store.specs.Reading.{IsLikeRead, damaged, reading}
+
+-- memory for a store that has no record yet
+pub record IsForStore (area : Area) (kept : Kept) (draft : Draft) : Type 0 where
+  pub none : kept.len ≡ 0
+  pub room : HasRecordRoom area kept
+  pub dropped : draft.plan.dropped.items ≡ []
+  pub plans : HasRoom area draft
+
+-- a store over what was read; or what was read is damaged, and nothing is called but reads
+abbrev pub IsOutcome : (List ℕ → Option ℕ) → Area → DiskState → DiskState → Outcome → Type 0
+IsOutcome fault_at area start now (Stored store found) =
+    IsOpened fault_at area start now store found
+IsOutcome fault_at area start now (Refused slot at) =
+    IsUntouched start now × OnSeen (λ s. reading fault_at area s ≡ damaged slot at) start
+
+-- Each crash meanwhile leaves what was read. What was read at rest stays as it is.
+pub record Opens (fault_at : List ℕ → Option ℕ) (area : Area) (start now : DiskState)
+    (result : Result Outcome Call) : Type 0 where
+  pub found : IfOk result (IsOutcome fault_at area start now)
+  pub any_moment : Span start now (IsLikeRead area start)
+  pub still : IsReadAtRest area start → IsUntouched start now
+  pub calls : Went itself start now result
+
+-- as callers are told
+abbrev pub answer_of : Result Outcome Call → Result (SlotStore × Found) OpenError
+answer_of (Ok (Stored store found)) = Ok (store, found)
+answer_of (Ok (Refused slot at)) = Err (Damaged slot at)
+answer_of (Err call) = Err (StoreFault call)

@@ -1,0 +1,29 @@
+-- The record that an area's bytes stand for.
+use Rattle.std.specs.Prelude.{ℕ, List, take, Option, Some, None}
+use Rattle.pages.specs.Snapshots.{Shot, no_shot, shot, snapshot, unclear}
+use Rattle.record_pages.specs.Pages.{joined}
+use Rattle.record_pages.specs.Tables.{length_in, record_names, table_fault}
+use Rattle.slot_store.specs.Areas.{Area, layout_of}
+
+-- the record of a table and its pages
+abbrev pub record_in : List ℕ → List (List ℕ) → List ℕ
+record_in body pages = take (length_in body) (joined pages)
+
+-- unless there is a fault
+abbrev pub faultless : Option ℕ → List ℕ → Option (List ℕ)
+faultless None text = Some text
+faultless (Some at) text = None
+
+-- of the newer open table, where it names pages of the area
+abbrev pub shown : Area → Shot → Option (List ℕ)
+shown area no_shot = None
+shown area unclear = None
+shown area (shot s) = faultless (table_fault area.pages area.most s.table.body) (record_in s.table.body s.pages)
+
+-- which table counts, with its pages
+abbrev pub shot_in : Area → List ℕ → Shot
+shot_in area c = snapshot record_names (layout_of area) c
+
+-- the record that these bytes stand for
+unfoldable pub recovered : Area → List ℕ → Option (List ℕ)
+recovered area c = shown area (shot_in area c)

@@ -1,0 +1,119 @@
+//! The record that a table names is read into memory, and judged.
+
+ghost use Rattle.std.specs.Prelude.{◌≡◌, ◌≤◌, ◌+◌, ◌*◌, length, map, take, drop, IfOk, OnOk};
+ghost use Rattle.dr_base.specs.declared.limits.TheConstants.{PAGE};
+ghost use Rattle.dr_disk.specs.State.{OnSeen};
+ghost use Rattle.pages.specs.Layouts.{IsSound};
+ghost use Rattle.pages.specs.Runs.{Looks};
+ghost use Rattle.pages.specs.Snapshots.{page_of};
+ghost use Rattle.pages.specs.Writing.{ArePages};
+ghost use Rattle.record_pages.specs.Pages.{cut};
+ghost use Rattle.record_pages.specs.Tables.{nonzero_from, or_else};
+ghost use Rattle.slot_store.specs.Areas.{layout_of};
+ghost use Rattle.slot_store.specs.Loading.{HasRecordRoom, IsLoaded, IsNamedRecord};
+ghost use Rattle.slot_store.specs.Reading.{behind_table};
+ghost use Rattle.slot_store.specs.Store.{IsWithin};
+
+use crate::area::{Area, layout, page_total, record_most};
+use crate::grammar::Grammar;
+use crate::kept::Kept;
+use dr_base::PAGE;
+use dr_disk::{Call, Disk};
+use pages::read_page;
+use record_pages::{nonzero, record_length, table_fault};
+
+/// A record, or the first place that no record's table and pages have: in the table, or a page's
+/// size and the place in the pages.
+#[derive(Drop)]
+pub(crate) enum Loaded {
+    Whole { kept: Kept },
+    Faulty { at: u64 },
+}
+
+/// Reads the pages of these numbers, one after the other.
+fn read_pages<D: Disk>(
+    disk: &mut D,
+    area: Area,
+    numbers: &[u32],
+    bytes: &mut [u8],
+) -> Result<(), Call>
+    requires sound { IsSound (layout_of area) (D.state disk.old).size }
+    requires pages { ArePages (layout_of area) numbers.now }
+    requires room { PAGE * length numbers.now ≤ length bytes.old }
+    ensures pages { OnOk result (OnSeen (λ s. cut (length numbers.now) bytes.new
+        ≡ map (page_of (layout_of area) s) numbers.now) (D.state disk.old)) }
+    ensures behind { drop (PAGE * length numbers.now) bytes.new
+        ≡ drop (PAGE * length numbers.now) bytes.old }
+    ensures long { length bytes.new ≡ length bytes.old }
+    ensures looks { Looks (D.state disk.old) (D.state disk.new) result }
+{
+    let layout = layout(area);
+    'pages: for i in 0..numbers.len() {
+        let at = PAGE * i;
+        match read_page(disk, layout, numbers[i], &mut bytes[at..at + PAGE]) {
+            Ok(()) => {}
+            Err(call) => return Err(call),
+        }
+    }
+    Ok(())
+}
+
+/// The first place in a record's pages that no record has, counted from its table, if there is one.
+fn record_fault<G: Grammar>(pages: &[u8], len: usize) -> Option<u64>
+    requires fits { len ≤ length pages.now }
+    requires short { length pages.now ≤ PAGE * 2045 }
+    ensures { result ≡ behind_table (or_else (G.fault_at (take len pages.now))
+        (nonzero_from len (drop len pages.now))) }
+{
+    if let Err(at) = G::check(&pages[..len]) {
+        return Some(PAGE as u64 + at as u64);
+    }
+    match nonzero(&pages[len..], len as u32) {
+        Some(at) => Some(PAGE as u64 + at as u64),
+        None => None,
+    }
+}
+
+/// Reads the record that a table names, in memory that has none. Where the table has a fault no page
+/// is read.
+pub(crate) fn load<G: Grammar, D: Disk>(
+    disk: &mut D,
+    area: Area,
+    kept: Kept,
+    body: &[u8],
+) -> Result<Loaded, Call>
+    requires within { IsWithin area (D.state disk.old) }
+    requires none { kept.len ≡ 0 }
+    requires room { HasRecordRoom area kept }
+    requires long { length body.now + 1 ≡ PAGE }
+    ensures named { IfOk result (IsNamedRecord G.fault_at area body.now) }
+    ensures loaded { IfOk result (λ loaded. OnSeen (IsLoaded G.fault_at area body.now loaded)
+        (D.state disk.old)) }
+    ensures looks { Looks (D.state disk.old) (D.state disk.new) result }
+{
+    let _size = disk.size();
+    let Kept {
+        mut bytes,
+        mut numbers,
+        ..
+    } = kept;
+    let total = page_total(area);
+    if let Some(at) = table_fault(body, total, record_most(area), &mut numbers) {
+        return Ok(Loaded::Faulty { at: at as u64 });
+    }
+    match read_pages(disk, area, &numbers, &mut bytes) {
+        Ok(()) => {}
+        Err(call) => return Err(call),
+    }
+    let len = record_length(body) as usize;
+    if let Some(at) = record_fault::<G>(&bytes[..PAGE * numbers.len()], len) {
+        return Ok(Loaded::Faulty { at });
+    }
+    Ok(Loaded::Whole {
+        kept: Kept {
+            bytes,
+            len,
+            numbers,
+        },
+    })
+}

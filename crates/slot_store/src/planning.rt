@@ -1,0 +1,77 @@
+//! What a new record changes, planned in memory.
+
+ghost use Rattle.std.specs.Prelude.{◌≡◌, ◌≤◌, ◌+◌, ◌*◌, [], length, take, vec_capacity, None, IfOk};
+ghost use Rattle.dr_base.specs.declared.limits.TheConstants.{PAGE};
+ghost use Rattle.record_pages.specs.Pages.{pages_in};
+ghost use Rattle.record_pages.specs.Plans.{changed_places, dropped, numbered};
+ghost use Rattle.record_pages.specs.Tables.{entry_fault};
+ghost use Rattle.slot_store.specs.Areas.{Fits, IsArea};
+ghost use Rattle.slot_store.specs.Memory.{HasRoom};
+ghost use Rattle.slot_store.specs.Layout.{free_in};
+
+use crate::area::{Area, page_total, record_most};
+use crate::draft::Draft;
+use crate::kept::{Kept, fill_in};
+use dr_base::PAGE;
+use record_pages::{Plan, fill_free, plan_pages};
+use std::alloc::{AllocError, Global};
+
+/// An empty plan, with room for those of an area.
+pub(crate) fn take_draft(alloc: Global, area: Area) -> Result<Draft, AllocError>
+    ensures dropped { IfOk result (λ draft. draft.plan.dropped.items ≡ []) }
+    ensures room { IfOk result (HasRoom area) }
+{
+    let most = record_most(area) as usize;
+    let total = page_total(area) as usize;
+    Ok(Draft {
+        plan: Plan {
+            places: Vec::with_capacity(alloc, most)?,
+            dropped: Vec::with_capacity(alloc, most + 1)?,
+        },
+        free: Vec::with_capacity(alloc, total)?,
+        body: vec![in alloc; 0; PAGE - 1]?,
+        zeros: vec![in alloc; 0; PAGE]?,
+    })
+}
+
+/// Puts a text in place of the record in memory, and plans what of it is written and what is wiped.
+pub(crate) fn replan(area: Area, kept: &mut Kept, draft: &mut Draft, text: &[u8])
+    requires fits { Fits area text.now }
+    requires long { length kept.old.bytes.items ≡ PAGE * area.most }
+    requires entries { entry_fault area.pages [] 6 kept.old.numbers.items ≡ None }
+    requires numbers { area.most ≤ vec_capacity kept.old.numbers }
+    requires room { HasRoom area draft.old }
+
+    // The record in memory.
+    ensures len { kept.new.len ≡ length text.now }
+    ensures text { take kept.new.len kept.new.bytes.items ≡ text.now }
+    ensures long { length kept.new.bytes.items ≡ PAGE * area.most }
+    ensures numbers { kept.new.numbers.items
+        ≡ numbered (pages_in (take kept.old.len kept.old.bytes.items)) kept.old.numbers.items
+        (pages_in text.now) (free_in area kept.old.numbers.items) }
+    ensures entries { entry_fault area.pages [] 6 kept.new.numbers.items ≡ None }
+    ensures number_room { area.most ≤ vec_capacity kept.new.numbers }
+
+    // The plan.
+    ensures free { draft.new.free.items ≡ free_in area kept.old.numbers.items }
+    ensures places { draft.new.plan.places.items
+        ≡ changed_places 0 (pages_in (take kept.old.len kept.old.bytes.items)) (pages_in text.now) }
+    ensures dropped { draft.new.plan.dropped.items
+        ≡ dropped (pages_in (take kept.old.len kept.old.bytes.items)) kept.old.numbers.items
+        (pages_in text.now) }
+    ensures drops { entry_fault area.pages [] 6 draft.new.plan.dropped.items ≡ None }
+    ensures room { HasRoom area draft.new }
+{
+    let total = page_total(area);
+    fill_free(&kept.numbers, 2, total, &mut draft.free);
+    plan_pages(
+        &kept.bytes,
+        &mut kept.numbers,
+        text,
+        &draft.free,
+        &draft.zeros,
+        &mut draft.plan,
+    );
+    fill_in(&mut kept.bytes, kept.len, text);
+    kept.len = text.len();
+}

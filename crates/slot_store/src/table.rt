@@ -1,0 +1,33 @@
+//! The table of a record, as the pages of a disk know it.
+
+ghost use Rattle.std.specs.Prelude.{◌≡◌, ◌≤◌};
+ghost use Rattle.pages.specs.Tables.{next_turn};
+ghost use Rattle.slot_store.specs.Reading.{number_of};
+
+use pages::Directory;
+
+/// A table names the pages of one record.
+pub(crate) struct RecordTable;
+
+impl Directory for RecordTable {
+    ghost use Rattle.record_pages.specs.Tables.{record_names};
+
+    ghost names = { record_names };
+}
+
+/// The turn that follows.
+pub(crate) fn next(turn: u8) -> u8
+    requires { turn ≤ 3 }
+    ensures next { result ≡ next_turn turn }
+    ensures low { 1 ≤ result }
+    ensures high { result ≤ 3 }
+{
+    if turn == 3 { 1 } else { turn + 1 }
+}
+
+/// The number of a table.
+pub(crate) fn number(second: bool) -> u32
+    ensures { result ≡ number_of second }
+{
+    if second { 1 } else { 0 }
+}
