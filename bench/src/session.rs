@@ -4,7 +4,7 @@ ghost use Rattle.std.specs.Prelude.{◌≡◌, None, IfOk, OnOk};
 ghost use Rattle.client.specs.Clients.{IsReady};
 
 use crate::clock::Times;
-use client::{Client, SLOT};
+use client::{AREA_SIZE, Client};
 use dr_base::{Key32, Side};
 use dr_disk::{Disk, FileDisk, Sharing};
 use dr_ports::SteadyDraws;
@@ -39,7 +39,7 @@ struct Rounds {
 
 /// The client of a side, begun on a new file.
 fn begin<K: Kem, D: Disk>(alloc: Global, side: Side, disk: &mut D) -> io::Result<()> {
-    if disk.size() < 2 * SLOT as u64 {
+    if disk.size() < AREA_SIZE {
         return Err(Error::from(ErrorKind::InvalidInput));
     }
     match Client::<K>::begin(alloc, disk, side, &Key32 { bytes: [7; 32] }) {
@@ -134,7 +134,7 @@ fn take_two<K: Kem, D: Disk, R: Clock>(
 fn opened<K: Kem, D: Disk>(alloc: Global, disk: &mut D) -> io::Result<Client<K>>
     ensures { IfOk result (λ client. client.closed ≡ None → IsReady client.kept client.store (D.state disk.new)) }
 {
-    if disk.size() < 2 * SLOT as u64 {
+    if disk.size() < AREA_SIZE {
         return Err(Error::from(ErrorKind::InvalidInput));
     }
     match Client::<K>::open(alloc, disk) {
@@ -179,8 +179,8 @@ fn play_on_files<K: Kem, R: Clock + AllocGlobal + Files<File = File>>(
     rt: &R,
     rounds: &mut Rounds,
 ) -> io::Result<()> {
-    let mut first = FileDisk::new(rt, FIRST, 2 * SLOT as u64, 0, Sharing::InTurn);
-    let mut second = FileDisk::new(rt, SECOND, 2 * SLOT as u64, 0, Sharing::InTurn);
+    let mut first = FileDisk::new(rt, FIRST, AREA_SIZE, 0, Sharing::InTurn);
+    let mut second = FileDisk::new(rt, SECOND, AREA_SIZE, 0, Sharing::InTurn);
     play::<K, FileDisk<R>, R>(rt, &mut first, &mut second, rounds)?;
     drop(first);
     drop(second);
