@@ -130,7 +130,7 @@ fn stops(alloc: Global, gives: &[u8]) -> bool {
         alloc,
         Row {
             gives,
-            passing: 2,
+            passing: 3,
             link_fails: &[],
             out_fails: &[],
             end: Err(SyncFault::Store { call: Call::Write }),
