@@ -3,7 +3,7 @@
 use crate::counted::COUNTED;
 use dr_base::{Key32, Position};
 use etm_aead::OpenKey;
-use fs_aead::{ReceiveStream, SendStream, SkipLimit, Skipped};
+use fs_aead::{ReceiveStream, Row, SendStream, SkipLimit, Skipped};
 
 // The first three message keys.
 const KEYS: [[u8; 32]; 3] = [
@@ -114,4 +114,69 @@ fn takes_a_passed_key_once(rt: HostRuntime) {
     assert!(rt; is_behind(stream));
     let mut resumed = Skipped::resume(skipped.kept());
     assert!(rt; gives_once(&mut resumed) && has_room(&resumed) && keeps_others(&resumed));
+}
+
+/// A table that keeps the keys of 0.1, 0.2 and 2.1.
+fn of_two_epochs() -> Skipped {
+    let mut skipped = Skipped::new();
+    let (_chain, _reach) = ReceiveStream::resume(chain(), 0)
+        .advance(0, &mut skipped, 2)
+        .rest();
+    let (_chain, _reach) = ReceiveStream::resume(chain(), 0)
+        .advance(2, &mut skipped, 1)
+        .rest();
+    skipped
+}
+
+// Where the keys of that table stand: epoch and index of a position, and the place of its key.
+const PLACES: [(u32, u32, Option<usize>); 6] = [
+    (0, 1, Some(0)),
+    (0, 2, Some(1)),
+    (0, 3, None),
+    (1, 1, None),
+    (2, 1, Some(2)),
+    (2, 2, None),
+];
+
+/// Whether each key is found, and no other.
+fn finds_each(skipped: &Skipped) -> bool {
+    for (epoch, index, place) in PLACES {
+        if skipped.find(Position { epoch, index }) != place {
+            return false;
+        }
+    }
+    true
+}
+
+/// Whether a table has these rows: of each the epoch, the start and the length.
+fn has_rows(skipped: &Skipped, rows: &[(u32, usize, usize)]) -> bool {
+    for (k, &(epoch, start, len)) in rows.iter().enumerate() {
+        if skipped.row(k) != Some(Row { epoch, start, len }) {
+            return false;
+        }
+    }
+    skipped.rows() == rows.len() && skipped.row(rows.len()) == None
+}
+
+/// The bytes of the key that is found at a position and taken at its place.
+fn taken(skipped: &mut Skipped, position: Position) -> Option<[u8; 32]> {
+    match skipped.find(position) {
+        Some(place) => Some(skipped.take_at(place).shelve().bytes),
+        None => None,
+    }
+}
+
+/// Whether the rows follow what is taken.
+fn rows_follow(skipped: &mut Skipped) -> bool {
+    has_rows(skipped, &[(0, 0, 2), (2, 2, 1)])
+        && taken(skipped, Position { epoch: 0, index: 2 }) == Some(KEYS[1])
+        && has_rows(skipped, &[(0, 0, 1), (2, 1, 1)])
+        && taken(skipped, Position { epoch: 0, index: 1 }) == Some(KEYS[0])
+        && has_rows(skipped, &[(2, 0, 1)])
+}
+
+#[test]
+fn keys_lie_in_rows(rt: HostRuntime) {
+    let mut skipped = of_two_epochs();
+    assert!(rt; finds_each(&skipped) && rows_follow(&mut skipped));
 }

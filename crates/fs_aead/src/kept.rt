@@ -1,11 +1,9 @@
-//! The keys that were passed over, in an array of fixed room: copied, counted, and taken out in place.
+//! The keys that were passed over, in an array of fixed room: copied in place, and counted.
 
-ghost use Rattle.std.specs.Prelude.{◌≡◌, ◌+◌, ◌^◌, ◌<◌, ◌≤◌, ◌↔◌, length, IsOk, IfErr, IfNone, position as position_of};
-ghost use Rattle.fs_aead.specs.Table.{IsAscending, is_kept_at, kept_key, without};
+ghost use Rattle.std.specs.Prelude.{◌≡◌, ◌+◌, ◌^◌, ◌<◌, ◌≤◌, ◌↔◌, length, IsOk, IfErr};
 
 use arrayvec::ArrayVec;
-use dr_base::{KEPT_LIMIT, Kept, Key32, Position};
-use etm_aead::OpenKey;
+use dr_base::{KEPT_LIMIT, Kept, Key32};
 use thiserror::Error;
 
 /// Too many keys were passed: `would` is how many there would be in the table, which has room for `KEPT_LIMIT`.
@@ -49,29 +47,4 @@ pub fn room_for(keys: &[Kept], n: u32) -> Result<(), SkipLimit>
         return Err(SkipLimit { would });
     }
     Ok(())
-}
-
-/// Where the key of a position stands.
-fn place_of(keys: &[Kept], position: Position) -> Option<usize>
-    ensures { result ≡ position_of (is_kept_at position) keys.now }
-{
-    keys.iter().position(|kept| {
-        kept.position.epoch == position.epoch && kept.position.index == position.index
-    })
-}
-
-/// Takes the key of a position out of a table, if it is kept there. Only the keys after it move.
-pub fn take_key(table: &mut ArrayVec<Kept, KEPT_LIMIT>, position: Position) -> Option<OpenKey>
-    requires { IsAscending table.old.items }
-    ensures key { result ≡ kept_key table.old.items position }
-    ensures rest { table.new.items ≡ without table.old.items position }
-    ensures none { IfNone result (table.new ≡ table.old) }
-{
-    match place_of(table.as_slice(), position) {
-        Some(place) => {
-            let Kept { position: _, key } = table.remove(place);
-            Some(OpenKey::from_message(key))
-        }
-        None => None,
-    }
 }

@@ -5,6 +5,7 @@ ghost use Rattle.std.specs.Prelude.{◌≡◌, ◌≢◌, ℕ, ◌+◌, List, �
 ghost use Rattle.dr_base.specs.declared.key.Kept.{Kept};
 ghost use Rattle.dr_base.specs.declared.position.Position.{Position};
 ghost use Rattle.fs_aead.specs.Chain.{chain_message_key, chain_of, message_key, next_chain};
+ghost use Rattle.fs_aead.specs.Rows.{AreRows};
 ghost use Rattle.fs_aead.specs.Table.{AllBefore, IsAscending, kept_key, shelved, without};
 
 /// By these, the n-th `next` of a stream gives the message key of the index n. A stream that was resumed
@@ -44,4 +45,10 @@ pub fn keys_are_taken_once()
     ensures one { (keys : List Kept) (p : Position) → IsAscending keys → IsSome (kept_key keys p) →
         length (without keys p) + 1 ≡ length keys }
     ensures ascending { (keys : List Kept) (p : Position) → IsAscending keys → IsAscending (without keys p) }
+{}
+
+/// The rows of an ascending table ascend by epoch. None is empty, and each holds exactly the keys of
+/// its epoch, at the places from its start on, as many as its length says. No key is without a row.
+pub fn rows_hold_whole_epochs()
+    ensures { (keys : List Kept) → IsAscending keys → AreRows keys }
 {}

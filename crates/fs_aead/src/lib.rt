@@ -4,8 +4,8 @@
 //! gone then: no later chain key leads back to an earlier message key. One stream seals, and one opens. A
 //! stream can't be copied, and each step takes it, so that no key is given twice. Where texts come out of
 //! order, the keys that were passed over wait in a table of fixed room, each for the text of its position.
-//! `Skipped` is such a table. It has kilobytes, so it is changed where it stands: `Skipped::copy_from` makes it a
-//! copy of another.
+//! `Skipped` is such a table. It has kilobytes, so it is changed where it stands: `Skipped::copy_from`
+//! makes it a copy of another. Its keys lie in rows, one for each epoch that has some.
 //!
 //! ```rust
 //! use dr_base::{Key32, Position};
@@ -27,8 +27,11 @@
 #![tactic(auto)]
 
 pub use kept::SkipLimit;
-pub use laws::{keys_are_taken_once, passed_keys_ascend, streams_give_each_key};
+pub use laws::{
+    keys_are_taken_once, passed_keys_ascend, rows_hold_whole_epochs, streams_give_each_key,
+};
 pub use receiving::ReceiveStream;
+pub use rows::Row;
 pub use sending::SendStream;
 pub use table::Skipped;
 
@@ -36,5 +39,6 @@ mod chain;
 mod kept;
 mod laws;
 mod receiving;
+mod rows;
 mod sending;
 mod table;

@@ -5,6 +5,7 @@ ghost use Rattle.fs_aead.specs.Chain.{chain_message_key, chain_of, next_chain};
 ghost use Rattle.fs_aead.specs.Table.{AllBefore, shelved};
 
 use crate::chain::step;
+use crate::rows::mark_rows;
 use crate::table::Skipped;
 use arrayvec::ArrayVec;
 use dr_base::{KEPT_LIMIT, Kept, Key32, Position};
@@ -61,7 +62,12 @@ impl ReceiveStream {
         ensures stream { result ≡ record { chain = chain_of self.chain (to - self.count); count = to } }
         ensures shelved { skipped.new ≡ skipped.old ++ shelved epoch self.chain self.count (to - self.count) }
     {
-        self.advance_into(epoch, &mut skipped.keys, to)
+        if self.reach == to {
+            return self;
+        }
+        let stream = self.advance_into(epoch, &mut skipped.keys, to);
+        mark_rows(skipped.keys.as_slice(), &mut skipped.starts);
+        stream
     }
 
     /// As `advance`, in a table that stands in a larger value. `room_for` tells whether the keys have room. Where the

@@ -1,33 +1,38 @@
 //! The table of the keys that were passed over.
 
-ghost use Rattle.std.specs.Prelude.{◌≡◌, ◌+◌, ◌^◌, ◌<◌, ◌≤◌, ◌↔◌, [], length, IsTrue, IsOk, IfErr, IfNone};
+ghost use Rattle.std.specs.Prelude.{◌≡◌, ◌+◌, ◌^◌, ◌<◌, ◌≤◌, ◌↔◌, [], length, remove, slice_index_or, IsTrue, IsOk, IfErr, IfNone};
+ghost use Rattle.fs_aead.specs.Rows.{no_kept};
 ghost use Rattle.fs_aead.specs.Table.{IsAscending, kept_key, without};
 
-use crate::kept::{SkipLimit, copy_keys, room_for, take_key};
+use crate::kept::{SkipLimit, copy_keys, room_for};
+use crate::rows::mark_rows;
 use arrayvec::ArrayVec;
 use dr_base::{KEPT_LIMIT, Kept, Position};
 use etm_aead::OpenKey;
 use std::marker::Model;
 
-/// The keys that were passed over, each for a text that is still to come. A contract sees the list of them,
-/// which ascends by epoch and index.
+/// The keys that were passed over, each for a text that is still to come. A contract sees the list of
+/// them, which ascends by epoch and index.
 ///
-/// It has room for `KEPT_LIMIT` keys, in the value itself: it allocates nothing.
+/// It has room for `KEPT_LIMIT` keys, in the value itself: it allocates nothing. Beside the keys
+/// stands where the row of each epoch begins.
 #[derive(Drop)]
 pub struct Skipped {
     pub(crate) keys: ArrayVec<Kept, KEPT_LIMIT>,
+    pub(crate) starts: ArrayVec<u16, KEPT_LIMIT>,
 }
 
 impl Model for Skipped {
-    ghost use Rattle.std.specs.Prelude.{List};
+    ghost use Rattle.std.specs.Prelude.{◌≡◌, List};
     ghost use Rattle.dr_base.specs.declared.key.Kept.{Kept};
+    ghost use Rattle.fs_aead.specs.Rows.{starts_of};
     ghost use Rattle.fs_aead.specs.Table.{IsAscending};
 
     ghost Value = { List Kept };
 
     ghost view = { λ s. s.keys.items };
 
-    ghost invariant = { λ s. IsAscending s.keys.items };
+    ghost invariant = { λ s. IsAscending s.keys.items × (s.starts.items ≡ starts_of s.keys.items) };
 }
 
 impl Default for Skipped {
@@ -45,6 +50,7 @@ impl Skipped {
     {
         Skipped {
             keys: ArrayVec::new(),
+            starts: ArrayVec::new(),
         }
     }
 
@@ -56,6 +62,7 @@ impl Skipped {
     {
         let mut skipped = Skipped::new();
         copy_keys(keys, &mut skipped.keys);
+        mark_rows(keys, &mut skipped.starts);
         skipped
     }
 
@@ -63,7 +70,9 @@ impl Skipped {
     pub fn copy_from(&mut self, from: &Skipped)
         ensures { self.new ≡ from.now }
     {
-        copy_keys(from.kept(), &mut self.keys);
+        copy_keys(from.keys.as_slice(), &mut self.keys);
+        self.starts.clear();
+        let _whole = self.starts.try_extend_from_slice(from.starts.as_slice());
     }
 
     /// The keys, in ascending order of their positions.
@@ -105,6 +114,20 @@ impl Skipped {
         ensures rest { self.new ≡ without self.old position }
         ensures none { IfNone result (self.new ≡ self.old) }
     {
-        take_key(&mut self.keys, position)
+        match self.find(position) {
+            Some(place) => Some(self.take_at(place)),
+            None => None,
+        }
+    }
+
+    /// Takes the key at a place out of the table, as `find` tells it. Only the keys after it move.
+    pub fn take_at(&mut self, place: usize) -> OpenKey
+        requires { place < length self.old }
+        ensures key { result ≡ (slice_index_or self.old place no_kept).key.bytes }
+        ensures rest { self.new ≡ remove self.old place }
+    {
+        let Kept { position: _, key } = self.keys.remove(place);
+        mark_rows(self.keys.as_slice(), &mut self.starts);
+        OpenKey::from_message(key)
     }
 }
