@@ -1,2 +1,3 @@
 pub mod Items
+pub mod Rooms
 pub mod Seen

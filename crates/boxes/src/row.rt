@@ -2,12 +2,16 @@
 
 ghost use Rattle.std.specs.Prelude.{◌≡◌, ◌^◌, ◌<◌, ◌≤◌, ◌↔◌, [], ◌∷◌, ◌++◌, length, drop, All, option_copied, slice_get, IsSome, IsOk, IfOk, OnOk, OnErr, IfErr};
 ghost use Rattle.boxes.specs.Items.{item_at};
+ghost use Rattle.boxes.specs.Rooms.{turned_front};
 
 use crate::errors::{Fewer, Full};
 use arrayvec::ArrayVec;
 use dr_base::{Position, in_room};
 use std::alloc::{AllocError, Global};
 use std::marker::Model;
+
+/// The position of a room in which nothing stands.
+const NOWHERE: Position = Position { epoch: 0, index: 0 };
 
 /// One item of a row: a position, and at most `ROOM` bytes in room of their own.
 #[derive(Drop)]
@@ -36,6 +40,16 @@ impl<const ROOM: usize> Stored<ROOM> {
         }
     }
 
+    /// Becomes the item of these bytes under a position, in its room.
+    fn refill(&mut self, position: Position, bytes: &[u8])
+        requires { length bytes.now ≤ ROOM }
+        ensures { self.new ≡ item_at position bytes.now }
+    {
+        self.position = position;
+        self.bytes.clear();
+        let _whole = self.bytes.try_extend_from_slice(bytes);
+    }
+
     /// The position under which the item stands.
     pub fn position(&self) -> Position
         ensures { result ≡ self.now.position }
@@ -54,21 +68,35 @@ impl<const ROOM: usize> Stored<ROOM> {
 
 /// A list of at most `LIMIT` items, the oldest first, each of at most `ROOM` bytes. A contract sees the list of them.
 /// All its memory is taken when it is made: no later call allocates.
+///
+/// An item stays in its room for as long as it stands. What moves is the order of the rooms' numbers: first come
+/// the `held` rooms with an item, the oldest first, and then those that are free.
 #[derive(Drop)]
 pub struct Row<const LIMIT: usize, const ROOM: usize> {
-    items: Vec<Stored<ROOM>>,
+    rooms: Vec<Stored<ROOM>>,
+    order: Vec<usize>,
+    held: usize,
 }
 
 impl<const LIMIT: usize, const ROOM: usize> Model for Row<LIMIT, ROOM> {
-    ghost use Rattle.std.specs.Prelude.{◌≤◌, List, All, length, vec_len, vec_capacity};
+    ghost use Rattle.std.specs.Prelude.{List};
     ghost use Rattle.boxes.specs.Items.{Item};
+    ghost use Rattle.boxes.specs.Rooms.{AreRooms, standing};
 
     ghost Value = { List Item };
 
-    ghost view = { λ r. r.items.items };
+    ghost view = { λ r. standing r.rooms.items r.held r.order.items };
 
-    ghost invariant = { λ r.
-        (vec_len r.items ≤ LIMIT) × (LIMIT ≤ vec_capacity r.items) × All (λ item. length item.bytes ≤ ROOM) r.items.items };
+    ghost invariant = { λ r. AreRooms LIMIT ROOM r.rooms.items r.held r.order.items };
+}
+
+/// Moves the first `n` numbers of an order behind the others of those that are held.
+fn turn_front(order: &mut [usize], held: usize, n: usize)
+    requires few { n ≤ held }
+    requires front { held ≤ length order.old }
+    ensures { order.new ≡ turned_front held n order.old }
+{
+    order[..held].rotate_left(n);
 }
 
 impl<const LIMIT: usize, const ROOM: usize> Row<LIMIT, ROOM> {
@@ -76,8 +104,17 @@ impl<const LIMIT: usize, const ROOM: usize> Row<LIMIT, ROOM> {
     pub fn new(alloc: Global) -> Result<Self, AllocError>
         ensures { IfOk result (λ row. row ≡ []) }
     {
-        let items = Vec::with_capacity(alloc, LIMIT)?;
-        Ok(Row { items })
+        let mut rooms = Vec::with_capacity(alloc, LIMIT)?;
+        let mut order = Vec::with_capacity(alloc, LIMIT)?;
+        for number in 0..LIMIT {
+            rooms.push(Stored::new(NOWHERE, &[])).unwrap();
+            order.push(number).unwrap();
+        }
+        Ok(Row {
+            rooms,
+            order,
+            held: 0,
+        })
     }
 
     /// How many items stand. None of them has more than `ROOM` bytes.
@@ -86,7 +123,7 @@ impl<const LIMIT: usize, const ROOM: usize> Row<LIMIT, ROOM> {
         ensures limit { result ≤ LIMIT }
         ensures room { All (λ item. length item.bytes ≤ ROOM) self.now }
     {
-        self.items.len()
+        self.held
     }
 
     /// Appends an item of these bytes under a position. A full row stays as it was.
@@ -97,10 +134,12 @@ impl<const LIMIT: usize, const ROOM: usize> Row<LIMIT, ROOM> {
         ensures full { OnErr result (length self.old ≡ LIMIT) }
         ensures err { OnErr result (self.new ≡ self.old) }
     {
-        if self.items.len() >= LIMIT {
+        if self.held >= LIMIT {
             return Err(Full);
         }
-        self.items.push(Stored::new(position, bytes)).unwrap();
+        let number = self.order[self.held];
+        self.rooms[number].refill(position, bytes);
+        self.held += 1;
         Ok(())
     }
 
@@ -109,7 +148,10 @@ impl<const LIMIT: usize, const ROOM: usize> Row<LIMIT, ROOM> {
         ensures variant { IsSome result ↔ (at < length self.now) }
         ensures item { option_copied result ≡ slice_get self.now at }
     {
-        self.items.get(at)
+        if at >= self.held {
+            return None;
+        }
+        Some(&self.rooms[self.order[at]])
     }
 
     /// Drops the `n` oldest items. Where fewer stand, the row stays as it was, and the error says how many stand.
@@ -124,8 +166,8 @@ impl<const LIMIT: usize, const ROOM: usize> Row<LIMIT, ROOM> {
         if held < n {
             return Err(Fewer { held });
         }
-        self.items.rotate_left(n as usize);
-        self.items.truncate((held - n) as usize);
+        turn_front(self.order.as_mut_slice(), self.held, n as usize);
+        self.held -= n as usize;
         Ok(())
     }
 }

@@ -1,0 +1,29 @@
+-- The rooms of a row, each under a number, and the order in which their items stand.
+use Rattle.std.specs.Prelude.{◌≡◌, ◌≤◌, ℕ, List, [], ◌++◌, All, length, map, slice_index_or, take, drop}
+use Rattle.std.specs.List.{range_with_len}
+use Rattle.std.specs.List.Sorted.{IsPermutation}
+use Rattle.boxes.specs.Items.{Item, item_at}
+
+-- what stands where there is no room
+abbrev pub no_item : Item
+no_item = item_at (record { epoch = 0; index = 0 }) []
+
+-- the item in the room of a number
+abbrev pub item_in : List Item → ℕ → Item
+item_in rooms number = slice_index_or rooms number no_item
+
+-- the items in the rooms that are held, which come first in an order
+abbrev pub standing : List Item → ℕ → List ℕ → List Item
+standing rooms held order = map (item_in rooms) (take held order)
+
+-- an order whose first n numbers have come behind the others of those that are held
+abbrev pub turned_front : ℕ → ℕ → List ℕ → List ℕ
+turned_front held n order = drop n (take held order) ++ take n order ++ drop held order
+
+-- Each number below the limit is that of a room, and stands once in the order. The rooms that are held come first in it,
+-- and no item is larger than a room.
+pub record AreRooms (limit room : ℕ) (rooms : List Item) (held : ℕ) (order : List ℕ) : Type 0 where
+  pub all : length rooms ≡ limit
+  pub once : IsPermutation (range_with_len 0 limit) order
+  pub first : held ≤ limit
+  pub fits : All (λ item. length item.bytes ≤ room) rooms
