@@ -4,6 +4,7 @@ pub mod Printed
 pub mod Read
 pub mod Viewed
 mod Pieces
+pub mod Places
 mod Standing
 mod Sample
 mod TextFaults

@@ -1,9 +1,10 @@
--- What parsed bytes begin with.
-use Rattle.std.proofs.Common.{◌≡◌, ℕ, ◌+◌, ◌≤◌, List, ◌++◌, length, take, Ok, ap, ◌∙◌, append_assoc, arith}
+-- What a packet that was read is, and begins with.
+use Rattle.std.proofs.Common.{◌≡◌, ℕ, ◌+◌, List, ◌++◌, length, take, Ok, append_assoc, arith}
 use Rattle.std.proofs.lemmas.Bool.Decides.{nat_tests}
 use Rattle.std.proofs.lemmas.List.{take_at}
 use Rattle.packet.specs.Packet.{Fields, IsLawful, agreement_len, ad_of, packet_of}
 use Rattle.dr_base.specs.Bytes.{AreBytes}
+use Rattle.dr_base.specs.declared.limits.TheConstants.{PACKET_FRAME}
 use Rattle.packet.specs.Parts.{IsViewed}
 use Rattle.packet.specs.Reading.{read_packet}
 use Rattle.packet.proofs.Lengths.{length-ad_of, length-packet_of}
@@ -26,19 +27,18 @@ own_lawful agreement f lawful = record {
   tag_len = lawful.tag_len;
 }
 
-ad_first : (f : Fields) (n : ℕ) → length (ad_of f) ≡ n → take n (packet_of f) ≡ ad_of f
-unfolding packet_of
-ad_first f n len = rw append_assoc (take_at (ad_of f) (f.ciphertext ++ f.tag) n len)
-
-pub viewed_len : (agreement : ℕ) (bytes : List ℕ) (f : Fields) → AreBytes bytes → read_packet agreement bytes ≡ Ok f → 33 + length f.agreement ≤ length bytes
-viewed_len agreement bytes f small e =
-    let found = read_was_printed agreement bytes f small e in
-    omega (arith, ap length found.1, length-packet_of f found.0.session_len found.0.tag_len)
-
-pub viewed : (agreement : ℕ) (bytes : List ℕ) (f : Fields) → AreBytes bytes → read_packet agreement bytes ≡ Ok f → IsViewed (take (33 + length f.agreement) bytes) f
+pub viewed : (agreement : ℕ) (bytes : List ℕ) (f : Fields) → AreBytes bytes → read_packet agreement bytes ≡ Ok f
+    → IsViewed bytes f
 viewed agreement bytes f small e =
     let found = read_was_printed agreement bytes f small e in
-    record {
-      ad_is = ap (take (33 + length f.agreement)) found.1 ∙ ad_first f (33 + length f.agreement) (length-ad_of f found.0.session_len);
-      lawful = own_lawful agreement f found.0;
-    }
+    record { bytes_are = found.1; lawful = own_lawful agreement f found.0 }
+
+pub viewed_len : (bytes : List ℕ) (f : Fields) → IsViewed bytes f → length bytes ≡ PACKET_FRAME + length f.agreement
+    + length f.ciphertext
+viewed_len bytes f viewed = rw viewed.bytes_are (length-packet_of f viewed.lawful.session_len viewed.lawful.tag_len)
+
+pub viewed_ad : (bytes : List ℕ) (f : Fields) → IsViewed bytes f → take (33 + length f.agreement) bytes ≡ ad_of f
+unfolding packet_of
+viewed_ad bytes f viewed =
+    let len = length-ad_of f viewed.lawful.session_len in
+    rw (viewed.bytes_are, append_assoc) (take_at (ad_of f) (f.ciphertext ++ f.tag) (33 + length f.agreement) len)

@@ -1,8 +1,8 @@
 -- Fields that are lent, and fields that are given one by one.
-use Rattle.std.specs.Prelude.{◌≡◌, ℕ, List, length}
+use Rattle.std.specs.Prelude.{◌≡◌, ℕ, List, length, take, drop}
 use Rattle.dr_base.specs.declared.position.Position.{Position}
 use Rattle.packet.specs.declared.parts.Parts.{Parts}
-use Rattle.packet.specs.Packet.{Fields, IsLawful, ad_of}
+use Rattle.packet.specs.Packet.{Fields, IsLawful, packet_of}
 
 -- the fields that were lent from bytes
 abbrev pub fields_of : Parts → Fields
@@ -28,7 +28,11 @@ fields_at session position previous agreement ciphertext tag = record {
   tag = tag;
 }
 
--- lawful fields, and what stands before their ciphertext
-pub record IsViewed (ad : List ℕ) (f : Fields) : Type 0 where
-  pub ad_is : ad ≡ ad_of f
+-- lawful fields, and the bytes of their packet
+pub record IsViewed (bytes : List ℕ) (f : Fields) : Type 0 where
+  pub bytes_are : bytes ≡ packet_of f
   pub lawful : IsLawful (length f.agreement) f
+
+-- from a place on, the bytes are first those of a field
+abbrev pub HasAt : List ℕ → ℕ → List ℕ → Type 0
+HasAt bytes place field = take (length field) (drop place bytes) ≡ field

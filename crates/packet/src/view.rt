@@ -1,8 +1,8 @@
 //! A packet that was read, and what it lends.
 
-ghost use Rattle.std.specs.Prelude.{◌≡◌, ◌-◌, ◌^◌, ◌<◌, ◌≤◌, length, IfOk};
+ghost use Rattle.std.specs.Prelude.{◌≡◌, ◌+◌, ◌-◌, ◌^◌, ◌<◌, ◌≤◌, length, IfOk};
 ghost use Rattle.packet.specs.Packet.{Fields, IsLawful, ad_of, packet_of};
-ghost use Rattle.packet.specs.Parts.{fields_of, IsViewed};
+ghost use Rattle.packet.specs.Parts.{fields_of, HasAt, IsViewed};
 ghost use Rattle.packet.specs.Reading.{read_packet};
 
 use crate::fault::Malformed;
@@ -10,11 +10,11 @@ use crate::parts::{self, Parts};
 use dr_base::{INDEX_LIMIT, LAST_EPOCH, TEXT_LIMIT};
 use std::marker::Model;
 
-/// The fields of a packet, lent from the bytes that were parsed.
+/// The fields of a packet, lent from the bytes that were parsed, and where they stand in these.
 #[derive(Drop)]
 pub struct View<'a> {
     parts: Parts<'a>,
-    ad: &'a [u8],
+    bytes: &'a [u8],
 }
 
 impl<'a> Model for View<'a> {
@@ -22,7 +22,7 @@ impl<'a> Model for View<'a> {
 
     ghost view = { λ v. fields_of v.parts };
 
-    ghost invariant = { λ v. IsViewed v.ad.now (fields_of v.parts) };
+    ghost invariant = { λ v. IsViewed v.bytes.now (fields_of v.parts) };
 }
 
 /// Reads a packet, or finds the first fault from left to right. The agreement messages of epochs above 0 have
@@ -32,8 +32,7 @@ pub fn parse(bytes: &[u8], agreement: usize) -> Result<View<'_>, Malformed>
     ensures found { IfOk result (λ f. IsLawful agreement f × (bytes.now ≡ packet_of f)) }
 {
     let parts = parts::read(bytes, agreement)?;
-    let ad = &bytes[..33 + parts.agreement.len()];
-    Ok(View { parts, ad })
+    Ok(View { parts, bytes })
 }
 
 impl View<'_> {
@@ -42,6 +41,15 @@ impl View<'_> {
         ensures { result.now ≡ self.now.session }
     {
         self.parts.session
+    }
+
+    /// The offset of the session id in the packet.
+    #[tactic(auto, using(crate::proofs::Places::session_at))]
+    pub fn session_place(&self) -> usize
+        ensures value { result ≡ 1 }
+        ensures lent { HasAt (packet_of self.now) result self.now.session }
+    {
+        1
     }
 
     /// The epoch of the text.
@@ -78,11 +86,22 @@ impl View<'_> {
         self.parts.agreement
     }
 
+    /// The offset of the agreement message in the packet.
+    #[tactic(auto, using(crate::proofs::Places::agreement_at))]
+    pub fn agreement_place(&self) -> usize
+        ensures value { result ≡ 31 }
+        ensures lent { HasAt (packet_of self.now) result self.now.agreement }
+    {
+        let _session = &self.parts.session;
+        31
+    }
+
     /// The bytes before the ciphertext.
     pub fn ad(&self) -> &[u8]
         ensures { result.now ≡ ad_of self.now }
     {
-        self.ad
+        let end = self.ciphertext_place();
+        &self.bytes[..end]
     }
 
     /// The ciphertext, as long as its text.
@@ -93,10 +112,28 @@ impl View<'_> {
         self.parts.ciphertext
     }
 
+    /// The offset of the ciphertext in the packet.
+    #[tactic(auto, using(crate::proofs::Places::ciphertext_at))]
+    pub fn ciphertext_place(&self) -> usize
+        ensures value { result ≡ 33 + length self.now.agreement }
+        ensures lent { HasAt (packet_of self.now) result self.now.ciphertext }
+    {
+        33 + self.parts.agreement.len()
+    }
+
     /// The tag over the bytes before it.
     pub fn tag(&self) -> &[u8; 32]
         ensures { result.now ≡ self.now.tag }
     {
         self.parts.tag
+    }
+
+    /// The offset of the tag in the packet.
+    #[tactic(auto, using(crate::proofs::Places::tag_at))]
+    pub fn tag_place(&self) -> usize
+        ensures value { result ≡ 33 + length self.now.agreement + length self.now.ciphertext }
+        ensures lent { HasAt (packet_of self.now) result self.now.tag }
+    {
+        self.ciphertext_place() + self.parts.ciphertext.len()
     }
 }
