@@ -4,9 +4,8 @@ use Rattle.dr_disk.specs.State.{DiskState, IsLawful}
 use Rattle.session_model.specs.Clients.{Client}
 use Rattle.session_record.specs.Record.{record_text}
 use Rattle.slot_store.specs.Laws.{IsResting, SameWithin}
-use Rattle.slot_store.specs.Store.{mark}
+use Rattle.slot_store.specs.Store.{SlotStore, mark}
 use Rattle.slot_store.specs.Areas.{Area}
-use Rattle.slot_store.specs.declared.store.SlotStore.{SlotStore}
 use Rattle.client.specs.Clients.{IsReady, client_area}
 
 pub same_area : IsResting → (kept other : Client) (store again : SlotStore) (a b : DiskState) → IsLawful a → IsLawful b

@@ -20,8 +20,7 @@ use Rattle.slot_store.specs.Found.{found_as}
 use Rattle.slot_store.specs.Laws.{IsRead}
 use Rattle.slot_store.specs.Reading.{IsEntryOrLike, IsLikeRead, IsUndamaged, damaged, holds, no_content, reading}
 use Rattle.slot_store.specs.Records.{recovered}
-use Rattle.slot_store.specs.Store.{IsOldOrNew, KeepsOutside, Rests, content}
-use Rattle.slot_store.specs.declared.store.SlotStore.{SlotStore}
+use Rattle.slot_store.specs.Store.{IsOldOrNew, KeepsOutside, Rests, SlotStore, content}
 use Rattle.slot_store.specs.declared.errors.OpenError.{OpenError}
 use Rattle.slot_store.specs.declared.errors.OpenError.TheVariants.{Damaged, Memory, StoreFault}
 use Rattle.slot_store.specs.declared.opening.Found.{Found}

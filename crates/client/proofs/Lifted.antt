@@ -16,9 +16,8 @@ use Rattle.session_model.specs.declared.answer.Answer.{Answer}
 use Rattle.session_model.specs.declared.answer.Refusal.{Refusal}
 use Rattle.session_record.specs.Record.{record_read, record_text}
 use Rattle.slot_store.specs.Records.{recovered}
-use Rattle.slot_store.specs.Store.{IsOldOrNew}
+use Rattle.slot_store.specs.Store.{IsOldOrNew, SlotStore}
 use Rattle.slot_store.specs.Areas.{Area}
-use Rattle.slot_store.specs.declared.store.SlotStore.{SlotStore}
 use Rattle.client.specs.Clients.{ClientNow, IsReady, MayActOn, client_area}
 use Rattle.client.specs.InWorlds.{ActsIn, IsBetween, IsIn, StandsFor, StandsForEither}
 use Rattle.client.specs.Outcomes.{Acts, IsDone, IsEffected, IsReplacing, Outcome, acknowledged, faulted, is_closed, refused, undrawn}

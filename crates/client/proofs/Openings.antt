@@ -17,12 +17,11 @@ use Rattle.slot_store.specs.Found.{found_as}
 use Rattle.slot_store.specs.Laws.{IsRead}
 use Rattle.slot_store.specs.Reading.{IsEntryOrLike, IsLikeRead, damaged, holds, reading}
 use Rattle.slot_store.specs.Records.{recovered}
-use Rattle.slot_store.specs.Store.{IsWithin, Rests, content}
+use Rattle.slot_store.specs.Store.{IsWithin, Rests, SlotStore, content}
 use Rattle.slot_store.specs.declared.errors.OpenError.{OpenError}
 use Rattle.slot_store.specs.declared.errors.OpenError.TheVariants.{Damaged, Memory, StoreFault}
 use Rattle.slot_store.specs.declared.opening.Found.{Found}
 use Rattle.slot_store.specs.declared.opening.Found.TheVariants.{Content}
-use Rattle.slot_store.specs.declared.store.SlotStore.{SlotStore}
 use Rattle.client.specs.Clients.{ClientNow, client_area}
 use Rattle.client.specs.Opening.{IsLeftAtRest, IsOpened, IsUnopened, OpensIn, Reads, open_refusal, record_fault}
 use Rattle.client.specs.InWorlds.{IsIn, StandsFor}

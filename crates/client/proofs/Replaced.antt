@@ -8,9 +8,8 @@ use Rattle.session_model.specs.Clients.{Client}
 use Rattle.session_record.specs.Record.{record_text}
 use Rattle.slot_store.specs.Records.{recovered}
 use Rattle.slot_store.specs.Stops.{IsStopped, calls_of}
-use Rattle.slot_store.specs.Store.{IsOldOrNew, KeepsOutside, ReadsOutsideArea, Rests, content}
+use Rattle.slot_store.specs.Store.{IsOldOrNew, KeepsOutside, ReadsOutsideArea, Rests, SlotStore, content}
 use Rattle.slot_store.specs.Areas.{Area}
-use Rattle.slot_store.specs.declared.store.SlotStore.{SlotStore}
 use Rattle.client.specs.Clients.{IsReady, client_area}
 use Rattle.client.specs.Outcomes.{IsKept, IsLost, IsReplacing, replacing_calls}
 

@@ -16,9 +16,8 @@ use Rattle.session_model.specs.Saying.{SendDraft}
 use Rattle.session_model.specs.States.{State}
 use Rattle.session_record.specs.Lists.{post_of, post_text}
 use Rattle.session_record.specs.Record.{client_of, record_text}
-use Rattle.slot_store.specs.Store.{IsOldOrNew}
+use Rattle.slot_store.specs.Store.{IsOldOrNew, SlotStore}
 use Rattle.slot_store.specs.Stops.{IsStopped, calls_of}
-use Rattle.slot_store.specs.declared.store.SlotStore.{SlotStore}
 use Rattle.client.specs.Clients.{client_area}
 use Rattle.client.specs.Outcomes.{IsKept, IsLost}
 

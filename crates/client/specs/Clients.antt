@@ -7,9 +7,8 @@ use Rattle.session_model.specs.Clients.{Client}
 use Rattle.session_record.specs.Lawful.{IsLawfulClient}
 use Rattle.session_record.specs.Record.{record_text}
 use Rattle.session_record.specs.declared.limits.TheConstants.{RECORD_LIMIT}
-use Rattle.slot_store.specs.Store.{IsWithin, Rests, content}
+use Rattle.slot_store.specs.Store.{IsWithin, Rests, SlotStore, content}
 use Rattle.slot_store.specs.Areas.{Area}
-use Rattle.slot_store.specs.declared.store.SlotStore.{SlotStore}
 use Rattle.client.specs.declared.client.TheConstants.{AREA_PAGES, RECORD_PAGES}
 
 -- where a client lies on its disk

@@ -13,8 +13,7 @@ use Rattle.session_model.specs.declared.answer.Refusal.{Refusal}
 use Rattle.session_model.specs.declared.answer.Refusal.TheVariants.{Fewer, NoPair}
 use Rattle.session_record.specs.Record.{record_text}
 use Rattle.slot_store.specs.Stops.{IsStopped, calls_of}
-use Rattle.slot_store.specs.Store.{IsOldOrNew, ReadsOutsideArea}
-use Rattle.slot_store.specs.declared.store.SlotStore.{SlotStore}
+use Rattle.slot_store.specs.Store.{IsOldOrNew, ReadsOutsideArea, SlotStore}
 use Rattle.client.specs.Clients.{ClientNow, IsReady, client_area}
 use Rattle.client.specs.declared.refusals.DropRefusal.{DropRefusal}
 use Rattle.client.specs.declared.refusals.DropRefusal.TheVariants.{Closed as DropClosed, Fewer as DropFewer, StoreFault as DropFault}

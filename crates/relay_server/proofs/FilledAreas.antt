@@ -11,10 +11,9 @@ use Rattle.dr_disk.specs.State.{Always, DiskState}
 use Rattle.dr_disk.proofs.Ranges.{torn_self, torn_twice, torn_wider}
 use Rattle.dr_disk.proofs.Steps.{spans, widen}
 use Rattle.slot_store.specs.Areas.{Area, Fits, size_of}
-use Rattle.slot_store.specs.declared.store.SlotStore.{SlotStore}
 use Rattle.slot_store.specs.Laws.{IsLocal}
 use Rattle.slot_store.specs.Records.{recovered}
-use Rattle.slot_store.specs.Store.{IsOldOrNew, IsWithin, Rests, content, KeepsOutside}
+use Rattle.slot_store.specs.Store.{IsOldOrNew, IsWithin, KeepsOutside, Rests, SlotStore, content}
 use Rattle.relay_core.specs.declared.limits.TheConstants.{RECORD_LIMIT}
 use Rattle.relay_core.specs.Boxes.{Box, empty_box}
 use Rattle.relay_core.specs.Record.{box_text, head_text, kept_text}

@@ -5,9 +5,8 @@ use Rattle.std.proofs.lemmas.Bool.{cases_eq, cases_lt}
 use Rattle.dr_disk.specs.Bytes.{Torn}
 use Rattle.dr_disk.specs.State.{Always, DiskState}
 use Rattle.slot_store.specs.Areas.{Area, size_of}
-use Rattle.slot_store.specs.declared.store.SlotStore.{SlotStore}
 use Rattle.slot_store.specs.Laws.{IsLocal, SameWithin}
-use Rattle.slot_store.specs.Store.{Rests, KeepsOutside}
+use Rattle.slot_store.specs.Store.{KeepsOutside, Rests, SlotStore}
 use Rattle.relay_server.specs.Durable.{IsReplaced}
 use Rattle.relay_server.specs.Places.{area_of}
 

@@ -9,9 +9,8 @@ use Rattle.dr_disk.specs.Spans.{Span}
 use Rattle.dr_disk.specs.State.{DiskState}
 use Rattle.dr_disk.proofs.Ranges.{torn_twice}
 use Rattle.dr_disk.proofs.Steps.{quiet_twice, spans, widen}
-use Rattle.slot_store.specs.declared.store.SlotStore.{SlotStore}
 use Rattle.slot_store.specs.Records.{recovered}
-use Rattle.slot_store.specs.Store.{content}
+use Rattle.slot_store.specs.Store.{SlotStore, content}
 use Rattle.relay_core.specs.Boxes.{Box, empty_box}
 use Rattle.relay_server.specs.Areas.{AreOpened, HasLooked, IsLikeEntry, reading_of}
 use Rattle.relay_server.specs.Places.{HasRoom, SameBehind, area_of, areas_size}

@@ -9,9 +9,8 @@ use Rattle.dr_disk.specs.Spans.{Span}
 use Rattle.dr_disk.proofs.Ranges.{torn_wider}
 use Rattle.dr_disk.proofs.Steps.{widen}
 use Rattle.slot_store.specs.Areas.{Area, size_of}
-use Rattle.slot_store.specs.declared.store.SlotStore.{SlotStore}
 use Rattle.slot_store.specs.Records.{recovered}
-use Rattle.slot_store.specs.Store.{IsOldOrNew, Rests, content, KeepsOutside}
+use Rattle.slot_store.specs.Store.{IsOldOrNew, KeepsOutside, Rests, SlotStore, content}
 use Rattle.slot_store.specs.Laws.{IsLocal}
 use Rattle.relay_core.specs.Boxes.{Box, Answers}
 use Rattle.relay_core.specs.Changes.{ChangesOne, IsChange}

@@ -3,9 +3,8 @@ use Rattle.std.proofs.Common.{◌≡◌, ◌⊎◌, inl, inr, ⊎_elim, ℕ, ◌
 use Rattle.std.specs.Prelude.{if◌then◌else◌}
 use Rattle.dr_disk.specs.State.{DiskState, IsLawful}
 use Rattle.dr_ports.specs.Wires.{Port}
-use Rattle.slot_store.specs.declared.store.SlotStore.{SlotStore}
 use Rattle.slot_store.specs.Records.{recovered}
-use Rattle.slot_store.specs.Store.{Rests, content}
+use Rattle.slot_store.specs.Store.{Rests, SlotStore, content}
 use Rattle.relay_wire.specs.Replies.{absent, acked, box_full, stored}
 use Rattle.relay_wire.specs.Requests.{Asking, posts, fetches, acks}
 use Rattle.relay_core.specs.declared.limits.TheConstants.{EXCHANGE_LIMIT}

@@ -4,8 +4,7 @@ use Rattle.std.specs.Prelude.{Err, Ok, OnOk, Result}
 use Rattle.std.proofs.lemmas.Option.{slice_get_within}
 use Rattle.dr_disk.specs.Spans.{IsQuiet}
 use Rattle.dr_disk.specs.State.{DiskState}
-use Rattle.slot_store.specs.declared.store.SlotStore.{SlotStore}
-use Rattle.slot_store.specs.Store.{content}
+use Rattle.slot_store.specs.Store.{SlotStore, content}
 use Rattle.relay_core.specs.Boxes.{Box}
 use Rattle.relay_core.specs.Record.{box_text}
 use Rattle.relay_server.specs.Durable.{IsReady, ServerNow}

@@ -3,10 +3,9 @@ use Rattle.std.specs.Prelude.{◌≡◌, ℕ, ◌<◌, List, length, slice_get, 
 use Rattle.dr_base.specs.Causes.{Rose}
 use Rattle.dr_disk.specs.Spans.{IsQuiet, Span}
 use Rattle.dr_disk.specs.State.{DiskState, Always}
-use Rattle.slot_store.specs.declared.store.SlotStore.{SlotStore}
 use Rattle.slot_store.specs.Reading.{IsLikeRead, Reading, damaged, holds, no_content}
 use Rattle.slot_store.specs.Records.{recovered}
-use Rattle.slot_store.specs.Store.{Rests, content}
+use Rattle.slot_store.specs.Store.{Rests, SlotStore, content}
 use Rattle.dr_disk.specs.Calls.{Unwritten}
 use Rattle.slot_store.specs.AtRest.{IsReadAtRest}
 use Rattle.relay_server.specs.Places.{area_of, SameBehind}

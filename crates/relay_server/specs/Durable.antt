@@ -2,9 +2,8 @@
 use Rattle.std.specs.Prelude.{◌≡◌, ◌⊎◌, ℕ, ◌<◌, Bool, true, List, length, slice_get, Some}
 use Rattle.dr_disk.specs.State.{DiskState, Always}
 use Rattle.dr_disk.specs.Spans.{Span}
-use Rattle.slot_store.specs.declared.store.SlotStore.{SlotStore}
 use Rattle.slot_store.specs.Records.{recovered}
-use Rattle.slot_store.specs.Store.{IsOldOrNew, IsWithin, Rests, content, KeepsOutside}
+use Rattle.slot_store.specs.Store.{IsOldOrNew, IsWithin, KeepsOutside, Rests, SlotStore, content}
 use Rattle.relay_core.specs.Boxes.{Box}
 use Rattle.relay_server.specs.Places.{area_of}
 

@@ -1,9 +1,8 @@
 -- The boxes are loaded, and each area without a record gets an empty box's.
 use Rattle.std.specs.Prelude.{◌≡◌, ◌≢◌, ℕ, ◌<◌, ◌≤◌, List, length, slice_get, Option, Some, None, Ok}
 use Rattle.dr_disk.specs.State.{DiskState, Always}
-use Rattle.slot_store.specs.declared.store.SlotStore.{SlotStore}
 use Rattle.slot_store.specs.Records.{recovered}
-use Rattle.slot_store.specs.Store.{Rests, content}
+use Rattle.slot_store.specs.Store.{Rests, SlotStore, content}
 use Rattle.relay_core.specs.Boxes.{Box, empty_box}
 use Rattle.relay_core.specs.Record.{box_read, box_text}
 use Rattle.relay_server.specs.Places.{area_of, HasRoom, SameBehind}

@@ -13,7 +13,7 @@ use Rattle.relay_core.specs.Alone.{box_after}
 use Rattle.relay_core.specs.Boxes.{Box, box_of}
 use Rattle.relay_core.specs.Record.{box_text}
 use Rattle.relay_core.specs.Streams.{Served, Told, asks, served_within, told}
-use Rattle.slot_store.specs.declared.store.SlotStore.{SlotStore}
+use Rattle.slot_store.specs.Store.{SlotStore}
 use Rattle.relay_server.specs.Durable.{IsReady, ServerNow, StandsFor}
 use Rattle.relay_server.specs.Serving.{Came, IsServed, reply_to}
 use Rattle.relay_server.specs.declared.serving.Ended.{Ended}

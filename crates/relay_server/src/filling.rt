@@ -3,8 +3,7 @@
 ghost use Rattle.std.specs.Prelude.{◌≡◌, ◌<◌, ◌≤◌, ◌+◌, ℕ, true, false, List, Option, IfErr, OnOk, length, slice_get};
 ghost use Rattle.dr_base.specs.Causes.{Rose};
 ghost use Rattle.dr_disk.specs.Spans.{IsQuiet, Span};
-ghost use Rattle.slot_store.specs.declared.store.SlotStore.{SlotStore};
-ghost use Rattle.slot_store.specs.Store.{content};
+ghost use Rattle.slot_store.specs.Store.{SlotStore, content};
 ghost use Rattle.relay_core.specs.Boxes.{Box};
 ghost use Rattle.relay_core.specs.declared.limits.TheConstants.{RECORD_LIMIT, RELAY_LIMIT};
 ghost use Rattle.relay_server.specs.Filling.{AreFilled, AreLoaded, IsFilling, IsFirstOthers, IsLoadedAt, IsOthers};

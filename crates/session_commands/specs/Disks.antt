@@ -10,7 +10,7 @@ use Rattle.session_model.specs.Clients.{Client}
 use Rattle.session_record.specs.Record.{record_read, record_text}
 use Rattle.slot_store.specs.Reading.{IsEntryOrLike, IsLikeRead, IsUndamaged}
 use Rattle.slot_store.specs.Records.{recovered}
-use Rattle.slot_store.specs.declared.store.SlotStore.{SlotStore}
+use Rattle.slot_store.specs.Store.{SlotStore}
 use Rattle.slot_store.specs.Areas.{size_of}
 use Rattle.client.specs.Clients.{IsReady, client_area}
 use Rattle.client.specs.InWorlds.{StandsFor}

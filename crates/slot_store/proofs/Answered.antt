@@ -53,7 +53,7 @@ module _ {U : Type 0} (fault_at : List ℕ → Option ℕ) (area : Area) (start 
     where
       by : (r : Result Outcome Call) → IfOk r (IsOutcome fault_at area a b)
           → IfOk (answer_of r) (λ both. IsOpened fault_at area start b both.0 both.1)
-      by (Ok (Stored store what)) is = record {
+      by (Ok (Stored pager what)) is = record {
         area = is.area;
         read = λ s told. is.read s (same.seen ∙ told);
         text = is.text;
@@ -84,7 +84,7 @@ module _ {U : Type 0} (fault_at : List ℕ → Option ℕ) (area : Area) (start 
       }
     where
       by : (r : Result Outcome Call) → IsUntouched a b → OnOk (answer_of r) (HavePassed 1 start b)
-      by (Ok (Stored store what)) untouched = untouched_passed untouched
+      by (Ok (Stored pager what)) untouched = untouched_passed untouched
       by (Ok (Refused slot at)) untouched = tt
       by (Err call) untouched = tt
 
@@ -94,7 +94,7 @@ module _ {U : Type 0} (fault_at : List ℕ → Option ℕ) (area : Area) (start 
     where
       by : (r : Result Outcome Call) → IfOk r (IsOutcome fault_at area a b) → Went itself a b r → Went itself start b r
           → IfErr (answer_of r) (IsRefused fault_at area start b)
-      by (Ok (Stored store what)) is calls all = tt
+      by (Ok (Stored pager what)) is calls all = tt
       by (Ok (Refused slot at)) is calls all = record {
         damaged = λ slot' at' e.
             let one : slot ≡ slot' = let f : Damaged slot at ≡ Damaged slot' at' = e in cc in
@@ -113,7 +113,7 @@ module _ {U : Type 0} (fault_at : List ℕ → Option ℕ) (area : Area) (start 
   answered_memory P = by r
     where
       by : (r : Result Outcome Call) → IfErr (answer_of r) (λ e. e ≡ Memory → P)
-      by (Ok (Stored store what)) = tt
+      by (Ok (Stored pager what)) = tt
       by (Ok (Refused slot at)) = λ e. absurd (let f : Damaged slot at ≡ Memory = e in cc)
       by (Err call) = λ e. absurd (let f : StoreFault call ≡ Memory = e in cc)
 
@@ -121,7 +121,7 @@ module _ {U : Type 0} (fault_at : List ℕ → Option ℕ) (area : Area) (start 
   answered_quiet = by r all_went.quiet
     where
       by : (r : Result Outcome Call) → OnOk r (IsQuiet start b) → OnOk (answer_of r) (IsQuiet start b)
-      by (Ok (Stored store what)) is = is
+      by (Ok (Stored pager what)) is = is
       by (Ok (Refused slot at)) is = tt
       by (Err call) is = tt
 
@@ -129,7 +129,7 @@ module _ {U : Type 0} (fault_at : List ℕ → Option ℕ) (area : Area) (start 
   answered_ahead = by r all_went.ahead
     where
       by : (r : Result Outcome Call) → OnOk r (FailsLater start b) → OnOk (answer_of r) (FailsLater start b)
-      by (Ok (Stored store what)) is = is
+      by (Ok (Stored pager what)) is = is
       by (Ok (Refused slot at)) is = tt
       by (Err call) is = tt
 
@@ -138,6 +138,6 @@ module _ {U : Type 0} (fault_at : List ℕ → Option ℕ) (area : Area) (start 
   answered_fate all = (by r (all_went.fate all).0, (all_went.fate all).1)
     where
       by : (r : Result Outcome Call) → is_ok r ≡ true → IfErr (answer_of r) (λ e. (call : Call) → e ≢ StoreFault call)
-      by (Ok (Stored store what)) ok = tt
+      by (Ok (Stored pager what)) ok = tt
       by (Ok (Refused slot at)) ok = λ call e. let f : Damaged slot at ≡ StoreFault call = e in cc
       by (Err call) ok = absurd (let f : false ≡ true = ok in cc)

@@ -1,4 +1,4 @@
--- The record of a store as code has it, and the store once a text has taken its place.
+-- The record of a pager as code has it, and the pager once a text has taken its place.
 use Rattle.std.proofs.Common.{◌≡◌, ℕ, ◌+◌, ◌-◌, ◌*◌, ◌≤◌, ◌<◌, Bool, true, false, List, [], length, take, Some, None, refl, sym, ◌∙◌, ap, arith}
 use Rattle.std.specs.Prelude.{All, not, is_some, if◌then◌else◌, ◌==◌}
 use Rattle.std.proofs.lemmas.Bool.{eqb-true, ne_eqb}
@@ -9,12 +9,12 @@ use Rattle.record_pages.specs.Pages.{pages_in}
 use Rattle.record_pages.specs.Plans.{changed_places, dropped, numbered}
 use Rattle.record_pages.specs.Tables.{entry_fault, table_body}
 use Rattle.record_pages.proofs.LawfulEntries.{IsEntry, entries_lawful}
-use Rattle.slot_store.specs.declared.store.SlotStore.{SlotStore}
+use Rattle.slot_store.specs.declared.pager.Pager.{Pager}
 use Rattle.slot_store.specs.Areas.{Area, IsArea}
 use Rattle.slot_store.specs.Kept.{content_or_empty}
 use Rattle.slot_store.specs.Layout.{free_in, next_mark, pages_held, table_for}
 use Rattle.slot_store.specs.Putting.{IsStaged}
-use Rattle.slot_store.specs.Store.{content, has_replaced, mark}
+use Rattle.slot_store.specs.Pager.{content, has_replaced, mark}
 
 -- ---- no record is an empty one
 
@@ -32,27 +32,27 @@ some_as : (none : Bool) (text : List ℕ) → not none ≡ is_some (if none then
 some_as true text = refl
 some_as false text = refl
 
-module _ (store : SlotStore) where
-  empty : (store.turn == 0) ≡ true → store.kept.len ≡ 0
-  empty is = store.none (eqb-true store.turn 0 is)
+module _ (pager : Pager) where
+  empty : (pager.turn == 0) ≡ true → pager.kept.len ≡ 0
+  empty is = pager.none (eqb-true pager.turn 0 is)
 
-  pub text_is : content_or_empty (content store) ≡ take store.kept.len store.kept.bytes.items
+  pub text_is : content_or_empty (content pager) ≡ take pager.kept.len pager.kept.bytes.items
   unfolding content
-  text_is = text_as (store.turn == 0) store.kept.len store.kept.bytes.items empty
+  text_is = text_as (pager.turn == 0) pager.kept.len pager.kept.bytes.items empty
 
-  pub pages_are : pages_held (content store) ≡ pages_in (take store.kept.len store.kept.bytes.items)
+  pub pages_are : pages_held (content pager) ≡ pages_in (take pager.kept.len pager.kept.bytes.items)
   unfolding content
-  pages_are = pages_as (store.turn == 0) store.kept.len store.kept.bytes.items empty
+  pages_are = pages_as (pager.turn == 0) pager.kept.len pager.kept.bytes.items empty
 
-  pub has_content : not (store.turn == 0) ≡ is_some (content store)
+  pub has_content : not (pager.turn == 0) ≡ is_some (content pager)
   unfolding content
-  has_content = some_as (store.turn == 0) (take store.kept.len store.kept.bytes.items)
+  has_content = some_as (pager.turn == 0) (take pager.kept.len pager.kept.bytes.items)
 
-  pub content_is : 1 ≤ store.turn → content store ≡ Some (take store.kept.len store.kept.bytes.items)
+  pub content_is : 1 ≤ pager.turn → content pager ≡ Some (take pager.kept.len pager.kept.bytes.items)
   unfolding content
   content_is low =
-      ap (λ none. if none then None else Some (take store.kept.len store.kept.bytes.items))
-      (ne_eqb store.turn 0 (λ e. omega (arith, e, low)))
+      ap (λ none. if none then None else Some (take pager.kept.len pager.kept.bytes.items))
+      (ne_eqb pager.turn 0 (λ e. omega (arith, e, low)))
 
 -- ---- what is laid out
 
@@ -73,7 +73,7 @@ body_is turn len k numbers now is long =
 
 -- ---- a text in the record's place
 
-module _ (old new : SlotStore) (text : List ℕ)
+module _ (old new : Pager) (text : List ℕ)
     (same_area : new.area ≡ old.area) (other : new.second ≡ not old.second) (turn : new.turn ≡ next_turn old.turn) (low : 1 ≤ new.turn)
     (replaced : new.replaced ≡ not (old.turn == 0)) (text_held : take new.kept.len new.kept.bytes.items ≡ text) where
   abbrev was : List (List ℕ)

@@ -6,7 +6,7 @@ use Rattle.pages.specs.Snapshots.{kept_shot, shot_of, snapshot}
 use Rattle.pages.specs.Tables.{Standing, Table, alike, none_open, standing, standing_of, table_at}
 use Rattle.record_pages.specs.Tables.{record_names}
 use Rattle.slot_store.specs.declared.opening.Found.TheVariants.{NoContent}
-use Rattle.slot_store.specs.declared.store.SlotStore.{SlotStore}
+use Rattle.slot_store.specs.declared.pager.Pager.{Pager}
 use Rattle.slot_store.specs.Areas.{Area, layout_of}
 use Rattle.slot_store.specs.Found.{found_as}
 use Rattle.slot_store.specs.Judged.{table_with}
@@ -14,24 +14,24 @@ use Rattle.slot_store.specs.Layout.{laid}
 use Rattle.slot_store.specs.Reading.{damaged, read_as, reading}
 use Rattle.slot_store.specs.Records.{shot_in}
 use Rattle.slot_store.specs.Settling.{AreRead, HasShot}
-use Rattle.slot_store.specs.Store.{content, mark}
+use Rattle.slot_store.specs.Pager.{content, mark}
 use Rattle.slot_store.proofs.Settled.{has_none}
 
-module _ (area : Area) (store : SlotStore) (is_area : store.area ≡ area) (turn : store.turn ≡ 0) where
-  pub empty_shown : (s : List ℕ) → standing (layout_of area) s ≡ none_open → HasShot store s
+module _ (area : Area) (pager : Pager) (is_area : pager.area ≡ area) (turn : pager.turn ≡ 0) where
+  pub empty_shown : (s : List ℕ) → standing (layout_of area) s ≡ none_open → HasShot pager s
   unfolding snapshot
   empty_shown s closed = ap (λ a. shot_in a s) is_area ∙ ap (shot_of record_names (layout_of area) s) closed
-      ∙ ap (λ o. kept_shot (laid (mark store) o)) (sym (has_none store turn))
+      ∙ ap (λ o. kept_shot (laid (mark pager) o)) (sym (has_none pager turn))
 
-  pub empty_found : is_some (content store) ≡ false
-  empty_found = ap is_some (has_none store turn)
+  pub empty_found : is_some (content pager) ≡ false
+  empty_found = ap is_some (has_none pager turn)
 
-module _ (fault_at : List ℕ → Option ℕ) (area : Area) (store : SlotStore) (is_area : store.area ≡ area) (turn : store.turn ≡ 0) where
-  pub empty_text : (text : List ℕ) → content store ≡ Some text → fault_at text ≡ None
-  empty_text text is = absurd (let e : None ≡ Some text = sym (has_none store turn) ∙ is in cc)
+module _ (fault_at : List ℕ → Option ℕ) (area : Area) (pager : Pager) (is_area : pager.area ≡ area) (turn : pager.turn ≡ 0) where
+  pub empty_text : (text : List ℕ) → content pager ≡ Some text → fault_at text ≡ None
+  empty_text text is = absurd (let e : None ≡ Some text = sym (has_none pager turn) ∙ is in cc)
 
   pub empty_reading : (s : List ℕ) → standing (layout_of area) s ≡ none_open
-      → reading fault_at store.area s ≡ found_as NoContent (content store)
+      → reading fault_at pager.area s ≡ found_as NoContent (content pager)
   unfolding reading snapshot
   empty_reading s closed = ap (λ a. read_as fault_at a (shot_in a s)) is_area
       ∙ ap (λ o. read_as fault_at area (shot_of record_names (layout_of area) s o)) closed

@@ -1,24 +1,24 @@
--- What a store that was staged is to write and to wipe.
+-- What a pager that was staged is to write and to wipe.
 use Rattle.std.proofs.Common.{◌≡◌, ◌≢◌, ◌⊎◌, ℕ, ◌≤◌, ◌<◌, List, Some, length, map, take}
 use Rattle.std.specs.Prelude.{All, slice_index}
 use Rattle.pages.specs.Layouts.{IsPage}
 use Rattle.pages.specs.Writing.{AreDistinct, ArePages, ArePieces, IsNoneOf, IsOneOf, piece_at}
 use Rattle.record_pages.specs.Pages.{pages_in}
-use Rattle.slot_store.specs.declared.store.SlotStore.{SlotStore}
+use Rattle.slot_store.specs.declared.pager.Pager.{Pager}
 use Rattle.slot_store.specs.Areas.{Area, layout_of}
 use Rattle.slot_store.specs.Layout.{pages_held}
 use Rattle.slot_store.specs.Stops.{wipes_of, writes_of}
-use Rattle.slot_store.specs.Store.{content}
+use Rattle.slot_store.specs.Pager.{content}
 
 -- the numbers that changed pages get
-abbrev pub fresh : SlotStore → List ℕ
-fresh store = take (length store.draft.plan.places.items) store.draft.free.items
+abbrev pub fresh : Pager → List ℕ
+fresh pager = take (length pager.draft.plan.places.items) pager.draft.free.items
 
 -- all of these are pages, and none of them is n
 abbrev pub AreOthers : Area → ℕ → List ℕ → Type 0
 AreOthers area n numbers = All (λ m. IsPage (layout_of area) m × (m ≢ n)) numbers
 
-pub record HasPlan (old new : SlotStore) (text : List ℕ) : Type 0 where
+pub record HasPlan (old new : Pager) (text : List ℕ) : Type 0 where
   pub enough : length new.draft.plan.places.items ≤ length new.draft.free.items
   -- the pages that are written
   pub pages : ArePages (layout_of old.area) (fresh new)

@@ -10,7 +10,7 @@ use Rattle.record_pages.specs.Pages.{pages_in}
 use Rattle.record_pages.specs.Tables.{entry_fault, length_in, record_names, table_body}
 use Rattle.slot_store.specs.declared.kept.Kept.{Kept}
 use Rattle.slot_store.specs.declared.opening.Found.TheVariants.{Content}
-use Rattle.slot_store.specs.declared.store.SlotStore.{SlotStore}
+use Rattle.slot_store.specs.declared.pager.Pager.{Pager}
 use Rattle.slot_store.specs.Areas.{Area, layout_of}
 use Rattle.slot_store.specs.Found.{found_as}
 use Rattle.slot_store.specs.Layout.{IsMarked, laid, table_for}
@@ -18,11 +18,11 @@ use Rattle.slot_store.specs.Loading.{IsNamed, pages_named}
 use Rattle.slot_store.specs.Reading.{damaged, fault_in, judged, number_of, read_as, reading}
 use Rattle.slot_store.specs.Records.{record_in, shot_in}
 use Rattle.slot_store.specs.Settling.{HasShot}
-use Rattle.slot_store.specs.Store.{content, mark}
+use Rattle.slot_store.specs.Pager.{content, mark}
 use Rattle.slot_store.proofs.Laid.{laid_read}
 use Rattle.slot_store.proofs.Printed.{AreBytes, sound, table_of}
 use Rattle.slot_store.proofs.Settled.{has_text, held}
-use Rattle.slot_store.proofs.Standing.{store_marked}
+use Rattle.slot_store.proofs.Standing.{pager_marked}
 
 -- a fault in it
 pub damaged_newer : (fault_at : List ℕ → Option ℕ) (area : Area) (second : Bool) (body s : List ℕ) (slot at : ℕ)
@@ -43,21 +43,21 @@ newer_entries fault_at area body kept named =
 pub newer_turn : (body : List ℕ) → is_open (open_table body) ≡ true → (1 ≤ slice_index body 0) × (slice_index body 0 ≤ 3)
 newer_turn body opened = (open_low (open_table body) opened, open_high (open_table body) opened)
 
-module _ (fault_at : List ℕ → Option ℕ) (area : Area) (second : Bool) (body : List ℕ) (kept : Kept) (store : SlotStore)
-    (is_area : store.area ≡ area) (is_second : store.second ≡ second) (is_turn : store.turn ≡ slice_index body 0)
-    (is_kept : store.kept ≡ kept) (long : length body + 1 ≡ PAGE) (are : AreBytes body)
+module _ (fault_at : List ℕ → Option ℕ) (area : Area) (second : Bool) (body : List ℕ) (kept : Kept) (pager : Pager)
+    (is_area : pager.area ≡ area) (is_second : pager.second ≡ second) (is_turn : pager.turn ≡ slice_index body 0)
+    (is_kept : pager.kept ≡ kept) (long : length body + 1 ≡ PAGE) (are : AreBytes body)
     (opened : is_open (open_table body) ≡ true) (named : IsNamed fault_at area body kept) where
-  pub read_turn : store.turn ≢ 0
+  pub read_turn : pager.turn ≢ 0
   read_turn zero = absurd (omega (arith, (newer_turn body opened).0, is_turn, zero))
 
   abbrev text : List ℕ
-  text = take store.kept.len store.kept.bytes.items
+  text = take pager.kept.len pager.kept.bytes.items
 
-  has : content store ≡ Some text
-  has = has_text store read_turn
+  has : content pager ≡ Some text
+  has = has_text pager read_turn
 
-  marked : IsMarked store.area (mark store) text
-  marked = store_marked store text has
+  marked : IsMarked pager.area (mark pager) text
+  marked = pager_marked pager text has
 
   text_is : text ≡ take kept.len kept.bytes.items
   text_is = ap (λ (k : Kept). take k.len k.bytes.items) is_kept
@@ -65,17 +65,17 @@ module _ (fault_at : List ℕ → Option ℕ) (area : Area) (second : Bool) (bod
   text_long : length_in body ≡ length text
   text_long = sym (ap (λ (l : List ℕ). length l) text_is ∙ length-take-le kept.len kept.bytes.items kept.fits ∙ named.len)
 
-  numbers : record_names body ≡ store.kept.numbers.items
+  numbers : record_names body ≡ pager.kept.numbers.items
   numbers = sym (ap (λ (k : Kept). k.numbers.items) is_kept ∙ named.numbers)
 
   few : area.most ≤ 2045
-  few = omega (arith, store.lawful.named, ap (λ (a : Area). a.most) is_area)
+  few = omega (arith, pager.lawful.named, ap (λ (a : Area). a.most) is_area)
 
-  turn : slice_index body 0 ≡ store.turn
+  turn : slice_index body 0 ≡ pager.turn
   turn = sym is_turn
 
-  -- it is the table of the store's record
-  body_is : body ≡ table_for (mark store) text
+  -- it is the table of the pager's record
+  body_is : body ≡ table_for (mark pager) text
   unfolding mark
   body_is = table_of area.pages area.most body few long are named.lawful
       ∙ (λ i. table_body (turn i) (text_long i) (numbers i) (PAGE - (6 + 2 * length (numbers i))))
@@ -85,34 +85,34 @@ module _ (fault_at : List ℕ → Option ℕ) (area : Area) (second : Bool) (bod
     all_pages : pages_named area body s ≡ pages_in text
     all_pages = pages ∙ ap pages_in (sym text_is)
 
-    which : second ≡ store.second
+    which : second ≡ pager.second
     which = sym is_second
 
     snaps : shot (record { second = second; table = open_table body; pages = pages_named area body s })
-        ≡ shot (laid (mark store) (Some text))
+        ≡ shot (laid (mark pager) (Some text))
     unfolding mark
     snaps = λ i. shot (record { second = which i; table = open_table (body_is i); pages = all_pages i })
 
-    pub read_shown : HasShot store s
+    pub read_shown : HasShot pager s
     unfolding snapshot
     read_shown = ap (λ a. shot_in a s) is_area ∙ ap (shot_of record_names (layout_of area) s) stands ∙ snaps
-        ∙ sym (held store.area (mark store) text marked) ∙ ap (λ o. kept_shot (laid (mark store) o)) (sym has)
+        ∙ sym (held pager.area (mark pager) text marked) ∙ ap (λ o. kept_shot (laid (mark pager) o)) (sym has)
 
   none : fault_at text ≡ None
   none = ap fault_at text_is ∙ named.text
 
-  pub newer_text : (other : List ℕ) → content store ≡ Some other → fault_at other ≡ None
+  pub newer_text : (other : List ℕ) → content pager ≡ Some other → fault_at other ≡ None
   newer_text other is = ap fault_at (inner other text (let e : Some other ≡ Some text = sym is ∙ has in e)) ∙ none
     where
       inner : (x y : List ℕ) → Some x ≡ Some y → x ≡ y
       inner x y h = cc
 
-  pub newer_found : is_some (content store) ≡ true
+  pub newer_found : is_some (content pager) ≡ true
   newer_found = ap is_some has
 
-  pub newer_reading : (s : List ℕ) → HasShot store s → reading fault_at store.area s ≡ found_as Content (content store)
+  pub newer_reading : (s : List ℕ) → HasShot pager s → reading fault_at pager.area s ≡ found_as Content (content pager)
   unfolding reading
-  newer_reading s shown = ap (read_as fault_at store.area)
-      (shown ∙ ap (λ o. kept_shot (laid (mark store) o)) has ∙ held store.area (mark store) text marked)
-      ∙ laid_read store.area (mark store) text store.lawful marked fault_at none
+  newer_reading s shown = ap (read_as fault_at pager.area)
+      (shown ∙ ap (λ o. kept_shot (laid (mark pager) o)) has ∙ held pager.area (mark pager) text marked)
+      ∙ laid_read pager.area (mark pager) text pager.lawful marked fault_at none
       ∙ ap (found_as Content) (sym has)

@@ -1,4 +1,4 @@
--- A store that was opened over what was read.
+-- A pager that was opened over what was read.
 use Rattle.std.proofs.Common.{◌≡◌, ℕ, List, Option, Some, None, Result, Ok, Err, OnOk, refl, ◌∙◌, subst}
 use Rattle.std.specs.Prelude.{is_some}
 use Rattle.dr_disk.specs.declared.call.Call.{Call}
@@ -9,7 +9,7 @@ use Rattle.dr_disk.proofs.Calling.{failed_as, passed_as, then_any}
 use Rattle.dr_disk.proofs.Steps.{spans, widen}
 use Rattle.pages.specs.Runs.{IsUntouched, Looks}
 use Rattle.pages.proofs.Looking.{untouched_twice}
-use Rattle.slot_store.specs.declared.store.SlotStore.{SlotStore}
+use Rattle.slot_store.specs.declared.pager.Pager.{Pager}
 use Rattle.slot_store.specs.declared.opening.Found.{Found}
 use Rattle.slot_store.specs.declared.outcome.Outcome.{Outcome}
 use Rattle.slot_store.specs.declared.outcome.Outcome.TheVariants.{Refused, Stored}
@@ -20,9 +20,10 @@ use Rattle.slot_store.specs.AtRest.{IsAtRest, IsReadAtRest}
 use Rattle.slot_store.specs.Layout.{Mark}
 use Rattle.slot_store.specs.Reading.{IsLikeRead, damaged, reading}
 use Rattle.slot_store.specs.Settling.{HasShot, RestsAsRead, Settles}
-use Rattle.slot_store.specs.Store.{content, mark}
+use Rattle.slot_store.specs.Pager.{content, mark}
 use Rattle.slot_store.proofs.Alike.{as_read, like_before}
 use Rattle.slot_store.proofs.AtRestRead.{is_same}
+use Rattle.slot_store.proofs.Standing.{rests_seen}
 use Rattle.slot_store.proofs.Wiping.{on_ok}
 
 -- reads alone leave what was read
@@ -32,68 +33,69 @@ looked_like area start b r settled looks =
     widen start b start.image (IsLikeRead area start) (λ c left. as_read area start c (settled c left)) looks.during
 
 -- after reads alone, all else was wiped
-module _ {T U : Type 0} (store : SlotStore) (x : U) (start b now : DiskState) (r : Result T Call) (settled : IsSettled start)
-    (looks : Looks start b (Ok x)) (shown : OnSeen (HasShot store) start) (settles : Settles store b now r) where
+module _ {T U : Type 0} (pager : Pager) (x : U) (start b now : DiskState) (r : Result T Call) (settled : IsSettled start)
+    (looks : Looks start b (Ok x)) (shown : OnSeen (HasShot pager) start) (settles : Settles pager b now r) where
   same : b.seen ≡ start.seen
   same = looks.untouched.unwritten.seen
 
-  pub opened_moment : Span start now (IsLikeRead store.area start)
-  opened_moment = spans start b now (IsLikeRead store.area start) (looked_like store.area start b (Ok x) settled looks)
-      (widen b now (IsLikeRead store.area b) (IsLikeRead store.area start) (like_before store.area start b looks.untouched.unwritten.seen)
+  pub opened_moment : Span start now (IsLikeRead pager.area start)
+  opened_moment = spans start b now (IsLikeRead pager.area start) (looked_like pager.area start b (Ok x) settled looks)
+      (widen b now (IsLikeRead pager.area b) (IsLikeRead pager.area start) (like_before pager.area start b looks.untouched.unwritten.seen)
       settles.any_moment)
 
-  pub opened_rests : OnOk r (Always (RestsAsRead store.area start store) now)
+  pub opened_rests : OnOk r (Always (RestsAsRead pager.area start pager) now)
   opened_rests = on_ok r
-      (λ rests c left. let is = rests c left in (is.0, like_before store.area start b looks.untouched.unwritten.seen c is.1))
+      (λ rests c left. let is = rests c left in (is.0, like_before pager.area start b looks.untouched.unwritten.seen c is.1))
       settles.done
 
   pub opened_calls : Went itself start now r
   opened_calls = then_any x start b now start.image r looks.during looks.calls settles.calls
 
-  pub opened_still : IsReadAtRest store.area start → IsUntouched start now
+  pub opened_still : IsReadAtRest pager.area start → IsUntouched start now
   opened_still was = untouched_twice start b now looks.untouched (settles.still (
     was.bytes,
     looks.untouched.unwritten.seen ∙ was.told,
-    (is_same store was.bytes (shown was.bytes was.told) was.mark was.text was.rests).rests_too,
+    (is_same pager was.bytes (shown was.bytes was.told) was.mark was.text was.rests).rests_too,
   ))
 
 -- one that was read at rest lies where it lay
-pub opened_mark : (store : SlotStore) (start : DiskState) → OnSeen (HasShot store) start → (s : List ℕ) (m : Mark) (text : List ℕ)
-    → start.seen ≡ Some s → IsAtRest store.area m (Some text) s → mark store ≡ m
-opened_mark store start shown s m text told rests = (is_same store s (shown s told) m (Some text) rests).same_mark text refl
+pub opened_mark : (pager : Pager) (start : DiskState) → OnSeen (HasShot pager) start → (s : List ℕ) (m : Mark) (text : List ℕ)
+    → start.seen ≡ Some s → IsAtRest pager.area m (Some text) s → mark pager ≡ m
+opened_mark pager start shown s m text told rests = (is_same pager s (shown s told) m (Some text) rests).same_mark text refl
 
 -- ---- what opening comes to
 
-module _ {T U : Type 0} (fault_at : List ℕ → Option ℕ) (area : Area) (store : SlotStore) (is_area : store.area ≡ area) (x : U)
+module _ {T U : Type 0} (fault_at : List ℕ → Option ℕ) (area : Area) (pager : Pager) (is_area : pager.area ≡ area) (x : U)
     (start b now : DiskState) (settled : IsSettled start) (looks : Looks start b (Ok x))
-    (shown : OnSeen (HasShot store) start) where
-  pub opens_stored : (what : Found) (y : T) → Settles store b now (Ok y)
-      → OnSeen (λ s. reading fault_at store.area s ≡ found_as what (content store)) start
-      → ((text : List ℕ) → content store ≡ Some text → fault_at text ≡ None)
-      → is_some (content store) ≡ has_content what
-      → Opens fault_at area start now (Ok (Stored store what))
-  opens_stored what y settles read text found = subst (λ a. Opens fault_at a start now (Ok (Stored store what))) is_area (record {
+    (shown : OnSeen (HasShot pager) start) where
+  pub opens_stored : (what : Found) (y : T) → Settles pager b now (Ok y)
+      → OnSeen (λ s. reading fault_at pager.area s ≡ found_as what (content pager)) start
+      → ((text : List ℕ) → content pager ≡ Some text → fault_at text ≡ None)
+      → is_some (content pager) ≡ has_content what
+      → Opens fault_at area start now (Ok (Stored pager what))
+  opens_stored what y settles read text found = subst (λ a. Opens fault_at a start now (Ok (Stored pager what))) is_area (record {
     found = record {
       area = refl;
       read = read;
       text = text;
       found = found;
-      at_rest = opened_rests store x start b now (Ok y) settled looks shown settles;
+      at_rest = λ c left. let rests = opened_rests pager x start b now (Ok y) settled looks shown settles c left in
+          (rests_seen pager c rests.0, rests.1);
       settled = settles.settled;
-      mark = opened_mark store start shown;
+      mark = opened_mark pager start shown;
     };
-    any_moment = opened_moment store x start b now (Ok y) settled looks shown settles;
-    still = opened_still store x start b now (Ok y) settled looks shown settles;
-    calls = passed_as itself itself (Stored store what) y start now (opened_calls store x start b now (Ok y) settled looks shown settles);
+    any_moment = opened_moment pager x start b now (Ok y) settled looks shown settles;
+    still = opened_still pager x start b now (Ok y) settled looks shown settles;
+    calls = passed_as itself itself (Stored pager what) y start now (opened_calls pager x start b now (Ok y) settled looks shown settles);
   })
 
-  pub opens_failed : (call : Call) → Settles {T = T} store b now (Err call) → Opens fault_at area start now (Err call)
+  pub opens_failed : (call : Call) → Settles {T = T} pager b now (Err call) → Opens fault_at area start now (Err call)
   opens_failed call settles = subst (λ a. Opens fault_at a start now (Err call)) is_area (record {
     found = tt;
-    any_moment = opened_moment {T = T} store x start b now (Err call) settled looks shown settles;
-    still = opened_still {T = T} store x start b now (Err call) settled looks shown settles;
+    any_moment = opened_moment {T = T} pager x start b now (Err call) settled looks shown settles;
+    still = opened_still {T = T} pager x start b now (Err call) settled looks shown settles;
     calls = failed_as {T = Outcome} {U = T} itself itself call call start now refl
-        (opened_calls {T = T} store x start b now (Err call) settled looks shown settles);
+        (opened_calls {T = T} pager x start b now (Err call) settled looks shown settles);
   })
 
 -- what was read is damaged, or a read failed

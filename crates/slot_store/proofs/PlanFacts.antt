@@ -1,4 +1,4 @@
--- What a plan gives a store that was staged.
+-- What a plan gives a pager that was staged.
 use Rattle.std.proofs.Common.{◌≡◌, ◌⊎◌, inl, inr, ⊎_elim, ℕ, ◌+◌, ◌*◌, ◌≤◌, ◌<◌, List, Some, length, length-take-le, map, take, sym, ◌∙◌, ap, subst, arith}
 use Rattle.std.specs.Prelude.{All, slice_index}
 use Rattle.dr_base.specs.declared.limits.TheConstants.{PAGE}
@@ -12,12 +12,12 @@ use Rattle.record_pages.proofs.LawfulEntries.{entries_distinct, entries_lawful, 
 use Rattle.record_pages.proofs.PlanEntries.{ArePlanned as IsPlan}
 use Rattle.record_pages.proofs.Planned.{planned}
 use Rattle.record_pages.proofs.Renumbered.{numbered_short}
-use Rattle.slot_store.specs.declared.store.SlotStore.{SlotStore}
+use Rattle.slot_store.specs.declared.pager.Pager.{Pager}
 use Rattle.slot_store.specs.Areas.{Area, Fits, layout_of}
 use Rattle.slot_store.specs.Layout.{Mark, free_in, pages_held}
 use Rattle.slot_store.specs.Putting.{IsStaged}
 use Rattle.slot_store.specs.Stops.{wipes_of, writes_of}
-use Rattle.slot_store.specs.Store.{content, mark}
+use Rattle.slot_store.specs.Pager.{content, mark}
 use Rattle.slot_store.proofs.Contents.{pages_are}
 use Rattle.slot_store.proofs.HasPlan.{AreOthers, HasPlan, fresh}
 use Rattle.slot_store.proofs.Replanned.{IsKept, free_left, held_room, kept_is, old_long, old_pages, plan_is}
@@ -31,23 +31,23 @@ module _ (area : Area) (m : ℕ) (numbers : List ℕ) where
   none_of : AreOthers area m numbers → IsNone m numbers
   none_of others k d lt = (others k d lt).1
 
-module _ (store : SlotStore) where
-  -- a store's own numbers are pages
-  pub store_named : All (IsPage (layout_of store.area)) store.kept.numbers.items
-  store_named = (entries_lawful store.area.pages store.kept.numbers.items store.entries).within
+module _ (pager : Pager) where
+  -- a pager's own numbers are pages
+  pub pager_named : All (IsPage (layout_of pager.area)) pager.kept.numbers.items
+  pager_named = (entries_lawful pager.area.pages pager.kept.numbers.items pager.entries).within
 
-  pub drops_pages : ArePages (layout_of store.area) store.draft.plan.dropped.items
-  drops_pages = entry_at store.area.pages store.draft.plan.dropped.items
-      (entries_lawful store.area.pages store.draft.plan.dropped.items store.drops)
+  pub drops_pages : ArePages (layout_of pager.area) pager.draft.plan.dropped.items
+  drops_pages = entry_at pager.area.pages pager.draft.plan.dropped.items
+      (entries_lawful pager.area.pages pager.draft.plan.dropped.items pager.drops)
 
-  pub drops_distinct : AreDistinct store.draft.plan.dropped.items
-  drops_distinct = entries_distinct store.area.pages store.draft.plan.dropped.items
-      (entries_lawful store.area.pages store.draft.plan.dropped.items store.drops)
+  pub drops_distinct : AreDistinct pager.draft.plan.dropped.items
+  drops_distinct = entries_distinct pager.area.pages pager.draft.plan.dropped.items
+      (entries_lawful pager.area.pages pager.draft.plan.dropped.items pager.drops)
 
-  kept_in : IsKept store.area store.kept.len store.kept.bytes.items store.kept.numbers.items
-  kept_in = kept_is store.area store.kept store.long store.entries
+  kept_in : IsKept pager.area pager.kept.len pager.kept.bytes.items pager.kept.numbers.items
+  kept_in = kept_is pager.area pager.kept pager.long pager.entries
 
-module _ (old new : SlotStore) (text : List ℕ) (staged : IsStaged old new text)
+module _ (old new : Pager) (text : List ℕ) (staged : IsStaged old new text)
     (fits : Fits old.area text) where
   abbrev Pages : List (List ℕ)
   Pages = pages_in (take old.kept.len old.kept.bytes.items)
@@ -79,7 +79,7 @@ module _ (old new : SlotStore) (text : List ℕ) (staged : IsStaged old new text
   fresh_long = length-take-le (length (changed Pages (pages_in text))) (free_in old.area Numbers)
       left
 
-  -- ---- what the store has
+  -- ---- what the pager has
 
   places_are : new.draft.plan.places.items ≡ changed_places 0 Pages (pages_in text)
   places_are = staged.places
@@ -142,7 +142,7 @@ module _ (old new : SlotStore) (text : List ℕ) (staged : IsStaged old new text
       → AreOthers old.area (slice_index (fresh new) j) Numbers
   beside = subst (λ (ns : List ℕ). (j : ℕ) → j < length ns
       → AreOthers old.area (slice_index ns j) Numbers) (sym fresh_are)
-      (λ j lt. others_of old.area (slice_index Fresh j) Numbers (store_named old)
+      (λ j lt. others_of old.area (slice_index Fresh j) Numbers (pager_named old)
       (plan.unused j 0 lt))
 
   gone : (j : ℕ) → j < length Dropped → AreOthers old.area (slice_index Dropped j) Named
@@ -163,7 +163,7 @@ module _ (old new : SlotStore) (text : List ℕ) (staged : IsStaged old new text
   covered m others = ⊎_elim
       (λ one. inl (subst (λ (ds : List ℕ). IsOneOf m ds) (sym drops_are) one))
       (λ both. inr (
-        others_of old.area m Numbers (store_named old) both.0,
+        others_of old.area m Numbers (pager_named old) both.0,
         subst (λ (ns : List ℕ). IsNoneOf m ns) (sym fresh_are)
             (λ j lt is. both.1 j 0 lt (sym is)),
       ))

@@ -15,12 +15,13 @@ use Rattle.pages.specs.Writing.{AreToWrite, piece_at}
 use Rattle.record_pages.specs.Pages.{pages_in}
 use Rattle.record_pages.specs.Tables.{record_names}
 use Rattle.slot_store.specs.declared.errors.StoreFault.{StoreFault}
-use Rattle.slot_store.specs.declared.store.SlotStore.{SlotStore}
+use Rattle.slot_store.specs.declared.pager.Pager.{Pager}
 use Rattle.slot_store.specs.Areas.{Fits, layout_of}
 use Rattle.slot_store.specs.Layout.{table_for}
 use Rattle.slot_store.specs.Putting.{HasPut, IsStaged, call_of}
 use Rattle.slot_store.specs.Stops.{IsStopped, putting}
-use Rattle.slot_store.specs.Store.{IsOldOrNew, ReadsOutsideArea, content, mark}
+use Rattle.slot_store.specs.Pager.{content, mark}
+use Rattle.slot_store.specs.Store.{IsOldOrNew, ReadsOutsideArea}
 use Rattle.slot_store.proofs.HasPlan.{fresh}
 use Rattle.slot_store.proofs.PlanFacts.{plans}
 use Rattle.slot_store.proofs.PutDone.{has_put, put_whole}
@@ -50,7 +51,7 @@ called_ok n m x y a b same called = record {
 -- ---- by the arguments of the call
 
 -- a put's call, of so many of these free numbers
-pub record IsCall (old new : SlotStore) (text : List ℕ) (start : DiskState) (lay : Layout) (k : ℕ)
+pub record IsCall (old new : Pager) (text : List ℕ) (start : DiskState) (lay : Layout) (k : ℕ)
     (free places bytes body : List ℕ) : Type 0 where
   pub set : Setting old new text start
   pub lay_is : lay ≡ layout_of new.area
@@ -61,14 +62,14 @@ pub record IsCall (old new : SlotStore) (text : List ℕ) (start : DiskState) (l
   pub body_is : body ≡ new.draft.body.items
 
 -- so many numbers are free
-pub enough_free : (old new : SlotStore) (text : List ℕ) (k : ℕ) (free : List ℕ)
+pub enough_free : (old new : Pager) (text : List ℕ) (k : ℕ) (free : List ℕ)
     → IsStaged old new text → Fits old.area text → k ≡ length new.draft.plan.places.items
     → free ≡ new.draft.free.items → k ≡ length (take k free)
 enough_free old new text k free staged fits k_is free_are = sym (length-take-le k free
     (let e : length free ≡ length new.draft.free.items = ap (λ (l : List ℕ). length l) free_are in
     omega (arith, k_is, e, (plans old new text staged fits).enough)))
 
-module _ {old new : SlotStore} {text : List ℕ} {start : DiskState} {lay : Layout} {k : ℕ}
+module _ {old new : Pager} {text : List ℕ} {start : DiskState} {lay : Layout} {k : ℕ}
     {free places bytes body : List ℕ}
     (call : IsCall old new text start lay k free places bytes body) where
   abbrev L : Layout

@@ -13,20 +13,21 @@ use Rattle.pages.specs.Writing.{IsOneOf}
 use Rattle.pages.specs.Commits.{IsCommitted, IsOldOrNew as IsEither}
 use Rattle.pages.proofs.Newest.{not_not}
 use Rattle.record_pages.specs.Tables.{record_names}
-use Rattle.slot_store.specs.declared.store.SlotStore.{SlotStore}
+use Rattle.slot_store.specs.declared.pager.Pager.{Pager}
 use Rattle.slot_store.specs.Areas.{layout_of}
 use Rattle.slot_store.specs.Layout.{IsLaidOut, IsPut, laid, table_for}
 use Rattle.slot_store.specs.Putting.{HasPut}
 use Rattle.slot_store.specs.Reading.{IsUndamaged}
 use Rattle.slot_store.specs.Records.{recovered, shot_in}
 use Rattle.slot_store.specs.Stops.{wipes_of, writes_of}
-use Rattle.slot_store.specs.Store.{Awaits, IsOldOrNew, content, has_replaced, mark}
+use Rattle.slot_store.specs.Pager.{Awaits, content, has_replaced, mark}
+use Rattle.slot_store.specs.Store.{IsOldOrNew}
 use Rattle.slot_store.proofs.HasPlan.{AreOthers, fresh}
 use Rattle.slot_store.proofs.PutShots.{frame_of, kept_open, own_names}
 use Rattle.slot_store.proofs.Putting.{Setting, comes, laid_out, new_names, new_place, next_open, planned, shot_new, shot_old}
 use Rattle.slot_store.proofs.Standing.{kept_recovered, kept_undamaged}
 
-module _ {old new : SlotStore} {text : List ℕ} {start : DiskState}
+module _ {old new : Pager} {text : List ℕ} {start : DiskState}
     (set : Setting old new text start) where
   abbrev l : Layout
   l = layout_of old.area

@@ -1,4 +1,4 @@
--- A store's table and its area, as pages of a disk know them.
+-- A pager's table and its area, as pages of a disk know them.
 use Rattle.std.proofs.Common.{◌≡◌, ◌≢◌, ◌⊎◌, inl, inr, ⊎_elim, ℕ, zero, suc, ◌+◌, ◌^◌, ◌≤◌, ◌<◌, Bool, true, false, List, [], ◌∷◌, Option, Some, None, length, take, refl, sym, ◌∙◌, ap, subst, arith}
 use Rattle.std.specs.Prelude.{if◌then◌else◌, ◌==◌, not}
 use Rattle.std.proofs.lemmas.Bool.{cases_eq}
@@ -18,13 +18,13 @@ use Rattle.pages.proofs.SoundLayouts.{area_sound}
 use Rattle.record_pages.specs.Pages.{page_count}
 use Rattle.record_pages.specs.Tables.{record_names}
 use Rattle.slot_store.proofs.Paging.{each_of}
-use Rattle.slot_store.specs.declared.store.SlotStore.{SlotStore}
+use Rattle.slot_store.specs.declared.pager.Pager.{Pager}
 use Rattle.slot_store.specs.Areas.{Area, IsArea, layout_of, size_of}
 use Rattle.slot_store.specs.Layout.{Mark, laid, table_for}
-use Rattle.slot_store.specs.Store.{content, mark}
+use Rattle.slot_store.specs.Pager.{content, mark}
 use Rattle.slot_store.proofs.Laid.{laid_names}
 use Rattle.slot_store.proofs.Named.{blank_names}
-use Rattle.slot_store.proofs.Standing.{outside_torn, store_marked}
+use Rattle.slot_store.proofs.Standing.{outside_torn, pager_marked}
 
 -- ---- numbers
 
@@ -90,41 +90,41 @@ module _ (area : Area) (lawful : IsArea area) where
       let was = reads s told in
       (was.0, was.1, outside_torn area was.0 s (omega (arith, lawful.least)) was.2)
 
--- ---- a store's table
+-- ---- a pager's table
 
-pub none_turn : (store : SlotStore) → content store ≡ None → store.turn ≡ 0
+pub none_turn : (pager : Pager) → content pager ≡ None → pager.turn ≡ 0
 unfolding content
-none_turn store none = by (store.turn == 0) refl none
+none_turn pager none = by (pager.turn == 0) refl none
   where
-    by : (b : Bool) → (store.turn == 0) ≡ b
-        → (if b then None else Some (take store.kept.len store.kept.bytes.items)) ≡ None
-        → store.turn ≡ 0
+    by : (b : Bool) → (pager.turn == 0) ≡ b
+        → (if b then None else Some (take pager.kept.len pager.kept.bytes.items)) ≡ None
+        → pager.turn ≡ 0
     by true is none = grind (arith, nat_tests)
-    by false isnt none = absurd (let e : Some (take store.kept.len store.kept.bytes.items) ≡ None
+    by false isnt none = absurd (let e : Some (take pager.kept.len pager.kept.bytes.items) ≡ None
         = none in cc)
 
-no_numbers : (store : SlotStore) → content store ≡ None → store.kept.numbers.items ≡ []
-no_numbers store none = by (store.kept.numbers.items) (each_of store.kept
-    ∙ ap page_count (store.none (none_turn store none)))
+no_numbers : (pager : Pager) → content pager ≡ None → pager.kept.numbers.items ≡ []
+no_numbers pager none = by (pager.kept.numbers.items) (each_of pager.kept
+    ∙ ap page_count (pager.none (none_turn pager none)))
   where
     by : (ns : List ℕ) → length ns ≡ page_count 0 → ns ≡ []
     by [] is = refl
     by (n ∷ ns) is = absurd (let e : suc (length ns) ≡ 0 = is in omega arith)
 
-text_names : (store : SlotStore) (text : List ℕ) → content store ≡ Some text
-    → record_names (table_for (mark store) text) ≡ store.kept.numbers.items
+text_names : (pager : Pager) (text : List ℕ) → content pager ≡ Some text
+    → record_names (table_for (mark pager) text) ≡ pager.kept.numbers.items
 unfolding mark
-text_names store text is = laid_names store.area (mark store) text store.lawful
-    (store_marked store text is)
+text_names pager text is = laid_names pager.area (mark pager) text pager.lawful
+    (pager_marked pager text is)
 
-pub own_names : (store : SlotStore)
-    → record_names (laid (mark store) (content store)).table.body ≡ store.kept.numbers.items
-own_names store = by (content store) refl
+pub own_names : (pager : Pager)
+    → record_names (laid (mark pager) (content pager)).table.body ≡ pager.kept.numbers.items
+own_names pager = by (content pager) refl
   where
-    by : (text : Option (List ℕ)) → content store ≡ text
-        → record_names (laid (mark store) text).table.body ≡ store.kept.numbers.items
-    by None is = blank_names ∙ sym (no_numbers store is)
-    by (Some text) is = text_names store text is
+    by : (text : Option (List ℕ)) → content pager ≡ text
+        → record_names (laid (mark pager) text).table.body ≡ pager.kept.numbers.items
+    by None is = blank_names ∙ sym (no_numbers pager is)
+    by (Some text) is = text_names pager text is
 
 -- the turn of the table that is to come follows
 pub comes_next : (was now : Mark) (old : Option (List ℕ)) (text : List ℕ)

@@ -11,34 +11,35 @@ use Rattle.pages.specs.Writing.{AreToWrite, AreUnnamed, AreWritten, piece_at}
 use Rattle.pages.specs.Commits.{IsPlan, next_shot}
 use Rattle.record_pages.specs.Pages.{pages_in}
 use Rattle.record_pages.specs.Tables.{record_names}
-use Rattle.slot_store.specs.declared.store.SlotStore.{SlotStore}
+use Rattle.slot_store.specs.declared.pager.Pager.{Pager}
 use Rattle.slot_store.specs.Areas.{Fits, layout_of}
 use Rattle.slot_store.specs.Layout.{IsLaidOut, IsMarked, Mark, laid, pages_held, table_for}
 use Rattle.slot_store.specs.Putting.{IsStaged}
-use Rattle.slot_store.specs.Store.{IsWithin, Rests, content, mark}
+use Rattle.slot_store.specs.Pager.{IsLaidFor, content, mark}
+use Rattle.slot_store.specs.Store.{IsWithin}
 use Rattle.slot_store.proofs.HasPlan.{AreOthers, HasPlan, fresh}
 use Rattle.slot_store.proofs.Laid.{laid_names, laid_open}
-use Rattle.slot_store.proofs.PlanFacts.{plans, store_named}
+use Rattle.slot_store.proofs.PlanFacts.{plans, pager_named}
 use Rattle.slot_store.proofs.PutShots.{comes_next, laid_second, layout_sound, own_names, still_unnamed}
-use Rattle.slot_store.proofs.Standing.{store_marked}
+use Rattle.slot_store.proofs.Standing.{pager_marked}
 
 -- a text that was staged, over a disk that rests
-pub record Setting (old new : SlotStore) (text : List ℕ) (start : DiskState) : Type 0 where
+pub record Setting (old new : Pager) (text : List ℕ) (start : DiskState) : Type 0 where
   pub staged : IsStaged old new text
   pub fits : Fits old.area text
   pub ends : start.size < 2 ^ 64
   pub within : IsWithin old.area start
   pub lawful : IsLawful start
-  pub rests : Always (Rests old) start
+  pub rests : Always (IsLaidFor old) start
 
--- the old store's snapshot, and the one that is to come
-abbrev pub shot_old : SlotStore → Snapshot
+-- the old pager's snapshot, and the one that is to come
+abbrev pub shot_old : Pager → Snapshot
 shot_old old = laid (mark old) (content old)
 
-abbrev pub shot_new : SlotStore → List ℕ → Snapshot
+abbrev pub shot_new : Pager → List ℕ → Snapshot
 shot_new new text = laid (mark new) (Some text)
 
-module _ {old new : SlotStore} {text : List ℕ} {start : DiskState}
+module _ {old new : Pager} {text : List ℕ} {start : DiskState}
     (set : Setting old new text start) where
   abbrev l : Layout
   l = layout_of old.area
@@ -57,13 +58,13 @@ module _ {old new : SlotStore} {text : List ℕ} {start : DiskState}
 
   marked : IsMarked old.area (mark new) text
   marked = subst (λ a. IsMarked a (mark new) text) set.staged.next.area
-      (store_marked new text set.staged.holds)
+      (pager_marked new text set.staged.holds)
 
   pub next_open : is_open next.table ≡ true
   next_open = laid_open old.area (mark new) text marked
 
   pub laid_out : (c : List ℕ) → start.image c → IsLaidOut old.area (mark old) (content old) c
-  unfolding Rests
+  unfolding IsLaidFor
   laid_out c left = set.rests c left
 
   pub new_names : record_names (table_for (mark new) text) ≡ new.kept.numbers.items
@@ -126,7 +127,7 @@ module _ {old new : SlotStore} {text : List ℕ} {start : DiskState}
       → map (page_of l s) (record_names (table_for (mark new) text)) ≡ pages_in text
   pages_next s written = ap (λ (ns : List ℕ). map (page_of l s) ns) new_names
       ∙ planned.holds (page_of l s)
-      (kept old.kept.numbers.items (store_named old) (λ j lt. planned.beside j lt)
+      (kept old.kept.numbers.items (pager_named old) (λ j lt. planned.beside j lt)
       ∙ old_pages written.read (set.lawful.seen_now written.read written.told))
       (λ j lt. written.written planned.distinct j lt)
     where
@@ -148,7 +149,7 @@ module _ {old new : SlotStore} {text : List ℕ} {start : DiskState}
     still = λ c left. (laid_out c left).still;
     beside = beside_old;
     comes = comes;
-    was_named = subst (All (IsPage l)) (sym (own_names old)) (store_named old);
+    was_named = subst (All (IsPage l)) (sym (own_names old)) (pager_named old);
     named = subst (All (IsPage l)) (sym new_names) planned.named;
     holds = pages_next;
   }

@@ -8,16 +8,18 @@ use Rattle.dr_disk.proofs.Ranges.{frame_twice, reads_twice}
 use Rattle.dr_disk.proofs.Steps.{spans, widen}
 use Rattle.slot_store.specs.Areas.{Fits, size_of}
 use Rattle.slot_store.specs.declared.errors.StoreFault.{StoreFault}
-use Rattle.slot_store.specs.declared.store.SlotStore.{SlotStore}
+use Rattle.slot_store.specs.declared.pager.Pager.{Pager}
 use Rattle.slot_store.specs.Putting.{HasPut, HasReplaced, HasRested, IsStaged, KeepsRecord, call_of, retire_calls}
 use Rattle.slot_store.specs.Reading.{IsUndamaged}
 use Rattle.slot_store.specs.Records.{recovered}
 use Rattle.slot_store.specs.Stops.{IsStopped, calls_of, putting, retiring, wipes_of}
-use Rattle.slot_store.specs.Store.{IsOldOrNew, KeepsOutside, ReadsOutsideArea, content, has_replaced}
+use Rattle.slot_store.specs.Pager.{content, has_replaced, seen}
+use Rattle.slot_store.specs.Store.{IsOldOrNew, KeepsOutside, ReadsOutsideArea}
 use Rattle.slot_store.proofs.PlanFacts.{plans}
+use Rattle.slot_store.proofs.Standing.{rests_seen}
 use Rattle.slot_store.proofs.Stopping.{stopped_late}
 
-module _ (old put : SlotStore) (text : List ℕ) (staged : IsStaged old put text)
+module _ (old put : Pager) (text : List ℕ) (staged : IsStaged old put text)
     (start mid : DiskState) where
   abbrev Either : List ℕ → Type 0
   Either = IsOldOrNew start old.area (content old) (Some text)
@@ -77,11 +79,11 @@ module _ (old put : SlotStore) (text : List ℕ) (staged : IsStaged old put text
         (λ c left. ap (λ a. recovered a c) (sym staged.next.area) ∙ (done c left).1)
         (KeepsRecord put mid) span is_new passed
 
-    pub replace_done : (new : SlotStore) (end : DiskState) → new ≡ put
-        → Always (HasRested put new mid) end → Always (HasReplaced old new text start) end
+    pub replace_done : (new : Pager) (end : DiskState) → new ≡ put
+        → Always (HasRested put new mid) end → Always (HasReplaced (seen old) (seen new) text start) end
     replace_done new end same rested c left =
         let rest = rested c left in (
-          rest.0,
+          rests_seen new c rest.0,
           rest.1 ∙ ap content same ∙ staged.holds,
           frame_twice start mid old.area.start (size_of old.area) outside c
               (subst (λ a. KeepsOutside a mid c) staged.next.area rest.2),

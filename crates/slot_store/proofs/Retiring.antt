@@ -16,13 +16,14 @@ use Rattle.pages.specs.Retiring.{IsCleared, IsKept, IsNewest, IsOver, Retires}
 use Rattle.pages.specs.Resting.{IsAtRest}
 use Rattle.pages.proofs.Newest.{newest_stands}
 use Rattle.record_pages.specs.Tables.{record_names}
-use Rattle.slot_store.specs.declared.store.SlotStore.{SlotStore}
+use Rattle.slot_store.specs.declared.pager.Pager.{Pager}
 use Rattle.slot_store.specs.Areas.{layout_of, size_of}
 use Rattle.slot_store.specs.Layout.{IsLaidOut, IsPut, laid}
 use Rattle.slot_store.specs.Putting.{HasRested, KeepsRecord}
-use Rattle.slot_store.specs.Store.{Awaits, IsWithin, Rests, content, has_replaced, mark}
-use Rattle.slot_store.proofs.Standing.{kept_recovered, kept_undamaged, rests_recovered}
-use Rattle.slot_store.proofs.PlanFacts.{drops_distinct, drops_pages, store_named}
+use Rattle.slot_store.specs.Pager.{Awaits, IsLaidFor, content, has_replaced, mark}
+use Rattle.slot_store.specs.Store.{IsWithin}
+use Rattle.slot_store.proofs.Standing.{kept_recovered, kept_undamaged, laid_recovered}
+use Rattle.slot_store.proofs.PlanFacts.{drops_distinct, drops_pages, pager_named}
 use Rattle.slot_store.proofs.PutShots.{frame_of, kept_open, laid_second, layout_sound, one_or_none, own_names}
 
 -- where each crash that leaves Q tells that each leaves P
@@ -42,78 +43,78 @@ span_if a b P Q span to = record {
   last = λ c left. ⊎_elim (λ was. inl was) (λ is. (to c is).last c left) (span.last c left);
 }
 
-module _ (store : SlotStore) (start : DiskState) (awaits : Always (Awaits store) start) where
+module _ (pager : Pager) (start : DiskState) (awaits : Always (Awaits pager) start) where
   abbrev pub l : Layout
-  l = layout_of store.area
+  l = layout_of pager.area
 
   abbrev pub now : Snapshot
-  now = laid (mark store) (content store)
+  now = laid (mark pager) (content pager)
 
   abbrev pub dropped : List ℕ
-  dropped = store.draft.plan.dropped.items
+  dropped = pager.draft.plan.dropped.items
 
   put : (c : List ℕ) → start.image c
-      → IsPut store.area (mark store) (content store) store.replaced dropped c
+      → IsPut pager.area (mark pager) (content pager) pager.replaced dropped c
   unfolding Awaits has_replaced
   put c left = awaits c left
 
-  place : (mark store).second ≡ store.second
+  place : (mark pager).second ≡ pager.second
   unfolding mark
   place = refl
 
   -- with no record replaced nothing is left to retire
-  pub alone : store.replaced ≡ false → Always (HasRested store store start) start
-  unfolding Rests
+  pub alone : pager.replaced ≡ false → Always (HasRested pager pager start) start
+  unfolding IsLaidFor
   alone none c left =
-      let rests : Rests store c = (put c left).alone none in (
+      let rests : IsLaidFor pager c = (put c left).alone none in (
         rests,
-        rests_recovered store c rests,
-        (c, left, torn_self store.area.start (size_of store.area) c),
+        laid_recovered pager c rests,
+        (c, left, torn_self pager.area.start (size_of pager.area) c),
       )
 
   -- ---- before
 
-  current : (c : List ℕ) → start.image c → table_at l store.second c ≡ now.table
+  current : (c : List ℕ) → start.image c → table_at l pager.second c ≡ now.table
   current c left = ap (λ k. table_at l k c) (sym place) ∙ (put c left).current
 
-  pub newest : Always (IsNewest l store.second) start
+  pub newest : Always (IsNewest l pager.second) start
   newest c left = subst (λ k. Comes (table_at l (not k) c) (table_at l k c)) place
-      (subst (λ t. Comes (table_at l (not (mark store).second) c) t) (sym (put c left).current)
+      (subst (λ t. Comes (table_at l (not (mark pager).second) c) t) (sym (put c left).current)
       (put c left).comes)
 
   unnamed : AreUnnamed record_names l dropped start
   unnamed j lt c left k table is_so =
-      let e : counts store.second (table_at l store.second c) ≡ counts k table = sym
-      (newest_stands l store.second c (newest c left)) ∙ is_so in
-      let same : table_at l store.second c ≡ table = cc in
+      let e : counts pager.second (table_at l pager.second c) ≡ counts k table = sym
+      (newest_stands l pager.second c (newest c left)) ∙ is_so in
+      let same : table_at l pager.second c ≡ table = cc in
       subst (λ t. IsBeside record_names l (slice_index dropped j) t) (sym (current c left) ∙ same)
       ((put c left).beside j lt)
 
-  pub free : start.size < 2 ^ 64 → IsWithin store.area start → AreFree record_names l dropped start
+  pub free : start.size < 2 ^ 64 → IsWithin pager.area start → AreFree record_names l dropped start
   free ends within = record {
-    sound = layout_sound store.area store.lawful start.size ends within;
-    pages = drops_pages store;
+    sound = layout_sound pager.area pager.lawful start.size ends within;
+    pages = drops_pages pager;
     unnamed = unnamed;
   }
 
   -- an image tells that the dropped pages are beside the record's table
   pub over : (d : List ℕ) → start.image d
-      → IsOver record_names l store.second dropped now.table now.pages start
+      → IsOver record_names l pager.second dropped now.table now.pages start
   over d entry = record {
     current = current;
     pages_are = λ c left. (put c left).pages;
-    named = subst (All (IsPage l)) (sym (own_names store)) (store_named store);
+    named = subst (All (IsPage l)) (sym (own_names pager)) (pager_named pager);
     beside = (put d entry).beside;
   }
 
   -- ---- meanwhile, and once it is done
 
   abbrev pub Placed : Snapshot
-  Placed = record { second = store.second; table = now.table; pages = now.pages }
+  Placed = record { second = pager.second; table = now.table; pages = now.pages }
 
   placed_is : Placed ≡ now
   placed_is = λ i. record {
-    second = (sym place ∙ sym (laid_second (mark store) (content store))) i;
+    second = (sym place ∙ sym (laid_second (mark pager) (content pager))) i;
     table = now.table;
     pages = now.pages;
   }
@@ -121,17 +122,17 @@ module _ (store : SlotStore) (start : DiskState) (awaits : Always (Awaits store)
   opened : (d : List ℕ) → start.image d → shot Placed ≡ kept_shot now
   opened d entry = ap shot placed_is ∙ sym (kept_open now (put d entry).comes.opened)
 
-  kept : (c : List ℕ) → IsKept record_names l Placed start c → KeepsRecord store start c
+  kept : (c : List ℕ) → IsKept record_names l Placed start c → KeepsRecord pager start c
   kept c is =
       let same = is.same ∙ opened is.around.0 is.around.1 in (
-        kept_recovered store c same,
-        frame_of store.area store.lawful start c is.around,
-        kept_undamaged store c same,
+        kept_recovered pager c same,
+        frame_of pager.area pager.lawful start c is.around,
+        kept_undamaged pager c same,
       )
 
   module _ (lawful : IsLawful start) (c : List ℕ)
       (cleared : IsCleared record_names l dropped Placed start c) where
-    before : IsPut store.area (mark store) (content store) store.replaced dropped cleared.read
+    before : IsPut pager.area (mark pager) (content pager) pager.replaced dropped cleared.read
     before = put cleared.read (lawful.seen_now cleared.read cleared.told)
 
     blank : (m : ℕ) → IsPage l m → IsBeside record_names l m now.table
@@ -142,48 +143,48 @@ module _ (store : SlotStore) (start : DiskState) (awaits : Always (Awaits store)
         (one_or_none m dropped)
       where
         one : IsOneOf m dropped → page_of l c m ≡ blank_page
-        one j = ap (page_of l c) j.2 ∙ cleared.blank (drops_distinct store) j.0 j.1
+        one j = ap (page_of l c) j.2 ∙ cleared.blank (drops_distinct pager) j.0 j.1
 
-    laid_out : IsLaidOut store.area (mark store) (content store) c
+    laid_out : IsLaidOut pager.area (mark pager) (content pager) c
     laid_out = subst (λ s. IsAtRest record_names l s c) placed_is
         (record { still = cleared.still; other = cleared.other; blank = blank })
 
-    rests : Rests store c
-    unfolding Rests
+    rests : IsLaidFor pager c
+    unfolding IsLaidFor
     rests = laid_out
 
-    rested : HasRested store store start c
+    rested : HasRested pager pager start c
     rested = (
       rests,
-      rests_recovered store c rests,
-      frame_of store.area store.lawful start c cleared.around,
+      laid_recovered pager c rests,
+      frame_of pager.area pager.lawful start c cleared.around,
     )
 
   module _ {T : Type 0} (end : DiskState) (result : Result T Call)
       (span : Span start end (KeepsOutside l start))
       (retires : (table : Table) (pages : List (List ℕ))
-      → IsOver record_names l store.second dropped table pages start
+      → IsOver record_names l pager.second dropped table pages start
       → Retires record_names l dropped
-      (record { second = store.second; table = table; pages = pages }) start end result) where
+      (record { second = pager.second; table = table; pages = pages }) start end result) where
     by_image : (d : List ℕ) → start.image d
         → Retires record_names l dropped Placed start end result
     by_image d entry = retires now.table now.pages (over d entry)
 
-    pub retire_whole : Span start end (KeepsRecord store start)
-    retire_whole = span_if start end (KeepsRecord store start) (KeepsOutside l start) span
-        (λ c around. widen start end (IsKept record_names l Placed start) (KeepsRecord store start)
+    pub retire_whole : Span start end (KeepsRecord pager start)
+    retire_whole = span_if start end (KeepsRecord pager start) (KeepsOutside l start) span
+        (λ c around. widen start end (IsKept record_names l Placed start) (KeepsRecord pager start)
         kept (by_image around.0 around.1).any_moment)
 
   pub retire_done : {T : Type 0} (end : DiskState) (x : T)
       → Span start end (KeepsOutside l start)
       → ((table : Table) (pages : List (List ℕ))
-      → IsOver record_names l store.second dropped table pages start
+      → IsOver record_names l pager.second dropped table pages start
       → Retires record_names l dropped
-      (record { second = store.second; table = table; pages = pages }) start end (Ok x))
-      → IsLawful start → Always (HasRested store store start) end
+      (record { second = pager.second; table = table; pages = pages }) start end (Ok x))
+      → IsLawful start → Always (HasRested pager pager start) end
   retire_done end x span retires lawful c left = ⊎_elim (λ entry. at c entry left)
       (λ around. at around.0 around.1 left) (span.last c left)
     where
-      at : (d : List ℕ) → start.image d → end.image c → HasRested store store start c
+      at : (d : List ℕ) → start.image d → end.image c → HasRested pager pager start c
       at d entry left = rested lawful c
           ((by_image end (Ok x) span retires d entry).done c left)

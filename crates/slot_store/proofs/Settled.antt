@@ -1,4 +1,4 @@
--- What a store with a record rests on, once its area was tidied.
+-- What a pager with a record rests on, once its area was tidied.
 use Rattle.std.proofs.Common.{◌≡◌, ◌≢◌, ℕ, Bool, true, false, List, take, map, get_or, Option, Some, None, refl, sym, ◌∙◌, ap, subst, arith, if◌then◌else◌}
 use Rattle.std.specs.Prelude.{All, not, ◌==◌}
 use Rattle.std.proofs.lemmas.Bool.Decides.{nat_tests}
@@ -14,26 +14,26 @@ use Rattle.pages.specs.Tidying.{AreNamed, IsMute, IsTidied}
 use Rattle.pages.proofs.Newest.{not_not}
 use Rattle.record_pages.specs.Pages.{pages_in}
 use Rattle.record_pages.specs.Tables.{record_names}
-use Rattle.slot_store.specs.declared.store.SlotStore.{SlotStore}
+use Rattle.slot_store.specs.declared.pager.Pager.{Pager}
 use Rattle.slot_store.specs.Areas.{Area, layout_of}
 use Rattle.slot_store.specs.Layout.{IsMarked, Mark, laid, table_for}
 use Rattle.slot_store.specs.Settling.{HasShot}
-use Rattle.slot_store.specs.Store.{Rests, content, mark}
+use Rattle.slot_store.specs.Pager.{IsLaidFor, content, mark}
 use Rattle.slot_store.proofs.Entries.{entries_within}
 use Rattle.slot_store.proofs.Laid.{laid_names}
-use Rattle.slot_store.proofs.Standing.{store_marked}
+use Rattle.slot_store.proofs.Standing.{pager_marked}
 use Rattle.slot_store.proofs.Marks.{AreMarked, among_at, beside_unmarked, same_map, unmarked_beside}
 use Rattle.slot_store.proofs.Standings.{current, mute_beside, open_by_turn, shot_back}
 
-pub has_text : (store : SlotStore) → store.turn ≢ 0 → content store ≡ Some (take store.kept.len store.kept.bytes.items)
+pub has_text : (pager : Pager) → pager.turn ≢ 0 → content pager ≡ Some (take pager.kept.len pager.kept.bytes.items)
 unfolding content
-has_text store turn = ap (λ t. if t then None else Some (take store.kept.len store.kept.bytes.items))
-    (let e : (store.turn == 0) ≡ false = grind (arith, nat_tests) in e)
+has_text pager turn = ap (λ t. if t then None else Some (take pager.kept.len pager.kept.bytes.items))
+    (let e : (pager.turn == 0) ≡ false = grind (arith, nat_tests) in e)
 
-pub has_none : (store : SlotStore) → store.turn ≡ 0 → content store ≡ None
+pub has_none : (pager : Pager) → pager.turn ≡ 0 → content pager ≡ None
 unfolding content
-has_none store turn = ap (λ t. if t then None else Some (take store.kept.len store.kept.bytes.items))
-    (let e : (store.turn == 0) ≡ true = grind (arith, nat_tests) in e)
+has_none pager turn = ap (λ t. if t then None else Some (take pager.kept.len pager.kept.bytes.items))
+    (let e : (pager.turn == 0) ≡ true = grind (arith, nat_tests) in e)
 
 pub laid_open : (area : Area) (mark : Mark) (text : List ℕ) → IsMarked area mark text
     → is_open (open_table (table_for mark text)) ≡ true
@@ -45,102 +45,102 @@ held area mark text marked =
     ap (λ o. if o then shot (laid mark (Some text)) else no_shot) (laid_open area mark text marked)
 
 -- with what it has, or with nothing
-module _ (store : SlotStore) (o : Option (List ℕ)) (has : content store ≡ o) (c : List ℕ) where
-  pub rests_of : AreAtRest record_names (layout_of store.area) (laid (mark store) o) c → Rests store c
-  unfolding Rests
+module _ (pager : Pager) (o : Option (List ℕ)) (has : content pager ≡ o) (c : List ℕ) where
+  pub rests_of : AreAtRest record_names (layout_of pager.area) (laid (mark pager) o) c → IsLaidFor pager c
+  unfolding IsLaidFor
   rests_of rests =
-      subst (λ p. AreAtRest record_names (layout_of store.area) (laid (mark store) p) c) (sym has) rests
+      subst (λ p. AreAtRest record_names (layout_of pager.area) (laid (mark pager) p) c) (sym has) rests
 
-  pub rests_as : Rests store c → AreAtRest record_names (layout_of store.area) (laid (mark store) o) c
-  unfolding Rests
-  rests_as rests = subst (λ p. AreAtRest record_names (layout_of store.area) (laid (mark store) p) c) has rests
+  pub rests_as : IsLaidFor pager c → AreAtRest record_names (layout_of pager.area) (laid (mark pager) o) c
+  unfolding IsLaidFor
+  rests_as rests = subst (λ p. AreAtRest record_names (layout_of pager.area) (laid (mark pager) p) c) has rests
 
-module _ (store : SlotStore) (text : List ℕ) (has : content store ≡ Some text) where
+module _ (pager : Pager) (text : List ℕ) (has : content pager ≡ Some text) where
   l : Layout
-  l = layout_of store.area
+  l = layout_of pager.area
 
   table : Table
-  table = open_table (table_for (mark store) text)
+  table = open_table (table_for (mark pager) text)
 
-  marked : IsMarked store.area (mark store) text
-  marked = store_marked store text has
+  marked : IsMarked pager.area (mark pager) text
+  marked = pager_marked pager text has
 
-  names_are : record_names (table_for (mark store) text) ≡ store.kept.numbers.items
+  names_are : record_names (table_for (mark pager) text) ≡ pager.kept.numbers.items
   unfolding mark
-  names_are = laid_names store.area (mark store) text store.lawful marked
+  names_are = laid_names pager.area (mark pager) text pager.lawful marked
 
-  pages : All (IsPage (layout_of store.area)) store.kept.numbers.items
-  pages = entries_within store.area store.kept.numbers.items store.entries
+  pages : All (IsPage (layout_of pager.area)) pager.kept.numbers.items
+  pages = entries_within pager.area pager.kept.numbers.items pager.entries
 
-  -- the store's table counts, and names its pages
-  pub stands : (s : List ℕ) → HasShot store s
-      → (standing (layout_of store.area) s ≡ counts (mark store).second (open_table (table_for (mark store) text)))
-      × (map (page_of (layout_of store.area) s) (record_names (table_for (mark store) text)) ≡ pages_in text)
+  -- the pager's table counts, and names its pages
+  pub stands : (s : List ℕ) → HasShot pager s
+      → (standing (layout_of pager.area) s ≡ counts (mark pager).second (open_table (table_for (mark pager) text)))
+      × (map (page_of (layout_of pager.area) s) (record_names (table_for (mark pager) text)) ≡ pages_in text)
   unfolding snapshot
-  stands s shown = shot_back record_names (layout_of store.area) s (standing (layout_of store.area) s)
-      (laid (mark store) (Some text))
-      (shown ∙ ap (λ p. kept_shot (laid (mark store) p)) has ∙ held store.area (mark store) text marked)
+  stands s shown = shot_back record_names (layout_of pager.area) s (standing (layout_of pager.area) s)
+      (laid (mark pager) (Some text))
+      (shown ∙ ap (λ p. kept_shot (laid (mark pager) p)) has ∙ held pager.area (mark pager) text marked)
 
-  only : (s : List ℕ) → HasShot store s → (k : Bool) (t : Table) → standing (layout_of store.area) s ≡ counts k t
-      → open_table (table_for (mark store) text) ≡ t
-  only s shown k t is = tables (mark store).second k (open_table (table_for (mark store) text)) t (sym (stands s shown).0 ∙ is)
+  only : (s : List ℕ) → HasShot pager s → (k : Bool) (t : Table) → standing (layout_of pager.area) s ≡ counts k t
+      → open_table (table_for (mark pager) text) ≡ t
+  only s shown k t is = tables (mark pager).second k (open_table (table_for (mark pager) text)) t (sym (stands s shown).0 ∙ is)
     where
       tables : (j k : Bool) (x y : Table) → counts j x ≡ counts k y → x ≡ y
       tables j k x y h = cc
 
-  pub named_pages : (s : List ℕ) → HasShot store s → AreNamed record_names (layout_of store.area) s
-  named_pages s shown k t is = subst (λ (x : Table). All (IsPage (layout_of store.area)) (record_names x.body)) (only s shown k t is)
-      (subst (λ (ns : List ℕ). All (IsPage (layout_of store.area)) ns) (sym names_are) pages)
+  pub named_pages : (s : List ℕ) → HasShot pager s → AreNamed record_names (layout_of pager.area) s
+  named_pages s shown k t is = subst (λ (x : Table). All (IsPage (layout_of pager.area)) (record_names x.body)) (only s shown k t is)
+      (subst (λ (ns : List ℕ). All (IsPage (layout_of pager.area)) ns) (sym names_are) pages)
 
-  pub mute_other : (s : List ℕ) → HasShot store s → (table_at (layout_of store.area) (not store.second) s).gate ≡ OPEN
-      → IsMute (layout_of store.area) (not store.second) s
+  pub mute_other : (s : List ℕ) → HasShot pager s → (table_at (layout_of pager.area) (not pager.second) s).gate ≡ OPEN
+      → IsMute (layout_of pager.area) (not pager.second) s
   unfolding mark
   mute_other s shown gate =
-      mute_beside (layout_of store.area) s store.second (open_table (table_for (mark store) text)) (stands s shown).0 gate
+      mute_beside (layout_of pager.area) s pager.second (open_table (table_for (mark pager) text)) (stands s shown).0 gate
 
-  module _ (named : List Bool) (marks : AreMarked named store.kept.numbers.items) where
-    pub unnamed_pages : (n : ℕ) → get_or named n false ≡ false → (s : List ℕ) → HasShot store s
-        → IsUnnamed record_names (layout_of store.area) n s
-    unnamed_pages n none s shown k t is = subst (λ (x : Table). IsBeside record_names (layout_of store.area) n x)
+  module _ (named : List Bool) (marks : AreMarked named pager.kept.numbers.items) where
+    pub unnamed_pages : (n : ℕ) → get_or named n false ≡ false → (s : List ℕ) → HasShot pager s
+        → IsUnnamed record_names (layout_of pager.area) n s
+    unnamed_pages n none s shown k t is = subst (λ (x : Table). IsBeside record_names (layout_of pager.area) n x)
         (only s shown k t is)
-        (subst (λ (ns : List ℕ). All (λ m. IsPage (layout_of store.area) m × (m ≢ n)) ns) (sym names_are)
-        (beside_unmarked (IsPage (layout_of store.area)) store.kept.numbers.items n pages (sym (marks n) ∙ none)))
+        (subst (λ (ns : List ℕ). All (λ m. IsPage (layout_of pager.area) m × (m ≢ n)) ns) (sym names_are)
+        (beside_unmarked (IsPage (layout_of pager.area)) pager.kept.numbers.items n pages (sym (marks n) ∙ none)))
 
-    pub settled_rests : (start : DiskState) (c : List ℕ) → OnSeen (HasShot store) start
-        → IsTidied (layout_of store.area) (not store.second) named start c → Rests store c
+    pub settled_rests : (start : DiskState) (c : List ℕ) → OnSeen (HasShot pager) start
+        → IsTidied (layout_of pager.area) (not pager.second) named start c → IsLaidFor pager c
     unfolding mark
     settled_rests start c shown tidied =
         let counts_read = stands tidied.read (shown tidied.read tidied.told) in
-        rests_of store (Some text) has c (record {
+        rests_of pager (Some text) has c (record {
           still = record {
-            current = sym (ap (λ k. table_at (layout_of store.area) k c) (not_not store.second)) ∙ tidied.other
-                ∙ ap (λ k. table_at (layout_of store.area) k tidied.read) (not_not store.second)
-                ∙ current (layout_of store.area) tidied.read store.second (open_table (table_for (mark store) text)) counts_read.0;
-            pages = same_map (page_of (layout_of store.area) c) (page_of (layout_of store.area) tidied.read)
-                (record_names (table_for (mark store) text)) kept
+            current = sym (ap (λ k. table_at (layout_of pager.area) k c) (not_not pager.second)) ∙ tidied.other
+                ∙ ap (λ k. table_at (layout_of pager.area) k tidied.read) (not_not pager.second)
+                ∙ current (layout_of pager.area) tidied.read pager.second (open_table (table_for (mark pager) text)) counts_read.0;
+            pages = same_map (page_of (layout_of pager.area) c) (page_of (layout_of pager.area) tidied.read)
+                (record_names (table_for (mark pager) text)) kept
                 ∙ counts_read.1;
             shut = ap (λ t. t.gate) tidied.wiped_is;
           };
           other = tidied.wiped_is;
           blank = λ m is beside. tidied.blank m is (marks m
-              ∙ unmarked_beside (IsPage (layout_of store.area)) store.kept.numbers.items m
-              (subst (λ (ns : List ℕ). All (λ j. IsPage (layout_of store.area) j × (j ≢ m)) ns) names_are beside));
+              ∙ unmarked_beside (IsPage (layout_of pager.area)) pager.kept.numbers.items m
+              (subst (λ (ns : List ℕ). All (λ j. IsPage (layout_of pager.area) j × (j ≢ m)) ns) names_are beside));
         })
       where
-        kept : All (λ n. page_of (layout_of store.area) c n ≡ page_of (layout_of store.area) tidied.read n)
-            (record_names (table_for (mark store) text))
+        kept : All (λ n. page_of (layout_of pager.area) c n ≡ page_of (layout_of pager.area) tidied.read n)
+            (record_names (table_for (mark pager) text))
         kept = subst
-            (λ (ns : List ℕ). All (λ n. page_of (layout_of store.area) c n ≡ page_of (layout_of store.area) tidied.read n) ns)
+            (λ (ns : List ℕ). All (λ n. page_of (layout_of pager.area) c n ≡ page_of (layout_of pager.area) tidied.read n) ns)
             (sym names_are)
-            (All-from_get_or (λ n. page_of (layout_of store.area) c n ≡ page_of (layout_of store.area) tidied.read n)
-            store.kept.numbers.items 0
-            (λ i lt. tidied.kept (get_or store.kept.numbers.items i 0)
-            (All-get_or (IsPage (layout_of store.area)) store.kept.numbers.items i 0 lt pages)
-            (marks (get_or store.kept.numbers.items i 0) ∙ among_at store.kept.numbers.items i lt)))
+            (All-from_get_or (λ n. page_of (layout_of pager.area) c n ≡ page_of (layout_of pager.area) tidied.read n)
+            pager.kept.numbers.items 0
+            (λ i lt. tidied.kept (get_or pager.kept.numbers.items i 0)
+            (All-get_or (IsPage (layout_of pager.area)) pager.kept.numbers.items i 0 lt pages)
+            (marks (get_or pager.kept.numbers.items i 0) ∙ among_at pager.kept.numbers.items i lt)))
 
     -- at rest there is nothing to wipe
-    pub rests_blank : (s : List ℕ) → Rests store s → (n : ℕ) → IsPage (layout_of store.area) n
-        → get_or named n false ≡ false → page_of (layout_of store.area) s n ≡ blank_page
-    rests_blank s rests n is none = (rests_as store (Some text) has s rests).blank n is
-        (subst (λ (ns : List ℕ). All (λ m. IsPage (layout_of store.area) m × (m ≢ n)) ns) (sym names_are)
-        (beside_unmarked (IsPage (layout_of store.area)) store.kept.numbers.items n pages (sym (marks n) ∙ none)))
+    pub rests_blank : (s : List ℕ) → IsLaidFor pager s → (n : ℕ) → IsPage (layout_of pager.area) n
+        → get_or named n false ≡ false → page_of (layout_of pager.area) s n ≡ blank_page
+    rests_blank s rests n is none = (rests_as pager (Some text) has s rests).blank n is
+        (subst (λ (ns : List ℕ). All (λ m. IsPage (layout_of pager.area) m × (m ≢ n)) ns) (sym names_are)
+        (beside_unmarked (IsPage (layout_of pager.area)) pager.kept.numbers.items n pages (sym (marks n) ∙ none)))

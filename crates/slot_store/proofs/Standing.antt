@@ -14,83 +14,106 @@ use Rattle.record_pages.specs.Pages.{page_count}
 use Rattle.record_pages.specs.Tables.{record_names}
 use Rattle.record_pages.proofs.Filled.{count_least}
 use Rattle.slot_store.proofs.Paging.{each_of}
-use Rattle.slot_store.specs.declared.store.SlotStore.{SlotStore}
-use Rattle.slot_store.specs.Areas.{Area, Fits, layout_of, size_of}
-use Rattle.slot_store.specs.Layout.{IsMarked, laid}
+use Rattle.slot_store.specs.declared.pager.Pager.{Pager}
+use Rattle.slot_store.specs.Areas.{Area, Fits, IsArea, layout_of, size_of}
+use Rattle.slot_store.specs.Layout.{IsLaidOut, IsMarked, Mark, laid}
 use Rattle.slot_store.specs.Reading.{IsUndamaged, OpensAs, read_as, reading}
 use Rattle.slot_store.specs.Records.{recovered, shot_in, shown}
-use Rattle.slot_store.specs.Store.{Rests, content, mark}
+use Rattle.slot_store.specs.Pager.{IsLaidFor, content, mark, seen}
+use Rattle.slot_store.specs.Store.{Rests, SlotStore}
 use Rattle.slot_store.proofs.Laid.{laid_kept, laid_read, laid_shown}
 
 -- a text that is no longer than the most pages of a record fits
 pub text_fits : (area : Area) (text : List ℕ) → length text ≤ PAGE * area.most → Fits area text
 text_fits area text short = count_least (length text) area.most short
 
-module _ (store : SlotStore) where
-  abbrev all : List ℕ
-  all = store.kept.bytes.items
+-- ---- bytes whose shot is that of a record that is laid out, or of none
 
-  marked_as : (text : List ℕ) → (none : Bool) → (store.turn == 0) ≡ none
-      → (if none then None else Some (take store.kept.len all)) ≡ Some text → IsMarked store.area (mark store) text
+module _ (area : Area) (mark : Mark) (text : Option (List ℕ)) (lawful : IsArea area)
+    (marked : (kept : List ℕ) → text ≡ Some kept → IsMarked area mark kept) where
+  shown_as : (o : Option (List ℕ)) → text ≡ o → shown area (kept_shot (laid mark o)) ≡ o
+  shown_as None is = refl
+  shown_as (Some kept) is =
+      ap (shown area) (laid_kept area mark kept lawful (marked kept is)) ∙ laid_shown area mark kept lawful (marked kept is)
+
+  opens_as : (o : Option (List ℕ)) → text ≡ o → (c : List ℕ) → shot_in area c ≡ kept_shot (laid mark o) → OpensAs area o c
+  unfolding reading
+  opens_as None is c same = λ fault_at. ap (read_as fault_at area) same
+  opens_as (Some kept) is c same = λ fault_at none.
+      ap (read_as fault_at area) (same ∙ laid_kept area mark kept lawful (marked kept is))
+      ∙ laid_read area mark kept lawful (marked kept is) fault_at none
+
+  pub shot_recovered : (c : List ℕ) → shot_in area c ≡ kept_shot (laid mark text) → recovered area c ≡ text
+  unfolding recovered
+  shot_recovered c is = ap (shown area) is ∙ shown_as text refl
+
+  pub shot_undamaged : (c : List ℕ) → shot_in area c ≡ kept_shot (laid mark text) → IsUndamaged area c
+  shot_undamaged c is = subst (λ t. OpensAs area t c) (sym (shot_recovered c is)) (opens_as text refl c is)
+
+pub rests_shot : (area : Area) (mark : Mark) (text : Option (List ℕ)) (c : List ℕ) → IsLaidOut area mark text c
+    → shot_in area c ≡ kept_shot (laid mark text)
+rests_shot area mark text c rests = shot_still record_names (layout_of area) c (laid mark text) rests.still
+
+-- ---- what callers see at rest
+
+module _ (store : SlotStore) (c : List ℕ) (rests : Rests store c) where
+  pub rests_recovered : recovered store.area c ≡ store.content
+  unfolding Rests
+  rests_recovered = shot_recovered store.area store.mark store.content rests.0 rests.1.marked c
+      (rests_shot store.area store.mark store.content c rests.1.laid_out)
+
+  pub rests_undamaged : IsUndamaged store.area c
+  unfolding Rests
+  rests_undamaged = shot_undamaged store.area store.mark store.content rests.0 rests.1.marked c
+      (rests_shot store.area store.mark store.content c rests.1.laid_out)
+
+-- ---- a pager's record
+
+module _ (pager : Pager) where
+  abbrev all : List ℕ
+  all = pager.kept.bytes.items
+
+  marked_as : (text : List ℕ) → (none : Bool) → (pager.turn == 0) ≡ none
+      → (if none then None else Some (take pager.kept.len all)) ≡ Some text → IsMarked pager.area (mark pager) text
   unfolding mark
   marked_as text true is_none is = absurd (let e : None ≡ Some text = is in cc)
   marked_as text false is_some is =
-      let same : take store.kept.len all ≡ text = cc in
-      let long : length text ≡ store.kept.len =
-      ap (λ (l : List ℕ). length l) (sym same) ∙ length-take-le store.kept.len all store.kept.fits in
+      let same : take pager.kept.len all ≡ text = cc in
+      let long : length text ≡ pager.kept.len =
+      ap (λ (l : List ℕ). length l) (sym same) ∙ length-take-le pager.kept.len all pager.kept.fits in
       record {
         low = let e = is_some in grind (arith, nat_tests);
-        high = store.turns;
-        fits = text_fits store.area text (omega (arith, long, store.kept.fits, store.long));
-        each = each_of store.kept ∙ ap page_count (sym long);
-        entries = store.entries;
+        high = pager.turns;
+        fits = text_fits pager.area text (omega (arith, long, pager.kept.fits, pager.long));
+        each = each_of pager.kept ∙ ap page_count (sym long);
+        entries = pager.entries;
       }
 
-  -- its record is marked
-  pub store_marked : (text : List ℕ) → content store ≡ Some text → IsMarked store.area (mark store) text
+  -- it is marked
+  pub pager_marked : (text : List ℕ) → content pager ≡ Some text → IsMarked pager.area (mark pager) text
   unfolding content
-  store_marked text is = marked_as text (store.turn == 0) refl is
+  pager_marked text is = marked_as text (pager.turn == 0) refl is
 
-  abbrev stands : Option (List ℕ) → Type 0
-  stands text = shown store.area (kept_shot (laid (mark store) text)) ≡ text
+  pub kept_recovered : (c : List ℕ) → shot_in pager.area c ≡ kept_shot (laid (mark pager) (content pager))
+      → recovered pager.area c ≡ content pager
+  kept_recovered = shot_recovered pager.area (mark pager) (content pager) pager.lawful pager_marked
 
-  shown_as : (text : Option (List ℕ)) → content store ≡ text → stands text
-  shown_as None is = refl
-  shown_as (Some text) is =
-      ap (shown store.area) (laid_kept store.area (mark store) text store.lawful (store_marked text is))
-      ∙ laid_shown store.area (mark store) text store.lawful (store_marked text is)
+  pub kept_undamaged : (c : List ℕ) → shot_in pager.area c ≡ kept_shot (laid (mark pager) (content pager))
+      → IsUndamaged pager.area c
+  kept_undamaged = shot_undamaged pager.area (mark pager) (content pager) pager.lawful pager_marked
 
-  pub kept_shown : stands (content store)
-  kept_shown = shown_as (content store) refl
+  pub laid_recovered : (c : List ℕ) → IsLaidFor pager c → recovered pager.area c ≡ content pager
+  unfolding IsLaidFor
+  laid_recovered c rests = kept_recovered c (rests_shot pager.area (mark pager) (content pager) c rests)
 
-  opens_as : (text : Option (List ℕ)) → content store ≡ text → (c : List ℕ)
-      → shot_in store.area c ≡ kept_shot (laid (mark store) text) → OpensAs store.area text c
-  unfolding reading
-  opens_as None is c same = λ fault_at. ap (read_as fault_at store.area) same
-  opens_as (Some text) is c same = λ fault_at none.
-      ap (read_as fault_at store.area) (same ∙ laid_kept store.area (mark store) text store.lawful (store_marked text is))
-      ∙ laid_read store.area (mark store) text store.lawful (store_marked text is) fault_at none
+  -- what is at rest for it is at rest for the store that callers see
+  pub rests_seen : (c : List ℕ) → IsLaidFor pager c → Rests (seen pager) c
+  unfolding IsLaidFor Rests
+  rests_seen c rests = (pager.lawful, record { laid_out = rests; marked = pager_marked })
 
-  -- ---- bytes whose shot is that of its record, or none where it has none
-  pub kept_recovered : (c : List ℕ) → shot_in store.area c ≡ kept_shot (laid (mark store) (content store))
-      → recovered store.area c ≡ content store
-  unfolding recovered
-  kept_recovered c is = ap (shown store.area) is ∙ kept_shown
-
-  pub kept_undamaged : (c : List ℕ) → shot_in store.area c ≡ kept_shot (laid (mark store) (content store))
-      → IsUndamaged store.area c
-  kept_undamaged c is =
-      subst (λ t. OpensAs store.area t c) (sym (kept_recovered c is)) (opens_as (content store) refl c is)
-
-  pub rests_shot : (c : List ℕ) → Rests store c → shot_in store.area c ≡ kept_shot (laid (mark store) (content store))
-  unfolding Rests
-  rests_shot c rests = shot_still record_names (layout_of store.area) c (laid (mark store) (content store)) rests.still
-
-  pub rests_recovered : (c : List ℕ) → Rests store c → recovered store.area c ≡ content store
-  rests_recovered c rests = kept_recovered c (rests_shot c rests)
-
-  pub rests_undamaged : (c : List ℕ) → Rests store c → IsUndamaged store.area c
-  rests_undamaged c rests = kept_undamaged c (rests_shot c rests)
+  pub laid_as_seen : (c : List ℕ) → Rests (seen pager) c → IsLaidFor pager c
+  unfolding IsLaidFor Rests
+  laid_as_seen c rests = rests.1.laid_out
 
 -- what lies in no table and no page of an area lies outside of it
 pub outside_torn : (area : Area) (d c : List ℕ) → 2 ≤ area.pages → IsSameOutside (layout_of area) d c

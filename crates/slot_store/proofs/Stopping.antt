@@ -7,11 +7,11 @@ use Rattle.pages.specs.Snapshots.{kept_shot, shot}
 use Rattle.pages.specs.Stops.{IsStopped as IsHalted, puts, shows as page_shows, took as page_took}
 use Rattle.record_pages.specs.Tables.{record_names}
 use Rattle.pages.proofs.Stopping.{shows_true, took_true}
-use Rattle.slot_store.specs.declared.store.SlotStore.{SlotStore}
+use Rattle.slot_store.specs.declared.pager.Pager.{Pager}
 use Rattle.slot_store.specs.Areas.{Area, layout_of}
 use Rattle.slot_store.specs.Records.{recovered, shot_in}
 use Rattle.slot_store.specs.Stops.{IsStopped, putting, shows, took, writes_of}
-use Rattle.slot_store.specs.Store.{content}
+use Rattle.slot_store.specs.Pager.{content}
 use Rattle.slot_store.proofs.HasPlan.{fresh}
 use Rattle.slot_store.proofs.PutDone.{new_recovered}
 use Rattle.slot_store.proofs.Putting.{Setting, planned, shot_new, shot_old}
@@ -19,7 +19,7 @@ use Rattle.slot_store.proofs.Standing.{kept_recovered}
 
 -- ---- a call of the put
 
-module _ {old new : SlotStore} {text : List ℕ} {start : DiskState}
+module _ {old new : Pager} {text : List ℕ} {start : DiskState}
     (set : Setting old new text start) where
   -- the record that these bytes have, by which snapshot they have
   by_shot : (t : Bool) (c : List ℕ)

@@ -1,10 +1,9 @@
 -- What holds of the words that callers see.
 use Rattle.std.specs.Prelude.{◌≡◌, ℕ, ◌+◌, ◌≤◌, ◌<◌, List, length, slice_index, Option, Some, None}
 use Rattle.slot_store.specs.Areas.{Area, size_of}
-use Rattle.slot_store.specs.declared.store.SlotStore.{SlotStore}
 use Rattle.slot_store.specs.AtRest.{IsAtRest}
 use Rattle.slot_store.specs.Records.{recovered}
-use Rattle.slot_store.specs.Store.{Rests, content, mark}
+use Rattle.slot_store.specs.Store.{Rests, SlotStore, content, mark}
 use Rattle.slot_store.specs.Reading.{IsUndamaged, holds, no_content, reading}
 
 -- bytes that are the same within an area

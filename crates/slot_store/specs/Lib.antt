@@ -4,6 +4,7 @@ pub mod Records
 pub mod Reading
 pub mod Layout
 pub mod Store
+pub mod Pager
 pub mod Stops
 pub mod Putting
 pub mod Settling

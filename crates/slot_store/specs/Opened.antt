@@ -9,13 +9,11 @@ use Rattle.slot_store.specs.Areas.{Area}
 use Rattle.slot_store.specs.declared.errors.OpenError.{OpenError}
 use Rattle.slot_store.specs.declared.errors.OpenError.TheVariants.{Damaged, StoreFault}
 use Rattle.slot_store.specs.declared.opening.Found.{Found}
-use Rattle.slot_store.specs.declared.store.SlotStore.{SlotStore}
 use Rattle.slot_store.specs.AtRest.{IsAtRest}
 use Rattle.slot_store.specs.Found.{found_as, has_content}
 use Rattle.slot_store.specs.Layout.{Mark}
-use Rattle.slot_store.specs.Reading.{damaged, reading}
-use Rattle.slot_store.specs.Settling.{RestsAsRead}
-use Rattle.slot_store.specs.Store.{content, mark}
+use Rattle.slot_store.specs.Reading.{IsLikeRead, damaged, reading}
+use Rattle.slot_store.specs.Store.{Rests, SlotStore, content, mark}
 
 -- The store's record is what was read, a text of the grammar, and a crash leaves it at rest. One that was read at
 -- rest lies where it lay.
@@ -24,7 +22,7 @@ pub record IsOpened (fault_at : List ℕ → Option ℕ) (place : Area) (start n
   pub read : OnSeen (λ s. reading fault_at place s ≡ found_as what (content store)) start
   pub text : (text : List ℕ) → content store ≡ Some text → fault_at text ≡ None
   pub found : is_some (content store) ≡ has_content what
-  pub at_rest : Always (RestsAsRead place start store) now
+  pub at_rest : Always (λ c. Rests store c × IsLikeRead place start c) now
   pub settled : IsSettled now
   pub mark : (s : List ℕ) (mark' : Mark) (text : List ℕ) → start.seen ≡ Some s → IsAtRest place mark' (Some text) s → mark store ≡ mark'
 

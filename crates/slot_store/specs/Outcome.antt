@@ -12,25 +12,27 @@ use Rattle.slot_store.specs.declared.kept.Kept.{Kept}
 use Rattle.slot_store.specs.declared.opening.Found.{Found}
 use Rattle.slot_store.specs.declared.outcome.Outcome.{Outcome}
 use Rattle.slot_store.specs.declared.outcome.Outcome.TheVariants.{Refused, Stored}
-use Rattle.slot_store.specs.declared.store.SlotStore.{SlotStore}
+use Rattle.slot_store.specs.declared.pager.Pager.{Pager}
 use Rattle.slot_store.specs.Areas.{Area}
 use Rattle.slot_store.specs.AtRest.{IsReadAtRest}
 use Rattle.slot_store.specs.Loading.{HasRecordRoom}
 use Rattle.slot_store.specs.Memory.{HasRoom}
 use Rattle.slot_store.specs.Opened.{IsOpened}
+use Rattle.slot_store.specs.Pager.{seen}
 use Rattle.slot_store.specs.Reading.{IsLikeRead, damaged, reading}
+use Rattle.slot_store.specs.Store.{SlotStore}
 
--- memory for a store that has no record yet
+-- memory for a pager that has no record yet
 pub record IsForStore (area : Area) (kept : Kept) (draft : Draft) : Type 0 where
   pub none : kept.len ≡ 0
   pub room : HasRecordRoom area kept
   pub dropped : draft.plan.dropped.items ≡ []
   pub plans : HasRoom area draft
 
--- a store over what was read; or what was read is damaged, and nothing is called but reads
+-- a pager over what was read; or what was read is damaged, and nothing is called but reads
 abbrev pub IsOutcome : (List ℕ → Option ℕ) → Area → DiskState → DiskState → Outcome → Type 0
-IsOutcome fault_at area start now (Stored store found) =
-    IsOpened fault_at area start now store found
+IsOutcome fault_at area start now (Stored pager found) =
+    IsOpened fault_at area start now (seen pager) found
 IsOutcome fault_at area start now (Refused slot at) =
     IsUntouched start now × OnSeen (λ s. reading fault_at area s ≡ damaged slot at) start
 
@@ -44,6 +46,6 @@ pub record Opens (fault_at : List ℕ → Option ℕ) (area : Area) (start now :
 
 -- as callers are told
 abbrev pub answer_of : Result Outcome Call → Result (SlotStore × Found) OpenError
-answer_of (Ok (Stored store found)) = Ok (store, found)
+answer_of (Ok (Stored pager found)) = Ok (seen pager, found)
 answer_of (Ok (Refused slot at)) = Err (Damaged slot at)
 answer_of (Err call) = Err (StoreFault call)

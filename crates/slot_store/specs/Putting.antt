@@ -5,29 +5,30 @@ use Rattle.dr_disk.specs.declared.call.Call.{Call}
 use Rattle.record_pages.specs.Pages.{pages_in}
 use Rattle.record_pages.specs.Plans.{changed_places, dropped}
 use Rattle.slot_store.specs.declared.errors.StoreFault.{StoreFault}
-use Rattle.slot_store.specs.declared.store.SlotStore.{SlotStore}
+use Rattle.slot_store.specs.declared.pager.Pager.{Pager}
 use Rattle.slot_store.specs.Records.{recovered}
 use Rattle.slot_store.specs.Stops.{retiring}
 use Rattle.slot_store.specs.Layout.{free_in, next_mark, pages_held, table_for}
+use Rattle.slot_store.specs.Pager.{Awaits, IsLaidFor, content, has_replaced, mark, seen}
 use Rattle.slot_store.specs.Reading.{IsUndamaged}
-use Rattle.slot_store.specs.Store.{Awaits, KeepsOutside, Rests, content, has_replaced, mark}
+use Rattle.slot_store.specs.Store.{KeepsOutside, Rests, SlotStore}
 
 -- the call that failed
 abbrev pub call_of : StoreFault → Call
 call_of fault = fault.call
 
--- how many writes and syncs the store's next retire makes
-unfoldable pub retire_calls : SlotStore → ℕ
-retire_calls store = retiring store.replaced (length store.draft.plan.dropped.items)
+-- how many writes and syncs the next retire makes
+unfoldable pub retire_calls : Pager → ℕ
+retire_calls pager = retiring pager.replaced (length pager.draft.plan.dropped.items)
 
--- a store of the same area, whose record is this text and lies where the next one does
+-- a pager of the same area, whose record is this text and lies where the next one does
 pub record IsNext (old new : SlotStore) (text : List ℕ) : Type 0 where
   pub area : new.area ≡ old.area
-  pub mark : mark new ≡ next_mark old.area (content old) (mark old) text
+  pub mark : new.mark ≡ next_mark old.area old.content old.mark text
 
--- a store in whose memory a text has taken the place of the record
-pub record IsStaged (old new : SlotStore) (text : List ℕ) : Type 0 where
-  pub next : IsNext old new text
+-- a pager in whose memory a text has taken the place of the record
+pub record IsStaged (old new : Pager) (text : List ℕ) : Type 0 where
+  pub next : IsNext (seen old) (seen new) text
   pub holds : content new ≡ Some text
   pub replaced : has_replaced new ≡ is_some (content old)
   -- what is to be written, and what is to be wiped
@@ -38,17 +39,17 @@ pub record IsStaged (old new : SlotStore) (text : List ℕ) : Type 0 where
   pub body : new.draft.body.items ≡ table_for (mark new) text
 
 -- each image has the text, which was put and not yet retired
-abbrev pub HasPut : SlotStore → SlotStore → List ℕ → DiskState → List ℕ → Type 0
+abbrev pub HasPut : Pager → Pager → List ℕ → DiskState → List ℕ → Type 0
 HasPut old new text start c = Awaits new c × (recovered new.area c ≡ Some text) × KeepsOutside old.area start c
 
--- the same, at rest
+-- the pager's record, at rest
+abbrev pub HasRested : Pager → Pager → DiskState → List ℕ → Type 0
+HasRested old new start c = IsLaidFor new c × (recovered new.area c ≡ content new) × KeepsOutside old.area start c
+
+-- the pager's record, read without damage
+abbrev pub KeepsRecord : Pager → DiskState → List ℕ → Type 0
+KeepsRecord pager start c = (recovered pager.area c ≡ content pager) × KeepsOutside pager.area start c × IsUndamaged pager.area c
+
+-- each image has the text, at rest
 abbrev pub HasReplaced : SlotStore → SlotStore → List ℕ → DiskState → List ℕ → Type 0
 HasReplaced old new text start c = Rests new c × (recovered new.area c ≡ Some text) × KeepsOutside old.area start c
-
--- the store's record, at rest
-abbrev pub HasRested : SlotStore → SlotStore → DiskState → List ℕ → Type 0
-HasRested old new start c = Rests new c × (recovered new.area c ≡ content new) × KeepsOutside old.area start c
-
--- the store's record, read without damage
-abbrev pub KeepsRecord : SlotStore → DiskState → List ℕ → Type 0
-KeepsRecord store start c = (recovered store.area c ≡ content store) × KeepsOutside store.area start c × IsUndamaged store.area c

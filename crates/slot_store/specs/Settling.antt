@@ -7,12 +7,13 @@ use Rattle.dr_disk.specs.Called.{Went, itself}
 use Rattle.pages.specs.Runs.{IsUntouched}
 use Rattle.pages.specs.Snapshots.{kept_shot}
 use Rattle.pages.specs.Tables.{Table, table_at}
-use Rattle.slot_store.specs.declared.store.SlotStore.{SlotStore}
+use Rattle.slot_store.specs.declared.pager.Pager.{Pager}
 use Rattle.slot_store.specs.Areas.{Area, layout_of}
 use Rattle.slot_store.specs.Layout.{laid}
 use Rattle.slot_store.specs.Reading.{IsLikeRead}
 use Rattle.slot_store.specs.Records.{shot_in}
-use Rattle.slot_store.specs.Store.{IsWithin, Rests, content, mark}
+use Rattle.slot_store.specs.Pager.{IsLaidFor, content, mark}
+use Rattle.slot_store.specs.Store.{IsWithin}
 
 -- a disk that has the area, and on which a crash leaves what a read gives
 pub record IsReady (area : Area) (disk : DiskState) : Type 0 where
@@ -24,24 +25,24 @@ pub record AreRead (area : Area) (first second : Table) (disk : DiskState) : Typ
   pub first_is : OnSeen (λ s. table_at (layout_of area) false s ≡ first) disk
   pub second_is : OnSeen (λ s. table_at (layout_of area) true s ≡ second) disk
 
--- a store at rest on what was read
-abbrev pub RestsAsRead : Area → DiskState → SlotStore → List ℕ → Type 0
-RestsAsRead area start store c = Rests store c × IsLikeRead area start c
+-- a pager at rest on what was read
+abbrev pub RestsAsRead : Area → DiskState → Pager → List ℕ → Type 0
+RestsAsRead area start pager c = IsLaidFor pager c × IsLikeRead area start c
 
--- what counts in these bytes is the store's record, or nothing where it has none
-abbrev pub HasShot : SlotStore → List ℕ → Type 0
-HasShot store s = shot_in store.area s ≡ kept_shot (laid (mark store) (content store))
+-- what counts in these bytes is the pager's record, or nothing where it has none
+abbrev pub HasShot : Pager → List ℕ → Type 0
+HasShot pager s = shot_in pager.area s ≡ kept_shot (laid (mark pager) (content pager))
 
--- what a read gives is at rest for the store
-abbrev pub IsReadAs : SlotStore → DiskState → Type 0
-IsReadAs store disk = (s : List ℕ) × (disk.seen ≡ Some s) × Rests store s
+-- what a read gives is at rest for the pager
+abbrev pub IsReadAs : Pager → DiskState → Type 0
+IsReadAs pager disk = (s : List ℕ) × (disk.seen ≡ Some s) × IsLaidFor pager s
 
 -- Each crash meanwhile leaves what was read. Where no call failed a crash then leaves what a read
--- gives, and the store rests on it. Where it rested on what was read nothing is called but reads.
-pub record Settles {T : Type 0} (store : SlotStore) (start now : DiskState)
+-- gives, and the pager rests on it. Where it rested on what was read nothing is called but reads.
+pub record Settles {T : Type 0} (pager : Pager) (start now : DiskState)
     (result : Result T Call) : Type 0 where
-  pub any_moment : Span start now (IsLikeRead store.area start)
-  pub done : OnOk result (Always (RestsAsRead store.area start store) now)
+  pub any_moment : Span start now (IsLikeRead pager.area start)
+  pub done : OnOk result (Always (RestsAsRead pager.area start pager) now)
   pub settled : OnOk result (IsSettled now)
   pub calls : Went itself start now result
-  pub still : IsReadAs store start → IsUntouched start now
+  pub still : IsReadAs pager start → IsUntouched start now

@@ -1,33 +1,28 @@
 -- What callers see of a store: its record, and the bytes that it rests on.
-use Rattle.std.specs.Prelude.{◌≡◌, ◌⊎◌, ℕ, ◌+◌, ◌≤◌, ◌==◌, Bool, List, take, Option, Some, None, if◌then◌else◌}
+use Rattle.std.specs.Prelude.{◌≡◌, ◌⊎◌, ℕ, ◌+◌, ◌≤◌, List, Option}
 use Rattle.dr_disk.specs.State.{DiskState}
 use Rattle.dr_disk.specs.Spans.{Frame, ReadsOutside}
-use Rattle.slot_store.specs.declared.store.SlotStore.{SlotStore}
-use Rattle.slot_store.specs.Areas.{Area, size_of}
-use Rattle.slot_store.specs.Records.{recovered}
-use Rattle.slot_store.specs.Layout.{IsLaidOut, IsPut, Mark}
+use Rattle.slot_store.specs.Areas.{Area, IsArea, size_of}
+use Rattle.slot_store.specs.AtRest.{IsAtRest}
+use Rattle.slot_store.specs.Layout.{Mark}
 use Rattle.slot_store.specs.Reading.{IsUndamaged}
+use Rattle.slot_store.specs.Records.{recovered}
 
--- the record opened or put last; none where there is no turn
-unfoldable pub content : SlotStore → Option (List ℕ)
-content store = if store.turn == 0 then None else Some (take store.kept.len store.kept.bytes.items)
+-- where it lies, the record that was opened or put last, and where that lies
+pub record SlotStore : Type 0 where
+  pub area : Area
+  pub mark : Mark
+  pub content : Option (List ℕ)
 
--- where that record lies
-unfoldable pub mark : SlotStore → Mark
-mark store = record { second = store.second; turn = store.turn; numbers = store.kept.numbers.items }
+abbrev pub content : SlotStore → Option (List ℕ)
+content store = store.content
 
--- the last put replaced a record, which retiring wipes
-unfoldable pub has_replaced : SlotStore → Bool
-has_replaced store = store.replaced
+abbrev pub mark : SlotStore → Mark
+mark store = store.mark
 
 -- these bytes are at rest for the store's record
 unfoldable pub Rests : SlotStore → List ℕ → Type 0
-Rests store c = IsLaidOut store.area (mark store) (content store) c
-
--- these bytes have the store's record, which was put and not yet retired
-unfoldable pub Awaits : SlotStore → List ℕ → Type 0
-Awaits store c =
-    IsPut store.area (mark store) (content store) (has_replaced store) store.draft.plan.dropped.items c
+Rests store c = IsArea store.area × IsAtRest store.area store.mark store.content c
 
 abbrev pub IsWithin : Area → DiskState → Type 0
 IsWithin area disk = area.start + size_of area ≤ disk.size

@@ -21,6 +21,7 @@ mod laws;
 mod loading;
 mod opening;
 mod outcome;
+mod pager;
 mod planning;
 mod reading;
 mod scratch;

@@ -49,7 +49,7 @@ fn answer(outcome: Result<Outcome, Call>) -> Result<(SlotStore, Found), OpenErro
     ensures { result ≡ answer_of outcome }
 {
     match outcome {
-        Ok(Outcome::Stored { store, found }) => Ok((store, found)),
+        Ok(Outcome::Stored { pager, found }) => Ok((SlotStore { pager }, found)),
         Ok(Outcome::Refused { slot, at }) => Err(OpenError::Damaged { slot, at }),
         Err(call) => Err(OpenError::StoreFault { call }),
     }

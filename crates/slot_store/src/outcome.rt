@@ -20,21 +20,21 @@ use crate::judging::{Judged, judge};
 use crate::kept::Kept;
 use crate::loading::{Loaded, load};
 use crate::opening::Found;
+use crate::pager::Pager;
 use crate::scratch::Scratch;
 use crate::settling::{settle_empty, settle_newer};
-use crate::store::SlotStore;
 use crate::table::number;
 use dr_disk::{Call, Disk};
 
-/// What opening comes to: a store, or the number of a damaged table, and the place.
+/// What opening comes to: a pager, or the number of a damaged table, and the place.
 #[derive(Drop)]
 pub(crate) enum Outcome {
-    Stored { store: SlotStore, found: Found },
+    Stored { pager: Pager, found: Found },
     Refused { slot: u32, at: u64 },
 }
 
-/// A store with a record that was read, or with none.
-fn store_of(area: Area, second: bool, turn: u8, kept: Kept, draft: Draft) -> SlotStore
+/// A pager with a record that was read, or with none.
+fn pager_of(area: Area, second: bool, turn: u8, kept: Kept, draft: Draft) -> Pager
     requires turns { turn ≤ 3 }
     requires none { turn ≡ 0 → kept.len ≡ 0 }
     requires room { HasRecordRoom area kept }
@@ -47,7 +47,7 @@ fn store_of(area: Area, second: bool, turn: u8, kept: Kept, draft: Draft) -> Slo
     ensures kept { result.kept ≡ kept }
 {
     let _most = record_most(area);
-    SlotStore {
+    Pager {
         area,
         second,
         turn,
@@ -57,7 +57,7 @@ fn store_of(area: Area, second: bool, turn: u8, kept: Kept, draft: Draft) -> Slo
     }
 }
 
-/// Opens the store of an area whose newer table was read, beside one with this gate and these
+/// Opens the pager of an area whose newer table was read, beside one with this gate and these
 /// bytes.
 fn open_newer<G: Grammar, D: Disk>(
     disk: &mut D,
@@ -94,17 +94,17 @@ fn open_newer<G: Grammar, D: Disk>(
         }
         Err(call) => return Err(call),
     };
-    let store = store_of(area, second, body[0], kept, draft);
-    match settle_newer(disk, &store, gate, other, named, page) {
+    let pager = pager_of(area, second, body[0], kept, draft);
+    match settle_newer(disk, &pager, gate, other, named, page) {
         Ok(()) => Ok(Outcome::Stored {
-            store,
+            pager,
             found: Found::Content,
         }),
         Err(call) => Err(call),
     }
 }
 
-/// Opens the store of an area of whose tables none is open.
+/// Opens the pager of an area of whose tables none is open.
 fn open_empty<D: Disk>(
     disk: &mut D,
     area: Area,
@@ -123,10 +123,10 @@ fn open_empty<D: Disk>(
     ensures { (fault_at : List ℕ → Option ℕ)
         → Opens fault_at area (D.state disk.old) (D.state disk.new) result }
 {
-    let store = store_of(area, true, 0, kept, draft);
+    let pager = pager_of(area, true, 0, kept, draft);
     match settle_empty(
         disk,
-        &store,
+        &pager,
         first_gate,
         &scratch.first,
         second_gate,
@@ -135,14 +135,14 @@ fn open_empty<D: Disk>(
         &mut scratch.page,
     ) {
         Ok(()) => Ok(Outcome::Stored {
-            store,
+            pager,
             found: Found::NoContent,
         }),
         Err(call) => Err(call),
     }
 }
 
-/// Opens the store of an area whose tables were read, with these gates.
+/// Opens the pager of an area whose tables were read, with these gates.
 pub(crate) fn open_read<G: Grammar, D: Disk>(
     disk: &mut D,
     area: Area,

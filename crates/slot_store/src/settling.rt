@@ -15,7 +15,7 @@ ghost use Rattle.slot_store.specs.Judged.{table_with};
 ghost use Rattle.slot_store.specs.Settling.{AreRead, HasShot, IsReady, Settles};
 
 use crate::area::{Area, layout};
-use crate::store::SlotStore;
+use crate::pager::Pager;
 use crate::table::RecordTable;
 use dr_base::PAGE;
 use dr_disk::{Call, Disk};
@@ -82,43 +82,43 @@ fn wipe_table<D: Disk>(
     }
 }
 
-/// Wipes what doesn't count beside a store's record: the other table, which was read with this gate
+/// Wipes what doesn't count beside a pager's record: the other table, which was read with this gate
 /// and with these bytes after it, and all pages that the record doesn't have.
 pub(crate) fn settle_newer<D: Disk>(
     disk: &mut D,
-    store: &SlotStore,
+    pager: &Pager,
     gate: u8,
     other: &[u8],
     named: &mut [bool],
     page: &mut [u8],
 ) -> Result<(), Call>
-    requires ready { IsReady store.now.area (D.state disk.old) }
-    requires turn { store.now.turn ≢ 0 }
+    requires ready { IsReady pager.now.area (D.state disk.old) }
+    requires turn { pager.now.turn ≢ 0 }
     requires long { length other.now + 1 ≡ PAGE }
-    requires marks { named.old ≡ replicate store.now.area.pages false }
+    requires marks { named.old ≡ replicate pager.now.area.pages false }
     requires room { length page.old ≡ PAGE }
-    requires shown { OnSeen (HasShot store.now) (D.state disk.old) }
-    requires read { OnSeen (λ s. table_at (layout_of store.now.area) (not store.now.second) s
+    requires shown { OnSeen (HasShot pager.now) (D.state disk.old) }
+    requires read { OnSeen (λ s. table_at (layout_of pager.now.area) (not pager.now.second) s
         ≡ table_with gate other.now) (D.state disk.old) }
-    ensures { Settles store.now (D.state disk.old) (D.state disk.new) result }
+    ensures { Settles pager.now (D.state disk.old) (D.state disk.new) result }
 {
-    mark_pages(&store.kept.numbers, named);
+    mark_pages(&pager.kept.numbers, named);
     wipe_table(
         disk,
-        store.area,
-        !store.second,
+        pager.area,
+        !pager.second,
         gate,
         other,
         named,
         page,
-        &store.draft.zeros,
+        &pager.draft.zeros,
     )
 }
 
-/// Wipes all of the area of a store that has no record.
+/// Wipes all of the area of a pager that has no record.
 pub(crate) fn settle_empty<D: Disk>(
     disk: &mut D,
-    store: &SlotStore,
+    pager: &Pager,
     first_gate: u8,
     first: &[u8],
     second_gate: u8,
@@ -126,38 +126,38 @@ pub(crate) fn settle_empty<D: Disk>(
     named: &[bool],
     page: &mut [u8],
 ) -> Result<(), Call>
-    requires ready { IsReady store.now.area (D.state disk.old) }
-    requires turn { store.now.turn ≡ 0 }
+    requires ready { IsReady pager.now.area (D.state disk.old) }
+    requires turn { pager.now.turn ≡ 0 }
     requires first_long { length first.now + 1 ≡ PAGE }
     requires second_long { length second.now + 1 ≡ PAGE }
-    requires marks { named.now ≡ replicate store.now.area.pages false }
+    requires marks { named.now ≡ replicate pager.now.area.pages false }
     requires room { length page.old ≡ PAGE }
-    requires shown { OnSeen (HasShot store.now) (D.state disk.old) }
-    requires read { AreRead store.now.area (table_with first_gate first.now)
+    requires shown { OnSeen (HasShot pager.now) (D.state disk.old) }
+    requires read { AreRead pager.now.area (table_with first_gate first.now)
         (table_with second_gate second.now) (D.state disk.old) }
-    ensures { Settles store.now (D.state disk.old) (D.state disk.new) result }
+    ensures { Settles pager.now (D.state disk.old) (D.state disk.new) result }
 {
     match wipe_table(
         disk,
-        store.area,
+        pager.area,
         false,
         first_gate,
         first,
         named,
         page,
-        &store.draft.zeros,
+        &pager.draft.zeros,
     ) {
         Ok(()) => {}
         Err(call) => return Err(call),
     }
     wipe_table(
         disk,
-        store.area,
+        pager.area,
         true,
         second_gate,
         second,
         named,
         page,
-        &store.draft.zeros,
+        &pager.draft.zeros,
     )
 }

@@ -26,9 +26,8 @@ use Rattle.slot_store.proofs.Standing.{rests_undamaged}
 use Rattle.slot_store.specs.Reading.{IsUndamaged}
 use Rattle.slot_store.specs.Records.{recovered}
 use Rattle.slot_store.specs.Stops.{took}
-use Rattle.slot_store.specs.Store.{IsWithin}
+use Rattle.slot_store.specs.Store.{IsWithin, SlotStore}
 use Rattle.slot_store.specs.Areas.{Area}
-use Rattle.slot_store.specs.declared.store.SlotStore.{SlotStore}
 use Rattle.client.specs.Clients.{ClientNow, IsReady, client_area}
 use Rattle.client.specs.Outcomes.{Acts, IsCutOff, IsDone, IsEffected, Outcome, acknowledged, faulted, is_closed, refused, replacing_calls, undrawn}
 use Rattle.client.specs.Opening.{SaysNothing}

@@ -1,6 +1,6 @@
 use Rattle.std.proofs.Common.{◌≡◌, List, [], ◌∷◌, ◌++◌, ◌+◌, arith, rules, subst, sym}
 use Rattle.std.proofs.lemmas.Grind.{common_steps}
-use Rattle.slot_store.specs.declared.store.SlotStore.{SlotStore}
+use Rattle.slot_store.specs.Store.{SlotStore}
 use Rattle.relay_server.specs.Areas.{AreOpened}
 use Rattle.relay_server.proofs.OpenedAreas.{none_opened, one_more, opening_looked, refused}
 use Rattle.relay_server.proofs.areas.open_areas.Goals as goal

@@ -2,8 +2,7 @@ use Rattle.std.proofs.Common.{◌≡◌, ◌<◌, Some, None, Ok, Err, Result, a
 use Rattle.std.specs.Prelude.{OnOk, is_ok, slice_get}
 use Rattle.std.proofs.lemmas.Bool.{eqb-false, eqb-true}
 use Rattle.std.proofs.lemmas.Option.{slice_get-get_or}
-use Rattle.slot_store.specs.declared.store.SlotStore.{SlotStore}
-use Rattle.slot_store.specs.Store.{content}
+use Rattle.slot_store.specs.Store.{SlotStore, content}
 use Rattle.slot_store.specs.Kept.{content_or_empty}
 use Rattle.relay_server.proofs.FilledAreas.{none_there, place_ready, put_filled, put_moments, stands_on}
 use Rattle.relay_server.proofs.LoadedBoxes.{some_there}

@@ -1,7 +1,7 @@
 use Rattle.std.proofs.Common.{◌≡◌, ◌<◌, Some, ap, arith, rules, length, sym, ◌∙◌}
 use Rattle.std.specs.Prelude.{slice_get}
 use Rattle.std.proofs.lemmas.Option.{slice_get-get_or}
-use Rattle.slot_store.specs.declared.store.SlotStore.{SlotStore}
+use Rattle.slot_store.specs.Store.{SlotStore}
 use Rattle.relay_server.proofs.LoadedBoxes.{loaded_on, none_loaded, others_first}
 use Rattle.relay_server.proofs.filling.load_boxes.Goals as goal
 

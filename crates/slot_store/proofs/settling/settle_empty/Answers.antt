@@ -11,92 +11,92 @@ use Rattle.slot_store.proofs.settling.settle_empty.Goals as goal
 pub wipe_table-requires-clause-counts : goal.wipe_table-requires-clause-counts
 wipe_table-requires-clause-counts g c =
     let start = g.D.Disk.state c.args.disk.now in
-    none_counts c.args.store.now start (empty_closed c.args.store.now c.requires.turn start c.requires.ready.settled c.requires.shown)
+    none_counts c.args.pager.now start (empty_closed c.args.pager.now c.requires.turn start c.requires.ready.settled c.requires.shown)
 
 pub wipe_table-requires-clause-unnamed : goal.wipe_table-requires-clause-unnamed
 wipe_table-requires-clause-unnamed g c =
     let start = g.D.Disk.state c.args.disk.now in
-    none_unnamed c.args.store.now start (empty_closed c.args.store.now c.requires.turn start c.requires.ready.settled c.requires.shown)
+    none_unnamed c.args.pager.now start (empty_closed c.args.pager.now c.requires.turn start c.requires.ready.settled c.requires.shown)
     c.args.named.now
 
 pub wipe_table-requires-clause-mute : goal.wipe_table-requires-clause-mute
 wipe_table-requires-clause-mute g c =
     let start = g.D.Disk.state c.args.disk.now in
-    none_mute c.args.store.now start (empty_closed c.args.store.now c.requires.turn start c.requires.ready.settled c.requires.shown)
+    none_mute c.args.pager.now start (empty_closed c.args.pager.now c.requires.turn start c.requires.ready.settled c.requires.shown)
     false c.args.first_gate c.args.first.now c.requires.ready.settled c.requires.read.first_is
 
 pub returns-in-Err : goal.returns-in-Err
 returns-in-Err g c =
-    let store = c.args.store.now in
+    let pager = c.args.pager.now in
     let start = g.D.Disk.state c.args.disk.now in
     let a = g.D.Disk.state c.wipe_table.new.disk in
     record {
-      any_moment = like_shots store.area start store.lawful c.requires.ready.settled a c.wipe_table.ensures.shots.any_moment;
+      any_moment = like_shots pager.area start pager.lawful c.requires.ready.settled a c.wipe_table.ensures.shots.any_moment;
       done = tt;
       settled = tt;
       calls = failed_as itself itself _ _ _ _ refl c.in-Err.ensures.shots.calls;
       still = λ rests. c.wipe_table.ensures.still
-          (empty_gate store c.requires.turn start rests false c.args.first_gate c.args.first.now c.requires.read.first_is)
-          (empty_body store c.requires.turn start rests false c.args.first_gate c.args.first.now c.requires.read.first_is)
-          (empty_blank store c.requires.turn c.args.named.now start rests);
+          (empty_gate pager c.requires.turn start rests false c.args.first_gate c.args.first.now c.requires.read.first_is)
+          (empty_body pager c.requires.turn start rests false c.args.first_gate c.args.first.now c.requires.read.first_is)
+          (empty_blank pager c.requires.turn c.args.named.now start rests);
     }
 
 pub wipe_table-requires-2-clause-counts : goal.wipe_table-requires-2-clause-counts
 wipe_table-requires-2-clause-counts g c =
     let start = g.D.Disk.state c.args.disk.now in
     let a = g.D.Disk.state c.wipe_table.new.disk in
-    none_counts c.args.store.now a
-    (later_closed c.args.store.now c.requires.turn start c.requires.ready.settled c.requires.shown a c.wipe_table.ensures.shots.any_moment)
+    none_counts c.args.pager.now a
+    (later_closed c.args.pager.now c.requires.turn start c.requires.ready.settled c.requires.shown a c.wipe_table.ensures.shots.any_moment)
 
 pub wipe_table-requires-2-clause-unnamed : goal.wipe_table-requires-2-clause-unnamed
 wipe_table-requires-2-clause-unnamed g c =
     let start = g.D.Disk.state c.args.disk.now in
     let a = g.D.Disk.state c.wipe_table.new.disk in
-    none_unnamed c.args.store.now a
-    (later_closed c.args.store.now c.requires.turn start c.requires.ready.settled c.requires.shown a c.wipe_table.ensures.shots.any_moment)
+    none_unnamed c.args.pager.now a
+    (later_closed c.args.pager.now c.requires.turn start c.requires.ready.settled c.requires.shown a c.wipe_table.ensures.shots.any_moment)
     c.args.named.now
 
 pub wipe_table-requires-2-clause-read : goal.wipe_table-requires-2-clause-read
 wipe_table-requires-2-clause-read g c =
     let start = g.D.Disk.state c.args.disk.now in
     let a = g.D.Disk.state c.wipe_table.new.disk in
-    second_read c.args.store.now c.args.named.now _ start a (g.met.D.Disk.lawful c.wipe_table.new.disk) c.in-Ok.ensures.done c.requires.read.second_is
+    second_read c.args.pager.now c.args.named.now _ start a (g.met.D.Disk.lawful c.wipe_table.new.disk) c.in-Ok.ensures.done c.requires.read.second_is
 
 pub wipe_table-requires-2-clause-mute : goal.wipe_table-requires-2-clause-mute
 wipe_table-requires-2-clause-mute g c =
     let start = g.D.Disk.state c.args.disk.now in
     let a = g.D.Disk.state c.wipe_table.new.disk in
-    none_mute c.args.store.now a
-    (later_closed c.args.store.now c.requires.turn start c.requires.ready.settled c.requires.shown a c.wipe_table.ensures.shots.any_moment)
+    none_mute c.args.pager.now a
+    (later_closed c.args.pager.now c.requires.turn start c.requires.ready.settled c.requires.shown a c.wipe_table.ensures.shots.any_moment)
     true c.args.second_gate c.args.second.now c.in-Ok.ensures.settled
-    (second_read c.args.store.now c.args.named.now _ start a (g.met.D.Disk.lawful c.wipe_table.new.disk) c.in-Ok.ensures.done c.requires.read.second_is)
+    (second_read c.args.pager.now c.args.named.now _ start a (g.met.D.Disk.lawful c.wipe_table.new.disk) c.in-Ok.ensures.done c.requires.read.second_is)
 
 pub returns : goal.returns
 returns g c =
-    let store = c.args.store.now in
+    let pager = c.args.pager.now in
     let start = g.D.Disk.state c.args.disk.now in
     let a = g.D.Disk.state c.wipe_table.new.disk in
     let b = g.D.Disk.state c.wipe_table-2.new.disk in
     let lawful = g.met.D.Disk.lawful c.wipe_table.new.disk in
     let settled = c.requires.ready.settled in
-    let first = like_shots store.area start store.lawful settled a c.wipe_table.ensures.shots.any_moment in
-    let next = like_shots store.area a store.lawful c.in-Ok.ensures.settled b c.wipe_table-2.ensures.shots.any_moment in
-    let span = both_moments store.area start a b lawful (left_like store.area start store.lawful settled a first) first next in
+    let first = like_shots pager.area start pager.lawful settled a c.wipe_table.ensures.shots.any_moment in
+    let next = like_shots pager.area a pager.lawful c.in-Ok.ensures.settled b c.wipe_table-2.ensures.shots.any_moment in
+    let span = both_moments pager.area start a b lawful (left_like pager.area start pager.lawful settled a first) first next in
     record {
       any_moment = span;
       done = on_ok c.wipe_table-2.result
-          (λ tidied. twice_rests store c.requires.turn c.args.named.now (λ n. no_marks c.args.named.now store.area.pages n c.requires.marks)
-          start a b lawful c.in-Ok.ensures.done tidied (left_like store.area start store.lawful settled b span))
+          (λ tidied. twice_rests pager c.requires.turn c.args.named.now (λ n. no_marks c.args.named.now pager.area.pages n c.requires.marks)
+          start a b lawful c.in-Ok.ensures.done tidied (left_like pager.area start pager.lawful settled b span))
           c.wipe_table-2.ensures.done;
       settled = c.wipe_table-2.ensures.settled;
       calls = then_any _ start a b _ c.wipe_table-2.result first c.in-Ok.ensures.shots.calls c.wipe_table-2.ensures.shots.calls;
       still = λ rests.
           let one = c.wipe_table.ensures.still
-          (empty_gate store c.requires.turn start rests false c.args.first_gate c.args.first.now c.requires.read.first_is)
-          (empty_body store c.requires.turn start rests false c.args.first_gate c.args.first.now c.requires.read.first_is)
-          (empty_blank store c.requires.turn c.args.named.now start rests) in
+          (empty_gate pager c.requires.turn start rests false c.args.first_gate c.args.first.now c.requires.read.first_is)
+          (empty_body pager c.requires.turn start rests false c.args.first_gate c.args.first.now c.requires.read.first_is)
+          (empty_blank pager c.requires.turn c.args.named.now start rests) in
           untouched_twice start a b one (c.wipe_table-2.ensures.still
-          (empty_gate store c.requires.turn start rests true c.args.second_gate c.args.second.now c.requires.read.second_is)
-          (empty_body store c.requires.turn start rests true c.args.second_gate c.args.second.now c.requires.read.second_is)
-          (empty_blank store c.requires.turn c.args.named.now a (rests.0, one.unwritten.seen ∙ rests.1, rests.2)));
+          (empty_gate pager c.requires.turn start rests true c.args.second_gate c.args.second.now c.requires.read.second_is)
+          (empty_body pager c.requires.turn start rests true c.args.second_gate c.args.second.now c.requires.read.second_is)
+          (empty_blank pager c.requires.turn c.args.named.now a (rests.0, one.unwritten.seen ∙ rests.1, rests.2)));
     }

@@ -14,52 +14,52 @@ use Rattle.slot_store.proofs.settling.settle_newer.Goals as goal
 
 pub wipe_table-requires-clause-counts : goal.wipe_table-requires-clause-counts
 wipe_table-requires-clause-counts g c =
-    newer_counts c.args.store.now c.requires.turn (g.D.Disk.state c.args.disk.now) c.requires.ready.settled c.requires.shown
+    newer_counts c.args.pager.now c.requires.turn (g.D.Disk.state c.args.disk.now) c.requires.ready.settled c.requires.shown
 
 pub wipe_table-requires-clause-mute : goal.wipe_table-requires-clause-mute
 wipe_table-requires-clause-mute g c =
-    newer_mute c.args.store.now c.requires.turn (g.D.Disk.state c.args.disk.now) c.requires.ready.settled c.requires.shown
+    newer_mute c.args.pager.now c.requires.turn (g.D.Disk.state c.args.disk.now) c.requires.ready.settled c.requires.shown
     c.args.gate c.args.other.now c.requires.read
 
 pub wipe_table-requires-clause-unnamed : goal.wipe_table-requires-clause-unnamed
 wipe_table-requires-clause-unnamed g c =
-    let marks = marks_of c.args.named.now _ c.args.store.now.area.pages c.args.store.now.kept.numbers.items c.requires.marks
+    let marks = marks_of c.args.named.now _ c.args.pager.now.area.pages c.args.pager.now.kept.numbers.items c.requires.marks
     (subst (λ (ns : List ℕ). (n : ℕ) → get_or c.mark_pages.new.named n false ≡ (get_or c.args.named.now n false || is_among ns n))
     c.deref.ensures.value c.mark_pages.ensures.marks) in
-    newer_unnamed c.args.store.now c.requires.turn (g.D.Disk.state c.args.disk.now) c.requires.ready.settled c.requires.shown _ marks
+    newer_unnamed c.args.pager.now c.requires.turn (g.D.Disk.state c.args.disk.now) c.requires.ready.settled c.requires.shown _ marks
 
 pub wipe_table-requires-clause-marks : goal.wipe_table-requires-clause-marks
 wipe_table-requires-clause-marks g c =
-    c.mark_pages.ensures.long ∙ ap length c.requires.marks ∙ length-replicate c.args.store.now.area.pages false
+    c.mark_pages.ensures.long ∙ ap length c.requires.marks ∙ length-replicate c.args.pager.now.area.pages false
 
 pub mark_pages-requires : goal.mark_pages-requires
 mark_pages-requires g c =
-    let long : length c.args.named.now ≡ c.args.store.now.area.pages = ap length c.requires.marks ∙ length-replicate c.args.store.now.area.pages false in
+    let long : length c.args.named.now ≡ c.args.pager.now.area.pages = ap length c.requires.marks ∙ length-replicate c.args.pager.now.area.pages false in
     record {
       inside = subst (λ (ns : List ℕ). All (λ n. n < length c.args.named.now) ns) (sym c.deref.ensures.value)
-          (All-weaker (IsPage (layout_of c.args.store.now.area)) (λ n. n < length c.args.named.now) (λ n is. omega (arith, is.1, long))
-          c.args.store.now.kept.numbers.items (entries_within c.args.store.now.area c.args.store.now.kept.numbers.items c.args.store.now.entries));
+          (All-weaker (IsPage (layout_of c.args.pager.now.area)) (λ n. n < length c.args.named.now) (λ n is. omega (arith, is.1, long))
+          c.args.pager.now.kept.numbers.items (entries_within c.args.pager.now.area c.args.pager.now.kept.numbers.items c.args.pager.now.entries));
     }
 
 pub returns : goal.returns
 returns g c =
-    let store = c.args.store.now in
+    let pager = c.args.pager.now in
     let start = g.D.Disk.state c.args.disk.now in
     let now = g.D.Disk.state c.wipe_table.new.disk in
     let settled = c.requires.ready.settled in
-    let marks = marks_of c.args.named.now _ c.args.store.now.area.pages c.args.store.now.kept.numbers.items c.requires.marks
+    let marks = marks_of c.args.named.now _ c.args.pager.now.area.pages c.args.pager.now.kept.numbers.items c.requires.marks
     (subst (λ (ns : List ℕ). (n : ℕ) → get_or c.mark_pages.new.named n false ≡ (get_or c.args.named.now n false || is_among ns n))
     c.deref.ensures.value c.mark_pages.ensures.marks) in
-    let span = like_shots store.area start store.lawful settled now c.wipe_table.ensures.shots.any_moment in
+    let span = like_shots pager.area start pager.lawful settled now c.wipe_table.ensures.shots.any_moment in
     record {
       any_moment = span;
       done = on_ok c.wipe_table.result
-          (λ tidied. newer_rests store c.requires.turn start settled c.requires.shown c.mark_pages.new.named marks now span tidied)
+          (λ tidied. newer_rests pager c.requires.turn start settled c.requires.shown c.mark_pages.new.named marks now span tidied)
           c.wipe_table.ensures.done;
       settled = c.wipe_table.ensures.settled;
       calls = c.wipe_table.ensures.shots.calls;
       still = λ rests. c.wipe_table.ensures.still
-          (newer_gate store c.requires.turn start settled c.requires.shown c.args.gate c.args.other.now c.requires.read rests)
-          (newer_body store c.requires.turn start settled c.requires.shown c.args.gate c.args.other.now c.requires.read rests)
-          (newer_blank store c.requires.turn start settled c.requires.shown c.mark_pages.new.named marks rests);
+          (newer_gate pager c.requires.turn start settled c.requires.shown c.args.gate c.args.other.now c.requires.read rests)
+          (newer_body pager c.requires.turn start settled c.requires.shown c.args.gate c.args.other.now c.requires.read rests)
+          (newer_blank pager c.requires.turn start settled c.requires.shown c.mark_pages.new.named marks rests);
     }

@@ -10,7 +10,7 @@ use Rattle.session_model.specs.declared.answer.Refusal.TheVariants.{InboxFull}
 use Rattle.session_record.specs.Record.{client_of, record_text}
 use Rattle.dr_model.specs.Machines.Acts.{taken_by}
 use Rattle.dr_model.specs.Machines.Steps.{step}
-use Rattle.slot_store.specs.declared.store.SlotStore.{SlotStore}
+use Rattle.slot_store.specs.Store.{SlotStore}
 use Rattle.client.specs.Clients.{ClientNow, IsReady}
 use Rattle.client.specs.Outcomes.{IsKept}
 use Rattle.client.proofs.Kept.{received_is}

@@ -5,7 +5,7 @@ use Rattle.dr_model.specs.Machines.Steps.{step}
 use Rattle.session_model.specs.Clients.{Client}
 use Rattle.session_model.specs.declared.answer.Answer.TheVariants.{Said}
 use Rattle.session_record.specs.Record.{client_of}
-use Rattle.slot_store.specs.declared.store.SlotStore.{SlotStore}
+use Rattle.slot_store.specs.Store.{SlotStore}
 use Rattle.client.specs.Clients.{ClientNow, IsReady}
 use Rattle.client.specs.Outcomes.{IsKept}
 use Rattle.client.proofs.SameRecord.{drafted_record, kept_alike, lost_alike}

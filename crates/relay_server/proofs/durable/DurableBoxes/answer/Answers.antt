@@ -4,7 +4,7 @@ use Rattle.std.proofs.lemmas.List.{with_items_is}
 use Rattle.relay_wire.specs.Requests.{read_request}
 use Rattle.relay_core.specs.Boxes.{answers_read}
 use Rattle.relay_core.specs.Record.{box_text}
-use Rattle.slot_store.specs.declared.store.SlotStore.{SlotStore}
+use Rattle.slot_store.specs.Store.{SlotStore}
 use Rattle.relay_server.specs.Durable.{IsReady}
 use Rattle.relay_server.proofs.Replacing.{known_moments, known_now, known_ready, ready_stands}
 use Rattle.relay_server.proofs.durable.DurableBoxes.answer.Goals as goal

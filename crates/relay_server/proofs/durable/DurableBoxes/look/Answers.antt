@@ -1,6 +1,6 @@
 use Rattle.std.proofs.Common.{arith, List, subst, length}
 use Rattle.std.proofs.lemmas.Grind.{common_steps}
-use Rattle.slot_store.specs.declared.store.SlotStore.{SlotStore}
+use Rattle.slot_store.specs.Store.{SlotStore}
 use Rattle.relay_core.specs.Boxes.{Box}
 use Rattle.relay_server.specs.Filling.{AreLoaded, IsFirstOthers}
 use Rattle.relay_server.proofs.OpenedAreas.{unlooked}

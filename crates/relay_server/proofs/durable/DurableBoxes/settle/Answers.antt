@@ -1,7 +1,7 @@
 use Rattle.std.proofs.Common.{List, length, subst, sym, ◌≡◌, ◌∙◌}
 use Rattle.std.specs.Prelude.{OnOk}
 use Rattle.std.proofs.lemmas.List.{with_items_is}
-use Rattle.slot_store.specs.declared.store.SlotStore.{SlotStore}
+use Rattle.slot_store.specs.Store.{SlotStore}
 use Rattle.relay_server.specs.Looking.{HasSettled}
 use Rattle.relay_server.proofs.Settled.{settled_then}
 use Rattle.relay_server.proofs.durable.DurableBoxes.settle.Goals as goal

@@ -1,73 +1,100 @@
-use Rattle.std.proofs.Common.{Some, refl}
+use Rattle.std.proofs.Common.{◌≡◌, List, Ok, Err, Some, refl, sym, subst, ◌∙◌, ap}
+use Rattle.dr_disk.specs.Called.{Called}
+use Rattle.dr_disk.specs.Spans.{Span}
+use Rattle.dr_disk.specs.State.{Always}
 use Rattle.dr_disk.proofs.Calling.{failed_at_first, failed_later, passed_both}
-use Rattle.slot_store.specs.Putting.{call_of, retire_calls}
-use Rattle.slot_store.specs.Stops.{putting}
-use Rattle.slot_store.specs.Store.{content}
+use Rattle.slot_store.specs.Areas.{Fits}
+use Rattle.slot_store.specs.Pager.{content, seen}
+use Rattle.slot_store.specs.Putting.{HasReplaced, IsNext, call_of, retire_calls}
+use Rattle.slot_store.specs.Stops.{IsStopped, calls_of, putting}
+use Rattle.slot_store.specs.Store.{IsOldOrNew, ReadsOutsideArea, Rests, SlotStore}
 use Rattle.slot_store.proofs.Replacing.{counted, reads_both, replace_done, replace_stopped, replace_whole}
+use Rattle.slot_store.proofs.Standing.{laid_as_seen}
 use Rattle.slot_store.proofs.store.SlotStore.replace.Goals as goal
 
-pub returns-in-Err-clause-calls : goal.returns-in-Err-clause-calls
-returns-in-Err-clause-calls g c =
-    counted c.args.self.now c.put.new.self c.args.text.now c.put.ensures.staged
-    (g.D.Disk.state c.args.disk.now) (g.D.Disk.state c.put.new.disk)
-    (g.D.Disk.state c.put.new.disk) _ c.requires.fits
-    (failed_at_first {T = Unit} {U = Unit} (putting (content c.args.self.now)
-    (Some c.args.text.now)) (retire_calls c.put.new.self) call_of call_of _ _ _ _ refl
-    c.in-Err.ensures.calls)
+pub put-requires-clause-fits : goal.put-requires-clause-fits
+put-requires-clause-fits g c = subst (λ (s : SlotStore). Fits s.area c.args.text.now) (sym c.self.view_is) c.requires.fits
 
-pub returns-in-Err-retire-clause-calls : goal.returns-in-Err-retire-clause-calls
-returns-in-Err-retire-clause-calls g c =
-    counted c.args.self.now c.put.new.self c.args.text.now c.put.ensures.staged
-    (g.D.Disk.state c.args.disk.now) (g.D.Disk.state c.put.new.disk)
-    (g.D.Disk.state c.retire.new.disk) _ c.requires.fits
-    (failed_later {T = Unit} {U = Unit} {V = Unit} (putting (content c.args.self.now)
-    (Some c.args.text.now)) (retire_calls c.put.new.self) call_of call_of call_of _ _ _ _ _ _ _ _
-    refl c.put.ensures.any_moment c.in-Ok.ensures.calls c.retire.ensures.any_moment
-    c.in-Err-retire.ensures.calls)
+pub put-requires-clause-at_rest : goal.put-requires-clause-at_rest
+put-requires-clause-at_rest g c = λ d left. laid_as_seen c.self.inside.pager d
+    (subst (λ (s : SlotStore). Rests s d) (sym c.self.view_is) (c.requires.at_rest d left))
 
-pub returns-in-Ok-retire-clause-calls : goal.returns-in-Ok-retire-clause-calls
-returns-in-Ok-retire-clause-calls g c =
-    counted c.args.self.now c.put.new.self c.args.text.now c.put.ensures.staged
-    (g.D.Disk.state c.args.disk.now) (g.D.Disk.state c.put.new.disk)
-    (g.D.Disk.state c.retire.new.disk) _ c.requires.fits
-    (passed_both (putting (content c.args.self.now) (Some c.args.text.now))
-    (retire_calls c.put.new.self) call_of call_of call_of _ _ _ _ _ _ c.in-Ok.ensures.calls
-    c.in-Ok-retire.ensures.calls)
+pub returns-in-Err : goal.returns-in-Err
+returns-in-Err g c =
+    let old = c.self.inside.pager in
+    let put = c.put.new.self in
+    let text = c.args.text.now in
+    let start = g.D.Disk.state c.args.disk.now in
+    let mid = g.D.Disk.state c.put.new.disk in
+    let fits = subst (λ (s : SlotStore). Fits s.area text) (sym c.self.view_is) c.requires.fits in
+    record {
+      any_moment = subst (λ (s : SlotStore). Span start mid (IsOldOrNew start s.area s.content (Some text))) c.self.view_is
+          c.put.ensures.any_moment;
+      done = tt;
+      reads = subst (λ (s : SlotStore). ReadsOutsideArea s.area start mid) c.self.view_is c.put.ensures.reads;
+      holds = tt;
+      next = subst (λ (s : SlotStore). IsNext s (seen put) text) c.self.view_is c.put.ensures.staged.next;
+      calls = subst (λ (s : SlotStore). Called (calls_of s.content (Some text)) call_of start mid (Err c.in-Err.fault)) c.self.view_is
+          (counted old put text c.put.ensures.staged start mid mid _ fits
+          (failed_at_first {T = Unit} {U = Unit} (putting (content old) (Some text)) (retire_calls put) call_of call_of
+          _ _ _ _ refl c.in-Err.ensures.calls));
+      stopped = subst (λ (s : SlotStore). IsStopped s.area s.content (Some text) start mid) c.self.view_is c.in-Err.ensures.stopped;
+    }
 
-pub returns-in-Ok-retire-clause-done : goal.returns-in-Ok-retire-clause-done
-returns-in-Ok-retire-clause-done g c =
-    replace_done c.args.self.now c.put.new.self c.args.text.now c.put.ensures.staged
-    (g.D.Disk.state c.args.disk.now) (g.D.Disk.state c.put.new.disk) c.in-Ok.ensures.done
-    c.retire.new.self (g.D.Disk.state c.retire.new.disk) c.retire.ensures.same
-    c.in-Ok-retire.ensures.at_rest
+pub returns-in-Err-retire : goal.returns-in-Err-retire
+returns-in-Err-retire g c =
+    let old = c.self.inside.pager in
+    let put = c.put.new.self in
+    let text = c.args.text.now in
+    let start = g.D.Disk.state c.args.disk.now in
+    let mid = g.D.Disk.state c.put.new.disk in
+    let end = g.D.Disk.state c.retire.new.disk in
+    let staged = c.put.ensures.staged in
+    let done = c.in-Ok.ensures.done in
+    let fits = subst (λ (s : SlotStore). Fits s.area text) (sym c.self.view_is) c.requires.fits in
+    record {
+      any_moment = subst (λ (s : SlotStore). Span start end (IsOldOrNew start s.area s.content (Some text))) c.self.view_is
+          (replace_whole old put text staged start mid done end c.put.ensures.any_moment c.retire.ensures.any_moment);
+      done = tt;
+      reads = subst (λ (s : SlotStore). ReadsOutsideArea s.area start end) c.self.view_is
+          (reads_both old put text staged start mid end c.put.ensures.reads c.retire.ensures.reads);
+      holds = tt;
+      next = subst (λ (s : SlotStore). IsNext s (seen c.retire.new.self) text) c.self.view_is
+          (subst (λ p. IsNext (seen old) (seen p) text) (sym c.retire.ensures.same) staged.next);
+      calls = subst (λ (s : SlotStore). Called (calls_of s.content (Some text)) call_of start end (Err c.in-Err-retire.fault)) c.self.view_is
+          (counted old put text staged start mid end _ fits
+          (failed_later {T = Unit} {U = Unit} {V = Unit} (putting (content old) (Some text)) (retire_calls put) call_of call_of call_of
+          _ _ _ _ _ _ _ _ refl c.put.ensures.any_moment c.in-Ok.ensures.calls c.retire.ensures.any_moment
+          c.in-Err-retire.ensures.calls));
+      stopped = subst (λ (s : SlotStore). IsStopped s.area s.content (Some text) start end) c.self.view_is
+          (replace_stopped old put text staged start mid done end (g.met.D.Disk.lawful c.retire.new.disk)
+          c.retire.ensures.any_moment c.in-Ok.ensures.calls.passed);
+    }
 
-pub returns-in-Err-retire-clause-stopped : goal.returns-in-Err-retire-clause-stopped
-returns-in-Err-retire-clause-stopped g c =
-    replace_stopped c.args.self.now c.put.new.self c.args.text.now c.put.ensures.staged
-    (g.D.Disk.state c.args.disk.now) (g.D.Disk.state c.put.new.disk) c.in-Ok.ensures.done
-    (g.D.Disk.state c.retire.new.disk) (g.met.D.Disk.lawful c.retire.new.disk)
-    c.retire.ensures.any_moment c.in-Ok.ensures.calls.passed
-
-pub returns-in-Ok-retire-clause-any_moment : goal.returns-in-Ok-retire-clause-any_moment
-returns-in-Ok-retire-clause-any_moment g c =
-    replace_whole c.args.self.now c.put.new.self c.args.text.now c.put.ensures.staged
-    (g.D.Disk.state c.args.disk.now) (g.D.Disk.state c.put.new.disk) c.in-Ok.ensures.done
-    (g.D.Disk.state c.retire.new.disk) c.put.ensures.any_moment c.retire.ensures.any_moment
-
-pub returns-in-Ok-retire-clause-reads : goal.returns-in-Ok-retire-clause-reads
-returns-in-Ok-retire-clause-reads g c =
-    reads_both c.args.self.now c.put.new.self c.args.text.now c.put.ensures.staged
-    (g.D.Disk.state c.args.disk.now) (g.D.Disk.state c.put.new.disk)
-    (g.D.Disk.state c.retire.new.disk) c.put.ensures.reads c.retire.ensures.reads
-
-pub returns-in-Err-retire-clause-any_moment : goal.returns-in-Err-retire-clause-any_moment
-returns-in-Err-retire-clause-any_moment g c =
-    replace_whole c.args.self.now c.put.new.self c.args.text.now c.put.ensures.staged
-    (g.D.Disk.state c.args.disk.now) (g.D.Disk.state c.put.new.disk) c.in-Ok.ensures.done
-    (g.D.Disk.state c.retire.new.disk) c.put.ensures.any_moment c.retire.ensures.any_moment
-
-pub returns-in-Err-retire-clause-reads : goal.returns-in-Err-retire-clause-reads
-returns-in-Err-retire-clause-reads g c =
-    reads_both c.args.self.now c.put.new.self c.args.text.now c.put.ensures.staged
-    (g.D.Disk.state c.args.disk.now) (g.D.Disk.state c.put.new.disk)
-    (g.D.Disk.state c.retire.new.disk) c.put.ensures.reads c.retire.ensures.reads
+pub returns : goal.returns
+returns g c =
+    let old = c.self.inside.pager in
+    let put = c.put.new.self in
+    let text = c.args.text.now in
+    let start = g.D.Disk.state c.args.disk.now in
+    let mid = g.D.Disk.state c.put.new.disk in
+    let end = g.D.Disk.state c.retire.new.disk in
+    let staged = c.put.ensures.staged in
+    let done = c.in-Ok.ensures.done in
+    let fits = subst (λ (s : SlotStore). Fits s.area text) (sym c.self.view_is) c.requires.fits in
+    record {
+      any_moment = subst (λ (s : SlotStore). Span start end (IsOldOrNew start s.area s.content (Some text))) c.self.view_is
+          (replace_whole old put text staged start mid done end c.put.ensures.any_moment c.retire.ensures.any_moment);
+      done = subst (λ (s : SlotStore). Always (HasReplaced s (seen c.retire.new.self) text start) end) c.self.view_is
+          (replace_done old put text staged start mid done c.retire.new.self end c.retire.ensures.same c.in-Ok-retire.ensures.at_rest);
+      reads = subst (λ (s : SlotStore). ReadsOutsideArea s.area start end) c.self.view_is
+          (reads_both old put text staged start mid end c.put.ensures.reads c.retire.ensures.reads);
+      holds = ap content c.retire.ensures.same ∙ staged.holds;
+      next = subst (λ (s : SlotStore). IsNext s (seen c.retire.new.self) text) c.self.view_is
+          (subst (λ p. IsNext (seen old) (seen p) text) (sym c.retire.ensures.same) staged.next);
+      calls = subst (λ (s : SlotStore). Called (calls_of s.content (Some text)) call_of start end (Ok tt)) c.self.view_is
+          (counted old put text staged start mid end _ fits
+          (passed_both (putting (content old) (Some text)) (retire_calls put) call_of call_of call_of _ _ _ _ _ _
+          c.in-Ok.ensures.calls c.in-Ok-retire.ensures.calls));
+      stopped = tt;
+    }

@@ -2,7 +2,7 @@ use Rattle.std.proofs.Common.{◌≡◌, ◌+◌, ℕ, List, length, refl, ap, �
 use Rattle.std.proofs.lemmas.List.{with_items_is}
 use Rattle.dr_base.specs.declared.limits.TheConstants.{PAGE}
 use Rattle.slot_store.proofs.Contents.{body_is, is_staged, small_numbers}
-use Rattle.slot_store.proofs.store.SlotStore.stage.Goals as goal
+use Rattle.slot_store.proofs.pager.Pager.stage.Goals as goal
 
 pub lay_out_table-requires-clause-small : goal.lay_out_table-requires-clause-small
 lay_out_table-requires-clause-small c =

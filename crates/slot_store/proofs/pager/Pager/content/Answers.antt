@@ -1,6 +1,6 @@
 use Rattle.std.proofs.Common.{sym, ◌∙◌}
 use Rattle.slot_store.proofs.Contents.{text_is}
-use Rattle.slot_store.proofs.store.SlotStore.content.Goals as goal
+use Rattle.slot_store.proofs.pager.Pager.content.Goals as goal
 
 pub returns : goal.returns
 returns c = c.text.ensures ∙ sym (text_is c.args.self.now)

@@ -3,7 +3,7 @@ use Rattle.dr_disk.proofs.Calling.{none_made}
 use Rattle.slot_store.specs.Putting.{call_of}
 use Rattle.slot_store.proofs.Retiring.{alone}
 use Rattle.slot_store.proofs.RetireCalls.{done_here, failed_here, free_here, newest_here, no_calls, passed_here, reads_here, whole_here, zeros_here}
-use Rattle.slot_store.proofs.store.SlotStore.retire.Goals as goal
+use Rattle.slot_store.proofs.pager.Pager.retire.Goals as goal
 
 pub returns-then-not-self-clause-at_rest : goal.returns-then-not-self-clause-at_rest
 returns-then-not-self-clause-at_rest g c = alone c.args.self.now

@@ -1,6 +1,6 @@
 use Rattle.std.proofs.Common.{arith, refl}
 use Rattle.slot_store.proofs.PutCalls.{IsCall, done_here, enough_free, failed_here, passed_here, reads_here, stopped_here, to_write_here, whole_here}
-use Rattle.slot_store.proofs.store.SlotStore.put.Goals as goal
+use Rattle.slot_store.proofs.pager.Pager.put.Goals as goal
 
 pub slice_bounds-fresh-end : goal.slice_bounds-fresh-end
 slice_bounds-fresh-end g c =

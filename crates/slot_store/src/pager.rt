@@ -1,0 +1,153 @@
+//! A record in memory, and its way to the disk: what changes of it is put into pages that it doesn't name, then the table that names
+//! them, and then the old table is wiped with the pages that it alone names.
+
+ghost use Rattle.std.specs.Prelude.{◌≡◌, ◌≤◌, ◌+◌, ◌*◌, [], length, vec_capacity, None, Option, OnOk, OnErr};
+ghost use Rattle.dr_base.specs.declared.limits.TheConstants.{PAGE};
+ghost use Rattle.dr_disk.specs.State.{Always};
+ghost use Rattle.dr_disk.specs.Spans.{Span};
+ghost use Rattle.dr_disk.specs.Called.{Called};
+ghost use Rattle.record_pages.specs.Tables.{entry_fault};
+ghost use Rattle.slot_store.specs.Areas.{Fits, IsArea};
+ghost use Rattle.slot_store.specs.Memory.{HasRoom};
+ghost use Rattle.slot_store.specs.Stops.{IsStopped, putting};
+
+use crate::area::{Area, layout};
+use crate::draft::Draft;
+use crate::errors::StoreFault;
+use crate::kept::Kept;
+use crate::planning::replan;
+use crate::table::{RecordTable, next};
+use dr_base::PAGE;
+use dr_disk::Disk;
+use record_pages::lay_out_table;
+
+/// The record of an area of a disk, with the memory that was taken at opening.
+#[derive(Drop)]
+pub(crate) struct Pager {
+    pub(crate) area: Area,
+    /// The current table is table 1.
+    pub(crate) second: bool,
+    /// The current table's turn, 1, 2 or 3; 0 where there is no record.
+    pub(crate) turn: u8,
+    pub(crate) kept: Kept,
+    /// What the last put changed.
+    pub(crate) draft: Draft,
+    /// The last put replaced a record, which stands until it is retired.
+    pub(crate) replaced: bool,
+    ghost lawful: { IsArea area },
+    ghost turns: { turn ≤ 3 },
+    ghost none: { turn ≡ 0 → kept.len ≡ 0 },
+    ghost long: { length kept.bytes.items ≡ PAGE * area.most },
+    ghost entries: { entry_fault area.pages [] 6 kept.numbers.items ≡ None },
+    ghost numbers: { area.most ≤ vec_capacity kept.numbers },
+    ghost drops: { entry_fault area.pages [] 6 draft.plan.dropped.items ≡ None },
+    ghost room: { HasRoom area draft },
+}
+
+impl Pager {
+    ghost use Rattle.slot_store.specs.Pager.{content, IsLaidFor, Awaits};
+    ghost use Rattle.slot_store.specs.Store.{IsWithin, ReadsOutsideArea, IsOldOrNew};
+    ghost use Rattle.slot_store.specs.Putting.{HasPut, HasRested, IsStaged, KeepsRecord, call_of, retire_calls};
+    ghost use Rattle.slot_store.specs.Kept.{content_or_empty};
+
+    /// The record that was opened or put last; empty where there is none.
+    pub(crate) fn content(&self) -> &[u8]
+        ensures { result.now ≡ content_or_empty (content self.now) }
+    {
+        self.kept.text()
+    }
+
+    /// Puts a text in place of the record in memory: what is written, what is wiped, and the table that is to come.
+    fn stage(&mut self, text: &[u8])
+        requires { Fits self.old.area text.now }
+        ensures { IsStaged self.old self.new text.now }
+    {
+        let turn = next(self.turn);
+        self.replaced = self.turn != 0;
+        replan(self.area, &mut self.kept, &mut self.draft, text);
+        lay_out_table(
+            &mut self.draft.body,
+            turn,
+            text.len() as u32,
+            &self.kept.numbers,
+        );
+        self.turn = turn;
+        self.second = !self.second;
+    }
+
+    /// Puts a record: what changes into pages that no table names, then the table that isn't current, behind a closed gate,
+    /// and then the gate is opened.
+    pub(crate) fn put<D: Disk>(&mut self, disk: &mut D, text: &[u8]) -> Result<(), StoreFault>
+        requires fits { Fits self.old.area text.now }
+        requires within { IsWithin self.old.area (D.state disk.old) }
+        requires at_rest { Always (IsLaidFor self.old) (D.state disk.old) }
+
+        // Each crash meanwhile leaves the old record or the new; once it is done, the new one.
+        ensures any_moment { Span (D.state disk.old) (D.state disk.new)
+            (IsOldOrNew (D.state disk.old) self.old.area (content self.old) (Option.Some text.now)) }
+        ensures done { OnOk result (Always (HasPut self.old self.new text.now
+            (D.state disk.old)) (D.state disk.new)) }
+        ensures reads { ReadsOutsideArea self.old.area (D.state disk.old) (D.state disk.new) }
+        ensures staged { IsStaged self.old self.new text.now }
+
+        // How the calls went, and what stands where one failed.
+        ensures calls { Called (putting (content self.old) (Option.Some text.now)) call_of
+            (D.state disk.old) (D.state disk.new) result }
+        ensures stopped { OnErr result (IsStopped self.old.area (content self.old) (Option.Some text.now)
+            (D.state disk.old) (D.state disk.new)) }
+    {
+        let _size = disk.size();
+        let was = self.second;
+        self.stage(text);
+        let pager = &*self;
+        let fresh = &pager.draft.free[..pager.draft.plan.places.len()];
+        match pages::put::<RecordTable, D>(
+            disk,
+            layout(pager.area),
+            was,
+            fresh,
+            &pager.draft.plan.places,
+            &pager.kept.bytes,
+            &pager.draft.body,
+        ) {
+            Ok(()) => Ok(()),
+            Err(call) => Err(StoreFault { call }),
+        }
+    }
+
+    /// Closes the gate of the table whose record was replaced, if there is one, and wipes it and the pages that it alone
+    /// names.
+    pub(crate) fn retire<D: Disk>(&mut self, disk: &mut D) -> Result<(), StoreFault>
+        requires within { IsWithin self.old.area (D.state disk.old) }
+        requires awaits { Always (Awaits self.old) (D.state disk.old) }
+
+        // Each crash meanwhile leaves the record, read without damage; once it is done, the area is at rest.
+        ensures any_moment { Span (D.state disk.old) (D.state disk.new)
+            (KeepsRecord self.old (D.state disk.old)) }
+        ensures at_rest { OnOk result (Always (HasRested self.old self.new
+            (D.state disk.old)) (D.state disk.new)) }
+        ensures reads { ReadsOutsideArea self.old.area (D.state disk.old) (D.state disk.new) }
+        ensures same { self.new ≡ self.old }
+
+        // No image has another record where a call failed.
+        ensures calls { Called (retire_calls self.old) call_of
+            (D.state disk.old) (D.state disk.new) result }
+    {
+        if !self.replaced {
+            return Ok(());
+        }
+        let _size = disk.size();
+        let pager = &*self;
+        match pages::retire::<RecordTable, D>(
+            disk,
+            layout(pager.area),
+            pager.second,
+            &pager.draft.plan.dropped,
+            &pager.draft.zeros,
+            &pager.draft.zeros[..PAGE - 1],
+        ) {
+            Ok(()) => Ok(()),
+            Err(call) => Err(StoreFault { call }),
+        }
+    }
+}
