@@ -1,13 +1,19 @@
 // Makes one call of a program on a file, a socket or the random source fail, or cuts it short. It is loaded before the C
 // library. FAILING_CALL is the number of the call, from 1; FAILING_HOW an error's number, or 0 for half of the bytes and at
-// most 100; and to the file FAILING_LOG goes a line for each call, with its name and its descriptor.
+// most 100, -1 for one byte, -2 for none; and to the file FAILING_LOG goes a line for each call, with its name and its
+// descriptor. Where FAILING_MORE is set, calls that open, connect, wait, set and close are among them.
 #define _GNU_SOURCE
 #include <dlfcn.h>
 #include <errno.h>
 #include <fcntl.h>
+#include <poll.h>
+#include <stdarg.h>
 #include <stdio.h>
 #include <stdlib.h>
+#include <string.h>
+#include <sys/ioctl.h>
 #include <sys/socket.h>
+#include <sys/stat.h>
 #include <sys/syscall.h>
 #include <sys/types.h>
 #include <unistd.h>
@@ -39,18 +45,24 @@ static int how(void) {
 // what the C library has under a name
 #define REAL(name) ((__typeof__(&name))dlsym(RTLD_NEXT, #name))
 
-// half of some bytes, and at most 100
-static size_t half(size_t count) { return count < 2 ? count : count > 200 ? 100 : count / 2; }
+// half of some bytes, and at most 100; or one
+static size_t cut(size_t count) {
+    if (count < 2)
+        return count;
+    return how() == -1 ? 1 : count > 200 ? 100 : count / 2;
+}
 
 // a call that moves bytes fails or moves fewer of them
 #define MOVES(name, parameters, ...)                                                               \
     ssize_t name parameters {                                                                      \
         if (is_it(#name, fd)) {                                                                    \
-            if (how()) {                                                                           \
+            if (how() == -2)                                                                       \
+                return 0;                                                                          \
+            if (how() > 0) {                                                                       \
                 errno = how();                                                                     \
                 return -1;                                                                         \
             }                                                                                      \
-            count = half(count);                                                                   \
+            count = cut(count);                                                                    \
         }                                                                                          \
         return REAL(name)(__VA_ARGS__);                                                            \
     }
@@ -58,7 +70,7 @@ static size_t half(size_t count) { return count < 2 ? count : count > 200 ? 100 
 // a call that moves none fails
 #define ACTS(name, parameters, ...)                                                                \
     int name parameters {                                                                          \
-        if (is_it(#name, fd) && how()) {                                                           \
+        if (is_it(#name, fd) && how() > 0) {                                                       \
             errno = how();                                                                         \
             return -1;                                                                             \
         }                                                                                          \
@@ -81,9 +93,65 @@ ACTS(ftruncate64, (int fd, off64_t size), fd, size)
 ACTS(flock, (int fd, int operation), fd, operation)
 
 int getentropy(void *buffer, size_t count) {
-    if (is_it("getentropy", -1) && how()) {
+    if (is_it("getentropy", -1) && how() > 0) {
         errno = how();
         return -1;
     }
     return REAL(getentropy)(buffer, count);
+}
+
+// whether one of the further calls is the one, and fails
+static int fails_more(const char *name, int fd) {
+    if (!getenv("FAILING_MORE") || !is_it(name, fd) || how() <= 0)
+        return 0;
+    errno = how();
+    return 1;
+}
+
+#define MORE(name, parameters, on, ...)                                                            \
+    int name parameters { return fails_more(#name, on) ? -1 : REAL(name)(__VA_ARGS__); }
+
+MORE(statx, (int fd, const char *path, int flags, unsigned mask, struct statx *out), fd, fd, path, flags, mask, out)
+MORE(fchmod, (int fd, mode_t mode), fd, fd, mode)
+MORE(unlink, (const char *path), -1, path)
+MORE(socket, (int domain, int type, int protocol), -1, domain, type, protocol)
+MORE(connect, (int fd, const struct sockaddr *to, socklen_t size), fd, fd, to, size)
+MORE(accept4, (int fd, struct sockaddr *from, socklen_t *size, int flags), fd, fd, from, size, flags)
+MORE(bind, (int fd, const struct sockaddr *at, socklen_t size), fd, fd, at, size)
+MORE(listen, (int fd, int waiting), fd, fd, waiting)
+MORE(getsockopt, (int fd, int level, int name, void *value, socklen_t *size), fd, fd, level, name, value, size)
+MORE(setsockopt, (int fd, int level, int name, const void *value, socklen_t size), fd, fd, level, name, value, size)
+
+int open(const char *path, int flags, ...) {
+    va_list rest;
+    va_start(rest, flags);
+    mode_t mode = flags & O_CREAT ? va_arg(rest, mode_t) : 0;
+    va_end(rest);
+    return fails_more(strcmp(path, "/dev/null") ? "open" : "open-null", -1) ? -1 : REAL(open)(path, flags, mode);
+}
+
+int ioctl(int fd, unsigned long request, ...) {
+    va_list rest;
+    va_start(rest, request);
+    void *argument = va_arg(rest, void *);
+    va_end(rest);
+    return fails_more("ioctl", fd) ? -1 : REAL(ioctl)(fd, request, argument);
+}
+
+// what waits may find nothing in its time
+int poll(struct pollfd *these, nfds_t count, int milliseconds) {
+    if (fails_more("poll", -1))
+        return -1;
+    return getenv("FAILING_MORE") && how() == -2 && made == atol(getenv("FAILING_CALL"))
+               ? 0
+               : REAL(poll)(these, count, milliseconds);
+}
+
+// what is closed is so also where that fails
+int close(int fd) {
+    int failed = fails_more("close", fd), error = errno, closed = REAL(close)(fd);
+    if (!failed)
+        return closed;
+    errno = error;
+    return -1;
 }
