@@ -3,11 +3,13 @@ import os
 import select
 import socket
 import subprocess
+import time
 from pathlib import Path
 
 TOP = Path(__file__).resolve().parents[2]
 PROGRAM = os.path.realpath(os.environ.get("MESSENGER", TOP / "crates/messenger/out/messenger"))
 SECONDS = 1
+PAUSES = (2, 10, 30, 60, None)
 
 
 class Failed(Exception):
@@ -59,14 +61,15 @@ class Folder:
         return self.process.returncode, lines.decode("ascii")
 
     def in_time(self, attempt, *given):
-        """An attempt, and more of them where it takes too long: the machine may be busy."""
-        for last in (False, False, False, True):
+        """An attempt, and more of them where it takes too long, each after a longer pause: the machine may be busy."""
+        for pause in PAUSES:
             try:
                 return attempt(*given)
             except TimeoutError:
                 self.stop()
-                if last:
+                if pause is None:
                     raise Failed("it doesn't end in time") from None
+                time.sleep(pause)
 
     def run(self, image, *words, given=b""):
         """The status and the lines of a command on a file, and the file that is left."""
