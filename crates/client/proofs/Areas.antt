@@ -15,6 +15,4 @@ same_area resting kept other store again a b sound good ready twin size same mar
     let long : length c ≡ length d = sound.sized c left ∙ sym size ∙ sym (good.sized d right) in
     subst (λ (x : Area). SameWithin x c d) ready.area
     (resting.same_bytes store again c d (ready.area ∙ sym twin.area) (sym marks)
-    (ready.holds ∙ sym (twin.holds ∙ ap Some same)) long
-    (omega (arith, ap (λ (x : Area). x.pages) ready.area, ap (λ (x : Area). x.start) ready.area, ready.within, sound.sized c left))
-    (ready.rests c left) (twin.rests d right))
+    (ready.holds ∙ sym (twin.holds ∙ ap Some same)) long (ready.rests c left) (twin.rests d right))

@@ -11,7 +11,6 @@ use Rattle.dr_disk.specs.Calls.{Unwritten}
 use Rattle.dr_disk.specs.Spans.{HavePassed, IsQuiet, Span}
 use Rattle.dr_disk.specs.State.{Always, DiskState, IsLawful}
 use Rattle.dr_disk.specs.declared.call.Call.{Call}
-use Rattle.dr_disk.proofs.Ranges.{frame_twice, torn_twice}
 use Rattle.dr_disk.proofs.Steps.{spans, widen}
 use Rattle.kem_laws.specs.Mechanism.{Mechanism}
 use Rattle.session_model.specs.Schedule.{agreement_seed}
@@ -21,11 +20,11 @@ use Rattle.slot_store.specs.Laws.{IsRead}
 use Rattle.slot_store.specs.Reading.{IsEntryOrLike, IsLikeRead, IsUndamaged, damaged, holds, no_content, reading}
 use Rattle.slot_store.specs.Records.{recovered}
 use Rattle.slot_store.specs.Store.{IsOldOrNew, KeepsOutside, Rests, SlotStore, content}
+use Rattle.slot_store.proofs.Outside.{keeps_twice, twice_outside}
 use Rattle.slot_store.specs.declared.errors.OpenError.{OpenError}
 use Rattle.slot_store.specs.declared.errors.OpenError.TheVariants.{Damaged, Memory, StoreFault}
 use Rattle.slot_store.specs.declared.opening.Found.{Found}
 use Rattle.slot_store.specs.declared.opening.Found.TheVariants.{Content}
-use Rattle.slot_store.specs.Areas.{size_of}
 use Rattle.client.specs.Beginning.{IsEntryOrFirst, IsFirst, IsUnbegun, begin_refusal, begun_client}
 use Rattle.client.specs.Clients.{client_area}
 use Rattle.client.specs.Opening.{IsReadAs, RestsAsRead, record_fault}
@@ -82,7 +81,7 @@ module _ (k : Mechanism) (readings : IsRead) (key : List ℕ) (side : Side) (sta
         told = like.told;
         same = without ∙ sym (readings.none (record_fault k) client_area like.read (none like.read like.told));
         undamaged = λ _. whole;
-        outside = torn_twice 0 (size_of client_area) like.read kept.0 c like.outside kept.2;
+        outside = twice_outside client_area like.read kept.0 c like.outside kept.2;
       }
 
   outside_mid : Always (KeepsOutside client_area start) mid
@@ -97,7 +96,7 @@ module _ (k : Mechanism) (readings : IsRead) (key : List ℕ) (side : Side) (sta
         pair = pair;
         holds = new;
         undamaged = s.undamaged;
-        outside = frame_twice start mid 0 (size_of client_area) outside_mid c s.frame;
+        outside = keeps_twice client_area start mid outside_mid c s.frame;
       })) s.either
 
   pub first_moments : Span start now (IsEntryOrFirst k key side start)

@@ -2,13 +2,13 @@
 use Rattle.std.proofs.Common.{◌≡◌, inl, inr, ⊎_elim, ℕ, List, [], ◌∷◌, ◌++◌, length, subst, sym, ◌∙◌, arith}
 use Rattle.dr_disk.specs.Spans.{IsQuiet, Span}
 use Rattle.dr_disk.specs.State.{DiskState}
-use Rattle.dr_disk.proofs.Ranges.{torn_twice}
 use Rattle.dr_disk.proofs.Steps.{quiet_twice, spans, widen}
 use Rattle.dr_ports.specs.Wires.{Port}
 use Rattle.dr_ports.specs.declared.pipe.Part.TheVariants.{Gate}
 use Rattle.endings.specs.declared.ending.Ending.{Ending}
-use Rattle.relay_server.specs.Places.{IsSameBehind, areas_size, SameBehind}
+use Rattle.relay_server.specs.Places.{IsSameBehind, SameBehind}
 use Rattle.relay_server.specs.Opening.{IsOpening}
+use Rattle.relay_server.proofs.Behind.{behind_twice}
 use Rattle.relay_command.specs.Connections.{Connection, HasRisen, Standing}
 use Rattle.relay_command.specs.Serving.{HaveCome, Serves, WereServed, was_stopped, was_unaccepted, went_on}
 use Rattle.relay_command.proofs.Rounds.{never}
@@ -21,7 +21,7 @@ module _ (words : List (List ℕ)) (turns : List Connection → Type 0) (s : Sta
   since_then : (c : List ℕ) → IsSameBehind (length s.boxes) mid c → IsSameBehind (length s.boxes) start c
   since_then c frame = ⊎_elim
       (λ was. (frame.0, was, frame.2))
-      (λ is. let first = same_behind frame.0 is in (first.0, first.1, torn_twice 0 (areas_size (length s.boxes)) first.0 frame.0 c first.2 frame.2))
+      (λ is. let first = same_behind frame.0 is in (first.0, first.1, behind_twice (length s.boxes) first.0 frame.0 c first.2 frame.2))
       (span.last frame.0 frame.1)
 
   lift_come : (xs : List Connection) → HaveCome never turns s xs mid now door → HaveCome (IsOpening words start) turns s xs start now door

@@ -2,7 +2,6 @@
 use Rattle.std.proofs.Common.{◌≡◌, inr, ⊎_elim, ℕ, ◌+◌, ◌<◌, List, [], ◌∷◌, ◌++◌, length, Option, Err, sym, ◌∙◌, ap, subst, arith, append_assoc, length-append}
 use Rattle.dr_disk.specs.Spans.{IsQuiet, Span}
 use Rattle.dr_disk.specs.State.{DiskState}
-use Rattle.dr_disk.proofs.Ranges.{torn_twice}
 use Rattle.dr_disk.proofs.Steps.{quiet_twice, spans, stays, widen}
 use Rattle.dr_ports.specs.Ports.{Rose, appended}
 use Rattle.dr_ports.specs.States.{SinkState}
@@ -17,8 +16,9 @@ use Rattle.endings.proofs.Closing.{ends_behind, ends_cut}
 use Rattle.relay_core.specs.Boxes.{Box}
 use Rattle.relay_core.specs.Record.{box_text}
 use Rattle.relay_server.specs.Durable.{IsReady, ServerNow}
-use Rattle.relay_server.specs.Places.{IsSameBehind, areas_size, SameBehind}
+use Rattle.relay_server.specs.Places.{IsSameBehind, SameBehind}
 use Rattle.relay_server.specs.Serving.{Reached}
+use Rattle.relay_server.proofs.Behind.{behind_twice}
 use Rattle.relay_command.specs.declared.connecting.Connected.{Connected}
 use Rattle.relay_command.specs.declared.connecting.Fault.{Fault}
 use Rattle.relay_command.specs.declared.connecting.Fault.TheVariants.{Accept, Store}
@@ -80,7 +80,7 @@ module _ (turns : List Connection → Type 0) (s : Standing) (port n : ℕ) (ser
     outside : (c : List ℕ) → IsSameBehind (length server.boxes) mid c → IsSameBehind (length s.boxes) start c
     outside c frame =
         let sized = subst (λ (n : ℕ). SameBehind n frame.0 c) so.sized frame.2 in
-        ⊎_elim (λ was. (frame.0, was, sized)) (λ left. (left.1.0, left.1.1, torn_twice 0 (areas_size (length s.boxes)) left.1.0 frame.0 c left.1.2 sized)) (so.come.during.last frame.0 frame.1)
+        ⊎_elim (λ was. (frame.0, was, sized)) (λ left. (left.1.0, left.1.1, behind_twice (length s.boxes) left.1.0 frame.0 c left.1.2 sized)) (so.come.during.last frame.0 frame.1)
 
     come_more : (next : List Connection → Type 0) → next (so.xs ++ x ∷ []) → HaveCome never next s (so.xs ++ x ∷ []) start now later
     come_more next in_turn = record {

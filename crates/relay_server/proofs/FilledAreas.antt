@@ -8,9 +8,8 @@ use Rattle.slot_store.specs.Kept.{content_or_empty}
 use Rattle.std.proofs.lemmas.Bool.{cases_eq}
 use Rattle.dr_disk.specs.Spans.{Span}
 use Rattle.dr_disk.specs.State.{Always, DiskState}
-use Rattle.dr_disk.proofs.Ranges.{torn_self, torn_twice, torn_wider}
 use Rattle.dr_disk.proofs.Steps.{spans, widen}
-use Rattle.slot_store.specs.Areas.{Area, Fits, size_of}
+use Rattle.slot_store.specs.Areas.{Area, Fits}
 use Rattle.slot_store.specs.Laws.{IsLocal}
 use Rattle.slot_store.specs.Records.{recovered}
 use Rattle.slot_store.specs.Store.{IsOldOrNew, IsWithin, KeepsOutside, Rests, SlotStore, content}
@@ -18,14 +17,15 @@ use Rattle.relay_core.specs.declared.limits.TheConstants.{RECORD_LIMIT}
 use Rattle.relay_core.specs.Boxes.{Box, empty_box}
 use Rattle.relay_core.specs.Record.{box_text, head_text, kept_text}
 use Rattle.relay_server.specs.Durable.{IsReplaced}
-use Rattle.relay_server.specs.Places.{area_of, areas_size}
+use Rattle.relay_server.specs.Places.{area_of}
 use Rattle.relay_server.specs.Filling.{AreFilled, HasBox, IsFilling}
 use Rattle.relay_server.specs.Opening.{StaysOrBegins}
+use Rattle.relay_server.proofs.Behind.{behind_one, behind_self, behind_twice}
 use Rattle.relay_server.proofs.OneStore.{there_is, OneReplaced, old_store, new_store, is_replaced, is_new, around_area, new_areas, new_rests}
 use Rattle.relay_server.proofs.OpenedAreas.{other_same}
 
 filling_self : (boxes : List Box) (start : DiskState) (c : List ℕ) → start.image c → IsFilling boxes start c
-filling_self boxes start c left = record { entry = c; image = left; each = λ k box there. inl refl; outside = torn_self 0 (areas_size (length boxes)) c }
+filling_self boxes start c left = record { entry = c; image = left; each = λ k box there. inl refl; outside = behind_self (length boxes) c }
 
 -- stays or begins, twice
 twice : (name : List ℕ) (a b c : Option (List ℕ)) → StaysOrBegins name a b → StaysOrBegins name b c → StaysOrBegins name a c
@@ -42,7 +42,7 @@ filling_on boxes start d now first next = spans start d now (IsFilling boxes sta
       entry = was.entry;
       image = was.image;
       each = λ k box there. twice box.name _ _ _ (was.each k box there) (is.each k box there);
-      outside = torn_twice 0 (areas_size (length boxes)) was.entry is.entry c was.outside is.outside;
+      outside = behind_twice (length boxes) was.entry is.entry c was.outside is.outside;
     }) next)
 
 -- ---- a record is never empty
@@ -165,7 +165,7 @@ module _ (n : ℕ) (boxes : List Box) (stores news : List SlotStore) (t : List �
               subst (λ (m : ℕ). StaysOrBegins box.name (recovered (area_of m) frame.0) (recovered (area_of m) c)) (sym same) (either c box here o frame.0 frame.1)
           | inr other ↦ inl (other_same r.local k n frame.0 c other frame.2)
         ];
-        outside = torn_wider (area_of n).start (size_of (area_of n)) 0 (areas_size (length boxes)) frame.0 c (omega arith) (omega (arith, r.inside)) frame.2;
+        outside = behind_one (length boxes) n frame.0 c r.inside frame.2;
       }
 
   pub put_moments : Span start now (IsFilling boxes start)

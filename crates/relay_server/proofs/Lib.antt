@@ -1,3 +1,4 @@
+pub mod Behind
 pub mod Exits
 pub mod FrameByFrame
 pub mod FilledAreas

@@ -1,25 +1,25 @@
 -- One store of many has another record: the others are as they were.
 use Rattle.std.proofs.Common.{◌≡◌, ◌≢◌, inl, inr, ℕ, zero, suc, ◌<◌, Bool, true, List, [], ◌∷◌, length, Some, refl, sym, ◌∙◌, ap, subst, arith}
 use Rattle.std.specs.Prelude.{slice_get}
-use Rattle.std.proofs.lemmas.Bool.{cases_eq, cases_lt}
-use Rattle.dr_disk.specs.Bytes.{Torn}
+use Rattle.std.proofs.lemmas.Bool.{cases_eq}
 use Rattle.dr_disk.specs.State.{Always, DiskState}
-use Rattle.slot_store.specs.Areas.{Area, size_of}
+use Rattle.slot_store.specs.Areas.{Area, IsSameOutside}
 use Rattle.slot_store.specs.Laws.{IsLocal, SameWithin}
 use Rattle.slot_store.specs.Store.{KeepsOutside, Rests, SlotStore}
 use Rattle.relay_server.specs.Durable.{IsReplaced}
 use Rattle.relay_server.specs.Places.{area_of}
+use Rattle.relay_server.proofs.Behind.{area_apart}
 
 pub there_is : {X : Type 0} (xs : List X) (k : ℕ) → k < length xs → (x : X) × (slice_get xs k ≡ Some x)
 there_is [] k inside = absurd (omega (arith, inside))
 there_is (x ∷ xs) zero inside = (x, refl)
 there_is (x ∷ xs) (suc k) inside = there_is xs k (omega (arith, inside))
 
--- what is torn in one area is the same in each other
-pub apart : (j k : ℕ) (c d : List ℕ) → j ≢ k → Torn (area_of k).start (size_of (area_of k)) d c → SameWithin (area_of j) c d
-apart j k c d other torn = record {
-  size = torn.size;
-  bytes = λ i from to. torn.outside i (elim (cases_lt j k) [ inl below ↦ inl (omega (arith, below, to)) | inr above ↦ inr (omega (arith, above, other, from)) ]);
+-- what changes in one area alone is the same in each other
+pub apart : (j k : ℕ) (c d : List ℕ) → j ≢ k → IsSameOutside (area_of k) d c → SameWithin (area_of j) c d
+apart j k c d other same = record {
+  size = same.size;
+  bytes = λ i inside. same.outside i (area_apart j k i other inside);
 }
 
 -- the store at a place was replaced

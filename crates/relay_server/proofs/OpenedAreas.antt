@@ -3,13 +3,11 @@ use Rattle.std.proofs.Common.{◌≡◌, ◌≢◌, ◌⊎◌, inl, inr, ⊎_eli
 use Rattle.std.specs.Prelude.{slice_get, is_some}
 use Rattle.std.proofs.lemmas.Bool.{cases_eq}
 use Rattle.std.proofs.lemmas.Option.{slice_get_within}
-use Rattle.dr_disk.specs.Bytes.{Torn}
 use Rattle.dr_disk.specs.Calls.{Unwritten}
 use Rattle.dr_disk.specs.Spans.{IsQuiet, Span}
 use Rattle.dr_disk.specs.State.{Always, DiskState, IsLawful}
-use Rattle.dr_disk.proofs.Ranges.{torn_self, torn_twice, torn_wider}
 use Rattle.dr_disk.proofs.Steps.{quiet_twice, spans, stays, widen}
-use Rattle.slot_store.specs.Areas.{Area, size_of}
+use Rattle.slot_store.specs.Areas.{Area, IsSameOutside}
 use Rattle.slot_store.specs.AtRest.{IsReadAtRest}
 use Rattle.slot_store.specs.declared.opening.Found.{Found}
 use Rattle.slot_store.specs.declared.opening.Found.TheVariants.{Content, NoContent}
@@ -19,10 +17,11 @@ use Rattle.slot_store.specs.Reading.{IsEntryOrLike, IsLikeRead, damaged}
 use Rattle.slot_store.specs.Records.{recovered}
 use Rattle.slot_store.specs.Store.{Rests, SlotStore, content}
 use Rattle.relay_server.specs.Areas.{AreAtRest, AreOpened, AreRefused, HasLooked, IsAreaOpened, IsAreaRefused, IsLikeEntry, reading_of}
-use Rattle.relay_server.specs.Places.{area_of, areas_size}
+use Rattle.relay_server.specs.Places.{SameBehind, area_of}
 use Rattle.relay_server.specs.Opening.{IsFirstDamaged, IsWhole, OfRead, area_read, box_fault}
 use Rattle.relay_server.specs.declared.errors.ServerOpenError.{ServerOpenError}
 use Rattle.relay_server.specs.declared.errors.ServerOpenError.TheVariants.{BoxName, Damaged, Memory, StoreFault}
+use Rattle.relay_server.proofs.Behind.{area_apart, behind_more, behind_one, behind_self, behind_twice}
 use Rattle.relay_server.proofs.OneStore.{apart, there_is}
 
 -- a store was read as its record
@@ -70,15 +69,15 @@ none_opened count start stores is = subst (λ (xs : List SlotStore). AreOpened 0
   clean = λ k store text there. absurd (let e : None ≡ Some store = there in cc);
   rests = λ k store there. absurd (let e : None ≡ Some store = there in cc);
   read = λ s was k store there. absurd (let e : None ≡ Some store = there in cc);
-  untouched = λ s r was is. let e : s ≡ r = let f : Some s ≡ Some r = sym was ∙ is in cc in subst (Torn 0 0 s) e (torn_self 0 0 s);
+  untouched = λ s r was is. let e : s ≡ r = let f : Some s ≡ Some r = sym was ∙ is in cc in subst (SameBehind 0 s) e (behind_self 0 s);
 })
 
 pub entry_self : (count : ℕ) (start : DiskState) (c : List ℕ) → start.image c → IsLikeEntry count start c
-entry_self count start c left = record { entry = c; image = left; same = λ k. refl; outside = torn_self 0 (areas_size count) c }
+entry_self count start c left = record { entry = c; image = left; same = λ k. refl; outside = behind_self count c }
 
--- what is torn in one area is read in each other as it was
-pub other_same : IsLocal → (j k : ℕ) (d c : List ℕ) → j ≢ k → Torn (area_of k).start (size_of (area_of k)) d c → recovered (area_of j) c ≡ recovered (area_of j) d
-other_same local j k d c other torn = local.record_of (area_of j) c d (omega arith) (apart j k c d other torn)
+-- where one area alone changes, each other is read as it was
+pub other_same : IsLocal → (j k : ℕ) (d c : List ℕ) → j ≢ k → IsSameOutside (area_of k) d c → recovered (area_of j) c ≡ recovered (area_of j) d
+other_same local j k d c other same = local.record_of (area_of j) c d (apart j k c d other same)
 
 module _ (local : IsLocal) (n count : ℕ) (start d now : DiskState) (stores : List SlotStore) (lawful : IsLawful d) (less : n < count)
     (so_far : AreOpened n count stores start d) (span : Span d now (IsEntryOrLike (area_of n) d))
@@ -96,8 +95,7 @@ module _ (local : IsLocal) (n count : ℕ) (start d now : DiskState) (stores : L
           | inl here ↦ subst (λ (m : ℕ). recovered (area_of m) c ≡ recovered (area_of m) like.read) (sym here) like.same ∙ before.same k
           | inr other ↦ other_same local k n like.read c other like.outside ∙ before.same k
         ];
-        outside = torn_twice 0 (areas_size count) before.entry like.read c before.outside
-            (torn_wider (area_of n).start (size_of (area_of n)) 0 (areas_size count) like.read c (omega arith) (omega (arith, less)) like.outside);
+        outside = behind_twice count before.entry like.read c before.outside (behind_one count n like.read c less like.outside);
       }) is
 
   opening_span : Span start now (IsLikeEntry count start)
@@ -117,9 +115,9 @@ module _ (local : IsLocal) (n count : ℕ) (start d now : DiskState) (stores : L
   -- the area that comes next is read as it was at first
   unread : (s r : List ℕ) → start.seen ≡ Some s → d.seen ≡ Some r → area_read n s ≡ area_read n r
   unread s r was is =
-      let torn = so_far.untouched s r was is in
-      local.reads box_fault (area_of n) s r (omega arith)
-      (record { size = sym torn.size; bytes = λ i from to. sym (torn.outside i (inr (omega (arith, from)))) })
+      let same = so_far.untouched s r was is in
+      local.reads box_fault (area_of n) s r
+      (record { size = sym same.size; bytes = λ i inside. sym (same.outside i (λ k lt. area_apart n k i (λ is. omega (arith, is, lt)) inside)) })
 
   -- ---- it is refused
 
@@ -172,7 +170,6 @@ module _ (local : IsLocal) (n count : ℕ) (start d now : DiskState) (stores : L
           (unread s r.0 was r.1 ∙ one.read r.0 r.1 ∙ ap (λ (x : SlotStore). reading_of (content x)) new.1)) (pushed stores store other k there);
       untouched = λ s r was is.
           let like = reads r is in
-          torn_twice 0 (areas_size (n + 1)) s like.read r
-          (torn_wider 0 (areas_size n) 0 (areas_size (n + 1)) s like.read (omega arith) (omega arith) (so_far.untouched s like.read was like.told))
-          (torn_wider (area_of n).start (size_of (area_of n)) 0 (areas_size (n + 1)) like.read r (omega arith) (omega arith) like.outside);
+          behind_twice (n + 1) s like.read r (behind_more n (n + 1) s like.read (omega arith) (so_far.untouched s like.read was like.told))
+          (behind_one (n + 1) n like.read r (omega arith) like.outside);
     }

@@ -7,18 +7,18 @@ use Rattle.dr_base.specs.Causes.{Rose}
 use Rattle.dr_disk.specs.declared.call.Call.{Call}
 use Rattle.dr_disk.specs.Spans.{Span}
 use Rattle.dr_disk.specs.State.{DiskState}
-use Rattle.dr_disk.proofs.Ranges.{torn_twice}
 use Rattle.dr_disk.proofs.Steps.{quiet_twice, spans, widen}
 use Rattle.slot_store.specs.Records.{recovered}
 use Rattle.slot_store.specs.Store.{SlotStore, content}
 use Rattle.relay_core.specs.Boxes.{Box, empty_box}
 use Rattle.relay_server.specs.Areas.{AreOpened, HasLooked, IsLikeEntry, reading_of}
-use Rattle.relay_server.specs.Places.{HasRoom, SameBehind, area_of, areas_size}
+use Rattle.relay_server.specs.Places.{HasRoom, SameBehind, area_of}
 use Rattle.relay_server.specs.Durable.{ServerNow}
 use Rattle.relay_server.specs.Looking.{HasSettled, IsLooked}
 use Rattle.relay_server.specs.Filling.{AreFilled, AreLoaded, HasBox, IsFilling, IsFirstOthers, IsKept, IsOthers}
 use Rattle.relay_server.specs.Opening.{AreRead, GivesBox, HasOtherName, IsOpened, IsOpening, IsUnopened, IsWhole, StaysOrBegins}
 use Rattle.relay_server.specs.declared.errors.ServerOpenError.TheVariants.{BoxName}
+use Rattle.relay_server.proofs.Behind.{behind_twice}
 use Rattle.relay_server.proofs.OpenedAreas.{entry_self, whole_of}
 use Rattle.relay_server.proofs.Replacing.{with_stores}
 use Rattle.relay_server.proofs.OneStore.{there_is}
@@ -132,7 +132,7 @@ module _ (names : List (List ℕ)) (start mid now : DiskState) (looked : ServerN
             let box = there_is looked.boxes k (omega (arith, slice_get_within names k name named, is_looked.boxes.count)) in
             subst (λ (o : Option (List ℕ)). StaysOrBegins name o (recovered (area_of k) c)) (like.same k)
             (subst (λ (n : List ℕ). StaysOrBegins n (recovered (area_of k) is.entry) (recovered (area_of k) c)) (is_looked.boxes.named k name box.0 named box.1) (is.each k box.0 box.1));
-        outside = torn_twice 0 (areas_size (length names)) like.entry is.entry c like.outside (subst (λ (n : ℕ). SameBehind n is.entry c) is_looked.boxes.count is.outside);
+        outside = behind_twice (length names) like.entry is.entry c like.outside (subst (λ (n : ℕ). SameBehind n is.entry c) is_looked.boxes.count is.outside);
       }
 
   pub settled_moments : Span start now (IsOpening names start)

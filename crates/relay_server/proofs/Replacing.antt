@@ -3,19 +3,19 @@ use Rattle.std.proofs.Common.{◌≡◌, ◌≢◌, inl, inr, ⊎_elim, ℕ, ◌
 use Rattle.std.specs.Prelude.{slice_get}
 use Rattle.std.proofs.lemmas.Bool.{cases_eq}
 use Rattle.std.proofs.lemmas.Option.{slice_get_within}
+use Rattle.relay_server.proofs.Behind.{behind_one}
 use Rattle.relay_server.proofs.OneStore.{there_is, apart, OneReplaced, old_store, new_store, is_replaced, is_new, around_area, new_areas, new_rests}
 use Rattle.dr_disk.specs.State.{DiskState, Always}
 use Rattle.dr_disk.specs.Spans.{Span}
-use Rattle.dr_disk.proofs.Ranges.{torn_wider}
 use Rattle.dr_disk.proofs.Steps.{widen}
-use Rattle.slot_store.specs.Areas.{Area, size_of}
+use Rattle.slot_store.specs.Areas.{Area}
 use Rattle.slot_store.specs.Records.{recovered}
 use Rattle.slot_store.specs.Store.{IsOldOrNew, KeepsOutside, Rests, SlotStore, content}
 use Rattle.slot_store.specs.Laws.{IsLocal}
 use Rattle.relay_core.specs.Boxes.{Box, Answers}
 use Rattle.relay_core.specs.Changes.{ChangesOne, IsChange}
 use Rattle.relay_server.specs.Durable.{ServerNow, StandsFor, IsReady, StandsForEither, IsReplaced}
-use Rattle.relay_server.specs.Places.{area_of, areas_size, IsSameBehind}
+use Rattle.relay_server.specs.Places.{area_of, IsSameBehind}
 
 abbrev pub with_stores : List Box → List SlotStore → ServerNow
 with_stores boxes stores = record { boxes = boxes; stores = stores }
@@ -72,7 +72,7 @@ module _ (text : Box → List ℕ) (boxes next : List Box) (stores news : List S
   -- each other box is as it was
   other_stands : (j : ℕ) (box : Box) (c : List ℕ) → j ≢ k → slice_get boxes j ≡ Some box → KeepsOutside (area_of k) start c → recovered (area_of j) c ≡ Some (text box)
   other_stands j box c other there frame =
-      r.local.record_of (area_of j) c frame.0 (omega arith) (apart j k c frame.0 other frame.2) ∙ stands_at j box frame.0 there frame.1
+      r.local.record_of (area_of j) c frame.0 (apart j k c frame.0 other frame.2) ∙ stands_at j box frame.0 there frame.1
 
   each : (c : List ℕ) → IsOldOrNew start the_old.0.area (content the_old.0) (Some t) c → StandsForEither text boxes next c
   each c o = ⊎_elim
@@ -94,7 +94,7 @@ module _ (text : Box → List ℕ) (boxes next : List Box) (stores news : List S
   behind : (c : List ℕ) → KeepsOutside the_old.0.area start c → IsSameBehind (length boxes) start c
   behind c frame =
       let f = framed c frame in
-      (f.0, f.1, torn_wider (area_of k).start (size_of (area_of k)) 0 (areas_size (length boxes)) f.0 c (omega arith) (omega (arith, r.one.inside)) f.2)
+      (f.0, f.1, behind_one (length boxes) k f.0 c (omega (arith, r.one.inside)) f.2)
 
   pub any_moment : Span start now (λ c. StandsForEither text boxes next c × IsSameBehind (length boxes) start c)
   any_moment = widen start now _ _ (λ c o. (each c o, behind c o.frame)) is.any_moment

@@ -6,7 +6,6 @@ use Rattle.std.proofs.lemmas.List.{length_push}
 use Rattle.std.proofs.lemmas.List.Concat.{flat_map-append}
 use Rattle.dr_disk.specs.State.{DiskState}
 use Rattle.dr_disk.specs.Spans.{Span}
-use Rattle.dr_disk.proofs.Ranges.{torn_twice}
 use Rattle.dr_disk.proofs.Steps.{spans, widen}
 use Rattle.dr_ports.specs.declared.pipe.Part.TheVariants.{Flow}
 use Rattle.dr_ports.specs.Wires.{Port}
@@ -20,7 +19,8 @@ use Rattle.relay_core.proofs.Served.{served_nothing}
 use Rattle.relay_pipe.proofs.Exchanged.{both, nothing_yet}
 use Rattle.relay_server.specs.Durable.{ServerNow, StandsFor}
 use Rattle.relay_server.specs.Serving.{Exchanges, Came, reply_to, ReachedIn, SoFar}
-use Rattle.relay_server.specs.Places.{areas_size, SameBehind, IsSameBehind}
+use Rattle.relay_server.specs.Places.{SameBehind, IsSameBehind}
+use Rattle.relay_server.proofs.Behind.{behind_twice}
 
 -- ---- what is answered
 
@@ -77,7 +77,7 @@ module _ (text : Box → List ℕ) (most : ℕ) (old : ServerNow) where
       behind_with : (c : List ℕ) → IsSameBehind (length boxes) dnow c → IsSameBehind (length old.boxes) dstart c
       behind_with c frame =
           let sized = subst (λ (n : ℕ). SameBehind n frame.0 c) so.boxes_count frame.2 in
-          ⊎_elim (λ was. (frame.0, was, sized)) (λ left. (left.1.0, left.1.1, torn_twice 0 (areas_size (length old.boxes)) left.1.0 frame.0 c left.1.2 sized)) (so.during.last frame.0 frame.1)
+          ⊎_elim (λ was. (frame.0, was, sized)) (λ left. (left.1.0, left.1.1, behind_twice (length old.boxes) left.1.0 frame.0 c left.1.2 sized)) (so.during.last frame.0 frame.1)
 
       pub span_with : Span dstart dafter (λ c. ReachedIn text most old.boxes (so.frames ++ frame ∷ []) c × IsSameBehind (length old.boxes) dstart c)
       span_with = spans dstart dnow dafter _

@@ -1,9 +1,7 @@
 -- Where the boxes of a relay lie on its disk: area after area.
-use Rattle.std.specs.Prelude.{◌≤◌, ◌*◌, ℕ, List}
-use Rattle.dr_disk.specs.Bytes.{Torn}
-use Rattle.dr_disk.specs.Spans.{Frame}
+use Rattle.std.specs.Prelude.{◌≡◌, ◌<◌, ◌≤◌, ◌*◌, ℕ, List, length, slice_index}
 use Rattle.dr_disk.specs.State.{DiskState}
-use Rattle.slot_store.specs.Areas.{Area}
+use Rattle.slot_store.specs.Areas.{Area, IsOutside}
 use Rattle.relay_server.specs.declared.limits.TheConstants.{AREA_SIZE, BOX_PAGES, RECORD_PAGES}
 
 -- how many bytes this many areas have
@@ -18,10 +16,11 @@ area_of k = record { start = areas_size k; pages = BOX_PAGES; most = RECORD_PAGE
 abbrev pub HasRoom : ℕ → DiskState → Type 0
 HasRoom n disk = areas_size n ≤ disk.size
 
--- what lies behind this many areas of the one is the same in the other
-abbrev pub SameBehind : ℕ → List ℕ → List ℕ → Type 0
-SameBehind n = Torn 0 (areas_size n)
+-- what lies in none of this many areas of the one is the same in the other
+pub record SameBehind (n : ℕ) (d c : List ℕ) : Type 0 where
+  pub size : length c ≡ length d
+  pub outside : (i : ℕ) → ((k : ℕ) → k < n → IsOutside (area_of k) i) → slice_index c i ≡ slice_index d i
 
--- what lies behind this many areas is as an image of that moment has it
+-- what lies in none of this many areas is as an image of that moment has it
 abbrev pub IsSameBehind : ℕ → DiskState → List ℕ → Type 0
-IsSameBehind n start = Frame start 0 (areas_size n)
+IsSameBehind n start c = (d : List ℕ) × start.image d × SameBehind n d c

@@ -3,7 +3,6 @@ use Rattle.std.proofs.Common.{List, Some, inl, inr, subst, sym, ℕ, ⊎_elim, �
 use Rattle.dr_base.specs.declared.position.Side.{Side}
 use Rattle.dr_disk.specs.Spans.{IsQuiet, Span}
 use Rattle.dr_disk.specs.State.{Always, DiskState, IsLawful}
-use Rattle.dr_disk.proofs.Ranges.{torn_twice}
 use Rattle.dr_disk.proofs.Steps.{spans, stays, widen}
 use Rattle.dr_model.specs.Machines.Worlds.{World}
 use Rattle.kem_laws.specs.Mechanism.{Mechanism}
@@ -11,7 +10,7 @@ use Rattle.session_model.specs.Clients.{Client}
 use Rattle.session_record.specs.Record.{record_text}
 use Rattle.slot_store.specs.Reading.{IsEntryOrLike, IsLikeRead, IsUndamaged}
 use Rattle.slot_store.specs.Store.{IsOldOrNew, KeepsOutside}
-use Rattle.slot_store.specs.Areas.{size_of}
+use Rattle.slot_store.proofs.Outside.{twice_outside}
 use Rattle.client.specs.Clients.{ClientNow, IsReady, client_area}
 use Rattle.client.specs.InWorlds.{IsBetween, StandsForEither}
 use Rattle.client.specs.Opening.{IsOpened, Reads}
@@ -32,7 +31,7 @@ left_sound start mid c alike whole kept =
       read = like.read;
       told = like.told;
       undamaged = λ _. whole;
-      outside = torn_twice client_area.start (size_of client_area) like.read kept.0 c like.outside kept.2;
+      outside = twice_outside client_area like.read kept.0 c like.outside kept.2;
     }
 
 pub like_stands_for : (k : Mechanism) (side : Side) (before after : World) (start : DiskState) (c : List ℕ) → Reads k before side start

@@ -1,7 +1,6 @@
 -- What a client's disk holds, before a command and after it.
 use Rattle.std.specs.Prelude.{List, Ok, Some, option_map, ℕ, ◌+◌, ◌⊎◌, ◌≡◌}
 use Rattle.dr_base.specs.declared.position.Side.{Side}
-use Rattle.dr_disk.specs.Bytes.{Torn}
 use Rattle.dr_disk.specs.Spans.{IsQuiet, Span}
 use Rattle.dr_disk.specs.State.{DiskState}
 use Rattle.dr_model.specs.Machines.Worlds.{World}
@@ -11,7 +10,7 @@ use Rattle.session_record.specs.Record.{record_read, record_text}
 use Rattle.slot_store.specs.Reading.{IsEntryOrLike, IsLikeRead, IsUndamaged}
 use Rattle.slot_store.specs.Records.{recovered}
 use Rattle.slot_store.specs.Store.{SlotStore}
-use Rattle.slot_store.specs.Areas.{size_of}
+use Rattle.slot_store.specs.Areas.{IsSameOutside}
 use Rattle.client.specs.Clients.{IsReady, client_area}
 use Rattle.client.specs.InWorlds.{StandsFor}
 
@@ -29,7 +28,7 @@ pub record IsSound (start : DiskState) (c : List ℕ) : Type 0 where
   pub read : List ℕ
   pub told : start.seen ≡ Some read
   pub undamaged : IsUndamaged client_area read → IsUndamaged client_area c
-  pub outside : Torn client_area.start (size_of client_area) read c
+  pub outside : IsSameOutside client_area read c
 
 -- bytes with a client's record, read without damage, and the same outside the client's area as at entry
 pub record HasRecord (kept : Client) (start : DiskState) (c : List ℕ) : Type 0 where

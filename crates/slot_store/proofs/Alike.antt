@@ -2,14 +2,13 @@
 use Rattle.std.proofs.Common.{◌≡◌, ⊎_elim, ℕ, List, Option, Some, None, refl, sym, ◌∙◌, ap, subst, arith}
 use Rattle.dr_disk.specs.State.{Always, DiskState, IsLawful, IsSettled}
 use Rattle.dr_disk.specs.Spans.{Span}
-use Rattle.dr_disk.proofs.Ranges.{torn_self, torn_twice}
 use Rattle.dr_disk.proofs.Steps.{spans, widen}
 use Rattle.pages.specs.Clearing.{IsSameShots}
 use Rattle.record_pages.specs.Tables.{record_names}
 use Rattle.slot_store.specs.Areas.{Area, IsArea, layout_of, size_of}
 use Rattle.slot_store.specs.Reading.{IsLikeRead, IsUndamaged, OpensAs, read_as, reading}
 use Rattle.slot_store.specs.Records.{recovered, shot_in, shown}
-use Rattle.slot_store.proofs.Standing.{outside_torn}
+use Rattle.slot_store.proofs.Outside.{self_outside, twice_outside}
 
 module _ (area : Area) (c d : List ℕ) (same : shot_in area c ≡ shot_in area d) where
   pub same_record : recovered area c ≡ recovered area d
@@ -34,17 +33,17 @@ as_read area start s told = record {
   told = told;
   same = refl;
   undamaged = λ whole. whole;
-  outside = torn_self area.start (size_of area) s;
+  outside = self_outside area s;
 }
 
-module _ (area : Area) (start : DiskState) (lawful : IsArea area) (settled : IsSettled start) where
+module _ (area : Area) (start : DiskState) (settled : IsSettled start) where
   like_shot : (c : List ℕ) → IsSameShots record_names (layout_of area) start c → IsLikeRead area start c
   like_shot c is = record {
     read = is.entry;
     told = settled is.entry is.image;
     same = same_record area c is.entry is.same;
     undamaged = same_undamaged area c is.entry is.same;
-    outside = outside_torn area is.entry c (omega (arith, lawful.least)) is.outside;
+    outside = is.outside;
   }
 
   pub like_shots : (now : DiskState) → Span start now (IsSameShots record_names (layout_of area) start)
@@ -67,7 +66,7 @@ like_twice area start a lawful was c now =
       told = first.told;
       same = now.same ∙ first.same;
       undamaged = λ whole. now.undamaged (first.undamaged whole);
-      outside = torn_twice area.start (size_of area) first.read now.read c first.outside now.outside;
+      outside = twice_outside area first.read now.read c first.outside now.outside;
     }
 
 pub both_moments : (area : Area) (start a b : DiskState) → IsLawful a → Always (IsLikeRead area start) a

@@ -15,6 +15,8 @@ pub mod Laid
 pub mod Standing
 mod Named
 mod Local
+pub mod Rows
+pub mod Outside
 mod WithinArea
 mod Shown
 pub mod Blank

@@ -1,15 +1,16 @@
 -- Tables and pages are what the bytes of their area say, and say what they are.
-use Rattle.std.proofs.Common.{◌≡◌, inl, inr, ℕ, zero, suc, ◌+◌, ◌-◌, ◌*◌, ◌<◌, ◌≤◌, min, Bool, true, false, List, length, get_or, sym, ◌∙◌, ap, ap₂, arith}
+use Rattle.std.proofs.Common.{◌≡◌, inl, inr, ⊎_elim, ℕ, ◌+◌, ◌-◌, ◌*◌, ◌<◌, ◌≤◌, min, Bool, true, false, List, length, get_or, sym, ◌∙◌, ap, ap₂, arith}
 use Rattle.std.specs.Prelude.{slice_index, slice_range}
-use Rattle.std.proofs.lemmas.Bool.{cases_lt, cases_eq}
+use Rattle.std.proofs.lemmas.Bool.{cases_eq}
 use Rattle.std.proofs.lemmas.List.{ext_get_or}
 use Rattle.dr_base.specs.declared.limits.TheConstants.{PAGE}
 use Rattle.dr_disk.proofs.Ranges.{get_or-range, length-range}
-use Rattle.pages.specs.Layouts.{IsPage, page_place}
+use Rattle.pages.specs.Around.{IsInside}
+use Rattle.pages.specs.Layouts.{IsPage, page_place, table_place}
 use Rattle.pages.specs.Snapshots.{page_of}
 use Rattle.pages.specs.Tables.{Table, table_at}
-use Rattle.pages.proofs.SoundLayouts.{place_row}
-use Rattle.slot_store.specs.Areas.{Area, layout_of, size_of}
+use Rattle.pages.specs.declared.layout.Layout.{Layout}
+use Rattle.slot_store.specs.Areas.{Area, layout_of}
 use Rattle.slot_store.specs.Laws.{SameWithin}
 
 same_range : (c d : List ℕ) (at end : ℕ) → length c ≡ length d
@@ -33,25 +34,21 @@ abbrev as_table : ℕ → List ℕ → Table
 as_table gate body = record { gate = gate; body = body }
 
 module _ (area : Area) (c d : List ℕ) where
-  pub page_is_at : (n : ℕ) → page_place (layout_of area) n ≡ area.start + PAGE * n
-  page_is_at n = place_row (layout_of area) n (omega arith)
+  abbrev lay : Layout
+  lay = layout_of area
 
-  module _ (least : 2 ≤ area.pages) (same : SameWithin area c d) where
-    table_there : (at : ℕ) → area.start ≤ at → at + PAGE ≤ area.start + size_of area
-        → as_table (slice_index c at) (slice_range c (at + 1) (at + PAGE)) ≡ as_table (slice_index d at) (slice_range d (at + 1) (at + PAGE))
-    table_there at from to =
-        ap₂ as_table (same.bytes at from (omega (arith, to)))
-        (same_range c d (at + 1) (at + PAGE) same.size (λ i low high. same.bytes i (omega (arith, from, low)) (omega (arith, to, high))))
+  module _ (same : SameWithin area c d) where
+    pub same_table : (k : Bool) → table_at lay k c ≡ table_at lay k d
+    same_table k =
+        let at : ℕ = table_place lay k in
+        ap₂ as_table (same.bytes at (inl (k, omega arith, omega arith)))
+        (same_range c d (at + 1) (at + PAGE) same.size (λ i low high. same.bytes i (inl (k, omega (arith, low), high))))
 
-    pub same_table : (k : Bool) → table_at (layout_of area) k c ≡ table_at (layout_of area) k d
-    same_table false = table_there area.start (omega arith) (omega (arith, least))
-    same_table true = table_there (area.start + PAGE) (omega arith) (omega (arith, least))
+    pub same_page : (n : ℕ) → IsPage lay n → page_of lay c n ≡ page_of lay d n
+    same_page n is = same_range c d (page_place lay n) (page_place lay n + PAGE) same.size
+        (λ i low high. same.bytes i (inr (n, is, low, high)))
 
-    pub same_page : (n : ℕ) → IsPage (layout_of area) n → page_of (layout_of area) c n ≡ page_of (layout_of area) d n
-    same_page n is = same_range c d (page_place (layout_of area) n) (page_place (layout_of area) n + PAGE) same.size
-        (λ i low high. same.bytes i (omega (arith, page_is_at n, low)) (omega (arith, page_is_at n, high, is.1)))
-
-  -- ---- and back: where all tables and pages are the same, so is each byte
+  -- ---- and back: where all tables and pages are the same, so is each byte of them
   table_byte : (at i : ℕ) → as_table (slice_index c at) (slice_range c (at + 1) (at + PAGE)) ≡ as_table (slice_index d at) (slice_range d (at + 1) (at + PAGE))
       → at ≤ i → i < at + PAGE → slice_index c i ≡ slice_index d i
   table_byte at i same from to = elim (cases_eq i at) [
@@ -59,26 +56,8 @@ module _ (area : Area) (c d : List ℕ) where
     | inr behind ↦ range_byte c d (at + 1) (at + PAGE) i (ap (λ t. t.body) same) (omega arith) to
   ]
 
-  module _ (tables : (k : Bool) → table_at (layout_of area) k c ≡ table_at (layout_of area) k d)
-      (pages : (n : ℕ) → IsPage (layout_of area) n → page_of (layout_of area) c n ≡ page_of (layout_of area) d n) where
-    page_byte : (n i : ℕ) → IsPage (layout_of area) n → area.start + PAGE * n ≤ i → i < area.start + PAGE * n + PAGE
-        → slice_index c i ≡ slice_index d i
-    page_byte n i is from to = range_byte c d (page_place (layout_of area) n) (page_place (layout_of area) n + PAGE) i (pages n is)
-        (omega (arith, page_is_at n, from)) (omega (arith, page_is_at n, to))
-
-    -- a byte of the first n pages, of which two are tables
-    byte_below : (n i : ℕ) → n ≤ area.pages → area.start ≤ i → i < area.start + PAGE * n → slice_index c i ≡ slice_index d i
-    byte_below zero i le from to = absurd (omega (arith, from, to))
-    byte_below (suc n) i le from to = elim (cases_lt i (area.start + PAGE * n)) [
-      | inl below ↦ byte_below n i (omega (arith, le)) from below
-      | inr above ↦ elim (cases_lt n 2) [
-        | inl few ↦ elim (cases_eq n 0) [
-          | inl first ↦ table_byte area.start i (tables false) from (omega (arith, first, to))
-          | inr later ↦ table_byte (area.start + PAGE) i (tables true) (omega (arith, later, few, above)) (omega (arith, later, few, to))
-        ]
-        | inr many ↦ page_byte n i (many, omega (arith, le)) above (omega (arith, to))
-      ]
-    ]
-
-    pub same_bytes : (i : ℕ) → area.start ≤ i → i < area.start + size_of area → slice_index c i ≡ slice_index d i
-    same_bytes i from to = byte_below area.pages i (omega arith) from to
+  module _ (tables : (k : Bool) → table_at lay k c ≡ table_at lay k d)
+      (pages : (n : ℕ) → IsPage lay n → page_of lay c n ≡ page_of lay d n) where
+    pub same_bytes : (i : ℕ) → IsInside lay i → slice_index c i ≡ slice_index d i
+    same_bytes i = ⊎_elim (λ t. table_byte (table_place lay t.0) i (tables t.0) t.1 t.2)
+        (λ p. range_byte c d (page_place lay p.0) (page_place lay p.0 + PAGE) i (pages p.0 p.1) p.2 p.3)

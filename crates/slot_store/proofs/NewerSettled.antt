@@ -65,5 +65,5 @@ module _ (pager : Pager) (turn : pager.turn ≢ 0) (start : DiskState) (settled 
         → Always (RestsAsRead pager.area start pager) now
     newer_rests now span tidied c left = (
       settled_rests pager (take pager.kept.len pager.kept.bytes.items) has named marks start c shown (tidied c left),
-      left_like pager.area start pager.lawful settled now span c left,
+      left_like pager.area start settled now span c left,
     )

@@ -25,7 +25,6 @@ use Rattle.slot_store.specs.Store.{IsOldOrNew, ReadsOutsideArea}
 use Rattle.slot_store.proofs.HasPlan.{fresh}
 use Rattle.slot_store.proofs.PlanFacts.{plans}
 use Rattle.slot_store.proofs.PutDone.{has_put, put_whole}
-use Rattle.slot_store.proofs.PutShots.{reads_of}
 use Rattle.slot_store.proofs.Putting.{Setting, next_is, plan, shot_new, shot_old, to_write}
 use Rattle.slot_store.proofs.Stopping.{put_counts, put_stopped}
 
@@ -160,8 +159,7 @@ module _ {old new : Pager} {text : List ℕ} {start : DiskState} {lay : Layout} 
 
   pub reads_here : (end : DiskState) → ReadsAround lay start end
       → ReadsOutsideArea old.area start end
-  reads_here end reads = reads_of old.area old.lawful start end
-      (subst (λ (x : Layout). ReadsAround x start end) same_layout reads)
+  reads_here end reads = subst (λ (x : Layout). ReadsAround x start end) same_layout reads
 
   counts_here : puts (length (take k free)) ≡ putting (content old) (Some text)
   counts_here = ap (λ (ns : List ℕ). puts (length ns)) numbers_are

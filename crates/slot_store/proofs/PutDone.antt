@@ -23,7 +23,7 @@ use Rattle.slot_store.specs.Stops.{wipes_of, writes_of}
 use Rattle.slot_store.specs.Pager.{Awaits, content, has_replaced, mark}
 use Rattle.slot_store.specs.Store.{IsOldOrNew}
 use Rattle.slot_store.proofs.HasPlan.{AreOthers, fresh}
-use Rattle.slot_store.proofs.PutShots.{frame_of, kept_open, own_names}
+use Rattle.slot_store.proofs.PutShots.{kept_open, own_names}
 use Rattle.slot_store.proofs.Putting.{Setting, comes, laid_out, new_names, new_place, next_open, planned, shot_new, shot_old}
 use Rattle.slot_store.proofs.Standing.{kept_recovered, kept_undamaged}
 
@@ -62,7 +62,7 @@ module _ {old new : Pager} {text : List ℕ} {start : DiskState}
         (λ new_one. inr (new_recovered c new_one)) is.either;
     undamaged = ⊎_elim (λ old_one. kept_undamaged old c old_one)
         (λ new_one. new_undamaged c new_one) is.either;
-    frame = frame_of old.area old.lawful start c is.around;
+    frame = is.around;
   }
 
   pub put_whole : (end : DiskState)
@@ -140,5 +140,5 @@ module _ {old new : Pager} {text : List ℕ} {start : DiskState}
     has_put = (
       awaits,
       ap (λ a. recovered a c) set.staged.next.area ∙ new_recovered c done.same,
-      frame_of old.area old.lawful start c done.around,
+      done.around,
     )

@@ -5,10 +5,8 @@ use Rattle.std.proofs.lemmas.Bool.{cases_eq}
 use Rattle.std.proofs.lemmas.Bool.Decides.{nat_tests}
 use Rattle.dr_base.specs.declared.limits.TheConstants.{PAGE}
 use Rattle.dr_disk.specs.State.{DiskState}
-use Rattle.dr_disk.specs.Spans.{Frame, ReadsOutside}
 use Rattle.pages.specs.declared.layout.Layout.{Layout}
 use Rattle.pages.specs.declared.layout.TheConstants.{OPEN}
-use Rattle.pages.specs.Around.{KeepsOutside, ReadsAround}
 use Rattle.pages.specs.Layouts.{IsSound}
 use Rattle.pages.specs.Tables.{alone, counts, is_open, next_turn, none_open, open_table, table_at, turn_of, wiped}
 use Rattle.pages.specs.Snapshots.{IsBeside, IsStill, IsUnnamed, Snapshot, kept_shot, no_shot, shot}
@@ -24,7 +22,7 @@ use Rattle.slot_store.specs.Layout.{Mark, laid, table_for}
 use Rattle.slot_store.specs.Pager.{content, mark}
 use Rattle.slot_store.proofs.Laid.{laid_names}
 use Rattle.slot_store.proofs.Named.{blank_names}
-use Rattle.slot_store.proofs.Standing.{outside_torn, pager_marked}
+use Rattle.slot_store.proofs.Standing.{pager_marked}
 
 -- ---- numbers
 
@@ -75,20 +73,6 @@ module _ (area : Area) (lawful : IsArea area) where
       → IsSound (layout_of area) size
   layout_sound size ends within = area_sound area.start area.pages size ends
       (omega (arith, lawful.least)) within
-
-  pub frame_of : (start : DiskState) (c : List ℕ) → KeepsOutside (layout_of area) start c
-      → Frame start area.start (size_of area) c
-  frame_of start c around = (
-    around.0,
-    around.1,
-    outside_torn area around.0 c (omega (arith, lawful.least)) around.2,
-  )
-
-  pub reads_of : (start now : DiskState) → ReadsAround (layout_of area) start now
-      → ReadsOutside area.start (size_of area) start now
-  reads_of start now reads s told =
-      let was = reads s told in
-      (was.0, was.1, outside_torn area was.0 s (omega (arith, lawful.least)) was.2)
 
 -- ---- a pager's table
 

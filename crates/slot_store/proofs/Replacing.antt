@@ -4,9 +4,9 @@ use Rattle.std.specs.Prelude.{is_some}
 use Rattle.dr_disk.specs.State.{Always, DiskState, IsLawful}
 use Rattle.dr_disk.specs.Spans.{HavePassed, Span}
 use Rattle.dr_disk.specs.Called.{Called}
-use Rattle.dr_disk.proofs.Ranges.{frame_twice, reads_twice}
+use Rattle.pages.proofs.Around.{reads_both as around_reads}
 use Rattle.dr_disk.proofs.Steps.{spans, widen}
-use Rattle.slot_store.specs.Areas.{Fits, size_of}
+use Rattle.slot_store.specs.Areas.{Fits, layout_of}
 use Rattle.slot_store.specs.declared.errors.StoreFault.{StoreFault}
 use Rattle.slot_store.specs.declared.pager.Pager.{Pager}
 use Rattle.slot_store.specs.Putting.{HasPut, HasReplaced, HasRested, IsStaged, KeepsRecord, call_of, retire_calls}
@@ -15,6 +15,7 @@ use Rattle.slot_store.specs.Records.{recovered}
 use Rattle.slot_store.specs.Stops.{IsStopped, calls_of, putting, retiring, wipes_of}
 use Rattle.slot_store.specs.Pager.{content, has_replaced, seen}
 use Rattle.slot_store.specs.Store.{IsOldOrNew, KeepsOutside, ReadsOutsideArea}
+use Rattle.slot_store.proofs.Outside.{keeps_twice}
 use Rattle.slot_store.proofs.PlanFacts.{plans}
 use Rattle.slot_store.proofs.Standing.{rests_seen}
 use Rattle.slot_store.proofs.Stopping.{stopped_late}
@@ -30,7 +31,7 @@ module _ (old put : Pager) (text : List ℕ) (staged : IsStaged old put text)
 
   pub reads_both : (end : DiskState) → ReadsOutsideArea old.area start mid
       → ReadsOutsideArea put.area mid end → ReadsOutsideArea old.area start end
-  reads_both end first next = reads_twice old.area.start (size_of old.area) start mid end first
+  reads_both end first next = around_reads (layout_of old.area) start mid end first
       (reads_same end next)
 
   -- how many calls the retire makes
@@ -53,7 +54,7 @@ module _ (old put : Pager) (text : List ℕ) (staged : IsStaged old put text)
     outside c left = (done c left).2
 
     area_kept : (c : List ℕ) → KeepsRecord put mid c → KeepsOutside old.area start c
-    area_kept c kept = frame_twice start mid old.area.start (size_of old.area) outside c
+    area_kept c kept = keeps_twice old.area start mid outside c
         (subst (λ a. KeepsOutside a mid c) staged.next.area kept.1)
 
     is_new : (c : List ℕ) → KeepsRecord put mid c → recovered old.area c ≡ Some text
@@ -85,6 +86,6 @@ module _ (old put : Pager) (text : List ℕ) (staged : IsStaged old put text)
         let rest = rested c left in (
           rests_seen new c rest.0,
           rest.1 ∙ ap content same ∙ staged.holds,
-          frame_twice start mid old.area.start (size_of old.area) outside c
+          keeps_twice old.area start mid outside c
               (subst (λ a. KeepsOutside a mid c) staged.next.area rest.2),
         )

@@ -3,6 +3,7 @@ use Rattle.std.proofs.Common.{◌≡◌, ◌≢◌, ◌⊎◌, inl, inr, ⊎_eli
 use Rattle.std.proofs.lemmas.List.Elements.{All-cons, All-head, All-nil, All-tail}
 use Rattle.std.specs.Prelude.{not, slice_index}
 use Rattle.std.proofs.lemmas.Bool.{cases_eq}
+use Rattle.pages.specs.Around.{IsInside}
 use Rattle.pages.specs.Layouts.{IsPage}
 use Rattle.pages.specs.Resting.{IsAtRest as AreAtRest}
 use Rattle.pages.specs.Snapshots.{Snapshot, page_of}
@@ -45,5 +46,5 @@ module _ (area : Area) (now : Snapshot) (c d : List ℕ) (named : All (IsPage (l
       (named_or_beside area (page_of (layout_of area) c) (page_of (layout_of area) d) m (record_names now.table.body) named
       (one.still.pages ∙ sym other.still.pages))
 
-  pub rest_bytes : (i : ℕ) → area.start ≤ i → i < area.start + size_of area → slice_index c i ≡ slice_index d i
+  pub rest_bytes : (i : ℕ) → IsInside (layout_of area) i → slice_index c i ≡ slice_index d i
   rest_bytes = same_bytes area c d tables pages

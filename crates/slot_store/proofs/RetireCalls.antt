@@ -22,7 +22,6 @@ use Rattle.slot_store.specs.Stops.{retiring}
 use Rattle.slot_store.specs.Pager.{Awaits}
 use Rattle.slot_store.specs.Store.{IsWithin, ReadsOutsideArea}
 use Rattle.slot_store.proofs.PutCalls.{called_err, called_ok}
-use Rattle.slot_store.proofs.PutShots.{reads_of}
 use Rattle.slot_store.proofs.Retiring.{free, newest, retire_done, retire_whole}
 
 module _ (pager : Pager) where
@@ -103,8 +102,7 @@ module _ (pager : Pager) (start : DiskState) (awaits : Always (Awaits pager) sta
     whole_here = retire_whole pager start awaits end result around retires_here
 
     pub reads_here : ReadsOutsideArea pager.area start end
-    reads_here = reads_of pager.area pager.lawful start end
-        (subst (λ (x : Layout). ReadsAround x start end) lay_is runs.reads)
+    reads_here = subst (λ (x : Layout). ReadsAround x start end) lay_is runs.reads
 
   pub done_here : {T : Type 0} (end : DiskState) (x : T)
       → Runs lay (page_retires (length numbers)) start end (Ok x)

@@ -4,7 +4,6 @@ use Rattle.std.specs.Prelude.{All, not, slice_index}
 use Rattle.dr_disk.specs.declared.call.Call.{Call}
 use Rattle.dr_disk.specs.State.{Always, DiskState, IsLawful}
 use Rattle.dr_disk.specs.Spans.{Span}
-use Rattle.dr_disk.proofs.Ranges.{torn_self}
 use Rattle.dr_disk.proofs.Steps.{widen}
 use Rattle.pages.specs.declared.layout.Layout.{Layout}
 use Rattle.pages.specs.Around.{KeepsOutside}
@@ -24,7 +23,8 @@ use Rattle.slot_store.specs.Pager.{Awaits, IsLaidFor, content, has_replaced, mar
 use Rattle.slot_store.specs.Store.{IsWithin}
 use Rattle.slot_store.proofs.Standing.{kept_recovered, kept_undamaged, laid_recovered}
 use Rattle.slot_store.proofs.PlanFacts.{drops_distinct, drops_pages, pager_named}
-use Rattle.slot_store.proofs.PutShots.{frame_of, kept_open, laid_second, layout_sound, one_or_none, own_names}
+use Rattle.slot_store.proofs.Outside.{self_outside}
+use Rattle.slot_store.proofs.PutShots.{kept_open, laid_second, layout_sound, one_or_none, own_names}
 
 -- where each crash that leaves Q tells that each leaves P
 pub span_if : (a b : DiskState) (P Q : List ℕ → Type 0) → Span a b Q
@@ -69,7 +69,7 @@ module _ (pager : Pager) (start : DiskState) (awaits : Always (Awaits pager) sta
       let rests : IsLaidFor pager c = (put c left).alone none in (
         rests,
         laid_recovered pager c rests,
-        (c, left, torn_self pager.area.start (size_of pager.area) c),
+        (c, left, self_outside pager.area c),
       )
 
   -- ---- before
@@ -126,7 +126,7 @@ module _ (pager : Pager) (start : DiskState) (awaits : Always (Awaits pager) sta
   kept c is =
       let same = is.same ∙ opened is.around.0 is.around.1 in (
         kept_recovered pager c same,
-        frame_of pager.area pager.lawful start c is.around,
+        is.around,
         kept_undamaged pager c same,
       )
 
@@ -157,7 +157,7 @@ module _ (pager : Pager) (start : DiskState) (awaits : Always (Awaits pager) sta
     rested = (
       rests,
       laid_recovered pager c rests,
-      frame_of pager.area pager.lawful start c cleared.around,
+      cleared.around,
     )
 
   module _ {T : Type 0} (end : DiskState) (result : Result T Call)

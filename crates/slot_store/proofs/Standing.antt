@@ -114,32 +114,3 @@ module _ (pager : Pager) where
   pub laid_as_seen : (c : List ℕ) → Rests (seen pager) c → IsLaidFor pager c
   unfolding IsLaidFor Rests
   laid_as_seen c rests = rests.1.laid_out
-
--- what lies in no table and no page of an area lies outside of it
-pub outside_torn : (area : Area) (d c : List ℕ) → 2 ≤ area.pages → IsSameOutside (layout_of area) d c
-    → Torn area.start (size_of area) d c
-outside_torn area d c least same = record {
-  size = same.size;
-  outside = λ i out. same.outside i (is_outside i out);
-}
-  where
-    place : (n : ℕ) → page_place (layout_of area) n ≡ area.start + PAGE * n
-    place n = place_row (layout_of area) n (omega arith)
-
-    is_outside : (i : ℕ) → (i < area.start) ⊎ (area.start + size_of area ≤ i) → IsOutside (layout_of area) i
-    is_outside i (inl below) = record {
-      tables = λ k. table_below k;
-      pages = λ n is. inl (omega (arith, place n, below));
-    }
-      where
-        table_below : (k : Bool) → (i < table_place (layout_of area) k) ⊎ (table_place (layout_of area) k + PAGE ≤ i)
-        table_below false = inl below
-        table_below true = inl (omega (arith, below))
-    is_outside i (inr above) = record {
-      tables = λ k. table_above k;
-      pages = λ n is. inr (omega (arith, place n, above, is.1));
-    }
-      where
-        table_above : (k : Bool) → (i < table_place (layout_of area) k) ⊎ (table_place (layout_of area) k + PAGE ≤ i)
-        table_above false = inr (omega (arith, above, least))
-        table_above true = inr (omega (arith, above, least))

@@ -36,14 +36,14 @@ map_same P f g [] all same = refl
 map_same P f g (n ∷ ns) all same =
     ap₂ (λ x xs. x ∷ xs) (same n (All-head P n ns all)) (map_same P f g ns (All-tail P n ns all) same)
 
-module _ (area : Area) (c d : List ℕ) (least : 2 ≤ area.pages) (same : SameWithin area c d) where
+module _ (area : Area) (c d : List ℕ) (same : SameWithin area c d) where
   standing_same : standing (layout_of area) c ≡ standing (layout_of area) d
-  standing_same = ap₂ standing_of (same_table area c d least same false) (same_table area c d least same true)
+  standing_same = ap₂ standing_of (same_table area c d same false) (same_table area c d same true)
 
   pub pages_same : (names : List ℕ) → entry_fault area.pages [] 6 names ≡ None
       → map (page_of (layout_of area) c) names ≡ map (page_of (layout_of area) d) names
   pages_same names is = map_same (IsPage (layout_of area)) (page_of (layout_of area) c) (page_of (layout_of area) d) names
-      (entries_within area names is) (λ n page. same_page area c d least same n page)
+      (entries_within area names is) (λ n page. same_page area c d same n page)
 
   shown_as : (st : Standing) → shown area (shot_of record_names (layout_of area) c st) ≡ shown area (shot_of record_names (layout_of area) d st)
   shown_as none_open = refl
@@ -86,10 +86,10 @@ module _ (area : Area) (c d : List ℕ) (least : 2 ≤ area.pages) (same : SameW
       → AreAtRest record_names (layout_of area) now d → AreAtRest record_names (layout_of area) now c
   rests_same now names rests = record {
     still = record {
-      current = same_table area c d least same now.second ∙ rests.still.current;
+      current = same_table area c d same now.second ∙ rests.still.current;
       pages = pages_same (record_names now.table.body) names ∙ rests.still.pages;
-      shut = ap (λ t. t.gate) (same_table area c d least same (not now.second)) ∙ rests.still.shut;
+      shut = ap (λ t. t.gate) (same_table area c d same (not now.second)) ∙ rests.still.shut;
     };
-    other = same_table area c d least same (not now.second) ∙ rests.other;
-    blank = λ m page beside. same_page area c d least same m page ∙ rests.blank m page beside;
+    other = same_table area c d same (not now.second) ∙ rests.other;
+    blank = λ m page beside. same_page area c d same m page ∙ rests.blank m page beside;
   }

@@ -4,6 +4,7 @@ use Rattle.dr_base.specs.declared.limits.TheConstants.{PAGE}
 use Rattle.pages.specs.declared.layout.Layout.{Layout}
 use Rattle.pages.specs.declared.layout.TheConstants.{LOWER_PAGES}
 use Rattle.pages.specs.Areas.{row_layout}
+use Rattle.pages.specs.Around.{IsInside as IsInsideAll, IsOutside as IsOutsideAll, IsSameOutside as IsSameAround}
 use Rattle.record_pages.specs.Pages.{page_count}
 
 -- so many pages from `start` on, of which the first two are the tables; the most pages of a record
@@ -28,6 +29,17 @@ pub record IsArea (area : Area) : Type 0 where
 -- its tables and pages
 abbrev pub layout_of : Area → Layout
 layout_of area = row_layout area.start area.pages
+
+-- a place in one of its tables and pages, and one in none of them
+abbrev pub IsInside : Area → ℕ → Type 0
+IsInside area = IsInsideAll (layout_of area)
+
+abbrev pub IsOutside : Area → ℕ → Type 0
+IsOutside area = IsOutsideAll (layout_of area)
+
+-- bytes that are the same outside of its tables and pages
+abbrev pub IsSameOutside : Area → List ℕ → List ℕ → Type 0
+IsSameOutside area = IsSameAround (layout_of area)
 
 -- a text has no more pages than a record may have
 abbrev pub Fits : Area → List ℕ → Type 0

@@ -1,15 +1,15 @@
 -- What holds of the words that callers see.
-use Rattle.std.specs.Prelude.{◌≡◌, ℕ, ◌+◌, ◌≤◌, ◌<◌, List, length, slice_index, Option, Some, None}
-use Rattle.slot_store.specs.Areas.{Area, size_of}
+use Rattle.std.specs.Prelude.{◌≡◌, ℕ, List, length, slice_index, Option, Some, None}
+use Rattle.slot_store.specs.Areas.{Area, IsInside}
 use Rattle.slot_store.specs.AtRest.{IsAtRest}
 use Rattle.slot_store.specs.Records.{recovered}
 use Rattle.slot_store.specs.Store.{Rests, SlotStore, content, mark}
 use Rattle.slot_store.specs.Reading.{IsUndamaged, holds, no_content, reading}
 
--- bytes that are the same within an area
+-- bytes that are the same in the tables and pages of an area
 pub record SameWithin (area : Area) (c d : List ℕ) : Type 0 where
   pub size : length c ≡ length d
-  pub bytes : (i : ℕ) → area.start ≤ i → i < area.start + size_of area → slice_index c i ≡ slice_index d i
+  pub bytes : (i : ℕ) → IsInside area i → slice_index c i ≡ slice_index d i
 
 -- At rest an area has the store's record, which is read without damage, and no byte of it says more than the record and the mark;
 -- and so the next opening leaves it as it is.
@@ -18,13 +18,13 @@ pub record IsResting : Type 0 where
   pub record_of : (store : SlotStore) (c : List ℕ) → Rests store c → recovered store.area c ≡ content store
   pub undamaged : (store : SlotStore) (c : List ℕ) → Rests store c → IsUndamaged store.area c
   pub same_bytes : (store other : SlotStore) (c d : List ℕ) → store.area ≡ other.area → mark store ≡ mark other → content store ≡ content other
-      → length c ≡ length d → store.area.start + size_of store.area ≤ length c → Rests store c → Rests other d → SameWithin store.area c d
+      → length c ≡ length d → Rests store c → Rests other d → SameWithin store.area c d
 
 -- What a store says of bytes, it says of those within its area alone.
 pub record IsLocal : Type 0 where
-  pub record_of : (area : Area) (c d : List ℕ) → 2 ≤ area.pages → SameWithin area c d → recovered area c ≡ recovered area d
+  pub record_of : (area : Area) (c d : List ℕ) → SameWithin area c d → recovered area c ≡ recovered area d
   pub rests : (store : SlotStore) (c d : List ℕ) → SameWithin store.area c d → Rests store d → Rests store c
-  pub reads : (fault_at : List ℕ → Option ℕ) (area : Area) (c d : List ℕ) → 2 ≤ area.pages → SameWithin area c d → reading fault_at area c ≡ reading fault_at area d
+  pub reads : (fault_at : List ℕ → Option ℕ) (area : Area) (c d : List ℕ) → SameWithin area c d → reading fault_at area c ≡ reading fault_at area d
 
 -- Bytes that are read without damage stand for what was read.
 pub record IsRead : Type 0 where

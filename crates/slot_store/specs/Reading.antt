@@ -1,12 +1,11 @@
 -- What an area reads as: no record, the newer table's record, or damage.
 use Rattle.std.specs.Prelude.{◌≡◌, ◌⊎◌, ℕ, ◌+◌, Bool, true, false, List, drop, Option, Some, None}
 use Rattle.dr_base.specs.declared.limits.TheConstants.{PAGE}
-use Rattle.dr_disk.specs.Bytes.{Torn}
 use Rattle.dr_disk.specs.State.{DiskState}
 use Rattle.pages.specs.Snapshots.{Shot, no_shot, shot, unclear}
 use Rattle.record_pages.specs.Pages.{joined}
 use Rattle.record_pages.specs.Tables.{length_in, nonzero_from, or_else, table_fault}
-use Rattle.slot_store.specs.Areas.{Area, size_of}
+use Rattle.slot_store.specs.Areas.{Area, IsSameOutside}
 use Rattle.slot_store.specs.Records.{record_in, recovered, shot_in}
 
 -- no record; a record; or the number of the damaged table, and the place: in the table, or a page's size and the place in the
@@ -65,7 +64,7 @@ pub record IsLikeRead (area : Area) (start : DiskState) (c : List ℕ) : Type 0 
   pub told : start.seen ≡ Some read
   pub same : recovered area c ≡ recovered area read
   pub undamaged : IsUndamaged area read → IsUndamaged area c
-  pub outside : Torn area.start (size_of area) read c
+  pub outside : IsSameOutside area read c
 
 -- an image of that moment, or one like what was read then
 abbrev pub IsEntryOrLike : Area → DiskState → List ℕ → Type 0

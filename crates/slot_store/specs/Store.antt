@@ -1,8 +1,8 @@
 -- What callers see of a store: its record, and the bytes that it rests on.
 use Rattle.std.specs.Prelude.{◌≡◌, ◌⊎◌, ℕ, ◌+◌, ◌≤◌, List, Option}
 use Rattle.dr_disk.specs.State.{DiskState}
-use Rattle.dr_disk.specs.Spans.{Frame, ReadsOutside}
-use Rattle.slot_store.specs.Areas.{Area, IsArea, size_of}
+use Rattle.pages.specs.Around.{KeepsOutside as KeepsAround, ReadsAround}
+use Rattle.slot_store.specs.Areas.{Area, IsArea, layout_of, size_of}
 use Rattle.slot_store.specs.AtRest.{IsAtRest}
 use Rattle.slot_store.specs.Layout.{Mark}
 use Rattle.slot_store.specs.Reading.{IsUndamaged}
@@ -27,13 +27,13 @@ Rests store c = IsArea store.area × IsAtRest store.area store.mark store.conten
 abbrev pub IsWithin : Area → DiskState → Type 0
 IsWithin area disk = area.start + size_of area ≤ disk.size
 
--- outside the area these bytes are those of an image of that moment
+-- outside of the area's tables and pages these bytes are those of an image of that moment
 abbrev pub KeepsOutside : Area → DiskState → List ℕ → Type 0
-KeepsOutside area start = Frame start area.start (size_of area)
+KeepsOutside area = KeepsAround (layout_of area)
 
--- outside the area a read gives what it gave
+-- outside of the area's tables and pages a read gives what it gave
 abbrev pub ReadsOutsideArea : Area → DiskState → DiskState → Type 0
-ReadsOutsideArea area start now = ReadsOutside area.start (size_of area) start now
+ReadsOutsideArea area = ReadsAround (layout_of area)
 
 -- the record is the old one or the new one, and is read without damage; nothing outside the area has changed
 pub record IsOldOrNew (start : DiskState) (area : Area) (old new : Option (List ℕ)) (c : List ℕ) : Type 0 where

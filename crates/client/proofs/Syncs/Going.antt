@@ -5,7 +5,6 @@ use Rattle.dr_ports.proofs.Told.{appended-appended}
 use Rattle.dr_base.specs.Causes.{Rose}
 use Rattle.dr_disk.specs.Spans.{Span}
 use Rattle.dr_disk.specs.State.{DiskState}
-use Rattle.dr_disk.proofs.Ranges.{torn_twice}
 use Rattle.dr_disk.proofs.Steps.{quiet_twice, spans, stays, widen}
 use Rattle.dr_ports.specs.Ports.{appended}
 use Rattle.dr_ports.specs.Wires.{Port}
@@ -18,7 +17,7 @@ use Rattle.relay_wire.specs.Requests.{Asked}
 use Rattle.session_model.specs.Clients.{Client}
 use Rattle.session_record.specs.Record.{record_text}
 use Rattle.slot_store.specs.Store.{IsOldOrNew, KeepsOutside}
-use Rattle.slot_store.specs.Areas.{size_of}
+use Rattle.slot_store.proofs.Outside.{twice_outside}
 use Rattle.sync_model.specs.Carried.{replied_bytes, request_bytes}
 use Rattle.sync_model.specs.Courses.{course_of}
 use Rattle.sync_model.specs.Moves.{Move, Wait, asked_in, fetching, move}
@@ -76,7 +75,7 @@ module _ (p : Party Client) where
       → KeepsOutside client_area mid c → KeepsOutside client_area start c
   outside_since start mid first replies c passed keeps =
       ⊎_elim (λ was. (keeps.0, was, keeps.2))
-      (λ (r : IsReached p first replies start keeps.0). (r.outside.0, r.outside.1, torn_twice client_area.start (size_of client_area) r.outside.0 keeps.0 c r.outside.2 keeps.2))
+      (λ (r : IsReached p first replies start keeps.0). (r.outside.0, r.outside.1, twice_outside client_area r.outside.0 keeps.0 c r.outside.2 keeps.2))
       (passed.last keeps.0 keeps.1)
 
   module _ (a b : Moment) (start mid : Port) (wait : Wait) (far : SoFar p a b start mid wait) where

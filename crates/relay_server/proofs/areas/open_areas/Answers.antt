@@ -1,5 +1,4 @@
-use Rattle.std.proofs.Common.{◌≡◌, List, [], ◌∷◌, ◌++◌, ◌+◌, arith, rules, subst, sym}
-use Rattle.std.proofs.lemmas.Grind.{common_steps}
+use Rattle.std.proofs.Common.{◌≡◌, ℕ, List, [], ◌∷◌, ◌++◌, ◌+◌, arith, rules, subst, sym}
 use Rattle.slot_store.specs.Store.{SlotStore}
 use Rattle.relay_server.specs.Areas.{AreOpened}
 use Rattle.relay_server.proofs.OpenedAreas.{none_opened, one_more, opening_looked, refused}
@@ -31,4 +30,6 @@ areas-preserved g c =
     (g.met.D.Disk.lawful c.areas.disk) (omega arith) c.areas.invariant c.open_area.ensures.any_moment c.open_area.ensures.still c.in-Ok.store c.in-Ok.ensures.opened c.open_area.ensures.reads)
 
 pub returns-clause-opened : goal.returns-clause-opened
-returns-clause-opened g c = grind (arith, common_steps)
+returns-clause-opened g c =
+    let all : c.areas.k ≡ c.args.count = search rules in
+    subst (λ (n : ℕ). AreOpened n c.args.count c.areas.stores.items (g.D.Disk.state c.args.disk.now) (g.D.Disk.state c.areas.disk)) all c.areas.invariant

@@ -1,4 +1,3 @@
-use Rattle.std.proofs.Common.{arith}
 use Rattle.slot_store.specs.Layout.{laid}
 use Rattle.slot_store.specs.Store.{Rests}
 use Rattle.slot_store.proofs.WithinArea.{reading_same, recovered_same, rests_same}
@@ -12,10 +11,10 @@ returns c = record {
   rests = λ store c d same rests. (
     rests.0,
     record {
-      laid_out = rests_same store.area c d (omega (arith, rests.0.least)) same (laid store.mark store.content)
+      laid_out = rests_same store.area c d same (laid store.mark store.content)
           (laid_entries store.area store.mark store.content rests.0 rests.1.marked) rests.1.laid_out;
       marked = rests.1.marked;
     },
   );
-  reads = λ fault_at area c d least same. reading_same area c d least same fault_at;
+  reads = λ fault_at area c d same. reading_same area c d same fault_at;
 }

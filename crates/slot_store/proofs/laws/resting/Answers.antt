@@ -16,7 +16,7 @@ returns c = record {
   at_rest = λ store c rests. rests.1;
   record_of = rests_recovered;
   undamaged = rests_undamaged;
-  same_bytes = λ store other c d area marks contents size within rests rests'. record {
+  same_bytes = λ store other c d area marks contents size rests rests'. record {
     size = size;
     bytes = rest_bytes store.area (laid store.mark store.content) c d
         (entries_within store.area _ (laid_entries store.area store.mark store.content rests.0 rests.1.marked)) rests.1.laid_out

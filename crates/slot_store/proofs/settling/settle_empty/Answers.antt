@@ -31,7 +31,7 @@ returns-in-Err g c =
     let start = g.D.Disk.state c.args.disk.now in
     let a = g.D.Disk.state c.wipe_table.new.disk in
     record {
-      any_moment = like_shots pager.area start pager.lawful c.requires.ready.settled a c.wipe_table.ensures.shots.any_moment;
+      any_moment = like_shots pager.area start c.requires.ready.settled a c.wipe_table.ensures.shots.any_moment;
       done = tt;
       settled = tt;
       calls = failed_as itself itself _ _ _ _ refl c.in-Err.ensures.shots.calls;
@@ -79,14 +79,14 @@ returns g c =
     let b = g.D.Disk.state c.wipe_table-2.new.disk in
     let lawful = g.met.D.Disk.lawful c.wipe_table.new.disk in
     let settled = c.requires.ready.settled in
-    let first = like_shots pager.area start pager.lawful settled a c.wipe_table.ensures.shots.any_moment in
-    let next = like_shots pager.area a pager.lawful c.in-Ok.ensures.settled b c.wipe_table-2.ensures.shots.any_moment in
-    let span = both_moments pager.area start a b lawful (left_like pager.area start pager.lawful settled a first) first next in
+    let first = like_shots pager.area start settled a c.wipe_table.ensures.shots.any_moment in
+    let next = like_shots pager.area a c.in-Ok.ensures.settled b c.wipe_table-2.ensures.shots.any_moment in
+    let span = both_moments pager.area start a b lawful (left_like pager.area start settled a first) first next in
     record {
       any_moment = span;
       done = on_ok c.wipe_table-2.result
           (λ tidied. twice_rests pager c.requires.turn c.args.named.now (λ n. no_marks c.args.named.now pager.area.pages n c.requires.marks)
-          start a b lawful c.in-Ok.ensures.done tidied (left_like pager.area start pager.lawful settled b span))
+          start a b lawful c.in-Ok.ensures.done tidied (left_like pager.area start settled b span))
           c.wipe_table-2.ensures.done;
       settled = c.wipe_table-2.ensures.settled;
       calls = then_any _ start a b _ c.wipe_table-2.result first c.in-Ok.ensures.shots.calls c.wipe_table-2.ensures.shots.calls;

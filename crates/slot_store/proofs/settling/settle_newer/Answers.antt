@@ -50,7 +50,7 @@ returns g c =
     let marks = marks_of c.args.named.now _ c.args.pager.now.area.pages c.args.pager.now.kept.numbers.items c.requires.marks
     (subst (λ (ns : List ℕ). (n : ℕ) → get_or c.mark_pages.new.named n false ≡ (get_or c.args.named.now n false || is_among ns n))
     c.deref.ensures.value c.mark_pages.ensures.marks) in
-    let span = like_shots pager.area start pager.lawful settled now c.wipe_table.ensures.shots.any_moment in
+    let span = like_shots pager.area start settled now c.wipe_table.ensures.shots.any_moment in
     record {
       any_moment = span;
       done = on_ok c.wipe_table.result

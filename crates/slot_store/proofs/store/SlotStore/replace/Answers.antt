@@ -1,4 +1,4 @@
-use Rattle.std.proofs.Common.{◌≡◌, List, Ok, Err, Some, refl, sym, subst, ◌∙◌, ap}
+use Rattle.std.proofs.Common.{Ok, Err, Some, refl, sym, subst, ◌∙◌, ap}
 use Rattle.dr_disk.specs.Called.{Called}
 use Rattle.dr_disk.specs.Spans.{Span}
 use Rattle.dr_disk.specs.State.{Always}
