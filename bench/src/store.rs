@@ -21,7 +21,7 @@ const AREA: u64 = 393_216;
 
 const RECORD: usize = 185_726;
 
-const RECORD_PAGES: usize = 46;
+const RECORD_PAGES: u8 = 46;
 
 const STORE: &str = "bench-store";
 
@@ -64,12 +64,16 @@ fn replace<R: Clock + AllocGlobal + Files<File = File>>(
     times.add(rt, start)
 }
 
-/// Changes the first of these bytes, or the first of each page.
+/// Changes the first byte of each page, or that of the first page alone.
 fn change(text: &mut [u8], every_page: bool, byte: u8) {
-    text[0] = byte;
-    if every_page {
-        for page in text.chunks_mut(PAGE) {
-            page[0] = byte;
+    let pages = if every_page {
+        usize::from(RECORD_PAGES)
+    } else {
+        1
+    };
+    for page in text.chunks_mut(PAGE).take(pages) {
+        if let Some(first) = page.first_mut() {
+            *first = byte;
         }
     }
 }
@@ -90,15 +94,15 @@ fn time_store<R: Clock + AllocGlobal + Files<File = File>>(
 }
 
 /// Writes so many pages, from one on.
-fn write_pages(file: &File, first: u64, count: usize, page: &[u8]) -> io::Result<()> {
-    for at in 0..count as u64 {
-        file.write_all_at(page, PAGE as u64 * (first + at))?;
+fn write_pages(file: &File, first: u16, count: u8, page: &[u8]) -> io::Result<()> {
+    for at in 0..count {
+        file.write_all_at(page, PAGE as u64 * (u64::from(first) + u64::from(at)))?;
     }
     Ok(())
 }
 
 /// The writes and syncs with which a record is replaced of which so many pages change.
-fn replace_bare(file: &File, count: usize, page: &[u8], zeros: &[u8]) -> io::Result<()> {
+fn replace_bare(file: &File, count: u8, page: &[u8], zeros: &[u8]) -> io::Result<()> {
     write_pages(file, 2, count, page)?;
     file.write_all_at(&page[1..], 1)?;
     file.sync_data()?;
@@ -107,12 +111,12 @@ fn replace_bare(file: &File, count: usize, page: &[u8], zeros: &[u8]) -> io::Res
     file.write_all_at(&[0], PAGE as u64)?;
     file.sync_data()?;
     file.write_all_at(&zeros[1..], PAGE as u64 + 1)?;
-    write_pages(file, 2 + count as u64, count, zeros)?;
+    write_pages(file, 2 + u16::from(count), count, zeros)?;
     file.sync_data()
 }
 
 /// The median time of that on a new file, in nanoseconds.
-fn time_bare_on<R: Clock + AllocGlobal>(rt: &R, file: &File, count: usize) -> io::Result<u64> {
+fn time_bare_on<R: Clock + AllocGlobal>(rt: &R, file: &File, count: u8) -> io::Result<u64> {
     let page = vec![in rt.alloc(); 1; PAGE]?;
     let zeros = vec![in rt.alloc(); 0; PAGE]?;
     let mut times = Times::new(rt.alloc());
@@ -127,7 +131,7 @@ fn time_bare_on<R: Clock + AllocGlobal>(rt: &R, file: &File, count: usize) -> io
 /// The same in microseconds, on a file that is made for it and removed.
 pub fn time_bare<R: Clock + AllocGlobal + Files<File = File>>(
     rt: &R,
-    count: usize,
+    count: u8,
 ) -> io::Result<u64> {
     let file = OpenOptions::new()
         .read(true)

@@ -48,7 +48,7 @@ pub enum TakeRefusal {
 }
 
 /// Why nothing is dropped from a box.
-#[derive(Clone, Copy, Debug, PartialEq, Eq, Error)]
+#[derive(Clone, Copy, Debug, Error)]
 pub enum DropRefusal {
     /// A call on the disk failed before, of this kind: the client has to be opened again.
     #[error("the client is closed")]
@@ -62,7 +62,7 @@ pub enum DropRefusal {
 }
 
 /// Why no client is opened.
-#[derive(Clone, Copy, Debug, PartialEq, Eq, Error)]
+#[derive(Clone, Copy, Debug, Error)]
 pub enum OpenRefusal {
     /// There was no memory. No call on the disk was made.
     #[error("out of memory")]
@@ -80,7 +80,7 @@ pub enum OpenRefusal {
 }
 
 /// Why no client is begun.
-#[derive(Clone, Copy, Debug, PartialEq, Eq, Error)]
+#[derive(Clone, Copy, Debug, Error)]
 pub enum BeginRefusal {
     /// There was no memory. No call on the disk was made.
     #[error("out of memory")]

@@ -4,7 +4,7 @@ ghost use Rattle.std.specs.Prelude.{◌≡◌, ◌%◌, ◌↔◌, IsTrue};
 ghost use Rattle.dr_base.specs.Position.{is_own, side_of, peer_of};
 
 /// One of the two parties. First says its texts in odd epochs, Second in even ones.
-#[derive(Clone, Copy, Debug, PartialEq, Eq)]
+#[derive(Clone, Copy, PartialEq, Eq)]
 pub enum Side {
     First,
     Second,

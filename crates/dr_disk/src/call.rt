@@ -9,7 +9,7 @@ pub enum Call {
 }
 
 /// What a crash makes of the bytes that no good sync has reached.
-#[derive(Clone, Copy, Debug, PartialEq, Eq)]
+#[derive(Clone, Copy)]
 pub enum Mode {
     /// What the last good sync left.
     Old,

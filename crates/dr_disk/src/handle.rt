@@ -9,7 +9,7 @@ use std::rt::Files;
 use std::{fs, io};
 
 /// What a disk does where another program has the file open.
-#[derive(Clone, Copy, Debug, PartialEq, Eq)]
+#[derive(Clone, Copy)]
 pub enum Sharing {
     /// It waits until the other has ended.
     InTurn,

@@ -7,7 +7,7 @@ ghost use Rattle.dr_ports.specs.Calls.{Receives, Sends, Opens, Listens, Accepts,
 use dr_base::Failed;
 
 /// Which calls a port counts faults of.
-#[derive(Clone, Copy, Debug, PartialEq, Eq)]
+#[derive(Clone, Copy)]
 pub enum Part {
     /// Receiving and sending.
     Flow,

@@ -45,7 +45,7 @@ impl<K: Kem> Model for Party<K> {
 }
 
 /// Why a side couldn't begin.
-#[derive(Clone, Copy, Debug, PartialEq, Eq)]
+#[derive(Clone, Copy)]
 pub enum BeginError {
     /// There was no memory for the client or its disk.
     Memory,

@@ -28,7 +28,7 @@ use session_model::Answer;
 use std::alloc::{AllocError, Global};
 
 /// Why a script wasn't played to its end.
-#[derive(Clone, Copy, Debug, PartialEq, Eq)]
+#[derive(Clone, Copy)]
 pub enum PlayError {
     /// There was no memory for the two sides, and nothing was written; or none to open a side again after a stop, and the
     /// lines before were written.

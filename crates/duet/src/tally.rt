@@ -7,7 +7,7 @@ use dr_base::Side;
 use session_model::Answer;
 
 /// What one side did in a run, and how far it came.
-#[derive(Clone, Copy, Debug, PartialEq, Eq)]
+#[derive(Clone, Copy)]
 pub struct SideTally {
     /// How many texts it said.
     pub said: u32,
@@ -22,7 +22,7 @@ pub struct SideTally {
 }
 
 /// A run in numbers.
-#[derive(Clone, Copy, Debug, PartialEq, Eq)]
+#[derive(Clone, Copy)]
 pub struct Tally {
     /// The rounds of a script that was made from a number; 0 of one that was read.
     pub rounds: u32,

@@ -12,7 +12,7 @@ use relay_pipe::PeerKind;
 use session_model::Refusal;
 
 /// What the program ends with.
-#[derive(Clone, Copy, Debug, PartialEq, Eq)]
+#[derive(Clone, Copy)]
 pub struct Status {
     pub code: u8,
 }

@@ -48,7 +48,7 @@ pub trait Aead {
 }
 
 /// Encryption with ChaCha20, and then HMAC with SHA-256 over the ciphertext.
-#[derive(Clone, Copy, Debug)]
+#[derive(Clone, Copy)]
 pub struct EncryptThenMac;
 
 impl Aead for EncryptThenMac {

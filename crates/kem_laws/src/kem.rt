@@ -11,7 +11,7 @@ use std::alloc::{AllocError, Global};
 pub struct NoPair;
 
 /// No pair has a secret of these bytes.
-#[derive(Clone, Copy, Debug, PartialEq, Eq)]
+#[derive(Clone, Copy)]
 pub struct BadSecret {
     /// The place of the first byte that no secret has there.
     pub at: usize,

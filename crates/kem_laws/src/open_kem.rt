@@ -54,7 +54,7 @@ fn shared_key(public: &[u8], ciphertext: &[u8]) -> Key32
 }
 
 /// A stand-in for tests and scripts. Anyone can compute its shared keys: it keeps no secret.
-#[derive(Clone, Copy, Debug)]
+#[derive(Clone, Copy)]
 pub struct OpenKem;
 
 impl Kem for OpenKem {

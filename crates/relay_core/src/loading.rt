@@ -13,7 +13,7 @@ use grammar::Cursor;
 use relay_wire::Packet;
 
 /// What became of a record that was to be loaded.
-#[derive(Clone, Copy, Debug, PartialEq, Eq)]
+#[derive(Clone, Copy)]
 pub enum Loaded {
     /// The box is the record's now.
     Taken,

@@ -29,7 +29,7 @@ pub struct PeerFault {
 }
 
 /// Why no reply was read.
-#[derive(Clone, Copy, Debug, PartialEq, Eq, Error)]
+#[derive(Clone, Copy, Debug, Error)]
 pub enum AskFault {
     /// A call on the pipe failed.
     #[error("a call on the pipe failed")]

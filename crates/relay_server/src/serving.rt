@@ -4,13 +4,13 @@ use dr_disk::Call;
 use thiserror::Error;
 
 /// A connection ended, after this many frames were answered.
-#[derive(Clone, Copy, Debug, PartialEq, Eq)]
+#[derive(Clone, Copy)]
 pub struct Ended {
     pub answered: u32,
 }
 
 /// Why a connection broke off.
-#[derive(Clone, Copy, Debug, PartialEq, Eq, Error)]
+#[derive(Clone, Copy, Debug, Error)]
 pub enum ServeFault {
     /// Receiving failed.
     #[error("receiving failed")]

@@ -14,7 +14,7 @@ use std::alloc::Global;
 use std::marker::Model;
 
 /// A key encapsulation mechanism, as a script names it.
-#[derive(Clone, Copy, Debug, PartialEq, Eq)]
+#[derive(Clone, Copy)]
 pub enum KemName {
     /// `kem open`: the stand-in without secrecy.
     Open,
@@ -49,7 +49,7 @@ impl Model for Script {
 }
 
 /// Why a text is no script.
-#[derive(Clone, Copy, Debug, PartialEq, Eq)]
+#[derive(Clone, Copy)]
 pub enum ScriptError {
     /// There was no memory for the lines.
     Memory,

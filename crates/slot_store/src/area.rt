@@ -10,7 +10,7 @@ use std::marker::Model;
 /// So many pages of 4,096 bytes, one after the other from `start` on, of which the first two are the tables. A record has at
 /// most `most` pages: of these there is room for twice as many, and 2,045 are the limit. There are at most 65,536 pages, and
 /// they end before 2^64.
-#[derive(Clone, Copy, Debug, PartialEq, Eq)]
+#[derive(Clone, Copy)]
 pub struct Area {
     pub start: u64,
     pub pages: u32,

@@ -25,7 +25,7 @@ use dr_disk::{Call, Disk};
 use std::alloc::{AllocError, Global};
 
 /// What a store was opened with.
-#[derive(Clone, Copy, Debug, PartialEq, Eq)]
+#[derive(Clone, Copy)]
 pub enum Found {
     /// No record: all of the area is zeros.
     NoContent,

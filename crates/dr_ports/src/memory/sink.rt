@@ -68,7 +68,7 @@ impl Sink for MemorySink {
 }
 
 /// A sink that never fails and keeps nothing.
-#[derive(Clone, Copy, Debug, PartialEq, Eq)]
+#[derive(Clone, Copy)]
 pub struct NullSink;
 
 impl NullSink {
