@@ -1,5 +1,4 @@
 pub mod Elimination
 pub mod Inverses
 pub mod Pivots
-pub mod Sections
 pub mod Uniqueness

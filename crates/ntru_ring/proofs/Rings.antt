@@ -5,6 +5,8 @@ pub mod Kernels
 pub mod Moves
 pub mod Places
 pub mod Powers
+pub mod Shifted
 pub mod Products
+pub mod Residues
 pub mod Sums
 pub mod Unit

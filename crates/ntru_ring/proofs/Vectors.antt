@@ -9,3 +9,5 @@ pub mod VectorsQ
 pub mod Words
 pub mod WordsQ
 pub mod Mapped
+pub mod Halves
+pub mod Rounds

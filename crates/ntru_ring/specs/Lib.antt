@@ -7,4 +7,4 @@ pub mod Units
 pub mod Rows3
 pub mod Planes
 pub mod Elements
-pub mod Sections
+pub mod Powers

@@ -1,79 +1,93 @@
 //! A candidate for the inverse in R/3, by shift elimination on planes of bits.
 //!
-//! The rows are those of [`crate::candidate_q`]: row k is a multiple a = g * b, where b has degree k, and a is zero at the
-//! pivots of the rows before it. Coefficients are -1, 0 and 1 here, so a row is added or subtracted, and a word does so to
-//! 64 places at once. No clause says what the candidate is: whoever asks for it tries it by a product.
-ghost use Rattle.std.specs.Prelude.{◌<◌};
-ghost use Rattle.ntru_ring.specs.Reduction.{IsWithin};
+//! Row k is a multiple a = g * b, where b has degree k, and a is zero at the pivots of the rows
+//! before it. x times this row is the next one but for two things. The last coefficient comes round
+//! as a multiple of 1 + x: `aim`, a multiple less 1 + x that is zero at every pivot, clears it. And
+//! a pivot that no pivot stands before takes what the row has there: `kept`, which is 1 at this
+//! pivot and 0 at all others, clears that. At the end `aim` is zero everywhere. Since the rows
+//! begin with g * (1 + x) in place of g, its b is the inverse of g.
+//!
+//! Where there is no gap, a is zero before x^k, and b after it. So one array of bits holds both: b
+//! from its first bit on, and a 64 bits after it. x times a row moves both up by one bit.
+//! Coefficients are -1, 0 and 1, so a row is added or subtracted, and a word does so to 64 places
+//! at once.
+//!
+//! No clause says what the candidate is: whoever asks for it tries it by a product. It isn't the
+//! inverse where g has none, and might not be where two such pivots stand at a time.
+ghost use Rattle.std.specs.Prelude.{◌<◌, ◌≤◌, ◌≡◌, ℕ, true, false, slice_index_or};
 
-use crate::modulo_three::{R3, centred_three};
-use crate::planes_three::{Planes3, planes_of};
-use crate::rows_three::Pair3;
+use crate::bits_three::{Bits, Sign};
+use crate::modulo_three::R3;
+use crate::planes_three::Planes3;
 
-/// The pair with `by` times another added.
-fn plus(pair: &Pair3, by: i16, o: &Pair3) -> Pair3
-    requires { IsWithin 1 by }
+/// The coefficient 1.
+const ONE: Sign = Sign {
+    nonzero: u64::MAX,
+    negative: 0,
+};
+
+/// The first place from `from` on that no pivot has, or 761.
+fn first_free(taken: &[bool; 761], from: usize) -> usize
+    requires { from ≤ 761 }
+    ensures behind { from ≤ result }
+    ensures within { result ≤ 761 }
+    ensures before { (k : ℕ) → from ≤ k → k < result
+        → slice_index_or taken.now k false ≡ true }
+    ensures free { result < 761 → slice_index_or taken.now result true ≡ false }
 {
-    Pair3 {
-        a: pair.a.add_multiple(by, &o.a),
-        b: pair.b.add_multiple(by, &o.b),
+    for place in from..761 {
+        if !taken[place] {
+            return place;
+        }
     }
+    761
 }
 
-/// The pair with a multiple of `row` added, so that `pair.a` has the coefficient `wanted` at `place`, where the row has
-/// `unit`, 1 or -1.
-fn settled(pair: &Pair3, row: &Pair3, place: usize, unit: i16, wanted: i16) -> Pair3
-    requires place { place < 761 }
-    requires wanted { IsWithin 1 wanted }
-{
-    let missing = centred_three(wanted - pair.a.at(place));
-    plus(pair, if unit == 1 { missing } else { -missing }, row)
-}
-
-/// x times `row`, cleared by `aim` at the pivots.
-fn moved(row: &Pair3, aim: &Pair3) -> Pair3 {
-    let next = Pair3 {
-        a: row.a.shift(),
-        b: row.b.shift(),
-    };
-    plus(&next, -row.a.at(760), aim)
+/// `aim` before the first step: -1 - x, with the b zero.
+fn first_aim() -> Bits {
+    let mut aim = Bits::of(&Planes3::zero(), 0);
+    aim.nonzero[1] = 3;
+    aim.negative[1] = 3;
+    aim
 }
 
 /// What is the inverse of `g`, unless the caller's trial shows that it isn't.
-pub fn candidate_three(g: &Planes3) -> Planes3 {
-    let none = Pair3 {
-        a: Planes3::zero(),
-        b: Planes3::zero(),
-    };
-    let mut row = Pair3 {
-        a: g.add(&g.shift()),
-        b: planes_of(&R3::monomial(0, 1)),
-    };
-    let mut aim = none;
-    let mut kept = none;
+pub fn candidate_three(g: &Planes3) -> R3 {
+    let mut row = Bits::of(&g.add(&g.shift()), 1);
+    let mut aim = first_aim();
+    let mut kept = aim;
     let mut gap: usize = 0;
     let mut taken = [false; 761];
+    let mut low: usize = 0;
     for _ in 0..761 {
-        let pivot = row.a.lead();
+        let pivot = row.lead(low);
         if pivot == 761 {
-            return row.b;
+            return aim.b();
         }
-        let unit = row.a.at(pivot);
-        aim = settled(&aim, &row, pivot, unit, if pivot < 2 { 1 } else { 0 });
-        let mut next = moved(&row, &aim);
+        let unit = row.at(pivot);
+        let there = aim.at(pivot);
+        aim.clear(there, &row, unit);
         if gap > 0 {
-            kept = settled(&kept, &row, pivot, unit, 0);
-            next = settled(&next, &kept, gap, 1, 0);
+            let there = kept.at(pivot);
+            kept.clear(there, &row, unit);
+        }
+        let before = row;
+        let last = row.at(760);
+        row.rise();
+        row.clear(last, &aim, ONE);
+        if gap > 0 {
+            let there = row.at(gap);
+            row.clear(there, &kept, ONE);
         }
         taken[pivot] = true;
         if gap > 0 && taken[gap - 1] {
             gap = 0;
         }
         if pivot > 0 && !taken[pivot - 1] {
-            kept = settled(&none, &row, pivot, unit, 1);
+            kept = before.scaled(unit);
             gap = pivot;
         }
-        row = next;
+        low = first_free(&taken, low);
     }
-    aim.b
+    aim.b()
 }

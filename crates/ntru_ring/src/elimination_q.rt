@@ -1,9 +1,10 @@
 //! Inverses in R/q by linear elimination.
 //!
-//! Row k is a multiple a = f * b, where b begins as x^k. It is cleared at the pivots of the rows before it, in order.
-//! Where a is zero then, b shows that f has no inverse. Else a's first coefficient is the row's pivot, and the row is
-//! scaled so that it is 1 there. The 761 pivots differ, so they are all the places, and the rows clear -1 too: what was
-//! added up on the way is the inverse.
+//! Row k is a multiple a = f * b, where b begins as x^k. It is cleared at the pivots of the rows
+//! before it, in order. Where a is zero then, b shows that f has no inverse. Else a's first
+//! coefficient is the row's pivot, and the row is scaled so that it is 1 there. The 761 pivots
+//! differ, so they are all the places, and the rows clear -1 too: what was added up on the way is
+//! the inverse.
 ghost use Rattle.std.specs.Prelude.{◌≡◌, ◌≢◌, ◌≤◌, ◌<◌, ℕ, ℤ, List, length, pos, slice_index_or, IfSome, MatchResult};
 ghost use Rattle.ntru_ring.specs.Ring.{coefficient, times};
 ghost use Rattle.ntru_ring.specs.Reduction.{reduced, IsInverse, Annihilates};
@@ -11,7 +12,7 @@ ghost use Rattle.ntru_ring.specs.Elimination.{IsMultiple, IsCombined};
 ghost use Rattle.ntru_ring.specs.RowsQ.{IsEchelonQ, AreMultiplesQ};
 ghost use Rattle.ntru_ring.specs.declared.rows_q.RowQ.{RowQ};
 
-use crate::candidate_q::candidate_q;
+use crate::blocks_q::candidate::{candidate_by_blocks, element_without_pattern};
 use crate::groups::{group_end, group_start};
 use crate::modulo_q::Rq;
 use crate::modulo_three::R3;
@@ -20,6 +21,9 @@ use crate::rows_q::{PairQ, RowQ};
 use crate::sums_q::SumsQ;
 use crate::units_q::inverse_of;
 use crate::working::Workspace;
+
+/// How many trials a candidate has: of each six one meets a gap.
+const TRIALS: u32 = 8;
 
 /// An element without an inverse: its product with `z`, which isn't zero, is zero.
 #[derive(Clone, Copy, PartialEq, Eq)]
@@ -115,16 +119,43 @@ fn trial(f: &Rq, candidate: &Rq) -> Rq
     }
 }
 
-/// The inverse of `f` in R/q by its candidate, where the trial shows that it is one. Where `f` has an inverse, it was found
-/// whenever it was tried; the clause promises nothing of that.
+/// A candidate, where the trial shows that it is the inverse of `f`.
+fn certified(f: &Rq, candidate: &Rq) -> Option<Rq>
+    ensures { IfSome result (λ v. IsInverse 2295 f.now.coefficients v.coefficients) }
+{
+    if trial(f, candidate) == Rq::monomial(0, 1) {
+        return Some(*candidate);
+    }
+    None
+}
+
+/// A candidate for the inverse of `f` by blocks of steps, of the first trial that meets no gap.
+fn candidate_q(f: &Rq) -> Option<Rq> {
+    for trial in 0..TRIALS {
+        if let Some(candidate) = candidate_by_blocks(f, trial) {
+            return Some(candidate);
+        }
+    }
+    None
+}
+
+/// A candidate for the inverse of a sparse `f`, whose rows meet gaps: that of its product with an
+/// element without a pattern.
+fn candidate_of_sparse(f: &Rq) -> Option<Rq> {
+    let factor = element_without_pattern();
+    let candidate = candidate_q(&f.mul(&factor))?;
+    Some(candidate.mul(&factor))
+}
+
+/// The inverse of `f` in R/q by a candidate, where the trial shows that it is one. Where `f` has an
+/// inverse, it was found whenever it was tried; the clause promises nothing of that.
 pub fn quick_inverse_q(f: &Rq) -> Option<Rq>
     ensures { IfSome result (λ v. IsInverse 2295 f.now.coefficients v.coefficients) }
 {
-    let candidate = candidate_q(f);
-    if trial(f, &candidate) == Rq::monomial(0, 1) {
-        return Some(candidate);
+    match candidate_q(f) {
+        Some(candidate) => certified(f, &candidate),
+        None => certified(f, &candidate_of_sparse(f)?),
     }
-    None
 }
 
 /// The inverse of `f` in R/q, or an element that shows that there is none.

@@ -95,8 +95,9 @@ pub fn quick_inverse3(g: &R3) -> Option<R3>
 {
     let small = planes_of(g);
     let candidate = candidate_three(&small);
-    if small.mul(&candidate) == planes_of(&R3::monomial(0, 1)) {
-        return Some(r3_of(&candidate));
+    let planes = planes_of(&candidate);
+    if small.mul(&planes) == planes_of(&R3::monomial(0, 1)) {
+        return Some(candidate);
     }
     None
 }

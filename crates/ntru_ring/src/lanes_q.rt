@@ -2,7 +2,6 @@
 ghost use Rattle.std.specs.Prelude.{◌≡◌, ◌+ℤ◌, ◌-ℤ◌, ◌*ℤ◌, ◌≤ℤ◌, ◌+◌, ◌≤◌, neg_ℤ, pos, length, All};
 ghost use Rattle.ntru_ring.specs.Reduction.{centred, reduced, IsWithin, IsNear};
 ghost use Rattle.ntru_ring.specs.Ring.{plus, scale};
-ghost use Rattle.ntru_ring.specs.Sections.{IsAddedInSection};
 ghost use lib.Lanes.{chunk, put_chunk};
 
 use crate::sums_q::centred_q;
@@ -20,7 +19,7 @@ fn difference(x: i16, factor: i16, y: i16) -> i16
 }
 
 /// 65536 * factor / 4591, to the nearest number.
-fn quotient_of(factor: i16) -> i16
+pub fn quotient_of(factor: i16) -> i16
     requires { IsWithin 2295 factor }
     ensures { IsWithin 2295 (pos 4591 *ℤ result -ℤ pos 65536 *ℤ factor) }
 {
@@ -76,56 +75,31 @@ fn store(row: &mut [i16], at: usize, lanes: i16x8)
     lanes.copy_to_slice(&mut row[at..]);
 }
 
-/// Subtracts `factor` times the eight places of `b` from `from` on from those of `a` from `at` on.
-fn subtract_block(a: &mut [i16], at: usize, b: &[i16], from: usize, factor: i16, quotient: i16)
+/// Subtracts `factor` times the eight places of `b` from `at` on from those of `a`.
+fn subtract_block(a: &mut [i16], b: &[i16], at: usize, factor: i16, quotient: i16)
     requires a_place { at + 8 ≤ length a.old }
-    requires b_place { from + 8 ≤ length b.now }
+    requires b_place { at + 8 ≤ length b.now }
     requires a_within { All (IsWithin 2295) a.old }
     requires b_within { All (IsWithin 2295) b.now }
     requires factor_within { IsWithin 2295 factor }
     requires quotient { IsWithin 2295 (pos 4591 *ℤ quotient -ℤ pos 65536 *ℤ factor) }
-    ensures { a.new ≡ put_chunk at a.old (reduced 2295 (plus (chunk at 8 a.old) (scale (neg_ℤ factor) (chunk from 8 b.now)))) }
+    ensures { a.new ≡ put_chunk at a.old
+        (reduced 2295 (plus (chunk at 8 a.old) (scale (neg_ℤ factor) (chunk at 8 b.now)))) }
 {
-    let lanes = estimated(load(a, at), load(b, from), factor, quotient);
+    let lanes = estimated(load(a, at), load(b, at), factor, quotient);
     store(a, at, centred_lanes(lanes));
 }
 
-/// Subtracts `factor` times 761 places of `b` from `from` on from those of `a` from `at` on, in a section: the blocks of
-/// eight places from `first` on and before `last`, and the last place.
-pub fn subtract_section(
-    a: &mut [i16],
-    at: usize,
-    b: &[i16],
-    from: usize,
-    factor: i16,
-    first: usize,
-    last: usize,
-)
-    requires a_place { at + 761 ≤ length a.old }
-    requires b_place { from + 761 ≤ length b.now }
-    requires order { first ≤ last }
-    requires end { last ≤ 95 }
-    requires factor_within { IsWithin 2295 factor }
-    requires a_within { All (IsWithin 2295) a.old }
-    requires b_within { All (IsWithin 2295) b.now }
-    ensures within { All (IsWithin 2295) a.new }
-    ensures section { IsAddedInSection (neg_ℤ factor) a.old at b.now from first last a.new }
-{
-    let quotient = quotient_of(factor);
-    for block in first..last {
-        subtract_block(a, at + 8 * block, b, from + 8 * block, factor, quotient);
-    }
-    for k in 760..761 {
-        a[at + k] = difference(a[at + k], factor, b[from + k]);
-    }
-}
-
-/// Subtracts `factor` times `b` from `a`.
+/// Subtracts `factor` times `b` from `a`: in blocks of eight places, and the last place.
 pub fn subtract_multiple(a: &mut [i16; 761], b: &[i16; 761], factor: i16)
     requires factor_within { IsWithin 2295 factor }
     requires a_within { All (IsWithin 2295) a.old }
     requires b_within { All (IsWithin 2295) b.now }
     ensures { a.new ≡ reduced 2295 (plus a.old (scale (neg_ℤ factor) b.now)) }
 {
-    subtract_section(a, 0, b, 0, factor, 0, 95);
+    let quotient = quotient_of(factor);
+    for block in 0..95 {
+        subtract_block(a, b, 8 * block, factor, quotient);
+    }
+    a[760] = difference(a[760], factor, b[760]);
 }

@@ -1,15 +1,17 @@
-//! Arithmetic of NTRU Prime (round 3 specification, sntrup761): the rings R/3 and R/q, which are Z[x]/(x^761 - x - 1)
-//! modulo 3 and modulo 4591.
+//! Arithmetic of NTRU Prime (round 3 specification, sntrup761): the rings R/3 and R/q, which are
+//! Z[x]/(x^761 - x - 1) modulo 3 and modulo 4591.
 //!
-//! An element is its 761 coefficients, that of x^0 first, each by its representative next to zero. [`R3`] and [`Rq`] keep
-//! the range in their types, so sums, products and inverses ask for nothing more. [`inverse3`] and [`inverse_q`] work in a
-//! [`Workspace`] that is taken once: they answer with the inverse, or with an element that shows that there is none.
-//! [`quick_inverse3`] and [`quick_inverse_q`] are the short way to it, which they take first.
-//! [`Planes3`] holds an element of R/3 as two bits for each coefficient, for sums of 64 coefficients at a time. [`laws`]
-//! states the algebra that a caller's proofs stand on.
+//! An element is its 761 coefficients, that of x^0 first, each by its representative next to zero.
+//! [`R3`] and [`Rq`] keep the range in their types, so sums, products and inverses ask for nothing
+//! more. [`inverse3`] and [`inverse_q`] work in a [`Workspace`] that is taken once: they answer
+//! with the inverse, or with an element that shows that there is none. [`quick_inverse3`] and
+//! [`quick_inverse_q`] are the short way to it, which they take first. [`Planes3`] holds an element
+//! of R/3 as two bits for each coefficient, for sums of 64 coefficients at a time. [`laws`] states
+//! the algebra that a caller's proofs stand on.
 #![tactic(auto)]
 
-mod candidate_q;
+mod bits_three;
+mod blocks_q;
 mod candidate_three;
 mod elimination_q;
 mod elimination_three;
@@ -19,8 +21,10 @@ mod modulo_q;
 mod modulo_three;
 mod planes_three;
 mod powers_q;
+mod products_three;
 mod rows_q;
 mod rows_three;
+mod starts;
 mod sums_q;
 mod sums_small;
 mod theory;

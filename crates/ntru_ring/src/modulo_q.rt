@@ -8,9 +8,9 @@ ghost use Rattle.ntru_ring.specs.Elements.{element};
 use crate::lanes_q::subtract_multiple;
 use crate::modulo_three::{R3, centred_three};
 use crate::planes_three::Planes3;
-use crate::powers_q::Powers;
+use crate::powers_q::{Powers, turned_back};
+use crate::starts::{Signs, Starts};
 use crate::sums_q::{SumsQ, centred_q};
-use crate::sums_small::SumsSmall;
 
 /// An element of R/q, q = 4591: the coefficients of x^0 to x^760, each in -2295..2295.
 #[derive(Clone, Copy, PartialEq, Eq)]
@@ -136,13 +136,17 @@ impl Rq {
     pub fn mul_small(&self, small: &Planes3) -> Rq
         ensures { result.coefficients ≡ reduced 2295 (times self.now.coefficients (element small.now)) }
     {
-        let mut powers = Powers::of(self);
-        let mut sums = SumsSmall::of(&Rq::zero());
+        let powers = Powers::of(self);
+        let mut added = Starts::new();
+        let mut subtracted = Starts::new();
         for k in 0..761 {
-            sums.add(small.at(k), powers.row());
-            powers.shift();
+            let signs = Signs::of(small.at(k));
+            added.push(760 - k, signs.plus);
+            subtracted.push(760 - k, signs.minus);
         }
-        sums.settled()
+        let mut sum = powers.sum_of(&added);
+        sum.subtract_row(&powers.sum_of(&subtracted), 1);
+        turned_back(&sum)
     }
 
     /// Subtracts `factor` times `other`, in R/q.

@@ -2,7 +2,7 @@
 ghost use Rattle.std.specs.Prelude.{◌≡◌, ◌≢◌, ◌≤◌, ◌<◌, ◌+◌, ◌*◌, ℕ, pos, slice_index_or, negsuc, ◌/◌, ◌%◌};
 ghost use Rattle.std.specs.Int.{bit_at};
 ghost use Rattle.ntru_ring.specs.Reduction.{reduced, IsWithin};
-ghost use Rattle.ntru_ring.specs.Ring.{plus, scale, shift, times, zero_of, coefficient};
+ghost use Rattle.ntru_ring.specs.Ring.{plus, scale, shift, zero_of, coefficient};
 ghost use Rattle.ntru_ring.specs.Planes.{bit_of, element_of, IsMoved};
 
 use crate::modulo_three::R3;
@@ -20,7 +20,7 @@ pub struct Planes3 {
 }
 
 /// The last word's places below 761.
-const LAST_WORD: u64 = 0x01ff_ffff_ffff_ffff;
+pub const LAST_WORD: u64 = 0x01ff_ffff_ffff_ffff;
 
 /// Each bit moved up by one place, without the last one.
 fn moved(words: &[u64; 12]) -> [u64; 12]
@@ -140,18 +140,6 @@ impl Planes3 {
         } else {
             self.sub(o)
         }
-    }
-
-    /// The product in R/3.
-    pub(crate) fn mul(&self, o: &Planes3) -> Planes3
-        ensures { element_of result.nonzero result.negative
-            ≡ reduced 1 (times (element_of self.now.nonzero self.now.negative) (element_of o.now.nonzero o.now.negative)) }
-    {
-        let mut product = Planes3::zero();
-        for k in 0..761 {
-            product = product.shift().add_multiple(self.at(760 - k), o);
-        }
-        product
     }
 
     /// The place of the first coefficient that isn't zero, or 761.

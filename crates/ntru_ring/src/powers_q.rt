@@ -1,141 +1,91 @@
-//! An element of R/q times x, x^2 and so on, in place.
-ghost use Rattle.std.specs.Prelude.{◌≡◌, ◌≢◌, ◌≤◌, ◌<◌, ◌+◌, ℕ, length, All, pos, neg_ℤ};
+//! An element of R/q times the powers of x.
+ghost use Rattle.std.specs.Prelude.{◌≡◌, ◌≤◌, ◌<◌, ◌-◌, ℕ, length, All};
 ghost use Rattle.ntru_ring.specs.Reduction.{reduced, IsWithin};
-ghost use Rattle.ntru_ring.specs.Ring.{coefficient, shift};
-ghost use Rattle.ntru_ring.specs.Sections.{IsAddedInSection};
+ghost use Rattle.ntru_ring.specs.Powers.{rotated, power, total};
 ghost use lib.Lanes.{chunk};
 
-use crate::lanes_q::subtract_section;
 use crate::modulo_q::Rq;
+use crate::starts::Starts;
 use crate::sums_q::centred_q;
+use crate::sums_small::SumsSmall;
 
-/// A power of x times an element: its coefficients stand at the 761 places from `start` on. The next power starts one
-/// place before, and differs in its first two coefficients alone.
+/// An element times x^0 to x^760: the row of x^k is the 761 places from 760 - k on, the coefficient
+/// of x^0 after the others. So it goes on as the row before it begins, and begins with the sum of
+/// that row's last two places.
 #[derive(Drop)]
 pub struct Powers {
-    pub places: [i16; 1522],
-    pub start: usize,
-    ghost length: { length places ≡ 1522 },
-    ghost start_in: { start ≤ 761 },
+    pub places: [i16; 1521],
+    ghost length: { length places ≡ 1521 },
     ghost within: { All (IsWithin 2295) places },
 }
 
+/// Room for the rows, with the first of them.
+fn first_power(element: &Rq) -> [i16; 1521]
+    ensures length { length result ≡ 1521 }
+    ensures within { All (IsWithin 2295) result }
+    ensures row { chunk 760 761 result ≡ rotated element.now.coefficients }
+{
+    let mut places = [0; 1521];
+    for k in 0..760 {
+        places[760 + k] = element.coefficients[k + 1];
+    }
+    places[1520] = element.coefficients[0];
+    places
+}
+
+/// The element whose coefficient of x^0 stands after the others.
+pub fn turned_back(row: &Rq) -> Rq
+    ensures { rotated result.coefficients ≡ row.now.coefficients }
+{
+    let mut coefficients = [0; 761];
+    for k in 0..760 {
+        coefficients[k + 1] = row.coefficients[k];
+    }
+    coefficients[0] = row.coefficients[760];
+    Rq::new(&coefficients)
+}
+
 impl Powers {
-    /// The element, with room for 761 powers.
+    /// The powers of x times `element`.
     pub fn of(element: &Rq) -> Powers
-        ensures start { result.start ≡ 761 }
-        ensures row { chunk 761 761 result.places ≡ element.now.coefficients }
+        ensures { (k : ℕ) → k < 761
+            → chunk (760 - k) 761 result.places ≡ rotated (power k element.now.coefficients) }
     {
-        let mut places = [0; 1522];
-        for k in 0..761 {
-            places[761 + k] = element.coefficients[k];
+        let mut places = first_power(element);
+        for k in 0..760 {
+            let at = 759 - k;
+            places[at] = centred_q(i32::from(places[at + 760]) + i32::from(places[at + 761]));
         }
-        Powers { places, start: 761 }
+        Powers { places }
     }
 
-    /// The coefficients of the power.
-    pub fn row(&self) -> &[i16]
-        ensures { result.now ≡ chunk self.now.start 761 self.now.places }
+    /// The row that begins at a place.
+    fn row(&self, start: usize) -> &[i16]
+        requires { start ≤ 760 }
+        ensures { result.now ≡ chunk start 761 self.now.places }
     {
-        &self.places[self.start..self.start + 761]
+        &self.places[start..start + 761]
     }
 
-    /// Goes on to the next power.
-    pub fn shift(&mut self)
-        requires { 1 ≤ self.old.start }
-        ensures start { self.new.start + 1 ≡ self.old.start }
-        ensures row { chunk self.new.start 761 self.new.places ≡ reduced 2295 (shift (chunk self.old.start 761 self.old.places)) }
+    /// The sum of the rows that begin at these places, four at a time.
+    pub fn sum_of(&self, starts: &Starts) -> Rq
+        ensures { result.coefficients
+            ≡ reduced 2295 (total self.now.places starts.now.places starts.now.count) }
     {
-        let at = self.start - 1;
-        let last = self.places[at + 761];
-        self.places[at + 1] = centred_q(i32::from(self.places[at + 1]) + i32::from(last));
-        self.places[at] = last;
-        self.start = at;
-    }
-
-    /// The coefficient of x^place.
-    pub fn at(&self, place: usize) -> i16
-        requires { place < 761 }
-        ensures value { result ≡ coefficient self.now.places (self.now.start + place) }
-        ensures within { IsWithin 2295 result }
-    {
-        self.places[self.start + place]
-    }
-
-    /// The place of the first coefficient from `from` on that isn't zero, or 761.
-    pub fn lead(&self, from: usize) -> usize
-        requires { from ≤ 761 }
-        ensures behind { from ≤ result }
-        ensures within { result ≤ 761 }
-        ensures before { (k : ℕ) → from ≤ k → k < result → coefficient self.now.places (self.now.start + k) ≡ pos 0 }
-        ensures there { result < 761 → coefficient self.now.places (self.now.start + result) ≢ pos 0 }
-    {
-        for k in from..761 {
-            if self.places[self.start + k] != 0 {
-                return k;
-            }
+        let mut sums = SumsSmall::of(&Rq::zero());
+        let groups = starts.count / 4;
+        for group in 0..groups {
+            let k = 4 * group;
+            sums.add_four(
+                self.row(starts.at(k)),
+                self.row(starts.at(k + 1)),
+                self.row(starts.at(k + 2)),
+                self.row(starts.at(k + 3)),
+            );
         }
-        761
-    }
-
-    /// Goes on to x times the element without its last coefficient.
-    pub fn rise(&mut self)
-        requires { 1 ≤ self.old.start }
-        ensures start { self.new.start + 1 ≡ self.old.start }
-        ensures first { coefficient self.new.places self.new.start ≡ pos 0 }
-        ensures rest { (k : ℕ) → self.old.start ≤ k → coefficient self.new.places k ≡ coefficient self.old.places k }
-    {
-        self.start = self.start - 1;
-        self.places[self.start] = 0;
-    }
-
-    /// Subtracts `factor` times `other` in a section: the blocks of eight places from `first` on and before `last`, and the
-    /// last place.
-    pub fn subtract(&mut self, other: &Rq, factor: i16, first: usize, last: usize)
-        requires order { first ≤ last }
-        requires end { last ≤ 95 }
-        requires factor { IsWithin 2295 factor }
-        ensures start { self.new.start ≡ self.old.start }
-        ensures section { IsAddedInSection (neg_ℤ factor) self.old.places self.old.start other.now.coefficients 0 first last self.new.places }
-    {
-        let start = self.start;
-        subtract_section(
-            &mut self.places,
-            start,
-            &other.coefficients,
-            0,
-            factor,
-            first,
-            last,
-        );
-    }
-
-    /// Subtracts `factor` times the power from `other` in a section.
-    pub fn subtract_from(&self, other: &mut Rq, factor: i16, first: usize, last: usize)
-        requires order { first ≤ last }
-        requires end { last ≤ 95 }
-        requires factor { IsWithin 2295 factor }
-        ensures { IsAddedInSection (neg_ℤ factor) other.old.coefficients 0 self.now.places self.now.start first last other.new.coefficients }
-    {
-        subtract_section(
-            &mut other.coefficients,
-            0,
-            &self.places,
-            self.start,
-            factor,
-            first,
-            last,
-        );
-    }
-
-    /// The power as an element.
-    pub fn element(&self) -> Rq
-        ensures { result.coefficients ≡ chunk self.now.start 761 self.now.places }
-    {
-        let mut coefficients = [0; 761];
-        for k in 0..761 {
-            coefficients[k] = self.places[self.start + k];
+        for k in 4 * groups..starts.count {
+            sums.add(self.row(starts.at(k)));
         }
-        Rq { coefficients }
+        sums.settled()
     }
 }

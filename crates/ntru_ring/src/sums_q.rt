@@ -17,6 +17,15 @@ pub fn centred_q(z: i32) -> i16
     (((i64::from(z) + RAISE) as u32 % 4591) as i32 - 2295) as i16
 }
 
+/// The product modulo 4591.
+pub fn product(x: i16, y: i16) -> i16
+    requires x_within { IsWithin 2295 x }
+    requires y_within { IsWithin 2295 y }
+    ensures { IsWithin 2295 result }
+{
+    centred_q(i32::from(x) * i32::from(y))
+}
+
 /// Adds `by` times `row` where the place is in `from..to`; the rest of `row` is zero.
 fn add_multiple(sums: &mut [i32; 761], by: i32, row: &[i16; 761], from: usize, to: usize)
     requires by_within { IsWithin 2295 by }

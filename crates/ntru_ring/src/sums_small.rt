@@ -1,12 +1,13 @@
-//! Sums of rows over R/q with factors -1, 0 and 1, reduced late: coefficients as `i16`.
-ghost use Rattle.std.specs.Prelude.{◌≡◌, ◌≢◌, ◌≤◌, ◌*◌, length, All, pos, negsuc};
+//! Sums of rows over R/q, reduced late: places as `i16`.
+ghost use Rattle.std.specs.Prelude.{◌≡◌, ◌≤◌, ◌+◌, ◌*◌, length, All};
 ghost use Rattle.ntru_ring.specs.Reduction.{centred, reduced, IsWithin};
-ghost use Rattle.ntru_ring.specs.Ring.{plus, scale};
+ghost use Rattle.ntru_ring.specs.Ring.{plus};
+ghost use Rattle.ntru_ring.specs.Powers.{IsRow};
 
 use crate::modulo_q::Rq;
 
 /// The representative of `z` modulo 4591.
-fn centred_word(z: i16) -> i16
+pub fn centred_word(z: i16) -> i16
     ensures value { result ≡ centred 2295 z }
     ensures within { IsWithin 2295 result }
 {
@@ -30,41 +31,26 @@ fn settle(sums: &mut [i16; 761])
 
 /// Adds `row`.
 fn add_row(sums: &mut [i16; 761], row: &[i16])
-    requires row_length { length row.now ≡ 761 }
-    requires row_within { All (IsWithin 2295) row.now }
+    requires row { IsRow row.now }
     requires room { All (IsWithin 29835) sums.old }
-    ensures { sums.new ≡ plus sums.old (scale (pos 1) row.now) }
+    ensures { sums.new ≡ plus sums.old row.now }
 {
     for k in 0..761 {
         sums[k] = sums[k] + row[k];
     }
 }
 
-/// Subtracts `row`.
-fn subtract_row(sums: &mut [i16; 761], row: &[i16])
-    requires row_length { length row.now ≡ 761 }
-    requires row_within { All (IsWithin 2295) row.now }
-    requires room { All (IsWithin 29835) sums.old }
-    ensures { sums.new ≡ plus sums.old (scale (negsuc 0) row.now) }
+/// Adds four rows, and writes each sum once.
+fn add_rows(sums: &mut [i16; 761], one: &[i16], two: &[i16], three: &[i16], four: &[i16])
+    requires one { IsRow one.now }
+    requires two { IsRow two.now }
+    requires three { IsRow three.now }
+    requires four { IsRow four.now }
+    requires room { All (IsWithin 22950) sums.old }
+    ensures { sums.new ≡ plus sums.old (plus (plus one.now two.now) (plus three.now four.now)) }
 {
     for k in 0..761 {
-        sums[k] = sums[k] - row[k];
-    }
-}
-
-/// Adds `by` times `row`, where `by` is 1 or -1.
-fn add_multiple(sums: &mut [i16; 761], by: i16, row: &[i16])
-    requires by_within { IsWithin 1 by }
-    requires nonzero { by ≢ pos 0 }
-    requires row_length { length row.now ≡ 761 }
-    requires row_within { All (IsWithin 2295) row.now }
-    requires room { All (IsWithin 29835) sums.old }
-    ensures { sums.new ≡ plus sums.old (scale by row.now) }
-{
-    if by == 1 {
-        add_row(sums, row);
-    } else {
-        subtract_row(sums, row);
+        sums[k] = sums[k] + ((one[k] + two[k]) + (three[k] + four[k]));
     }
 }
 
@@ -99,29 +85,40 @@ impl SumsSmall {
         Rq::new(&terms)
     }
 
-    /// Makes room for one more row.
-    fn make_room(&mut self)
+    /// Makes room for some more rows.
+    fn make_room(&mut self, rows: u16)
+        requires { rows ≤ 13 }
         ensures same { reduced 2295 self.new.terms ≡ reduced 2295 self.old.terms }
-        ensures room { self.new.count ≤ 13 }
+        ensures room { self.new.count + rows ≤ 14 }
     {
-        if self.count > 13 {
+        if self.count + rows > 14 {
             settle(&mut self.terms);
             self.count = 1;
         }
     }
 
-    /// Adds `by` times `row`.
-    pub fn add(&mut self, by: i16, row: &[i16])
-        requires by_within { IsWithin 1 by }
-        requires row_length { length row.now ≡ 761 }
-        requires row_within { All (IsWithin 2295) row.now }
-        ensures { reduced 2295 self.new.terms ≡ reduced 2295 (plus self.old.terms (scale by row.now)) }
+    /// Adds `row`.
+    pub fn add(&mut self, row: &[i16])
+        requires { IsRow row.now }
+        ensures { reduced 2295 self.new.terms ≡ reduced 2295 (plus self.old.terms row.now) }
     {
-        if by == 0 {
-            return;
-        }
-        self.make_room();
-        add_multiple(&mut self.terms, by, row);
+        self.make_room(1);
+        add_row(&mut self.terms, row);
         self.count += 1;
+    }
+
+    /// Adds four rows.
+    pub fn add_four(&mut self, one: &[i16], two: &[i16], three: &[i16], four: &[i16])
+        requires one { IsRow one.now }
+        requires two { IsRow two.now }
+        requires three { IsRow three.now }
+        requires four { IsRow four.now }
+        ensures { reduced 2295 self.new.terms
+            ≡ reduced 2295 (plus self.old.terms
+            (plus (plus one.now two.now) (plus three.now four.now))) }
+    {
+        self.make_room(4);
+        add_rows(&mut self.terms, one, two, three, four);
+        self.count += 4;
     }
 }

@@ -4,6 +4,7 @@ ghost use Rattle.ntru_ring.specs.Reduction.{IsWithin};
 use ntru_ring::{
     R3, Rq, Workspace, inverse_q, inverse3, planes_of, quick_inverse_q, quick_inverse3, r3_of,
 };
+use sntrup_core::short_of;
 use std::process::Abort;
 use std::test::Fail;
 
@@ -93,4 +94,55 @@ fn finds_inverses_the_short_way(rt: HostRuntime) {
         assert!(rt; quick_inverse3(&g).is_some());
         assert!(rt; quick_inverse_q(&g.lift()).is_some());
     }
+}
+
+// 761 words without a pattern.
+fn words_of(seed: u32) -> [u32; 761] {
+    let mut words = [0; 761];
+    let mut state = seed.wrapping_mul(2654435761);
+    for k in 0..761 {
+        state = state.wrapping_mul(1664525).wrapping_add(1013904223);
+        let high = state >> 16;
+        state = state.wrapping_mul(1664525).wrapping_add(1013904223);
+        words[k] = high << 16 | state >> 16;
+    }
+    words
+}
+
+// Whether short elements that are drawn have inverses that are found the short way.
+fn finds_each(count: u32) -> bool {
+    for seed in 0..count {
+        if quick_inverse_q(&short_of(&words_of(seed)).lift()).is_none() {
+            return false;
+        }
+    }
+    true
+}
+
+#[test]
+fn finds_each_drawn_inverse_the_short_way(rt: HostRuntime) {
+    assert!(rt; finds_each(200));
+}
+
+// Whether the inverse of an element is found the short way, and is right.
+fn finds(f: &Rq) -> bool {
+    match quick_inverse_q(f) {
+        Some(inverse) => f.mul_plain(&inverse) == Rq::monomial(0, 1),
+        None => false,
+    }
+}
+
+#[test]
+fn finds_inverses_of_sparse_elements(rt: HostRuntime) {
+    let one = Rq::monomial(0, 1);
+    let of_x = Rq::monomial(760, 1).add(&Rq::monomial(0, -1));
+    assert!(rt; quick_inverse_q(&one) == Some(one));
+    assert!(rt; quick_inverse_q(&Rq::monomial(1, 1)) == Some(of_x));
+    for place in [2, 63, 380, 759, 760] {
+        let power = Rq::monomial(place, 1);
+        assert!(rt; finds(&power));
+        assert!(rt; finds(&power.add(&one)));
+        assert!(rt; finds(&power.add(&Rq::monomial(place / 2, -2295))));
+    }
+    assert!(rt; quick_inverse_q(&Rq::zero()).is_none());
 }

@@ -14,6 +14,25 @@ use Rattle.ntru_ring.proofs.Rings.Places.{same_places, coefficient_within, coeff
 use Rattle.ntru_ring.proofs.Vectors.Planes.{IsLawful, length-element_of, coefficient-element_of, element_within, bit_of_beyond}
 use Rattle.ntru_ring.proofs.Vectors.Words.{masked_low, masked_high}
 
+-- ---- the last word without what comes after the place 760
+module _ (new : List ℕ) (w : ℕ) (long : length new ≡ 12) (e : w ≡ bit_and (get_or new 11 0) 144115188075855871) where
+  pub low_there : (p : ℕ) → p < 761 → bit_of (set new 11 w) p ≡ bit_of new p
+  low_there p l = elim (cases_eq (p / 64) 11) [
+    | inl q ↦
+        ap (λ t. bit_at (get_or (set new 11 w) t 0) (p % 64)) q ∙ ap (λ t. bit_at t (p % 64)) (get_or-set_same new 11 w 0 (omega (arith, long)) ∙ e)
+        ∙ masked_low (get_or new 11 0) (p % 64) (omega arith) ∙ ap (λ t. bit_at (get_or new t 0) (p % 64)) (sym q)
+    | inr n ↦ ap (λ t. bit_at t (p % 64)) (get_or-set_other new 11 (p / 64) w 0 n)
+  ]
+
+  pub high_there : (p : ℕ) → 761 ≤ p → bit_of (set new 11 w) p ≡ 0
+  high_there p l = elim (cases_lt p 768) [
+    | inl q ↦
+        let d : p / 64 ≡ 11 = omega arith in
+        ap (λ t. bit_at (get_or (set new 11 w) t 0) (p % 64)) d ∙ ap (λ t. bit_at t (p % 64)) (get_or-set_same new 11 w 0 (omega (arith, long)) ∙ e)
+        ∙ masked_high (get_or new 11 0) (p % 64) (omega arith)
+    | inr q ↦ bit_of_beyond (set new 11 w) p (length-set new 11 w ∙ long) q
+  ]
+
 -- the first k words of `new` are those of `old`, moved up by one place
 pub record IsMoving (old new : List ℕ) (k : ℕ) : Type 0 where
   pub length : length new ≡ 12
@@ -64,31 +83,13 @@ module _ (old new : List ℕ) (k : ℕ) (h : 12 ≤ k) (a : IsMoving old new k) 
         ap (λ t. bit_at (get_or new t 0) ((p + 1) % 64)) d ∙ ap (bit_at (get_or new (p / 64 + 1) 0)) r ∙ a.carried (p / 64) (omega arith) ∙ ap (bit_at (get_or old (p / 64) 0)) e
   ]
 
-  module _ (w : ℕ) (e : w ≡ bit_and (get_or new 11 0) 144115188075855871) where
-    low_there : (p : ℕ) → p < 761 → bit_of (set new 11 w) p ≡ bit_of new p
-    low_there p l = elim (cases_eq (p / 64) 11) [
-      | inl q ↦
-          ap (λ t. bit_at (get_or (set new 11 w) t 0) (p % 64)) q ∙ ap (λ t. bit_at t (p % 64)) (get_or-set_same new 11 w 0 (omega (arith, a.length)) ∙ e)
-          ∙ masked_low (get_or new 11 0) (p % 64) (omega arith) ∙ ap (λ t. bit_at (get_or new t 0) (p % 64)) (sym q)
-      | inr n ↦ ap (λ t. bit_at t (p % 64)) (get_or-set_other new 11 (p / 64) w 0 n)
-    ]
-
-    high_there : (p : ℕ) → 761 ≤ p → bit_of (set new 11 w) p ≡ 0
-    high_there p l = elim (cases_lt p 768) [
-      | inl q ↦
-          let d : p / 64 ≡ 11 = omega arith in
-          ap (λ t. bit_at (get_or (set new 11 w) t 0) (p % 64)) d ∙ ap (λ t. bit_at t (p % 64)) (get_or-set_same new 11 w 0 (omega (arith, a.length)) ∙ e)
-          ∙ masked_high (get_or new 11 0) (p % 64) (omega arith)
-      | inr q ↦ bit_of_beyond (set new 11 w) p (length-set new 11 w ∙ a.length) q
-    ]
-
-    pub IsMoved-from_moving : IsMoved old (set new 11 w)
-    IsMoved-from_moving = record {
-      length = length-set new 11 w ∙ a.length;
-      first = low_there 0 (lit< tt) ∙ a.first;
-      rest = λ p l. low_there (p + 1) (omega arith) ∙ rest_there p l;
-      end = high_there;
-    }
+  pub IsMoved-from_moving : (w : ℕ) → w ≡ bit_and (get_or new 11 0) 144115188075855871 → IsMoved old (set new 11 w)
+  IsMoved-from_moving w e = record {
+    length = length-set new 11 w ∙ a.length;
+    first = low_there new w a.length e 0 (lit< tt) ∙ a.first;
+    rest = λ p l. low_there new w a.length e (p + 1) (omega arith) ∙ rest_there p l;
+    end = high_there new w a.length e;
+  }
 
 -- ---- both planes, and the last coefficient at the places 0 and 1
 module _ (m x m' x' : List ℕ) (p : IsLawful m x) (a : IsMoved m m') (b : IsMoved x x') where

@@ -1,7 +1,7 @@
 -- Numbers -1, 0 and 1 by two bits each, in words of 64.
 use Rattle.std.proofs.Common.{◌≡◌, ◌≢◌, ℕ, ◌+◌, ◌*◌, ◌/◌, ◌%◌, ◌^◌, ◌-◌, ◌<◌, ◌≤◌, pos, zero, suc, neg_ℤ, ◌+ℤ◌, ◌-ℤ◌, ◌*ℤ◌, to_z, of_z, max, min, refl, sym, ap, ◌∙◌, arith, lit≤}
 use Rattle.std.proofs.lemmas.Int.{ints}
-use Rattle.std.proofs.lemmas.Nat.Bits.{bit_at-lt, bit_at-suc, bit_at_and, bit_at_or, bit_at_xor, bit_at_above, bit_at_cat_low, shr_and_one, bit_at_ones, bit_at_ones_above, bit_at_set_same, bit_at_set_other}
+use Rattle.std.proofs.lemmas.Nat.Bits.{bit_at-lt, bit_at-suc, bit_at_and, bit_at_or, bit_at_xor, bit_at_above, bit_at_cat_low, bit_at_cat_high, bit_at-zero, shr_and_one, bit_at_ones, bit_at_ones_above, bit_at_set_same, bit_at_set_other}
 use Rattle.std.proofs.Math.Nat.{zero-mul, zero-mod}
 use Rattle.std.specs.Int.{bit_at}
 use Rattle.std.specs.Int.Bits.{or_zero_r}
@@ -108,6 +108,26 @@ moved_rest w b j l h =
     let none = bit_at_above (b / 2 ^ 63) 1 (suc j) (omega (arith, l)) (omega arith) in
     ap (bit_at (bit_or (w * 2 % 2 ^ 64) (b / 2 ^ 63))) e ∙ bit_at_or (w * 2 % 2 ^ 64) (b / 2 ^ 63) (suc j)
     ∙ ap (max (bit_at (w * 2 % 2 ^ 64) (suc j))) none ∙ most_zero ∙ bit_at_low (w * 2) (suc j) (omega arith) ∙ bit_at-suc (w * 2) j ∙ ap (λ t. bit_at t j) half
+
+-- ---- the last 64 places of 761, of which the word b has seven
+pub last_low : (w b k : ℕ) → k < 7 → bit_at (bit_or (b / 144115188075855872) (w * 128 % 18446744073709551616)) k ≡ bit_at b (57 + k)
+last_low w b k l =
+    let parts : b / 2 ^ 57 * 2 ^ 57 + b % 2 ^ 57 ≡ b = omega arith in
+    let j : 57 + k - 57 ≡ k = omega arith in
+    let there = bit_at_cat_high (b / 2 ^ 57) 57 (b % 2 ^ 57) (57 + k) (omega arith) (omega arith) in
+    let one : bit_at (b / 2 ^ 57) k ≡ bit_at b (57 + k) = ap (bit_at (b / 2 ^ 57)) (sym j) ∙ sym there ∙ ap (λ t. bit_at t (57 + k)) parts in
+    let plain : w * 128 ≡ w * 2 ^ 7 + 0 = omega arith in
+    let none : bit_at (w * 128 % 2 ^ 64) k ≡ 0 = bit_at_low (w * 128) k (omega arith) ∙ ap (λ t. bit_at t k) plain ∙ bit_at_cat_low w 7 0 k l ∙ bit_at-zero k in
+    let most : max (bit_at (b / 2 ^ 57) k) 0 ≡ bit_at (b / 2 ^ 57) k = omega arith in
+    bit_at_or (b / 2 ^ 57) (w * 128 % 2 ^ 64) k ∙ ap (max (bit_at (b / 2 ^ 57) k)) none ∙ most ∙ one
+
+pub last_high : (w b k : ℕ) → b < 2 ^ 64 → 7 ≤ k → k < 64 → bit_at (bit_or (b / 144115188075855872) (w * 128 % 18446744073709551616)) k ≡ bit_at w (k - 7)
+last_high w b k h l m =
+    let none = bit_at_above (b / 2 ^ 57) 7 k (omega (arith, h)) l in
+    let plain : w * 128 ≡ w * 2 ^ 7 + 0 = omega arith in
+    let there = bit_at_low (w * 128) k m ∙ ap (λ t. bit_at t k) plain ∙ bit_at_cat_high w 7 0 k (omega arith) l in
+    let most : max 0 (bit_at (w * 128 % 2 ^ 64) k) ≡ bit_at (w * 128 % 2 ^ 64) k = omega arith in
+    bit_at_or (b / 2 ^ 57) (w * 128 % 2 ^ 64) k ∙ ap (λ t. max t (bit_at (w * 128 % 2 ^ 64) k)) none ∙ most ∙ there
 
 -- ---- a bit put where 0 is
 pub put_same : (w b k : ℕ) → k < 64 → b < 2 → bit_at w k ≡ 0 → bit_at (bit_or w (b * 2 ^ k % 2 ^ 64)) k ≡ b

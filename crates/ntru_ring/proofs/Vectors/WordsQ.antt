@@ -1,5 +1,5 @@
 -- One coefficient of a sum over R/q, as the code computes it in 16 bits.
-use Rattle.std.proofs.Common.{◌≡◌, true, false, ℤ, pos, negsuc, neg_ℤ, ◌≤ℤ◌, ◌+ℤ◌, ◌-ℤ◌, ◌*ℤ◌, sym, ap, ◌∙◌, to_z, of_z, lit<, subst, arith}
+use Rattle.std.proofs.Common.{◌≡◌, ◌+◌, ◌<◌, ℕ, true, false, ℤ, pos, neg_ℤ, ◌≤ℤ◌, ◌+ℤ◌, ◌-ℤ◌, ◌*ℤ◌, sym, ap, ◌∙◌, to_z, of_z, lit<, subst, arith}
 use Rattle.std.proofs.lemmas.Int.{ints, to_z-of_z, by_lt_z}
 use borrow.Author.Differences.{up, down}
 use lib.Dec.{T}
@@ -34,20 +34,50 @@ module _ (r s t : ℤ) (w : IsWithin 2295 r) (f : t ≡ s) (u : IsWithin 29835 s
       once : (t r : ℤ) → t +ℤ r ≡ t +ℤ pos 1 *ℤ r
       once t r = omega (arith, ints)
 
-  row_difference : to_z w16 (of_z w16 t) -ℤ to_z w16 (of_z w16 r) ≡ s -ℤ r
-  row_difference = ap (λ x. x -ℤ to_z w16 (of_z w16 r)) read_sum ∙ ap (λ x. s -ℤ x) (stored w16 2295 r w (lit< tt))
+-- ---- a sum of two numbers in 16 bits
+module _ (m n : ℕ) (x y : ℤ) (v : IsWithin m x) (w : IsWithin n y) (l : m < 32768) (k : n < 32768) (h : m + n < 32768) where
+  two_read : to_z w16 (of_z w16 x) +ℤ to_z w16 (of_z w16 y) ≡ x +ℤ y
+  two_read = ap (λ t. t +ℤ to_z w16 (of_z w16 y)) (stored w16 m x v l) ∙ ap (λ t. x +ℤ t) (stored w16 n y w k)
 
-  difference_within : IsWithin 32130 (s -ℤ r)
-  difference_within = record { low = omega (arith, ints, u.low, w.high); high = omega (arith, ints, u.high, w.low) }
+  two_within : IsWithin (m + n) (to_z w16 (of_z w16 x) +ℤ to_z w16 (of_z w16 y))
+  two_within = subst (IsWithin (m + n)) (sym two_read) (within_sum m n x y v w)
 
-  pub row_difference_fits : SFits w16 (to_z w16 (of_z w16 t) -ℤ to_z w16 (of_z w16 r))
-  row_difference_fits = fits_along w16 _ _ row_difference (within_fits w16 32130 (s -ℤ r) difference_within (lit< tt))
+  pub two_fit : SFits w16 (to_z w16 (of_z w16 x) +ℤ to_z w16 (of_z w16 y))
+  two_fit = within_fits w16 (m + n) _ two_within h
 
-  pub row_difference_stored : to_z w16 (of_z w16 (to_z w16 (of_z w16 t) -ℤ to_z w16 (of_z w16 r))) ≡ t +ℤ negsuc 0 *ℤ r
-  row_difference_stored = to_z-of_z w16 _ row_difference_fits ∙ row_difference ∙ ap (λ x. x -ℤ r) (sym f) ∙ opposite t r
+  two_stored : to_z w16 (of_z w16 (to_z w16 (of_z w16 x) +ℤ to_z w16 (of_z w16 y))) ≡ x +ℤ y
+  two_stored = to_z-of_z w16 _ two_fit ∙ two_read
+
+-- ---- a sum with four rows
+module _ (a b c d s t : ℤ) (u : IsWithin 2295 a) (v : IsWithin 2295 b) (w : IsWithin 2295 c) (x : IsWithin 2295 d) (f : t ≡ s) (r : IsWithin 22950 s) where
+  first_within : IsWithin 4590 (to_z w16 (of_z w16 a) +ℤ to_z w16 (of_z w16 b))
+  first_within = two_within 2295 2295 a b u v (lit< tt) (lit< tt) (lit< tt)
+
+  second_within : IsWithin 4590 (to_z w16 (of_z w16 c) +ℤ to_z w16 (of_z w16 d))
+  second_within = two_within 2295 2295 c d w x (lit< tt) (lit< tt) (lit< tt)
+
+  pub four_fit : SFits w16 (to_z w16 (of_z w16 (to_z w16 (of_z w16 a) +ℤ to_z w16 (of_z w16 b))) +ℤ to_z w16 (of_z w16 (to_z w16 (of_z w16 c) +ℤ to_z w16 (of_z w16 d))))
+  four_fit = two_fit 4590 4590 _ _ first_within second_within (lit< tt) (lit< tt) (lit< tt)
+
+  four_within : IsWithin 9180 (to_z w16 (of_z w16 (to_z w16 (of_z w16 a) +ℤ to_z w16 (of_z w16 b))) +ℤ to_z w16 (of_z w16 (to_z w16 (of_z w16 c) +ℤ to_z w16 (of_z w16 d))))
+  four_within = two_within 4590 4590 _ _ first_within second_within (lit< tt) (lit< tt) (lit< tt)
+
+  old_within : IsWithin 22950 t
+  old_within = subst (IsWithin 22950) (sym f) r
+
+  pub rows_fit : SFits w16 (to_z w16 (of_z w16 t) +ℤ to_z w16 (of_z w16 (to_z w16 (of_z w16 (to_z w16 (of_z w16 a) +ℤ to_z w16 (of_z w16 b))) +ℤ to_z w16 (of_z w16 (to_z w16 (of_z w16 c) +ℤ to_z w16 (of_z w16 d))))))
+  rows_fit = two_fit 22950 9180 t _ old_within four_within (lit< tt) (lit< tt) (lit< tt)
+
+  pub rows_stored : (z : ℤ) → z ≡ (a +ℤ b) +ℤ (c +ℤ d)
+      → to_z w16 (of_z w16 (to_z w16 (of_z w16 t) +ℤ to_z w16 (of_z w16 (to_z w16 (of_z w16 (to_z w16 (of_z w16 a) +ℤ to_z w16 (of_z w16 b))) +ℤ to_z w16 (of_z w16 (to_z w16 (of_z w16 c) +ℤ to_z w16 (of_z w16 d))))))) ≡ t +ℤ pos 1 *ℤ z
+  rows_stored z e =
+      let p = two_read 2295 2295 a b u v (lit< tt) (lit< tt) (lit< tt) in
+      let q = two_read 2295 2295 c d w x (lit< tt) (lit< tt) (lit< tt) in
+      let n = two_read 4590 4590 _ _ first_within second_within (lit< tt) (lit< tt) (lit< tt) in
+      two_stored 22950 9180 t _ old_within four_within (lit< tt) (lit< tt) (lit< tt) ∙ ap (λ y. t +ℤ y) (n ∙ ap (λ y. y +ℤ (to_z w16 (of_z w16 c) +ℤ to_z w16 (of_z w16 d))) p ∙ ap (λ y. (a +ℤ b) +ℤ y) q ∙ sym e) ∙ once t z
     where
-      opposite : (t r : ℤ) → t -ℤ r ≡ t +ℤ negsuc 0 *ℤ r
-      opposite t r = omega (arith, ints)
+      once : (t z : ℤ) → t +ℤ z ≡ t +ℤ pos 1 *ℤ z
+      once t z = omega (arith, ints)
 
 -- ---- a 16-bit number reduced
 abbrev pub rest_of : ℤ → ℤ → ℤ

@@ -18,5 +18,5 @@ returns-then-eq c =
     let nonzero = (slice_eq-Decides Decides-eqb p.nonzero q.nonzero _ refl).0 both.0 in
     let negative = (slice_eq-Decides Decides-eqb p.negative q.negative _ refl).0 both.1 in
     let same = ap (λ t. element_of t p.negative) nonzero ∙ ap (element_of q.nonzero) negative in
-    ap (λ t. reduced 1 (times g.coefficients t)) c.r3_of.ensures ∙ ap (λ t. reduced 1 (times t (element c.candidate_three-candidate.result))) (sym c.planes_of-small.ensures)
+    ap (λ t. reduced 1 (times g.coefficients t)) (sym c.planes_of-planes.ensures) ∙ ap (λ t. reduced 1 (times t (element c.planes_of-planes.result))) (sym c.planes_of-small.ensures)
     ∙ sym c.mul.ensures ∙ same ∙ c.planes_of.ensures ∙ c.monomial.ensures ∙ unit_is 760 ∙ ap one_of (sym g.length)

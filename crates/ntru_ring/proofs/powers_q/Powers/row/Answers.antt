@@ -3,6 +3,6 @@ use Rattle.ntru_ring.proofs.powers_q.Powers.row.Goals as goal
 
 pub returns : goal.returns
 returns c =
-    let p = c.args.self.now in
-    let e : p.start + 761 - p.start ≡ 761 = omega arith in
-    ap (λ t. take t (drop p.start p.places)) e
+    let start = c.args.start in
+    let e : start + 761 - start ≡ 761 = omega arith in
+    ap (λ t. take t (drop start c.args.self.now.places)) e

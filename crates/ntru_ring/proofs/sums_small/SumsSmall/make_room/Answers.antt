@@ -12,5 +12,5 @@ invariant_of-self c =
       within = c.settle.ensures.within;
     }
 
-pub returns-then-self-gt13-clause-same : goal.returns-then-self-gt13-clause-same
-returns-then-self-gt13-clause-same c = ap (reduced 2295) c.settle.ensures.value ∙ reduced-reduced 2295 c.args.self.now.terms
+pub returns-then-self-rows-gt14-clause-same : goal.returns-then-self-rows-gt14-clause-same
+returns-then-self-rows-gt14-clause-same c = ap (reduced 2295) c.settle.ensures.value ∙ reduced-reduced 2295 c.args.self.now.terms

@@ -1,0 +1,6 @@
+use Rattle.std.proofs.Common.{All}
+use Rattle.ntru_ring.specs.Reduction.{IsWithin}
+use Rattle.ntru_ring.proofs.blocks_q.candidate.terms.Given as goal
+
+abbrev pub invariant-loop-k : goal.invariant-loop-k
+invariant-loop-k l = All (IsWithin 2295) l.terms
