@@ -1,7 +1,10 @@
 // Makes one call of a program on a file, a socket or the random source fail, or cuts it short. It is loaded before the C
 // library. FAILING_CALL is the number of the call, from 1; FAILING_HOW an error's number, or 0 for half of the bytes and at
 // most 100, -1 for one byte, -2 for none; and to the file FAILING_LOG goes a line for each call, with its name and its
-// descriptor. Where FAILING_MORE is set, calls that open, connect, wait, set and close are among them.
+// descriptor. Where FAILING_MORE is set, calls that open, connect, wait, set and close are among them. Or it refuses memory,
+// where FAILING_ALLOCATION is set: to the allocation of this number, from 1 and since the program's beginning, and where it is
+// negative to those that follow too. Then each allocation has a line in the log, with its name, its size, and whether the
+// program asks for it or a library.
 #define _GNU_SOURCE
 #include <dlfcn.h>
 #include <errno.h>
@@ -22,18 +25,21 @@ ssize_t __write(int fd, const void *buffer, size_t count);
 
 static long made;
 
-// whether this call is the one; a line goes to the log
-static int is_it(const char *name, int fd) {
-    const char *log = getenv("FAILING_LOG"), *number = getenv("FAILING_CALL");
-    if (!log)
-        return 0;
-    char line[64];
-    int length = snprintf(line, sizeof line, "%s %d\n", name, fd);
+static void note(const char *log, const char *line, int length) {
     long file = syscall(SYS_openat, AT_FDCWD, log, O_WRONLY | O_APPEND | O_CREAT, 0600);
     if (file >= 0) {
         syscall(SYS_write, file, line, (size_t)length);
         syscall(SYS_close, file);
     }
+}
+
+// whether this call is the one; a line goes to the log
+static int is_it(const char *name, int fd) {
+    const char *log = getenv("FAILING_LOG"), *number = getenv("FAILING_CALL");
+    if (!log || getenv("FAILING_ALLOCATION"))
+        return 0;
+    char line[64];
+    note(log, line, snprintf(line, sizeof line, "%s %d\n", name, fd));
     return number && ++made == atol(number);
 }
 
@@ -155,3 +161,48 @@ int close(int fd) {
     errno = error;
     return -1;
 }
+
+// ---- memory; what the C library asks for before the program begins isn't counted
+
+typedef int (*Main)(int, char **, char **);
+
+void *__libc_malloc(size_t), *__libc_calloc(size_t, size_t), *__libc_realloc(void *, size_t);
+int __libc_start_main(Main, int, char **, void (*)(void), void (*)(void), void (*)(void), void *);
+
+static Main program; // once it has begun
+static Main begins;
+static long asked;
+
+static int begin(int count, char **words, char **variables) {
+    program = begins;
+    return program(count, words, variables);
+}
+
+int __libc_start_main(Main main, int count, char **words, void (*first)(void), void (*last)(void), void (*end)(void),
+                      void *stack) {
+    begins = main;
+    return REAL(__libc_start_main)(begin, count, words, first, last, end, stack);
+}
+
+static int is_refused(const char *name, size_t size, const void *caller) {
+    const char *log = getenv("FAILING_LOG"), *number = getenv("FAILING_ALLOCATION");
+    if (!program || !log || !number)
+        return 0;
+    Dl_info by, own;
+    int is_own = dladdr(caller, &by) && dladdr((void *)program, &own) && by.dli_fbase == own.dli_fbase;
+    char line[64];
+    note(log, line, snprintf(line, sizeof line, "%s %zu %s\n", name, size, is_own ? "program" : "library"));
+    if (++asked != atol(number) && (*number != '-' || asked < -atol(number)))
+        return 0;
+    errno = ENOMEM;
+    return 1;
+}
+
+#define ASKS(name, size, parameters, ...)                                                          \
+    void *name parameters {                                                                        \
+        return is_refused(#name, size, __builtin_return_address(0)) ? 0 : __libc_##name(__VA_ARGS__); \
+    }
+
+ASKS(malloc, size, (size_t size), size)
+ASKS(calloc, count * size, (size_t count, size_t size), count, size)
+ASKS(realloc, size, (void *old, size_t size), old, size)
