@@ -41,7 +41,7 @@ fn write<K: Kem>(session: &Session<K>, inbox: &Inbox, outbox: &Outbox, out: &mut
     if out.len() < RECORD_LIMIT {
         return 0;
     }
-    encode(session.part(), inbox, outbox, &Change::Same, out)
+    encode(&session.part(), inbox, outbox, &Change::Same, out)
 }
 
 /// A client with full boxes.

@@ -8,7 +8,7 @@ use cka::agreement_length;
 use dr_base::{Key32, Side};
 use kem_laws::{Kem, OpenKem};
 use packet::parse;
-use ratchet::Session;
+use ratchet::{KeptRoom, Session};
 use sntrup761::Sntrup761;
 use std::alloc::{AllocError, Global};
 use std::io;
@@ -76,7 +76,8 @@ fn take<K: Kem>(party: &mut Party<K>, work: &mut K::Work, packet: &[u8]) {
     let Ok(view) = parse(packet, agreement_length::<K>()) else {
         return;
     };
-    if let Ok(draft) = party.session.draft_receive(work, &view) {
+    let mut room = KeptRoom::new();
+    if let Ok(draft) = party.session.draft_receive(work, &view, &mut room) {
         let _pushed = party.inbox.push(draft.position(), draft.text());
         draft.accept(&mut party.session);
         let _done = party.inbox.drop_first(1);

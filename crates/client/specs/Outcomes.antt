@@ -84,6 +84,16 @@ pub record IsLost (before after : Client) (call : Call) (start now : DiskState) 
   pub ended : HasFailedAsTold start now
   pub rose : Rose (start.faults call) (now.faults call)
 
+-- one record replaced whatever client's the disk was ready with, by this client's
+abbrev pub Keeps : Client → SlotStore → SlotStore → DiskState → DiskState → Type 0
+Keeps after old new start now =
+    (before : Client) → IsReady before old start → IsKept before after new start now
+
+-- or a call on the disk failed, of this kind
+abbrev pub Loses : Client → SlotStore → DiskState → DiskState → Call → Type 0
+Loses after old start now call =
+    (before : Client) → IsReady before old start → IsLost before after call start now
+
 -- ---- what a call does, over what its step makes of what the client keeps
 
 -- the step took effect, and its record is on the disk

@@ -59,7 +59,7 @@ fn first<K: Kem, D: Disk>(
         reader,
     } = room;
     let bytes = text.as_mut_slice();
-    let len = encode(session.part(), &inbox, &outbox, &Change::Same, bytes);
+    let len = encode(&session.part(), &inbox, &outbox, &Change::Same, bytes);
     match store.replace(disk, &bytes[..len]) {
         Err(fault) => Err(fault.call),
         Ok(()) => Ok(Client {
@@ -128,7 +128,7 @@ impl<K: Kem> Client<K> {
                 Found::NoContent => match Session::<K>::begin(&mut room.work, side, key) {
                     Err(NoPair) => Err(BeginRefusal::NoPair),
                     Ok(session) => {
-                        lawful_part(session.part());
+                        lawful_part(&session.part());
                         match first(room, session, store, disk) {
                             Err(call) => Err(BeginRefusal::StoreFault { call }),
                             Ok(client) => Ok(client),

@@ -64,14 +64,16 @@ impl<K: Kem> Client<K> {
     pub fn side(&self) -> Side
         ensures { result ≡ self.now.kept.state.side }
     {
-        self.session.part().side
+        let part = self.session.part();
+        part.head.side
     }
 
     /// The name of the conversation's session.
     pub fn session(&self) -> &[u8; 16]
         ensures { result.now ≡ self.now.kept.state.session }
     {
-        &self.session.part().session
+        let part = self.session.part();
+        &part.head.session
     }
 
     /// The text of the inbox at a place, from 0, the oldest first.
@@ -106,7 +108,7 @@ impl<K: Kem> Client<K> {
     {
         let part = self.session.part();
         Summary {
-            epoch: part.epoch,
+            epoch: part.head.epoch,
             missing: part.kept.len() as u32,
             inbox: self.inbox.len(),
             outbox: self.outbox.len(),

@@ -4,9 +4,10 @@ ghost use Rattle.std.specs.Prelude.{◌≡◌, ◌<◌, ◌++◌, ◌∷◌, ℕ
 ghost use Rattle.dr_base.specs.declared.position.Side.{Side};
 ghost use Rattle.dr_model.specs.Machines.Acts.{act_in, said_by, saying};
 ghost use Rattle.dr_model.specs.Machines.Worlds.{World};
-ghost use Rattle.ratchet.specs.Seen.{seed_bytes};
+ghost use Rattle.ratchet.specs.Seen.{said_of, seed_bytes};
 ghost use Rattle.session_model.specs.Clients.{accept_send, say_check, say_on};
 ghost use Rattle.session_model.specs.Drafts.{IsSendDraft};
+ghost use Rattle.session_model.specs.LawfulStates.{IsLawfulState};
 ghost use Rattle.session_record.specs.Lawful.{IsLawfulClient};
 ghost use Rattle.session_record.specs.Record.{client_of};
 ghost use Rattle.client.specs.Acting.{IsAct};
@@ -24,9 +25,17 @@ use dr_base::{Key32, OUTBOX_LIMIT, Position, TEXT_LIMIT};
 use dr_disk::Disk;
 use dr_ports::Draws;
 use kem_laws::{Kem, laws};
-use ratchet::SendDraft;
+use ratchet::{SendDraft, Session};
 use session_model::Refusal;
 use session_record::Change;
+
+/// What a session would keep once a text is said is lawful: a caller that needs this calls it.
+fn lawful_said<K: Kem>(draft: &SendDraft<K>, session: &Session<K>)
+    requires { IsSendDraft K.mechanism session.now (said_of session.now draft.now) }
+    ensures { IsLawfulState K.mechanism (said_of session.now draft.now).next }
+{
+    lawful_part(&draft.part(session));
+}
 
 impl<K: Kem> Client<K> {
     /// Whether a text of this length may be said, and then whether that needs a seed.
@@ -121,7 +130,7 @@ impl<K: Kem> Client<K> {
         match self.session.draft_send(&mut self.work, text, seed) {
             Err(none) => Err(SayRefusal::NoPair { seed: none.seed }),
             Ok(draft) => {
-                lawful_part(draft.part());
+                lawful_said(&draft, &self.session);
                 self.send(disk, draft)
             }
         }
@@ -129,12 +138,14 @@ impl<K: Kem> Client<K> {
 
     /// Keeps a text that was drafted, and then puts its packet into the outbox.
     fn send<D: Disk>(&mut self, disk: &mut D, draft: SendDraft<K>) -> Result<Position, SayRefusal>
-        requires draft { IsSendDraft K.mechanism self.old.kept.state draft }
-        requires lawful { IsLawfulClient K.mechanism
-            (client_of draft.next self.old.kept.inbox (self.old.kept.outbox ++ draft.post ∷ [])) }
+        requires draft { let state = self.old.kept.state in
+            IsSendDraft K.mechanism state (said_of state draft) }
+        requires lawful { let said = said_of self.old.kept.state draft in IsLawfulClient K.mechanism
+            (client_of said.next self.old.kept.inbox (self.old.kept.outbox ++ said.post ∷ [])) }
         requires room { length self.old.kept.outbox < OUTBOX_LIMIT }
         requires open { IsOpenOn self.old (D.state disk.old) }
-        ensures { IsAct D.state (said_by (accept_send self.old.kept (Some draft)))
+        ensures { let said = said_of self.old.kept.state draft in
+            IsAct D.state (said_by (accept_send self.old.kept (Some said)))
             self.old self.new disk.old disk.new (said_as result) }
     {
         let position = draft.position();
@@ -142,7 +153,7 @@ impl<K: Kem> Client<K> {
             &mut self.store,
             disk,
             &mut self.text,
-            draft.part(),
+            &draft.part(&self.session),
             &self.inbox,
             &self.outbox,
             &Change::Said {
@@ -163,11 +174,14 @@ impl<K: Kem> Client<K> {
 
     /// Puts the packet of a draft into the outbox, and accepts the draft.
     fn accept_said(&mut self, draft: SendDraft<K>)
-        requires draft { IsSendDraft K.mechanism self.old.kept.state draft }
-        requires lawful { IsLawfulClient K.mechanism
-            (client_of draft.next self.old.kept.inbox (self.old.kept.outbox ++ draft.post ∷ [])) }
+        requires draft { let state = self.old.kept.state in
+            IsSendDraft K.mechanism state (said_of state draft) }
+        requires lawful { let said = said_of self.old.kept.state draft in IsLawfulClient K.mechanism
+            (client_of said.next self.old.kept.inbox (self.old.kept.outbox ++ said.post ∷ [])) }
         requires room { length self.old.kept.outbox < OUTBOX_LIMIT }
-        ensures kept { self.new.kept ≡ client_of draft.next self.old.kept.inbox (self.old.kept.outbox ++ draft.post ∷ []) }
+        ensures kept { let said = said_of self.old.kept.state draft in
+            self.new.kept
+            ≡ client_of said.next self.old.kept.inbox (self.old.kept.outbox ++ said.post ∷ []) }
         ensures store { self.new.store ≡ self.old.store }
         ensures closed { self.new.closed ≡ self.old.closed }
     {

@@ -6,8 +6,10 @@ ghost use Rattle.dr_base.specs.declared.position.Side.{Side};
 ghost use Rattle.dr_model.specs.Machines.Acts.{act_in, act_on, taken_by, taking};
 ghost use Rattle.dr_model.specs.Machines.Worlds.{World};
 ghost use Rattle.dr_model.specs.Theorems.Fairness.{IsUnforged};
+ghost use Rattle.ratchet.specs.Seen.{received_of};
 ghost use Rattle.session_model.specs.Clients.{accept_receive};
 ghost use Rattle.session_model.specs.Drafts.{IsReceiveDraft};
+ghost use Rattle.session_model.specs.LawfulStates.{IsLawfulState};
 ghost use Rattle.session_record.specs.Lawful.{IsLawfulClient};
 ghost use Rattle.session_record.specs.Record.{client_of};
 ghost use Rattle.client.specs.Acting.{IsAct};
@@ -17,16 +19,24 @@ ghost use Rattle.client.specs.Outcomes.{Acts, Passes, taken_as};
 ghost use Rattle.client.specs.Spent.{IsSpent};
 
 use crate::client::Client;
-use crate::keeping::{keep, lawful_part};
+use crate::keeping::{keep_taken, lawful_part};
 use crate::laws::grounds;
 use crate::refusals::TakeRefusal;
 use dr_base::{INBOX_LIMIT, Position};
 use dr_disk::Disk;
 use kem_laws::Kem;
 use packet::parse;
-use ratchet::ReceiveDraft;
+use ratchet::{KeptRoom, ReceiveDraft, Session};
 use session_model::Refusal;
 use session_record::Change;
+
+/// What a session would keep once a packet is taken is lawful: a caller that needs this calls it.
+fn lawful_taken<K: Kem>(draft: &ReceiveDraft<'_, K>, session: &Session<K>)
+    requires { IsReceiveDraft K.mechanism session.now (received_of session.now draft.now) }
+    ensures { IsLawfulState K.mechanism (received_of session.now draft.now).next }
+{
+    lawful_part(&draft.part(session));
+}
 
 impl<K: Kem> Client<K> {
     /// Opens the packet that the bytes are, and puts its text into the inbox. `Closed` exactly where a call on the disk
@@ -68,13 +78,16 @@ impl<K: Kem> Client<K> {
         }
         match parse(packet, K::CIPHERTEXT + K::PUBLIC) {
             Err(fault) => Err(TakeRefusal::Refused(Refusal::Malformed(fault))),
-            Ok(view) => match self.session.draft_receive(&mut self.work, &view) {
-                Err(refusal) => Err(TakeRefusal::Refused(refusal.into())),
-                Ok(draft) => {
-                    lawful_part(draft.part());
-                    self.receive(disk, draft)
+            Ok(view) => {
+                let mut room = KeptRoom::new();
+                match self.session.draft_receive(&mut self.work, &view, &mut room) {
+                    Err(refusal) => Err(TakeRefusal::Refused(refusal.into())),
+                    Ok(draft) => {
+                        lawful_taken(&draft, &self.session);
+                        self.receive(disk, draft)
+                    }
                 }
-            },
+            }
         }
     }
 
@@ -82,13 +95,16 @@ impl<K: Kem> Client<K> {
     fn receive<D: Disk>(
         &mut self,
         disk: &mut D,
-        draft: ReceiveDraft<K>,
+        draft: ReceiveDraft<'_, K>,
     ) -> Result<Position, TakeRefusal>
-        requires draft { IsReceiveDraft K.mechanism self.old.kept.state draft }
-        requires lawful { length self.old.kept.inbox < INBOX_LIMIT → IsLawfulClient K.mechanism
-            (client_of draft.next (self.old.kept.inbox ++ item_at draft.position draft.text ∷ []) self.old.kept.outbox) }
+        requires draft { let state = self.old.kept.state in
+            IsReceiveDraft K.mechanism state (received_of state draft) }
+        requires lawful { let next = (received_of self.old.kept.state draft).next in
+            length self.old.kept.inbox < INBOX_LIMIT → IsLawfulClient K.mechanism (client_of next
+            (self.old.kept.inbox ++ item_at draft.position draft.text ∷ []) self.old.kept.outbox) }
         requires open { IsOpenOn self.old (D.state disk.old) }
-        ensures { IsAct D.state (taken_by (accept_receive self.old.kept (Ok draft)))
+        ensures { let taken = received_of self.old.kept.state draft.entry in
+            IsAct D.state (taken_by (accept_receive self.old.kept (Ok taken)))
             self.old self.new disk.old disk.new (taken_as result) }
     {
         if self.inbox.len() as usize >= INBOX_LIMIT {
@@ -96,11 +112,12 @@ impl<K: Kem> Client<K> {
             return Err(TakeRefusal::Refused(Refusal::InboxFull));
         }
         let position = draft.position();
-        match keep(
+        match keep_taken(
             &mut self.store,
             disk,
             &mut self.text,
-            draft.part(),
+            &self.session,
+            &draft,
             &self.inbox,
             &self.outbox,
             &Change::Received {

@@ -31,7 +31,7 @@ reception_before kept None (Some epoch) next h below = absurd h
 reception_before kept (Some r) None next h below = absurd h
 reception_before kept (Some r) (Some epoch) next h below = before_next kept epoch (r.reach + 1) next (below epoch refl) h.2
 
-kept_before : (k : Mechanism) (s : State) (next : ℕ) → IsLawfulState k s → next ≡ s.epoch + 1 → AllBefore s.kept (record { epoch = next; index = 1 })
+pub kept_before : (k : Mechanism) (s : State) (next : ℕ) → IsLawfulState k s → next ≡ s.epoch + 1 → AllBefore s.kept (record { epoch = next; index = 1 })
 kept_before k s next l e =
     reception_before s.kept s.receiving (receiving_epoch s.side s.epoch) next l.receiving
     (λ it h. let reached = latest-reached s.side s.epoch it h in omega arith)

@@ -4,6 +4,8 @@ pub mod LawfulOpening
 pub mod LawfulTurn
 pub mod LawfulKept
 pub mod LawfulNext
+pub mod LawfulDrafts
+pub mod LawfulPackets
 pub mod Saying
 pub mod Turning
 pub mod Finding

@@ -1,5 +1,6 @@
 -- What the types of the code stand for.
-use Rattle.std.specs.Prelude.{ℕ, List, [], Option, Some, None, Result, Ok, Err}
+use Rattle.std.specs.Prelude.{ℕ, Bool, true, false, List, [], Option, Some, None, Result, Ok, Err}
+use Rattle.dr_base.specs.declared.key.Kept.{Kept}
 use Rattle.dr_base.specs.declared.key.Key32.{Key32}
 use Rattle.dr_base.specs.declared.position.Position.{Position}
 use Rattle.packet.specs.Packet.{Fields}
@@ -18,6 +19,47 @@ use Rattle.session_model.specs.declared.part.Phase.TheVariants.{Own as InOwn, Pe
 abbrev pub seed_bytes : Option Key32 → List ℕ
 seed_bytes None = []
 seed_bytes (Some seed) = seed.bytes
+
+-- a draft of a text: its packet under its position, and the head that the session would keep, as a
+-- state without kept keys
+pub record Said : Type 0 where
+  pub post : Item
+  pub head : State
+
+-- a draft of a packet: its position, its text, and the head that the session would keep; the kept
+-- keys, where the packet changes them
+pub record Received : Type 0 where
+  pub position : Position
+  pub text : List ℕ
+  pub head : State
+  pub table : Option (List Kept)
+
+-- the kept keys in room for them, where they are changed
+abbrev pub room_seen : Bool → List Kept → Option (List Kept)
+room_seen true table = Some table
+room_seen false table = None
+
+-- the kept keys with a change, if there is one
+abbrev pub kept_in : List Kept → Option (List Kept) → List Kept
+kept_in kept None = kept
+kept_in kept (Some table) = table
+
+-- the draft of a text, for a session of this state
+abbrev pub said_of : State → Said → SendDraft
+said_of s d = record { post = d.post; next = record d.head { kept = s.kept } }
+
+-- the draft of a packet, for a session of this state
+abbrev pub received_of : State → Received → ReceiveDraft
+received_of s d = record {
+  position = d.position;
+  text = d.text;
+  next = record d.head { kept = kept_in s.kept d.table };
+}
+
+-- the draft of a packet, for a session of this state, or why there is none
+abbrev pub received_as : State → Result Received ReceiveRefusal → Result ReceiveDraft Refusal
+received_as s (Ok d) = Ok (received_of s d)
+received_as s (Err e) = Err (receive_refusal e)
 
 abbrev pub drafted : Item → State → SendDraft
 drafted post next = record { post = post; next = next }

@@ -1,13 +1,14 @@
 //! Drafts of texts that are said.
 
-ghost use Rattle.std.specs.Prelude.{◌≡◌, ◌+◌, ◌-◌, ◌^◌, ◌<◌, ◌≤◌, length, take, Some, None, Ok, is_some, option_map, IfOk, IfErr, OnErr};
+ghost use Rattle.std.specs.Prelude.{◌≡◌, ◌+◌, ◌-◌, ◌^◌, ◌<◌, ◌≤◌, length, take, [], Some, None, Ok, is_some, option_map, IfOk, IfErr, OnErr, OnOk};
 ghost use Rattle.cka.specs.Agreement.{turn_of};
 ghost use Rattle.boxes.specs.Items.{item_at};
 ghost use Rattle.session_model.specs.Drafts.{IsSendDraft};
 ghost use Rattle.session_model.specs.Saying.{draft_own, draft_send, draft_turn, send_check};
-ghost use Rattle.session_model.specs.Seen.{own_seen, phase_seen};
+ghost use Rattle.session_model.specs.LawfulStates.{IsLawfulState};
+ghost use Rattle.session_model.specs.Seen.{own_seen, phase_seen, seen};
 ghost use Rattle.session_model.specs.States.{in_own, in_peers};
-ghost use Rattle.ratchet.specs.Seen.{drafted, seed_bytes, went_on};
+ghost use Rattle.ratchet.specs.Seen.{drafted, said_of, seed_bytes, went_on};
 
 use crate::sealing::seal_packet;
 use crate::sending::{NoPairFor, SendDraft};
@@ -17,7 +18,7 @@ use dr_base::{INDEX_LIMIT, Key32, LAST_EPOCH, PACKET_LIMIT, Position, TEXT_LIMIT
 use fs_aead::SendStream;
 use kem_laws::{Kem, laws};
 use prf_prng::Root;
-use session_model::{Own, Phase, SessionPart, copy_of_key};
+use session_model::{Head, Own, Phase, copy_of_key};
 
 impl<K: Kem> Session<K> {
     /// Drafts a text that `send_check` allows, with a seed exactly where it asks for one.
@@ -30,8 +31,11 @@ impl<K: Kem> Session<K> {
         seed: Option<Key32>,
     ) -> Result<SendDraft<K>, NoPairFor>
         requires { send_check self.now (length text.now) ≡ Ok (is_some seed) }
-        ensures ok { IfOk result (λ draft. draft_send K.mechanism self.now text.now (seed_bytes seed) ≡ Some draft) }
-        ensures draft { IfOk result (λ draft. IsSendDraft K.mechanism self.now draft) }
+        ensures ok { IfOk result (λ draft.
+            draft_send K.mechanism self.now text.now (seed_bytes seed)
+            ≡ Some (said_of self.now draft)) }
+        ensures draft { IfOk result (λ draft.
+            IsSendDraft K.mechanism self.now (said_of self.now draft)) }
         ensures err { OnErr result (draft_send K.mechanism self.now text.now (seed_bytes seed) ≡ None) }
         ensures seed { IfErr result (λ e. seed ≡ Some e.seed) }
     {
@@ -40,12 +44,11 @@ impl<K: Kem> Session<K> {
             position: Position { epoch: 0, index: 0 },
             room: [0; PACKET_LIMIT],
             len: 0,
-            part: part.without_kept(),
+            head: part.head.copied(),
         };
-        draft.part.copy_kept(part);
-        match &part.phase {
+        match &part.head.phase {
             Phase::Own(own) => {
-                let (position, len) = say_on(own, &mut draft.part, text, &mut draft.room);
+                let (position, len) = say_on(own, &mut draft.head, text, &mut draft.room);
                 draft.position = position;
                 draft.len = len;
                 Ok(draft)
@@ -53,7 +56,7 @@ impl<K: Kem> Session<K> {
             Phase::Peers(public) => {
                 // `send_check` asks for a seed here
                 let seed = seed.unwrap();
-                match say_first(public, &mut draft.part, work, text, seed, &mut draft.room) {
+                match say_first(public, &mut draft.head, work, text, seed, &mut draft.room) {
                     Ok((position, len)) => {
                         draft.position = position;
                         draft.len = len;
@@ -85,14 +88,17 @@ fn go_on(phase: &mut Phase, chain: Key32, sent: u32)
 /// Says the next text of an own epoch.
 fn say_on<K: Kem>(
     own: &Own,
-    next: &mut SessionPart<K>,
+    next: &mut Head<K>,
     text: &[u8],
     room: &mut [u8; PACKET_LIMIT],
 ) -> (Position, usize)
-    requires held { next.old.phase ≡ in_own (own_seen own.now) }
+    requires held { phase_seen next.old.phase ≡ in_own (own_seen own.now) }
+    requires lawful { IsLawfulState K.mechanism (seen next.old []) }
     requires few { own.now.sent < INDEX_LIMIT }
     requires short { length text.now ≤ TEXT_LIMIT }
-    ensures draft { drafted (item_at result.0 (take result.1 room.new)) next.new ≡ draft_own next.old (own_seen own.now) text.now }
+    ensures draft { drafted (item_at result.0 (take result.1 room.new)) (seen next.new [])
+        ≡ draft_own (seen next.old []) (own_seen own.now) text.now }
+    ensures lawful { IsLawfulState K.mechanism (seen next.new []) }
     ensures fits { result.1 ≤ PACKET_LIMIT }
 {
     let position = Position {
@@ -115,23 +121,29 @@ fn say_on<K: Kem>(
     (position, len)
 }
 
-/// Says the first text of the next own epoch, which a turn begins.
+/// Says the first text of the next own epoch, which a turn begins. A function of its own, so that
+/// its room is set only there.
+#[inline(never)]
 fn say_first<K: Kem>(
     public: &PublicText,
-    next: &mut SessionPart<K>,
+    next: &mut Head<K>,
     work: &mut K::Work,
     text: &[u8],
     seed: Key32,
     room: &mut [u8; PACKET_LIMIT],
 ) -> Result<(Position, usize), NoPairFor>
-    requires held { next.old.phase ≡ in_peers public.now.items }
+    requires held { phase_seen next.old.phase ≡ in_peers public.now.items }
+    requires lawful { IsLawfulState K.mechanism (seen next.old []) }
     requires more { next.old.epoch < LAST_EPOCH }
     requires short { length text.now ≤ TEXT_LIMIT }
     ensures ok { IfOk result (λ said.
-        option_map (draft_turn next.old text.now) (turn_of K.mechanism public.now.items seed.bytes)
-        ≡ Some (drafted (item_at said.0 (take said.1 room.new)) next.new)) }
+        option_map (draft_turn (seen next.old []) text.now)
+        (turn_of K.mechanism public.now.items seed.bytes)
+        ≡ Some (drafted (item_at said.0 (take said.1 room.new)) (seen next.new []))) }
     ensures fits { IfOk result (λ said. said.1 ≤ PACKET_LIMIT) }
-    ensures err { OnErr result (option_map (draft_turn next.old text.now) (turn_of K.mechanism public.now.items seed.bytes) ≡ None) }
+    ensures lawful { OnOk result (IsLawfulState K.mechanism (seen next.new [])) }
+    ensures same { OnErr result (seen next.new [] ≡ seen next.old []) }
+    ensures err { OnErr result (turn_of K.mechanism public.now.items seed.bytes ≡ None) }
     ensures seed { IfErr result (λ e. e.seed ≡ seed) }
 {
     laws::<K>();

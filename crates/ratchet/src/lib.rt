@@ -14,18 +14,20 @@
 //! use dr_base::{Key32, Side};
 //! use kem_laws::OpenKem;
 //! use packet::parse;
-//! use ratchet::{NoPairFor, Session};
+//! use ratchet::{KeptRoom, NoPairFor, Session};
 //!
 //! let key = Key32 { bytes: [7; 32] };
 //! let mut first = Session::<OpenKem>::begin(&mut (), Side::First, &key)?;
 //! let mut second = Session::<OpenKem>::begin(&mut (), Side::Second, &key)?;
+//!
+//! let mut room = KeptRoom::new();
 //!
 //! // A text in an epoch of Second's own needs no seed.
 //! if let Ok(false) = second.send_check(5) {
 //!     match second.draft_send(&mut (), b"hello", None) {
 //!         Ok(said) => {
 //!             if let Ok(view) = parse(said.packet(), 64) {
-//!                 match first.draft_receive(&mut (), &view) {
+//!                 match first.draft_receive(&mut (), &view, &mut room) {
 //!                     Ok(taken) => taken.accept(&mut first),
 //!                     Err(_) => {}
 //!                 }
@@ -41,6 +43,7 @@
 pub use receiving::ReceiveDraft;
 pub use sending::{NoPairFor, SendDraft};
 pub use session::Session;
+pub use table::KeptRoom;
 
 mod beginning;
 mod drafting;
@@ -50,4 +53,5 @@ mod receiving;
 mod sealing;
 mod sending;
 mod session;
+mod table;
 mod way;

@@ -4,40 +4,54 @@ ghost use Rattle.std.specs.Prelude.{◌≡◌, ◌≤◌, length, IfOk};
 ghost use Rattle.cka.specs.Agreement.{agreement_size};
 ghost use Rattle.packet.specs.Packet.{IsLawful};
 ghost use Rattle.session_model.specs.Drafts.{IsReceiveDraft};
-ghost use Rattle.session_model.specs.Refusals.{receive_refusal, refused_as};
 ghost use Rattle.session_model.specs.Taking.{draft_receive, opening_on};
 ghost use Rattle.session_model.specs.States.{State};
-ghost use Rattle.ratchet.specs.Seen.{on_way, opened};
+ghost use Rattle.ratchet.specs.Seen.{on_way, opened, received_as, received_of};
 
 use crate::message::{Message, open};
 use crate::session::Session;
+use crate::table::{KeptRoom, kept_in, settle};
 use crate::way::find_key;
 use dr_base::{Position, TEXT_LIMIT, in_room};
 use etm_aead::OpenKey;
+use fs_aead::Skipped;
 use kem_laws::Kem;
 use packet::View;
-use session_model::{ReceiveRefusal, SessionPart};
+use session_model::{Head, LentPart, ReceiveRefusal};
 use std::marker::Model;
 
-/// A packet that opens: its text, and what the session would keep. It changes nothing until it is accepted.
+/// A packet that opens: its text, and the head that the session would keep, with kept keys only
+/// where the packet changes them. It changes nothing until it is accepted.
 ///
 /// It can't be copied, and it has to be spent: by `accept`, or by `discard`.
-pub struct ReceiveDraft<K: Kem> {
+pub struct ReceiveDraft<'a, K: Kem> {
     position: Position,
     text: Message,
-    part: SessionPart<K>,
+    head: Head<K>,
+    /// None where the session's kept keys stay.
+    table: Option<&'a Skipped>,
 }
 
-impl<K: Kem> Model for ReceiveDraft<K> {
-    ghost use Rattle.session_model.specs.Taking.{ReceiveDraft as Received};
-    ghost use Rattle.ratchet.specs.Seen.{received};
+impl<'a, K: Kem> Model for ReceiveDraft<'a, K> {
+    ghost use Rattle.std.specs.Prelude.{[], option_map};
+    ghost use Rattle.session_model.specs.LawfulStates.{IsLawfulState};
+    ghost use Rattle.session_model.specs.Seen.{seen};
+    ghost use Rattle.ratchet.specs.Seen.{Received, kept_in};
 
     ghost Value = { Received };
 
-    ghost view = { λ d. received d.position d.text.items d.part };
+    ghost view = { λ d. record {
+      position = d.position;
+      text = d.text.items;
+      head = seen d.head [];
+      table = option_map (λ t. t.now) d.table;
+    } };
+
+    ghost invariant = { λ d.
+        IsLawfulState K.mechanism (seen d.head (kept_in [] (option_map (λ t. t.now) d.table))) };
 }
 
-impl<K: Kem> ReceiveDraft<K> {
+impl<K: Kem> ReceiveDraft<'_, K> {
     /// Where the text stands.
     pub fn position(&self) -> Position
         ensures { result ≡ self.now.position }
@@ -53,24 +67,32 @@ impl<K: Kem> ReceiveDraft<K> {
         self.text.as_slice()
     }
 
-    /// What the session would keep.
-    pub fn part(&self) -> &SessionPart<K>
-        ensures { result.now ≡ self.now.next }
+    /// What the session that it was drafted from would keep.
+    pub fn part<'a>(&'a self, session: &'a Session<K>) -> LentPart<'a, K>
+        requires { IsReceiveDraft K.mechanism session.now (received_of session.now self.now) }
+        ensures { result ≡ (received_of session.now self.now).next }
     {
-        &self.part
+        let part = &session.part;
+        LentPart {
+            head: &self.head,
+            kept: kept_in(&part.kept, self.table),
+        }
     }
 
     /// Makes it the session's, which still has the state that it was drafted from.
     #[inline(always)]
     pub fn accept(self, session: &mut Session<K>)
-        requires { IsReceiveDraft K.mechanism session.old self }
-        ensures { session.new ≡ self.next }
+        requires { IsReceiveDraft K.mechanism session.old (received_of session.old self) }
+        ensures { session.new ≡ (received_of session.old self.entry).next }
     {
-        session.part.copy_from(&self.part);
+        let part = &mut session.part;
+        part.head.copy_from(&self.head);
+        settle(&mut part.kept, self.table);
         let ReceiveDraft {
             position: _,
             text: _,
-            part: _,
+            head: _,
+            table: _,
         } = self;
     }
 
@@ -79,7 +101,8 @@ impl<K: Kem> ReceiveDraft<K> {
         let ReceiveDraft {
             position: _,
             text: _,
-            part: _,
+            head: _,
+            table: _,
         } = self;
     }
 }
@@ -96,19 +119,23 @@ fn open_text(key: OpenKey, view: &View<'_>, text: &mut Message) -> Result<(), Re
 }
 
 impl<K: Kem> Session<K> {
-    /// Drafts the taking of a packet, or answers why it is refused.
+    /// Drafts the taking of a packet, or answers why it is refused. The room is for the kept keys,
+    /// where the packet changes them.
     // Inlined, the draft is built where the caller keeps it.
     #[inline(always)]
     #[tactic(auto, unfolding(session_model::specs::Taking::draft_receive))]
-    pub fn draft_receive(
+    pub fn draft_receive<'a>(
         &self,
         work: &mut K::Work,
         view: &View<'_>,
-    ) -> Result<ReceiveDraft<K>, ReceiveRefusal>
+        room: &'a mut KeptRoom,
+    ) -> Result<ReceiveDraft<'a, K>, ReceiveRefusal>
         requires { IsLawful (agreement_size K.mechanism) view.now }
-        ensures exact { refused_as receive_refusal result ≡ draft_receive K.mechanism self.now view.now }
-        ensures draft { IfOk result (λ draft. IsReceiveDraft K.mechanism self.now draft) }
+        ensures exact { received_as self.now result ≡ draft_receive K.mechanism self.now view.now }
+        ensures draft { IfOk result (λ draft.
+            IsReceiveDraft K.mechanism self.now (received_of self.now draft)) }
     {
+        room.clear();
         let part = &self.part;
         let mut draft = ReceiveDraft {
             position: Position {
@@ -116,10 +143,10 @@ impl<K: Kem> Session<K> {
                 index: view.index(),
             },
             text: in_room(view.ciphertext()),
-            part: part.without_kept(),
+            head: part.head.copied(),
+            table: None,
         };
-        draft.part.copy_kept(part);
-        let key = match find_key(part, &mut draft.part, work, view) {
+        let key = match find_key(part, &mut draft.head, room, work, view) {
             Ok(key) => key,
             Err(refusal) => {
                 draft.discard();
@@ -127,7 +154,10 @@ impl<K: Kem> Session<K> {
             }
         };
         match open_text(key, view, &mut draft.text) {
-            Ok(()) => Ok(draft),
+            Ok(()) => {
+                draft.table = room.changed();
+                Ok(draft)
+            }
             Err(refusal) => {
                 draft.discard();
                 Err(refusal)

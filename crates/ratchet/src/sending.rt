@@ -2,11 +2,12 @@
 
 ghost use Rattle.std.specs.Prelude.{◌≡◌, ◌≤◌, length};
 ghost use Rattle.session_model.specs.Drafts.{IsSendDraft};
+ghost use Rattle.ratchet.specs.Seen.{said_of};
 
 use crate::session::Session;
 use dr_base::{Key32, PACKET_LIMIT, Position};
 use kem_laws::Kem;
-use session_model::SessionPart;
+use session_model::{Head, LentPart};
 use std::marker::Model;
 
 /// This seed gives no pair of keys: no turn was made.
@@ -16,7 +17,8 @@ pub struct NoPairFor {
     pub seed: Key32,
 }
 
-/// A text that would be said: its packet, and what the session would keep. It changes nothing until it is accepted.
+/// A text that would be said: its packet, and the head that the session would keep; a text changes
+/// no kept key. It changes nothing until it is accepted.
 ///
 /// It can't be copied, and it has to be spent: by `accept`, or by `discard`.
 pub struct SendDraft<K: Kem> {
@@ -24,21 +26,25 @@ pub struct SendDraft<K: Kem> {
     /// The packet stands in the front, which has this length.
     pub(crate) room: [u8; PACKET_LIMIT],
     pub(crate) len: usize,
-    pub(crate) part: SessionPart<K>,
+    pub(crate) head: Head<K>,
 }
 
 impl<K: Kem> Model for SendDraft<K> {
-    ghost use Rattle.std.specs.Prelude.{◌≤◌, take};
+    ghost use Rattle.std.specs.Prelude.{◌≤◌, [], take};
     ghost use Rattle.boxes.specs.Items.{item_at};
     ghost use Rattle.dr_base.specs.declared.limits.TheConstants.{PACKET_LIMIT};
-    ghost use Rattle.session_model.specs.Saying.{SendDraft as Drafted};
-    ghost use Rattle.ratchet.specs.Seen.{drafted};
+    ghost use Rattle.session_model.specs.LawfulStates.{IsLawfulState};
+    ghost use Rattle.session_model.specs.Seen.{seen};
+    ghost use Rattle.ratchet.specs.Seen.{Said};
 
-    ghost Value = { Drafted };
+    ghost Value = { Said };
 
-    ghost view = { λ d. drafted (item_at d.position (take d.len d.room)) d.part };
+    ghost view = { λ d. record {
+      post = item_at d.position (take d.len d.room);
+      head = seen d.head [];
+    } };
 
-    ghost invariant = { λ d. d.len ≤ PACKET_LIMIT };
+    ghost invariant = { λ d. (d.len ≤ PACKET_LIMIT) × IsLawfulState K.mechanism (seen d.head []) };
 }
 
 impl<K: Kem> SendDraft<K> {
@@ -57,25 +63,31 @@ impl<K: Kem> SendDraft<K> {
         &self.room[..self.len]
     }
 
-    /// What the session would keep.
-    pub fn part(&self) -> &SessionPart<K>
-        ensures { result.now ≡ self.now.next }
+    /// What the session that it was drafted from would keep.
+    pub fn part<'a>(&'a self, session: &'a Session<K>) -> LentPart<'a, K>
+        requires { IsSendDraft K.mechanism session.now (said_of session.now self.now) }
+        ensures { result ≡ (said_of session.now self.now).next }
     {
-        &self.part
+        let part = &session.part;
+        LentPart {
+            head: &self.head,
+            kept: &part.kept,
+        }
     }
 
     /// Makes it the session's, which still has the state that it was drafted from.
     #[inline(always)]
     pub fn accept(self, session: &mut Session<K>)
-        requires { IsSendDraft K.mechanism session.old self }
-        ensures { session.new ≡ self.next }
+        requires { IsSendDraft K.mechanism session.old (said_of session.old self) }
+        ensures { session.new ≡ (said_of session.old self).next }
     {
-        session.part.copy_from(&self.part);
+        let part = &mut session.part;
+        part.head.copy_from(&self.head);
         let SendDraft {
             position: _,
             room: _,
             len: _,
-            part: _,
+            head: _,
         } = self;
     }
 
@@ -85,7 +97,7 @@ impl<K: Kem> SendDraft<K> {
             position: _,
             room: _,
             len: _,
-            part: _,
+            head: _,
         } = self;
     }
 }

@@ -13,7 +13,7 @@ use dr_base::{
 };
 use fs_aead::Skipped;
 use kem_laws::{Kem, NoPair, laws};
-use session_model::{Own, Phase, Reception, SendRefusal, SessionPart};
+use session_model::{Head, LentPart, Own, Phase, Reception, SendRefusal, SessionPart};
 use std::marker::{Model, PhantomData};
 
 /// One side of a conversation. A contract sees its state.
@@ -69,15 +69,17 @@ impl<K: Kem> Session<K> {
                 };
                 Ok(Session {
                     part: SessionPart {
-                        side,
-                        session: beginning.session,
-                        root: beginning.root,
-                        epoch: 0,
-                        phase,
-                        previous: 0,
-                        receiving,
+                        head: Head {
+                            side,
+                            session: beginning.session,
+                            root: beginning.root,
+                            epoch: 0,
+                            phase,
+                            previous: 0,
+                            receiving,
+                            mechanism: PhantomData,
+                        },
                         kept: Skipped::new(),
-                        mechanism: PhantomData,
                     },
                 })
             }
@@ -91,11 +93,11 @@ impl<K: Kem> Session<K> {
         Session { part }
     }
 
-    /// The session's parts.
-    pub fn part(&self) -> &SessionPart<K>
-        ensures { result.now ≡ self.now }
+    /// The session's parts, lent.
+    pub fn part(&self) -> LentPart<'_, K>
+        ensures { result ≡ self.now }
     {
-        &self.part
+        self.part.lent()
     }
 
     /// Whether a text of this length may be said, and then whether that needs a seed.
@@ -106,7 +108,7 @@ impl<K: Kem> Session<K> {
             return Err(SendRefusal::TextTooLong { len });
         }
         let part = &self.part;
-        match &part.phase {
+        match &part.head.phase {
             Phase::Own(own) => {
                 if own.sent >= INDEX_LIMIT {
                     return Err(SendRefusal::EpochFull);
@@ -114,7 +116,7 @@ impl<K: Kem> Session<K> {
                 Ok(false)
             }
             Phase::Peers(_) => {
-                if part.epoch >= LAST_EPOCH {
+                if part.head.epoch >= LAST_EPOCH {
                     return Err(SendRefusal::LastEpoch);
                 }
                 Ok(true)

@@ -1,15 +1,14 @@
-//! Copies of the parts of a session, made in place: a part has 14 KB, which take as long to move as one block of a hash
-//! takes.
+//! Copies of what a session keeps but for the kept keys, made in place: a head has 4 KB, and is
+//! copied for each text.
 
 ghost use Rattle.std.specs.Prelude.{◌≡◌, ◌≤◌, [], length};
-ghost use Rattle.session_model.specs.Seen.{own_seen, phase_seen};
+ghost use Rattle.session_model.specs.Seen.{own_seen, phase_seen, seen};
 ghost use Rattle.session_model.specs.States.{in_own, in_peers};
 
-use crate::part::{Own, Phase, Reception, SessionPart, copy_of_key};
+use crate::part::{Head, Own, Phase, Reception, copy_of_key};
 use arrayvec::ArrayVec;
 use cka::{Agreement, PublicText, SecretText};
 use dr_base::Key32;
-use fs_aead::Skipped;
 use kem_laws::Kem;
 use std::marker::PhantomData;
 
@@ -97,10 +96,10 @@ fn copy_of_reception(receiving: &Option<Reception>) -> Option<Reception>
     }
 }
 
-impl<K: Kem> SessionPart<K> {
-    /// Becomes a copy of another part, in place.
-    pub fn copy_from(&mut self, from: &SessionPart<K>)
-        ensures { self.new ≡ from.now }
+impl<K: Kem> Head<K> {
+    /// Becomes a copy of another head, in place.
+    pub fn copy_from(&mut self, from: &Head<K>)
+        ensures { seen self.new [] ≡ seen from.now [] }
     {
         self.side = from.side;
         self.session = from.session;
@@ -109,18 +108,16 @@ impl<K: Kem> SessionPart<K> {
         self.phase.copy_from(&from.phase);
         self.previous = from.previous;
         self.receiving = copy_of_reception(&from.receiving);
-        self.kept.copy_from(&from.kept);
     }
 
-    /// A second copy but for the kept keys. They are by far the most, and `copy_kept` puts them in once the copy stands
-    /// where it stays. Inlined, it is made there.
+    /// A second copy. Inlined, it is made where it stays.
     #[inline(always)]
-    pub fn without_kept(&self) -> SessionPart<K>
-        ensures { result ≡ record self.now { kept = [] } }
+    pub fn copied(&self) -> Head<K>
+        ensures { seen result [] ≡ seen self.now [] }
     {
         let mut phase = Phase::Peers(PublicText::new());
         phase.copy_from(&self.phase);
-        SessionPart {
+        Head {
             side: self.side,
             session: self.session,
             root: copy_of_key(&self.root),
@@ -128,16 +125,7 @@ impl<K: Kem> SessionPart<K> {
             phase,
             previous: self.previous,
             receiving: copy_of_reception(&self.receiving),
-            kept: Skipped::new(),
             mechanism: PhantomData,
         }
-    }
-
-    /// Makes a copy that lacks the kept keys a whole one.
-    pub fn copy_kept(&mut self, whole: &SessionPart<K>)
-        requires { self.old ≡ record whole.now { kept = [] } }
-        ensures { self.new ≡ whole.now }
-    {
-        self.kept.copy_from(&whole.kept);
     }
 }

@@ -1,10 +1,11 @@
-//! One side of a conversation as plain values: what a session keeps, what it answers to a text or a packet, and its
-//! boxes. The definitions stand in specs/. The code's share is what a session keeps (`SessionPart` and its parts), its
-//! copying in place, and the enums of answers and refusals.
+//! One side of a conversation as plain values: what a session keeps, what it answers to a text or a
+//! packet, and its boxes. The definitions stand in specs/. The code's share is what a session keeps
+//! (`SessionPart` and its parts), the copying of its head in place, and the enums of answers and
+//! refusals.
 #![tactic(auto)]
 
 pub use answer::{Amount, Answer, Refusal, Summary};
-pub use part::{Own, Phase, Reception, SessionPart, copy_of_key};
+pub use part::{Head, LentPart, Own, Phase, Reception, SessionPart, copy_of_key};
 pub use refusals::{ReceiveRefusal, SendRefusal};
 
 mod answer;

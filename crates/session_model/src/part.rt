@@ -34,10 +34,9 @@ pub struct Reception {
     pub reach: u32,
 }
 
-/// What a session keeps, as plain data. A contract sees the state that it is, which is a lawful one: whoever makes a
-/// part proves that. It owns no memory but its own room.
+/// What a session keeps but for the kept keys, as plain data.
 #[derive(Drop)]
-pub struct SessionPart<K: Kem> {
+pub struct Head<K: Kem> {
     pub side: Side,
     pub session: [u8; 16],
     pub root: Key32,
@@ -48,9 +47,16 @@ pub struct SessionPart<K: Kem> {
     pub previous: u32,
     /// None before the first peer's epoch.
     pub receiving: Option<Reception>,
+    pub mechanism: PhantomData<K>,
+}
+
+/// What a session keeps, as plain data. A contract sees the state that it is, which is a lawful one: whoever makes a
+/// part proves that. It owns no memory but its own room.
+#[derive(Drop)]
+pub struct SessionPart<K: Kem> {
+    pub head: Head<K>,
     /// The keys that were passed.
     pub kept: Skipped,
-    pub mechanism: PhantomData<K>,
 }
 
 impl<K: Kem> Model for SessionPart<K> {
@@ -61,9 +67,42 @@ impl<K: Kem> Model for SessionPart<K> {
     ghost use Rattle.session_model.specs.LawfulStates.{IsLawfulState};
     ghost use Rattle.session_model.specs.Seen.{seen};
 
-    ghost view = { λ p. seen p };
+    ghost view = { λ p. seen p.head p.kept };
 
-    ghost invariant = { λ p. IsLawfulState K.mechanism (seen p) };
+    ghost invariant = { λ p. IsLawfulState K.mechanism (seen p.head p.kept) };
+}
+
+impl<K: Kem> SessionPart<K> {
+    /// The part, lent.
+    pub fn lent(&self) -> LentPart<'_, K>
+        ensures { result ≡ self.now }
+    {
+        LentPart {
+            head: &self.head,
+            kept: &self.kept,
+        }
+    }
+}
+
+/// A part of which the head and the kept keys are lent, each from where it stands. A contract sees
+/// the state that they are together, which is a lawful one.
+#[derive(Drop)]
+pub struct LentPart<'a, K: Kem> {
+    pub head: &'a Head<K>,
+    pub kept: &'a Skipped,
+}
+
+impl<'a, K: Kem> Model for LentPart<'a, K> {
+    ghost use Rattle.session_model.specs.States.{State};
+
+    ghost Value = { State };
+
+    ghost use Rattle.session_model.specs.LawfulStates.{IsLawfulState};
+    ghost use Rattle.session_model.specs.Seen.{seen};
+
+    ghost view = { λ p. seen p.head.now p.kept.now };
+
+    ghost invariant = { λ p. IsLawfulState K.mechanism (seen p.head.now p.kept.now) };
 }
 
 /// A second copy of a key.

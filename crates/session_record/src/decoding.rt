@@ -20,7 +20,7 @@ use dr_base::{KEPT_LIMIT, Kept, Key32, Side};
 use fs_aead::Skipped;
 use grammar::Cursor;
 use kem_laws::Kem;
-use session_model::{Phase, Reception, SessionPart};
+use session_model::{Head, Phase, Reception, SessionPart};
 use std::marker::PhantomData;
 
 /// The fields before the boxes, of which nothing is known together.
@@ -94,15 +94,17 @@ fn part_of<K: Kem>(fields: Fields) -> SessionPart<K>
     ensures { result ≡ state_read fields }
 {
     SessionPart {
-        side: fields.side,
-        session: fields.session,
-        root: fields.root,
-        epoch: fields.epoch,
-        phase: fields.phase,
-        previous: fields.previous,
-        receiving: fields.receiving,
+        head: Head {
+            side: fields.side,
+            session: fields.session,
+            root: fields.root,
+            epoch: fields.epoch,
+            phase: fields.phase,
+            previous: fields.previous,
+            receiving: fields.receiving,
+            mechanism: PhantomData,
+        },
         kept: Skipped::resume(fields.kept.as_slice()),
-        mechanism: PhantomData,
     }
 }
 

@@ -16,7 +16,7 @@ use crate::outbox::put_outbox;
 use boxes::{Inbox, Outbox};
 use dr_base::{Key32, Side, put, put_u8, put_u32};
 use kem_laws::{Kem, laws};
-use session_model::SessionPart;
+use session_model::LentPart;
 
 /// Puts what stands before the keys at the beginning.
 fn put_head(out: &mut [u8], side: Side, session: &[u8; 16], root: &Key32, epoch: u32) -> usize
@@ -31,19 +31,20 @@ fn put_head(out: &mut [u8], side: Side, session: &[u8; 16], root: &Key32, epoch:
 }
 
 /// Puts what the session keeps at the beginning.
-fn put_part<K: Kem>(out: &mut [u8], part: &SessionPart<K>) -> usize
+fn put_part<K: Kem>(out: &mut [u8], part: &LentPart<'_, K>) -> usize
     requires { length (state_text part.now) ≤ length out.old }
     ensures { Puts out.old out.new 0 (state_text part.now) result }
 {
-    let at_phase = put_head(out, part.side, &part.session, &part.root, part.epoch);
-    let at_previous = put_phase(out, at_phase, &part.phase);
-    let at_receiving = put_u32(out, at_previous, part.previous);
-    let at_kept = put_receiving(out, at_receiving, &part.receiving);
+    let head = part.head;
+    let at_phase = put_head(out, head.side, &head.session, &head.root, head.epoch);
+    let at_previous = put_phase(out, at_phase, &head.phase);
+    let at_receiving = put_u32(out, at_previous, head.previous);
+    let at_kept = put_receiving(out, at_receiving, &head.receiving);
     put_kept(out, at_kept, part.kept.kept())
 }
 
 /// No record is longer than `RECORD_LIMIT`, also after a change.
-fn is_short<K: Kem>(part: &SessionPart<K>, inbox: &Inbox, outbox: &Outbox, change: &Change<'_>)
+fn is_short<K: Kem>(part: &LentPart<'_, K>, inbox: &Inbox, outbox: &Outbox, change: &Change<'_>)
     requires inbox { FitsInbox inbox.now change.now }
     requires outbox { FitsOutbox outbox.now change.now }
     ensures { length (record_text (changed K.mechanism (client_of part.now inbox.now outbox.now) change.now)) ≤ RECORD_LIMIT }
@@ -57,7 +58,7 @@ fn is_short<K: Kem>(part: &SessionPart<K>, inbox: &Inbox, outbox: &Outbox, chang
 /// Writes the record of a session's part and of the boxes as a change leaves them, and answers its length. What stands
 /// after it stays. The buffer holds this record, or has room for any.
 pub fn encode<K: Kem>(
-    part: &SessionPart<K>,
+    part: &LentPart<'_, K>,
     inbox: &Inbox,
     outbox: &Outbox,
     change: &Change<'_>,

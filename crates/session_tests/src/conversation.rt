@@ -8,8 +8,8 @@ use dr_base::{Key32, PACKET_LIMIT, Position, Side, TEXT_LIMIT, in_room};
 use fs_aead::Skipped;
 use kem_laws::{NoPair, OpenKem};
 use packet::parse;
-use ratchet::{NoPairFor, Session};
-use session_model::{Own, Phase, Reception, Refusal, SendRefusal, SessionPart};
+use ratchet::{KeptRoom, NoPairFor, Session};
+use session_model::{Head, Own, Phase, Reception, Refusal, SendRefusal, SessionPart};
 use std::marker::PhantomData;
 use std::test::Fail;
 
@@ -46,9 +46,10 @@ fn say(session: &mut Session<OpenKem>, text: &[u8], byte: u8) -> Result<Packet, 
 
 /// Takes a packet, and answers its text.
 fn take(session: &mut Session<OpenKem>, packet: &Packet) -> Result<Text, Refusal> {
+    let mut room = KeptRoom::new();
     match parse(packet.as_slice(), 64) {
         Err(fault) => Err(Refusal::Malformed(fault)),
-        Ok(view) => match session.draft_receive(&mut (), &view) {
+        Ok(view) => match session.draft_receive(&mut (), &view, &mut room) {
             Err(refusal) => Err(refusal.into()),
             Ok(draft) => {
                 let text = in_room(draft.text());
@@ -143,20 +144,22 @@ fn full_session() -> Session<OpenKem> {
     let mut secret = SecretText::new();
     secret.try_extend_from_slice(&[1; 32]).unwrap();
     Session::resume(SessionPart {
-        side: Side::Second,
-        session: [2; 16],
-        root: Key32 { bytes: [3; 32] },
-        epoch: 0,
-        phase: Phase::Own(Own {
-            secret,
-            agreement: Agreement::new(),
-            chain: Key32 { bytes: [4; 32] },
-            sent: 65535,
-        }),
-        previous: 0,
-        receiving: None,
+        head: Head {
+            side: Side::Second,
+            session: [2; 16],
+            root: Key32 { bytes: [3; 32] },
+            epoch: 0,
+            phase: Phase::Own(Own {
+                secret,
+                agreement: Agreement::new(),
+                chain: Key32 { bytes: [4; 32] },
+                sent: 65535,
+            }),
+            previous: 0,
+            receiving: None,
+            mechanism: PhantomData,
+        },
         kept: Skipped::new(),
-        mechanism: PhantomData,
     })
 }
 
@@ -165,18 +168,20 @@ fn last_session() -> Session<OpenKem> {
     let mut public = PublicText::new();
     public.try_extend_from_slice(&[1; 32]).unwrap();
     Session::resume(SessionPart {
-        side: Side::First,
-        session: [2; 16],
-        root: Key32 { bytes: [3; 32] },
-        epoch: 4294967294,
-        phase: Phase::Peers(public),
-        previous: 0,
-        receiving: Some(Reception {
-            chain: Key32 { bytes: [4; 32] },
-            reach: 0,
-        }),
+        head: Head {
+            side: Side::First,
+            session: [2; 16],
+            root: Key32 { bytes: [3; 32] },
+            epoch: 4294967294,
+            phase: Phase::Peers(public),
+            previous: 0,
+            receiving: Some(Reception {
+                chain: Key32 { bytes: [4; 32] },
+                reach: 0,
+            }),
+            mechanism: PhantomData,
+        },
         kept: Skipped::new(),
-        mechanism: PhantomData,
     })
 }
 

@@ -75,7 +75,7 @@ fn is_kept(alloc: Global, text: &[u8]) -> Result<bool, AllocError> {
         Err(_) => Ok(false),
         Ok(part) => {
             let mut out = [0; RECORD_LIMIT];
-            let len = encode(&part, &inbox, &outbox, &Change::Same, &mut out);
+            let len = encode(&part.lent(), &inbox, &outbox, &Change::Same, &mut out);
             Ok(&out[..len] == text)
         }
     }

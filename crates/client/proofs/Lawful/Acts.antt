@@ -21,7 +21,8 @@ use Rattle.session_model.specs.declared.answer.Refusal.TheVariants.{NoPair}
 use Rattle.session_record.specs.Lawful.{IsLawfulClient, IsLawfulEntry, IsLawfulPost}
 use Rattle.client.proofs.Lawful.Drafts.{send_lawful}
 use Rattle.client.proofs.Lawful.Saying.{passed_check, said_lawful}
-use Rattle.client.proofs.Lawful.Taking.{lets, passes, taken_lawful}
+use Rattle.client.proofs.Lawful.Taking.{taken_lawful}
+use Rattle.session_model.proofs.Passing.{lets, passes}
 use Rattle.client.proofs.Lawful.Ways.{receive_lawful}
 
 -- ---- a text is said

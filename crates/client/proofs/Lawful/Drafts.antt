@@ -14,7 +14,7 @@ use Rattle.ratchet.proofs.LawfulTurn.{in_own_phase, in_own_previous, in_peers_ph
 use Rattle.session_model.specs.LawfulStates.{IsLawfulState}
 use Rattle.session_model.specs.Saying.{SendDraft, draft_own, draft_phase, draft_send, draft_turn, phase_check}
 use Rattle.session_model.specs.States.{Own, Phase, State, in_own, in_peers}
-use Rattle.client.proofs.Lawful.Taking.{passes}
+use Rattle.session_model.proofs.Passing.{passes}
 
 own_lawful : (k : Mechanism) (s : State) (own : Own) (text : List ℕ) → IsLawfulState k s → s.phase ≡ in_own own
     → own.sent < INDEX_LIMIT → IsLawfulState k (draft_own s own text).next

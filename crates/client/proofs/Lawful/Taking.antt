@@ -28,6 +28,7 @@ use Rattle.session_model.specs.declared.answer.Refusal.{Refusal}
 use Rattle.session_record.specs.Lawful.{IsLawfulClient, IsLawfulEntry}
 use Rattle.session_record.specs.Record.{client_of}
 use Rattle.client.proofs.Lawful.Saying.{GoesOn, entries_stay, posts_stay}
+use Rattle.session_model.proofs.Passing.{lets, passes}
 
 -- ---- kept keys have 32 bytes
 
@@ -58,17 +59,6 @@ record IsTaken (s : State) (epoch : ℕ) (next : State) : Type 0 where
   on : GoesOn s next
   reached : epoch ≤ next.epoch
   long : AreLong next.kept
-
--- a test that no refusal stops
-pub passes : {A : Type 0} (b : Bool) (e : Refusal) (r : Result A Refusal) (x : A) → (if b then Err e else r) ≡ Ok x
-    → (b ≡ false) × (r ≡ Ok x)
-passes true e r x is = absurd (let no : Err e ≡ Ok x = is in cc)
-passes false e r x is = (refl, is)
-
--- one that lets through what passes
-pub lets : {A : Type 0} (b : Bool) (e : Refusal) (r : Result A Refusal) (x : A) → (if b then r else Err e) ≡ Ok x → r ≡ Ok x
-lets true e r x is = is
-lets false e r x is = absurd (let no : Err e ≡ Ok x = is in cc)
 
 taken_by_kept : (s : State) (p : Position) (key : Option (List ℕ)) (way : Way) → AreLong s.kept → p.epoch ≤ s.epoch
     → kept_way s p key ≡ Ok way → IsTaken s p.epoch way.next

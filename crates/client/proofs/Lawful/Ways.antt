@@ -30,7 +30,7 @@ use Rattle.session_model.specs.States.{Own, Phase, Reception, State, in_own, in_
 use Rattle.session_model.specs.Taking.{ReceiveDraft, draft_receive, opened_by}
 use Rattle.session_model.specs.Ways.{Way, chain_way, epoch_way, kept_way, known_way, next_way, position_of, turn_way, turned, way_of}
 use Rattle.session_model.specs.declared.answer.Refusal.{Refusal}
-use Rattle.client.proofs.Lawful.Taking.{lets, passes}
+use Rattle.session_model.proofs.Passing.{lets, passes}
 
 -- ---- in the peer's epochs so far
 

@@ -1,7 +1,6 @@
-use Rattle.std.proofs.Common.{◌≡◌, ◌∙◌, ◌+◌, ◌≤◌, rules, ap, length, sym, arith}
+use Rattle.std.proofs.Common.{◌∙◌, ◌+◌, ◌≤◌, rules, ap, length, sym, arith}
 use Rattle.dr_base.specs.declared.limits.TheConstants.{INDEX_LIMIT, LAST_EPOCH}
 use Rattle.fs_aead.specs.Stream.{Stream}
-use Rattle.session_model.specs.States.{State}
 use Rattle.ratchet.proofs.Fields.{lawful_sealing, agreement_later}
 use Rattle.ratchet.proofs.LawfulTurn.{in_peers_phase, in_peers_previous, lawful_turn}
 use Rattle.ratchet.proofs.Saying.{lawful_holder}
@@ -9,26 +8,21 @@ use Rattle.ratchet.proofs.drafting.say_first.Goals as goal
 
 pub resume-requires : goal.resume-requires
 resume-requires g c =
-    let held = ap (λ (s : State). s.phase) c.next.view_is ∙ c.requires.held in
-    ap length c.as_slice.ensures.value ∙ (in_peers_phase _ _ _ c.next.invariant held).1
+    ap length c.as_slice.ensures.value ∙ (in_peers_phase _ _ _ c.requires.lawful c.requires.held).1
 
 pub seal_packet-len-requires-clause-lawful : goal.seal_packet-len-requires-clause-lawful
 seal_packet-len-requires-clause-lawful g c =
-    let held = ap (λ (s : State). s.phase) c.next.view_is ∙ c.requires.held in
-    let before = in_peers_previous _ _ _ c.next.invariant held in
-    let epoch : c.next.inside.epoch ≡ c.args.next.now.epoch = ap (λ (s : State). s.epoch) c.next.view_is in
+    let before = in_peers_previous _ _ _ c.requires.lawful c.requires.held in
     let more = c.requires.more in
-    let fits : c.next.inside.epoch + 1 ≤ LAST_EPOCH = omega (arith, more, epoch) in
+    let fits : c.args.next.now.epoch + 1 ≤ LAST_EPOCH = omega (arith, more) in
     let one : 1 ≤ 1 = omega arith in
     let most : 1 ≤ INDEX_LIMIT = omega arith in
-    lawful_sealing _ _ _ _ _ _ _ c.next.invariant.session_long fits before.0 (λ h. before.1 (omega (arith, h))) one most
+    lawful_sealing _ _ _ _ _ _ _ c.requires.lawful.session_long fits before.0 (λ h. before.1 (omega (arith, h))) one most
     (ap length c.as_slice-in-Ok.ensures.value ∙ c.in-Ok.ensures.long ∙ sym (agreement_later _ _)) c.requires.short
 
-pub invariant_of-next : goal.invariant_of-next
-invariant_of-next g c =
-    let held = ap (λ (s : State). s.phase) c.next.view_is ∙ c.requires.held in
-    let epoch : c.next.inside.epoch ≡ c.args.next.now.epoch = ap (λ (s : State). s.epoch) c.next.view_is in
+pub returns-in-Ok-clause-lawful : goal.returns-in-Ok-clause-lawful
+returns-in-Ok-clause-lawful g c =
     let more = c.requires.more in
-    lawful_turn _ _ _ _ _ c.next.invariant held (omega (arith, more, epoch)) (search rules)
+    lawful_turn _ _ _ _ _ c.requires.lawful c.requires.held (omega (arith, more)) (search rules)
     (lawful_holder _ _ _ _ _ _ c.rest.ensures.value c.rest.ensures.long c.rest.ensures.lawful c.in-Ok.ensures.long c.rest-sent.ensures.chain
     (ap (λ (x : Stream). x.count) c.resume-in-Ok-2.ensures) c.next-stream.ensures.stream c.rest-sent.ensures.sent)

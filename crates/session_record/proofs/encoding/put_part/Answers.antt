@@ -9,4 +9,4 @@ pub returns : goal.returns
 returns g c =
     let kept = rw c.kept.ensures.keys at c.put_kept.ensures in
     subst (λ (s : State). Puts c.args.out.now c.put_kept.new.out 0 (state_text s) c.put_kept.result) c.part.view_is
-    (then_puts {x = head_text c.part.inside.side c.part.inside.session c.part.inside.root.bytes c.part.inside.epoch} c.put_head-at_phase.ensures (then_puts c.put_phase-at_previous.ensures (then_puts c.put_u32-at_receiving.ensures (then_puts c.put_receiving-at_kept.ensures kept))))
+    (then_puts {x = head_text c.part.inside.head.now.side c.part.inside.head.now.session c.part.inside.head.now.root.bytes c.part.inside.head.now.epoch} c.put_head-at_phase.ensures (then_puts c.put_phase-at_previous.ensures (then_puts c.put_u32-at_receiving.ensures (then_puts c.put_receiving-at_kept.ensures kept))))

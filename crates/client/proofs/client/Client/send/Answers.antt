@@ -2,6 +2,7 @@ use Rattle.std.proofs.Common.{Ok, ap, ap₂, arith, refl, subst, sym, ◌++◌, 
 use Rattle.std.proofs.lemmas.Grind.{common_steps}
 use Rattle.dr_base.specs.declared.position.Position.{Position}
 use Rattle.dr_model.specs.Machines.Steps.{step}
+use Rattle.ratchet.specs.Seen.{said_of}
 use Rattle.session_model.specs.Clients.{Client}
 use Rattle.session_model.specs.declared.answer.Answer.TheVariants.{Said}
 use Rattle.session_record.specs.Record.{client_of}
@@ -14,12 +15,14 @@ use Rattle.client.proofs.client.Client.send.Goals as goal
 pub returns-in-Err : goal.returns-in-Err
 returns-in-Err g c =
     let old = c.args.self.now in
+    let said = said_of old.kept.state c.args.draft in
+    let now = ap (λ (n : ClientNow). (said_of n.kept.state c.args.draft).next) c.self.view_is in
     let start = g.D.Disk.state c.args.disk.now in
     let ready : IsReady old.kept c.self.inside.store start =
     subst (λ (s : SlotStore). IsReady old.kept s start) (ap (λ (n : ClientNow). n.store) (sym c.self.view_is)) c.requires.open.1 in
     let same =
-    drafted_record g.K.Kem.mechanism c.part.result.now c.self.inside.inbox c.self.inside.outbox old.kept c.args.draft
-    c.packet.result.now c.part.ensures (ap (λ (n : ClientNow). n.kept.inbox) c.self.view_is)
+    drafted_record g.K.Kem.mechanism c.part.result c.self.inside.inbox c.self.inside.outbox old.kept said
+    c.packet.result.now (c.part.ensures ∙ now) (ap (λ (n : ClientNow). n.kept.inbox) c.self.view_is)
     (ap (λ (n : ClientNow). n.kept.outbox) c.self.view_is) c.packet.ensures.value in
     record {
       fate = grind (arith, common_steps);
@@ -37,17 +40,20 @@ returns-in-Err g c =
 pub returns-in-Ok : goal.returns-in-Ok
 returns-in-Ok g c =
     let old = c.args.self.now in
+    let said = said_of old.kept.state c.args.draft in
+    let now = ap (λ (n : ClientNow). (said_of n.kept.state c.args.draft).next) c.self.view_is in
     let start = g.D.Disk.state c.args.disk.now in
     let end = g.D.Disk.state c.keep.new.disk in
     let ready : IsReady old.kept c.self.inside.store start =
     subst (λ (s : SlotStore). IsReady old.kept s start) (ap (λ (n : ClientNow). n.store) (sym c.self.view_is)) c.requires.open.1 in
     let same =
-    drafted_record g.K.Kem.mechanism c.part.result.now c.self.inside.inbox c.self.inside.outbox old.kept c.args.draft
-    c.packet.result.now c.part.ensures (ap (λ (n : ClientNow). n.kept.inbox) c.self.view_is)
+    drafted_record g.K.Kem.mechanism c.part.result c.self.inside.inbox c.self.inside.outbox old.kept said
+    c.packet.result.now (c.part.ensures ∙ now) (ap (λ (n : ClientNow). n.kept.inbox) c.self.view_is)
     (ap (λ (n : ClientNow). n.kept.outbox) c.self.view_is) c.packet.ensures.value in
-    let keeps : c.accept_said.new.self.kept ≡ client_of c.args.draft.next old.kept.inbox (old.kept.outbox ++ c.args.draft.post ∷ []) =
+    let keeps : c.accept_said.new.self.kept ≡ client_of said.next old.kept.inbox (old.kept.outbox ++ said.post ∷ []) =
     c.accept_said.ensures.kept
-    ∙ ap (λ (n : ClientNow). client_of c.args.draft.next n.kept.inbox (n.kept.outbox ++ c.args.draft.post ∷ [])) c.self.view_is in
+    ∙ ap (λ (n : ClientNow).
+    let it = said_of n.kept.state c.args.draft in client_of it.next n.kept.inbox (n.kept.outbox ++ it.post ∷ [])) c.self.view_is in
     record {
       fate = grind (arith, common_steps);
       exact = record {

@@ -1,28 +1,31 @@
-use Rattle.std.proofs.Common.{◌∙◌, sym, ap}
-use Rattle.session_model.specs.Saying.{draft_own}
+use Rattle.std.proofs.Common.{[], ap, sym, ◌∙◌, ◌≡◌}
 use Rattle.session_model.specs.States.{State}
-use Rattle.session_model.specs.Seen.{own_seen, phase_seen}
-use Rattle.ratchet.proofs.Saying.{says_own, says_turn}
+use Rattle.session_model.specs.Seen.{own_seen, phase_seen, seen}
+use Rattle.ratchet.proofs.Saying.{says_none, says_own, says_turn}
 use Rattle.ratchet.proofs.session.Session.draft_send.Goals as goal
 
 pub returns-in-Own-clause-ok : goal.returns-in-Own-clause-ok
 returns-in-Own-clause-ok g c =
-    let now = sym (ap (λ (s : State). s.phase) (c.part.view_is ∙ c.self.view_is)) in
-    says_own _ _ _ _ _ _ (now ∙ ap phase_seen c.in-Own.is)
-    (c.say_on-len.ensures.draft ∙ ap (λ s. draft_own s (own_seen c.in-Own.own) c.args.text.now) (c.copy_kept.ensures ∙ c.self.view_is))
+    let whole : seen c.part.inside.head c.part.inside.kept ≡ c.args.self.now = c.part.view_is ∙ c.self.view_is in
+    says_own _ c.args.self.now (seen c.copied.result []) (own_seen c.in-Own.own) _ _ _
+    (sym (ap (λ (s : State). s.phase) whole) ∙ ap phase_seen c.in-Own.is)
+    (c.copied.ensures ∙ ap (λ (s : State). record s { kept = [] }) whole) c.say_on-len.ensures.draft
 
 pub returns-in-Own-clause-draft : goal.returns-in-Own-clause-draft
 returns-in-Own-clause-draft g c = record { text = c.args.text.now; seed = _; gives = returns-in-Own-clause-ok g c }
 
 pub returns-in-Ok-clause-ok : goal.returns-in-Ok-clause-ok
 returns-in-Ok-clause-ok g c =
-    let now = sym (ap (λ (s : State). s.phase) (c.part.view_is ∙ c.self.view_is)) in
-    says_turn _ _ _ _ _ _ _ _ (c.copy_kept.ensures ∙ c.self.view_is) (now ∙ ap phase_seen c.in-Peers.is) c.unwrap-seed.ensures c.in-Ok.ensures.ok
+    let whole : seen c.part.inside.head c.part.inside.kept ≡ c.args.self.now = c.part.view_is ∙ c.self.view_is in
+    says_turn _ c.args.self.now (seen c.copied.result []) _ _ _ _ _
+    (sym (ap (λ (s : State). s.phase) whole) ∙ ap phase_seen c.in-Peers.is)
+    (c.copied.ensures ∙ ap (λ (s : State). record s { kept = [] }) whole) c.unwrap-seed.ensures c.in-Ok.ensures.ok
 
 pub returns-in-Ok-clause-draft : goal.returns-in-Ok-clause-draft
 returns-in-Ok-clause-draft g c = record { text = c.args.text.now; seed = _; gives = returns-in-Ok-clause-ok g c }
 
 pub returns-in-Err-clause-err : goal.returns-in-Err-clause-err
 returns-in-Err-clause-err g c =
-    let now = sym (ap (λ (s : State). s.phase) (c.part.view_is ∙ c.self.view_is)) in
-    says_turn _ _ _ _ _ _ _ _ (c.copy_kept.ensures ∙ c.self.view_is) (now ∙ ap phase_seen c.in-Peers.is) c.unwrap-seed.ensures c.in-Err.ensures.err
+    let whole : seen c.part.inside.head c.part.inside.kept ≡ c.args.self.now = c.part.view_is ∙ c.self.view_is in
+    says_none _ c.args.self.now _ _ _ _ (sym (ap (λ (s : State). s.phase) whole) ∙ ap phase_seen c.in-Peers.is)
+    c.unwrap-seed.ensures c.in-Err.ensures.err
