@@ -4,7 +4,7 @@ ghost use Rattle.std.specs.Prelude.{◌<◌};
 
 use crate::clock::Times;
 use relay_core::Relay;
-use relay_wire::{FrameReader, Name, Packet, Request, parse_request, write_reply, write_request};
+use relay_wire::{FrameReader, Name, Packet, Request, parse_request, write_request};
 use std::alloc::Global;
 use std::io;
 use std::rt::Clock;
@@ -23,8 +23,9 @@ const FRAMES: u64 = 1000;
 fn post(alloc: Global) -> io::Result<Vec<u8>> {
     let mut frame = vec![in alloc; 0; 4098]?;
     let mut len = 0;
-    if let (Some(name), Some(packet)) = (Name::new(b"a"), Packet::new(&[7; 1000])) {
-        len = write_request(&Request::post(name, packet), frame.as_mut_slice());
+    let bytes = [7; 1000];
+    if let (Some(name), Some(packet)) = (Name::new(b"a"), Packet::new(&bytes)) {
+        len = write_request(&Request::post(name.lent(), packet), frame.as_mut_slice());
     }
     frame.truncate(len);
     Ok(frame)
@@ -37,12 +38,13 @@ fn answer(
     bytes: &[u8],
     out: &mut [u8; 4098],
 ) -> usize {
+    reader.clear();
     let _taken = reader.feed(bytes);
     let Some(frame) = reader.next() else {
         return 0;
     };
     match parse_request(&frame) {
-        Ok(request) => write_reply(&relay.answer(&request).0, out),
+        Ok(request) => relay.answer(&request, out).0,
         Err(_) => 0,
     }
 }
@@ -66,7 +68,7 @@ fn time_posts<R: Clock + AllocGlobal>(rt: &R, frame: &[u8]) -> io::Result<u64> {
         times.add(rt, start)?;
         for _ in 0..POSTS {
             number = number.wrapping_add(1);
-            let _acked = relay.answer(&Request::ack(name.copied(), number));
+            let _acked = relay.answer(&Request::ack(name.lent(), number), &mut out);
         }
     }
     Ok(times.median()? / POSTS)
@@ -77,6 +79,9 @@ fn take_frames(reader: &mut FrameReader, piece: &[u8]) -> u64 {
     let mut rest = piece;
     let mut frames: u64 = 0;
     for _ in 0..=piece.len() {
+        if !reader.fits(rest.len()) {
+            break;
+        }
         let taken = reader.feed(rest);
         rest = &rest[taken..];
         if reader.next().is_none() {

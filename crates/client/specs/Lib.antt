@@ -1,4 +1,5 @@
 pub mod Clients
+pub mod Drafting
 pub mod Outcomes
 pub mod Acting
 pub mod InWorlds

@@ -1,19 +1,18 @@
 //! Packets are taken.
 
-ghost use Rattle.std.specs.Prelude.{◌<◌, ◌++◌, ◌∷◌, [], Ok, IfOk, OnOk, length};
-ghost use Rattle.boxes.specs.Items.{item_at};
+ghost use Rattle.std.specs.Prelude.{◌≡◌, Ok, IfOk, OnOk};
 ghost use Rattle.dr_base.specs.declared.position.Side.{Side};
 ghost use Rattle.dr_model.specs.Machines.Acts.{act_in, act_on, taken_by, taking};
 ghost use Rattle.dr_model.specs.Machines.Worlds.{World};
 ghost use Rattle.dr_model.specs.Theorems.Fairness.{IsUnforged};
 ghost use Rattle.ratchet.specs.Seen.{received_of};
-ghost use Rattle.session_model.specs.Clients.{accept_receive};
+ghost use Rattle.session_model.specs.Clients.{Client as Kept, accept_receive};
 ghost use Rattle.session_model.specs.Drafts.{IsReceiveDraft};
 ghost use Rattle.session_model.specs.LawfulStates.{IsLawfulState};
 ghost use Rattle.session_record.specs.Lawful.{IsLawfulClient};
-ghost use Rattle.session_record.specs.Record.{client_of};
 ghost use Rattle.client.specs.Acting.{IsAct};
 ghost use Rattle.client.specs.Clients.{IsOpenOn, MayActOn};
+ghost use Rattle.client.specs.Drafting.{DraftsFor, IsDraftOf, taken_of};
 ghost use Rattle.client.specs.InWorlds.{ActsIn, IsIn};
 ghost use Rattle.client.specs.Outcomes.{Acts, Passes, taken_as};
 ghost use Rattle.client.specs.Spent.{IsSpent};
@@ -36,6 +35,34 @@ fn lawful_taken<K: Kem>(draft: &ReceiveDraft<'_, K>, session: &Session<K>)
     ensures { IsLawfulState K.mechanism (received_of session.now draft.now).next }
 {
     lawful_part(&draft.part(session));
+}
+
+/// What a session drafts for the packet that the bytes are, or why it refuses them. The room is for
+/// the kept keys, where the packet changes them.
+// Inlined, the draft is built where the caller keeps it.
+#[inline(always)]
+#[tactic(auto, unfolding(session_model::specs::Clients::take_on))]
+pub(crate) fn drafted<'a, K: Kem>(
+    session: &Session<K>,
+    work: &mut K::Work,
+    packet: &[u8],
+    room: &'a mut KeptRoom,
+) -> Result<ReceiveDraft<'a, K>, Refusal>
+    ensures drafts { (kept : Kept) → kept.state ≡ session.now
+        → DraftsFor K.mechanism kept packet.now result }
+    ensures lawful { (kept : Kept) → kept.state ≡ session.now → IsLawfulClient K.mechanism kept
+        → IfOk result (IsDraftOf K.mechanism kept) }
+{
+    match parse(packet, K::CIPHERTEXT + K::PUBLIC) {
+        Err(fault) => Err(Refusal::Malformed(fault)),
+        Ok(view) => match session.draft_receive(work, &view, room) {
+            Err(refusal) => Err(refusal.into()),
+            Ok(draft) => {
+                lawful_taken(&draft, session);
+                Ok(draft)
+            }
+        },
+    }
 }
 
 impl<K: Kem> Client<K> {
@@ -63,7 +90,6 @@ impl<K: Kem> Client<K> {
         self.take_exact(disk, packet)
     }
 
-    #[tactic(auto, unfolding(session_model::specs::Clients::take_on))]
     pub(crate) fn take_exact<D: Disk>(
         &mut self,
         disk: &mut D,
@@ -76,18 +102,28 @@ impl<K: Kem> Client<K> {
         if let Some(call) = self.closed {
             return Err(TakeRefusal::Closed { call });
         }
-        match parse(packet, K::CIPHERTEXT + K::PUBLIC) {
-            Err(fault) => Err(TakeRefusal::Refused(Refusal::Malformed(fault))),
-            Ok(view) => {
-                let mut room = KeptRoom::new();
-                match self.session.draft_receive(&mut self.work, &view, &mut room) {
-                    Err(refusal) => Err(TakeRefusal::Refused(refusal.into())),
-                    Ok(draft) => {
-                        lawful_taken(&draft, &self.session);
-                        self.receive(disk, draft)
-                    }
-                }
-            }
+        let mut room = KeptRoom::new();
+        let drafted = drafted(&self.session, &mut self.work, packet, &mut room);
+        self.take_drafted(disk, drafted)
+    }
+
+    /// Takes what was drafted for a packet.
+    // Inlined, so that the draft stays where it is.
+    #[inline(always)]
+    pub(crate) fn take_drafted<D: Disk>(
+        &mut self,
+        disk: &mut D,
+        drafted: Result<ReceiveDraft<'_, K>, Refusal>,
+    ) -> Result<Position, TakeRefusal>
+        requires drafted { IfOk drafted (IsDraftOf K.mechanism self.old.kept) }
+        requires open { IsOpenOn self.old (D.state disk.old) }
+        ensures { let taken = taken_of self.old.kept.state drafted.entry in
+            IsAct D.state (taken_by (accept_receive self.old.kept taken))
+            self.old self.new disk.old disk.new (taken_as result) }
+    {
+        match drafted {
+            Err(refusal) => Err(TakeRefusal::Refused(refusal)),
+            Ok(draft) => self.receive(disk, draft),
         }
     }
 
@@ -97,11 +133,7 @@ impl<K: Kem> Client<K> {
         disk: &mut D,
         draft: ReceiveDraft<'_, K>,
     ) -> Result<Position, TakeRefusal>
-        requires draft { let state = self.old.kept.state in
-            IsReceiveDraft K.mechanism state (received_of state draft) }
-        requires lawful { let next = (received_of self.old.kept.state draft).next in
-            length self.old.kept.inbox < INBOX_LIMIT → IsLawfulClient K.mechanism (client_of next
-            (self.old.kept.inbox ++ item_at draft.position draft.text ∷ []) self.old.kept.outbox) }
+        requires draft { IsDraftOf K.mechanism self.old.kept draft }
         requires open { IsOpenOn self.old (D.state disk.old) }
         ensures { let taken = received_of self.old.kept.state draft.entry in
             IsAct D.state (taken_by (accept_receive self.old.kept (Ok taken)))

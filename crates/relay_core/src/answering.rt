@@ -2,6 +2,7 @@
 
 ghost use Rattle.std.specs.Prelude.{◌≡◌, ◌≤◌, length, take, drop};
 ghost use Rattle.relay_wire.specs.Frames.{framed};
+ghost use Rattle.relay_wire.specs.Lending.{IsWhole};
 ghost use Rattle.relay_wire.specs.Requests.{read_request};
 ghost use Rattle.relay_wire.specs.Replies.{reply_body};
 ghost use Rattle.relay_wire.specs.declared.limits.TheConstants.{FRAME_LIMIT};
@@ -23,14 +24,18 @@ pub struct Answered {
 }
 
 /// Answers a frame out of the boxes, and writes the reply's frame at the beginning of `out`.
-pub fn answer_frame(relay: &mut Relay, frame: &Frame, out: &mut [u8]) -> Answered
-    requires { FRAME_LIMIT ≤ length out.old }
-    ensures next { relay.new ≡ (answers_read relay.old (read_request (drop 2 frame.now.bytes))).next }
-    ensures changed { result.changed ≡ (answers_read relay.old (read_request (drop 2 frame.now.bytes))).changed }
-    ensures last { result.last ≡ is_last (read_request (drop 2 frame.now.bytes)) }
+pub fn answer_frame(relay: &mut Relay, frame: &Frame<'_>, out: &mut [u8]) -> Answered
+    requires whole { IsWhole frame.now }
+    requires room { FRAME_LIMIT ≤ length out.old }
+    ensures next { relay.new
+        ≡ (answers_read relay.old (read_request (drop 2 frame.now.bytes.now))).next }
+    ensures changed { result.changed
+        ≡ (answers_read relay.old (read_request (drop 2 frame.now.bytes.now))).changed }
+    ensures last { result.last ≡ is_last (read_request (drop 2 frame.now.bytes.now)) }
     ensures len { result.len ≤ length out.old }
     ensures size { length out.new ≡ length out.old }
-    ensures reply { take result.len out.new ≡ framed (reply_body (answers_read relay.old (read_request (drop 2 frame.now.bytes))).reply) }
+    ensures reply { take result.len out.new ≡ framed (reply_body
+        (answers_read relay.old (read_request (drop 2 frame.now.bytes.now))).reply) }
 {
     match parse_request(frame) {
         Err(bad) => {
@@ -42,11 +47,11 @@ pub fn answer_frame(relay: &mut Relay, frame: &Frame, out: &mut [u8]) -> Answere
             }
         }
         Ok(request) => {
-            let (reply, changed) = relay.answer(&request);
+            let (len, changed) = relay.answer(&request, out);
             Answered {
                 changed,
                 last: false,
-                len: write_reply(&reply, out),
+                len,
             }
         }
     }

@@ -5,11 +5,11 @@
 //!
 //! ```rust
 //! use relay_core::Relay;
-//! use relay_wire::{Name, Packet, Request};
+//! use relay_wire::{Packet, Request};
 //!
 //! let mut relay = Relay::new(alloc, &names)?;
-//! // Stored(1), and the place of the box that changed
-//! let (reply, changed) = relay.answer(&Request::post(name, packet));
+//! // Stored(1) as a frame in `out`, and the place of the box that changed
+//! let (len, changed) = relay.answer(&Request::post(name.lent(), packet), &mut out);
 //! ```
 #![tactic(auto)]
 

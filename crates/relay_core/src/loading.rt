@@ -10,7 +10,6 @@ use crate::mailbox::{KeptPacket, Mailbox};
 use crate::reading::{read_head, read_kept};
 use crate::relay::Relay;
 use grammar::Cursor;
-use relay_wire::Packet;
 
 /// What became of a record that was to be loaded.
 #[derive(Clone, Copy)]
@@ -38,8 +37,7 @@ fn take_packets(
     'packets: for _ in 0..count {
         let kept = read_kept(cursor, low, last)?;
         low = kept.0;
-        let packet = Packet::new(kept.1).unwrap();
-        packets.push(KeptPacket::new(low, packet)).unwrap();
+        packets.push(KeptPacket::new(low, kept.1)).unwrap();
     }
     Ok(())
 }

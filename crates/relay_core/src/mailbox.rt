@@ -1,13 +1,19 @@
 //! One box.
 
-ghost use Rattle.std.specs.Prelude.{◌≡◌, ◌^◌, ◌<◌, ◌==◌, not, filter, vec_capacity, IfOk};
+ghost use Rattle.std.specs.Prelude.{◌≡◌, ◌^◌, ◌<◌, ◌≤◌, ◌==◌, true, not, filter, length, vec_capacity, IfOk};
+ghost use Rattle.dr_base.specs.Buffer.{Puts};
 ghost use Rattle.relay_core.specs.Boxes.{answer_of, empty_box, has_number, is_full, oldest, without};
 ghost use Rattle.relay_core.specs.Lawful.{IsLawfulBox};
+ghost use Rattle.relay_wire.specs.Frames.{framed};
+ghost use Rattle.relay_wire.specs.Names.{is_packet};
+ghost use Rattle.relay_wire.specs.Replies.{reply_body};
 ghost use Rattle.relay_wire.specs.Requests.{posts, acks};
 ghost use Rattle.relay_wire.specs.Seen.{asking_of, replied_of};
+ghost use Rattle.relay_wire.specs.declared.limits.TheConstants.{FRAME_LIMIT, PACKET_LIMIT};
 
 use crate::limits::BOX_LIMIT;
-use relay_wire::{Ask, Name, Packet, Reply};
+use arrayvec::ArrayVec;
+use relay_wire::{Ask, Name, PACKET_LIMIT, Packet, Reply, write_reply};
 use std::alloc::{AllocError, Global};
 use std::marker::Model;
 
@@ -15,23 +21,31 @@ use std::marker::Model;
 #[derive(Drop)]
 pub(crate) struct KeptPacket {
     number: u64,
-    packet: Packet,
+    bytes: ArrayVec<u8, PACKET_LIMIT>,
 }
 
 impl Model for KeptPacket {
+    ghost use Rattle.std.specs.Prelude.{◌≡◌, true};
     ghost use Rattle.relay_core.specs.Boxes.{Kept};
+    ghost use Rattle.relay_wire.specs.Names.{is_packet};
 
     ghost Value = { Kept };
 
-    ghost view = { λ k. record { number = k.number; packet = k.packet } };
+    ghost view = { λ k. record { number = k.number; packet = k.bytes.items } };
+
+    ghost invariant = { λ k. is_packet k.bytes.items ≡ true };
 }
 
 impl KeptPacket {
-    /// A packet under a number.
-    pub(crate) fn new(number: u64, packet: Packet) -> KeptPacket
-        ensures { result ≡ record { number = number; packet = packet } }
+    /// These bytes under a number, copied.
+    #[tactic(auto, unfolding(relay_wire::specs::Names::is_packet))]
+    pub(crate) fn new(number: u64, packet: &[u8]) -> KeptPacket
+        requires { is_packet packet.now ≡ true }
+        ensures { result ≡ record { number = number; packet = packet.now } }
     {
-        KeptPacket { number, packet }
+        let mut bytes = ArrayVec::new();
+        bytes.try_extend_from_slice(packet).unwrap();
+        KeptPacket { number, bytes }
     }
 
     /// Its number.
@@ -42,11 +56,21 @@ impl KeptPacket {
         self.number
     }
 
-    /// The packet.
-    pub(crate) fn packet(&self) -> &Packet
-        ensures { result.now ≡ self.now.packet }
+    /// The packet's bytes.
+    #[tactic(auto, unfolding(relay_wire::specs::Names::is_packet))]
+    pub(crate) fn bytes(&self) -> &[u8]
+        ensures value { result.now ≡ self.now.packet }
+        ensures lawful { is_packet result.now ≡ true }
+        ensures fits { length result.now ≤ PACKET_LIMIT }
     {
-        &self.packet
+        self.bytes.as_slice()
+    }
+
+    /// The packet, lent.
+    pub(crate) fn packet(&self) -> Packet<'_>
+        ensures { result.bytes ≡ self.now.packet }
+    {
+        Packet::new(self.bytes()).unwrap()
     }
 }
 
@@ -127,28 +151,27 @@ impl Mailbox {
     }
 
     /// The reply to a fetch.
-    fn oldest(&self) -> Reply
+    fn oldest(&self) -> Reply<'_>
         ensures { replied_of result ≡ oldest self.now.packets }
     {
         match self.packets.first() {
-            Some(kept) => Reply::Item(kept.number(), kept.packet().copied()),
+            Some(kept) => Reply::Item(kept.number(), kept.packet()),
             None => Reply::Empty,
         }
     }
 
     /// Answers a post, and says whether the box changed.
     #[tactic(auto, unfolding(crate::specs::Boxes::answer_of))]
-    fn post(&mut self, packet: &Packet) -> (Reply, bool)
-        ensures { answer_of self.old (posts packet.now)
+    fn post<'a>(&mut self, packet: &Packet<'_>) -> (Reply<'a>, bool)
+        ensures { answer_of self.old (posts packet.now.bytes)
             ≡ record { reply = replied_of result.0; next = self.new; changed = result.1 } }
     {
         if self.is_full() {
             return (Reply::BoxFull, false);
         }
         let number = self.last + 1;
-        let _lawful = packet.bytes();
         self.packets
-            .push(KeptPacket::new(number, packet.copied()))
+            .push(KeptPacket::new(number, packet.bytes()))
             .unwrap();
         self.last = number;
         (Reply::Stored(number), true)
@@ -163,7 +186,7 @@ impl Mailbox {
 
     /// Answers an acknowledgement, and says whether the box changed.
     #[tactic(auto, unfolding(crate::specs::Boxes::answer_of))]
-    fn acknowledge(&mut self, number: u64) -> (Reply, bool)
+    fn acknowledge<'a>(&mut self, number: u64) -> (Reply<'a>, bool)
         ensures { answer_of self.old (acks number)
             ≡ record { reply = replied_of result.0; next = self.new; changed = result.1 } }
     {
@@ -175,16 +198,26 @@ impl Mailbox {
         }
     }
 
-    /// Answers what is asked of the box, and says whether the box changed.
+    /// Answers what is asked of the box: writes the reply's frame at the beginning of `out`, and
+    /// tells how many bytes that has, and whether the box changed.
     #[tactic(auto, unfolding(crate::specs::Boxes::answer_of))]
-    pub(crate) fn answer(&mut self, ask: &Ask) -> (Reply, bool)
-        ensures { answer_of self.old (asking_of ask.now)
-            ≡ record { reply = replied_of result.0; next = self.new; changed = result.1 } }
+    pub(crate) fn answer(&mut self, ask: &Ask<'_>, out: &mut [u8]) -> (usize, bool)
+        requires { FRAME_LIMIT ≤ length out.old }
+        ensures next { self.new ≡ (answer_of self.old (asking_of ask.now)).next }
+        ensures changed { result.1 ≡ (answer_of self.old (asking_of ask.now)).changed }
+        ensures reply { Puts out.old out.new 0
+            (framed (reply_body (answer_of self.old (asking_of ask.now)).reply)) result.0 }
     {
         match ask {
-            Ask::Post(packet) => self.post(packet),
-            Ask::Fetch => (self.oldest(), false),
-            Ask::Ack(number) => self.acknowledge(*number),
+            Ask::Post(packet) => {
+                let (reply, changed) = self.post(packet);
+                (write_reply(&reply, out), changed)
+            }
+            Ask::Fetch => (write_reply(&self.oldest(), out), false),
+            Ask::Ack(number) => {
+                let (reply, changed) = self.acknowledge(*number);
+                (write_reply(&reply, out), changed)
+            }
         }
     }
 }

@@ -1,12 +1,16 @@
 //! All boxes of a relay.
 
-ghost use Rattle.std.specs.Prelude.{◌≡◌, map, All, IfOk};
+ghost use Rattle.std.specs.Prelude.{◌≡◌, ◌≤◌, length, map, All, IfOk};
+ghost use Rattle.dr_base.specs.Buffer.{Puts};
 ghost use Rattle.relay_core.specs.Boxes.{IsPlaced, answers_of, empty_box};
 ghost use Rattle.relay_core.specs.Lawful.{IsLawfulBox};
-ghost use Rattle.relay_wire.specs.Seen.{replied_of};
+ghost use Rattle.relay_wire.specs.Frames.{framed};
+ghost use Rattle.relay_wire.specs.Replies.{reply_body};
+ghost use Rattle.relay_wire.specs.Seen.{asked_of};
+ghost use Rattle.relay_wire.specs.declared.limits.TheConstants.{FRAME_LIMIT};
 
 use crate::mailbox::Mailbox;
-use relay_wire::{Name, Reply, Request};
+use relay_wire::{Name, Reply, Request, write_reply};
 use std::alloc::{AllocError, Global};
 use std::marker::Model;
 
@@ -50,27 +54,32 @@ impl Relay {
     }
 
     /// The place of the first box of a name.
-    fn place_of(&self, name: &Name) -> Option<usize>
+    fn place_of(&self, name: &[u8]) -> Option<usize>
         ensures { IsPlaced name.now self.now result }
     {
         for (place, mailbox) in self.boxes.iter().enumerate() {
-            if mailbox.name().bytes() == name.bytes() {
+            if mailbox.name().bytes() == name {
                 return Some(place);
             }
         }
         None
     }
 
-    /// Answers a request, and tells the place of the box that changed: exactly where the reply is Stored or Acked.
-    pub fn answer(&mut self, request: &Request) -> (Reply, Option<usize>)
-        ensures { answers_of self.old request.now
-            ≡ record { reply = replied_of result.0; next = self.new; changed = result.1 } }
+    /// Answers a request: writes the reply's frame at the beginning of `out`, and tells how many
+    /// bytes that has, and the place of the box that changed: exactly where the reply is Stored or
+    /// Acked.
+    pub fn answer(&mut self, request: &Request<'_>, out: &mut [u8]) -> (usize, Option<usize>)
+        requires { FRAME_LIMIT ≤ length out.old }
+        ensures next { self.new ≡ (answers_of self.old (asked_of request.now)).next }
+        ensures changed { result.1 ≡ (answers_of self.old (asked_of request.now)).changed }
+        ensures reply { Puts out.old out.new 0
+            (framed (reply_body (answers_of self.old (asked_of request.now)).reply)) result.0 }
     {
-        let Some(place) = self.place_of(request.name()) else {
-            return (Reply::Unknown, None);
+        let Some(place) = self.place_of(request.name.bytes()) else {
+            return (write_reply(&Reply::Unknown, out), None);
         };
         let mailbox = &mut self.boxes[place];
-        let (reply, changed) = mailbox.answer(request.ask());
-        (reply, if changed { Some(place) } else { None })
+        let (size, changed) = mailbox.answer(&request.ask, out);
+        (size, if changed { Some(place) } else { None })
     }
 }

@@ -33,7 +33,7 @@ fn put_kept(out: &mut [u8], at: usize, kept: &KeptPacket) -> usize
     requires { at + length (kept_text kept.now) ≤ length out.old }
     ensures { Puts out.old out.new at (kept_text kept.now) result }
 {
-    let packet = kept.packet().bytes();
+    let packet = kept.bytes();
     let at_size = put_u64(out, at, kept.number());
     let at_packet = put_u16(out, at_size, packet.len() as u16);
     put(out, at_packet, packet)

@@ -1,8 +1,9 @@
 -- A relay at its desk: it answers the frames of one connection, and the first replies come.
-use Rattle.std.specs.Prelude.{ℕ, zero, suc, ◌+◌, nat_lt, List, [], ◌++◌, drop, if◌then◌else◌}
+use Rattle.std.specs.Prelude.{◌≡◌, ℕ, zero, suc, ◌+◌, nat_lt, List, [], ◌++◌, length, drop, if◌then◌else◌}
 use Rattle.relay_core.specs.Boxes.{Box}
 use Rattle.relay_core.specs.Streams.{boxes_after, exchange_of, is_last, reply_frame}
 use Rattle.relay_core.specs.declared.limits.TheConstants.{EXCHANGE_LIMIT}
+use Rattle.relay_wire.specs.Frames.{Held, IsFrame, IsPartial}
 use Rattle.relay_wire.specs.Requests.{read_request}
 
 -- the boxes, the replies that come in bytes, how many come at most, how many frames were answered, and how many more may be
@@ -34,3 +35,9 @@ frame_left d (suc more) frame = answered_frame d more frame
 
 abbrev pub after_frame : DeskNow → List ℕ → DeskNow
 after_frame d frame = frame_left d d.left frame
+
+-- where less than a frame stands nothing is done; a whole one is given, and answered
+pub data HasAnswered (old new : DeskNow) (reader left : Held) : Type 0 where
+  waits : IsPartial reader.bytes → left ≡ reader → new ≡ old → HasAnswered old new reader left
+  answers : IsFrame reader.bytes → left.bytes ≡ [] → left.place ≡ reader.place + length reader.bytes
+      → new ≡ after_frame old reader.bytes → HasAnswered old new reader left

@@ -3,12 +3,13 @@
 ghost use Rattle.std.specs.Prelude.{◌≡◌, ◌+◌, ◌*◌, ◌≤◌, ◌<◌, [], ◌++◌, length, map, nat_lt, take, IfOk};
 ghost use Rattle.relay_core.specs.Boxes.{empty_box};
 ghost use Rattle.relay_core.specs.declared.limits.TheConstants.{EXCHANGE_LIMIT};
-ghost use Rattle.relay_link.specs.Desks.{after_frame, fresh};
+ghost use Rattle.relay_wire.specs.Lending.{IsWhole};
+ghost use Rattle.relay_link.specs.Desks.{HasAnswered, after_frame, fresh};
 ghost use Rattle.relay_link.specs.declared.limits.TheConstants.{REPLY_LIMIT};
 
 use crate::limits::REPLY_LIMIT;
 use relay_core::{EXCHANGE_LIMIT, Relay, answer_frame};
-use relay_wire::{FRAME_LIMIT, Frame, Name};
+use relay_wire::{FRAME_LIMIT, Frame, FrameReader, Name};
 use std::alloc::{AllocError, Global};
 use std::marker::Model;
 
@@ -86,8 +87,9 @@ impl Desk {
     }
 
     /// Answers a frame.
-    pub(crate) fn answer(&mut self, frame: &Frame)
-        ensures { self.new ≡ after_frame self.old frame.now.bytes }
+    pub(crate) fn answer(&mut self, frame: &Frame<'_>)
+        requires { IsWhole frame.now }
+        ensures { self.new ≡ after_frame self.old frame.now.bytes.now }
     {
         if self.left == 0 {
             return;
@@ -100,5 +102,15 @@ impl Desk {
         }
         self.answered += 1;
         self.left = if answered.last { 0 } else { self.left - 1 };
+    }
+
+    /// Answers the frame that stands in a reader, if one is whole.
+    pub(crate) fn answer_next(&mut self, reader: &mut FrameReader)
+        ensures { HasAnswered self.old self.new reader.old reader.new }
+    {
+        match reader.next() {
+            None => {}
+            Some(frame) => self.answer(&frame),
+        }
     }
 }

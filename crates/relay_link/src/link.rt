@@ -31,7 +31,7 @@ pub struct RelayLink {
 }
 
 impl Model for RelayLink {
-    ghost use Rattle.std.specs.Prelude.{◌≤◌, vec_len, vec_capacity};
+    ghost use Rattle.std.specs.Prelude.{◌≡◌, ◌≤◌, ◌+◌, length, vec_len, vec_capacity};
     ghost use Rattle.relay_link.specs.Connections.{Connection};
     ghost use Rattle.relay_link.specs.Serving.{IsServing};
     ghost use Rattle.relay_link.specs.declared.limits.TheConstants.{SENT_LIMIT};
@@ -41,7 +41,8 @@ impl Model for RelayLink {
     ghost view = { λ l. record { start = l.start.value; kept = l.desk.kept; sent = l.sent.items; at = l.at; faults = l.faults } };
 
     ghost invariant = { λ l. IsServing (record { start = l.start.value; kept = l.desk.kept; sent = l.sent.items; at = l.at; faults = l.faults }) l.desk l.reader.bytes
-        × (vec_len l.sent ≤ SENT_LIMIT) × (SENT_LIMIT ≤ vec_capacity l.sent) };
+        × (vec_len l.sent ≤ SENT_LIMIT) × (SENT_LIMIT ≤ vec_capacity l.sent)
+        × (l.reader.place + length l.reader.bytes ≡ vec_len l.sent) };
 }
 
 /// How many replies come before the lost one.
@@ -133,10 +134,7 @@ impl Pipe for RelayLink {
         }
         let count = self.reader.feed(&bytes[..bytes.len().min(free)]);
         self.sent.extend_from_slice(&bytes[..count]).unwrap();
-        match self.reader.next() {
-            None => {}
-            Some(frame) => self.desk.answer(&frame),
-        }
+        self.desk.answer_next(&mut self.reader);
         Ok(count)
     }
 }

@@ -13,13 +13,13 @@ use Rattle.relay_wire.specs.Requests.{Asked}
 use Rattle.relay_wire.proofs.Replied.{only_reply}
 use Rattle.relay_wire.specs.declared.reply.BadReply.{BadReply}
 use Rattle.relay_wire.specs.declared.reply.BadReply.TheVariants.{Frame}
-use Rattle.relay_pipe.specs.Asking.{IsBroken, IsFaulty, IsReplied, cut, unread, peer_fault, fault_at}
+use Rattle.relay_pipe.specs.Asking.{IsBroken, IsFaulty, IsPulled, IsReplied, cut, unread, peer_fault, fault_at}
 use Rattle.relay_wire.specs.Framed.{reply_text, request_frame}
 use Rattle.relay_pipe.specs.Exchanging.{Exchanges}
 use Rattle.relay_pipe.specs.Pulling.{Pulled}
 use Rattle.relay_pipe.specs.declared.faults.PeerFault.{PeerFault}
 use Rattle.relay_pipe.specs.declared.faults.PeerKind.TheVariants.{Ended}
-use Rattle.relay_pipe.proofs.Exchanged.{answered_exchanges, pulled_frame, pulled_part}
+use Rattle.relay_pipe.proofs.Exchanged.{answered_exchanges, pulled_held}
 
 rose_since : (a b c : ℕ) → b ≡ a → Rose b c → Rose a c
 rose_since a b c is rose = omega (arith, is, rose)
@@ -67,35 +67,39 @@ whole_reply frame bytes reply same whole are reads =
 
 -- ---- the endings
 
-module _ (asked : Asked) (old new : Held) (start mid now : Port) (fresh : old.bytes ≡ []) (took : Took (request_frame asked) start mid) (still : mid.faults Flow ≡ start.faults Flow) where
-  pub broken : Pulled old new mid now [] → IsPartial new.bytes → Rose (mid.faults Flow) (now.faults Flow) → IsBroken (request_frame asked) start now
-  broken pulled partial rose = record {
+module _ (asked : Asked) (old new : Held) (start mid now : Port) (fresh : old.bytes ≡ []) (took : Took (request_frame asked) start mid)
+    (still : mid.faults Flow ≡ start.faults Flow) (pulled : Pulled old new mid now) where
+  exchanged : Exchanges new.bytes (request_frame asked) start now
+  exchanged = answered_exchanges new.bytes (request_frame asked) start mid now took (pulled_held old new mid now fresh pulled)
+
+  pub broken : IsPartial new.bytes → Rose (mid.faults Flow) (now.faults Flow) → IsBroken (request_frame asked) start now
+  broken partial rose = record {
     taken = request_frame asked;
     left = [];
     got = new.bytes;
     split = sym (append-nil (request_frame asked));
-    told = answered_exchanges new.bytes (request_frame asked) start mid now took (pulled_part old new mid now fresh pulled);
+    told = exchanged;
     partial = partial;
     rose = rose_since (start.faults Flow) (mid.faults Flow) (now.faults Flow) still rose;
   }
 
-  pub ended : (at : ℕ) → at ≡ length new.bytes → Pulled old new mid now [] → IsPartial new.bytes → EndsAt now → now.faults Flow ≡ mid.faults Flow
+  pub ended : (at : ℕ) → at ≡ length new.bytes → IsPartial new.bytes → EndsAt now → now.faults Flow ≡ mid.faults Flow
       → IsFaulty (request_frame asked) start now (fault_at at Ended)
-  ended at is pulled partial end quiet =
-      subst (λ (n : ℕ). IsFaulty (request_frame asked) start now (fault_at n Ended)) (sym is)
-      (cut new.bytes (answered_exchanges new.bytes (request_frame asked) start mid now took (pulled_part old new mid now fresh pulled)) partial end (quiet ∙ still))
+  ended at is partial end quiet =
+      subst (λ (n : ℕ). IsFaulty (request_frame asked) start now (fault_at n Ended)) (sym is) (cut new.bytes exchanged partial end (quiet ∙ still))
 
-  pub refused : (frame : List ℕ) (bad : BadReply) (fault : PeerFault) → fault ≡ peer_fault bad → Pulled old new mid now frame → IsFrame frame → new.bytes ≡ []
-      → read_reply (drop 2 frame) ≡ Err bad → now.faults Flow ≡ mid.faults Flow → IsFaulty (request_frame asked) start now fault
-  refused frame bad fault is pulled whole empty reads quiet =
-      subst (IsFaulty (request_frame asked) start now) (sym is)
-      (unread frame bad (answered_exchanges frame (request_frame asked) start mid now took (pulled_frame old new mid now frame fresh pulled empty)) whole reads (quiet ∙ still))
+  pub came : IsFrame new.bytes → new.place ≡ 0 → now.faults Flow ≡ mid.faults Flow → IsPulled asked new start now
+  came whole place quiet = record { told = exchanged; whole = whole; place = place; quiet = quiet ∙ still }
 
-  pub answered : (frame : List ℕ) (reply : Replied) → Pulled old new mid now frame → new.bytes ≡ [] → frame ≡ reply_text reply → IsLawfulReplied reply
-      → now.faults Flow ≡ mid.faults Flow → IsReplied asked reply start now
-  answered frame reply pulled empty is lawful quiet = record {
-    told = subst (λ (b : List ℕ). Exchanges b (request_frame asked) start now) is
-        (answered_exchanges frame (request_frame asked) start mid now took (pulled_frame old new mid now frame fresh pulled empty));
+module _ (asked : Asked) (held : Held) (start now : Port) (pulled : IsPulled asked held start now) where
+  pub refused : (bad : BadReply) (fault : PeerFault) → fault ≡ peer_fault bad → read_reply (drop 2 held.bytes) ≡ Err bad
+      → IsFaulty (request_frame asked) start now fault
+  refused bad fault is reads =
+      subst (IsFaulty (request_frame asked) start now) (sym is) (unread held.bytes bad pulled.told pulled.whole reads pulled.quiet)
+
+  pub answered : (reply : Replied) → held.bytes ≡ reply_text reply → IsLawfulReplied reply → IsReplied asked reply start now
+  answered reply is lawful = record {
+    told = subst (λ (b : List ℕ). Exchanges b (request_frame asked) start now) is pulled.told;
     lawful = lawful;
-    quiet = quiet ∙ still;
+    quiet = pulled.quiet;
   }

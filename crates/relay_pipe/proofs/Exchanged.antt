@@ -39,12 +39,7 @@ pub nothing_yet : (port : Port) → Exchanges [] [] port port
 nothing_yet port = no_bytes port.told
 
 -- what a fresh reader pulled
-pub pulled_frame : (old new : Held) (start now : Port) (frame : List ℕ) → old.bytes ≡ [] → (p : Pulled old new start now frame) → new.bytes ≡ [] → Gave frame start now
-pulled_frame old new start now frame fresh p done =
-    let same : p.got ≡ frame = ap (λ (b : List ℕ). b ++ p.got) (sym fresh) ∙ p.sum ∙ ap (λ (b : List ℕ). frame ++ b) done ∙ append-nil frame in
-    subst (λ (b : List ℕ). Gave b start now) same p.gave
-
-pub pulled_part : (old new : Held) (start now : Port) → old.bytes ≡ [] → Pulled old new start now [] → Gave new.bytes start now
-pulled_part old new start now fresh p =
-    let same : p.got ≡ new.bytes = ap (λ (b : List ℕ). b ++ p.got) (sym fresh) ∙ p.sum in
+pub pulled_held : (old new : Held) (start now : Port) → old.bytes ≡ [] → Pulled old new start now → Gave new.bytes start now
+pulled_held old new start now fresh p =
+    let same : p.got ≡ new.bytes = ap (λ (b : List ℕ). b ++ p.got) (sym fresh) ∙ sym p.sum in
     subst (λ (b : List ℕ). Gave b start now) same p.gave

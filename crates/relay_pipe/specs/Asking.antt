@@ -4,7 +4,7 @@ use Rattle.relay_wire.specs.Framed.{request_frame, reply_text}
 use Rattle.dr_ports.specs.Ports.{Rose}
 use Rattle.dr_ports.specs.declared.pipe.Part.TheVariants.{Flow}
 use Rattle.dr_ports.specs.Wires.{Port, EndsAt}
-use Rattle.relay_wire.specs.Frames.{IsFrame, IsPartial}
+use Rattle.relay_wire.specs.Frames.{Held, IsFrame, IsPartial}
 use Rattle.relay_wire.specs.Requests.{Asked}
 use Rattle.relay_wire.specs.Replies.{Replied, IsLawfulReplied, read_reply}
 use Rattle.relay_wire.specs.Seen.{replied_of}
@@ -51,7 +51,18 @@ pub data IsFaulty (put : List ℕ) (start now : Port) : PeerFault → Type 0 whe
   cut : (got : List ℕ) → Exchanges got put start now → IsPartial got → EndsAt now → now.faults Flow ≡ start.faults Flow
       → IsFaulty put start now (fault_at (length got) Ended)
 
+-- why no reply was read
+abbrev pub FailsToAsk : Asked → Port → Port → AskFault → Type 0
+FailsToAsk asked start now Pipe = IsBroken (request_frame asked) start now
+FailsToAsk asked start now (Peer fault) = IsFaulty (request_frame asked) start now fault
+
+-- the request was sent, and a whole frame came
+pub record IsPulled (asked : Asked) (held : Held) (start now : Port) : Type 0 where
+  pub told : Exchanges held.bytes (request_frame asked) start now
+  pub whole : IsFrame held.bytes
+  pub place : held.place ≡ 0
+  pub quiet : now.faults Flow ≡ start.faults Flow
+
 abbrev pub Asks : Asked → Port → Port → Result Reply AskFault → Type 0
 Asks asked start now (Ok reply) = IsReplied asked (replied_of reply) start now
-Asks asked start now (Err Pipe) = IsBroken (request_frame asked) start now
-Asks asked start now (Err (Peer fault)) = IsFaulty (request_frame asked) start now fault
+Asks asked start now (Err fault) = FailsToAsk asked start now fault

@@ -1,6 +1,6 @@
 //! Frames out of a pipe.
 
-ghost use Rattle.std.specs.Prelude.{◌≡◌, ◌+◌, ◌<◌, ◌≤◌, length, take, drop, IfOk, OnOk, OnErr};
+ghost use Rattle.std.specs.Prelude.{◌≡◌, ◌+◌, ◌^◌, ◌<◌, ◌≤◌, length, take, drop, IfOk, OnOk, OnErr};
 ghost use Rattle.dr_ports.specs.Ports.{HasCause};
 ghost use Rattle.dr_ports.specs.declared.pipe.Part.TheVariants.{Flow, Gate};
 ghost use Rattle.dr_ports.specs.Wires.{EndsAt, Gave, Took};
@@ -8,7 +8,7 @@ ghost use Rattle.relay_pipe.specs.Pulling.{Pulls, TookBeginning};
 ghost use Rattle.relay_wire.specs.declared.limits.TheConstants.{FRAME_LIMIT};
 
 use dr_ports::{Failed, Pipe};
-use relay_wire::{Frame, FrameReader};
+use relay_wire::FrameReader;
 
 fn receive_some<P: Pipe>(pipe: &mut P, piece: &mut [u8], wanted: usize) -> Result<usize, Failed>
     requires some { 0 < wanted }
@@ -24,14 +24,17 @@ fn receive_some<P: Pipe>(pipe: &mut P, piece: &mut [u8], wanted: usize) -> Resul
     pipe.receive(&mut piece[..wanted])
 }
 
-/// The next whole frame, or nothing at the end of the pipe.
-pub fn next_frame<P: Pipe>(
+/// Receives until a whole frame stands in the reader, and no byte more. `FrameReader::next` lends it
+/// then. False where the pipe ended before.
+pub fn pull<P: Pipe>(
     reader: &mut FrameReader,
     pipe: &mut P,
     piece: &mut [u8],
-) -> Result<Option<Frame>, Failed>
-    requires { FRAME_LIMIT ≤ length piece.old }
+) -> Result<bool, Failed>
+    requires room { FRAME_LIMIT ≤ length piece.old }
+    requires ends { reader.old.place + FRAME_LIMIT < 2 ^ 64 }
     ensures pulls { Pulls reader.old reader.new (P.port pipe.old) (P.port pipe.new) result }
+    ensures most { length reader.new.bytes ≤ FRAME_LIMIT }
     ensures cause { HasCause ((P.port pipe.old).faults Flow) ((P.port pipe.new).faults Flow) result }
     ensures gate { (P.port pipe.new).faults Gate ≡ (P.port pipe.old).faults Gate }
     ensures same { P.behind pipe.new ≡ P.behind pipe.old }
@@ -40,13 +43,13 @@ pub fn next_frame<P: Pipe>(
         let wanted = reader.wanted();
         match receive_some(pipe, piece, wanted) {
             Err(Failed) => return Err(Failed),
-            Ok(0) => return Ok(None),
+            Ok(0) => return Ok(false),
             Ok(count) => {
                 reader.feed(&piece[..count]);
             }
         }
     }
-    Ok(reader.next())
+    Ok(true)
 }
 
 fn send_from<P: Pipe>(pipe: &mut P, bytes: &[u8], at: usize) -> Result<usize, Failed>

@@ -1,13 +1,14 @@
 //! Boxes that stand on a disk.
 
-ghost use Rattle.std.specs.Prelude.{◌≡◌, ◌≢◌, ◌<◌, ◌≤◌, ◌+◌, ℕ, List, length, take, drop, slice_get, Option, OnOk, IfOk, IfErr, is_ok, [], Bool};
+ghost use Rattle.std.specs.Prelude.{◌≡◌, ◌≢◌, ◌<◌, ◌≤◌, ◌+◌, ◌^◌, ℕ, List, length, take, drop, slice_get, Option, OnOk, IfOk, IfErr, is_ok, [], Bool};
 ghost use Rattle.dr_base.specs.Causes.{Rose};
 ghost use Rattle.dr_ports.specs.declared.pipe.Part.TheVariants.{Flow, Gate};
 ghost use Rattle.dr_disk.specs.State.{Always};
 ghost use Rattle.dr_disk.specs.Spans.{IsQuiet, Span};
 ghost use Rattle.slot_store.specs.Areas.{Fits};
 ghost use Rattle.slot_store.specs.Store.{IsWithin, Rests, SlotStore};
-ghost use Rattle.relay_wire.specs.Frames.{framed};
+ghost use Rattle.relay_wire.specs.Frames.{IsFrame, framed};
+ghost use Rattle.relay_wire.specs.Lending.{IsWhole};
 ghost use Rattle.relay_wire.specs.Requests.{read_request};
 ghost use Rattle.relay_wire.specs.Replies.{reply_body};
 ghost use Rattle.relay_wire.specs.declared.limits.TheConstants.{FRAME_LIMIT};
@@ -24,7 +25,7 @@ use crate::serving::{Ended, Round, ServeFault};
 use dr_disk::{Call, Disk};
 use dr_ports::{Failed, Pipe};
 use relay_core::{Answered, EXCHANGE_LIMIT, Relay, answer_frame, changes};
-use relay_pipe::{next_frame, send_all};
+use relay_pipe::{pull, send_all};
 use relay_wire::{Frame, FrameReader};
 use slot_store::{SlotStore, locality, resting};
 use std::marker::Model;
@@ -77,22 +78,29 @@ impl DurableBoxes {
     pub fn answer<D: Disk>(
         &mut self,
         disk: &mut D,
-        frame: &Frame,
+        frame: &Frame<'_>,
         out: &mut [u8],
     ) -> Result<Answered, Call>
         requires ready { IsReady box_text self.old (D.state disk.old) }
+        requires whole { IsWhole frame.now }
         requires room { FRAME_LIMIT ≤ length out.old }
-        ensures next { self.new.boxes ≡ (answers_read self.old.boxes (read_request (drop 2 frame.now.bytes))).next }
+        ensures next { self.new.boxes
+            ≡ (answers_read self.old.boxes (read_request (drop 2 frame.now.bytes.now))).next }
         ensures ready { OnOk result (IsReady box_text self.new (D.state disk.new)) }
         ensures any_moment { Span (D.state disk.old) (D.state disk.new)
-            (λ c. StandsForEither box_text self.old.boxes self.new.boxes c × IsSameBehind (length self.old.boxes) (D.state disk.old) c) }
-        ensures at_return { Always (StandsForEither box_text self.old.boxes self.new.boxes) (D.state disk.new) }
-        ensures fault { IfErr result (λ call. Rose ((D.state disk.old).faults call) ((D.state disk.new).faults call)) }
+            (λ c. StandsForEither box_text self.old.boxes self.new.boxes c
+            × IsSameBehind (length self.old.boxes) (D.state disk.old) c) }
+        ensures at_return { Always (StandsForEither box_text self.old.boxes self.new.boxes)
+            (D.state disk.new) }
+        ensures fault { IfErr result
+            (λ call. Rose ((D.state disk.old).faults call) ((D.state disk.new).faults call)) }
         ensures quiet { OnOk result (IsQuiet (D.state disk.old) (D.state disk.new)) }
-        ensures last { IfOk result (λ a. a.last ≡ is_last (read_request (drop 2 frame.now.bytes))) }
+        ensures last { IfOk result
+            (λ a. a.last ≡ is_last (read_request (drop 2 frame.now.bytes.now))) }
         ensures len { IfOk result (λ a. a.len ≤ length out.old) }
         ensures size { length out.new ≡ length out.old }
-        ensures reply { IfOk result (λ a. take a.len out.new ≡ framed (reply_body (answers_read self.old.boxes (read_request (drop 2 frame.now.bytes))).reply)) }
+        ensures reply { IfOk result (λ a. take a.len out.new ≡ framed (reply_body
+            (answers_read self.old.boxes (read_request (drop 2 frame.now.bytes.now))).reply)) }
     {
         locality();
         resting();
@@ -107,6 +115,42 @@ impl DurableBoxes {
         Ok(answered)
     }
 
+    // answers the frame that stands in the reader
+    fn answer_next<D: Disk>(
+        &mut self,
+        disk: &mut D,
+        reader: &mut FrameReader,
+        out: &mut [u8],
+    ) -> Result<Answered, Call>
+        requires ready { IsReady box_text self.old (D.state disk.old) }
+        requires whole { IsFrame reader.old.bytes }
+        requires room { FRAME_LIMIT ≤ length out.old }
+        ensures next { self.new.boxes
+            ≡ (answers_read self.old.boxes (read_request (drop 2 reader.old.bytes))).next }
+        ensures ready { OnOk result (IsReady box_text self.new (D.state disk.new)) }
+        ensures any_moment { Span (D.state disk.old) (D.state disk.new)
+            (λ c. StandsForEither box_text self.old.boxes self.new.boxes c
+            × IsSameBehind (length self.old.boxes) (D.state disk.old) c) }
+        ensures at_return { Always (StandsForEither box_text self.old.boxes self.new.boxes)
+            (D.state disk.new) }
+        ensures fault { IfErr result
+            (λ call. Rose ((D.state disk.old).faults call) ((D.state disk.new).faults call)) }
+        ensures quiet { OnOk result (IsQuiet (D.state disk.old) (D.state disk.new)) }
+        ensures last { IfOk result
+            (λ a. a.last ≡ is_last (read_request (drop 2 reader.old.bytes))) }
+        ensures len { IfOk result (λ a. a.len ≤ length out.old) }
+        ensures size { length out.new ≡ length out.old }
+        ensures reply { IfOk result (λ a. take a.len out.new ≡ framed (reply_body
+            (answers_read self.old.boxes (read_request (drop 2 reader.old.bytes))).reply)) }
+        ensures given { reader.new.bytes ≡ [] }
+        ensures place { reader.new.place ≡ reader.old.place + length reader.old.bytes }
+    {
+        match reader.next() {
+            Some(frame) => self.answer(disk, &frame, out),
+            None => unreachable!(),
+        }
+    }
+
     // one round: a frame is pulled and answered, and its reply sent
     fn round<D: Disk, P: Pipe>(
         &mut self,
@@ -118,6 +162,7 @@ impl DurableBoxes {
     ) -> Result<Round, ServeFault>
         requires ready { IsReady box_text self.old (D.state disk.old) }
         requires fresh { reader.old.bytes ≡ [] }
+        requires ends { reader.old.place + FRAME_LIMIT < 2 ^ 64 }
         requires room { FRAME_LIMIT ≤ length piece.old }
         requires out_room { FRAME_LIMIT ≤ length out.old }
         ensures rounds { Rounds box_text self.old self.new (P.port pipe.old) (P.port pipe.new) (D.state disk.old) (D.state disk.new) result }
@@ -126,15 +171,16 @@ impl DurableBoxes {
         ensures gate { (P.port pipe.new).faults Gate ≡ (P.port pipe.old).faults Gate }
         ensures quiet { OnOk result (IsQuiet (D.state disk.old) (D.state disk.new)) }
         ensures fresh { IfOk result (λ r. (last : Bool) → r ≡ Round.Answered last → reader.new.bytes ≡ []) }
+        ensures place { reader.new.place ≤ reader.old.place + FRAME_LIMIT }
         ensures piece { length piece.new ≡ length piece.old }
         ensures out { length out.new ≡ length out.old }
     {
-        let frame = match next_frame(reader, pipe, piece) {
+        match pull(reader, pipe, piece) {
             Err(Failed) => return Err(ServeFault::Read),
-            Ok(None) => return Ok(Round::AtEnd),
-            Ok(Some(frame)) => frame,
-        };
-        let answered = match self.answer(disk, &frame, out) {
+            Ok(false) => return Ok(Round::AtEnd),
+            Ok(true) => {}
+        }
+        let answered = match self.answer_next(disk, reader, out) {
             Err(call) => return Err(ServeFault::Store(call)),
             Ok(answered) => answered,
         };

@@ -5,58 +5,73 @@ use relay_pipe::{AskFault, PeerFault, PeerKind, ask};
 use relay_wire::{FrameReader, Name, Reply, Request};
 use std::alloc::Global;
 
-/// Asks for the first packet of the box `a`. There is no answer where there is no memory for the
-/// reader.
-fn fetch(alloc: Global, link: &mut MemoryLink) -> Option<Result<Reply, AskFault>> {
-    let Some(name) = Name::new(b"a") else {
-        return None;
+/// What a fetch was answered with.
+#[derive(Clone, Copy, PartialEq, Eq)]
+enum Outcome {
+    Empty,
+    /// The packet's first byte and its place in the reply.
+    Item(u64, u8, u64),
+    Bad(u8),
+    Other,
+    Fault(AskFault),
+    /// There was no memory.
+    Nothing,
+}
+
+/// What a reply says.
+fn seen(reply: Reply<'_>) -> Outcome {
+    match reply {
+        Reply::Empty => Outcome::Empty,
+        Reply::Item(number, packet) => match packet.bytes() {
+            [first, ..] => Outcome::Item(number, *first, packet.place()),
+            [] => Outcome::Other,
+        },
+        Reply::Bad(kind) => Outcome::Bad(kind),
+        _ => Outcome::Other,
+    }
+}
+
+/// Asks for the first packet of the box `a`.
+fn fetch(alloc: Global, link: &mut MemoryLink) -> Outcome {
+    let (Some(name), Ok(mut reader)) = (Name::new(b"a"), FrameReader::new(alloc)) else {
+        return Outcome::Nothing;
     };
-    match FrameReader::new(alloc) {
-        Ok(mut reader) => Some(ask(link, &mut reader, &Request::fetch(name))),
-        Err(_) => None,
+    match ask(link, &mut reader, &Request::fetch(name.lent())) {
+        Ok(reply) => seen(reply),
+        Err(fault) => Outcome::Fault(fault),
     }
 }
 
 /// The same over a link that gives these bytes, and whose calls of these numbers fail.
-fn fetched(alloc: Global, bytes: &[u8], fails: &[u64]) -> Option<Result<Reply, AskFault>> {
+fn fetched(alloc: Global, bytes: &[u8], fails: &[u64]) -> Outcome {
     match MemoryLink::new(alloc, bytes, 100, fails) {
         Ok(mut link) => fetch(alloc, &mut link),
-        Err(_) => None,
+        Err(_) => Outcome::Nothing,
     }
 }
 
-/// Whether these bytes are read as no packet, as the packet of number 7, or as what the relay
-/// couldn't read, of kind 1.
-fn is_read(alloc: Global, bytes: &[u8], expected: &str) -> bool {
-    match fetched(alloc, bytes, &[]) {
-        Some(Ok(Reply::Empty)) => expected == "empty",
-        Some(Ok(Reply::Item(7, _))) => expected == "item",
-        Some(Ok(Reply::Bad(1))) => expected == "bad",
-        _ => false,
-    }
+/// Whether these bytes are read so.
+fn is_read(alloc: Global, bytes: &[u8], expected: Outcome) -> bool {
+    fetched(alloc, bytes, &[]) == expected
 }
 
 #[test]
 fn replies_are_read(rt: HostRuntime) {
     let alloc = rt.alloc();
     let item = b"\x00\x0a\x82\x00\x00\x00\x00\x00\x00\x00\x07x";
-    assert!(rt; is_read(alloc, b"\x00\x01\x83", "empty"));
-    assert!(rt; is_read(alloc, item, "item"));
-    assert!(rt; is_read(alloc, b"\x00\x02\x88\x01", "bad"));
+    assert!(rt; is_read(alloc, b"\x00\x01\x83", Outcome::Empty));
+    assert!(rt; is_read(alloc, item, Outcome::Item(7, b'x', 11)));
+    assert!(rt; is_read(alloc, b"\x00\x02\x88\x01", Outcome::Bad(1)));
 }
 
 /// Whether these bytes have this fault, at this place.
 fn has_fault(alloc: Global, bytes: &[u8], at: usize, kind: PeerKind) -> bool {
-    match fetched(alloc, bytes, &[]) {
-        Some(Err(AskFault::Peer(found))) => found == PeerFault { at, kind },
-        _ => false,
-    }
+    fetched(alloc, bytes, &[]) == Outcome::Fault(AskFault::Peer(PeerFault { at, kind }))
 }
 
 /// Whether a link whose call of this number fails is told as that.
 fn fails(alloc: Global, call: u64) -> bool {
-    let reply = fetched(alloc, b"\x00\x01\x83", &[call]);
-    matches!(&reply, Some(Err(AskFault::Pipe)))
+    fetched(alloc, b"\x00\x01\x83", &[call]) == Outcome::Fault(AskFault::Pipe)
 }
 
 #[test]

@@ -1,8 +1,11 @@
 //! Frames from the format's worked examples: what each says, and the reasons against those that say
 //! nothing.
 
+ghost use Rattle.std.specs.Prelude.{◌≡◌, ◌<◌, ◌^◌, [], length};
+ghost use Rattle.relay_wire.specs.Lending.{IsWhole};
+
 use relay_wire::{
-    Bad, BadReply, Frame, FrameReader, Name, Reply, Request, parse_reply, parse_request,
+    Ask, Bad, BadReply, Frame, FrameReader, Name, Reply, Request, parse_reply, parse_request,
     write_reply, write_request,
 };
 use std::alloc::Global;
@@ -42,23 +45,28 @@ const REPLIES: [(&[u8], Option<BadReply>); 13] = [
     (b"\x00\x02\x88\x05", Some(BadReply::Size)),
 ];
 
-/// The frame of these bytes, fed in two pieces.
-fn frame_of(reader: &mut FrameReader, bytes: &[u8]) -> Option<Frame> {
+/// Feeds these bytes in two pieces to a reader that is cleared first.
+fn feed(reader: &mut FrameReader, bytes: &[u8])
+    requires { length bytes.now < 2 ^ 32 }
+    ensures { reader.new.place ≡ 0 }
+{
+    reader.clear();
     let middle = bytes.len() / 2;
     let _front = reader.feed(&bytes[..middle]);
     let _rest = reader.feed(&bytes[middle..]);
-    reader.next()
 }
 
 /// Whether a request is written as these bytes.
-fn is_asked(request: &Request, bytes: &[u8]) -> bool {
+fn is_asked(request: &Request<'_>, bytes: &[u8]) -> bool {
     let mut out = [0; 4098];
     let len = write_request(request, &mut out);
     out.get(..len) == Some(bytes)
 }
 
 /// Whether a frame of these bytes is a request, written so again, or has this kind of fault.
-fn is_request(frame: &Frame, bytes: &[u8], kind: u8) -> bool {
+fn is_request(frame: &Frame<'_>, bytes: &[u8], kind: u8) -> bool
+    requires { IsWhole frame.now }
+{
     match parse_request(frame) {
         Ok(request) => kind == 0 && is_asked(&request, bytes),
         Err(bad) => bad == Bad { kind },
@@ -66,8 +74,11 @@ fn is_request(frame: &Frame, bytes: &[u8], kind: u8) -> bool {
 }
 
 /// The same of the frame that a reader gives for these bytes.
-fn gives_request(reader: &mut FrameReader, bytes: &[u8], kind: u8) -> bool {
-    match frame_of(reader, bytes) {
+fn gives_request(reader: &mut FrameReader, bytes: &[u8], kind: u8) -> bool
+    requires { length bytes.now < 2 ^ 32 }
+{
+    feed(reader, bytes);
+    match reader.next() {
         Some(frame) => is_request(&frame, bytes, kind),
         None => false,
     }
@@ -99,14 +110,16 @@ fn requests_are_read_and_written(rt: HostRuntime) {
 }
 
 /// Whether a reply is written as these bytes.
-fn is_replied(reply: &Reply, bytes: &[u8]) -> bool {
+fn is_replied(reply: &Reply<'_>, bytes: &[u8]) -> bool {
     let mut out = [0; 4098];
     let len = write_reply(reply, &mut out);
     out.get(..len) == Some(bytes)
 }
 
 /// Whether a frame of these bytes is a reply, written so again, or none for this reason.
-fn is_reply(frame: &Frame, bytes: &[u8], bad: Option<BadReply>) -> bool {
+fn is_reply(frame: &Frame<'_>, bytes: &[u8], bad: Option<BadReply>) -> bool
+    requires { IsWhole frame.now }
+{
     match parse_reply(frame) {
         Ok(reply) => bad.is_none() && is_replied(&reply, bytes),
         Err(reason) => bad == Some(reason),
@@ -114,8 +127,11 @@ fn is_reply(frame: &Frame, bytes: &[u8], bad: Option<BadReply>) -> bool {
 }
 
 /// The same of the frame that a reader gives for these bytes.
-fn gives_reply(reader: &mut FrameReader, bytes: &[u8], bad: Option<BadReply>) -> bool {
-    match frame_of(reader, bytes) {
+fn gives_reply(reader: &mut FrameReader, bytes: &[u8], bad: Option<BadReply>) -> bool
+    requires { length bytes.now < 2 ^ 32 }
+{
+    feed(reader, bytes);
+    match reader.next() {
         Some(frame) => is_reply(&frame, bytes, bad),
         None => false,
     }
@@ -142,4 +158,59 @@ fn has_replies(alloc: Global) -> bool {
 #[test]
 fn replies_are_read_and_written(rt: HostRuntime) {
     assert!(rt; has_replies(rt.alloc()));
+}
+
+/// Two frames of one stream: of 5 bytes, and a post of three bytes to the box `a`.
+const STREAM: &[u8] = b"\x00\x03\x02\x01a\x00\x06\x01\x01axyz";
+
+/// Whether a request has its name and its packet at these places, and these bytes are that packet.
+fn lies(request: &Request<'_>, name: u64, packet: u64, bytes: &[u8]) -> bool {
+    match &request.ask {
+        Ask::Post(posted) => {
+            request.name.place() == name && posted.place() == packet && posted.bytes() == bytes
+        }
+        _ => false,
+    }
+}
+
+/// Whether a frame is at this place, and a request that lies so in its stream.
+fn is_placed(frame: &Frame<'_>, place: u64, name: u64, packet: u64, bytes: &[u8]) -> bool
+    requires { IsWhole frame.now }
+{
+    match parse_request(frame) {
+        Ok(request) => frame.place == place && lies(&request, name, packet, bytes),
+        Err(_) => false,
+    }
+}
+
+/// Whether the second frame begins at 5, with its name at 9 and its packet at 10: behind its length,
+/// its kind, the length of the name, and the name.
+fn are_placed(reader: &mut FrameReader) -> bool
+    requires { reader.old ≡ record { bytes = []; place = 0 } }
+{
+    if !reader.fits(STREAM.len()) {
+        return false;
+    }
+    let taken = reader.feed(STREAM);
+    if !matches!(reader.next(), Some(frame) if frame.place == 0) {
+        return false;
+    }
+    let _rest = reader.feed(&STREAM[taken..]);
+    match reader.next() {
+        Some(frame) => is_placed(&frame, 5, 9, 10, b"xyz"),
+        None => false,
+    }
+}
+
+/// The same of a new reader.
+fn has_places(alloc: Global) -> bool {
+    match FrameReader::new(alloc) {
+        Ok(mut reader) => are_placed(&mut reader),
+        Err(_) => false,
+    }
+}
+
+#[test]
+fn parts_tell_their_places(rt: HostRuntime) {
+    assert!(rt; has_places(rt.alloc()));
 }

@@ -1,7 +1,10 @@
 //! A worked connection, cut at every place.
 
-use relay_core::Relay;
-use relay_wire::{Bad, Frame, FrameReader, Name, Reply, parse_request, write_reply};
+ghost use Rattle.std.specs.Prelude.{◌≡◌, ◌<◌, ◌≤◌, ◌+◌, ◌^◌, length};
+ghost use Rattle.relay_wire.specs.Lending.{IsWhole};
+
+use relay_core::{Relay, answer_frame};
+use relay_wire::{Frame, FrameReader, Name};
 use std::alloc::Global;
 
 /// Requests for the boxes `a` and `b`, bytes that are none, a frame of no lawful length, and one request more.
@@ -14,26 +17,23 @@ const REPLIES: &[u8] = b"\x00\x01\x83\x00\x09\x81\x00\x00\x00\x00\x00\x00\x00\x0
     \x00\x0a\x82\x00\x00\x00\x00\x00\x00\x00\x01\x07\x00\x01\x84\x00\x09\x87\x00\x00\x00\x00\x00\x00\x00\x01\
     \x00\x01\x86\x00\x02\x88\x02\x00\x02\x88\x01";
 
-/// Appends a reply to the others, and says whether there was room.
-fn append(reply: &Reply, replies: &mut Vec<u8>) -> bool {
-    let mut bytes = [0; 4098];
-    let len = write_reply(reply, &mut bytes);
-    match bytes.get(..len) {
-        Some(frame) => replies.extend_from_slice(frame).is_ok(),
+/// Appends the reply to a frame, and says whether the connection goes on.
+fn answer(relay: &mut Relay, frame: &Frame<'_>, replies: &mut Vec<u8>) -> bool
+    requires { IsWhole frame.now }
+{
+    let mut out = [0; 4098];
+    let answered = answer_frame(relay, frame, &mut out);
+    match out.get(..answered.len) {
+        Some(reply) => replies.extend_from_slice(reply).is_ok() && !answered.last,
         None => false,
     }
 }
 
-/// Appends the reply to a frame, and says whether the connection goes on.
-fn answer(relay: &mut Relay, frame: &Frame, replies: &mut Vec<u8>) -> bool {
-    match parse_request(frame) {
-        Ok(request) => append(&relay.answer(&request).0, replies),
-        Err(Bad { kind }) => append(&Reply::Bad(kind), replies) && kind != 1,
-    }
-}
-
 /// Appends the reply to the next frame, if there is one, and says whether the connection goes on.
-fn answer_next(relay: &mut Relay, reader: &mut FrameReader, replies: &mut Vec<u8>) -> Option<bool> {
+fn answer_next(relay: &mut Relay, reader: &mut FrameReader, replies: &mut Vec<u8>) -> Option<bool>
+    ensures { reader.new.place + length reader.new.bytes
+        ≡ reader.old.place + length reader.old.bytes }
+{
     match reader.next() {
         Some(frame) => Some(answer(relay, &frame, replies)),
         None => None,
@@ -46,9 +46,13 @@ fn answer_piece(
     reader: &mut FrameReader,
     piece: &[u8],
     replies: &mut Vec<u8>,
-) -> bool {
+) -> bool
+    requires { reader.old.place + length reader.old.bytes + length piece.now < 2 ^ 64 }
+    ensures { reader.new.place + length reader.new.bytes
+        ≤ reader.old.place + length reader.old.bytes + length piece.now }
+{
     let mut rest = piece;
-    for _ in 0..=piece.len() {
+    'frames: for _ in 0..=piece.len() {
         let taken = reader.feed(rest);
         rest = &rest[taken..];
         match answer_next(relay, reader, replies) {
@@ -71,12 +75,15 @@ fn relay_of(alloc: Global) -> Option<Relay> {
     }
 }
 
-/// Whether a relay answers the requests in two pieces, which have come to a new reader.
-fn answers(alloc: Global, reader: &mut FrameReader, front: &[u8], back: &[u8]) -> bool {
+/// Whether a relay answers the requests in two pieces, which come to a reader that holds nothing.
+fn answers(alloc: Global, reader: &mut FrameReader, front: &[u8], back: &[u8]) -> bool
+    requires { length front.now + length back.now < 2 ^ 64 }
+{
     let Some(mut relay) = relay_of(alloc) else {
         return false;
     };
     let mut replies = Vec::new(alloc);
+    reader.clear();
     if answer_piece(&mut relay, reader, front, &mut replies) {
         let _end = answer_piece(&mut relay, reader, back, &mut replies);
     }
@@ -87,7 +94,6 @@ fn answers(alloc: Global, reader: &mut FrameReader, front: &[u8], back: &[u8]) -
 fn answer_all(alloc: Global, reader: &mut FrameReader) -> bool {
     for cut in 0..=REQUESTS.len() {
         let (front, back) = REQUESTS.split_at(cut);
-        reader.clear();
         if !answers(alloc, reader, front, back) {
             return false;
         }

@@ -1,6 +1,5 @@
 pub mod Choices
 pub mod Splitting
 pub mod Joining
-pub mod Feeding
 pub mod Asked
 pub mod Replied

@@ -1,4 +1,6 @@
 pub mod Frames
+pub mod Lending
+pub mod Parts
 pub mod Names
 pub mod Requests
 pub mod Replies

@@ -1,53 +1,22 @@
 //! One whole frame.
 
-ghost use Rattle.std.specs.Prelude.{◌≡◌, ◌≤◌, drop, length};
+ghost use Rattle.std.specs.Prelude.{◌≡◌, drop};
 ghost use Rattle.relay_wire.specs.Frames.{IsFrame};
-ghost use Rattle.relay_wire.specs.declared.limits.TheConstants.{FRAME_LIMIT};
 
-use crate::limits::FRAME_LIMIT;
-use arrayvec::ArrayVec;
-use std::marker::Model;
-
-/// A whole frame. A contract sees its bytes, with those of its length.
-#[derive(Drop)]
-pub struct Frame {
-    bytes: ArrayVec<u8, FRAME_LIMIT>,
+/// A whole frame, lent from a reader: its bytes, with those of its length, and the place of the first
+/// one in the stream since the reader was made or last cleared.
+#[derive(Clone, Copy)]
+pub struct Frame<'a> {
+    pub bytes: &'a [u8],
+    pub place: u64,
 }
 
-impl Model for Frame {
-    ghost use Rattle.relay_wire.specs.Frames.{Whole, IsFrame};
-
-    ghost Value = { Whole };
-
-    ghost view = { λ f. record { bytes = f.bytes.items } };
-
-    ghost invariant = { λ f. IsFrame f.bytes.items };
-}
-
-impl Frame {
-    /// The frame of these bytes, copied.
-    pub(crate) fn of(bytes: &[u8]) -> Frame
-        requires whole { IsFrame bytes.now }
-        requires fits { length bytes.now ≤ FRAME_LIMIT }
-        ensures { result.bytes ≡ bytes.now }
-    {
-        let mut own = ArrayVec::new();
-        own.try_extend_from_slice(bytes).unwrap();
-        Frame { bytes: own }
-    }
-
-    /// All its bytes.
-    pub fn bytes(&self) -> &[u8]
-        ensures value { result.now ≡ self.now.bytes }
-        ensures whole { IsFrame result.now }
-    {
-        self.bytes.as_slice()
-    }
-
+impl<'a> Frame<'a> {
     /// Its body: nothing where its length is one that no body may have.
-    pub fn body(&self) -> &[u8]
-        ensures { result.now ≡ drop 2 self.now.bytes }
+    pub fn body(&self) -> &'a [u8]
+        requires { IsFrame self.now.bytes.now }
+        ensures { result.now ≡ drop 2 self.now.bytes.now }
     {
-        &self.bytes()[2..]
+        &self.bytes[2..]
     }
 }

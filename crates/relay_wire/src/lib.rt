@@ -11,15 +11,18 @@
 //! let mut reader = FrameReader::new(alloc)?;
 //! let taken = reader.feed(piece); // to the end of the piece, or of the first whole frame
 //! if let Some(frame) = reader.next() {
+//!     // lent from the reader, as are the name and the packet of the request
 //!     let request = parse_request(&frame); // or the kind of what is wrong with it
 //! }
 //! ```
+//!
+//! What is lent tells its place in the stream, and is there until the reader is used again.
 #![tactic(auto)]
 
 pub use frame::Frame;
 pub use law::{bodies, streams};
 pub use limits::{BODY_LIMIT, FRAME_LIMIT, NAME_LIMIT, PACKET_LIMIT, limits_in_numbers};
-pub use name::Name;
+pub use name::{Name, NameRef};
 pub use packet::Packet;
 pub use reader::FrameReader;
 pub use reply::{BadReply, Reply};

@@ -88,4 +88,65 @@ impl Name {
     {
         copied(self.bytes())
     }
+
+    /// The same name, lent. It comes from no stream: its place is 0.
+    pub fn lent(&self) -> NameRef<'_>
+        ensures { result ≡ record { bytes = self.now; place = 0 } }
+    {
+        NameRef {
+            bytes: self.bytes(),
+            place: 0,
+        }
+    }
+}
+
+/// A lawful name, lent. A contract sees its bytes and their place.
+#[derive(Drop)]
+pub struct NameRef<'a> {
+    bytes: &'a [u8],
+    place: u64,
+}
+
+impl<'a> Model for NameRef<'a> {
+    ghost use Rattle.std.specs.Prelude.{◌≡◌, true};
+    ghost use Rattle.relay_wire.specs.Names.{is_name};
+    ghost use Rattle.relay_wire.specs.Parts.{Lent};
+
+    ghost Value = { Lent };
+
+    ghost view = { λ n. record { bytes = n.bytes.now; place = n.place } };
+
+    ghost invariant = { λ n. is_name n.bytes.now ≡ true };
+}
+
+impl<'a> NameRef<'a> {
+    /// The name of these bytes, which begin at this place of a stream; nothing exactly where they are
+    /// no lawful name.
+    pub(crate) fn at(place: u64, bytes: &'a [u8]) -> Option<NameRef<'a>>
+        ensures variant { is_some result ≡ is_name bytes.now }
+        ensures value { IfSome result (λ name. name ≡ record { bytes = bytes.now; place = place }) }
+    {
+        if is_name(bytes) {
+            Some(NameRef { bytes, place })
+        } else {
+            None
+        }
+    }
+
+    /// Its bytes.
+    #[tactic(auto, unfolding(crate::specs::Names::is_name))]
+    pub fn bytes(&self) -> &'a [u8]
+        ensures value { result.now ≡ self.now.bytes }
+        ensures lawful { is_name result.now ≡ true }
+        ensures fits { length result.now ≤ NAME_LIMIT }
+    {
+        self.bytes
+    }
+
+    /// The place of its first byte in the stream that it was read from.
+    pub fn place(&self) -> u64
+        ensures { result ≡ self.now.place }
+    {
+        self.place
+    }
 }

@@ -3,13 +3,13 @@
 use crate::packet::Packet;
 use thiserror::Error;
 
-/// What the relay replies to a request.
+/// What the relay replies to a request. A packet is lent.
 #[derive(Drop)]
-pub enum Reply {
+pub enum Reply<'a> {
     /// The box keeps the packet, under this number.
     Stored(u64),
     /// The oldest packet of the box, under its number.
-    Item(u64, Packet),
+    Item(u64, Packet<'a>),
     /// The box has no packet.
     Empty,
     /// The packet of that number is dropped.

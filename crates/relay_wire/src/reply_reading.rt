@@ -1,8 +1,9 @@
 //! Reading a reply.
 
-ghost use Rattle.std.specs.Prelude.{drop};
+ghost use Rattle.std.specs.Prelude.{◌≡◌, ◌^◌, ◌<◌, ◌+◌, ℕ, drop, length, IfOk};
+ghost use Rattle.relay_wire.specs.Lending.{IsWhole};
 ghost use Rattle.relay_wire.specs.Replies.{bare, numbered, read_bad, read_item, read_reply, read_reply_rest, stored, absent};
-ghost use Rattle.relay_wire.specs.Seen.{ParsesReply, replied_of};
+ghost use Rattle.relay_wire.specs.Seen.{IsReplyLaid, ParsesReply, replied_of};
 
 use crate::frame::Frame;
 use crate::packet::Packet;
@@ -26,8 +27,9 @@ pub(crate) const ABSENT: u8 = 0x87;
 pub(crate) const BAD: u8 = 0x88;
 
 /// A number, which is all that stands after the first byte.
-fn parse_stored(rest: &[u8]) -> Result<Reply, BadReply>
-    ensures { ParsesReply result (numbered stored rest.now) }
+fn parse_stored<'a>(rest: &[u8]) -> Result<Reply<'a>, BadReply>
+    ensures reads { ParsesReply result (numbered stored rest.now) }
+    ensures laid { (place : ℕ) → IfOk result (λ reply. IsReplyLaid reply 8 rest.now place) }
 {
     match <&[u8; 8]>::try_from(rest) {
         Ok(bytes) => Ok(Reply::Stored(u64::from_be_bytes(*bytes))),
@@ -36,8 +38,9 @@ fn parse_stored(rest: &[u8]) -> Result<Reply, BadReply>
 }
 
 /// A number, which is all that stands after the first byte.
-fn parse_absent(rest: &[u8]) -> Result<Reply, BadReply>
-    ensures { ParsesReply result (numbered absent rest.now) }
+fn parse_absent<'a>(rest: &[u8]) -> Result<Reply<'a>, BadReply>
+    ensures reads { ParsesReply result (numbered absent rest.now) }
+    ensures laid { (place : ℕ) → IfOk result (λ reply. IsReplyLaid reply 8 rest.now place) }
 {
     match <&[u8; 8]>::try_from(rest) {
         Ok(bytes) => Ok(Reply::Absent(u64::from_be_bytes(*bytes))),
@@ -46,21 +49,24 @@ fn parse_absent(rest: &[u8]) -> Result<Reply, BadReply>
 }
 
 /// A number, and a packet, which is all that stands after it.
-fn parse_item(rest: &[u8]) -> Result<Reply, BadReply>
-    ensures { ParsesReply result (read_item rest.now) }
+fn parse_item(rest: &[u8], place: u64) -> Result<Reply<'_>, BadReply>
+    requires ends { place + length rest.now < 2 ^ 64 }
+    ensures reads { ParsesReply result (read_item rest.now) }
+    ensures laid { IfOk result (λ reply. IsReplyLaid reply 8 rest.now place) }
 {
-    let Some((number, rest)) = rest.split_first_chunk::<8>() else {
+    let Some((number, packet)) = rest.split_first_chunk::<8>() else {
         return Err(BadReply::Size);
     };
-    match Packet::new(rest) {
+    match Packet::at(place + 8, packet) {
         Some(packet) => Ok(Reply::Item(u64::from_be_bytes(*number), packet)),
         None => Err(BadReply::Size),
     }
 }
 
 /// A kind in one byte, which is all that stands after the first byte.
-fn parse_bad(rest: &[u8]) -> Result<Reply, BadReply>
-    ensures { ParsesReply result (read_bad rest.now) }
+fn parse_bad<'a>(rest: &[u8]) -> Result<Reply<'a>, BadReply>
+    ensures reads { ParsesReply result (read_bad rest.now) }
+    ensures laid { (place : ℕ) → IfOk result (λ reply. IsReplyLaid reply 8 rest.now place) }
 {
     match rest {
         [kind] if *kind >= 1 && *kind <= 4 => Ok(Reply::Bad(*kind)),
@@ -69,8 +75,9 @@ fn parse_bad(rest: &[u8]) -> Result<Reply, BadReply>
 }
 
 /// A reply after whose first byte nothing stands.
-fn parse_bare(reply: Reply, rest: &[u8]) -> Result<Reply, BadReply>
-    ensures { ParsesReply result (bare (replied_of reply) rest.now) }
+fn parse_bare<'a>(reply: Reply<'a>, rest: &[u8]) -> Result<Reply<'a>, BadReply>
+    ensures reads { ParsesReply result (bare (replied_of reply.entry) rest.now) }
+    ensures same { IfOk result (λ read. read ≡ reply.entry) }
 {
     if rest.is_empty() {
         Ok(reply)
@@ -79,14 +86,16 @@ fn parse_bare(reply: Reply, rest: &[u8]) -> Result<Reply, BadReply>
     }
 }
 
-/// A reply, by its first byte and what stands after it.
+/// A reply, by its first byte and what stands after it, at this place.
 #[tactic(auto, unfolding(crate::specs::Replies::read_reply_rest))]
-fn parse_rest(first: u8, rest: &[u8]) -> Result<Reply, BadReply>
-    ensures { ParsesReply result (read_reply_rest first rest.now) }
+fn parse_rest(first: u8, rest: &[u8], place: u64) -> Result<Reply<'_>, BadReply>
+    requires ends { place + length rest.now < 2 ^ 64 }
+    ensures reads { ParsesReply result (read_reply_rest first rest.now) }
+    ensures laid { IfOk result (λ reply. IsReplyLaid reply 8 rest.now place) }
 {
     match first {
         STORED => parse_stored(rest),
-        ITEM => parse_item(rest),
+        ITEM => parse_item(rest, place),
         EMPTY => parse_bare(Reply::Empty, rest),
         ACKED => parse_bare(Reply::Acked, rest),
         BOX_FULL => parse_bare(Reply::BoxFull, rest),
@@ -97,13 +106,17 @@ fn parse_rest(first: u8, rest: &[u8]) -> Result<Reply, BadReply>
     }
 }
 
-/// Reads a reply, or finds the first reason why the frame is none.
+/// Reads a reply, whose packet is lent from the frame, or finds the first reason why the frame is
+/// none.
 #[tactic(auto, unfolding(crate::specs::Replies::read_reply))]
-pub fn parse_reply(frame: &Frame) -> Result<Reply, BadReply>
-    ensures { ParsesReply result (read_reply (drop 2 frame.now.bytes)) }
+pub fn parse_reply<'a>(frame: &Frame<'a>) -> Result<Reply<'a>, BadReply>
+    requires { IsWhole frame.now }
+    ensures reads { ParsesReply result (read_reply (drop 2 frame.now.bytes.now)) }
+    // A packet stands after the length, the first byte and its number.
+    ensures laid { IfOk result (λ reply. IsReplyLaid reply 11 frame.now.bytes.now frame.now.place) }
 {
     let Some((first, rest)) = frame.body().split_first() else {
         return Err(BadReply::Frame);
     };
-    parse_rest(*first, rest)
+    parse_rest(*first, rest, frame.place + 3)
 }

@@ -1,11 +1,12 @@
 //! Reading a request.
 
-ghost use Rattle.std.specs.Prelude.{◌≤◌, drop};
+ghost use Rattle.std.specs.Prelude.{◌^◌, ◌<◌, ◌+◌, ◌≤◌, ℕ, drop, length, IfOk};
+ghost use Rattle.relay_wire.specs.Lending.{IsWhole};
 ghost use Rattle.relay_wire.specs.Requests.{read_named, read_request, read_rest};
-ghost use Rattle.relay_wire.specs.Seen.{ParsesAsk, ParsesRequest};
+ghost use Rattle.relay_wire.specs.Seen.{IsAskLaid, IsLaid, ParsesAsk, ParsesRequest};
 
 use crate::frame::Frame;
-use crate::name::Name;
+use crate::name::NameRef;
 use crate::packet::Packet;
 use crate::request::{Ask, Bad, Request};
 
@@ -27,10 +28,11 @@ const REST: u8 = 4;
 
 /// A packet, which is all that stands after the name.
 #[tactic(auto, unfolding(crate::specs::Requests::read_rest))]
-fn posted(rest: &[u8]) -> Result<Ask, Bad>
-    ensures { ParsesAsk result (read_rest 1 rest.now) }
+fn posted(rest: &[u8], place: u64) -> Result<Ask<'_>, Bad>
+    ensures reads { ParsesAsk result (read_rest 1 rest.now) }
+    ensures laid { IfOk result (λ ask. IsAskLaid ask 0 rest.now place) }
 {
-    match Packet::new(rest) {
+    match Packet::at(place, rest) {
         Some(packet) => Ok(Ask::Post(packet)),
         None => Err(Bad { kind: REST }),
     }
@@ -38,8 +40,9 @@ fn posted(rest: &[u8]) -> Result<Ask, Bad>
 
 /// A number, which is all that stands after the name.
 #[tactic(auto, unfolding(crate::specs::Requests::read_rest))]
-fn acknowledged(rest: &[u8]) -> Result<Ask, Bad>
-    ensures { ParsesAsk result (read_rest 3 rest.now) }
+fn acknowledged<'a>(rest: &[u8]) -> Result<Ask<'a>, Bad>
+    ensures reads { ParsesAsk result (read_rest 3 rest.now) }
+    ensures laid { (place : ℕ) → IfOk result (λ ask. IsAskLaid ask 0 rest.now place) }
 {
     match <&[u8; 8]>::try_from(rest) {
         Ok(bytes) => Ok(Ask::Ack(u64::from_be_bytes(*bytes))),
@@ -47,15 +50,16 @@ fn acknowledged(rest: &[u8]) -> Result<Ask, Bad>
     }
 }
 
-/// What is asked, by the first byte and what stands after the name.
+/// What is asked, by the first byte and what stands after the name, at this place.
 #[tactic(auto, unfolding(crate::specs::Requests::read_rest))]
-fn parse_rest(first: u8, rest: &[u8]) -> Result<Ask, Bad>
+fn parse_rest(first: u8, rest: &[u8], place: u64) -> Result<Ask<'_>, Bad>
     requires from { 1 ≤ first }
     requires to { first ≤ 3 }
-    ensures { ParsesAsk result (read_rest first rest.now) }
+    ensures reads { ParsesAsk result (read_rest first rest.now) }
+    ensures laid { IfOk result (λ ask. IsAskLaid ask 0 rest.now place) }
 {
     if first == POST {
-        posted(rest)
+        posted(rest, place)
     } else if first == FETCH {
         if rest.is_empty() {
             Ok(Ask::Fetch)
@@ -67,12 +71,14 @@ fn parse_rest(first: u8, rest: &[u8]) -> Result<Ask, Bad>
     }
 }
 
-/// A name after its length, and what stands after it.
+/// A name after its length, and what stands after it, from this place on.
 #[tactic(auto, unfolding(crate::specs::Requests::read_named))]
-fn parse_named(first: u8, bytes: &[u8]) -> Result<Request, Bad>
+fn parse_named(first: u8, bytes: &[u8], place: u64) -> Result<Request<'_>, Bad>
     requires from { 1 ≤ first }
     requires to { first ≤ 3 }
-    ensures { ParsesRequest result (read_named first bytes.now) }
+    requires ends { place + length bytes.now < 2 ^ 64 }
+    ensures reads { ParsesRequest result (read_named first bytes.now) }
+    ensures laid { IfOk result (λ request. IsLaid request 1 bytes.now place) }
 {
     let Some((size, rest)) = bytes.split_first() else {
         return Err(Bad { kind: NAME });
@@ -82,17 +88,24 @@ fn parse_named(first: u8, bytes: &[u8]) -> Result<Request, Bad>
         return Err(Bad { kind: NAME });
     }
     let (name, rest) = rest.split_at(size);
-    let Some(name) = Name::new(name) else {
+    let at = place + 1;
+    let Some(name) = NameRef::at(at, name) else {
         return Err(Bad { kind: NAME });
     };
-    let ask = parse_rest(first, rest)?;
-    Ok(Request::of(name, ask))
+    match parse_rest(first, rest, at + size as u64) {
+        Ok(ask) => Ok(Request { name, ask }),
+        Err(bad) => Err(bad),
+    }
 }
 
-/// Reads a request, or finds the first kind of what is wrong with the frame.
+/// Reads a request, whose parts are lent from the frame, or finds the first kind of what is wrong with
+/// the frame.
 #[tactic(auto, unfolding(crate::specs::Requests::read_request))]
-pub fn parse_request(frame: &Frame) -> Result<Request, Bad>
-    ensures { ParsesRequest result (read_request (drop 2 frame.now.bytes)) }
+pub fn parse_request<'a>(frame: &Frame<'a>) -> Result<Request<'a>, Bad>
+    requires { IsWhole frame.now }
+    ensures reads { ParsesRequest result (read_request (drop 2 frame.now.bytes.now)) }
+    // The name stands after the length, the first byte and its own length.
+    ensures laid { IfOk result (λ request. IsLaid request 4 frame.now.bytes.now frame.now.place) }
 {
     let Some((first, rest)) = frame.body().split_first() else {
         return Err(Bad { kind: LENGTH });
@@ -100,5 +113,5 @@ pub fn parse_request(frame: &Frame) -> Result<Request, Bad>
     if *first < POST || *first > ACK {
         return Err(Bad { kind: FIRST_BYTE });
     }
-    parse_named(*first, rest)
+    parse_named(*first, rest, frame.place + 3)
 }

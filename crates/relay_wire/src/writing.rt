@@ -6,7 +6,7 @@ ghost use Rattle.grammar.specs.Printer.{HasRoom};
 ghost use Rattle.relay_wire.specs.Frames.{framed};
 ghost use Rattle.relay_wire.specs.Replies.{reply_body};
 ghost use Rattle.relay_wire.specs.Requests.{request_body};
-ghost use Rattle.relay_wire.specs.Seen.{replied_of};
+ghost use Rattle.relay_wire.specs.Seen.{asked_of, replied_of};
 ghost use Rattle.relay_wire.specs.declared.limits.TheConstants.{BODY_LIMIT, FRAME_LIMIT};
 
 use crate::reply::Reply;
@@ -31,13 +31,13 @@ fn put_frame(out: &mut [u8], first: u8, one: &[u8], two: &[u8], three: &[u8]) ->
 
 /// Writes the frame of a request at the beginning, and answers how many bytes it has. A buffer of 4,098 bytes holds any.
 #[tactic(auto, unfolding(crate::specs::Requests::request_body))]
-pub fn write_request(request: &Request, out: &mut [u8]) -> usize
-    requires { HasRoom FRAME_LIMIT (framed (request_body request.now)) (length out.old) }
-    ensures { Puts out.old out.new 0 (framed (request_body request.now)) result }
+pub fn write_request(request: &Request<'_>, out: &mut [u8]) -> usize
+    requires { HasRoom FRAME_LIMIT (framed (request_body (asked_of request.now))) (length out.old) }
+    ensures { Puts out.old out.new 0 (framed (request_body (asked_of request.now))) result }
 {
-    let name = request.name().bytes();
+    let name = request.name.bytes();
     let size = [name.len() as u8];
-    match request.ask() {
+    match &request.ask {
         Ask::Post(packet) => put_frame(out, POST, &size, name, packet.bytes()),
         Ask::Fetch => put_frame(out, FETCH, &size, name, &[]),
         Ask::Ack(number) => put_frame(out, ACK, &size, name, &number.to_be_bytes()),
@@ -46,7 +46,7 @@ pub fn write_request(request: &Request, out: &mut [u8]) -> usize
 
 /// Writes the frame of a reply at the beginning, and answers how many bytes it has. A buffer of 4,098 bytes holds any.
 #[tactic(auto, unfolding(crate::specs::Replies::reply_body))]
-pub fn write_reply(reply: &Reply, out: &mut [u8]) -> usize
+pub fn write_reply(reply: &Reply<'_>, out: &mut [u8]) -> usize
     requires { HasRoom FRAME_LIMIT (framed (reply_body (replied_of reply.now))) (length out.old) }
     ensures { Puts out.old out.new 0 (framed (reply_body (replied_of reply.now))) result }
 {

@@ -5,6 +5,7 @@ use Rattle.std.proofs.lemmas.Bool.Decides.{nat_tests}
 use Rattle.std.proofs.Common.{arith}
 use Rattle.dr_disk.specs.declared.call.Call.{Call}
 use Rattle.dr_ports.specs.Wires.{Port}
+use Rattle.relay_wire.specs.Parts.{Lent}
 use Rattle.relay_wire.specs.Replies.{Replied, acked, absent}
 use Rattle.relay_wire.specs.Requests.{Asked}
 use Rattle.relay_wire.specs.Seen.{replied_of}
@@ -90,7 +91,7 @@ module _ (p : Party Client) (s : Client) (n number : ℕ) where
 
   -- ---- of a fetch and of a post
 
-  pub fetched_wrong : (reply : Reply) → (reply ≡ Empty → ⊥) → (reply ≡ Unknown → ⊥) → ((m : ℕ) (packet : List ℕ) → reply ≡ Item m packet → ⊥)
+  pub fetched_wrong : (reply : Reply) → (reply ≡ Empty → ⊥) → (reply ≡ Unknown → ⊥) → ((m : ℕ) (packet : Lent) → reply ≡ Item m packet → ⊥)
       → Idles p s (move p s (fetching n) (replied_of reply)) (stops (Peer 2 Wrong))
   fetched_wrong (Stored m) not_empty not_unknown not_item = idles_to_end wrong (Peer 2 Wrong) refl refl
   fetched_wrong (Item m packet) not_empty not_unknown not_item = absurd (not_item m packet refl)
@@ -140,6 +141,6 @@ still_again a client same is_open ready =
     subst (λ (x : ClientNow). IsStill a (record a { client = x })) (sym same) (still a.client a.disk is_open ready, wrote_nothing a a refl refl)
 
 -- a move that asks for nothing, over a reply
-pub idles_here : (p : Party Client) (a : Moment) (m : Move Client) (turn : Turn) → Idles p a.client.kept m turn → a.client.closed ≡ None
-    → IsReady a.client.kept a.client.store a.disk → Turns m a a turn
-idles_here p a m turn idles is_open ready = idle_turns p a a m turn idles (still_again a a.client refl is_open ready)
+pub idles_again : (p : Party Client) (a : Moment) (client : ClientNow) (m : Move Client) (turn : Turn) → Idles p a.client.kept m turn → client ≡ a.client
+    → a.client.closed ≡ None → IsReady a.client.kept a.client.store a.disk → Turns m a (record a { client = client }) turn
+idles_again p a client m turn idles same is_open ready = idle_turns p a (record a { client = client }) m turn idles (still_again a client same is_open ready)

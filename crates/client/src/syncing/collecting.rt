@@ -1,6 +1,6 @@
 //! The first part of a sync: the packets of the own box are taken.
 
-ghost use Rattle.std.specs.Prelude.{◌≡◌, ◌≤◌, ℕ, List};
+ghost use Rattle.std.specs.Prelude.{◌≡◌, ◌≤◌, ℕ, IfOk, List};
 ghost use Rattle.relay_wire.specs.Replies.{item};
 ghost use Rattle.relay_wire.specs.Requests.{acks, fetches};
 ghost use Rattle.relay_wire.specs.Seen.{replied_of};
@@ -8,6 +8,7 @@ ghost use Rattle.session_model.specs.Clients.{Client as Kept};
 ghost use Rattle.sync_model.specs.Moves.{acking, acknowledged, fetching, move};
 ghost use Rattle.sync_model.specs.Parties.{Party};
 ghost use Rattle.client.specs.Clients.{IsOpenOn};
+ghost use Rattle.client.specs.Drafting.{DraftsFor, IsDraftOf};
 ghost use Rattle.client.specs.Syncing.Links.{LeavesLink};
 ghost use Rattle.client.specs.Syncing.Moments.{IsAnswered, moment};
 ghost use Rattle.client.specs.Syncing.Parties.{is_full, is_no_room, party_of, waiting};
@@ -18,17 +19,21 @@ ghost use Rattle.client.specs.Syncing.Syncs.{Collects};
 use super::faults::{SyncFault, SyncRefusal, WRONG};
 use super::lines::write_answer;
 use super::naming::Names;
+use super::steps::ask_for;
 use crate::client::Client;
+use crate::taking::drafted;
 use dr_disk::Disk;
 use dr_ports::{Failed, Pipe, Sink};
 use kem_laws::Kem;
-use relay_wire::{Packet, Reply, Request};
+use ratchet::{KeptRoom, ReceiveDraft};
+use relay_wire::{Reply, Request};
 use session_model::{Answer, Refusal};
 use sync_model::{ITEM_LIMIT, More};
 
 /// What an acknowledgement is answered with. That the packet is absent counts as that it was dropped.
-fn acknowledged(reply: Reply, number: u64) -> Result<(), SyncFault>
-    ensures { (p : Party Kept) (kept : Kept) (n : ℕ) → Idles p kept (move p kept (acking n number) (replied_of reply))
+fn acknowledged(reply: Reply<'_>, number: u64) -> Result<(), SyncFault>
+    ensures { (p : Party Kept) (kept : Kept) (n : ℕ) →
+        Idles p kept (move p kept (acking n number) (replied_of reply.entry))
         (turn_of (acknowledged p kept n).wait result) }
 {
     match reply {
@@ -74,24 +79,29 @@ fn answered<O: Sink>(out: &mut O, prefix: &str, answer: Answer) -> Result<(), Sy
 }
 
 impl<K: Kem> Client<K> {
-    /// Takes a packet that came under a number.
+    /// Takes what was drafted for a packet that came under a number.
+    // Inlined, so that the draft stays where it is.
+    #[inline(always)]
     fn collect<D: Disk, O: Sink>(
         &mut self,
         disk: &mut D,
         out: &mut O,
         prefix: &str,
         number: u64,
-        packet: &Packet,
+        drafted: Result<ReceiveDraft<'_, K>, Refusal>,
     ) -> Result<Option<u64>, SyncFault>
-        requires { IsOpenOn self.old (D.state disk.old) }
-        ensures turns { (own peers : List ℕ) (n : ℕ) →
-            Turns (move (party_of K.mechanism prefix.now own peers) self.old.kept (fetching n) (item number packet.now))
+        requires drafted { IfOk drafted (IsDraftOf K.mechanism self.old.kept) }
+        requires open { IsOpenOn self.old (D.state disk.old) }
+        ensures turns { (own peers : List ℕ) (n : ℕ) (packet : List ℕ)
+            → DraftsFor K.mechanism self.old.kept packet drafted.entry
+            → Turns (move (party_of K.mechanism prefix.now own peers) self.old.kept
+            (fetching n) (item number packet))
             (moment self.old (D.state disk.old) (O.at out.old))
             (moment self.new (D.state disk.new) (O.at out.new))
             (fetched_as (waiting self.new.kept) n result) }
         ensures later { (O.at out.old).faults ≤ (O.at out.new).faults }
     {
-        match self.take_packet(disk, packet.bytes()) {
+        match self.take_packet(disk, drafted) {
             Err(call) => Err(SyncFault::Store { call }),
             Ok(answer) => match answered(out, prefix, answer) {
                 Err(fault) => Err(fault),
@@ -100,31 +110,8 @@ impl<K: Kem> Client<K> {
         }
     }
 
-    /// What a fetch is answered with.
-    fn fetched<D: Disk, O: Sink>(
-        &mut self,
-        disk: &mut D,
-        out: &mut O,
-        prefix: &str,
-        reply: Reply,
-    ) -> Result<Option<u64>, SyncFault>
-        requires { IsOpenOn self.old (D.state disk.old) }
-        ensures turns { (own peers : List ℕ) (n : ℕ) →
-            Turns (move (party_of K.mechanism prefix.now own peers) self.old.kept (fetching n) (replied_of reply))
-            (moment self.old (D.state disk.old) (O.at out.old))
-            (moment self.new (D.state disk.new) (O.at out.new))
-            (fetched_as (waiting self.new.kept) n result) }
-        ensures later { (O.at out.old).faults ≤ (O.at out.new).faults }
-    {
-        match reply {
-            Reply::Empty => Ok(None),
-            Reply::Item(number, packet) => self.collect(disk, out, prefix, number, &packet),
-            Reply::Unknown => Err(SyncFault::Refused(SyncRefusal::Unknown)),
-            _ => Err(WRONG),
-        }
-    }
-
-    /// Fetches the oldest packet of the own box and takes it: its number, or nothing where the box is empty.
+    /// Fetches the oldest packet of the own box and takes it: its number, or nothing where the box is
+    /// empty. It is drafted while it stands in the reader.
     fn fetch<D: Disk, L: Pipe, O: Sink>(
         &mut self,
         disk: &mut D,
@@ -142,9 +129,20 @@ impl<K: Kem> Client<K> {
         ensures later { (O.at out.old).faults ≤ (O.at out.new).faults }
         ensures link { LeavesLink L.port L.behind link.old link.new }
     {
-        match self.ask(link, &Request::fetch(names.own.copied())) {
+        self.lawful();
+        match ask_for(link, &mut self.reader, &Request::fetch(names.own.lent())) {
             Err(fault) => Err(fault),
-            Ok(reply) => self.fetched(disk, out, prefix, reply),
+            Ok(reply) => match reply {
+                Reply::Empty => Ok(None),
+                Reply::Item(number, packet) => {
+                    let mut room = KeptRoom::new();
+                    let (session, work) = (&self.session, &mut self.work);
+                    let drafted = drafted(session, work, packet.bytes(), &mut room);
+                    self.collect(disk, out, prefix, number, drafted)
+                }
+                Reply::Unknown => Err(SyncFault::Refused(SyncRefusal::Unknown)),
+                _ => Err(WRONG),
+            },
         }
     }
 
@@ -162,7 +160,11 @@ impl<K: Kem> Client<K> {
         ensures same { self.new ≡ self.old }
         ensures link { LeavesLink L.port L.behind link.old link.new }
     {
-        match self.ask(link, &Request::ack(names.own.copied(), number)) {
+        match ask_for(
+            link,
+            &mut self.reader,
+            &Request::ack(names.own.lent(), number),
+        ) {
             Err(fault) => Err(fault),
             Ok(reply) => acknowledged(reply, number),
         }

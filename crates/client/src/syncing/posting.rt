@@ -1,9 +1,8 @@
 //! The second part of a sync: the packets of the outbox are posted to the peer's box.
 
-ghost use Rattle.std.specs.Prelude.{◌<◌, ◌≤◌, OnOk, length, ℕ, List};
+ghost use Rattle.std.specs.Prelude.{◌≡◌, ◌↔◌, ◌<◌, ◌≤◌, IsTrue, OnOk, Some, length, slice_get, ℕ, List};
 ghost use Rattle.relay_wire.specs.Replies.{stored};
 ghost use Rattle.relay_wire.specs.Requests.{posts};
-ghost use Rattle.relay_wire.specs.Seen.{replied_of};
 ghost use Rattle.sync_model.specs.Moves.{move, posting, waits_by};
 ghost use Rattle.sync_model.specs.declared.more.More.{More};
 ghost use Rattle.client.specs.Clients.{ClientNow, IsOpenOn};
@@ -17,13 +16,21 @@ ghost use Rattle.client.specs.Syncing.Syncs.{Posts};
 use super::faults::{SyncFault, SyncRefusal, WRONG};
 use super::lines::write_stored;
 use super::naming::Names;
+use super::steps::{ask_for, oldest};
 use crate::client::Client;
 use dr_disk::Disk;
 use dr_ports::{Failed, Pipe, Sink};
 use kem_laws::Kem;
-use relay_wire::{Packet, Reply, Request};
+use relay_wire::{Reply, Request};
 
 impl<K: Kem> Client<K> {
+    /// Whether a packet waits in the outbox.
+    fn waits(&self) -> bool
+        ensures { IsTrue result ↔ (0 < length self.now.kept.outbox) }
+    {
+        self.outbox.len() > 0
+    }
+
     /// Drops the oldest packet, which the relay keeps under a number.
     fn delivered<D: Disk, O: Sink>(
         &mut self,
@@ -51,32 +58,6 @@ impl<K: Kem> Client<K> {
         }
     }
 
-    /// What a post is answered with.
-    fn posted<D: Disk, O: Sink>(
-        &mut self,
-        disk: &mut D,
-        out: &mut O,
-        prefix: &str,
-        reply: Reply,
-    ) -> Result<(), SyncFault>
-        requires some { 0 < length self.old.kept.outbox }
-        requires open { IsOpenOn self.old (D.state disk.old) }
-        ensures turns { (own peers : List ℕ) (more : More) →
-            Turns (move (party_of K.mechanism prefix.now own peers) self.old.kept (posting more) (replied_of reply))
-            (moment self.old (D.state disk.old) (O.at out.old))
-            (moment self.new (D.state disk.new) (O.at out.new))
-            (turn_of (waits_by (waiting self.new.kept) more) result) }
-        ensures fewer { OnOk result (length self.new.kept.outbox < length self.old.kept.outbox) }
-        ensures later { (O.at out.old).faults ≤ (O.at out.new).faults }
-    {
-        match reply {
-            Reply::Stored(number) => self.delivered(disk, out, prefix, number),
-            Reply::BoxFull => Err(SyncFault::Refused(SyncRefusal::BoxFull)),
-            Reply::Unknown => Err(SyncFault::Refused(SyncRefusal::Unknown)),
-            _ => Err(WRONG),
-        }
-    }
-
     /// Posts the oldest packet to the peer's box, and drops it once the relay keeps it.
     fn post<D: Disk, L: Pipe, O: Sink>(
         &mut self,
@@ -85,11 +66,12 @@ impl<K: Kem> Client<K> {
         out: &mut O,
         prefix: &str,
         names: &Names,
-        packet: Packet,
     ) -> Result<(), SyncFault>
         requires some { 0 < length self.old.kept.outbox }
         requires open { IsOpenOn self.old (D.state disk.old) }
-        ensures round { (more : More) → IsRound (party_of K.mechanism prefix.now names.now.own names.now.peers)
+        ensures round { (more : More) (packet : List ℕ)
+            → Some packet ≡ slice_get (waiting self.old.kept) 0
+            → IsRound (party_of K.mechanism prefix.now names.now.own names.now.peers)
             (posting more) (record { name = names.now.peers; ask = posts packet })
             (moment self.old (D.state disk.old) (O.at out.old))
             (moment self.new (D.state disk.new) (O.at out.new))
@@ -98,9 +80,16 @@ impl<K: Kem> Client<K> {
         ensures later { (O.at out.old).faults ≤ (O.at out.new).faults }
         ensures link { LeavesLink L.port L.behind link.old link.new }
     {
-        match self.ask(link, &Request::post(names.peers.copied(), packet)) {
+        self.may_post();
+        let request = Request::post(names.peers.lent(), oldest(&self.outbox));
+        match ask_for(link, &mut self.reader, &request) {
             Err(fault) => Err(fault),
-            Ok(reply) => self.posted(disk, out, prefix, reply),
+            Ok(reply) => match reply {
+                Reply::Stored(number) => self.delivered(disk, out, prefix, number),
+                Reply::BoxFull => Err(SyncFault::Refused(SyncRefusal::BoxFull)),
+                Reply::Unknown => Err(SyncFault::Refused(SyncRefusal::Unknown)),
+                _ => Err(WRONG),
+            },
         }
     }
 
@@ -127,8 +116,8 @@ impl<K: Kem> Client<K> {
         ensures later { (O.at out.old).faults ≤ (O.at out.new).faults }
         ensures link { LeavesLink L.port L.behind link.old link.new }
     {
-        'packets: while let Some(packet) = self.oldest() {
-            match self.post(disk, link, out, prefix, names, packet) {
+        'packets: while self.waits() {
+            match self.post(disk, link, out, prefix, names) {
                 Err(fault) => return Err(fault),
                 Ok(()) => {}
             }

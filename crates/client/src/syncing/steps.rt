@@ -1,14 +1,19 @@
 //! What a sync has a client do, and what it asks of the relay.
 
-ghost use Rattle.std.specs.Prelude.{◌≡◌, ◌<◌, ◌≤◌, OnOk, length, slice_get, true};
+ghost use Rattle.std.specs.Prelude.{◌≡◌, ◌<◌, ◌≤◌, IfOk, OnOk, Some, length, map, slice_get, true};
 ghost use Rattle.std.specs.List.{AllByRecursion};
 ghost use Rattle.dr_base.specs.declared.limits.TheConstants.{OUTBOX_LIMIT};
+ghost use Rattle.dr_model.specs.Machines.Acts.{taken_by};
+ghost use Rattle.dr_model.specs.Machines.Steps.{settled};
 ghost use Rattle.dr_ports.specs.Wires.{Port};
 ghost use Rattle.relay_pipe.specs.Asking.{Asks};
 ghost use Rattle.relay_wire.specs.Names.{is_packet};
 ghost use Rattle.relay_wire.specs.Requests.{Asked};
+ghost use Rattle.relay_wire.specs.Seen.{asked_of};
+ghost use Rattle.session_model.specs.Clients.{accept_receive};
 ghost use Rattle.client.specs.Clients.{IsOpenOn};
-ghost use Rattle.client.specs.Syncing.Parties.{sent_step, taken_step, waiting};
+ghost use Rattle.client.specs.Drafting.{IsDraftOf, taken_of};
+ghost use Rattle.client.specs.Syncing.Parties.{sent_step, waiting};
 ghost use Rattle.client.specs.Syncing.Rounds.{Answers};
 ghost use Rattle.client.specs.Syncing.Links.{LeavesLink};
 ghost use Rattle.client.specs.Syncing.Moments.{HasGone, IsTaken};
@@ -16,16 +21,19 @@ ghost use Rattle.client.specs.Syncing.Moments.{HasGone, IsTaken};
 use super::faults::SyncFault;
 use crate::client::Client;
 use crate::refusals::{DropRefusal, TakeRefusal};
+use boxes::Outbox;
 use dr_disk::{Call, Disk};
 use dr_ports::Pipe;
 use kem_laws::Kem;
+use ratchet::ReceiveDraft;
 use relay_pipe::{AskFault, ask};
-use relay_wire::{Packet, Reply, Request};
-use session_model::Answer;
+use relay_wire::{FrameReader, Packet, Reply, Request};
+use session_model::{Answer, Refusal};
 
 /// What came of a request.
-fn heard(replied: Result<Reply, AskFault>) -> Result<Reply, SyncFault>
-    ensures { (asked : Asked) (start now : Port) → Asks asked start now replied → Answers asked start now result }
+fn heard<'a>(replied: Result<Reply<'a>, AskFault>) -> Result<Reply<'a>, SyncFault>
+    ensures { (asked : Asked) (start now : Port) → Asks asked start now replied.entry
+        → Answers asked start now result }
 {
     match replied {
         Ok(reply) => Ok(reply),
@@ -34,6 +42,31 @@ fn heard(replied: Result<Reply, AskFault>) -> Result<Reply, SyncFault>
             at: fault.at,
             kind: fault.kind,
         }),
+    }
+}
+
+/// Sends a request, and reads its reply, which is lent from the reader.
+pub(crate) fn ask_for<'a, L: Pipe>(
+    link: &mut L,
+    reader: &'a mut FrameReader,
+    request: &Request<'_>,
+) -> Result<Reply<'a>, SyncFault>
+    ensures answers { Answers (asked_of request.now) (L.port link.old) (L.port link.new) result }
+    ensures link { LeavesLink L.port L.behind link.old link.new }
+{
+    heard(ask(link, reader, request))
+}
+
+/// The oldest packet of an outbox.
+pub(crate) fn oldest(outbox: &Outbox) -> Packet<'_>
+    requires some { 0 < length outbox.now }
+    requires lawful { AllByRecursion (λ packet. is_packet packet ≡ true)
+        (map (λ item. item.bytes) outbox.now) }
+    ensures { Some result.bytes ≡ slice_get (map (λ item. item.bytes) outbox.now) 0 }
+{
+    match outbox.at(0) {
+        None => unreachable!(),
+        Some((_, bytes)) => Packet::new(bytes).unwrap(),
     }
 }
 
@@ -46,29 +79,21 @@ impl<K: Kem> Client<K> {
         let _count = self.outbox.len();
     }
 
-    /// Sends a request, and reads its reply.
-    pub(crate) fn ask<L: Pipe>(
-        &mut self,
-        link: &mut L,
-        request: &Request,
-    ) -> Result<Reply, SyncFault>
-        ensures answers { Answers request.now (L.port link.old) (L.port link.new) result }
-        ensures same { self.new ≡ self.old }
-        ensures link { LeavesLink L.port L.behind link.old link.new }
-    {
-        heard(ask(link, &mut self.reader, request))
-    }
-
-    /// Takes a packet: the answer, or the call on the disk that failed.
+    /// Takes what was drafted for a packet: the answer, or the call on the disk that failed.
+    // Inlined, so that the draft stays where it is.
+    #[inline(always)]
     pub(crate) fn take_packet<D: Disk>(
         &mut self,
         disk: &mut D,
-        packet: &[u8],
+        drafted: Result<ReceiveDraft<'_, K>, Refusal>,
     ) -> Result<Answer, Call>
-        requires { IsOpenOn self.old (D.state disk.old) }
-        ensures { IsTaken (taken_step K.mechanism self.old.kept packet.now) self.old self.new (D.state disk.old) (D.state disk.new) result }
+        requires drafted { IfOk drafted (IsDraftOf K.mechanism self.old.kept) }
+        requires open { IsOpenOn self.old (D.state disk.old) }
+        ensures { let taken = taken_of self.old.kept.state drafted.entry in
+            IsTaken (settled self.old.kept (taken_by (accept_receive self.old.kept taken)))
+            self.old self.new (D.state disk.old) (D.state disk.new) result }
     {
-        match self.take_exact(disk, packet) {
+        match self.take_drafted(disk, drafted) {
             Ok(position) => Ok(Answer::Opened(position)),
             Err(TakeRefusal::Refused(refusal)) => Ok(Answer::Refused(refusal)),
             Err(TakeRefusal::StoreFault { call }) => Err(call),
@@ -87,16 +112,6 @@ impl<K: Kem> Client<K> {
             Ok(()) => Ok(()),
             Err(DropRefusal::StoreFault { call }) => Err(call),
             Err(_) => unreachable!(),
-        }
-    }
-
-    /// The oldest packet of the outbox.
-    pub(crate) fn oldest(&self) -> Option<Packet>
-        ensures { result ≡ slice_get (waiting self.now.kept) 0 }
-    {
-        match self.outbox(0) {
-            None => None,
-            Some((_, bytes)) => Packet::new(bytes),
         }
     }
 }

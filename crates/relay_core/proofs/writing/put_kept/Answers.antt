@@ -1,4 +1,4 @@
-use Rattle.std.proofs.Common.{◌≡◌, List, ℕ, ◌∙◌, ap₂, subst}
+use Rattle.std.proofs.Common.{◌≡◌, List, ℕ, ap₂, subst}
 use Rattle.dr_base.specs.Buffer.{Puts}
 use Rattle.dr_base.proofs.Putting.{then_puts}
 use Rattle.relay_core.specs.Boxes.{Kept}
@@ -9,6 +9,6 @@ pub returns : goal.returns
 returns c =
     let read : Kept = record { number = c.number.result; packet = c.bytes-packet.result.now } in
     let same : read ≡ c.args.kept.now =
-    ap₂ (λ (n : ℕ) (p : List ℕ). record { number = n; packet = p }) c.number.ensures.value (c.bytes-packet.ensures.value ∙ c.packet.ensures) in
+    ap₂ (λ (n : ℕ) (p : List ℕ). record { number = n; packet = p }) c.number.ensures.value c.bytes-packet.ensures.value in
     let parts = then_puts c.put_u64-at_size.ensures (then_puts c.put_u16-at_packet.ensures c.put.ensures) in
     subst (λ (kept : Kept). Puts c.args.out.now c.put.new.out c.args.at (kept_text kept) c.put.result) same parts

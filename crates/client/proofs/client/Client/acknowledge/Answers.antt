@@ -1,20 +1,28 @@
-use Rattle.std.proofs.Common.{List, ap, ℕ, ◌∙◌}
-use Rattle.relay_wire.specs.Requests.{acks}
-use Rattle.client.specs.Syncing.Rounds.{Idles, turn_of}
+use Rattle.std.proofs.Common.{Result, ap, subst, sym, ◌∙◌}
+use Rattle.relay_wire.specs.Parts.{Lent}
+use Rattle.relay_wire.specs.Requests.{Asked, acks}
+use Rattle.relay_wire.specs.Seen.{asked_of}
+use Rattle.client.specs.Syncing.Rounds.{Hears, Idles, turn_of}
+use Rattle.client.specs.declared.syncing.faults.SyncFault.{SyncFault}
 use Rattle.sync_model.specs.Moves.{acking, acknowledged, move}
 use Rattle.client.proofs.Syncs.Turning.{hears_fault, hears_reply}
 use Rattle.client.proofs.client.Client.acknowledge.Goals as goal
+use Rattle.client.proofs.client.Client.acknowledge.Goals.{in-Err, in-Ok}
 
-pub returns-in-Err-clause-round : goal.returns-in-Err-clause-round
-returns-in-Err-clause-round g c = λ p kept n.
-    hears_fault c.ack.result (record { name = c.args.names.now.own; ask = acks c.args.number })
-    (c.ack.ensures ∙ ap (λ (name : List ℕ). record { name = name; ask = acks c.args.number }) c.copied.ensures)
-    (g.L.Pipe.port c.args.link.now) (g.L.Pipe.port c.ask.new.link) (λ reply turn. Idles p kept (move p kept (acking n c.args.number) reply) turn) (Unit {0})
-    c.in-Err.fault c.in-Err.ensures.answers tt
-
-pub returns-in-Ok-clause-round : goal.returns-in-Ok-clause-round
-returns-in-Ok-clause-round g c = λ p kept n.
-    hears_reply c.ack.result (record { name = c.args.names.now.own; ask = acks c.args.number })
-    (c.ack.ensures ∙ ap (λ (name : List ℕ). record { name = name; ask = acks c.args.number }) c.copied.ensures)
-    (g.L.Pipe.port c.args.link.now) (g.L.Pipe.port c.ask.new.link) (λ reply turn. Idles p kept (move p kept (acking n c.args.number) reply) turn) (Unit {0})
-    c.in-Ok.reply (turn_of (acknowledged p kept n).wait c.acknowledged.result) c.in-Ok.ensures.answers (c.acknowledged.ensures p kept n)
+pub returns-clause-round : goal.returns-clause-round
+returns-clause-round g c = λ p kept n.
+    let own : Asked = record { name = c.args.names.now.own; ask = acks c.args.number } in
+    let asked = c.ack.ensures ∙ ap (λ (l : Lent). record { name = l.bytes; ask = acks c.args.number }) c.lent.ensures in
+    elim c.match-ask_for.branch [
+      | in-Err w ↦
+          subst (λ (r : Result Unit SyncFault). Hears own (g.L.Pipe.port c.args.link.now) (g.L.Pipe.port c.ask_for.new.link)
+          (λ reply turn. Idles p kept (move p kept (acking n c.args.number) reply) turn) (Unit {0}) (turn_of (acknowledged p kept n).wait r)) (sym w.result-is)
+          (hears_fault (asked_of c.ack.result) own asked (g.L.Pipe.port c.args.link.now) (g.L.Pipe.port c.ask_for.new.link)
+          (λ reply turn. Idles p kept (move p kept (acking n c.args.number) reply) turn) (Unit {0}) w.in-Err.fault w.in-Err.ensures.answers tt)
+      | in-Ok w ↦
+          subst (λ (r : Result Unit SyncFault). Hears own (g.L.Pipe.port c.args.link.now) (g.L.Pipe.port c.ask_for.new.link)
+          (λ reply turn. Idles p kept (move p kept (acking n c.args.number) reply) turn) (Unit {0}) (turn_of (acknowledged p kept n).wait r)) (sym w.result-is)
+          (hears_reply (asked_of c.ack.result) own asked (g.L.Pipe.port c.args.link.now) (g.L.Pipe.port c.ask_for.new.link)
+          (λ reply turn. Idles p kept (move p kept (acking n c.args.number) reply) turn) (Unit {0}) w.in-Ok.reply (turn_of (acknowledged p kept n).wait w.acknowledged.result)
+          w.in-Ok.ensures.answers (w.acknowledged.ensures p kept n))
+    ]

@@ -1,40 +1,103 @@
-use Rattle.std.proofs.Common.{List, ap, subst, ℕ, ◌∙◌}
+use Rattle.std.proofs.Common.{List, ap, refl, subst, sym, ℕ, ◌∙◌}
+use Rattle.relay_wire.specs.Parts.{Lent}
 use Rattle.relay_wire.specs.Requests.{fetches}
-use Rattle.relay_wire.specs.Seen.{replied_of}
-use Rattle.sync_model.specs.Moves.{fetching, move}
+use Rattle.relay_wire.specs.Seen.{asked_of, replied_of}
+use Rattle.relay_wire.specs.declared.reply.Reply.{Reply}
+use Rattle.relay_pipe.specs.declared.faults.PeerKind.TheVariants.{Wrong}
+use Rattle.sync_model.specs.Moves.{fetching, move, no_such_box, waits_by}
+use Rattle.sync_model.specs.declared.more.More.TheVariants.{End}
 use Rattle.client.specs.Clients.{ClientNow}
+use Rattle.client.specs.Drafting.{DraftsFor}
 use Rattle.client.specs.Syncing.Moments.{moment}
 use Rattle.client.specs.Syncing.Parties.{party_of, waiting}
-use Rattle.client.specs.Syncing.Rounds.{IsStill, Turns, fetched_as}
-use Rattle.client.proofs.Syncs.Turning.{hears_fault, hears_reply, still_again}
+use Rattle.client.specs.Syncing.Rounds.{IsStill, Turns, fetched_as, goes_on, idles_on, idles_to_end, stops}
+use Rattle.client.specs.declared.syncing.faults.SyncFault.TheVariants.{Peer, Refused}
+use Rattle.client.specs.declared.syncing.faults.SyncRefusal.TheVariants.{Unknown}
+use Rattle.client.proofs.Syncs.Turning.{fetched_wrong, hears_fault, hears_reply, idles_again, still_again}
 use Rattle.client.proofs.client.Client.fetch.Goals as goal
 
 pub returns-in-Err-clause-round : goal.returns-in-Err-clause-round
 returns-in-Err-clause-round g c = λ n.
-    hears_fault c.fetch.result (record { name = c.args.names.now.own; ask = fetches })
-    (c.fetch.ensures ∙ ap (λ (name : List ℕ). record { name = name; ask = fetches }) c.copied.ensures)
-    (g.L.Pipe.port c.args.link.now) (g.L.Pipe.port c.ask.new.link)
-    (λ reply then. Turns (move (party_of g.K.Kem.mechanism c.args.prefix.now c.args.names.now.own c.args.names.now.peers) c.args.self.now.kept (fetching n) reply)
-    (moment c.args.self.now (g.D.Disk.state c.args.disk.now) (g.O.Sink.at c.args.out.now))
-    (moment c.ask.new.self (g.D.Disk.state c.args.disk.now) (g.O.Sink.at c.args.out.now)) then)
-    (IsStill (moment c.args.self.now (g.D.Disk.state c.args.disk.now) (g.O.Sink.at c.args.out.now))
-    (moment c.ask.new.self (g.D.Disk.state c.args.disk.now) (g.O.Sink.at c.args.out.now)))
-    c.in-Err.fault c.in-Err.ensures.answers
-    (still_again (moment c.args.self.now (g.D.Disk.state c.args.disk.now) (g.O.Sink.at c.args.out.now))
-    c.ask.new.self c.ask.ensures.same c.requires.0 c.requires.1)
+    let p = party_of g.K.Kem.mechanism c.args.prefix.now c.args.names.now.own c.args.names.now.peers in
+    let before = moment c.args.self.now (g.D.Disk.state c.args.disk.now) (g.O.Sink.at c.args.out.now) in
+    let client : ClientNow = record {
+      kept = record { state = c.self.inside.session; inbox = c.self.inside.inbox; outbox = c.self.inside.outbox };
+      store = c.self.inside.store;
+      closed = c.self.inside.closed;
+    } in
+    let asked = c.fetch.ensures ∙ ap (λ (l : Lent). record { name = l.bytes; ask = fetches }) c.lent.ensures in
+    hears_fault (asked_of c.fetch.result) (record { name = c.args.names.now.own; ask = fetches }) asked
+    (g.L.Pipe.port c.args.link.now) (g.L.Pipe.port c.ask_for.new.link)
+    (λ reply then. Turns (move p c.args.self.now.kept (fetching n) reply) before (moment client (g.D.Disk.state c.args.disk.now) (g.O.Sink.at c.args.out.now)) then) (IsStill before (moment client (g.D.Disk.state c.args.disk.now) (g.O.Sink.at c.args.out.now)))
+    c.in-Err.fault c.in-Err.ensures.answers (still_again before client c.self.view_is c.requires.0 c.requires.1)
 
-pub returns-in-Ok-clause-round : goal.returns-in-Ok-clause-round
-returns-in-Ok-clause-round g c = λ n.
-    hears_reply c.fetch.result (record { name = c.args.names.now.own; ask = fetches })
-    (c.fetch.ensures ∙ ap (λ (name : List ℕ). record { name = name; ask = fetches }) c.copied.ensures)
-    (g.L.Pipe.port c.args.link.now) (g.L.Pipe.port c.ask.new.link)
-    (λ reply then. Turns (move (party_of g.K.Kem.mechanism c.args.prefix.now c.args.names.now.own c.args.names.now.peers) c.args.self.now.kept (fetching n) reply)
-    (moment c.args.self.now (g.D.Disk.state c.args.disk.now) (g.O.Sink.at c.args.out.now))
-    (moment c.fetched.new.self (g.D.Disk.state c.fetched.new.disk) (g.O.Sink.at c.fetched.new.out)) then)
-    (IsStill (moment c.args.self.now (g.D.Disk.state c.args.disk.now) (g.O.Sink.at c.args.out.now))
-    (moment c.fetched.new.self (g.D.Disk.state c.fetched.new.disk) (g.O.Sink.at c.fetched.new.out)))
-    c.in-Ok.reply (fetched_as (waiting c.fetched.new.self.kept) n c.fetched.result) c.in-Ok.ensures.answers
-    (subst (λ (x : ClientNow). Turns (move (party_of g.K.Kem.mechanism c.args.prefix.now c.args.names.now.own c.args.names.now.peers) x.kept (fetching n) (replied_of c.in-Ok.reply))
-    (moment x (g.D.Disk.state c.args.disk.now) (g.O.Sink.at c.args.out.now))
-    (moment c.fetched.new.self (g.D.Disk.state c.fetched.new.disk) (g.O.Sink.at c.fetched.new.out)) (fetched_as (waiting c.fetched.new.self.kept) n c.fetched.result)) c.ask.ensures.same
-    (c.fetched.ensures.turns c.args.names.now.own c.args.names.now.peers n))
+pub returns-in-Empty-clause-round : goal.returns-in-Empty-clause-round
+returns-in-Empty-clause-round g c = λ n.
+    let p = party_of g.K.Kem.mechanism c.args.prefix.now c.args.names.now.own c.args.names.now.peers in
+    let before = moment c.args.self.now (g.D.Disk.state c.args.disk.now) (g.O.Sink.at c.args.out.now) in
+    let client : ClientNow = record {
+      kept = record { state = c.self.inside.session; inbox = c.self.inside.inbox; outbox = c.self.inside.outbox };
+      store = c.self.inside.store;
+      closed = c.self.inside.closed;
+    } in
+    let asked = c.fetch.ensures ∙ ap (λ (l : Lent). record { name = l.bytes; ask = fetches }) c.lent.ensures in
+    hears_reply (asked_of c.fetch.result) (record { name = c.args.names.now.own; ask = fetches }) asked
+    (g.L.Pipe.port c.args.link.now) (g.L.Pipe.port c.ask_for.new.link)
+    (λ reply then. Turns (move p c.args.self.now.kept (fetching n) reply) before (moment client (g.D.Disk.state c.args.disk.now) (g.O.Sink.at c.args.out.now)) then) (IsStill before (moment client (g.D.Disk.state c.args.disk.now) (g.O.Sink.at c.args.out.now)))
+    c.in-Ok.reply (goes_on (waits_by (waiting client.kept) End)) c.in-Ok.ensures.answers
+    (subst (λ (x : ClientNow). Turns (move p c.args.self.now.kept (fetching n) (replied_of c.in-Ok.reply)) before (moment client (g.D.Disk.state c.args.disk.now) (g.O.Sink.at c.args.out.now)) (goes_on (waits_by (waiting x.kept) End))) (sym c.self.view_is)
+    (subst (λ (r : Reply). Turns (move p c.args.self.now.kept (fetching n) (replied_of r)) before (moment client (g.D.Disk.state c.args.disk.now) (g.O.Sink.at c.args.out.now)) (goes_on (waits_by (waiting c.args.self.now.kept) End))) (sym c.in-Empty.is)
+    (idles_again p before client _ (goes_on (waits_by (waiting c.args.self.now.kept) End)) (idles_on (waits_by (waiting c.args.self.now.kept) End) refl) c.self.view_is c.requires.0 c.requires.1)))
+
+pub returns-in-Item-clause-round : goal.returns-in-Item-clause-round
+returns-in-Item-clause-round g c = λ n.
+    let p = party_of g.K.Kem.mechanism c.args.prefix.now c.args.names.now.own c.args.names.now.peers in
+    let before = moment c.args.self.now (g.D.Disk.state c.args.disk.now) (g.O.Sink.at c.args.out.now) in
+    let client : ClientNow = record {
+      kept = record { state = c.self.inside.session; inbox = c.self.inside.inbox; outbox = c.self.inside.outbox };
+      store = c.self.inside.store;
+      closed = c.self.inside.closed;
+    } in
+    let asked = c.fetch.ensures ∙ ap (λ (l : Lent). record { name = l.bytes; ask = fetches }) c.lent.ensures in
+    let drafts = subst (λ (packet : List ℕ). DraftsFor g.K.Kem.mechanism client.kept packet c.drafted-drafted.result) c.bytes.ensures.value (c.drafted-drafted.ensures.drafts client.kept refl) in
+    hears_reply (asked_of c.fetch.result) (record { name = c.args.names.now.own; ask = fetches }) asked
+    (g.L.Pipe.port c.args.link.now) (g.L.Pipe.port c.ask_for.new.link)
+    (λ reply then. Turns (move p c.args.self.now.kept (fetching n) reply) before (moment c.collect.new.self (g.D.Disk.state c.collect.new.disk) (g.O.Sink.at c.collect.new.out)) then) (IsStill before (moment c.collect.new.self (g.D.Disk.state c.collect.new.disk) (g.O.Sink.at c.collect.new.out)))
+    c.in-Ok.reply (fetched_as (waiting c.collect.new.self.kept) n c.collect.result) c.in-Ok.ensures.answers
+    (subst (λ (x : ClientNow). Turns (move p x.kept (fetching n) (replied_of c.in-Ok.reply)) (moment x (g.D.Disk.state c.args.disk.now) (g.O.Sink.at c.args.out.now)) (moment c.collect.new.self (g.D.Disk.state c.collect.new.disk) (g.O.Sink.at c.collect.new.out)) (fetched_as (waiting c.collect.new.self.kept) n c.collect.result)) c.self.view_is
+    (subst (λ (r : Reply). Turns (move p client.kept (fetching n) (replied_of r)) (moment client (g.D.Disk.state c.args.disk.now) (g.O.Sink.at c.args.out.now)) (moment c.collect.new.self (g.D.Disk.state c.collect.new.disk) (g.O.Sink.at c.collect.new.out)) (fetched_as (waiting c.collect.new.self.kept) n c.collect.result)) (sym c.in-Item.is)
+    (c.collect.ensures.turns c.args.names.now.own c.args.names.now.peers n c.in-Item.packet.bytes drafts)))
+
+pub returns-in-Unknown-clause-round : goal.returns-in-Unknown-clause-round
+returns-in-Unknown-clause-round g c = λ n.
+    let p = party_of g.K.Kem.mechanism c.args.prefix.now c.args.names.now.own c.args.names.now.peers in
+    let before = moment c.args.self.now (g.D.Disk.state c.args.disk.now) (g.O.Sink.at c.args.out.now) in
+    let client : ClientNow = record {
+      kept = record { state = c.self.inside.session; inbox = c.self.inside.inbox; outbox = c.self.inside.outbox };
+      store = c.self.inside.store;
+      closed = c.self.inside.closed;
+    } in
+    let asked = c.fetch.ensures ∙ ap (λ (l : Lent). record { name = l.bytes; ask = fetches }) c.lent.ensures in
+    hears_reply (asked_of c.fetch.result) (record { name = c.args.names.now.own; ask = fetches }) asked
+    (g.L.Pipe.port c.args.link.now) (g.L.Pipe.port c.ask_for.new.link)
+    (λ reply then. Turns (move p c.args.self.now.kept (fetching n) reply) before (moment client (g.D.Disk.state c.args.disk.now) (g.O.Sink.at c.args.out.now)) then) (IsStill before (moment client (g.D.Disk.state c.args.disk.now) (g.O.Sink.at c.args.out.now)))
+    c.in-Ok.reply (stops (Refused Unknown)) c.in-Ok.ensures.answers
+    (subst (λ (r : Reply). Turns (move p c.args.self.now.kept (fetching n) (replied_of r)) before (moment client (g.D.Disk.state c.args.disk.now) (g.O.Sink.at c.args.out.now)) (stops (Refused Unknown))) (sym c.in-Unknown.is)
+    (idles_again p before client _ (stops (Refused Unknown)) (idles_to_end no_such_box (Refused Unknown) refl refl) c.self.view_is c.requires.0 c.requires.1))
+
+pub returns-in_default-clause-round : goal.returns-in_default-clause-round
+returns-in_default-clause-round g c = λ n.
+    let p = party_of g.K.Kem.mechanism c.args.prefix.now c.args.names.now.own c.args.names.now.peers in
+    let before = moment c.args.self.now (g.D.Disk.state c.args.disk.now) (g.O.Sink.at c.args.out.now) in
+    let client : ClientNow = record {
+      kept = record { state = c.self.inside.session; inbox = c.self.inside.inbox; outbox = c.self.inside.outbox };
+      store = c.self.inside.store;
+      closed = c.self.inside.closed;
+    } in
+    let asked = c.fetch.ensures ∙ ap (λ (l : Lent). record { name = l.bytes; ask = fetches }) c.lent.ensures in
+    hears_reply (asked_of c.fetch.result) (record { name = c.args.names.now.own; ask = fetches }) asked
+    (g.L.Pipe.port c.args.link.now) (g.L.Pipe.port c.ask_for.new.link)
+    (λ reply then. Turns (move p c.args.self.now.kept (fetching n) reply) before (moment client (g.D.Disk.state c.args.disk.now) (g.O.Sink.at c.args.out.now)) then) (IsStill before (moment client (g.D.Disk.state c.args.disk.now) (g.O.Sink.at c.args.out.now)))
+    c.in-Ok.reply (stops (Peer 2 Wrong)) c.in-Ok.ensures.answers
+    (idles_again p before client (move p c.args.self.now.kept (fetching n) (replied_of c.in-Ok.reply)) (stops (Peer 2 Wrong))
+    (fetched_wrong p c.args.self.now.kept n 0 c.in-Ok.reply c.in_default.not-Empty c.in_default.not-Unknown c.in_default.not-Item) c.self.view_is c.requires.0 c.requires.1)

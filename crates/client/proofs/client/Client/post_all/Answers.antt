@@ -1,4 +1,4 @@
-use Rattle.std.proofs.Common.{arith, subst, sym, ◌∙◌}
+use Rattle.std.proofs.Common.{arith, subst}
 use Rattle.relay_wire.specs.Requests.{posts}
 use Rattle.sync_model.specs.Moves.{posting, waits_by}
 use Rattle.sync_model.specs.declared.more.More.TheVariants.{End}
@@ -8,6 +8,7 @@ use Rattle.client.specs.Syncing.Rounds.{goes_on, stops}
 use Rattle.client.specs.Syncing.SoFar.{SoFar}
 use Rattle.client.proofs.Syncs.Ending.{goes_round}
 use Rattle.client.proofs.Syncs.Looping.{asks_post, goes_ready, posts_now}
+use Rattle.client.proofs.Syncs.Oldest.{one_waits}
 use Rattle.client.proofs.Syncs.Requests.{leaves_again, leaves_all}
 use Rattle.client.proofs.client.Client.post_all.Goals as goal
 
@@ -16,10 +17,10 @@ returns-in-Err-clause-posts g c = λ which first before earlier empty far.
     goes_round (party_of g.K.Kem.mechanism c.args.prefix.now c.args.names.now.own c.args.names.now.peers) (moment first (g.D.Disk.state before) (g.O.Sink.at empty)) (moment c.packets.self (g.D.Disk.state c.packets.disk) (g.O.Sink.at c.packets.out))
     (g.L.Pipe.port earlier) (g.L.Pipe.port c.packets.link) (posting which)
     (subst (SoFar (party_of g.K.Kem.mechanism c.args.prefix.now c.args.names.now.own c.args.names.now.peers) (moment first (g.D.Disk.state before) (g.O.Sink.at empty)) (moment c.packets.self (g.D.Disk.state c.packets.disk) (g.O.Sink.at c.packets.out)) (g.L.Pipe.port earlier) (g.L.Pipe.port c.packets.link))
-    (posts_now (waiting c.packets.self.kept) c.in-Some.packet (sym c.in-Some.is ∙ c.oldest.ensures) which) (c.packets.invariant.far which first before earlier empty far))
+    (posts_now (waiting c.packets.self.kept) (one_waits c.packets.self.kept.outbox (c.waits.ensures.0 c.packets-test.true)).0 (one_waits c.packets.self.kept.outbox (c.waits.ensures.0 c.packets-test.true)).1 which) (c.packets.invariant.far which first before earlier empty far))
     (moment c.post.new.self (g.D.Disk.state c.post.new.disk) (g.O.Sink.at c.post.new.out)) (g.L.Pipe.port c.post.new.link)
-    (record { name = c.args.names.now.peers; ask = posts c.in-Some.packet }) (asks_post (waiting c.packets.self.kept) c.in-Some.packet (sym c.in-Some.is ∙ c.oldest.ensures) c.args.names.now.peers)
-    (stops c.in-Err.fault) (c.in-Err.ensures.round which)
+    (record { name = c.args.names.now.peers; ask = posts (one_waits c.packets.self.kept.outbox (c.waits.ensures.0 c.packets-test.true)).0 }) (asks_post (waiting c.packets.self.kept) (one_waits c.packets.self.kept.outbox (c.waits.ensures.0 c.packets-test.true)).0 (one_waits c.packets.self.kept.outbox (c.waits.ensures.0 c.packets-test.true)).1 c.args.names.now.peers)
+    (stops c.in-Err.fault) (c.in-Err.ensures.round which (one_waits c.packets.self.kept.outbox (c.waits.ensures.0 c.packets-test.true)).0 (one_waits c.packets.self.kept.outbox (c.waits.ensures.0 c.packets-test.true)).1)
 
 pub packets-preserved : goal.packets-preserved
 packets-preserved g c = record {
@@ -27,14 +28,14 @@ packets-preserved g c = record {
       goes_round (party_of g.K.Kem.mechanism c.args.prefix.now c.args.names.now.own c.args.names.now.peers) (moment first (g.D.Disk.state before) (g.O.Sink.at empty)) (moment c.packets.self (g.D.Disk.state c.packets.disk) (g.O.Sink.at c.packets.out))
       (g.L.Pipe.port earlier) (g.L.Pipe.port c.packets.link) (posting which)
       (subst (SoFar (party_of g.K.Kem.mechanism c.args.prefix.now c.args.names.now.own c.args.names.now.peers) (moment first (g.D.Disk.state before) (g.O.Sink.at empty)) (moment c.packets.self (g.D.Disk.state c.packets.disk) (g.O.Sink.at c.packets.out)) (g.L.Pipe.port earlier) (g.L.Pipe.port c.packets.link))
-      (posts_now (waiting c.packets.self.kept) c.in-Some.packet (sym c.in-Some.is ∙ c.oldest.ensures) which) (c.packets.invariant.far which first before earlier empty far))
+      (posts_now (waiting c.packets.self.kept) (one_waits c.packets.self.kept.outbox (c.waits.ensures.0 c.packets-test.true)).0 (one_waits c.packets.self.kept.outbox (c.waits.ensures.0 c.packets-test.true)).1 which) (c.packets.invariant.far which first before earlier empty far))
       (moment c.post.new.self (g.D.Disk.state c.post.new.disk) (g.O.Sink.at c.post.new.out)) (g.L.Pipe.port c.post.new.link)
-      (record { name = c.args.names.now.peers; ask = posts c.in-Some.packet }) (asks_post (waiting c.packets.self.kept) c.in-Some.packet (sym c.in-Some.is ∙ c.oldest.ensures) c.args.names.now.peers)
-      (goes_on (waits_by (waiting c.post.new.self.kept) which)) (c.in-Ok.ensures.round which);
-  ready = goes_ready (party_of g.K.Kem.mechanism c.args.prefix.now c.args.names.now.own c.args.names.now.peers) (posting End) (waits_by (waiting c.post.new.self.kept) End) (record { name = c.args.names.now.peers; ask = posts c.in-Some.packet })
+      (record { name = c.args.names.now.peers; ask = posts (one_waits c.packets.self.kept.outbox (c.waits.ensures.0 c.packets-test.true)).0 }) (asks_post (waiting c.packets.self.kept) (one_waits c.packets.self.kept.outbox (c.waits.ensures.0 c.packets-test.true)).0 (one_waits c.packets.self.kept.outbox (c.waits.ensures.0 c.packets-test.true)).1 c.args.names.now.peers)
+      (goes_on (waits_by (waiting c.post.new.self.kept) which)) (c.in-Ok.ensures.round which (one_waits c.packets.self.kept.outbox (c.waits.ensures.0 c.packets-test.true)).0 (one_waits c.packets.self.kept.outbox (c.waits.ensures.0 c.packets-test.true)).1);
+  ready = goes_ready (party_of g.K.Kem.mechanism c.args.prefix.now c.args.names.now.own c.args.names.now.peers) (posting End) (waits_by (waiting c.post.new.self.kept) End) (record { name = c.args.names.now.peers; ask = posts (one_waits c.packets.self.kept.outbox (c.waits.ensures.0 c.packets-test.true)).0 })
       (moment c.packets.self (g.D.Disk.state c.packets.disk) (g.O.Sink.at c.packets.out))
       (moment c.post.new.self (g.D.Disk.state c.post.new.disk) (g.O.Sink.at c.post.new.out))
-      (g.L.Pipe.port c.packets.link) (g.L.Pipe.port c.post.new.link) (c.in-Ok.ensures.round End);
+      (g.L.Pipe.port c.packets.link) (g.L.Pipe.port c.post.new.link) (c.in-Ok.ensures.round End (one_waits c.packets.self.kept.outbox (c.waits.ensures.0 c.packets-test.true)).0 (one_waits c.packets.self.kept.outbox (c.waits.ensures.0 c.packets-test.true)).1);
   later = omega (arith, c.packets.invariant.later, c.post.ensures.later);
   link = leaves_again g.L.Pipe.port g.L.Pipe.behind _ _ _ c.packets.invariant.link c.post.ensures.link;
 }

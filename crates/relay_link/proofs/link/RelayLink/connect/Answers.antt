@@ -1,4 +1,5 @@
-use Rattle.std.proofs.Common.{refl, sym, ap, arith, ◌∙◌}
+use Rattle.std.proofs.Common.{refl, sym, ap, arith, length, ◌+◌, ◌∙◌}
+use Rattle.relay_wire.specs.Frames.{Held}
 use Rattle.relay_link.specs.Connections.{Connection, boxes_of}
 use Rattle.relay_link.specs.Desks.{DeskNow}
 use Rattle.relay_link.proofs.Connections.{boxes_are, connected_is, fresh_stands}
@@ -7,9 +8,10 @@ use Rattle.relay_link.proofs.link.RelayLink.connect.Goals as goal
 pub invariant_of-self : goal.invariant_of-self
 invariant_of-self c = (
   fresh_stands c.kept_before.result c.of.result.value c.self.inside.desk.boxes c.clear-2.new.self.items c.clear.new.self.bytes c.begin.new.self c.kept_before.ensures.most
-      (c.of.ensures ∙ c.relay.ensures) c.clear-2.ensures.items c.clear.ensures c.begin.ensures,
+      (c.of.ensures ∙ c.relay.ensures) c.clear-2.ensures.items (ap (λ (h : Held). h.bytes) c.clear.ensures) c.begin.ensures,
   omega (arith, c.clear-2.ensures.len),
   omega (arith, c.clear-2.ensures.capacity, c.self.invariant.2),
+  omega (arith, c.clear-2.ensures.len, ap (λ (h : Held). h.place + length h.bytes) c.clear.ensures),
 )
 
 pub returns : goal.returns

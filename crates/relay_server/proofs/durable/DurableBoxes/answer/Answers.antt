@@ -11,7 +11,7 @@ use Rattle.relay_server.proofs.durable.DurableBoxes.answer.Goals as goal
 
 pub returns-in-Err-clause-any_moment : goal.returns-in-Err-clause-any_moment
 returns-in-Err-clause-any_moment g c =
-    let frame = read_request (drop 2 c.args.frame.now.bytes) in
+    let frame = read_request (drop 2 c.args.frame.now.bytes.now) in
     let boxes = c.self.inside.relay in
     let long : length c.write_text-len.new.out ≡ c.self.inside.text.len = c.write_text-len.auto.out ∙ c.deref_mut.ensures.len in
     known_moments box_text c.args.self.now boxes c.answer_frame-answered.new.relay (answers_read boxes frame) c.self.inside.stores.items c.deref_mut-in-Some.result.now c.replace_at.new.stores
@@ -33,7 +33,7 @@ returns-in-Err-clause-any_moment g c =
 
 pub returns-in-Err-clause-at_return : goal.returns-in-Err-clause-at_return
 returns-in-Err-clause-at_return g c =
-    let frame = read_request (drop 2 c.args.frame.now.bytes) in
+    let frame = read_request (drop 2 c.args.frame.now.bytes.now) in
     let boxes = c.self.inside.relay in
     let long : length c.write_text-len.new.out ≡ c.self.inside.text.len = c.write_text-len.auto.out ∙ c.deref_mut.ensures.len in
     known_now box_text c.args.self.now boxes c.answer_frame-answered.new.relay (answers_read boxes frame) c.self.inside.stores.items c.deref_mut-in-Some.result.now c.replace_at.new.stores
@@ -55,7 +55,7 @@ returns-in-Err-clause-at_return g c =
 
 pub returns-in_default-replace_at-clause-any_moment : goal.returns-in_default-replace_at-clause-any_moment
 returns-in_default-replace_at-clause-any_moment g c =
-    let frame = read_request (drop 2 c.args.frame.now.bytes) in
+    let frame = read_request (drop 2 c.args.frame.now.bytes.now) in
     let boxes = c.self.inside.relay in
     let long : length c.write_text-len.new.out ≡ c.self.inside.text.len = c.write_text-len.auto.out ∙ c.deref_mut.ensures.len in
     known_moments box_text c.args.self.now boxes c.answer_frame-answered.new.relay (answers_read boxes frame) c.self.inside.stores.items c.deref_mut-in-Some.result.now c.replace_at.new.stores
@@ -77,7 +77,7 @@ returns-in_default-replace_at-clause-any_moment g c =
 
 pub returns-in_default-replace_at-clause-at_return : goal.returns-in_default-replace_at-clause-at_return
 returns-in_default-replace_at-clause-at_return g c =
-    let frame = read_request (drop 2 c.args.frame.now.bytes) in
+    let frame = read_request (drop 2 c.args.frame.now.bytes.now) in
     let boxes = c.self.inside.relay in
     let long : length c.write_text-len.new.out ≡ c.self.inside.text.len = c.write_text-len.auto.out ∙ c.deref_mut.ensures.len in
     known_now box_text c.args.self.now boxes c.answer_frame-answered.new.relay (answers_read boxes frame) c.self.inside.stores.items c.deref_mut-in-Some.result.now c.replace_at.new.stores
@@ -99,7 +99,7 @@ returns-in_default-replace_at-clause-at_return g c =
 
 pub returns-in_default-replace_at-clause-ready : goal.returns-in_default-replace_at-clause-ready
 returns-in_default-replace_at-clause-ready g c =
-    let frame = read_request (drop 2 c.args.frame.now.bytes) in
+    let frame = read_request (drop 2 c.args.frame.now.bytes.now) in
     let boxes = c.self.inside.relay in
     let long : length c.write_text-len.new.out ≡ c.self.inside.text.len = c.write_text-len.auto.out ∙ c.deref_mut.ensures.len in
     let same : length c.replace_at.new.stores ≡ c.self.inside.stores.len = c.replace_at.ensures.count ∙ c.deref_mut-in-Some.ensures.len in

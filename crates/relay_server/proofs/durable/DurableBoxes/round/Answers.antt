@@ -7,8 +7,8 @@ use Rattle.relay_server.proofs.durable.DurableBoxes.round.Goals as goal
 
 pub returns-in-Err-clause-rounds : goal.returns-in-Err-clause-rounds
 returns-in-Err-clause-rounds g c = (
-  c.next_frame.new.reader.bytes,
-  pulled_part c.args.reader.now c.next_frame.new.reader c.args.self.now.boxes (g.P.Pipe.port c.args.pipe.now) (g.P.Pipe.port c.next_frame.new.pipe) (g.D.Disk.state c.args.disk.now) c.requires.fresh c.in-Err.ensures.pulls.0 c.in-Err.ensures.pulls.1,
+  c.pull.new.reader.bytes,
+  pulled_part c.args.reader.now c.pull.new.reader c.args.self.now.boxes (g.P.Pipe.port c.args.pipe.now) (g.P.Pipe.port c.pull.new.pipe) (g.D.Disk.state c.args.disk.now) c.requires.fresh c.in-Err.ensures.pulls.0 c.in-Err.ensures.pulls.1,
   c.in-Err.ensures.pulls.2,
   c.requires.ready,
   λ call. refl,
@@ -16,17 +16,17 @@ returns-in-Err-clause-rounds g c = (
 
 pub returns-in-Err-send_all-clause-rounds : goal.returns-in-Err-send_all-clause-rounds
 returns-in-Err-send_all-clause-rounds g c =
-    let pulls = rw c.in-Ok-Some.field-0-is at c.in-Ok-Some.ensures.pulls in
+    let pulls = rw c.in-Ok-true.field-0-test at c.in-Ok-true.ensures.pulls in
     let part = c.in-Err-send_all.ensures.part in
-    let rose : Rose ((g.P.Pipe.port c.next_frame.new.pipe).faults Flow) ((g.P.Pipe.port c.send_all.new.pipe).faults Flow) = c.in-Err-send_all.ensures.cause.failed in (
-      c.in-Ok-Some.frame.bytes,
+    let rose : Rose ((g.P.Pipe.port c.pull.new.pipe).faults Flow) ((g.P.Pipe.port c.send_all.new.pipe).faults Flow) = c.in-Err-send_all.ensures.cause.failed in (
+      c.pull.new.reader.bytes,
       part.beginning,
       part.remainder,
-      came_part box_text c.args.reader.now c.next_frame.new.reader c.in-Ok-Some.frame.bytes part.beginning c.args.self.now.boxes c.answer.new.self.boxes
-          (g.P.Pipe.port c.args.pipe.now) (g.P.Pipe.port c.next_frame.new.pipe) (g.P.Pipe.port c.send_all.new.pipe)
-          (g.D.Disk.state c.args.disk.now) (g.D.Disk.state c.answer.new.disk) c.requires.fresh pulls.0 pulls.1 pulls.2 part.took c.answer.ensures.next c.answer.ensures.any_moment,
+      came_part box_text c.args.reader.now c.pull.new.reader part.beginning c.args.self.now.boxes c.answer_next.new.self.boxes
+          (g.P.Pipe.port c.args.pipe.now) (g.P.Pipe.port c.pull.new.pipe) (g.P.Pipe.port c.send_all.new.pipe)
+          (g.D.Disk.state c.args.disk.now) (g.D.Disk.state c.answer_next.new.disk) c.requires.fresh pulls.0 pulls.1 part.took c.answer_next.ensures.next c.answer_next.ensures.any_moment,
       sym c.in-Ok.ensures.reply ∙ part.split,
-      subst (λ (n : ℕ). Rose n ((g.P.Pipe.port c.send_all.new.pipe).faults Flow)) c.in-Ok-Some.ensures.cause.passed rose,
+      subst (λ (n : ℕ). Rose n ((g.P.Pipe.port c.send_all.new.pipe).faults Flow)) c.in-Ok-true.ensures.cause.passed rose,
       c.in-Ok.ensures.ready,
       c.in-Ok.ensures.quiet,
     )

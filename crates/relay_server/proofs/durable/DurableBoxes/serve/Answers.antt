@@ -1,10 +1,11 @@
-use Rattle.std.proofs.Common.{◌+◌, length, arith, refl, ◌∙◌, []}
+use Rattle.std.proofs.Common.{◌+◌, length, arith, ap, refl, ◌∙◌, []}
 use Rattle.relay_server.proofs.Serve.{nothing_so_far}
 use Rattle.relay_server.proofs.Exits.{goes_on}
 use Rattle.relay_server.proofs.FrameByFrame.{answered_on, nothing_answered, order_end, order_fault, order_full, order_last}
 use Rattle.relay_server.proofs.Rounds.{no_call}
 use Rattle.relay_core.specs.declared.limits.TheConstants.{EXCHANGE_LIMIT}
 use Rattle.relay_core.specs.Record.{box_text}
+use Rattle.relay_wire.specs.Frames.{Held}
 use Rattle.relay_server.specs.Serving.{ReachedIn}
 use Rattle.relay_server.proofs.durable.DurableBoxes.serve.Goals as goal
 use Rattle.relay_server.specs.Places.{IsSameBehind}
@@ -14,7 +15,8 @@ rounds-init g c = record {
   so = nothing_so_far box_text EXCHANGE_LIMIT c.args.self.now (g.P.Pipe.port c.args.pipe.now) (g.D.Disk.state c.args.disk.now) (no_call (g.D.Disk.state c.args.disk.now) (λ image. ReachedIn box_text EXCHANGE_LIMIT c.args.self.now.boxes [] image × IsSameBehind (length c.args.self.now.boxes) (g.D.Disk.state c.args.disk.now) image));
   answered = nothing_answered g.D.Disk.state g.P.Pipe.port box_text c.args.self.now c.args.disk.now c.args.pipe.now c.requires.ready;
   ready = c.requires.ready;
-  fresh = c.clear.ensures;
+  fresh = ap (λ (h : Held). h.bytes) c.clear.ensures;
+  places = omega (arith, ap (λ (h : Held). h.place) c.clear.ensures);
   room = c.requires.room;
   out_room = c.requires.out_room;
   piece = refl;
@@ -49,6 +51,7 @@ rounds-preserved g c = let rounds = rw c.in-Ok-Answered.field-0-is at c.in-Ok-An
       c.args.disk.now c.rounds.disk c.round.new.disk c.rounds.answered c.rounds.invariant.so c.rounds-test.true c.rounds.invariant.answered c.in-Ok-Answered.last rounds;
   ready = rounds.3;
   fresh = c.in-Ok-Answered.ensures.fresh c.in-Ok-Answered.last c.in-Ok-Answered.field-0-is;
+  places = omega (arith, c.in-Ok-Answered.ensures.place, c.rounds.invariant.places);
   room = omega (arith, c.in-Ok-Answered.ensures.piece, c.rounds.invariant.room);
   out_room = omega (arith, c.in-Ok-Answered.ensures.out, c.rounds.invariant.out_room);
   piece = c.in-Ok-Answered.ensures.piece ∙ c.rounds.invariant.piece;

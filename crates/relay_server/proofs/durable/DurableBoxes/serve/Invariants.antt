@@ -1,4 +1,4 @@
-use Rattle.std.proofs.Common.{◌≡◌, ◌≤◌, length, []}
+use Rattle.std.proofs.Common.{◌≡◌, ◌≤◌, ◌*◌, length, []}
 use Rattle.relay_core.specs.declared.limits.TheConstants.{EXCHANGE_LIMIT}
 use Rattle.relay_core.specs.Record.{box_text}
 use Rattle.relay_wire.specs.declared.limits.TheConstants.{FRAME_LIMIT}
@@ -15,6 +15,7 @@ invariant-rounds g l = record {
   answered : AreAnswered g.D.Disk.state g.P.Pipe.port box_text l.fn.self.boxes l.fn.disk l.fn.pipe so.frames l.self.boxes l.disk l.pipe;
   ready : IsReady box_text l.self (g.D.Disk.state l.disk);
   fresh : l.reader.bytes ≡ [];
+  places : l.reader.place ≤ l.answered * FRAME_LIMIT;
   room : FRAME_LIMIT ≤ length l.piece;
   out_room : FRAME_LIMIT ≤ length l.out;
   piece : length l.piece ≡ length l.fn.piece;

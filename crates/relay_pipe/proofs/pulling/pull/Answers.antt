@@ -1,6 +1,6 @@
 use Rattle.std.proofs.Common.{arith}
 use Rattle.std.proofs.lemmas.Grind.{common_steps}
-use Rattle.relay_pipe.proofs.pulling.next_frame.Goals as goal
+use Rattle.relay_pipe.proofs.pulling.pull.Goals as goal
 
 pub bytes-preserved : goal.bytes-preserved
 bytes-preserved c = grind (arith, common_steps)
