@@ -22,6 +22,7 @@ pub use relay::Relay;
 
 mod answering;
 mod checking;
+mod kept_packet;
 mod law;
 mod limits;
 mod loading;

@@ -6,7 +6,8 @@ ghost use Rattle.grammar.specs.Standing.{Reads};
 ghost use Rattle.relay_core.specs.declared.limits.TheConstants.{BOX_LIMIT};
 ghost use Rattle.relay_core.specs.Record.{box_read, next_kept};
 
-use crate::mailbox::{KeptPacket, Mailbox};
+use crate::kept_packet::KeptPacket;
+use crate::mailbox::Mailbox;
 use crate::reading::{read_head, read_kept};
 use crate::relay::Relay;
 use grammar::Cursor;

@@ -1,78 +1,20 @@
 //! One box.
 
-ghost use Rattle.std.specs.Prelude.{◌≡◌, ◌^◌, ◌<◌, ◌≤◌, ◌==◌, true, not, filter, length, vec_capacity, IfOk};
+ghost use Rattle.std.specs.Prelude.{◌≡◌, ◌≤◌, ◌==◌, not, filter, length, vec_capacity, IfOk};
 ghost use Rattle.dr_base.specs.Buffer.{Puts};
 ghost use Rattle.relay_core.specs.Boxes.{answer_of, empty_box, has_number, is_full, oldest, without};
 ghost use Rattle.relay_core.specs.Lawful.{IsLawfulBox};
 ghost use Rattle.relay_wire.specs.Frames.{framed};
-ghost use Rattle.relay_wire.specs.Names.{is_packet};
 ghost use Rattle.relay_wire.specs.Replies.{reply_body};
 ghost use Rattle.relay_wire.specs.Requests.{posts, acks};
 ghost use Rattle.relay_wire.specs.Seen.{asking_of, replied_of};
-ghost use Rattle.relay_wire.specs.declared.limits.TheConstants.{FRAME_LIMIT, PACKET_LIMIT};
+ghost use Rattle.relay_wire.specs.declared.limits.TheConstants.{FRAME_LIMIT};
 
+use crate::kept_packet::KeptPacket;
 use crate::limits::BOX_LIMIT;
-use arrayvec::ArrayVec;
-use relay_wire::{Ask, Name, PACKET_LIMIT, Packet, Reply, write_reply};
+use relay_wire::{Ask, Name, Packet, Reply, write_reply};
 use std::alloc::{AllocError, Global};
 use std::marker::Model;
-
-/// A packet that a box keeps, under its number.
-#[derive(Drop)]
-pub(crate) struct KeptPacket {
-    number: u64,
-    bytes: ArrayVec<u8, PACKET_LIMIT>,
-}
-
-impl Model for KeptPacket {
-    ghost use Rattle.std.specs.Prelude.{◌≡◌, true};
-    ghost use Rattle.relay_core.specs.Boxes.{Kept};
-    ghost use Rattle.relay_wire.specs.Names.{is_packet};
-
-    ghost Value = { Kept };
-
-    ghost view = { λ k. record { number = k.number; packet = k.bytes.items } };
-
-    ghost invariant = { λ k. is_packet k.bytes.items ≡ true };
-}
-
-impl KeptPacket {
-    /// These bytes under a number, copied.
-    #[tactic(auto, unfolding(relay_wire::specs::Names::is_packet))]
-    pub(crate) fn new(number: u64, packet: &[u8]) -> KeptPacket
-        requires { is_packet packet.now ≡ true }
-        ensures { result ≡ record { number = number; packet = packet.now } }
-    {
-        let mut bytes = ArrayVec::new();
-        bytes.try_extend_from_slice(packet).unwrap();
-        KeptPacket { number, bytes }
-    }
-
-    /// Its number.
-    pub(crate) fn number(&self) -> u64
-        ensures value { result ≡ self.now.number }
-        ensures fits { result < 2 ^ 64 }
-    {
-        self.number
-    }
-
-    /// The packet's bytes.
-    #[tactic(auto, unfolding(relay_wire::specs::Names::is_packet))]
-    pub(crate) fn bytes(&self) -> &[u8]
-        ensures value { result.now ≡ self.now.packet }
-        ensures lawful { is_packet result.now ≡ true }
-        ensures fits { length result.now ≤ PACKET_LIMIT }
-    {
-        self.bytes.as_slice()
-    }
-
-    /// The packet, lent.
-    pub(crate) fn packet(&self) -> Packet<'_>
-        ensures { result.bytes ≡ self.now.packet }
-    {
-        Packet::new(self.bytes()).unwrap()
-    }
-}
 
 /// Drops the packet of a number.
 fn drop_number(packets: &mut Vec<KeptPacket>, number: u64)

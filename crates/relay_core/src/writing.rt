@@ -8,7 +8,8 @@ ghost use Rattle.relay_core.specs.declared.limits.TheConstants.{BOX_LIMIT, RECOR
 ghost use Rattle.relay_core.specs.Lawful.{IsLawfulBox};
 ghost use Rattle.relay_core.specs.Record.{box_text, head_text, kept_text};
 
-use crate::mailbox::{KeptPacket, Mailbox};
+use crate::kept_packet::KeptPacket;
+use crate::mailbox::Mailbox;
 use crate::reading::VERSION;
 use crate::relay::Relay;
 use dr_base::{put, put_u8, put_u16, put_u64};
