@@ -5,7 +5,7 @@ use dr_base::{Key32, Side};
 use dr_disk::{Disk, MemoryDisk};
 use dr_ports::{MemoryDraws, MemorySink, MemorySource};
 use kem_laws::OpenKem;
-use session_commands::{begin, done, inbox, outbox, say, sent, state, take};
+use session_commands::{begin, check, done, inbox, outbox, say, sent, state, take};
 use std::alloc::Global;
 use std::test::Fail;
 
@@ -20,6 +20,7 @@ pub enum Command<'a> {
     Inbox,
     Outbox,
     State,
+    Check,
 }
 
 /// The status of a beginning, over a source whose reads of these numbers fail.
@@ -104,6 +105,7 @@ fn status_of(
         Command::Inbox => inbox::<OpenKem, MemoryDisk, MemorySink>(alloc, disk, out),
         Command::Outbox => outbox::<OpenKem, MemoryDisk, MemorySink>(alloc, disk, out),
         Command::State => state::<OpenKem, MemoryDisk, MemorySink>(alloc, disk, out),
+        Command::Check => check::<OpenKem, MemoryDisk, MemorySink>(alloc, disk, out),
     };
     Ok(status.code)
 }

@@ -2,7 +2,7 @@
 
 use crate::outcomes::{Command, outcome};
 use dr_base::Side;
-use dr_disk::MemoryDisk;
+use dr_disk::{Disk, MemoryDisk};
 use std::alloc::Global;
 use std::test::Fail;
 
@@ -87,6 +87,47 @@ fn a_text_is_taken(rt: HostRuntime) -> Result<(), Fail> {
     for (command, status, lines) in rows {
         assert!(rt; ends(alloc, &mut disk, command, &[], status, lines)?);
     }
+    Ok(())
+}
+
+/// What a look shows of a disk with the client that has begun, by another implementation.
+const BEGUN: &[u8] = b"slot 0 open 1\nslot 1 closed\nrecord 130\nrest yes\n";
+
+/// What one shows of a damaged disk.
+const DAMAGED: &[u8] = b"slot 0 open 1\nslot 1 open 1\ndamaged slot 1 at 1\nrest no\n";
+
+/// Opens the gate of table 1 with the turn 1.
+fn opens_gate(disk: &mut MemoryDisk) -> bool {
+    disk.size() == SIZE && disk.write_at(4096, &[0xa5, 1]).is_ok()
+}
+
+/// Whether looks at a disk of zeros, at one with a client and at a damaged one show what is there,
+/// and one at a disk that has stopped is refused.
+fn shows_looks(alloc: Global, disk: &mut MemoryDisk) -> Result<bool, Fail> {
+    let none = b"slot 0 closed\nslot 1 closed\nno record\nrest yes\n";
+    let rows: [(Command<'_>, &[u8]); 3] = [
+        (Command::Check, none),
+        (Command::Begin(Side::Second, KEY), NAME),
+        (Command::Check, BEGUN),
+    ];
+    for (command, lines) in rows {
+        if !ends(alloc, disk, command, &[], 0, lines)? {
+            return Ok(false);
+        }
+    }
+    if !opens_gate(disk) || !ends(alloc, disk, Command::Check, &[], 0, DAMAGED)? {
+        return Ok(false);
+    }
+    disk.stop_after(0);
+    ends(alloc, disk, Command::Check, &[], 6, b"fault: disk\n")
+}
+
+// A look's lines, also of a damaged disk, and its fault.
+#[test]
+fn the_disk_is_checked(rt: HostRuntime) -> Result<(), Fail> {
+    let alloc = rt.alloc();
+    let mut disk = MemoryDisk::new(alloc, SIZE)?;
+    assert!(rt; shows_looks(alloc, &mut disk)?);
     Ok(())
 }
 

@@ -52,6 +52,7 @@ fn words_are_commands(rt: HostRuntime) -> Result<(), Fail> {
         ("sent|32", Command::Sent(32)),
         ("outbox", Command::Outbox),
         ("state", Command::State),
+        ("check", Command::Check),
         ("sync|127.0.0.1:4000", Command::Sync("127.0.0.1:4000")),
         ("sync|--|-a", Command::Sync("-a")),
         ("duet", Command::Duet),

@@ -18,6 +18,7 @@ pub data Work : Type 0 where
   drops_sent : ℕ → Work
   shows_outbox : Work
   shows_state : Work
+  checks : Work
   syncs : List ℕ → Work
   serves : ℕ → ℕ → List (List ℕ) → Work
   plays : Work
@@ -67,6 +68,7 @@ rows =
     ∷ (codes "sent", valued (λ word. option_map drops_sent (amount_read OUTBOX_LIMIT word)))
     ∷ (codes "outbox", bare shows_outbox)
     ∷ (codes "state", bare shows_state)
+    ∷ (codes "check", bare checks)
     ∷ (codes "sync", valued (λ word. Some (syncs word)))
     ∷ (codes "relay", listed relay_read)
     ∷ (codes "duet", bare plays)

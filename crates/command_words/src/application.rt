@@ -120,6 +120,7 @@ pub fn application<'a>(alloc: Global) -> Result<Command<'a>, AllocError>
     let command = with_valued(alloc, command, "sent");
     let command = with_bare(alloc, command, "outbox");
     let command = with_bare(alloc, command, "state");
+    let command = with_bare(alloc, command, "check");
     let command = with_valued(alloc, command, "sync");
     let command = with_listed(alloc, command, "relay");
     let command = with_bare(alloc, command, "duet");

@@ -21,6 +21,8 @@ pub enum Command<'a> {
     Outbox,
     /// The side shows what it holds, in numbers.
     State,
+    /// The side shows how its disk stands, and changes nothing.
+    Check,
     /// The side's boxes and those of the relay at this address are brought together.
     Sync(&'a str),
     /// A relay serves this many connections at a port, with these boxes, in order.

@@ -114,6 +114,7 @@ fn without_value<'a>(name: &str) -> Option<Command<'a>>
         "inbox" => Some(Command::Inbox),
         "outbox" => Some(Command::Outbox),
         "state" => Some(Command::State),
+        "check" => Some(Command::Check),
         "duet" => Some(Command::Duet),
         _ => None,
     }

@@ -4,9 +4,10 @@ use Rattle.dr_model.specs.Machines.Acts.{finishing, sending}
 use Rattle.endings.specs.Ends.{Ends}
 use Rattle.endings.specs.declared.ending.Ending.{Ending}
 use Rattle.endings.specs.declared.ending.Ending.TheVariants.{NoMemory, Usage}
-use Rattle.command_words.specs.Commands.{Work, begins, says, takes, shows_inbox, drops_done, drops_sent, shows_outbox, shows_state, syncs, serves, plays, plays_made}
+use Rattle.command_words.specs.Commands.{Work, begins, says, takes, shows_inbox, drops_done, drops_sent, shows_outbox, shows_state, checks, syncs, serves, plays, plays_made}
 use Rattle.session_commands.specs.Asking.{asked_drop, asked_say}
 use Rattle.session_commands.specs.Beginning.{RunsBegin}
+use Rattle.session_commands.specs.Checking.{RunsCheck}
 use Rattle.session_commands.specs.InWorlds.{RunsAct}
 use Rattle.session_commands.specs.Lines.{inbox_lines, outbox_lines, state_lines}
 use Rattle.session_commands.specs.Runs.{Runs, RunsTake}
@@ -91,6 +92,7 @@ Performs seen (drops_sent n) old new code =
 Performs seen shows_inbox old new code = WritesAlone (RunsShow seen.disk sntrup761_kem inbox_lines old.disk new.disk) old new code
 Performs seen shows_outbox old new code = WritesAlone (RunsShow seen.disk sntrup761_kem outbox_lines old.disk new.disk) old new code
 Performs seen shows_state old new code = WritesAlone (RunsShow seen.disk sntrup761_kem state_lines old.disk new.disk) old new code
+Performs seen checks old new code = WritesAlone (RunsCheck seen.disk sntrup761_kem old.disk new.disk) old new code
 Performs seen plays old new code = PlaysAlone seen old new code
 Performs seen (plays_made rounds number) old new code = MakesAlone rounds number old new code
 Performs seen (serves port count boxes) old new code = ServesAlone seen port count boxes old new code

@@ -18,7 +18,7 @@ use dr_disk::Disk;
 use dr_ports::{Door, Draws, Link, Sink, Source};
 use endings::Status;
 use relay_command::relay;
-use session_commands::{begin, done, inbox, outbox, say, sent, state, sync, take};
+use session_commands::{begin, check, done, inbox, outbox, say, sent, state, sync, take};
 use sntrup761::Sntrup761;
 use std::alloc::Global;
 
@@ -60,6 +60,7 @@ pub(crate) fn perform<D: Disk, R: Disk, S: Source, O: Sink, L: Link, A: Door, W:
         Command::Sent(n) => sent::<Sntrup761, D, O>(alloc, n, disk, out),
         Command::Outbox => outbox::<Sntrup761, D, O>(alloc, disk, out),
         Command::State => state::<Sntrup761, D, O>(alloc, disk, out),
+        Command::Check => check::<Sntrup761, D, O>(alloc, disk, out),
         Command::Duet => play_script(alloc, source, out),
         Command::Sync(address) => sync::<Sntrup761, D, L, O>(alloc, address, disk, link, out),
         Command::Relay { port, count, boxes } => relay(

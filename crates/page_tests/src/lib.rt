@@ -8,6 +8,8 @@ mod damage;
 #[cfg(test)]
 mod disks;
 #[cfg(test)]
+mod looks;
+#[cfg(test)]
 mod rows;
 #[cfg(test)]
 mod stops;

@@ -3,7 +3,7 @@
 ghost use Rattle.std.specs.Prelude.{◌≡◌, ◌==◌, length, Some, None, if◌then◌else◌};
 
 use dr_disk::Disk;
-use slot_store::{Area, Found, Grammar, OpenError, SlotStore};
+use slot_store::{Area, Found, Grammar, InspectError, OpenError, Report, SlotStore, inspect};
 use std::alloc::Global;
 
 /// How many bytes the disk has, which is one area.
@@ -43,6 +43,14 @@ pub(crate) fn puts<D: Disk>(alloc: Global, disk: &mut D, text: &[u8]) -> bool {
         Ok((mut store, _)) => store.replace(disk, text).is_ok(),
         Err(_) => false,
     }
+}
+
+/// What a look at the area reports.
+pub(crate) fn looks<D: Disk>(alloc: Global, disk: &mut D) -> Result<Report, InspectError> {
+    if disk.size() < SIZE {
+        return Err(InspectError::Memory);
+    }
+    inspect::<Texts, D>(alloc, disk, area())
 }
 
 /// Whether an opening of an area at the beginning of a disk finds this content, with this text; or

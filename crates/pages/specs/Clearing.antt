@@ -41,16 +41,22 @@ abbrev pub AreUnmarked : (List ℕ → List ℕ) → Layout → List Bool → Di
 AreUnmarked names l named now =
     (n : ℕ) → IsPage l n → get_or named n false ≡ false → Always (IsUnnamed names l n) now
 
+-- a page is zeros unless it is marked
+abbrev pub IsBare : Layout → ℕ → Bool → List ℕ → Type 0
+IsBare l n marked s = marked ≡ false → page_of l s n ≡ blank_page
+
+-- each page without a mark is zeros
+abbrev pub AreBlank : Layout → List Bool → List ℕ → Type 0
+AreBlank l named s = (n : ℕ) → IsPage l n → IsBare l n (get_or named n false) s
+
 -- a read gives zeros for a page unless it is marked
 abbrev pub IsReadBlank : Layout → ℕ → Bool → DiskState → Type 0
 IsReadBlank l n marked disk =
-    (s : List ℕ) × (disk.seen ≡ Some s) × (marked ≡ false → page_of l s n ≡ blank_page)
+    (s : List ℕ) × (disk.seen ≡ Some s) × IsBare l n marked s
 
 -- a read gives zeros for each page without a mark
 abbrev pub AreReadBlank : Layout → List Bool → DiskState → Type 0
-AreReadBlank l named disk =
-    (s : List ℕ) × (disk.seen ≡ Some s)
-    × ((n : ℕ) → IsPage l n → get_or named n false ≡ false → page_of l s n ≡ blank_page)
+AreReadBlank l named disk = (s : List ℕ) × (disk.seen ≡ Some s) × AreBlank l named s
 
 -- what a read gives after one page was cleared, if it has no mark
 pub record IsPageCleared (l : Layout) (number : ℕ) (marked : Bool) (start : DiskState) (s : List ℕ)

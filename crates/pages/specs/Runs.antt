@@ -1,6 +1,7 @@
 -- How the calls go of a function.
-use Rattle.std.specs.Prelude.{◌≡◌, ℕ, Bool, false, Result, IfOk, OnOk}
+use Rattle.std.specs.Prelude.{◌≡◌, ℕ, Bool, false, Result, IfErr, IfOk, OnOk}
 use Rattle.dr_disk.specs.declared.call.Call.{Call}
+use Rattle.dr_disk.specs.declared.call.Call.TheVariants.{Read}
 use Rattle.dr_disk.specs.State.{DiskState, IsSettled}
 use Rattle.dr_disk.specs.Spans.{GoesBy, Span}
 use Rattle.dr_disk.specs.Calls.{Unwritten}
@@ -33,6 +34,7 @@ pub record Looks {T : Type 0} (start now : DiskState) (result : Result T Call) :
   pub during : Span start now start.image
   pub untouched : IsUntouched start now
   pub calls : Went itself start now result
+  pub read : IfErr result (λ call. call ≡ Read)
 
 -- A call that answers whether it wrote: it made reads alone where it didn't, and where it
 -- needn't write.

@@ -7,6 +7,7 @@
 //! that names it is written and its gate is opened.
 #![tactic(auto)]
 
+pub use blanks::are_blank;
 pub use clearing::wipe_unnamed;
 pub use committing::commit;
 pub use directory::Directory;
@@ -17,6 +18,7 @@ pub use retiring::retire;
 pub use tidying::tidy;
 pub use writing::{wipe_pages, write_pages};
 
+mod blanks;
 mod clearing;
 mod committing;
 mod directory;

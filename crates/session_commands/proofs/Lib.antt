@@ -15,3 +15,4 @@ mod KnownWorlds
 mod WholeRuns
 mod Talks
 mod Talking
+mod Checks

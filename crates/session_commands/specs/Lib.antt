@@ -8,6 +8,7 @@ pub mod Asking
 pub mod Lines
 pub mod Showing
 pub mod Beginning
+pub mod Checking
 pub mod Runs
 pub mod Completing
 pub mod Syncing

@@ -1,11 +1,12 @@
 //! The work of the commands on a session, on a source, a sink, a disk, a link and draws: begin, say, take, inbox, done, sent,
-//! outbox, state and sync.
+//! outbox, state, check and sync.
 //!
 //! Each command but `begin` opens the client that the disk holds, lets it act at most once, sync, or shows what it keeps, writes
 //! its lines and answers its status. `take` and `begin` read the source first.
 #![tactic(auto)]
 
 pub use beginning::begin;
+pub use checking::check;
 pub use dropping::{done, sent};
 pub use histories::{crashes_are_links, reads_known, runs_are_links, stays_whole};
 pub use input::{KEY_TEXT_LIMIT, PACKET_TEXT_LIMIT, limits_in_numbers};
@@ -17,6 +18,7 @@ pub use taking::take;
 pub use whole_runs::{runs_are_linked, talk};
 
 mod beginning;
+mod checking;
 mod closing;
 mod dropping;
 mod endings_of;

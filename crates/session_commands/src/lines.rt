@@ -79,7 +79,7 @@ pub(crate) fn name_lines<K: Kem>(client: &Client<K>) -> OutputLine
 
 /// Puts a name and a number as a line.
 #[tactic(auto, unfolding(crate::specs::Lines::count_line))]
-fn put_count(lines: &mut OutputLine, name: &[u8], number: u32)
+pub(crate) fn put_count(lines: &mut OutputLine, name: &[u8], number: u32)
     requires { length lines.old + length name.now + 21 ≤ ROOM }
     ensures lines { lines.new ≡ lines.old ++ count_line name.now number }
     ensures len { length lines.new ≤ length lines.old + length name.now + 21 }

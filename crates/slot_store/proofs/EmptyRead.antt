@@ -1,17 +1,14 @@
 -- No table was read open.
 use Rattle.std.proofs.Common.{◌≡◌, ℕ, false, true, List, Option, Some, None, sym, ◌∙◌, ap, ap₂}
-use Rattle.std.specs.Prelude.{is_some}
 use Rattle.dr_disk.specs.State.{DiskState, OnSeen}
 use Rattle.pages.specs.Snapshots.{kept_shot, shot_of, snapshot}
 use Rattle.pages.specs.Tables.{Standing, Table, alike, none_open, standing, standing_of, table_at}
 use Rattle.record_pages.specs.Tables.{record_names}
-use Rattle.slot_store.specs.declared.opening.Found.TheVariants.{NoContent}
 use Rattle.slot_store.specs.declared.pager.Pager.{Pager}
 use Rattle.slot_store.specs.Areas.{Area, layout_of}
-use Rattle.slot_store.specs.Found.{found_as}
 use Rattle.slot_store.specs.Judged.{table_with}
 use Rattle.slot_store.specs.Layout.{laid}
-use Rattle.slot_store.specs.Reading.{damaged, read_as, reading}
+use Rattle.slot_store.specs.Reading.{damaged, read_as, reading, reading_of}
 use Rattle.slot_store.specs.Records.{shot_in}
 use Rattle.slot_store.specs.Settling.{AreRead, HasShot}
 use Rattle.slot_store.specs.Pager.{content, mark}
@@ -23,18 +20,15 @@ module _ (area : Area) (pager : Pager) (is_area : pager.area ≡ area) (turn : p
   empty_shown s closed = ap (λ a. shot_in a s) is_area ∙ ap (shot_of record_names (layout_of area) s) closed
       ∙ ap (λ o. kept_shot (laid (mark pager) o)) (sym (has_none pager turn))
 
-  pub empty_found : is_some (content pager) ≡ false
-  empty_found = ap is_some (has_none pager turn)
-
 module _ (fault_at : List ℕ → Option ℕ) (area : Area) (pager : Pager) (is_area : pager.area ≡ area) (turn : pager.turn ≡ 0) where
   pub empty_text : (text : List ℕ) → content pager ≡ Some text → fault_at text ≡ None
   empty_text text is = absurd (let e : None ≡ Some text = sym (has_none pager turn) ∙ is in cc)
 
   pub empty_reading : (s : List ℕ) → standing (layout_of area) s ≡ none_open
-      → reading fault_at pager.area s ≡ found_as NoContent (content pager)
+      → reading fault_at area s ≡ reading_of (content pager)
   unfolding reading snapshot
-  empty_reading s closed = ap (λ a. read_as fault_at a (shot_in a s)) is_area
-      ∙ ap (λ o. read_as fault_at area (shot_of record_names (layout_of area) s o)) closed
+  empty_reading s closed = ap (λ o. read_as fault_at area (shot_of record_names (layout_of area) s o)) closed
+      ∙ ap reading_of (sym (has_none pager turn))
 
 -- both are open, and neither is newer
 pub alike_reading : (fault_at : List ℕ → Option ℕ) (area : Area) (s : List ℕ) → standing (layout_of area) s ≡ alike

@@ -31,7 +31,6 @@ mod Standings
 mod Marks
 mod Alike
 mod Settled
-mod Looked
 mod Wiping
 mod LoadedPages
 mod NewerSettled
@@ -42,3 +41,5 @@ mod NewerRead
 mod EmptyRead
 mod Answered
 mod JudgedRead
+mod Wiped
+mod Reported

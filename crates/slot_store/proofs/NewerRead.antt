@@ -1,6 +1,6 @@
 -- The newer table was read, with the pages that it names.
 use Rattle.std.proofs.Common.{◌≡◌, ◌≢◌, ℕ, ◌+◌, ◌-◌, ◌*◌, ◌≤◌, Bool, true, List, [], length, take, Option, Some, None, sym, ◌∙◌, ap, arith}
-use Rattle.std.specs.Prelude.{is_some, slice_index}
+use Rattle.std.specs.Prelude.{slice_index}
 use Rattle.std.proofs.lemmas.List.{length-take-le}
 use Rattle.dr_base.specs.declared.limits.TheConstants.{PAGE}
 use Rattle.pages.specs.Snapshots.{kept_shot, shot, shot_of, snapshot}
@@ -9,13 +9,11 @@ use Rattle.pages.proofs.Newest.{open_low, open_high}
 use Rattle.record_pages.specs.Pages.{pages_in}
 use Rattle.record_pages.specs.Tables.{entry_fault, length_in, record_names, table_body}
 use Rattle.slot_store.specs.declared.kept.Kept.{Kept}
-use Rattle.slot_store.specs.declared.opening.Found.TheVariants.{Content}
 use Rattle.slot_store.specs.declared.pager.Pager.{Pager}
 use Rattle.slot_store.specs.Areas.{Area, layout_of}
-use Rattle.slot_store.specs.Found.{found_as}
 use Rattle.slot_store.specs.Layout.{IsMarked, laid, table_for}
 use Rattle.slot_store.specs.Loading.{IsNamed, pages_named}
-use Rattle.slot_store.specs.Reading.{damaged, fault_in, judged, number_of, read_as, reading}
+use Rattle.slot_store.specs.Reading.{damaged, fault_in, judged, number_of, read_as, reading, reading_of}
 use Rattle.slot_store.specs.Records.{record_in, shot_in}
 use Rattle.slot_store.specs.Settling.{HasShot}
 use Rattle.slot_store.specs.Pager.{content, mark}
@@ -107,12 +105,9 @@ module _ (fault_at : List ℕ → Option ℕ) (area : Area) (second : Bool) (bod
       inner : (x y : List ℕ) → Some x ≡ Some y → x ≡ y
       inner x y h = cc
 
-  pub newer_found : is_some (content pager) ≡ true
-  newer_found = ap is_some has
-
-  pub newer_reading : (s : List ℕ) → HasShot pager s → reading fault_at pager.area s ≡ found_as Content (content pager)
+  pub newer_reading : (s : List ℕ) → HasShot pager s → reading fault_at area s ≡ reading_of (content pager)
   unfolding reading
-  newer_reading s shown = ap (read_as fault_at pager.area)
+  newer_reading s shown = sym (ap (λ a. reading fault_at a s) is_area) ∙ ap (read_as fault_at pager.area)
       (shown ∙ ap (λ o. kept_shot (laid (mark pager) o)) has ∙ held pager.area (mark pager) text marked)
       ∙ laid_read pager.area (mark pager) text pager.lawful marked fault_at none
-      ∙ ap (found_as Content) (sym has)
+      ∙ ap reading_of (sym has)

@@ -1,5 +1,5 @@
 -- A pager that was opened over what was read.
-use Rattle.std.proofs.Common.{◌≡◌, ℕ, List, Option, Some, None, Result, Ok, Err, OnOk, refl, ◌∙◌, subst}
+use Rattle.std.proofs.Common.{◌≡◌, ℕ, true, false, List, Option, Some, None, Result, Ok, Err, OnOk, refl, sym, ◌∙◌, ap, subst}
 use Rattle.std.specs.Prelude.{is_some}
 use Rattle.dr_disk.specs.declared.call.Call.{Call}
 use Rattle.dr_disk.specs.State.{Always, DiskState, IsSettled, OnSeen}
@@ -11,6 +11,7 @@ use Rattle.pages.specs.Runs.{IsUntouched, Looks}
 use Rattle.pages.proofs.Looking.{untouched_twice}
 use Rattle.slot_store.specs.declared.pager.Pager.{Pager}
 use Rattle.slot_store.specs.declared.opening.Found.{Found}
+use Rattle.slot_store.specs.declared.opening.Found.TheVariants.{Content, NoContent}
 use Rattle.slot_store.specs.declared.outcome.Outcome.{Outcome}
 use Rattle.slot_store.specs.declared.outcome.Outcome.TheVariants.{Refused, Stored}
 use Rattle.slot_store.specs.Areas.{Area}
@@ -18,7 +19,7 @@ use Rattle.slot_store.specs.Found.{found_as, has_content}
 use Rattle.slot_store.specs.Outcome.{Opens}
 use Rattle.slot_store.specs.AtRest.{IsAtRest, IsReadAtRest}
 use Rattle.slot_store.specs.Layout.{Mark}
-use Rattle.slot_store.specs.Reading.{IsLikeRead, damaged, reading}
+use Rattle.slot_store.specs.Reading.{IsLikeRead, damaged, reading, reading_of}
 use Rattle.slot_store.specs.Settling.{HasShot, RestsAsRead, Settles}
 use Rattle.slot_store.specs.Pager.{content, mark}
 use Rattle.slot_store.proofs.Alike.{as_read, like_before}
@@ -63,22 +64,29 @@ pub opened_mark : (pager : Pager) (start : DiskState) → OnSeen (HasShot pager)
     → start.seen ≡ Some s → IsAtRest pager.area m (Some text) s → mark pager ≡ m
 opened_mark pager start shown s m text told rests = (is_same pager s (shown s told) m (Some text) rests).same_mark text refl
 
+-- what is read, as it is answered
+pub found_reading : (what : Found) (o : Option (List ℕ)) → has_content what ≡ is_some o → reading_of o ≡ found_as what o
+found_reading NoContent None is = refl
+found_reading NoContent (Some text) is = absurd (let e : false ≡ true = is in cc)
+found_reading Content None is = absurd (let e : true ≡ false = is in cc)
+found_reading Content (Some text) is = refl
+
 -- ---- what opening comes to
 
 module _ {T U : Type 0} (fault_at : List ℕ → Option ℕ) (area : Area) (pager : Pager) (is_area : pager.area ≡ area) (x : U)
     (start b now : DiskState) (settled : IsSettled start) (looks : Looks start b (Ok x))
     (shown : OnSeen (HasShot pager) start) where
   pub opens_stored : (what : Found) (y : T) → Settles pager b now (Ok y)
-      → OnSeen (λ s. reading fault_at pager.area s ≡ found_as what (content pager)) start
+      → OnSeen (λ s. reading fault_at area s ≡ reading_of (content pager)) start
       → ((text : List ℕ) → content pager ≡ Some text → fault_at text ≡ None)
-      → is_some (content pager) ≡ has_content what
+      → has_content what ≡ is_some (content pager)
       → Opens fault_at area start now (Ok (Stored pager what))
   opens_stored what y settles read text found = subst (λ a. Opens fault_at a start now (Ok (Stored pager what))) is_area (record {
     found = record {
       area = refl;
-      read = read;
+      read = λ s told. ap (λ a. reading fault_at a s) is_area ∙ read s told ∙ found_reading what (content pager) found;
       text = text;
-      found = found;
+      found = sym found;
       at_rest = λ c left. let rests = opened_rests pager x start b now (Ok y) settled looks shown settles c left in
           (rests_seen pager c rests.0, rests.1);
       settled = settles.settled;

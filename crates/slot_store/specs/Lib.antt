@@ -11,8 +11,10 @@ pub mod Settling
 pub mod Judged
 pub mod Loading
 pub mod Found
+pub mod Locating
 pub mod AtRest
 pub mod Opened
+pub mod Reports
 pub mod Scratch
 pub mod Outcome
 pub mod Laws

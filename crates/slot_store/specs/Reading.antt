@@ -19,6 +19,11 @@ abbrev pub number_of : Bool → ℕ
 number_of false = 0
 number_of true = 1
 
+-- of bytes that stand for this record, or for none
+abbrev pub reading_of : Option (List ℕ) → Reading
+reading_of None = no_content
+reading_of (Some text) = holds text
+
 -- of a fault in a record's pages, counted from its table
 abbrev pub behind_table : Option ℕ → Option ℕ
 behind_table None = None

@@ -24,3 +24,14 @@ pub enum OpenError {
     #[error("slot {slot} is damaged at {at}")]
     Damaged { slot: u32, at: u64 },
 }
+
+/// Why an area couldn't be looked at.
+#[derive(Clone, Copy, Debug, PartialEq, Eq, Error)]
+pub enum InspectError {
+    /// There was no memory. No call on the disk was made.
+    #[error("out of memory")]
+    Memory,
+    /// A call on the disk failed, of this kind: a read.
+    #[error("a call on the disk failed")]
+    StoreFault { call: Call },
+}

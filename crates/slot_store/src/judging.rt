@@ -17,7 +17,7 @@ pub(crate) enum Judged {
 }
 
 /// Whether a table is open.
-fn is_open(gate: u8, body: &[u8]) -> bool
+pub(crate) fn is_open(gate: u8, body: &[u8]) -> bool
     requires { 1 ≤ length body.now }
     ensures { result ≡ is_open (table_with gate body.now) }
 {

@@ -5,25 +5,31 @@
 #![tactic(auto)]
 
 pub use area::Area;
-pub use errors::{OpenError, StoreFault};
+pub use errors::{InspectError, OpenError, StoreFault};
 pub use grammar::Grammar;
+pub use inspecting::inspect;
 pub use laws::{locality, readings, resting};
 pub use opening::Found;
+pub use report::{Finding, Gate, Report};
 pub use store::SlotStore;
 
 mod area;
 mod draft;
 mod errors;
 mod grammar;
+mod inspecting;
 mod judging;
 mod kept;
 mod laws;
 mod loading;
+mod locating;
+mod looking;
 mod opening;
 mod outcome;
 mod pager;
 mod planning;
 mod reading;
+mod report;
 mod scratch;
 mod settling;
 mod store;

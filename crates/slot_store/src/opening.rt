@@ -18,7 +18,7 @@ use crate::grammar::Grammar;
 use crate::kept::Kept;
 use crate::outcome::{Outcome, open_read};
 use crate::planning::take_draft;
-use crate::reading::read_tables;
+use crate::reading::settle_and_read;
 use crate::scratch::Scratch;
 use crate::store::SlotStore;
 use dr_disk::{Call, Disk};
@@ -34,7 +34,7 @@ pub enum Found {
 }
 
 /// All memory that a store needs, and what opening needs besides.
-fn take_memory(alloc: Global, area: Area) -> Result<(Kept, Draft, Scratch), AllocError>
+pub(crate) fn take_memory(alloc: Global, area: Area) -> Result<(Kept, Draft, Scratch), AllocError>
     ensures store { IfOk result (λ memory. IsForStore area memory.0 memory.1) }
     ensures scratch { IfOk result (λ memory. IsScratch area memory.2) }
 {
@@ -94,7 +94,7 @@ impl SlotStore {
         let Ok((kept, draft, mut scratch)) = take_memory(alloc, area) else {
             return Err(OpenError::Memory);
         };
-        let (first_gate, second_gate) = match read_tables(
+        let (first_gate, second_gate) = match settle_and_read(
             disk,
             area,
             &mut scratch.first,

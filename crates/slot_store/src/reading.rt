@@ -1,4 +1,4 @@
-//! Both tables as they stand, after a sync.
+//! Both tables as they stand, for opening after a sync.
 
 ghost use Rattle.std.specs.Prelude.{◌≡◌, ◌+◌, false, true, length, IfOk, OnOk};
 ghost use Rattle.dr_base.specs.declared.limits.TheConstants.{PAGE};
@@ -63,8 +63,34 @@ fn settle_first<D: Disk>(disk: &mut D) -> Result<(), Failed>
     disk.sync()
 }
 
-/// Syncs, and reads both tables. Answers their gates, and fills in all after them.
+/// Reads both tables. Answers their gates, and fills in all after them.
 pub(crate) fn read_tables<D: Disk>(
+    disk: &mut D,
+    area: Area,
+    first: &mut Vec<u8>,
+    second: &mut Vec<u8>,
+) -> Result<(u8, u8), Call>
+    requires within { IsWithin area (D.state disk.old) }
+    requires first_long { length first.old.items + 1 ≡ PAGE }
+    requires second_long { length second.old.items + 1 ≡ PAGE }
+    ensures read { IfOk result (λ gates. AreRead area (table_with gates.0 first.new.items)
+        (table_with gates.1 second.new.items) (D.state disk.old)) }
+    ensures first_long { length first.new.items + 1 ≡ PAGE }
+    ensures second_long { length second.new.items + 1 ≡ PAGE }
+    ensures looks { Looks (D.state disk.old) (D.state disk.new) result }
+{
+    let first_gate = match read_table(disk, area, false, first) {
+        Ok(gate) => gate,
+        Err(call) => return Err(call),
+    };
+    match read_table(disk, area, true, second) {
+        Ok(second_gate) => Ok((first_gate, second_gate)),
+        Err(call) => Err(call),
+    }
+}
+
+/// Syncs, and reads both tables.
+pub(crate) fn settle_and_read<D: Disk>(
     disk: &mut D,
     area: Area,
     first: &mut Vec<u8>,
@@ -86,12 +112,8 @@ pub(crate) fn read_tables<D: Disk>(
     let Ok(()) = settle_first(disk) else {
         return Err(Call::Sync);
     };
-    let first_gate = match read_table(disk, area, false, first) {
-        Ok(gate) => gate,
-        Err(call) => return Err(call),
-    };
-    match read_table(disk, area, true, second) {
-        Ok(second_gate) => Ok((first_gate, second_gate)),
+    match read_tables(disk, area, first, second) {
+        Ok(gates) => Ok(gates),
         Err(call) => Err(call),
     }
 }

@@ -22,7 +22,7 @@ use dr_disk::{Call, Disk};
 use pages::is_blank;
 
 /// Marks the pages of these numbers.
-fn mark_pages(numbers: &[u32], named: &mut [bool])
+pub(crate) fn mark_pages(numbers: &[u32], named: &mut [bool])
     requires inside { All (λ n. n < length named.old) numbers.now }
     ensures marks { (n : ℕ) → get_or named.new n false
         ≡ (get_or named.old n false || is_among numbers.now n) }

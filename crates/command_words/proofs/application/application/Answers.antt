@@ -10,7 +10,8 @@ returns c =
     let sent = c.with_valued-command-4.ensures _ done in
     let outbox = c.with_bare-command-3.ensures _ sent in
     let state = c.with_bare-command-4.ensures _ outbox in
-    let sync = c.with_valued-command-5.ensures _ state in
+    let check = c.with_bare-command-5.ensures _ state in
+    let sync = c.with_valued-command-5.ensures _ check in
     let relay = c.with_listed-command.ensures _ sync in
-    let duet = c.with_bare-command-5.ensures _ relay in
+    let duet = c.with_bare-command-6.ensures _ relay in
     c.with_paired.ensures _ duet

@@ -5,7 +5,7 @@ use Rattle.pages.specs.Layouts.{IsPage, IsSound}
 use Rattle.pages.specs.Snapshots.{page_of}
 use Rattle.record_pages.specs.Pages.{cut}
 use Rattle.slot_store.specs.Areas.{layout_of}
-use Rattle.slot_store.proofs.Looked.{looks_twice}
+use Rattle.pages.proofs.Looking.{looks_twice}
 use Rattle.slot_store.proofs.ReadPages.{behind_later, put_before, put_behind, put_here, read_more}
 use Rattle.slot_store.proofs.loading.read_pages.Goals as goal
 

@@ -1,11 +1,8 @@
-use Rattle.std.proofs.Common.{◌≡◌, ◌<◌, All, false, ℕ, List, length, get_or, sym, ◌∙◌, ap, subst, arith}
+use Rattle.std.proofs.Common.{◌≡◌, false, ℕ, List, length, get_or, ◌∙◌, ap, subst}
 use Rattle.std.specs.Prelude.{◌||◌}
 use Rattle.std.proofs.lemmas.List.{length-replicate}
-use Rattle.std.proofs.lemmas.List.Elements.{All-weaker}
-use Rattle.pages.specs.Layouts.{IsPage}
 use Rattle.record_pages.specs.Plans.{is_among}
-use Rattle.slot_store.specs.Areas.{layout_of}
-use Rattle.slot_store.proofs.Entries.{entries_within}
+use Rattle.slot_store.proofs.Entries.{entries_inside}
 use Rattle.slot_store.proofs.Alike.{like_shots}
 use Rattle.slot_store.proofs.Marks.{marks_of}
 use Rattle.slot_store.proofs.NewerSettled.{newer_blank, newer_body, newer_counts, newer_gate, newer_mute, newer_rests, newer_unnamed}
@@ -33,13 +30,10 @@ wipe_table-requires-clause-marks g c =
     c.mark_pages.ensures.long ∙ ap length c.requires.marks ∙ length-replicate c.args.pager.now.area.pages false
 
 pub mark_pages-requires : goal.mark_pages-requires
-mark_pages-requires g c =
-    let long : length c.args.named.now ≡ c.args.pager.now.area.pages = ap length c.requires.marks ∙ length-replicate c.args.pager.now.area.pages false in
-    record {
-      inside = subst (λ (ns : List ℕ). All (λ n. n < length c.args.named.now) ns) (sym c.deref.ensures.value)
-          (All-weaker (IsPage (layout_of c.args.pager.now.area)) (λ n. n < length c.args.named.now) (λ n is. omega (arith, is.1, long))
-          c.args.pager.now.kept.numbers.items (entries_within c.args.pager.now.area c.args.pager.now.kept.numbers.items c.args.pager.now.entries));
-    }
+mark_pages-requires g c = record {
+  inside = entries_inside c.args.pager.now.area c.deref.result.now c.args.pager.now.kept.numbers.items c.args.named.now
+      c.deref.ensures.value c.requires.marks c.args.pager.now.entries;
+}
 
 pub returns : goal.returns
 returns g c =

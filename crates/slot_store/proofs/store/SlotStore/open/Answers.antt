@@ -16,72 +16,72 @@ pub returns-clause-opened : goal.returns-clause-opened
 returns-clause-opened g c =
     subst (λ r. IfOk r (λ both. IsOpened g.G.Grammar.fault_at c.args.area (g.D.Disk.state c.args.disk.now)
     (g.D.Disk.state c.open_read.new.disk) both.0 both.1)) (sym c.answer.ensures)
-    (answered_opened g.G.Grammar.fault_at c.args.area (g.D.Disk.state c.args.disk.now) (g.D.Disk.state c.read_tables.new.disk)
-    (g.D.Disk.state c.open_read.new.disk) c.in-Ok-read_tables.gates c.open_read.result c.read_tables.ensures.any_moment
-    c.read_tables.ensures.unwritten c.in-Ok-read_tables.ensures.settled c.in-Ok-read_tables.ensures.passed
-    c.in-Ok-read_tables.ensures.calls c.open_read.ensures)
+    (answered_opened g.G.Grammar.fault_at c.args.area (g.D.Disk.state c.args.disk.now) (g.D.Disk.state c.settle_and_read.new.disk)
+    (g.D.Disk.state c.open_read.new.disk) c.in-Ok-settle_and_read.gates c.open_read.result c.settle_and_read.ensures.any_moment
+    c.settle_and_read.ensures.unwritten c.in-Ok-settle_and_read.ensures.settled c.in-Ok-settle_and_read.ensures.passed
+    c.in-Ok-settle_and_read.ensures.calls c.open_read.ensures)
 
 pub returns-clause-any_moment : goal.returns-clause-any_moment
 returns-clause-any_moment g c =
-    answered_moment g.G.Grammar.fault_at c.args.area (g.D.Disk.state c.args.disk.now) (g.D.Disk.state c.read_tables.new.disk)
-    (g.D.Disk.state c.open_read.new.disk) c.in-Ok-read_tables.gates c.open_read.result c.read_tables.ensures.any_moment
-    c.read_tables.ensures.unwritten c.in-Ok-read_tables.ensures.settled c.in-Ok-read_tables.ensures.passed
-    c.in-Ok-read_tables.ensures.calls c.open_read.ensures
+    answered_moment g.G.Grammar.fault_at c.args.area (g.D.Disk.state c.args.disk.now) (g.D.Disk.state c.settle_and_read.new.disk)
+    (g.D.Disk.state c.open_read.new.disk) c.in-Ok-settle_and_read.gates c.open_read.result c.settle_and_read.ensures.any_moment
+    c.settle_and_read.ensures.unwritten c.in-Ok-settle_and_read.ensures.settled c.in-Ok-settle_and_read.ensures.passed
+    c.in-Ok-settle_and_read.ensures.calls c.open_read.ensures
 
 pub returns-clause-reads : goal.returns-clause-reads
 returns-clause-reads g c =
-    answered_reads g.G.Grammar.fault_at c.args.area (g.D.Disk.state c.args.disk.now) (g.D.Disk.state c.read_tables.new.disk)
-    (g.D.Disk.state c.open_read.new.disk) c.in-Ok-read_tables.gates c.open_read.result c.read_tables.ensures.any_moment
-    c.read_tables.ensures.unwritten c.in-Ok-read_tables.ensures.settled c.in-Ok-read_tables.ensures.passed
-    c.in-Ok-read_tables.ensures.calls c.open_read.ensures
+    answered_reads g.G.Grammar.fault_at c.args.area (g.D.Disk.state c.args.disk.now) (g.D.Disk.state c.settle_and_read.new.disk)
+    (g.D.Disk.state c.open_read.new.disk) c.in-Ok-settle_and_read.gates c.open_read.result c.settle_and_read.ensures.any_moment
+    c.settle_and_read.ensures.unwritten c.in-Ok-settle_and_read.ensures.settled c.in-Ok-settle_and_read.ensures.passed
+    c.in-Ok-settle_and_read.ensures.calls c.open_read.ensures
     (g.met.D.Disk.lawful c.open_read.new.disk)
 
 pub returns-clause-still : goal.returns-clause-still
 returns-clause-still g c = λ was.
     subst (λ r. IsLeft (g.D.Disk.state c.args.disk.now) (g.D.Disk.state c.open_read.new.disk) r) (sym c.answer.ensures)
-    (answered_still g.G.Grammar.fault_at c.args.area (g.D.Disk.state c.args.disk.now) (g.D.Disk.state c.read_tables.new.disk)
-    (g.D.Disk.state c.open_read.new.disk) c.in-Ok-read_tables.gates c.open_read.result c.read_tables.ensures.any_moment
-    c.read_tables.ensures.unwritten c.in-Ok-read_tables.ensures.settled c.in-Ok-read_tables.ensures.passed
-    c.in-Ok-read_tables.ensures.calls c.open_read.ensures was)
+    (answered_still g.G.Grammar.fault_at c.args.area (g.D.Disk.state c.args.disk.now) (g.D.Disk.state c.settle_and_read.new.disk)
+    (g.D.Disk.state c.open_read.new.disk) c.in-Ok-settle_and_read.gates c.open_read.result c.settle_and_read.ensures.any_moment
+    c.settle_and_read.ensures.unwritten c.in-Ok-settle_and_read.ensures.settled c.in-Ok-settle_and_read.ensures.passed
+    c.in-Ok-settle_and_read.ensures.calls c.open_read.ensures was)
 
 pub returns-clause-refused : goal.returns-clause-refused
 returns-clause-refused g c =
     subst (λ r. IfErr r (IsRefused g.G.Grammar.fault_at c.args.area (g.D.Disk.state c.args.disk.now)
     (g.D.Disk.state c.open_read.new.disk))) (sym c.answer.ensures)
-    (answered_refused g.G.Grammar.fault_at c.args.area (g.D.Disk.state c.args.disk.now) (g.D.Disk.state c.read_tables.new.disk)
-    (g.D.Disk.state c.open_read.new.disk) c.in-Ok-read_tables.gates c.open_read.result c.read_tables.ensures.any_moment
-    c.read_tables.ensures.unwritten c.in-Ok-read_tables.ensures.settled c.in-Ok-read_tables.ensures.passed
-    c.in-Ok-read_tables.ensures.calls c.open_read.ensures)
+    (answered_refused g.G.Grammar.fault_at c.args.area (g.D.Disk.state c.args.disk.now) (g.D.Disk.state c.settle_and_read.new.disk)
+    (g.D.Disk.state c.open_read.new.disk) c.in-Ok-settle_and_read.gates c.open_read.result c.settle_and_read.ensures.any_moment
+    c.settle_and_read.ensures.unwritten c.in-Ok-settle_and_read.ensures.settled c.in-Ok-settle_and_read.ensures.passed
+    c.in-Ok-settle_and_read.ensures.calls c.open_read.ensures)
 
 pub returns-clause-memory : goal.returns-clause-memory
 returns-clause-memory g c =
     subst (λ r. IfErr r (λ e. e ≡ Memory → c.open_read.new.disk ≡ c.args.disk.now)) (sym c.answer.ensures)
-    (answered_memory g.G.Grammar.fault_at c.args.area (g.D.Disk.state c.args.disk.now) (g.D.Disk.state c.read_tables.new.disk)
-    (g.D.Disk.state c.open_read.new.disk) c.in-Ok-read_tables.gates c.open_read.result c.read_tables.ensures.any_moment
-    c.read_tables.ensures.unwritten c.in-Ok-read_tables.ensures.settled c.in-Ok-read_tables.ensures.passed
-    c.in-Ok-read_tables.ensures.calls c.open_read.ensures _)
+    (answered_memory g.G.Grammar.fault_at c.args.area (g.D.Disk.state c.args.disk.now) (g.D.Disk.state c.settle_and_read.new.disk)
+    (g.D.Disk.state c.open_read.new.disk) c.in-Ok-settle_and_read.gates c.open_read.result c.settle_and_read.ensures.any_moment
+    c.settle_and_read.ensures.unwritten c.in-Ok-settle_and_read.ensures.settled c.in-Ok-settle_and_read.ensures.passed
+    c.in-Ok-settle_and_read.ensures.calls c.open_read.ensures _)
 
 pub returns-clause-quiet : goal.returns-clause-quiet
 returns-clause-quiet g c =
     subst (λ r. OnOk r (IsQuiet (g.D.Disk.state c.args.disk.now) (g.D.Disk.state c.open_read.new.disk))) (sym c.answer.ensures)
-    (answered_quiet g.G.Grammar.fault_at c.args.area (g.D.Disk.state c.args.disk.now) (g.D.Disk.state c.read_tables.new.disk)
-    (g.D.Disk.state c.open_read.new.disk) c.in-Ok-read_tables.gates c.open_read.result c.read_tables.ensures.any_moment
-    c.read_tables.ensures.unwritten c.in-Ok-read_tables.ensures.settled c.in-Ok-read_tables.ensures.passed
-    c.in-Ok-read_tables.ensures.calls c.open_read.ensures)
+    (answered_quiet g.G.Grammar.fault_at c.args.area (g.D.Disk.state c.args.disk.now) (g.D.Disk.state c.settle_and_read.new.disk)
+    (g.D.Disk.state c.open_read.new.disk) c.in-Ok-settle_and_read.gates c.open_read.result c.settle_and_read.ensures.any_moment
+    c.settle_and_read.ensures.unwritten c.in-Ok-settle_and_read.ensures.settled c.in-Ok-settle_and_read.ensures.passed
+    c.in-Ok-settle_and_read.ensures.calls c.open_read.ensures)
 
 pub returns-clause-ahead : goal.returns-clause-ahead
 returns-clause-ahead g c =
     subst (λ r. OnOk r (FailsLater (g.D.Disk.state c.args.disk.now) (g.D.Disk.state c.open_read.new.disk))) (sym c.answer.ensures)
-    (answered_ahead g.G.Grammar.fault_at c.args.area (g.D.Disk.state c.args.disk.now) (g.D.Disk.state c.read_tables.new.disk)
-    (g.D.Disk.state c.open_read.new.disk) c.in-Ok-read_tables.gates c.open_read.result c.read_tables.ensures.any_moment
-    c.read_tables.ensures.unwritten c.in-Ok-read_tables.ensures.settled c.in-Ok-read_tables.ensures.passed
-    c.in-Ok-read_tables.ensures.calls c.open_read.ensures)
+    (answered_ahead g.G.Grammar.fault_at c.args.area (g.D.Disk.state c.args.disk.now) (g.D.Disk.state c.settle_and_read.new.disk)
+    (g.D.Disk.state c.open_read.new.disk) c.in-Ok-settle_and_read.gates c.open_read.result c.settle_and_read.ensures.any_moment
+    c.settle_and_read.ensures.unwritten c.in-Ok-settle_and_read.ensures.settled c.in-Ok-settle_and_read.ensures.passed
+    c.in-Ok-settle_and_read.ensures.calls c.open_read.ensures)
 
 pub returns-clause-fate : goal.returns-clause-fate
 returns-clause-fate g c =
     subst (λ r. (g.D.Disk.state c.args.disk.now).fate ≡ all_pass
     → IfErr r (λ e. (call : Call) → e ≢ StoreFault call) × ((g.D.Disk.state c.open_read.new.disk).fate ≡ all_pass)) (sym c.answer.ensures)
-    (answered_fate g.G.Grammar.fault_at c.args.area (g.D.Disk.state c.args.disk.now) (g.D.Disk.state c.read_tables.new.disk)
-    (g.D.Disk.state c.open_read.new.disk) c.in-Ok-read_tables.gates c.open_read.result c.read_tables.ensures.any_moment
-    c.read_tables.ensures.unwritten c.in-Ok-read_tables.ensures.settled c.in-Ok-read_tables.ensures.passed
-    c.in-Ok-read_tables.ensures.calls c.open_read.ensures)
+    (answered_fate g.G.Grammar.fault_at c.args.area (g.D.Disk.state c.args.disk.now) (g.D.Disk.state c.settle_and_read.new.disk)
+    (g.D.Disk.state c.open_read.new.disk) c.in-Ok-settle_and_read.gates c.open_read.result c.settle_and_read.ensures.any_moment
+    c.settle_and_read.ensures.unwritten c.in-Ok-settle_and_read.ensures.settled c.in-Ok-settle_and_read.ensures.passed
+    c.in-Ok-settle_and_read.ensures.calls c.open_read.ensures)

@@ -1,0 +1,33 @@
+use Rattle.std.proofs.Common.{[], subst, sym}
+use Rattle.endings.specs.declared.ending.Ending.TheVariants.{Done}
+use Rattle.session_commands.specs.Checking.{Checked, report_lines, was_checked}
+use Rattle.session_commands.proofs.Checks.{look_refused}
+use Rattle.session_commands.proofs.checking.check.Goals as goal
+
+pub returns-in-Err-clause-runs : goal.returns-in-Err-clause-runs
+returns-in-Err-clause-runs g c = record {
+  ending = c.unread.result;
+  lines = [];
+  came = record {
+    checked = subst (λ e. Checked g.D.Disk.state g.K.Kem.mechanism c.args.disk.now c.inspect.new.disk e []) (sym c.unread.ensures)
+        (look_refused g.D.Disk.state g.K.Kem.mechanism c.args.disk.now c.inspect.new.disk c.in-Err.error c.in-Err.ensures.memory
+        c.in-Err.ensures.fault);
+    unwritten = c.inspect.ensures.unwritten;
+    passed = c.inspect.ensures.passed;
+    any_moment = c.inspect.ensures.any_moment;
+  };
+  ends = c.finish.ensures.ends;
+}
+
+pub returns-in-Ok-clause-runs : goal.returns-in-Ok-clause-runs
+returns-in-Ok-clause-runs g c = record {
+  ending = Done;
+  lines = report_lines c.in-Ok.report;
+  came = record {
+    checked = was_checked c.in-Ok.report c.in-Ok.ensures.report c.in-Ok.ensures.quiet;
+    unwritten = c.inspect.ensures.unwritten;
+    passed = c.inspect.ensures.passed;
+    any_moment = c.inspect.ensures.any_moment;
+  };
+  ends = c.finish_written.ensures.ends _ _ c.write_report-wrote.ensures;
+}

@@ -1,0 +1,34 @@
+use Rattle.dr_disk.specs.Called.{itself}
+use Rattle.dr_disk.specs.declared.call.Call.TheVariants.{Sync}
+use Rattle.dr_disk.proofs.Calling.{fails, goes_well, then_any}
+use Rattle.dr_disk.proofs.Steps.{spans, widen}
+use Rattle.slot_store.proofs.reading.settle_and_read.Goals as goal
+
+pub returns-in_default-clause-calls : goal.returns-in_default-clause-calls
+returns-in_default-clause-calls g c = fails itself Sync _ _ _ c.in_default.ensures.told c.in_default.ensures.cause
+
+pub returns-in-Err-clause-any_moment : goal.returns-in-Err-clause-any_moment
+returns-in-Err-clause-any_moment g c =
+    let start = g.D.Disk.state c.args.disk.now in
+    let a = g.D.Disk.state c.settle_first.new.disk in
+    let b = g.D.Disk.state c.read_tables.new.disk in
+    spans start a b start.image (widen start a a.image start.image c.settle_first.ensures.unwritten.images c.settle_first.ensures.passes)
+    (widen a b a.image start.image c.settle_first.ensures.unwritten.images c.read_tables.ensures.looks.during)
+
+pub returns-in-Ok-read_tables-clause-any_moment : goal.returns-in-Ok-read_tables-clause-any_moment
+returns-in-Ok-read_tables-clause-any_moment g c =
+    let start = g.D.Disk.state c.args.disk.now in
+    let a = g.D.Disk.state c.settle_first.new.disk in
+    let b = g.D.Disk.state c.read_tables.new.disk in
+    spans start a b start.image (widen start a a.image start.image c.settle_first.ensures.unwritten.images c.settle_first.ensures.passes)
+    (widen a b a.image start.image c.settle_first.ensures.unwritten.images c.read_tables.ensures.looks.during)
+
+pub returns-in-Err-clause-calls : goal.returns-in-Err-clause-calls
+returns-in-Err-clause-calls g c =
+    then_any (tt {0}) _ _ _ _ _ c.settle_first.ensures.passes
+    (goes_well itself Sync (tt {0}) _ _ _ c.in-Ok.ensures.told c.in-Ok.ensures.cause) c.in-Err.ensures.looks.calls
+
+pub returns-in-Ok-read_tables-clause-calls : goal.returns-in-Ok-read_tables-clause-calls
+returns-in-Ok-read_tables-clause-calls g c =
+    then_any (tt {0}) _ _ _ _ _ c.settle_first.ensures.passes
+    (goes_well itself Sync (tt {0}) _ _ _ c.in-Ok.ensures.told c.in-Ok.ensures.cause) c.in-Ok-read_tables.ensures.looks.calls

@@ -1,0 +1,124 @@
+//! What counts in an area whose tables were read: a record, none, or damage.
+
+ghost use Rattle.std.specs.Prelude.{◌≡◌, ◌≤◌, ◌+◌, [], None, true, length, IfOk};
+ghost use Rattle.dr_base.specs.declared.limits.TheConstants.{PAGE};
+ghost use Rattle.dr_disk.specs.State.{OnSeen};
+ghost use Rattle.pages.specs.Runs.{Looks};
+ghost use Rattle.pages.specs.Tables.{counts, is_open, open_table, standing};
+ghost use Rattle.record_pages.specs.Tables.{entry_fault};
+ghost use Rattle.slot_store.specs.Areas.{layout_of};
+ghost use Rattle.slot_store.specs.Judged.{table_with};
+ghost use Rattle.slot_store.specs.Loading.{HasRecordRoom};
+ghost use Rattle.slot_store.specs.Locating.{IsLocated};
+ghost use Rattle.slot_store.specs.Memory.{HasRoom};
+ghost use Rattle.slot_store.specs.Outcome.{IsForStore};
+ghost use Rattle.slot_store.specs.Scratch.{IsScratch};
+ghost use Rattle.slot_store.specs.Settling.{AreRead};
+ghost use Rattle.slot_store.specs.Store.{IsWithin};
+
+use crate::area::{Area, record_most};
+use crate::draft::Draft;
+use crate::grammar::Grammar;
+use crate::judging::{Judged, judge};
+use crate::kept::Kept;
+use crate::loading::{Loaded, load};
+use crate::pager::Pager;
+use crate::scratch::Scratch;
+use crate::table::number;
+use dr_disk::{Call, Disk};
+
+/// A pager of what counts, a record or none; or the number of a damaged table, and the place.
+#[derive(Drop)]
+pub(crate) enum Located {
+    Held { pager: Pager },
+    Faulty { slot: u32, at: u64 },
+}
+
+/// A pager with a record that was read, or with none.
+fn pager_of(area: Area, second: bool, turn: u8, kept: Kept, draft: Draft) -> Pager
+    requires turns { turn ≤ 3 }
+    requires none { turn ≡ 0 → kept.len ≡ 0 }
+    requires room { HasRecordRoom area kept }
+    requires entries { entry_fault area.pages [] 6 kept.numbers.items ≡ None }
+    requires dropped { draft.plan.dropped.items ≡ [] }
+    requires plans { HasRoom area draft }
+    ensures area { result.area ≡ area }
+    ensures second { result.second ≡ second }
+    ensures turn { result.turn ≡ turn }
+    ensures kept { result.kept ≡ kept }
+{
+    let _most = record_most(area);
+    Pager {
+        area,
+        second,
+        turn,
+        kept,
+        draft,
+        replaced: false,
+    }
+}
+
+/// The pager of an area whose newer table was read.
+fn locate_newer<G: Grammar, D: Disk>(
+    disk: &mut D,
+    area: Area,
+    kept: Kept,
+    draft: Draft,
+    second: bool,
+    body: &[u8],
+) -> Result<Located, Call>
+    requires within { IsWithin area (D.state disk.old) }
+    requires memory { IsForStore area kept draft }
+    requires long { length body.now + 1 ≡ PAGE }
+    requires opened { is_open (open_table body.now) ≡ true }
+    requires counts { OnSeen (λ s. standing (layout_of area) s
+        ≡ counts second (open_table body.now)) (D.state disk.old) }
+    ensures located { IfOk result (IsLocated G.fault_at area (D.state disk.old)) }
+    ensures looks { Looks (D.state disk.old) (D.state disk.new) result }
+{
+    let kept = match load::<G, D>(disk, area, kept, body) {
+        Ok(Loaded::Whole { kept }) => kept,
+        Ok(Loaded::Faulty { at }) => {
+            return Ok(Located::Faulty {
+                slot: number(second),
+                at,
+            });
+        }
+        Err(call) => return Err(call),
+    };
+    let pager = pager_of(area, second, body[0], kept, draft);
+    Ok(Located::Held { pager })
+}
+
+/// The pager of an area whose tables were read, with these gates.
+pub(crate) fn locate<G: Grammar, D: Disk>(
+    disk: &mut D,
+    area: Area,
+    kept: Kept,
+    draft: Draft,
+    first_gate: u8,
+    second_gate: u8,
+    scratch: &Scratch,
+) -> Result<Located, Call>
+    requires within { IsWithin area (D.state disk.old) }
+    requires memory { IsForStore area kept draft }
+    requires scratch { IsScratch area scratch.now }
+    requires read { AreRead area (table_with first_gate scratch.now.first.items)
+        (table_with second_gate scratch.now.second.items) (D.state disk.old) }
+    ensures located { IfOk result (IsLocated G.fault_at area (D.state disk.old)) }
+    ensures looks { Looks (D.state disk.old) (D.state disk.new) result }
+{
+    match judge(first_gate, &scratch.first, second_gate, &scratch.second) {
+        Judged::Alike => Ok(Located::Faulty { slot: 1, at: 1 }),
+        Judged::NoneOpen => {
+            let pager = pager_of(area, true, 0, kept, draft);
+            Ok(Located::Held { pager })
+        }
+        Judged::Newer { second: false } => {
+            locate_newer::<G, D>(disk, area, kept, draft, false, &scratch.first)
+        }
+        Judged::Newer { second: true } => {
+            locate_newer::<G, D>(disk, area, kept, draft, true, &scratch.second)
+        }
+    }
+}

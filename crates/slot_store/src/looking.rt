@@ -1,0 +1,94 @@
+//! Whether an area is at rest for a pager's record, or for none.
+
+ghost use Rattle.std.specs.Prelude.{◌≡◌, ◌+◌, ◌↔◌, ◌&&◌, ◌==◌, ℕ, false, length, get_or, replicate, if◌then◌else◌, IfOk, IsTrue};
+ghost use Rattle.dr_base.specs.declared.limits.TheConstants.{PAGE};
+ghost use Rattle.dr_disk.specs.State.{OnSeen};
+ghost use Rattle.pages.specs.Clearing.{AreBlank};
+ghost use Rattle.pages.specs.Runs.{Looks};
+ghost use Rattle.pages.specs.Tables.{wiped};
+ghost use Rattle.record_pages.specs.Plans.{is_among};
+ghost use Rattle.slot_store.specs.Areas.{layout_of};
+ghost use Rattle.slot_store.specs.Judged.{table_with};
+ghost use Rattle.slot_store.specs.Pager.{IsLaidFor};
+ghost use Rattle.slot_store.specs.Scratch.{IsScratch};
+ghost use Rattle.slot_store.specs.Settling.{AreRead, HasShot};
+ghost use Rattle.slot_store.specs.Store.{IsWithin};
+
+use crate::area::layout;
+use crate::pager::Pager;
+use crate::scratch::Scratch;
+use crate::settling::mark_pages;
+use dr_disk::{Call, Disk};
+use pages::{are_blank, is_blank};
+
+/// Whether a table is zeros that was read with this gate, and with these bytes after it.
+fn is_wiped(gate: u8, body: &[u8]) -> bool
+    requires { length body.now + 1 ≡ PAGE }
+    ensures { IsTrue result ↔ (table_with gate body.now ≡ wiped PAGE) }
+{
+    gate == 0 && is_blank(body)
+}
+
+/// Whether each table is zeros but for a pager's, by whether each is.
+fn others_wiped(pager: &Pager, first: bool, second: bool) -> bool
+    ensures { result ≡ (if pager.now.turn == 0 then first && second
+        else if pager.now.second then first else second) }
+{
+    if pager.turn == 0 {
+        return first && second;
+    }
+    if pager.second { first } else { second }
+}
+
+/// Whether each page is zeros but for those of a pager's record, which are marked.
+fn others_blank<D: Disk>(
+    disk: &mut D,
+    pager: &Pager,
+    named: &mut [bool],
+    page: &mut [u8],
+) -> Result<bool, Call>
+    requires within { IsWithin pager.now.area (D.state disk.old) }
+    requires marks { named.old ≡ replicate pager.now.area.pages false }
+    requires room { length page.old ≡ PAGE }
+    ensures marks { (n : ℕ) → get_or named.new n false
+        ≡ is_among pager.now.kept.numbers.items n }
+    ensures blank { IfOk result (λ blank. OnSeen (λ s. IsTrue blank
+        ↔ AreBlank (layout_of pager.now.area) named.new s) (D.state disk.old)) }
+    ensures looks { Looks (D.state disk.old) (D.state disk.new) result }
+{
+    let _size = disk.size();
+    mark_pages(&pager.kept.numbers, named);
+    match are_blank(disk, layout(pager.area), named, page) {
+        Ok(blank) => Ok(blank),
+        Err(call) => Err(call),
+    }
+}
+
+/// Whether an area is at rest for the pager of what counts in it. Its tables were read, with these
+/// gates.
+pub(crate) fn rests<D: Disk>(
+    disk: &mut D,
+    pager: &Pager,
+    first_gate: u8,
+    second_gate: u8,
+    scratch: &mut Scratch,
+) -> Result<bool, Call>
+    requires within { IsWithin pager.now.area (D.state disk.old) }
+    requires scratch { IsScratch pager.now.area scratch.old }
+    requires shown { OnSeen (HasShot pager.now) (D.state disk.old) }
+    requires read { AreRead pager.now.area (table_with first_gate scratch.old.first.items)
+        (table_with second_gate scratch.old.second.items) (D.state disk.old) }
+    ensures rests { IfOk result (λ rests. OnSeen (λ s. IsTrue rests ↔ IsLaidFor pager.now s)
+        (D.state disk.old)) }
+    ensures looks { Looks (D.state disk.old) (D.state disk.new) result }
+{
+    let first = is_wiped(first_gate, &scratch.first);
+    let second = is_wiped(second_gate, &scratch.second);
+    if !others_wiped(pager, first, second) {
+        return Ok(false);
+    }
+    match others_blank(disk, pager, &mut scratch.named, &mut scratch.page) {
+        Ok(laid) => Ok(laid),
+        Err(call) => Err(call),
+    }
+}
