@@ -146,18 +146,39 @@ def is_name(name):
     return re.fullmatch(rb"[a-z0-9-]{1,40}", name) is not None
 
 
+def turns_of(area):
+    """The turns of both tables; 0 where one isn't open."""
+    return [area[at + 1] if area[at] == 0xA5 and area[at + 1] in (1, 2, 3) else 0 for at in (0, PAGE)]
+
+
+def newer(turns):
+    return 1 if turns[1] and (not turns[0] or turns[1] == turns[0] % 3 + 1) else 0
+
+
+def looked(image, pages, most, record_of):
+    """The lines of `check`."""
+    area = image[: pages * PAGE].ljust(pages * PAGE, b"\0")
+    turns = turns_of(area)
+    gates = "".join(f"slot {slot} open {turn}\n" if turn else f"slot {slot} closed\n" for slot, turn in enumerate(turns))
+    try:
+        record, left = opened(image, 0, pages, most, record_of)
+    except Fault as fault:
+        return gates + "damaged slot {} at {}\nrest no\n".format(*fault.args)
+    size = int.from_bytes(area[newer(turns) * PAGE + 2 :][:4], "big")
+    return gates + (f"record {size}\n" if record else "no record\n") + ("rest yes\n" if left == image else "rest no\n")
+
+
 def opened(image, start, pages, most, record_of):
     """What an opening of the area at a place finds, and the file that it leaves: the record as `record_of` reads it, or
     none, or the fault with its slot and place."""
     area = image[start : start + pages * PAGE].ljust(pages * PAGE, b"\0")
-    tables = [area[:PAGE], area[PAGE : 2 * PAGE]]
-    turns = [table[1] if table[0] == 0xA5 and table[1] in (1, 2, 3) else 0 for table in tables]
+    turns = turns_of(area)
     if turns[0] and turns[0] == turns[1]:
         raise Fault(1, 1)
     if not any(turns):
         return None, tidied(image, start, pages, ())
-    slot = 1 if turns[1] and (not turns[0] or turns[1] == turns[0] % 3 + 1) else 0
-    table = tables[slot]
+    slot = newer(turns)
+    table = area[slot * PAGE : (slot + 1) * PAGE]
     size = int.from_bytes(table[2:6], "big")
     count = -(-size // PAGE)
     if count > most:

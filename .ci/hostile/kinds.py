@@ -1,7 +1,7 @@
 """The kinds of cases. Each changes something, runs the program on it, compares with what is foretold, and answers the status."""
 from hostile.answers import Course, acts, bad_line, frame, frames_of, named, replied, shown
 from hostile.changes import changed, changed_file, changed_script
-from hostile.formats import BOX_AREA, PAGE, STATE_AREA, Box, Side, opened
+from hostile.formats import BOX_AREA, PAGE, STATE_AREA, Box, Side, looked, opened
 from hostile.inputs import KEY, foretold, side_of
 from hostile.runs import expect, expect_talk, serve, sync
 
@@ -50,7 +50,7 @@ def expect_act(status, lines, tidy, left, wanted, side):
 
 
 LOOKS = ("state", "inbox", "outbox")
-COMMANDS = [*LOOKS, *LOOKS, "done 0", "done 2", "sent 1", "say hi", "take", "begin first", "sync 127.0.0.1:1"]
+COMMANDS = [*LOOKS, *LOOKS, "check", "check", "done 0", "done 2", "sent 1", "say hi", "take", "begin first", "sync 127.0.0.1:1"]
 
 
 def try_state(draw, folder, inputs):
@@ -60,6 +60,10 @@ def try_state(draw, folder, inputs):
     given = {"take": packet.hex().encode(), "begin": KEY}.get(words[0], b"")
     side, tidy, damage = foretold(image, 0, STATE_AREA, Side)
     status, lines, left = folder.run(image, *words, given=given)
+    if words[0] == "check":
+        expect("check", (status, lines), (0, looked(image, *STATE_AREA, Side)))
+        expect("a look writes nothing", left == image, True)
+        return status
     if damage:
         wanted = 11, f"damaged {damage}"
     elif not side and words[0] == "begin":
