@@ -13,7 +13,9 @@ enum Outcome {
     Item(u64, u8, u64),
     Bad(u8),
     Other,
-    Fault(AskFault),
+    /// A call on the pipe failed.
+    Pipe,
+    Peer(PeerFault),
     /// There was no memory.
     Nothing,
 }
@@ -38,7 +40,8 @@ fn fetch(alloc: Global, link: &mut MemoryLink) -> Outcome {
     };
     match ask(link, &mut reader, &Request::fetch(name.lent())) {
         Ok(reply) => seen(reply),
-        Err(fault) => Outcome::Fault(fault),
+        Err(AskFault::Pipe) => Outcome::Pipe,
+        Err(AskFault::Peer(fault)) => Outcome::Peer(fault),
     }
 }
 
@@ -66,12 +69,12 @@ fn replies_are_read(rt: HostRuntime) {
 
 /// Whether these bytes have this fault, at this place.
 fn has_fault(alloc: Global, bytes: &[u8], at: usize, kind: PeerKind) -> bool {
-    fetched(alloc, bytes, &[]) == Outcome::Fault(AskFault::Peer(PeerFault { at, kind }))
+    fetched(alloc, bytes, &[]) == Outcome::Peer(PeerFault { at, kind })
 }
 
 /// Whether a link whose call of this number fails is told as that.
 fn fails(alloc: Global, call: u64) -> bool {
-    fetched(alloc, b"\x00\x01\x83", &[call]) == Outcome::Fault(AskFault::Pipe)
+    fetched(alloc, b"\x00\x01\x83", &[call]) == Outcome::Pipe
 }
 
 #[test]
