@@ -102,7 +102,7 @@ fn write_pages(file: &File, first: u16, count: u8, page: &[u8]) -> io::Result<()
 }
 
 /// The writes and syncs with which a record is replaced of which so many pages change.
-fn replace_bare(file: &File, count: u8, page: &[u8], zeros: &[u8]) -> io::Result<()> {
+fn replace_bare(file: &File, count: u8, page: &[u8; PAGE], zeros: &[u8; PAGE]) -> io::Result<()> {
     write_pages(file, 2, count, page)?;
     file.write_all_at(&page[1..], 1)?;
     file.sync_data()?;
@@ -117,8 +117,8 @@ fn replace_bare(file: &File, count: u8, page: &[u8], zeros: &[u8]) -> io::Result
 
 /// The median time of that on a new file, in nanoseconds.
 fn time_bare_on<R: Clock + AllocGlobal>(rt: &R, file: &File, count: u8) -> io::Result<u64> {
-    let page = vec![in rt.alloc(); 1; PAGE]?;
-    let zeros = vec![in rt.alloc(); 0; PAGE]?;
+    let page = [1; PAGE];
+    let zeros = [0; PAGE];
     let mut times = Times::new(rt.alloc());
     for _ in 0..RUNS {
         let start = Instant::now(rt)?;
