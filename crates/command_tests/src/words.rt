@@ -88,62 +88,63 @@ fn words_are_relays(rt: HostRuntime) -> Result<(), Fail> {
     Ok(())
 }
 
+/// Words of no command, a line each.
+const NONE: &str = "\
+-
+--
+--|take
+--help
+-h
+help
+help|say
+--version
+Take
+tak
+take|x
+take|--help
+take|-h
+take|--|--
+begin
+begin|third
+begin|First
+begin|first|first
+say
+say|--
+say|-x
+say|--text=hi
+say|hi|there
+say|hi|--|there
+done
+done|65
+done|-1
+done|--|-1
+done|
+done|+
+done|++5
+done|5 
+done|0x5
+done|18446744073709551680
+sent|33
+sync
+duet|x
+duet-make
+duet-make|0|1
+duet-make|1001|1
+duet-make|1|18446744073709551616
+relay|4000|1
+relay|0|1|a
+relay|65536|1|a
+relay|4000|0|a
+relay|4000|1000001|a
+relay|4000|1|a|-b";
+
 #[test]
 fn other_words_are_none(rt: HostRuntime) -> Result<(), Fail> {
     let alloc = rt.alloc();
-    let lines = [
-        "",
-        "-",
-        "--",
-        "--|take",
-        "--help",
-        "-h",
-        "help",
-        "help|say",
-        "--version",
-        "Take",
-        "tak",
-        "take|x",
-        "take|--help",
-        "take|-h",
-        "take|--|--",
-        "begin",
-        "begin|third",
-        "begin|First",
-        "begin|first|first",
-        "say",
-        "say|--",
-        "say|-x",
-        "say|--text=hi",
-        "say|hi|there",
-        "say|hi|--|there",
-        "done",
-        "done|65",
-        "done|-1",
-        "done|--|-1",
-        "done|",
-        "done|+",
-        "done|++5",
-        "done|5 ",
-        "done|0x5",
-        "done|18446744073709551680",
-        "sent|33",
-        "sync",
-        "duet|x",
-        "duet-make",
-        "duet-make|0|1",
-        "duet-make|1001|1",
-        "duet-make|1|18446744073709551616",
-        "relay|4000|1",
-        "relay|0|1|a",
-        "relay|65536|1|a",
-        "relay|4000|0|a",
-        "relay|4000|1000001|a",
-        "relay|4000|1|a|-b",
-    ];
-    for line in lines {
+    for line in NONE.split('\n') {
         assert!(rt; are(alloc, line, None)?, "{line}");
     }
+    assert!(rt; are(alloc, "", None)?);
     assert!(rt; parse(alloc, &[])? == None);
     Ok(())
 }

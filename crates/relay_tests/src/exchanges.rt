@@ -80,11 +80,21 @@ fn fails(alloc: Global, call: u64) -> bool {
 #[test]
 fn faults_are_told(rt: HostRuntime) {
     let alloc = rt.alloc();
-    assert!(rt; has_fault(alloc, b"", 0, PeerKind::Ended));
-    assert!(rt; has_fault(alloc, b"\x00\x05\x83", 3, PeerKind::Ended));
-    assert!(rt; has_fault(alloc, b"\x00\x00", 0, PeerKind::Frame));
-    assert!(rt; has_fault(alloc, b"\x00\x01\x99", 2, PeerKind::Kind));
-    assert!(rt; has_fault(alloc, b"\x00\x02\x83\x00", 3, PeerKind::Size));
+    // what the link gives, the place of the fault in it, and its kind
+    let rows: [(&[u8], usize, PeerKind); 9] = [
+        (b"", 0, PeerKind::Ended),
+        (b"\x00\x03\x82\x00", 4, PeerKind::Ended),
+        (b"\x00\x05\x83", 3, PeerKind::Ended),
+        (b"\x00\x00", 0, PeerKind::Frame),
+        (b"\xff\xff", 0, PeerKind::Frame),
+        (b"\x00\x01\x55", 2, PeerKind::Kind),
+        (b"\x00\x01\x99", 2, PeerKind::Kind),
+        (b"\x00\x02\x83\x00", 3, PeerKind::Size),
+        (b"\x00\x01\x82", 3, PeerKind::Size),
+    ];
+    for (bytes, at, kind) in rows {
+        assert!(rt; has_fault(alloc, bytes, at, kind));
+    }
     assert!(rt; fails(alloc, 1));
     assert!(rt; fails(alloc, 2));
 }

@@ -6,7 +6,7 @@ use dr_ports::{MemorySink, MemorySource};
 use std::alloc::{AllocError, Global};
 
 /// What the program writes to words, with its status, on this disk and with this text in the source.
-fn answer<D: Disk>(
+pub fn answer<D: Disk>(
     alloc: Global,
     line: &str,
     disk: &mut D,

@@ -5,8 +5,14 @@
 #[cfg(test)]
 mod answers;
 #[cfg(test)]
+mod failing;
+#[cfg(test)]
 mod faults;
 #[cfg(test)]
+mod in_turn;
+#[cfg(test)]
 mod relays;
+#[cfg(test)]
+mod rows;
 #[cfg(test)]
 mod running;

@@ -2,7 +2,7 @@
 
 use dr_base::Key32;
 use dr_disk::{Disk, SteadyDisk};
-use dr_ports::{MemoryDoor, MemoryLink, Sink, Source, SteadyDraws};
+use dr_ports::{Draws, MemoryDoor, MemoryLink, Sink, Source, SteadyDraws};
 use messenger_cli::{DISK_SIZE, RELAY_DISK_SIZE, Status, run, run_arguments};
 use std::alloc::{AllocError, Global};
 use std::env::Args;
@@ -27,6 +27,9 @@ impl Network {
     }
 }
 
+/// Two seeds.
+pub const SEEDS: [Key32; 2] = [Key32 { bytes: [7; 32] }, Key32 { bytes: [8; 32] }];
+
 /// Runs the program on words, between bars, on a disk of the size that it asks for.
 pub fn run_on<D: Disk, S: Source, O: Sink>(
     alloc: Global,
@@ -36,12 +39,24 @@ pub fn run_on<D: Disk, S: Source, O: Sink>(
     source: &mut S,
     out: &mut O,
 ) -> Result<Status, AllocError> {
+    let mut draws = SteadyDraws::new(alloc, &SEEDS)?;
+    run_drawing(alloc, line, disk, network, source, out, &mut draws)
+}
+
+/// The same over these draws.
+pub fn run_drawing<D: Disk, S: Source, O: Sink, W: Draws>(
+    alloc: Global,
+    line: &str,
+    disk: &mut D,
+    network: &mut Network,
+    source: &mut S,
+    out: &mut O,
+    draws: &mut W,
+) -> Result<Status, AllocError> {
     let mut words = Vec::new(alloc);
     for word in line.split('|') {
         words.push(String::from_str(alloc, word)?)?;
     }
-    let seeds = [Key32 { bytes: [7; 32] }, Key32 { bytes: [8; 32] }];
-    let mut draws = SteadyDraws::new(alloc, &seeds)?;
     if disk.size() < DISK_SIZE || network.relay_disk.size() < RELAY_DISK_SIZE {
         return Err(AllocError);
     }
@@ -54,7 +69,7 @@ pub fn run_on<D: Disk, S: Source, O: Sink>(
         out,
         &mut network.link,
         &mut network.door,
-        &mut draws,
+        draws,
     ))
 }
 

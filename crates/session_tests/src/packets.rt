@@ -76,3 +76,28 @@ fn finds_the_first_fault(rt: HostRuntime) {
         assert!(rt; finds(len, place, new, Malformed { at, kind }));
     }
 }
+
+#[test]
+fn finds_where_it_is_cut(rt: HostRuntime) {
+    // from and to which length it is cut, and the place of the field that is cut short
+    let rows = [
+        (0, 0, 0),
+        (1, 16, 1),
+        (17, 20, 17),
+        (21, 24, 21),
+        (25, 28, 25),
+        (29, 30, 29),
+        (31, 32, 31),
+        (33, 34, 33),
+        (35, 66, 35),
+    ];
+    for (from, to, at) in rows {
+        let fault = Malformed {
+            at,
+            kind: Kind::Short,
+        };
+        for len in from..=to {
+            assert!(rt; finds(len, 0, &[1], fault));
+        }
+    }
+}
