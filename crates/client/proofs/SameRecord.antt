@@ -15,7 +15,7 @@ use Rattle.session_model.specs.Clients.{Client}
 use Rattle.session_model.specs.Saying.{SendDraft}
 use Rattle.session_model.specs.States.{State}
 use Rattle.session_record.specs.Lists.{post_of, post_text}
-use Rattle.session_record.specs.Record.{client_of, record_text}
+use Rattle.session_record.specs.Record.{client_of, record_text, saved_text}
 use Rattle.slot_store.specs.Store.{IsOldOrNew, SlotStore}
 use Rattle.slot_store.specs.Stops.{IsStopped, calls_of}
 use Rattle.client.specs.Clients.{client_area}
@@ -37,7 +37,7 @@ same_posts k posts position packet =
 pub same_record : (k : Mechanism) (c : Client) (posts : List Item) (position : Position) (packet : List ℕ)
     → record_text (record c { outbox = posts ++ post_of k packet ∷ [] })
     ≡ record_text (record c { outbox = posts ++ item_at position packet ∷ [] })
-unfolding record_text
+unfolding record_text saved_text
 same_record k c posts position packet = rw (same_posts k posts position packet) refl
 
 -- of a text that was said, under the position that its draft has

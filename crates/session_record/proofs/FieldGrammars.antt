@@ -18,8 +18,10 @@ use Rattle.grammar.proofs.Fields.{number_grammar, piece_grammar}
 use Rattle.dr_base.proofs.Widths.{exact8, exact32}
 use Rattle.grammar.proofs.Choices.{maybe_grammar, either_grammar}
 use Rattle.grammar.proofs.Combined.{both_grammar, checked_grammar, mapped_grammar}
-use Rattle.session_record.specs.Fields.{up_to, is_version, is_side, side_at, code_of, side_field, epoch_field, is_secret, count_field, own_of, of_own, own_fields, own_text, phase_of, of_phase, phase_field, phase_text, is_previous, previous_field, has_receiving, reception_of, of_reception, reception_fields, receiving_field, reception_text}
+use Rattle.session_record.specs.Fields.{up_to, version_field, is_side, side_at, code_of, side_field, epoch_field, is_secret, count_field, own_of, of_own, own_fields, own_text, phase_of, of_phase, phase_field, phase_text, is_previous, previous_field, has_receiving, reception_of, of_reception, reception_fields, receiving_field, reception_text}
+use Rattle.session_record.specs.Versions.{is_version, version_at, version_code}
 use Rattle.session_record.proofs.Passing.{PassesOwn, PassesPhase, PassesReception}
+use Rattle.session_record.proofs.VersionLimits.{code_fits, code_is_version, version_lawful, version_of_code}
 
 -- a number that passes a test which only numbers of its width pass
 pub small_number : (test : ℕ → Bool) → ((n : ℕ) → test n ≡ true → n < 2 ^ 32) → IsGrammar (to_be_bytes w32) (λ n. test n ≡ true) (checked test (number w32))
@@ -32,8 +34,11 @@ small_number test fits =
           record { text = one.text; lawful = one.lawful.1; behind = one.behind; rest_bytes = one.rest_bytes };
     }
 
-pub version_grammar : IsGrammar (to_be_bytes w8) (λ n. (n < 2 ^ 8) × (is_version n ≡ true)) (checked is_version (number w8))
-version_grammar = checked_grammar _ _ _ (number_grammar w8 (2 ^ 8) exact8) is_version
+pub version_grammar : IsGrammar (λ version. to_be_bytes w8 (version_code version)) (λ version. Unit {0}) version_field
+unfolding version_field
+version_grammar =
+    mapped_grammar (to_be_bytes w8) _ _ (checked_grammar _ _ _ (number_grammar w8 (2 ^ 8) exact8) is_version) (λ version. Unit {0}) version_at version_code
+    (λ n lawful. (tt, version_lawful n lawful.1)) (λ version lawful. ((code_fits version, code_is_version version), version_of_code version))
 
 side_lawful : (n : ℕ) → is_side n ≡ true → code_of (side_at n) ≡ n
 side_lawful n lawful = grind (arith, nat_tests)

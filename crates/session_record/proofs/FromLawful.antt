@@ -1,133 +1,26 @@
 -- A lawful client passes the tests.
-use Rattle.std.proofs.Common.{◌≡◌, ℕ, zero, suc, ◌+◌, ◌-◌, ◌^◌, ◌<◌, ◌≤◌, ◌==◌, Bool, true, false, List, [], length, take, get_or, Option, Some, None, refl, sym, ◌∙◌, ap, subst, arith, if◌then◌else◌}
-use Rattle.std.specs.Prelude.{not, nat_le, nat_lt, ◌&&◌, ◌||◌, All}
+use Rattle.std.proofs.Common.{◌≡◌, ℕ, ◌≤◌, ◌==◌, Bool, true, false, List, [], length, take, get_or, refl, sym, ◌∙◌, ap, arith, if◌then◌else◌}
+use Rattle.std.specs.Prelude.{nat_le, ◌&&◌, ◌||◌}
 use Rattle.std.proofs.lemmas.Bool.{le-leb, and_from, not_from_false}
 use Rattle.std.proofs.lemmas.Bool.Decides.{nat_tests}
-use Rattle.std.proofs.lemmas.List.{take_more}
 use Rattle.std.proofs.lemmas.Slice.Eq.{bytes_eq-Decides}
-use Rattle.dr_base.specs.declared.key.Kept.{Kept}
-use Rattle.dr_base.specs.declared.position.Position.{Position}
 use Rattle.dr_base.specs.declared.position.Side.{Side}
-use Rattle.dr_base.specs.declared.position.Side.TheVariants.{First, Second}
-use Rattle.fs_aead.specs.Table.{AllBefore, IsAscending}
 use Rattle.boxes.specs.Items.{Item, item_at}
 use Rattle.kem_laws.specs.Mechanism.{IsLawful}
-use Rattle.session_model.specs.Clients.{Client}
 use Rattle.dr_base.specs.Position.{is_own, position_at}
-use Rattle.session_model.specs.LawfulStates.{IsLawfulKept, IsLawfulPhase, IsLawfulPrevious, IsLawfulReception}
-use Rattle.session_model.specs.States.{Phase, in_own, in_peers, Reception, State}
-use Rattle.dr_base.specs.declared.limits.TheConstants.{INBOX_LIMIT, INDEX_LIMIT, KEPT_LIMIT, LAST_EPOCH, OUTBOX_LIMIT, TEXT_LIMIT}
+use Rattle.session_model.specs.LawfulStates.{IsLawfulPhase, IsLawfulPrevious}
+use Rattle.session_model.specs.States.{Phase, in_own, in_peers, State}
+use Rattle.dr_base.specs.declared.limits.TheConstants.{INDEX_LIMIT, LAST_EPOCH}
 use Rattle.kem_laws.specs.Mechanism.{Mechanism}
-use Rattle.grammar.specs.Printer.{AreItems, IsMaybe}
 use Rattle.grammar.proofs.Lists.{items-from}
 use Rattle.session_record.specs.Fields.{is_good, is_previous, up_to}
-use Rattle.session_record.specs.Lists.{is_post, is_posted, last_position, most_kept, place_of, post_of, reach_of}
-use Rattle.session_record.proofs.Passing.{Passes, PassesEntry, PassesKept, PassesPhase, PassesPost, PassesReception}
-use Rattle.session_record.specs.Lawful.{IsLawfulClient, IsLawfulEntry, IsLawfulPost}
-use Rattle.session_record.proofs.Lasts.{last_of-push}
-
--- ---- tests that pass
-
--- ---- the last key of those before a place
-
-last_before : (list : List Kept) (i : ℕ) (d : Kept) → i < length list → 1 ≤ (get_or list i d).position.index → IsAscending list
-    → ((last_position (take i list)).epoch ≤ (get_or list i d).position.epoch)
-    × ((last_position (take i list)).epoch ≡ (get_or list i d).position.epoch → (last_position (take i list)).index < (get_or list i d).position.index)
-last_before list zero d inside one up = (omega arith, λ _. omega arith)
-last_before list (suc i) d inside one up =
-    let below : i < length list = omega arith in
-    let next : suc i ≡ i + 1 = omega arith in
-    let last : last_position (take (suc i) list) ≡ (get_or list i d).position =
-    ap (λ n. last_position (take n list)) next ∙ ap (λ l. last_position l) (take_more list i d below) ∙ last_of-push (position_at 0 0) (take i list) (get_or list i d) in
-    subst (λ (p : Position). (p.epoch ≤ (get_or list (suc i) d).position.epoch) × (p.epoch ≡ (get_or list (suc i) d).position.epoch → p.index < (get_or list (suc i) d).position.index)) (sym last)
-    (up i (suc i) d (omega arith) inside)
-
--- ---- kept keys
-
-parities : (side : Side) (t u : ℕ) → is_own side t ≡ false → is_own side u ≡ false → t < u → t + 1 < u
-parities First t u a b small = grind (arith, nat_tests)
-parities Second t u a b small = grind (arith, nat_tests)
-
-own_before : (side : Side) (epoch : ℕ) → is_own side (suc epoch) ≡ true → is_own side epoch ≡ false
-own_before First epoch own = grind (arith, nat_tests)
-own_before Second epoch own = grind (arith, nat_tests)
-
-within_latest : (epoch t n reach latest : ℕ) → n ≤ INDEX_LIMIT → epoch ≤ latest + 1
-    → (t ≡ latest → n < reach + 1) → (t < latest → t + 1 < latest) → t ≤ latest → latest ≤ epoch
-    → nat_le n (most_kept epoch reach t) ≡ true
-within_latest epoch t n reach latest few near below apart most inside = grind (arith, nat_tests)
-
--- the keys that a table may hold, each of 32 bytes
-record AreKeys (side : Side) (list : List Kept) : Type 0 where
-  each : All (IsLawfulKept side) list
-  long : All (λ kept. length kept.key.bytes ≡ 32) list
-  up : IsAscending list
-
-kept_passes : (side : Side) (epoch reach latest : ℕ) (list : List Kept) → AreKeys side list
-    → is_own side latest ≡ false → epoch ≤ latest + 1 → latest ≤ epoch → epoch ≤ LAST_EPOCH
-    → AllBefore list (record { epoch = latest; index = reach + 1 })
-    → (i : ℕ) (d : Kept) → i < length list → PassesKept side epoch reach (take i list) (get_or list i d)
-kept_passes side epoch reach latest list keys peers near within fits all i d inside =
-    let kept = get_or list i d in
-    let one = keys.each i d inside in
-    let last = last_before list i d inside one.one keys.up in
-    let below = all i d inside in
-    let t = kept.position.epoch in
-    let n = kept.position.index in
-    let l = last_position (take i list) in
-    let above : (nat_lt (last_position (take i list)).epoch (get_or list i d).position.epoch || nat_lt (last_position (take i list)).index (get_or list i d).position.index) ≡ true =
-    above_last l.epoch l.index t n last.0 last.1 in
-    let index = within_latest epoch t n reach latest one.most near below.1 (parities side t latest one.peers peers) below.0 within in
-    record {
-      epoch_is = and_from _ _ (and_from _ _ (not_from_false _ one.peers) (le-leb _ _ (omega (arith, below.0)))) (le-leb _ _ last.0);
-      epoch_fits = omega (arith, below.0);
-      index_is = and_from _ _ (le-leb 1 n one.one) (and_from _ _ index above);
-      index_fits = omega (arith, one.most);
-      key_long = keys.long i d inside;
-    }
-  where
-    above_last : (e x t n : ℕ) → e ≤ t → (e ≡ t → x < n) → (nat_lt e t || nat_lt x n) ≡ true
-    above_last e x t n most later = grind (arith, nat_tests)
-
-no_key : Kept
-no_key = record { position = position_at 0 0; key = record { bytes = [] } }
-
-record IsReceived (side : Side) (epoch : ℕ) (own : Bool) (receiving : Option Reception) (kept : List Kept) : Type 0 where
-  there : IsMaybe (not own || nat_lt 0 epoch) PassesReception receiving
-  keys : AreItems (PassesKept side epoch (reach_of receiving)) (length kept) kept
-
-part_of : (r : Reception) → length r.chain ≡ 32 → r.reach ≤ INDEX_LIMIT → PassesReception r
-part_of r long few = record { chain_long = long; few = le-leb r.reach INDEX_LIMIT few }
-
-received : (side : Side) (epoch : ℕ) (own : Bool) → is_own side epoch ≡ own → epoch ≤ LAST_EPOCH
-    → (receiving : Option Reception) (kept : List Kept) → AreKeys side kept
-    → IsLawfulReception kept receiving (if own then (if epoch == 0 then None else Some (epoch - 1)) else Some epoch) → IsReceived side epoch own receiving kept
-received side zero true is fits None kept keys lawful = record {
-  there = refl;
-  keys = items-from (PassesKept side 0 0) kept no_key (λ i d inside. absurd (let none = ap (λ (l : List Kept). length l) lawful in omega arith));
-}
-received side zero true is fits (Some r) kept keys lawful = absurd lawful
-received side (suc epoch) true is fits receiving kept keys lawful =
-    let positive : (suc epoch == 0) ≡ false = grind (arith, nat_tests) in
-    let before : suc epoch - 1 ≡ epoch = omega arith in
-    behind receiving
-    (subst (λ (m : ℕ). IsLawfulReception kept receiving (Some m)) before (subst (λ (b : Bool). IsLawfulReception kept receiving (if b then None else Some (suc epoch - 1))) positive lawful))
-  where
-    behind : (o : Option Reception) → IsLawfulReception kept o (Some epoch) → IsReceived side (suc epoch) true o kept
-    behind None lawful = absurd lawful
-    behind (Some r) lawful = record {
-      there = (some, part_of r lawful.0 lawful.1);
-      keys = items-from (PassesKept side (suc epoch) r.reach) kept no_key
-          (kept_passes side (suc epoch) r.reach epoch kept keys (own_before side epoch is) (omega arith) (omega arith) fits lawful.2);
-    }
-      where
-        some : nat_lt 0 (suc epoch) ≡ true
-        some = grind (arith, nat_tests)
-received side epoch false is fits None kept keys lawful = absurd lawful
-received side epoch false is fits (Some r) kept keys lawful = record {
-  there = (refl, part_of r lawful.0 lawful.1);
-  keys = items-from (PassesKept side epoch r.reach) kept no_key (kept_passes side epoch r.reach epoch kept keys is (omega arith) (omega arith) fits lawful.2);
-}
+use Rattle.session_record.specs.Lists.{is_post, is_posted, place_of, post_of}
+use Rattle.session_record.proofs.Passing.{Passes, PassesEntry, PassesPhase, PassesPost}
+use Rattle.session_record.specs.Lawful.{IsLawfulEntry, IsLawfulPost, IsLawfulSaved}
+use Rattle.session_record.specs.Record.{Saved}
+use Rattle.session_record.specs.Versions.{inbox_most, kept_most, outbox_most, text_most}
+use Rattle.session_record.specs.declared.versions.Version.{Version}
+use Rattle.session_record.proofs.KeptFromLawful.{AreKeys, received}
 
 -- ---- the fields before
 
@@ -167,13 +60,13 @@ epoch_part epoch fits = grind (arith, nat_tests)
 
 -- ---- the boxes
 
-entry_passes : (s : State) (before : List Item) (item : Item) → s.epoch ≤ LAST_EPOCH
-    → IsLawfulEntry s item → PassesEntry s.side s.epoch before item
-entry_passes s before item fits l = record {
+entry_passes : (version : Version) (s : State) (before : List Item) (item : Item) → s.epoch ≤ LAST_EPOCH
+    → length item.bytes ≤ text_most version → IsLawfulEntry s item → PassesEntry version s.side s.epoch before item
+entry_passes version s before item fits short l = record {
   epoch_is = and_from _ _ (not_from_false _ l.peers) (le-leb _ _ l.reached);
   epoch_fits = omega (arith, l.reached);
   index_is = and_from _ _ (le-leb 1 item.position.index l.from_one) (le-leb item.position.index INDEX_LIMIT l.most);
-  short = le-leb (length item.bytes) TEXT_LIMIT l.short;
+  short = le-leb (length item.bytes) (text_most version) short;
 }
 
 post_passes : (k : Mechanism) (s : State) (before : List Item) (item : Item) → IsLawfulPost k s item → PassesPost k s.session s.side s.epoch before item
@@ -189,22 +82,32 @@ post_passes k s before item l =
 no_item : Item
 no_item = record { position = position_at 0 0; bytes = [] }
 
-pub passes : (k : Mechanism) (c : Client) → IsLawfulClient k c → Passes k c
-passes k c l =
-    let s = l.state in
-    let keys : AreKeys c.state.side c.state.kept = record { each = s.each; long = l.keys_long; up = s.kept } in
+pub passes : (k : Mechanism) (saved : Saved) → IsLawfulSaved k saved → Passes k saved
+passes k saved l =
+    let version = saved.version in
+    let c = saved.client in
+    let s = l.client.state in
+    let keys : AreKeys c.state.side c.state.kept = record { each = s.each; long = l.client.keys_long; up = s.kept } in
     let got = received c.state.side c.state.epoch (is_own c.state.side c.state.epoch) refl s.epoch_fits c.state.receiving c.state.kept keys s.receiving in
     record {
-      session_long = s.session_long;
-      root_long = s.root_long;
-      epoch_fits = epoch_part c.state.epoch s.epoch_fits;
-      phase = phase_part k c.state.side c.state.epoch c.state.phase s.phase;
-      previous = previous_part k c.state.side c.state.epoch c.state.previous c.state.phase s.phase s.previous;
-      receiving = got.there;
-      few_kept = le-leb (length c.state.kept) KEPT_LIMIT s.few;
-      kept = got.keys;
-      few_entries = le-leb (length c.inbox) INBOX_LIMIT l.few_entries;
-      inbox = items-from (PassesEntry c.state.side c.state.epoch) c.inbox no_item (λ i d inside. entry_passes c.state (take i c.inbox) (get_or c.inbox i d) s.epoch_fits (l.inbox i d inside));
-      few_posts = le-leb (length c.outbox) OUTBOX_LIMIT l.few_posts;
-      outbox = items-from (PassesPost k c.state.session c.state.side c.state.epoch) c.outbox no_item (λ i d inside. post_passes k c.state (take i c.outbox) (get_or c.outbox i d) (l.outbox i d inside));
+      heading = record {
+        session_long = s.session_long;
+        root_long = s.root_long;
+        epoch_fits = epoch_part c.state.epoch s.epoch_fits;
+      };
+      keys = record {
+        phase = phase_part k c.state.side c.state.epoch c.state.phase s.phase;
+        previous = previous_part k c.state.side c.state.epoch c.state.previous c.state.phase s.phase s.previous;
+        receiving = got.there;
+        few_kept = le-leb (length c.state.kept) (kept_most version) l.fits.few_kept;
+        kept = got.keys;
+      };
+      boxes = record {
+        few_entries = le-leb (length c.inbox) (inbox_most version) l.fits.few_entries;
+        inbox = items-from (PassesEntry version c.state.side c.state.epoch) c.inbox no_item (λ i d inside.
+            entry_passes version c.state (take i c.inbox) (get_or c.inbox i d) s.epoch_fits (l.fits.short_texts i d inside) (l.client.inbox i d inside));
+        few_posts = le-leb (length c.outbox) (outbox_most version) l.fits.few_posts;
+        outbox = items-from (PassesPost k c.state.session c.state.side c.state.epoch) c.outbox no_item (λ i d inside.
+            post_passes k c.state (take i c.outbox) (get_or c.outbox i d) (l.client.outbox i d inside));
+      };
     }

@@ -1,10 +1,15 @@
+mod VersionLimits
 mod Passing
 mod FieldGrammars
 mod ListGrammars
+mod GroupGrammars
 mod RecordGrammar
 mod Lasts
+mod KeptFromLawful
 mod FromLawful
+mod KeptToLawful
 mod ToLawful
 mod RecordLaw
+mod Reading
 mod Places
 mod Sizes

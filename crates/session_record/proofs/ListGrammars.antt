@@ -1,12 +1,12 @@
 -- The grammars of the lists.
 use Rattle.std.proofs.Common.{◌≡◌, ℕ, ◌^◌, ◌<◌, true, List, length, refl, arith}
 use Rattle.std.specs.Int.{w8, w16, w32}
+use Rattle.std.proofs.lemmas.Bool.{leb-true}
 use Rattle.std.proofs.lemmas.Bool.Decides.{nat_tests}
 use Rattle.dr_base.specs.declared.key.Kept.{Kept}
 use Rattle.dr_base.specs.declared.position.Side.{Side}
 use Rattle.boxes.specs.Items.{Item}
 use Rattle.kem_laws.specs.Mechanism.{Mechanism}
-use Rattle.dr_base.specs.declared.limits.TheConstants.{INBOX_LIMIT, KEPT_LIMIT, OUTBOX_LIMIT, TEXT_LIMIT}
 use Rattle.grammar.specs.Grammar.{IsGrammar}
 use Rattle.grammar.specs.Printer.{print_counted, AreItems}
 use Rattle.grammar.proofs.Fields.{number_grammar, piece_grammar}
@@ -17,7 +17,10 @@ use Rattle.session_record.specs.Fields.{up_to}
 use Rattle.session_record.specs.Lists.{is_kept_epoch, is_kept_index, last_position, kept_of, of_kept, kept_behind, kept_item, kept_text, kept_field, is_peers, any, entry_of, of_entry, entry_field, entry_text, inbox_field, is_post, post_of, any_length, post_field, post_text, outbox_field}
 use Rattle.packet.specs.Reading.{is_index}
 use Rattle.session_record.proofs.Passing.{PassesKept, PassesEntry, PassesPost}
+use Rattle.session_record.specs.Versions.{inbox_most, kept_most, outbox_most, text_most}
+use Rattle.session_record.specs.declared.versions.Version.{Version}
 use Rattle.session_record.proofs.FieldGrammars.{small_number}
+use Rattle.session_record.proofs.VersionLimits.{text-limit}
 
 kept_grammar : (side : Side) (epoch reach : ℕ) (before : List Kept) → IsGrammar kept_text (PassesKept side epoch reach before) (kept_item side epoch reach before)
 unfolding kept_behind
@@ -30,29 +33,36 @@ kept_grammar side epoch reach before =
     (λ e l. (record { epoch_is = l.0.1; epoch_fits = l.0.0; index_is = l.1.0.1; index_fits = l.1.0.0; key_long = l.1.1 }, refl))
     (λ kept l. (((l.epoch_fits, l.epoch_is), ((l.index_fits, l.index_is), l.key_long)), refl))
 
-pub kept_list : (side : Side) (epoch reach : ℕ) → IsGrammar (print_counted w16 kept_text)
-    (λ list. ((length list < 2 ^ 16) × (up_to KEPT_LIMIT (length list) ≡ true)) × AreItems (PassesKept side epoch reach) (length list) list) (kept_field side epoch reach)
+pub kept_list : (version : Version) (side : Side) (epoch reach : ℕ) → IsGrammar (print_counted w16 kept_text)
+    (λ list. ((length list < 2 ^ 16) × (up_to (kept_most version) (length list) ≡ true)) × AreItems (PassesKept side epoch reach) (length list) list)
+    (kept_field version side epoch reach)
 unfolding kept_field
-kept_list side epoch reach = counted_grammar kept_text (PassesKept side epoch reach) (kept_item side epoch reach) (kept_grammar side epoch reach) w16 (2 ^ 16) exact16 (up_to KEPT_LIMIT)
+kept_list version side epoch reach =
+    counted_grammar kept_text (PassesKept side epoch reach) (kept_item side epoch reach) (kept_grammar side epoch reach) w16 (2 ^ 16) exact16
+    (up_to (kept_most version))
 
-entry_grammar : (side : Side) (epoch : ℕ) (before : List Item) → IsGrammar entry_text (PassesEntry side epoch before) (entry_field side epoch)
+entry_grammar : (version : Version) (side : Side) (epoch : ℕ) (before : List Item)
+    → IsGrammar entry_text (PassesEntry version side epoch before) (entry_field version side epoch)
 unfolding entry_field
-entry_grammar side epoch before =
+entry_grammar version side epoch before =
     mapped_grammar _ _ _
     (both_grammar _ _ _ _ _ _ (checked_grammar _ _ _ (number_grammar w32 (2 ^ 32) exact32) (is_peers side epoch)) (λ _ _.
     both_grammar _ _ _ _ _ _ (small_number is_index (λ n passes. grind (arith, nat_tests))) (λ _ _.
-    sized_grammar w16 (2 ^ 16) exact16 (up_to TEXT_LIMIT) any)))
-    (PassesEntry side epoch before) entry_of of_entry
+    sized_grammar w16 (2 ^ 16) exact16 (up_to (text_most version)) any)))
+    (PassesEntry version side epoch before) entry_of of_entry
     (λ e l. (record { epoch_is = l.0.1; epoch_fits = l.0.0; index_is = l.1.0; short = l.1.1.0.1 }, refl))
     (λ item l. (((l.epoch_fits, l.epoch_is), (l.index_is, ((below _ l.short, l.short), refl))), refl))
   where
-    below : (n : ℕ) → up_to TEXT_LIMIT n ≡ true → n < 2 ^ 16
-    below n passes = grind (arith, nat_tests)
+    below : (n : ℕ) → up_to (text_most version) n ≡ true → n < 2 ^ 16
+    below n passes = omega (arith, leb-true n (text_most version) passes, text-limit version)
 
-pub inbox_list : (side : Side) (epoch : ℕ) → IsGrammar (print_counted w8 entry_text)
-    (λ list. ((length list < 2 ^ 8) × (up_to INBOX_LIMIT (length list) ≡ true)) × AreItems (PassesEntry side epoch) (length list) list) (inbox_field side epoch)
+pub inbox_list : (version : Version) (side : Side) (epoch : ℕ) → IsGrammar (print_counted w8 entry_text)
+    (λ list. ((length list < 2 ^ 8) × (up_to (inbox_most version) (length list) ≡ true)) × AreItems (PassesEntry version side epoch) (length list) list)
+    (inbox_field version side epoch)
 unfolding inbox_field
-inbox_list side epoch = counted_grammar entry_text (PassesEntry side epoch) (λ _. entry_field side epoch) (entry_grammar side epoch) w8 (2 ^ 8) exact8 (up_to INBOX_LIMIT)
+inbox_list version side epoch =
+    counted_grammar entry_text (PassesEntry version side epoch) (λ _. entry_field version side epoch) (entry_grammar version side epoch) w8 (2 ^ 8) exact8
+    (up_to (inbox_most version))
 
 post_grammar : (k : Mechanism) (session : List ℕ) (side : Side) (epoch : ℕ) (before : List Item)
     → IsGrammar post_text (PassesPost k session side epoch before) (post_field k session side epoch)
@@ -63,8 +73,10 @@ post_grammar k session side epoch before =
     (λ e l. (record { post = l.1; fits = l.0.0; own_place = refl }, refl))
     (λ item l. (((l.fits, refl), l.post), l.own_place))
 
-pub outbox_list : (k : Mechanism) (session : List ℕ) (side : Side) (epoch : ℕ) → IsGrammar (print_counted w8 post_text)
-    (λ list. ((length list < 2 ^ 8) × (up_to OUTBOX_LIMIT (length list) ≡ true)) × AreItems (PassesPost k session side epoch) (length list) list) (outbox_field k session side epoch)
+pub outbox_list : (k : Mechanism) (version : Version) (session : List ℕ) (side : Side) (epoch : ℕ) → IsGrammar (print_counted w8 post_text)
+    (λ list. ((length list < 2 ^ 8) × (up_to (outbox_most version) (length list) ≡ true)) × AreItems (PassesPost k session side epoch) (length list) list)
+    (outbox_field k version session side epoch)
 unfolding outbox_field
-outbox_list k session side epoch =
-    counted_grammar post_text (PassesPost k session side epoch) (λ _. post_field k session side epoch) (post_grammar k session side epoch) w8 (2 ^ 8) exact8 (up_to OUTBOX_LIMIT)
+outbox_list k version session side epoch =
+    counted_grammar post_text (PassesPost k session side epoch) (λ _. post_field k session side epoch) (post_grammar k session side epoch) w8 (2 ^ 8) exact8
+    (up_to (outbox_most version))

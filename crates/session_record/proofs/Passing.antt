@@ -4,16 +4,20 @@ use Rattle.boxes.specs.Items.{Item}
 use Rattle.cka.specs.Agreement.{agreement_size}
 use Rattle.dr_base.specs.Position.{is_own}
 use Rattle.dr_base.specs.declared.key.Kept.{Kept}
-use Rattle.dr_base.specs.declared.limits.TheConstants.{INBOX_LIMIT, INDEX_LIMIT, KEPT_LIMIT, LAST_EPOCH, OUTBOX_LIMIT, TEXT_LIMIT}
+use Rattle.dr_base.specs.declared.limits.TheConstants.{INDEX_LIMIT, LAST_EPOCH}
 use Rattle.dr_base.specs.declared.position.Side.{Side}
 use Rattle.grammar.specs.Printer.{AreItems, IsEither, IsMaybe}
 use Rattle.kem_laws.specs.Mechanism.{Mechanism}
 use Rattle.packet.specs.Packet.{agreement_len}
-use Rattle.session_model.specs.Clients.{Client}
 use Rattle.session_model.specs.States.{Own, Phase, Reception}
 use Rattle.session_record.specs.Fields.{has_receiving, is_previous, is_secret, of_phase, up_to}
 use Rattle.session_record.specs.Lists.{is_kept_epoch, is_kept_index, is_peers, is_post, last_position, post_of, reach_of}
 use Rattle.packet.specs.Reading.{is_index}
+use Rattle.session_record.specs.Groups.{Boxes, Keys}
+use Rattle.session_record.specs.Record.{Saved, boxes_in, heading_in, keys_in}
+use Rattle.session_record.specs.Versions.{inbox_most, kept_most, outbox_most, text_most}
+use Rattle.session_record.specs.declared.groups.Heading.{Heading}
+use Rattle.session_record.specs.declared.versions.Version.{Version}
 
 pub record PassesOwn (k : Mechanism) (epoch : ℕ) (own : Own) : Type 0 where
   pub secret_long : length own.secret ≡ k.secret
@@ -36,27 +40,38 @@ pub record PassesKept (side : Side) (epoch reach : ℕ) (before : List Kept) (ke
   pub index_fits : kept.position.index < 2 ^ 32
   pub key_long : length kept.key.bytes ≡ 32
 
-pub record PassesEntry (side : Side) (epoch : ℕ) (before : List Item) (item : Item) : Type 0 where
+pub record PassesEntry (version : Version) (side : Side) (epoch : ℕ) (before : List Item) (item : Item) : Type 0 where
   pub epoch_is : is_peers side epoch item.position.epoch ≡ true
   pub epoch_fits : item.position.epoch < 2 ^ 32
   pub index_is : is_index item.position.index ≡ true
-  pub short : up_to TEXT_LIMIT (length item.bytes) ≡ true
+  pub short : up_to (text_most version) (length item.bytes) ≡ true
 
 pub record PassesPost (k : Mechanism) (session : List ℕ) (side : Side) (epoch : ℕ) (before : List Item) (item : Item) : Type 0 where
   pub post : is_post k session side epoch item.bytes ≡ true
   pub fits : length item.bytes < 2 ^ 16
   pub own_place : post_of k item.bytes ≡ item
 
-pub record Passes (k : Mechanism) (c : Client) : Type 0 where
-  pub session_long : length c.state.session ≡ 16
-  pub root_long : length c.state.root ≡ 32
-  pub epoch_fits : up_to LAST_EPOCH c.state.epoch ≡ true
-  pub phase : PassesPhase k c.state.side c.state.epoch c.state.phase
-  pub previous : is_previous c.state.side c.state.epoch c.state.previous ≡ true
-  pub receiving : IsMaybe (has_receiving c.state.side c.state.epoch) PassesReception c.state.receiving
-  pub few_kept : up_to KEPT_LIMIT (length c.state.kept) ≡ true
-  pub kept : AreItems (PassesKept c.state.side c.state.epoch (reach_of c.state.receiving)) (length c.state.kept) c.state.kept
-  pub few_entries : up_to INBOX_LIMIT (length c.inbox) ≡ true
-  pub inbox : AreItems (PassesEntry c.state.side c.state.epoch) (length c.inbox) c.inbox
-  pub few_posts : up_to OUTBOX_LIMIT (length c.outbox) ≡ true
-  pub outbox : AreItems (PassesPost k c.state.session c.state.side c.state.epoch) (length c.outbox) c.outbox
+-- ---- the groups
+
+pub record PassesHeading (h : Heading) : Type 0 where
+  pub session_long : length h.session ≡ 16
+  pub root_long : length h.root.bytes ≡ 32
+  pub epoch_fits : up_to LAST_EPOCH h.epoch ≡ true
+
+pub record PassesKeys (k : Mechanism) (h : Heading) (keys : Keys) : Type 0 where
+  pub phase : PassesPhase k h.side h.epoch keys.phase
+  pub previous : is_previous h.side h.epoch keys.previous ≡ true
+  pub receiving : IsMaybe (has_receiving h.side h.epoch) PassesReception keys.receiving
+  pub few_kept : up_to (kept_most h.version) (length keys.kept) ≡ true
+  pub kept : AreItems (PassesKept h.side h.epoch (reach_of keys.receiving)) (length keys.kept) keys.kept
+
+pub record PassesBoxes (k : Mechanism) (h : Heading) (boxes : Boxes) : Type 0 where
+  pub few_entries : up_to (inbox_most h.version) (length boxes.inbox) ≡ true
+  pub inbox : AreItems (PassesEntry h.version h.side h.epoch) (length boxes.inbox) boxes.inbox
+  pub few_posts : up_to (outbox_most h.version) (length boxes.outbox) ≡ true
+  pub outbox : AreItems (PassesPost k h.session h.side h.epoch) (length boxes.outbox) boxes.outbox
+
+pub record Passes (k : Mechanism) (s : Saved) : Type 0 where
+  pub heading : PassesHeading (heading_in s.version s.client.state)
+  pub keys : PassesKeys k (heading_in s.version s.client.state) (keys_in s.client.state)
+  pub boxes : PassesBoxes k (heading_in s.version s.client.state) (boxes_in s.client)

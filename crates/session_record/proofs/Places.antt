@@ -16,16 +16,21 @@ use Rattle.packet.specs.Reading.{read_packet, is_index}
 use Rattle.packet.specs.declared.fault.Malformed.{Malformed}
 use Rattle.packet.proofs.Lengths.{length-packet_of}
 use Rattle.packet.proofs.Read.{read_was_printed}
-use Rattle.session_record.specs.declared.limits.TheConstants.{ENTRIES_LIMIT, ENTRY_LIMIT, KEPT_SIZE, KEYS_LIMIT, PHASE_LIMIT, POSTS_LIMIT, POST_LIMIT, RECORD_LIMIT, STREAM_SIZE}
-use Rattle.session_record.specs.Fields.{count_field, epoch_field, is_secret, own_fields, phase_field, previous_field, receiving_field, reception_fields, side_field, up_to, own_of, phase_of, reception_of, is_version, is_side, side_at, is_previous, has_receiving}
+use Rattle.session_record.specs.declared.limits.TheConstants.{COUNT_SIZE, ENTRIES_LIMIT, ENTRY_LIMIT, HEADING_SIZE, KEPT_SIZE, KEYS_LIMIT, PHASE_LIMIT, POSTS_LIMIT, POST_LIMIT, RECORD_LIMIT, STREAM_SIZE}
+use Rattle.session_record.specs.Fields.{count_field, epoch_field, is_secret, own_fields, phase_field, previous_field, receiving_field, reception_fields, side_field, up_to, own_of, phase_of, reception_of, version_field, is_side, side_at, is_previous, has_receiving}
 use Rattle.session_record.specs.Lists.{any, any_length, entry_field, entry_of, inbox_field, is_kept_epoch, is_kept_index, is_peers, is_post, is_posted, kept_behind, kept_field, kept_item, kept_of, last_position, outbox_field, post_field, post_of, reach_of}
-use Rattle.session_record.specs.Record.{client_of_parts, record_fields, record_read}
+use Rattle.session_record.specs.Groups.{boxes_fields, boxes_of, heading_fields, heading_of, keys_fields, keys_of}
+use Rattle.session_record.specs.Versions.{inbox_most, is_version, kept_most, outbox_most, text_most, version_at}
+use Rattle.session_record.specs.declared.groups.Heading.{Heading}
+use Rattle.session_record.specs.declared.versions.Version.{Version}
+use Rattle.session_record.proofs.VersionLimits.{inbox-limit, kept-limit, outbox-limit, text-limit}
+use Rattle.session_record.specs.Record.{record_fields, saved_of, saved_read}
 
 -- ---- the fields before the lists
 
-within-count : IsWithin 4 count_field
+within-count : IsWithin COUNT_SIZE count_field
 unfolding count_field
-within-count = within-checked 4 (up_to INDEX_LIMIT) (number w32) (within-number w32)
+within-count = within-checked COUNT_SIZE (up_to INDEX_LIMIT) (number w32) (within-number w32)
 
 pub message_fits : (agreement epoch : ℕ) → agreement ≤ AGREEMENT_LIMIT
     → agreement_len agreement epoch ≤ AGREEMENT_LIMIT
@@ -39,40 +44,43 @@ within-phase k side epoch law =
     let size = agreement_len (agreement_size k) epoch in
     within-mapped PHASE_LIMIT phase_of _
     (within-either PHASE_LIMIT (is_own side epoch) _ (piece k.public)
-    (within-more (k.secret + (size + (32 + 4))) PHASE_LIMIT _ (omega (arith, law.secret_fits, message))
+    (within-more (k.secret + (size + STREAM_SIZE)) PHASE_LIMIT _ (omega (arith, law.secret_fits, message))
     (within-mapped _ own_of _
-    (within-both k.secret (size + (32 + 4)) _ _ (within-checked k.secret (is_secret k) (piece k.secret) (within-piece k.secret)) (λ _.
-    within-both size (32 + 4) _ _ (within-piece size) (λ _.
-    within-both 32 4 _ _ (within-piece 32) (λ _. within-count))))))
+    (within-both k.secret (size + STREAM_SIZE) _ _ (within-checked k.secret (is_secret k) (piece k.secret) (within-piece k.secret)) (λ _.
+    within-both size STREAM_SIZE _ _ (within-piece size) (λ _.
+    within-both _ COUNT_SIZE _ _ (within-piece 32) (λ _. within-count))))))
     (within-more k.public PHASE_LIMIT (piece k.public) (omega (arith, law.public_fits)) (within-piece k.public)))
 
 within-receiving : (side : Side) (epoch : ℕ) → IsWithin STREAM_SIZE (receiving_field side epoch)
 unfolding receiving_field reception_fields
 within-receiving side epoch =
     within-maybe STREAM_SIZE (has_receiving side epoch) reception_fields
-    (within-mapped STREAM_SIZE reception_of _ (within-both 32 4 (piece 32) _ (within-piece 32) (λ _. within-count)))
+    (within-mapped STREAM_SIZE reception_of _ (within-both _ COUNT_SIZE (piece 32) _ (within-piece 32) (λ _. within-count)))
 
 -- ---- the lists
 
-within-kept : (side : Side) (epoch reach : ℕ) → IsWithin KEYS_LIMIT (kept_field side epoch reach)
+within-kept : (version : Version) (side : Side) (epoch reach : ℕ) → IsWithin KEYS_LIMIT (kept_field version side epoch reach)
 unfolding kept_field kept_behind
-within-kept side epoch reach =
-    within-counted w16 (up_to KEPT_LIMIT) KEPT_SIZE KEPT_LIMIT (kept_item side epoch reach) (λ n few. leb-true n KEPT_LIMIT few) (λ before.
+within-kept version side epoch reach =
+    within-counted w16 (up_to (kept_most version)) KEPT_SIZE KEPT_LIMIT (kept_item side epoch reach)
+    (λ n few. omega (arith, leb-true n (kept_most version) few, kept-limit version)) (λ before.
     within-mapped KEPT_SIZE kept_of _
-    (within-both 4 _ _ _ (within-checked 4 (is_kept_epoch side epoch (last_position before)) (number w32) (within-number w32)) (λ t.
-    within-both 4 32 _ _ (within-checked 4 (is_kept_index epoch reach (last_position before) t) (number w32) (within-number w32)) (λ _.
+    (within-both _ _ _ _ (within-checked _ (is_kept_epoch side epoch (last_position before)) (number w32) (within-number w32)) (λ t.
+    within-both _ _ _ _ (within-checked _ (is_kept_index epoch reach (last_position before) t) (number w32) (within-number w32)) (λ _.
     within-piece 32))))
 
-within-inbox : (side : Side) (epoch : ℕ) → IsWithin ENTRIES_LIMIT (inbox_field side epoch)
+within-inbox : (version : Version) (side : Side) (epoch : ℕ) → IsWithin ENTRIES_LIMIT (inbox_field version side epoch)
 unfolding inbox_field entry_field
-within-inbox side epoch =
-    within-counted w8 (up_to INBOX_LIMIT) ENTRY_LIMIT INBOX_LIMIT (λ _. entry_field side epoch) (λ n few. leb-true n INBOX_LIMIT few) (λ before.
+within-inbox version side epoch =
+    within-counted w8 (up_to (inbox_most version)) ENTRY_LIMIT INBOX_LIMIT (λ _. entry_field version side epoch)
+    (λ n few. omega (arith, leb-true n (inbox_most version) few, inbox-limit version)) (λ before.
     within-mapped ENTRY_LIMIT entry_of _
-    (within-both 4 _ _ _ (within-checked 4 (is_peers side epoch) (number w32) (within-number w32)) (λ _.
-    within-both 4 _ _ _ (within-checked 4 is_index (number w32) (within-number w32)) (λ _.
+    (within-both _ _ _ _ (within-checked _ (is_peers side epoch) (number w32) (within-number w32)) (λ _.
+    within-both _ _ _ _ (within-checked _ is_index (number w32) (within-number w32)) (λ _.
     within-mapped _ (λ e. e.1) _
-    (within-numbered w16 (up_to TEXT_LIMIT) TEXT_LIMIT (λ n. checked any (piece n)) (λ n short.
-    within-checked TEXT_LIMIT any (piece n) (within-more n TEXT_LIMIT (piece n) (leb-true n TEXT_LIMIT short) (within-piece n))))))))
+    (within-numbered w16 (up_to (text_most version)) TEXT_LIMIT (λ n. checked any (piece n)) (λ n short.
+    within-checked TEXT_LIMIT any (piece n)
+    (within-more n TEXT_LIMIT (piece n) (omega (arith, leb-true n (text_most version) short, text-limit version)) (within-piece n))))))))
 
 -- a packet that was read is short
 short_post : (k : Mechanism) (session : List ℕ) (side : Side) (epoch : ℕ) → IsLawfulMechanism k → (bytes : List ℕ) → AreBytes bytes
@@ -88,33 +96,55 @@ short_post k session side epoch law bytes are passes = by_read (read_packet (agr
         let message = message_fits (agreement_size k) f.epoch (omega (arith, law.public_fits, law.ciphertext_fits)) in
         omega (arith, ap (λ (l : List ℕ). length l) was.1, length-packet_of f was.0.session_len was.0.tag_len, was.0.agreement_is, was.0.text_fits, message)
 
-within-outbox : (k : Mechanism) (session : List ℕ) (side : Side) (epoch : ℕ) → IsLawfulMechanism k
-    → IsWithin POSTS_LIMIT (outbox_field k session side epoch)
+within-outbox : (k : Mechanism) (version : Version) (session : List ℕ) (side : Side) (epoch : ℕ) → IsLawfulMechanism k
+    → IsWithin POSTS_LIMIT (outbox_field k version session side epoch)
 unfolding outbox_field post_field
-within-outbox k session side epoch law =
-    within-counted w8 (up_to OUTBOX_LIMIT) POST_LIMIT OUTBOX_LIMIT (λ _. post_field k session side epoch) (λ n few. leb-true n OUTBOX_LIMIT few) (λ before.
+within-outbox k version session side epoch law =
+    within-counted w8 (up_to (outbox_most version)) POST_LIMIT OUTBOX_LIMIT (λ _. post_field k session side epoch)
+    (λ n few. omega (arith, leb-true n (outbox_most version) few, outbox-limit version)) (λ before.
     within-mapped POST_LIMIT (post_of k) _
     (within-mapped POST_LIMIT (λ e. e.1) _
     (within-numbered w16 any_length PACKET_LIMIT (λ n. checked (is_post k session side epoch) (piece n)) (λ n any.
     within-short n PACKET_LIMIT (is_post k session side epoch) (short_post k session side epoch law)))))
 
+-- ---- the groups
+
+within-heading : IsWithin HEADING_SIZE heading_fields
+unfolding heading_fields version_field side_field epoch_field
+within-heading =
+    within-mapped HEADING_SIZE heading_of _
+    (within-both _ _ _ _ (within-mapped _ version_at _ (within-checked _ is_version (number w8) (within-number w8))) (λ _.
+    within-both _ _ _ _ (within-mapped _ side_at _ (within-checked _ is_side (number w8) (within-number w8))) (λ _.
+    within-both _ _ _ _ (within-piece 16) (λ _.
+    within-both _ _ _ _ (within-piece 32) (λ _.
+    within-checked _ (up_to LAST_EPOCH) (number w32) (within-number w32))))))
+
+within-keys : (k : Mechanism) (h : Heading) → IsLawfulMechanism k
+    → IsWithin (PHASE_LIMIT + (COUNT_SIZE + (STREAM_SIZE + KEYS_LIMIT))) (keys_fields k h)
+unfolding keys_fields previous_field
+within-keys k h law =
+    within-mapped _ keys_of _
+    (within-both PHASE_LIMIT _ _ _ (within-phase k h.side h.epoch law) (λ _.
+    within-both COUNT_SIZE _ _ _ (within-checked COUNT_SIZE (is_previous h.side h.epoch) (number w32) (within-number w32)) (λ _.
+    within-both STREAM_SIZE _ _ _ (within-receiving h.side h.epoch) (λ receiving.
+    within-kept h.version h.side h.epoch (reach_of receiving)))))
+
+within-boxes : (k : Mechanism) (h : Heading) → IsLawfulMechanism k → IsWithin (ENTRIES_LIMIT + POSTS_LIMIT) (boxes_fields k h)
+unfolding boxes_fields
+within-boxes k h law =
+    within-mapped _ boxes_of _
+    (within-both ENTRIES_LIMIT _ _ _ (within-inbox h.version h.side h.epoch) (λ _.
+    within-outbox k h.version h.session h.side h.epoch law))
+
 -- ---- the record
 
-within-record : (k : Mechanism) → IsLawfulMechanism k → IsWithin RECORD_LIMIT (mapped client_of_parts (record_fields k))
-unfolding record_fields side_field epoch_field previous_field
+within-record : (k : Mechanism) → IsLawfulMechanism k → IsWithin RECORD_LIMIT (mapped saved_of (record_fields k))
+unfolding record_fields
 within-record k law =
-    within-mapped RECORD_LIMIT client_of_parts (record_fields k)
-    (within-both 1 _ _ _ (within-checked 1 is_version (number w8) (within-number w8)) (λ _.
-    within-both 1 _ _ _ (within-mapped 1 side_at _ (within-checked 1 is_side (number w8) (within-number w8))) (λ side.
-    within-both 16 _ _ _ (within-piece 16) (λ session.
-    within-both 32 _ _ _ (within-piece 32) (λ root.
-    within-both 4 _ _ _ (within-checked 4 (up_to LAST_EPOCH) (number w32) (within-number w32)) (λ epoch.
-    within-both PHASE_LIMIT _ _ _ (within-phase k side epoch law) (λ phase.
-    within-both 4 _ _ _ (within-checked 4 (is_previous side epoch) (number w32) (within-number w32)) (λ previous.
-    within-both STREAM_SIZE _ _ _ (within-receiving side epoch) (λ receiving.
-    within-both KEYS_LIMIT _ _ _ (within-kept side epoch (reach_of receiving)) (λ kept.
-    within-both ENTRIES_LIMIT _ _ _ (within-inbox side epoch) (λ inbox.
-    within-outbox k session side epoch law)))))))))))
+    within-mapped RECORD_LIMIT saved_of (record_fields k)
+    (within-both HEADING_SIZE _ _ _ within-heading (λ heading.
+    within-both (PHASE_LIMIT + (COUNT_SIZE + (STREAM_SIZE + KEYS_LIMIT))) _ _ _ (within-keys k heading law) (λ _.
+    within-boxes k heading law)))
 
 fault_within : {A : Type 0} (most : ℕ) (r : Result (Read A) ℕ) (at : ℕ) → EndsBy most r → ended r ≡ Err at → at ≤ most
 fault_within most (Err fault) at ends is = let same : fault ≡ at = cc in omega (arith, ends)
@@ -125,9 +155,9 @@ fault_within most (Ok x) at ends is = by_rest (length x.rest == 0) is
     by_rest false is = let same : x.at ≡ at = cc in omega (arith, ends.0)
 
 -- a fault stands at most this far after the beginning
-pub fault-place : (k : Mechanism) (text : List ℕ) (at : ℕ) → IsLawfulMechanism k → AreBytes text → record_read k text ≡ Err at → at ≤ RECORD_LIMIT
-unfolding record_read
+pub fault-place : (k : Mechanism) (text : List ℕ) (at : ℕ) → IsLawfulMechanism k → AreBytes text → saved_read k text ≡ Err at → at ≤ RECORD_LIMIT
+unfolding saved_read
 fault-place k text at law are is =
     let most : 0 + RECORD_LIMIT ≡ RECORD_LIMIT = omega arith in
-    fault_within RECORD_LIMIT (mapped client_of_parts (record_fields k) 0 text) at
-    (subst (λ n. EndsBy n (mapped client_of_parts (record_fields k) 0 text)) most (within-record k law 0 text are)) is
+    fault_within RECORD_LIMIT (mapped saved_of (record_fields k) 0 text) at
+    (subst (λ n. EndsBy n (mapped saved_of (record_fields k) 0 text)) most (within-record k law 0 text are)) is

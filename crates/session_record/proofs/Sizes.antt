@@ -1,5 +1,5 @@
 -- No record is longer than RECORD_LIMIT, also after a change.
-use Rattle.std.proofs.Common.{◌≡◌, ℕ, ◌+◌, ◌<◌, ◌≤◌, List, [], ◌∷◌, ◌++◌, length, drop, Option, Some, None, sym, ap, arith, append_assoc, length-append}
+use Rattle.std.proofs.Common.{◌≡◌, ℕ, ◌+◌, ◌<◌, ◌≤◌, List, [], ◌∷◌, ◌++◌, length, drop, Option, Some, None, refl, ap, arith, length-append}
 use Rattle.std.specs.Prelude.{All}
 use Rattle.std.specs.Int.{w8, w16, w32, to_be_bytes}
 use Rattle.std.proofs.lemmas.List.{length-drop, length_push}
@@ -17,50 +17,56 @@ use Rattle.session_model.specs.LawfulStates.{IsLawfulPhase, IsLawfulReception, I
 use Rattle.session_model.specs.States.{Phase, Reception, State, in_own, in_peers, receiving_epoch}
 use Rattle.session_record.specs.declared.change.Change.{Change}
 use Rattle.session_record.specs.declared.change.Change.TheVariants.{Same, Received, Said, Done, Sent}
-use Rattle.session_record.specs.declared.limits.TheConstants.{ENTRIES_LIMIT, ENTRY_LIMIT, HEAD_SIZE, KEPT_SIZE, KEYS_LIMIT, PHASE_LIMIT, POSTS_LIMIT, POST_LIMIT, RECORD_LIMIT, STREAM_SIZE}
+use Rattle.session_record.specs.declared.limits.TheConstants.{COUNT_SIZE, ENTRIES_LIMIT, ENTRY_LIMIT, HEADING_SIZE, KEPT_SIZE, KEYS_LIMIT, PHASE_LIMIT, POSTS_LIMIT, POST_LIMIT, RECORD_LIMIT, STREAM_SIZE}
 use Rattle.session_record.specs.Changes.{FitsInbox, FitsOutbox, inbox_after, outbox_after}
-use Rattle.session_record.specs.Fields.{code_of, phase_text, reception_text}
+use Rattle.session_record.specs.Fields.{phase_text, reception_text}
+use Rattle.session_record.specs.Groups.{Keys, boxes_text, heading_text, keys_text}
 use Rattle.session_record.specs.Lists.{entry_text, kept_text, post_of, post_text}
-use Rattle.session_record.specs.Record.{head_text, record_text, state_text}
+use Rattle.session_record.specs.Record.{boxes_in, heading_in, keys_in, record_text, saved_text}
+use Rattle.session_record.specs.Versions.{newest}
+use Rattle.session_record.specs.declared.versions.Version.{Version}
 use Rattle.session_record.proofs.Places.{message_fits}
 
 -- ---- the pieces of a text
 
-abbrev pub boxes_text : List Item → List Item → List ℕ
-boxes_text inbox outbox = print_counted w8 entry_text inbox ++ print_counted w8 post_text outbox
+abbrev pub heading_bytes : Client → List ℕ
+heading_bytes c = heading_text (heading_in newest c.state)
 
-regrouped : (a b c d e f g h i rest : List ℕ) → ((a ++ (b ++ (c ++ (d ++ e)))) ++ (f ++ (g ++ (h ++ i)))) ++ rest ≡ a ++ (b ++ (c ++ (d ++ (e ++ (f ++ (g ++ (h ++ (i ++ rest))))))))
-regrouped a b c d e f g h i rest = simp append_assoc
+abbrev pub keys_bytes : Client → List ℕ
+keys_bytes c = keys_text (keys_in c.state)
 
-pub text_pieces : (c : Client) → record_text c ≡ state_text c.state ++ boxes_text c.inbox c.outbox
-unfolding record_text
-text_pieces c =
-    let s = c.state in
-    sym (regrouped (to_be_bytes w8 1) (to_be_bytes w8 (code_of s.side)) s.session s.root (to_be_bytes w32 s.epoch)
-    (phase_text s.phase) (to_be_bytes w32 s.previous) (print_maybe reception_text s.receiving) (print_counted w16 kept_text s.kept) (boxes_text c.inbox c.outbox))
+pub text_pieces : (c : Client) → record_text c ≡ heading_bytes c ++ (keys_bytes c ++ boxes_text (boxes_in c))
+unfolding record_text saved_text
+text_pieces c = refl
 
-pub state_size : (s : State) → length (state_text s) ≡ length (head_text s.side s.session s.root s.epoch) + (length (phase_text s.phase) + (4
-    + (length (print_maybe reception_text s.receiving) + length (print_counted w16 kept_text s.kept))))
-state_size s =
-    let head = head_text s.side s.session s.root s.epoch in
-    let phase = phase_text s.phase in
-    let previous = to_be_bytes w32 s.previous in
-    let receiving = print_maybe reception_text s.receiving in
-    let kept = print_counted w16 kept_text s.kept in
-    omega (arith, length-append head (phase ++ (previous ++ (receiving ++ kept))), length-append phase (previous ++ (receiving ++ kept)), length-append previous (receiving ++ kept), length-append receiving kept)
+keys_size : (keys : Keys) → length (keys_text keys) ≡ length (phase_text keys.phase) + (COUNT_SIZE
+    + (length (print_maybe reception_text keys.receiving) + length (print_counted w16 kept_text keys.kept)))
+keys_size keys =
+    let phase = phase_text keys.phase in
+    let previous = to_be_bytes w32 keys.previous in
+    let receiving = print_maybe reception_text keys.receiving in
+    let kept = print_counted w16 kept_text keys.kept in
+    omega (arith, length-append phase (previous ++ (receiving ++ kept)), length-append previous (receiving ++ kept), length-append receiving kept)
 
-pub text_size : (c : Client) → length (record_text c) ≡ length (state_text c.state) + (length (print_counted w8 entry_text c.inbox) + length (print_counted w8 post_text c.outbox))
+pub text_size : (c : Client) → length (record_text c) ≡ length (heading_bytes c) + (length (keys_bytes c)
+    + (length (print_counted w8 entry_text c.inbox) + length (print_counted w8 post_text c.outbox)))
 text_size c =
     let inbox = print_counted w8 entry_text c.inbox in
     let outbox = print_counted w8 post_text c.outbox in
-    omega (arith, ap (λ (l : List ℕ). length l) (text_pieces c), length-append (state_text c.state) (inbox ++ outbox), length-append inbox outbox)
+    omega (
+      arith,
+      ap (λ (l : List ℕ). length l) (text_pieces c),
+      length-append (heading_bytes c) (keys_bytes c ++ (inbox ++ outbox)),
+      length-append (keys_bytes c) (inbox ++ outbox),
+      length-append inbox outbox,
+    )
 
 -- ---- how long each is at most
 
-size-head : (side : Side) (session root : List ℕ) (epoch : ℕ) → length session ≡ 16
-    → length root ≡ 32 → length (head_text side session root epoch) ≤ HEAD_SIZE
-size-head side session root epoch long key =
-    omega (arith, length-append session (root ++ to_be_bytes w32 epoch), length-append root (to_be_bytes w32 epoch), long, key)
+size-heading : (version : Version) (s : State) → length s.session ≡ 16 → length s.root ≡ 32
+    → length (heading_text (heading_in version s)) ≤ HEADING_SIZE
+size-heading version s long key =
+    omega (arith, length-append s.session (s.root ++ to_be_bytes w32 s.epoch), length-append s.root (to_be_bytes w32 s.epoch), long, key)
 
 size-phase : (k : Mechanism) (side : Side) (epoch : ℕ) (phase : Phase) → IsLawfulMechanism k
     → IsLawfulPhase k side epoch phase → length (phase_text phase) ≤ PHASE_LIMIT
@@ -105,7 +111,7 @@ pub text-fits : (k : Mechanism) (c : Client) → IsLawfulMechanism k → IsLawfu
     → IsRoomy INBOX_LIMIT TEXT_LIMIT c.inbox → IsRoomy OUTBOX_LIMIT PACKET_LIMIT c.outbox → length (record_text c) ≤ RECORD_LIMIT
 text-fits k c law l long inbox outbox =
     let s = c.state in
-    omega (arith, text_size c, state_size s, size-head s.side s.session s.root s.epoch l.session_long l.root_long, size-phase k s.side s.epoch s.phase law l.phase, size-receiving s.kept s.receiving (receiving_epoch s.side s.epoch) l.receiving, size-kept s.kept long l.few, size-inbox c.inbox inbox, size-outbox c.outbox outbox)
+    omega (arith, text_size c, keys_size (keys_in s), size-heading newest s l.session_long l.root_long, size-phase k s.side s.epoch s.phase law l.phase, size-receiving s.kept s.receiving (receiving_epoch s.side s.epoch) l.receiving, size-kept s.kept long l.few, size-inbox c.inbox inbox, size-outbox c.outbox outbox)
 
 -- ---- after a change
 

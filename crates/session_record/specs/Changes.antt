@@ -20,15 +20,18 @@ outbox_after k outbox _ = outbox
 
 -- the client after a change
 abbrev pub changed : Mechanism → Client → Change → Client
-changed k c change = record c { inbox = inbox_after c.inbox change; outbox = outbox_after k c.outbox change }
+changed k c change =
+    record c { inbox = inbox_after c.inbox change; outbox = outbox_after k c.outbox change }
 
 -- the boxes have room for what comes, and hold what goes
 abbrev pub FitsInbox : List Item → Change → Type 0
-FitsInbox inbox (Received position text) = (length inbox < INBOX_LIMIT) × (length text.now ≤ TEXT_LIMIT)
+FitsInbox inbox (Received position text) =
+    (length inbox < INBOX_LIMIT) × (length text.now ≤ TEXT_LIMIT)
 FitsInbox inbox (Done n) = n ≤ length inbox
 FitsInbox inbox _ = ⊤
 
 abbrev pub FitsOutbox : List Item → Change → Type 0
-FitsOutbox outbox (Said packet) = (length outbox < OUTBOX_LIMIT) × (length packet.now ≤ PACKET_LIMIT)
+FitsOutbox outbox (Said packet) =
+    (length outbox < OUTBOX_LIMIT) × (length packet.now ≤ PACKET_LIMIT)
 FitsOutbox outbox (Sent n) = n ≤ length outbox
 FitsOutbox outbox _ = ⊤

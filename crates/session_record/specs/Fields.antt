@@ -12,13 +12,14 @@ use Rattle.grammar.specs.Reader.{Reader, number, piece, checked, mapped, both, m
 use Rattle.kem_laws.specs.Mechanism.{Mechanism}
 use Rattle.packet.specs.Packet.{agreement_len}
 use Rattle.session_model.specs.States.{Own, Phase, Reception, in_own, in_peers}
+use Rattle.session_record.specs.Versions.{is_version, version_at}
+use Rattle.session_record.specs.declared.versions.Version.{Version}
 
 abbrev pub up_to : ℕ → ℕ → Bool
 up_to most n = nat_le n most
 
--- the version is 1
-abbrev pub is_version : ℕ → Bool
-is_version n = n == 1
+unfoldable pub version_field : Reader Version
+version_field = mapped version_at (checked is_version (number w8))
 
 -- ---- the side: 1 is First, 2 is Second
 
@@ -81,7 +82,8 @@ of_phase (in_peers public) = inr public
 
 -- in a peer's epoch: the peer's public key
 unfoldable pub phase_field : Mechanism → Side → ℕ → Reader Phase
-phase_field k side epoch = mapped phase_of (either (is_own side epoch) (own_fields k epoch) (piece k.public))
+phase_field k side epoch =
+    mapped phase_of (either (is_own side epoch) (own_fields k epoch) (piece k.public))
 
 abbrev pub phase_text : Phase → List ℕ
 phase_text phase = print_either own_text (λ public. public) (of_phase phase)
@@ -89,7 +91,8 @@ phase_text phase = print_either own_text (λ public. public) (of_phase phase)
 -- ---- the texts of the own epoch before: none where there is no such epoch
 
 abbrev pub is_previous : Side → ℕ → ℕ → Bool
-is_previous side epoch n = up_to INDEX_LIMIT n && ((n == 0) || nat_le (if is_own side epoch then 2 else 1) epoch)
+is_previous side epoch n =
+    up_to INDEX_LIMIT n && ((n == 0) || nat_le (if is_own side epoch then 2 else 1) epoch)
 
 unfoldable pub previous_field : Side → ℕ → Reader ℕ
 previous_field side epoch = checked (is_previous side epoch) (number w32)

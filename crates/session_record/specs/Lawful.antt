@@ -11,6 +11,9 @@ use Rattle.session_model.specs.Clients.{Client}
 use Rattle.session_model.specs.LawfulStates.{IsLawfulState}
 use Rattle.session_model.specs.States.{State}
 use Rattle.session_model.specs.Ways.{position_of}
+use Rattle.session_record.specs.Record.{Saved}
+use Rattle.session_record.specs.Versions.{inbox_most, kept_most, outbox_most, text_most}
+use Rattle.session_record.specs.declared.versions.Version.{Version}
 
 -- a text of the peer's, of an epoch that was reached
 pub record IsLawfulEntry (s : State) (item : Item) : Type 0 where
@@ -39,3 +42,15 @@ pub record IsLawfulClient (k : Mechanism) (c : Client) : Type 0 where
   pub few_entries : length c.inbox ≤ INBOX_LIMIT
   pub outbox : All (IsLawfulPost k c.state) c.outbox
   pub few_posts : length c.outbox ≤ OUTBOX_LIMIT
+
+-- what a version allows
+pub record FitsVersion (version : Version) (c : Client) : Type 0 where
+  pub few_kept : length c.state.kept ≤ kept_most version
+  pub few_entries : length c.inbox ≤ inbox_most version
+  pub short_texts : All (λ item. length item.bytes ≤ text_most version) c.inbox
+  pub few_posts : length c.outbox ≤ outbox_most version
+
+-- a client that has a record in a version
+pub record IsLawfulSaved (k : Mechanism) (s : Saved) : Type 0 where
+  pub client : IsLawfulClient k s.client
+  pub fits : FitsVersion s.version s.client

@@ -6,7 +6,7 @@ use Rattle.boxes.specs.Items.{Item, item_at}
 use Rattle.cka.specs.Agreement.{agreement_size}
 use Rattle.dr_base.specs.Position.{is_own, position_at}
 use Rattle.dr_base.specs.declared.key.Kept.{Kept}
-use Rattle.dr_base.specs.declared.limits.TheConstants.{INBOX_LIMIT, INDEX_LIMIT, KEPT_LIMIT, OUTBOX_LIMIT, TEXT_LIMIT}
+use Rattle.dr_base.specs.declared.limits.TheConstants.{INDEX_LIMIT}
 use Rattle.dr_base.specs.declared.position.Position.{Position}
 use Rattle.dr_base.specs.declared.position.Side.{Side}
 use Rattle.grammar.specs.Printer.{print_sized}
@@ -17,6 +17,8 @@ use Rattle.packet.specs.Packet.{Fields}
 use Rattle.packet.specs.Reading.{read_packet, is_index}
 use Rattle.session_model.specs.States.{Reception}
 use Rattle.session_record.specs.Fields.{up_to}
+use Rattle.session_record.specs.Versions.{inbox_most, kept_most, outbox_most, text_most}
+use Rattle.session_record.specs.declared.versions.Version.{Version}
 
 -- ---- kept keys, each above the one before
 
@@ -47,7 +49,8 @@ most_kept epoch reach t = if nat_lt (t + 1) epoch then INDEX_LIMIT else reach
 -- in the epoch of the one before, above its index
 abbrev pub is_kept_index : ℕ → ℕ → Position → ℕ → ℕ → Bool
 is_kept_index epoch reach last t n =
-    nat_le 1 n && (nat_le n (most_kept epoch reach t) && (nat_lt last.epoch t || nat_lt last.index n))
+    nat_le 1 n
+    && (nat_le n (most_kept epoch reach t) && (nat_lt last.epoch t || nat_lt last.index n))
 
 abbrev pub kept_of : ℕ × (ℕ × List ℕ) → Kept
 kept_of e = record { position = position_at e.0 e.1.0; key = record { bytes = e.1.1 } }
@@ -65,11 +68,14 @@ kept_behind side epoch reach last =
 abbrev pub kept_item : Side → ℕ → ℕ → List Kept → Reader Kept
 kept_item side epoch reach before = kept_behind side epoch reach (last_position before)
 
-unfoldable pub kept_field : Side → ℕ → ℕ → Reader (List Kept)
-kept_field side epoch reach = counted w16 (up_to KEPT_LIMIT) (kept_item side epoch reach)
+unfoldable pub kept_field : Version → Side → ℕ → ℕ → Reader (List Kept)
+kept_field version side epoch reach =
+    counted w16 (up_to (kept_most version)) (kept_item side epoch reach)
 
 abbrev pub kept_text : Kept → List ℕ
-kept_text kept = to_be_bytes w32 kept.position.epoch ++ (to_be_bytes w32 kept.position.index ++ kept.key.bytes)
+kept_text kept =
+    to_be_bytes w32 kept.position.epoch
+    ++ (to_be_bytes w32 kept.position.index ++ kept.key.bytes)
 
 -- ---- the inbox: position, and text after its length
 
@@ -82,29 +88,33 @@ entry_of e = item_at (position_at e.0 e.1.0) e.1.1
 abbrev pub of_entry : Item → ℕ × (ℕ × List ℕ)
 of_entry item = (item.position.epoch, (item.position.index, item.bytes))
 
-unfoldable pub entry_field : Side → ℕ → Reader Item
-entry_field side epoch =
+unfoldable pub entry_field : Version → Side → ℕ → Reader Item
+entry_field version side epoch =
     mapped entry_of
     (both (checked (is_peers side epoch) (number w32)) (λ _.
     both (checked is_index (number w32)) (λ _.
-    sized w16 (up_to TEXT_LIMIT) any)))
+    sized w16 (up_to (text_most version)) any)))
 
-unfoldable pub inbox_field : Side → ℕ → Reader (List Item)
-inbox_field side epoch = counted w8 (up_to INBOX_LIMIT) (λ _. entry_field side epoch)
+unfoldable pub inbox_field : Version → Side → ℕ → Reader (List Item)
+inbox_field version side epoch =
+    counted w8 (up_to (inbox_most version)) (λ _. entry_field version side epoch)
 
 abbrev pub entry_text : Item → List ℕ
 entry_text item =
-    to_be_bytes w32 item.position.epoch ++ (to_be_bytes w32 item.position.index ++ print_sized w16 item.bytes)
+    to_be_bytes w32 item.position.epoch
+    ++ (to_be_bytes w32 item.position.index ++ print_sized w16 item.bytes)
 
 -- ---- the outbox: packets, each after its length
 
 -- a packet of this session, in an own epoch that was reached
 abbrev pub is_posted : List ℕ → Side → ℕ → Result Fields Malformed → Bool
-is_posted session side epoch (Ok f) = bytes_eq f.session session && (is_own side f.epoch && nat_le f.epoch epoch)
+is_posted session side epoch (Ok f) =
+    bytes_eq f.session session && (is_own side f.epoch && nat_le f.epoch epoch)
 is_posted session side epoch (Err fault) = false
 
 unfoldable pub is_post : Mechanism → List ℕ → Side → ℕ → List ℕ → Bool
-is_post k session side epoch bytes = is_posted session side epoch (read_packet (agreement_size k) bytes)
+is_post k session side epoch bytes =
+    is_posted session side epoch (read_packet (agreement_size k) bytes)
 
 abbrev pub place_of : Result Fields Malformed → Position
 place_of (Ok f) = position_at f.epoch f.index
@@ -119,10 +129,12 @@ abbrev pub any_length : ℕ → Bool
 any_length n = true
 
 unfoldable pub post_field : Mechanism → List ℕ → Side → ℕ → Reader Item
-post_field k session side epoch = mapped (post_of k) (sized w16 any_length (is_post k session side epoch))
+post_field k session side epoch =
+    mapped (post_of k) (sized w16 any_length (is_post k session side epoch))
 
-unfoldable pub outbox_field : Mechanism → List ℕ → Side → ℕ → Reader (List Item)
-outbox_field k session side epoch = counted w8 (up_to OUTBOX_LIMIT) (λ _. post_field k session side epoch)
+unfoldable pub outbox_field : Mechanism → Version → List ℕ → Side → ℕ → Reader (List Item)
+outbox_field k version session side epoch =
+    counted w8 (up_to (outbox_most version)) (λ _. post_field k session side epoch)
 
 abbrev pub post_text : Item → List ℕ
 post_text item = print_sized w16 item.bytes

@@ -1,19 +1,20 @@
--- What the fields that code read stand for.
-use Rattle.std.specs.Prelude.{List, [], option_map}
+-- What the keys that code read stand for.
+use Rattle.std.specs.Prelude.{List, option_map}
 use Rattle.boxes.specs.Items.{Item}
-use Rattle.session_model.specs.Clients.{Client}
-use Rattle.session_model.specs.States.{State}
 use Rattle.session_model.specs.Seen.{phase_seen, reception_seen}
-use Rattle.session_record.specs.Record.{Parts, client_of_parts}
-use Rattle.session_record.specs.declared.decoding.Fields.{Fields}
+use Rattle.session_record.specs.Groups.{Keys, boxes_of}
+use Rattle.session_record.specs.Record.{Groups}
+use Rattle.session_record.specs.declared.groups.Heading.{Heading}
+use Rattle.session_record.specs.declared.groups.Keys.{Keys as KeysRead}
+
+abbrev pub keys_seen : KeysRead → Keys
+keys_seen keys = record {
+  phase = phase_seen keys.phase;
+  previous = keys.previous;
+  receiving = option_map reception_seen keys.receiving;
+  kept = keys.kept.items;
+}
 
 -- with what the boxes hold
-abbrev pub parts_read : Fields → List Item → List Item → Parts
-parts_read f inbox outbox =
-    (1, (f.side, (f.session, (f.root.bytes, (f.epoch, (phase_seen f.phase, (f.previous, (option_map reception_seen f.receiving, (f.kept.items, (inbox, outbox))))))))))
-
-abbrev pub client_read : Fields → List Item → List Item → Client
-client_read f inbox outbox = client_of_parts (parts_read f inbox outbox)
-
-abbrev pub state_read : Fields → State
-state_read f = (client_read f [] []).state
+abbrev pub groups_read : Heading → KeysRead → List Item → List Item → Groups
+groups_read h keys inbox outbox = (h, (keys_seen keys, boxes_of (inbox, outbox)))

@@ -4,81 +4,70 @@ ghost use Rattle.std.specs.Prelude.{◌≡◌, ◌≤◌, [], Ok, Err, IfOk, IfE
 ghost use Rattle.grammar.specs.Standing.{Reads};
 ghost use Rattle.session_model.specs.LawfulStates.{IsLawfulState};
 ghost use Rattle.session_record.specs.Lawful.{IsLawfulClient};
-ghost use Rattle.session_record.specs.Record.{client_of, record_fields, record_read};
-ghost use Rattle.session_record.specs.Seen.{client_read, parts_read, state_read};
+ghost use Rattle.session_record.specs.Groups.{boxes_fields, boxes_of};
+ghost use Rattle.session_record.specs.Record.{client_of, record_fields, record_read, saved_of, saved_read, state_of_groups};
+ghost use Rattle.session_record.specs.Seen.{groups_read, keys_seen};
 
 use crate::damaged::Damaged;
+use crate::groups::{Heading, Keys, read_heading, read_keys};
 use crate::inbox::read_inbox;
-use crate::kept::read_kept;
-use crate::keys::{reach_of, read_array, read_key, read_phase, read_receiving};
-use crate::laws::record_law;
-use crate::numbers::{read_epoch, read_previous, read_side, read_version};
+use crate::laws::version_law;
 use crate::outbox::read_outbox;
-use arrayvec::ArrayVec;
 use boxes::{Inbox, Outbox};
-use dr_base::{KEPT_LIMIT, Kept, Key32, Side};
 use fs_aead::Skipped;
 use grammar::Cursor;
 use kem_laws::Kem;
-use session_model::{Head, Phase, Reception, SessionPart};
+use session_model::{Head, SessionPart};
 use std::marker::PhantomData;
 
-/// The fields before the boxes, of which nothing is known together.
-#[derive(Drop)]
-struct Fields {
-    side: Side,
-    session: [u8; 16],
-    root: Key32,
-    epoch: u32,
-    phase: Phase,
-    previous: u32,
-    receiving: Option<Reception>,
-    kept: ArrayVec<Kept, KEPT_LIMIT>,
+/// The boxes, which are empty before.
+#[tactic(auto, unfolding(crate::specs::Groups::boxes_fields))]
+fn read_boxes<K: Kem>(
+    cursor: &mut Cursor<'_>,
+    heading: &Heading,
+    inbox: &mut Inbox,
+    outbox: &mut Outbox,
+) -> Result<(), usize>
+    requires inbox { inbox.old ≡ [] }
+    requires outbox { outbox.old ≡ [] }
+    ensures { let fields = boxes_fields K.mechanism heading.now in
+        Reads (λ _. boxes_of (inbox.new, outbox.new)) fields cursor.old cursor.new result }
+{
+    read_inbox(cursor, heading, inbox)?;
+    read_outbox::<K>(cursor, heading, outbox)
 }
 
-/// Reads the fields in their order, and puts what the boxes hold into them.
+/// The fields in their order. What the boxes hold is put into them.
 #[tactic(auto, unfolding(crate::specs::Record::record_fields))]
 fn read_fields<K: Kem>(
     cursor: &mut Cursor<'_>,
     inbox: &mut Inbox,
     outbox: &mut Outbox,
-) -> Result<Fields, usize>
+) -> Result<(Heading, Keys), usize>
     requires inbox { inbox.old ≡ [] }
     requires outbox { outbox.old ≡ [] }
-    ensures { Reads (λ f. parts_read f inbox.new outbox.new) (record_fields K.mechanism) cursor.old cursor.new result }
+    ensures { let fields = record_fields K.mechanism in
+        Reads (λ f. groups_read f.0 f.1 inbox.new outbox.new) fields cursor.old cursor.new result }
 {
-    read_version(cursor)?;
-    let side = read_side(cursor)?;
-    let session = read_array(cursor)?;
-    let root = read_key(cursor)?;
-    let epoch = read_epoch(cursor)?;
-    let phase = read_phase::<K>(cursor, side, epoch)?;
-    let previous = read_previous(cursor, side, epoch)?;
-    let receiving = read_receiving(cursor, side, epoch)?;
-    let reach = reach_of(&receiving);
-    let kept = read_kept(cursor, side, epoch, reach)?;
-    read_inbox(cursor, side, epoch, inbox)?;
-    read_outbox::<K>(cursor, &session, side, epoch, outbox)?;
-    Ok(Fields {
-        side,
-        session,
-        root,
-        epoch,
-        phase,
-        previous,
-        receiving,
-        kept,
-    })
+    let heading = read_heading(cursor)?;
+    let keys = read_keys::<K>(cursor, &heading)?;
+    read_boxes::<K>(cursor, &heading, inbox, outbox)?;
+    Ok((heading, keys))
 }
 
 /// Reads a whole text.
-#[tactic(auto, unfolding(crate::specs::Record::record_read))]
-fn read_whole<K: Kem>(text: &[u8], inbox: &mut Inbox, outbox: &mut Outbox) -> Result<Fields, usize>
+#[tactic(auto, unfolding(crate::specs::Record::saved_read))]
+fn read_whole<K: Kem>(
+    text: &[u8],
+    inbox: &mut Inbox,
+    outbox: &mut Outbox,
+) -> Result<(Heading, Keys), usize>
     requires inbox { inbox.old ≡ [] }
     requires outbox { outbox.old ≡ [] }
     ensures { MatchResult result
-        (λ f. record_read K.mechanism text.now ≡ Ok (client_read f inbox.new outbox.new))
-        (λ at. record_read K.mechanism text.now ≡ Err at) }
+        (λ f. let groups = groups_read f.0 f.1 inbox.new outbox.new in
+        saved_read K.mechanism text.now ≡ Ok (saved_of groups))
+        (λ at. saved_read K.mechanism text.now ≡ Err at) }
 {
     let mut cursor = Cursor::new(text);
     let fields = read_fields::<K>(&mut cursor, inbox, outbox)?;
@@ -88,28 +77,29 @@ fn read_whole<K: Kem>(text: &[u8], inbox: &mut Inbox, outbox: &mut Outbox) -> Re
     Ok(fields)
 }
 
-/// The part of a session that these fields are.
-fn part_of<K: Kem>(fields: Fields) -> SessionPart<K>
-    requires { IsLawfulState K.mechanism (state_read fields) }
-    ensures { result ≡ state_read fields }
+/// The part of a session that these are.
+fn part_of<K: Kem>(heading: Heading, keys: Keys) -> SessionPart<K>
+    requires { IsLawfulState K.mechanism (state_of_groups heading (keys_seen keys)) }
+    ensures { result ≡ state_of_groups heading (keys_seen keys) }
 {
+    let session = heading.session;
     SessionPart {
         head: Head {
-            side: fields.side,
-            session: fields.session,
-            root: fields.root,
-            epoch: fields.epoch,
-            phase: fields.phase,
-            previous: fields.previous,
-            receiving: fields.receiving,
+            side: heading.side,
+            session,
+            root: heading.root,
+            epoch: heading.epoch,
+            phase: keys.phase,
+            previous: keys.previous,
+            receiving: keys.receiving,
             mechanism: PhantomData,
         },
-        kept: Skipped::resume(fields.kept.as_slice()),
+        kept: Skipped::resume(keys.kept.as_slice()),
     }
 }
 
-/// Reads a client's record into the part of its session and the boxes, which are empty. A text that is no record leaves
-/// them empty. What is read is lawful.
+/// Reads a client's record into the part of its session and the boxes, which are empty. A text that
+/// is no record leaves them empty. What is read is lawful.
 pub fn decode<K: Kem>(
     text: &[u8],
     inbox: &mut Inbox,
@@ -120,13 +110,14 @@ pub fn decode<K: Kem>(
     ensures exact { MatchResult result
         (λ part. record_read K.mechanism text.now ≡ Ok (client_of part inbox.new outbox.new))
         (λ damaged. record_read K.mechanism text.now ≡ Err damaged.at) }
-    ensures lawful { IfOk result (λ part. IsLawfulClient K.mechanism (client_of part inbox.new outbox.new)) }
+    ensures lawful { IfOk result (λ part.
+        IsLawfulClient K.mechanism (client_of part inbox.new outbox.new)) }
     ensures empty_inbox { OnErr result (inbox.new ≡ []) }
     ensures empty_outbox { OnErr result (outbox.new ≡ []) }
 {
-    record_law();
+    version_law();
     match read_whole::<K>(text, inbox, outbox) {
-        Ok(fields) => Ok(part_of(fields)),
+        Ok((heading, keys)) => Ok(part_of(heading, keys)),
         Err(at) => {
             inbox.drop_first(inbox.len()).unwrap();
             outbox.drop_first(outbox.len()).unwrap();

@@ -13,21 +13,20 @@ ghost use Rattle.session_record.specs.Fields.{up_to};
 ghost use Rattle.session_record.specs.Lists.{any, entry_field, entry_text, inbox_field};
 
 use crate::change::Change;
+use crate::groups::Heading;
 use crate::numbers::read_len;
 use boxes::{Entry, Inbox};
-use dr_base::{
-    INBOX_LIMIT, INDEX_LIMIT, Position, Side, TEXT_LIMIT, put, put_u8, put_u16, put_u32,
-};
+use dr_base::{INBOX_LIMIT, INDEX_LIMIT, Position, TEXT_LIMIT, put, put_u8, put_u16, put_u32};
 use grammar::Cursor;
 
-/// A text after its length.
-fn read_text<'a>(cursor: &mut Cursor<'a>) -> Result<&'a [u8], usize>
-    ensures reads { Reads (λ t. t.now) (sized w16 (up_to TEXT_LIMIT) any) cursor.old cursor.new result }
-    ensures short { IfOk result (λ t. length t.now ≤ TEXT_LIMIT) }
+/// A text after its length, which is at most `limit`.
+fn read_text<'a>(cursor: &mut Cursor<'a>, limit: usize) -> Result<&'a [u8], usize>
+    ensures reads { Reads (λ t. t.now) (sized w16 (up_to limit) any) cursor.old cursor.new result }
+    ensures short { IfOk result (λ t. length t.now ≤ limit) }
 {
     let at = cursor.at();
     let size = usize::from(cursor.number16()?);
-    if size > TEXT_LIMIT {
+    if size > limit {
         return Err(at);
     }
     cursor.piece(size)
@@ -35,13 +34,14 @@ fn read_text<'a>(cursor: &mut Cursor<'a>) -> Result<&'a [u8], usize>
 
 /// A text of the peer's, and its position.
 #[tactic(auto, unfolding(crate::specs::Lists::entry_field))]
-fn read_entry<'a>(cursor: &mut Cursor<'a>, side: Side, epoch: u32) -> Result<Entry<'a>, usize>
-    ensures reads { Reads entry_item (entry_field side epoch) cursor.old cursor.new result }
+fn read_entry<'a>(cursor: &mut Cursor<'a>, heading: &Heading) -> Result<Entry<'a>, usize>
+    ensures reads { let h = heading.now in
+        Reads entry_item (entry_field h.version h.side h.epoch) cursor.old cursor.new result }
     ensures short { IfOk result (λ e. length e.text.now ≤ TEXT_LIMIT) }
 {
     let at_epoch = cursor.at();
     let of = cursor.number32()?;
-    if side.owns(of) || of > epoch {
+    if heading.side.owns(of) || of > heading.epoch {
         return Err(at_epoch);
     }
     let at_index = cursor.at();
@@ -49,7 +49,7 @@ fn read_entry<'a>(cursor: &mut Cursor<'a>, side: Side, epoch: u32) -> Result<Ent
     if index == 0 || index > INDEX_LIMIT {
         return Err(at_index);
     }
-    let text = read_text(cursor)?;
+    let text = read_text(cursor, heading.version.text_most())?;
     Ok(Entry {
         position: Position { epoch: of, index },
         text,
@@ -59,17 +59,17 @@ fn read_entry<'a>(cursor: &mut Cursor<'a>, side: Side, epoch: u32) -> Result<Ent
 /// This many texts, put into the inbox.
 fn read_entries(
     cursor: &mut Cursor<'_>,
-    side: Side,
-    epoch: u32,
+    heading: &Heading,
     count: u8,
     inbox: &mut Inbox,
 ) -> Result<(), usize>
     requires few { count ≤ INBOX_LIMIT }
     requires empty { inbox.old ≡ [] }
-    ensures { Reads (λ _. inbox.new) (items (λ _. entry_field side epoch) count) cursor.old cursor.new result }
+    ensures { let h = heading.now in let entry = entry_field h.version h.side h.epoch in
+        Reads (λ _. inbox.new) (items (λ _. entry) count) cursor.old cursor.new result }
 {
     'entries: for _ in 0..count {
-        let one = read_entry(cursor, side, epoch)?;
+        let one = read_entry(cursor, heading)?;
         inbox.push(one.position, one.text).unwrap();
     }
     Ok(())
@@ -79,34 +79,36 @@ fn read_entries(
 #[tactic(auto, unfolding(crate::specs::Lists::inbox_field))]
 pub(crate) fn read_inbox(
     cursor: &mut Cursor<'_>,
-    side: Side,
-    epoch: u32,
+    heading: &Heading,
     inbox: &mut Inbox,
 ) -> Result<(), usize>
     requires { inbox.old ≡ [] }
-    ensures { Reads (λ _. inbox.new) (inbox_field side epoch) cursor.old cursor.new result }
+    ensures { let h = heading.now in
+        Reads (λ _. inbox.new) (inbox_field h.version h.side h.epoch) cursor.old cursor.new result }
 {
-    let count = read_len(cursor, INBOX_LIMIT)?;
-    read_entries(cursor, side, epoch, count, inbox)
+    let count = read_len(cursor, heading.version.inbox_most())?;
+    read_entries(cursor, heading, count, inbox)
 }
 
 /// This many texts, which are kept nowhere.
-fn skim_entries(cursor: &mut Cursor<'_>, side: Side, epoch: u32, count: u8) -> Result<(), usize>
-    ensures { Skims (items (λ _. entry_field side epoch) count) cursor.old cursor.new result }
+fn skim_entries(cursor: &mut Cursor<'_>, heading: &Heading, count: u8) -> Result<(), usize>
+    ensures { let h = heading.now in let entry = entry_field h.version h.side h.epoch in
+        Skims (items (λ _. entry) count) cursor.old cursor.new result }
 {
     'entries: for _ in 0..count {
-        let _one = read_entry(cursor, side, epoch)?;
+        let _one = read_entry(cursor, heading)?;
     }
     Ok(())
 }
 
 /// The texts after their count, which are kept nowhere.
 #[tactic(auto, unfolding(crate::specs::Lists::inbox_field))]
-pub(crate) fn skim_inbox(cursor: &mut Cursor<'_>, side: Side, epoch: u32) -> Result<(), usize>
-    ensures { Skims (inbox_field side epoch) cursor.old cursor.new result }
+pub(crate) fn skim_inbox(cursor: &mut Cursor<'_>, heading: &Heading) -> Result<(), usize>
+    ensures { let h = heading.now in
+        Skims (inbox_field h.version h.side h.epoch) cursor.old cursor.new result }
 {
-    let count = read_len(cursor, INBOX_LIMIT)?;
-    skim_entries(cursor, side, epoch, count)
+    let count = read_len(cursor, heading.version.inbox_most())?;
+    skim_entries(cursor, heading, count)
 }
 
 /// Puts a text and its position.
@@ -140,7 +142,8 @@ fn put_entries(out: &mut [u8], at: usize, inbox: &Inbox, from: u32) -> usize
 /// Puts the texts from a place on, after their count.
 fn put_later(out: &mut [u8], at: usize, inbox: &Inbox, from: u32) -> usize
     requires inside { from ≤ length inbox.now }
-    requires room { at + length (print_counted w8 entry_text (drop from inbox.now)) ≤ length out.old }
+    requires room { let later = drop from inbox.now in
+        at + length (print_counted w8 entry_text later) ≤ length out.old }
     ensures { Puts out.old out.new at (print_counted w8 entry_text (drop from inbox.now)) result }
 {
     let next = put_u8(out, at, (inbox.len() - from) as u8);
@@ -151,8 +154,10 @@ fn put_later(out: &mut [u8], at: usize, inbox: &Inbox, from: u32) -> usize
 fn put_more(out: &mut [u8], at: usize, inbox: &Inbox, position: Position, text: &[u8]) -> usize
     requires space { length inbox.now < INBOX_LIMIT }
     requires short { length text.now ≤ TEXT_LIMIT }
-    requires room { at + length (print_counted w8 entry_text (inbox.now ++ item_at position text.now ∷ [])) ≤ length out.old }
-    ensures { Puts out.old out.new at (print_counted w8 entry_text (inbox.now ++ item_at position text.now ∷ [])) result }
+    requires room { let more = inbox.now ++ item_at position text.now ∷ [] in
+        at + length (print_counted w8 entry_text more) ≤ length out.old }
+    ensures { let more = inbox.now ++ item_at position text.now ∷ [] in
+        Puts out.old out.new at (print_counted w8 entry_text more) result }
 {
     let at_first = put_u8(out, at, inbox.len() as u8 + 1);
     let at_last = put_entries(out, at_first, inbox, 0);
@@ -162,8 +167,10 @@ fn put_more(out: &mut [u8], at: usize, inbox: &Inbox, position: Position, text: 
 /// Puts the inbox as a change leaves it.
 pub(crate) fn put_inbox(out: &mut [u8], at: usize, inbox: &Inbox, change: &Change<'_>) -> usize
     requires fits { FitsInbox inbox.now change.now }
-    requires room { at + length (print_counted w8 entry_text (inbox_after inbox.now change.now)) ≤ length out.old }
-    ensures { Puts out.old out.new at (print_counted w8 entry_text (inbox_after inbox.now change.now)) result }
+    requires room { let after = inbox_after inbox.now change.now in
+        at + length (print_counted w8 entry_text after) ≤ length out.old }
+    ensures { let after = inbox_after inbox.now change.now in
+        Puts out.old out.new at (print_counted w8 entry_text after) result }
 {
     match change {
         Change::Received { position, text } => put_more(out, at, inbox, *position, text),

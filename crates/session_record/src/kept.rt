@@ -8,30 +8,35 @@ ghost use Rattle.grammar.specs.Reader.{items};
 ghost use Rattle.grammar.specs.Standing.{Reads};
 ghost use Rattle.session_record.specs.Lists.{kept_behind, kept_field, kept_item, kept_text};
 
+use crate::groups::Heading;
 use crate::keys::read_key;
 use arrayvec::ArrayVec;
-use dr_base::{INDEX_LIMIT, KEPT_LIMIT, Kept, Position, Side, put, put_u16, put_u32};
+use dr_base::{INDEX_LIMIT, KEPT_LIMIT, Kept, Position, put, put_u16, put_u32};
 use grammar::Cursor;
 
 /// A kept key after the one at a position.
 #[tactic(auto, unfolding(crate::specs::Lists::kept_behind))]
 fn read_one(
     cursor: &mut Cursor<'_>,
-    side: Side,
-    epoch: u32,
+    heading: &Heading,
     reach: u32,
     last: Position,
 ) -> Result<Kept, usize>
-    ensures { Reads (λ k. k) (kept_behind side epoch reach last) cursor.old cursor.new result }
+    ensures { let h = heading.now in
+        Reads (λ k. k) (kept_behind h.side h.epoch reach last) cursor.old cursor.new result }
 {
     let at_epoch = cursor.at();
     let of = cursor.number32()?;
-    if side.owns(of) || of > epoch || of < last.epoch {
+    if heading.side.owns(of) || of > heading.epoch || of < last.epoch {
         return Err(at_epoch);
     }
     let at_index = cursor.at();
     let index = cursor.number32()?;
-    let most = if epoch - of > 1 { INDEX_LIMIT } else { reach };
+    let most = if heading.epoch - of > 1 {
+        INDEX_LIMIT
+    } else {
+        reach
+    };
     if index == 0 || index > most || (of == last.epoch && index <= last.index) {
         return Err(at_index);
     }
@@ -43,20 +48,20 @@ fn read_one(
 }
 
 /// This many kept keys.
-fn read_keys(
+fn read_each(
     cursor: &mut Cursor<'_>,
-    side: Side,
-    epoch: u32,
+    heading: &Heading,
     reach: u32,
     count: u16,
 ) -> Result<ArrayVec<Kept, KEPT_LIMIT>, usize>
     requires { count ≤ KEPT_LIMIT }
-    ensures { Reads (λ v. v.items) (items (kept_item side epoch reach) count) cursor.old cursor.new result }
+    ensures { let one = kept_item heading.now.side heading.now.epoch reach in
+        Reads (λ v. v.items) (items one count) cursor.old cursor.new result }
 {
     let mut list = ArrayVec::new();
     let mut last = Position { epoch: 0, index: 0 };
     'keys: for _ in 0..count {
-        let one = read_one(cursor, side, epoch, reach, last)?;
+        let one = read_one(cursor, heading, reach, last)?;
         last = one.position;
         list.push(one);
     }
@@ -67,18 +72,18 @@ fn read_keys(
 #[tactic(auto, unfolding(crate::specs::Lists::kept_field))]
 pub(crate) fn read_kept(
     cursor: &mut Cursor<'_>,
-    side: Side,
-    epoch: u32,
+    heading: &Heading,
     reach: u32,
 ) -> Result<ArrayVec<Kept, KEPT_LIMIT>, usize>
-    ensures { Reads (λ v. v.items) (kept_field side epoch reach) cursor.old cursor.new result }
+    ensures { let h = heading.now in let kept = kept_field h.version h.side h.epoch reach in
+        Reads (λ v. v.items) kept cursor.old cursor.new result }
 {
     let at = cursor.at();
     let count = cursor.number16()?;
-    if usize::from(count) > KEPT_LIMIT {
+    if usize::from(count) > heading.version.kept_most() {
         return Err(at);
     }
-    read_keys(cursor, side, epoch, reach, count)
+    read_each(cursor, heading, reach, count)
 }
 
 /// Puts a kept key.
@@ -92,7 +97,7 @@ fn put_one(out: &mut [u8], at: usize, kept: &Kept) -> usize
 }
 
 /// Puts kept keys.
-fn put_keys(out: &mut [u8], at: usize, keys: &[Kept]) -> usize
+fn put_each(out: &mut [u8], at: usize, keys: &[Kept]) -> usize
     requires { at + length (print_items kept_text keys.now) ≤ length out.old }
     ensures { Puts out.old out.new at (print_items kept_text keys.now) result }
 {
@@ -110,7 +115,7 @@ pub(crate) fn put_kept(out: &mut [u8], at: usize, keys: &[Kept]) -> usize
     ensures { Puts out.old out.new at (print_counted w16 kept_text keys.now) result }
 {
     let next = put_u16(out, at, keys.len() as u16);
-    put_keys(out, next, keys)
+    put_each(out, next, keys)
 }
 
 /// A key has 32 bytes.

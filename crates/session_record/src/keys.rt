@@ -45,9 +45,11 @@ fn read_text<const N: usize>(cursor: &mut Cursor<'_>, size: usize) -> Result<Arr
     Ok(in_room(bytes))
 }
 
-/// The secret of an own epoch. One that isn't lawful is a fault at its first byte, whatever byte is bad.
+/// The secret of an own epoch. One that isn't lawful is a fault at its first byte, whatever byte is
+/// bad.
 fn read_secret<K: Kem>(cursor: &mut Cursor<'_>) -> Result<SecretText, usize>
-    ensures { Reads (λ t. t.items) (checked (is_secret K.mechanism) (piece K.mechanism.secret)) cursor.old cursor.new result }
+    ensures { Reads (λ t. t.items) (checked (is_secret K.mechanism) (piece K.mechanism.secret))
+        cursor.old cursor.new result }
 {
     laws::<K>();
     let at = cursor.at();
@@ -115,7 +117,8 @@ pub(crate) fn read_receiving(
     side: Side,
     epoch: u32,
 ) -> Result<Option<Reception>, usize>
-    ensures { Reads (λ r. option_map reception_seen r) (receiving_field side epoch) cursor.old cursor.new result }
+    ensures { Reads (λ r. option_map reception_seen r)
+        (receiving_field side epoch) cursor.old cursor.new result }
 {
     if side.owns(epoch) && epoch == 0 {
         return Ok(None);
@@ -158,8 +161,10 @@ pub(crate) fn put_phase(out: &mut [u8], at: usize, phase: &Phase) -> usize
 
 /// Puts the stream of the latest peer's epoch.
 pub(crate) fn put_receiving(out: &mut [u8], at: usize, receiving: &Option<Reception>) -> usize
-    requires { at + length (print_maybe reception_text (option_map reception_seen receiving.now)) ≤ length out.old }
-    ensures { Puts out.old out.new at (print_maybe reception_text (option_map reception_seen receiving.now)) result }
+    requires { at + length (print_maybe reception_text (option_map reception_seen receiving.now))
+        ≤ length out.old }
+    ensures { Puts out.old out.new at
+        (print_maybe reception_text (option_map reception_seen receiving.now)) result }
 {
     match receiving {
         None => at,

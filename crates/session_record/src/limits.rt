@@ -7,7 +7,7 @@ use dr_base::{
 };
 
 /// The version, the side, the session id, the root and the epoch.
-pub(crate) const HEAD_SIZE: usize = 1 + 1 + 16 + 32 + 4;
+pub(crate) const HEADING_SIZE: usize = 1 + 1 + 16 + 32 + 4;
 
 /// A count of texts.
 pub(crate) const COUNT_SIZE: usize = 4;
@@ -39,9 +39,9 @@ pub(crate) const POST_LIMIT: usize = 2 + PACKET_LIMIT;
 /// The longest outbox: its packets after their number.
 pub(crate) const POSTS_LIMIT: usize = 1 + POST_LIMIT * OUTBOX_LIMIT;
 
-/// The longest record: its head, the keys of the epoch, the previous count, the receiving stream,
-/// the kept keys, the inbox and the outbox.
-pub const RECORD_LIMIT: usize = HEAD_SIZE
+/// The longest record: its heading, the keys of the epoch, the previous count, the receiving
+/// stream, the kept keys, the inbox and the outbox.
+pub const RECORD_LIMIT: usize = HEADING_SIZE
     + PHASE_LIMIT
     + COUNT_SIZE
     + STREAM_SIZE

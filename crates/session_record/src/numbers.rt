@@ -4,24 +4,10 @@ ghost use Rattle.std.specs.Prelude.{◌≡◌, ◌≤◌, IfOk};
 ghost use Rattle.std.specs.Int.{w8};
 ghost use Rattle.grammar.specs.Reader.{checked, number};
 ghost use Rattle.grammar.specs.Standing.{Reads};
-ghost use Rattle.session_record.specs.Fields.{code_of, count_field, epoch_field, is_version, previous_field, side_field, up_to};
+ghost use Rattle.session_record.specs.Fields.{code_of, count_field, epoch_field, previous_field, side_field, up_to};
 
 use dr_base::{INDEX_LIMIT, LAST_EPOCH, Side};
 use grammar::Cursor;
-
-/// The version of the record.
-pub(crate) const VERSION: u8 = 1;
-
-/// The version, which is 1.
-pub(crate) fn read_version(cursor: &mut Cursor<'_>) -> Result<(), usize>
-    ensures { Reads (λ _. 1) (checked is_version (number w8)) cursor.old cursor.new result }
-{
-    let at = cursor.at();
-    if cursor.number8()? != VERSION {
-        return Err(at);
-    }
-    Ok(())
-}
 
 /// The side.
 #[tactic(auto, unfolding(crate::specs::Fields::side_field))]
@@ -78,7 +64,8 @@ pub(crate) fn read_previous(cursor: &mut Cursor<'_>, side: Side, epoch: u32) -> 
 
 /// How many items a box holds: at most `limit`.
 pub(crate) fn read_len(cursor: &mut Cursor<'_>, limit: usize) -> Result<u8, usize>
-    ensures reads { Reads (λ n. n) (checked (up_to limit) (number w8)) cursor.old cursor.new result }
+    ensures reads { let count = checked (up_to limit) (number w8) in
+        Reads (λ n. n) count cursor.old cursor.new result }
     ensures few { IfOk result (λ n. n ≤ limit) }
 {
     let at = cursor.at();

@@ -12,10 +12,11 @@ ghost use Rattle.session_record.specs.Changes.{FitsOutbox, outbox_after};
 ghost use Rattle.session_record.specs.Lists.{outbox_field, post_field, post_of, post_text};
 
 use crate::change::Change;
+use crate::groups::Heading;
 use crate::numbers::read_len;
 use boxes::Outbox;
 use cka::agreement_length;
-use dr_base::{OUTBOX_LIMIT, PACKET_LIMIT, Position, Side, put, put_u8, put_u16};
+use dr_base::{OUTBOX_LIMIT, PACKET_LIMIT, Position, put, put_u8, put_u16};
 use grammar::Cursor;
 use kem_laws::{Kem, laws};
 use packet::{grammar, parse};
@@ -24,11 +25,11 @@ use packet::{grammar, parse};
 #[tactic(auto, unfolding(crate::specs::Lists::post_field, crate::specs::Lists::is_post, crate::specs::Lists::post_of))]
 fn read_post<'a, K: Kem>(
     cursor: &mut Cursor<'a>,
-    session: &[u8; 16],
-    side: Side,
-    epoch: u32,
+    heading: &Heading,
 ) -> Result<(Position, &'a [u8]), usize>
-    ensures reads { Reads (λ p. item_at p.0 p.1.now) (post_field K.mechanism session.now side epoch) cursor.old cursor.new result }
+    ensures reads { let h = heading.now in
+        let post = post_field K.mechanism h.session h.side h.epoch in
+        Reads (λ p. item_at p.0 p.1.now) post cursor.old cursor.new result }
     ensures fits { IfOk result (λ p. length p.1.now ≤ PACKET_LIMIT) }
 {
     laws::<K>();
@@ -40,7 +41,7 @@ fn read_post<'a, K: Kem>(
         Err(_) => Err(at),
         Ok(view) => {
             let of = view.epoch();
-            if *view.session() != *session || !side.owns(of) || of > epoch {
+            if *view.session() != heading.session || !heading.side.owns(of) || of > heading.epoch {
                 return Err(at);
             }
             let position = Position {
@@ -55,18 +56,18 @@ fn read_post<'a, K: Kem>(
 /// This many packets, put into the outbox.
 fn read_posts<K: Kem>(
     cursor: &mut Cursor<'_>,
-    session: &[u8; 16],
-    side: Side,
-    epoch: u32,
+    heading: &Heading,
     count: u8,
     outbox: &mut Outbox,
 ) -> Result<(), usize>
     requires few { count ≤ OUTBOX_LIMIT }
     requires empty { outbox.old ≡ [] }
-    ensures { Reads (λ _. outbox.new) (items (λ _. post_field K.mechanism session.now side epoch) count) cursor.old cursor.new result }
+    ensures { let h = heading.now in
+        let post = post_field K.mechanism h.session h.side h.epoch in
+        Reads (λ _. outbox.new) (items (λ _. post) count) cursor.old cursor.new result }
 {
     'posts: for _ in 0..count {
-        let (position, packet) = read_post::<K>(cursor, session, side, epoch)?;
+        let (position, packet) = read_post::<K>(cursor, heading)?;
         outbox.push(position, packet).unwrap();
     }
     Ok(())
@@ -76,53 +77,47 @@ fn read_posts<K: Kem>(
 #[tactic(auto, unfolding(crate::specs::Lists::outbox_field))]
 pub(crate) fn read_outbox<K: Kem>(
     cursor: &mut Cursor<'_>,
-    session: &[u8; 16],
-    side: Side,
-    epoch: u32,
+    heading: &Heading,
     outbox: &mut Outbox,
 ) -> Result<(), usize>
     requires { outbox.old ≡ [] }
-    ensures { Reads (λ _. outbox.new) (outbox_field K.mechanism session.now side epoch) cursor.old cursor.new result }
+    ensures { let h = heading.now in
+        let posts = outbox_field K.mechanism h.version h.session h.side h.epoch in
+        Reads (λ _. outbox.new) posts cursor.old cursor.new result }
 {
-    let count = read_len(cursor, OUTBOX_LIMIT)?;
-    read_posts::<K>(cursor, session, side, epoch, count, outbox)
+    let count = read_len(cursor, heading.version.outbox_most())?;
+    read_posts::<K>(cursor, heading, count, outbox)
 }
 
 /// This many packets, which are kept nowhere.
-fn skim_posts<K: Kem>(
-    cursor: &mut Cursor<'_>,
-    session: &[u8; 16],
-    side: Side,
-    epoch: u32,
-    count: u8,
-) -> Result<(), usize>
-    ensures { Skims (items (λ _. post_field K.mechanism session.now side epoch) count) cursor.old cursor.new result }
+fn skim_posts<K: Kem>(cursor: &mut Cursor<'_>, heading: &Heading, count: u8) -> Result<(), usize>
+    ensures { let h = heading.now in
+        let post = post_field K.mechanism h.session h.side h.epoch in
+        Skims (items (λ _. post) count) cursor.old cursor.new result }
 {
     'posts: for _ in 0..count {
-        let _one = read_post::<K>(cursor, session, side, epoch)?;
+        let _one = read_post::<K>(cursor, heading)?;
     }
     Ok(())
 }
 
 /// The packets after their count, which are kept nowhere.
 #[tactic(auto, unfolding(crate::specs::Lists::outbox_field))]
-pub(crate) fn skim_outbox<K: Kem>(
-    cursor: &mut Cursor<'_>,
-    session: &[u8; 16],
-    side: Side,
-    epoch: u32,
-) -> Result<(), usize>
-    ensures { Skims (outbox_field K.mechanism session.now side epoch) cursor.old cursor.new result }
+pub(crate) fn skim_outbox<K: Kem>(cursor: &mut Cursor<'_>, heading: &Heading) -> Result<(), usize>
+    ensures { let h = heading.now in
+        let posts = outbox_field K.mechanism h.version h.session h.side h.epoch in
+        Skims posts cursor.old cursor.new result }
 {
-    let count = read_len(cursor, OUTBOX_LIMIT)?;
-    skim_posts::<K>(cursor, session, side, epoch, count)
+    let count = read_len(cursor, heading.version.outbox_most())?;
+    skim_posts::<K>(cursor, heading, count)
 }
 
 /// Puts a packet after its length, whatever its position.
 fn put_post(out: &mut [u8], at: usize, packet: &[u8]) -> usize
     requires short { length packet.now ≤ PACKET_LIMIT }
     requires room { at + 2 + length packet.now ≤ length out.old }
-    ensures { (position : Position) → Puts out.old out.new at (post_text (item_at position packet.now)) result }
+    ensures { (position : Position) → let post = item_at position packet.now in
+        Puts out.old out.new at (post_text post) result }
 {
     let at_packet = put_u16(out, at, packet.len() as u16);
     put(out, at_packet, packet)
@@ -147,7 +142,8 @@ fn put_posts(out: &mut [u8], at: usize, outbox: &Outbox, from: u32) -> usize
 /// Puts the packets from a place on, after their count.
 fn put_later(out: &mut [u8], at: usize, outbox: &Outbox, from: u32) -> usize
     requires inside { from ≤ length outbox.now }
-    requires room { at + length (print_counted w8 post_text (drop from outbox.now)) ≤ length out.old }
+    requires room { let later = drop from outbox.now in
+        at + length (print_counted w8 post_text later) ≤ length out.old }
     ensures { Puts out.old out.new at (print_counted w8 post_text (drop from outbox.now)) result }
 {
     let next = put_u8(out, at, (outbox.len() - from) as u8);
@@ -158,8 +154,10 @@ fn put_later(out: &mut [u8], at: usize, outbox: &Outbox, from: u32) -> usize
 fn put_more<K: Kem>(out: &mut [u8], at: usize, outbox: &Outbox, packet: &[u8]) -> usize
     requires space { length outbox.now < OUTBOX_LIMIT }
     requires short { length packet.now ≤ PACKET_LIMIT }
-    requires room { at + length (print_counted w8 post_text (outbox.now ++ post_of K.mechanism packet.now ∷ [])) ≤ length out.old }
-    ensures { Puts out.old out.new at (print_counted w8 post_text (outbox.now ++ post_of K.mechanism packet.now ∷ [])) result }
+    requires room { let more = outbox.now ++ post_of K.mechanism packet.now ∷ [] in
+        at + length (print_counted w8 post_text more) ≤ length out.old }
+    ensures { let more = outbox.now ++ post_of K.mechanism packet.now ∷ [] in
+        Puts out.old out.new at (print_counted w8 post_text more) result }
 {
     let at_first = put_u8(out, at, outbox.len() as u8 + 1);
     let at_last = put_posts(out, at_first, outbox, 0);
@@ -174,8 +172,10 @@ pub(crate) fn put_outbox<K: Kem>(
     change: &Change<'_>,
 ) -> usize
     requires fits { FitsOutbox outbox.now change.now }
-    requires room { at + length (print_counted w8 post_text (outbox_after K.mechanism outbox.now change.now)) ≤ length out.old }
-    ensures { Puts out.old out.new at (print_counted w8 post_text (outbox_after K.mechanism outbox.now change.now)) result }
+    requires room { let after = outbox_after K.mechanism outbox.now change.now in
+        at + length (print_counted w8 post_text after) ≤ length out.old }
+    ensures { let after = outbox_after K.mechanism outbox.now change.now in
+        Puts out.old out.new at (print_counted w8 post_text after) result }
 {
     match change {
         Change::Said { packet } => put_more::<K>(out, at, outbox, packet),

@@ -1,14 +1,25 @@
-use Rattle.std.proofs.Common.{arith}
+use Rattle.std.proofs.Common.{ap, arith}
 use Rattle.dr_base.proofs.Bytes.{are_bytes}
-use Rattle.session_record.specs.Seen.{client_read}
+use Rattle.session_record.specs.Record.{record_read, saved_of, without_version}
+use Rattle.session_record.specs.Seen.{groups_read}
 use Rattle.session_record.proofs.decoding.decode.Goals as goal
 
 pub part_of-requires : goal.part_of-requires
 part_of-requires g c =
     let bytes = are_bytes c.args.text.now (λ i. omega (arith, c.type_inv.text i)) in
-    ((c.record_law.ensures g.K.Kem.mechanism).only c.args.text.now (client_read c.in-Ok.fields c.read_whole.new.inbox c.read_whole.new.outbox) bytes c.in-Ok.ensures).1.state
+    let saved = saved_of (groups_read c.in-Ok.heading c.in-Ok.keys c.read_whole.new.inbox c.read_whole.new.outbox) in
+    ((c.version_law.ensures g.K.Kem.mechanism).only c.args.text.now saved bytes c.in-Ok.ensures).1.client.state
+
+pub returns-in-Ok-clause-exact : goal.returns-in-Ok-clause-exact
+unfolding record_read
+returns-in-Ok-clause-exact g c = rw c.part_of.ensures (ap without_version c.in-Ok.ensures)
 
 pub returns-in-Ok-clause-lawful : goal.returns-in-Ok-clause-lawful
 returns-in-Ok-clause-lawful g c =
     let bytes = are_bytes c.args.text.now (λ i. omega (arith, c.type_inv.text i)) in
-    rw c.part_of.ensures ((c.record_law.ensures g.K.Kem.mechanism).only c.args.text.now (client_read c.in-Ok.fields c.read_whole.new.inbox c.read_whole.new.outbox) bytes c.in-Ok.ensures).1
+    let saved = saved_of (groups_read c.in-Ok.heading c.in-Ok.keys c.read_whole.new.inbox c.read_whole.new.outbox) in
+    rw c.part_of.ensures ((c.version_law.ensures g.K.Kem.mechanism).only c.args.text.now saved bytes c.in-Ok.ensures).1.client
+
+pub returns-in-Err-clause-exact : goal.returns-in-Err-clause-exact
+unfolding record_read
+returns-in-Err-clause-exact g c = ap without_version c.in-Err.ensures

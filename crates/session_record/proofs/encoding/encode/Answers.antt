@@ -12,41 +12,72 @@ holds : (text : List ℕ) (room : ℕ) → HasRoom RECORD_LIMIT text room → le
 holds text room (inl fits) short = fits
 holds text room (inr any) short = omega (arith, any, short)
 
-pub put_part-at_inbox-requires : goal.put_part-at_inbox-requires
-put_part-at_inbox-requires g c =
+pub put_heading-at_keys-requires : goal.put_heading-at_keys-requires
+put_heading-at_keys-requires g c =
     let client = changed g.K.Kem.mechanism (client_of c.args.part.now c.args.inbox.now c.args.outbox.now) c.args.change.now in
     let room = holds (record_text client) (length c.args.out.now) c.requires.room c.is_short.ensures in
     omega (arith, room, text_size client)
+
+pub put_keys-at_inbox-requires : goal.put_keys-at_inbox-requires
+put_keys-at_inbox-requires g c =
+    let client = changed g.K.Kem.mechanism (client_of c.args.part.now c.args.inbox.now c.args.outbox.now) c.args.change.now in
+    let room = holds (record_text client) (length c.args.out.now) c.requires.room c.is_short.ensures in
+    omega (arith, room, text_size client, c.put_heading-at_keys.ensures.next_is)
 
 pub put_inbox-at_outbox-requires-clause-room : goal.put_inbox-at_outbox-requires-clause-room
 put_inbox-at_outbox-requires-clause-room g c =
     let client = changed g.K.Kem.mechanism (client_of c.args.part.now c.args.inbox.now c.args.outbox.now) c.args.change.now in
     let room = holds (record_text client) (length c.args.out.now) c.requires.room c.is_short.ensures in
-    omega (arith, room, text_size client, c.put_part-at_inbox.ensures.next_is)
+    omega (arith, room, text_size client, c.put_heading-at_keys.ensures.next_is, c.put_keys-at_inbox.ensures.next_is)
 
 pub put_outbox-requires-clause-room : goal.put_outbox-requires-clause-room
 put_outbox-requires-clause-room g c =
     let client = changed g.K.Kem.mechanism (client_of c.args.part.now c.args.inbox.now c.args.outbox.now) c.args.change.now in
     let room = holds (record_text client) (length c.args.out.now) c.requires.room c.is_short.ensures in
-    omega (arith, room, text_size client, c.put_part-at_inbox.ensures.next_is, c.put_inbox-at_outbox.ensures.next_is)
+    omega (
+      arith,
+      room,
+      text_size client,
+      c.put_heading-at_keys.ensures.next_is,
+      c.put_keys-at_inbox.ensures.next_is,
+      c.put_inbox-at_outbox.ensures.next_is,
+    )
 
 pub returns-clause-len : goal.returns-clause-len
 returns-clause-len g c =
     let client = changed g.K.Kem.mechanism (client_of c.args.part.now c.args.inbox.now c.args.outbox.now) c.args.change.now in
-    let l : c.put_outbox.result ≡ length (record_text (changed g.K.Kem.mechanism (client_of c.args.part.now c.args.inbox.now c.args.outbox.now) c.args.change.now)) =
-    omega (arith, text_size client, c.put_part-at_inbox.ensures.next_is, c.put_inbox-at_outbox.ensures.next_is, c.put_outbox.ensures.next_is) in
+    let l : c.put_outbox.result ≡ length (record_text client) =
+    omega (
+      arith,
+      text_size client,
+      c.put_heading-at_keys.ensures.next_is,
+      c.put_keys-at_inbox.ensures.next_is,
+      c.put_inbox-at_outbox.ensures.next_is,
+      c.put_outbox.ensures.next_is,
+    ) in
     l
 
 pub returns-clause-written : goal.returns-clause-written
 returns-clause-written g c =
     let client = changed g.K.Kem.mechanism (client_of c.args.part.now c.args.inbox.now c.args.outbox.now) c.args.change.now in
-    let all = then_puts c.put_part-at_inbox.ensures (then_puts c.put_inbox-at_outbox.ensures c.put_outbox.ensures) in
+    let boxes = then_puts c.put_inbox-at_outbox.ensures c.put_outbox.ensures in
+    let all = then_puts c.put_heading-at_keys.ensures (then_puts c.put_keys-at_inbox.ensures boxes) in
     all.front ∙ sym (text_pieces client)
 
 pub returns-clause-rest : goal.returns-clause-rest
-returns-clause-rest g c = (then_puts c.put_part-at_inbox.ensures (then_puts c.put_inbox-at_outbox.ensures c.put_outbox.ensures)).rest
+returns-clause-rest g c =
+    let boxes = then_puts c.put_inbox-at_outbox.ensures c.put_outbox.ensures in
+    (then_puts c.put_heading-at_keys.ensures (then_puts c.put_keys-at_inbox.ensures boxes)).rest
 
 pub returns-clause-limit : goal.returns-clause-limit
 returns-clause-limit g c =
     let client = changed g.K.Kem.mechanism (client_of c.args.part.now c.args.inbox.now c.args.outbox.now) c.args.change.now in
-    omega (arith, c.is_short.ensures, text_size client, c.put_part-at_inbox.ensures.next_is, c.put_inbox-at_outbox.ensures.next_is, c.put_outbox.ensures.next_is)
+    omega (
+      arith,
+      c.is_short.ensures,
+      text_size client,
+      c.put_heading-at_keys.ensures.next_is,
+      c.put_keys-at_inbox.ensures.next_is,
+      c.put_inbox-at_outbox.ensures.next_is,
+      c.put_outbox.ensures.next_is,
+    )

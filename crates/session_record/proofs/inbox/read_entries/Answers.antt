@@ -12,7 +12,7 @@ pub entries-init : goal.entries-init
 entries-init c =
     let start = c.args.cursor.now in
     record {
-      read = rw c.requires.empty (items-none (λ _. entry_field c.args.side c.args.epoch) start.at start.rest);
+      read = rw c.requires.empty (items-none (λ _. entry_field c.args.heading.now.version c.args.heading.now.side c.args.heading.now.epoch) start.at start.rest);
       long = ap (λ (l : List Item). length l) c.requires.empty;
     }
 
@@ -23,7 +23,7 @@ returns-in_err-one c =
     let before : Read (List Item) = record { value = c.entries.inbox; at = here.at; rest = here.rest } in
     let p = err_from_is_err_and c.from_residual.result c.from_residual.ensures.1 in
     rw (p.1, p.2)
-    (items-fault (λ _. entry_field c.args.side c.args.epoch) start.at start.rest c.entries.counter before c.in_err-one.field-0.0
+    (items-fault (λ _. entry_field c.args.heading.now.version c.args.heading.now.side c.args.heading.now.epoch) start.at start.rest c.entries.counter before c.in_err-one.field-0.0
     c.entries.invariant.read c.in_err-one.ensures.reads c.args.count (omega arith))
 
 pub entries-preserved : goal.entries-preserved
@@ -36,7 +36,7 @@ entries-preserved c =
     let one : Read Item = record { value = item; at = next.at; rest = next.rest } in
     let pushed : c.push.new.self ≡ c.entries.inbox ++ entry_item c.in_ok-one.one ∷ [] = search rules in
     let more =
-    items-more (λ _. entry_field c.args.side c.args.epoch) start.at start.rest c.entries.counter before one c.entries.invariant.read c.in_ok-one.ensures.reads in
+    items-more (λ _. entry_field c.args.heading.now.version c.args.heading.now.side c.args.heading.now.epoch) start.at start.rest c.entries.counter before one c.entries.invariant.read c.in_ok-one.ensures.reads in
     record {
       read = rw pushed more;
       long = ap (λ (l : List Item). length l) pushed ∙ length_push c.entries.inbox item ∙ ap (λ n. n + 1) c.entries.invariant.long;

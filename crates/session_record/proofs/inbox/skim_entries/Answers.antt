@@ -8,7 +8,7 @@ use Rattle.session_record.specs.Lists.{entry_field}
 use Rattle.session_record.proofs.inbox.skim_entries.Goals as goal
 
 pub entries-init : goal.entries-init
-entries-init c = ([], items-none (λ _. entry_field c.args.side c.args.epoch) c.args.cursor.now.at c.args.cursor.now.rest)
+entries-init c = ([], items-none (λ _. entry_field c.args.heading.now.version c.args.heading.now.side c.args.heading.now.epoch) c.args.cursor.now.at c.args.cursor.now.rest)
 
 pub returns-in_err-_one : goal.returns-in_err-_one
 returns-in_err-_one c =
@@ -17,7 +17,7 @@ returns-in_err-_one c =
     let before : Read (List Item) = record { value = c.entries.invariant.0; at = here.at; rest = here.rest } in
     let p = err_from_is_err_and c.from_residual.result c.from_residual.ensures.1 in
     rw (p.1, p.2)
-    (items-fault (λ _. entry_field c.args.side c.args.epoch) start.at start.rest c.entries.counter before c.in_err-_one.field-0.0
+    (items-fault (λ _. entry_field c.args.heading.now.version c.args.heading.now.side c.args.heading.now.epoch) start.at start.rest c.entries.counter before c.in_err-_one.field-0.0
     c.entries.invariant.1 c.in_err-_one.ensures.reads c.args.count (omega arith))
 
 pub entries-preserved : goal.entries-preserved
@@ -30,5 +30,5 @@ entries-preserved c =
     let before : Read (List Item) = record { value = list; at = here.at; rest = here.rest } in
     let one : Read Item = record { value = item; at = next.at; rest = next.rest } in (
       list ++ item ∷ [],
-      items-more (λ _. entry_field c.args.side c.args.epoch) start.at start.rest c.entries.counter before one c.entries.invariant.1 c.in_ok-_one.ensures.reads,
+      items-more (λ _. entry_field c.args.heading.now.version c.args.heading.now.side c.args.heading.now.epoch) start.at start.rest c.entries.counter before one c.entries.invariant.1 c.in_ok-_one.ensures.reads,
     )

@@ -8,13 +8,13 @@ use Rattle.session_record.proofs.outbox.skim_posts.Goals as goal
 
 pub posts-init : goal.posts-init
 posts-init g c =
-    ([], items-none (λ _. post_field g.K.Kem.mechanism c.args.session.now c.args.side c.args.epoch) c.args.cursor.now.at c.args.cursor.now.rest)
+    ([], items-none (λ _. post_field g.K.Kem.mechanism c.args.heading.now.session c.args.heading.now.side c.args.heading.now.epoch) c.args.cursor.now.at c.args.cursor.now.rest)
 
 pub returns-in_err-_one : goal.returns-in_err-_one
 returns-in_err-_one g c =
     let start = c.args.cursor.now in
     let here = c.posts.cursor in
-    let field = post_field g.K.Kem.mechanism c.args.session.now c.args.side c.args.epoch in
+    let field = post_field g.K.Kem.mechanism c.args.heading.now.session c.args.heading.now.side c.args.heading.now.epoch in
     let before : Read (List Item) = record { value = c.posts.invariant.0; at = here.at; rest = here.rest } in
     let p = err_from_is_err_and c.from_residual.result c.from_residual.ensures.1 in
     rw (p.1, p.2)
@@ -26,7 +26,7 @@ posts-preserved g c =
     let start = c.args.cursor.now in
     let here = c.posts.cursor in
     let next = c.read_post.new.cursor in
-    let field = post_field g.K.Kem.mechanism c.args.session.now c.args.side c.args.epoch in
+    let field = post_field g.K.Kem.mechanism c.args.heading.now.session c.args.heading.now.side c.args.heading.now.epoch in
     let list = c.posts.invariant.0 in
     let item : Item = item_at c.in_ok-_one._one.0 c.in_ok-_one._one.1.now in
     let before : Read (List Item) = record { value = list; at = here.at; rest = here.rest } in

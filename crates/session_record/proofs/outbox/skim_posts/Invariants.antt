@@ -5,4 +5,4 @@ use Rattle.session_record.specs.Lists.{post_field}
 use Rattle.session_record.proofs.outbox.skim_posts.Given as goal
 
 abbrev pub invariant-posts : goal.invariant-posts
-invariant-posts g l = (list : List Item) × (items (λ _. post_field g.K.Kem.mechanism l.session l.side l.epoch) l.counter l.initial.cursor.at l.initial.cursor.rest ≡ Ok (record { value = list; at = l.cursor.at; rest = l.cursor.rest }))
+invariant-posts g l = (list : List Item) × (items (λ _. post_field g.K.Kem.mechanism l.heading.session l.heading.side l.heading.epoch) l.counter l.initial.cursor.at l.initial.cursor.rest ≡ Ok (record { value = list; at = l.cursor.at; rest = l.cursor.rest }))

@@ -7,13 +7,13 @@ use Rattle.grammar.proofs.Loops.{items-none, items-more, items-fault}
 use Rattle.session_record.specs.Lists.{kept_item, last_position}
 use Rattle.dr_base.specs.Position.{position_at}
 use Rattle.session_record.proofs.Lasts.{last_of-push}
-use Rattle.session_record.proofs.kept.read_keys.Goals as goal
+use Rattle.session_record.proofs.kept.read_each.Goals as goal
 
 pub keys-init : goal.keys-init
 keys-init c =
     let start = c.args.cursor.now in
     record {
-      read = items-none (kept_item c.args.side c.args.epoch c.args.reach) start.at start.rest
+      read = items-none (kept_item c.args.heading.now.side c.args.heading.now.epoch c.args.reach) start.at start.rest
           ∙ ap (λ l. Ok (record { value = l; at = start.at; rest = start.rest })) (sym c.new-list.ensures);
       last = ap last_position (sym c.new-list.ensures);
       long = ap (λ (l : List Kept). length l) c.new-list.ensures;
@@ -25,10 +25,10 @@ returns-in_err-one c =
     let here = c.keys.cursor in
     let before : Read (List Kept) = record { value = c.keys.list.items; at = here.at; rest = here.rest } in
     let p = err_from_is_err_and c.from_residual.result c.from_residual.ensures.1 in
-    let next : kept_item c.args.side c.args.epoch c.args.reach c.keys.list.items c.keys.cursor.at c.keys.cursor.rest ≡ Err c.in_err-one.field-0.0 =
+    let next : kept_item c.args.heading.now.side c.args.heading.now.epoch c.args.reach c.keys.list.items c.keys.cursor.at c.keys.cursor.rest ≡ Err c.in_err-one.field-0.0 =
     cc (c.in_err-one.ensures, c.keys.invariant.last) in
     rw (p.1, p.2)
-    (items-fault (kept_item c.args.side c.args.epoch c.args.reach) start.at start.rest c.keys.counter before c.in_err-one.field-0.0
+    (items-fault (kept_item c.args.heading.now.side c.args.heading.now.epoch c.args.reach) start.at start.rest c.keys.counter before c.in_err-one.field-0.0
     c.keys.invariant.read next c.args.count (omega arith))
 
 pub keys-preserved : goal.keys-preserved
@@ -39,9 +39,9 @@ keys-preserved c =
     let list = c.keys.list.items in
     let before : Read (List Kept) = record { value = list; at = here.at; rest = here.rest } in
     let one : Read Kept = record { value = c.in_ok-one.one; at = behind.at; rest = behind.rest } in
-    let next : kept_item c.args.side c.args.epoch c.args.reach c.keys.list.items c.keys.cursor.at c.keys.cursor.rest
+    let next : kept_item c.args.heading.now.side c.args.heading.now.epoch c.args.reach c.keys.list.items c.keys.cursor.at c.keys.cursor.rest
     ≡ Ok (record { value = c.in_ok-one.one; at = c.read_one.new.cursor.at; rest = c.read_one.new.cursor.rest }) = cc (c.in_ok-one.ensures, c.keys.invariant.last) in
-    let more = items-more (kept_item c.args.side c.args.epoch c.args.reach) start.at start.rest c.keys.counter before one c.keys.invariant.read next in
+    let more = items-more (kept_item c.args.heading.now.side c.args.heading.now.epoch c.args.reach) start.at start.rest c.keys.counter before one c.keys.invariant.read next in
     record {
       read = rw c.push.ensures.items more;
       last = sym (last_of-push (position_at 0 0) list c.in_ok-one.one) ∙ ap last_position (sym c.push.ensures.items);

@@ -4,7 +4,7 @@ use Rattle.dr_base.specs.declared.key.Kept.{Kept}
 use Rattle.grammar.proofs.Putting.{puts_no_items, puts_next, room_next}
 use Rattle.session_record.specs.Lists.{kept_text}
 use Rattle.dr_base.specs.Position.{position_at}
-use Rattle.session_record.proofs.kept.put_keys.Goals as goal
+use Rattle.session_record.proofs.kept.put_each.Goals as goal
 
 -- what an index past the end gives
 abbrev no_key : Kept

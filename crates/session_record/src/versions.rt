@@ -1,0 +1,94 @@
+//! The versions of a record, and what each of them allows.
+
+ghost use Rattle.std.specs.Prelude.{◌≡◌, ◌≤◌};
+ghost use Rattle.grammar.specs.Standing.{Reads};
+ghost use Rattle.session_record.specs.Fields.{version_field};
+ghost use Rattle.session_record.specs.Versions.{inbox_most, kept_most, outbox_most, text_most, version_code};
+
+use dr_base::{INBOX_LIMIT, KEPT_LIMIT, OUTBOX_LIMIT, TEXT_LIMIT};
+use grammar::Cursor;
+
+/// The longest text of version 1, in bytes. Each version keeps its limits when those of the product
+/// grow: then there is a version more.
+pub(crate) const FIRST_TEXT_LIMIT: usize = 1024;
+
+/// The most kept keys of version 1.
+pub(crate) const FIRST_KEPT_LIMIT: usize = 256;
+
+/// The most texts in an inbox of version 1.
+pub(crate) const FIRST_INBOX_LIMIT: usize = 64;
+
+/// The most packets in an outbox of version 1.
+pub(crate) const FIRST_OUTBOX_LIMIT: usize = 32;
+
+/// A version, which a record begins with.
+#[derive(Clone, Copy)]
+pub(crate) enum Version {
+    One,
+}
+
+/// The version that is written.
+pub(crate) const NEWEST: Version = Version::One;
+
+impl Version {
+    /// Its byte.
+    pub(crate) fn code(self) -> u8
+        ensures { result ≡ version_code self }
+    {
+        match self {
+            Version::One => 1,
+        }
+    }
+
+    /// The longest text, in bytes.
+    pub(crate) fn text_most(self) -> usize
+        ensures value { result ≡ text_most self }
+        ensures most { result ≤ TEXT_LIMIT }
+    {
+        match self {
+            Version::One => FIRST_TEXT_LIMIT,
+        }
+    }
+
+    /// The most kept keys.
+    pub(crate) fn kept_most(self) -> usize
+        ensures value { result ≡ kept_most self }
+        ensures most { result ≤ KEPT_LIMIT }
+    {
+        match self {
+            Version::One => FIRST_KEPT_LIMIT,
+        }
+    }
+
+    /// The most texts in an inbox.
+    pub(crate) fn inbox_most(self) -> usize
+        ensures value { result ≡ inbox_most self }
+        ensures most { result ≤ INBOX_LIMIT }
+    {
+        match self {
+            Version::One => FIRST_INBOX_LIMIT,
+        }
+    }
+
+    /// The most packets in an outbox.
+    pub(crate) fn outbox_most(self) -> usize
+        ensures value { result ≡ outbox_most self }
+        ensures most { result ≤ OUTBOX_LIMIT }
+    {
+        match self {
+            Version::One => FIRST_OUTBOX_LIMIT,
+        }
+    }
+}
+
+/// The version.
+#[tactic(auto, unfolding(crate::specs::Fields::version_field))]
+pub(crate) fn read_version(cursor: &mut Cursor<'_>) -> Result<Version, usize>
+    ensures { Reads (λ v. v) version_field cursor.old cursor.new result }
+{
+    let at = cursor.at();
+    match cursor.number8()? {
+        1 => Ok(Version::One),
+        _ => Err(at),
+    }
+}
