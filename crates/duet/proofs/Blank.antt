@@ -1,5 +1,5 @@
 -- A disk of zeros holds no record.
-use Rattle.std.proofs.Common.{List, arith, refl, replicate, sym, ℕ, ◌+◌, ◌≤◌, ◌∙◌, ◌≡◌}
+use Rattle.std.proofs.Common.{List, arith, refl, replicate, sym, ℕ, ◌≤◌, ◌∙◌, ◌≡◌}
 use Rattle.std.proofs.lemmas.List.{length-replicate}
 use Rattle.dr_disk.specs.MemoryDisks.{IsBlank, state_of}
 use Rattle.dr_disk.specs.State.{DiskState}

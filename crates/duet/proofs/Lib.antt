@@ -1,13 +1,14 @@
-pub mod Acted
 pub mod Beginning
 pub mod Blank
 pub mod Finding
 pub mod Following
+pub mod Gathering
 pub mod MadeFairly
 pub mod Meets
-pub mod Packets
 pub mod PlayedDeeds
 pub mod PlayedLines
+pub mod Prepared
+pub mod SaidActs
 pub mod SaidBoxes
 pub mod SaidSyncs
 pub mod Showing

@@ -17,13 +17,16 @@ use Rattle.session_model.specs.declared.answer.Answer.{Answer}
 use Rattle.duet.specs.Outcomes.{Beside, deed_on}
 use Rattle.scripts.specs.Deeds.{Deed, acts, stops, syncs}
 use Rattle.duet.specs.Held.{shown}
-use Rattle.scripts.specs.Lined.{call_event}
+use Rattle.scripts.proofs.Calls.{acting_call}
+use Rattle.scripts.specs.Seen.{call_event, take_event}
 use Rattle.duet.specs.Replies.{entry_line, reply_line, reply_of}
 use Rattle.scripts.specs.Sides.{acting_side}
 use Rattle.duet.specs.Stops.{cut_event, cut_of, stopped_on}
 use Rattle.scripts.specs.declared.lined.Stop.{Stop}
-use Rattle.scripts.specs.declared.lined.StoppedCall.{StoppedCall}
-use Rattle.scripts.specs.declared.lined.StoppedCall.TheVariants.{Done, Say, Sent, Take, TakeNth}
+use Rattle.scripts.specs.declared.call.Call.{Call}
+use Rattle.scripts.specs.declared.call.Call.TheVariants.{Done, Say, Sent, Take}
+use Rattle.scripts.specs.declared.call.Source.{Source}
+use Rattle.scripts.specs.declared.call.Source.TheVariants.{At, Bytes, Flipped, Nth}
 
 -- a step that shows no text, adds at most one packet to the network, and makes at most one draw
 record IsQuiet (s : Sides) (made : Step Sides) : Type 0 where
@@ -154,17 +157,22 @@ adds_few k s (syncs side lost) = adds_none s.ends side _
 
 -- ---- a call in which a disk stops shows no text
 
-call_shows_none : (t : Sides) (call : StoppedCall) → shown (call_event call) t ≡ []
-call_shows_none t (Say side text) = refl
-call_shows_none t (Take side p) = refl
-call_shows_none t (TakeNth side nth) = refl
-call_shows_none t (Sent side n) = refl
-call_shows_none t (Done side n) = refl
+take_shows_none : (t : Sides) (side : Side) (source : Source) → shown (take_event side source) t ≡ []
+take_shows_none t side (At p) = refl
+take_shows_none t side (Nth nth) = refl
+take_shows_none t side (Flipped p bit) = refl
+take_shows_none t side (Bytes hex) = refl
 
-cut_shows_none : (t : Sides) (cut : Option Bool) (call : StoppedCall)
-    → shown (cut_event cut (call_event call)) t ≡ []
-cut_shows_none t None call = call_shows_none t call
-cut_shows_none t (Some replaced) call = call_shows_none t call
+call_shows_none : (t : Sides) (side : Side) (call : Call) → shown (call_event side call) t ≡ []
+call_shows_none t side (Say text) = refl
+call_shows_none t side (Take source) = take_shows_none t side source
+call_shows_none t side (Sent amount) = refl
+call_shows_none t side (Done amount) = refl
+
+cut_shows_none : (t : Sides) (cut : Option Bool) (side : Side) (call : Call)
+    → shown (cut_event cut (call_event side call)) t ≡ []
+cut_shows_none t None side call = call_shows_none t side call
+cut_shows_none t (Some replaced) side call = call_shows_none t side call
 
 cut_acting : (cut : Option Bool) (event : Event)
     → acting_side (cut_event cut event) ≡ acting_side event
@@ -172,13 +180,13 @@ cut_acting None event = refl
 cut_acting (Some replaced) event = refl
 
 -- so its reply is its line
-pub stop_reply : (k : Mechanism) (s : Sides) (stop : Stop) (side : Side) (answer : Answer)
-    → let event = stopped_on k s stop.after stop.mode (call_event stop.call) in
-    side ≡ acting_side (call_event stop.call) → answer ≡ (step_on k s event).answer
-    → reply_line side answer ≡ reply_of event (step_on k s event)
+pub stop_reply : (k : Mechanism) (s : Sides) (stop : Stop) (answer : Answer)
+    → let event = stopped_on k s stop.after stop.mode (call_event stop.side stop.call) in
+    answer ≡ (step_on k s event).answer
+    → reply_line stop.side answer ≡ reply_of event (step_on k s event)
 unfolding reply_of stopped_on
-stop_reply k s stop side answer own_is is =
-    let call = call_event stop.call in
+stop_reply k s stop answer is =
+    let call = call_event stop.side stop.call in
     let own = acting_side call in
     let next = client_of (step_on k s call).next own in
     let cut = cut_of stop.after stop.mode (client_of s own) next in
@@ -186,7 +194,7 @@ stop_reply k s stop side answer own_is is =
     let made = step_on k s event in
     let same = cut_acting cut call in
     let none : made.entries ≡ [] =
-    sym (shown-entries k s event) ∙ cut_shows_none made.next cut stop.call in
+    sym (shown-entries k s event) ∙ cut_shows_none made.next cut stop.side stop.call in
     let line = reply_line (acting_side event) made.answer in
-    ap₂ reply_line (own_is ∙ sym same) is ∙ sym (append-nil line)
+    ap₂ reply_line (sym (acting_call stop.side stop.call) ∙ sym same) is ∙ sym (append-nil line)
     ∙ ap (λ entries. line ++ flat_map (entry_line (acting_side event)) entries) (sym none)

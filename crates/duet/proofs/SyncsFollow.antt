@@ -1,11 +1,11 @@
 -- A sync of a side, and the same in the world that both sides stand for.
-use Rattle.std.proofs.Common.{◌≡◌, ℕ, List, [], ◌++◌, Option, refl, sym, ◌∙◌, ap, ap₂}
+use Rattle.std.proofs.Common.{◌≡◌, ℕ, List, [], ◌++◌, Option, Result, Ok, Err, refl, sym, ◌∙◌, ap, ap₂}
 use Rattle.dr_model.proofs.Acting.Keeping.{own_client}
 use Rattle.dr_base.specs.declared.position.Side.{Side}
 use Rattle.dr_base.specs.declared.position.Side.TheVariants.{First, Second}
-use Rattle.dr_model.specs.Machines.Acts.{Act, act_in, act_on, event_of, sending, taking}
-use Rattle.dr_model.specs.Machines.Sides.{Sides, client_of, step_on, with_client}
-use Rattle.dr_model.specs.Machines.Steps.{Step, settled}
+use Rattle.dr_model.specs.Machines.Acts.{Act, act_in, act_on, event_of, sending, sent_by, taken_by, taking}
+use Rattle.dr_model.specs.Machines.Sides.{Sides, client_of, opened_on, sent_on, step_on, with_client}
+use Rattle.dr_model.specs.Machines.Steps.{Step, settled, step}
 use Rattle.dr_model.specs.Machines.WorldSides.{kept_in, sides_of}
 use Rattle.dr_model.specs.Machines.Worlds.{World}
 use Rattle.dr_model.specs.Theorems.Fairness.{IsUnforged}
@@ -16,7 +16,9 @@ use Rattle.dr_model.proofs.Worlds.WorldViews.{client_of-kept}
 use Rattle.kem_laws.specs.Mechanism.{IsLawfulMechanism, Mechanism}
 use Rattle.relay_core.specs.Boxes.{Box}
 use Rattle.relay_link.specs.Connections.{kept_before}
-use Rattle.session_model.specs.Clients.{Client, dropped_of, take_on}
+use Rattle.session_model.specs.Clients.{Client, TakenPacket, dropped_of, take_on}
+use Rattle.session_model.specs.declared.answer.Refusal.{Refusal}
+use Rattle.boxes.specs.Items.{Item}
 use Rattle.sync_model.specs.Moves.{Ending, Wait, acking, box_is_full, ended, fetching, inbox_full, no_such_box, over, posting, wrong}
 use Rattle.sync_model.specs.Parties.{Party}
 use Rattle.sync_model.specs.Scenes.{IsSameScene, MeetsFairly, scene}
@@ -28,7 +30,7 @@ use Rattle.client.specs.Syncing.Parties.{client_party, is_full, waiting, world_p
 use Rattle.duet.specs.Outcomes.{Played, ending_line, closing_line, sync_lines, synced_on}
 use Rattle.duet.specs.Held.{on_side}
 use Rattle.scripts.specs.Sides.{side_text}
-use Rattle.duet.proofs.Stopped.Sides.{opened_side, same_client, sent_side}
+use Rattle.duet.proofs.Gathering.{same_client}
 
 -- ---- one side among both
 
@@ -39,6 +41,16 @@ given_twice s Second one other = refl
 -- what a side takes or sends is its own step
 abbrev IsOwn : Mechanism → Side → Act → Type 0
 IsOwn k side act = (s : Sides) → step_on k s (event_of side act) ≡ on_side s side (settled (client_of s side) (act_on k (client_of s side) act))
+
+opened_side : (s : Sides) (side : Side) (r : Result TakenPacket Refusal)
+    → opened_on s side r ≡ on_side s side (settled (client_of s side) (taken_by r))
+opened_side s side (Ok taken) = refl
+opened_side s side (Err refusal) = ap (λ (x : Sides). step _ x) (sym (same_client s side))
+
+sent_side : (s : Sides) (side : Side) (n : ℕ) (r : Result (List Item) Refusal)
+    → sent_on s side n r ≡ on_side s side (settled (client_of s side) (sent_by (client_of s side) n r))
+sent_side s side n (Ok outbox) = refl
+sent_side s side n (Err refusal) = ap (λ (x : Sides). step _ x) (sym (same_client s side))
 
 takes_own : (k : Mechanism) (side : Side) (bytes : List ℕ) → IsOwn k side (taking bytes)
 takes_own k side bytes s = opened_side s side (take_on k (client_of s side) bytes)

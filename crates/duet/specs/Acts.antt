@@ -1,13 +1,23 @@
 -- What a side does by a call on its client, and how that ends.
-use Rattle.std.specs.Prelude.{IfSome, Ok, Result, is_some, length, ⊤, ◌≡◌}
+use Rattle.std.specs.Prelude.{Err, IfSome, List, Ok, Option, Result, Some, false, is_some, length, ℕ, ⊤, ◌≡◌}
+use Rattle.boxes.specs.Items.{Item}
 use Rattle.kem_laws.specs.Mechanism.{Mechanism}
 use Rattle.dr_base.specs.Bytes.{AreBytes}
+use Rattle.dr_base.specs.declared.position.Side.{Side}
 use Rattle.dr_model.specs.Machines.Acts.{finished_by, said_by, sent_by, taken_by}
-use Rattle.dr_model.specs.Machines.Steps.{Step}
+use Rattle.dr_model.specs.Machines.Events.{Event}
+use Rattle.dr_model.specs.Machines.Network.{flipped_at, held_at, held_nth}
+use Rattle.dr_model.specs.Machines.Sides.{Sides, client_of, step_on}
+use Rattle.dr_model.specs.Machines.Steps.{Step, has_effect, settled, step}
 use Rattle.ratchet.specs.Seen.{seed_bytes}
 use Rattle.session_model.specs.Clients.{Client, dropped_of, say_check, say_on, take_on}
+use Rattle.session_model.specs.declared.answer.Answer.{Answer}
 use Rattle.session_model.specs.declared.answer.Refusal.{Refusal}
 use Rattle.client.specs.Outcomes.{Outcome, acknowledged, faulted, is_closed, refused, undrawn}
+use Rattle.scripts.specs.Seen.{bytes_of_hex}
+use Rattle.scripts.specs.declared.call.Source.{Source}
+use Rattle.scripts.specs.declared.call.Source.TheVariants.{At, Bytes, Flipped, Nth}
+use Rattle.duet.specs.Held.{DuetNow, gathering, on_side, with_draws}
 use Rattle.duet.specs.declared.acts.Act.{Act}
 use Rattle.duet.specs.declared.acts.Act.TheVariants.{Done, Say, Sent, Take}
 use Rattle.duet.specs.declared.acts.Ended.{Ended}
@@ -15,16 +25,49 @@ use Rattle.duet.specs.declared.acts.Ended.TheVariants.{Acknowledged, Faulted, Re
 
 -- a text passed the check, and has a seed of 32 bytes exactly where it needs one; bytes are bytes
 abbrev pub IsChecked : Client → Act → Type 0
-IsChecked c (Say text seed) = (say_check c (length text.now) ≡ Ok (is_some seed)) × IfSome seed (λ key. length key.bytes ≡ 32)
-IsChecked c (Take bytes) = AreBytes bytes.now
+IsChecked c (Say text seed) =
+    (say_check c (length text.now) ≡ Ok (is_some seed))
+    × IfSome seed (λ key. length key.bytes ≡ 32)
+IsChecked c (Take bytes) = AreBytes bytes.items
 IsChecked c _ = ⊤
 
 -- what the client makes of it
 abbrev pub made_by : Mechanism → Client → Act → Result (Step Client) Refusal
 made_by k c (Say text seed) = said_by (say_on k c text.now (seed_bytes seed))
-made_by k c (Take bytes) = taken_by (take_on k c bytes.now)
+made_by k c (Take bytes) = taken_by (take_on k c bytes.items)
 made_by k c (Sent n) = sent_by c n (dropped_of n c.outbox)
 made_by k c (Done n) = finished_by c n (dropped_of n c.inbox)
+
+-- what it makes of a side: by itself, and with what the network gets then
+abbrev pub alone_by : Mechanism → Sides → Side → Act → Step Sides
+alone_by k s side act = let c = client_of s side in on_side s side (settled c (made_by k c act))
+
+abbrev pub acted_by : Mechanism → Sides → Side → Act → Step Sides
+acted_by k s side act = let c = client_of s side in gathering s side (settled c (made_by k c act))
+
+-- ---- from a call to an act
+
+-- the packet that a side takes, if the network has it to give
+abbrev pub packet_in : List Item → Side → Source → Option (List ℕ)
+packet_in posts side (At p) = held_at posts p
+packet_in posts side (Nth nth) = held_nth posts side nth
+packet_in posts side (Flipped p bit) = flipped_at posts p bit
+packet_in posts side (Bytes hex) = Some (bytes_of_hex hex.now)
+
+-- an event comes to an act of its side, or to an answer without one
+abbrev pub ComesTo : Mechanism → Sides → Sides → Side → Event → Result Act Answer → Type 0
+ComesTo k s t side event (Ok act) =
+    (step_on k s event ≡ acted_by k t side act) × IsChecked (client_of t side) act
+ComesTo k s t side event (Err answer) =
+    (step_on k s event ≡ step answer t) × (has_effect answer ≡ false)
+
+-- it does once a draw was made, where one is needed
+pub record IsPrepared (k : Mechanism) (old new : DuetNow) (side : Side) (event : Event)
+    (result : Result Act Answer) : Type 0 where
+  pub drawn : new ≡ with_draws old new.sides.draws
+  pub comes : ComesTo k old.sides new.sides side event result
+
+-- ---- how it ends
 
 -- how the call ended
 abbrev pub ended_as : Ended → Outcome

@@ -1,11 +1,10 @@
 -- Both sides, as the code holds them.
-use Rattle.std.specs.Prelude.{ℕ, List, [], None, drop, ◌++◌}
-use Rattle.dr_base.specs.declared.position.Position.{Position}
+use Rattle.std.specs.Prelude.{ℕ, List, [], None, drop, length, ◌++◌}
 use Rattle.dr_base.specs.declared.position.Side.{Side}
 use Rattle.dr_base.specs.declared.position.Side.TheVariants.{First, Second}
 use Rattle.relay_core.specs.Boxes.{Box}
 use Rattle.boxes.specs.Items.{Item}
-use Rattle.session_model.specs.Clients.{Client, SaidText, TakenPacket}
+use Rattle.session_model.specs.Clients.{Client}
 use Rattle.dr_model.specs.Machines.Sides.{Sides, client_of, step_on, with_client}
 use Rattle.dr_model.specs.Machines.Steps.{Step}
 use Rattle.dr_model.specs.Machines.Draws.{Draws}
@@ -17,12 +16,6 @@ use Rattle.duet.specs.Outcomes.{Beside, Played, opening_boxes}
 -- a side at the beginning of a conversation
 abbrev pub opening_client : Mechanism → List ℕ → Side → Client
 opening_client k key side = record { state = opening_state k key side; inbox = []; outbox = [] }
-
-abbrev pub said_text : Item → Client → SaidText
-said_text post next = record { post = post; next = next }
-
-abbrev pub taken_packet : Position → Client → TakenPacket
-taken_packet position next = record { position = position; next = next }
 
 -- the sides, the boxes of their relay, and how many packets the network has room for
 pub record DuetNow : Type 0 where
@@ -62,6 +55,18 @@ on_side s side made = record { answer = made.answer; entries = made.entries; nex
 -- the network gets what stands after this many packets of a side's outbox
 abbrev pub gathered : ℕ → Side → Sides → Sides
 gathered held side s = record s { posts = s.posts ++ drop held (client_of s side).outbox }
+
+-- a step of one side where the network gets what it adds to the outbox
+abbrev pub gathering : Sides → Side → Step Client → Step Sides
+gathering s side made = record {
+  answer = made.answer;
+  entries = made.entries;
+  next = gathered (length (client_of s side).outbox) side (with_client s side made.next);
+}
+
+-- other draws
+abbrev pub with_draws : DuetNow → Draws → DuetNow
+with_draws duet draws = record duet { sides = record duet.sides { draws = draws } }
 
 abbrev pub stepped : Mechanism → DuetNow → Event → DuetNow
 stepped k duet event = after duet (step_on k duet.sides event)

@@ -7,7 +7,6 @@ use Rattle.session_model.specs.Clients.{Client}
 use Rattle.session_record.specs.Record.{record_text}
 use Rattle.slot_store.specs.Records.{recovered}
 use Rattle.client.specs.Clients.{ClientNow, IsReady, client_area}
-use Rattle.client.specs.Outcomes.{Outcome, refused}
 use Rattle.client.specs.declared.refusals.BeginRefusal.{BeginRefusal}
 use Rattle.client.specs.declared.refusals.BeginRefusal.TheVariants.{Memory as FirstMemory, NoPair}
 use Rattle.client.specs.declared.refusals.OpenRefusal.{OpenRefusal}
@@ -17,11 +16,6 @@ pub record IsHeld (client : ClientNow) (disk : MemoryDisk) : Type 0 where
   pub is_open : client.closed ≡ None
   pub ready : IsReady client.kept client.store (state_of disk)
   pub passes : (state_of disk).fate ≡ all_pass
-
--- the side has a reason of its own
-abbrev pub IsRefused : Outcome → Type 0
-IsRefused (refused refusal) = ⊤
-IsRefused _ = ⊥
 
 -- why no client is begun on a disk of zeros whose calls all pass
 abbrev pub IsFirstRefusal : BeginRefusal → Type 0

@@ -7,24 +7,25 @@ ghost use Rattle.ratchet.specs.Seen.{seed_bytes};
 ghost use Rattle.session_model.specs.Clients.{say_check, say_on};
 ghost use Rattle.session_model.specs.declared.answer.Answer.TheVariants.{Nothing};
 ghost use Rattle.client.specs.Clients.{IsReady};
-ghost use Rattle.client.specs.Outcomes.{Acts, dropped_as, said_as, taken_as};
+ghost use Rattle.client.specs.Outcomes.{Acts, Passes, dropped_as, said_as, taken_as};
 ghost use Rattle.duet.specs.Acts.{IsChecked, IsEnded, ended_as, made_by};
 ghost use Rattle.session_model.specs.declared.answer.Answer.{Answer as Answered};
 
 use crate::given::Given;
+use crate::post::Packet;
 use client::{Client, DropRefusal, SayRefusal, TakeRefusal};
 use dr_base::Key32;
 use dr_disk::{Call, MemoryDisk};
 use kem_laws::Kem;
 use session_model::{Answer, Refusal};
 
-/// What a side does by a call on its client.
+/// A call of a line, with all that the side's client is called with.
 #[derive(Drop)]
 pub enum Act<'a> {
     /// It says a text, with a seed exactly where it needs one.
     Say(&'a [u8], Option<Key32>),
     /// It takes the packet that the bytes are.
-    Take(&'a [u8]),
+    Take(Packet),
     /// This many of the oldest packets leave its outbox.
     Sent(u32),
     /// This many of the oldest texts leave its inbox.
@@ -89,8 +90,10 @@ fn say<K: Kem>(
     requires open { client.old.closed ≡ None }
     requires ready { IsReady client.old.kept client.old.store (state_of disk.old) }
     requires checked { say_check client.old.kept (length text.now) ≡ Ok (is_some seed) }
-    ensures { Acts state_of (said_by (say_on K.mechanism client.old.kept text.now (seed_bytes seed)))
+    ensures acts { Acts state_of
+        (said_by (say_on K.mechanism client.old.kept text.now (seed_bytes seed)))
         client.old client.new disk.old disk.new (ended_as result) }
+    ensures fate { Passes (state_of disk.old) (state_of disk.new) (ended_as result) }
 {
     let mut source = Given::new(seed);
     match client.say(disk, text, &mut source) {
@@ -104,11 +107,13 @@ pub fn perform<K: Kem>(client: &mut Client<K>, disk: &mut MemoryDisk, act: Act<'
     requires open { client.old.closed ≡ None }
     requires ready { IsReady client.old.kept client.old.store (state_of disk.old) }
     requires checked { IsChecked client.old.kept act }
-    ensures { Acts state_of (made_by K.mechanism client.old.kept act.entry) client.old client.new disk.old disk.new (ended_as result) }
+    ensures acts { Acts state_of (made_by K.mechanism client.old.kept act.entry)
+        client.old client.new disk.old disk.new (ended_as result) }
+    ensures fate { Passes (state_of disk.old) (state_of disk.new) (ended_as result) }
 {
     match act {
         Act::Say(text, seed) => say(client, disk, text, seed),
-        Act::Take(bytes) => match client.take(disk, bytes) {
+        Act::Take(bytes) => match client.take(disk, bytes.as_slice()) {
             Ok(position) => Ended::Acknowledged(Answer::Opened(position)),
             Err(refusal) => take_ended(refusal),
         },

@@ -8,7 +8,6 @@ pub use tally::{SideTally, Tally};
 
 mod acts;
 mod amount;
-mod calls;
 mod draws;
 mod given;
 mod laws;
@@ -17,6 +16,7 @@ mod network;
 mod party;
 mod playing;
 mod post;
+mod preparing;
 mod reply;
 mod sides;
 mod stopping;

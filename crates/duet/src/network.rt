@@ -2,15 +2,17 @@
 
 ghost use Rattle.std.specs.Prelude.{◌≡◌, ℕ, ◌%◌, ◌^◌, ◌<◌, ◌≤◌, bit_xor, length, option_copied, option_map, slice_index, slice_set, IfSome};
 ghost use Rattle.dr_model.specs.Machines.Network.{flipped, flipped_at, held_at, held_nth};
+ghost use Rattle.duet.specs.Acts.{packet_in};
 
 use crate::post::{Packet, Post, is_at, is_from_peer};
 use dr_base::{PACKET_LIMIT, Position, Side, in_room};
+use scripts::{Source, hex_bytes};
 
 /// The value of each bit of a byte, the lowest first.
 const BITS: [u8; 8] = [1, 2, 4, 8, 16, 32, 64, 128];
 
 /// The packet of a position.
-pub fn held_at(posts: &[Post], position: Position) -> Option<&[u8]>
+fn held_at(posts: &[Post], position: Position) -> Option<&[u8]>
     ensures packet { option_copied result ≡ held_at posts.now position }
     ensures fits { IfSome result (λ bytes. length bytes.now ≤ PACKET_LIMIT) }
 {
@@ -23,7 +25,7 @@ pub fn held_at(posts: &[Post], position: Position) -> Option<&[u8]>
 }
 
 /// The packet that the other side than this made, counted from 1.
-pub fn held_nth(posts: &[Post], side: Side, nth: u32) -> Option<&[u8]>
+fn held_nth(posts: &[Post], side: Side, nth: u32) -> Option<&[u8]>
     ensures packet { option_copied result ≡ held_nth posts.now side nth }
     ensures fits { IfSome result (λ bytes. length bytes.now ≤ PACKET_LIMIT) }
 {
@@ -70,7 +72,7 @@ fn flipped(bit: u32, bytes: &[u8]) -> Option<Packet>
 }
 
 /// A copy of a packet, if there is one.
-pub fn copied(bytes: Option<&[u8]>) -> Option<Packet>
+fn copied(bytes: Option<&[u8]>) -> Option<Packet>
     requires { IfSome bytes (λ bytes. length bytes.now ≤ PACKET_LIMIT) }
     ensures { option_map (λ packet. packet.items) result ≡ option_copied bytes.entry }
 {
@@ -81,11 +83,23 @@ pub fn copied(bytes: Option<&[u8]>) -> Option<Packet>
 }
 
 /// A copy of the packet of a position with one bit changed, if it has that bit.
-pub fn held_flipped(posts: &[Post], position: Position, bit: u32) -> Option<Packet>
+fn held_flipped(posts: &[Post], position: Position, bit: u32) -> Option<Packet>
     ensures { option_map (λ packet. packet.items) result ≡ flipped_at posts.now position bit }
 {
     match held_at(posts, position) {
         Some(bytes) => flipped(bit, bytes),
         None => None,
+    }
+}
+
+/// The packet that a side takes, if the network has it to give.
+pub fn packet_of(posts: &[Post], side: Side, source: Source<'_>) -> Option<Packet>
+    ensures { option_map (λ packet. packet.items) result ≡ packet_in posts.now side source.entry }
+{
+    match source {
+        Source::At(position) => copied(held_at(posts, position)),
+        Source::Nth(nth) => copied(held_nth(posts, side, nth)),
+        Source::Flipped(position, bit) => held_flipped(posts, position, bit),
+        Source::Bytes(digits) => Some(hex_bytes(digits)),
     }
 }

@@ -1,24 +1,24 @@
 //! One side: a client, and the disk that it is kept on.
 
-ghost use Rattle.std.specs.Prelude.{◌≡◌, ◌≤◌, ◌↔◌, ◌<◌, ◌-◌, length, Ok, Err, Some, IfOk, IfSome, OnErr, IsNone, IsSome, IsErrOf, MatchResult, is_some, option_map, slice_get};
+ghost use Rattle.std.specs.Prelude.{◌≡◌, ◌≤◌, ◌↔◌, ◌<◌, ◌-◌, length, Some, IfOk, IfSome, IsNone, IsSome, IsErrOf, option_map, slice_get};
 ghost use Rattle.boxes.specs.Seen.{entry_item};
-ghost use Rattle.session_model.specs.Clients.{dropped_of, say_check, say_on, summary_of, take_on};
-ghost use Rattle.dr_model.specs.Machines.Steps.{amount_of};
+ghost use Rattle.session_model.specs.Clients.{say_check, summary_of};
+ghost use Rattle.dr_model.specs.Machines.Steps.{settled, step};
 ghost use Rattle.session_model.specs.Schedule.{agreement_seed};
-ghost use Rattle.ratchet.specs.Seen.{seed_bytes};
-ghost use Rattle.duet.specs.Held.{opening_client, said_text, taken_packet};
+ghost use Rattle.duet.specs.Acts.{IsChecked, made_by};
+ghost use Rattle.duet.specs.Held.{opening_client};
 ghost use Rattle.duet.specs.Parties.{IsFirstRefusal};
 ghost use Rattle.client.specs.Syncing.Lines.{own_box, peers_box};
 ghost use Rattle.client.specs.declared.refusals.BeginRefusal.TheVariants.{NoPair as NoFirstPair};
 
-use crate::calls::{drop_packets, drop_texts, newest, say_text, take_bytes};
+use crate::acts::{Act, Ended, perform};
 use crate::post::Post;
 use boxes::Entry;
 use client::{AREA_SIZE, BeginRefusal, Client, Names};
-use dr_base::{Key32, Position, Side, TEXT_LIMIT};
+use dr_base::{Key32, Side, TEXT_LIMIT};
 use dr_disk::MemoryDisk;
 use kem_laws::Kem;
-use session_model::{Amount, Refusal, Summary};
+use session_model::{Answer, Refusal, Summary};
 use std::alloc::Global;
 use std::marker::Model;
 
@@ -110,7 +110,11 @@ impl<K: Kem> Party<K> {
         requires { 0 < length self.now.outbox }
         ensures { slice_get self.now.outbox (length self.now.outbox - 1) ≡ Some result }
     {
-        newest(&self.client)
+        let last = self.client.state().outbox as usize - 1;
+        match self.client.outbox(last) {
+            Some((position, packet)) => Post::new(position, packet),
+            None => unreachable!(),
+        }
     }
 
     /// What the side holds, in numbers.
@@ -127,45 +131,15 @@ impl<K: Kem> Party<K> {
         self.client.say_check(len)
     }
 
-    /// Says a text that `say_check` allows, with a seed exactly where it asks for one, and answers its packet, which
-    /// stands in the outbox.
-    pub fn say(&mut self, text: &[u8], seed: Option<Key32>) -> Result<Post, Refusal>
-        requires { say_check self.old (length text.now) ≡ Ok (is_some seed) }
-        ensures answer { MatchResult result
-            (λ post. say_on K.mechanism self.old text.now (seed_bytes seed) ≡ Ok (said_text post self.new))
-            (λ e. say_on K.mechanism self.old text.now (seed_bytes seed) ≡ Err e) }
-        ensures refused { OnErr result (self.new ≡ self.old) }
+    /// Does an act. A refusal leaves all as it was.
+    pub fn act(&mut self, act: Act<'_>) -> Answer
+        requires { IsChecked self.old act }
+        ensures { step result self.new ≡ settled self.old (made_by K.mechanism self.old act.entry) }
     {
-        say_text(&mut self.client, &mut self.disk, text, seed)
-    }
-
-    /// Opens the packet that the bytes are, and puts its text into the inbox. A refusal leaves all as it was.
-    pub fn take(&mut self, bytes: &[u8]) -> Result<Position, Refusal>
-        ensures answer { MatchResult result
-            (λ p. take_on K.mechanism self.old bytes.now ≡ Ok (taken_packet p self.new))
-            (λ e. take_on K.mechanism self.old bytes.now ≡ Err e) }
-        ensures refused { OnErr result (self.new ≡ self.old) }
-    {
-        take_bytes(&mut self.client, &mut self.disk, bytes)
-    }
-
-    /// Takes the oldest packets out of the outbox, and answers how many.
-    pub fn drop_sent(&mut self, amount: Amount) -> Result<u32, Refusal>
-        ensures answer { let n = amount_of amount (length self.old.outbox) in MatchResult result
-            (λ m. (m ≡ n) × (dropped_of n self.old.outbox ≡ Ok self.new.outbox) × (self.new ≡ record self.old { outbox = self.new.outbox }))
-            (λ e. dropped_of n self.old.outbox ≡ Err e) }
-        ensures refused { OnErr result (self.new ≡ self.old) }
-    {
-        drop_packets(&mut self.client, &mut self.disk, amount)
-    }
-
-    /// Takes the oldest texts out of the inbox, and answers how many.
-    pub fn drop_done(&mut self, amount: Amount) -> Result<u32, Refusal>
-        ensures answer { let n = amount_of amount (length self.old.inbox) in MatchResult result
-            (λ m. (m ≡ n) × (dropped_of n self.old.inbox ≡ Ok self.new.inbox) × (self.new ≡ record self.old { inbox = self.new.inbox }))
-            (λ e. dropped_of n self.old.inbox ≡ Err e) }
-        ensures refused { OnErr result (self.new ≡ self.old) }
-    {
-        drop_texts(&mut self.client, &mut self.disk, amount)
+        match perform(&mut self.client, &mut self.disk, act) {
+            Ended::Acknowledged(answer) => answer,
+            Ended::Refused(refusal) => Answer::Refused(refusal),
+            Ended::Faulted(_) => unreachable!(),
+        }
     }
 }

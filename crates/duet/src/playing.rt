@@ -160,7 +160,7 @@ fn play_stop<K: Kem, O: Sink>(
     match duet.stop(alloc, stop) {
         Err(AllocError) => Err(Cut::Memory),
         Ok((next, answer)) => {
-            let written = tell(stop.side(), answer, tally, out);
+            let written = tell(stop.side, answer, tally, out);
             unless_failed(next, written)
         }
     }

@@ -7,9 +7,10 @@ ghost use Rattle.dr_model.specs.Machines.Network.{is_from_peer};
 use arrayvec::ArrayVec;
 use boxes::Stored;
 use dr_base::{PACKET_LIMIT, Position, Side};
+use scripts::HEX_LIMIT;
 
-/// The bytes of a packet.
-pub type Packet = ArrayVec<u8, PACKET_LIMIT>;
+/// The bytes of a packet, or those that a line gives for one.
+pub type Packet = ArrayVec<u8, HEX_LIMIT>;
 
 /// A packet under its position, as the network holds it.
 pub type Post = Stored<PACKET_LIMIT>;

@@ -1,24 +1,22 @@
 //! Both sides of a conversation, with the network between them.
 
-ghost use Rattle.std.specs.Prelude.{◌≡◌, ◌-◌, ◌^◌, ◌<◌, length, Ok, IfOk, IsErrOf, IsNone, IsSome, is_some, option_map};
-ghost use Rattle.dr_model.specs.Machines.Sides.{client_of, said_on, step_on, taken_on};
-ghost use Rattle.session_model.specs.Clients.{say_check, say_on, summary_of};
-ghost use Rattle.dr_model.specs.Machines.Events.{drops_done, drops_sent, says, takes_bytes};
+ghost use Rattle.std.specs.Prelude.{◌≡◌, ◌+◌, ◌-◌, ◌^◌, ◌<◌, ◌≤◌, length, IfOk, IsErrOf, IsNone, IsSome};
+ghost use Rattle.dr_model.specs.Machines.Sides.{client_of, step_on};
 ghost use Rattle.session_model.specs.Schedule.{agreement_seed};
-ghost use Rattle.duet.specs.Held.{after, opening_duet, stepped};
+ghost use Rattle.duet.specs.Acts.{IsChecked, acted_by, alone_by};
+ghost use Rattle.duet.specs.Held.{after, gathered, opening_duet, stepped};
 ghost use Rattle.duet.specs.Tally.{both_reached};
-ghost use Rattle.ratchet.specs.Seen.{seed_bytes};
 
+use crate::acts::Act;
 use crate::draws::Draws;
-use crate::network::{copied, held_at, held_flipped, held_nth};
 use crate::party::{BeginError, Party};
-use crate::post::{Packet, Post};
+use crate::post::Post;
 use crate::tally::{SideTally, Tally};
 use dr_base::{Key32, Side};
 use kem_laws::Kem;
 use relay_link::RelayLink;
-use scripts::{Line, hex_bytes};
-use session_model::{Amount, Answer, Refusal, Summary};
+use scripts::{Call, Line};
+use session_model::Answer;
 use std::alloc::Global;
 use std::marker::Model;
 
@@ -44,7 +42,7 @@ impl<K: Kem> Model for Duet<K> {
 }
 
 impl<K: Kem> Duet<K> {
-    ghost use Rattle.scripts.specs.Seen.{event_of};
+    ghost use Rattle.scripts.specs.Seen.{call_event, event_of};
 
     /// Both sides before the first event, and room in the network for this many packets. It takes all memory that the
     /// events need.
@@ -92,121 +90,58 @@ impl<K: Kem> Duet<K> {
         }
     }
 
-    /// Whether a side may say a text of this length, and then whether that needs a seed.
-    pub(crate) fn say_check(&self, side: Side, len: usize) -> Result<bool, Refusal>
-        ensures { result ≡ say_check (client_of self.now.sides side) len }
+    /// A side does an act.
+    fn act_by(&mut self, side: Side, act: Act<'_>) -> Answer
+        requires { IsChecked (client_of self.old.sides side) act }
+        ensures answer { result ≡ (alone_by K.mechanism self.old.sides side act.entry).answer }
+        ensures next { let k = K.mechanism in
+            self.new ≡ after self.old (alone_by k self.old.sides side act.entry) }
     {
         match side {
-            Side::First => self.first.say_check(len),
-            Side::Second => self.second.say_check(len),
+            Side::First => self.first.act(act),
+            Side::Second => self.second.act(act),
         }
     }
 
-    /// A side says a text that it may say, and the network gets its packet.
-    fn speak(&mut self, side: Side, text: &[u8], seed: Option<Key32>) -> Answer
+    /// The network gets the packet that stands after this many in a side's outbox, if there is one.
+    #[tactic(auto, using(crate::proofs::Gathering::last_dropped))]
+    pub(crate) fn gather(&mut self, side: Side, held: u32)
         requires room { length self.old.sides.posts < self.old.room }
-        requires checked { say_check (client_of self.old.sides side) (length text.now) ≡ Ok (is_some seed) }
-        ensures answer { let k = K.mechanism in
-            result ≡ (said_on self.old.sides side (say_on k (client_of self.old.sides side) text.now (seed_bytes seed))).answer }
-        ensures next { let k = K.mechanism in
-            self.new ≡ after self.old (said_on self.old.sides side (say_on k (client_of self.old.sides side) text.now (seed_bytes seed))) }
+        requires one { length (client_of self.old.sides side).outbox ≤ held + 1 }
+        ensures { self.new ≡ record self.old { sides = gathered held side self.old.sides } }
     {
-        let said = match side {
-            Side::First => self.first.say(text, seed),
-            Side::Second => self.second.say(text, seed),
-        };
-        match said {
-            Ok(post) => {
-                let position = post.position();
-                self.posts.push_reserved(post);
-                Answer::Said(position)
-            }
-            Err(refusal) => Answer::Refused(refusal),
+        if self.party(side).summary().outbox > held {
+            let post = self.party(side).newest();
+            self.posts.push_reserved(post);
         }
     }
 
-    /// A side says a text. A draw is made only where the text may be said and needs a seed.
-    fn say(&mut self, side: Side, text: &[u8]) -> Answer
+    /// A side does an act, and the network gets the packet that it adds to its outbox.
+    fn act(&mut self, side: Side, act: Act<'_>) -> Answer
+        requires room { length self.old.sides.posts < self.old.room }
+        requires checked { IsChecked (client_of self.old.sides side) act }
+        ensures answer { result ≡ (acted_by K.mechanism self.old.sides side act.entry).answer }
+        ensures next { let k = K.mechanism in
+            self.new ≡ after self.old (acted_by k self.old.sides side act.entry) }
+    {
+        let held = self.party(side).summary().outbox;
+        let answer = self.act_by(side, act);
+        self.gather(side, held);
+        answer
+    }
+
+    /// A side does a call.
+    fn call(&mut self, side: Side, call: Call<'_>) -> Answer
         requires room { length self.old.sides.posts < self.old.room }
         requires draws { self.old.sides.draws.made < 2 ^ 32 - 1 }
-        ensures answer { let k = K.mechanism in result ≡ (step_on k self.old.sides (says side text.now)).answer }
-        ensures next { let k = K.mechanism in self.new ≡ stepped k self.old (says side text.now) }
-    {
-        match self.say_check(side, text.len()) {
-            Err(refusal) => Answer::Refused(refusal),
-            Ok(false) => self.speak(side, text, None),
-            Ok(true) => {
-                let seed = self.draws.next(&self.key);
-                self.speak(side, text, Some(seed))
-            }
-        }
-    }
-
-    /// A side takes bytes.
-    fn take_bytes(&mut self, side: Side, bytes: &[u8]) -> Answer
-        ensures answer { let k = K.mechanism in result ≡ (step_on k self.old.sides (takes_bytes side bytes.now)).answer }
-        ensures next { let k = K.mechanism in self.new ≡ stepped k self.old (takes_bytes side bytes.now) }
-    {
-        let taken = match side {
-            Side::First => self.first.take(bytes),
-            Side::Second => self.second.take(bytes),
-        };
-        match taken {
-            Ok(position) => Answer::Opened(position),
-            Err(refusal) => Answer::Refused(refusal),
-        }
-    }
-
-    /// A side takes a packet, if the network has it to give.
-    fn take_packet(&mut self, side: Side, packet: Option<Packet>) -> Answer
         ensures answer { let k = K.mechanism in
-            result ≡ (taken_on k self.old.sides side (option_map (λ packet. packet.items) packet)).answer }
+            result ≡ (step_on k self.old.sides (call_event side call.entry)).answer }
         ensures next { let k = K.mechanism in
-            self.new ≡ after self.old (taken_on k self.old.sides side (option_map (λ packet. packet.items) packet)) }
+            self.new ≡ stepped k self.old (call_event side call.entry) }
     {
-        match packet {
-            Some(packet) => self.take_bytes(side, packet.as_slice()),
-            None => Answer::Nothing,
-        }
-    }
-
-    /// A side's oldest packets leave its outbox.
-    fn drop_sent(&mut self, side: Side, amount: Amount) -> Answer
-        ensures answer { let k = K.mechanism in result ≡ (step_on k self.old.sides (drops_sent side amount)).answer }
-        ensures next { let k = K.mechanism in self.new ≡ stepped k self.old (drops_sent side amount) }
-    {
-        let dropped = match side {
-            Side::First => self.first.drop_sent(amount),
-            Side::Second => self.second.drop_sent(amount),
-        };
-        match dropped {
-            Ok(n) => Answer::Sent(n),
-            Err(refusal) => Answer::Refused(refusal),
-        }
-    }
-
-    /// A side's oldest texts leave its inbox.
-    fn drop_done(&mut self, side: Side, amount: Amount) -> Answer
-        ensures answer { let k = K.mechanism in result ≡ (step_on k self.old.sides (drops_done side amount)).answer }
-        ensures next { let k = K.mechanism in self.new ≡ stepped k self.old (drops_done side amount) }
-    {
-        let dropped = match side {
-            Side::First => self.first.drop_done(amount),
-            Side::Second => self.second.drop_done(amount),
-        };
-        match dropped {
-            Ok(n) => Answer::Done(n),
-            Err(refusal) => Answer::Refused(refusal),
-        }
-    }
-
-    /// What a side holds, in numbers.
-    fn summary(&self, side: Side) -> Summary
-        ensures { result ≡ summary_of (client_of self.now.sides side) }
-    {
-        match side {
-            Side::First => self.first.summary(),
-            Side::Second => self.second.summary(),
+        match self.prepared(side, call) {
+            Ok(act) => self.act(side, act),
+            Err(answer) => answer,
         }
     }
 
@@ -242,24 +177,9 @@ impl<K: Kem> Duet<K> {
                 self.draws.give(seed);
                 Answer::Seeded
             }
-            Line::Say(side, text) => self.say(*side, text),
-            Line::Take(side, position) => {
-                let packet = copied(held_at(self.posts.as_slice(), *position));
-                self.take_packet(*side, packet)
-            }
-            Line::TakeNth(side, nth) => {
-                let packet = copied(held_nth(self.posts.as_slice(), *side, *nth));
-                self.take_packet(*side, packet)
-            }
-            Line::Flip(side, position, bit) => {
-                let packet = held_flipped(self.posts.as_slice(), *position, *bit);
-                self.take_packet(*side, packet)
-            }
-            Line::Bytes(side, digits) => self.take_bytes(*side, hex_bytes(digits).as_slice()),
-            Line::Sent(side, amount) => self.drop_sent(*side, *amount),
-            Line::Done(side, amount) => self.drop_done(*side, *amount),
+            Line::Does(side, call) => self.call(*side, *call),
             Line::Inbox(side) => Answer::Inbox(self.party(*side).inbox_len()),
-            Line::State(side) => Answer::State(self.summary(*side)),
+            Line::State(side) => Answer::State(self.party(*side).summary()),
         }
     }
 }

@@ -1,3 +1,4 @@
+pub mod Calls
 pub mod Digits
 pub mod FirstDraws
 pub mod Hex

@@ -1,14 +1,16 @@
 //! Scripts of a conversation: what their lines say, read from a text, or made from a number.
 #![tactic(auto)]
 
+pub use call::{Call, Source};
 pub use hexed::{HEX_LIMIT, hex_bytes, limits_in_numbers};
 pub use laws::lines_print_back;
 pub use line::Line;
-pub use lined::{Lined, Stop, StoppedCall};
+pub use lined::{Lined, Stop};
 pub use lines::Lines;
 pub use script::{KemName, Script, ScriptError};
 pub use sides::{side_name, side_prefix};
 
+mod call;
 mod hexed;
 mod laws;
 mod line;

@@ -5,33 +5,21 @@ ghost use Rattle.scripts.specs.Sides.{acting_side};
 ghost use Rattle.scripts.specs.Words.{plain_read, seed_read, side_words};
 ghost use Rattle.scripts.specs.Seen.{event_of};
 
+use crate::call::Call;
 use crate::split::after_prefix;
 use crate::words::{
     parse_bytes, parse_done, parse_flip, parse_look, parse_say, parse_sent, parse_take,
 };
-use dr_base::{Position, Side};
+use dr_base::Side;
 use hex::FromHex;
-use session_model::Amount;
 
 /// What one line says that stops no disk.
 #[derive(Clone, Copy)]
 pub enum Line<'a> {
     /// The next draw is this seed.
     Seed([u8; 32]),
-    /// A side says this text.
-    Say(Side, &'a [u8]),
-    /// A side takes the packet of this position.
-    Take(Side, Position),
-    /// A side takes the packet that the other side made, counted from 1.
-    TakeNth(Side, u32),
-    /// A side takes the packet of the position, with the bit of the number changed.
-    Flip(Side, Position, u32),
-    /// A side takes the bytes that these hex digits say.
-    Bytes(Side, &'a [u8]),
-    /// This many of the oldest packets leave a side's outbox.
-    Sent(Side, Amount),
-    /// This many of the oldest texts leave a side's inbox.
-    Done(Side, Amount),
+    /// A side does this.
+    Does(Side, Call<'a>),
     /// A side shows its inbox.
     Inbox(Side),
     /// A side shows what it holds, in numbers.
@@ -59,18 +47,13 @@ impl<'a> Line<'a> {
     }
 
     /// The side whose event it is; a seed is no side's, and counts as First's.
+    #[tactic(auto, using(crate::proofs::Calls::acting_call))]
     pub fn side(&self) -> Side
         ensures { result ≡ acting_side (event_of self.now) }
     {
         match self {
             Line::Seed(_) => Side::First,
-            Line::Say(side, _) => *side,
-            Line::Take(side, _) => *side,
-            Line::TakeNth(side, _) => *side,
-            Line::Flip(side, _, _) => *side,
-            Line::Bytes(side, _) => *side,
-            Line::Sent(side, _) => *side,
-            Line::Done(side, _) => *side,
+            Line::Does(side, _) => *side,
             Line::Inbox(side) => *side,
             Line::State(side) => *side,
         }

@@ -1,17 +1,17 @@
 //! Lines of a script, which may stop the disk of their side, or sync it.
 
 ghost use Rattle.std.specs.Prelude.{◌≡◌, option_map};
-ghost use Rattle.scripts.specs.Lined.{call_event, lined_deed, stop_deed};
+ghost use Rattle.scripts.specs.Lined.{lined_deed, stop_deed};
 ghost use Rattle.scripts.specs.Sides.{deed_side};
-ghost use Rattle.scripts.specs.Sides.{acting_side};
-ghost use Rattle.scripts.specs.Seen.{event_of};
+ghost use Rattle.scripts.specs.Seen.{call_event, event_of};
 ghost use Rattle.scripts.specs.Words.{call_words, if_call, line_read, mode_read, stop_line_read, stop_words};
 
+use crate::call::{Call, Source};
 use crate::line::{Line, parse_words};
 use crate::number::number;
 use crate::split::{after_prefix, cut_at};
 use crate::syncing::parse_sync;
-use dr_base::{Position, Side};
+use dr_base::Side;
 use dr_disk::Mode;
 use hex::FromHex;
 use session_model::Amount;
@@ -30,26 +30,12 @@ pub enum Lined<'a> {
 /// A call in which the disk of its side stops.
 #[derive(Clone, Copy)]
 pub struct Stop<'a> {
+    pub side: Side,
     /// This many writes and syncs of the call pass.
     pub after: u32,
     /// How the disk crashes then.
     pub mode: Mode,
-    pub call: StoppedCall<'a>,
-}
-
-/// A call in which a disk may stop.
-#[derive(Clone, Copy)]
-pub enum StoppedCall<'a> {
-    /// A side says this text.
-    Say(Side, &'a [u8]),
-    /// A side takes the packet of this position.
-    Take(Side, Position),
-    /// A side takes the packet that the other side made, counted from 1.
-    TakeNth(Side, u32),
-    /// This many of the oldest packets leave a side's outbox.
-    Sent(Side, u32),
-    /// This many of the oldest texts leave a side's inbox.
-    Done(Side, u32),
+    pub call: Call<'a>,
 }
 
 impl<'a> Lined<'a> {
@@ -71,12 +57,13 @@ impl<'a> Lined<'a> {
     }
 
     /// The side whose deed it is; a seed is no side's, and counts as First's.
+    #[tactic(auto, using(crate::proofs::Calls::acting_call))]
     pub fn side(&self) -> Side
         ensures { result ≡ deed_side (lined_deed self.now) }
     {
         match self {
             Lined::Plain(line) => line.side(),
-            Lined::Stopping(stop) => stop.side(),
+            Lined::Stopping(stop) => stop.side,
             Lined::Syncing(side, _) => *side,
         }
     }
@@ -96,19 +83,6 @@ impl<'a> Stop<'a> {
         match after_prefix(line, b"second ") {
             Some(words) => parse_stop(Side::Second, words),
             None => None,
-        }
-    }
-
-    /// The side whose disk stops.
-    pub fn side(&self) -> Side
-        ensures { result ≡ acting_side (call_event self.now.call) }
-    {
-        match self.call {
-            StoppedCall::Say(side, _) => side,
-            StoppedCall::Take(side, _) => side,
-            StoppedCall::TakeNth(side, _) => side,
-            StoppedCall::Sent(side, _) => side,
-            StoppedCall::Done(side, _) => side,
         }
     }
 }
@@ -131,23 +105,25 @@ fn parse_mode(text: &[u8]) -> Option<Mode>
 }
 
 /// The call that a line says, if a disk may stop in it.
-fn call_in(line: Line<'_>) -> Option<StoppedCall<'_>>
-    ensures { option_map call_event result ≡ if_call (event_of line.entry) }
+fn call_in(line: Line<'_>) -> Option<(Side, Call<'_>)>
+    ensures { option_map (λ one. call_event one.0 one.1) result ≡ if_call (event_of line.entry) }
 {
     match line {
-        Line::Say(side, text) => Some(StoppedCall::Say(side, text)),
-        Line::Take(side, position) => Some(StoppedCall::Take(side, position)),
-        Line::TakeNth(side, nth) => Some(StoppedCall::TakeNth(side, nth)),
-        Line::Sent(side, Amount::Exactly(n)) => Some(StoppedCall::Sent(side, n)),
-        Line::Done(side, Amount::Exactly(n)) => Some(StoppedCall::Done(side, n)),
+        Line::Does(side, call) => match call {
+            Call::Say(_) => Some((side, call)),
+            Call::Take(Source::At(_) | Source::Nth(_)) => Some((side, call)),
+            Call::Sent(Amount::Exactly(_)) => Some((side, call)),
+            Call::Done(Amount::Exactly(_)) => Some((side, call)),
+            _ => None,
+        },
         _ => None,
     }
 }
 
 /// Reads a call in which a disk may stop.
 #[tactic(auto, unfolding(crate::specs::Words::call_words))]
-fn parse_call(side: Side, words: &[u8]) -> Option<StoppedCall<'_>>
-    ensures { option_map call_event result ≡ call_words side words.entry.now }
+fn parse_call(side: Side, words: &[u8]) -> Option<(Side, Call<'_>)>
+    ensures { option_map (λ one. call_event one.0 one.1) result ≡ call_words side words.entry.now }
 {
     match parse_words(side, words) {
         Some(line) => call_in(line),
@@ -165,6 +141,11 @@ fn parse_stop(side: Side, words: &[u8]) -> Option<Stop<'_>>
     let after = number(after)?;
     let (mode, call) = cut_at(rest, b' ')?;
     let mode = parse_mode(mode)?;
-    let call = parse_call(side, call)?;
-    Some(Stop { after, mode, call })
+    let (side, call) = parse_call(side, call)?;
+    Some(Stop {
+        side,
+        after,
+        mode,
+        call,
+    })
 }

@@ -5,6 +5,7 @@ ghost use Rattle.dr_model.specs.Machines.Events.{takes_bytes};
 ghost use Rattle.scripts.specs.Words.{amount_read, bytes_words, done_words, flip_words, hex_read, is_text, look_words, packet_read, position_read, say_words, sent_words, take_words};
 ghost use Rattle.scripts.specs.Seen.{bytes_of_hex, event_of};
 
+use crate::call::{Call, Source};
 use crate::hexed::{DIGIT_LIMIT, HEX_LIMIT};
 use crate::line::Line;
 use crate::number::number;
@@ -19,10 +20,10 @@ pub fn parse_say(side: Side, words: &[u8]) -> Option<Line<'_>>
     ensures { option_map event_of result ≡ say_words side words.entry.now }
 {
     if let Some(text) = after_prefix(words, b"say ") {
-        return Some(Line::Say(side, text));
+        return Some(Line::Does(side, Call::Say(text)));
     }
     if words == b"say".as_slice() {
-        return Some(Line::Say(side, &words[..0]));
+        return Some(Line::Does(side, Call::Say(&words[..0])));
     }
     None
 }
@@ -44,11 +45,11 @@ fn parse_packet(side: Side, text: &[u8]) -> Option<Line<'_>>
 {
     if let Some(digits) = after_prefix(text, b"#") {
         if let Some(nth) = number(digits) {
-            return Some(Line::TakeNth(side, nth));
+            return Some(Line::Does(side, Call::Take(Source::Nth(nth))));
         }
     }
     match parse_position(text) {
-        Some(position) => Some(Line::Take(side, position)),
+        Some(position) => Some(Line::Does(side, Call::Take(Source::At(position)))),
         None => None,
     }
 }
@@ -73,7 +74,7 @@ pub fn parse_flip(side: Side, words: &[u8]) -> Option<Line<'_>>
     let (position, bit) = cut_at(text, b' ')?;
     let position = parse_position(position)?;
     let bit = number(bit)?;
-    Some(Line::Flip(side, position, bit))
+    Some(Line::Does(side, Call::Take(Source::Flipped(position, bit))))
 }
 
 /// Whether a text is at most `HEX_LIMIT` bytes in hex.
@@ -95,7 +96,7 @@ pub fn parse_bytes(side: Side, words: &[u8]) -> Option<Line<'_>>
 {
     if let Some(hex) = after_prefix(words, b"bytes ") {
         if is_hex(hex) {
-            return Some(Line::Bytes(side, hex));
+            return Some(Line::Does(side, Call::Take(Source::Bytes(hex))));
         }
     }
     parse_no_bytes(side, words)
@@ -107,7 +108,7 @@ fn parse_no_bytes(side: Side, words: &[u8]) -> Option<Line<'_>>
     ensures { option_map event_of result ≡ (if is_text (codes "bytes") words.now then Some (takes_bytes side []) else None) }
 {
     if words == b"bytes".as_slice() {
-        return Some(Line::Bytes(side, &words[..0]));
+        return Some(Line::Does(side, Call::Take(Source::Bytes(&words[..0]))));
     }
     None
 }
@@ -119,7 +120,7 @@ pub fn parse_sent(side: Side, words: &[u8]) -> Option<Line<'_>>
 {
     match after_prefix(words, b"sent ") {
         Some(amount) => match parse_amount(amount) {
-            Some(amount) => Some(Line::Sent(side, amount)),
+            Some(amount) => Some(Line::Does(side, Call::Sent(amount))),
             None => None,
         },
         None => None,
@@ -133,7 +134,7 @@ pub fn parse_done(side: Side, words: &[u8]) -> Option<Line<'_>>
 {
     match after_prefix(words, b"done ") {
         Some(amount) => match parse_amount(amount) {
-            Some(amount) => Some(Line::Done(side, amount)),
+            Some(amount) => Some(Line::Does(side, Call::Done(amount))),
             None => None,
         },
         None => None,

@@ -262,7 +262,7 @@ made_lawful k c (Say text seed) next law l checked is =
     said_keeps k (say_on k c text.now (seed_bytes seed)) next
     (λ said gives. say_lawful k c text.now (seed_bytes seed) (is_some seed) said law l checked.0 (seed_whole seed checked.1) gives) is
 made_lawful k c (Take bytes) next law l small is =
-    taken_keeps k (take_on k c bytes.now) next (λ taken gives. take_lawful k c bytes.now taken l small gives) is
+    taken_keeps k (take_on k c bytes.items) next (λ taken gives. take_lawful k c bytes.items taken l small gives) is
 made_lawful k c (Sent n) next law l checked is =
     sent_keeps k c n (dropped_of n c.outbox) next (λ outbox gives. sent_lawful k c n outbox l gives) is
 made_lawful k c (Done n) next law l checked is =

@@ -19,7 +19,7 @@ invariant_of-result g c =
     let disk = c.self.inside.disk in
     let made = made_by k client.kept c.args.act in
     let acts = subst (λ (d : MemoryDisk). Acts state_of made client c.perform.new.client d c.perform.new.disk (acknowledged c.in-Acknowledged.answer))
-    c.stop_after.ensures (subst (λ (e : Ended). Acts state_of made client c.perform.new.client c.stop_after.new.self c.perform.new.disk (ended_as e)) c.in-Acknowledged.is c.perform.ensures) in
+    c.stop_after.ensures (subst (λ (e : Ended). Acts state_of made client c.perform.new.client c.stop_after.new.self c.perform.new.disk (ended_as e)) c.in-Acknowledged.is c.perform.ensures.acts) in
     let comes = acknowledged_comes c.args.after c.args.mode made client c.perform.new.client disk c.perform.new.disk c.self.invariant
     c.in-Acknowledged.answer acts c.go_on.ensures.told in
     subst (λ (d : MemoryDisk). IsHeld c.perform.new.client d) (sym c.go_on.ensures.lifted) comes.1
@@ -31,7 +31,7 @@ returns-in-Acknowledged g c =
     let disk = c.self.inside.disk in
     let made = made_by k client.kept c.args.act in
     let acts = subst (λ (d : MemoryDisk). Acts state_of made client c.perform.new.client d c.perform.new.disk (acknowledged c.in-Acknowledged.answer))
-    c.stop_after.ensures (subst (λ (e : Ended). Acts state_of made client c.perform.new.client c.stop_after.new.self c.perform.new.disk (ended_as e)) c.in-Acknowledged.is c.perform.ensures) in
+    c.stop_after.ensures (subst (λ (e : Ended). Acts state_of made client c.perform.new.client c.stop_after.new.self c.perform.new.disk (ended_as e)) c.in-Acknowledged.is c.perform.ensures.acts) in
     let comes = acknowledged_comes c.args.after c.args.mode made client c.perform.new.client disk c.perform.new.disk c.self.invariant
     c.in-Acknowledged.answer acts c.go_on.ensures.told in
     comes.0 ∙ ap (λ (x : Client). stopped_client c.args.after c.args.mode x
@@ -44,7 +44,7 @@ returns-in-Refused g c =
     let disk = c.self.inside.disk in
     let made = made_by k client.kept c.args.act in
     let acts = subst (λ (d : MemoryDisk). Acts state_of made client c.perform.new.client d c.perform.new.disk (refused c.in-Refused.refusal))
-    c.stop_after.ensures (subst (λ (e : Ended). Acts state_of made client c.perform.new.client c.stop_after.new.self c.perform.new.disk (ended_as e)) c.in-Refused.is c.perform.ensures) in
+    c.stop_after.ensures (subst (λ (e : Ended). Acts state_of made client c.perform.new.client c.stop_after.new.self c.perform.new.disk (ended_as e)) c.in-Refused.is c.perform.ensures.acts) in
     let comes = refused_comes c.args.after c.args.mode made client c.perform.new.client disk c.perform.new.disk c.self.invariant
     c.in-Refused.refusal acts in
     comes.0 ∙ ap (λ (x : Client). stopped_client c.args.after c.args.mode x
@@ -57,7 +57,7 @@ invariant_of-result-in-Refused g c =
     let disk = c.self.inside.disk in
     let made = made_by k client.kept c.args.act in
     let acts = subst (λ (d : MemoryDisk). Acts state_of made client c.perform.new.client d c.perform.new.disk (refused c.in-Refused.refusal))
-    c.stop_after.ensures (subst (λ (e : Ended). Acts state_of made client c.perform.new.client c.stop_after.new.self c.perform.new.disk (ended_as e)) c.in-Refused.is c.perform.ensures) in
+    c.stop_after.ensures (subst (λ (e : Ended). Acts state_of made client c.perform.new.client c.stop_after.new.self c.perform.new.disk (ended_as e)) c.in-Refused.is c.perform.ensures.acts) in
     let comes = refused_comes c.args.after c.args.mode made client c.perform.new.client disk c.perform.new.disk c.self.invariant
     c.in-Refused.refusal acts in
     subst (λ (d : MemoryDisk). IsHeld c.perform.new.client d) (sym c.go_on-in-Refused.ensures.lifted) comes.1
@@ -69,7 +69,7 @@ reopened-requires-clause-within g c =
     let disk = c.self.inside.disk in
     let made = made_by k client.kept c.args.act in
     let cut = subst (λ (d : MemoryDisk). Acts state_of made client c.perform.new.client d c.perform.new.disk (faulted c.in-Faulted.field-0))
-    c.stop_after.ensures (subst (λ (e : Ended). Acts state_of made client c.perform.new.client c.stop_after.new.self c.perform.new.disk (ended_as e)) c.in-Faulted.is c.perform.ensures) in
+    c.stop_after.ensures (subst (λ (e : Ended). Acts state_of made client c.perform.new.client c.stop_after.new.self c.perform.new.disk (ended_as e)) c.in-Faulted.is c.perform.ensures.acts) in
     cut_within c.args.after c.args.mode made client c.perform.new.client disk c.perform.new.disk c.self.invariant
     c.in-Faulted.field-0 cut c.crash.result c.crash.ensures.left
 
@@ -82,7 +82,7 @@ reopened-requires-clause-holds g c =
     let mode = c.args.mode in
     let made = made_by k client.kept c.args.act in
     let cut = subst (λ (d : MemoryDisk). Acts state_of made client c.perform.new.client d c.perform.new.disk (faulted c.in-Faulted.field-0))
-    c.stop_after.ensures (subst (λ (e : Ended). Acts state_of made client c.perform.new.client c.stop_after.new.self c.perform.new.disk (ended_as e)) c.in-Faulted.is c.perform.ensures) in
+    c.stop_after.ensures (subst (λ (e : Ended). Acts state_of made client c.perform.new.client c.stop_after.new.self c.perform.new.disk (ended_as e)) c.in-Faulted.is c.perform.ensures.acts) in
     let checked = subst (λ (x : Client). IsChecked x c.args.act) (sym c.self.view_is) c.requires in
     let next = made_lawful k client.kept c.args.act cut.next c.laws.ensures.law c.lawful.ensures checked cut.made_is in
     record {
@@ -107,7 +107,7 @@ returns-in-Ok g c =
     let mode = c.args.mode in
     let made = made_by k client.kept c.args.act in
     let cut = subst (λ (d : MemoryDisk). Acts state_of made client c.perform.new.client d c.perform.new.disk (faulted c.in-Faulted.field-0))
-    c.stop_after.ensures (subst (λ (e : Ended). Acts state_of made client c.perform.new.client c.stop_after.new.self c.perform.new.disk (ended_as e)) c.in-Faulted.is c.perform.ensures) in
+    c.stop_after.ensures (subst (λ (e : Ended). Acts state_of made client c.perform.new.client c.stop_after.new.self c.perform.new.disk (ended_as e)) c.in-Faulted.is c.perform.ensures.acts) in
     let checked = subst (λ (x : Client). IsChecked x c.args.act) (sym c.self.view_is) c.requires in
     let next = made_lawful k client.kept c.args.act cut.next c.laws.ensures.law c.lawful.ensures checked cut.made_is in
     let lawful = left_lawful k (is_replaced n mode client.kept cut.next.next) cut.next.next

@@ -1,0 +1,151 @@
+-- What the network gets of a step of one side.
+use Rattle.std.proofs.Common.{Bool, Err, List, None, Ok, Option, Result, Some, [], ap, append-nil, arith, false, if◌then◌else◌, length, refl, suc, sym, true, zero, ℕ, ◌++◌, ◌+◌, ◌-◌, ◌∙◌, ◌∷◌, ◌≡◌, ◌≤◌}
+use Rattle.std.specs.Prelude.{drop, nat_le, slice_get}
+use Rattle.std.proofs.lemmas.List.{drop_all, length-append, length-drop, length-map}
+use Rattle.boxes.specs.Items.{Item}
+use Rattle.dr_base.specs.declared.position.Side.{Side}
+use Rattle.dr_base.specs.declared.position.Side.TheVariants.{First, Second}
+use Rattle.dr_disk.specs.declared.call.Mode.{Mode}
+use Rattle.dr_model.specs.Machines.Acts.{finished_by, said_by, sent_by, taken_by}
+use Rattle.dr_model.specs.Machines.Sides.{Sides, client_of, opened_on, with_client}
+use Rattle.dr_model.specs.Machines.Steps.{Step, has_effect, settled, step}
+use Rattle.kem_laws.specs.Mechanism.{Mechanism}
+use Rattle.ratchet.specs.Seen.{seed_bytes}
+use Rattle.session_model.specs.Clients.{Client, TakenPacket, accept_send, dropped_of, take_on}
+use Rattle.session_model.specs.Saying.{SendDraft, draft_send}
+use Rattle.session_model.specs.declared.answer.Answer.TheVariants.{Opened, Refused, Stopped}
+use Rattle.session_model.specs.declared.answer.Refusal.{Refusal}
+use Rattle.session_model.specs.declared.answer.Refusal.TheVariants.{Fewer}
+use Rattle.client.proofs.Syncs.Parties.{keeps_outbox}
+use Rattle.duet.specs.Acts.{made_by}
+use Rattle.duet.specs.Held.{gathered, gathering}
+use Rattle.duet.specs.Stops.{cut_by, cut_of, stopped_client, stopped_sides}
+use Rattle.duet.specs.declared.acts.Act.{Act}
+use Rattle.duet.specs.declared.acts.Act.TheVariants.{Done as ActDone, Say as ActSay, Sent as ActSent, Take as ActTake}
+
+-- the last item
+pub last_dropped : {X : Type 0} (xs : List X) (held : ℕ) (x : X) → length xs ≡ held + 1
+    → slice_get xs (length xs - 1) ≡ Some x → drop held xs ≡ x ∷ []
+last_dropped [] held x long is = absurd (omega arith)
+last_dropped (y ∷ []) zero x long is = cc
+last_dropped (y ∷ z ∷ zs) zero x long is = absurd (omega arith)
+last_dropped (y ∷ []) (suc held) x long is = absurd (omega arith)
+last_dropped (y ∷ z ∷ zs) (suc held) x long is =
+    let e : length (y ∷ z ∷ zs) - 1 ≡ suc (length (z ∷ zs) - 1) = omega arith in
+    last_dropped (z ∷ zs) held x (omega arith) (ap (slice_get (y ∷ z ∷ zs)) (sym e) ∙ is)
+
+pub same_client : (s : Sides) (side : Side) → with_client s side (client_of s side) ≡ s
+same_client s First = refl
+same_client s Second = refl
+
+module _ (s : Sides) (side : Side) where
+  abbrev gathers : Client → Sides
+  gathers next = gathered (length (client_of s side).outbox) side (with_client s side next)
+
+-- an outbox that gained no packet
+gathers_less : (s : Sides) (side : Side) (next : Client) → length next.outbox ≤ length (client_of s side).outbox
+    → gathers s side next ≡ with_client s side next
+gathers_less s First next few =
+    ap (λ (posts : List Item). let t : Sides = record s { first = next; posts = posts } in t)
+    (ap (λ items. s.posts ++ items) (drop_all (length s.first.outbox) next.outbox few) ∙ append-nil s.posts)
+gathers_less s Second next few =
+    ap (λ (posts : List Item). let t : Sides = record s { second = next; posts = posts } in t)
+    (ap (λ items. s.posts ++ items) (drop_all (length s.second.outbox) next.outbox few) ∙ append-nil s.posts)
+
+gathers_none : (s : Sides) (side : Side) → gathers s side (client_of s side) ≡ s
+gathers_none s side = gathers_less s side (client_of s side) (omega arith) ∙ same_client s side
+
+-- a step of one side makes no draw
+pub same_draws : (s : Sides) (side : Side) (made : Step Client) → (gathering s side made).next.draws ≡ s.draws
+same_draws s First made = refl
+same_draws s Second made = refl
+
+-- ---- how many packets an outbox has after an act
+
+taken_few : (k : Mechanism) (c : Client) (bytes : List ℕ)
+    → length (settled c (taken_by (take_on k c bytes))).next.outbox ≤ length c.outbox
+taken_few k c bytes =
+    let next = (settled c (taken_by (take_on k c bytes))).next in
+    omega (
+      arith,
+      ap length (keeps_outbox k c bytes),
+      length-map next.outbox (λ (i : Item). i.bytes),
+      length-map c.outbox (λ (i : Item). i.bytes),
+    )
+
+sent_few : (c : Client) (n : ℕ) (b : Bool)
+    → length (settled c (sent_by c n (if b then Ok (drop n c.outbox) else Err (Fewer (length c.outbox))))).next.outbox
+    ≤ length c.outbox
+sent_few c n true = omega (arith, length-drop n c.outbox)
+sent_few c n false = omega arith
+
+done_few : (c : Client) (n : ℕ) (r : Result (List Item) Refusal)
+    → length (settled c (finished_by c n r)).next.outbox ≤ length c.outbox
+done_few c n (Ok inbox) = omega arith
+done_few c n (Err refusal) = omega arith
+
+said_few : (c : Client) (d : Option SendDraft) → length (settled c (said_by (accept_send c d))).next.outbox ≤ length c.outbox + 1
+said_few c None = omega arith
+said_few c (Some draft) = omega (arith, length-append c.outbox (draft.post ∷ []))
+
+pub acted_few : (k : Mechanism) (c : Client) (act : Act) → length (settled c (made_by k c act)).next.outbox ≤ length c.outbox + 1
+acted_few k c (ActSay text seed) = said_few c (draft_send k c.state text.now (seed_bytes seed))
+acted_few k c (ActTake bytes) = omega (arith, taken_few k c bytes.items)
+acted_few k c (ActSent n) = omega (arith, sent_few c n (nat_le n (length c.outbox)))
+acted_few k c (ActDone n) = omega (arith, done_few c n (dropped_of n c.inbox))
+
+-- also where it is cut off
+cut_few : (cut : Option Bool) (c : Client) (made : Step Client) → length made.next.outbox ≤ length c.outbox + 1
+    → length (cut_by cut c made).next.outbox ≤ length c.outbox + 1
+cut_few None c made few = few
+cut_few (Some replaced) c made few = by_tests (has_effect made.answer) replaced
+  where
+    by_tests : (e t : Bool)
+        → length (if e then step Stopped (if t then made.next else c) else made).next.outbox ≤ length c.outbox + 1
+    by_tests false t = few
+    by_tests true true = few
+    by_tests true false = omega arith
+
+pub stopped_few : (n : ℕ) (mode : Mode) (c : Client) (made : Step Client) → length made.next.outbox ≤ length c.outbox + 1
+    → length (stopped_client n mode c made).next.outbox ≤ length c.outbox + 1
+unfolding stopped_client
+stopped_few n mode c made few = cut_few (cut_of n mode c made.next) c made few
+
+-- ---- a packet that is taken, as a step of both sides
+
+opened_gathers : (s : Sides) (side : Side) (r : Result TakenPacket Refusal)
+    → length (settled (client_of s side) (taken_by r)).next.outbox ≤ length (client_of s side).outbox
+    → gathering s side (settled (client_of s side) (taken_by r)) ≡ opened_on s side r
+opened_gathers s side (Ok taken) few = ap (λ (x : Sides). step (Opened taken.position) x) (gathers_less s side taken.next few)
+opened_gathers s side (Err refusal) few = ap (λ (x : Sides). step (Refused refusal) x) (gathers_none s side)
+
+pub takes_act : (k : Mechanism) (s : Sides) (side : Side) (bytes : List ℕ)
+    → gathering s side (settled (client_of s side) (taken_by (take_on k (client_of s side) bytes)))
+    ≡ opened_on s side (take_on k (client_of s side) bytes)
+takes_act k s side bytes = opened_gathers s side (take_on k (client_of s side) bytes) (taken_few k (client_of s side) bytes)
+
+-- ---- a step in which the side's disk stops
+
+own_next : (s : Sides) (side : Side) (made : Step Client) → client_of (gathering s side made).next side ≡ made.next
+own_next s First made = refl
+own_next s Second made = refl
+
+gathers_cut : (s : Sides) (side : Side) (cut : Option Bool) (made : Step Client)
+    → cut_by cut s (gathering s side made) ≡ gathering s side (cut_by cut (client_of s side) made)
+gathers_cut s side None made = refl
+gathers_cut s side (Some replaced) made = by_tests (has_effect made.answer) replaced
+  where
+    by_tests : (e t : Bool)
+        → (if e then step Stopped (if t then (gathering s side made).next else s) else gathering s side made)
+        ≡ gathering s side (if e then step Stopped (if t then made.next else client_of s side) else made)
+    by_tests false t = refl
+    by_tests true true = refl
+    by_tests true false = ap (λ (x : Sides). step Stopped x) (sym (gathers_none s side))
+
+pub gathers_stopped : (s : Sides) (side : Side) (n : ℕ) (mode : Mode) (made : Step Client)
+    → stopped_sides side n mode s (gathering s side made)
+    ≡ gathering s side (stopped_client n mode (client_of s side) made)
+unfolding stopped_sides stopped_client
+gathers_stopped s side n mode made =
+    ap (λ (c : Client). cut_by (cut_of n mode (client_of s side) c) s (gathering s side made)) (own_next s side made)
+    ∙ gathers_cut s side (cut_of n mode (client_of s side) made.next) made
