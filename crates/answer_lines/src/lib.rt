@@ -1,4 +1,5 @@
-//! Answers, refusals and texts as lines: what the program and its scripts print of what a client answers.
+//! Answers, refusals and texts as lines: what the program and its scripts print of what a client
+//! answers.
 #![tactic(auto)]
 
 pub use answers::{put_answer, put_named, put_position, put_refusal, put_summary};

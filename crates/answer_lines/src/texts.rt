@@ -45,8 +45,8 @@ fn put_escaped(line: &mut TextLine, byte: u8)
     line.try_extend_from_slice(&digits).unwrap();
 }
 
-/// The line of a text with its position, after a head, as a side's name: `HEAD t.i "text"`, in which each byte that isn't
-/// printable, a quote or a backslash is `\x` and two hex digits.
+/// The line of a text with its position, after a head, as a side's name: `HEAD t.i "text"`, in
+/// which each byte that isn't printable, a quote or a backslash is `\x` and two hex digits.
 #[tactic(auto, unfolding(crate::specs::Texts::text_line))]
 pub fn text_line(head: &[u8], position: Position, text: &[u8]) -> TextLine
     requires head { length head.now ≤ HEAD_LIMIT }

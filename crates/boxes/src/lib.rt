@@ -1,9 +1,9 @@
 //! The two boxes of a client: the texts that came in, and the packets that wait to go out.
 //!
-//! Each box is a list with a limit, the oldest first. All its memory is taken when it is made, room for as
-//! many items as it may hold, each of the greatest size: no later call allocates. An item stays in its room:
-//! to append one copies its bytes, and to drop the oldest moves only numbers. `Row` is such a list at any
-//! limit and any greatest size.
+//! Each box is a list with a limit, the oldest first. All its memory is taken when it is made, room
+//! for as many items as it may hold, each of the greatest size: no later call allocates. An item
+//! stays in its room: to append one copies its bytes, and to drop the oldest moves only numbers.
+//! `Row` is such a list at any limit and any greatest size.
 //!
 //! ```rust
 //! use boxes::{Fewer, Inbox};

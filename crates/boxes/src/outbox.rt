@@ -49,7 +49,8 @@ impl Outbox {
     /// The packet at a place, from 0, the oldest first, and its position.
     pub fn at(&self, at: usize) -> Option<(Position, &[u8])>
         ensures variant { IsSome result ↔ (at < length self.now) }
-        ensures packet { option_map (λ pair. item_at pair.0 pair.1.now) result ≡ slice_get self.now at }
+        ensures packet { option_map (λ pair. item_at pair.0 pair.1.now) result
+            ≡ slice_get self.now at }
         ensures fits { IfSome result (λ pair. length pair.1.now ≤ PACKET_LIMIT) }
     {
         match self.row.at(at) {

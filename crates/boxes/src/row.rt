@@ -1,4 +1,5 @@
-//! A row of at most `LIMIT` items, the oldest first, each of at most `ROOM` bytes, in memory that is taken once.
+//! A row of at most `LIMIT` items, the oldest first, each of at most `ROOM` bytes, in memory that
+//! is taken once.
 
 ghost use Rattle.std.specs.Prelude.{◌≡◌, ◌^◌, ◌<◌, ◌≤◌, ◌↔◌, [], ◌∷◌, ◌++◌, length, drop, All, option_copied, slice_get, IsSome, IsOk, IfOk, OnOk, OnErr, IfErr};
 ghost use Rattle.boxes.specs.Items.{item_at};
@@ -66,11 +67,12 @@ impl<const ROOM: usize> Stored<ROOM> {
     }
 }
 
-/// A list of at most `LIMIT` items, the oldest first, each of at most `ROOM` bytes. A contract sees the list of them.
-/// All its memory is taken when it is made: no later call allocates.
+/// A list of at most `LIMIT` items, the oldest first, each of at most `ROOM` bytes. A contract sees
+/// the list of them. All its memory is taken when it is made: no later call allocates.
 ///
-/// An item stays in its room for as long as it stands. What moves is the order of the rooms' numbers: first come
-/// the `held` rooms with an item, the oldest first, and then those that are free.
+/// An item stays in its room for as long as it stands. What moves is the order of the rooms'
+/// numbers: first come the `held` rooms with an item, the oldest first, and then those that are
+/// free.
 #[derive(Drop)]
 pub struct Row<const LIMIT: usize, const ROOM: usize> {
     rooms: Vec<Stored<ROOM>>,
@@ -100,7 +102,8 @@ fn turn_front(order: &mut [usize], held: usize, n: usize)
 }
 
 impl<const LIMIT: usize, const ROOM: usize> Row<LIMIT, ROOM> {
-    /// An empty row, with all the memory that it will ever use. An error comes only where there is too little memory.
+    /// An empty row, with all the memory that it will ever use. An error comes only where there is
+    /// too little memory.
     pub fn new(alloc: Global) -> Result<Self, AllocError>
         ensures { IfOk result (λ row. row ≡ []) }
     {
@@ -154,7 +157,8 @@ impl<const LIMIT: usize, const ROOM: usize> Row<LIMIT, ROOM> {
         Some(&self.rooms[self.order[at]])
     }
 
-    /// Drops the `n` oldest items. Where fewer stand, the row stays as it was, and the error says how many stand.
+    /// Drops the `n` oldest items. Where fewer stand, the row stays as it was, and the error says
+    /// how many stand.
     pub fn drop_first(&mut self, n: u32) -> Result<(), Fewer>
         requires { LIMIT < 2 ^ 32 }
         ensures variant { IsOk result ↔ (n ≤ length self.old) }

@@ -22,8 +22,8 @@ fn is_hmac(key: &[u8], message: &[u8], expected: &[u8; 32]) -> bool {
         && KeyedMac::new(key).hmac(message) == *expected
 }
 
-// RFC 4231, 4.2 to 4.5, 4.7 and 4.8, whole and in pieces. The last two rows have the longest key that
-// isn't hashed and the shortest that is; their values are those of Python's module `hmac`.
+// RFC 4231, 4.2 to 4.5, 4.7 and 4.8, whole and in pieces. The last two rows have the longest key
+// that isn't hashed and the shortest that is; their values are those of Python's module `hmac`.
 #[test]
 fn hmac_vectors(rt: HostRuntime) {
     let rows: [(&[u8], &[u8], [u8; 32]); 8] = [

@@ -1,4 +1,5 @@
-//! Tests of the crates of symmetric cryptography: the vectors of their standards, and values of other implementations.
+//! Tests of the crates of symmetric cryptography: the vectors of their standards, and values of
+//! other implementations.
 #![tactic(auto)]
 
 #[cfg(test)]

@@ -1,4 +1,5 @@
-//! The values are those of Python's modules `hashlib` and `hmac`, and of `cryptography` for ChaCha20.
+//! The values are those of Python's modules `hashlib` and `hmac`, and of `cryptography` for
+//! ChaCha20.
 
 ghost use Rattle.std.specs.Prelude.{◌<◌};
 

@@ -41,8 +41,8 @@ impl<K: Kem> Caller<K> {
         }
     }
 
-    /// Encapsulates to the held public key, and makes the pair whose secret waits for the answer, both from one
-    /// seed. The message for the other side is the ciphertext and the new public key.
+    /// Encapsulates to the held public key, and makes the pair whose secret waits for the answer,
+    /// both from one seed. The message for the other side is the ciphertext and the new public key.
     ///
     /// Where the seed has no pair, the caller comes back as it was.
     pub fn turn(
@@ -54,7 +54,8 @@ impl<K: Kem> Caller<K> {
             turn_of K.mechanism self seed.now.bytes ≡ Some (t.0, t.1.items, t.2.bytes)) }
         ensures long { IfOk result (λ t. length t.1.items ≡ agreement_size K.mechanism) }
         ensures same { IfErr result (λ c. c ≡ self) }
-        ensures without_pair { IfErr result (λ _. K.mechanism.meaning.pair_of seed.now.bytes ≡ None) }
+        ensures without_pair { IfErr result
+            (λ _. K.mechanism.meaning.pair_of seed.now.bytes ≡ None) }
     {
         laws::<K>();
         // The proof takes the length of the seed from this.

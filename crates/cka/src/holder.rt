@@ -10,7 +10,8 @@ use dr_base::{Key32, in_room};
 use kem_laws::{Kem, laws};
 use std::marker::{Model, PhantomData};
 
-/// The side that holds a secret, and waits for a message to its public key. A contract sees it as that secret.
+/// The side that holds a secret, and waits for a message to its public key. A contract sees it as
+/// that secret.
 ///
 /// It can't be copied, and it has to be spent: by `answer`, or by `rest`.
 pub struct Holder<K: Kem> {
@@ -43,11 +44,13 @@ impl<K: Kem> Holder<K> {
         }
     }
 
-    /// Takes a message: the key that it carries, and the caller with the public key in it, whose turn it is.
+    /// Takes a message: the key that it carries, and the caller with the public key in it, whose
+    /// turn it is.
     pub fn answer(self, work: &mut K::Work, agreement: &[u8]) -> (Caller<K>, Key32)
         requires { length agreement.now ≡ agreement_size K.mechanism }
         ensures caller { result.0 ≡ drop K.mechanism.ciphertext agreement.now }
-        ensures key { result.1.bytes ≡ K.mechanism.meaning.decap_of self (take K.mechanism.ciphertext agreement.now) }
+        ensures key { result.1.bytes ≡ K.mechanism.meaning.decap_of self
+            (take K.mechanism.ciphertext agreement.now) }
     {
         laws::<K>();
         let Holder {

@@ -1,9 +1,10 @@
-//! Continuous key agreement from any key encapsulation mechanism (Alwen, Coretti, Dodis, "The Double Ratchet",
-//! Eurocrypt 2019).
+//! Continuous key agreement from any key encapsulation mechanism (Alwen, Coretti, Dodis, "The
+//! Double Ratchet", Eurocrypt 2019).
 //!
-//! The two sides take turns. The caller holds the other side's public key, and its turn makes a key, a message
-//! for the other side, and a holder of the secret that waits for the answer. The holder answers a message with
-//! the same key, and is the caller of the next turn. Neither can be copied, and each has to be spent.
+//! The two sides take turns. The caller holds the other side's public key, and its turn makes a
+//! key, a message for the other side, and a holder of the secret that waits for the answer. The
+//! holder answers a message with the same key, and is the caller of the next turn. Neither can be
+//! copied, and each has to be spent.
 //!
 //! ```rust
 //! use cka::{Caller, Holder};

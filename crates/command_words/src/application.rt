@@ -15,7 +15,8 @@ fn wanting<'a>(
     id: &'a str,
 ) -> Result<Command<'a>, AllocError>
     requires { IfOk command IsLocal }
-    ensures shape { (app : App) → Makes command.entry app → Makes result (with_rule app (wanted id.now)) }
+    ensures shape { (app : App) → Makes command.entry app
+        → Makes result (with_rule app (wanted id.now)) }
     ensures local { IfOk result IsLocal }
 {
     command?.arg(Arg::new(alloc, id).required(true))
@@ -28,7 +29,8 @@ fn wanting_more<'a>(
     id: &'a str,
 ) -> Result<Command<'a>, AllocError>
     requires { IfOk command IsLocal }
-    ensures shape { (app : App) → Makes command.entry app → Makes result (with_rule app (wanted_each id.now)) }
+    ensures shape { (app : App) → Makes command.entry app
+        → Makes result (with_rule app (wanted_each id.now)) }
     ensures local { IfOk result IsLocal }
 {
     let more = Arg::new(alloc, id).required(true).action(ArgAction::Append);
@@ -89,7 +91,8 @@ fn with_listed<'a>(
     application: Result<Command<'a>, AllocError>,
     name: &'a str,
 ) -> Result<Command<'a>, AllocError>
-    ensures { Joins application.entry result (shape_with name.now (first_rule ∷ second_rule ∷ more_rule ∷ [])) }
+    ensures { Joins application.entry result
+        (shape_with name.now (first_rule ∷ second_rule ∷ more_rule ∷ [])) }
 {
     let one = wanting(alloc, Ok(Command::new(alloc, name)), "first");
     let two = wanting(alloc, one, "second");
@@ -107,7 +110,8 @@ fn without_commands<'a>(alloc: Global) -> Command<'a>
         .disable_help_subcommand(true)
 }
 
-/// The application with all its commands. What is made passes want of memory on, so that it is asked after once, at the end.
+/// The application with all its commands. What is made passes want of memory on, so that it is
+/// asked after once, at the end.
 pub fn application<'a>(alloc: Global) -> Result<Command<'a>, AllocError>
     ensures { Makes result (application rows) }
 {

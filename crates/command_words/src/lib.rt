@@ -1,6 +1,7 @@
 //! The words of a command: what the program's arguments after its name ask for.
 //!
-//! `specs/Commands` has the table of the commands, `specs/Values` which of the words after a name are its values.
+//! `specs/Commands` has the table of the commands, `specs/Values` which of the words after a name
+//! are its values.
 //!
 //! ```rust
 //! use command_words::{Command, parse};

@@ -83,7 +83,8 @@ fn relay_of<'a>(
     count: &str,
     boxes: &[&'a str],
 ) -> Result<Option<Command<'a>>, AllocError>
-    ensures { IfOk result (λ found. option_map work_of found ≡ relay_read port.now count.now (texts boxes.now)) }
+    ensures { IfOk result
+        (λ found. option_map work_of found ≡ relay_read port.now count.now (texts boxes.now)) }
 {
     let Some(port) = port_of(port) else {
         return Ok(None);
@@ -136,7 +137,8 @@ fn with_value<'a>(name: &str, value: &'a str) -> Option<Command<'a>>
 
 /// The command of a name with these two values.
 fn with_two<'a>(name: &str, first: &str, second: &str) -> Option<Command<'a>>
-    ensures { option_map work_of result ≡ command_named rows name.now (first.now ∷ second.now ∷ []) }
+    ensures { option_map work_of result ≡ command_named rows name.now
+        (first.now ∷ second.now ∷ []) }
 {
     match name {
         "duet-make" => made_of(first, second),
@@ -153,7 +155,8 @@ fn with_more<'a>(
     more: &[&'a str],
 ) -> Result<Option<Command<'a>>, AllocError>
     ensures { (third : List ℕ) (others : List (List ℕ)) → texts more.now ≡ third ∷ others
-        → IfOk result (λ found. option_map work_of found ≡ command_named rows name.now (first.now ∷ second.now ∷ third ∷ others)) }
+        → IfOk result (λ found. option_map work_of found ≡ command_named rows name.now
+        (first.now ∷ second.now ∷ third ∷ others)) }
 {
     match name {
         "relay" => relay_of(alloc, first, second, more),
@@ -167,7 +170,8 @@ pub fn command_named<'a>(
     name: &str,
     values: &[&'a str],
 ) -> Result<Option<Command<'a>>, AllocError>
-    ensures { IfOk result (λ found. option_map work_of found ≡ command_named rows name.now (texts values.now)) }
+    ensures { IfOk result
+        (λ found. option_map work_of found ≡ command_named rows name.now (texts values.now)) }
 {
     match values {
         [] => Ok(without_value(name)),

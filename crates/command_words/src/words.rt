@@ -27,7 +27,9 @@ fn is_memory(error: &Error) -> bool
 
 /// Puts a value after those that stand, if one was given.
 fn push_one<'a>(values: &mut Vec<&'a str>, value: Option<&'a str>) -> Result<(), AllocError>
-    ensures { OnOk result (texts values.new.items ≡ texts values.old.items ++ option_to_list (option_map (λ word. word.now) value.entry)) }
+    ensures { OnOk result
+        (texts values.new.items ≡ texts values.old.items ++ option_to_list
+        (option_map (λ word. word.now) value.entry)) }
 {
     if let Some(word) = value {
         values.push(word)?;
@@ -37,7 +39,9 @@ fn push_one<'a>(values: &mut Vec<&'a str>, value: Option<&'a str>) -> Result<(),
 
 /// Puts values after those that stand, if some were given.
 fn push_more<'a>(values: &mut Vec<&'a str>, more: Option<&[&'a str]>) -> Result<(), AllocError>
-    ensures { OnOk result (texts values.new.items ≡ texts values.old.items ++ unwrap_or (option_map (λ words. texts words.now) more.entry) []) }
+    ensures { OnOk result
+        (texts values.new.items ≡ texts values.old.items ++ unwrap_or
+        (option_map (λ words. texts words.now) more.entry) []) }
 {
     if let Some(words) = more {
         values.extend_from_slice(words)?;
@@ -47,7 +51,8 @@ fn push_more<'a>(values: &mut Vec<&'a str>, more: Option<&[&'a str]>) -> Result<
 
 /// The values that a parse found, in order.
 fn values_given<'a>(alloc: Global, given: &ArgMatches<'a>) -> Result<Vec<&'a str>, AllocError>
-    ensures { IfOk result (λ values. texts values.items ≡ values_found (rows_of (found_of given.now))) }
+    ensures { IfOk result
+        (λ values. texts values.items ≡ values_found (rows_of (found_of given.now))) }
 {
     let mut values = Vec::new(alloc);
     push_one(&mut values, given.get_str("first"))?;
@@ -56,10 +61,11 @@ fn values_given<'a>(alloc: Global, given: &ArgMatches<'a>) -> Result<Vec<&'a str
     Ok(values)
 }
 
-/// The command that the words are, which are the program's arguments after its name, or none. Want of memory is told
-/// apart from words that are no command.
+/// The command that the words are, which are the program's arguments after its name, or none. Want
+/// of memory is told apart from words that are no command.
 pub fn parse<'a>(alloc: Global, words: &'a [String]) -> Result<Option<Command<'a>>, AllocError>
-    ensures { IfOk result (λ found. option_map work_of found ≡ command_of (map string_bytes words.entry.now)) }
+    ensures { IfOk result
+        (λ found. option_map work_of found ≡ command_of (map string_bytes words.entry.now)) }
 {
     let matches = match application(alloc)?.try_get_matches_from(words) {
         Ok(matches) => matches,

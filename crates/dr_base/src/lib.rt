@@ -1,5 +1,5 @@
-//! The plain values that every crate of the messenger speaks of: sides, positions, keys of 32 bytes, bytes put
-//! at a place of a buffer, and the failure of a call on the outside.
+//! The plain values that every crate of the messenger speaks of: sides, positions, keys of 32
+//! bytes, bytes put at a place of a buffer, and the failure of a call on the outside.
 #![tactic(auto)]
 
 pub use buffer::{put, put_u8, put_u16, put_u32, put_u64};

@@ -32,8 +32,8 @@ pub const CIPHERTEXT_LIMIT: usize = 1039;
 /// The longest agreement message, in bytes: a ciphertext and a public key.
 pub const AGREEMENT_LIMIT: usize = CIPHERTEXT_LIMIT + PUBLIC_LIMIT;
 
-/// What a packet has beside its agreement message and its ciphertext, in bytes: its numbers, sizes and session id, and
-/// its tag.
+/// What a packet has beside its agreement message and its ciphertext, in bytes: its numbers, sizes
+/// and session id, and its tag.
 pub const PACKET_FRAME: usize = 33 + 32;
 
 /// The longest packet, in bytes.

@@ -43,7 +43,8 @@ impl Side {
     }
 }
 
-/// The place of a text: its epoch, and its index in the epoch, which begins at 1. It prints as `epoch.index`.
+/// The place of a text: its epoch, and its index in the epoch, which begins at 1. It prints as
+/// `epoch.index`.
 #[derive(Clone, Copy, Debug, Default, PartialEq, Eq)]
 pub struct Position {
     pub epoch: u32,

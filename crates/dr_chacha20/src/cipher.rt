@@ -33,7 +33,8 @@ pub fn xor_in_place(key: &[u8; 32], counter: u32, nonce: &[u8; 12], bytes: &mut 
 // Encrypts the blocks of the text that are whole.
 fn xor_whole_blocks(key: &[u8; 32], counter: u32, nonce: &[u8; 12], bytes: &mut [u8])
     requires { counter + (length bytes.old + 63) / 64 ≤ 2 ^ 32 }
-    ensures { bytes.new ≡ xor_of bytes.old (key_stream key.now counter nonce.now (length bytes.old / 64)) }
+    ensures { bytes.new ≡ xor_of bytes.old
+        (key_stream key.now counter nonce.now (length bytes.old / 64)) }
 {
     xor_pairs(key, counter, nonce, bytes);
     let done = bytes.len() / 128 * 2;
@@ -45,7 +46,8 @@ fn xor_whole_blocks(key: &[u8; 32], counter: u32, nonce: &[u8; 12], bytes: &mut 
 // Encrypts as many pairs of whole blocks as the text has.
 fn xor_pairs(key: &[u8; 32], counter: u32, nonce: &[u8; 12], bytes: &mut [u8])
     requires { counter + (length bytes.old + 63) / 64 ≤ 2 ^ 32 }
-    ensures { bytes.new ≡ xor_of bytes.old (key_stream key.now counter nonce.now (length bytes.old / 128 * 2)) }
+    ensures { bytes.new ≡ xor_of bytes.old
+        (key_stream key.now counter nonce.now (length bytes.old / 128 * 2)) }
 {
     'pairs: for i in 0..bytes.len() / 128 {
         xor_two_blocks(key, counter + 2 * i as u32, nonce, bytes, 128 * i);
@@ -56,7 +58,8 @@ fn xor_pairs(key: &[u8; 32], counter: u32, nonce: &[u8; 12], bytes: &mut [u8])
 fn xor_two_blocks(key: &[u8; 32], counter: u32, nonce: &[u8; 12], bytes: &mut [u8], at: usize)
     requires room { at + 128 ≤ length bytes.old }
     requires counts { counter + 1 < 2 ^ 32 }
-    ensures { bytes.new ≡ xor_at at bytes.old (block_of key.now counter nonce.now ++ block_of key.now (counter + 1) nonce.now) }
+    ensures { bytes.new ≡ xor_at at bytes.old
+        (block_of key.now counter nonce.now ++ block_of key.now (counter + 1) nonce.now) }
 {
     let (first, second) = two_block_words(
         initial_state(key, counter, nonce),

@@ -1,5 +1,5 @@
-//! The block function on a state of four rows (RFC 8439, 2.3). A column round is one quarter round of
-//! the rows, word by word. A diagonal round is one too, with the last three rows turned.
+//! The block function on a state of four rows (RFC 8439, 2.3). A column round is one quarter round
+//! of the rows, word by word. A diagonal round is one too, with the last three rows turned.
 
 ghost use Rattle.std.specs.Prelude.{◌≡◌, ℕ, ◌+◌, ◌*◌, ◌%◌, ◌<◌, ◌≤◌, length, slice_index};
 ghost use Rattle.std.specs.Simd.Lanes.{zip2};
@@ -32,7 +32,8 @@ fn add(x: u32x4, y: u32x4) -> u32x4
 #[inline(always)]
 fn xor_rotate(x: u32x4, y: u32x4, k: u32) -> u32x4
     requires { (0 < k) × (k < 32) }
-    ensures { (j : ℕ) → j < 4 → slice_index result j ≡ xor_rotate (slice_index x j) (slice_index y j) k }
+    ensures { (j : ℕ) → j < 4
+        → slice_index result j ≡ xor_rotate (slice_index x j) (slice_index y j) k }
 {
     let z = x ^ y;
     (z << u32x4::splat(k)) | (z >> u32x4::splat(32 - k))
@@ -42,8 +43,15 @@ fn xor_rotate(x: u32x4, y: u32x4, k: u32) -> u32x4
 #[inline(always)]
 fn quarter_round(x: Rows) -> Rows
     ensures { (j : ℕ) → j < 4
-        → (slice_index result.a j, slice_index result.b j, slice_index result.c j, slice_index result.d j)
-        ≡ quarter_round (slice_index x.a j) (slice_index x.b j) (slice_index x.c j) (slice_index x.d j) }
+        → (
+          slice_index result.a j,
+          slice_index result.b j,
+          slice_index result.c j,
+          slice_index
+              result.d j,
+        )
+        ≡ quarter_round (slice_index x.a j) (slice_index x.b j) (slice_index x.c j)
+        (slice_index x.d j) }
 {
     let a1 = add(x.a, x.b);
     let d1 = xor_rotate(x.d, a1, 16);

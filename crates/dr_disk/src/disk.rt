@@ -9,8 +9,8 @@ ghost use Rattle.dr_disk.specs.Calls.{Unwritten, WrittenIn, LeavesWritten, Leave
 
 use dr_base::Failed;
 
-/// Bytes that outlive a crash. Between two syncs each range that was written, also by a write that failed, may
-/// hold any bytes after a crash; the bytes outside stay.
+/// Bytes that outlive a crash. Between two syncs each range that was written, also by a write that
+/// failed, may hold any bytes after a crash; the bytes outside stay.
 pub trait Disk {
     /// What the disk tells of itself.
     ghost state: { Self → DiskState };
@@ -32,11 +32,13 @@ pub trait Disk {
     /// Writes over the bytes from a place on.
     fn write_at(&mut self, at: u64, bytes: &[u8]) -> Result<(), Failed>
         requires { at + length bytes.now ≤ (state self.old).size }
-        ensures written { OnOk result ((state self.new).seen ≡ overwritten_told (state self.old).seen at bytes.now) }
+        ensures written { OnOk result
+            ((state self.new).seen ≡ overwritten_told (state self.old).seen at bytes.now) }
         ensures passes { GoesBy (state self.old) (state self.new) }
         ensures within { WrittenIn at (length bytes.now) (state self.old) (state self.new) }
         ensures leaves { LeavesWritten at bytes.now (state self.old) (state self.new) }
-        ensures keeps { OnErr result ((state self.old).keeps ≡ true → (state self.new).seen ≡ (state self.old).seen) }
+        ensures keeps { OnErr result ((state self.old).keeps ≡ true
+            → (state self.new).seen ≡ (state self.old).seen) }
         ensures told { Goes (state self.old) (state self.new) result }
         ensures cause { HasFault Write (state self.old) (state self.new) result };
 

@@ -11,13 +11,14 @@ use std::fs::File;
 use std::marker::Model;
 use std::rt::Files;
 
-/// A disk over a file, of a stated size. The file is looked for at the first call, and locked until the disk is let
-/// go. Where there is none, reads give zeros, and only a write makes it, for its owner alone to read and write. Bytes
-/// past the file's end are read as 0.
+/// A disk over a file, of a stated size. The file is looked for at the first call, and locked until
+/// the disk is let go. Where there is none, reads give zeros, and only a write makes it, for its
+/// owner alone to read and write. Bytes past the file's end are read as 0.
 ///
-/// The file takes its room in steps: before a write, zeros are written up to the end of the step that the write ends in,
-/// where the file ends before that. So a write fails for want of room only where it is the first one of its step, and a
-/// file that was to be made and found no room is removed again.
+/// The file takes its room in steps: before a write, zeros are written up to the end of the step
+/// that the write ends in, where the file ends before that. So a write fails for want of room only
+/// where it is the first one of its step, and a file that was to be made and found no room is
+/// removed again.
 #[derive(Drop)]
 pub struct FileDisk<'a, R: Files<File = File>> {
     handle: Handle<'a, R>,
@@ -47,8 +48,8 @@ fn room_end(step: u64, size: u64, end: u64) -> u64
 impl<'a, R: Files<File = File>> FileDisk<'a, R> {
     ghost use Rattle.dr_disk.specs.Memory.{no_faults};
 
-    /// A disk of `size` bytes over the file at `path`, which takes its room in steps of `step` bytes, or all of it at once
-    /// where that is 0. No call is made.
+    /// A disk of `size` bytes over the file at `path`, which takes its room in steps of `step`
+    /// bytes, or all of it at once where that is 0. No call is made.
     pub fn new(files: &'a R, path: &'a str, size: u64, step: u64, sharing: Sharing) -> Self
         ensures { result ≡ record { size = size; counts = no_faults } }
     {

@@ -22,8 +22,8 @@ pub enum Sharing {
 enum Folder {
     /// This disk wrote nothing yet.
     Unwritten,
-    /// This disk wrote, and the next sync reaches the folder too. It needn't have made the file: a program that
-    /// made it may have ended before it synced.
+    /// This disk wrote, and the next sync reaches the folder too. It needn't have made the file: a
+    /// program that made it may have ended before it synced.
     Due,
     /// This disk synced it.
     Synced,
@@ -49,7 +49,8 @@ pub(crate) struct Handle<'a, R: Files<File = File>> {
     stage: Stage,
 }
 
-/// Whether this path names the file. While it waited for the lock, another program may have removed it.
+/// Whether this path names the file. While it waited for the lock, another program may have removed
+/// it.
 fn is_named<R: Files>(files: &R, path: &str, file: &OwnFile) -> io::Result<bool> {
     let named = fs::metadata(files, path)?;
     let opened = file.metadata()?;
@@ -152,8 +153,9 @@ impl<'a, R: Files<File = File>> Handle<'a, R> {
         }
     }
 
-    /// Writes over the bytes from a place on. A file that has fewer bytes than `length` is given these first, and where
-    /// there is no file it is made. A file that was made and couldn't be given its bytes is removed again.
+    /// Writes over the bytes from a place on. A file that has fewer bytes than `length` is given
+    /// these first, and where there is no file it is made. A file that was made and couldn't be
+    /// given its bytes is removed again.
     pub(crate) fn write(&mut self, at: u64, bytes: &[u8], length: u64) -> io::Result<()> {
         look(&mut self.stage, self.files, self.path, self.sharing)?;
         if let Stage::Missing = self.stage {

@@ -33,7 +33,8 @@ pub(crate) fn count_fault(count: &mut u64)
 
 /// Counts a write or a sync that passed.
 pub(crate) fn count_passed(passed: &mut u64)
-    ensures one { (m : ℕ) → told_count passed.new ≡ Some m → (l : ℕ) × (told_count passed.old ≡ Some l) × (m ≡ l + 1) }
+    ensures one { (m : ℕ) → told_count passed.new ≡ Some m → (l : ℕ)
+        × (told_count passed.old ≡ Some l) × (m ≡ l + 1) }
     ensures no_less { passed.old ≤ passed.new }
     ensures no_more { passed.new ≤ passed.old + 1 }
 {

@@ -20,8 +20,9 @@ const PIECE: u64 = 4_096;
 /// How often a read that a signal interrupts is tried.
 const TRIES: u32 = 1_000;
 
-/// An open file with a descriptor that is none of standard input, output and errors. A program that was started with
-/// one of these closed is given its number for the next file that it opens, and what it prints would go over that file.
+/// An open file with a descriptor that is none of standard input, output and errors. A program that
+/// was started with one of these closed is given its number for the next file that it opens, and
+/// what it prints would go over that file.
 #[derive(Drop)]
 pub(crate) struct OwnFile {
     file: File,
@@ -57,7 +58,8 @@ impl OwnFile {
         self.file.set_permissions(Permissions::from_mode(0o600))
     }
 
-    /// Reads some bytes, none only at the file's end. A read that a signal interrupts is tried again.
+    /// Reads some bytes, none only at the file's end. A read that a signal interrupts is tried
+    /// again.
     fn read_some(&self, at: u64, into: &mut [u8]) -> io::Result<usize>
         ensures { IfOk result (λ count. count ≤ length into.new) }
     {
@@ -90,7 +92,8 @@ impl OwnFile {
         self.file.write_all_at(bytes, at)
     }
 
-    /// Gives the file `length` bytes, if it has fewer, by writing zeros. So the system has room for all of them.
+    /// Gives the file `length` bytes, if it has fewer, by writing zeros. So the system has room for
+    /// all of them.
     pub(crate) fn fill(&self, length: u64) -> io::Result<()> {
         let zeros = [0; PIECE as usize];
         let mut end = self.file.metadata()?.len();

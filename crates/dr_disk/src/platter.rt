@@ -52,7 +52,8 @@ fn copy_range(bytes: &mut Vec<u8>, from: &Vec<u8>, low: usize, high: usize)
     requires order { low ≤ high }
     requires end { high ≤ length bytes.old.items }
     requires size { length from.now.items ≡ length bytes.old.items }
-    ensures { bytes.new.items ≡ overwritten bytes.old.items low (slice_range from.now.items low high) }
+    ensures { bytes.new.items ≡ overwritten bytes.old.items low
+        (slice_range from.now.items low high) }
 {
     bytes[low..high].copy_from_slice(&from[low..high]);
 }
@@ -94,7 +95,8 @@ fn fill_marked(bytes: &mut Vec<u8>, marks: &Vec<bool>, byte: u8)
 fn leave(durable: &mut Vec<u8>, asked: &Vec<u8>, marks: &Vec<bool>, mode: Mode)
     requires asked { length asked.now.items ≡ length durable.old.items }
     requires marks { length marks.now.items ≡ length durable.old.items }
-    ensures bytes { durable.new.items ≡ left_by durable.old.items asked.now.items marks.now.items mode }
+    ensures bytes { durable.new.items
+        ≡ left_by durable.old.items asked.now.items marks.now.items mode }
     ensures size { length durable.new.items ≡ length durable.old.items }
 {
     match mode {
@@ -161,7 +163,8 @@ impl Platter {
         self.high = high;
     }
 
-    /// A good sync: what reads give is durable, and nothing else is asked for. Only the range that has marks is copied.
+    /// A good sync: what reads give is durable, and nothing else is asked for. Only the range that
+    /// has marks is copied.
     pub(crate) fn settle(&mut self)
         ensures bytes { self.new.bytes.items ≡ self.old.bytes.items }
         ensures durable { self.new.durable.items ≡ self.old.bytes.items }
@@ -177,9 +180,12 @@ impl Platter {
 
     /// What a crash of a kind leaves.
     pub(crate) fn crash(self, mode: Mode) -> Platter
-        ensures bytes { result.bytes.items ≡ left_by self.durable.items self.asked.items self.marks.items mode }
-        ensures durable { result.durable.items ≡ left_by self.durable.items self.asked.items self.marks.items mode }
-        ensures asked { result.asked.items ≡ left_by self.durable.items self.asked.items self.marks.items mode }
+        ensures bytes { result.bytes.items
+            ≡ left_by self.durable.items self.asked.items self.marks.items mode }
+        ensures durable { result.durable.items
+            ≡ left_by self.durable.items self.asked.items self.marks.items mode }
+        ensures asked { result.asked.items
+            ≡ left_by self.durable.items self.asked.items self.marks.items mode }
         ensures marks { result.marks.items ≡ replicate (length self.marks.items) false }
     {
         let Platter {

@@ -1,4 +1,5 @@
-//! A disk in memory that records its writes and syncs, and so tells what a crash at any moment might have left.
+//! A disk in memory that records its writes and syncs, and so tells what a crash at any moment
+//! might have left.
 
 ghost use Rattle.std.specs.Prelude.{◌≡◌, length, IfOk};
 ghost use Rattle.dr_disk.specs.Recorded.{blank, events_of, replayed, total_of};
@@ -10,9 +11,10 @@ use crate::tape::Tape;
 use dr_base::Failed;
 use std::alloc::{AllocError, Global};
 
-/// A disk in memory with room for a stated number of writes and syncs, and of bytes that are written. A call past that
-/// room fails; no other does. It tells what a `MemoryDisk` tells, and what a crash at each moment so far might have
-/// left; what a crash of each kind would leave it tells until a write has failed.
+/// A disk in memory with room for a stated number of writes and syncs, and of bytes that are
+/// written. A call past that room fails; no other does. It tells what a `MemoryDisk` tells, and
+/// what a crash at each moment so far might have left; what a crash of each kind would leave it
+/// tells until a write has failed.
 #[derive(Drop)]
 pub struct RecordingDisk {
     platter: Platter,
@@ -32,8 +34,8 @@ pub struct RecordingDisk {
 impl RecordingDisk {
     ghost use Rattle.dr_disk.specs.RecordingDisks.{IsNewRecording, recording_state_of};
 
-    /// A disk of this many zeros, with all the memory that it will ever use: room to record this many writes and syncs, and
-    /// this many bytes that are written.
+    /// A disk of this many zeros, with all the memory that it will ever use: room to record this
+    /// many writes and syncs, and this many bytes that are written.
     pub fn new(
         alloc: Global,
         size: u64,
@@ -81,12 +83,15 @@ impl Disk for RecordingDisk {
         ensures written { OnOk result ((recording_state_of self.new).seen ≡
             overwritten_told (recording_state_of self.old).seen at bytes.now) }
         ensures passes { GoesBy (recording_state_of self.old) (recording_state_of self.new) }
-        ensures within { WrittenIn at (length bytes.now) (recording_state_of self.old) (recording_state_of self.new) }
-        ensures leaves { LeavesWritten at bytes.now (recording_state_of self.old) (recording_state_of self.new) }
+        ensures within { WrittenIn at (length bytes.now) (recording_state_of self.old)
+            (recording_state_of self.new) }
+        ensures leaves { LeavesWritten at bytes.now (recording_state_of self.old)
+            (recording_state_of self.new) }
         ensures keeps { OnErr result ((recording_state_of self.old).keeps ≡ true →
             (recording_state_of self.new).seen ≡ (recording_state_of self.old).seen) }
         ensures told { Goes (recording_state_of self.old) (recording_state_of self.new) result }
-        ensures cause { HasFault Write (recording_state_of self.old) (recording_state_of self.new) result }
+        ensures cause { HasFault Write (recording_state_of self.old)
+            (recording_state_of self.new) result }
         ensures exact { IsOk result ↔ HasRoom (length bytes.now) self.old }
     {
         if !self.tape.has_room(bytes.len()) {
@@ -104,9 +109,11 @@ impl Disk for RecordingDisk {
         ensures settled { OnOk result (IsSettled (recording_state_of self.new)) }
         ensures passes { GoesBy (recording_state_of self.old) (recording_state_of self.new) }
         ensures unwritten { Unwritten (recording_state_of self.old) (recording_state_of self.new) }
-        ensures leaves { OnErr result (LeavesSame (recording_state_of self.old) (recording_state_of self.new)) }
+        ensures leaves { OnErr result
+            (LeavesSame (recording_state_of self.old) (recording_state_of self.new)) }
         ensures told { Goes (recording_state_of self.old) (recording_state_of self.new) result }
-        ensures cause { HasFault Sync (recording_state_of self.old) (recording_state_of self.new) result }
+        ensures cause { HasFault Sync (recording_state_of self.old)
+            (recording_state_of self.new) result }
         ensures exact { IsOk result ↔ HasRoom 0 self.old }
     {
         if !self.tape.has_room(0) {

@@ -27,7 +27,8 @@ fn settle<D: Disk>(disk: &mut D) -> Result<(), Failed>
 pub fn write_synced<D: Disk>(disk: &mut D, at: u64, bytes: &[u8]) -> Result<(), Call>
     requires { at + length bytes.now ≤ (D.state disk.old).size }
 
-    // A crash meanwhile leaves the bytes outside as they were; once it is done, it leaves what was written.
+    // A crash meanwhile leaves the bytes outside as they were; once it is done, it leaves what was
+    // written.
     ensures any_moment { Span (D.state disk.old) (D.state disk.new)
         (Frame (D.state disk.old) at (length bytes.now)) }
     ensures done { OnOk result (Always (IsWrittenOver (D.state disk.old) at bytes.now)

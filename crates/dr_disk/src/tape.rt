@@ -43,7 +43,8 @@ impl Tape {
 
     /// Whether a call with this many bytes can be recorded.
     pub(crate) fn has_room(&self, len: usize) -> bool
-        ensures { IsTrue result ↔ (length self.now.calls.items < self.now.calls_room) × (length self.now.bytes.items + len ≤ self.now.bytes_room) }
+        ensures { IsTrue result ↔ (length self.now.calls.items < self.now.calls_room)
+            × (length self.now.bytes.items + len ≤ self.now.bytes_room) }
     {
         self.calls.len() < self.calls_room && len <= self.bytes_room - self.bytes.len()
     }
@@ -52,7 +53,9 @@ impl Tape {
     pub(crate) fn write(&mut self, at: u64, bytes: &[u8])
         requires calls { length self.old.calls.items < self.old.calls_room }
         requires bytes { length self.old.bytes.items + length bytes.now ≤ self.old.bytes_room }
-        ensures calls { self.new.calls.items ≡ self.old.calls.items ++ record { at = at; len = length bytes.now; is_sync = false } ∷ [] }
+        ensures calls { self.new.calls.items
+            ≡ self.old.calls.items ++ record { at = at; len = length bytes.now; is_sync = false }
+            ∷ [] }
         ensures bytes { self.new.bytes.items ≡ self.old.bytes.items ++ bytes.now }
         ensures calls_room { self.new.calls_room ≡ self.old.calls_room }
         ensures bytes_room { self.new.bytes_room ≡ self.old.bytes_room }
@@ -70,7 +73,8 @@ impl Tape {
     /// Records a sync.
     pub(crate) fn sync(&mut self)
         requires { length self.old.calls.items < self.old.calls_room }
-        ensures calls { self.new.calls.items ≡ self.old.calls.items ++ record { at = 0; len = 0; is_sync = true } ∷ [] }
+        ensures calls { self.new.calls.items
+            ≡ self.old.calls.items ++ record { at = 0; len = 0; is_sync = true } ∷ [] }
         ensures bytes { self.new.bytes.items ≡ self.old.bytes.items }
         ensures calls_room { self.new.calls_room ≡ self.old.calls_room }
         ensures bytes_room { self.new.bytes_room ≡ self.old.bytes_room }

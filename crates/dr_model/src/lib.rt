@@ -1,5 +1,6 @@
-//! The conversation as a pure machine: what each event is answered with, and what follows for every run.
-//! The definitions stand in specs/; the functions here have empty bodies, and their contracts are the laws.
+//! The conversation as a pure machine: what each event is answered with, and what follows for every
+//! run. The definitions stand in specs/; the functions here have empty bodies, and their contracts
+//! are the laws.
 #![tactic(auto)]
 
 pub use laws::{

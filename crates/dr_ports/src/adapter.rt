@@ -1,5 +1,5 @@
-//! Adapters over std's reader and writer and over a source of random bytes. They tell nothing of content to come, and
-//! count each error. A seed is what the source gave.
+//! Adapters over std's reader and writer and over a source of random bytes. They tell nothing of
+//! content to come, and count each error. A seed is what the source gave.
 
 ghost use Rattle.std.specs.Prelude.{◌≡◌, ℕ, None, IfOk};
 ghost use Rattle.dr_ports.specs.Drawing.{DrawsSeed};
@@ -47,8 +47,8 @@ impl<R: Read> Source for ReaderSource<R> {
     }
 }
 
-/// A sink over a writer. A writer that takes nothing of a piece that isn't empty has failed. A contract sees its
-/// count of faults.
+/// A sink over a writer. A writer that takes nothing of a piece that isn't empty has failed. A
+/// contract sees its count of faults.
 #[derive(Drop)]
 pub struct WriterSink<W: Write> {
     writer: W,
@@ -84,7 +84,8 @@ impl<W: Write> Sink for WriterSink<W> {
     }
 }
 
-/// Draws from a source of random bytes, as the system's is. A contract sees the source and its count of faults.
+/// Draws from a source of random bytes, as the system's is. A contract sees the source and its
+/// count of faults.
 #[derive(Drop)]
 pub struct RandomDraws<R> {
     source: R,
@@ -111,9 +112,11 @@ impl<R: TryRng> RandomDraws<R> {
 impl<R: TryRng> Draws for RandomDraws<R> {
     ghost at = { untold };
 
-    /// The next seed: 32 bytes that the source gave in one call. A call of the source that fails is a fault.
+    /// The next seed: 32 bytes that the source gave in one call. A call of the source that fails is
+    /// a fault.
     fn draw(&mut self) -> Result<Key32, Failed>
-        ensures given { IfOk result (λ seed. R.may_fill self.old.source seed.bytes self.new.source) }
+        ensures given { IfOk result
+            (λ seed. R.may_fill self.old.source seed.bytes self.new.source) }
         ensures draws { DrawsSeed (untold self.old) (untold self.new) result }
     {
         let mut seed = Key32::default();

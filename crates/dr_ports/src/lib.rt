@@ -1,6 +1,7 @@
-//! The outside, as traits: where bytes and seeds come from and where bytes go. Each port counts its faults, and tells
-//! what it holds or has taken where it can. The forms in memory tell all and fail where they are told to;
-//! the adapters stand over std's reader and writer and over a source of random bytes.
+//! The outside, as traits: where bytes and seeds come from and where bytes go. Each port counts its
+//! faults, and tells what it holds or has taken where it can. The forms in memory tell all and fail
+//! where they are told to; the adapters stand over std's reader and writer and over a source of
+//! random bytes.
 #![tactic(auto)]
 
 pub use adapter::{RandomDraws, ReaderSource, WriterSink};

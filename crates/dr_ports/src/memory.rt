@@ -1,4 +1,5 @@
-//! The ports in memory: what they hold and take is told, and they fail exactly where they are told to.
+//! The ports in memory: what they hold and take is told, and they fail exactly where they are told
+//! to.
 
 pub mod door;
 pub mod draws;

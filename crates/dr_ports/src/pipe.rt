@@ -42,13 +42,14 @@ pub trait Pipe {
     /// What stands behind it once these bytes were sent.
     ghost behind: { Self → List ℕ → Behind };
 
-    /// Gives the next bytes into the beginning of `into`, and answers how many. Into a piece that isn't empty it answers 0
-    /// only at the end.
+    /// Gives the next bytes into the beginning of `into`, and answers how many. Into a piece that
+    /// isn't empty it answers 0 only at the end.
     fn receive(&mut self, into: &mut [u8]) -> Result<usize, Failed>
         ensures { Receives (port self.old) (port self.new) (behind self.old) (behind self.new)
             into.old into.new result };
 
-    /// Takes a beginning of `bytes`, of a piece that isn't empty at least one, and answers how many it took.
+    /// Takes a beginning of `bytes`, of a piece that isn't empty at least one, and answers how many
+    /// it took.
     fn send(&mut self, bytes: &[u8]) -> Result<usize, Failed>
         ensures { Sends (port self.old) (port self.new) (behind self.old) (behind self.new)
             bytes.now result };

@@ -12,8 +12,8 @@ pub trait Source {
     /// How the source stands.
     ghost at: { Self → SourceState };
 
-    /// Reads the next bytes into the beginning of `into`, and answers how many. Into a piece that isn't
-    /// empty it answers 0 only at the end.
+    /// Reads the next bytes into the beginning of `into`, and answers how many. Into a piece that
+    /// isn't empty it answers 0 only at the end.
     fn read(&mut self, into: &mut [u8]) -> Result<usize, Failed>
         ensures { Reads (at self.old) (at self.new) into.old into.new result };
 }
@@ -23,7 +23,8 @@ pub trait Sink {
     /// How the sink stands.
     ghost at: { Self → SinkState };
 
-    /// Takes a beginning of `bytes`, of a piece that isn't empty at least one, and answers how many it took.
+    /// Takes a beginning of `bytes`, of a piece that isn't empty at least one, and answers how many
+    /// it took.
     fn write(&mut self, bytes: &[u8]) -> Result<usize, Failed>
         ensures { WritesSome (at self.old) (at self.new) bytes.now result };
 }

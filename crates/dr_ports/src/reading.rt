@@ -69,7 +69,8 @@ fn fill<S: Source>(source: &mut S, into: &mut [u8]) -> Result<usize, Failed>
     Ok(count)
 }
 
-/// Reads a source to its end. It takes all its memory first, room for one byte past the limit, and reads no further.
+/// Reads a source to its end. It takes all its memory first, room for one byte past the limit, and
+/// reads no further.
 pub fn read_whole<S: Source>(
     alloc: Global,
     source: &mut S,
@@ -87,8 +88,8 @@ pub fn read_whole<S: Source>(
         (S.at source.new).faults ≡ (S.at source.old).faults }
     ensures later { (S.at source.old).faults ≤ (S.at source.new).faults }
 
-    // What is left in the source: nothing; or all after one byte past the limit; or, where a read failed, all after
-    // what came before; or, for want of memory, all.
+    // What is left in the source: nothing; or all after one byte past the limit; or, where a read
+    // failed, all after what came before; or, for want of memory, all.
     ensures drained { IfOk result (λ _. IfSome (S.at source.new).left (λ left. left ≡ [])) }
     ensures past { IsErrOf result InputError.TooLong →
         (S.at source.new).left ≡ option_map (drop (limit + 1)) (S.at source.old).left }

@@ -9,15 +9,21 @@ ghost use Rattle.duet.specs.Tally.{tally_in, tally_of};
 ghost use Rattle.duet.specs.Trace.{IsUnforgedScript, played, trace_of};
 ghost use Rattle.scripts.specs.Deeds.{HasWholeSeed};
 
-/// The lines that both sides answer to a script are those that the machine answers, over any mechanism that keeps its law,
-/// where the shared key gives a first pair, its seeds have 32 bytes, and no packet that it makes up has a forged tag.
+/// The lines that both sides answer to a script are those that the machine answers, over any
+/// mechanism that keeps its law, where the shared key gives a first pair, its seeds have 32 bytes,
+/// and no packet that it makes up has a forged tag.
 pub fn played_is_the_trace()
-    ensures { (k : Mechanism) (script : Scripted) → IsLawfulMechanism k → is_some (k.meaning.pair_of (agreement_seed script.key)) ≡ true
-        → All HasWholeSeed script.deeds → IsUnforgedScript k script → played k script ≡ trace_of k script }
+    ensures { (k : Mechanism) (script : Scripted) → IsLawfulMechanism k
+        → is_some (k.meaning.pair_of (agreement_seed script.key)) ≡ true
+        → All HasWholeSeed script.deeds → IsUnforgedScript k script
+        → played k script ≡ trace_of k script }
 {}
 
-/// And a run in numbers is the machine's, under the same premises: what is counted, and how far each side comes.
+/// And a run in numbers is the machine's, under the same premises: what is counted, and how far
+/// each side comes.
 pub fn tallied_is_the_machines()
-    ensures { (k : Mechanism) (script : Scripted) → IsLawfulMechanism k → is_some (k.meaning.pair_of (agreement_seed script.key)) ≡ true
-        → All HasWholeSeed script.deeds → IsUnforgedScript k script → tally_of k script ≡ tally_in k script }
+    ensures { (k : Mechanism) (script : Scripted) → IsLawfulMechanism k
+        → is_some (k.meaning.pair_of (agreement_seed script.key)) ≡ true
+        → All HasWholeSeed script.deeds → IsUnforgedScript k script
+        → tally_of k script ≡ tally_in k script }
 {}

@@ -15,9 +15,9 @@ use kem_laws::Kem;
 use relay_link::RelayLink;
 use sync_model::More;
 
-/// Syncs a client over another connection to the relay, on which the reply to the request of this number, from 1, is lost: a
-/// scene. `Refused` and an Ok tell how that has ended, `Link` that it still waits for the lost reply, and `Write` that a call on the
-/// sink failed.
+/// Syncs a client over another connection to the relay, on which the reply to the request of this
+/// number, from 1, is lost: a scene. `Refused` and an Ok tell how that has ended, `Link` that it
+/// still waits for the lost reply, and `Write` that a call on the sink failed.
 pub fn meet<K: Kem, O: Sink>(
     client: &mut Client<K>,
     disk: &mut MemoryDisk,

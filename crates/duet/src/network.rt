@@ -56,7 +56,8 @@ fn flip_at(bytes: &mut [u8], at: usize, value: u8)
     bytes[at] ^= value;
 }
 
-/// A copy of these bytes with one bit changed, counted from the lowest of the first byte, if they have that bit.
+/// A copy of these bytes with one bit changed, counted from the lowest of the first byte, if they
+/// have that bit.
 #[tactic(auto, unfolding(dr_model::specs::Machines::Network::flipped))]
 fn flipped(bit: u32, bytes: &[u8]) -> Option<Packet>
     requires { length bytes.now ≤ PACKET_LIMIT }

@@ -25,8 +25,8 @@ use std::marker::Model;
 /// The size of a side's disk, in bytes: the area of a client.
 const DISK_SIZE: u64 = AREA_SIZE;
 
-/// A side of a conversation: a client that is open, on a disk in memory whose calls all pass. A contract sees what the
-/// client keeps.
+/// A side of a conversation: a client that is open, on a disk in memory whose calls all pass. A
+/// contract sees what the client keeps.
 #[derive(Drop)]
 pub struct Party<K: Kem> {
     pub(crate) client: Client<K>,
@@ -66,11 +66,14 @@ fn begin_error(refusal: BeginRefusal) -> BeginError
 }
 
 impl<K: Kem> Party<K> {
-    /// A side at the beginning of a conversation, on a disk of its own. It takes all its memory here.
+    /// A side at the beginning of a conversation, on a disk of its own. It takes all its memory
+    /// here.
     pub fn begin(alloc: Global, side: Side, key: &Key32) -> Result<Self, BeginError>
         ensures ok { IfOk result (λ p. p ≡ opening_client K.mechanism key.now.bytes side) }
-        ensures pair { IfOk result (λ _. IsSome (K.mechanism.meaning.pair_of (agreement_seed key.now.bytes))) }
-        ensures none { IsErrOf result BeginError.NoPair → IsNone (K.mechanism.meaning.pair_of (agreement_seed key.now.bytes)) }
+        ensures pair { IfOk result
+            (λ _. IsSome (K.mechanism.meaning.pair_of (agreement_seed key.now.bytes))) }
+        ensures none { IsErrOf result BeginError.NoPair
+            → IsNone (K.mechanism.meaning.pair_of (agreement_seed key.now.bytes)) }
     {
         let Ok(mut disk) = MemoryDisk::new(alloc, DISK_SIZE) else {
             return Err(BeginError::Memory);

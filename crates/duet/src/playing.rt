@@ -30,8 +30,8 @@ use std::alloc::{AllocError, Global};
 /// Why a script wasn't played to its end.
 #[derive(Clone, Copy)]
 pub enum PlayError {
-    /// There was no memory for the two sides, and nothing was written; or none to open a side again after a stop, and the
-    /// lines before were written.
+    /// There was no memory for the two sides, and nothing was written; or none to open a side again
+    /// after a stop, and the lines before were written.
     Memory,
     /// The shared key gives no first pair; nothing was written.
     NoPair,
@@ -47,7 +47,8 @@ fn write_entry<K: Kem, O: Sink>(
     at: u32,
 ) -> Result<(), Failed>
     requires { at < length party.now.inbox }
-    ensures { (d : Item) → Writes (O.at out.old) (O.at out.new) (entry_line side (slice_index_or party.now.inbox at d)) result }
+    ensures { (d : Item) → Writes (O.at out.old) (O.at out.new)
+        (entry_line side (slice_index_or party.now.inbox at d)) result }
 {
     match party.inbox_at(at as usize) {
         Some(entry) => write_all(
@@ -60,7 +61,8 @@ fn write_entry<K: Kem, O: Sink>(
 
 /// Writes the lines of a side's inbox, the oldest text first.
 fn write_inbox<K: Kem, O: Sink>(out: &mut O, side: Side, party: &Party<K>) -> Result<(), Failed>
-    ensures { Writes (O.at out.old) (O.at out.new) (flat_map (entry_line side) party.now.inbox) result }
+    ensures { Writes (O.at out.old) (O.at out.new)
+        (flat_map (entry_line side) party.now.inbox) result }
 {
     'texts: for at in 0..party.inbox_len() {
         match write_entry(out, side, party, at) {
@@ -78,7 +80,8 @@ fn write_entries<K: Kem, O: Sink>(
     line: &Line<'_>,
 ) -> Result<(), Failed>
     ensures { Writes (O.at out.old) (O.at out.new)
-        (flat_map (entry_line (acting_side (event_of line.now))) (shown (event_of line.now) duet.now.sides)) result }
+        (flat_map (entry_line (acting_side (event_of line.now)))
+        (shown (event_of line.now) duet.now.sides)) result }
 {
     match line {
         Line::Inbox(side) => write_inbox(out, *side, duet.party(*side)),
@@ -112,7 +115,8 @@ fn play_line<K: Kem, O: Sink>(
     requires few { IsBelow (2 ^ 32 - 1) tally.old }
     ensures next { duet.new ≡ stepped K.mechanism duet.old (event_of line.now) }
     ensures counts { let k = K.mechanism in
-        tally.new ≡ counted_of (acting_side (event_of line.now)) (step_on k duet.old.sides (event_of line.now)).answer tally.old }
+        tally.new ≡ counted_of (acting_side (event_of line.now))
+        (step_on k duet.old.sides (event_of line.now)).answer tally.old }
     ensures writes { let k = K.mechanism in
         Writes (O.at out.old) (O.at out.new)
         (reply_of (event_of line.now) (step_on k duet.old.sides (event_of line.now))) result }
@@ -177,7 +181,8 @@ fn play_deed<K: Kem, O: Sink>(
     requires room { length duet.sides.posts < duet.room }
     requires draws { duet.sides.draws.made < 2 ^ 32 - 1 }
     requires few { IsBelow (2 ^ 32 - 1) tally.old }
-    ensures { PlaysDeed K.mechanism (lined_deed line.now) duet tally.old tally.new (O.at out.old) (O.at out.new) result }
+    ensures { PlaysDeed K.mechanism (lined_deed line.now) duet tally.old tally.new (O.at out.old)
+        (O.at out.new) result }
 {
     let mut duet = duet;
     match line {
@@ -193,18 +198,21 @@ fn play_deed<K: Kem, O: Sink>(
     }
 }
 
-/// Plays a script over a mechanism: it writes the lines of each deed, with what both sides answer, and gives the run
-/// in numbers.
+/// Plays a script over a mechanism: it writes the lines of each deed, with what both sides answer,
+/// and gives the run in numbers.
 pub fn play<K: Kem, O: Sink>(
     alloc: Global,
     script: &Script,
     out: &mut O,
 ) -> Result<Tally, PlayError>
-    ensures ok { OnOk result ((O.at out.new).taken ≡ appended (O.at out.old).taken (played K.mechanism script.now)) }
+    ensures ok { OnOk result
+        ((O.at out.new).taken ≡ appended (O.at out.old).taken (played K.mechanism script.now)) }
     ensures tally { IfOk result (λ tally. tally ≡ tally_of K.mechanism script.now) }
-    ensures pair { OnOk result (IsSome (K.mechanism.meaning.pair_of (agreement_seed script.now.key))) }
+    ensures pair { OnOk result
+        (IsSome (K.mechanism.meaning.pair_of (agreement_seed script.now.key))) }
     ensures none { IsErrOf result PlayError.NoPair
-        → IsNone (K.mechanism.meaning.pair_of (agreement_seed script.now.key)) × ((O.at out.new).taken ≡ (O.at out.old).taken) }
+        → IsNone (K.mechanism.meaning.pair_of (agreement_seed script.now.key))
+        × ((O.at out.new).taken ≡ (O.at out.old).taken) }
     // None for the two sides, or none, after these lines, to open a side again.
     ensures memory { IsErrOf result PlayError.Memory → ((O.at out.new).taken ≡ (O.at out.old).taken)
         ⊎ (TookBeginning (O.at out.old).taken (O.at out.new).taken (played K.mechanism script.now)

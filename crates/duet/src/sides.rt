@@ -20,7 +20,8 @@ use session_model::Answer;
 use std::alloc::Global;
 use std::marker::Model;
 
-/// Both sides. The network holds every packet that stood in an outbox, and the relay the boxes of both, in memory.
+/// Both sides. The network holds every packet that stood in an outbox, and the relay the boxes of
+/// both, in memory.
 #[derive(Drop)]
 pub struct Duet<K: Kem> {
     pub(crate) key: Key32,
@@ -44,13 +45,15 @@ impl<K: Kem> Model for Duet<K> {
 impl<K: Kem> Duet<K> {
     ghost use Rattle.scripts.specs.Seen.{call_event, event_of};
 
-    /// Both sides before the first event, and room in the network for this many packets. It takes all memory that the
-    /// events need.
+    /// Both sides before the first event, and room in the network for this many packets. It takes
+    /// all memory that the events need.
     pub fn new(alloc: Global, key: &Key32, room: usize) -> Result<Self, BeginError>
         ensures ok { IfOk result (λ duet. duet ≡ opening_duet K.mechanism key.now.bytes room) }
         ensures few { IfOk result (λ _. room < 2 ^ 32 - 1) }
-        ensures pair { IfOk result (λ _. IsSome (K.mechanism.meaning.pair_of (agreement_seed key.now.bytes))) }
-        ensures none { IsErrOf result BeginError.NoPair → IsNone (K.mechanism.meaning.pair_of (agreement_seed key.now.bytes)) }
+        ensures pair { IfOk result
+            (λ _. IsSome (K.mechanism.meaning.pair_of (agreement_seed key.now.bytes))) }
+        ensures none { IsErrOf result BeginError.NoPair
+            → IsNone (K.mechanism.meaning.pair_of (agreement_seed key.now.bytes)) }
     {
         // No memory has room for the packets of so many events.
         if room >= u32::MAX as usize {
@@ -169,7 +172,8 @@ impl<K: Kem> Duet<K> {
     pub fn step(&mut self, line: &Line<'_>) -> Answer
         requires room { length self.old.sides.posts < self.old.room }
         requires draws { self.old.sides.draws.made < 2 ^ 32 - 1 }
-        ensures answer { let k = K.mechanism in result ≡ (step_on k self.old.sides (event_of line.now)).answer }
+        ensures answer { let k = K.mechanism in
+            result ≡ (step_on k self.old.sides (event_of line.now)).answer }
         ensures next { let k = K.mechanism in self.new ≡ stepped k self.old (event_of line.now) }
     {
         match line {

@@ -32,12 +32,14 @@ fn want_of_memory(refusal: OpenRefusal) -> AllocError
     }
 }
 
-/// The side whose record a disk has, all of whose calls pass. It isn't refused: its only error is want of memory.
+/// The side whose record a disk has, all of whose calls pass. It isn't refused: its only error is
+/// want of memory.
 fn reopened<K: Kem>(alloc: Global, disk: MemoryDisk) -> Result<Party<K>, AllocError>
     requires within { IsWithin client_area (state_of disk) }
     requires passes { (state_of disk).fate ≡ Fate.all_pass }
     requires holds { ReadsClient K.mechanism (state_of disk) }
-    ensures { IfOk result (λ p. (kept : Keeping) → IsLawfulClient K.mechanism kept → HasRecord kept (state_of disk) → p ≡ kept) }
+    ensures { IfOk result (λ p. (kept : Keeping) → IsLawfulClient K.mechanism kept
+        → HasRecord kept (state_of disk) → p ≡ kept) }
 {
     record_law();
     let mut disk = disk;
@@ -48,8 +50,8 @@ fn reopened<K: Kem>(alloc: Global, disk: MemoryDisk) -> Result<Party<K>, AllocEr
 }
 
 impl<K: Kem> Party<K> {
-    /// Does an act on a disk that stops once this many writes and syncs have passed. Where that cuts the act off, the disk
-    /// crashes in this way, and the client is opened from what is left.
+    /// Does an act on a disk that stops once this many writes and syncs have passed. Where that
+    /// cuts the act off, the disk crashes in this way, and the client is opened from what is left.
     pub fn stopped(
         self,
         alloc: Global,

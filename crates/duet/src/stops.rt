@@ -90,7 +90,8 @@ impl<K: Kem> Duet<K> {
         }
     }
 
-    /// One call, on a disk that stops. After the stop the disk crashes, and the side is opened again.
+    /// One call, on a disk that stops. After the stop the disk crashes, and the side is opened
+    /// again.
     pub fn stop(self, alloc: Global, stop: &Stop<'_>) -> Result<(Self, Answer), AllocError>
         requires room { length self.sides.posts < self.room }
         requires draws { self.sides.draws.made < 2 ^ 32 - 1 }

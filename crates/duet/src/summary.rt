@@ -48,8 +48,8 @@ fn put(text: &mut SummaryText, line: &OutputLine)
     text.try_extend_from_slice(line.as_bytes()).unwrap();
 }
 
-/// The lines of a run in numbers: its rounds, and what each side said, opened and refused, how far it came and what it
-/// misses, First's number before Second's.
+/// The lines of a run in numbers: its rounds, and what each side said, opened and refused, how far
+/// it came and what it misses, First's number before Second's.
 #[tactic(auto, unfolding(crate::specs::Summary::summary_lines))]
 pub fn summary_lines(tally: &Tally) -> SummaryText
     ensures { result.items ≡ summary_lines tally.now }

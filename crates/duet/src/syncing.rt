@@ -52,7 +52,8 @@ fn tell<O: Sink>(out: &mut O, side: Side, fault: SyncFault) -> Result<(), Failed
 }
 
 impl<K: Kem> Party<K> {
-    /// Syncs with the relay over another connection, on which the reply to the request of this number, from 1, is lost.
+    /// Syncs with the relay over another connection, on which the reply to the request of this
+    /// number, from 1, is lost.
     fn sync<O: Sink>(
         &mut self,
         relay: &mut RelayLink,
@@ -64,9 +65,11 @@ impl<K: Kem> Party<K> {
             Writes (O.at out.old) (O.at out.new)
             (sync_lines p side (scene p (kept_before lost) self.old (boxes_of relay.old))) result }
         ensures keeps { let p = client_party K.mechanism (side_text side) self.old in
-            OnOk result (self.new ≡ (scene p (kept_before lost) self.old (boxes_of relay.old)).course.state) }
+            OnOk result (self.new
+            ≡ (scene p (kept_before lost) self.old (boxes_of relay.old)).course.state) }
         ensures boxes { let p = client_party K.mechanism (side_text side) self.old in
-            OnOk result (boxes_of relay.new ≡ (scene p (kept_before lost) self.old (boxes_of relay.old)).boxes) }
+            OnOk result (boxes_of relay.new
+            ≡ (scene p (kept_before lost) self.old (boxes_of relay.old)).boxes) }
     {
         match meet(
             &mut self.client,
@@ -83,7 +86,8 @@ impl<K: Kem> Party<K> {
 }
 
 impl<K: Kem> Duet<K> {
-    /// A side syncs with the relay. The reply to the request of this number, from 1, is lost, and with it the link.
+    /// A side syncs with the relay. The reply to the request of this number, from 1, is lost, and
+    /// with it the link.
     pub fn sync<O: Sink>(
         &mut self,
         out: &mut O,
@@ -92,7 +96,9 @@ impl<K: Kem> Duet<K> {
     ) -> Result<(), Failed>
         ensures writes { let k = K.mechanism in Writes (O.at out.old) (O.at out.new)
             (deed_on k (beside self.old) (syncs side lost)).lines result }
-        ensures next { let k = K.mechanism in OnOk result (self.new ≡ after_deed self.old (deed_on k (beside self.old) (syncs side lost))) }
+        ensures next { let k = K.mechanism in
+            OnOk result (self.new ≡ after_deed self.old
+            (deed_on k (beside self.old) (syncs side lost))) }
     {
         match side {
             Side::First => self.first.sync(&mut self.relay, out, side, lost),

@@ -1,4 +1,5 @@
-//! How a command of the program ends: a row for each way, with its status and its last line, and the writing of that line.
+//! How a command of the program ends: a row for each way, with its status and its last line, and
+//! the writing of that line.
 #![tactic(auto)]
 
 pub use ending::Ending;

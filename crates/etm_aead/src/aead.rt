@@ -27,14 +27,15 @@ pub trait Aead {
     // What sealing gives for a key, the associated data and a text.
     ghost seal_gives: { List ℕ → List ℕ → List ℕ → Sealed };
 
-    // What opening gives for a key, the associated data, and a ciphertext with its tag: the text, or
-    // nothing.
+    // What opening gives for a key, the associated data, and a ciphertext with its tag: the text,
+    // or nothing.
     ghost open_gives: { List ℕ → List ℕ → Sealed → Option (List ℕ) };
 
     /// Encrypts the text in place, and answers the tag.
     fn seal(key: Self::Seal, ad: &[u8], text: &mut [u8]) -> [u8; 32]
         requires { length text.old ≤ longest }
-        ensures { seal_gives (seal_key key) ad.now text.old ≡ record { ciphertext = text.new; tag = result } };
+        ensures { seal_gives (seal_key key) ad.now text.old
+            ≡ record { ciphertext = text.new; tag = result } };
 
     /// Decrypts the ciphertext in place, or leaves the bytes as they were.
     fn open(key: Self::Open, ad: &[u8], ct: &mut [u8], tag: &[u8; 32]) -> Result<(), BadTag>

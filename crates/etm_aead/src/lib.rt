@@ -1,8 +1,8 @@
-//! Sealing of one message under one key: encryption with ChaCha20 (RFC 8439), and then HMAC with SHA-256
-//! (RFC 2104) over what goes along in the clear and the ciphertext.
+//! Sealing of one message under one key: encryption with ChaCha20 (RFC 8439), and then HMAC with
+//! SHA-256 (RFC 2104) over what goes along in the clear and the ciphertext.
 //!
-//! A message key serves one message. A `SealKey` and an `OpenKey` can't be copied, and whoever holds one
-//! has to spend it: `seal` and `open` take the key, and no second call can have it.
+//! A message key serves one message. A `SealKey` and an `OpenKey` can't be copied, and whoever
+//! holds one has to spend it: `seal` and `open` take the key, and no second call can have it.
 //!
 //! ```rust
 //! use dr_base::Key32;

@@ -17,8 +17,8 @@ pub struct BadTag;
 
 /// The key that opens one message. A contract sees it as the 32 bytes of the message key.
 ///
-/// It can't be copied, and it has to be spent: by `open`, by `shelve`, or by `discard`. A key that is left
-/// unspent does not compile, since the type isn't `Drop`:
+/// It can't be copied, and it has to be spent: by `open`, by `shelve`, or by `discard`. A key that
+/// is left unspent does not compile, since the type isn't `Drop`:
 ///
 /// ```text
 /// let key = OpenKey::from_message(message_key); // `key` is never spent
@@ -41,10 +41,11 @@ impl OpenKey {
         OpenKey { key }
     }
 
-    /// Decrypts the ciphertext in place, if the tag is right. The tag is looked at first, so that at
-    /// `BadTag` the bytes are as they came.
+    /// Decrypts the ciphertext in place, if the tag is right. The tag is looked at first, so that
+    /// at `BadTag` the bytes are as they came.
     ///
-    /// Encryption undoes itself, as `open_undoes_seal` says: the ciphertext of a ciphertext is the text.
+    /// Encryption undoes itself, as `open_undoes_seal` says: the ciphertext of a ciphertext is the
+    /// text.
     #[tactic(auto, unfolding(crate::specs::Seal::ciphertext_of, crate::specs::Seal::tag_of))]
     pub fn open(self, ad: &[u8], ct: &mut [u8], tag: &[u8; 32]) -> Result<(), BadTag>
         requires { length ct.old ≤ 64 * (2 ^ 32 - 1) }

@@ -11,8 +11,8 @@ use std::marker::Model;
 
 /// The key that seals one message. A contract sees it as the 32 bytes of the message key.
 ///
-/// It can't be copied, and it has to be spent: by `seal`, or by `discard`. Sealing twice with one key does
-/// not compile, since the first call takes the key:
+/// It can't be copied, and it has to be spent: by `seal`, or by `discard`. Sealing twice with one
+/// key does not compile, since the first call takes the key:
 ///
 /// ```text
 /// let key = SealKey::from_message(message_key);
@@ -37,8 +37,8 @@ impl SealKey {
         SealKey { key }
     }
 
-    /// Encrypts the text in place and answers the tag, which also covers `ad`, what goes along in the
-    /// clear.
+    /// Encrypts the text in place and answers the tag, which also covers `ad`, what goes along in
+    /// the clear.
     ///
     /// A text has at most as many bytes as the cipher's blocks 1 to 2^32 - 1.
     #[tactic(auto, unfolding(crate::specs::Seal::ciphertext_of, crate::specs::Seal::tag_of))]

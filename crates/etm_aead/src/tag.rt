@@ -9,7 +9,8 @@ use hmac_hkdf::Mac;
 // The tag under a tag key.
 pub fn compute_tag(key: &[u8; 32], ad: &[u8], ciphertext: &[u8]) -> [u8; 32]
     ensures { result ≡ hmac_of key.now
-        (ad.now ++ ciphertext.now ++ to_le_bytes w64 (length ad.now) ++ to_le_bytes w64 (length ciphertext.now)) }
+        (ad.now ++ ciphertext.now ++ to_le_bytes w64 (length ad.now) ++ to_le_bytes w64
+        (length ciphertext.now)) }
 {
     let mut mac = Mac::new(key);
     mac.update(ad);

@@ -6,7 +6,8 @@ use arrayvec::ArrayVec;
 use dr_base::{KEPT_LIMIT, Kept, Key32};
 use thiserror::Error;
 
-/// Too many keys were passed: `would` is how many there would be in the table, which has room for `KEPT_LIMIT`.
+/// Too many keys were passed: `would` is how many there would be in the table, which has room for
+/// `KEPT_LIMIT`.
 #[derive(Clone, Copy, Debug, PartialEq, Eq, Error)]
 #[error("{would} keys would be kept, more than {KEPT_LIMIT}")]
 pub struct SkipLimit {

@@ -1,11 +1,12 @@
 //! Forward-secure streams of message keys, and the table of the keys that were passed over.
 //!
-//! A chain key gives one message key and the next chain key, each by HMAC with SHA-256 (RFC 2104), and is
-//! gone then: no later chain key leads back to an earlier message key. One stream seals, and one opens. A
-//! stream can't be copied, and each step takes it, so that no key is given twice. Where texts come out of
-//! order, the keys that were passed over wait in a table of fixed room, each for the text of its position.
-//! `Skipped` is such a table. It has kilobytes, so it is changed where it stands: `Skipped::copy_from`
-//! makes it a copy of another. Its keys lie in rows, one for each epoch that has some.
+//! A chain key gives one message key and the next chain key, each by HMAC with SHA-256 (RFC 2104),
+//! and is gone then: no later chain key leads back to an earlier message key. One stream seals, and
+//! one opens. A stream can't be copied, and each step takes it, so that no key is given twice.
+//! Where texts come out of order, the keys that were passed over wait in a table of fixed room,
+//! each for the text of its position. `Skipped` is such a table. It has kilobytes, so it is changed
+//! where it stands: `Skipped::copy_from` makes it a copy of another. Its keys lie in rows, one for
+//! each epoch that has some.
 //!
 //! ```rust
 //! use dr_base::{Key32, Position};

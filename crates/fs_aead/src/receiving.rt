@@ -12,11 +12,11 @@ use dr_base::{KEPT_LIMIT, Kept, Key32, Position};
 use etm_aead::OpenKey;
 use std::marker::Model;
 
-/// A stream of the keys that open. A contract sees its chain key, and as its count its reach, the greatest
-/// index whose key it gave or passed.
+/// A stream of the keys that open. A contract sees its chain key, and as its count its reach, the
+/// greatest index whose key it gave or passed.
 ///
-/// It can't be copied, and it has to be spent: by `next`, by `advance`, or by `rest`. A stream that is left
-/// unspent does not compile, since the type isn't `Drop`.
+/// It can't be copied, and it has to be spent: by `next`, by `advance`, or by `rest`. A stream that
+/// is left unspent does not compile, since the type isn't `Drop`.
 pub struct ReceiveStream {
     chain: Key32,
     reach: u32,
@@ -41,7 +41,8 @@ impl ReceiveStream {
     /// The key of the next index, and the stream after it.
     pub fn next(self) -> (ReceiveStream, OpenKey)
         requires { self.count < 2 ^ 32 - 1 }
-        ensures stream { result.0 ≡ record { chain = next_chain self.chain; count = self.count + 1 } }
+        ensures stream { result.0
+            ≡ record { chain = next_chain self.chain; count = self.count + 1 } }
         ensures key { result.1 ≡ chain_message_key self.chain }
     {
         let ReceiveStream { chain, reach } = self;
@@ -53,14 +54,16 @@ impl ReceiveStream {
         (later, OpenKey::from_message(keys.message))
     }
 
-    /// Puts the keys up to the index `to` after those of the table, each under its position in the epoch, and answers
-    /// the stream after them. `Skipped::room_for` tells whether they have room.
+    /// Puts the keys up to the index `to` after those of the table, each under its position in the
+    /// epoch, and answers the stream after them. `Skipped::room_for` tells whether they have room.
     pub fn advance(self, epoch: u32, skipped: &mut Skipped, to: u32) -> ReceiveStream
         requires from { self.count ≤ to }
         requires room { length skipped.old + (to - self.count) ≤ KEPT_LIMIT }
         requires below { AllBefore skipped.old (record { epoch = epoch; index = self.count + 1 }) }
-        ensures stream { result ≡ record { chain = chain_of self.chain (to - self.count); count = to } }
-        ensures shelved { skipped.new ≡ skipped.old ++ shelved epoch self.chain self.count (to - self.count) }
+        ensures stream { result
+            ≡ record { chain = chain_of self.chain (to - self.count); count = to } }
+        ensures shelved { skipped.new ≡ skipped.old ++ shelved epoch self.chain self.count
+            (to - self.count) }
     {
         if self.reach == to {
             return self;
@@ -70,9 +73,9 @@ impl ReceiveStream {
         stream
     }
 
-    /// As `advance`, in a table that stands in a larger value. `room_for` tells whether the keys have room. Where the
-    /// table ascends and its positions come before that of the first key, it ascends afterwards too, by
-    /// `passed_keys_ascend`.
+    /// As `advance`, in a table that stands in a larger value. `room_for` tells whether the keys
+    /// have room. Where the table ascends and its positions come before that of the first key, it
+    /// ascends afterwards too, by `passed_keys_ascend`.
     fn advance_into(
         self,
         epoch: u32,
@@ -81,8 +84,10 @@ impl ReceiveStream {
     ) -> ReceiveStream
         requires from { self.count ≤ to }
         requires room { length table.old.items + (to - self.count) ≤ KEPT_LIMIT }
-        ensures stream { result ≡ record { chain = chain_of self.chain (to - self.count); count = to } }
-        ensures shelved { table.new.items ≡ table.old.items ++ shelved epoch self.chain self.count (to - self.count) }
+        ensures stream { result
+            ≡ record { chain = chain_of self.chain (to - self.count); count = to } }
+        ensures shelved { table.new.items ≡ table.old.items ++ shelved epoch self.chain self.count
+            (to - self.count) }
     {
         let reach = self.reach;
         let mut stream = self;

@@ -8,10 +8,11 @@ use dr_base::Key32;
 use etm_aead::SealKey;
 use std::marker::Model;
 
-/// A stream of the keys that seal. A contract sees its chain key, and as its count how many keys it gave.
+/// A stream of the keys that seal. A contract sees its chain key, and as its count how many keys it
+/// gave.
 ///
-/// It can't be copied, and it has to be spent: by `next`, or by `rest`. No two calls of `next` have the same
-/// stream, since the first takes it:
+/// It can't be copied, and it has to be spent: by `next`, or by `rest`. No two calls of `next` have
+/// the same stream, since the first takes it:
 ///
 /// ```text
 /// let (later, first_key) = stream.next();
@@ -41,7 +42,8 @@ impl SendStream {
     /// The key of the next index, and the stream after it.
     pub fn next(self) -> (SendStream, SealKey)
         requires { self.count < 2 ^ 32 - 1 }
-        ensures stream { result.0 ≡ record { chain = next_chain self.chain; count = self.count + 1 } }
+        ensures stream { result.0
+            ≡ record { chain = next_chain self.chain; count = self.count + 1 } }
         ensures key { result.1 ≡ chain_message_key self.chain }
     {
         let SendStream { chain, sent } = self;

@@ -11,8 +11,8 @@ use dr_base::{KEPT_LIMIT, Kept, Position};
 use etm_aead::OpenKey;
 use std::marker::Model;
 
-/// The keys that were passed over, each for a text that is still to come. A contract sees the list of
-/// them, which ascends by epoch and index.
+/// The keys that were passed over, each for a text that is still to come. A contract sees the list
+/// of them, which ascends by epoch and index.
 ///
 /// It has room for `KEPT_LIMIT` keys, in the value itself: it allocates nothing. Beside the keys
 /// stands where the row of each epoch begins.

@@ -9,8 +9,8 @@ use std::marker::Model;
 
 /// A text from a place on. A contract sees the offset of that place and the bytes after it.
 ///
-/// Each read gives a field and moves after it, or gives the offset of the field that the text ends inside, and then
-/// stays where it was.
+/// Each read gives a field and moves after it, or gives the offset of the field that the text ends
+/// inside, and then stays where it was.
 #[derive(Drop)]
 pub struct Cursor<'a> {
     rest: &'a [u8],
@@ -55,7 +55,8 @@ impl<'a> Cursor<'a> {
     pub fn piece(&mut self, size: usize) -> Result<&'a [u8], usize>
         ensures reads { Reads (λ bytes. bytes.now) (piece size) self.old self.new result }
         ensures long { IfOk result (λ bytes. length bytes.now ≡ size) }
-        ensures moves { MatchResult result (λ _. self.new.at ≡ self.old.at + size) (λ at. at ≡ self.old.at) }
+        ensures moves { MatchResult result (λ _. self.new.at ≡ self.old.at + size)
+            (λ at. at ≡ self.old.at) }
         ensures err { OnErr result (self.new ≡ self.old) }
     {
         if self.rest.len() < size {
@@ -71,7 +72,8 @@ impl<'a> Cursor<'a> {
     #[tactic(auto, unfolding(crate::specs::Reader::piece, crate::specs::Reader::number))]
     pub fn number8(&mut self) -> Result<u8, usize>
         ensures reads { Reads (λ n. n) (number w8) self.old self.new result }
-        ensures moves { MatchResult result (λ _. self.new.at ≡ self.old.at + 1) (λ at. at ≡ self.old.at) }
+        ensures moves { MatchResult result (λ _. self.new.at ≡ self.old.at + 1)
+            (λ at. at ≡ self.old.at) }
         ensures err { OnErr result (self.new ≡ self.old) }
     {
         let front = self.piece(1)?;
@@ -82,7 +84,8 @@ impl<'a> Cursor<'a> {
     #[tactic(auto, unfolding(crate::specs::Reader::piece, crate::specs::Reader::number))]
     pub fn number16(&mut self) -> Result<u16, usize>
         ensures reads { Reads (λ n. n) (number w16) self.old self.new result }
-        ensures moves { MatchResult result (λ _. self.new.at ≡ self.old.at + 2) (λ at. at ≡ self.old.at) }
+        ensures moves { MatchResult result (λ _. self.new.at ≡ self.old.at + 2)
+            (λ at. at ≡ self.old.at) }
         ensures err { OnErr result (self.new ≡ self.old) }
     {
         let front = self.piece(2)?;
@@ -93,7 +96,8 @@ impl<'a> Cursor<'a> {
     #[tactic(auto, unfolding(crate::specs::Reader::piece, crate::specs::Reader::number))]
     pub fn number32(&mut self) -> Result<u32, usize>
         ensures reads { Reads (λ n. n) (number w32) self.old self.new result }
-        ensures moves { MatchResult result (λ _. self.new.at ≡ self.old.at + 4) (λ at. at ≡ self.old.at) }
+        ensures moves { MatchResult result (λ _. self.new.at ≡ self.old.at + 4)
+            (λ at. at ≡ self.old.at) }
         ensures err { OnErr result (self.new ≡ self.old) }
     {
         let front = self.piece(4)?;
@@ -104,7 +108,8 @@ impl<'a> Cursor<'a> {
     #[tactic(auto, unfolding(crate::specs::Reader::piece, crate::specs::Reader::number))]
     pub fn number64(&mut self) -> Result<u64, usize>
         ensures reads { Reads (λ n. n) (number w64) self.old self.new result }
-        ensures moves { MatchResult result (λ _. self.new.at ≡ self.old.at + 8) (λ at. at ≡ self.old.at) }
+        ensures moves { MatchResult result (λ _. self.new.at ≡ self.old.at + 8)
+            (λ at. at ≡ self.old.at) }
         ensures err { OnErr result (self.new ≡ self.old) }
     {
         let bytes = self.piece(8)?;

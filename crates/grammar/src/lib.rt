@@ -1,8 +1,10 @@
-//! Grammars of texts of many fields: a printer and a reader that are tied by one law and put together field by field.
+//! Grammars of texts of many fields: a printer and a reader that are tied by one law and put
+//! together field by field.
 //!
-//! `specs/Reader` has the readers and what they are put together with, `specs/Printer` the printers, `specs/Grammar` the
-//! law. That a combination of grammars is a grammar is shown in `proofs/`, one lemma for each way of combining. The code
-//! of a reader is written with a `Cursor`, and has the control flow of its reader.
+//! `specs/Reader` has the readers and what they are put together with, `specs/Printer` the
+//! printers, `specs/Grammar` the law. That a combination of grammars is a grammar is shown in
+//! `proofs/`, one lemma for each way of combining. The code of a reader is written with a `Cursor`,
+//! and has the control flow of its reader.
 //!
 //! ```rust
 //! use grammar::Cursor;

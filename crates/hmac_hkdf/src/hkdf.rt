@@ -1,5 +1,5 @@
-//! HKDF with SHA-256: a key is extracted from what is at hand, and then expanded to as many bytes as are
-//! needed (RFC 5869, 2).
+//! HKDF with SHA-256: a key is extracted from what is at hand, and then expanded to as many bytes
+//! as are needed (RFC 5869, 2).
 
 ghost use Rattle.std.specs.Prelude.{◌≡◌, ℕ, ◌+◌, ◌-◌, ◌≤◌, List, [], ◌∷◌, ◌++◌, drop, length, take};
 ghost use Rattle.hmac_hkdf.specs.Hmac.{IsKeyed, hmac_of};
@@ -40,8 +40,8 @@ fn put_block(out: &mut [u8], at: usize, block: &[u8; 32])
     out[at..at + len].copy_from_slice(&block[..len]);
 }
 
-/// Fills `out`, of at most 255 times 32 bytes, with output keying material from a pseudorandom key and
-/// the context `info`.
+/// Fills `out`, of at most 255 times 32 bytes, with output keying material from a pseudorandom key
+/// and the context `info`.
 pub fn expand_into(prk: &[u8; 32], info: &[u8], out: &mut [u8])
     requires { length out.old ≤ 8160 }
     ensures { out.new ≡ expand_of prk.now info.now (length out.old) }

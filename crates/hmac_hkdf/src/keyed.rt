@@ -5,8 +5,8 @@ ghost use Rattle.hmac_hkdf.specs.Hmac.{IsKeyed, MacHolds, hmac_of};
 
 use crate::mac::Mac;
 
-/// A key of HMAC. It is hashed when it is taken in, so that each further message costs two blocks of SHA-256 fewer
-/// than a call of `hmac`.
+/// A key of HMAC. It is hashed when it is taken in, so that each further message costs two blocks
+/// of SHA-256 fewer than a call of `hmac`.
 #[derive(Drop)]
 pub struct KeyedMac {
     mac: Mac,

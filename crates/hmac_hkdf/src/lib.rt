@@ -1,7 +1,7 @@
 //! Keyed hashing and key derivation with SHA-256: HMAC (RFC 2104) and HKDF (RFC 5869).
 //!
-//! `hmac` takes a whole message, `Mac` takes one piece by piece, and `KeyedMac` begins many messages under one
-//! key. `extract` and `expand_into` are the two steps of HKDF.
+//! `hmac` takes a whole message, `Mac` takes one piece by piece, and `KeyedMac` begins many
+//! messages under one key. `extract` and `expand_into` are the two steps of HKDF.
 //!
 //! ```rust
 //! use hmac_hkdf::{KeyedMac, expand_into, extract, hmac};

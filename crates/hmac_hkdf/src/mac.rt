@@ -50,7 +50,8 @@ fn xored(block: &[u8; 64], pad: u8) -> [u8; 64]
 #[derive(Drop)]
 pub struct Mac {
     inner: Sha256,
-    // The key under the outer pad is hashed at once, so that a copy of a `Mac` saves the hashing of both pads.
+    // The key under the outer pad is hashed at once, so that a copy of a `Mac` saves the hashing of
+    // both pads.
     outer: Sha256,
 }
 
@@ -70,7 +71,8 @@ impl Mac {
     /// Adds `piece` to the message.
     #[tactic(auto, unfolding(crate::specs::Hmac::MacHolds), using(std::proofs::lemmas::List::append_assoc))]
     pub fn update(&mut self, piece: &[u8])
-        ensures { (key m : List ℕ) → MacHolds self.old key m → MacHolds self.new key (m ++ piece.now) }
+        ensures { (key m : List ℕ) → MacHolds self.old key m
+            → MacHolds self.new key (m ++ piece.now) }
     {
         self.inner.update(piece);
     }

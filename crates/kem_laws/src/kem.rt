@@ -17,7 +17,8 @@ pub struct BadSecret {
     pub at: usize,
 }
 
-/// A key encapsulation mechanism. Its keys and ciphertexts are slices of the lengths that its constants name.
+/// A key encapsulation mechanism. Its keys and ciphertexts are slices of the lengths that its
+/// constants name.
 pub trait Kem {
     /// The length of a public key, in bytes.
     const PUBLIC: usize;
@@ -53,7 +54,8 @@ pub trait Kem {
     ) -> Result<(), NoPair>
         requires public_size { length public.old ≡ mechanism.public }
         requires secret_size { length secret.old ≡ mechanism.secret }
-        ensures exact { mechanism.meaning.pair_of seed.now.bytes ≡ (if is_ok result then Some (public.new, secret.new) else None) }
+        ensures exact { mechanism.meaning.pair_of seed.now.bytes
+            ≡ (if is_ok result then Some (public.new, secret.new) else None) }
         ensures err_public { OnErr result (public.new ≡ public.old) }
         ensures err_secret { OnErr result (secret.new ≡ secret.old) };
 
@@ -61,7 +63,8 @@ pub trait Kem {
     fn encap(work: &mut Self::Work, public: &[u8], seed: &Key32, ciphertext: &mut [u8]) -> Key32
         requires public_size { length public.now ≡ mechanism.public }
         requires ciphertext_size { length ciphertext.old ≡ mechanism.ciphertext }
-        ensures { mechanism.meaning.encap_of public.now seed.now.bytes ≡ (ciphertext.new, result.bytes) };
+        ensures { mechanism.meaning.encap_of public.now seed.now.bytes
+            ≡ (ciphertext.new, result.bytes) };
 
     /// Whether bytes are a lawful secret, or else where the first bad byte stands.
     fn is_secret(bytes: &[u8]) -> Result<(), BadSecret>
@@ -77,7 +80,8 @@ pub trait Kem {
         requires ciphertext_size { length ciphertext.now ≡ mechanism.ciphertext }
         ensures { result.bytes ≡ mechanism.meaning.decap_of secret.now ciphertext.now };
 
-    // The mechanism's law: sizes, and that what is encapsulated to a pair's public key is decapsulated by its secret.
+    // The mechanism's law: sizes, and that what is encapsulated to a pair's public key is
+    // decapsulated by its secret.
     ghost law: { IsLawfulMechanism mechanism };
 
     // The constants are the mechanism's sizes.

@@ -1,5 +1,6 @@
-//! Key encapsulation mechanisms as a trait, with the law that each of them meets: a secret decapsulates what was
-//! encapsulated to the public key of its pair. Randomness is an argument, a seed of 32 bytes.
+//! Key encapsulation mechanisms as a trait, with the law that each of them meets: a secret
+//! decapsulates what was encapsulated to the public key of its pair. Randomness is an argument, a
+//! seed of 32 bytes.
 //!
 //! `OpenKem` is a stand-in without any secrecy, for tests and scripts.
 //!

@@ -1,5 +1,5 @@
-//! The messenger: its arguments, a file for the session and one for a relay's boxes, standard input and output, TCP, and the
-//! system's random source, handed to the top call.
+//! The messenger: its arguments, a file for the session and one for a relay's boxes, standard input
+//! and output, TCP, and the system's random source, handed to the top call.
 #![tactic(auto)]
 
 use dr_disk::{FileDisk, Sharing};
@@ -15,7 +15,8 @@ mod standard;
 
 fn main(rt: HostRuntime) -> ExitCode {
     let _placeholders = take_closed(&rt);
-    // A session's file has its whole size from its first write on, a relay's the areas up to its last box.
+    // A session's file has its whole size from its first write on, a relay's the areas up to its
+    // last box.
     let mut disk = FileDisk::new(
         &rt,
         "messenger.state",

@@ -1,4 +1,5 @@
-//! The descriptors of standard input, output and errors, where the program was started without them.
+//! The descriptors of standard input, output and errors, where the program was started without
+//! them.
 
 use std::fs::{File, OpenOptions};
 use std::os::fd::AsRawFd;
@@ -14,8 +15,8 @@ pub struct Placeholders {
     others: [Option<File>; 2],
 }
 
-/// Opens `/dev/null`, if it is given a descriptor below this one. Without `/dev/null` the descriptor stays free, and disks, links
-/// and doors refuse it.
+/// Opens `/dev/null`, if it is given a descriptor below this one. Without `/dev/null` the
+/// descriptor stays free, and disks, links and doors refuse it.
 fn placed<R: Files<File = File>>(files: &R, how: &OpenOptions, below: i32) -> Option<File> {
     match how.open(files, "/dev/null") {
         Ok(file) if file.as_raw_fd() < below => Some(file),
@@ -23,9 +24,10 @@ fn placed<R: Files<File = File>>(files: &R, how: &OpenOptions, below: i32) -> Op
     }
 }
 
-/// Takes the descriptors of the standard streams that are closed, for as long as the answer is kept. So no file and no connection
-/// is given one of them: what is printed doesn't go there, and what stands there isn't read as input. A call on a closed stream
-/// still fails: the placeholder of standard input can only be written to, those of the others only be read.
+/// Takes the descriptors of the standard streams that are closed, for as long as the answer is
+/// kept. So no file and no connection is given one of them: what is printed doesn't go there, and
+/// what stands there isn't read as input. A call on a closed stream still fails: the placeholder of
+/// standard input can only be written to, those of the others only be read.
 pub fn take_closed<R: Files<File = File>>(files: &R) -> Placeholders {
     let mut written = OpenOptions::new();
     written.write(true);

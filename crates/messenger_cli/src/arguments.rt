@@ -49,8 +49,8 @@ fn words(alloc: Global, arguments: io::Result<Args>) -> Result<Vec<String>, Endi
     }
 }
 
-/// Runs the program on its arguments, as the system gave them: the first is the program's name, the others are the
-/// words. Where one of them isn't text, the system gives an error in their place.
+/// Runs the program on its arguments, as the system gave them: the first is the program's name, the
+/// others are the words. Where one of them isn't text, the system gives an error in their place.
 pub fn run_arguments<D: Disk, R: Disk, S: Source, O: Sink, L: Link, A: Door, W: Draws>(
     alloc: Global,
     arguments: io::Result<Args>,
@@ -64,18 +64,21 @@ pub fn run_arguments<D: Disk, R: Disk, S: Source, O: Sink, L: Link, A: Door, W: 
 ) -> Status
     requires within { IsWithin client_area (D.state disk.old) }
     requires areas { RELAY_DISK_SIZE ≤ (R.state relay_disk.old).size }
-    ensures runs { IfOk arguments (λ given. RunsProgram (seen D.state R.state S.at L.port A.port W.at)
+    ensures runs { IfOk arguments
+        (λ given. RunsProgram (seen D.state R.state S.at L.port A.port W.at)
         (command_of (map string_bytes (words_of given)))
         (held disk.old relay_disk.old source.old link.old door.old draws.old (O.at out.old))
-        (held disk.new relay_disk.new source.new link.new door.new draws.new (O.at out.new)) result.code) }
+        (held disk.new relay_disk.new source.new link.new door.new draws.new (O.at out.new))
+        result.code) }
     // Arguments that aren't text are no command.
     ensures unreadable { IfErr arguments (λ error. EndsIdle (ending_without_words error)
         (held disk.old relay_disk.old source.old link.old door.old draws.old (O.at out.old))
-        (held disk.new relay_disk.new source.new link.new door.new draws.new (O.at out.new)) result.code) }
+        (held disk.new relay_disk.new source.new link.new door.new draws.new (O.at out.new))
+        result.code) }
     ensures reads { (S.at source.old).faults ≤ (S.at source.new).faults }
     ensures writes { (O.at out.old).faults ≤ (O.at out.new).faults }
-    // Status 0 says that no call on a disk, no read, no write, no draw and no call on the link failed, and no listening or
-    // accepting of the door.
+    // Status 0 says that no call on a disk, no read, no write, no draw and no call on the link
+    // failed, and no listening or accepting of the door.
     ensures quiet { result.code ≡ 0 → IsQuiet (D.state disk.old) (D.state disk.new)
         × IsQuiet (R.state relay_disk.old) (R.state relay_disk.new)
         × ((S.at source.new).faults ≡ (S.at source.old).faults)

@@ -1,4 +1,5 @@
-//! The program as one call over its ports: it reads the words, does a command's work and says how it ended.
+//! The program as one call over its ports: it reads the words, does a command's work and says how
+//! it ended.
 #![tactic(auto)]
 
 pub use arguments::run_arguments;

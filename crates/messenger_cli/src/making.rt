@@ -12,7 +12,8 @@ use scripts::Script;
 use session_model::Refusal;
 use std::alloc::Global;
 
-/// What the script of this many rounds that is made from a number comes to, or how the command ends without it.
+/// What the script of this many rounds that is made from a number comes to, or how the command ends
+/// without it.
 fn tally_made(alloc: Global, rounds: u32, number: u64) -> Result<Tally, Ending>
     ensures tally { IfOk result (IsTallyOf rounds number) }
     ensures ending { IfErr result (λ ending. PlaysMade rounds number ending []) }
@@ -29,7 +30,8 @@ fn tally_made(alloc: Global, rounds: u32, number: u64) -> Result<Tally, Ending>
     }
 }
 
-/// Plays the script of this many rounds that is made from a number, and writes what it comes to in six lines.
+/// Plays the script of this many rounds that is made from a number, and writes what it comes to in
+/// six lines.
 pub(crate) fn play_made<O: Sink>(alloc: Global, rounds: u32, number: u64, out: &mut O) -> Status
     ensures runs { Runs (PlaysMade rounds number) (O.at out.old) (O.at out.new) result.code }
     ensures writes { (O.at out.old).faults ≤ (O.at out.new).faults }

@@ -16,16 +16,21 @@ use std::alloc::Global;
 
 /// Plays a script over the mechanism that its first line names.
 pub fn play_named<O: Sink>(alloc: Global, script: &Script, out: &mut O) -> Result<Tally, PlayError>
-    ensures ok { OnOk result ((O.at out.new).taken ≡ appended (O.at out.old).taken (played (mechanism_of script.now.kem) script.now)) }
-    ensures pair { OnOk result (IsSome ((mechanism_of script.now.kem).meaning.pair_of (agreement_seed script.now.key))) }
+    ensures ok { OnOk result
+        ((O.at out.new).taken ≡ appended (O.at out.old).taken
+        (played (mechanism_of script.now.kem) script.now)) }
+    ensures pair { OnOk result
+        (IsSome ((mechanism_of script.now.kem).meaning.pair_of (agreement_seed script.now.key))) }
     ensures none { IsErrOf result PlayError.NoPair
         → IsNone ((mechanism_of script.now.kem).meaning.pair_of (agreement_seed script.now.key))
         × ((O.at out.new).taken ≡ (O.at out.old).taken) }
     ensures memory { IsErrOf result PlayError.Memory → ((O.at out.new).taken ≡ (O.at out.old).taken)
-        ⊎ (TookBeginning (O.at out.old).taken (O.at out.new).taken (played (mechanism_of script.now.kem) script.now)
+        ⊎ (TookBeginning (O.at out.old).taken (O.at out.new).taken
+        (played (mechanism_of script.now.kem) script.now)
         × IsSome ((mechanism_of script.now.kem).meaning.pair_of (agreement_seed script.now.key))) }
     ensures write { IsErrOf result PlayError.Write
-        → TookBeginning (O.at out.old).taken (O.at out.new).taken (played (mechanism_of script.now.kem) script.now)
+        → TookBeginning (O.at out.old).taken (O.at out.new).taken
+        (played (mechanism_of script.now.kem) script.now)
         × Rose (O.at out.old).faults (O.at out.new).faults
         × IsSome ((mechanism_of script.now.kem).meaning.pair_of (agreement_seed script.now.key)) }
     ensures quiet { (IsErrOf result PlayError.Write → ⊥)

@@ -22,10 +22,10 @@ use std::alloc::{AllocError, Global};
 /// The size of the disk of a session, in bytes: the area of a client.
 pub const DISK_SIZE: u64 = AREA_SIZE;
 
-/// Runs the program on its words, the arguments after its name: the session is kept on `disk` and a relay's boxes on
-/// `relay_disk`, which are lent as the last run left them; texts come from `source`, lines go to `out`, a sync goes over
-/// `link`, a relay's connections come in by `door`, and seeds are drawn from `draws`. It answers the status that the program
-/// ends with.
+/// Runs the program on its words, the arguments after its name: the session is kept on `disk` and a
+/// relay's boxes on `relay_disk`, which are lent as the last run left them; texts come from
+/// `source`, lines go to `out`, a sync goes over `link`, a relay's connections come in by `door`,
+/// and seeds are drawn from `draws`. It answers the status that the program ends with.
 pub fn run<D: Disk, R: Disk, S: Source, O: Sink, L: Link, A: Door, W: Draws>(
     alloc: Global,
     words: &[String],
@@ -39,15 +39,18 @@ pub fn run<D: Disk, R: Disk, S: Source, O: Sink, L: Link, A: Door, W: Draws>(
 ) -> Status
     requires within { IsWithin client_area (D.state disk.old) }
     requires areas { RELAY_DISK_SIZE ≤ (R.state relay_disk.old).size }
-    // The headline, command by command: what is written, why it ended so, what every crash meanwhile and a read at the end
-    // stand for, what was read and what was drawn. Memory may be wanting for the words; then nothing was done.
-    ensures runs { RunsProgram (seen D.state R.state S.at L.port A.port W.at) (command_of (map string_bytes words.now))
+    // The headline, command by command: what is written, why it ended so, what every crash
+    // meanwhile and a read at the end stand for, what was read and what was drawn. Memory may be
+    // wanting for the words; then nothing was done.
+    ensures runs { RunsProgram (seen D.state R.state S.at L.port A.port W.at)
+        (command_of (map string_bytes words.now))
         (held disk.old relay_disk.old source.old link.old door.old draws.old (O.at out.old))
-        (held disk.new relay_disk.new source.new link.new door.new draws.new (O.at out.new)) result.code }
+        (held disk.new relay_disk.new source.new link.new door.new draws.new (O.at out.new))
+        result.code }
     ensures reads { (S.at source.old).faults ≤ (S.at source.new).faults }
     ensures writes { (O.at out.old).faults ≤ (O.at out.new).faults }
-    // Status 0 says that no call on a disk, no read, no write, no draw and no call on the link failed, and no listening or
-    // accepting of the door.
+    // Status 0 says that no call on a disk, no read, no write, no draw and no call on the link
+    // failed, and no listening or accepting of the door.
     ensures quiet { result.code ≡ 0 → IsQuiet (D.state disk.old) (D.state disk.new)
         × IsQuiet (R.state relay_disk.old) (R.state relay_disk.new)
         × ((S.at source.new).faults ≡ (S.at source.old).faults)

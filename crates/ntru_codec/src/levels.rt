@@ -26,7 +26,8 @@ pub(crate) fn carry(from: &[u16], at: usize, out: &mut [u16], to: usize)
     out[to] = from[at];
 }
 
-/// Writes the next list's limits to the front of `next`, and answers how many bytes go out of the pairs.
+/// Writes the next list's limits to the front of `next`, and answers how many bytes go out of the
+/// pairs.
 pub(crate) fn shrink(limits: &[u16], next: &mut [u16]) -> usize
     requires limits { All IsLimit limits.now }
     requires many { length limits.now ≤ 761 }

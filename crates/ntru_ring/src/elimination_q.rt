@@ -37,9 +37,12 @@ fn clear(rows: &[RowQ], count: usize, a: &Rq, b: &Rq) -> PairQ
     requires long { count ≤ length rows.now }
     requires echelon { IsEchelonQ rows.now count }
     ensures combined { (g t : List ℤ) → AreMultiplesQ g rows.now count
-        → IsCombined 2295 g t a.now.coefficients b.now.coefficients → IsCombined 2295 g t result.a.coefficients result.b.coefficients }
-    ensures cleared { (i : ℕ) (d : RowQ) → i < count → coefficient result.a.coefficients (slice_index_or rows.now i d).pivot ≡ pos 0 }
-    ensures kept { (k : ℕ) → count ≤ k → coefficient result.b.coefficients k ≡ coefficient b.now.coefficients k }
+        → IsCombined 2295 g t a.now.coefficients b.now.coefficients
+        → IsCombined 2295 g t result.a.coefficients result.b.coefficients }
+    ensures cleared { (i : ℕ) (d : RowQ) → i < count
+        → coefficient result.a.coefficients (slice_index_or rows.now i d).pivot ≡ pos 0 }
+    ensures kept { (k : ℕ) → count ≤ k
+        → coefficient result.b.coefficients k ≡ coefficient b.now.coefficients k }
 {
     let mut sums_a = SumsQ::of(a);
     let mut sums_b = SumsQ::of(b);
@@ -78,8 +81,11 @@ fn row_of(pair: &PairQ, pivot: usize, top: usize) -> RowQ
     requires trailing { (k : ℕ) → top ≤ k → coefficient pair.now.b.coefficients k ≡ pos 0 }
     ensures pivot { result.pivot ≡ pivot }
     ensures top { result.top ≡ top }
-    ensures multiple { (g : List ℤ) → IsMultiple 2295 g pair.now.a.coefficients pair.now.b.coefficients → IsMultiple 2295 g result.a.coefficients result.b.coefficients }
-    ensures zeros { (k : ℕ) → coefficient pair.now.a.coefficients k ≡ pos 0 → coefficient result.a.coefficients k ≡ pos 0 }
+    ensures multiple { (g : List ℤ)
+        → IsMultiple 2295 g pair.now.a.coefficients pair.now.b.coefficients
+        → IsMultiple 2295 g result.a.coefficients result.b.coefficients }
+    ensures zeros { (k : ℕ) → coefficient pair.now.a.coefficients k ≡ pos 0
+        → coefficient result.a.coefficients k ≡ pos 0 }
 {
     let by = inverse_of(pair.a.coefficients[pivot]);
     RowQ {
@@ -92,7 +98,8 @@ fn row_of(pair: &PairQ, pivot: usize, top: usize) -> RowQ
 
 /// The inverse of `f`, or an annihilator, by all rows.
 fn inverse_by_rows(work: &mut Workspace, f: &Rq) -> Result<Rq, AnnihilatedQ>
-    ensures { MatchResult result (λ v. IsInverse 2295 f.now.coefficients v.coefficients) (λ e. Annihilates 2295 f.now.coefficients e.z.coefficients) }
+    ensures { MatchResult result (λ v. IsInverse 2295 f.now.coefficients v.coefficients)
+        (λ e. Annihilates 2295 f.now.coefficients e.z.coefficients) }
 {
     work.fill_q();
     let mut power = *f;
@@ -110,7 +117,8 @@ fn inverse_by_rows(work: &mut Workspace, f: &Rq) -> Result<Rq, AnnihilatedQ>
 
 /// The product in R/q of `f` and a candidate, by planes where `f` is small.
 fn trial(f: &Rq, candidate: &Rq) -> Rq
-    ensures { result.coefficients ≡ reduced 2295 (times f.now.coefficients candidate.now.coefficients) }
+    ensures { result.coefficients ≡ reduced 2295
+        (times f.now.coefficients candidate.now.coefficients) }
 {
     if f.is_small() {
         candidate.mul_small(&planes_of(&R3::new(&f.coefficients)))
@@ -160,7 +168,8 @@ pub fn quick_inverse_q(f: &Rq) -> Option<Rq>
 
 /// The inverse of `f` in R/q, or an element that shows that there is none.
 pub fn inverse_q(work: &mut Workspace, f: &Rq) -> Result<Rq, AnnihilatedQ>
-    ensures { MatchResult result (λ v. IsInverse 2295 f.now.coefficients v.coefficients) (λ e. Annihilates 2295 f.now.coefficients e.z.coefficients) }
+    ensures { MatchResult result (λ v. IsInverse 2295 f.now.coefficients v.coefficients)
+        (λ e. Annihilates 2295 f.now.coefficients e.z.coefficients) }
 {
     match quick_inverse_q(f) {
         Some(inverse) => Ok(inverse),

@@ -1,9 +1,10 @@
 //! Inverses in R/3 by linear elimination.
 //!
-//! Row k is a multiple a = g * b, where b begins as x^k. It is cleared at the pivots of the rows before it, in order.
-//! Where a is zero then, b shows that g has no inverse. Else a's first coefficient is the row's pivot, and the row is
-//! scaled so that it is 1 there. The 761 pivots differ, so they are all the places, and the rows clear -1 too: what was
-//! added up on the way is the inverse.
+//! Row k is a multiple a = g * b, where b begins as x^k. It is cleared at the pivots of the rows
+//! before it, in order. Where a is zero then, b shows that g has no inverse. Else a's first
+//! coefficient is the row's pivot, and the row is scaled so that it is 1 there. The 761 pivots
+//! differ, so they are all the places, and the rows clear -1 too: what was added up on the way is
+//! the inverse.
 ghost use Rattle.std.specs.Prelude.{◌≡◌, ◌≢◌, ◌≤◌, ◌<◌, ℕ, ℤ, List, length, pos, slice_index_or, IfSome, MatchResult};
 ghost use Rattle.ntru_ring.specs.Ring.{coefficient};
 ghost use Rattle.ntru_ring.specs.Reduction.{IsInverse, Annihilates};
@@ -30,9 +31,12 @@ fn clear(rows: &[Row3], count: usize, a: &Planes3, b: &Planes3) -> Pair3
     requires long { count ≤ length rows.now }
     requires echelon { IsEchelon3 rows.now count }
     ensures combined { (g t : List ℤ) → AreMultiples3 g rows.now count
-        → IsCombined 1 g t (element a.now) (element b.now) → IsCombined 1 g t (element result.a) (element result.b) }
-    ensures cleared { (i : ℕ) (d : Row3) → i < count → coefficient (element result.a) (slice_index_or rows.now i d).pivot ≡ pos 0 }
-    ensures kept { (k : ℕ) → count ≤ k → coefficient (element result.b) k ≡ coefficient (element b.now) k }
+        → IsCombined 1 g t (element a.now) (element b.now)
+        → IsCombined 1 g t (element result.a) (element result.b) }
+    ensures cleared { (i : ℕ) (d : Row3) → i < count
+        → coefficient (element result.a) (slice_index_or rows.now i d).pivot ≡ pos 0 }
+    ensures kept { (k : ℕ) → count ≤ k
+        → coefficient (element result.b) k ≡ coefficient (element b.now) k }
 {
     let mut pair = Pair3 { a: *a, b: *b };
     for j in 0..count {
@@ -55,8 +59,10 @@ fn row_of(pair: &Pair3, pivot: usize, top: usize) -> Row3
     requires trailing { (k : ℕ) → top ≤ k → coefficient (element pair.now.b) k ≡ pos 0 }
     ensures pivot { result.pivot ≡ pivot }
     ensures top { result.top ≡ top }
-    ensures multiple { (g : List ℤ) → IsMultiple 1 g (element pair.now.a) (element pair.now.b) → IsMultiple 1 g (element result.a) (element result.b) }
-    ensures zeros { (k : ℕ) → coefficient (element pair.now.a) k ≡ pos 0 → coefficient (element result.a) k ≡ pos 0 }
+    ensures multiple { (g : List ℤ) → IsMultiple 1 g (element pair.now.a) (element pair.now.b)
+        → IsMultiple 1 g (element result.a) (element result.b) }
+    ensures zeros { (k : ℕ) → coefficient (element pair.now.a) k ≡ pos 0
+        → coefficient (element result.a) k ≡ pos 0 }
 {
     let by = pair.a.at(pivot);
     let none = Planes3::zero();
@@ -70,7 +76,8 @@ fn row_of(pair: &Pair3, pivot: usize, top: usize) -> Row3
 
 /// The inverse of `g`, or an annihilator, by all rows.
 fn inverse_by_rows(work: &mut Workspace, g: &R3) -> Result<R3, Annihilated3>
-    ensures { MatchResult result (λ v. IsInverse 1 g.now.coefficients v.coefficients) (λ e. Annihilates 1 g.now.coefficients e.z.coefficients) }
+    ensures { MatchResult result (λ v. IsInverse 1 g.now.coefficients v.coefficients)
+        (λ e. Annihilates 1 g.now.coefficients e.z.coefficients) }
 {
     work.fill_three();
     let mut power = planes_of(g);
@@ -88,8 +95,8 @@ fn inverse_by_rows(work: &mut Workspace, g: &R3) -> Result<R3, Annihilated3>
     Ok(r3_of(&clear(&work.rows_three, 761, &minus_one, &Planes3::zero()).b))
 }
 
-/// The inverse of `g` in R/3 by its candidate, where the trial shows that it is one. Where `g` has an inverse, it was found
-/// whenever it was tried; the clause promises nothing of that.
+/// The inverse of `g` in R/3 by its candidate, where the trial shows that it is one. Where `g` has
+/// an inverse, it was found whenever it was tried; the clause promises nothing of that.
 pub fn quick_inverse3(g: &R3) -> Option<R3>
     ensures { IfSome result (λ v. IsInverse 1 g.now.coefficients v.coefficients) }
 {
@@ -104,7 +111,8 @@ pub fn quick_inverse3(g: &R3) -> Option<R3>
 
 /// The inverse of `g` in R/3, or an element that shows that there is none.
 pub fn inverse3(work: &mut Workspace, g: &R3) -> Result<R3, Annihilated3>
-    ensures { MatchResult result (λ v. IsInverse 1 g.now.coefficients v.coefficients) (λ e. Annihilates 1 g.now.coefficients e.z.coefficients) }
+    ensures { MatchResult result (λ v. IsInverse 1 g.now.coefficients v.coefficients)
+        (λ e. Annihilates 1 g.now.coefficients e.z.coefficients) }
 {
     match quick_inverse3(g) {
         Some(inverse) => Ok(inverse),

@@ -1,5 +1,5 @@
-//! Places in groups of 16. Rows are added in whole groups, so that the length of the loop changes once in 16 rows and
-//! not with each: processors guess it then.
+//! Places in groups of 16. Rows are added in whole groups, so that the length of the loop changes
+//! once in 16 rows and not with each: processors guess it then.
 ghost use Rattle.std.specs.Prelude.{◌≡◌, ◌≤◌, ◌*◌, ◌/◌};
 
 const GROUP: usize = 16;

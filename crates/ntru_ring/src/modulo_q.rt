@@ -73,7 +73,8 @@ impl Rq {
 
     /// The sum in R/q.
     pub fn add(&self, o: &Rq) -> Rq
-        ensures { result.coefficients ≡ reduced 2295 (plus self.now.coefficients o.now.coefficients) }
+        ensures { result.coefficients ≡ reduced 2295
+            (plus self.now.coefficients o.now.coefficients) }
     {
         let mut sum = [0; 761];
         for k in 0..761 {
@@ -110,7 +111,8 @@ impl Rq {
 
     /// The product in R/q.
     pub fn mul(&self, o: &Rq) -> Rq
-        ensures { result.coefficients ≡ reduced 2295 (times self.now.coefficients o.now.coefficients) }
+        ensures { result.coefficients ≡ reduced 2295
+            (times self.now.coefficients o.now.coefficients) }
     {
         let mut product = Rq::zero();
         for k in 0..761 {
@@ -122,7 +124,8 @@ impl Rq {
 
     /// The product in R/q, by rows that are reduced late.
     pub fn mul_plain(&self, o: &Rq) -> Rq
-        ensures { result.coefficients ≡ reduced 2295 (times self.now.coefficients o.now.coefficients) }
+        ensures { result.coefficients ≡ reduced 2295
+            (times self.now.coefficients o.now.coefficients) }
     {
         let mut sums = SumsQ::of(&Rq::zero());
         for k in 0..761 {
@@ -132,9 +135,11 @@ impl Rq {
         sums.settled()
     }
 
-    /// The product in R/q with a small factor, whose planes say whether a power of x is added and with which sign.
+    /// The product in R/q with a small factor, whose planes say whether a power of x is added and
+    /// with which sign.
     pub fn mul_small(&self, small: &Planes3) -> Rq
-        ensures { result.coefficients ≡ reduced 2295 (times self.now.coefficients (element small.now)) }
+        ensures { result.coefficients ≡ reduced 2295
+            (times self.now.coefficients (element small.now)) }
     {
         let powers = Powers::of(self);
         let mut added = Starts::new();
@@ -151,7 +156,8 @@ impl Rq {
 
     /// Subtracts `factor` times `other`, in R/q.
     pub fn subtract_row(&mut self, other: &Rq, factor: i16)
-        ensures { self.new.coefficients ≡ reduced 2295 (plus self.old.coefficients (scale (neg_ℤ factor) other.now.coefficients)) }
+        ensures { self.new.coefficients ≡ reduced 2295
+            (plus self.old.coefficients (scale (neg_ℤ factor) other.now.coefficients)) }
     {
         subtract_multiple(
             &mut self.coefficients,

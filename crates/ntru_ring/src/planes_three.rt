@@ -107,7 +107,8 @@ impl Planes3 {
     /// The sum in R/3.
     pub fn add(&self, o: &Planes3) -> Planes3
         ensures { element_of result.nonzero result.negative
-            ≡ reduced 1 (plus (element_of self.now.nonzero self.now.negative) (element_of o.now.nonzero o.now.negative)) }
+            ≡ reduced 1 (plus (element_of self.now.nonzero self.now.negative)
+            (element_of o.now.nonzero o.now.negative)) }
     {
         let mut nonzero = [0; 12];
         let mut negative = [0; 12];
@@ -122,7 +123,8 @@ impl Planes3 {
     /// The difference in R/3.
     pub fn sub(&self, o: &Planes3) -> Planes3
         ensures { element_of result.nonzero result.negative
-            ≡ reduced 1 (plus (element_of self.now.nonzero self.now.negative) (scale (negsuc 0) (element_of o.now.nonzero o.now.negative))) }
+            ≡ reduced 1 (plus (element_of self.now.nonzero self.now.negative)
+            (scale (negsuc 0) (element_of o.now.nonzero o.now.negative))) }
     {
         self.add(&o.opposite())
     }
@@ -131,7 +133,8 @@ impl Planes3 {
     pub(crate) fn add_multiple(&self, by: i16, o: &Planes3) -> Planes3
         requires { IsWithin 1 by }
         ensures { element_of result.nonzero result.negative
-            ≡ reduced 1 (plus (element_of self.now.nonzero self.now.negative) (scale by (element_of o.now.nonzero o.now.negative))) }
+            ≡ reduced 1 (plus (element_of self.now.nonzero self.now.negative)
+            (scale by (element_of o.now.nonzero o.now.negative))) }
     {
         if by == 0 {
             *self
@@ -145,8 +148,10 @@ impl Planes3 {
     /// The place of the first coefficient that isn't zero, or 761.
     pub(crate) fn lead(&self) -> usize
         ensures within { result ≤ 761 }
-        ensures before { (k : ℕ) → k < result → coefficient (element_of self.now.nonzero self.now.negative) k ≡ pos 0 }
-        ensures there { result < 761 → coefficient (element_of self.now.nonzero self.now.negative) result ≢ pos 0 }
+        ensures before { (k : ℕ) → k < result
+            → coefficient (element_of self.now.nonzero self.now.negative) k ≡ pos 0 }
+        ensures there { result < 761
+            → coefficient (element_of self.now.nonzero self.now.negative) result ≢ pos 0 }
     {
         for k in 0..12 {
             if self.nonzero[k] != 0 {
@@ -158,7 +163,8 @@ impl Planes3 {
 
     /// Each coefficient's opposite.
     fn opposite(&self) -> Planes3
-        ensures { element_of result.nonzero result.negative ≡ scale (negsuc 0) (element_of self.now.nonzero self.now.negative) }
+        ensures { element_of result.nonzero result.negative ≡ scale (negsuc 0)
+            (element_of self.now.nonzero self.now.negative) }
     {
         let mut negative = [0; 12];
         for k in 0..12 {
@@ -172,7 +178,8 @@ impl Planes3 {
 
     /// x times the element, in R/3.
     pub fn shift(&self) -> Planes3
-        ensures { element_of result.nonzero result.negative ≡ reduced 1 (shift (element_of self.now.nonzero self.now.negative)) }
+        ensures { element_of result.nonzero result.negative ≡ reduced 1
+            (shift (element_of self.now.nonzero self.now.negative)) }
     {
         let mut nonzero = moved(&self.nonzero);
         let mut negative = moved(&self.negative);

@@ -138,7 +138,8 @@ impl SumsQ {
         requires end { to ≤ 761 }
         requires before { (k : ℕ) → k < from → coefficient row.now.coefficients k ≡ pos 0 }
         requires after { (k : ℕ) → to ≤ k → coefficient row.now.coefficients k ≡ pos 0 }
-        ensures { reduced 2295 self.new.terms ≡ reduced 2295 (plus self.old.terms (scale by row.now.coefficients)) }
+        ensures { reduced 2295 self.new.terms ≡ reduced 2295
+            (plus self.old.terms (scale by row.now.coefficients)) }
     {
         self.make_room();
         add_multiple(&mut self.terms, i32::from(by), &row.coefficients, from, to);

@@ -31,7 +31,8 @@ impl Word3 {
         requires { IsWithin 1 c }
         ensures first { from_bits (bit_at result.nonzero 0) (bit_at result.negative 0) ≡ c }
         ensures second { from_bits (bit_at result.nonzero 1) (bit_at result.negative 1) ≡ c }
-        ensures above { (j : ℕ) → 2 ≤ j → from_bits (bit_at result.nonzero j) (bit_at result.negative j) ≡ pos 0 }
+        ensures above { (j : ℕ) → 2 ≤ j
+            → from_bits (bit_at result.nonzero j) (bit_at result.negative j) ≡ pos 0 }
     {
         let one = Word3::of(c);
         Word3 {
@@ -43,7 +44,8 @@ impl Word3 {
     /// The sums modulo 3.
     pub fn add(self, o: Word3) -> Word3
         ensures { (j : ℕ) → from_bits (bit_at result.nonzero j) (bit_at result.negative j)
-            ≡ centred 1 (from_bits (bit_at self.nonzero j) (bit_at self.negative j) +ℤ from_bits (bit_at o.nonzero j) (bit_at o.negative j)) }
+            ≡ centred 1 (from_bits (bit_at self.nonzero j) (bit_at self.negative j) +ℤ from_bits
+            (bit_at o.nonzero j) (bit_at o.negative j)) }
     {
         let one = self.nonzero ^ o.negative;
         let other = self.negative ^ o.nonzero;

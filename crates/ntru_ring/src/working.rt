@@ -8,8 +8,9 @@ use crate::rows_q::RowQ;
 use crate::rows_three::Row3;
 use std::alloc::{AllocError, Global};
 
-/// Room for the rows of both eliminations, taken once and used again by each inverse. It is written where rows are first
-/// needed, so that a workspace costs next to no time while all inverses are found without rows.
+/// Room for the rows of both eliminations, taken once and used again by each inverse. It is written
+/// where rows are first needed, so that a workspace costs next to no time while all inverses are
+/// found without rows.
 #[derive(Drop)]
 pub struct Workspace {
     pub(crate) rows_q: Vec<RowQ>,

@@ -1,4 +1,5 @@
-//! Tests of the crates of the key encapsulation: rows worked by hand, and values of an independent implementation.
+//! Tests of the crates of the key encapsulation: rows worked by hand, and values of an independent
+//! implementation.
 #![tactic(auto)]
 
 #[cfg(test)]

@@ -9,9 +9,9 @@ use sha2::{Digest, Sha256, Sha512};
 use sntrup761::Sntrup761;
 use std::test::Fail;
 
-// Value `at` of case `case`, of eight: the seeds of the pair and of the encapsulation, the SHA-256 digests of the public
-// key, the secret and the ciphertext, the shared key, and the keys of the ciphertexts with the lowest bit of the last and
-// of the first byte changed.
+// Value `at` of case `case`, of eight: the seeds of the pair and of the encapsulation, the SHA-256
+// digests of the public key, the secret and the ciphertext, the shared key, and the keys of the
+// ciphertexts with the lowest bit of the last and of the first byte changed.
 fn value(case: usize, at: usize) -> [u8; 32]
     requires case { case < 4 }
     requires at { at < 8 }

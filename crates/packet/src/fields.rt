@@ -131,7 +131,8 @@ pub fn index(bytes: &[u8]) -> Result<(u32, &[u8]), Malformed>
 /// The length of the agreement message, which is 0 in epoch 0.
 #[tactic(auto, unfolding(crate::specs::Reading::lawful))]
 pub fn agreement_len(bytes: &[u8], agreement: usize, epoch: u32) -> Result<(u16, &[u8]), Malformed>
-    ensures { let read = lawful w16 29 Agreement (λ n. n == agreement_len agreement epoch) bytes.now in
+    ensures { let read = lawful w16 29 Agreement
+        (λ n. n == agreement_len agreement epoch) bytes.now in
         Gives (λ x. (x.0, x.1.now)) result read }
 {
     let (len, rest) = u16_at(bytes, AGREEMENT_LEN_AT)?;

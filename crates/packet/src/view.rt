@@ -25,8 +25,8 @@ impl<'a> Model for View<'a> {
     ghost invariant = { λ v. IsViewed v.bytes.now (fields_of v.parts) };
 }
 
-/// Reads a packet, or finds the first fault from left to right. The agreement messages of epochs above 0 have
-/// the length `agreement`; those of epoch 0 are empty. No field is copied.
+/// Reads a packet, or finds the first fault from left to right. The agreement messages of epochs
+/// above 0 have the length `agreement`; those of epoch 0 are empty. No field is copied.
 pub fn parse(bytes: &[u8], agreement: usize) -> Result<View<'_>, Malformed>
     ensures exact { result ≡ read_packet agreement bytes.now }
     ensures found { IfOk result (λ f. IsLawful agreement f × (bytes.now ≡ packet_of f)) }

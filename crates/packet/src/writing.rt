@@ -27,7 +27,8 @@ fn put_header(
     out: &mut [u8],
 ) -> usize
     requires { 33 + length agreement.now ≤ length out.old }
-    ensures { let header = header_of session.now position.epoch previous position.index agreement.now text_len in
+    ensures { let header = header_of session.now position.epoch previous position.index
+        agreement.now text_len in
         Puts out.old out.new 0 header result }
 {
     let at_session = put(out, 0, &[VERSION]);
@@ -52,10 +53,12 @@ pub fn write_ad(
     requires agreement_fits { length agreement.now < 2 ^ 16 }
     requires text_fits { text_len ≤ TEXT_LIMIT }
     requires room { 33 + length agreement.now ≤ length out.old }
-    ensures len { let header = header_of session.now position.epoch previous position.index agreement.now text_len in
+    ensures len { let header = header_of session.now position.epoch previous position.index
+        agreement.now text_len in
         result ≡ length header }
     ensures size { result ≡ 33 + length agreement.now }
-    ensures written { let header = header_of session.now position.epoch previous position.index agreement.now text_len in
+    ensures written { let header = header_of session.now position.epoch previous position.index
+        agreement.now text_len in
         take result out.new ≡ header }
     ensures rest { drop result out.new ≡ drop result out.old }
 {
@@ -72,13 +75,16 @@ pub fn write_into(
     tag: &[u8; 32],
     out: &mut [u8],
 ) -> usize
-    requires lawful { let f = fields_at session.now position previous agreement.now ciphertext.now tag.now in
+    requires lawful { let f = fields_at session.now position previous agreement.now ciphertext.now
+        tag.now in
         IsLawful (length agreement.now) f }
     requires room { PACKET_FRAME + length agreement.now + length ciphertext.now ≤ length out.old }
-    ensures len { let f = fields_at session.now position previous agreement.now ciphertext.now tag.now in
+    ensures len { let f = fields_at session.now position previous agreement.now ciphertext.now
+        tag.now in
         result ≡ length (packet_of f) }
     ensures size { result ≡ PACKET_FRAME + length agreement.now + length ciphertext.now }
-    ensures written { let f = fields_at session.now position previous agreement.now ciphertext.now tag.now in
+    ensures written { let f = fields_at session.now position previous agreement.now ciphertext.now
+        tag.now in
         take result out.new ≡ packet_of f }
     ensures rest { drop result out.new ≡ drop result out.old }
 {

@@ -58,7 +58,8 @@ fn hands_on(rt: &HostRuntime, path: &str, fault: Fault) -> bool {
     tells(&mut disk, fault)
 }
 
-// /dev/null can't be synced, /dev/full not be written to, and of one's own memory the first page not be read.
+// /dev/null can't be synced, /dev/full not be written to, and of one's own memory the first page
+// not be read.
 #[test]
 fn hands_errors_on(rt: HostRuntime) {
     assert!(rt; hands_on(&rt, "/dev/null", Fault::Unsynced));

@@ -11,7 +11,8 @@ fn is_blank<D: Disk>(disk: &mut D) -> bool {
     seen(disk) == [0; 4] && disk.sync().is_ok()
 }
 
-/// Whether a disk reads what was written, and the one that looked before there was a file fails to write.
+/// Whether a disk reads what was written, and the one that looked before there was a file fails to
+/// write.
 fn is_late<D: Disk>(reads: &mut D, late: &mut D) -> bool {
     seen(reads) == [0, 5, 6, 0] && late.size() == 4 && late.write_at(0, &[1]).is_err()
 }

@@ -49,7 +49,8 @@ fn give_up<D: Door, L: Link>(rt: &HostRuntime, door: &mut D, link: &mut L) -> bo
     }
 }
 
-/// Sends this to a pipe in pieces that are received at the other one, with a pause after each, and answers how many came.
+/// Sends this to a pipe in pieces that are received at the other one, with a pause after each, and
+/// answers how many came.
 fn trickled<P: Pipe, Q: Pipe>(rt: &HostRuntime, from: &mut P, to: &mut Q, bytes: &[u8]) -> u32 {
     let mut room = [0; 8192];
     for came in 0..100 {
@@ -80,7 +81,8 @@ fn bears<D: Door, L: Link>(rt: &HostRuntime, door: &mut D, link: &mut L) -> bool
     are_joined(door, link, 47619, "127.0.0.1:47619") && trickled(rt, link, door, &[7; 4096]) == 100
 }
 
-/// Sends this until that fails, and answers how many bytes the call before that took. There is no answer where a call took all.
+/// Sends this until that fails, and answers how many bytes the call before that took. There is no
+/// answer where a call took all.
 fn stuffed<P: Pipe>(to: &mut P, bytes: &[u8]) -> Option<u64> {
     let mut taken = 0;
     for _ in 0..1_000 {
@@ -144,7 +146,8 @@ fn gives_up_a_slow_peer(rt: HostRuntime) {
     assert!(rt; meet(&rt, bounded(1_000, 100_000), relay, Peer::Slow));
 }
 
-// 100 pieces of 4,096 bytes give it 100 seconds more, and it has that much where it may last so long.
+// 100 pieces of 4,096 bytes give it 100 seconds more, and it has that much where it may last so
+// long.
 #[test]
 fn bears_with_a_busy_peer_for_its_time(rt: HostRuntime) {
     let relay = Patience::with_a_relay();

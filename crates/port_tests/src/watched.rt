@@ -1,4 +1,5 @@
-//! The files of the system, as a test watches them, and with files that can't be written to if it wishes.
+//! The files of the system, as a test watches them, and with files that can't be written to if it
+//! wishes.
 
 use std::alloc::Allocator;
 use std::cell::Cell;
@@ -6,7 +7,8 @@ use std::fs::{File, Metadata, OpenOptions};
 use std::io;
 use std::rt::Files;
 
-/// The system's files. It counts the files that were made, and those that were opened to be read alone, as folders are.
+/// The system's files. It counts the files that were made, and those that were opened to be read
+/// alone, as folders are.
 #[derive(Drop)]
 pub struct Watched<'a> {
     rt: &'a HostRuntime,

@@ -1,9 +1,10 @@
-//! The root of the double ratchet: a PRF-PRNG (Alwen, Coretti, Dodis, "The Double Ratchet", Eurocrypt 2019) by
-//! HKDF with SHA-256 (RFC 5869).
+//! The root of the double ratchet: a PRF-PRNG (Alwen, Coretti, Dodis, "The Double Ratchet",
+//! Eurocrypt 2019) by HKDF with SHA-256 (RFC 5869).
 //!
-//! A root is a state of 32 bytes. It takes an input in, such as the secret of a key encapsulation, and gives
-//! the next state and a key that is fresh as long as the state or the input is secret. The state that was
-//! there is gone then. A `Root` can't be copied, and whoever holds one has to spend it.
+//! A root is a state of 32 bytes. It takes an input in, such as the secret of a key encapsulation,
+//! and gives the next state and a key that is fresh as long as the state or the input is secret.
+//! The state that was there is gone then. A `Root` can't be copied, and whoever holds one has to
+//! spend it.
 //!
 //! ```rust
 //! use dr_base::Key32;

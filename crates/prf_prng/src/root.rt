@@ -12,8 +12,8 @@ const LABEL: &[u8; 7] = b"dr root";
 
 /// The root of a conversation. A contract sees it as the 32 bytes of its state.
 ///
-/// It can't be copied, and it has to be spent: by `up`, or by `rest`. No two calls of `up` have the same root,
-/// since the first takes it:
+/// It can't be copied, and it has to be spent: by `up`, or by `rest`. No two calls of `up` have the
+/// same root, since the first takes it:
 ///
 /// ```text
 /// let (later, first_key) = root.up(&first_input);
@@ -47,7 +47,8 @@ impl Root {
         Root { state }
     }
 
-    /// Takes an input in: the root after it, and the key that the state and the input give together.
+    /// Takes an input in: the root after it, and the key that the state and the input give
+    /// together.
     #[tactic(auto, unfolding(crate::specs::Root::raised))]
     pub fn up(self, input: &Key32) -> (Root, Key32)
         ensures root { result.0 ≡ next_root self input.now.bytes }

@@ -36,7 +36,8 @@ impl<K: Kem> Session<K> {
             ≡ Some (said_of self.now draft)) }
         ensures draft { IfOk result (λ draft.
             IsSendDraft K.mechanism self.now (said_of self.now draft)) }
-        ensures err { OnErr result (draft_send K.mechanism self.now text.now (seed_bytes seed) ≡ None) }
+        ensures err { OnErr result
+            (draft_send K.mechanism self.now text.now (seed_bytes seed) ≡ None) }
         ensures seed { IfErr result (λ e. seed ≡ Some e.seed) }
     {
         let part = &self.part;

@@ -1,14 +1,17 @@
-//! The double ratchet of one side (Alwen, Coretti, Dodis, "The Double Ratchet", Eurocrypt 2019), over any key
-//! encapsulation mechanism: a session, and drafts of what it would say or take. A draft changes nothing until it is
-//! accepted, and a session accepts it only in a state that gives this draft, so that of two texts drafted from one state
-//! one at most is accepted (`dr_model::one_draft_is_accepted`).
+//! The double ratchet of one side (Alwen, Coretti, Dodis, "The Double Ratchet", Eurocrypt 2019),
+//! over any key encapsulation mechanism: a session, and drafts of what it would say or take. A
+//! draft changes nothing until it is accepted, and a session accepts it only in a state that gives
+//! this draft, so that of two texts drafted from one state one at most is accepted
+//! (`dr_model::one_draft_is_accepted`).
 //!
-//! A text of an own epoch is sealed with the next key of its stream. The first text after the peer's is a turn: it
-//! begins the next epoch with new keys, and takes a seed. A packet is opened along the stream of its epoch, by a key
-//! that was kept when its index was passed, or as the first one of the next epoch. No memory is allocated.
+//! A text of an own epoch is sealed with the next key of its stream. The first text after the
+//! peer's is a turn: it begins the next epoch with new keys, and takes a seed. A packet is opened
+//! along the stream of its epoch, by a key that was kept when its index was passed, or as the first
+//! one of the next epoch. No memory is allocated.
 //!
-//! Below, First opens what Second drafted. That it does, whatever was said and lost before, is the law
-//! `dr_model::sessions_agree`, which speaks of the states that a contract sees of the two sessions.
+//! Below, First opens what Second drafted. That it does, whatever was said and lost before, is the
+//! law `dr_model::sessions_agree`, which speaks of the states that a contract sees of the two
+//! sessions.
 //!
 //! ```rust
 //! use dr_base::{Key32, Side};

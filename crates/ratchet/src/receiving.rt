@@ -107,10 +107,12 @@ impl<K: Kem> ReceiveDraft<'_, K> {
     }
 }
 
-/// Opens the ciphertext of a packet in place with the key that was found for it, if its tag is the one under that key.
+/// Opens the ciphertext of a packet in place with the key that was found for it, if its tag is the
+/// one under that key.
 fn open_text(key: OpenKey, view: &View<'_>, text: &mut Message) -> Result<(), ReceiveRefusal>
     requires { text.old.items ≡ view.now.ciphertext }
-    ensures { (next : State) → opened result view.now text.new.items next ≡ opening_on view.now (on_way key next) }
+    ensures { (next : State)
+        → opened result view.now text.new.items next ≡ opening_on view.now (on_way key next) }
 {
     match open(key, view.ad(), text, view.tag()) {
         Err(_) => Err(ReceiveRefusal::BadTag),

@@ -10,8 +10,8 @@ use dr_base::{AGREEMENT_LIMIT, PACKET_LIMIT, Position, TEXT_LIMIT, put};
 use etm_aead::SealKey;
 use packet::write_ad;
 
-/// Seals what stands from a place on, in place, with what stands before it as the data that goes along. Answers the
-/// tag.
+/// Seals what stands from a place on, in place, with what stands before it as the data that goes
+/// along. Answers the tag.
 fn seal_from(key: SealKey, bytes: &mut [u8], at: usize) -> [u8; 32]
     requires within { at ≤ length bytes.old }
     requires short { length bytes.old ≤ at + TEXT_LIMIT }
@@ -22,8 +22,9 @@ fn seal_from(key: SealKey, bytes: &mut [u8], at: usize) -> [u8; 32]
     key.seal(ad, text)
 }
 
-/// Prints the packet of a text that a session says into the front of its room, sealed with a message key, and answers
-/// the packet's length. The text is copied once, to its place in the packet, and sealed there.
+/// Prints the packet of a text that a session says into the front of its room, sealed with a
+/// message key, and answers the packet's length. The text is copied once, to its place in the
+/// packet, and sealed there.
 #[tactic(auto, unfolding(session_model::specs::Sealing::posted))]
 pub fn seal_packet(
     session: &[u8; 16],
@@ -36,8 +37,10 @@ pub fn seal_packet(
 ) -> usize
     requires agreement_fits { length agreement.now ≤ AGREEMENT_LIMIT }
     requires short { length text.now ≤ TEXT_LIMIT }
-    requires lawful { IsLawful (length agreement.now) (sealing session.now position previous agreement.now key text.now) }
-    ensures packet { item_at position (take result room.new) ≡ posted session.now position previous agreement.now key text.now }
+    requires lawful { IsLawful (length agreement.now)
+        (sealing session.now position previous agreement.now key text.now) }
+    ensures packet { item_at position (take result room.new)
+        ≡ posted session.now position previous agreement.now key text.now }
     ensures fits { result ≤ PACKET_LIMIT }
 {
     let at_text = write_ad(session, position, previous, agreement, text.len(), room);

@@ -31,11 +31,12 @@ impl<K: Kem> Model for Session<K> {
 }
 
 impl<K: Kem> Session<K> {
-    /// A side's session at the beginning of a conversation. `NoPair` where the agreement seed that follows from the
-    /// shared key has no pair.
+    /// A side's session at the beginning of a conversation. `NoPair` where the agreement seed that
+    /// follows from the shared key has no pair.
     pub fn begin(work: &mut K::Work, side: Side, key: &Key32) -> Result<Session<K>, NoPair>
         ensures ok { IfOk result (λ s. s ≡ opening_state K.mechanism key.now.bytes side) }
-        ensures variant { IsOk result ↔ IsSome (K.mechanism.meaning.pair_of (agreement_seed key.now.bytes)) }
+        ensures variant { IsOk result
+            ↔ IsSome (K.mechanism.meaning.pair_of (agreement_seed key.now.bytes)) }
     {
         laws::<K>();
         let beginning = begin(key);

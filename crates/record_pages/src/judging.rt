@@ -10,12 +10,14 @@ use crate::table::{number_at, record_length};
 
 /// Whether a number is that of a page, and none of these.
 fn is_entry(number: u32, pages: u32, numbers: &[u32]) -> bool
-    ensures { result ≡ (nat_le 2 number && (nat_lt number pages && not (is_among numbers.now number))) }
+    ensures { result ≡ (nat_le 2 number &&
+        (nat_lt number pages && not (is_among numbers.now number))) }
 {
     number >= 2 && number < pages && !numbers.contains(&number)
 }
 
-/// The first entry that is no page's number or a second one of a page, if there is one; else the numbers.
+/// The first entry that is no page's number or a second one of a page, if there is one; else the
+/// numbers.
 #[tactic(auto, unfolding(crate::specs::Tables::record_names))]
 fn read_numbers(body: &[u8], count: usize, pages: u32, numbers: &mut Vec<u32>) -> Option<u32>
     requires count { count ≡ page_count (length_in body.now) }
@@ -51,7 +53,8 @@ pub fn nonzero(bytes: &[u8], from: u32) -> Option<u32>
     None
 }
 
-/// The first place of a table that no record's has, counted from its gate, if there is one; else the numbers of the record's pages.
+/// The first place of a table that no record's has, counted from its gate, if there is one; else
+/// the numbers of the record's pages.
 #[tactic(auto, unfolding(crate::specs::Tables::table_fault))]
 pub fn table_fault(body: &[u8], pages: u32, most: u32, numbers: &mut Vec<u32>) -> Option<u32>
     requires room { 5 + 2 * most ≤ length body.now }

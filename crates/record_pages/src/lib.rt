@@ -1,5 +1,5 @@
-//! A record in pages: how it is cut, the table that names its pages, and what a new record changes of them. All of it is
-//! memory; what stands on a disk is the concern of the crates above.
+//! A record in pages: how it is cut, the table that names its pages, and what a new record changes
+//! of them. All of it is memory; what stands on a disk is the concern of the crates above.
 #![tactic(auto)]
 
 pub use cutting::{holds_piece, page_count};

@@ -54,8 +54,8 @@ fn renumber(numbers: &mut Vec<u32>, at: usize, number: u32, dropped: &mut Vec<u3
     }
 }
 
-/// Plans that a text takes the place of the record in these bytes, whose pages have these numbers. Pages that stay
-/// keep their numbers, and the others get the free ones in order.
+/// Plans that a text takes the place of the record in these bytes, whose pages have these numbers.
+/// Pages that stay keep their numbers, and the others get the free ones in order.
 pub fn plan_pages(
     bytes: &[u8],
     numbers: &mut Vec<u32>,

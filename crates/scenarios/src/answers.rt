@@ -5,7 +5,8 @@ use dr_disk::Disk;
 use dr_ports::{MemorySink, MemorySource};
 use std::alloc::{AllocError, Global};
 
-/// What the program writes to words, with its status, on this disk and with this text in the source.
+/// What the program writes to words, with its status, on this disk and with this text in the
+/// source.
 pub fn answer<D: Disk>(
     alloc: Global,
     line: &str,
@@ -19,8 +20,9 @@ pub fn answer<D: Disk>(
     Ok((status.code, Vec::from_slice(alloc, out.taken())?))
 }
 
-/// Whether the program answers lines of words so: each line of the table is the words, the text of the source, the status, and
-/// what is written, parted by `>`. A line feed in it is `;`, and `^` is 64 zeros.
+/// Whether the program answers lines of words so: each line of the table is the words, the text of
+/// the source, the status, and what is written, parted by `>`. A line feed in it is `;`, and `^` is
+/// 64 zeros.
 pub fn answers<D: Disk>(alloc: Global, disk: &mut D, table: &str) -> Result<bool, AllocError> {
     let mut network = Network::new(alloc, b"", b"")?;
     answers_over(alloc, disk, &mut network, table)

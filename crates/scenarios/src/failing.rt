@@ -7,7 +7,8 @@ use dr_ports::{MemoryDraws, MemoryLink, MemorySink, MemorySource};
 use messenger_cli::DISK_SIZE;
 use std::alloc::{AllocError, Global};
 
-/// The packet of the text `hi`, which Second says first, where the key is zeros: by another implementation.
+/// The packet of the text `hi`, which Second says first, where the key is zeros: by another
+/// implementation.
 pub const PACKET: &[u8] =
     b"0170e0f9cd1a5863238d67aecce0c032e50000000000000000000000010000000279e60f86162d787aab4a4254a2ad96926ff3272db22c3b04e763d73bde4ddb740943";
 
@@ -21,7 +22,8 @@ pub enum Port {
     Link,
 }
 
-/// A command, with what the source and the link hold, and with what its side has done before, as rows of `answers`.
+/// A command, with what the source and the link hold, and with what its side has done before, as
+/// rows of `answers`.
 #[derive(Clone, Copy)]
 pub struct Case<'a> {
     pub earlier: &'a str,
@@ -91,7 +93,8 @@ fn view(
     Ok(shown)
 }
 
-/// What a command on this disk comes to, where the call of this number on a port fails, or none at 0.
+/// What a command on this disk comes to, where the call of this number on a port fails, or none at
+/// 0.
 fn run_on_disk(
     alloc: Global,
     case: Case<'_>,
@@ -111,7 +114,8 @@ fn run_on_disk(
     })
 }
 
-/// The same on a new disk, once the side has done what it does before; nothing where it didn't do that.
+/// The same on a new disk, once the side has done what it does before; nothing where it didn't do
+/// that.
 pub fn run_case(
     alloc: Global,
     case: Case<'_>,

@@ -18,8 +18,8 @@ const HELLO: &[u8] =
 const HELLO_TRACE: &[u8] =
     b"second said 0.1\nfirst opened 0.1\nfirst inbox 1\nfirst 0.1 \"hi\"\nfirst refused Spent 0.1\n";
 
-/// The status of a script, and whether just these bytes were written. The reads and the writes of these numbers fail,
-/// and there is room for this many bytes.
+/// The status of a script, and whether just these bytes were written. The reads and the writes of
+/// these numbers fail, and there is room for this many bytes.
 fn outcome(
     alloc: Global,
     network: &mut Network,

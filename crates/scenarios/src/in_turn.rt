@@ -24,8 +24,8 @@ struct Views<'a> {
     whole: &'a Came,
 }
 
-/// Whether what a side shows is what it may show once a call on this port failed: a source and draws come before anything is
-/// done.
+/// Whether what a side shows is what it may show once a call on this port failed: a source and
+/// draws come before anything is done.
 fn is_shown(port: Port, view: &[u8], views: Views<'_>) -> bool {
     let is_before = view == views.before.view.as_slice();
     match port {
@@ -36,8 +36,8 @@ fn is_shown(port: Port, view: &[u8], views: Views<'_>) -> bool {
     }
 }
 
-/// Whether a run ended as one in which a call on this port failed: its status, lines that are a beginning of those of a whole
-/// run and then the fault's, and a state that the command leads to.
+/// Whether a run ended as one in which a call on this port failed: its status, lines that are a
+/// beginning of those of a whole run and then the fault's, and a state that the command leads to.
 fn is_told(port: Port, run: &Came, views: Views<'_>) -> bool {
     let (status, last) = ending(port);
     match run.lines.strip_suffix(last) {
@@ -50,7 +50,8 @@ fn is_told(port: Port, run: &Came, views: Views<'_>) -> bool {
     }
 }
 
-/// How many calls on a port there are in a command, where each that fails is told; nothing where one isn't.
+/// How many calls on a port there are in a command, where each that fails is told; nothing where
+/// one isn't.
 fn calls_told(
     alloc: Global,
     case: Case<'_>,
@@ -113,7 +114,8 @@ fn runs_whole(
     run_case(alloc, case, (Port::Disk, 0), network)
 }
 
-/// Whether each call of a command fails as it should. In its middle it shows what it shows once these replies have come.
+/// Whether each call of a command fails as it should. In its middle it shows what it shows once
+/// these replies have come.
 fn is_kept(
     alloc: Global,
     case: Case<'_>,
@@ -153,8 +155,8 @@ const TAKEN: &str = "\
 begin|first>^>0>session 70e0f9cd1a5863238d67aecce0c032e5;
 take>0170e0f9cd1a5863238d67aecce0c032e50000000000000000000000010000000279e60f86162d787aab4a4254a2ad96926ff3272db22c3b04e763d73bde4ddb740943>0>opened 0.1;";
 
-/// A relay's replies to a sync of First, who has said a text: the packet stands in its box, is dropped, none stands, and the
-/// packet that waits is kept.
+/// A relay's replies to a sync of First, who has said a text: the packet stands in its box, is
+/// dropped, none stands, and the packet that waits is kept.
 const REPLIES: &[u8] =
     b"\x00\x4c\x82\x00\x00\x00\x00\x00\x00\x00\x01\x01\x70\xe0\xf9\xcd\x1a\x58\x63\x23\x8d\x67\xae\xcc\xe0\xc0\x32\xe5\
     \x00\x00\x00\x00\x00\x00\x00\x00\x00\x00\x00\x01\x00\x00\x00\x02\x79\xe6\x0f\x86\x16\x2d\x78\x7a\xab\x4a\x42\x54\xa2\

@@ -1,5 +1,5 @@
-//! Tests of the whole program over ports in memory: each fault once, and the bytes that go to a relay and come from one. Its
-//! scripts and commands are tried on the built program.
+//! Tests of the whole program over ports in memory: each fault once, and the bytes that go to a
+//! relay and come from one. Its scripts and commands are tried on the built program.
 #![tactic(auto)]
 
 #[cfg(test)]

@@ -64,7 +64,8 @@ fn syncs_with_a_relay(rt: HostRuntime) -> Result<(), Fail> {
     Ok(())
 }
 
-/// Whether the link was connected to `127.0.0.1:4000`, and that connection has ended once all replies had come.
+/// Whether the link was connected to `127.0.0.1:4000`, and that connection has ended once all
+/// replies had come.
 fn has_ended(link: &MemoryLink) -> bool {
     link.address() == b"127.0.0.1:4000".as_slice()
         && matches!(link.stand(), Stand::Ended { received: 17, .. })

@@ -1,4 +1,5 @@
-//! The status of a command by the call that failed in it, and whether the state is then as before it or as after it.
+//! The status of a command by the call that failed in it, and whether the state is then as before
+//! it or as after it.
 
 use crate::answers::is_answered;
 use crate::failing::{Case, PACKET, Port, run_case};
@@ -27,7 +28,8 @@ const SAID: &[u8] =
 /// What a side has done before, its command, and the port whose call fails.
 type Run = (&'static str, &'static str, Port);
 
-/// Whether runs in which the call of each of these numbers fails come to this status, and show this.
+/// Whether runs in which the call of each of these numbers fails come to this status, and show
+/// this.
 fn are_so(
     alloc: Global,
     network: &mut Network,

@@ -17,7 +17,8 @@ pub struct Network {
 }
 
 impl Network {
-    /// A relay's disk of zeros, a link that gives these bytes, and a door whose one connection holds these.
+    /// A relay's disk of zeros, a link that gives these bytes, and a door whose one connection
+    /// holds these.
     pub fn new(alloc: Global, link: &[u8], door: &[u8]) -> Result<Network, AllocError> {
         Ok(Network {
             relay_disk: SteadyDisk::new(alloc, RELAY_DISK_SIZE)?,

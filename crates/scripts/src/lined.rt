@@ -23,7 +23,8 @@ pub enum Lined<'a> {
     Plain(Line<'a>),
     /// The disk of the side stops in a call.
     Stopping(Stop<'a>),
-    /// The side syncs with the relay. The reply to the request of this number, from 1, is lost, and the link fails there.
+    /// The side syncs with the relay. The reply to the request of this number, from 1, is lost, and
+    /// the link fails there.
     Syncing(Side, Option<u32>),
 }
 

@@ -41,7 +41,8 @@ impl<'a> Lines<'a> {
 
     /// The next line, if there is one.
     pub fn next(&mut self) -> Option<Lined<'a>>
-        ensures { MatchOption result (self.old ≡ []) (λ line. self.old ≡ lined_deed line ∷ self.new) }
+        ensures { MatchOption result (self.old ≡ [])
+            (λ line. self.old ≡ lined_deed line ∷ self.new) }
     {
         match split_line(self.rest) {
             None => None,

@@ -67,8 +67,8 @@ fn turn_count(round: u32, turn: Turn) -> usize
 }
 
 impl Script {
-    /// The script of this many rounds that is made from a number, over the stand-in and a key of zeros. Its only error is
-    /// want of memory.
+    /// The script of this many rounds that is made from a number, over the stand-in and a key of
+    /// zeros. Its only error is want of memory.
     pub fn make(alloc: Global, rounds: u32, number: u64) -> Result<Self, AllocError>
         ensures { IfOk result (λ script. script ≡ made_script rounds number) }
     {

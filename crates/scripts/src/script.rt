@@ -1,5 +1,5 @@
-//! A script's text, read whole before its first line runs. Its first line names the mechanism, its second the
-//! key of both sessions; each later line is a deed.
+//! A script's text, read whole before its first line runs. Its first line names the mechanism, its
+//! second the key of both sessions; each later line is a deed.
 
 ghost use Rattle.std.specs.Prelude.{◌≡◌, ◌+◌, ◌<◌, ◌^◌, length, Ok, Err, IfOk, IfErr, option_map};
 ghost use Rattle.scripts.specs.Faults.{IsFaultOf};
@@ -22,7 +22,8 @@ pub enum KemName {
     Sntrup761,
 }
 
-/// A script that was read or made: a mechanism, the key of both sessions, and the deeds in order. It owns its text.
+/// A script that was read or made: a mechanism, the key of both sessions, and the deeds in order.
+/// It owns its text.
 #[derive(Drop)]
 pub struct Script {
     pub(crate) kem: KemName,
@@ -157,7 +158,8 @@ fn parse_key(line: &[u8]) -> Option<Key32>
     }
 }
 
-/// How many lines stand after the key, of which the first is the script's third, or the number of the first bad one.
+/// How many lines stand after the key, of which the first is the script's third, or the number of
+/// the first bad one.
 fn count_lines(text: &[u8]) -> Result<usize, u32>
     requires { length text.now < 2 ^ 31 }
     ensures ok { IfOk result (AreCounted text.now) }

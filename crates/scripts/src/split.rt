@@ -47,7 +47,8 @@ pub fn after_prefix<'a>(text: &'a [u8], prefix: &[u8]) -> Option<&'a [u8]>
 
 /// The text before the first of these bytes, and the text after it.
 pub fn cut_at(text: &[u8], mark: u8) -> Option<(&[u8], &[u8])>
-    ensures { option_map (λ halves. (halves.0.now, halves.1.now)) result ≡ halves_of mark text.entry.now }
+    ensures { option_map (λ halves. (halves.0.now, halves.1.now)) result
+        ≡ halves_of mark text.entry.now }
 {
     match text.iter().position(|byte| *byte == mark) {
         Some(at) => Some((&text[..at], &text[at + 1..])),

@@ -60,7 +60,8 @@ pub enum Refusal {
     OtherSession,
     /// The packet is of an epoch of the taker's own.
     OwnPacket(u32),
-    /// The packet's epoch comes after the next one that may begin; `reached` is the greatest epoch that is reached.
+    /// The packet's epoch comes after the next one that may begin; `reached` is the greatest epoch
+    /// that is reached.
     Ahead { epoch: u32, reached: u32 },
     /// The packet of this position was opened before.
     Spent(Position),

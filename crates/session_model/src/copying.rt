@@ -44,7 +44,8 @@ impl Own {
 }
 
 impl Phase {
-    /// Becomes a copy of an own epoch, where it is a peer's. A function of its own, so that its room is set only there.
+    /// Becomes a copy of an own epoch, where it is a peer's. A function of its own, so that its
+    /// room is set only there.
     #[inline(never)]
     fn become_own(&mut self, own: &Own)
         ensures { phase_seen self.new ≡ in_own (own_seen own.now) }

@@ -8,8 +8,8 @@ use fs_aead::Skipped;
 use kem_laws::Kem;
 use std::marker::{Model, PhantomData};
 
-/// In an own epoch: the secret that waits for the answer, the epoch's agreement message, and the stream's chain key
-/// with the number of keys that it gave.
+/// In an own epoch: the secret that waits for the answer, the epoch's agreement message, and the
+/// stream's chain key with the number of keys that it gave.
 #[derive(Drop)]
 pub struct Own {
     pub secret: SecretText,
@@ -27,7 +27,8 @@ pub enum Phase {
     Peers(PublicText),
 }
 
-/// The stream of the latest peer's epoch: the chain key after the greatest index that was opened, and this index.
+/// The stream of the latest peer's epoch: the chain key after the greatest index that was opened,
+/// and this index.
 #[derive(Drop)]
 pub struct Reception {
     pub chain: Key32,
@@ -50,8 +51,8 @@ pub struct Head<K: Kem> {
     pub mechanism: PhantomData<K>,
 }
 
-/// What a session keeps, as plain data. A contract sees the state that it is, which is a lawful one: whoever makes a
-/// part proves that. It owns no memory but its own room.
+/// What a session keeps, as plain data. A contract sees the state that it is, which is a lawful
+/// one: whoever makes a part proves that. It owns no memory but its own room.
 #[derive(Drop)]
 pub struct SessionPart<K: Kem> {
     pub head: Head<K>,

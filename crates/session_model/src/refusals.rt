@@ -27,7 +27,8 @@ pub enum ReceiveRefusal {
     /// The packet is of an epoch of the taker's own.
     #[error("the packet's epoch {epoch} is the taker's own")]
     OwnPacket { epoch: u32 },
-    /// The packet's epoch comes after the next one that may begin; `reached` is the greatest epoch that is reached.
+    /// The packet's epoch comes after the next one that may begin; `reached` is the greatest epoch
+    /// that is reached.
     #[error("the packet's epoch {epoch} comes more than one after the epoch {reached}")]
     Ahead { epoch: u32, reached: u32 },
     /// The packet of this position was opened before.

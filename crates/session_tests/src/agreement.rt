@@ -14,7 +14,8 @@ const KEY: [u8; 32] = [
     0xb1, 0x6e, 0xee, 0xac, 0xf8, 0x37, 0xc3, 0x5b, 0x91, 0xea, 0xfe, 0xc8, 0xfc, 0xff, 0xbb, 0xe9,
 ];
 
-// What a turn and its answer come to: the two keys, or whether the caller that came back has its public key.
+// What a turn and its answer come to: the two keys, or whether the caller that came back has its
+// public key.
 #[derive(Drop, PartialEq)]
 enum Outcome {
     Keys([u8; 32], [u8; 32]),

@@ -1,4 +1,5 @@
-//! Tests of the crates below the client: the stand-in, the agreement, packets, boxes, sessions and records.
+//! Tests of the crates below the client: the stand-in, the agreement, packets, boxes, sessions and
+//! records.
 #![tactic(auto)]
 
 #[cfg(test)]

@@ -45,7 +45,8 @@ fn writes_and_lends_the_first_packet(rt: HostRuntime) -> Result<(), Fail> {
     Ok(())
 }
 
-/// Whether the fault of the first packet's first `len` bytes is this one, where `new` is put at a place.
+/// Whether the fault of the first packet's first `len` bytes is this one, where `new` is put at a
+/// place.
 fn finds(len: usize, place: usize, new: &[u8], fault: Malformed) -> bool {
     let mut bytes = [0; 68];
     let _len = write_into(&SESSION, FIRST, 0, &[], b"hi", &TAG, &mut bytes);

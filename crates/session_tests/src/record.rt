@@ -89,7 +89,8 @@ fn records_are_read_and_written(rt: HostRuntime) -> Result<(), Fail> {
     Ok(())
 }
 
-/// A text, how much of it is read, a place, the bytes that are put there, and where the damage is then.
+/// A text, how much of it is read, a place, the bytes that are put there, and where the damage is
+/// then.
 type Row = (&'static [u8], usize, usize, &'static [u8], usize);
 
 /// Whether the damage is found where a row has it.
@@ -118,14 +119,15 @@ fn damage_is_found(rt: HostRuntime) -> Result<(), Fail> {
         (BEGUN, 131, 130, b"\x00", 130),
         (BEGUN, 60, 0, b"\x01", 54),
         (BEGUN, 0, 0, b"\x01", 0),
-        // the second kept key: of an epoch above the session's, at the position of the first, at index 0, of an own epoch,
-        // and of an epoch below the first
+        // the second kept key: of an epoch above the session's, at the position of the first, at
+        // index 0, of an own epoch, and of an epoch below the first
         (PEERS, 353, 171, b"\x04", 168),
         (PEERS, 353, 175, b"\x01", 172),
         (PEERS, 353, 175, b"\x00", 172),
         (PEERS, 353, 171, b"\x01", 168),
         (PEERS, 353, 131, b"\x02", 168),
-        // a packet of another session, and one that is a byte too short: the place is its first byte
+        // a packet of another session, and one that is a byte too short: the place is its first
+        // byte
         (PEERS, 353, 224, b"\x00", 223),
         (PEERS, 353, 222, b"\x81", 223),
     ];

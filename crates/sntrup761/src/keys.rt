@@ -30,7 +30,8 @@ pub(crate) struct Keys {
 pub(crate) fn keys_of(work: &mut Workspace, seed: &[u8; 32]) -> Option<Keys>
     ensures { MatchOption result (pair seed.now ≡ None) (λ keys. pair seed.now ≡ Some (
       rq_encoded keys.h.coefficients,
-      secret_of keys.f.coefficients keys.v.coefficients (rq_encoded keys.h.coefficients) (drawn_rho seed.now),
+      secret_of keys.f.coefficients keys.v.coefficients (rq_encoded keys.h.coefficients)
+          (drawn_rho seed.now),
     )) }
 {
     let mut for_g = 0;
@@ -51,7 +52,8 @@ pub(crate) fn keys_of(work: &mut Workspace, seed: &[u8; 32]) -> Option<Keys>
 pub(crate) fn write_secret(keys: &Keys, public: &[u8], seed: &[u8; 32], secret: &mut [u8])
     requires public_size { length public.now ≡ 1158 }
     requires secret_size { length secret.old ≡ 1763 }
-    ensures { secret.new ≡ secret_of keys.now.f.coefficients keys.now.v.coefficients public.now (drawn_rho seed.now) }
+    ensures { secret.new ≡ secret_of keys.now.f.coefficients keys.now.v.coefficients public.now
+        (drawn_rho seed.now) }
 {
     let at = put(secret, 0, &small_encode(&keys.f));
     let at = put(secret, at, &small_encode(&keys.v));

@@ -1,8 +1,9 @@
-//! Streamlined NTRU Prime with the parameters of sntrup761 (NTRU Prime, round 3 specification): a key encapsulation
-//! mechanism from lattices, of which every honest ciphertext decapsulates to its key.
+//! Streamlined NTRU Prime with the parameters of sntrup761 (NTRU Prime, round 3 specification): a
+//! key encapsulation mechanism from lattices, of which every honest ciphertext decapsulates to its
+//! key.
 //!
-//! Randomness is an argument, a seed of 32 bytes, which ChaCha20 expands. A ciphertext that isn't honest decapsulates to
-//! a key that only the secret gives; there is no error.
+//! Randomness is an argument, a seed of 32 bytes, which ChaCha20 expands. A ciphertext that isn't
+//! honest decapsulates to a key that only the secret gives; there is no error.
 //!
 //! ```rust
 //! use dr_base::Key32;

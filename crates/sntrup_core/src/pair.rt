@@ -11,7 +11,8 @@ pub enum PairTry {
     Pair { h: Rq, v: R3 },
     /// g has no inverse in R/3: its product with this element, which isn't zero, is zero.
     NoInverseG(R3),
-    /// g has an inverse, but f has none in R/q: its product with this element, which isn't zero, is zero.
+    /// g has an inverse, but f has none in R/q: its product with this element, which isn't zero, is
+    /// zero.
     NoInverseF(Rq),
 }
 

@@ -27,9 +27,9 @@ struct Open<S: Drop> {
     traffic: Traffic,
 }
 
-/// A stream, if one stands, and how often receiving or sending has failed. A call without a stream has failed, so has one on a
-/// stream that has taken all the time that it may, and so has a write that takes nothing of a piece that isn't empty. A call that
-/// a signal interrupts is tried again.
+/// A stream, if one stands, and how often receiving or sending has failed. A call without a stream
+/// has failed, so has one on a stream that has taken all the time that it may, and so has a write
+/// that takes nothing of a piece that isn't empty. A call that a signal interrupts is tried again.
 #[derive(Drop)]
 pub struct Connection<'a, R: Net + Clock> {
     system: &'a R,
@@ -38,8 +38,9 @@ pub struct Connection<'a, R: Net + Clock> {
     pub faults: u64,
 }
 
-/// Whether no standard stream has the descriptor. A program that was started with one of them closed is given its number for
-/// the next descriptor that it opens, and what it prints would go there.
+/// Whether no standard stream has the descriptor. A program that was started with one of them
+/// closed is given its number for the next descriptor that it opens, and what it prints would go
+/// there.
 pub(crate) fn is_own<F: AsRawFd>(opened: &F) -> bool
     ensures { IfSome (F.raw_fd opened.now) (λ descriptor. IsTrue result ↔ IsOwn descriptor) }
 {
@@ -65,7 +66,8 @@ impl<S: Read + OpenStream + Drop> Open<S> {
         into: &mut [u8],
     ) -> io::Result<usize>
         ensures bound { IfOk result (λ count. count ≤ length into.old) }
-        ensures counted { IfOk result (λ count. self.new.traffic ≡ received self.old.traffic count) }
+        ensures counted { IfOk result
+            (λ count. self.new.traffic ≡ received self.old.traffic count) }
         ensures uncounted { OnErr result (self.new.traffic ≡ self.old.traffic) }
         ensures begun { self.new.begun ≡ self.old.begun }
     {
@@ -84,7 +86,8 @@ impl<S: Read + OpenStream + Drop> Open<S> {
         into: &mut [u8],
     ) -> io::Result<usize>
         ensures bound { IfOk result (λ count. count ≤ length into.old) }
-        ensures counted { IfOk result (λ count. self.new.traffic ≡ received self.old.traffic count) }
+        ensures counted { IfOk result
+            (λ count. self.new.traffic ≡ received self.old.traffic count) }
         ensures uncounted { OnErr result (self.new.traffic ≡ self.old.traffic) }
         ensures begun { self.new.begun ≡ self.old.begun }
     {
@@ -149,8 +152,8 @@ impl<'a, R: Net + Clock> Connection<'a, R> {
         }
     }
 
-    /// Takes a stream in place of the one that stood, and answers whether that worked. A stream with the descriptor of a
-    /// standard stream is closed.
+    /// Takes a stream in place of the one that stood, and answers whether that worked. A stream
+    /// with the descriptor of a standard stream is closed.
     pub fn take(&mut self, stream: R::Stream) -> bool
         ensures { self.new.faults ≡ self.old.faults }
     {

@@ -11,7 +11,8 @@ use std::marker::Model;
 use std::net::{Net, OpenListener, TcpListener};
 use std::time::Clock;
 
-/// A door over a TCP listener, at every address of this machine. A contract sees its counts of faults.
+/// A door over a TCP listener, at every address of this machine. A contract sees its counts of
+/// faults.
 #[derive(Drop)]
 pub struct TcpDoor<'a, R: Net + Clock> {
     net: &'a R,
@@ -29,8 +30,9 @@ impl<'a, R: Net + Clock> Model for TcpDoor<'a, R> {
 }
 
 impl<'a, R: Net + Clock> TcpDoor<'a, R> {
-    /// A door that doesn't listen yet, with no fault so far. A call on a connection waits for five seconds at most, and the
-    /// connection may take ten seconds, one more for each reply and each `RATE` bytes, and a minute at most.
+    /// A door that doesn't listen yet, with no fault so far. A call on a connection waits for five
+    /// seconds at most, and the connection may take ten seconds, one more for each reply and each
+    /// `RATE` bytes, and a minute at most.
     pub fn new(net: &'a R) -> TcpDoor<'a, R>
         ensures { result ≡ record { flow = 0; gate = 0 } }
     {

@@ -14,7 +14,8 @@ pub const RATE: u64 = 4_096;
 /// For how many seconds a call on a link waits.
 const LINK_CALL: u64 = 60;
 
-/// For how many seconds a call on a door's connection waits. Its peer's next bytes are at most a round trip away.
+/// For how many seconds a call on a door's connection waits. Its peer's next bytes are at most a
+/// round trip away.
 const DOOR_CALL: u64 = 5;
 
 /// For how many seconds a door's connection stands, if nothing goes over it.
@@ -26,8 +27,8 @@ const DOOR_MOST: u64 = 60;
 /// How long a connection as a whole may take.
 #[derive(Clone, Copy)]
 pub struct Whole {
-    /// How long where nothing goes over it. Each piece that was sent, and each `RATE` bytes that went in either direction,
-    /// give it a second more.
+    /// How long where nothing goes over it. Each piece that was sent, and each `RATE` bytes that
+    /// went in either direction, give it a second more.
     pub least: Duration,
     /// How long at most.
     pub most: Duration,
@@ -63,12 +64,14 @@ impl Patience {
         }
     }
 
-    /// The patience with who comes in by a door: five seconds for each call, ten in all with a second more for each reply and
-    /// each `RATE` bytes, and a minute at most. So a peer that does little is soon given up, one with a slow line isn't, and
-    /// none holds the others up for longer than that.
+    /// The patience with who comes in by a door: five seconds for each call, ten in all with a
+    /// second more for each reply and each `RATE` bytes, and a minute at most. So a peer that does
+    /// little is soon given up, one with a slow line isn't, and none holds the others up for longer
+    /// than that.
     pub fn with_a_client() -> Self
         ensures each { as_nanos result.call ≡ DOOR_CALL * 1_000_000_000 }
-        ensures bounded { IsSomeAnd result.whole (λ whole. (as_nanos whole.least ≡ DOOR_LEAST * 1_000_000_000)
+        ensures bounded { IsSomeAnd result.whole
+            (λ whole. (as_nanos whole.least ≡ DOOR_LEAST * 1_000_000_000)
             × (as_nanos whole.most ≡ DOOR_MOST * 1_000_000_000)) }
     {
         Patience {
@@ -80,11 +83,12 @@ impl Patience {
         }
     }
 
-    /// For how long the next call may wait on a connection that has taken `gone` so far, with this traffic. There is
-    /// none once the connection has taken all that it may.
+    /// For how long the next call may wait on a connection that has taken `gone` so far, with this
+    /// traffic. There is none once the connection has taken all that it may.
     pub fn left(&self, gone: Duration, traffic: Traffic) -> Option<Duration>
         ensures endless { IfNone self.now.whole (result ≡ Some self.now.call) }
-        ensures over { IfSome self.now.whole (λ whole. IsNone result ↔ (allowance whole traffic ≤ as_nanos gone)) }
+        ensures over { IfSome self.now.whole (λ whole. IsNone result
+            ↔ (allowance whole traffic ≤ as_nanos gone)) }
         ensures left { IfSome self.now.whole (λ whole. IfSome result (λ wait.
             as_nanos wait ≡ min (as_nanos self.now.call) (allowance whole traffic - as_nanos gone))) }
     {

@@ -13,8 +13,8 @@ use dr_base::Failed;
 use std::alloc::{AllocError, Global};
 use std::marker::Model;
 
-/// A door whose connections hold parts of one list of bytes, and take bytes into one stated room. Before the first connection
-/// it holds nothing. It remembers the port that it waits at.
+/// A door whose connections hold parts of one list of bytes, and take bytes into one stated room.
+/// Before the first connection it holds nothing. It remembers the port that it waits at.
 #[derive(Drop)]
 pub struct MemoryDoor {
     pipe: MemoryPipe,
@@ -34,9 +34,9 @@ impl Model for MemoryDoor {
 }
 
 impl MemoryDoor {
-    /// A door whose n-th connection holds the bytes up to the n-th end, from the end before it on, and those past the last
-    /// end nothing. Listening and accepting fail at the calls of the numbers `fails`, receiving and sending at those of
-    /// `pipe_fails`, each counted from 1.
+    /// A door whose n-th connection holds the bytes up to the n-th end, from the end before it on,
+    /// and those past the last end nothing. Listening and accepting fail at the calls of the
+    /// numbers `fails`, receiving and sending at those of `pipe_fails`, each counted from 1.
     pub fn new(
         alloc: Global,
         bytes: &[u8],
@@ -92,7 +92,8 @@ impl MemoryDoor {
     fn go_on(&mut self)
         ensures pipe { let held = connection_of self.old.pipe.all self.old.ends self.old.next in
             self.new.pipe ≡ gone_on held self.old.pipe }
-        ensures next { (self.new.next ≡ self.old.next + 1) ⊎ ((self.new.next ≡ self.old.next) × (length self.old.ends ≡ self.old.next)) }
+        ensures next { (self.new.next ≡ self.old.next + 1) ⊎ ((self.new.next ≡ self.old.next)
+            × (length self.old.ends ≡ self.old.next)) }
         ensures ends { self.new.ends ≡ self.old.ends }
         ensures plan { self.new.plan ≡ self.old.plan }
         ensures port { self.new.port ≡ self.old.port }
@@ -131,7 +132,8 @@ impl Pipe for MemoryDoor {
     ghost ahead = { λ d. is_ahead d.pipe };
 
     fn receive(&mut self, into: &mut [u8]) -> Result<usize, Failed>
-        ensures receives { Receives (door_port_of self.old) (door_port_of self.new) (nobody self.old)
+        ensures receives { Receives (door_port_of self.old) (door_port_of self.new)
+            (nobody self.old)
             (nobody self.new) into.old into.new result }
         ensures gives { GivesMost self.old.pipe self.new.pipe into.old result }
         ensures stays { self.new ≡ record self.old { pipe = self.new.pipe } }
@@ -153,7 +155,11 @@ impl Door for MemoryDoor {
     fn listen(&mut self, at: u16) -> Result<(), Failed>
         ensures listens { Listens (door_port_of self.old) (door_port_of self.new) at result }
         ensures played { IsPlayed (IsDue self.old.plan) self.old.plan self.new.plan result }
-        ensures stays { self.new ≡ record self.old { plan = self.new.plan; port = self.new.port; stand = self.new.stand } }
+        ensures stays { self.new ≡ record self.old {
+          plan = self.new.plan;
+          port = self.new.port;
+          stand = self.new.stand;
+        } }
     {
         if self.plan.begin_call() {
             self.plan.count_fault();

@@ -15,8 +15,9 @@ use std::marker::Model;
 /// How many bytes an address has at most: a name of 255, a colon and a port.
 pub const ADDRESS_LIMIT: usize = 261;
 
-/// A link that holds bytes, whatever its address, and takes bytes into a stated room. Its plan counts openings, receives and
-/// sends together. It remembers where it connected, and opening fails at an address that has more bytes than `ADDRESS_LIMIT`.
+/// A link that holds bytes, whatever its address, and takes bytes into a stated room. Its plan
+/// counts openings, receives and sends together. It remembers where it connected, and opening fails
+/// at an address that has more bytes than `ADDRESS_LIMIT`.
 #[derive(Drop)]
 pub struct MemoryLink {
     pipe: MemoryPipe,
@@ -34,8 +35,8 @@ impl Model for MemoryLink {
 }
 
 impl MemoryLink {
-    /// A link that holds a copy of these bytes, has room for this many to be sent, and fails at the calls of these numbers,
-    /// counted from 1.
+    /// A link that holds a copy of these bytes, has room for this many to be sent, and fails at the
+    /// calls of these numbers, counted from 1.
     pub fn new(alloc: Global, bytes: &[u8], room: usize, fails: &[u64]) -> Result<Self, AllocError>
         ensures { IfOk result (λ link. link ≡ record {
           pipe = fresh bytes.now bytes.now room fails.now;
@@ -84,7 +85,8 @@ impl Pipe for MemoryLink {
     ghost ahead = { λ l. is_ahead l.pipe };
 
     fn receive(&mut self, into: &mut [u8]) -> Result<usize, Failed>
-        ensures receives { Receives (link_port_of self.old) (link_port_of self.new) (nobody self.old)
+        ensures receives { Receives (link_port_of self.old) (link_port_of self.new)
+            (nobody self.old)
             (nobody self.new) into.old into.new result }
         ensures gives { GivesMost self.old.pipe self.new.pipe into.old result }
     {

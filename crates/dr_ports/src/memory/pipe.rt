@@ -13,8 +13,8 @@ use dr_base::Failed;
 use std::alloc::{AllocError, Global};
 use std::marker::Model;
 
-/// A pipe that holds bytes, and takes bytes into a stated room. It fails at the calls that its plan names, and where it has
-/// no room for the first byte.
+/// A pipe that holds bytes, and takes bytes into a stated room. It fails at the calls that its plan
+/// names, and where it has no room for the first byte.
 #[derive(Drop)]
 pub struct MemoryPipe {
     bytes: Vec<u8>,
@@ -44,8 +44,8 @@ impl Model for MemoryPipe {
 }
 
 impl MemoryPipe {
-    /// A pipe that holds a copy of these bytes, has room for this many to be sent, and fails at the calls of these numbers,
-    /// counted from 1.
+    /// A pipe that holds a copy of these bytes, has room for this many to be sent, and fails at the
+    /// calls of these numbers, counted from 1.
     pub fn new(alloc: Global, bytes: &[u8], room: usize, fails: &[u64]) -> Result<Self, AllocError>
         ensures { IfOk result (λ pipe. pipe ≡ fresh bytes.now bytes.now room fails.now) }
     {

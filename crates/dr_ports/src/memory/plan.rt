@@ -7,8 +7,8 @@ ghost use Rattle.dr_ports.specs.Memory.{Plan, IsDue, planned};
 use std::alloc::{AllocError, Global};
 use std::marker::Model;
 
-/// The numbers, from 1, of the calls that are to fail, with a count of the calls and one of the faults.
-/// Both counts stop at the end of their type.
+/// The numbers, from 1, of the calls that are to fail, with a count of the calls and one of the
+/// faults. Both counts stop at the end of their type.
 #[derive(Drop)]
 pub struct CallPlan {
     fails: Vec<u64>,

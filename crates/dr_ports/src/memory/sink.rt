@@ -10,8 +10,8 @@ use dr_base::Failed;
 use std::alloc::{AllocError, Global};
 use std::marker::Model;
 
-/// A sink with a stated room. It fails at the calls that its plan names, and where it has no room for the
-/// first byte.
+/// A sink with a stated room. It fails at the calls that its plan names, and where it has no room
+/// for the first byte.
 #[derive(Drop)]
 pub struct MemorySink {
     bytes: Vec<u8>,
@@ -28,7 +28,8 @@ impl Model for MemorySink {
 }
 
 impl MemorySink {
-    /// An empty sink with room for this many bytes, which fails at the calls of these numbers, counted from 1.
+    /// An empty sink with room for this many bytes, which fails at the calls of these numbers,
+    /// counted from 1.
     pub fn new(alloc: Global, room: usize, fails: &[u64]) -> Result<Self, AllocError>
         ensures { IfOk result (λ sink.
             sink ≡ record { taken = []; room = room; plan = planned fails.now }) }

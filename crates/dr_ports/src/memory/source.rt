@@ -84,7 +84,8 @@ impl Model for MemorySource {
 }
 
 impl MemorySource {
-    /// A source that holds a copy of these bytes, and fails at the calls of these numbers, counted from 1.
+    /// A source that holds a copy of these bytes, and fails at the calls of these numbers, counted
+    /// from 1.
     pub fn new(alloc: Global, bytes: &[u8], fails: &[u64]) -> Result<Self, AllocError>
         ensures { IfOk result (λ source.
             source ≡ record { left = bytes.now; plan = planned fails.now }) }
