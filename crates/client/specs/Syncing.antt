@@ -1,6 +1,5 @@
 pub mod Lines
 pub mod Parties
-pub mod Links
 pub mod Moments
 pub mod Rounds
 pub mod SoFar

@@ -3,7 +3,6 @@
 ghost use Rattle.std.specs.Prelude.{◌≡◌, ◌+◌, ◌*◌, ◌≤◌, ◌<◌, [], ◌++◌, length, map, nat_lt, take, IfOk};
 ghost use Rattle.relay_core.specs.Boxes.{empty_box};
 ghost use Rattle.relay_core.specs.declared.limits.TheConstants.{EXCHANGE_LIMIT};
-ghost use Rattle.relay_wire.specs.Lending.{IsWhole};
 ghost use Rattle.relay_link.specs.Desks.{HasAnswered, after_frame, fresh};
 ghost use Rattle.relay_link.specs.declared.limits.TheConstants.{REPLY_LIMIT};
 
@@ -88,7 +87,6 @@ impl Desk {
 
     /// Answers a frame.
     pub(crate) fn answer(&mut self, frame: &Frame<'_>)
-        requires { IsWhole frame.now }
         ensures { self.new ≡ after_frame self.old frame.now.bytes.now }
     {
         if self.left == 0 {

@@ -1,8 +1,8 @@
 -- A request is sent, and its reply awaited.
-use Rattle.std.specs.Prelude.{◌≡◌, ◌++◌, ℕ, List, length, drop, Result, Ok, Err}
+use Rattle.std.specs.Prelude.{◌≡◌, ◌≤◌, ◌++◌, ℕ, List, length, drop, Result, Ok, Err}
 use Rattle.relay_wire.specs.Framed.{request_frame, reply_text}
 use Rattle.dr_ports.specs.Ports.{Rose}
-use Rattle.dr_ports.specs.declared.pipe.Part.TheVariants.{Flow}
+use Rattle.dr_ports.specs.declared.pipe.Part.TheVariants.{Flow, Gate}
 use Rattle.dr_ports.specs.Wires.{Port, EndsAt}
 use Rattle.relay_wire.specs.Frames.{Held, IsFrame, IsPartial}
 use Rattle.relay_wire.specs.Requests.{Asked}
@@ -27,6 +27,13 @@ abbrev pub peer_fault : BadReply → PeerFault
 peer_fault NoFrame = fault_at 0 Frame
 peer_fault NoKind = fault_at 2 Kind
 peer_fault NoSize = fault_at 3 Size
+
+-- No count of its faults falls, no connection failed to begin, and behind it stands what stood
+-- there.
+pub record LeavesLink {L B : Type 0} (port : L → Port) (behind : L → B) (old new : L) : Type 0 where
+  pub flow : (port old).faults Flow ≤ (port new).faults Flow
+  pub gate : (port new).faults Gate ≡ (port old).faults Gate
+  pub stands : behind new ≡ behind old
 
 -- the reply was read
 pub record IsReplied (asked : Asked) (reply : Replied) (start now : Port) : Type 0 where

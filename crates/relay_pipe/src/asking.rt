@@ -1,12 +1,10 @@
 //! A request, and its reply.
 
 ghost use Rattle.std.specs.Prelude.{◌≡◌, ◌≤◌, [], Err, IfErr, IfOk, OnOk, drop, length, take};
-ghost use Rattle.dr_ports.specs.declared.pipe.Part.TheVariants.{Flow, Gate};
-ghost use Rattle.relay_pipe.specs.Asking.{Asks, FailsToAsk, IsPulled};
+ghost use Rattle.relay_pipe.specs.Asking.{Asks, FailsToAsk, IsPulled, LeavesLink};
 ghost use Rattle.relay_wire.specs.Frames.{IsFrame};
 ghost use Rattle.relay_wire.specs.Framed.{reply_text, request_frame};
 ghost use Rattle.relay_wire.specs.Replies.{IsLawfulReplied, read_reply};
-ghost use Rattle.relay_wire.specs.Lending.{IsWhole};
 ghost use Rattle.relay_wire.specs.Seen.{IsReplyLaid, asked_of, replied_of};
 ghost use Rattle.relay_wire.specs.declared.limits.TheConstants.{FRAME_LIMIT};
 
@@ -29,8 +27,7 @@ fn written(request: &Request<'_>, room: &mut [u8]) -> usize
 
 /// The reply of a frame, whose bytes these are.
 fn read<'a>(frame: &Frame<'a>, bytes: &[u8]) -> Result<Reply<'a>, BadReply>
-    requires same { bytes.now ≡ frame.now.bytes.now }
-    requires whole { IsWhole frame.now }
+    requires { bytes.now ≡ frame.now.bytes.now }
     ensures reply { IfOk result (λ reply. bytes.now ≡ reply_text (replied_of reply)) }
     ensures lawful { IfOk result (λ reply. IsLawfulReplied (replied_of reply)) }
     ensures laid { IfOk result (λ reply. IsReplyLaid reply 11 frame.now.bytes.now frame.now.place) }
@@ -51,12 +48,12 @@ fn read_next(reader: &mut FrameReader) -> Result<Reply<'_>, BadReply>
     ensures bad { IfErr result (λ bad. read_reply (drop 2 reader.old.bytes) ≡ Err bad) }
 {
     match reader.next() {
-        Some(frame) => read(&frame, frame.bytes),
+        Some(frame) => read(&frame, frame.bytes()),
         None => unreachable!(),
     }
 }
 
-/// Sends a request, and pulls its reply through this room.
+/// Sends a request by way of this room, and pulls its reply.
 fn exchange<P: Pipe>(
     pipe: &mut P,
     reader: &mut FrameReader,
@@ -69,16 +66,14 @@ fn exchange<P: Pipe>(
         (IsPulled (asked_of request.now) reader.new (P.port pipe.old) (P.port pipe.new)) }
     ensures fails { IfErr result
         (FailsToAsk (asked_of request.now) (P.port pipe.old) (P.port pipe.new)) }
-    ensures later { (P.port pipe.old).faults Flow ≤ (P.port pipe.new).faults Flow }
-    ensures gate { (P.port pipe.new).faults Gate ≡ (P.port pipe.old).faults Gate }
-    ensures same { P.behind pipe.new ≡ P.behind pipe.old }
+    ensures link { LeavesLink P.port P.behind pipe.old pipe.new }
 {
     let size = written(request, room);
     match send_all(pipe, &room[..size]) {
         Err(Failed) => return Err(AskFault::Pipe),
         Ok(()) => {}
     }
-    match pull(reader, pipe, room) {
+    match pull(reader, pipe) {
         Err(Failed) => Err(AskFault::Pipe),
         Ok(false) => Err(AskFault::Peer(PeerFault {
             at: reader.held(),
@@ -98,9 +93,7 @@ pub fn ask<'a, P: Pipe>(
 ) -> Result<Reply<'a>, AskFault>
     ensures asks { Asks (asked_of request.now) (P.port pipe.old) (P.port pipe.new) result }
     ensures laid { IfOk result (λ reply. IsReplyLaid reply 11 (reply_text (replied_of reply)) 0) }
-    ensures later { (P.port pipe.old).faults Flow ≤ (P.port pipe.new).faults Flow }
-    ensures gate { (P.port pipe.new).faults Gate ≡ (P.port pipe.old).faults Gate }
-    ensures same { P.behind pipe.new ≡ P.behind pipe.old }
+    ensures link { LeavesLink P.port P.behind pipe.old pipe.new }
 {
     let mut room = [0; FRAME_LIMIT];
     reader.clear();

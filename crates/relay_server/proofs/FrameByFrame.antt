@@ -16,7 +16,7 @@ use Rattle.relay_server.specs.declared.serving.ServeFault.TheVariants.{Read, Wri
 use Rattle.relay_server.specs.declared.serving.Round.{Round}
 use Rattle.relay_server.specs.declared.serving.Round.TheVariants.{AtEnd, Answered}
 use Rattle.relay_server.specs.Durable.{IsReady, ServerNow}
-use Rattle.relay_server.specs.Serving.{Came, Idle, Rounds, SoFar, reply_to}
+use Rattle.relay_server.specs.Serving.{Came, Idle, LeavesCounts, Rounds, SoFar, reply_to}
 use Rattle.relay_server.specs.FrameByFrame.{AreAnswered, IsAtRest, IsServedInOrder, after_frames, broke_off_in, ended_behind, none_yet, one_more}
 use Rattle.relay_server.proofs.Serve.{with_frame}
 use Rattle.relay_server.proofs.Ends.{frames_are, total_frames, whole_frames}
@@ -43,6 +43,9 @@ module _ {X Y : Type 0} (state : X → DiskState) (port : Y → Port) (text : Bo
 
     abbrev Goes : Result Ended ServeFault → Type 0
     Goes result = IsServedInOrder state port text old new start next from later result
+
+    abbrev Counts : Result Ended ServeFault → Type 0
+    Counts result = LeavesCounts state port start next from later result
 
     abbrev CameWith : List ℕ → List ℕ → Type 0
     CameWith frame put = Came text frame put server.boxes new.boxes (port pipe) (port later) (state disk) (state next)
@@ -72,54 +75,60 @@ module _ {X Y : Type 0} (state : X → DiskState) (port : Y → Port) (text : Bo
         got new.boxes (port later) (state next) idle))
         answered
 
-    pub order_fault : (fault : ServeFault) → IsQuiet (state start) (state disk) → Went (Err fault) → Goes (Err fault)
-    order_fault Read quiet r = record {
+    pub order_fault : (fault : ServeFault) → IsQuiet (state start) (state disk) → Counts (Err fault) → Went (Err fault) → Goes (Err fault)
+    order_fault Read quiet counts r = record {
       served = exit_fault text old server new (port from) (port pipe) (port later) (state start) (state disk) (state next) n
           so under Read quiet r;
       in_order = ended_behind server.boxes disk pipe r.0 (answered_all r.0 r.1) r.1.exchanges r.1.still
           (at_rest text server.boxes new (state next) r.1.same r.3);
+      counts = counts;
     }
-    order_fault Write quiet r = record {
+    order_fault Write quiet counts r = record {
       served = exit_fault text old server new (port from) (port pipe) (port later) (state start) (state disk) (state next) n
           so under Write quiet r;
       in_order = broke_off_in so.frames r.0 r.1 r.2 server.boxes new.boxes disk pipe (frames_with r.0 r.1 r.3) answered r.3
           (after_one r.0 r.1 r.3) r.4 (inr (at_rest text new.boxes new (state next) refl r.6));
+      counts = counts;
     }
-    order_fault (Store call) quiet r = record {
+    order_fault (Store call) quiet counts r = record {
       served = exit_fault text old server new (port from) (port pipe) (port later) (state start) (state disk) (state next) n
           so under (Store call) quiet r;
       in_order = broke_off_in so.frames r.0 [] (reply_to server.boxes r.0) server.boxes new.boxes disk pipe
           (frames_with r.0 [] r.1) answered r.1 (after_one r.0 [] r.1) refl (inl refl);
+      counts = counts;
     }
 
-    pub order_end : (ended : Ended) → ended.answered ≡ n → IsQuiet (state start) (state next) → Went (Ok AtEnd) → Goes (Ok ended)
-    order_end ended is quiet r = record {
+    pub order_end : (ended : Ended) → ended.answered ≡ n → Counts (Ok ended) → Went (Ok AtEnd) → Goes (Ok ended)
+    order_end ended is counts r = record {
       served = exit_end text old server new (port from) (port pipe) (port later) (state start) (state disk) (state next) n
-          so under ended is quiet r;
+          so under ended is counts.quiet r;
       in_order = ended_behind server.boxes disk pipe r.0 (answered_all r.0 r.1) r.1.exchanges r.1.still
           (at_rest text server.boxes new (state next) r.1.same r.3);
+      counts = counts;
     }
 
-    pub order_last : (ended : Ended) (last : Bool) → ended.answered ≡ n + 1 → last ≡ true → IsQuiet (state start) (state next)
+    pub order_last : (ended : Ended) (last : Bool) → ended.answered ≡ n + 1 → last ≡ true → Counts (Ok ended)
         → Went (Ok (Answered last)) → Goes (Ok ended)
-    order_last ended last is is_last quiet r = record {
+    order_last ended last is is_last counts r = record {
       served = exit_last text old server new (port from) (port pipe) (port later) (state start) (state disk) (state next) n
-          so under ended last is is_last quiet r;
+          so under ended last is is_last counts.quiet r;
       in_order = ended_behind new.boxes next later []
           (subst (λ (fs : List (List ℕ)). AreAnswered state port text old.boxes start from fs new.boxes next later)
           (sym (frames_with r.0 (reply_to server.boxes r.0) r.1)) (answered_on last r))
           (nothing_yet (port later)) (stays (state next) _) (at_rest text new.boxes new (state next) refl r.3);
+      counts = counts;
     }
 
   pub order_full : (old server : ServerNow) (from pipe : Y) (start disk : X) (n : ℕ)
       (so : SoFar text EXCHANGE_LIMIT old server.boxes (port from) (port pipe) (state start) (state disk) n)
       → AreAnswered state port text old.boxes start from so.frames server.boxes disk pipe → n ≡ EXCHANGE_LIMIT
-      → IsReady text server (state disk) → IsQuiet (state start) (state disk) → (ended : Ended)
+      → IsReady text server (state disk) → (ended : Ended) → LeavesCounts {E = ServeFault} state port start disk from pipe (Ok ended)
       → ended.answered ≡ EXCHANGE_LIMIT → IsServedInOrder state port text old server start disk from pipe (Ok ended)
-  order_full old server from pipe start disk n so answered full ready quiet ended is = record {
-    served = exit_full text old server (port from) (port pipe) (state start) (state disk) n so full ready quiet ended is;
+  order_full old server from pipe start disk n so answered full ready ended counts is = record {
+    served = exit_full text old server (port from) (port pipe) (state start) (state disk) n so full ready counts.quiet ended is;
     in_order = ended_behind server.boxes disk pipe []
         (subst (λ (fs : List (List ℕ)). AreAnswered state port text old.boxes start from fs server.boxes disk pipe)
         (sym (frames_are text old server.boxes (port from) (port pipe) (state start) (state disk) n so)) answered)
         (nothing_yet (port pipe)) (stays (state disk) _) (at_rest text server.boxes server (state disk) refl ready);
+    counts = counts;
   }

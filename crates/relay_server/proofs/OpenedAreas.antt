@@ -18,7 +18,7 @@ use Rattle.slot_store.specs.Records.{recovered}
 use Rattle.slot_store.specs.Store.{Rests, SlotStore, content}
 use Rattle.relay_server.specs.Areas.{AreAtRest, AreOpened, AreRefused, HasLooked, IsAreaOpened, IsAreaRefused, IsLikeEntry, reading_of}
 use Rattle.relay_server.specs.Places.{SameBehind, area_of}
-use Rattle.relay_server.specs.Opening.{IsFirstDamaged, IsWhole, OfRead, area_read, box_fault}
+use Rattle.relay_server.specs.Opening.{IsFirstDamaged, IsUnopened, IsWhole, OfRead, area_read, box_fault}
 use Rattle.relay_server.specs.declared.errors.ServerOpenError.{ServerOpenError}
 use Rattle.relay_server.specs.declared.errors.ServerOpenError.TheVariants.{BoxName, Damaged, Memory, StoreFault}
 use Rattle.relay_server.proofs.Behind.{area_apart, behind_more, behind_one, behind_self, behind_twice}
@@ -58,6 +58,13 @@ pushed (z ∷ xs) x y (suc k) is = ⊎_elim (λ old. inl old) (λ new. inr (ap s
 -- no call was made
 pub unlooked : (count : ℕ) (start : DiskState) → HasLooked count start start
 unlooked count start = record { during = stays start (IsLikeEntry count start); still = λ rest. record { seen = refl; images = λ c left. left } }
+
+-- why no area was opened is why no server is
+pub unopened : (names : List (List ℕ)) (start now : DiskState) (error : ServerOpenError) → AreRefused (length names) start now error → IsUnopened names start now error
+unopened names start now Memory is = is
+unopened names start now (StoreFault call) is = is
+unopened names start now (Damaged area slot at) is = is
+unopened names start now (BoxName k) is = absurd is
 
 -- no area was opened yet
 pub none_opened : (count : ℕ) (start : DiskState) (stores : List SlotStore) → stores ≡ [] → AreOpened 0 count stores start start

@@ -15,7 +15,7 @@ use Rattle.relay_core.specs.Record.{box_text}
 use Rattle.relay_core.specs.Streams.{Served, Told, asks, served_within, told}
 use Rattle.slot_store.specs.Store.{SlotStore}
 use Rattle.relay_server.specs.Durable.{IsReady, ServerNow, StandsFor}
-use Rattle.relay_server.specs.Serving.{Came, IsServed, reply_to}
+use Rattle.relay_server.specs.Serving.{Came, IsServed, LeavesCounts, reply_to}
 use Rattle.relay_server.specs.declared.serving.Ended.{Ended}
 use Rattle.relay_server.specs.declared.serving.ServeFault.{ServeFault}
 
@@ -57,11 +57,12 @@ pub data IsInOrder {X Y : Type 0} (state : X → DiskState) (port : Y → Port) 
       → (put ≡ []) ⊎ IsAtRest text after (state now)
       → IsInOrder state port text boxes got start now from door
 
--- one call of `serve`, as a whole and frame by frame
+-- one call of `serve`, as a whole and frame by frame, and what it counts
 pub record IsServedInOrder {X Y : Type 0} (state : X → DiskState) (port : Y → Port) (text : Box → List ℕ)
     (old new : ServerNow) (start now : X) (from door : Y) (result : Result Ended ServeFault) : Type 0 where
   pub served : IsServed text old new (port from) (port door) (state start) (state now) result
   pub in_order : IsInOrder state port text old.boxes served.got start now from door
+  pub counts : LeavesCounts state port start now from door result
 
 -- ---- a moment
 

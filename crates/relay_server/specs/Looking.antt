@@ -1,11 +1,13 @@
 -- The areas of a relay are looked at, and settled later.
-use Rattle.std.specs.Prelude.{◌≡◌, ℕ, List}
+use Rattle.std.specs.Prelude.{◌≡◌, ℕ, List, length, Result, IfErr, IfOk}
 use Rattle.dr_disk.specs.Spans.{IsQuiet}
 use Rattle.dr_disk.specs.State.{DiskState}
 use Rattle.relay_core.specs.Record.{box_text}
+use Rattle.relay_server.specs.Areas.{HasLooked}
 use Rattle.relay_server.specs.Durable.{IsReady, ServerNow}
 use Rattle.relay_server.specs.Filling.{AreFilled}
-use Rattle.relay_server.specs.Opening.{AreRead}
+use Rattle.relay_server.specs.Opening.{AreRead, IsUnopened}
+use Rattle.relay_server.specs.declared.errors.ServerOpenError.{ServerOpenError}
 
 -- each area has the record of its box, or none where the box is empty
 abbrev pub IsUnsettled : ServerNow → DiskState → Type 0
@@ -16,6 +18,13 @@ pub record IsLooked (names : List (List ℕ)) (server : ServerNow) (start now : 
   pub unsettled : IsUnsettled server now
   pub boxes : AreRead names server.boxes start
   pub quiet : IsQuiet start now
+
+-- A look at the areas of these names: what it gives, and what it does meanwhile and in each ending.
+pub record LooksAt (names : List (List ℕ)) (start now : DiskState)
+    (result : Result ServerNow ServerOpenError) : Type 0 where
+  pub looked : IfOk result (λ server. IsLooked names server start now)
+  pub unopened : IfErr result (IsUnopened names start now)
+  pub looks : HasLooked (length names) start now
 
 -- It was settled, and is ready with the same boxes.
 pub record HasSettled (looked server : ServerNow) (start now : DiskState) : Type 0 where

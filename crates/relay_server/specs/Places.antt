@@ -2,6 +2,7 @@
 use Rattle.std.specs.Prelude.{◌≡◌, ◌<◌, ◌≤◌, ◌*◌, ℕ, List, length, slice_index}
 use Rattle.dr_disk.specs.State.{DiskState}
 use Rattle.slot_store.specs.Areas.{Area, IsOutside}
+use Rattle.relay_core.specs.declared.limits.TheConstants.{RELAY_LIMIT}
 use Rattle.relay_server.specs.declared.limits.TheConstants.{AREA_SIZE, BOX_PAGES, RECORD_PAGES}
 
 -- how many bytes this many areas have
@@ -15,6 +16,11 @@ area_of k = record { start = areas_size k; pages = BOX_PAGES; most = RECORD_PAGE
 -- a disk has room for this many areas
 abbrev pub HasRoom : ℕ → DiskState → Type 0
 HasRoom n disk = areas_size n ≤ disk.size
+
+-- a relay has room for boxes of these names, and a disk for their areas
+pub record HasRoomFor (names : List (List ℕ)) (disk : DiskState) : Type 0 where
+  pub few : length names ≤ RELAY_LIMIT
+  pub within : HasRoom (length names) disk
 
 -- what lies in none of this many areas of the one is the same in the other
 pub record SameBehind (n : ℕ) (d c : List ℕ) : Type 0 where

@@ -1,16 +1,17 @@
 -- A connection that is served.
-use Rattle.std.specs.Prelude.{◌≡◌, ◌-◌, ◌≤◌, ℕ, List, [], ◌∷◌, ◌++◌, length, drop, flat_map, Some, Result, Ok, Err}
+use Rattle.std.specs.Prelude.{◌≡◌, ◌-◌, ◌≤◌, ℕ, List, [], ◌∷◌, ◌++◌, length, take, drop, flat_map, Some, Result, Ok, Err, IfOk, OnOk}
 use Rattle.std.specs.List.{AllByRecursion}
 use Rattle.dr_disk.specs.State.{DiskState, Always}
 use Rattle.dr_disk.specs.Spans.{IsQuiet, Span}
 use Rattle.dr_ports.specs.Ports.{Rose}
-use Rattle.dr_ports.specs.declared.pipe.Part.TheVariants.{Flow}
+use Rattle.dr_ports.specs.declared.pipe.Part.TheVariants.{Flow, Gate}
 use Rattle.dr_ports.specs.Wires.{Port, Told, EndsAt}
 pub use Rattle.relay_pipe.specs.Exchanging.{exchanged, Exchanges}
 use Rattle.relay_wire.specs.Requests.{read_request}
 use Rattle.relay_wire.specs.Replies.{reply_body}
 use Rattle.relay_wire.specs.Frames.{IsFrame, IsPartial, framed, frames_of}
 use Rattle.relay_core.specs.declared.limits.TheConstants.{EXCHANGE_LIMIT}
+use Rattle.relay_core.specs.declared.answering.Answered.{Answered as AnsweredFrame}
 use Rattle.relay_core.specs.Boxes.{Box, answers_read, box_of}
 use Rattle.relay_core.specs.Streams.{Exchange, prepend, served, served_within, reply_frame, reply_bytes, is_last, IsIsolated, asks, told}
 use Rattle.relay_core.specs.Alone.{box_after}
@@ -41,6 +42,23 @@ pub record Came (text : Box → List ℕ) (frame put : List ℕ) (old new : List
 
 abbrev pub reply_to : List Box → List ℕ → List ℕ
 reply_to boxes frame = framed (reply_body (answers_read boxes (read_request (drop 2 frame))).reply)
+
+-- the reply to a frame stands at the beginning of a room, which held `before` and holds `after`
+pub record HasReply {E : Type 0} (boxes : List Box) (frame before after : List ℕ)
+    (result : Result AnsweredFrame E) : Type 0 where
+  pub last : IfOk result (λ a. a.last ≡ is_last (read_request (drop 2 frame)))
+  pub len : IfOk result (λ a. a.len ≤ length before)
+  pub size : length after ≡ length before
+  pub reply : IfOk result (λ a. take a.len after ≡ reply_to boxes frame)
+
+-- No count of faults rose where it passed. Else the pipe's count of its flow may have risen, and
+-- that of its gate never.
+pub record LeavesCounts {D P T E : Type 0} (state : D → DiskState) (port : P → Port)
+    (start now : D) (from door : P) (result : Result T E) : Type 0 where
+  pub later : (port from).faults Flow ≤ (port door).faults Flow
+  pub flow : OnOk result ((port door).faults Flow ≡ (port from).faults Flow)
+  pub gate : (port door).faults Gate ≡ (port from).faults Gate
+  pub quiet : OnOk result (IsQuiet (state start) (state now))
 
 abbrev pub Rounds : (Box → List ℕ) → ServerNow → ServerNow → Port → Port → DiskState → DiskState → Result Round ServeFault → Type 0
 Rounds text old new start now dstart dnow (Ok AtEnd) = (got : List ℕ) × Idle got old.boxes new.boxes start now dstart dnow × EndsAt now × IsReady text new dnow

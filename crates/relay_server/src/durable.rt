@@ -2,23 +2,18 @@
 
 ghost use Rattle.std.specs.Prelude.{◌≡◌, ◌≢◌, ◌<◌, ◌≤◌, ◌+◌, ◌^◌, ℕ, List, length, take, drop, slice_get, Option, OnOk, IfOk, IfErr, is_ok, [], Bool};
 ghost use Rattle.dr_base.specs.Causes.{Rose};
-ghost use Rattle.dr_ports.specs.declared.pipe.Part.TheVariants.{Flow, Gate};
 ghost use Rattle.dr_disk.specs.State.{Always};
 ghost use Rattle.dr_disk.specs.Spans.{IsQuiet, Span};
 ghost use Rattle.slot_store.specs.Areas.{Fits};
 ghost use Rattle.slot_store.specs.Store.{IsWithin, Rests, SlotStore};
-ghost use Rattle.relay_wire.specs.Frames.{IsFrame, framed};
-ghost use Rattle.relay_wire.specs.Lending.{IsWhole};
+ghost use Rattle.relay_wire.specs.Frames.{IsFrame};
 ghost use Rattle.relay_wire.specs.Requests.{read_request};
-ghost use Rattle.relay_wire.specs.Replies.{reply_body};
 ghost use Rattle.relay_wire.specs.declared.limits.TheConstants.{FRAME_LIMIT};
 ghost use Rattle.relay_core.specs.Boxes.{answers_read};
 ghost use Rattle.relay_core.specs.Record.{box_text};
-ghost use Rattle.relay_core.specs.Streams.{is_last};
-ghost use Rattle.relay_server.specs.Durable.{IsReady, IsReplaced, StandsForEither};
-ghost use Rattle.relay_server.specs.Places.{IsSameBehind};
+ghost use Rattle.relay_server.specs.Durable.{IsReady, IsReplaced, LeavesBoxes};
 ghost use Rattle.relay_server.specs.FrameByFrame.{IsServedInOrder};
-ghost use Rattle.relay_server.specs.Serving.{Rounds};
+ghost use Rattle.relay_server.specs.Serving.{HasReply, LeavesCounts, Rounds};
 
 use crate::answering::write_text;
 use crate::serving::{Ended, Round, ServeFault};
@@ -82,25 +77,12 @@ impl DurableBoxes {
         out: &mut [u8],
     ) -> Result<Answered, Call>
         requires ready { IsReady box_text self.old (D.state disk.old) }
-        requires whole { IsWhole frame.now }
         requires room { FRAME_LIMIT ≤ length out.old }
         ensures next { self.new.boxes
             ≡ (answers_read self.old.boxes (read_request (drop 2 frame.now.bytes.now))).next }
-        ensures ready { OnOk result (IsReady box_text self.new (D.state disk.new)) }
-        ensures any_moment { Span (D.state disk.old) (D.state disk.new)
-            (λ c. StandsForEither box_text self.old.boxes self.new.boxes c
-            × IsSameBehind (length self.old.boxes) (D.state disk.old) c) }
-        ensures at_return { Always (StandsForEither box_text self.old.boxes self.new.boxes)
-            (D.state disk.new) }
-        ensures fault { IfErr result
-            (λ call. Rose ((D.state disk.old).faults call) ((D.state disk.new).faults call)) }
-        ensures quiet { OnOk result (IsQuiet (D.state disk.old) (D.state disk.new)) }
-        ensures last { IfOk result
-            (λ a. a.last ≡ is_last (read_request (drop 2 frame.now.bytes.now))) }
-        ensures len { IfOk result (λ a. a.len ≤ length out.old) }
-        ensures size { length out.new ≡ length out.old }
-        ensures reply { IfOk result (λ a. take a.len out.new ≡ framed (reply_body
-            (answers_read self.old.boxes (read_request (drop 2 frame.now.bytes.now))).reply)) }
+        ensures leaves { LeavesBoxes box_text self.old self.new (D.state disk.old)
+            (D.state disk.new) result }
+        ensures reply { HasReply self.old.boxes frame.now.bytes.now out.old out.new result }
     {
         locality();
         resting();
@@ -127,21 +109,9 @@ impl DurableBoxes {
         requires room { FRAME_LIMIT ≤ length out.old }
         ensures next { self.new.boxes
             ≡ (answers_read self.old.boxes (read_request (drop 2 reader.old.bytes))).next }
-        ensures ready { OnOk result (IsReady box_text self.new (D.state disk.new)) }
-        ensures any_moment { Span (D.state disk.old) (D.state disk.new)
-            (λ c. StandsForEither box_text self.old.boxes self.new.boxes c
-            × IsSameBehind (length self.old.boxes) (D.state disk.old) c) }
-        ensures at_return { Always (StandsForEither box_text self.old.boxes self.new.boxes)
-            (D.state disk.new) }
-        ensures fault { IfErr result
-            (λ call. Rose ((D.state disk.old).faults call) ((D.state disk.new).faults call)) }
-        ensures quiet { OnOk result (IsQuiet (D.state disk.old) (D.state disk.new)) }
-        ensures last { IfOk result
-            (λ a. a.last ≡ is_last (read_request (drop 2 reader.old.bytes))) }
-        ensures len { IfOk result (λ a. a.len ≤ length out.old) }
-        ensures size { length out.new ≡ length out.old }
-        ensures reply { IfOk result (λ a. take a.len out.new ≡ framed (reply_body
-            (answers_read self.old.boxes (read_request (drop 2 reader.old.bytes))).reply)) }
+        ensures leaves { LeavesBoxes box_text self.old self.new (D.state disk.old)
+            (D.state disk.new) result }
+        ensures reply { HasReply self.old.boxes reader.old.bytes out.old out.new result }
         ensures given { reader.new.bytes ≡ [] }
         ensures place { reader.new.place ≡ reader.old.place + length reader.old.bytes }
     {
@@ -157,25 +127,19 @@ impl DurableBoxes {
         disk: &mut D,
         pipe: &mut P,
         reader: &mut FrameReader,
-        piece: &mut [u8],
         out: &mut [u8],
     ) -> Result<Round, ServeFault>
         requires ready { IsReady box_text self.old (D.state disk.old) }
         requires fresh { reader.old.bytes ≡ [] }
         requires ends { reader.old.place + FRAME_LIMIT < 2 ^ 64 }
-        requires room { FRAME_LIMIT ≤ length piece.old }
-        requires out_room { FRAME_LIMIT ≤ length out.old }
-        ensures rounds { Rounds box_text self.old self.new (P.port pipe.old) (P.port pipe.new) (D.state disk.old) (D.state disk.new) result }
-        ensures later { (P.port pipe.old).faults Flow ≤ (P.port pipe.new).faults Flow }
-        ensures flow { OnOk result ((P.port pipe.new).faults Flow ≡ (P.port pipe.old).faults Flow) }
-        ensures gate { (P.port pipe.new).faults Gate ≡ (P.port pipe.old).faults Gate }
-        ensures quiet { OnOk result (IsQuiet (D.state disk.old) (D.state disk.new)) }
+        requires room { FRAME_LIMIT ≤ length out.old }
+        ensures rounds { Rounds box_text self.old self.new (P.port pipe.old) (P.port pipe.new)
+            (D.state disk.old) (D.state disk.new) result }
+        ensures counts { LeavesCounts D.state P.port disk.old disk.new pipe.old pipe.new result }
         ensures fresh { IfOk result (λ r. (last : Bool) → r ≡ Round.Answered last → reader.new.bytes ≡ []) }
         ensures place { reader.new.place ≤ reader.old.place + FRAME_LIMIT }
-        ensures piece { length piece.new ≡ length piece.old }
-        ensures out { length out.new ≡ length out.old }
     {
-        match pull(reader, pipe, piece) {
+        match pull(reader, pipe) {
             Err(Failed) => return Err(ServeFault::Read),
             Ok(false) => return Ok(Round::AtEnd),
             Ok(true) => {}
@@ -197,23 +161,16 @@ impl DurableBoxes {
         disk: &mut D,
         pipe: &mut P,
         reader: &mut FrameReader,
-        piece: &mut [u8],
         out: &mut [u8],
     ) -> Result<Ended, ServeFault>
         requires ready { IsReady box_text self.old (D.state disk.old) }
-        requires room { FRAME_LIMIT ≤ length piece.old }
-        requires out_room { FRAME_LIMIT ≤ length out.old }
-        ensures served { IsServedInOrder D.state P.port box_text self.old self.new disk.old disk.new pipe.old pipe.new result }
-        ensures later { (P.port pipe.old).faults Flow ≤ (P.port pipe.new).faults Flow }
-        ensures flow { OnOk result ((P.port pipe.new).faults Flow ≡ (P.port pipe.old).faults Flow) }
-        ensures gate { (P.port pipe.new).faults Gate ≡ (P.port pipe.old).faults Gate }
-        ensures quiet { OnOk result (IsQuiet (D.state disk.old) (D.state disk.new)) }
-        ensures piece { length piece.new ≡ length piece.old }
-        ensures out { length out.new ≡ length out.old }
+        requires room { FRAME_LIMIT ≤ length out.old }
+        ensures { IsServedInOrder D.state P.port box_text self.old self.new disk.old disk.new
+            pipe.old pipe.new result }
     {
         reader.clear();
         'rounds: for answered in 0..EXCHANGE_LIMIT as u32 {
-            match self.round(disk, pipe, reader, piece, out) {
+            match self.round(disk, pipe, reader, out) {
                 Err(fault) => return Err(fault),
                 Ok(Round::AtEnd) => return Ok(Ended { answered }),
                 Ok(Round::Answered(last)) => {

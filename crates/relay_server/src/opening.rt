@@ -1,15 +1,13 @@
 //! A relay's boxes are opened from a disk: a look, and then a settling.
 
-ghost use Rattle.std.specs.Prelude.{◌≡◌, ◌≤◌, map, length, IfErr, IfOk, OnOk};
-ghost use Rattle.dr_base.specs.Causes.{Rose};
+ghost use Rattle.std.specs.Prelude.{◌≡◌, ◌≤◌, map, length, IfOk, OnOk};
 ghost use Rattle.dr_disk.specs.Spans.{Span};
 ghost use Rattle.relay_core.specs.Boxes.{empty_box};
-ghost use Rattle.relay_core.specs.declared.limits.TheConstants.{RECORD_LIMIT, RELAY_LIMIT};
-ghost use Rattle.relay_server.specs.Areas.{HasLooked};
+ghost use Rattle.relay_core.specs.declared.limits.TheConstants.{RECORD_LIMIT};
+ghost use Rattle.relay_server.specs.Durable.{FailsByCall};
 ghost use Rattle.relay_server.specs.Filling.{IsFilling};
-ghost use Rattle.relay_server.specs.Looking.{HasSettled, IsLooked, IsUnsettled};
-ghost use Rattle.relay_server.specs.Opening.{IsUnopened};
-ghost use Rattle.relay_server.specs.Places.{HasRoom};
+ghost use Rattle.relay_server.specs.Looking.{HasSettled, IsUnsettled, LooksAt};
+ghost use Rattle.relay_server.specs.Places.{HasRoomFor};
 
 use crate::areas::open_areas;
 use crate::durable::DurableBoxes;
@@ -41,12 +39,8 @@ impl DurableBoxes {
         disk: &mut D,
         names: &[Name],
     ) -> Result<DurableBoxes, ServerOpenError>
-        requires few { length names.now ≤ RELAY_LIMIT }
-        requires within { HasRoom (length names.now) (D.state disk.old) }
-        ensures looked { IfOk result (λ boxes. IsLooked names.now boxes (D.state disk.old) (D.state disk.new)) }
-        ensures unopened { IfErr result (IsUnopened names.now (D.state disk.old) (D.state disk.new)) }
-        // Meanwhile, and in each ending.
-        ensures looks { HasLooked (length names.now) (D.state disk.old) (D.state disk.new) }
+        requires { HasRoomFor names.now (D.state disk.old) }
+        ensures { LooksAt names.now (D.state disk.old) (D.state disk.new) result }
     {
         locality();
         readings();
@@ -76,7 +70,7 @@ impl DurableBoxes {
         requires { IsUnsettled self.old (D.state disk.old) }
         ensures settled { OnOk result (HasSettled self.old self.new (D.state disk.old) (D.state disk.new)) }
         ensures any_moment { Span (D.state disk.old) (D.state disk.new) (IsFilling self.old.boxes (D.state disk.old)) }
-        ensures fault { IfErr result (λ call. Rose ((D.state disk.old).faults call) ((D.state disk.new).faults call)) }
+        ensures fault { FailsByCall (D.state disk.old) (D.state disk.new) result }
     {
         fill_areas(&self.relay, &mut self.stores, &mut self.text, disk)
     }

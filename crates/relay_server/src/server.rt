@@ -1,17 +1,13 @@
 //! A server: its boxes, and the room for one connection.
 
-ghost use Rattle.std.specs.Prelude.{◌≡◌, ◌≤◌, length, IfErr, IfOk, OnOk};
-ghost use Rattle.dr_base.specs.Causes.{Rose};
-ghost use Rattle.dr_disk.specs.Spans.{IsQuiet, Span};
-ghost use Rattle.dr_ports.specs.declared.pipe.Part.TheVariants.{Flow, Gate};
+ghost use Rattle.std.specs.Prelude.{◌≡◌, ◌≤◌, length, IfErr, IfOk};
+ghost use Rattle.dr_disk.specs.Spans.{Span};
 ghost use Rattle.relay_core.specs.Record.{box_text};
-ghost use Rattle.relay_core.specs.declared.limits.TheConstants.{RELAY_LIMIT};
-ghost use Rattle.relay_server.specs.Areas.{HasLooked};
-ghost use Rattle.relay_server.specs.Durable.{IsReady};
+ghost use Rattle.relay_server.specs.Durable.{FailsByCall, IsReady};
 ghost use Rattle.relay_server.specs.Filling.{IsFilling};
-ghost use Rattle.relay_server.specs.Looking.{HasSettled, IsLooked, IsUnsettled};
+ghost use Rattle.relay_server.specs.Looking.{HasSettled, IsUnsettled, LooksAt};
 ghost use Rattle.relay_server.specs.Opening.{IsOpened, IsOpening, IsUnopened};
-ghost use Rattle.relay_server.specs.Places.{HasRoom};
+ghost use Rattle.relay_server.specs.Places.{HasRoomFor};
 ghost use Rattle.relay_server.specs.FrameByFrame.{IsServedInOrder};
 ghost use Rattle.relay_wire.specs.declared.limits.TheConstants.{FRAME_LIMIT};
 
@@ -30,7 +26,6 @@ use std::marker::Model;
 pub struct Server {
     boxes: DurableBoxes,
     reader: FrameReader,
-    piece: Vec<u8>,
     out: Vec<u8>,
 }
 
@@ -43,7 +38,7 @@ impl Model for Server {
 
     ghost view = { λ s. s.boxes };
 
-    ghost invariant = { λ s. (length s.piece.items ≡ FRAME_LIMIT) × (length s.out.items ≡ FRAME_LIMIT) };
+    ghost invariant = { λ s. length s.out.items ≡ FRAME_LIMIT };
 }
 
 /// A server that looked at its areas and put nothing yet. A contract sees what it sees of a server.
@@ -66,7 +61,7 @@ impl Looked {
         requires { IsUnsettled self (D.state disk.old) }
         ensures settled { IfOk result (λ server. HasSettled self server (D.state disk.old) (D.state disk.new)) }
         ensures any_moment { Span (D.state disk.old) (D.state disk.new) (IsFilling self.boxes (D.state disk.old)) }
-        ensures fault { IfErr result (λ call. Rose ((D.state disk.old).faults call) ((D.state disk.new).faults call)) }
+        ensures fault { FailsByCall (D.state disk.old) (D.state disk.new) result }
     {
         let mut server = self.server;
         match server.boxes.settle(disk) {
@@ -98,17 +93,10 @@ impl Server {
         disk: &mut D,
         names: &[Name],
     ) -> Result<Looked, ServerOpenError>
-        requires few { length names.now ≤ RELAY_LIMIT }
-        requires within { HasRoom (length names.now) (D.state disk.old) }
-        ensures looked { IfOk result (λ looked. IsLooked names.now looked (D.state disk.old) (D.state disk.new)) }
-        ensures unopened { IfErr result (IsUnopened names.now (D.state disk.old) (D.state disk.new)) }
-        // Meanwhile, and in each ending.
-        ensures looks { HasLooked (length names.now) (D.state disk.old) (D.state disk.new) }
+        requires { HasRoomFor names.now (D.state disk.old) }
+        ensures { LooksAt names.now (D.state disk.old) (D.state disk.new) result }
     {
         let Ok(reader) = FrameReader::new(alloc) else {
-            return Err(ServerOpenError::Memory);
-        };
-        let Ok(piece) = frame_room(alloc) else {
             return Err(ServerOpenError::Memory);
         };
         let Ok(out) = frame_room(alloc) else {
@@ -116,12 +104,7 @@ impl Server {
         };
         match DurableBoxes::look(alloc, disk, names) {
             Ok(boxes) => Ok(Looked {
-                server: Server {
-                    boxes,
-                    reader,
-                    piece,
-                    out,
-                },
+                server: Server { boxes, reader, out },
             }),
             Err(error) => Err(error),
         }
@@ -137,8 +120,7 @@ impl Server {
         disk: &mut D,
         names: &[Name],
     ) -> Result<Server, ServerOpenError>
-        requires few { length names.now ≤ RELAY_LIMIT }
-        requires within { HasRoom (length names.now) (D.state disk.old) }
+        requires { HasRoomFor names.now (D.state disk.old) }
         ensures opened { IfOk result (λ server. IsOpened names.now server (D.state disk.old) (D.state disk.new)) }
         ensures unopened { IfErr result (IsUnopened names.now (D.state disk.old) (D.state disk.new)) }
         // Meanwhile, and in each ending.
@@ -163,12 +145,10 @@ impl Server {
         pipe: &mut P,
     ) -> Result<Ended, ServeFault>
         requires { IsReady box_text self.old (D.state disk.old) }
-        ensures served { IsServedInOrder D.state P.port box_text self.old self.new disk.old disk.new pipe.old pipe.new result }
-        ensures later { (P.port pipe.old).faults Flow ≤ (P.port pipe.new).faults Flow }
-        ensures flow { OnOk result ((P.port pipe.new).faults Flow ≡ (P.port pipe.old).faults Flow) }
-        ensures gate { (P.port pipe.new).faults Gate ≡ (P.port pipe.old).faults Gate }
-        ensures quiet { OnOk result (IsQuiet (D.state disk.old) (D.state disk.new)) }
+        ensures { IsServedInOrder D.state P.port box_text self.old self.new disk.old disk.new
+            pipe.old pipe.new result }
     {
-        self.boxes.serve(disk, pipe, &mut self.reader, &mut self.piece, &mut self.out)
+        self.boxes
+            .serve(disk, pipe, &mut self.reader, &mut self.out)
     }
 }

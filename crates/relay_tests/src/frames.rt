@@ -2,7 +2,6 @@
 //! nothing.
 
 ghost use Rattle.std.specs.Prelude.{◌≡◌, ◌<◌, ◌^◌, [], length};
-ghost use Rattle.relay_wire.specs.Lending.{IsWhole};
 
 use relay_wire::{
     Ask, Bad, BadReply, Frame, FrameReader, Name, Reply, Request, parse_reply, parse_request,
@@ -64,9 +63,7 @@ fn is_asked(request: &Request<'_>, bytes: &[u8]) -> bool {
 }
 
 /// Whether a frame of these bytes is a request, written so again, or has this kind of fault.
-fn is_request(frame: &Frame<'_>, bytes: &[u8], kind: u8) -> bool
-    requires { IsWhole frame.now }
-{
+fn is_request(frame: &Frame<'_>, bytes: &[u8], kind: u8) -> bool {
     match parse_request(frame) {
         Ok(request) => kind == 0 && is_asked(&request, bytes),
         Err(bad) => bad == Bad { kind },
@@ -117,9 +114,7 @@ fn is_replied(reply: &Reply<'_>, bytes: &[u8]) -> bool {
 }
 
 /// Whether a frame of these bytes is a reply, written so again, or none for this reason.
-fn is_reply(frame: &Frame<'_>, bytes: &[u8], bad: Option<BadReply>) -> bool
-    requires { IsWhole frame.now }
-{
+fn is_reply(frame: &Frame<'_>, bytes: &[u8], bad: Option<BadReply>) -> bool {
     match parse_reply(frame) {
         Ok(reply) => bad.is_none() && is_replied(&reply, bytes),
         Err(reason) => bad == Some(reason),
@@ -174,11 +169,9 @@ fn lies(request: &Request<'_>, name: u64, packet: u64, bytes: &[u8]) -> bool {
 }
 
 /// Whether a frame is at this place, and a request that lies so in its stream.
-fn is_placed(frame: &Frame<'_>, place: u64, name: u64, packet: u64, bytes: &[u8]) -> bool
-    requires { IsWhole frame.now }
-{
+fn is_placed(frame: &Frame<'_>, place: u64, name: u64, packet: u64, bytes: &[u8]) -> bool {
     match parse_request(frame) {
-        Ok(request) => frame.place == place && lies(&request, name, packet, bytes),
+        Ok(request) => frame.place() == place && lies(&request, name, packet, bytes),
         Err(_) => false,
     }
 }
@@ -192,7 +185,7 @@ fn are_placed(reader: &mut FrameReader) -> bool
         return false;
     }
     let taken = reader.feed(STREAM);
-    if !matches!(reader.next(), Some(frame) if frame.place == 0) {
+    if !matches!(reader.next(), Some(frame) if frame.place() == 0) {
         return false;
     }
     let _rest = reader.feed(&STREAM[taken..]);

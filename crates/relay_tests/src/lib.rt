@@ -16,6 +16,8 @@ mod loopback;
 #[cfg(test)]
 mod mailboxes;
 #[cfg(test)]
+mod receiving;
+#[cfg(test)]
 mod records;
 #[cfg(test)]
 mod server;

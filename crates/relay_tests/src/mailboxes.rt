@@ -1,7 +1,6 @@
 //! A worked connection, cut at every place.
 
 ghost use Rattle.std.specs.Prelude.{◌≡◌, ◌<◌, ◌≤◌, ◌+◌, ◌^◌, length};
-ghost use Rattle.relay_wire.specs.Lending.{IsWhole};
 
 use relay_core::{Relay, answer_frame};
 use relay_wire::{Frame, FrameReader, Name};
@@ -18,9 +17,7 @@ const REPLIES: &[u8] = b"\x00\x01\x83\x00\x09\x81\x00\x00\x00\x00\x00\x00\x00\x0
     \x00\x01\x86\x00\x02\x88\x02\x00\x02\x88\x01";
 
 /// Appends the reply to a frame, and says whether the connection goes on.
-fn answer(relay: &mut Relay, frame: &Frame<'_>, replies: &mut Vec<u8>) -> bool
-    requires { IsWhole frame.now }
-{
+fn answer(relay: &mut Relay, frame: &Frame<'_>, replies: &mut Vec<u8>) -> bool {
     let mut out = [0; 4098];
     let answered = answer_frame(relay, frame, &mut out);
     match out.get(..answered.len) {

@@ -1,5 +1,6 @@
 pub mod Choices
 pub mod Splitting
+mod Room
 pub mod Joining
 pub mod Asked
 pub mod Replied

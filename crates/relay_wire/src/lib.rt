@@ -1,4 +1,4 @@
-//! The wire of the relay: frames in any pieces, requests and replies.
+//! The wire of the relay: frames in any pieces or out of a pipe, requests and replies.
 //!
 //! A frame is the length of its body, two bytes with the high one first, and the body of 1 to
 //! `BODY_LIMIT` bytes. A length that no body may have is a frame of its two bytes. A request names a
@@ -10,6 +10,7 @@
 //!
 //! let mut reader = FrameReader::new(alloc)?;
 //! let taken = reader.feed(piece); // to the end of the piece, or of the first whole frame
+//! let came = reader.receive(pipe)?; // or out of a pipe, at most what is wanted of the frame
 //! if let Some(frame) = reader.next() {
 //!     // lent from the reader, as are the name and the packet of the request
 //!     let request = parse_request(&frame); // or the kind of what is wrong with it
@@ -41,4 +42,5 @@ mod reply;
 mod reply_reading;
 mod request;
 mod request_reading;
+mod taking;
 mod writing;

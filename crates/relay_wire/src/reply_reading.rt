@@ -1,7 +1,6 @@
 //! Reading a reply.
 
 ghost use Rattle.std.specs.Prelude.{◌≡◌, ◌^◌, ◌<◌, ◌+◌, ℕ, drop, length, IfOk};
-ghost use Rattle.relay_wire.specs.Lending.{IsWhole};
 ghost use Rattle.relay_wire.specs.Replies.{bare, numbered, read_bad, read_item, read_reply, read_reply_rest, stored, absent};
 ghost use Rattle.relay_wire.specs.Seen.{IsReplyLaid, ParsesReply, replied_of};
 
@@ -110,7 +109,6 @@ fn parse_rest(first: u8, rest: &[u8], place: u64) -> Result<Reply<'_>, BadReply>
 /// none.
 #[tactic(auto, unfolding(crate::specs::Replies::read_reply))]
 pub fn parse_reply<'a>(frame: &Frame<'a>) -> Result<Reply<'a>, BadReply>
-    requires { IsWhole frame.now }
     ensures reads { ParsesReply result (read_reply (drop 2 frame.now.bytes.now)) }
     // A packet stands after the length, the first byte and its number.
     ensures laid { IfOk result (λ reply. IsReplyLaid reply 11 frame.now.bytes.now frame.now.place) }
@@ -118,5 +116,5 @@ pub fn parse_reply<'a>(frame: &Frame<'a>) -> Result<Reply<'a>, BadReply>
     let Some((first, rest)) = frame.body().split_first() else {
         return Err(BadReply::Frame);
     };
-    parse_rest(*first, rest, frame.place + 3)
+    parse_rest(*first, rest, frame.place() + 3)
 }

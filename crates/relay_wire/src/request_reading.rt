@@ -1,7 +1,6 @@
 //! Reading a request.
 
 ghost use Rattle.std.specs.Prelude.{◌^◌, ◌<◌, ◌+◌, ◌≤◌, ℕ, drop, length, IfOk};
-ghost use Rattle.relay_wire.specs.Lending.{IsWhole};
 ghost use Rattle.relay_wire.specs.Requests.{read_named, read_request, read_rest};
 ghost use Rattle.relay_wire.specs.Seen.{IsAskLaid, IsLaid, ParsesAsk, ParsesRequest};
 
@@ -102,7 +101,6 @@ fn parse_named(first: u8, bytes: &[u8], place: u64) -> Result<Request<'_>, Bad>
 /// the frame.
 #[tactic(auto, unfolding(crate::specs::Requests::read_request))]
 pub fn parse_request<'a>(frame: &Frame<'a>) -> Result<Request<'a>, Bad>
-    requires { IsWhole frame.now }
     ensures reads { ParsesRequest result (read_request (drop 2 frame.now.bytes.now)) }
     // The name stands after the length, the first byte and its own length.
     ensures laid { IfOk result (λ request. IsLaid request 4 frame.now.bytes.now frame.now.place) }
@@ -113,5 +111,5 @@ pub fn parse_request<'a>(frame: &Frame<'a>) -> Result<Request<'a>, Bad>
     if *first < POST || *first > ACK {
         return Err(Bad { kind: FIRST_BYTE });
     }
-    parse_named(*first, rest, frame.place + 3)
+    parse_named(*first, rest, frame.place() + 3)
 }

@@ -1,7 +1,7 @@
 -- One request after another leaves a link as one does.
 use Rattle.std.proofs.Common.{arith, refl, ◌∙◌}
 use Rattle.dr_ports.specs.Wires.{Port}
-use Rattle.client.specs.Syncing.Links.{LeavesLink}
+use Rattle.relay_pipe.specs.Asking.{LeavesLink}
 
 module _ {L B : Type 0} (port : L → Port) (behind : L → B) where
   pub leaves_all : (link : L) → LeavesLink port behind link link

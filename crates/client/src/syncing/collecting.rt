@@ -1,6 +1,7 @@
 //! The first part of a sync: the packets of the own box are taken.
 
 ghost use Rattle.std.specs.Prelude.{◌≡◌, ◌≤◌, ℕ, IfOk, List};
+ghost use Rattle.relay_pipe.specs.Asking.{LeavesLink};
 ghost use Rattle.relay_wire.specs.Replies.{item};
 ghost use Rattle.relay_wire.specs.Requests.{acks, fetches};
 ghost use Rattle.relay_wire.specs.Seen.{replied_of};
@@ -9,7 +10,6 @@ ghost use Rattle.sync_model.specs.Moves.{acking, acknowledged, fetching, move};
 ghost use Rattle.sync_model.specs.Parties.{Party};
 ghost use Rattle.client.specs.Clients.{IsOpenOn};
 ghost use Rattle.client.specs.Drafting.{DraftsFor, IsDraftOf};
-ghost use Rattle.client.specs.Syncing.Links.{LeavesLink};
 ghost use Rattle.client.specs.Syncing.Moments.{IsAnswered, moment};
 ghost use Rattle.client.specs.Syncing.Parties.{is_full, is_no_room, party_of, waiting};
 ghost use Rattle.client.specs.Syncing.Rounds.{Hears, Idles, IsRound, Turns, fetched_as, turn_of};

@@ -1,12 +1,12 @@
 //! The second part of a sync: the packets of the outbox are posted to the peer's box.
 
 ghost use Rattle.std.specs.Prelude.{◌≡◌, ◌↔◌, ◌<◌, ◌≤◌, IsTrue, OnOk, Some, length, slice_get, ℕ, List};
+ghost use Rattle.relay_pipe.specs.Asking.{LeavesLink};
 ghost use Rattle.relay_wire.specs.Replies.{stored};
 ghost use Rattle.relay_wire.specs.Requests.{posts};
 ghost use Rattle.sync_model.specs.Moves.{move, posting, waits_by};
 ghost use Rattle.sync_model.specs.declared.more.More.{More};
 ghost use Rattle.client.specs.Clients.{ClientNow, IsOpenOn};
-ghost use Rattle.client.specs.Syncing.Links.{LeavesLink};
 ghost use Rattle.client.specs.Syncing.Moments.{moment};
 ghost use Rattle.client.specs.Syncing.Parties.{party_of, waiting};
 ghost use Rattle.client.specs.Syncing.Rounds.{IsRound, Turns, turn_of};

@@ -6,7 +6,7 @@ ghost use Rattle.dr_base.specs.declared.limits.TheConstants.{OUTBOX_LIMIT};
 ghost use Rattle.dr_model.specs.Machines.Acts.{taken_by};
 ghost use Rattle.dr_model.specs.Machines.Steps.{settled};
 ghost use Rattle.dr_ports.specs.Wires.{Port};
-ghost use Rattle.relay_pipe.specs.Asking.{Asks};
+ghost use Rattle.relay_pipe.specs.Asking.{Asks, LeavesLink};
 ghost use Rattle.relay_wire.specs.Names.{is_packet};
 ghost use Rattle.relay_wire.specs.Requests.{Asked};
 ghost use Rattle.relay_wire.specs.Seen.{asked_of};
@@ -15,7 +15,6 @@ ghost use Rattle.client.specs.Clients.{IsOpenOn};
 ghost use Rattle.client.specs.Drafting.{IsDraftOf, taken_of};
 ghost use Rattle.client.specs.Syncing.Parties.{sent_step, waiting};
 ghost use Rattle.client.specs.Syncing.Rounds.{Answers};
-ghost use Rattle.client.specs.Syncing.Links.{LeavesLink};
 ghost use Rattle.client.specs.Syncing.Moments.{HasGone, IsTaken};
 
 use super::faults::SyncFault;

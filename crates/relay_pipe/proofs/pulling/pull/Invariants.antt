@@ -1,4 +1,4 @@
-use Rattle.std.proofs.Common.{◌≡◌, ◌≤◌, ◌-◌, length, ◌+◌, ◌<◌, ◌^◌}
+use Rattle.std.proofs.Common.{◌≡◌, ◌-◌, length, ◌+◌, ◌<◌, ◌^◌}
 use Rattle.relay_wire.specs.declared.limits.TheConstants.{FRAME_LIMIT}
 use Rattle.dr_ports.specs.declared.pipe.Part.TheVariants.{Flow, Gate}
 use Rattle.relay_pipe.specs.Pulling.{Pulled}
@@ -8,7 +8,6 @@ abbrev pub invariant-bytes : goal.invariant-bytes
 invariant-bytes g l = record {
   pulled : Pulled l.fn.reader l.reader (g.P.Pipe.port l.fn.pipe) (g.P.Pipe.port l.pipe);
   ends : l.reader.place + FRAME_LIMIT < 2 ^ 64;
-  room : FRAME_LIMIT ≤ length l.piece;
   quiet : (g.P.Pipe.port l.pipe).faults Flow ≡ (g.P.Pipe.port l.fn.pipe).faults Flow;
   gate : (g.P.Pipe.port l.pipe).faults Gate ≡ (g.P.Pipe.port l.fn.pipe).faults Gate;
   same : g.P.Pipe.behind l.pipe ≡ g.P.Pipe.behind l.fn.pipe;

@@ -1,4 +1,4 @@
-use Rattle.client.specs.Syncing.Links.{LeavesLink}
+use Rattle.relay_pipe.specs.Asking.{LeavesLink}
 use Rattle.client.specs.Syncing.Moments.{moment}
 use Rattle.client.specs.Syncing.Parties.{party_of, waiting}
 use Rattle.client.specs.Syncing.SoFar.{SoFar, collecting}

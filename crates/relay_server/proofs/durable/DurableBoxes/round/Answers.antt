@@ -18,15 +18,15 @@ pub returns-in-Err-send_all-clause-rounds : goal.returns-in-Err-send_all-clause-
 returns-in-Err-send_all-clause-rounds g c =
     let pulls = rw c.in-Ok-true.field-0-test at c.in-Ok-true.ensures.pulls in
     let part = c.in-Err-send_all.ensures.part in
-    let rose : Rose ((g.P.Pipe.port c.pull.new.pipe).faults Flow) ((g.P.Pipe.port c.send_all.new.pipe).faults Flow) = c.in-Err-send_all.ensures.cause.failed in (
+    let rose : Rose ((g.P.Pipe.port c.pull.new.pipe).faults Flow) ((g.P.Pipe.port c.send_all.new.pipe).faults Flow) = c.in-Err-send_all.ensures.leaves.cause.failed in (
       c.pull.new.reader.bytes,
       part.beginning,
       part.remainder,
       came_part box_text c.args.reader.now c.pull.new.reader part.beginning c.args.self.now.boxes c.answer_next.new.self.boxes
           (g.P.Pipe.port c.args.pipe.now) (g.P.Pipe.port c.pull.new.pipe) (g.P.Pipe.port c.send_all.new.pipe)
-          (g.D.Disk.state c.args.disk.now) (g.D.Disk.state c.answer_next.new.disk) c.requires.fresh pulls.0 pulls.1 part.took c.answer_next.ensures.next c.answer_next.ensures.any_moment,
-      sym c.in-Ok.ensures.reply ∙ part.split,
-      subst (λ (n : ℕ). Rose n ((g.P.Pipe.port c.send_all.new.pipe).faults Flow)) c.in-Ok-true.ensures.cause.passed rose,
-      c.in-Ok.ensures.ready,
-      c.in-Ok.ensures.quiet,
+          (g.D.Disk.state c.args.disk.now) (g.D.Disk.state c.answer_next.new.disk) c.requires.fresh pulls.0 pulls.1 part.took c.answer_next.ensures.next c.answer_next.ensures.leaves.any_moment,
+      sym c.in-Ok.ensures.reply.reply ∙ part.split,
+      subst (λ (n : ℕ). Rose n ((g.P.Pipe.port c.send_all.new.pipe).faults Flow)) c.in-Ok-true.ensures.leaves.cause.passed rose,
+      c.in-Ok.ensures.leaves.ready,
+      c.in-Ok.ensures.leaves.quiet,
     )

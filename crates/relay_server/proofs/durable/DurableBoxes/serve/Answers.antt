@@ -18,50 +18,66 @@ rounds-init g c = record {
   fresh = ap (λ (h : Held). h.bytes) c.clear.ensures;
   places = omega (arith, ap (λ (h : Held). h.place) c.clear.ensures);
   room = c.requires.room;
-  out_room = c.requires.out_room;
-  piece = refl;
-  out = refl;
   flow = refl;
   gate = refl;
   quiet = λ call. refl;
 }
 
-pub returns-in-Err-clause-served : goal.returns-in-Err-clause-served
-returns-in-Err-clause-served g c =
+pub returns-in-Err : goal.returns-in-Err
+returns-in-Err g c =
     order_fault g.D.Disk.state g.P.Pipe.port box_text c.args.self.now c.rounds.self c.round.new.self c.args.pipe.now c.rounds.pipe c.round.new.pipe
-    c.args.disk.now c.rounds.disk c.round.new.disk c.rounds.answered c.rounds.invariant.so c.rounds-test.true c.rounds.invariant.answered c.in-Err.fault c.rounds.invariant.quiet c.in-Err.ensures.rounds
+    c.args.disk.now c.rounds.disk c.round.new.disk c.rounds.answered c.rounds.invariant.so c.rounds-test.true c.rounds.invariant.answered c.in-Err.fault c.rounds.invariant.quiet
+    (record {
+      later = omega (arith, c.in-Err.ensures.counts.later, c.rounds.invariant.flow);
+      flow = tt;
+      gate = c.in-Err.ensures.counts.gate ∙ c.rounds.invariant.gate;
+      quiet = tt;
+    }) c.in-Err.ensures.rounds
 
-pub returns-in-Ok-AtEnd-clause-served : goal.returns-in-Ok-AtEnd-clause-served
-returns-in-Ok-AtEnd-clause-served g c =
+pub returns-in-Ok-AtEnd : goal.returns-in-Ok-AtEnd
+returns-in-Ok-AtEnd g c =
     order_end g.D.Disk.state g.P.Pipe.port box_text c.args.self.now c.rounds.self c.round.new.self c.args.pipe.now c.rounds.pipe c.round.new.pipe
     c.args.disk.now c.rounds.disk c.round.new.disk c.rounds.answered c.rounds.invariant.so c.rounds-test.true c.rounds.invariant.answered (record { answered = c.rounds.answered }) refl
-    (λ call. c.in-Ok-AtEnd.ensures.quiet call ∙ c.rounds.invariant.quiet call) (rw c.in-Ok-AtEnd.field-0-is at c.in-Ok-AtEnd.ensures.rounds)
+    (record {
+      later = omega (arith, c.in-Ok-AtEnd.ensures.counts.later, c.rounds.invariant.flow);
+      flow = c.in-Ok-AtEnd.ensures.counts.flow ∙ c.rounds.invariant.flow;
+      gate = c.in-Ok-AtEnd.ensures.counts.gate ∙ c.rounds.invariant.gate;
+      quiet = λ call. c.in-Ok-AtEnd.ensures.counts.quiet call ∙ c.rounds.invariant.quiet call;
+    }) (rw c.in-Ok-AtEnd.field-0-is at c.in-Ok-AtEnd.ensures.rounds)
 
-pub returns-then-last-clause-served : goal.returns-then-last-clause-served
-returns-then-last-clause-served g c =
+pub returns-then-last : goal.returns-then-last
+returns-then-last g c =
     order_last g.D.Disk.state g.P.Pipe.port box_text c.args.self.now c.rounds.self c.round.new.self c.args.pipe.now c.rounds.pipe c.round.new.pipe
     c.args.disk.now c.rounds.disk c.round.new.disk c.rounds.answered c.rounds.invariant.so c.rounds-test.true c.rounds.invariant.answered (record { answered = c.rounds.answered + 1 }) c.in-Ok-Answered.last refl c.if-last.true
-    (λ call. c.in-Ok-Answered.ensures.quiet call ∙ c.rounds.invariant.quiet call) (rw c.in-Ok-Answered.field-0-is at c.in-Ok-Answered.ensures.rounds)
+    (record {
+      later = omega (arith, c.in-Ok-Answered.ensures.counts.later, c.rounds.invariant.flow);
+      flow = c.in-Ok-Answered.ensures.counts.flow ∙ c.rounds.invariant.flow;
+      gate = c.in-Ok-Answered.ensures.counts.gate ∙ c.rounds.invariant.gate;
+      quiet = λ call. c.in-Ok-Answered.ensures.counts.quiet call ∙ c.rounds.invariant.quiet call;
+    }) (rw c.in-Ok-Answered.field-0-is at c.in-Ok-Answered.ensures.rounds)
 
 pub rounds-preserved : goal.rounds-preserved
 rounds-preserved g c = let rounds = rw c.in-Ok-Answered.field-0-is at c.in-Ok-Answered.ensures.rounds in record {
   so = goes_on box_text c.args.self.now c.rounds.self c.round.new.self (g.P.Pipe.port c.args.pipe.now) (g.P.Pipe.port c.rounds.pipe) (g.P.Pipe.port c.round.new.pipe)
-      (g.D.Disk.state c.args.disk.now) (g.D.Disk.state c.rounds.disk) (g.D.Disk.state c.round.new.disk) c.rounds.answered c.rounds.invariant.so c.rounds-test.true c.in-Ok-Answered.last c.if-last.false c.in-Ok-Answered.ensures.later rounds;
+      (g.D.Disk.state c.args.disk.now) (g.D.Disk.state c.rounds.disk) (g.D.Disk.state c.round.new.disk) c.rounds.answered c.rounds.invariant.so c.rounds-test.true c.in-Ok-Answered.last c.if-last.false c.in-Ok-Answered.ensures.counts.later rounds;
   answered = answered_on g.D.Disk.state g.P.Pipe.port box_text c.args.self.now c.rounds.self c.round.new.self c.args.pipe.now c.rounds.pipe c.round.new.pipe
       c.args.disk.now c.rounds.disk c.round.new.disk c.rounds.answered c.rounds.invariant.so c.rounds-test.true c.rounds.invariant.answered c.in-Ok-Answered.last rounds;
   ready = rounds.3;
   fresh = c.in-Ok-Answered.ensures.fresh c.in-Ok-Answered.last c.in-Ok-Answered.field-0-is;
   places = omega (arith, c.in-Ok-Answered.ensures.place, c.rounds.invariant.places);
-  room = omega (arith, c.in-Ok-Answered.ensures.piece, c.rounds.invariant.room);
-  out_room = omega (arith, c.in-Ok-Answered.ensures.out, c.rounds.invariant.out_room);
-  piece = c.in-Ok-Answered.ensures.piece ∙ c.rounds.invariant.piece;
-  out = c.in-Ok-Answered.ensures.out ∙ c.rounds.invariant.out;
-  flow = c.in-Ok-Answered.ensures.flow ∙ c.rounds.invariant.flow;
-  gate = c.in-Ok-Answered.ensures.gate ∙ c.rounds.invariant.gate;
-  quiet = λ call. c.in-Ok-Answered.ensures.quiet call ∙ c.rounds.invariant.quiet call;
+  room = omega (arith, c.round.auto.out, c.rounds.invariant.room);
+  flow = c.in-Ok-Answered.ensures.counts.flow ∙ c.rounds.invariant.flow;
+  gate = c.in-Ok-Answered.ensures.counts.gate ∙ c.rounds.invariant.gate;
+  quiet = λ call. c.in-Ok-Answered.ensures.counts.quiet call ∙ c.rounds.invariant.quiet call;
 }
 
-pub returns-clause-served : goal.returns-clause-served
-returns-clause-served g c =
+pub returns : goal.returns
+returns g c =
     order_full g.D.Disk.state g.P.Pipe.port box_text c.args.self.now c.rounds.self c.args.pipe.now c.rounds.pipe c.args.disk.now c.rounds.disk
-    c.rounds.answered c.rounds.invariant.so c.rounds.invariant.answered (omega (arith, c.rounds-test.false, c.rounds.auto.answered-end)) c.rounds.invariant.ready c.rounds.invariant.quiet (record { answered = EXCHANGE_LIMIT }) refl
+    c.rounds.answered c.rounds.invariant.so c.rounds.invariant.answered (omega (arith, c.rounds-test.false, c.rounds.auto.answered-end)) c.rounds.invariant.ready (record { answered = EXCHANGE_LIMIT })
+    (record {
+      later = omega (arith, c.rounds.invariant.flow);
+      flow = c.rounds.invariant.flow;
+      gate = c.rounds.invariant.gate;
+      quiet = c.rounds.invariant.quiet;
+    }) refl

@@ -16,10 +16,7 @@ invariant-rounds g l = record {
   ready : IsReady box_text l.self (g.D.Disk.state l.disk);
   fresh : l.reader.bytes ≡ [];
   places : l.reader.place ≤ l.answered * FRAME_LIMIT;
-  room : FRAME_LIMIT ≤ length l.piece;
-  out_room : FRAME_LIMIT ≤ length l.out;
-  piece : length l.piece ≡ length l.fn.piece;
-  out : length l.out ≡ length l.fn.out;
+  room : FRAME_LIMIT ≤ length l.out;
   flow : (g.P.Pipe.port l.pipe).faults Flow ≡ (g.P.Pipe.port l.fn.pipe).faults Flow;
   gate : (g.P.Pipe.port l.pipe).faults Gate ≡ (g.P.Pipe.port l.fn.pipe).faults Gate;
   quiet : IsQuiet (g.D.Disk.state l.fn.disk) (g.D.Disk.state l.disk);
