@@ -5,7 +5,7 @@ ghost use Rattle.std.specs.Prelude.{ℕ, List, None};
 use crate::clock::Times;
 use dr_base::PAGE;
 use dr_disk::{Disk, FileDisk, Sharing};
-use slot_store::{Area, Grammar, SlotStore};
+use slot_store::{Area, Grammar, SlotStore, record_room};
 use std::fs::{File, OpenOptions};
 use std::io::{Error, ErrorKind};
 use std::os::unix::fs::FileExt;
@@ -57,8 +57,10 @@ fn replace<R: Clock + AllocGlobal + Files<File = File>>(
     else {
         return Err(Error::from(ErrorKind::InvalidData));
     };
+    let mut room = record_room(rt.alloc(), area)?;
+    room[..text.len()].copy_from_slice(text);
     let start = Instant::now(rt)?;
-    let Ok(()) = store.replace(disk, text) else {
+    let Ok(()) = store.replace(disk, &mut room, text.len()) else {
         return Err(Error::from(ErrorKind::InvalidData));
     };
     times.add(rt, start)

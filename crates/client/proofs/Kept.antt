@@ -1,5 +1,5 @@
 -- Clients from whose boxes something goes, or to whose inbox a text comes.
-use Rattle.std.proofs.Common.{◌≡◌, ℕ, ◌≤◌, List, [], ◌∷◌, ◌++◌, length, take, drop, sym, ◌∙◌, ap, ap₂, subst, arith, length-drop, length-take, length-append}
+use Rattle.std.proofs.Common.{◌≡◌, ℕ, List, [], ◌∷◌, ◌++◌, drop, sym, ◌∙◌, ap, ap₂, subst, arith, length-drop}
 use Rattle.std.proofs.lemmas.List.Elements.{All-drop}
 use Rattle.boxes.specs.Items.{Item, item_at}
 use Rattle.dr_base.specs.declared.position.Position.{Position}
@@ -7,7 +7,7 @@ use Rattle.kem_laws.specs.Mechanism.{Mechanism}
 use Rattle.session_model.specs.Clients.{Client}
 use Rattle.session_model.specs.States.{State}
 use Rattle.session_record.specs.Lawful.{IsLawfulClient, IsLawfulEntry, IsLawfulPost}
-use Rattle.session_record.specs.Record.{client_of, record_text}
+use Rattle.session_record.specs.Record.{client_of}
 
 pub fewer_texts : (k : Mechanism) (c : Client) (n : ℕ) (left : List Item) → left ≡ drop n c.inbox → IsLawfulClient k c
     → IsLawfulClient k (record c { inbox = left })
@@ -39,16 +39,3 @@ received_is state next inbox outbox kept p q text said is here there at says =
     ap (λ s. client_of s (inbox ++ item_at p text ∷ []) outbox) is
     ∙ ap₂ (λ i o. client_of next (i ++ item_at p text ∷ []) o) here there
     ∙ ap₂ (λ a t. client_of next (kept.inbox ++ item_at a t ∷ []) kept.outbox) at says
-
--- room of which a front was written anew
-pub restored : (n limit : ℕ) (given items : List ℕ) → n ≡ length items → length items ≡ limit
-    → length (take n (given ++ drop (length given) items)) ≡ limit
-restored n limit given items is size =
-    omega (
-      arith,
-      length-take n (given ++ drop (length given) items),
-      length-append given (drop (length given) items),
-      length-drop (length given) items,
-      is,
-      size,
-    )

@@ -14,7 +14,7 @@ ghost use Rattle.client.specs.Beginning.{IsBegun, IsEntryOrFirst, IsFirst, IsUnb
 ghost use Rattle.client.specs.Clients.{IsReady, client_area};
 ghost use Rattle.client.specs.InWorlds.{IsIn};
 
-use crate::client::{AREA_PAGES, Client, RECORD_PAGES};
+use crate::client::{AREA, Client};
 use crate::keeping::lawful_part;
 use crate::opening::Records;
 use crate::refusals::BeginRefusal;
@@ -25,7 +25,7 @@ use dr_model::both_sides_follow;
 use kem_laws::{Kem, NoPair, laws};
 use ratchet::Session;
 use session_record::{Change, encode};
-use slot_store::{Area, Found, OpenError, SlotStore, readings};
+use slot_store::{Found, OpenError, SlotStore, readings};
 use std::alloc::Global;
 
 /// Keeps the first record of a session, whose boxes are empty.
@@ -46,10 +46,13 @@ fn first<K: Kem, D: Disk>(
     ensures keeps { IfOk result (λ client. client.kept ≡ client_of session [] []) }
     ensures ready { IfOk result (λ client. IsReady client.kept client.store (D.state disk.new)) }
     ensures any_moment { Span (D.state disk.old) (D.state disk.new)
-        (IsOldOrNew (D.state disk.old) client_area None (Some (record_text (client_of session [] [])))) }
-    ensures fate { (D.state disk.old).fate ≡ Fate.all_pass → IsOk result × ((D.state disk.new).fate ≡ Fate.all_pass) }
+        (IsOldOrNew (D.state disk.old) client_area None
+        (Some (record_text (client_of session [] [])))) }
+    ensures fate { (D.state disk.old).fate ≡ Fate.all_pass → IsOk result
+        × ((D.state disk.new).fate ≡ Fate.all_pass) }
     ensures quiet { OnOk result (IsQuiet (D.state disk.old) (D.state disk.new)) }
-    ensures fault { IfErr result (λ call. Rose ((D.state disk.old).faults call) ((D.state disk.new).faults call)) }
+    ensures fault { IfErr result
+        (λ call. Rose ((D.state disk.old).faults call) ((D.state disk.new).faults call)) }
 {
     let Room {
         inbox,
@@ -58,9 +61,8 @@ fn first<K: Kem, D: Disk>(
         mut text,
         reader,
     } = room;
-    let bytes = text.as_mut_slice();
-    let len = encode(&session.part(), &inbox, &outbox, &Change::Same, bytes);
-    match store.replace(disk, &bytes[..len]) {
+    let len = encode(&session.part(), &inbox, &outbox, &Change::Same, &mut text);
+    match store.replace(disk, &mut text, len) {
         Err(fault) => Err(fault.call),
         Ok(()) => Ok(Client {
             session,
@@ -87,10 +89,11 @@ fn refusal(error: OpenError) -> BeginRefusal
 }
 
 impl<K: Kem> Client<K> {
-    /// Begins the session of a side on a disk that holds none: the disk is opened, and the first record is put. `Exists`
-    /// exactly where a table is open and its record reads, `Damaged` exactly where what was read is no record; then nothing
-    /// was written. `NoPair` exactly where the agreement seed of the key has none. `StoreFault` only where a call on the
-    /// disk failed, and with `Memory` none was made.
+    /// Begins the session of a side on a disk that holds none: the disk is opened, and the first
+    /// record is put. `Exists` exactly where a table is open and its record reads, `Damaged`
+    /// exactly where what was read is no record; then nothing was written. `NoPair` exactly where
+    /// the agreement seed of the key has none. `StoreFault` only where a call on the disk failed,
+    /// and with `Memory` none was made.
     pub fn begin<D: Disk>(
         alloc: Global,
         disk: &mut D,
@@ -98,17 +101,24 @@ impl<K: Kem> Client<K> {
         key: &Key32,
     ) -> Result<Client<K>, BeginRefusal>
         requires { IsWithin client_area (D.state disk.old) }
-        ensures begun { IfOk result (λ client. IsBegun K.mechanism key.now.bytes side client (D.state disk.old) (D.state disk.new)) }
-        ensures unbegun { IfErr result (IsUnbegun D.state K.mechanism key.now.bytes disk.old disk.new) }
-        // Meanwhile, and in each ending: what was read, but for what was tidied, or the first record, where that held none.
+        ensures begun { IfOk result
+            (λ client. IsBegun K.mechanism key.now.bytes side client (D.state disk.old)
+            (D.state disk.new)) }
+        ensures unbegun { IfErr result
+            (IsUnbegun D.state K.mechanism key.now.bytes disk.old disk.new) }
+        // Meanwhile, and in each ending: what was read, but for what was tidied, or the first
+        // record, where that held none.
         ensures any_moment { Span (D.state disk.old) (D.state disk.new)
             (IsEntryOrFirst K.mechanism key.now.bytes side (D.state disk.old)) }
-        ensures reads { (s : List ℕ) → (D.state disk.new).seen ≡ Some s → IsLikeRead client_area (D.state disk.old) s
+        ensures reads { (s : List ℕ) → (D.state disk.new).seen ≡ Some s
+            → IsLikeRead client_area (D.state disk.old) s
             ⊎ IsFirst K.mechanism key.now.bytes side (D.state disk.old) s }
         // It is a side of the world in which the conversation begins.
-        ensures in_worlds { IfOk result (λ client. IsIn K.mechanism (opening_world key.now.bytes) side client) }
+        ensures in_worlds { IfOk result
+            (λ client. IsIn K.mechanism (opening_world key.now.bytes) side client) }
         ensures fate { (D.state disk.old).fate ≡ Fate.all_pass →
-            IfErr result (λ e. (call : Call) → e ≢ BeginRefusal.StoreFault call) × ((D.state disk.new).fate ≡ Fate.all_pass) }
+            IfErr result (λ e. (call : Call) → e ≢ BeginRefusal.StoreFault call)
+            × ((D.state disk.new).fate ≡ Fate.all_pass) }
     {
         laws::<K>();
         both_sides_follow();
@@ -116,12 +126,7 @@ impl<K: Kem> Client<K> {
         let Ok(mut room) = Room::<K>::new(alloc) else {
             return Err(BeginRefusal::Memory);
         };
-        let area = Area {
-            start: 0,
-            pages: AREA_PAGES,
-            most: RECORD_PAGES,
-        };
-        match SlotStore::open::<Records<K>, D>(alloc, disk, area) {
+        match SlotStore::open::<Records<K>, D>(alloc, disk, AREA) {
             Err(error) => Err(refusal(error)),
             Ok((store, found)) => match found {
                 Found::Content => Err(BeginRefusal::Exists),

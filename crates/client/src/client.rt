@@ -11,21 +11,28 @@ use kem_laws::Kem;
 use ratchet::Session;
 use relay_wire::FrameReader;
 use session_model::Summary;
-use session_record::RECORD_LIMIT;
-use slot_store::SlotStore;
+use slot_store::{Area, SlotStore};
 use std::marker::Model;
 
 /// How many pages the area of a client has, which begins at 0.
-pub const AREA_PAGES: u32 = 96;
+pub(crate) const AREA_PAGES: u32 = 96;
 
 /// The most pages of a client's record.
-pub const RECORD_PAGES: u32 = 46;
+pub(crate) const RECORD_PAGES: u32 = 46;
+
+/// The area, as a store is told.
+pub(crate) const AREA: Area = Area {
+    start: 0,
+    pages: AREA_PAGES,
+    most: RECORD_PAGES,
+};
 
 /// How many bytes the area has.
 pub const AREA_SIZE: u64 = PAGE as u64 * AREA_PAGES as u64;
 
-/// A side of a conversation on a disk, which each call is lent as the last one left it. A contract sees what it keeps,
-/// its store, and the call on the disk that closed it. It takes all its memory when it is begun or opened.
+/// A side of a conversation on a disk, which each call is lent as the last one left it. A contract
+/// sees what it keeps, its store, and the call on the disk that closed it. It takes all its memory
+/// when it is begun or opened.
 #[derive(Drop)]
 pub struct Client<K: Kem> {
     pub(crate) session: Session<K>,
@@ -85,17 +92,20 @@ impl<K: Kem> Client<K> {
         self.inbox.at(at)
     }
 
-    /// The packet of the outbox at a place, from 0, the oldest first. No other call hands a packet out.
+    /// The packet of the outbox at a place, from 0, the oldest first. No other call hands a packet
+    /// out.
     pub fn outbox(&self, at: usize) -> Option<(Position, &[u8])>
         ensures variant { IsSome result ↔ (at < length self.now.kept.outbox) }
-        ensures packet { option_map (λ pair. item_at pair.0 pair.1.now) result ≡ slice_get self.now.kept.outbox at }
+        ensures packet { option_map (λ pair. item_at pair.0 pair.1.now) result
+            ≡ slice_get self.now.kept.outbox at }
         ensures fits { IfSome result (λ pair. length pair.1.now ≤ PACKET_LIMIT) }
         ensures some { IfSome result (λ pair. 1 ≤ length pair.1.now) }
     {
         self.outbox.at(at)
     }
 
-    /// What the client keeps is lawful, so its record is read as just that. It has no code: a caller that needs this calls it.
+    /// What the client keeps is lawful, so its record is read as just that. It has no code: a
+    /// caller that needs this calls it.
     pub fn lawful(&self)
         ensures { IsLawfulClient K.mechanism self.now.kept }
     {

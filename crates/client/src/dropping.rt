@@ -19,9 +19,10 @@ use kem_laws::Kem;
 use session_record::Change;
 
 impl<K: Kem> Client<K> {
-    /// Drops the `n` oldest texts of the inbox. `Closed` exactly where a call on the disk failed before, then `Fewer`
-    /// exactly where fewer stand. Neither changes anything or calls the disk, and dropping none doesn't either.
-    /// `StoreFault` only where a call on the disk failed: then the client is closed, and shows what it showed.
+    /// Drops the `n` oldest texts of the inbox. `Closed` exactly where a call on the disk failed
+    /// before, then `Fewer` exactly where fewer stand. Neither changes anything or calls the disk,
+    /// and dropping none doesn't either. `StoreFault` only where a call on the disk failed: then
+    /// the client is closed, and shows what it showed.
     pub fn done<D: Disk>(&mut self, disk: &mut D, n: u32) -> Result<(), DropRefusal>
         requires { MayActOn self.old (D.state disk.old) }
         // Exactly what the side makes of it, but for a failing call on the disk.
@@ -30,7 +31,8 @@ impl<K: Kem> Client<K> {
         ensures ready { OnOk result (IsOpenOn self.new (D.state disk.new)) }
         // In each world that the client stands for, at every moment.
         ensures in_worlds { (w : World) (side : Side) → IsIn K.mechanism w side self.old
-            → ActsIn K.mechanism w side (finishing n) self.old self.new (D.state disk.old) (D.state disk.new)
+            → ActsIn K.mechanism w side (finishing n) self.old self.new (D.state disk.old)
+            (D.state disk.new)
             (dropped_as (Done n) result) }
         ensures fate { Passes (D.state disk.old) (D.state disk.new) (dropped_as (Done n) result) }
     {
@@ -93,7 +95,8 @@ impl<K: Kem> Client<K> {
         ensures ready { OnOk result (IsOpenOn self.new (D.state disk.new)) }
         // In each world that the client stands for, at every moment.
         ensures in_worlds { (w : World) (side : Side) → IsIn K.mechanism w side self.old
-            → ActsIn K.mechanism w side (sending n) self.old self.new (D.state disk.old) (D.state disk.new)
+            → ActsIn K.mechanism w side (sending n) self.old self.new (D.state disk.old)
+            (D.state disk.new)
             (dropped_as (Sent n) result) }
         ensures fate { Passes (D.state disk.old) (D.state disk.new) (dropped_as (Sent n) result) }
     {

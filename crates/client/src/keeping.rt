@@ -1,12 +1,13 @@
 //! The one step of every call: a record replaces the one on the disk.
 
-ghost use Rattle.std.specs.Prelude.{◌≡◌, length, IsOk, OnOk, IfErr};
+ghost use Rattle.std.specs.Prelude.{◌≡◌, IsOk, OnOk, IfErr};
 ghost use Rattle.dr_disk.specs.State.{Always, Fate};
 ghost use Rattle.ratchet.specs.Seen.{received_of};
 ghost use Rattle.session_model.specs.Drafts.{IsReceiveDraft};
 ghost use Rattle.session_model.specs.LawfulStates.{IsLawfulState};
 ghost use Rattle.session_record.specs.Changes.{FitsInbox, FitsOutbox, changed};
 ghost use Rattle.session_record.specs.Record.{client_of};
+ghost use Rattle.slot_store.specs.Areas.{HasRecordRoom};
 ghost use Rattle.slot_store.specs.Store.{IsWithin, Rests};
 ghost use Rattle.client.specs.Clients.{client_area};
 ghost use Rattle.client.specs.Outcomes.{Keeps, Loses};
@@ -16,7 +17,7 @@ use dr_disk::{Call, Disk};
 use kem_laws::Kem;
 use ratchet::{ReceiveDraft, Session};
 use session_model::LentPart;
-use session_record::{Change, RECORD_LIMIT, encode};
+use session_record::{Change, encode};
 use slot_store::SlotStore;
 
 /// Replaces the record on the disk by that of a part and of the boxes as a change leaves them.
@@ -31,7 +32,7 @@ pub(crate) fn keep<K: Kem, D: Disk>(
 ) -> Result<(), Call>
     requires fits_inbox { FitsInbox inbox.now change.now }
     requires fits_outbox { FitsOutbox outbox.now change.now }
-    requires room { length text.old.items ≡ RECORD_LIMIT }
+    requires room { HasRecordRoom client_area text.old.items }
     requires area { store.old.area ≡ client_area }
     requires within { IsWithin client_area (D.state disk.old) }
     requires rests { Always (Rests store.old) (D.state disk.old) }
@@ -41,12 +42,12 @@ pub(crate) fn keep<K: Kem, D: Disk>(
     ensures lost { let before = client_of part.now inbox.now outbox.now in
         IfErr result (Loses (changed K.mechanism before change.now)
         store.old (D.state disk.old) (D.state disk.new)) }
-    ensures fate { (D.state disk.old).fate ≡ Fate.all_pass → IsOk result × ((D.state disk.new).fate ≡ Fate.all_pass) }
-    ensures room { length text.new.items ≡ RECORD_LIMIT }
+    ensures fate { (D.state disk.old).fate ≡ Fate.all_pass → IsOk result
+        × ((D.state disk.new).fate ≡ Fate.all_pass) }
+    ensures room { HasRecordRoom client_area text.new.items }
 {
-    let room = text.as_mut_slice();
-    let len = encode(part, inbox, outbox, change, room);
-    match store.replace(disk, &room[..len]) {
+    let len = encode(part, inbox, outbox, change, text);
+    match store.replace(disk, text, len) {
         Ok(()) => Ok(()),
         Err(fault) => Err(fault.call),
     }
@@ -68,7 +69,7 @@ pub(crate) fn keep_taken<K: Kem, D: Disk>(
     requires draft { IsReceiveDraft K.mechanism session.now (received_of session.now draft.now) }
     requires fits_inbox { FitsInbox inbox.now change.now }
     requires fits_outbox { FitsOutbox outbox.now change.now }
-    requires room { length text.old.items ≡ RECORD_LIMIT }
+    requires room { HasRecordRoom client_area text.old.items }
     requires area { store.old.area ≡ client_area }
     requires within { IsWithin client_area (D.state disk.old) }
     requires rests { Always (Rests store.old) (D.state disk.old) }
@@ -80,7 +81,7 @@ pub(crate) fn keep_taken<K: Kem, D: Disk>(
         store.old (D.state disk.old) (D.state disk.new)) }
     ensures fate { (D.state disk.old).fate ≡ Fate.all_pass
         → IsOk result × ((D.state disk.new).fate ≡ Fate.all_pass) }
-    ensures room { length text.new.items ≡ RECORD_LIMIT }
+    ensures room { HasRecordRoom client_area text.new.items }
 {
     let part = draft.part(session);
     keep(store, disk, text, &part, inbox, outbox, change)

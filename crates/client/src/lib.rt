@@ -1,15 +1,18 @@
-//! One side of a conversation, kept on a disk: a session with its boxes, whose whole state is one record in pages.
+//! One side of a conversation, kept on a disk: a session with its boxes, whose whole state is one
+//! record in pages.
 //!
-//! Each call that changes something replaces the record before it answers, so a crash at any moment leaves the state
-//! before the call or the one after it. A call on the disk that fails closes the client, and the disk is opened again.
+//! Each call that changes something replaces the record before it answers, so a crash at any moment
+//! leaves the state before the call or the one after it. A call on the disk that fails closes the
+//! client, and the disk is opened again.
 #![tactic(auto)]
 
-pub use client::{AREA_PAGES, AREA_SIZE, Client, RECORD_PAGES, limits_in_numbers};
+pub use client::{AREA_SIZE, Client, limits_in_numbers};
 pub use histories::{exchange, meanwhile, syncs_are_links};
 pub use laws::{
     areas_are_their_records, client_grounds, crash_safety, opens_again, single_use,
     stays_undamaged, used_keys_stay_erased,
 };
+pub use looking::look;
 pub use refusals::{BeginRefusal, DropRefusal, OpenRefusal, SayRefusal, TakeRefusal};
 pub use syncing::{Names, SyncFault, SyncRefusal, goes_over};
 
@@ -19,6 +22,7 @@ mod dropping;
 mod histories;
 mod keeping;
 mod laws;
+mod looking;
 mod opening;
 mod refusals;
 mod room;

@@ -15,7 +15,7 @@ ghost use Rattle.slot_store.specs.Store.{IsWithin, content};
 ghost use Rattle.client.specs.Clients.{client_area};
 ghost use Rattle.client.specs.Opening.{IsLeftAtRest, IsOpened, IsUnopened, OpensIn, Reads, open_refusal, record_fault};
 
-use crate::client::{AREA_PAGES, Client, RECORD_PAGES};
+use crate::client::{AREA, Client};
 use crate::refusals::OpenRefusal;
 use crate::room::Room;
 use boxes::{Inbox, Outbox};
@@ -23,7 +23,7 @@ use dr_disk::Disk;
 use kem_laws::Kem;
 use ratchet::Session;
 use session_record::{check, decode, record_law};
-use slot_store::{Area, Found, Grammar, OpenError, SlotStore, readings};
+use slot_store::{Found, Grammar, OpenError, SlotStore, readings};
 use std::alloc::Global;
 use std::marker::PhantomData;
 
@@ -75,10 +75,12 @@ fn client_in<K: Kem>(room: Room<K>, store: SlotStore) -> Client<K>
     requires inbox { room.inbox ≡ [] }
     requires outbox { room.outbox ≡ [] }
     requires some { is_some (content store) ≡ true }
-    requires reads { (text : List ℕ) → content store ≡ Some text → record_fault K.mechanism text ≡ None }
+    requires reads { (text : List ℕ) → content store ≡ Some text
+        → record_fault K.mechanism text ≡ None }
     ensures open { result.closed ≡ None }
     ensures store { result.store ≡ store }
-    ensures read { (text : List ℕ) → content store ≡ Some text → record_read K.mechanism text ≡ Ok result.kept }
+    ensures read { (text : List ℕ) → content store ≡ Some text
+        → record_read K.mechanism text ≡ Ok result.kept }
     ensures holds { content store ≡ Some (record_text result.kept) }
 {
     let Room {
@@ -102,35 +104,37 @@ fn client_in<K: Kem>(room: Room<K>, store: SlotStore) -> Client<K>
 }
 
 impl<K: Kem> Client<K> {
-    /// Opens the client that the disk holds: a sync, the reading of its record, and the wiping of all else.
-    /// `NoSession` exactly where no table is open, `Damaged` exactly where what was read is no record; then
-    /// nothing was written. `StoreFault` only where a call on the disk failed, and with `Memory` none was made.
+    /// Opens the client that the disk holds: a sync, the reading of its record, and the wiping of
+    /// all else. `NoSession` exactly where no table is open, `Damaged` exactly where what was read
+    /// is no record; then nothing was written. `StoreFault` only where a call on the disk failed,
+    /// and with `Memory` none was made.
     pub fn open<D: Disk>(alloc: Global, disk: &mut D) -> Result<Client<K>, OpenRefusal>
         requires { IsWithin client_area (D.state disk.old) }
-        ensures opened { IfOk result (λ client. IsOpened K.mechanism client (D.state disk.old) (D.state disk.new)) }
+        ensures opened { IfOk result
+            (λ client. IsOpened K.mechanism client (D.state disk.old) (D.state disk.new)) }
         ensures unopened { IfErr result (IsUnopened D.state K.mechanism disk.old disk.new) }
-        // Meanwhile, and in each ending, crashes and reads give what they gave, but for what was tidied.
-        ensures any_moment { Span (D.state disk.old) (D.state disk.new) (IsEntryOrLike client_area (D.state disk.old)) }
-        ensures reads { (s : List ℕ) → (D.state disk.new).seen ≡ Some s → IsLikeRead client_area (D.state disk.old) s }
+        // Meanwhile, and in each ending, crashes and reads give what they gave, but for what was
+        // tidied.
+        ensures any_moment { Span (D.state disk.old) (D.state disk.new)
+            (IsEntryOrLike client_area (D.state disk.old)) }
+        ensures reads { (s : List ℕ) → (D.state disk.new).seen ≡ Some s
+            → IsLikeRead client_area (D.state disk.old) s }
         // Where all was read at rest, no byte is written.
-        ensures still { IsReadAtRest client_area (D.state disk.old) → IsLeftAtRest (D.state disk.old) (D.state disk.new) result }
+        ensures still { IsReadAtRest client_area (D.state disk.old)
+            → IsLeftAtRest (D.state disk.old) (D.state disk.new) result }
         // In each world that a read stands for.
         ensures in_worlds { (w : World) (side : Side) → IsLawfulWorld K.mechanism w
             → Reads K.mechanism w side (D.state disk.old)
             → OpensIn K.mechanism w side (D.state disk.old) (D.state disk.new) result }
         ensures fate { (D.state disk.old).fate ≡ Fate.all_pass →
-            IfErr result (λ e. (call : Call) → e ≢ OpenRefusal.StoreFault call) × ((D.state disk.new).fate ≡ Fate.all_pass) }
+            IfErr result (λ e. (call : Call) → e ≢ OpenRefusal.StoreFault call)
+            × ((D.state disk.new).fate ≡ Fate.all_pass) }
     {
         readings();
         let Ok(room) = Room::<K>::new(alloc) else {
             return Err(OpenRefusal::Memory);
         };
-        let area = Area {
-            start: 0,
-            pages: AREA_PAGES,
-            most: RECORD_PAGES,
-        };
-        match SlotStore::open::<Records<K>, D>(alloc, disk, area) {
+        match SlotStore::open::<Records<K>, D>(alloc, disk, AREA) {
             Err(error) => Err(refusal(error)),
             Ok((store, found)) => match found {
                 Found::NoContent => Err(OpenRefusal::NoSession),

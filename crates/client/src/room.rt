@@ -1,12 +1,14 @@
 //! The memory of a client, all of which is taken before its disk is called.
 
-ghost use Rattle.std.specs.Prelude.{◌≡◌, [], IfOk, length};
-ghost use Rattle.session_record.specs.declared.limits.TheConstants.{RECORD_LIMIT};
+ghost use Rattle.std.specs.Prelude.{◌≡◌, [], IfOk};
+ghost use Rattle.slot_store.specs.Areas.{HasRecordRoom};
+ghost use Rattle.client.specs.Clients.{client_area};
 
+use crate::client::AREA;
 use boxes::{Inbox, Outbox};
 use kem_laws::Kem;
 use relay_wire::FrameReader;
-use session_record::RECORD_LIMIT;
+use slot_store::record_room;
 use std::alloc::{AllocError, Global};
 
 /// The memory of a client, but for its store's.
@@ -17,7 +19,7 @@ pub(crate) struct Room<K: Kem> {
     pub(crate) work: K::Work,
     pub(crate) text: Vec<u8>,
     pub(crate) reader: FrameReader,
-    ghost size: { length text.items ≡ RECORD_LIMIT },
+    ghost size: { HasRecordRoom client_area text.items },
 }
 
 impl<K: Kem> Room<K> {
@@ -29,7 +31,7 @@ impl<K: Kem> Room<K> {
         let inbox = Inbox::new(alloc)?;
         let outbox = Outbox::new(alloc)?;
         let work = K::work(alloc)?;
-        let text = vec![in alloc; 0; RECORD_LIMIT]?;
+        let text = record_room(alloc, AREA)?;
         let reader = FrameReader::new(alloc)?;
         Ok(Room {
             inbox,

@@ -54,10 +54,11 @@ impl<K: Kem> Client<K> {
         }
     }
 
-    /// Says a text, with a draw exactly where it needs a seed, and puts its packet into the outbox. `Closed` exactly where
-    /// a call on the disk failed before, then the first reason against a text of this length, then `DrawFault` only where
-    /// the draw failed, then `NoPair` exactly where its seed has no pair. None of these changes anything or calls the
-    /// disk. `StoreFault` only where a call on the disk failed: then the client is closed, and shows what it showed.
+    /// Says a text, with a draw exactly where it needs a seed, and puts its packet into the outbox.
+    /// `Closed` exactly where a call on the disk failed before, then the first reason against a
+    /// text of this length, then `DrawFault` only where the draw failed, then `NoPair` exactly
+    /// where its seed has no pair. None of these changes anything or calls the disk. `StoreFault`
+    /// only where a call on the disk failed: then the client is closed, and shows what it showed.
     pub fn say<D: Disk, W: Draws>(
         &mut self,
         disk: &mut D,
@@ -71,13 +72,17 @@ impl<K: Kem> Client<K> {
         ensures ready { OnOk result (IsOpenOn self.new (D.state disk.new)) }
         // In each world that the client stands for, at every moment.
         ensures in_worlds { (w : World) (side : Side) → IsIn K.mechanism w side self.old
-            → SaysIn W.at K.mechanism w side text.now self.old self.new (D.state disk.old) (D.state disk.new)
+            → SaysIn W.at K.mechanism w side text.now self.old self.new (D.state disk.old)
+            (D.state disk.new)
             draws.old draws.new (said_as result) }
-        // Once it is said, the key of its position is used up, and nothing that a crash leaves gives it.
-        ensures spent { IfOk result (λ position. (w : World) (side : Side) → IsIn K.mechanism w side self.old
+        // Once it is said, the key of its position is used up, and nothing that a crash leaves
+        // gives it.
+        ensures spent { IfOk result (λ position. (w : World) (side : Side)
+            → IsIn K.mechanism w side self.old
             → (draw : Option (List ℕ))
             × IsDrawn W.at self.old (length text.now) draws.old draws.new draw
-            × IsSpent K.mechanism (act_in K.mechanism w side (saying text.now draw)).next side position (D.state disk.new)) }
+            × IsSpent K.mechanism (act_in K.mechanism w side (saying text.now draw)).next side
+            position (D.state disk.new)) }
         ensures fate { Passes (D.state disk.old) (D.state disk.new) (said_as result) }
     {
         grounds::<K>();

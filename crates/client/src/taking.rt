@@ -66,9 +66,10 @@ pub(crate) fn drafted<'a, K: Kem>(
 }
 
 impl<K: Kem> Client<K> {
-    /// Opens the packet that the bytes are, and puts its text into the inbox. `Closed` exactly where a call on the disk
-    /// failed before, then the first reason against the packet, then a full inbox. None of these changes anything or calls
-    /// the disk. `StoreFault` only where a call on the disk failed: then the client is closed, and shows what it showed.
+    /// Opens the packet that the bytes are, and puts its text into the inbox. `Closed` exactly
+    /// where a call on the disk failed before, then the first reason against the packet, then a
+    /// full inbox. None of these changes anything or calls the disk. `StoreFault` only where a call
+    /// on the disk failed: then the client is closed, and shows what it showed.
     pub fn take<D: Disk>(&mut self, disk: &mut D, packet: &[u8]) -> Result<Position, TakeRefusal>
         requires { MayActOn self.old (D.state disk.old) }
         // Exactly what the side makes of it, but for a failing call on the disk.
@@ -78,12 +79,16 @@ impl<K: Kem> Client<K> {
         // In each world that the client stands for, at every moment, where no tag is forged.
         ensures in_worlds { (w : World) (side : Side) → IsIn K.mechanism w side self.old
             → IsUnforged K.mechanism w side packet.now
-            → ActsIn K.mechanism w side (taking packet.now) self.old self.new (D.state disk.old) (D.state disk.new)
+            → ActsIn K.mechanism w side (taking packet.now) self.old self.new (D.state disk.old)
+            (D.state disk.new)
             (taken_as result) }
-        // Once it is opened, the key of its position is used up, and nothing that a crash leaves gives it.
-        ensures spent { IfOk result (λ position. (w : World) (side : Side) → IsIn K.mechanism w side self.old
+        // Once it is opened, the key of its position is used up, and nothing that a crash leaves
+        // gives it.
+        ensures spent { IfOk result (λ position. (w : World) (side : Side)
+            → IsIn K.mechanism w side self.old
             → IsUnforged K.mechanism w side packet.now
-            → IsSpent K.mechanism (act_in K.mechanism w side (taking packet.now)).next side position (D.state disk.new)) }
+            → IsSpent K.mechanism (act_in K.mechanism w side (taking packet.now)).next side position
+            (D.state disk.new)) }
         ensures fate { Passes (D.state disk.old) (D.state disk.new) (taken_as result) }
     {
         grounds::<K>();

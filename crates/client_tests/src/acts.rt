@@ -1,10 +1,10 @@
-//! Clients on disks in memory: beginning, opening, and each act once.
+//! Clients on disks in memory: beginning, opening, a look, and each act once.
 
 ghost use Rattle.std.specs.Prelude.{◌≡◌, IfOk, OnSome, true};
 ghost use Rattle.dr_disk.specs.MemoryDisks.{state_of};
 ghost use Rattle.client.specs.Clients.{IsOpenOn, MayActOn};
 
-use client::{BeginRefusal, Client, OpenRefusal};
+use client::{BeginRefusal, Client, OpenRefusal, look};
 use dr_base::{Key32, Side};
 use dr_disk::{Disk, MemoryDisk};
 use dr_ports::SteadyDraws;
@@ -126,10 +126,23 @@ fn begun(alloc: Global, byte: u8, disk: &mut MemoryDisk) -> Result<(), BeginRefu
     }
 }
 
+/// Whether a look finds the area at rest.
+fn rests(alloc: Global, disk: &mut MemoryDisk) -> bool {
+    if disk.size() < SIZE {
+        return false;
+    }
+    match look::<OpenKem, MemoryDisk>(alloc, disk) {
+        Ok(report) => report.rest,
+        Err(_) => false,
+    }
+}
+
 /// Whether an empty disk has no session, and one is begun once.
 fn is_begun_once(alloc: Global, disk: &mut MemoryDisk) -> bool {
-    matches!(opened(alloc, disk), Err(OpenRefusal::NoSession))
+    rests(alloc, disk)
+        && matches!(opened(alloc, disk), Err(OpenRefusal::NoSession))
         && begun(alloc, 0, disk).is_ok()
+        && rests(alloc, disk)
         && matches!(begun(alloc, 7, disk), Err(BeginRefusal::Exists))
 }
 

@@ -1,7 +1,7 @@
 //! Changes of a disk's bytes, by an independent implementation.
 
-/// What an opening finds: the number of a damaged table and the place, no session, the record on a disk that is then as it was
-/// before it was changed, or the record elsewhere.
+/// What an opening finds: the number of a damaged table and the place, no session, the record on a
+/// disk that is then as it was before it was changed, or the record elsewhere.
 #[derive(Clone, Copy, PartialEq)]
 pub(crate) enum Found {
     Damaged(u32, u64),

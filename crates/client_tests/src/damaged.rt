@@ -74,7 +74,8 @@ fn changes(disk: &mut MemoryDisk, (at, bytes): Change) -> bool {
         && disk.write_at(at, bytes).is_ok()
 }
 
-/// What an opening finds, where the disk had these bytes before it was changed; nothing where it fails otherwise.
+/// What an opening finds, where the disk had these bytes before it was changed; nothing where it
+/// fails otherwise.
 fn found(alloc: Global, disk: &mut MemoryDisk, before: &[u8]) -> Option<Found> {
     if disk.size() != SIZE {
         return None;

@@ -1,4 +1,5 @@
-//! Tests of clients on disks in memory: each act once, stopped at each write, and syncs over links in memory.
+//! Tests of clients on disks in memory: each act once, stopped at each write, and syncs over links
+//! in memory.
 #![tactic(auto)]
 
 #[cfg(test)]

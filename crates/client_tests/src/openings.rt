@@ -35,7 +35,8 @@ fn find_said(alloc: Global) -> bool {
     true
 }
 
-// An opening of what a text that was being said has left: a further stop changes nothing of what the next one finds.
+// An opening of what a text that was being said has left: a further stop changes nothing of what
+// the next one finds.
 #[test]
 fn openings_stopped(rt: HostRuntime) {
     assert!(rt; find_said(rt.alloc()));

@@ -183,7 +183,8 @@ fn stand_received(alloc: Global) -> bool {
     }
 }
 
-// Each act: from the fifth call on what it made stands; from the third to the fifth where the gate became a5.
+// Each act: from the fifth call on what it made stands; from the third to the fifth where the gate
+// became a5.
 #[test]
 fn acts_stopped(rt: HostRuntime) {
     let alloc = rt.alloc();

@@ -4,7 +4,7 @@
 use crate::building::record_of;
 use crate::disks::bytes_of;
 use crate::rows::{Row, rows};
-use crate::stores::{SIZE, Texts, area, puts};
+use crate::stores::{SIZE, Texts, area, puts, room_with};
 use dr_disk::{Disk, MemoryDisk, Mode};
 use hex::decode;
 use sha2::{Digest, Sha256};
@@ -35,10 +35,13 @@ fn puts_stopped(alloc: Global, disk: &mut MemoryDisk, text: &[u8], after: u32) -
     if disk.size() < SIZE || text.len() > 188_416 {
         return false;
     }
+    let Ok(mut room) = room_with(alloc, text) else {
+        return false;
+    };
     match SlotStore::open::<Texts, MemoryDisk>(alloc, disk, area()) {
         Ok((mut store, _)) => {
             disk.stop_after(after);
-            store.replace(disk, text).is_err()
+            store.replace(disk, &mut room, text.len()).is_err()
         }
         Err(_) => false,
     }

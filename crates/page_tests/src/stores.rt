@@ -1,10 +1,12 @@
 //! Stores whose records are any bytes but none.
 
-ghost use Rattle.std.specs.Prelude.{◌≡◌, ◌==◌, length, Some, None, if◌then◌else◌};
+ghost use Rattle.std.specs.Prelude.{◌≡◌, ◌==◌, ◌≤◌, length, Some, None, if◌then◌else◌, IfOk};
 
 use dr_disk::Disk;
-use slot_store::{Area, Found, Grammar, InspectError, OpenError, Report, SlotStore, inspect};
-use std::alloc::Global;
+use slot_store::{
+    Area, Found, Grammar, InspectError, OpenError, Report, SlotStore, inspect, record_room,
+};
+use std::alloc::{AllocError, Global};
 
 /// How many bytes the disk has, which is one area.
 pub(crate) const SIZE: u64 = 393_216;
@@ -34,13 +36,26 @@ pub(crate) fn area() -> Area
     }
 }
 
+/// Room for a record, with a text at its beginning.
+pub(crate) fn room_with(alloc: Global, text: &[u8]) -> Result<Vec<u8>, AllocError>
+    requires { length text.now ≤ 188416 }
+    ensures { IfOk result (λ room. length room.items ≡ 188416) }
+{
+    let mut room = record_room(alloc, area())?;
+    room[..text.len()].copy_from_slice(text);
+    Ok(room)
+}
+
 /// Opens the area, and replaces its record. Answers whether it did.
 pub(crate) fn puts<D: Disk>(alloc: Global, disk: &mut D, text: &[u8]) -> bool {
     if disk.size() < SIZE || text.len() > 188_416 {
         return false;
     }
+    let Ok(mut room) = room_with(alloc, text) else {
+        return false;
+    };
     match SlotStore::open::<Texts, D>(alloc, disk, area()) {
-        Ok((mut store, _)) => store.replace(disk, text).is_ok(),
+        Ok((mut store, _)) => store.replace(disk, &mut room, text.len()).is_ok(),
         Err(_) => false,
     }
 }

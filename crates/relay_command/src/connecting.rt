@@ -47,8 +47,10 @@ pub(crate) fn serve_next<A: Disk, L: Door>(
     door: &mut L,
 ) -> Result<Connected, Fault>
     requires { IsReady box_text server.old (A.state disk.old) }
-    ensures { Turns (WasServed A.state L.port (standing server.old.boxes (L.port door.old)) disk.old disk.new)
-        server.old server.new (A.state disk.old) (A.state disk.new) (L.port door.old) (L.port door.new) result }
+    ensures { Turns (WasServed A.state L.port
+        (standing server.old.boxes (L.port door.old)) disk.old disk.new)
+        server.old server.new (A.state disk.old) (A.state disk.new) (L.port door.old)
+        (L.port door.new) result }
 {
     match door.accept() {
         Err(Failed) => return Err(Fault::Accept),

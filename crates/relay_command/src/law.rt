@@ -10,12 +10,15 @@ use dr_disk::Disk;
 use dr_ports::Door;
 use relay_server::crashes as crashes_in_one;
 
-/// At a moment of a connection at which the replies to its first n frames were sent whole, and no other, each image has, box by
-/// box, the box as the connections before it left it, after the connection's own accepted requests for it among these n frames,
-/// or among the first n + 1. So nothing of a connection comes back once the next one has begun.
+/// At a moment of a connection at which the replies to its first n frames were sent whole, and no
+/// other, each image has, box by box, the box as the connections before it left it, after the
+/// connection's own accepted requests for it among these n frames, or among the first n + 1. So
+/// nothing of a connection comes back once the next one has begun.
 pub fn crashes<A: Disk, L: Door>()
-    ensures { (s : Standing) (start : A) (xs : List Connection) (frames : List (List ℕ)) (c : List ℕ) →
-        WasLeftIn A.state L.port s start xs frames c → StandsForSent (behind_all s xs).boxes frames c }
+    ensures { (s : Standing) (start : A) (xs : List Connection) (frames : List (List ℕ))
+        (c : List ℕ) →
+        WasLeftIn A.state L.port s start xs frames c
+        → StandsForSent (behind_all s xs).boxes frames c }
 {
     crashes_in_one::<A, L>();
 }

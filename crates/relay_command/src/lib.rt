@@ -1,5 +1,5 @@
-//! The command that serves a relay: it opens the boxes of its names on a disk, listens, and serves one connection after the
-//! other, with a line for each.
+//! The command that serves a relay: it opens the boxes of its names on a disk, listens, and serves
+//! one connection after the other, with a line for each.
 #![tactic(auto)]
 
 pub use law::{crashes, limits_in_numbers};

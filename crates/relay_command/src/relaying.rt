@@ -40,7 +40,8 @@ fn look<A: Disk>(alloc: Global, boxes: &[&str], disk: &mut A) -> Result<Looked, 
     requires names { AreNames (map (λ word. word.now) boxes.now) }
     requires few { length boxes.now ≤ RELAY_LIMIT }
     requires within { RELAY_DISK_SIZE ≤ (A.state disk.old).size }
-    ensures { Looks (map (λ word. word.now) boxes.now) (A.state disk.old) (A.state disk.new) result }
+    ensures { Looks (map (λ word. word.now) boxes.now) (A.state disk.old)
+        (A.state disk.new) result }
 {
     let Ok(names) = names_of(alloc, boxes) else {
         return Err(Ending::NoMemory);
@@ -74,7 +75,8 @@ pub fn relay<A: Disk, L: Door, O: Sink>(
     out: &mut O,
 ) -> Status
     requires { RELAY_DISK_SIZE ≤ (A.state disk.old).size }
-    ensures runs { RunsRelay A.state L.port (map (λ word. word.now) boxes.now) port count disk.old disk.new door.old door.new
+    ensures runs { RunsRelay A.state L.port
+        (map (λ word. word.now) boxes.now) port count disk.old disk.new door.old door.new
         (O.at out.old) (O.at out.new) result.code }
     // Status 0 says that no call on the disk failed, nor listening, accepting or writing.
     ensures quiet { result.code ≡ 0 → IsQuiet (A.state disk.old) (A.state disk.new)
@@ -82,8 +84,10 @@ pub fn relay<A: Disk, L: Door, O: Sink>(
         × ((O.at out.new).faults ≡ (O.at out.old).faults) }
     // No count falls.
     ensures later { (O.at out.old).faults ≤ (O.at out.new).faults }
-    ensures counts { (call : Call) → (A.state disk.old).faults call ≤ (A.state disk.new).faults call }
-    ensures door_counts { (part : Part) → (L.port door.old).faults part ≤ (L.port door.new).faults part }
+    ensures counts { (call : Call)
+        → (A.state disk.old).faults call ≤ (A.state disk.new).faults call }
+    ensures door_counts { (part : Part)
+        → (L.port door.old).faults part ≤ (L.port door.new).faults part }
 {
     match check_names(boxes) {
         Err(number) => return finish(out, Ending::BadBox(number)),

@@ -35,8 +35,10 @@ pub(crate) fn serve_all<A: Disk, L: Door, O: Sink>(
     out: &mut O,
 ) -> Status
     requires { IsReady box_text server.old (A.state disk.old) }
-    ensures runs { Runs (λ xs. CameInTurn A.state L.port (standing server.old.boxes (L.port door.old)) disk.old xs disk.new)
-        (standing server.old.boxes (L.port door.old)) port count (A.state disk.old) (A.state disk.new)
+    ensures runs { Runs (λ xs. CameInTurn A.state L.port
+        (standing server.old.boxes (L.port door.old)) disk.old xs disk.new)
+        (standing server.old.boxes (L.port door.old)) port count (A.state disk.old)
+        (A.state disk.new)
         (L.port door.old) (L.port door.new) (O.at out.old) (O.at out.new) result.code }
     ensures later { (O.at out.old).faults ≤ (O.at out.new).faults }
 {

@@ -10,27 +10,33 @@ ghost use Rattle.relay_core.specs.Streams.{IsIsolated, served};
 ghost use Rattle.relay_wire.specs.Replies.{IsLawfulReplied};
 ghost use Rattle.relay_wire.specs.Requests.{Asked};
 
-/// Each box answers by itself: over every stream, its replies hang on it and on the requests for it alone.
+/// Each box answers by itself: over every stream, its replies hang on it and on the requests for it
+/// alone.
 pub fn isolation()
-    ensures { (name : List ℕ) (boxes : List Box) (stream : List ℕ) → IsIsolated name boxes (served boxes stream) }
+    ensures { (name : List ℕ) (boxes : List Box) (stream : List ℕ)
+        → IsIsolated name boxes (served boxes stream) }
 {}
 
 /// A request changes at most the box whose place the answer tells.
 pub fn changes()
-    ensures { (boxes : List Box) (asked : Result Asked ℕ) → IsChange boxes (answers_read boxes asked) }
+    ensures { (boxes : List Box) (asked : Result Asked ℕ)
+        → IsChange boxes (answers_read boxes asked) }
 {}
 
 /// Lawful requests, and frames that are none, keep lawful boxes lawful, and are answered lawfully.
 pub fn lawfulness()
-    ensures replies { (boxes : List Box) (asked : Result Asked ℕ) → All IsLawfulBox boxes → IsLawfulRead asked →
+    ensures replies { (boxes : List Box) (asked : Result Asked ℕ) → All IsLawfulBox boxes
+        → IsLawfulRead asked →
         IsLawfulReplied (answers_read boxes asked).reply }
-    ensures boxes { (boxes : List Box) (asked : Result Asked ℕ) → All IsLawfulBox boxes → IsLawfulRead asked →
+    ensures boxes { (boxes : List Box) (asked : Result Asked ℕ) → All IsLawfulBox boxes
+        → IsLawfulRead asked →
         All IsLawfulBox (answers_read boxes asked).next }
 {}
 
 /// The law of the record: lawful boxes are read as they were printed, and nothing else is read.
 pub fn records()
     ensures printed_is_read { (box : Box) → IsLawfulBox box → box_read (box_text box) ≡ Ok box }
-    ensures read_was_printed { (text : List ℕ) (box : Box) → AreBytes text → box_read text ≡ Ok box →
+    ensures read_was_printed { (text : List ℕ) (box : Box) → AreBytes text → box_read text ≡ Ok box
+        →
         (text ≡ box_text box) × IsLawfulBox box }
 {}

@@ -1,7 +1,9 @@
-//! The boxes of a relay: lists of packets under numbers that rise, what they reply to requests, and their records.
+//! The boxes of a relay: lists of packets under numbers that rise, what they reply to requests, and
+//! their records.
 //!
-//! `specs/Boxes` says what a box replies and what it is then, `specs/Streams` what a whole stream is answered,
-//! `specs/Record` the bytes of a box's record. All memory is taken when a relay is made.
+//! `specs/Boxes` says what a box replies and what it is then, `specs/Streams` what a whole stream
+//! is answered, `specs/Record` the bytes of a box's record. All memory is taken when a relay is
+//! made.
 //!
 //! ```rust
 //! use relay_core::Relay;

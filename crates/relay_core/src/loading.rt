@@ -31,7 +31,8 @@ fn take_packets(
     requires empty { packets.old.items ≡ [] }
     requires few { count ≤ BOX_LIMIT }
     requires room { BOX_LIMIT ≤ vec_capacity packets.old }
-    ensures reads { Reads (λ _. packets.new.items) (items (next_kept last) count) cursor.old cursor.new result }
+    ensures reads { Reads (λ _. packets.new.items)
+        (items (next_kept last) count) cursor.old cursor.new result }
     ensures room_stays { BOX_LIMIT ≤ vec_capacity packets.new }
 {
     let mut low = 0;
@@ -71,7 +72,8 @@ impl Mailbox {
 impl Relay {
     ghost use Rattle.relay_core.specs.Loading.{Loads};
 
-    /// Takes the box at a place from a record that `check_box` accepts; nothing changes where that has another name.
+    /// Takes the box at a place from a record that `check_box` accepts; nothing changes where that
+    /// has another name.
     pub fn load(&mut self, place: usize, text: &[u8]) -> Loaded
         requires inside { place < length self.old }
         requires record { IsOk (box_read text.now) }

@@ -18,13 +18,15 @@ use std::marker::Model;
 
 /// Drops the packet of a number.
 fn drop_number(packets: &mut Vec<KeptPacket>, number: u64)
-    ensures left { packets.new.items ≡ filter (λ kept. not (kept.number == number)) packets.old.items }
+    ensures left { packets.new.items ≡ filter
+        (λ kept. not (kept.number == number)) packets.old.items }
     ensures room { vec_capacity packets.new ≡ vec_capacity packets.old }
 {
     packets.retain(|kept| kept.number() != number);
 }
 
-/// A box: its name, the last number that it gave, and its packets, in memory that is taken when it is made.
+/// A box: its name, the last number that it gave, and its packets, in memory that is taken when it
+/// is made.
 #[derive(Drop)]
 pub(crate) struct Mailbox {
     pub(crate) name: Name,

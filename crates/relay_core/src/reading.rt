@@ -97,14 +97,16 @@ fn read_packet<'a>(cursor: &mut Cursor<'a>) -> Result<&'a [u8], usize>
     cursor.piece(size)
 }
 
-/// A packet after its number, which is above `low`, the number of the one before, and not above `last`.
+/// A packet after its number, which is above `low`, the number of the one before, and not above
+/// `last`.
 #[tactic(auto, unfolding(crate::specs::Record::kept_field))]
 pub(crate) fn read_kept<'a>(
     cursor: &mut Cursor<'a>,
     low: u64,
     last: u64,
 ) -> Result<(u64, &'a [u8]), usize>
-    ensures reads { Reads (λ kept. kept_of (kept.0, kept.1.now)) (kept_field low last) cursor.old cursor.new result }
+    ensures reads { Reads (λ kept. kept_of (kept.0, kept.1.now))
+        (kept_field low last) cursor.old cursor.new result }
     ensures within { EndsWithin BOX_ITEM_LIMIT cursor.old cursor.new result }
     ensures lawful { IfOk result (λ kept. is_packet kept.1.now ≡ true) }
 {

@@ -14,7 +14,8 @@ use relay_wire::{Name, Reply, Request, write_reply};
 use std::alloc::{AllocError, Global};
 use std::marker::Model;
 
-/// The boxes of a relay, in the order of the names that it was made with. A contract sees the list of them.
+/// The boxes of a relay, in the order of the names that it was made with. A contract sees the list
+/// of them.
 ///
 /// Each has room for `BOX_LIMIT` packets of `PACKET_LIMIT` bytes, taken when the relay is made.
 #[derive(Drop)]

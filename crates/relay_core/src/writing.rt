@@ -71,8 +71,10 @@ impl Relay {
     /// has. A buffer of `RECORD_LIMIT` bytes holds any.
     pub fn write_box(&self, place: usize, out: &mut [u8]) -> usize
         requires inside { place < length self.now }
-        requires room { ForSome (slice_get self.now place) (λ box. HasRoom RECORD_LIMIT (box_text box) (length out.old)) }
-        ensures record { IfSome (slice_get self.now place) (λ box. Puts out.old out.new 0 (box_text box) result) }
+        requires room { ForSome (slice_get self.now place)
+            (λ box. HasRoom RECORD_LIMIT (box_text box) (length out.old)) }
+        ensures record { IfSome (slice_get self.now place)
+            (λ box. Puts out.old out.new 0 (box_text box) result) }
         ensures lawful { IfSome (slice_get self.now place) IsLawfulBox }
         ensures size { result ≤ RECORD_LIMIT }
     {

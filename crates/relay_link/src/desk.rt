@@ -39,7 +39,8 @@ impl Model for Desk {
 }
 
 impl Desk {
-    /// The desk of a relay with empty boxes of these names, before its first connection's first frame.
+    /// The desk of a relay with empty boxes of these names, before its first connection's first
+    /// frame.
     pub(crate) fn new(alloc: Global, names: &[Name]) -> Result<Desk, AllocError>
         ensures { IfOk result (λ desk. desk ≡ fresh REPLY_LIMIT (map empty_box names.now)) }
     {

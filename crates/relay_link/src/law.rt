@@ -1,6 +1,6 @@
-//! The law of a sync over the link. The function has no code: a caller that needs the fact calls it. It is stated of sides whose
-//! state is a number, as a clause holds no law over every kind of state; the lemmas that prove it do, and stand in
-//! `proofs/Playing`.
+//! The law of a sync over the link. The function has no code: a caller that needs the fact calls
+//! it. It is stated of sides whose state is a number, as a clause holds no law over every kind of
+//! state; the lemmas that prove it do, and stand in `proofs/Playing`.
 
 ghost use Rattle.std.specs.Prelude.{ℕ};
 ghost use Rattle.relay_link.specs.Playing.{IsPlaying};

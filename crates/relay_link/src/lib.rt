@@ -1,7 +1,8 @@
 //! A link to a relay in memory, which may lose a reply and break off there.
 //!
-//! The relay answers what is sent, frame by frame, and its boxes stand from one connection to the next. `specs/Connections` says
-//! what the link tells, and `specs/Playing` that a sync over it is a scene. All memory is taken when it is made.
+//! The relay answers what is sent, frame by frame, and its boxes stand from one connection to the
+//! next. `specs/Connections` says what the link tells, and `specs/Playing` that a sync over it is a
+//! scene. All memory is taken when it is made.
 //!
 //! ```rust
 //! use relay_link::RelayLink;

@@ -16,10 +16,11 @@ use std::alloc::{AllocError, Global};
 use std::marker::Model;
 use std::snapshot::Snapshot;
 
-/// A link to a relay in memory. A contract sees one connection, which stands from the beginning on: what was sent and received on
-/// it, and the relay's boxes as it began.
+/// A link to a relay in memory. A contract sees one connection, which stands from the beginning on:
+/// what was sent and received on it, and the relay's boxes as it began.
 ///
-/// The relay answers each frame as soon as it is whole. This many of its replies come, and after them the link fails.
+/// The relay answers each frame as soon as it is whole. This many of its replies come, and after
+/// them the link fails.
 #[derive(Drop)]
 pub struct RelayLink {
     desk: Desk,
@@ -57,7 +58,8 @@ fn kept_before(lost: Option<u32>) -> usize
 }
 
 impl RelayLink {
-    /// A link to a relay with empty boxes of these names, on which no reply is lost. A relay has up to 16, no two alike.
+    /// A link to a relay with empty boxes of these names, on which no reply is lost. A relay has up
+    /// to 16, no two alike.
     pub fn new(alloc: Global, names: &[Name]) -> Result<RelayLink, AllocError>
         ensures { IfOk result (λ link. link ≡ connected REPLY_LIMIT (map empty_box names.now)) }
     {
@@ -72,8 +74,9 @@ impl RelayLink {
         })
     }
 
-    /// Begins another connection, on the boxes as they stand. The reply to the request of this number, from 1, is lost, and
-    /// with it the link; without one no reply is lost. Faults are counted anew.
+    /// Begins another connection, on the boxes as they stand. The reply to the request of this
+    /// number, from 1, is lost, and with it the link; without one no reply is lost. Faults are
+    /// counted anew.
     pub fn connect(&mut self, lost: Option<u32>)
         ensures { self.new ≡ connected (kept_before lost) (boxes_of self.old) }
     {
@@ -106,8 +109,10 @@ impl Pipe for RelayLink {
     fn receive(&mut self, into: &mut [u8]) -> Result<usize, Failed>
         ensures receives { Receives (port_of self.old) (port_of self.new) (behind_of self.old)
             (behind_of self.new) into.old into.new result }
-        ensures exact { IsErr result ↔ (HasLost self.old × (self.old.at ≡ length (coming_of self.old))) }
-        ensures most { IfOk result (λ count. count ≡ min (length into.old) (length (coming_of self.old) - self.old.at)) }
+        ensures exact { IsErr result
+            ↔ (HasLost self.old × (self.old.at ≡ length (coming_of self.old))) }
+        ensures most { IfOk result
+            (λ count. count ≡ min (length into.old) (length (coming_of self.old) - self.old.at)) }
         ensures stays { self.new ≡ record self.old { at = self.new.at; faults = self.new.faults } }
     {
         let left = self.desk.replies().len() - self.at;
@@ -125,7 +130,8 @@ impl Pipe for RelayLink {
         ensures sends { Sends (port_of self.old) (port_of self.new) (behind_of self.old)
             (behind_of self.new) bytes.now result }
         ensures exact { IsErr result ↔ (length self.old.sent ≡ SENT_LIMIT) }
-        ensures stays { self.new ≡ record self.old { sent = self.new.sent; faults = self.new.faults } }
+        ensures stays { self.new
+            ≡ record self.old { sent = self.new.sent; faults = self.new.faults } }
     {
         let free = SENT_LIMIT - self.sent.len();
         if free == 0 {

@@ -1,5 +1,5 @@
-//! Frames over a pipe: one that comes is pulled whole, all bytes of one that goes, and a request with
-//! its reply.
+//! Frames over a pipe: one that comes is pulled whole, all bytes of one that goes, and a request
+//! with its reply.
 //!
 //! Nobody reads ahead: the pipe gave the frames that were read and what the reader holds.
 #![tactic(auto)]

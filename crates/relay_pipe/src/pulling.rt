@@ -9,8 +9,8 @@ ghost use Rattle.relay_wire.specs.declared.limits.TheConstants.{FRAME_LIMIT};
 use dr_ports::{Failed, Pipe};
 use relay_wire::FrameReader;
 
-/// Receives until a whole frame stands in the reader, and no byte more. `FrameReader::next` lends it
-/// then. False where the pipe ended before.
+/// Receives until a whole frame stands in the reader, and no byte more. `FrameReader::next` lends
+/// it then. False where the pipe ended before.
 pub fn pull<P: Pipe>(reader: &mut FrameReader, pipe: &mut P) -> Result<bool, Failed>
     requires { reader.old.place + FRAME_LIMIT < 2 ^ 64 }
     ensures pulls { Pulls reader.old reader.new (P.port pipe.old) (P.port pipe.new) result }

@@ -3,21 +3,19 @@ use Rattle.std.proofs.Common.{◌≡◌, ◌≢◌, inl, inr, ⊎_elim, ℕ, ◌
 use Rattle.std.specs.Prelude.{slice_get}
 use Rattle.std.specs.Int.{w8, w64, to_be_bytes}
 use Rattle.grammar.specs.Printer.{print_items, print_sized}
-use Rattle.slot_store.proofs.Standing.{text_fits}
 use Rattle.slot_store.specs.Kept.{content_or_empty}
 use Rattle.std.proofs.lemmas.Bool.{cases_eq}
 use Rattle.dr_disk.specs.Spans.{Span}
 use Rattle.dr_disk.specs.State.{Always, DiskState}
 use Rattle.dr_disk.proofs.Steps.{spans, widen}
-use Rattle.slot_store.specs.Areas.{Area, Fits}
+use Rattle.slot_store.specs.Areas.{Area, HasText}
 use Rattle.slot_store.specs.Laws.{IsLocal}
 use Rattle.slot_store.specs.Records.{recovered}
 use Rattle.slot_store.specs.Store.{IsOldOrNew, IsWithin, KeepsOutside, Rests, SlotStore, content}
-use Rattle.relay_core.specs.declared.limits.TheConstants.{RECORD_LIMIT}
 use Rattle.relay_core.specs.Boxes.{Box, empty_box}
 use Rattle.relay_core.specs.Record.{box_text, head_text, kept_text}
 use Rattle.relay_server.specs.Durable.{IsReplaced}
-use Rattle.relay_server.specs.Places.{area_of}
+use Rattle.relay_server.specs.Places.{IsBoxRoom, area_of}
 use Rattle.relay_server.specs.Filling.{AreFilled, HasBox, IsFilling}
 use Rattle.relay_server.specs.Opening.{StaysOrBegins}
 use Rattle.relay_server.proofs.Behind.{behind_one, behind_self, behind_twice}
@@ -71,11 +69,12 @@ stays_text n k box None t has is = absurd (let e : None ≡ Some t = is in cc)
 stays_text n k box (Some s) t has is = has
 
 -- what a call in one area needs
-pub place_ready : (n : ℕ) (boxes : List Box) (stores : List SlotStore) (d : DiskState) (t : List ℕ) → AreFilled n boxes stores d → n < length boxes → length t ≤ RECORD_LIMIT → (store : SlotStore) → slice_get stores n ≡ Some store
-    → Fits store.area t × IsWithin store.area d × Always (Rests store) d
-place_ready n boxes stores d t filled inside few store there =
+pub place_ready : (n : ℕ) (boxes : List Box) (stores : List SlotStore) (d : DiskState) (bytes : List ℕ) (len : ℕ)
+    → AreFilled n boxes stores d → n < length boxes → IsBoxRoom bytes → len ≤ length bytes → (store : SlotStore) → slice_get stores n ≡ Some store
+    → HasText store.area bytes len × IsWithin store.area d × Always (Rests store) d
+place_ready n boxes stores d bytes len filled inside room few store there =
     let area = filled.areas n store there in
-    (subst (λ (a : Area). Fits a t) (sym area) (text_fits (area_of n) t (omega (arith, few))), subst (λ (a : Area). IsWithin a d) (sym area) (omega (arith, inside, filled.within)), filled.rests n store there)
+    (subst (λ (a : Area). HasText a bytes len) (sym area) (record { room = room; inside = few }), subst (λ (a : Area). IsWithin a d) (sym area) (omega (arith, inside, filled.within)), filled.rests n store there)
 
 pub stands_on : (n : ℕ) (boxes : List Box) (stores : List SlotStore) (d : DiskState) (store : SlotStore) (t : List ℕ) → AreFilled n boxes stores d → slice_get stores n ≡ Some store → content store ≡ Some t → AreFilled (n + 1) boxes stores d
 stands_on n boxes stores d store t filled here has = record {

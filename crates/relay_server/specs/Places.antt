@@ -1,7 +1,7 @@
 -- Where the boxes of a relay lie on its disk: area after area.
 use Rattle.std.specs.Prelude.{◌≡◌, ◌<◌, ◌≤◌, ◌*◌, ℕ, List, length, slice_index}
 use Rattle.dr_disk.specs.State.{DiskState}
-use Rattle.slot_store.specs.Areas.{Area, IsOutside}
+use Rattle.slot_store.specs.Areas.{Area, HasRecordRoom, IsOutside}
 use Rattle.relay_core.specs.declared.limits.TheConstants.{RELAY_LIMIT}
 use Rattle.relay_server.specs.declared.limits.TheConstants.{AREA_SIZE, BOX_PAGES, RECORD_PAGES}
 
@@ -12,6 +12,10 @@ areas_size n = AREA_SIZE * n
 -- the area of a box
 abbrev pub area_of : ℕ → Area
 area_of k = record { start = areas_size k; pages = BOX_PAGES; most = RECORD_PAGES }
+
+-- bytes that have room for any record of a box, wherever its area lies
+abbrev pub IsBoxRoom : List ℕ → Type 0
+IsBoxRoom bytes = HasRecordRoom (area_of 0) bytes
 
 -- a disk has room for this many areas
 abbrev pub HasRoom : ℕ → DiskState → Type 0

@@ -18,6 +18,13 @@ use relay_core::check_box;
 use slot_store::{Area, Grammar, OpenError, SlotStore, locality};
 use std::alloc::Global;
 
+/// The area of the first box.
+pub(crate) const FIRST_AREA: Area = Area {
+    start: 0,
+    pages: BOX_PAGES,
+    most: RECORD_PAGES,
+};
+
 /// The records of boxes, as a store's grammar.
 struct BoxRecords {}
 
@@ -33,16 +40,19 @@ impl Grammar for BoxRecords {
 fn open_area<D: Disk>(alloc: Global, disk: &mut D, k: usize) -> Result<SlotStore, ServerOpenError>
     requires few { k < RELAY_LIMIT }
     requires within { IsWithin (area_of k) (D.state disk.old) }
-    ensures opened { IfOk result (λ store. IsAreaOpened k store (D.state disk.old) (D.state disk.new)) }
+    ensures opened { IfOk result
+        (λ store. IsAreaOpened k store (D.state disk.old) (D.state disk.new)) }
     ensures refused { IfErr result (IsAreaRefused k (D.state disk.old) (D.state disk.new)) }
-    ensures any_moment { Span (D.state disk.old) (D.state disk.new) (IsEntryOrLike (area_of k) (D.state disk.old)) }
-    ensures still { IsReadAtRest (area_of k) (D.state disk.old) → Unwritten (D.state disk.old) (D.state disk.new) }
-    ensures reads { (s : List ℕ) → (D.state disk.new).seen ≡ Option.Some s → IsLikeRead (area_of k) (D.state disk.old) s }
+    ensures any_moment { Span (D.state disk.old) (D.state disk.new)
+        (IsEntryOrLike (area_of k) (D.state disk.old)) }
+    ensures still { IsReadAtRest (area_of k) (D.state disk.old)
+        → Unwritten (D.state disk.old) (D.state disk.new) }
+    ensures reads { (s : List ℕ) → (D.state disk.new).seen ≡ Option.Some s
+        → IsLikeRead (area_of k) (D.state disk.old) s }
 {
     let area = Area {
         start: AREA_SIZE * k as u64,
-        pages: BOX_PAGES,
-        most: RECORD_PAGES,
+        ..FIRST_AREA
     };
     match SlotStore::open::<BoxRecords, D>(alloc, disk, area) {
         Ok((store, _found)) => Ok(store),
@@ -64,7 +74,8 @@ pub(crate) fn open_areas<D: Disk>(
 ) -> Result<Vec<SlotStore>, ServerOpenError>
     requires few { count ≤ RELAY_LIMIT }
     requires within { HasRoom count (D.state disk.old) }
-    ensures opened { IfOk result (λ stores. AreOpened count count stores.items (D.state disk.old) (D.state disk.new)) }
+    ensures opened { IfOk result
+        (λ stores. AreOpened count count stores.items (D.state disk.old) (D.state disk.new)) }
     ensures refused { IfErr result (AreRefused count (D.state disk.old) (D.state disk.new)) }
     ensures looks { HasLooked count (D.state disk.old) (D.state disk.new) }
 {

@@ -4,7 +4,7 @@ ghost use Rattle.std.specs.Prelude.{◌≡◌, ◌≢◌, ◌<◌, ◌≤◌, �
 ghost use Rattle.dr_base.specs.Causes.{Rose};
 ghost use Rattle.dr_disk.specs.State.{Always};
 ghost use Rattle.dr_disk.specs.Spans.{IsQuiet, Span};
-ghost use Rattle.slot_store.specs.Areas.{Fits};
+ghost use Rattle.slot_store.specs.Areas.{HasText};
 ghost use Rattle.slot_store.specs.Store.{IsWithin, Rests, SlotStore};
 ghost use Rattle.relay_wire.specs.Frames.{IsFrame};
 ghost use Rattle.relay_wire.specs.Requests.{read_request};
@@ -34,35 +34,41 @@ pub struct DurableBoxes {
 }
 
 impl Model for DurableBoxes {
-    ghost use Rattle.std.specs.Prelude.{◌≡◌, length};
-    ghost use Rattle.relay_core.specs.declared.limits.TheConstants.{RECORD_LIMIT};
     ghost use Rattle.relay_server.specs.Durable.{ServerNow};
+    ghost use Rattle.relay_server.specs.Places.{IsBoxRoom};
 
     ghost Value = { ServerNow };
 
     ghost view = { λ s. record { boxes = s.relay; stores = s.stores.items } };
 
-    ghost invariant = { λ s. length s.text.items ≡ RECORD_LIMIT };
+    ghost invariant = { λ s. IsBoxRoom s.text.items };
 }
 
-/// Replaces the record of one store.
+/// Replaces the record of one store by the first `len` bytes of a text, which gets the room of the
+/// record before.
 pub(crate) fn replace_at<D: Disk>(
     stores: &mut [SlotStore],
     place: usize,
     disk: &mut D,
-    text: &[u8],
+    text: &mut Vec<u8>,
+    len: usize,
 ) -> Result<(), Call>
     requires inside { place < length stores.old }
     requires ready { (store : SlotStore) → slice_get stores.old place ≡ Option.Some store
-        → Fits store.area text.now × IsWithin store.area (D.state disk.old) × Always (Rests store) (D.state disk.old) }
+        → HasText store.area text.old.items len × IsWithin store.area (D.state disk.old)
+        × Always (Rests store) (D.state disk.old) }
     ensures others { (j : ℕ) → j ≢ place → slice_get stores.new j ≡ slice_get stores.old j }
-    ensures there { (old new : SlotStore) → slice_get stores.old place ≡ Option.Some old → slice_get stores.new place ≡ Option.Some new
-        → IsReplaced text.now old new (D.state disk.old) (D.state disk.new) (is_ok result) }
+    ensures there { (old new : SlotStore) → slice_get stores.old place ≡ Option.Some old
+        → slice_get stores.new place ≡ Option.Some new
+        → IsReplaced (take len text.old.items) old new (D.state disk.old) (D.state disk.new)
+        (is_ok result) }
     ensures count { length stores.new ≡ length stores.old }
-    ensures fault { IfErr result (λ call. Rose ((D.state disk.old).faults call) ((D.state disk.new).faults call)) }
+    ensures room { length text.new.items ≡ length text.old.items }
+    ensures fault { IfErr result
+        (λ call. Rose ((D.state disk.old).faults call) ((D.state disk.new).faults call)) }
     ensures quiet { OnOk result (IsQuiet (D.state disk.old) (D.state disk.new)) }
 {
-    match stores[place].replace(disk, text) {
+    match stores[place].replace(disk, text, len) {
         Ok(()) => Ok(()),
         Err(fault) => Err(fault.call),
     }
@@ -90,7 +96,7 @@ impl DurableBoxes {
         let answered = answer_frame(&mut self.relay, frame, out);
         if let Some(place) = answered.changed {
             let len = write_text(&self.relay, place, &mut self.text);
-            if let Err(call) = replace_at(&mut self.stores, place, disk, &self.text[..len]) {
+            if let Err(call) = replace_at(&mut self.stores, place, disk, &mut self.text, len) {
                 return Err(call);
             }
         }
@@ -136,7 +142,8 @@ impl DurableBoxes {
         ensures rounds { Rounds box_text self.old self.new (P.port pipe.old) (P.port pipe.new)
             (D.state disk.old) (D.state disk.new) result }
         ensures counts { LeavesCounts D.state P.port disk.old disk.new pipe.old pipe.new result }
-        ensures fresh { IfOk result (λ r. (last : Bool) → r ≡ Round.Answered last → reader.new.bytes ≡ []) }
+        ensures fresh { IfOk result (λ r. (last : Bool) → r ≡ Round.Answered last
+            → reader.new.bytes ≡ []) }
         ensures place { reader.new.place ≤ reader.old.place + FRAME_LIMIT }
     {
         match pull(reader, pipe) {
@@ -154,8 +161,8 @@ impl DurableBoxes {
         }
     }
 
-    /// Serves a connection: answers its frames in order until it ends, until a frame had no lawful length, or until
-    /// 65,536 frames were answered. A frame that the end cuts is dropped.
+    /// Serves a connection: answers its frames in order until it ends, until a frame had no lawful
+    /// length, or until 65,536 frames were answered. A frame that the end cuts is dropped.
     pub fn serve<D: Disk, P: Pipe>(
         &mut self,
         disk: &mut D,

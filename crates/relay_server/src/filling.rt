@@ -5,9 +5,10 @@ ghost use Rattle.dr_base.specs.Causes.{Rose};
 ghost use Rattle.dr_disk.specs.Spans.{IsQuiet, Span};
 ghost use Rattle.slot_store.specs.Store.{SlotStore, content};
 ghost use Rattle.relay_core.specs.Boxes.{Box};
-ghost use Rattle.relay_core.specs.declared.limits.TheConstants.{RECORD_LIMIT, RELAY_LIMIT};
+ghost use Rattle.relay_core.specs.declared.limits.TheConstants.{RELAY_LIMIT};
 ghost use Rattle.relay_server.specs.Filling.{AreFilled, AreLoaded, IsFilling, IsFirstOthers, IsLoadedAt, IsOthers};
 ghost use Rattle.relay_server.specs.Opening.{box_fault};
+ghost use Rattle.relay_server.specs.Places.{IsBoxRoom};
 
 use crate::answering::write_text;
 use crate::durable::replace_at;
@@ -20,7 +21,8 @@ fn load_record(relay: &mut Relay, place: usize, text: &[u8]) -> bool
     requires inside { place < length relay.old }
     requires clean { box_fault text.now ≡ Option.None }
     ensures loaded { result ≡ true → IsLoadedAt place relay.old relay.new (Option.Some text.now) }
-    ensures other { result ≡ false → (was : Box) → slice_get relay.old place ≡ Option.Some was → IsOthers was (Option.Some text.now) }
+    ensures other { result ≡ false → (was : Box) → slice_get relay.old place ≡ Option.Some was
+        → IsOthers was (Option.Some text.now) }
     ensures count { length relay.new ≡ length relay.old }
 {
     records();
@@ -30,12 +32,15 @@ fn load_record(relay: &mut Relay, place: usize, text: &[u8]) -> bool
     }
 }
 
-/// Loads the box at a place from its store, and answers whether the record has its name. Without a record nothing changes.
+/// Loads the box at a place from its store, and answers whether the record has its name. Without a
+/// record nothing changes.
 fn load_box(relay: &mut Relay, place: usize, store: &SlotStore) -> bool
     requires inside { place < length relay.old }
-    requires clean { (text : List ℕ) → content store.now ≡ Option.Some text → box_fault text ≡ Option.None }
+    requires clean { (text : List ℕ) → content store.now ≡ Option.Some text
+        → box_fault text ≡ Option.None }
     ensures loaded { result ≡ true → IsLoadedAt place relay.old relay.new (content store.now) }
-    ensures other { result ≡ false → (was : Box) → slice_get relay.old place ≡ Option.Some was → IsOthers was (content store.now) }
+    ensures other { result ≡ false → (was : Box) → slice_get relay.old place ≡ Option.Some was
+        → IsOthers was (content store.now) }
     ensures count { length relay.new ≡ length relay.old }
 {
     let text = store.content();
@@ -45,11 +50,13 @@ fn load_box(relay: &mut Relay, place: usize, store: &SlotStore) -> bool
     load_record(relay, place, text)
 }
 
-/// Loads each box from its store, up to the first whose record has another name: its place is the error.
+/// Loads each box from its store, up to the first whose record has another name: its place is the
+/// error.
 pub(crate) fn load_boxes(relay: &mut Relay, stores: &[SlotStore]) -> Result<(), u32>
     requires few { length relay.old ≤ RELAY_LIMIT }
     requires count { length stores.now ≡ length relay.old }
-    requires clean { (k : ℕ) (store : SlotStore) (text : List ℕ) → slice_get stores.now k ≡ Option.Some store
+    requires clean { (k : ℕ) (store : SlotStore) (text : List ℕ)
+        → slice_get stores.now k ≡ Option.Some store
         → content store ≡ Option.Some text → box_fault text ≡ Option.None }
     ensures loaded { OnOk result (AreLoaded (length relay.old) relay.old relay.new stores.now) }
     ensures other { IfErr result (λ k. IsFirstOthers k relay.old stores.now) }
@@ -67,17 +74,19 @@ fn fill_area<D: Disk>(
     relay: &Relay,
     stores: &mut [SlotStore],
     place: usize,
-    text: &mut [u8],
+    text: &mut Vec<u8>,
     disk: &mut D,
 ) -> Result<(), Call>
     requires inside { place < length relay.now }
     requires filled { AreFilled place relay.now stores.old (D.state disk.old) }
-    requires room { RECORD_LIMIT ≤ length text.old }
+    requires room { IsBoxRoom text.old.items }
     ensures filled { OnOk result (AreFilled (place + 1) relay.now stores.new (D.state disk.new)) }
-    ensures any_moment { Span (D.state disk.old) (D.state disk.new) (IsFilling relay.now (D.state disk.old)) }
-    ensures fault { IfErr result (λ call. Rose ((D.state disk.old).faults call) ((D.state disk.new).faults call)) }
+    ensures any_moment { Span (D.state disk.old) (D.state disk.new)
+        (IsFilling relay.now (D.state disk.old)) }
+    ensures fault { IfErr result
+        (λ call. Rose ((D.state disk.old).faults call) ((D.state disk.new).faults call)) }
     ensures quiet { OnOk result (IsQuiet (D.state disk.old) (D.state disk.new)) }
-    ensures size { length text.new ≡ length text.old }
+    ensures room { IsBoxRoom text.new.items }
 {
     locality();
     resting();
@@ -85,23 +94,26 @@ fn fill_area<D: Disk>(
         return Ok(());
     }
     let len = write_text(relay, place, text);
-    replace_at(stores, place, disk, &text[..len])
+    replace_at(stores, place, disk, text, len)
 }
 
 /// Puts the record of each box whose store has none.
 pub(crate) fn fill_areas<D: Disk>(
     relay: &Relay,
     stores: &mut [SlotStore],
-    text: &mut [u8],
+    text: &mut Vec<u8>,
     disk: &mut D,
 ) -> Result<(), Call>
     requires filled { AreFilled 0 relay.now stores.old (D.state disk.old) }
-    requires room { RECORD_LIMIT ≤ length text.old }
-    ensures filled { OnOk result (AreFilled (length relay.now) relay.now stores.new (D.state disk.new)) }
-    ensures any_moment { Span (D.state disk.old) (D.state disk.new) (IsFilling relay.now (D.state disk.old)) }
-    ensures fault { IfErr result (λ call. Rose ((D.state disk.old).faults call) ((D.state disk.new).faults call)) }
+    requires room { IsBoxRoom text.old.items }
+    ensures filled { OnOk result
+        (AreFilled (length relay.now) relay.now stores.new (D.state disk.new)) }
+    ensures any_moment { Span (D.state disk.old) (D.state disk.new)
+        (IsFilling relay.now (D.state disk.old)) }
+    ensures fault { IfErr result
+        (λ call. Rose ((D.state disk.old).faults call) ((D.state disk.new).faults call)) }
     ensures quiet { OnOk result (IsQuiet (D.state disk.old) (D.state disk.new)) }
-    ensures size { length text.new ≡ length text.old }
+    ensures room { IsBoxRoom text.new.items }
 {
     'boxes: for place in 0..stores.len() {
         match fill_area(relay, stores, place, text, disk) {

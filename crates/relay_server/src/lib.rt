@@ -1,7 +1,7 @@
 //! A relay whose boxes stand on a disk: it serves one connection after the other.
 //!
-//! Each box is a record in an area of its own. A reply that says that something was kept or dropped goes out after the
-//! record that has it is on the disk.
+//! Each box is a record in an area of its own. A reply that says that something was kept or dropped
+//! goes out after the record that has it is on the disk.
 //!
 //! ```rust
 //! use relay_server::Server;

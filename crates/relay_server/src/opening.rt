@@ -3,28 +3,21 @@
 ghost use Rattle.std.specs.Prelude.{◌≡◌, ◌≤◌, map, length, IfOk, OnOk};
 ghost use Rattle.dr_disk.specs.Spans.{Span};
 ghost use Rattle.relay_core.specs.Boxes.{empty_box};
-ghost use Rattle.relay_core.specs.declared.limits.TheConstants.{RECORD_LIMIT};
+ghost use Rattle.relay_server.specs.Areas.{HasLooked};
 ghost use Rattle.relay_server.specs.Durable.{FailsByCall};
 ghost use Rattle.relay_server.specs.Filling.{IsFilling};
 ghost use Rattle.relay_server.specs.Looking.{HasSettled, IsUnsettled, LooksAt};
 ghost use Rattle.relay_server.specs.Places.{HasRoomFor};
 
-use crate::areas::open_areas;
+use crate::areas::{FIRST_AREA, open_areas};
 use crate::durable::DurableBoxes;
 use crate::errors::ServerOpenError;
 use crate::filling::{fill_areas, load_boxes};
 use dr_disk::{Call, Disk};
-use relay_core::{RECORD_LIMIT, Relay};
+use relay_core::Relay;
 use relay_wire::Name;
-use slot_store::{locality, readings};
-use std::alloc::{AllocError, Global};
-
-/// Room for a record.
-fn record_room(alloc: Global) -> Result<Vec<u8>, AllocError>
-    ensures { IfOk result (λ text. length text.items ≡ RECORD_LIMIT) }
-{
-    vec![in alloc; 0; RECORD_LIMIT]
-}
+use slot_store::{locality, readings, record_room};
+use std::alloc::Global;
 
 impl DurableBoxes {
     /// Looks at the boxes of these names, 1 to 16 and no two alike: each lives in the area of its
@@ -47,7 +40,7 @@ impl DurableBoxes {
         let Ok(mut relay) = Relay::new(alloc, names) else {
             return Err(ServerOpenError::Memory);
         };
-        let Ok(text) = record_room(alloc) else {
+        let Ok(text) = record_room(alloc, FIRST_AREA) else {
             return Err(ServerOpenError::Memory);
         };
         let stores = match open_areas(alloc, disk, names.len()) {
@@ -68,8 +61,10 @@ impl DurableBoxes {
     /// Gives each area without a record an empty box's.
     pub fn settle<D: Disk>(&mut self, disk: &mut D) -> Result<(), Call>
         requires { IsUnsettled self.old (D.state disk.old) }
-        ensures settled { OnOk result (HasSettled self.old self.new (D.state disk.old) (D.state disk.new)) }
-        ensures any_moment { Span (D.state disk.old) (D.state disk.new) (IsFilling self.old.boxes (D.state disk.old)) }
+        ensures settled { OnOk result
+            (HasSettled self.old self.new (D.state disk.old) (D.state disk.new)) }
+        ensures any_moment { Span (D.state disk.old) (D.state disk.new)
+            (IsFilling self.old.boxes (D.state disk.old)) }
         ensures fault { FailsByCall (D.state disk.old) (D.state disk.new) result }
     {
         fill_areas(&self.relay, &mut self.stores, &mut self.text, disk)

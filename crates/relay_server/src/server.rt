@@ -59,8 +59,10 @@ impl Looked {
     /// Gives each area without a record an empty box's. Then the server is ready.
     pub fn settle<D: Disk>(self, disk: &mut D) -> Result<Server, Call>
         requires { IsUnsettled self (D.state disk.old) }
-        ensures settled { IfOk result (λ server. HasSettled self server (D.state disk.old) (D.state disk.new)) }
-        ensures any_moment { Span (D.state disk.old) (D.state disk.new) (IsFilling self.boxes (D.state disk.old)) }
+        ensures settled { IfOk result
+            (λ server. HasSettled self server (D.state disk.old) (D.state disk.new)) }
+        ensures any_moment { Span (D.state disk.old) (D.state disk.new)
+            (IsFilling self.boxes (D.state disk.old)) }
         ensures fault { FailsByCall (D.state disk.old) (D.state disk.new) result }
     {
         let mut server = self.server;
@@ -121,10 +123,13 @@ impl Server {
         names: &[Name],
     ) -> Result<Server, ServerOpenError>
         requires { HasRoomFor names.now (D.state disk.old) }
-        ensures opened { IfOk result (λ server. IsOpened names.now server (D.state disk.old) (D.state disk.new)) }
-        ensures unopened { IfErr result (IsUnopened names.now (D.state disk.old) (D.state disk.new)) }
+        ensures opened { IfOk result
+            (λ server. IsOpened names.now server (D.state disk.old) (D.state disk.new)) }
+        ensures unopened { IfErr result
+            (IsUnopened names.now (D.state disk.old) (D.state disk.new)) }
         // Meanwhile, and in each ending.
-        ensures any_moment { Span (D.state disk.old) (D.state disk.new) (IsOpening names.now (D.state disk.old)) }
+        ensures any_moment { Span (D.state disk.old) (D.state disk.new)
+            (IsOpening names.now (D.state disk.old)) }
     {
         let looked = match Server::look(alloc, disk, names) {
             Ok(looked) => looked,

@@ -5,7 +5,8 @@ use dr_ports::{Door, MemoryDoor, MemorySink, Stand};
 use relay_command::{RELAY_DISK_SIZE, relay};
 use std::alloc::{AllocError, Global};
 
-/// A fetch from the box `a`, the post of the packet 07 to it, another fetch, and the acknowledgement of that packet.
+/// A fetch from the box `a`, the post of the packet 07 to it, another fetch, and the
+/// acknowledgement of that packet.
 pub const REQUESTS: &[u8] = b"\x00\x03\x02\x01a\x00\x04\x01\x01a\x07\x00\x03\x02\x01a\
     \x00\x0b\x03\x01a\x00\x00\x00\x00\x00\x00\x00\x01";
 
@@ -21,8 +22,9 @@ pub fn blank(alloc: Global) -> Result<MemoryDisk, AllocError> {
     MemoryDisk::new(alloc, RELAY_DISK_SIZE)
 }
 
-/// A door whose first connection holds this many bytes of the requests, and whose second one the rest. Listening and accepting
-/// fail at the calls of the numbers `fails`, receiving and sending at those of `pipe_fails`.
+/// A door whose first connection holds this many bytes of the requests, and whose second one the
+/// rest. Listening and accepting fail at the calls of the numbers `fails`, receiving and sending at
+/// those of `pipe_fails`.
 pub fn door(
     alloc: Global,
     cut: usize,
@@ -83,7 +85,8 @@ fn is_exchanged(
         && door.sent() == REPLIES
 }
 
-/// Whether the worked exchange is answered so, with the requests cut there, in this many connections.
+/// Whether the worked exchange is answered so, with the requests cut there, in this many
+/// connections.
 fn exchanges(alloc: Global, count: u32, cut: usize, lines: &[u8]) -> bool {
     let Ok(mut disk) = blank(alloc) else {
         return false;

@@ -176,8 +176,8 @@ fn is_placed(frame: &Frame<'_>, place: u64, name: u64, packet: u64, bytes: &[u8]
     }
 }
 
-/// Whether the second frame begins at 5, with its name at 9 and its packet at 10: behind its length,
-/// its kind, the length of the name, and the name.
+/// Whether the second frame begins at 5, with its name at 9 and its packet at 10: behind its
+/// length, its kind, the length of the name, and the name.
 fn are_placed(reader: &mut FrameReader) -> bool
     requires { reader.old ≡ record { bytes = []; place = 0 } }
 {

@@ -6,7 +6,8 @@ use relay_core::{Relay, answer_frame};
 use relay_wire::{Frame, FrameReader, Name};
 use std::alloc::Global;
 
-/// Requests for the boxes `a` and `b`, bytes that are none, a frame of no lawful length, and one request more.
+/// Requests for the boxes `a` and `b`, bytes that are none, a frame of no lawful length, and one
+/// request more.
 const REQUESTS: &[u8] = b"\x00\x03\x02\x01a\x00\x04\x01\x01a\x07\x00\x03\x02\x01a\
     \x00\x0b\x03\x01a\x00\x00\x00\x00\x00\x00\x00\x01\x00\x0b\x03\x01a\x00\x00\x00\x00\x00\x00\x00\x01\
     \x00\x03\x02\x01b\x00\x01\x09\x00\x00\x00\x03\x02\x01a";

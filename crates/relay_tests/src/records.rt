@@ -65,8 +65,8 @@ fn load_and_write(relay: &mut Relay, place: usize, text: &[u8], out: &mut [u8]) 
     (loaded, len)
 }
 
-/// What loading a text into the boxes `b` and `a` gives, and how long the record of `a` is then; nothing where the text is
-/// no record.
+/// What loading a text into the boxes `b` and `a` gives, and how long the record of `a` is then;
+/// nothing where the text is no record.
 fn loads(alloc: Global, text: &[u8], out: &mut [u8]) -> Option<(Loaded, Loaded, usize)>
     requires { RECORD_LIMIT ≤ length out.old }
 {

@@ -10,7 +10,8 @@ use relay_server::{AREA_SIZE, Ended, ServeFault, Server, ServerOpenError};
 use relay_wire::Name;
 use std::alloc::{AllocError, Global};
 
-/// Requests for the boxes `a` and `b`, bytes that are none, a frame of no lawful length, and one request more.
+/// Requests for the boxes `a` and `b`, bytes that are none, a frame of no lawful length, and one
+/// request more.
 const REQUESTS: &[u8] = b"\x00\x03\x02\x01a\x00\x04\x01\x01a\x07\x00\x03\x02\x01a\
     \x00\x0b\x03\x01a\x00\x00\x00\x00\x00\x00\x00\x01\x00\x0b\x03\x01a\x00\x00\x00\x00\x00\x00\x00\x01\
     \x00\x03\x02\x01b\x00\x01\x09\x00\x00\x00\x03\x02\x01a";

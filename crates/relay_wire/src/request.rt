@@ -27,8 +27,8 @@ pub struct Request<'a> {
 }
 
 /// A frame is no request. Its kind is the first of these that is so: 1 its length is 0 or above
-/// `BODY_LIMIT`; 2 its first byte says nothing that may be asked; 3 no name stands after its length;
-/// 4 what stands after the name isn't as it must be.
+/// `BODY_LIMIT`; 2 its first byte says nothing that may be asked; 3 no name stands after its
+/// length; 4 what stands after the name isn't as it must be.
 #[derive(Clone, Copy, Debug, PartialEq, Eq, Error)]
 #[error("the frame is no request, for reason {kind}")]
 pub struct Bad {

@@ -97,8 +97,8 @@ fn parse_named(first: u8, bytes: &[u8], place: u64) -> Result<Request<'_>, Bad>
     }
 }
 
-/// Reads a request, whose parts are lent from the frame, or finds the first kind of what is wrong with
-/// the frame.
+/// Reads a request, whose parts are lent from the frame, or finds the first kind of what is wrong
+/// with the frame.
 #[tactic(auto, unfolding(crate::specs::Requests::read_request))]
 pub fn parse_request<'a>(frame: &Frame<'a>) -> Result<Request<'a>, Bad>
     ensures reads { ParsesRequest result (read_request (drop 2 frame.now.bytes.now)) }

@@ -18,7 +18,8 @@ use dr_base::{put, put_u16};
 /// Writes the frame of a first byte and three parts after it.
 fn put_frame(out: &mut [u8], first: u8, one: &[u8], two: &[u8], three: &[u8]) -> usize
     requires fits { 1 + length one.now + length two.now + length three.now ≤ BODY_LIMIT }
-    requires room { HasRoom FRAME_LIMIT (framed (first ∷ (one.now ++ (two.now ++ three.now)))) (length out.old) }
+    requires room { HasRoom FRAME_LIMIT (framed (first ∷ (one.now ++ (two.now ++ three.now))))
+        (length out.old) }
     ensures { Puts out.old out.new 0 (framed (first ∷ (one.now ++ (two.now ++ three.now)))) result }
 {
     let size = 1 + one.len() + two.len() + three.len();
@@ -29,7 +30,8 @@ fn put_frame(out: &mut [u8], first: u8, one: &[u8], two: &[u8], three: &[u8]) ->
     put(out, at_three, three)
 }
 
-/// Writes the frame of a request at the beginning, and answers how many bytes it has. A buffer of 4,098 bytes holds any.
+/// Writes the frame of a request at the beginning, and answers how many bytes it has. A buffer of
+/// 4,098 bytes holds any.
 #[tactic(auto, unfolding(crate::specs::Requests::request_body))]
 pub fn write_request(request: &Request<'_>, out: &mut [u8]) -> usize
     requires { HasRoom FRAME_LIMIT (framed (request_body (asked_of request.now))) (length out.old) }
@@ -44,7 +46,8 @@ pub fn write_request(request: &Request<'_>, out: &mut [u8]) -> usize
     }
 }
 
-/// Writes the frame of a reply at the beginning, and answers how many bytes it has. A buffer of 4,098 bytes holds any.
+/// Writes the frame of a reply at the beginning, and answers how many bytes it has. A buffer of
+/// 4,098 bytes holds any.
 #[tactic(auto, unfolding(crate::specs::Replies::reply_body))]
 pub fn write_reply(reply: &Reply<'_>, out: &mut [u8]) -> usize
     requires { HasRoom FRAME_LIMIT (framed (reply_body (replied_of reply.now))) (length out.old) }

@@ -29,7 +29,8 @@ fn begin_on<K: Kem, D: Disk>(
     disk: &mut D,
 ) -> Result<OutputLine, Ending>
     requires { IsWithin client_area (D.state disk.old) }
-    ensures { Begins D.state K.mechanism key.now.bytes side disk.old disk.new (begun_ending result) (begun_lines result) }
+    ensures { Begins D.state K.mechanism key.now.bytes side disk.old disk.new (begun_ending result)
+        (begun_lines result) }
 {
     readings();
     match Client::<K>::begin(alloc, disk, side, key) {
@@ -56,7 +57,8 @@ fn read_and_begin<K: Kem, D: Disk, S: Source>(
     }
 }
 
-/// Begins the session of the key whose 64 hex digits the source holds, on a disk that holds none, and writes `session S`.
+/// Begins the session of the key whose 64 hex digits the source holds, on a disk that holds none,
+/// and writes `session S`.
 pub fn begin<K: Kem, D: Disk, S: Source, O: Sink>(
     alloc: Global,
     side: Side,
@@ -65,7 +67,8 @@ pub fn begin<K: Kem, D: Disk, S: Source, O: Sink>(
     out: &mut O,
 ) -> Status
     requires { IsWithin client_area (D.state disk.old) }
-    ensures runs { Runs (RunsBegin D.state K.mechanism side (S.at source.old) (S.at source.new) disk.old disk.new)
+    ensures runs { Runs (RunsBegin D.state K.mechanism side (S.at source.old)
+        (S.at source.new) disk.old disk.new)
         (O.at out.old) (O.at out.new) result.code }
     // Status 0 says that no call failed.
     ensures quiet { result.code ≡ 0 → IsQuiet (D.state disk.old) (D.state disk.new)

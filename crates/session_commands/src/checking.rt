@@ -5,37 +5,19 @@ ghost use Rattle.dr_disk.specs.Spans.{IsQuiet};
 ghost use Rattle.dr_ports.specs.Writing.{Writes};
 ghost use Rattle.slot_store.specs.Store.{IsWithin};
 ghost use Rattle.client.specs.Clients.{client_area};
-ghost use Rattle.client.specs.Opening.{record_fault};
 ghost use Rattle.session_commands.specs.Checking.{RunsCheck, ending_of_look, finding_line, found_lines, gate_line, gate_lines, report_lines, rest_line};
 ghost use Rattle.session_commands.specs.Runs.{Runs};
 
 use crate::closing::finish_written;
 use crate::lines::put_count;
 use answer_lines::put_named;
-use client::{AREA_PAGES, RECORD_PAGES};
+use client::look;
 use dr_disk::Disk;
 use dr_ports::{Failed, OutputLine, ROOM, Sink, write_all};
 use endings::{Ending, Status, finish};
 use kem_laws::Kem;
-use slot_store::{Area, Finding, Gate, Grammar, InspectError, Report, inspect};
+use slot_store::{Finding, Gate, InspectError, Report};
 use std::alloc::Global;
-use std::marker::PhantomData;
-
-/// The records of clients, as a store's grammar.
-struct Records<K: Kem> {
-    mechanism: PhantomData<K>,
-}
-
-impl<K: Kem> Grammar for Records<K> {
-    ghost fault_at = { λ text. record_fault K.mechanism text };
-
-    fn check(text: &[u8]) -> Result<(), u32> {
-        match session_record::check::<K>(text) {
-            Ok(()) => Ok(()),
-            Err(damaged) => Err(damaged.at as u32),
-        }
-    }
-}
 
 /// Puts the line of a table.
 #[tactic(auto, unfolding(crate::specs::Checking::gate_line))]
@@ -133,12 +115,7 @@ pub fn check<K: Kem, D: Disk, O: Sink>(alloc: Global, disk: &mut D, out: &mut O)
         × ((O.at out.new).faults ≡ (O.at out.old).faults) }
     ensures later { (O.at out.old).faults ≤ (O.at out.new).faults }
 {
-    let area = Area {
-        start: 0,
-        pages: AREA_PAGES,
-        most: RECORD_PAGES,
-    };
-    match inspect::<Records<K>, D>(alloc, disk, area) {
+    match look::<K, D>(alloc, disk) {
         Err(error) => finish(out, unread(error)),
         Ok(report) => {
             let wrote = write_report(report, out);

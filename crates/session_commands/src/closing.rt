@@ -22,7 +22,8 @@ fn answer_line(answer: Answer) -> OutputLine
     line
 }
 
-/// The status of a command that did its work and whose lines were written, or of which a write failed.
+/// The status of a command that did its work and whose lines were written, or of which a write
+/// failed.
 pub(crate) fn finish_written<O: Sink>(out: &mut O, wrote: Result<(), Failed>) -> Status
     ensures ends { (lines : List ℕ) (old : SinkState) → Writes old (O.at out.old) lines wrote
         → Ends Done lines old (O.at out.new) result.code }
@@ -45,7 +46,8 @@ pub(crate) fn finish_with<O: Sink>(out: &mut O, lines: &[u8]) -> Status
 
 /// Writes the line of an answer, or the last line of another ending.
 pub(crate) fn close<O: Sink>(out: &mut O, worked: Result<Answer, Ending>) -> Status
-    ensures ends { Ends (ending_by worked) (lines_by worked) (O.at out.old) (O.at out.new) result.code }
+    ensures ends { Ends (ending_by worked) (lines_by worked) (O.at out.old)
+        (O.at out.new) result.code }
     ensures later { (O.at out.old).faults ≤ (O.at out.new).faults }
 {
     match worked {

@@ -23,7 +23,8 @@ use std::alloc::Global;
 /// Opens the client, which drops the oldest texts of its inbox.
 fn drop_texts<K: Kem, D: Disk>(alloc: Global, n: u32, disk: &mut D) -> Result<Answer, Ending>
     requires { IsWithin client_area (D.state disk.old) }
-    ensures { RunsAct D.state K.mechanism (asked_drop (finishing n)) disk.old disk.new (ending_by result) (lines_by result) }
+    ensures { RunsAct D.state K.mechanism (asked_drop (finishing n)) disk.old disk.new
+        (ending_by result) (lines_by result) }
 {
     match Client::<K>::open(alloc, disk) {
         Err(refusal) => Err(unopened(refusal)),
@@ -51,7 +52,8 @@ pub fn done<K: Kem, D: Disk, O: Sink>(alloc: Global, n: u32, disk: &mut D, out: 
 /// Opens the client, which drops the oldest packets of its outbox.
 fn drop_packets<K: Kem, D: Disk>(alloc: Global, n: u32, disk: &mut D) -> Result<Answer, Ending>
     requires { IsWithin client_area (D.state disk.old) }
-    ensures { RunsAct D.state K.mechanism (asked_drop (sending n)) disk.old disk.new (ending_by result) (lines_by result) }
+    ensures { RunsAct D.state K.mechanism (asked_drop (sending n)) disk.old disk.new
+        (ending_by result) (lines_by result) }
 {
     match Client::<K>::open(alloc, disk) {
         Err(refusal) => Err(unopened(refusal)),

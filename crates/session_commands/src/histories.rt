@@ -1,4 +1,5 @@
-//! Runs of commands on one disk, one after the other. The functions have no code: a caller that needs a fact calls them.
+//! Runs of commands on one disk, one after the other. The functions have no code: a caller that
+//! needs a fact calls them.
 
 ghost use Rattle.std.specs.Prelude.{◌≡◌, ℕ, [], List, Result, Some};
 ghost use Rattle.dr_base.specs.declared.position.Side.{Side};
@@ -28,47 +29,66 @@ use client::client_grounds;
 use dr_disk::Disk;
 use dr_ports::Draws;
 
-/// A command reads one of the worlds that are known of the disk at entry; and reads it whole, where each image is read without
-/// damage. So what `complete` says of a command holds of it.
+/// A command reads one of the worlds that are known of the disk at entry; and reads it whole, where
+/// each image is read without damage. So what `complete` says of a command holds of it.
 pub fn reads_known<D: Disk>(disk: &D)
-    ensures known { (k : Mechanism) (side : Side) (first : World) (known : Known) (bytes : List ℕ) → IsLawfulWorld k first
+    ensures known { (k : Mechanism) (side : Side) (first : World) (known : Known) (bytes : List ℕ)
+        → IsLawfulWorld k first
         → StandsStill k side first known (D.state disk.now) → (D.state disk.now).seen ≡ Some bytes
         → (w : World) × IsOneOf known w × IsLawfulWorld k w × Reads k w side (D.state disk.now) }
-    ensures whole { (k : Mechanism) (side : Side) (first : World) (known : Known) (bytes : List ℕ) → IsLawfulWorld k first
-        → StandsStill k side first known (D.state disk.now) → Always (IsUndamaged client_area) (D.state disk.now)
-        → (D.state disk.now).seen ≡ Some bytes → (w : World) × IsOneOf known w × ReadsWhole k w side (D.state disk.now) }
+    ensures whole { (k : Mechanism) (side : Side) (first : World) (known : Known) (bytes : List ℕ)
+        → IsLawfulWorld k first
+        → StandsStill k side first known (D.state disk.now)
+        → Always (IsUndamaged client_area) (D.state disk.now)
+        → (D.state disk.now).seen ≡ Some bytes → (w : World) × IsOneOf known w
+        × ReadsWhole k w side (D.state disk.now) }
 {}
 
-/// A disk of which each image is read without damage stays so over a command, and over a crash at any moment in it.
+/// A disk of which each image is read without damage stays so over a command, and over a crash at
+/// any moment in it.
 pub fn stays_whole<D: Disk>(before: &D, after: &D, crashed: &D)
-    ensures acts { (k : Mechanism) (side : Side) (w next : World) → Always (IsUndamaged client_area) (D.state before.now)
+    ensures acts { (k : Mechanism) (side : Side) (w next : World)
+        → Always (IsUndamaged client_area) (D.state before.now)
         → RunsOn k side w next (D.state before.now) (D.state after.now)
-        → ((c : List ℕ) → (D.state crashed.now).image c → IsLeftBetween (D.state before.now) (D.state after.now) c)
+        → ((c : List ℕ) → (D.state crashed.now).image c
+        → IsLeftBetween (D.state before.now) (D.state after.now) c)
         → Always (IsUndamaged client_area) (D.state crashed.now) }
-    ensures syncs { (k : Mechanism) (side : Side) (w : World) (kept : Client) (replies : List Replied) (result : Result More SyncFault)
+    ensures syncs { (k : Mechanism) (side : Side) (w : World) (kept : Client)
+        (replies : List Replied) (result : Result More SyncFault)
         → Always (IsUndamaged client_area) (D.state before.now)
         → SyncRunsIn k side w kept replies (D.state before.now) (D.state after.now) result
-        → ((c : List ℕ) → (D.state crashed.now).image c → IsLeftBetween (D.state before.now) (D.state after.now) c)
+        → ((c : List ℕ) → (D.state crashed.now).image c
+        → IsLeftBetween (D.state before.now) (D.state after.now) c)
         → Always (IsUndamaged client_area) (D.state crashed.now) }
 {}
 
-/// What a command comes to, in a world that is known of the disk at entry, is a link from before it to after it. So the laws of
-/// `client` over whole runs hold of runs of commands.
+/// What a command comes to, in a world that is known of the disk at entry, is a link from before it
+/// to after it. So the laws of `client` over whole runs hold of runs of commands.
 pub fn runs_are_links<D: Disk, W: Draws>(before: &D, after: &D, draws: &W, left: &W)
-    ensures says { (k : Mechanism) → IsLawfulMechanism k → (side : Side) (known : Known) (w : World) → IsOneOf known w → IsLawfulWorld k w
-        → (text : List ℕ) → LinksActs k side known w (asked_say W.at text draws.now left.now) (D.state before.now) (D.state after.now) }
-    ensures takes { (k : Mechanism) → IsLawfulMechanism k → (side : Side) (known : Known) (w : World) → IsOneOf known w → IsLawfulWorld k w
-        → (packet : List ℕ) → LinksActs k side known w (asked_take k packet) (D.state before.now) (D.state after.now) }
-    ensures drops { (k : Mechanism) → IsLawfulMechanism k → (side : Side) (known : Known) (w : World) → IsOneOf known w → IsLawfulWorld k w
-        → (act : Act) → LinksActs k side known w (asked_drop act) (D.state before.now) (D.state after.now) }
-    ensures shows { (k : Mechanism) → IsLawfulMechanism k → (side : Side) (known : Known) (w : World) → IsOneOf known w → IsLawfulWorld k w
+    ensures says { (k : Mechanism) → IsLawfulMechanism k → (side : Side) (known : Known) (w : World)
+        → IsOneOf known w → IsLawfulWorld k w
+        → (text : List ℕ) → LinksActs k side known w (asked_say W.at text draws.now left.now)
+        (D.state before.now) (D.state after.now) }
+    ensures takes { (k : Mechanism) → IsLawfulMechanism k
+        → (side : Side) (known : Known) (w : World) → IsOneOf known w → IsLawfulWorld k w
+        → (packet : List ℕ) → LinksActs k side known w (asked_take k packet) (D.state before.now)
+        (D.state after.now) }
+    ensures drops { (k : Mechanism) → IsLawfulMechanism k
+        → (side : Side) (known : Known) (w : World) → IsOneOf known w → IsLawfulWorld k w
+        → (act : Act) → LinksActs k side known w (asked_drop act) (D.state before.now)
+        (D.state after.now) }
+    ensures shows { (k : Mechanism) → IsLawfulMechanism k
+        → (side : Side) (known : Known) (w : World) → IsOneOf known w → IsLawfulWorld k w
         → (shows : Client → List ℕ) (ending : Ending) (lines : List ℕ)
         → (runs : ShowsIn k w side shows (D.state before.now) (D.state after.now) ending lines)
         → Link k side (D.state before.now) (D.state after.now) known (shown_known runs known) }
-    ensures syncs { (k : Mechanism) → IsLawfulMechanism k → (side : Side) (known : Known) (w : World) → IsOneOf known w → IsLawfulWorld k w
-        → (kept : Client) (replies : List Replied) (result : Result More SyncFault) → AreUnforged k [] side w replies
+    ensures syncs { (k : Mechanism) → IsLawfulMechanism k
+        → (side : Side) (known : Known) (w : World) → IsOneOf known w → IsLawfulWorld k w
+        → (kept : Client) (replies : List Replied) (result : Result More SyncFault)
+        → AreUnforged k [] side w replies
         → SyncRunsIn k side w kept replies (D.state before.now) (D.state after.now) result
-        → Link k side (D.state before.now) (D.state after.now) known (synced_known k side w replies result known) }
+        → Link k side (D.state before.now) (D.state after.now) known
+        (synced_known k side w replies result known) }
     ensures stays { (k : Mechanism) (side : Side) (known : Known) (w : World) → IsOneOf known w
         → RunsOn k side w w (D.state before.now) (D.state after.now)
         → Link k side (D.state before.now) (D.state after.now) known known }
@@ -76,25 +96,35 @@ pub fn runs_are_links<D: Disk, W: Draws>(before: &D, after: &D, draws: &W, left:
     client_grounds();
 }
 
-/// A crash inside a command is a link too, from before it to what the crash left: it leaves what one might have left at a moment
-/// of the run.
+/// A crash inside a command is a link too, from before it to what the crash left: it leaves what
+/// one might have left at a moment of the run.
 pub fn crashes_are_links<D: Disk, W: Draws>(before: &D, after: &D, crashed: &D, draws: &W, left: &W)
     ensures says { (k : Mechanism) (side : Side) (known : Known) (w : World) → IsOneOf known w
-        → ((c : List ℕ) → (D.state crashed.now).image c → IsLeftBetween (D.state before.now) (D.state after.now) c)
-        → (text : List ℕ) → LinksCuts k side known w (asked_say W.at text draws.now left.now) (D.state before.now) (D.state after.now) (D.state crashed.now) }
+        → ((c : List ℕ) → (D.state crashed.now).image c
+        → IsLeftBetween (D.state before.now) (D.state after.now) c)
+        → (text : List ℕ) → LinksCuts k side known w (asked_say W.at text draws.now left.now)
+        (D.state before.now) (D.state after.now) (D.state crashed.now) }
     ensures takes { (k : Mechanism) (side : Side) (known : Known) (w : World) → IsOneOf known w
-        → ((c : List ℕ) → (D.state crashed.now).image c → IsLeftBetween (D.state before.now) (D.state after.now) c)
-        → (packet : List ℕ) → LinksCuts k side known w (asked_take k packet) (D.state before.now) (D.state after.now) (D.state crashed.now) }
+        → ((c : List ℕ) → (D.state crashed.now).image c
+        → IsLeftBetween (D.state before.now) (D.state after.now) c)
+        → (packet : List ℕ) → LinksCuts k side known w (asked_take k packet) (D.state before.now)
+        (D.state after.now) (D.state crashed.now) }
     ensures drops { (k : Mechanism) (side : Side) (known : Known) (w : World) → IsOneOf known w
-        → ((c : List ℕ) → (D.state crashed.now).image c → IsLeftBetween (D.state before.now) (D.state after.now) c)
-        → (act : Act) → LinksCuts k side known w (asked_drop act) (D.state before.now) (D.state after.now) (D.state crashed.now) }
+        → ((c : List ℕ) → (D.state crashed.now).image c
+        → IsLeftBetween (D.state before.now) (D.state after.now) c)
+        → (act : Act) → LinksCuts k side known w (asked_drop act) (D.state before.now)
+        (D.state after.now) (D.state crashed.now) }
     ensures syncs { (k : Mechanism) (side : Side) (known : Known) (w : World) → IsOneOf known w
-        → (kept : Client) (replies : List Replied) (result : Result More SyncFault) → AreUnforged k [] side w replies
+        → (kept : Client) (replies : List Replied) (result : Result More SyncFault)
+        → AreUnforged k [] side w replies
         → SyncRunsIn k side w kept replies (D.state before.now) (D.state after.now) result
-        → ((c : List ℕ) → (D.state crashed.now).image c → IsLeftBetween (D.state before.now) (D.state after.now) c)
-        → Link k side (D.state before.now) (D.state crashed.now) known (cut_in_sync k side w replies known) }
+        → ((c : List ℕ) → (D.state crashed.now).image c
+        → IsLeftBetween (D.state before.now) (D.state after.now) c)
+        → Link k side (D.state before.now) (D.state crashed.now) known
+        (cut_in_sync k side w replies known) }
     ensures stays { (k : Mechanism) (side : Side) (known : Known) (w : World) → IsOneOf known w
         → RunsOn k side w w (D.state before.now) (D.state after.now)
-        → ((c : List ℕ) → (D.state crashed.now).image c → IsLeftBetween (D.state before.now) (D.state after.now) c)
+        → ((c : List ℕ) → (D.state crashed.now).image c
+        → IsLeftBetween (D.state before.now) (D.state after.now) c)
         → Link k side (D.state before.now) (D.state crashed.now) known known }
 {}

@@ -1,8 +1,9 @@
-//! The work of the commands on a session, on a source, a sink, a disk, a link and draws: begin, say, take, inbox, done, sent,
-//! outbox, state, check and sync.
+//! The work of the commands on a session, on a source, a sink, a disk, a link and draws: begin,
+//! say, take, inbox, done, sent, outbox, state, check and sync.
 //!
-//! Each command but `begin` opens the client that the disk holds, lets it act at most once, sync, or shows what it keeps, writes
-//! its lines and answers its status. `take` and `begin` read the source first.
+//! Each command but `begin` opens the client that the disk holds, lets it act at most once, sync,
+//! or shows what it keeps, writes its lines and answers its status. `take` and `begin` read the
+//! source first.
 #![tactic(auto)]
 
 pub use beginning::begin;

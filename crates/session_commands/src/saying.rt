@@ -27,7 +27,8 @@ fn say_text<K: Kem, D: Disk, W: Draws>(
     draws: &mut W,
 ) -> Result<Answer, Ending>
     requires { IsWithin client_area (D.state disk.old) }
-    ensures { RunsAct D.state K.mechanism (asked_say W.at text.now draws.old draws.new) disk.old disk.new
+    ensures { RunsAct D.state K.mechanism
+        (asked_say W.at text.now draws.old draws.new) disk.old disk.new
         (ending_by result) (lines_by result) }
 {
     match Client::<K>::open(alloc, disk) {
@@ -39,7 +40,8 @@ fn say_text<K: Kem, D: Disk, W: Draws>(
     }
 }
 
-/// Says a text, and writes `said E.I`. A seed is drawn exactly where the client is open and the text needs one.
+/// Says a text, and writes `said E.I`. A seed is drawn exactly where the client is open and the
+/// text needs one.
 pub fn say<K: Kem, D: Disk, O: Sink, W: Draws>(
     alloc: Global,
     text: &[u8],
@@ -48,7 +50,8 @@ pub fn say<K: Kem, D: Disk, O: Sink, W: Draws>(
     draws: &mut W,
 ) -> Status
     requires { IsWithin client_area (D.state disk.old) }
-    ensures runs { Runs (RunsAct D.state K.mechanism (asked_say W.at text.now draws.old draws.new) disk.old disk.new)
+    ensures runs { Runs (RunsAct D.state K.mechanism
+        (asked_say W.at text.now draws.old draws.new) disk.old disk.new)
         (O.at out.old) (O.at out.new) result.code }
     // Status 0 says that no call failed.
     ensures quiet { result.code ≡ 0 → IsQuiet (D.state disk.old) (D.state disk.new)

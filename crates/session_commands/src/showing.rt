@@ -120,7 +120,8 @@ pub fn outbox<K: Kem, D: Disk, O: Sink>(alloc: Global, disk: &mut D, out: &mut O
     }
 }
 
-/// Shows what the client is and holds: the lines `session S`, `side SIDE`, `epoch E`, `missing M`, `inbox I` and `outbox O`.
+/// Shows what the client is and holds: the lines `session S`, `side SIDE`, `epoch E`, `missing M`,
+/// `inbox I` and `outbox O`.
 pub fn state<K: Kem, D: Disk, O: Sink>(alloc: Global, disk: &mut D, out: &mut O) -> Status
     requires { IsWithin client_area (D.state disk.old) }
     ensures runs { Runs (RunsShow D.state K.mechanism state_lines disk.old disk.new)

@@ -71,8 +71,8 @@ fn close<O: Sink>(out: &mut O, synced: Result<More, SyncFault>) -> Status
     }
 }
 
-/// Opens the client, connects the link to the address, syncs over it and ends the connection: the lines of the sync are written.
-/// Where no client was opened the link is left alone.
+/// Opens the client, connects the link to the address, syncs over it and ends the connection: the
+/// lines of the sync are written. Where no client was opened the link is left alone.
 pub fn sync<K: Kem, D: Disk, L: Link, O: Sink>(
     alloc: Global,
     address: &str,
@@ -81,7 +81,8 @@ pub fn sync<K: Kem, D: Disk, L: Link, O: Sink>(
     out: &mut O,
 ) -> Status
     requires { IsWithin client_area (D.state disk.old) }
-    ensures runs { Runs (RunsSync D.state L.port K.mechanism address.now disk.old disk.new link.old link.new (O.at out.old).faults (O.at out.new).faults)
+    ensures runs { Runs (RunsSync D.state L.port K.mechanism address.now disk.old disk.new link.old
+        link.new (O.at out.old).faults (O.at out.new).faults)
         (O.at out.old) (O.at out.new) result.code }
     // Status 0 says that no call failed.
     ensures quiet { result.code ≡ 0 → IsQuiet (D.state disk.old) (D.state disk.new)

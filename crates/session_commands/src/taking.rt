@@ -27,7 +27,8 @@ fn take_packet<K: Kem, D: Disk>(
     disk: &mut D,
 ) -> Result<Answer, Ending>
     requires { IsWithin client_area (D.state disk.old) }
-    ensures { RunsAct D.state K.mechanism (asked_take K.mechanism packet.now) disk.old disk.new (ending_by result) (lines_by result) }
+    ensures { RunsAct D.state K.mechanism (asked_take K.mechanism packet.now) disk.old disk.new
+        (ending_by result) (lines_by result) }
 {
     match Client::<K>::open(alloc, disk) {
         Err(refusal) => Err(unopened(refusal)),
@@ -55,8 +56,8 @@ fn read_and_take<K: Kem, D: Disk, S: Source>(
     }
 }
 
-/// Takes the packet whose hex digits the source holds, and writes `opened E.I`. Where the source holds none the disk is
-/// left alone.
+/// Takes the packet whose hex digits the source holds, and writes `opened E.I`. Where the source
+/// holds none the disk is left alone.
 pub fn take<K: Kem, D: Disk, S: Source, O: Sink>(
     alloc: Global,
     disk: &mut D,
@@ -64,7 +65,8 @@ pub fn take<K: Kem, D: Disk, S: Source, O: Sink>(
     out: &mut O,
 ) -> Status
     requires { IsWithin client_area (D.state disk.old) }
-    ensures runs { Runs (RunsTake D.state K.mechanism (S.at source.old) (S.at source.new) disk.old disk.new)
+    ensures runs { Runs (RunsTake D.state K.mechanism (S.at source.old)
+        (S.at source.new) disk.old disk.new)
         (O.at out.old) (O.at out.new) result.code }
     // Status 0 says that no call failed.
     ensures quiet { result.code ≡ 0 → IsQuiet (D.state disk.old) (D.state disk.new)

@@ -1,11 +1,11 @@
 -- Bytes that stand for what was read.
-use Rattle.std.proofs.Common.{◌≡◌, ⊎_elim, ℕ, List, Option, Some, None, refl, sym, ◌∙◌, ap, subst, arith}
+use Rattle.std.proofs.Common.{◌≡◌, ⊎_elim, ℕ, List, Option, Some, None, refl, sym, ◌∙◌, ap, subst}
 use Rattle.dr_disk.specs.State.{Always, DiskState, IsLawful, IsSettled}
 use Rattle.dr_disk.specs.Spans.{Span}
 use Rattle.dr_disk.proofs.Steps.{spans, widen}
 use Rattle.pages.specs.Clearing.{IsSameShots}
 use Rattle.record_pages.specs.Tables.{record_names}
-use Rattle.slot_store.specs.Areas.{Area, IsArea, layout_of, size_of}
+use Rattle.slot_store.specs.Areas.{Area, layout_of}
 use Rattle.slot_store.specs.Reading.{IsLikeRead, IsUndamaged, OpensAs, read_as, reading}
 use Rattle.slot_store.specs.Records.{recovered, shot_in, shown}
 use Rattle.slot_store.proofs.Outside.{self_outside, twice_outside}

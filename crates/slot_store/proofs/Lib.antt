@@ -23,8 +23,9 @@ pub mod Blank
 mod RestBytes
 mod Replanned
 pub mod Contents
-mod FilledIn
+mod Blanked
 mod ReadPages
+mod TablesRead
 mod Printed
 mod Filled
 mod Standings

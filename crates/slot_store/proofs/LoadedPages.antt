@@ -1,6 +1,6 @@
 -- What was read into memory by a table without a fault.
-use Rattle.std.proofs.Common.{◌≡◌, ℕ, ◌+◌, ◌-◌, ◌*◌, ◌≤◌, List, [], ◌++◌, length, take, drop, map, replicate, Option, Some, None, refl, sym, ◌∙◌, ap, ap₂, arith, length-drop}
-use Rattle.std.proofs.lemmas.List.{drop-append-le, drop-replicate, length-take-le, replicate-append-replicate, take-append-drop}
+use Rattle.std.proofs.Common.{◌≡◌, ℕ, ◌+◌, ◌-◌, ◌*◌, ◌≤◌, List, [], length, take, drop, map, replicate, Option, Some, None, refl, sym, ◌∙◌, ap, ap₂, arith, length-drop}
+use Rattle.std.proofs.lemmas.List.{length-take-le}
 use Rattle.std.proofs.lemmas.List.Elements.{All-get_or}
 use Rattle.dr_base.specs.declared.limits.TheConstants.{PAGE}
 use Rattle.pages.specs.Layouts.{IsPage}
@@ -26,12 +26,6 @@ behind_none (Some at) z is = absurd (let e : Some (PAGE + at) ≡ None = is in c
 pub faultless_by : (area : Area) (p m : ℕ) (body : List ℕ) (r : Option ℕ) → p ≡ area.pages → m ≡ area.most → r ≡ table_fault p m body
     → r ≡ None → table_fault area.pages area.most body ≡ None
 faultless_by area p m body r pages most is none = ap₂ (λ x y. table_fault x y body) (sym pages) (sym most) ∙ sym is ∙ none
-
-pub zeros_of : (items old : List ℕ) (len : ℕ) → old ≡ items → len ≡ 0 → drop len items ≡ replicate (length items - len) 0
-    → old ≡ replicate (length old) 0
-zeros_of items old len is zero blank =
-    is ∙ sym (ap (λ k. drop k items) zero) ∙ blank
-    ∙ ap (λ k. replicate k 0) (let e : length items - len ≡ length old = omega (arith, ap (λ (l : List ℕ). length l) is, zero) in e)
 
 module _ (area : Area) (body numbers : List ℕ) (len : ℕ) (lawful : IsArea area)
     (faultless : table_fault area.pages area.most body ≡ None) (names : numbers ≡ record_names body)
@@ -76,31 +70,11 @@ module _ (area : Area) (body numbers : List ℕ) (len : ℕ) (lawful : IsArea ar
     loaded_pages none = named ∙ sym (cut_filled (length numbers) len bytes count room
         (all_zeros (drop len (take (PAGE * length numbers) bytes)) len none))
 
-  -- behind the record there are zeros, where there were before
-  module _ (bytes old : List ℕ) (size : length bytes ≡ PAGE * area.most) (same_size : length bytes ≡ length old)
-      (behind : drop (PAGE * length numbers) bytes ≡ drop (PAGE * length numbers) old)
-      (blank : old ≡ replicate (length old) 0)
-      (none : nonzero_from len (drop len (take (PAGE * length numbers) bytes)) ≡ None) where
-    n : ℕ
-    n = PAGE * length numbers
-
-    long : length (take (PAGE * length numbers) bytes) ≡ PAGE * length numbers
-    long = length-take-le (PAGE * length numbers) bytes (omega (arith, few, size))
-
-    front : drop len (take (PAGE * length numbers) bytes) ≡ replicate (PAGE * length numbers - len) 0
-    front = all_zeros (drop len (take (PAGE * length numbers) bytes)) len none
-        ∙ ap (λ k. replicate k 0) (length-drop len (take (PAGE * length numbers) bytes) ∙ ap (λ k. k - len) long)
-
-    back : drop (PAGE * length numbers) bytes ≡ replicate (length bytes - PAGE * length numbers) 0
-    back = behind ∙ ap (λ (l : List ℕ). drop (PAGE * length numbers) l) blank
-        ∙ drop-replicate (PAGE * length numbers) (length old) 0
-        ∙ ap (λ k. replicate (k - PAGE * length numbers) 0) (sym same_size)
-
-    pub loaded_blank : drop len bytes ≡ replicate (length bytes - len) 0
-    loaded_blank =
-        ap (λ (l : List ℕ). drop len l) (sym (take-append-drop (PAGE * length numbers) bytes))
-        ∙ drop-append-le len (take (PAGE * length numbers) bytes) (drop (PAGE * length numbers) bytes) (omega (arith, long, fits))
-        ∙ ap₂ (λ (x y : List ℕ). x ++ y) front back
-        ∙ replicate-append-replicate (PAGE * length numbers - len) (length bytes - PAGE * length numbers) 0
-        ∙ ap (λ k. replicate k 0)
-        (let e : PAGE * length numbers - len + (length bytes - PAGE * length numbers) ≡ length bytes - len = omega (arith, few, size, fits) in e)
+  -- behind the record its pages have zeros
+  pub loaded_blank : (bytes : List ℕ) → length bytes ≡ PAGE * area.most
+      → nonzero_from len (drop len (take (PAGE * length numbers) bytes)) ≡ None
+      → drop len (take (PAGE * length numbers) bytes) ≡ replicate (PAGE * length numbers - len) 0
+  loaded_blank bytes size none =
+      all_zeros (drop len (take (PAGE * length numbers) bytes)) len none
+      ∙ ap (λ k. replicate k 0) (length-drop len (take (PAGE * length numbers) bytes)
+      ∙ ap (λ k. k - len) (length-take-le (PAGE * length numbers) bytes (omega (arith, few, size))))

@@ -4,7 +4,6 @@ use Rattle.std.specs.Prelude.{if◌then◌else◌, ◌==◌, not}
 use Rattle.std.proofs.lemmas.Bool.{cases_eq}
 use Rattle.std.proofs.lemmas.Bool.Decides.{nat_tests}
 use Rattle.dr_base.specs.declared.limits.TheConstants.{PAGE}
-use Rattle.dr_disk.specs.State.{DiskState}
 use Rattle.pages.specs.declared.layout.Layout.{Layout}
 use Rattle.pages.specs.declared.layout.TheConstants.{OPEN}
 use Rattle.pages.specs.Layouts.{IsSound}

@@ -1,7 +1,7 @@
 -- Pages that were read one after the other into bytes.
-use Rattle.std.proofs.Common.{◌≡◌, ℕ, zero, suc, ◌+◌, ◌-◌, ◌*◌, ◌≤◌, ◌<◌, List, [], ◌∷◌, ◌++◌, length, take, drop, map, get_or, refl, sym, ◌∙◌, ap, ap₂, arith}
+use Rattle.std.proofs.Common.{◌≡◌, ℕ, zero, suc, ◌+◌, ◌*◌, ◌≤◌, ◌<◌, List, [], ◌∷◌, ◌++◌, length, take, drop, map, get_or, refl, sym, ◌∙◌, ap, ap₂, arith}
 use Rattle.std.proofs.lemmas.List.{drop-drop, drop-take, drop_at, length-take-le, map_more, take-append-drop, take-take}
-use Rattle.std.proofs.lemmas.Slice.{drop-put_mid, take-put_mid, take-put_mid_below}
+use Rattle.std.proofs.lemmas.Slice.{take-put_mid, take-put_mid_below}
 use borrow.Rule.Slice.PartMut.{put_mid}
 use Rattle.dr_base.specs.declared.limits.TheConstants.{PAGE}
 use Rattle.record_pages.specs.Pages.{cut, joined, page_at}
@@ -66,15 +66,6 @@ read_more i old new page numbers f lt before here is was =
     ∙ ap₂ (λ (ps : List (List ℕ)) (p : List ℕ). ps ++ p ∷ []) was is
     ∙ sym (map_more f numbers i 0 lt)
 
--- what stays behind a place stays behind a later one
-pub behind_later : (n m : ℕ) (old new : List ℕ) → n ≤ m → drop n new ≡ drop n old → drop m new ≡ drop m old
-behind_later n m old new le same =
-    ap (λ k. drop k new) (sym more) ∙ sym (drop-drop (m - n) n new) ∙ ap (λ (l : List ℕ). drop (m - n) l) same
-    ∙ drop-drop (m - n) n old ∙ ap (λ k. drop k old) more
-  where
-    more : n + (m - n) ≡ m
-    more = omega arith
-
 -- a page put in its place
 module _ (i k : ℕ) (old page : List ℕ) (long : length page ≡ PAGE) (size : k ≡ PAGE) (fits : PAGE * i + PAGE ≤ length old) where
   pub put_before : take (PAGE * i) (put_mid (PAGE * i) k old page) ≡ take (PAGE * i) old
@@ -85,6 +76,3 @@ module _ (i k : ℕ) (old page : List ℕ) (long : length page ≡ PAGE) (size :
       sym (drop-take (PAGE * i) PAGE (put_mid (PAGE * i) k old page))
       ∙ ap (λ (l : List ℕ). drop (PAGE * i) l) (take-put_mid (PAGE * i) k old page (PAGE * i + PAGE) (omega arith) (omega arith))
       ∙ drop_at (take (PAGE * i) old) page (PAGE * i) (length-take-le (PAGE * i) old (omega arith))
-
-  pub put_behind : (n : ℕ) → PAGE * i + PAGE ≤ n → drop n (put_mid (PAGE * i) k old page) ≡ drop n old
-  put_behind n le = drop-put_mid (PAGE * i) k old page n (omega arith) (omega arith) (omega arith)

@@ -1,16 +1,15 @@
 -- A record in memory and the text that takes its place: what the plan gives.
-use Rattle.std.proofs.Common.{◌≡◌, ℕ, ◌-◌, ◌*◌, ◌<◌, ◌≤◌, List, [], ◌++◌, length, take, drop, replicate, None, sym, ◌∙◌, ap, arith, length-append, length-take-le}
-use Rattle.std.proofs.lemmas.List.{length-replicate}
-use Rattle.std.proofs.Math.Seq.{drop-append_seam}
+use Rattle.std.proofs.Common.{◌≡◌, ℕ, ◌-◌, ◌*◌, ◌<◌, ◌≤◌, List, [], length, take, drop, replicate, None, sym, ◌∙◌, ap, ap₂, arith, length-drop, length-take-le}
 use Rattle.dr_base.specs.declared.limits.TheConstants.{PAGE}
 use Rattle.record_pages.specs.Pages.{cut, page_count, pages_in}
 use Rattle.record_pages.specs.Plans.{changed, changed_places, dropped, free_from, numbered}
 use Rattle.record_pages.specs.Tables.{entry_fault}
-use Rattle.record_pages.proofs.Filled.{count_fits, count_least, cut_kept, pages_in_long, room_for}
+use Rattle.record_pages.proofs.Filled.{count_fits, count_least, pages_in_long}
 use Rattle.record_pages.proofs.FreeEnough.{free_enough}
 use Rattle.record_pages.proofs.LawfulEntries.{entries_lawful, lawful_entries}
 use Rattle.record_pages.proofs.PlanEntries.{ArePlanned, plan_entries}
 use Rattle.record_pages.proofs.Renumbered.{changed_few, numbered_long, numbered_short}
+use Rattle.slot_store.proofs.Filled.{cut_filled}
 use Rattle.slot_store.proofs.Paging.{each_of}
 use Rattle.slot_store.specs.declared.kept.Kept.{Kept}
 use Rattle.slot_store.specs.Areas.{Area, Fits, IsArea}
@@ -19,7 +18,7 @@ use Rattle.slot_store.specs.Layout.{free_in}
 -- a record in memory, and the numbers of its pages
 pub record IsKept (area : Area) (len : ℕ) (bytes numbers : List ℕ) : Type 0 where
   pub inside : len ≤ length bytes
-  pub blank : drop len bytes ≡ replicate (length bytes - len) 0
+  pub blank : drop len (take (PAGE * length numbers) bytes) ≡ replicate (PAGE * length numbers - len) 0
   pub each : length numbers ≡ page_count len
   pub long : length bytes ≡ PAGE * area.most
   pub entries : entry_fault area.pages [] 6 numbers ≡ None
@@ -27,13 +26,6 @@ pub record IsKept (area : Area) (len : ℕ) (bytes numbers : List ℕ) : Type 0 
 pub kept_is : (area : Area) (kept : Kept) → length kept.bytes.items ≡ PAGE * area.most → entry_fault area.pages [] 6 kept.numbers.items ≡ None
     → IsKept area kept.len kept.bytes.items kept.numbers.items
 kept_is area kept long entries = record { inside = kept.fits; blank = kept.blank; each = each_of kept; long = long; entries = entries }
-
--- a text and zeros
-pub zeros_behind : (text all : List ℕ) (k : ℕ) → all ≡ text ++ replicate k 0 → drop (length text) all ≡ replicate (length all - length text) 0
-zeros_behind text all k is =
-    let long : k ≡ length all - length text =
-    omega (arith, ap (λ (l : List ℕ). length l) is, length-append text (replicate k 0), length-replicate {A = ℕ} k 0) in
-    ap (λ (l : List ℕ). drop (length text) l) is ∙ drop-append_seam text (replicate k 0) ∙ ap (λ n. replicate n 0) long
 
 -- the free numbers, as they were filled in
 pub filled_is : (area : Area) (numbers now free : List ℕ) (total : ℕ) → now ≡ numbers → total ≡ area.pages → free ≡ free_from now (total - 2) 2
@@ -51,8 +43,10 @@ module _ (area : Area) (lawful : IsArea area) (len : ℕ) (bytes numbers : List 
   -- its pages, in memory
   pub old_pages : cut (length numbers) bytes ≡ pages_in (take len bytes)
   old_pages =
-      ap (λ k. cut k bytes) kept.each
-      ∙ cut_kept len bytes kept.inside kept.blank (room_for len area.most bytes kept.inside kept.long)
+      sym (cut_filled (length numbers) len bytes kept.each held_room (kept.blank ∙ ap (λ k. replicate k 0) (
+      let e : PAGE * length numbers - len ≡ length (drop len (take (PAGE * length numbers) bytes)) =
+      sym (length-drop len (take (PAGE * length numbers) bytes)
+      ∙ ap (λ k. k - len) (length-take-le (PAGE * length numbers) bytes held_room)) in e)))
 
   pub old_long : length numbers ≡ length (pages_in (take len bytes))
   old_long =
@@ -76,9 +70,6 @@ module _ (area : Area) (lawful : IsArea area) (len : ℕ) (bytes numbers : List 
     pub free_left : length (changed old new) ≤ length (free_in area numbers)
     free_left = omega (arith, free_room, changed_few old new, pages_in_long text)
 
-    pub text_room : length text ≤ length bytes
-    text_room = omega (arith, count_fits (length text) area.most fits, kept.long)
-
     pub text_short : length text < 4294967296
     text_short = omega (arith, count_fits (length text) area.most fits, lawful.named)
 
@@ -97,20 +88,29 @@ module _ (area : Area) (lawful : IsArea area) (len : ℕ) (bytes numbers : List 
     named_long = numbered_long old numbers new (free_in area numbers) old_long ∙ pages_in_long text
 
     -- ---- as the code has it: over these bytes and these free numbers
-    module _ (lent given : List ℕ) (is : lent ≡ bytes) (free : given ≡ free_in area numbers) where
-      pub given_room : page_count (length text) ≤ length given
-      given_room = omega (arith, free_room, ap (λ (l : List ℕ). length l) free)
+    module _ (lent given sent : List ℕ) (is : lent ≡ bytes) (free : given ≡ free_in area numbers) (said : sent ≡ text) where
+      pub given_room : page_count (length sent) ≤ length given
+      given_room = omega (arith, free_room, ap (λ (l : List ℕ). length l) free, ap (λ (l : List ℕ). page_count (length l)) said)
 
       lent_pages : cut (length numbers) lent ≡ old
       lent_pages = ap (λ (l : List ℕ). cut (length numbers) l) is ∙ old_pages
 
-      pub numbers_are : numbered (cut (length numbers) lent) numbers new given ≡ numbered old numbers new (free_in area numbers)
+      sent_pages : pages_in sent ≡ new
+      sent_pages = ap (λ (l : List ℕ). pages_in l) said
+
+      pub numbers_are : numbered (cut (length numbers) lent) numbers (pages_in sent) given
+          ≡ numbered old numbers new (free_in area numbers)
       numbers_are =
-          ap (λ (l : List (List ℕ)). numbered l numbers new given) lent_pages
+          ap₂ (λ (k l : List (List ℕ)). numbered k numbers l given) lent_pages sent_pages
           ∙ ap (λ (l : List ℕ). numbered old numbers new l) free
 
-      pub places_are : changed_places 0 (cut (length numbers) lent) new ≡ changed_places 0 old new
-      places_are = ap (λ (l : List (List ℕ)). changed_places 0 l new) lent_pages
+      pub places_are : changed_places 0 (cut (length numbers) lent) (pages_in sent) ≡ changed_places 0 old new
+      places_are = ap₂ (λ (k l : List (List ℕ)). changed_places 0 k l) lent_pages sent_pages
 
-      pub dropped_are : dropped (cut (length numbers) lent) numbers new ≡ dropped old numbers new
-      dropped_are = ap (λ (l : List (List ℕ)). dropped l numbers new) lent_pages
+      pub dropped_are : dropped (cut (length numbers) lent) numbers (pages_in sent) ≡ dropped old numbers new
+      dropped_are = ap₂ (λ (k l : List (List ℕ)). dropped k numbers l) lent_pages sent_pages
+
+      -- the pages of the text, by their new numbers
+      pub count_is : (now : List ℕ) → now ≡ numbered (cut (length numbers) lent) numbers (pages_in sent) given
+          → length now ≡ page_count (length text)
+      count_is now numbered_so = ap (λ (l : List ℕ). length l) (numbered_so ∙ numbers_are) ∙ named_long

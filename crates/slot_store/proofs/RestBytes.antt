@@ -1,5 +1,5 @@
 -- At rest an area's bytes are a function of the record and the mark.
-use Rattle.std.proofs.Common.{◌≡◌, ◌≢◌, ◌⊎◌, inl, inr, ⊎_elim, ℕ, ◌+◌, ◌≤◌, ◌<◌, Bool, true, false, All, List, [], ◌∷◌, map, refl, sym, ◌∙◌, subst}
+use Rattle.std.proofs.Common.{◌≡◌, ◌≢◌, ◌⊎◌, inl, inr, ⊎_elim, ℕ, Bool, true, false, All, List, [], ◌∷◌, map, refl, sym, ◌∙◌, subst}
 use Rattle.std.proofs.lemmas.List.Elements.{All-cons, All-head, All-nil, All-tail}
 use Rattle.std.specs.Prelude.{not, slice_index}
 use Rattle.std.proofs.lemmas.Bool.{cases_eq}
@@ -9,7 +9,7 @@ use Rattle.pages.specs.Resting.{IsAtRest as AreAtRest}
 use Rattle.pages.specs.Snapshots.{Snapshot, page_of}
 use Rattle.pages.specs.Tables.{table_at}
 use Rattle.record_pages.specs.Tables.{record_names}
-use Rattle.slot_store.specs.Areas.{Area, layout_of, size_of}
+use Rattle.slot_store.specs.Areas.{Area, layout_of}
 use Rattle.slot_store.proofs.Local.{same_bytes}
 
 -- a number is one of these, whose pages are the same, or none of them

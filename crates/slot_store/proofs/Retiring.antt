@@ -16,7 +16,7 @@ use Rattle.pages.specs.Resting.{IsAtRest}
 use Rattle.pages.proofs.Newest.{newest_stands}
 use Rattle.record_pages.specs.Tables.{record_names}
 use Rattle.slot_store.specs.declared.pager.Pager.{Pager}
-use Rattle.slot_store.specs.Areas.{layout_of, size_of}
+use Rattle.slot_store.specs.Areas.{layout_of}
 use Rattle.slot_store.specs.Layout.{IsLaidOut, IsPut, laid}
 use Rattle.slot_store.specs.Putting.{HasRested, KeepsRecord}
 use Rattle.slot_store.specs.Pager.{Awaits, IsLaidFor, content, has_replaced, mark}

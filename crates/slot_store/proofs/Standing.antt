@@ -1,21 +1,17 @@
 -- What bytes stand for on which a store rests.
-use Rattle.std.proofs.Common.{◌≡◌, ◌⊎◌, inl, inr, ℕ, ◌+◌, ◌*◌, ◌≤◌, ◌<◌, Bool, true, false, List, length, take, Option, Some, None, refl, sym, ◌∙◌, ap, subst, arith}
+use Rattle.std.proofs.Common.{◌≡◌, ℕ, ◌*◌, ◌≤◌, Bool, true, false, List, length, take, Option, Some, None, refl, sym, ◌∙◌, ap, subst, arith}
 use Rattle.std.specs.Prelude.{if◌then◌else◌, ◌==◌}
 use Rattle.std.proofs.lemmas.Bool.Decides.{nat_tests}
 use Rattle.std.proofs.lemmas.List.{length-take-le}
 use Rattle.dr_base.specs.declared.limits.TheConstants.{PAGE}
-use Rattle.dr_disk.specs.Bytes.{Torn}
-use Rattle.pages.specs.Around.{IsOutside, IsSameOutside}
-use Rattle.pages.specs.Layouts.{page_place, table_place}
 use Rattle.pages.specs.Snapshots.{kept_shot}
 use Rattle.pages.proofs.Shots.{shot_still}
-use Rattle.pages.proofs.SoundLayouts.{place_row}
 use Rattle.record_pages.specs.Pages.{page_count}
 use Rattle.record_pages.specs.Tables.{record_names}
 use Rattle.record_pages.proofs.Filled.{count_least}
 use Rattle.slot_store.proofs.Paging.{each_of}
 use Rattle.slot_store.specs.declared.pager.Pager.{Pager}
-use Rattle.slot_store.specs.Areas.{Area, Fits, IsArea, layout_of, size_of}
+use Rattle.slot_store.specs.Areas.{Area, Fits, HasText, IsArea, layout_of}
 use Rattle.slot_store.specs.Layout.{IsLaidOut, IsMarked, Mark, laid}
 use Rattle.slot_store.specs.Reading.{IsUndamaged, OpensAs, read_as, reading}
 use Rattle.slot_store.specs.Records.{recovered, shot_in, shown}
@@ -26,6 +22,10 @@ use Rattle.slot_store.proofs.Laid.{laid_kept, laid_read, laid_shown}
 -- a text that is no longer than the most pages of a record fits
 pub text_fits : (area : Area) (text : List ℕ) → length text ≤ PAGE * area.most → Fits area text
 text_fits area text short = count_least (length text) area.most short
+
+pub held_fits : (area : Area) (bytes : List ℕ) (len : ℕ) → HasText area bytes len → Fits area (take len bytes)
+held_fits area bytes len has =
+    text_fits area (take len bytes) (omega (arith, has.room, has.inside, length-take-le len bytes has.inside))
 
 -- ---- bytes whose shot is that of a record that is laid out, or of none
 

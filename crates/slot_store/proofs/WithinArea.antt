@@ -1,5 +1,5 @@
 -- What an area's bytes stand for and are read as is a function of the area's bytes.
-use Rattle.std.proofs.Common.{◌≡◌, ℕ, ◌+◌, ◌*◌, ◌≤◌, Bool, true, false, All, List, [], ◌∷◌, drop, map, Option, Some, None, refl, ◌∙◌, ap, ap₂}
+use Rattle.std.proofs.Common.{◌≡◌, ℕ, ◌+◌, ◌*◌, Bool, true, false, All, List, [], ◌∷◌, drop, map, Option, Some, None, refl, ◌∙◌, ap, ap₂}
 use Rattle.std.proofs.lemmas.List.Elements.{All-head, All-tail}
 use Rattle.std.specs.Prelude.{nat_le, not, if◌then◌else◌}
 use Rattle.pages.specs.Layouts.{IsPage}

@@ -1,5 +1,5 @@
 -- Where a store lies on its disk.
-use Rattle.std.specs.Prelude.{ℕ, ◌+◌, ◌*◌, ◌^◌, ◌<◌, ◌≤◌, List, length}
+use Rattle.std.specs.Prelude.{◌≡◌, ℕ, ◌+◌, ◌*◌, ◌^◌, ◌<◌, ◌≤◌, List, length}
 use Rattle.dr_base.specs.declared.limits.TheConstants.{PAGE}
 use Rattle.pages.specs.declared.layout.Layout.{Layout}
 use Rattle.pages.specs.declared.layout.TheConstants.{LOWER_PAGES}
@@ -40,6 +40,15 @@ IsOutside area = IsOutsideAll (layout_of area)
 -- bytes that are the same outside of its tables and pages
 abbrev pub IsSameOutside : Area → List ℕ → List ℕ → Type 0
 IsSameOutside area = IsSameAround (layout_of area)
+
+-- bytes that have room for any record of the area, and no more
+abbrev pub HasRecordRoom : Area → List ℕ → Type 0
+HasRecordRoom area bytes = length bytes ≡ PAGE * area.most
+
+-- such a room, whose first `len` bytes are a text
+pub record HasText (area : Area) (bytes : List ℕ) (len : ℕ) : Type 0 where
+  pub room : HasRecordRoom area bytes
+  pub inside : len ≤ length bytes
 
 -- a text has no more pages than a record may have
 abbrev pub Fits : Area → List ℕ → Type 0

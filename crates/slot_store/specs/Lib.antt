@@ -11,6 +11,7 @@ pub mod Settling
 pub mod Judged
 pub mod Loading
 pub mod Found
+pub mod Finds
 pub mod Locating
 pub mod AtRest
 pub mod Opened

@@ -1,28 +1,27 @@
 -- A record that was read into memory.
-use Rattle.std.specs.Prelude.{◌≡◌, ⊤, ℕ, ◌≤◌, ◌*◌, List, length, map, take, vec_capacity, Option, Some, None}
-use Rattle.dr_base.specs.declared.limits.TheConstants.{PAGE}
+use Rattle.std.specs.Prelude.{◌≡◌, ⊤, ℕ, ◌≤◌, List, map, take, vec_capacity, Option, Some, None}
 use Rattle.pages.specs.Snapshots.{page_of}
 use Rattle.record_pages.specs.Pages.{pages_in}
 use Rattle.record_pages.specs.Tables.{length_in, record_names, table_fault}
 use Rattle.slot_store.specs.declared.kept.Kept.{Kept}
 use Rattle.slot_store.specs.declared.loading.Loaded.{Loaded}
 use Rattle.slot_store.specs.declared.loading.Loaded.TheVariants.{Faulty, Whole}
-use Rattle.slot_store.specs.Areas.{Area, layout_of}
+use Rattle.slot_store.specs.Areas.{Area, HasRecordRoom, layout_of}
 use Rattle.slot_store.specs.Reading.{fault_in}
 
 -- the pages that a table names
 abbrev pub pages_named : Area → List ℕ → List ℕ → List (List ℕ)
 pages_named area body s = map (page_of (layout_of area) s) (record_names body)
 
--- room for a record of the area
-pub record HasRecordRoom (area : Area) (kept : Kept) : Type 0 where
-  pub long : length kept.bytes.items ≡ PAGE * area.most
+-- room for a record of the area, and for the numbers of its pages
+pub record HasRoomToLoad (area : Area) (kept : Kept) : Type 0 where
+  pub long : HasRecordRoom area kept.bytes.items
   pub room : area.most ≤ vec_capacity kept.numbers
 
 -- a record that a faultless table names, in the grammar
 pub record IsNamed (fault_at : List ℕ → Option ℕ) (area : Area) (body : List ℕ) (kept : Kept)
     : Type 0 where
-  pub has_room : HasRecordRoom area kept
+  pub has_room : HasRoomToLoad area kept
   pub len : kept.len ≡ length_in body
   pub numbers : kept.numbers.items ≡ record_names body
   pub lawful : table_fault area.pages area.most body ≡ None

@@ -14,7 +14,7 @@ use Rattle.slot_store.specs.declared.outcome.Outcome.{Outcome}
 use Rattle.slot_store.specs.declared.outcome.Outcome.TheVariants.{Refused, Stored}
 use Rattle.slot_store.specs.Areas.{Area}
 use Rattle.slot_store.specs.AtRest.{IsReadAtRest}
-use Rattle.slot_store.specs.Loading.{HasRecordRoom}
+use Rattle.slot_store.specs.Loading.{HasRoomToLoad}
 use Rattle.slot_store.specs.Memory.{HasRoom}
 use Rattle.slot_store.specs.Opened.{IsOpened}
 use Rattle.slot_store.specs.Pager.{seen}
@@ -24,7 +24,7 @@ use Rattle.slot_store.specs.Store.{SlotStore}
 -- memory for a pager that has no record yet
 pub record IsForStore (area : Area) (kept : Kept) (draft : Draft) : Type 0 where
   pub none : kept.len ≡ 0
-  pub room : HasRecordRoom area kept
+  pub room : HasRoomToLoad area kept
   pub dropped : draft.plan.dropped.items ≡ []
   pub plans : HasRoom area draft
 

@@ -1,17 +1,19 @@
 -- What stands once a record was put, retired or replaced.
-use Rattle.std.specs.Prelude.{◌≡◌, ℕ, List, length, Some, is_some}
+use Rattle.std.specs.Prelude.{◌≡◌, ℕ, List, length, Option, Some, Result, OnErr, is_some}
 use Rattle.dr_disk.specs.State.{DiskState}
+use Rattle.dr_disk.specs.Spans.{Span}
 use Rattle.dr_disk.specs.declared.call.Call.{Call}
 use Rattle.record_pages.specs.Pages.{pages_in}
 use Rattle.record_pages.specs.Plans.{changed_places, dropped}
 use Rattle.slot_store.specs.declared.errors.StoreFault.{StoreFault}
 use Rattle.slot_store.specs.declared.pager.Pager.{Pager}
+use Rattle.slot_store.specs.Areas.{Area}
 use Rattle.slot_store.specs.Records.{recovered}
-use Rattle.slot_store.specs.Stops.{retiring}
+use Rattle.slot_store.specs.Stops.{IsStopped, retiring}
 use Rattle.slot_store.specs.Layout.{free_in, next_mark, pages_held, table_for}
 use Rattle.slot_store.specs.Pager.{Awaits, IsLaidFor, content, has_replaced, mark, seen}
 use Rattle.slot_store.specs.Reading.{IsUndamaged}
-use Rattle.slot_store.specs.Store.{KeepsOutside, Rests, SlotStore}
+use Rattle.slot_store.specs.Store.{IsOldOrNew, KeepsOutside, ReadsOutsideArea, Rests, SlotStore}
 
 -- the call that failed
 abbrev pub call_of : StoreFault → Call
@@ -20,6 +22,14 @@ call_of fault = fault.call
 -- how many writes and syncs the next retire makes
 unfoldable pub retire_calls : Pager → ℕ
 retire_calls pager = retiring pager.replaced (length pager.draft.plan.dropped.items)
+
+-- While one record takes another's place each crash leaves the one or the other, and outside of
+-- the area a read gives what it gave. After a call that failed: which of the two there is.
+pub record Replaces {T E : Type 0} (area : Area) (old new : Option (List ℕ))
+    (start now : DiskState) (result : Result T E) : Type 0 where
+  pub any_moment : Span start now (IsOldOrNew start area old new)
+  pub reads : ReadsOutsideArea area start now
+  pub stopped : OnErr result (IsStopped area old new start now)
 
 -- a pager of the same area, whose record is this text and lies where the next one does
 pub record IsNext (old new : SlotStore) (text : List ℕ) : Type 0 where

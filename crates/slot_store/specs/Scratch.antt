@@ -1,8 +1,12 @@
 -- Memory that opening needs besides a store's.
-use Rattle.std.specs.Prelude.{◌≡◌, ◌+◌, false, length, replicate}
+use Rattle.std.specs.Prelude.{◌≡◌, ◌+◌, ℕ, false, length, replicate}
 use Rattle.dr_base.specs.declared.limits.TheConstants.{PAGE}
 use Rattle.slot_store.specs.declared.scratch.Scratch.{Scratch}
+use Rattle.dr_disk.specs.State.{DiskState}
 use Rattle.slot_store.specs.Areas.{Area}
+use Rattle.slot_store.specs.Judged.{table_with}
+use Rattle.slot_store.specs.Settling.{AreRead}
+use Rattle.slot_store.specs.Store.{IsWithin}
 
 -- for both tables and a page, with no page marked
 pub record IsScratch (area : Area) (scratch : Scratch) : Type 0 where
@@ -10,3 +14,11 @@ pub record IsScratch (area : Area) (scratch : Scratch) : Type 0 where
   pub second_long : length scratch.second.items + 1 ≡ PAGE
   pub page_long : length scratch.page.items ≡ PAGE
   pub marks : scratch.named.items ≡ replicate area.pages false
+
+-- both tables of an area were read into it, with these gates
+pub record HasTables (area : Area) (first_gate second_gate : ℕ) (scratch : Scratch)
+    (disk : DiskState) : Type 0 where
+  pub within : IsWithin area disk
+  pub room : IsScratch area scratch
+  pub read : AreRead area (table_with first_gate scratch.first.items)
+      (table_with second_gate scratch.second.items) disk

@@ -33,6 +33,12 @@ RestsAsRead area start pager c = IsLaidFor pager c × IsLikeRead area start c
 abbrev pub HasShot : Pager → List ℕ → Type 0
 HasShot pager s = shot_in pager.area s ≡ kept_shot (laid (mark pager) (content pager))
 
+-- All but the pager's record may be wiped: that is what counts, and a crash leaves what a read
+-- gives.
+pub record MaySettle (pager : Pager) (disk : DiskState) : Type 0 where
+  pub ready : IsReady pager.area disk
+  pub shown : OnSeen (HasShot pager) disk
+
 -- what a read gives is at rest for the pager
 abbrev pub IsReadAs : Pager → DiskState → Type 0
 IsReadAs pager disk = (s : List ℕ) × (disk.seen ≡ Some s) × IsLaidFor pager s

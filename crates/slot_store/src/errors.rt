@@ -19,8 +19,8 @@ pub enum OpenError {
     /// A call on the disk failed, of this kind.
     #[error("a call on the disk failed")]
     StoreFault { call: Call },
-    /// What was read is no store's: the table, 0 or 1, and the first place in it that no record's table has, or 4,096 and
-    /// the first place in the record's pages. Nothing was written.
+    /// What was read is no store's: the table, 0 or 1, and the first place in it that no record's
+    /// table has, or 4,096 and the first place in the record's pages. Nothing was written.
     #[error("slot {slot} is damaged at {at}")]
     Damaged { slot: u32, at: u64 },
 }

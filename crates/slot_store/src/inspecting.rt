@@ -6,14 +6,13 @@ ghost use Rattle.dr_disk.specs.declared.call.Call.{Call};
 ghost use Rattle.dr_disk.specs.State.{OnSeen};
 ghost use Rattle.dr_disk.specs.Spans.{IsQuiet, Span};
 ghost use Rattle.dr_disk.specs.Calls.{Unwritten};
-ghost use Rattle.pages.specs.Runs.{Looks};
+ghost use Rattle.slot_store.specs.Finds.{Finds};
 ghost use Rattle.slot_store.specs.Judged.{table_with};
 ghost use Rattle.slot_store.specs.Outcome.{IsForStore};
 ghost use Rattle.slot_store.specs.Pager.{content};
 ghost use Rattle.slot_store.specs.Reading.{reading_of};
 ghost use Rattle.slot_store.specs.Reports.{IsReport, finding_of, gate_of};
-ghost use Rattle.slot_store.specs.Scratch.{IsScratch};
-ghost use Rattle.slot_store.specs.Settling.{AreRead};
+ghost use Rattle.slot_store.specs.Scratch.{HasTables};
 ghost use Rattle.slot_store.specs.Store.{IsWithin};
 
 use crate::area::Area;
@@ -66,14 +65,10 @@ fn report_read<G: Grammar, D: Disk>(
     second_gate: u8,
     scratch: &mut Scratch,
 ) -> Result<Report, Call>
-    requires within { IsWithin area (D.state disk.old) }
     requires memory { IsForStore area kept draft }
-    requires scratch { IsScratch area scratch.old }
-    requires read { AreRead area (table_with first_gate scratch.old.first.items)
-        (table_with second_gate scratch.old.second.items) (D.state disk.old) }
-    ensures report { IfOk result (λ report. OnSeen (IsReport G.fault_at area report)
-        (D.state disk.old)) }
-    ensures looks { Looks (D.state disk.old) (D.state disk.new) result }
+    requires tables { HasTables area first_gate second_gate scratch.old (D.state disk.old) }
+    ensures { Finds (λ disk report. OnSeen (IsReport G.fault_at area report) disk)
+        (D.state disk.old) (D.state disk.new) result }
 {
     let first = gate_seen(first_gate, &scratch.first);
     let second = gate_seen(second_gate, &scratch.second);
@@ -130,12 +125,7 @@ pub fn inspect<G: Grammar, D: Disk>(
     let Ok((kept, draft, mut scratch)) = take_memory(alloc, area) else {
         return Err(InspectError::Memory);
     };
-    let (first_gate, second_gate) = match read_tables(
-        disk,
-        area,
-        &mut scratch.first,
-        &mut scratch.second,
-    ) {
+    let (first_gate, second_gate) = match read_tables(disk, area, &mut scratch) {
         Ok(gates) => gates,
         Err(call) => return Err(InspectError::StoreFault { call }),
     };

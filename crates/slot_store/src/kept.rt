@@ -1,37 +1,40 @@
 //! A record in memory, as it lies in pages.
 
-ghost use Rattle.std.specs.Prelude.{◌≡◌, ◌≤◌, ◌<◌, ◌+◌, ◌-◌, ◌*◌, ◌++◌, [], length, take, drop, replicate, vec_capacity, IfOk};
+ghost use Rattle.std.specs.Prelude.{◌≡◌, ◌≤◌, ◌<◌, ◌+◌, ◌-◌, ◌*◌, length, take, drop, replicate, IfOk};
 ghost use Rattle.dr_base.specs.declared.limits.TheConstants.{PAGE};
+ghost use Rattle.slot_store.specs.Areas.{HasRecordRoom};
 
+use crate::area::{Area, record_most};
 use dr_base::PAGE;
 use std::alloc::{AllocError, Global};
+use std::mem::swap;
 
 /// A record and the numbers of its pages, in memory that was taken at opening.
 #[derive(Drop)]
 pub(crate) struct Kept {
-    /// The record, and zeros behind it.
+    /// The record, and zeros behind it up to the end of its last page.
     pub(crate) bytes: Vec<u8>,
     pub(crate) len: usize,
     pub(crate) numbers: Vec<u32>,
     ghost fits: { len ≤ length bytes.items },
-    ghost blank: { drop len bytes.items ≡ replicate (length bytes.items - len) 0 },
+    ghost blank: { drop len (take (PAGE * length numbers.items) bytes.items)
+        ≡ replicate (PAGE * length numbers.items - len) 0 },
     ghost covers: { len ≤ PAGE * length numbers.items },
     ghost least: { PAGE * length numbers.items < len + PAGE },
 }
 
 impl Kept {
-    /// No record, with room for one of so many pages.
-    pub(crate) fn none(alloc: Global, most: u32) -> Result<Kept, AllocError>
-        requires { most ≤ 2045 }
+    ghost use Rattle.slot_store.specs.Loading.{HasRoomToLoad};
+
+    /// No record, with room for one of an area.
+    pub(crate) fn none(alloc: Global, area: Area) -> Result<Kept, AllocError>
         ensures len { IfOk result (λ kept. kept.len ≡ 0) }
-        ensures long { IfOk result (λ kept. length kept.bytes.items ≡ PAGE * most) }
-        ensures numbers { IfOk result (λ kept. kept.numbers.items ≡ []) }
-        ensures room { IfOk result (λ kept. most ≤ vec_capacity kept.numbers) }
+        ensures room { IfOk result (HasRoomToLoad area) }
     {
         Ok(Kept {
-            bytes: vec![in alloc; 0; PAGE * most as usize]?,
+            bytes: record_room(alloc, area)?,
             len: 0,
-            numbers: Vec::with_capacity(alloc, most as usize)?,
+            numbers: Vec::with_capacity(alloc, record_most(area) as usize)?,
         })
     }
 
@@ -43,16 +46,33 @@ impl Kept {
     }
 }
 
-/// Puts a text in place of the first `held` of these bytes, behind which stand zeros.
-pub(crate) fn fill_in(bytes: &mut [u8], held: usize, text: &[u8])
-    requires fits { length text.now ≤ length bytes.old }
-    requires inside { held ≤ length bytes.old }
-    requires blank { drop held bytes.old ≡ replicate (length bytes.old - held) 0 }
-    ensures { bytes.new ≡ text.now ++ replicate (length bytes.old - length text.now) 0 }
+/// Room in which a record of an area is put together.
+pub fn record_room(alloc: Global, area: Area) -> Result<Vec<u8>, AllocError>
+    ensures { IfOk result (λ room. HasRecordRoom area room.items) }
 {
-    let len = text.len();
-    bytes[..len].copy_from_slice(text);
-    if len < held {
-        bytes[len..held].fill(0);
-    }
+    vec![in alloc; 0; PAGE * record_most(area) as usize]
+}
+
+/// Makes the bytes from a place up to another one zeros.
+fn blank(bytes: &mut [u8], from: usize, end: usize)
+    requires order { from ≤ end }
+    requires inside { end ≤ length bytes.old }
+    ensures before { take from bytes.new ≡ take from bytes.old }
+    ensures blank { drop from (take end bytes.new) ≡ replicate (end - from) 0 }
+{
+    bytes[from..end].fill(0);
+}
+
+/// Takes a text in place of a record: their rooms are swapped, and what stands behind the text in
+/// the pages that end there is made zeros.
+pub(crate) fn take_over(bytes: &mut Vec<u8>, text: &mut Vec<u8>, len: usize, end: usize)
+    requires inside { len ≤ end }
+    requires room { end ≤ length text.old.items }
+    ensures text { take len bytes.new.items ≡ take len text.old.items }
+    ensures blank { drop len (take end bytes.new.items) ≡ replicate (end - len) 0 }
+    ensures long { length bytes.new.items ≡ length text.old.items }
+    ensures room { text.new ≡ bytes.old }
+{
+    swap(bytes, text);
+    blank(bytes, len, end);
 }

@@ -1,13 +1,15 @@
-//! One record in pages of a disk, replaced so that a crash at any moment leaves the old one or the new.
+//! One record in pages of a disk, replaced so that a crash at any moment leaves the old one or the
+//! new.
 //!
-//! Of two tables the newer open one names the record's pages. What changes of a record is written to pages that it doesn't
-//! name, then the other table, and then its gate is opened.
+//! Of two tables the newer open one names the record's pages. What changes of a record is written
+//! to pages that it doesn't name, then the other table, and then its gate is opened.
 #![tactic(auto)]
 
 pub use area::Area;
 pub use errors::{InspectError, OpenError, StoreFault};
 pub use grammar::Grammar;
 pub use inspecting::inspect;
+pub use kept::record_room;
 pub use laws::{locality, readings, resting};
 pub use opening::Found;
 pub use report::{Finding, Gate, Report};

@@ -10,7 +10,8 @@ ghost use Rattle.pages.specs.Writing.{ArePages};
 ghost use Rattle.record_pages.specs.Pages.{cut};
 ghost use Rattle.record_pages.specs.Tables.{nonzero_from, or_else};
 ghost use Rattle.slot_store.specs.Areas.{layout_of};
-ghost use Rattle.slot_store.specs.Loading.{HasRecordRoom, IsLoaded, IsNamedRecord};
+ghost use Rattle.slot_store.specs.Finds.{Finds};
+ghost use Rattle.slot_store.specs.Loading.{HasRoomToLoad, IsLoaded, IsNamedRecord};
 ghost use Rattle.slot_store.specs.Reading.{behind_table};
 ghost use Rattle.slot_store.specs.Store.{IsWithin};
 
@@ -42,8 +43,6 @@ fn read_pages<D: Disk>(
     requires room { PAGE * length numbers.now ≤ length bytes.old }
     ensures pages { OnOk result (OnSeen (λ s. cut (length numbers.now) bytes.new
         ≡ map (page_of (layout_of area) s) numbers.now) (D.state disk.old)) }
-    ensures behind { drop (PAGE * length numbers.now) bytes.new
-        ≡ drop (PAGE * length numbers.now) bytes.old }
     ensures long { length bytes.new ≡ length bytes.old }
     ensures looks { Looks (D.state disk.old) (D.state disk.new) result }
 {
@@ -74,8 +73,8 @@ fn record_fault<G: Grammar>(pages: &[u8], len: usize) -> Option<u64>
     }
 }
 
-/// Reads the record that a table names, in memory that has none. Where the table has a fault no page
-/// is read.
+/// Reads the record that a table names, in memory that has none. Where the table has a fault no
+/// page is read.
 pub(crate) fn load<G: Grammar, D: Disk>(
     disk: &mut D,
     area: Area,
@@ -84,12 +83,12 @@ pub(crate) fn load<G: Grammar, D: Disk>(
 ) -> Result<Loaded, Call>
     requires within { IsWithin area (D.state disk.old) }
     requires none { kept.len ≡ 0 }
-    requires room { HasRecordRoom area kept }
+    requires room { HasRoomToLoad area kept }
     requires long { length body.now + 1 ≡ PAGE }
     ensures named { IfOk result (IsNamedRecord G.fault_at area body.now) }
-    ensures loaded { IfOk result (λ loaded. OnSeen (IsLoaded G.fault_at area body.now loaded)
-        (D.state disk.old)) }
-    ensures looks { Looks (D.state disk.old) (D.state disk.new) result }
+    ensures loaded { Finds
+        (λ disk loaded. OnSeen (IsLoaded G.fault_at area body.now loaded) disk)
+        (D.state disk.old) (D.state disk.new) result }
 {
     let _size = disk.size();
     let Kept {

@@ -1,19 +1,17 @@
 //! What counts in an area whose tables were read: a record, none, or damage.
 
-ghost use Rattle.std.specs.Prelude.{◌≡◌, ◌≤◌, ◌+◌, [], None, true, length, IfOk};
+ghost use Rattle.std.specs.Prelude.{◌≡◌, ◌≤◌, ◌+◌, [], None, true, length};
 ghost use Rattle.dr_base.specs.declared.limits.TheConstants.{PAGE};
 ghost use Rattle.dr_disk.specs.State.{OnSeen};
-ghost use Rattle.pages.specs.Runs.{Looks};
 ghost use Rattle.pages.specs.Tables.{counts, is_open, open_table, standing};
 ghost use Rattle.record_pages.specs.Tables.{entry_fault};
 ghost use Rattle.slot_store.specs.Areas.{layout_of};
-ghost use Rattle.slot_store.specs.Judged.{table_with};
-ghost use Rattle.slot_store.specs.Loading.{HasRecordRoom};
+ghost use Rattle.slot_store.specs.Finds.{Finds};
+ghost use Rattle.slot_store.specs.Loading.{HasRoomToLoad};
 ghost use Rattle.slot_store.specs.Locating.{IsLocated};
 ghost use Rattle.slot_store.specs.Memory.{HasRoom};
 ghost use Rattle.slot_store.specs.Outcome.{IsForStore};
-ghost use Rattle.slot_store.specs.Scratch.{IsScratch};
-ghost use Rattle.slot_store.specs.Settling.{AreRead};
+ghost use Rattle.slot_store.specs.Scratch.{HasTables};
 ghost use Rattle.slot_store.specs.Store.{IsWithin};
 
 use crate::area::{Area, record_most};
@@ -38,7 +36,7 @@ pub(crate) enum Located {
 fn pager_of(area: Area, second: bool, turn: u8, kept: Kept, draft: Draft) -> Pager
     requires turns { turn ≤ 3 }
     requires none { turn ≡ 0 → kept.len ≡ 0 }
-    requires room { HasRecordRoom area kept }
+    requires room { HasRoomToLoad area kept }
     requires entries { entry_fault area.pages [] 6 kept.numbers.items ≡ None }
     requires dropped { draft.plan.dropped.items ≡ [] }
     requires plans { HasRoom area draft }
@@ -73,8 +71,7 @@ fn locate_newer<G: Grammar, D: Disk>(
     requires opened { is_open (open_table body.now) ≡ true }
     requires counts { OnSeen (λ s. standing (layout_of area) s
         ≡ counts second (open_table body.now)) (D.state disk.old) }
-    ensures located { IfOk result (IsLocated G.fault_at area (D.state disk.old)) }
-    ensures looks { Looks (D.state disk.old) (D.state disk.new) result }
+    ensures { Finds (IsLocated G.fault_at area) (D.state disk.old) (D.state disk.new) result }
 {
     let kept = match load::<G, D>(disk, area, kept, body) {
         Ok(Loaded::Whole { kept }) => kept,
@@ -100,13 +97,9 @@ pub(crate) fn locate<G: Grammar, D: Disk>(
     second_gate: u8,
     scratch: &Scratch,
 ) -> Result<Located, Call>
-    requires within { IsWithin area (D.state disk.old) }
     requires memory { IsForStore area kept draft }
-    requires scratch { IsScratch area scratch.now }
-    requires read { AreRead area (table_with first_gate scratch.now.first.items)
-        (table_with second_gate scratch.now.second.items) (D.state disk.old) }
-    ensures located { IfOk result (IsLocated G.fault_at area (D.state disk.old)) }
-    ensures looks { Looks (D.state disk.old) (D.state disk.new) result }
+    requires tables { HasTables area first_gate second_gate scratch.now (D.state disk.old) }
+    ensures { Finds (IsLocated G.fault_at area) (D.state disk.old) (D.state disk.new) result }
 {
     match judge(first_gate, &scratch.first, second_gate, &scratch.second) {
         Judged::Alike => Ok(Located::Faulty { slot: 1, at: 1 }),

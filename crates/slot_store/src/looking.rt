@@ -1,17 +1,17 @@
 //! Whether an area is at rest for a pager's record, or for none.
 
-ghost use Rattle.std.specs.Prelude.{◌≡◌, ◌+◌, ◌↔◌, ◌&&◌, ◌==◌, ℕ, false, length, get_or, replicate, if◌then◌else◌, IfOk, IsTrue};
+ghost use Rattle.std.specs.Prelude.{◌≡◌, ◌+◌, ◌↔◌, ◌&&◌, ◌==◌, ℕ, false, length, get_or, replicate, if◌then◌else◌, IsTrue};
 ghost use Rattle.dr_base.specs.declared.limits.TheConstants.{PAGE};
 ghost use Rattle.dr_disk.specs.State.{OnSeen};
 ghost use Rattle.pages.specs.Clearing.{AreBlank};
-ghost use Rattle.pages.specs.Runs.{Looks};
 ghost use Rattle.pages.specs.Tables.{wiped};
 ghost use Rattle.record_pages.specs.Plans.{is_among};
 ghost use Rattle.slot_store.specs.Areas.{layout_of};
+ghost use Rattle.slot_store.specs.Finds.{Finds};
 ghost use Rattle.slot_store.specs.Judged.{table_with};
 ghost use Rattle.slot_store.specs.Pager.{IsLaidFor};
-ghost use Rattle.slot_store.specs.Scratch.{IsScratch};
-ghost use Rattle.slot_store.specs.Settling.{AreRead, HasShot};
+ghost use Rattle.slot_store.specs.Scratch.{HasTables};
+ghost use Rattle.slot_store.specs.Settling.{HasShot};
 ghost use Rattle.slot_store.specs.Store.{IsWithin};
 
 use crate::area::layout;
@@ -52,9 +52,9 @@ fn others_blank<D: Disk>(
     requires room { length page.old ≡ PAGE }
     ensures marks { (n : ℕ) → get_or named.new n false
         ≡ is_among pager.now.kept.numbers.items n }
-    ensures blank { IfOk result (λ blank. OnSeen (λ s. IsTrue blank
-        ↔ AreBlank (layout_of pager.now.area) named.new s) (D.state disk.old)) }
-    ensures looks { Looks (D.state disk.old) (D.state disk.new) result }
+    ensures blank { Finds (λ disk blank. OnSeen (λ s. IsTrue blank
+        ↔ AreBlank (layout_of pager.now.area) named.new s) disk)
+        (D.state disk.old) (D.state disk.new) result }
 {
     let _size = disk.size();
     mark_pages(&pager.kept.numbers, named);
@@ -73,14 +73,11 @@ pub(crate) fn rests<D: Disk>(
     second_gate: u8,
     scratch: &mut Scratch,
 ) -> Result<bool, Call>
-    requires within { IsWithin pager.now.area (D.state disk.old) }
-    requires scratch { IsScratch pager.now.area scratch.old }
+    requires tables { HasTables pager.now.area first_gate second_gate scratch.old
+        (D.state disk.old) }
     requires shown { OnSeen (HasShot pager.now) (D.state disk.old) }
-    requires read { AreRead pager.now.area (table_with first_gate scratch.old.first.items)
-        (table_with second_gate scratch.old.second.items) (D.state disk.old) }
-    ensures rests { IfOk result (λ rests. OnSeen (λ s. IsTrue rests ↔ IsLaidFor pager.now s)
-        (D.state disk.old)) }
-    ensures looks { Looks (D.state disk.old) (D.state disk.new) result }
+    ensures { Finds (λ disk rests. OnSeen (λ s. IsTrue rests ↔ IsLaidFor pager.now s) disk)
+        (D.state disk.old) (D.state disk.new) result }
 {
     let first = is_wiped(first_gate, &scratch.first);
     let second = is_wiped(second_gate, &scratch.second);

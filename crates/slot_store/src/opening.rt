@@ -11,7 +11,7 @@ ghost use Rattle.slot_store.specs.Outcome.{IsForStore, answer_of};
 ghost use Rattle.slot_store.specs.Scratch.{IsScratch};
 ghost use Rattle.slot_store.specs.Store.{IsWithin};
 
-use crate::area::{Area, record_most};
+use crate::area::Area;
 use crate::draft::Draft;
 use crate::errors::OpenError;
 use crate::grammar::Grammar;
@@ -38,7 +38,7 @@ pub(crate) fn take_memory(alloc: Global, area: Area) -> Result<(Kept, Draft, Scr
     ensures store { IfOk result (λ memory. IsForStore area memory.0 memory.1) }
     ensures scratch { IfOk result (λ memory. IsScratch area memory.2) }
 {
-    let kept = Kept::none(alloc, record_most(area))?;
+    let kept = Kept::none(alloc, area)?;
     let draft = take_draft(alloc, area)?;
     let scratch = Scratch::take(alloc, area)?;
     Ok((kept, draft, scratch))
@@ -58,9 +58,9 @@ fn answer(outcome: Result<Outcome, Call>) -> Result<(SlotStore, Found), OpenErro
 impl SlotStore {
     ghost use Rattle.slot_store.specs.Opened.{IsOpened, IsRefused};
 
-    /// Opens the store of an area: a sync, the reading of both tables and of the record's pages, and
-    /// the wiping of all that doesn't count. Without a record the first put will use table 0 and
-    /// turn 1.
+    /// Opens the store of an area: a sync, the reading of both tables and of the record's pages,
+    /// and the wiping of all that doesn't count. Without a record the first put will use table 0
+    /// and turn 1.
     pub fn open<G: Grammar, D: Disk>(
         alloc: Global,
         disk: &mut D,
@@ -94,12 +94,7 @@ impl SlotStore {
         let Ok((kept, draft, mut scratch)) = take_memory(alloc, area) else {
             return Err(OpenError::Memory);
         };
-        let (first_gate, second_gate) = match settle_and_read(
-            disk,
-            area,
-            &mut scratch.first,
-            &mut scratch.second,
-        ) {
+        let (first_gate, second_gate) = match settle_and_read(disk, area, &mut scratch) {
             Ok(gates) => gates,
             Err(call) => return Err(OpenError::StoreFault { call }),
         };

@@ -1,13 +1,12 @@
 //! What an area is opened as, once its tables were read.
 
 ghost use Rattle.std.specs.Prelude.{◌≡◌, is_some};
-ghost use Rattle.dr_disk.specs.State.{OnSeen};
+ghost use Rattle.dr_disk.specs.State.{IsSettled};
 ghost use Rattle.slot_store.specs.Found.{has_content};
-ghost use Rattle.slot_store.specs.Judged.{table_with};
 ghost use Rattle.slot_store.specs.Outcome.{IsForStore, Opens};
 ghost use Rattle.slot_store.specs.Pager.{content};
-ghost use Rattle.slot_store.specs.Scratch.{IsScratch};
-ghost use Rattle.slot_store.specs.Settling.{AreRead, HasShot, IsReady, Settles};
+ghost use Rattle.slot_store.specs.Scratch.{HasTables};
+ghost use Rattle.slot_store.specs.Settling.{MaySettle, Settles};
 
 use crate::area::Area;
 use crate::draft::Draft;
@@ -47,11 +46,9 @@ fn settle<D: Disk>(
     second_gate: u8,
     scratch: &mut Scratch,
 ) -> Result<(), Call>
-    requires ready { IsReady pager.now.area (D.state disk.old) }
-    requires scratch { IsScratch pager.now.area scratch.old }
-    requires shown { OnSeen (HasShot pager.now) (D.state disk.old) }
-    requires read { AreRead pager.now.area (table_with first_gate scratch.old.first.items)
-        (table_with second_gate scratch.old.second.items) (D.state disk.old) }
+    requires settling { MaySettle pager.now (D.state disk.old) }
+    requires tables { HasTables pager.now.area first_gate second_gate scratch.old
+        (D.state disk.old) }
     ensures { Settles pager.now (D.state disk.old) (D.state disk.new) result }
 {
     let Scratch {
@@ -89,11 +86,9 @@ pub(crate) fn open_read<G: Grammar, D: Disk>(
     second_gate: u8,
     scratch: &mut Scratch,
 ) -> Result<Outcome, Call>
-    requires ready { IsReady area (D.state disk.old) }
+    requires settled { IsSettled (D.state disk.old) }
     requires memory { IsForStore area kept draft }
-    requires scratch { IsScratch area scratch.old }
-    requires read { AreRead area (table_with first_gate scratch.old.first.items)
-        (table_with second_gate scratch.old.second.items) (D.state disk.old) }
+    requires tables { HasTables area first_gate second_gate scratch.old (D.state disk.old) }
     ensures { Opens G.fault_at area (D.state disk.old) (D.state disk.new) result }
 {
     let pager = match locate::<G, D>(disk, area, kept, draft, first_gate, second_gate, scratch) {

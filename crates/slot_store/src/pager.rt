@@ -1,15 +1,16 @@
-//! A record in memory, and its way to the disk: what changes of it is put into pages that it doesn't name, then the table that names
-//! them, and then the old table is wiped with the pages that it alone names.
+//! A record in memory, and its way to the disk: what changes of it is put into pages that it
+//! doesn't name, then the table that names them, and then the old table is wiped with the pages
+//! that it alone names.
 
-ghost use Rattle.std.specs.Prelude.{◌≡◌, ◌≤◌, ◌+◌, ◌*◌, [], length, vec_capacity, None, Option, OnOk, OnErr};
+ghost use Rattle.std.specs.Prelude.{◌≡◌, ◌≤◌, ◌*◌, [], length, take, vec_capacity, None, Option, OnOk};
 ghost use Rattle.dr_base.specs.declared.limits.TheConstants.{PAGE};
 ghost use Rattle.dr_disk.specs.State.{Always};
 ghost use Rattle.dr_disk.specs.Spans.{Span};
 ghost use Rattle.dr_disk.specs.Called.{Called};
 ghost use Rattle.record_pages.specs.Tables.{entry_fault};
-ghost use Rattle.slot_store.specs.Areas.{Fits, IsArea};
+ghost use Rattle.slot_store.specs.Areas.{HasRecordRoom, HasText, IsArea};
 ghost use Rattle.slot_store.specs.Memory.{HasRoom};
-ghost use Rattle.slot_store.specs.Stops.{IsStopped, putting};
+ghost use Rattle.slot_store.specs.Stops.{putting};
 
 use crate::area::{Area, layout};
 use crate::draft::Draft;
@@ -46,8 +47,8 @@ pub(crate) struct Pager {
 
 impl Pager {
     ghost use Rattle.slot_store.specs.Pager.{content, IsLaidFor, Awaits};
-    ghost use Rattle.slot_store.specs.Store.{IsWithin, ReadsOutsideArea, IsOldOrNew};
-    ghost use Rattle.slot_store.specs.Putting.{HasPut, HasRested, IsStaged, KeepsRecord, call_of, retire_calls};
+    ghost use Rattle.slot_store.specs.Store.{IsWithin, ReadsOutsideArea};
+    ghost use Rattle.slot_store.specs.Putting.{HasPut, HasRested, IsStaged, KeepsRecord, Replaces, call_of, retire_calls};
     ghost use Rattle.slot_store.specs.Kept.{content_or_empty};
 
     /// The record that was opened or put last; empty where there is none.
@@ -57,48 +58,51 @@ impl Pager {
         self.kept.text()
     }
 
-    /// Puts a text in place of the record in memory: what is written, what is wiped, and the table that is to come.
-    fn stage(&mut self, text: &[u8])
-        requires { Fits self.old.area text.now }
-        ensures { IsStaged self.old self.new text.now }
+    /// Puts a text in place of the record in memory: what is written, what is wiped, and the table
+    /// that is to come.
+    fn stage(&mut self, text: &mut Vec<u8>, len: usize)
+        requires { HasText self.old.area text.old.items len }
+        ensures staged { IsStaged self.old self.new (take len text.old.items) }
+        ensures room { HasRecordRoom self.old.area text.new.items }
     {
         let turn = next(self.turn);
         self.replaced = self.turn != 0;
-        replan(self.area, &mut self.kept, &mut self.draft, text);
-        lay_out_table(
-            &mut self.draft.body,
-            turn,
-            text.len() as u32,
-            &self.kept.numbers,
-        );
+        replan(self.area, &mut self.kept, &mut self.draft, text, len);
+        lay_out_table(&mut self.draft.body, turn, len as u32, &self.kept.numbers);
         self.turn = turn;
         self.second = !self.second;
     }
 
-    /// Puts a record: what changes into pages that no table names, then the table that isn't current, behind a closed gate,
-    /// and then the gate is opened.
-    pub(crate) fn put<D: Disk>(&mut self, disk: &mut D, text: &[u8]) -> Result<(), StoreFault>
-        requires fits { Fits self.old.area text.now }
+    /// Puts a record: what changes into pages that no table names, then the table that isn't
+    /// current, behind a closed gate, and then the gate is opened.
+    pub(crate) fn put<D: Disk>(
+        &mut self,
+        disk: &mut D,
+        text: &mut Vec<u8>,
+        len: usize,
+    ) -> Result<(), StoreFault>
+        requires text { HasText self.old.area text.old.items len }
         requires within { IsWithin self.old.area (D.state disk.old) }
         requires at_rest { Always (IsLaidFor self.old) (D.state disk.old) }
 
-        // Each crash meanwhile leaves the old record or the new; once it is done, the new one.
-        ensures any_moment { Span (D.state disk.old) (D.state disk.new)
-            (IsOldOrNew (D.state disk.old) self.old.area (content self.old) (Option.Some text.now)) }
-        ensures done { OnOk result (Always (HasPut self.old self.new text.now
-            (D.state disk.old)) (D.state disk.new)) }
-        ensures reads { ReadsOutsideArea self.old.area (D.state disk.old) (D.state disk.new) }
-        ensures staged { IsStaged self.old self.new text.now }
-
-        // How the calls went, and what stands where one failed.
-        ensures calls { Called (putting (content self.old) (Option.Some text.now)) call_of
+        // Each crash meanwhile leaves the old record or the new, and after a call that failed it is
+        // known which; once it is done, the new one.
+        ensures replaces { Replaces self.old.area
+            (content self.old) (Option.Some (take len text.old.items))
             (D.state disk.old) (D.state disk.new) result }
-        ensures stopped { OnErr result (IsStopped self.old.area (content self.old) (Option.Some text.now)
-            (D.state disk.old) (D.state disk.new)) }
+        ensures done { OnOk result (Always (HasPut self.old self.new (take len text.old.items)
+            (D.state disk.old)) (D.state disk.new)) }
+        ensures staged { IsStaged self.old self.new (take len text.old.items) }
+        ensures room { HasRecordRoom self.old.area text.new.items }
+
+        // How the calls went.
+        ensures calls { Called
+            (putting (content self.old) (Option.Some (take len text.old.items))) call_of
+            (D.state disk.old) (D.state disk.new) result }
     {
         let _size = disk.size();
         let was = self.second;
-        self.stage(text);
+        self.stage(text, len);
         let pager = &*self;
         let fresh = &pager.draft.free[..pager.draft.plan.places.len()];
         match pages::put::<RecordTable, D>(
@@ -115,13 +119,14 @@ impl Pager {
         }
     }
 
-    /// Closes the gate of the table whose record was replaced, if there is one, and wipes it and the pages that it alone
-    /// names.
+    /// Closes the gate of the table whose record was replaced, if there is one, and wipes it and
+    /// the pages that it alone names.
     pub(crate) fn retire<D: Disk>(&mut self, disk: &mut D) -> Result<(), StoreFault>
         requires within { IsWithin self.old.area (D.state disk.old) }
         requires awaits { Always (Awaits self.old) (D.state disk.old) }
 
-        // Each crash meanwhile leaves the record, read without damage; once it is done, the area is at rest.
+        // Each crash meanwhile leaves the record, read without damage; once it is done, the area is
+        // at rest.
         ensures any_moment { Span (D.state disk.old) (D.state disk.new)
             (KeepsRecord self.old (D.state disk.old)) }
         ensures at_rest { OnOk result (Always (HasRested self.old self.new

@@ -5,13 +5,13 @@ ghost use Rattle.dr_base.specs.declared.limits.TheConstants.{PAGE};
 ghost use Rattle.record_pages.specs.Pages.{pages_in};
 ghost use Rattle.record_pages.specs.Plans.{changed_places, dropped, numbered};
 ghost use Rattle.record_pages.specs.Tables.{entry_fault};
-ghost use Rattle.slot_store.specs.Areas.{Fits, IsArea};
+ghost use Rattle.slot_store.specs.Areas.{HasRecordRoom, HasText};
 ghost use Rattle.slot_store.specs.Memory.{HasRoom};
 ghost use Rattle.slot_store.specs.Layout.{free_in};
 
 use crate::area::{Area, page_total, record_most};
 use crate::draft::Draft;
-use crate::kept::{Kept, fill_in};
+use crate::kept::{Kept, take_over};
 use dr_base::PAGE;
 use record_pages::{Plan, fill_free, plan_pages};
 use std::alloc::{AllocError, Global};
@@ -35,30 +35,34 @@ pub(crate) fn take_draft(alloc: Global, area: Area) -> Result<Draft, AllocError>
 }
 
 /// Puts a text in place of the record in memory, and plans what of it is written and what is wiped.
-pub(crate) fn replan(area: Area, kept: &mut Kept, draft: &mut Draft, text: &[u8])
-    requires fits { Fits area text.now }
+pub(crate) fn replan(area: Area, kept: &mut Kept, draft: &mut Draft, text: &mut Vec<u8>, len: usize)
+    requires text { HasText area text.old.items len }
     requires long { length kept.old.bytes.items ≡ PAGE * area.most }
     requires entries { entry_fault area.pages [] 6 kept.old.numbers.items ≡ None }
     requires numbers { area.most ≤ vec_capacity kept.old.numbers }
     requires room { HasRoom area draft.old }
 
     // The record in memory.
-    ensures len { kept.new.len ≡ length text.now }
-    ensures text { take kept.new.len kept.new.bytes.items ≡ text.now }
+    ensures len { kept.new.len ≡ len }
+    ensures text { take kept.new.len kept.new.bytes.items ≡ take len text.old.items }
     ensures long { length kept.new.bytes.items ≡ PAGE * area.most }
     ensures numbers { kept.new.numbers.items
         ≡ numbered (pages_in (take kept.old.len kept.old.bytes.items)) kept.old.numbers.items
-        (pages_in text.now) (free_in area kept.old.numbers.items) }
+        (pages_in (take len text.old.items)) (free_in area kept.old.numbers.items) }
     ensures entries { entry_fault area.pages [] 6 kept.new.numbers.items ≡ None }
     ensures number_room { area.most ≤ vec_capacity kept.new.numbers }
+
+    // The room that the record before had.
+    ensures given { HasRecordRoom area text.new.items }
 
     // The plan.
     ensures free { draft.new.free.items ≡ free_in area kept.old.numbers.items }
     ensures places { draft.new.plan.places.items
-        ≡ changed_places 0 (pages_in (take kept.old.len kept.old.bytes.items)) (pages_in text.now) }
+        ≡ changed_places 0 (pages_in (take kept.old.len kept.old.bytes.items))
+        (pages_in (take len text.old.items)) }
     ensures dropped { draft.new.plan.dropped.items
         ≡ dropped (pages_in (take kept.old.len kept.old.bytes.items)) kept.old.numbers.items
-        (pages_in text.now) }
+        (pages_in (take len text.old.items)) }
     ensures drops { entry_fault area.pages [] 6 draft.new.plan.dropped.items ≡ None }
     ensures room { HasRoom area draft.new }
 {
@@ -67,11 +71,12 @@ pub(crate) fn replan(area: Area, kept: &mut Kept, draft: &mut Draft, text: &[u8]
     plan_pages(
         &kept.bytes,
         &mut kept.numbers,
-        text,
+        &text[..len],
         &draft.free,
         &draft.zeros,
         &mut draft.plan,
     );
-    fill_in(&mut kept.bytes, kept.len, text);
-    kept.len = text.len();
+    let end = PAGE * kept.numbers.len();
+    take_over(&mut kept.bytes, text, len, end);
+    kept.len = len;
 }

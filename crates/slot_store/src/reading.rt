@@ -8,14 +8,15 @@ ghost use Rattle.dr_disk.specs.Spans.{GoesBy, HavePassed, Span};
 ghost use Rattle.dr_disk.specs.Calls.{Goes, HasFault, Unwritten};
 ghost use Rattle.dr_disk.specs.Called.{Went, itself};
 ghost use Rattle.pages.specs.Layouts.{table_place};
-ghost use Rattle.pages.specs.Runs.{Looks};
 ghost use Rattle.pages.specs.Tables.{table_at};
 ghost use Rattle.slot_store.specs.Areas.{layout_of};
+ghost use Rattle.slot_store.specs.Finds.{Finds};
 ghost use Rattle.slot_store.specs.Judged.{table_with};
-ghost use Rattle.slot_store.specs.Settling.{AreRead};
+ghost use Rattle.slot_store.specs.Scratch.{HasTables, IsScratch};
 ghost use Rattle.slot_store.specs.Store.{IsWithin};
 
 use crate::area::{Area, layout};
+use crate::scratch::Scratch;
 use dr_base::Failed;
 use dr_disk::{Call, Disk};
 
@@ -36,10 +37,9 @@ fn read_table<D: Disk>(
 ) -> Result<u8, Call>
     requires within { IsWithin area (D.state disk.old) }
     requires long { length body.old.items + 1 ≡ PAGE }
-    ensures table { IfOk result (λ gate. OnSeen (λ s. table_at (layout_of area) second s
-        ≡ table_with gate body.new.items) (D.state disk.old)) }
+    ensures table { Finds (λ disk gate. OnSeen (λ s. table_at (layout_of area) second s
+        ≡ table_with gate body.new.items) disk) (D.state disk.old) (D.state disk.new) result }
     ensures long { length body.new.items + 1 ≡ PAGE }
-    ensures looks { Looks (D.state disk.old) (D.state disk.new) result }
 {
     let at = place(area, second);
     let mut gate = [0];
@@ -67,23 +67,18 @@ fn settle_first<D: Disk>(disk: &mut D) -> Result<(), Failed>
 pub(crate) fn read_tables<D: Disk>(
     disk: &mut D,
     area: Area,
-    first: &mut Vec<u8>,
-    second: &mut Vec<u8>,
+    scratch: &mut Scratch,
 ) -> Result<(u8, u8), Call>
     requires within { IsWithin area (D.state disk.old) }
-    requires first_long { length first.old.items + 1 ≡ PAGE }
-    requires second_long { length second.old.items + 1 ≡ PAGE }
-    ensures read { IfOk result (λ gates. AreRead area (table_with gates.0 first.new.items)
-        (table_with gates.1 second.new.items) (D.state disk.old)) }
-    ensures first_long { length first.new.items + 1 ≡ PAGE }
-    ensures second_long { length second.new.items + 1 ≡ PAGE }
-    ensures looks { Looks (D.state disk.old) (D.state disk.new) result }
+    requires scratch { IsScratch area scratch.old }
+    ensures { Finds (λ disk gates. HasTables area gates.0 gates.1 scratch.new disk)
+        (D.state disk.old) (D.state disk.new) result }
 {
-    let first_gate = match read_table(disk, area, false, first) {
+    let first_gate = match read_table(disk, area, false, &mut scratch.first) {
         Ok(gate) => gate,
         Err(call) => return Err(call),
     };
-    match read_table(disk, area, true, second) {
+    match read_table(disk, area, true, &mut scratch.second) {
         Ok(second_gate) => Ok((first_gate, second_gate)),
         Err(call) => Err(call),
     }
@@ -93,16 +88,12 @@ pub(crate) fn read_tables<D: Disk>(
 pub(crate) fn settle_and_read<D: Disk>(
     disk: &mut D,
     area: Area,
-    first: &mut Vec<u8>,
-    second: &mut Vec<u8>,
+    scratch: &mut Scratch,
 ) -> Result<(u8, u8), Call>
     requires within { IsWithin area (D.state disk.old) }
-    requires first_long { length first.old.items + 1 ≡ PAGE }
-    requires second_long { length second.old.items + 1 ≡ PAGE }
-    ensures read { IfOk result (λ gates. AreRead area (table_with gates.0 first.new.items)
-        (table_with gates.1 second.new.items) (D.state disk.old)) }
-    ensures first_long { length first.new.items + 1 ≡ PAGE }
-    ensures second_long { length second.new.items + 1 ≡ PAGE }
+    requires scratch { IsScratch area scratch.old }
+    ensures tables { IfOk result (λ gates. HasTables area gates.0 gates.1 scratch.new
+        (D.state disk.new)) }
     ensures any_moment { Span (D.state disk.old) (D.state disk.new) (D.state disk.old).image }
     ensures unwritten { Unwritten (D.state disk.old) (D.state disk.new) }
     ensures settled { OnOk result (IsSettled (D.state disk.new)) }
@@ -112,7 +103,7 @@ pub(crate) fn settle_and_read<D: Disk>(
     let Ok(()) = settle_first(disk) else {
         return Err(Call::Sync);
     };
-    match read_tables(disk, area, first, second) {
+    match read_tables(disk, area, scratch) {
         Ok(gates) => Ok(gates),
         Err(call) => Err(call),
     }

@@ -16,8 +16,8 @@ pub enum Finding {
     Record { length: u32 },
     /// No record.
     Empty,
-    /// Damage: the table, 0 or 1, and the first place in it that no record's table has, or 4,096 and
-    /// the first place in the record's pages.
+    /// Damage: the table, 0 or 1, and the first place in it that no record's table has, or 4,096
+    /// and the first place in the record's pages.
     Damaged { slot: u32, at: u64 },
 }
 

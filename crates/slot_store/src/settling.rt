@@ -12,7 +12,7 @@ ghost use Rattle.record_pages.specs.Plans.{is_among};
 ghost use Rattle.record_pages.specs.Tables.{record_names};
 ghost use Rattle.slot_store.specs.Areas.{layout_of};
 ghost use Rattle.slot_store.specs.Judged.{table_with};
-ghost use Rattle.slot_store.specs.Settling.{AreRead, HasShot, IsReady, Settles};
+ghost use Rattle.slot_store.specs.Settling.{AreRead, IsReady, MaySettle, Settles};
 
 use crate::area::{Area, layout};
 use crate::pager::Pager;
@@ -92,12 +92,11 @@ pub(crate) fn settle_newer<D: Disk>(
     named: &mut [bool],
     page: &mut [u8],
 ) -> Result<(), Call>
-    requires ready { IsReady pager.now.area (D.state disk.old) }
+    requires settling { MaySettle pager.now (D.state disk.old) }
     requires turn { pager.now.turn ≢ 0 }
     requires long { length other.now + 1 ≡ PAGE }
     requires marks { named.old ≡ replicate pager.now.area.pages false }
     requires room { length page.old ≡ PAGE }
-    requires shown { OnSeen (HasShot pager.now) (D.state disk.old) }
     requires read { OnSeen (λ s. table_at (layout_of pager.now.area) (not pager.now.second) s
         ≡ table_with gate other.now) (D.state disk.old) }
     ensures { Settles pager.now (D.state disk.old) (D.state disk.new) result }
@@ -126,13 +125,12 @@ pub(crate) fn settle_empty<D: Disk>(
     named: &[bool],
     page: &mut [u8],
 ) -> Result<(), Call>
-    requires ready { IsReady pager.now.area (D.state disk.old) }
+    requires settling { MaySettle pager.now (D.state disk.old) }
     requires turn { pager.now.turn ≡ 0 }
     requires first_long { length first.now + 1 ≡ PAGE }
     requires second_long { length second.now + 1 ≡ PAGE }
     requires marks { named.now ≡ replicate pager.now.area.pages false }
     requires room { length page.old ≡ PAGE }
-    requires shown { OnSeen (HasShot pager.now) (D.state disk.old) }
     requires read { AreRead pager.now.area (table_with first_gate first.now)
         (table_with second_gate second.now) (D.state disk.old) }
     ensures { Settles pager.now (D.state disk.old) (D.state disk.new) result }

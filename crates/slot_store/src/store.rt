@@ -1,19 +1,18 @@
 //! A store that is open.
 
-ghost use Rattle.std.specs.Prelude.{◌≡◌, Option, OnOk, OnErr};
+ghost use Rattle.std.specs.Prelude.{◌≡◌, take, Option, OnOk};
 ghost use Rattle.dr_disk.specs.State.{Always};
-ghost use Rattle.dr_disk.specs.Spans.{Span};
 ghost use Rattle.dr_disk.specs.Called.{Called};
-ghost use Rattle.slot_store.specs.Areas.{Fits};
-ghost use Rattle.slot_store.specs.Stops.{IsStopped, calls_of};
+ghost use Rattle.slot_store.specs.Areas.{HasRecordRoom, HasText};
+ghost use Rattle.slot_store.specs.Stops.{calls_of};
 
 use crate::errors::StoreFault;
 use crate::pager::Pager;
 use dr_disk::Disk;
 use std::marker::Model;
 
-/// A store over an area of a disk, in memory that was taken at opening. A contract sees its area, its record, and where that
-/// lies.
+/// A store over an area of a disk, in memory that was taken at opening. A contract sees its area,
+/// its record, and where that lies.
 #[derive(Drop)]
 pub struct SlotStore {
     pub(crate) pager: Pager,
@@ -30,8 +29,8 @@ impl Model for SlotStore {
 
 impl SlotStore {
     ghost use Rattle.slot_store.specs.Kept.{content_or_empty};
-    ghost use Rattle.slot_store.specs.Putting.{HasReplaced, IsNext, call_of};
-    ghost use Rattle.slot_store.specs.Store.{content, Rests, IsWithin, ReadsOutsideArea, IsOldOrNew};
+    ghost use Rattle.slot_store.specs.Putting.{HasReplaced, IsNext, Replaces, call_of};
+    ghost use Rattle.slot_store.specs.Store.{content, Rests, IsWithin};
 
     /// The record that was opened or put last; empty where there is none.
     pub fn content(&self) -> &[u8]
@@ -40,28 +39,36 @@ impl SlotStore {
         self.pager.content()
     }
 
-    /// Replaces the record: a put, and then a retire.
-    pub fn replace<D: Disk>(&mut self, disk: &mut D, text: &[u8]) -> Result<(), StoreFault>
-        requires fits { Fits self.old.area text.now }
+    /// Replaces the record by the first `len` bytes of a text: a put, and then a retire. The text's
+    /// room is taken over with it, and the room of the record before is handed back: what it holds
+    /// isn't said.
+    pub fn replace<D: Disk>(
+        &mut self,
+        disk: &mut D,
+        text: &mut Vec<u8>,
+        len: usize,
+    ) -> Result<(), StoreFault>
+        requires text { HasText self.old.area text.old.items len }
         requires within { IsWithin self.old.area (D.state disk.old) }
         requires at_rest { Always (Rests self.old) (D.state disk.old) }
 
-        // Each crash meanwhile leaves the old record or the new; once it is done, the area is at rest.
-        ensures any_moment { Span (D.state disk.old) (D.state disk.new)
-            (IsOldOrNew (D.state disk.old) self.old.area (content self.old) (Option.Some text.now)) }
-        ensures done { OnOk result (Always (HasReplaced self.old self.new text.now
-            (D.state disk.old)) (D.state disk.new)) }
-        ensures reads { ReadsOutsideArea self.old.area (D.state disk.old) (D.state disk.new) }
-        ensures holds { OnOk result (content self.new ≡ Option.Some text.now) }
-        ensures next { IsNext self.old self.new text.now }
-
-        // How the calls went, and what stands where one failed.
-        ensures calls { Called (calls_of (content self.old) (Option.Some text.now)) call_of
+        // Each crash meanwhile leaves the old record or the new, and after a call that failed it is
+        // known which; once it is done, the area is at rest.
+        ensures replaces { Replaces self.old.area
+            (content self.old) (Option.Some (take len text.old.items))
             (D.state disk.old) (D.state disk.new) result }
-        ensures stopped { OnErr result (IsStopped self.old.area (content self.old) (Option.Some text.now)
-            (D.state disk.old) (D.state disk.new)) }
+        ensures done { OnOk result (Always (HasReplaced self.old self.new (take len text.old.items)
+            (D.state disk.old)) (D.state disk.new)) }
+        ensures holds { OnOk result (content self.new ≡ Option.Some (take len text.old.items)) }
+        ensures next { IsNext self.old self.new (take len text.old.items) }
+        ensures room { HasRecordRoom self.old.area text.new.items }
+
+        // How the calls went.
+        ensures calls { Called
+            (calls_of (content self.old) (Option.Some (take len text.old.items))) call_of
+            (D.state disk.old) (D.state disk.new) result }
     {
-        match self.pager.put(disk, text) {
+        match self.pager.put(disk, text, len) {
             Ok(()) => {}
             Err(fault) => return Err(fault),
         }

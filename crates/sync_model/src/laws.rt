@@ -1,6 +1,7 @@
-//! The laws of a sync. The functions have no code: a caller that needs a fact calls them. They are stated of sides whose
-//! state is a number, as a clause holds no law over every kind of state; the lemmas that prove them do, and stand in
-//! `proofs/Meeting`, `proofs/Carried`, `proofs/Alike`, `proofs/Staging` and `proofs/Scenes`.
+//! The laws of a sync. The functions have no code: a caller that needs a fact calls them. They are
+//! stated of sides whose state is a number, as a clause holds no law over every kind of state; the
+//! lemmas that prove them do, and stand in `proofs/Meeting`, `proofs/Carried`, `proofs/Alike`,
+//! `proofs/Staging` and `proofs/Scenes`.
 
 ghost use Rattle.std.specs.Prelude.{ℕ};
 ghost use Rattle.sync_model.specs.Carried.{IsMet};

@@ -30,7 +30,8 @@ use relay_wire::{Reply, Request};
 use session_model::{Answer, Refusal};
 use sync_model::{ITEM_LIMIT, More};
 
-/// What an acknowledgement is answered with. That the packet is absent counts as that it was dropped.
+/// What an acknowledgement is answered with. That the packet is absent counts as that it was
+/// dropped.
 fn acknowledged(reply: Reply<'_>, number: u64) -> Result<(), SyncFault>
     ensures { (p : Party Kept) (kept : Kept) (n : ℕ) →
         Idles p kept (move p kept (acking n number) (replied_of reply.entry))
@@ -66,7 +67,8 @@ fn is_full(answer: Answer) -> bool
 
 /// Writes the answer to a packet, if there was room for its text.
 fn answered<O: Sink>(out: &mut O, prefix: &str, answer: Answer) -> Result<(), SyncFault>
-    ensures answers { IsAnswered (answer_line prefix.now answer) (is_full answer) (O.at out.old) (O.at out.new) result }
+    ensures answers { IsAnswered (answer_line prefix.now answer) (is_full answer) (O.at out.old)
+        (O.at out.new) result }
     ensures later { (O.at out.old).faults ≤ (O.at out.new).faults }
 {
     if is_full(answer) {
@@ -110,8 +112,8 @@ impl<K: Kem> Client<K> {
         }
     }
 
-    /// Fetches the oldest packet of the own box and takes it: its number, or nothing where the box is
-    /// empty. It is drafted while it stands in the reader.
+    /// Fetches the oldest packet of the own box and takes it: its number, or nothing where the box
+    /// is empty. It is drafted while it stands in the reader.
     fn fetch<D: Disk, L: Pipe, O: Sink>(
         &mut self,
         disk: &mut D,
@@ -121,7 +123,8 @@ impl<K: Kem> Client<K> {
         names: &Names,
     ) -> Result<Option<u64>, SyncFault>
         requires { IsOpenOn self.old (D.state disk.old) }
-        ensures round { (n : ℕ) → IsRound (party_of K.mechanism prefix.now names.now.own names.now.peers)
+        ensures round { (n : ℕ)
+            → IsRound (party_of K.mechanism prefix.now names.now.own names.now.peers)
             (fetching n) (record { name = names.now.own; ask = fetches })
             (moment self.old (D.state disk.old) (O.at out.old))
             (moment self.new (D.state disk.new) (O.at out.new))
@@ -154,7 +157,8 @@ impl<K: Kem> Client<K> {
         number: u64,
     ) -> Result<(), SyncFault>
         ensures round { (p : Party Kept) (kept : Kept) (n : ℕ) →
-            Hears (record { name = names.now.own; ask = acks number }) (L.port link.old) (L.port link.new)
+            Hears (record { name = names.now.own; ask = acks number }) (L.port link.old)
+            (L.port link.new)
             (λ reply turn. Idles p kept (move p kept (acking n number) reply) turn) (Unit {0})
             (turn_of (acknowledged p kept n).wait result) }
         ensures same { self.new ≡ self.old }

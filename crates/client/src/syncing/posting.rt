@@ -42,7 +42,8 @@ impl<K: Kem> Client<K> {
         requires some { 0 < length self.old.kept.outbox }
         requires open { IsOpenOn self.old (D.state disk.old) }
         ensures turns { (own peers : List ℕ) (more : More) →
-            Turns (move (party_of K.mechanism prefix.now own peers) self.old.kept (posting more) (stored number))
+            Turns (move (party_of K.mechanism prefix.now own peers) self.old.kept (posting more)
+            (stored number))
             (moment self.old (D.state disk.old) (O.at out.old))
             (moment self.new (D.state disk.new) (O.at out.new))
             (turn_of (waits_by (waiting self.new.kept) more) result) }
@@ -75,7 +76,8 @@ impl<K: Kem> Client<K> {
             (posting more) (record { name = names.now.peers; ask = posts packet })
             (moment self.old (D.state disk.old) (O.at out.old))
             (moment self.new (D.state disk.new) (O.at out.new))
-            (L.port link.old) (L.port link.new) (turn_of (waits_by (waiting self.new.kept) more) result) }
+            (L.port link.old) (L.port link.new)
+            (turn_of (waits_by (waiting self.new.kept) more) result) }
         ensures fewer { OnOk result (length self.new.kept.outbox < length self.old.kept.outbox) }
         ensures later { (O.at out.old).faults ≤ (O.at out.new).faults }
         ensures link { LeavesLink L.port L.behind link.old link.new }

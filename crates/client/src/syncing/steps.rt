@@ -72,7 +72,8 @@ pub(crate) fn oldest(outbox: &Outbox) -> Packet<'_>
 impl<K: Kem> Client<K> {
     /// Each packet of the outbox may be posted. A caller that needs this calls it.
     pub fn may_post(&self)
-        ensures packets { AllByRecursion (λ packet. is_packet packet ≡ true) (waiting self.now.kept) }
+        ensures packets { AllByRecursion (λ packet. is_packet packet ≡ true)
+            (waiting self.now.kept) }
         ensures few { length self.now.kept.outbox ≤ OUTBOX_LIMIT }
     {
         let _count = self.outbox.len();
@@ -104,7 +105,8 @@ impl<K: Kem> Client<K> {
     pub(crate) fn drop_oldest<D: Disk>(&mut self, disk: &mut D) -> Result<(), Call>
         requires some { 0 < length self.old.kept.outbox }
         requires open { IsOpenOn self.old (D.state disk.old) }
-        ensures gone { HasGone (sent_step K.mechanism self.old.kept) self.old self.new (D.state disk.old) (D.state disk.new) result }
+        ensures gone { HasGone (sent_step K.mechanism self.old.kept) self.old self.new
+            (D.state disk.old) (D.state disk.new) result }
         ensures fewer { OnOk result (length self.new.kept.outbox < length self.old.kept.outbox) }
     {
         match self.sent_exact(disk, 1) {

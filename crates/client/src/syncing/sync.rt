@@ -27,12 +27,13 @@ use kem_laws::Kem;
 use sync_model::More;
 
 impl<K: Kem> Client<K> {
-    /// Syncs with a relay: takes the packets of its own box there, each of which is acknowledged, and then posts those of its
-    /// outbox to the peer's box. Each line stands after the prefix. It is a course of `sync_model`: of the replies that were
-    /// read. `Closed` exactly where a call on the disk failed before. `Refused` where the inbox has no room, the peer's box is
-    /// full or the relay has no such box; `Peer` where the relay sent something else than a reply to the request. `Link`, `Store`
-    /// and `Write` only where a call on the link, the disk or the sink failed; after `Store` the client is closed. What was done
-    /// before stands.
+    /// Syncs with a relay: takes the packets of its own box there, each of which is acknowledged,
+    /// and then posts those of its outbox to the peer's box. Each line stands after the prefix. It
+    /// is a course of `sync_model`: of the replies that were read. `Closed` exactly where a call on
+    /// the disk failed before. `Refused` where the inbox has no room, the peer's box is full or the
+    /// relay has no such box; `Peer` where the relay sent something else than a reply to the
+    /// request. `Link`, `Store` and `Write` only where a call on the link, the disk or the sink
+    /// failed; after `Store` the client is closed. What was done before stands.
     pub fn sync<D: Disk, L: Pipe, O: Sink>(
         &mut self,
         disk: &mut D,
@@ -42,15 +43,19 @@ impl<K: Kem> Client<K> {
     ) -> Result<More, SyncFault>
         requires { MayActOn self.old (D.state disk.old) }
         // Closed exactly where a call on the disk failed before; then nothing is done.
-        ensures closed { (call : Call) → self.old.closed ≡ Some call → (result ≡ Err (SyncFault.Closed call))
-            × (self.new ≡ self.old) × (disk.new ≡ disk.old) × (link.new ≡ link.old) × (out.new ≡ out.old) }
+        ensures closed { (call : Call) → self.old.closed ≡ Some call
+            → (result ≡ Err (SyncFault.Closed call))
+            × (self.new ≡ self.old) × (disk.new ≡ disk.old) × (link.new ≡ link.old)
+            × (out.new ≡ out.old) }
         // Else exactly this, by how it ends.
-        ensures exact { self.old.closed ≡ None → Syncs (client_party K.mechanism prefix.now self.old.kept)
+        ensures exact { self.old.closed ≡ None
+            → Syncs (client_party K.mechanism prefix.now self.old.kept)
             (moment self.old (D.state disk.old) (O.at out.old))
             (moment self.new (D.state disk.new) (O.at out.new))
             (L.port link.old) (L.port link.new) result }
         // And in each world that the client stands for, where no packet that is taken is forged.
-        ensures in_worlds { (w : World) (side : Side) (replies : List Replied) → IsIn K.mechanism w side self.old
+        ensures in_worlds { (w : World) (side : Side) (replies : List Replied)
+            → IsIn K.mechanism w side self.old
             → SyncsBy (client_party K.mechanism prefix.now self.old.kept) replies
             (moment self.old (D.state disk.old) (O.at out.old))
             (moment self.new (D.state disk.new) (O.at out.new))
@@ -59,30 +64,34 @@ impl<K: Kem> Client<K> {
             → SyncsIn K.mechanism prefix.now side w replies
             (moment self.old (D.state disk.old) (O.at out.old))
             (moment self.new (D.state disk.new) (O.at out.new)) result }
-        // There, once a packet was opened, its key is used up, and nothing that a crash leaves gives it.
-        ensures spent { (w : World) (side : Side) (replies : List Replied) → IsIn K.mechanism w side self.old
+        // There, once a packet was opened, its key is used up, and nothing that a crash leaves
+        // gives it.
+        ensures spent { (w : World) (side : Side) (replies : List Replied)
+            → IsIn K.mechanism w side self.old
             → SyncsBy (client_party K.mechanism prefix.now self.old.kept) replies
             (moment self.old (D.state disk.old) (O.at out.old))
             (moment self.new (D.state disk.new) (O.at out.new))
             (L.port link.old) (L.port link.new) result
             → AreUnforged K.mechanism prefix.now side w replies
             → SyncSpends K.mechanism prefix.now side w replies (D.state disk.new) result }
-        // By the replies that were read, where they are those of a relay with these boxes: the own box is collected, and the outbox
-        // delivered.
+        // By the replies that were read, where they are those of a relay with these boxes: the own
+        // box is collected, and the outbox delivered.
         ensures transfer { self.old.closed ≡ None → (replies : List Replied)
             → SyncsBy (client_party K.mechanism prefix.now self.old.kept) replies
             (moment self.old (D.state disk.old) (O.at out.old))
             (moment self.new (D.state disk.new) (O.at out.new))
             (L.port link.old) (L.port link.new) result
             → Transfers (client_party K.mechanism prefix.now self.old.kept) self.old.kept replies }
-        // And in each world that the client stands for, what the box holds of the peer's packets is opened, in order, each once.
+        // And in each world that the client stands for, what the box holds of the peer's packets is
+        // opened, in order, each once.
         ensures opens { self.old.closed ≡ None → (replies : List Replied)
             → SyncsBy (client_party K.mechanism prefix.now self.old.kept) replies
             (moment self.old (D.state disk.old) (O.at out.old))
             (moment self.new (D.state disk.new) (O.at out.new))
             (L.port link.old) (L.port link.new) result
             → Opens K.mechanism prefix.now self.old.kept replies }
-        // So they are over a link that tells that it carries a relay's replies, where no call fails.
+        // So they are over a link that tells that it carries a relay's replies, where no call
+        // fails.
         ensures carries { self.old.closed ≡ None → (replies : List Replied)
             → SyncsBy (client_party K.mechanism prefix.now self.old.kept) replies
             (moment self.old (D.state disk.old) (O.at out.old))

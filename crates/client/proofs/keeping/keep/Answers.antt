@@ -1,5 +1,6 @@
-use Rattle.std.proofs.Common.{◌≡◌, arith, false, refl, true}
+use Rattle.std.proofs.Common.{ap, arith, false, refl, take, true, ◌∙◌, ◌≡◌}
 use Rattle.std.proofs.lemmas.Grind.{common_steps}
+use Rattle.std.proofs.lemmas.List.{with_items_is}
 use Rattle.session_record.specs.Changes.{changed}
 use Rattle.session_record.specs.Record.{client_of}
 use Rattle.client.proofs.Replaced.{kept, lost}
@@ -7,17 +8,21 @@ use Rattle.client.proofs.keeping.keep.Goals as goal
 
 pub returns-in-Ok-clause-kept : goal.returns-in-Ok-clause-kept
 returns-in-Ok-clause-kept g c = λ before ready.
+    let written = ap (λ l. take c.encode-len.result l) (with_items_is c.args.text.now c.encode-len.new.out
+    (c.encode-len.auto.out ∙ c.deref_mut.ensures.len)) ∙ c.encode-len.ensures.written in
     kept before (changed g.K.Kem.mechanism (client_of c.args.part.now c.args.inbox.now c.args.outbox.now) c.args.change.now)
-    c.args.store.now _ (g.D.Disk.state c.args.disk.now) (g.D.Disk.state c.replace.new.disk) ready c.encode-len.ensures.written
-    c.replace.new.self c.replace.ensures.any_moment c.in-Ok.ensures.done c.replace.ensures.reads c.in-Ok.ensures.holds
+    c.args.store.now _ (g.D.Disk.state c.args.disk.now) (g.D.Disk.state c.replace.new.disk) ready written
+    c.replace.new.self c.replace.ensures.replaces.any_moment c.in-Ok.ensures.done c.replace.ensures.replaces.reads c.in-Ok.ensures.holds
     c.replace.ensures.next.area c.in-Ok.ensures.calls.passed c.in-Ok.ensures.calls.went.ahead
     c.in-Ok.ensures.calls.went.quiet
 
 pub returns-in-Err-clause-lost : goal.returns-in-Err-clause-lost
 returns-in-Err-clause-lost g c = λ before ready.
+    let written = ap (λ l. take c.encode-len.result l) (with_items_is c.args.text.now c.encode-len.new.out
+    (c.encode-len.auto.out ∙ c.deref_mut.ensures.len)) ∙ c.encode-len.ensures.written in
     lost before (changed g.K.Kem.mechanism (client_of c.args.part.now c.args.inbox.now c.args.outbox.now) c.args.change.now)
-    c.args.store.now _ (g.D.Disk.state c.args.disk.now) (g.D.Disk.state c.replace.new.disk) ready c.encode-len.ensures.written
-    c.in-Err.fault.call c.replace.ensures.any_moment c.replace.ensures.reads c.in-Err.ensures.stopped c.in-Err.ensures.calls.few
+    c.args.store.now _ (g.D.Disk.state c.args.disk.now) (g.D.Disk.state c.replace.new.disk) ready written
+    c.in-Err.fault.call c.replace.ensures.replaces.any_moment c.replace.ensures.replaces.reads c.in-Err.ensures.replaces.stopped c.in-Err.ensures.calls.few
     c.in-Err.ensures.calls.went.ended c.in-Err.ensures.calls.went.fault
 
 pub returns-in-Ok-clause-room : goal.returns-in-Ok-clause-room

@@ -1,11 +1,11 @@
-use Rattle.std.proofs.Common.{false, get_or, subst, true}
+use Rattle.std.proofs.Common.{false, get_or, subst, take, true}
 use Rattle.std.proofs.lemmas.Option.{get_or_from_slice_get, slice_get-get_or}
 use Rattle.relay_server.specs.Durable.{IsReplaced}
 use Rattle.relay_server.proofs.StorePlaces.{others_stay, put_there}
 use Rattle.relay_server.proofs.durable.replace_at.Goals as goal
 
-pub replace-requires-clause-fits : goal.replace-requires-clause-fits
-replace-requires-clause-fits g c =
+pub replace-requires-clause-text : goal.replace-requires-clause-text
+replace-requires-clause-text g c =
     (c.requires.ready (get_or c.args.stores.now c.args.place c.index-stores-place.result)
     (slice_get-get_or c.args.stores.now c.args.place c.index-stores-place.result c.requires.inside)).0
 
@@ -27,12 +27,12 @@ returns-in-Err-clause-others g c = λ j apart. others_stay c.args.stores.now c.a
 
 pub returns-in-Ok-clause-there : goal.returns-in-Ok-clause-there
 returns-in-Ok-clause-there g c = λ old new was now.
-    subst (λ x. IsReplaced c.args.text.now x new (g.D.Disk.state c.args.disk.now) (g.D.Disk.state c.replace.new.disk) true)
+    subst (λ x. IsReplaced (take c.args.len c.args.text.now.items) x new (g.D.Disk.state c.args.disk.now) (g.D.Disk.state c.replace.new.disk) true)
     (get_or_from_slice_get c.args.stores.now c.args.place old c.index-stores-place.result was)
-    (subst (λ y. IsReplaced c.args.text.now (get_or c.args.stores.now c.args.place c.index-stores-place.result) y (g.D.Disk.state c.args.disk.now) (g.D.Disk.state c.replace.new.disk) true)
+    (subst (λ y. IsReplaced (take c.args.len c.args.text.now.items) (get_or c.args.stores.now c.args.place c.index-stores-place.result) y (g.D.Disk.state c.args.disk.now) (g.D.Disk.state c.replace.new.disk) true)
     (put_there c.args.stores.now c.args.place c.replace.new.self new c.requires.inside now)
     (record {
-      any_moment = c.replace.ensures.any_moment;
+      any_moment = c.replace.ensures.replaces.any_moment;
       same = c.replace.ensures.next.area;
       holds = λ _. c.in-Ok.ensures.holds;
       rests = λ _ f left. (c.in-Ok.ensures.done f left).0;
@@ -41,12 +41,12 @@ returns-in-Ok-clause-there g c = λ old new was now.
 
 pub returns-in-Err-clause-there : goal.returns-in-Err-clause-there
 returns-in-Err-clause-there g c = λ old new was now.
-    subst (λ x. IsReplaced c.args.text.now x new (g.D.Disk.state c.args.disk.now) (g.D.Disk.state c.replace.new.disk) false)
+    subst (λ x. IsReplaced (take c.args.len c.args.text.now.items) x new (g.D.Disk.state c.args.disk.now) (g.D.Disk.state c.replace.new.disk) false)
     (get_or_from_slice_get c.args.stores.now c.args.place old c.index-stores-place.result was)
-    (subst (λ y. IsReplaced c.args.text.now (get_or c.args.stores.now c.args.place c.index-stores-place.result) y (g.D.Disk.state c.args.disk.now) (g.D.Disk.state c.replace.new.disk) false)
+    (subst (λ y. IsReplaced (take c.args.len c.args.text.now.items) (get_or c.args.stores.now c.args.place c.index-stores-place.result) y (g.D.Disk.state c.args.disk.now) (g.D.Disk.state c.replace.new.disk) false)
     (put_there c.args.stores.now c.args.place c.replace.new.self new c.requires.inside now)
     (record {
-      any_moment = c.replace.ensures.any_moment;
+      any_moment = c.replace.ensures.replaces.any_moment;
       same = c.replace.ensures.next.area;
       holds = λ e. absurd cc;
       rests = λ e. absurd cc;

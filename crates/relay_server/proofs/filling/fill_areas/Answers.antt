@@ -1,4 +1,3 @@
-use Rattle.std.proofs.Common.{arith}
 use Rattle.dr_disk.proofs.Steps.{quiet_twice}
 use Rattle.relay_server.proofs.FilledAreas.{filling_on}
 use Rattle.relay_server.proofs.filling.fill_areas.Goals as goal
@@ -12,5 +11,5 @@ boxes-preserved g c = record {
   filled = c.in-Ok.ensures.filled;
   during = filling_on c.args.relay.now (g.D.Disk.state c.args.disk.now) (g.D.Disk.state c.boxes.disk) (g.D.Disk.state c.fill_area.new.disk) c.boxes.invariant.during c.fill_area.ensures.any_moment;
   quiet = quiet_twice (g.D.Disk.state c.args.disk.now) (g.D.Disk.state c.boxes.disk) (g.D.Disk.state c.fill_area.new.disk) c.boxes.invariant.quiet c.in-Ok.ensures.quiet;
-  room = omega (arith, c.fill_area.ensures.size, c.boxes.invariant.room);
+  room = c.fill_area.ensures.room;
 }

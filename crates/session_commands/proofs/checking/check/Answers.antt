@@ -9,12 +9,12 @@ returns-in-Err-clause-runs g c = record {
   ending = c.unread.result;
   lines = [];
   came = record {
-    checked = subst (λ e. Checked g.D.Disk.state g.K.Kem.mechanism c.args.disk.now c.inspect.new.disk e []) (sym c.unread.ensures)
-        (look_refused g.D.Disk.state g.K.Kem.mechanism c.args.disk.now c.inspect.new.disk c.in-Err.error c.in-Err.ensures.memory
+    checked = subst (λ e. Checked g.D.Disk.state g.K.Kem.mechanism c.args.disk.now c.look.new.disk e []) (sym c.unread.ensures)
+        (look_refused g.D.Disk.state g.K.Kem.mechanism c.args.disk.now c.look.new.disk c.in-Err.error c.in-Err.ensures.memory
         c.in-Err.ensures.fault);
-    unwritten = c.inspect.ensures.unwritten;
-    passed = c.inspect.ensures.passed;
-    any_moment = c.inspect.ensures.any_moment;
+    unwritten = c.look.ensures.unwritten;
+    passed = c.look.ensures.passed;
+    any_moment = c.look.ensures.any_moment;
   };
   ends = c.finish.ensures.ends;
 }
@@ -25,9 +25,9 @@ returns-in-Ok-clause-runs g c = record {
   lines = report_lines c.in-Ok.report;
   came = record {
     checked = was_checked c.in-Ok.report c.in-Ok.ensures.report c.in-Ok.ensures.quiet;
-    unwritten = c.inspect.ensures.unwritten;
-    passed = c.inspect.ensures.passed;
-    any_moment = c.inspect.ensures.any_moment;
+    unwritten = c.look.ensures.unwritten;
+    passed = c.look.ensures.passed;
+    any_moment = c.look.ensures.any_moment;
   };
   ends = c.finish_written.ensures.ends _ _ c.write_report-wrote.ensures;
 }

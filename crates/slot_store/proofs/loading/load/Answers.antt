@@ -5,7 +5,8 @@ use Rattle.dr_base.specs.declared.limits.TheConstants.{PAGE}
 use Rattle.record_pages.specs.Pages.{pages_in}
 use Rattle.record_pages.specs.Tables.{length_in, nonzero_from, or_else, record_names}
 use Rattle.slot_store.specs.Reading.{behind_table}
-use Rattle.slot_store.proofs.LoadedPages.{are_pages, behind_none, count, faultless_by, few, fits, loaded_blank, loaded_fault, loaded_pages, zeros_of}
+use Rattle.slot_store.proofs.LoadedPages.{are_pages, behind_none, count, faultless_by, few, fits, loaded_blank, loaded_fault, loaded_pages}
+use Rattle.pages.proofs.Looking.{looks_as}
 use Rattle.slot_store.proofs.Wiping.{sound_area}
 use Rattle.slot_store.proofs.Paging.{covered, fewest}
 use Rattle.slot_store.proofs.loading.load.Goals as goal
@@ -72,25 +73,28 @@ record_fault-requires-clause-fits g c =
     omega (arith, held, inside, long)
 
 pub returns-in-Some-record_fault-clause-loaded : goal.returns-in-Some-record_fault-clause-loaded
-returns-in-Some-record_fault-clause-loaded g c = λ s told.
-    let faultless = faultless_by c.args.area _ _ c.args.body.now _ c.page_total-total.ensures.total c.record_most.ensures.most
-    c.table_fault.ensures.fault c.in_default.is in
-    let names : c.deref.result.now ≡ record_names c.args.body.now = c.deref.ensures.value ∙ c.table_fault.ensures.numbers c.in_default.is in
-    let lawful = c.page_total-total.ensures.lawful in
-    let says : c.record_length-len.result ≡ length_in c.args.body.now = c.record_length-len.ensures in
-    let held : c.len.result ≡ length c.deref.result.now = omega (arith, c.len.ensures, c.table_fault.new.numbers.ok.0, ap length c.deref.ensures.value) in
-    let less = few c.args.area c.args.body.now c.deref.result.now c.record_length-len.result lawful faultless names says in
-    let inside = fits c.args.area c.args.body.now c.deref.result.now c.record_length-len.result lawful faultless names says in
-    let size : length c.read_pages.new.bytes ≡ PAGE * c.args.area.most = omega (arith, c.read_pages.ensures.long, ap length c.deref_mut.ensures.value, c.requires.room.long) in
-    let whole : c.deref-2.result.now ≡ c.read_pages.new.bytes = c.deref-2.ensures.value
-    ∙ with_items_is c.args.kept.bytes c.read_pages.new.bytes (omega (arith, size, c.requires.room.long, c.args.kept.bytes.ok.0)) in
-    let part : take (4096 * c.len.result) c.deref-2.result.now ≡ take (PAGE * length c.deref.result.now) c.read_pages.new.bytes =
-    ap₂ (λ k (l : List ℕ). take (PAGE * k) l) held whole in
-    loaded_fault c.args.area c.args.body.now c.deref.result.now c.record_length-len.result lawful faultless names says
-    c.read_pages.new.bytes s size (c.in-Ok.ensures.pages s told) g.G.Grammar.fault_at _
-    (sym c.in-Some-record_fault.is ∙ c.record_fault.ensures
-    ∙ ap (λ (l : List ℕ). behind_table (or_else (g.G.Grammar.fault_at (take c.record_length-len.result l))
-    (nonzero_from c.record_length-len.result (drop c.record_length-len.result l)))) part)
+returns-in-Some-record_fault-clause-loaded g c = record {
+  looks = looks_as _ _ _ _ c.in-Ok.ensures.looks;
+  found = λ s told.
+      let faultless = faultless_by c.args.area _ _ c.args.body.now _ c.page_total-total.ensures.total c.record_most.ensures.most
+      c.table_fault.ensures.fault c.in_default.is in
+      let names : c.deref.result.now ≡ record_names c.args.body.now = c.deref.ensures.value ∙ c.table_fault.ensures.numbers c.in_default.is in
+      let lawful = c.page_total-total.ensures.lawful in
+      let says : c.record_length-len.result ≡ length_in c.args.body.now = c.record_length-len.ensures in
+      let held : c.len.result ≡ length c.deref.result.now = omega (arith, c.len.ensures, c.table_fault.new.numbers.ok.0, ap length c.deref.ensures.value) in
+      let less = few c.args.area c.args.body.now c.deref.result.now c.record_length-len.result lawful faultless names says in
+      let inside = fits c.args.area c.args.body.now c.deref.result.now c.record_length-len.result lawful faultless names says in
+      let size : length c.read_pages.new.bytes ≡ PAGE * c.args.area.most = omega (arith, c.read_pages.ensures.long, ap length c.deref_mut.ensures.value, c.requires.room.long) in
+      let whole : c.deref-2.result.now ≡ c.read_pages.new.bytes = c.deref-2.ensures.value
+      ∙ with_items_is c.args.kept.bytes c.read_pages.new.bytes (omega (arith, size, c.requires.room.long, c.args.kept.bytes.ok.0)) in
+      let part : take (4096 * c.len.result) c.deref-2.result.now ≡ take (PAGE * length c.deref.result.now) c.read_pages.new.bytes =
+      ap₂ (λ k (l : List ℕ). take (PAGE * k) l) held whole in
+      loaded_fault c.args.area c.args.body.now c.deref.result.now c.record_length-len.result lawful faultless names says
+      c.read_pages.new.bytes s size (c.in-Ok.ensures.pages s told) g.G.Grammar.fault_at _
+      (sym c.in-Some-record_fault.is ∙ c.record_fault.ensures
+      ∙ ap (λ (l : List ℕ). behind_table (or_else (g.G.Grammar.fault_at (take c.record_length-len.result l))
+      (nonzero_from c.record_length-len.result (drop c.record_length-len.result l)))) part);
+}
 
 pub invariant_of-result : goal.invariant_of-result
 invariant_of-result g c =
@@ -117,10 +121,12 @@ invariant_of-result g c =
     (c.table_fault.ensures.numbers c.in_default.is) says in
     record {
       fits = omega (arith, inside, less, size, ap length items);
-      blank = subst (λ (l : List ℕ). drop c.record_length-len.result l ≡ replicate (length l - c.record_length-len.result) 0) (sym items)
-          (loaded_blank c.args.area c.args.body.now c.deref.result.now c.record_length-len.result lawful faultless names says
-          c.read_pages.new.bytes c.deref_mut.result.now size c.read_pages.ensures.long c.read_pages.ensures.behind
-          (zeros_of c.args.kept.bytes.items c.deref_mut.result.now c.args.kept.len c.deref_mut.ensures.value c.requires.none c.args.kept.blank) zeros);
+      blank = subst (λ (l : List ℕ). drop c.record_length-len.result (take (PAGE * length c.table_fault.new.numbers.items) l)
+          ≡ replicate (PAGE * length c.table_fault.new.numbers.items - c.record_length-len.result) 0) (sym items)
+          (loaded_blank c.args.area c.args.body.now c.table_fault.new.numbers.items c.record_length-len.result lawful faultless
+          (c.table_fault.ensures.numbers c.in_default.is) says c.read_pages.new.bytes size
+          (ap (λ (l : List ℕ). nonzero_from c.record_length-len.result (drop c.record_length-len.result
+          (take (PAGE * length l) c.read_pages.new.bytes))) (sym c.deref.ensures.value) ∙ zeros));
       covers = covered (length c.table_fault.new.numbers.items) c.record_length-len.result each;
       least = fewest (length c.table_fault.new.numbers.items) c.record_length-len.result each;
     }
@@ -160,25 +166,28 @@ returns-clause-named g c =
     }
 
 pub returns-clause-loaded : goal.returns-clause-loaded
-returns-clause-loaded g c = λ s told.
-    let faultless = faultless_by c.args.area _ _ c.args.body.now _ c.page_total-total.ensures.total c.record_most.ensures.most
-    c.table_fault.ensures.fault c.in_default.is in
-    let names : c.deref.result.now ≡ record_names c.args.body.now = c.deref.ensures.value ∙ c.table_fault.ensures.numbers c.in_default.is in
-    let lawful = c.page_total-total.ensures.lawful in
-    let says : c.record_length-len.result ≡ length_in c.args.body.now = c.record_length-len.ensures in
-    let held : c.len.result ≡ length c.deref.result.now = omega (arith, c.len.ensures, c.table_fault.new.numbers.ok.0, ap length c.deref.ensures.value) in
-    let less = few c.args.area c.args.body.now c.deref.result.now c.record_length-len.result lawful faultless names says in
-    let inside = fits c.args.area c.args.body.now c.deref.result.now c.record_length-len.result lawful faultless names says in
-    let size : length c.read_pages.new.bytes ≡ PAGE * c.args.area.most = omega (arith, c.read_pages.ensures.long, ap length c.deref_mut.ensures.value, c.requires.room.long) in
-    let whole : c.deref-2.result.now ≡ c.read_pages.new.bytes = c.deref-2.ensures.value
-    ∙ with_items_is c.args.kept.bytes c.read_pages.new.bytes (omega (arith, size, c.requires.room.long, c.args.kept.bytes.ok.0)) in
-    let part : take (4096 * c.len.result) c.deref-2.result.now ≡ take (PAGE * length c.deref.result.now) c.read_pages.new.bytes =
-    ap₂ (λ k (l : List ℕ). take (PAGE * k) l) held whole in
-    let none = behind_none (g.G.Grammar.fault_at (take c.record_length-len.result (take (4096 * c.len.result) c.deref-2.result.now)))
-    (nonzero_from c.record_length-len.result (drop c.record_length-len.result (take (4096 * c.len.result) c.deref-2.result.now)))
-    (sym c.record_fault.ensures ∙ c.in_default-record_fault.is) in
-    let zeros : nonzero_from c.record_length-len.result (drop c.record_length-len.result (take (PAGE * length c.deref.result.now) c.read_pages.new.bytes)) ≡ None =
-    ap (λ (l : List ℕ). nonzero_from c.record_length-len.result (drop c.record_length-len.result l)) (sym part) ∙ none.1 in
-    loaded_pages c.args.area c.args.body.now c.deref.result.now c.record_length-len.result lawful faultless names says
-    c.read_pages.new.bytes s size (c.in-Ok.ensures.pages s told) zeros
-    ∙ ap (λ (l : List ℕ). pages_in (take c.record_length-len.result l)) (sym whole ∙ c.deref-2.ensures.value)
+returns-clause-loaded g c = record {
+  looks = looks_as _ _ _ _ c.in-Ok.ensures.looks;
+  found = λ s told.
+      let faultless = faultless_by c.args.area _ _ c.args.body.now _ c.page_total-total.ensures.total c.record_most.ensures.most
+      c.table_fault.ensures.fault c.in_default.is in
+      let names : c.deref.result.now ≡ record_names c.args.body.now = c.deref.ensures.value ∙ c.table_fault.ensures.numbers c.in_default.is in
+      let lawful = c.page_total-total.ensures.lawful in
+      let says : c.record_length-len.result ≡ length_in c.args.body.now = c.record_length-len.ensures in
+      let held : c.len.result ≡ length c.deref.result.now = omega (arith, c.len.ensures, c.table_fault.new.numbers.ok.0, ap length c.deref.ensures.value) in
+      let less = few c.args.area c.args.body.now c.deref.result.now c.record_length-len.result lawful faultless names says in
+      let inside = fits c.args.area c.args.body.now c.deref.result.now c.record_length-len.result lawful faultless names says in
+      let size : length c.read_pages.new.bytes ≡ PAGE * c.args.area.most = omega (arith, c.read_pages.ensures.long, ap length c.deref_mut.ensures.value, c.requires.room.long) in
+      let whole : c.deref-2.result.now ≡ c.read_pages.new.bytes = c.deref-2.ensures.value
+      ∙ with_items_is c.args.kept.bytes c.read_pages.new.bytes (omega (arith, size, c.requires.room.long, c.args.kept.bytes.ok.0)) in
+      let part : take (4096 * c.len.result) c.deref-2.result.now ≡ take (PAGE * length c.deref.result.now) c.read_pages.new.bytes =
+      ap₂ (λ k (l : List ℕ). take (PAGE * k) l) held whole in
+      let none = behind_none (g.G.Grammar.fault_at (take c.record_length-len.result (take (4096 * c.len.result) c.deref-2.result.now)))
+      (nonzero_from c.record_length-len.result (drop c.record_length-len.result (take (4096 * c.len.result) c.deref-2.result.now)))
+      (sym c.record_fault.ensures ∙ c.in_default-record_fault.is) in
+      let zeros : nonzero_from c.record_length-len.result (drop c.record_length-len.result (take (PAGE * length c.deref.result.now) c.read_pages.new.bytes)) ≡ None =
+      ap (λ (l : List ℕ). nonzero_from c.record_length-len.result (drop c.record_length-len.result l)) (sym part) ∙ none.1 in
+      loaded_pages c.args.area c.args.body.now c.deref.result.now c.record_length-len.result lawful faultless names says
+      c.read_pages.new.bytes s size (c.in-Ok.ensures.pages s told) zeros
+      ∙ ap (λ (l : List ℕ). pages_in (take c.record_length-len.result l)) (sym whole ∙ c.deref-2.ensures.value);
+}

@@ -1,4 +1,4 @@
-use Rattle.std.proofs.Common.{◌≡◌, ◌+◌, ◌-◌, ◌*◌, ◌≤◌, ℕ, List, length, drop, map, get_or, sym, ◌∙◌, ap, subst, arith, length-drop, length-take}
+use Rattle.std.proofs.Common.{◌≡◌, ◌+◌, ◌-◌, ◌*◌, ◌≤◌, ℕ, List, length, map, get_or, sym, ◌∙◌, ap, subst, arith, length-drop, length-take}
 use Rattle.std.proofs.lemmas.List.{take_all}
 use Rattle.dr_base.specs.declared.limits.TheConstants.{PAGE}
 use Rattle.pages.specs.Layouts.{IsPage, IsSound}
@@ -6,7 +6,7 @@ use Rattle.pages.specs.Snapshots.{page_of}
 use Rattle.record_pages.specs.Pages.{cut}
 use Rattle.slot_store.specs.Areas.{layout_of}
 use Rattle.pages.proofs.Looking.{looks_twice}
-use Rattle.slot_store.proofs.ReadPages.{behind_later, put_before, put_behind, put_here, read_more}
+use Rattle.slot_store.proofs.ReadPages.{put_before, put_here, read_more}
 use Rattle.slot_store.proofs.loading.read_pages.Goals as goal
 
 pub read_page-requires-clause-sound : goal.read_page-requires-clause-sound
@@ -34,21 +34,11 @@ pages-preserved g c =
           (put_here i _ c.pages.bytes page long size fits)
           (c.in-Ok.ensures.bytes s (c.pages.invariant.looks.untouched.unwritten.seen ∙ told))
           (c.pages.invariant.read s told);
-      behind = put_behind i _ c.pages.bytes page long size fits (PAGE * (c.pages.i + 1)) (omega arith)
-          ∙ behind_later (PAGE * c.pages.i) (PAGE * (c.pages.i + 1)) c.args.bytes.now c.pages.bytes (omega arith) c.pages.invariant.behind;
       looks = looks_twice (tt {0}) _ _ _ _ c.pages.invariant.looks c.in-Ok.ensures.looks;
     }
 
 pub returns-in-Err-clause-looks : goal.returns-in-Err-clause-looks
 returns-in-Err-clause-looks g c = looks_twice (tt {0}) _ _ _ _ c.pages.invariant.looks c.in-Err.ensures.looks
-
-pub returns-in-Err-clause-behind : goal.returns-in-Err-clause-behind
-returns-in-Err-clause-behind g c =
-    let size : PAGE * c.pages.i + PAGE - PAGE * c.pages.i ≡ PAGE = omega arith in
-    let fits : PAGE * c.pages.i + PAGE ≤ length c.pages.bytes = omega (arith, c.requires.room, c.pages-test.true, c.pages.auto.bytes) in
-    let long : length c.read_page.new.into ≡ PAGE = omega (arith, c.read_page.auto.into, length-take {A = ℕ}, length-drop {A = ℕ}) in
-    put_behind c.pages.i _ c.pages.bytes c.read_page.new.into long size fits (PAGE * length c.args.numbers.now) (omega (arith, c.pages-test.true))
-    ∙ behind_later (PAGE * c.pages.i) (PAGE * length c.args.numbers.now) c.args.bytes.now c.pages.bytes (omega (arith, c.pages-test.true)) c.pages.invariant.behind
 
 pub returns-clause-pages : goal.returns-clause-pages
 returns-clause-pages g c = λ s told.
@@ -56,8 +46,3 @@ returns-clause-pages g c = λ s told.
     ap (λ k. cut k c.pages.bytes) (sym e) ∙ c.pages.invariant.read s told
     ∙ ap (λ (l : List ℕ). map (page_of c.layout-layout.result s) l) (take_all c.pages.i c.args.numbers.now (omega arith))
     ∙ ap (λ l. map (page_of l s) c.args.numbers.now) c.layout-layout.ensures.layout
-
-pub returns-clause-behind : goal.returns-clause-behind
-returns-clause-behind g c =
-    let e : c.pages.i ≡ length c.args.numbers.now = omega (arith, c.pages-test.false, c.pages.auto.i-end) in
-    ap (λ k. drop (PAGE * k) c.pages.bytes) (sym e) ∙ c.pages.invariant.behind ∙ ap (λ k. drop (PAGE * k) c.args.bytes.now) e

@@ -1,6 +1,5 @@
 -- the pages so far were read
-use Rattle.std.proofs.Common.{◌≡◌, ◌*◌, map, take, drop, Ok}
-use Rattle.dr_base.specs.declared.limits.TheConstants.{PAGE}
+use Rattle.std.proofs.Common.{◌≡◌, map, take, Ok}
 use Rattle.dr_disk.specs.State.{OnSeen}
 use Rattle.pages.specs.Runs.{Looks}
 use Rattle.pages.specs.Snapshots.{page_of}
@@ -10,6 +9,5 @@ use Rattle.slot_store.proofs.loading.read_pages.Given as goal
 abbrev pub invariant-pages : goal.invariant-pages
 invariant-pages g l = record {
   read : OnSeen (λ s. cut l.i l.bytes ≡ map (page_of l.layout s) (take l.i l.numbers)) (g.D.Disk.state l.fn.disk);
-  behind : drop (PAGE * l.i) l.bytes ≡ drop (PAGE * l.i) l.fn.bytes;
   looks : Looks {T = Unit} (g.D.Disk.state l.fn.disk) (g.D.Disk.state l.disk) (Ok tt);
 }

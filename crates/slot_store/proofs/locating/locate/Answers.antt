@@ -1,30 +1,37 @@
 use Rattle.std.proofs.Common.{◌≡◌}
 use Rattle.dr_disk.specs.State.{OnSeen}
+use Rattle.pages.proofs.Looking.{looks_none}
 use Rattle.pages.specs.Tables.{alike, none_open, standing}
 use Rattle.slot_store.specs.Areas.{layout_of}
 use Rattle.slot_store.proofs.EmptyRead.{alike_reading, empty_reading, empty_shown, empty_text, judged_read}
 use Rattle.slot_store.proofs.JudgedRead.{first_counts, first_opened, second_counts, second_opened}
 use Rattle.slot_store.proofs.locating.locate.Goals as goal
 
-pub returns-in-Alike-clause-located : goal.returns-in-Alike-clause-located
-returns-in-Alike-clause-located g c = λ s told. alike_reading g.G.Grammar.fault_at c.args.area s
-    (judged_read c.args.area (g.D.Disk.state c.args.disk.now) c.args.first_gate c.args.second_gate c.args.scratch.now.first.items
-    c.args.scratch.now.second.items c.deref.result.now c.deref-2.result.now alike
-    c.deref.ensures.value c.deref-2.ensures.value c.in-Alike.ensures c.requires.read s told)
+pub returns-in-Alike : goal.returns-in-Alike
+returns-in-Alike g c = record {
+  found = λ s told. alike_reading g.G.Grammar.fault_at c.args.area s
+      (judged_read c.args.area (g.D.Disk.state c.args.disk.now) c.args.first_gate c.args.second_gate c.args.scratch.now.first.items
+      c.args.scratch.now.second.items c.deref.result.now c.deref-2.result.now alike
+      c.deref.ensures.value c.deref-2.ensures.value c.in-Alike.ensures c.requires.tables.read s told);
+  looks = looks_none _ _;
+}
 
-pub returns-in-NoneOpen-clause-located : goal.returns-in-NoneOpen-clause-located
-returns-in-NoneOpen-clause-located g c =
+pub returns-in-NoneOpen : goal.returns-in-NoneOpen
+returns-in-NoneOpen g c =
     let pager = c.pager_of-pager.result in
     let is = c.pager_of-pager.ensures in
     let closed : OnSeen (λ s. standing (layout_of c.args.area) s ≡ none_open) (g.D.Disk.state c.args.disk.now) =
     judged_read c.args.area (g.D.Disk.state c.args.disk.now) c.args.first_gate c.args.second_gate c.args.scratch.now.first.items
     c.args.scratch.now.second.items c.deref.result.now c.deref-2.result.now none_open
-    c.deref.ensures.value c.deref-2.ensures.value c.in-NoneOpen.ensures c.requires.read in
+    c.deref.ensures.value c.deref-2.ensures.value c.in-NoneOpen.ensures c.requires.tables.read in
     record {
-      area_is = is.area;
-      shown = λ s told. empty_shown c.args.area pager is.area is.turn s (closed s told);
-      read = λ s told. empty_reading g.G.Grammar.fault_at c.args.area pager is.area is.turn s (closed s told);
-      text = empty_text g.G.Grammar.fault_at c.args.area pager is.area is.turn;
+      found = record {
+        area_is = is.area;
+        shown = λ s told. empty_shown c.args.area pager is.area is.turn s (closed s told);
+        read = λ s told. empty_reading g.G.Grammar.fault_at c.args.area pager is.area is.turn s (closed s told);
+        text = empty_text g.G.Grammar.fault_at c.args.area pager is.area is.turn;
+      };
+      looks = looks_none _ _;
     }
 
 pub locate_newer-requires-clause-opened : goal.locate_newer-requires-clause-opened
@@ -37,7 +44,7 @@ pub locate_newer-requires-clause-counts : goal.locate_newer-requires-clause-coun
 locate_newer-requires-clause-counts g c =
     second_counts c.args.area (g.D.Disk.state c.args.disk.now) c.args.first_gate c.args.second_gate c.args.scratch.now.first.items
     c.args.scratch.now.second.items c.deref.result.now c.deref-2.result.now c.deref-in-Newer-true.result.now
-    c.deref.ensures.value c.deref-2.ensures.value c.in-Newer-true.second c.in-Newer-true.ensures c.in-Newer-true.second-test c.deref-in-Newer-true.ensures.value c.requires.read
+    c.deref.ensures.value c.deref-2.ensures.value c.in-Newer-true.second c.in-Newer-true.ensures c.in-Newer-true.second-test c.deref-in-Newer-true.ensures.value c.requires.tables.read
 
 pub locate_newer-requires-in-Newer-false-clause-opened : goal.locate_newer-requires-in-Newer-false-clause-opened
 locate_newer-requires-in-Newer-false-clause-opened g c =
@@ -49,4 +56,4 @@ pub locate_newer-requires-in-Newer-false-clause-counts : goal.locate_newer-requi
 locate_newer-requires-in-Newer-false-clause-counts g c =
     first_counts c.args.area (g.D.Disk.state c.args.disk.now) c.args.first_gate c.args.second_gate c.args.scratch.now.first.items
     c.args.scratch.now.second.items c.deref.result.now c.deref-2.result.now c.deref-in-Newer-false.result.now
-    c.deref.ensures.value c.deref-2.ensures.value c.in-Newer-false.second c.in-Newer-false.ensures c.in-Newer-false.second-test c.deref-in-Newer-false.ensures.value c.requires.read
+    c.deref.ensures.value c.deref-2.ensures.value c.in-Newer-false.second c.in-Newer-false.ensures c.in-Newer-false.second-test c.deref-in-Newer-false.ensures.value c.requires.tables.read

@@ -1,23 +1,27 @@
 use Rattle.std.proofs.Common.{subst, arith}
 use Rattle.dr_disk.specs.State.{OnSeen}
+use Rattle.pages.proofs.Looking.{looks_as}
 use Rattle.slot_store.specs.Loading.{IsLoaded, IsNamed, IsNamedRecord}
 use Rattle.slot_store.specs.Settling.{HasShot}
 use Rattle.slot_store.proofs.NewerRead.{damaged_newer, newer_entries, newer_reading, newer_text, read_shown}
 use Rattle.slot_store.proofs.locating.locate_newer.Goals as goal
 
-pub returns-in-Ok-Faulty-clause-located : goal.returns-in-Ok-Faulty-clause-located
-returns-in-Ok-Faulty-clause-located g c = λ s told.
-    damaged_newer g.G.Grammar.fault_at c.args.area c.args.second c.args.body.now s _ c.in-Ok-Faulty.at (c.requires.counts s told)
-    (subst (λ f. IsLoaded g.G.Grammar.fault_at c.args.area c.args.body.now f s) c.in-Ok-Faulty.field-0-is (c.in-Ok-Faulty.ensures.loaded s told))
-    c.number.ensures
+pub returns-in-Ok-Faulty : goal.returns-in-Ok-Faulty
+returns-in-Ok-Faulty g c = record {
+  found = λ s told.
+      damaged_newer g.G.Grammar.fault_at c.args.area c.args.second c.args.body.now s _ c.in-Ok-Faulty.at (c.requires.counts s told)
+      (subst (λ f. IsLoaded g.G.Grammar.fault_at c.args.area c.args.body.now f s) c.in-Ok-Faulty.field-0-is (c.in-Ok-Faulty.ensures.loaded.found s told))
+      c.number.ensures;
+  looks = looks_as _ _ _ _ c.in-Ok-Faulty.ensures.loaded.looks;
+}
 
 pub pager_of-pager-requires-clause-entries : goal.pager_of-pager-requires-clause-entries
 pager_of-pager-requires-clause-entries g c =
     newer_entries g.G.Grammar.fault_at c.args.area c.args.body.now c.in-Ok-Whole.kept
     (subst (λ f. IsNamedRecord g.G.Grammar.fault_at c.args.area c.args.body.now f) c.in-Ok-Whole.field-0-is c.in-Ok-Whole.ensures.named)
 
-pub returns-clause-located : goal.returns-clause-located
-returns-clause-located g c =
+pub returns : goal.returns
+returns g c =
     let pager = c.pager_of-pager.result in
     let is = c.pager_of-pager.ensures in
     let fault_at = g.G.Grammar.fault_at in
@@ -27,12 +31,15 @@ returns-clause-located g c =
     let shown : OnSeen (HasShot c.pager_of-pager.result) (g.D.Disk.state c.args.disk.now) = λ s told.
     read_shown fault_at c.args.area c.args.second body c.in-Ok-Whole.kept pager is.area is.second is.turn is.kept
     c.requires.long (λ i. omega (arith, c.type_inv.body i)) c.requires.opened named s (c.requires.counts s told)
-    (subst (λ f. IsLoaded g.G.Grammar.fault_at c.args.area c.args.body.now f s) c.in-Ok-Whole.field-0-is (c.in-Ok-Whole.ensures.loaded s told)) in
+    (subst (λ f. IsLoaded g.G.Grammar.fault_at c.args.area c.args.body.now f s) c.in-Ok-Whole.field-0-is (c.in-Ok-Whole.ensures.loaded.found s told)) in
     record {
-      area_is = is.area;
-      shown = shown;
-      read = λ s told. newer_reading fault_at c.args.area c.args.second body c.in-Ok-Whole.kept pager is.area is.second is.turn is.kept
-          c.requires.long (λ i. omega (arith, c.type_inv.body i)) c.requires.opened named s (shown s told);
-      text = newer_text fault_at c.args.area c.args.second body c.in-Ok-Whole.kept pager is.area is.second is.turn is.kept
-          c.requires.long (λ i. omega (arith, c.type_inv.body i)) c.requires.opened named;
+      found = record {
+        area_is = is.area;
+        shown = shown;
+        read = λ s told. newer_reading fault_at c.args.area c.args.second body c.in-Ok-Whole.kept pager is.area is.second is.turn is.kept
+            c.requires.long (λ i. omega (arith, c.type_inv.body i)) c.requires.opened named s (shown s told);
+        text = newer_text fault_at c.args.area c.args.second body c.in-Ok-Whole.kept pager is.area is.second is.turn is.kept
+            c.requires.long (λ i. omega (arith, c.type_inv.body i)) c.requires.opened named;
+      };
+      looks = looks_as _ _ _ _ c.in-Ok-Whole.ensures.loaded.looks;
     }

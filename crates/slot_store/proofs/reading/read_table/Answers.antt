@@ -1,27 +1,34 @@
-use Rattle.std.proofs.Common.{refl}
+use Rattle.std.proofs.Common.{refl, arith}
+use Rattle.std.proofs.lemmas.Grind.{common_steps}
 use Rattle.dr_disk.specs.Called.{itself}
 use Rattle.dr_disk.specs.declared.call.Call.TheVariants.{Read}
 use Rattle.dr_disk.proofs.Calling.{read_fails, reads_well}
 use Rattle.pages.proofs.Looking.{looked, looks_twice}
 use Rattle.slot_store.proofs.reading.read_table.Goals as goal
 
-pub returns-in_default-clause-looks : goal.returns-in_default-clause-looks
-returns-in_default-clause-looks g c =
-    looked _ _ _ c.read.ensures.passes c.read.ensures.unwritten c.in_default.ensures.told.passed
-    (read_fails itself Read _ _ _ c.in_default.ensures.told c.in_default.ensures.cause) refl
+pub returns-in_default-clause-table : goal.returns-in_default-clause-table
+returns-in_default-clause-table g c = record {
+  found = tt;
+  looks = looked _ _ _ c.read.ensures.passes c.read.ensures.unwritten c.in_default.ensures.told.passed
+      (read_fails itself Read _ _ _ c.in_default.ensures.told c.in_default.ensures.cause) refl;
+}
 
-pub returns-in_default-read-clause-looks : goal.returns-in_default-read-clause-looks
-returns-in_default-read-clause-looks g c =
-    looks_twice (tt {0}) _ _ _ _
-    (looked _ _ _ c.read.ensures.passes c.read.ensures.unwritten c.in-Ok.ensures.told.passed
-    (reads_well itself Read (tt {0}) _ _ _ c.in-Ok.ensures.told c.in-Ok.ensures.cause) tt)
-    (looked _ _ _ c.read-2.ensures.passes c.read-2.ensures.unwritten c.in_default-read.ensures.told.passed
-    (read_fails itself Read _ _ _ c.in_default-read.ensures.told c.in_default-read.ensures.cause) refl)
+pub returns-in_default-read-clause-table : goal.returns-in_default-read-clause-table
+returns-in_default-read-clause-table g c = record {
+  found = tt;
+  looks = looks_twice (tt {0}) _ _ _ _
+      (looked _ _ _ c.read.ensures.passes c.read.ensures.unwritten c.in-Ok.ensures.told.passed
+      (reads_well itself Read (tt {0}) _ _ _ c.in-Ok.ensures.told c.in-Ok.ensures.cause) tt)
+      (looked _ _ _ c.read-2.ensures.passes c.read-2.ensures.unwritten c.in_default-read.ensures.told.passed
+      (read_fails itself Read _ _ _ c.in_default-read.ensures.told c.in_default-read.ensures.cause) refl);
+}
 
-pub returns-clause-looks : goal.returns-clause-looks
-returns-clause-looks g c =
-    looks_twice (tt {0}) _ _ _ _
-    (looked _ _ _ c.read.ensures.passes c.read.ensures.unwritten c.in-Ok.ensures.told.passed
-    (reads_well itself Read (tt {0}) _ _ _ c.in-Ok.ensures.told c.in-Ok.ensures.cause) tt)
-    (looked _ _ _ c.read-2.ensures.passes c.read-2.ensures.unwritten c.in-Ok-read.ensures.told.passed
-    (reads_well itself Read _ _ _ _ c.in-Ok-read.ensures.told c.in-Ok-read.ensures.cause) tt)
+pub returns-clause-table : goal.returns-clause-table
+returns-clause-table g c = record {
+  found = grind (arith, common_steps);
+  looks = looks_twice (tt {0}) _ _ _ _
+      (looked _ _ _ c.read.ensures.passes c.read.ensures.unwritten c.in-Ok.ensures.told.passed
+      (reads_well itself Read (tt {0}) _ _ _ c.in-Ok.ensures.told c.in-Ok.ensures.cause) tt)
+      (looked _ _ _ c.read-2.ensures.passes c.read-2.ensures.unwritten c.in-Ok-read.ensures.told.passed
+      (reads_well itself Read _ _ _ _ c.in-Ok-read.ensures.told c.in-Ok-read.ensures.cause) tt);
+}

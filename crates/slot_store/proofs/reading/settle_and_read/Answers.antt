@@ -2,6 +2,7 @@ use Rattle.dr_disk.specs.Called.{itself}
 use Rattle.dr_disk.specs.declared.call.Call.TheVariants.{Sync}
 use Rattle.dr_disk.proofs.Calling.{fails, goes_well, then_any}
 use Rattle.dr_disk.proofs.Steps.{spans, widen}
+use Rattle.slot_store.proofs.TablesRead.{tables_later}
 use Rattle.slot_store.proofs.reading.settle_and_read.Goals as goal
 
 pub returns-in_default-clause-calls : goal.returns-in_default-clause-calls
@@ -32,3 +33,8 @@ pub returns-in-Ok-read_tables-clause-calls : goal.returns-in-Ok-read_tables-clau
 returns-in-Ok-read_tables-clause-calls g c =
     then_any (tt {0}) _ _ _ _ _ c.settle_first.ensures.passes
     (goes_well itself Sync (tt {0}) _ _ _ c.in-Ok.ensures.told c.in-Ok.ensures.cause) c.in-Ok-read_tables.ensures.looks.calls
+
+pub returns-in-Ok-read_tables-clause-tables : goal.returns-in-Ok-read_tables-clause-tables
+returns-in-Ok-read_tables-clause-tables g c =
+    let looks = c.in-Ok-read_tables.ensures.looks in
+    tables_later _ _ _ _ _ _ c.in-Ok-read_tables.ensures.found looks.during.size looks.untouched.unwritten.seen

@@ -11,19 +11,19 @@ use Rattle.slot_store.proofs.settling.settle_empty.Goals as goal
 pub wipe_table-requires-clause-counts : goal.wipe_table-requires-clause-counts
 wipe_table-requires-clause-counts g c =
     let start = g.D.Disk.state c.args.disk.now in
-    none_counts c.args.pager.now start (empty_closed c.args.pager.now c.requires.turn start c.requires.ready.settled c.requires.shown)
+    none_counts c.args.pager.now start (empty_closed c.args.pager.now c.requires.turn start c.requires.settling.ready.settled c.requires.settling.shown)
 
 pub wipe_table-requires-clause-unnamed : goal.wipe_table-requires-clause-unnamed
 wipe_table-requires-clause-unnamed g c =
     let start = g.D.Disk.state c.args.disk.now in
-    none_unnamed c.args.pager.now start (empty_closed c.args.pager.now c.requires.turn start c.requires.ready.settled c.requires.shown)
+    none_unnamed c.args.pager.now start (empty_closed c.args.pager.now c.requires.turn start c.requires.settling.ready.settled c.requires.settling.shown)
     c.args.named.now
 
 pub wipe_table-requires-clause-mute : goal.wipe_table-requires-clause-mute
 wipe_table-requires-clause-mute g c =
     let start = g.D.Disk.state c.args.disk.now in
-    none_mute c.args.pager.now start (empty_closed c.args.pager.now c.requires.turn start c.requires.ready.settled c.requires.shown)
-    false c.args.first_gate c.args.first.now c.requires.ready.settled c.requires.read.first_is
+    none_mute c.args.pager.now start (empty_closed c.args.pager.now c.requires.turn start c.requires.settling.ready.settled c.requires.settling.shown)
+    false c.args.first_gate c.args.first.now c.requires.settling.ready.settled c.requires.read.first_is
 
 pub returns-in-Err : goal.returns-in-Err
 returns-in-Err g c =
@@ -31,7 +31,7 @@ returns-in-Err g c =
     let start = g.D.Disk.state c.args.disk.now in
     let a = g.D.Disk.state c.wipe_table.new.disk in
     record {
-      any_moment = like_shots pager.area start c.requires.ready.settled a c.wipe_table.ensures.shots.any_moment;
+      any_moment = like_shots pager.area start c.requires.settling.ready.settled a c.wipe_table.ensures.shots.any_moment;
       done = tt;
       settled = tt;
       calls = failed_as itself itself _ _ _ _ refl c.in-Err.ensures.shots.calls;
@@ -46,14 +46,14 @@ wipe_table-requires-2-clause-counts g c =
     let start = g.D.Disk.state c.args.disk.now in
     let a = g.D.Disk.state c.wipe_table.new.disk in
     none_counts c.args.pager.now a
-    (later_closed c.args.pager.now c.requires.turn start c.requires.ready.settled c.requires.shown a c.wipe_table.ensures.shots.any_moment)
+    (later_closed c.args.pager.now c.requires.turn start c.requires.settling.ready.settled c.requires.settling.shown a c.wipe_table.ensures.shots.any_moment)
 
 pub wipe_table-requires-2-clause-unnamed : goal.wipe_table-requires-2-clause-unnamed
 wipe_table-requires-2-clause-unnamed g c =
     let start = g.D.Disk.state c.args.disk.now in
     let a = g.D.Disk.state c.wipe_table.new.disk in
     none_unnamed c.args.pager.now a
-    (later_closed c.args.pager.now c.requires.turn start c.requires.ready.settled c.requires.shown a c.wipe_table.ensures.shots.any_moment)
+    (later_closed c.args.pager.now c.requires.turn start c.requires.settling.ready.settled c.requires.settling.shown a c.wipe_table.ensures.shots.any_moment)
     c.args.named.now
 
 pub wipe_table-requires-2-clause-read : goal.wipe_table-requires-2-clause-read
@@ -67,7 +67,7 @@ wipe_table-requires-2-clause-mute g c =
     let start = g.D.Disk.state c.args.disk.now in
     let a = g.D.Disk.state c.wipe_table.new.disk in
     none_mute c.args.pager.now a
-    (later_closed c.args.pager.now c.requires.turn start c.requires.ready.settled c.requires.shown a c.wipe_table.ensures.shots.any_moment)
+    (later_closed c.args.pager.now c.requires.turn start c.requires.settling.ready.settled c.requires.settling.shown a c.wipe_table.ensures.shots.any_moment)
     true c.args.second_gate c.args.second.now c.in-Ok.ensures.settled
     (second_read c.args.pager.now c.args.named.now _ start a (g.met.D.Disk.lawful c.wipe_table.new.disk) c.in-Ok.ensures.done c.requires.read.second_is)
 
@@ -78,7 +78,7 @@ returns g c =
     let a = g.D.Disk.state c.wipe_table.new.disk in
     let b = g.D.Disk.state c.wipe_table-2.new.disk in
     let lawful = g.met.D.Disk.lawful c.wipe_table.new.disk in
-    let settled = c.requires.ready.settled in
+    let settled = c.requires.settling.ready.settled in
     let first = like_shots pager.area start settled a c.wipe_table.ensures.shots.any_moment in
     let next = like_shots pager.area a c.in-Ok.ensures.settled b c.wipe_table-2.ensures.shots.any_moment in
     let span = both_moments pager.area start a b lawful (left_like pager.area start settled a first) first next in

@@ -11,11 +11,11 @@ use Rattle.slot_store.proofs.settling.settle_newer.Goals as goal
 
 pub wipe_table-requires-clause-counts : goal.wipe_table-requires-clause-counts
 wipe_table-requires-clause-counts g c =
-    newer_counts c.args.pager.now c.requires.turn (g.D.Disk.state c.args.disk.now) c.requires.ready.settled c.requires.shown
+    newer_counts c.args.pager.now c.requires.turn (g.D.Disk.state c.args.disk.now) c.requires.settling.ready.settled c.requires.settling.shown
 
 pub wipe_table-requires-clause-mute : goal.wipe_table-requires-clause-mute
 wipe_table-requires-clause-mute g c =
-    newer_mute c.args.pager.now c.requires.turn (g.D.Disk.state c.args.disk.now) c.requires.ready.settled c.requires.shown
+    newer_mute c.args.pager.now c.requires.turn (g.D.Disk.state c.args.disk.now) c.requires.settling.ready.settled c.requires.settling.shown
     c.args.gate c.args.other.now c.requires.read
 
 pub wipe_table-requires-clause-unnamed : goal.wipe_table-requires-clause-unnamed
@@ -23,7 +23,7 @@ wipe_table-requires-clause-unnamed g c =
     let marks = marks_of c.args.named.now _ c.args.pager.now.area.pages c.args.pager.now.kept.numbers.items c.requires.marks
     (subst (λ (ns : List ℕ). (n : ℕ) → get_or c.mark_pages.new.named n false ≡ (get_or c.args.named.now n false || is_among ns n))
     c.deref.ensures.value c.mark_pages.ensures.marks) in
-    newer_unnamed c.args.pager.now c.requires.turn (g.D.Disk.state c.args.disk.now) c.requires.ready.settled c.requires.shown _ marks
+    newer_unnamed c.args.pager.now c.requires.turn (g.D.Disk.state c.args.disk.now) c.requires.settling.ready.settled c.requires.settling.shown _ marks
 
 pub wipe_table-requires-clause-marks : goal.wipe_table-requires-clause-marks
 wipe_table-requires-clause-marks g c =
@@ -40,7 +40,7 @@ returns g c =
     let pager = c.args.pager.now in
     let start = g.D.Disk.state c.args.disk.now in
     let now = g.D.Disk.state c.wipe_table.new.disk in
-    let settled = c.requires.ready.settled in
+    let settled = c.requires.settling.ready.settled in
     let marks = marks_of c.args.named.now _ c.args.pager.now.area.pages c.args.pager.now.kept.numbers.items c.requires.marks
     (subst (λ (ns : List ℕ). (n : ℕ) → get_or c.mark_pages.new.named n false ≡ (get_or c.args.named.now n false || is_among ns n))
     c.deref.ensures.value c.mark_pages.ensures.marks) in
@@ -48,12 +48,12 @@ returns g c =
     record {
       any_moment = span;
       done = on_ok c.wipe_table.result
-          (λ tidied. newer_rests pager c.requires.turn start settled c.requires.shown c.mark_pages.new.named marks now span tidied)
+          (λ tidied. newer_rests pager c.requires.turn start settled c.requires.settling.shown c.mark_pages.new.named marks now span tidied)
           c.wipe_table.ensures.done;
       settled = c.wipe_table.ensures.settled;
       calls = c.wipe_table.ensures.shots.calls;
       still = λ rests. c.wipe_table.ensures.still
-          (newer_gate pager c.requires.turn start settled c.requires.shown c.args.gate c.args.other.now c.requires.read rests)
-          (newer_body pager c.requires.turn start settled c.requires.shown c.args.gate c.args.other.now c.requires.read rests)
-          (newer_blank pager c.requires.turn start settled c.requires.shown c.mark_pages.new.named marks rests);
+          (newer_gate pager c.requires.turn start settled c.requires.settling.shown c.args.gate c.args.other.now c.requires.read rests)
+          (newer_body pager c.requires.turn start settled c.requires.settling.shown c.args.gate c.args.other.now c.requires.read rests)
+          (newer_blank pager c.requires.turn start settled c.requires.settling.shown c.mark_pages.new.named marks rests);
     }

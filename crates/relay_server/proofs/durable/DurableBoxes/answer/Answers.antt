@@ -1,5 +1,6 @@
 use Rattle.std.proofs.Common.{inl, ◌≡◌, List, take, drop, length, refl, sym, ◌∙◌, ap, subst}
 use Rattle.std.specs.Prelude.{is_ok}
+use Rattle.std.specs.Vec.{with_items}
 use Rattle.dr_disk.proofs.Steps.{stays}
 use Rattle.std.proofs.lemmas.List.{with_items_is}
 use Rattle.relay_wire.specs.Requests.{read_request}
@@ -17,7 +18,7 @@ returns-in-Err-clause-leaves g c =
     let boxes = c.self.inside.relay in
     let long : length c.write_text-len.new.out ≡ c.self.inside.text.len = c.write_text-len.auto.out ∙ c.deref_mut.ensures.len in
     let known : Known box_text c.args.self.now boxes c.answer_frame-answered.new.relay (answers_read boxes frame) c.self.inside.stores.items c.deref_mut-in-Some.result.now c.replace_at.new.stores
-    c.in-Some.place (take c.write_text-len.result c.deref.result.now) (g.D.Disk.state c.args.disk.now) (g.D.Disk.state c.replace_at.new.disk) (is_ok c.replace_at.result) = record {
+    c.in-Some.place (take c.write_text-len.result (with_items c.self.inside.text c.write_text-len.new.out).items) (g.D.Disk.state c.args.disk.now) (g.D.Disk.state c.replace_at.new.disk) (is_ok c.replace_at.result) = record {
       ready = c.requires.ready;
       seen = c.self.view_is;
       lent = c.deref_mut-in-Some.ensures.value;
@@ -25,7 +26,7 @@ returns-in-Err-clause-leaves g c =
       next_is = c.answer_frame-answered.ensures.next;
       place_is = sym c.answer_frame-answered.ensures.changed ∙ c.in-Some.is;
       stores_count = c.replace_at.ensures.count;
-      written = λ box there. ap (take c.write_text-len.result) (c.deref.ensures.value ∙ with_items_is c.self.inside.text c.write_text-len.new.out long) ∙ c.write_text-len.ensures.text box there;
+      written = λ box there. ap (take c.write_text-len.result) (with_items_is c.self.inside.text c.write_text-len.new.out long) ∙ c.write_text-len.ensures.text box there;
       others = c.replace_at.ensures.others;
       there = c.replace_at.ensures.there;
       local = c.locality.ensures;
@@ -33,9 +34,9 @@ returns-in-Err-clause-leaves g c =
     } in
     record {
       any_moment = known_moments box_text c.args.self.now boxes c.answer_frame-answered.new.relay (answers_read boxes frame) c.self.inside.stores.items c.deref_mut-in-Some.result.now c.replace_at.new.stores
-          c.in-Some.place (take c.write_text-len.result c.deref.result.now) (g.D.Disk.state c.args.disk.now) (g.D.Disk.state c.replace_at.new.disk) (is_ok c.replace_at.result) known;
+          c.in-Some.place (take c.write_text-len.result (with_items c.self.inside.text c.write_text-len.new.out).items) (g.D.Disk.state c.args.disk.now) (g.D.Disk.state c.replace_at.new.disk) (is_ok c.replace_at.result) known;
       at_return = known_now box_text c.args.self.now boxes c.answer_frame-answered.new.relay (answers_read boxes frame) c.self.inside.stores.items c.deref_mut-in-Some.result.now c.replace_at.new.stores
-          c.in-Some.place (take c.write_text-len.result c.deref.result.now) (g.D.Disk.state c.args.disk.now) (g.D.Disk.state c.replace_at.new.disk) (is_ok c.replace_at.result) known;
+          c.in-Some.place (take c.write_text-len.result (with_items c.self.inside.text c.write_text-len.new.out).items) (g.D.Disk.state c.args.disk.now) (g.D.Disk.state c.replace_at.new.disk) (is_ok c.replace_at.result) known;
       ready = tt;
       fault = c.in-Err.ensures.fault;
       quiet = tt;
@@ -47,7 +48,7 @@ returns-in_default-replace_at-clause-leaves g c =
     let boxes = c.self.inside.relay in
     let long : length c.write_text-len.new.out ≡ c.self.inside.text.len = c.write_text-len.auto.out ∙ c.deref_mut.ensures.len in
     let known : Known box_text c.args.self.now boxes c.answer_frame-answered.new.relay (answers_read boxes frame) c.self.inside.stores.items c.deref_mut-in-Some.result.now c.replace_at.new.stores
-    c.in-Some.place (take c.write_text-len.result c.deref.result.now) (g.D.Disk.state c.args.disk.now) (g.D.Disk.state c.replace_at.new.disk) (is_ok c.replace_at.result) = record {
+    c.in-Some.place (take c.write_text-len.result (with_items c.self.inside.text c.write_text-len.new.out).items) (g.D.Disk.state c.args.disk.now) (g.D.Disk.state c.replace_at.new.disk) (is_ok c.replace_at.result) = record {
       ready = c.requires.ready;
       seen = c.self.view_is;
       lent = c.deref_mut-in-Some.ensures.value;
@@ -55,7 +56,7 @@ returns-in_default-replace_at-clause-leaves g c =
       next_is = c.answer_frame-answered.ensures.next;
       place_is = sym c.answer_frame-answered.ensures.changed ∙ c.in-Some.is;
       stores_count = c.replace_at.ensures.count;
-      written = λ box there. ap (take c.write_text-len.result) (c.deref.ensures.value ∙ with_items_is c.self.inside.text c.write_text-len.new.out long) ∙ c.write_text-len.ensures.text box there;
+      written = λ box there. ap (take c.write_text-len.result) (with_items_is c.self.inside.text c.write_text-len.new.out long) ∙ c.write_text-len.ensures.text box there;
       others = c.replace_at.ensures.others;
       there = c.replace_at.ensures.there;
       local = c.locality.ensures;
@@ -64,12 +65,12 @@ returns-in_default-replace_at-clause-leaves g c =
     let same : length c.replace_at.new.stores ≡ c.self.inside.stores.len = c.replace_at.ensures.count ∙ c.deref_mut-in-Some.ensures.len in
     record {
       any_moment = known_moments box_text c.args.self.now boxes c.answer_frame-answered.new.relay (answers_read boxes frame) c.self.inside.stores.items c.deref_mut-in-Some.result.now c.replace_at.new.stores
-          c.in-Some.place (take c.write_text-len.result c.deref.result.now) (g.D.Disk.state c.args.disk.now) (g.D.Disk.state c.replace_at.new.disk) (is_ok c.replace_at.result) known;
+          c.in-Some.place (take c.write_text-len.result (with_items c.self.inside.text c.write_text-len.new.out).items) (g.D.Disk.state c.args.disk.now) (g.D.Disk.state c.replace_at.new.disk) (is_ok c.replace_at.result) known;
       at_return = known_now box_text c.args.self.now boxes c.answer_frame-answered.new.relay (answers_read boxes frame) c.self.inside.stores.items c.deref_mut-in-Some.result.now c.replace_at.new.stores
-          c.in-Some.place (take c.write_text-len.result c.deref.result.now) (g.D.Disk.state c.args.disk.now) (g.D.Disk.state c.replace_at.new.disk) (is_ok c.replace_at.result) known;
+          c.in-Some.place (take c.write_text-len.result (with_items c.self.inside.text c.write_text-len.new.out).items) (g.D.Disk.state c.args.disk.now) (g.D.Disk.state c.replace_at.new.disk) (is_ok c.replace_at.result) known;
       ready = subst (λ (xs : List SlotStore). IsReady box_text (record { boxes = c.answer_frame-answered.new.relay; stores = xs }) (g.D.Disk.state c.replace_at.new.disk)) (sym (with_items_is c.self.inside.stores c.replace_at.new.stores same))
           (known_ready box_text c.args.self.now boxes c.answer_frame-answered.new.relay (answers_read boxes frame) c.self.inside.stores.items c.deref_mut-in-Some.result.now c.replace_at.new.stores
-          c.in-Some.place (take c.write_text-len.result c.deref.result.now) (g.D.Disk.state c.args.disk.now) (g.D.Disk.state c.replace_at.new.disk) (is_ok c.replace_at.result) known (ap is_ok c.in_default-replace_at.is));
+          c.in-Some.place (take c.write_text-len.result (with_items c.self.inside.text c.write_text-len.new.out).items) (g.D.Disk.state c.args.disk.now) (g.D.Disk.state c.replace_at.new.disk) (is_ok c.replace_at.result) known (ap is_ok c.in_default-replace_at.is));
       fault = tt;
       quiet = c.in_default-replace_at.ensures.quiet;
     }

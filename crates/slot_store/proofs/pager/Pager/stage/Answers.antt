@@ -1,5 +1,6 @@
-use Rattle.std.proofs.Common.{◌≡◌, ◌+◌, ℕ, List, length, refl, ap, ◌∙◌, arith}
-use Rattle.std.proofs.lemmas.List.{with_items_is}
+use Rattle.std.proofs.Common.{◌≡◌, ◌+◌, ◌-◌, ◌*◌, ℕ, List, length, take, refl, sym, ap, ◌∙◌, arith}
+use Rattle.std.proofs.lemmas.List.{length-take-le, with_items_is}
+use Rattle.record_pages.specs.Tables.{table_body}
 use Rattle.dr_base.specs.declared.limits.TheConstants.{PAGE}
 use Rattle.slot_store.proofs.Contents.{body_is, is_staged, small_numbers}
 use Rattle.slot_store.proofs.pager.Pager.stage.Goals as goal
@@ -8,12 +9,15 @@ pub lay_out_table-requires-clause-small : goal.lay_out_table-requires-clause-sma
 lay_out_table-requires-clause-small c =
     small_numbers c.args.self.now.area c.replan.new.kept.numbers.items c.deref.result.now c.args.self.now.lawful c.deref.ensures.value c.replan.ensures.entries
 
-pub returns : goal.returns
-returns c =
+pub returns-clause-staged : goal.returns-clause-staged
+returns-clause-staged c =
     let long : length c.deref_mut.result.now + 1 ≡ PAGE =
     omega (arith, ap (λ (l : List ℕ). length l) c.deref_mut.ensures.value, c.replan.ensures.room.body) in
-    is_staged c.args.self.now _ c.args.text.now refl refl c.next-turn.ensures.next c.next-turn.ensures.low refl c.replan.ensures.text
+    is_staged c.args.self.now _ (take c.args.len c.args.text.now.items) refl refl c.next-turn.ensures.next c.next-turn.ensures.low refl c.replan.ensures.text
     c.replan.ensures.numbers c.replan.ensures.free c.replan.ensures.places c.replan.ensures.dropped
     (with_items_is c.replan.new.draft.body c.lay_out_table.new.body (c.lay_out_table.auto.body ∙ c.deref_mut.ensures.len)
     ∙ c.lay_out_table.ensures
-    ∙ body_is c.next-turn.result (length c.args.text.now) (length c.deref_mut.result.now) c.replan.new.kept.numbers.items c.deref.result.now c.deref.ensures.value long)
+    ∙ body_is c.next-turn.result (c.args.len) (length c.deref_mut.result.now) c.replan.new.kept.numbers.items c.deref.result.now c.deref.ensures.value long
+    ∙ ap (λ n. table_body c.next-turn.result n c.replan.new.kept.numbers.items
+    (PAGE - (6 + 2 * length c.replan.new.kept.numbers.items)))
+    (sym (length-take-le c.args.len c.args.text.now.items c.requires.inside)))

@@ -1,19 +1,20 @@
-use Rattle.std.proofs.Common.{Ok, Err, Some, refl, sym, subst, ◌∙◌, ap}
+use Rattle.std.proofs.Common.{Ok, Err, Some, take, refl, sym, subst, ◌∙◌, ap}
 use Rattle.dr_disk.specs.Called.{Called}
 use Rattle.dr_disk.specs.Spans.{Span}
 use Rattle.dr_disk.specs.State.{Always}
 use Rattle.dr_disk.proofs.Calling.{failed_at_first, failed_later, passed_both}
-use Rattle.slot_store.specs.Areas.{Fits}
+use Rattle.slot_store.specs.Areas.{HasRecordRoom, HasText}
 use Rattle.slot_store.specs.Pager.{content, seen}
 use Rattle.slot_store.specs.Putting.{HasReplaced, IsNext, call_of, retire_calls}
 use Rattle.slot_store.specs.Stops.{IsStopped, calls_of, putting}
 use Rattle.slot_store.specs.Store.{IsOldOrNew, ReadsOutsideArea, Rests, SlotStore}
 use Rattle.slot_store.proofs.Replacing.{counted, reads_both, replace_done, replace_stopped, replace_whole}
-use Rattle.slot_store.proofs.Standing.{laid_as_seen}
+use Rattle.slot_store.proofs.Standing.{held_fits, laid_as_seen}
 use Rattle.slot_store.proofs.store.SlotStore.replace.Goals as goal
 
-pub put-requires-clause-fits : goal.put-requires-clause-fits
-put-requires-clause-fits g c = subst (λ (s : SlotStore). Fits s.area c.args.text.now) (sym c.self.view_is) c.requires.fits
+pub put-requires-clause-text : goal.put-requires-clause-text
+put-requires-clause-text g c =
+    subst (λ (s : SlotStore). HasText s.area c.args.text.now.items c.args.len) (sym c.self.view_is) c.requires.text
 
 pub put-requires-clause-at_rest : goal.put-requires-clause-at_rest
 put-requires-clause-at_rest g c = λ d left. laid_as_seen c.self.inside.pager d
@@ -23,72 +24,84 @@ pub returns-in-Err : goal.returns-in-Err
 returns-in-Err g c =
     let old = c.self.inside.pager in
     let put = c.put.new.self in
-    let text = c.args.text.now in
+    let text = take c.args.len c.args.text.now.items in
     let start = g.D.Disk.state c.args.disk.now in
     let mid = g.D.Disk.state c.put.new.disk in
-    let fits = subst (λ (s : SlotStore). Fits s.area text) (sym c.self.view_is) c.requires.fits in
+    let fits = held_fits old.area c.args.text.now.items c.args.len
+    (subst (λ (s : SlotStore). HasText s.area c.args.text.now.items c.args.len) (sym c.self.view_is) c.requires.text) in
     record {
-      any_moment = subst (λ (s : SlotStore). Span start mid (IsOldOrNew start s.area s.content (Some text))) c.self.view_is
-          c.put.ensures.any_moment;
+      replaces = record {
+        any_moment = subst (λ (s : SlotStore). Span start mid (IsOldOrNew start s.area s.content (Some text))) c.self.view_is
+            c.put.ensures.replaces.any_moment;
+        reads = subst (λ (s : SlotStore). ReadsOutsideArea s.area start mid) c.self.view_is c.put.ensures.replaces.reads;
+        stopped = subst (λ (s : SlotStore). IsStopped s.area s.content (Some text) start mid) c.self.view_is c.in-Err.ensures.replaces.stopped;
+      };
       done = tt;
-      reads = subst (λ (s : SlotStore). ReadsOutsideArea s.area start mid) c.self.view_is c.put.ensures.reads;
       holds = tt;
       next = subst (λ (s : SlotStore). IsNext s (seen put) text) c.self.view_is c.put.ensures.staged.next;
       calls = subst (λ (s : SlotStore). Called (calls_of s.content (Some text)) call_of start mid (Err c.in-Err.fault)) c.self.view_is
           (counted old put text c.put.ensures.staged start mid mid _ fits
           (failed_at_first {T = Unit} {U = Unit} (putting (content old) (Some text)) (retire_calls put) call_of call_of
           _ _ _ _ refl c.in-Err.ensures.calls));
-      stopped = subst (λ (s : SlotStore). IsStopped s.area s.content (Some text) start mid) c.self.view_is c.in-Err.ensures.stopped;
+      room = subst (λ (s : SlotStore). HasRecordRoom s.area c.put.new.text.items) c.self.view_is c.put.ensures.room;
     }
 
 pub returns-in-Err-retire : goal.returns-in-Err-retire
 returns-in-Err-retire g c =
     let old = c.self.inside.pager in
     let put = c.put.new.self in
-    let text = c.args.text.now in
+    let text = take c.args.len c.args.text.now.items in
     let start = g.D.Disk.state c.args.disk.now in
     let mid = g.D.Disk.state c.put.new.disk in
     let end = g.D.Disk.state c.retire.new.disk in
     let staged = c.put.ensures.staged in
     let done = c.in-Ok.ensures.done in
-    let fits = subst (λ (s : SlotStore). Fits s.area text) (sym c.self.view_is) c.requires.fits in
+    let fits = held_fits old.area c.args.text.now.items c.args.len
+    (subst (λ (s : SlotStore). HasText s.area c.args.text.now.items c.args.len) (sym c.self.view_is) c.requires.text) in
     record {
-      any_moment = subst (λ (s : SlotStore). Span start end (IsOldOrNew start s.area s.content (Some text))) c.self.view_is
-          (replace_whole old put text staged start mid done end c.put.ensures.any_moment c.retire.ensures.any_moment);
+      replaces = record {
+        any_moment = subst (λ (s : SlotStore). Span start end (IsOldOrNew start s.area s.content (Some text))) c.self.view_is
+            (replace_whole old put text staged start mid done end c.put.ensures.replaces.any_moment c.retire.ensures.any_moment);
+        reads = subst (λ (s : SlotStore). ReadsOutsideArea s.area start end) c.self.view_is
+            (reads_both old put text staged start mid end c.put.ensures.replaces.reads c.retire.ensures.reads);
+        stopped = subst (λ (s : SlotStore). IsStopped s.area s.content (Some text) start end) c.self.view_is
+            (replace_stopped old put text staged start mid done end (g.met.D.Disk.lawful c.retire.new.disk)
+            c.retire.ensures.any_moment c.in-Ok.ensures.calls.passed);
+      };
       done = tt;
-      reads = subst (λ (s : SlotStore). ReadsOutsideArea s.area start end) c.self.view_is
-          (reads_both old put text staged start mid end c.put.ensures.reads c.retire.ensures.reads);
       holds = tt;
       next = subst (λ (s : SlotStore). IsNext s (seen c.retire.new.self) text) c.self.view_is
           (subst (λ p. IsNext (seen old) (seen p) text) (sym c.retire.ensures.same) staged.next);
       calls = subst (λ (s : SlotStore). Called (calls_of s.content (Some text)) call_of start end (Err c.in-Err-retire.fault)) c.self.view_is
           (counted old put text staged start mid end _ fits
           (failed_later {T = Unit} {U = Unit} {V = Unit} (putting (content old) (Some text)) (retire_calls put) call_of call_of call_of
-          _ _ _ _ _ _ _ _ refl c.put.ensures.any_moment c.in-Ok.ensures.calls c.retire.ensures.any_moment
+          _ _ _ _ _ _ _ _ refl c.put.ensures.replaces.any_moment c.in-Ok.ensures.calls c.retire.ensures.any_moment
           c.in-Err-retire.ensures.calls));
-      stopped = subst (λ (s : SlotStore). IsStopped s.area s.content (Some text) start end) c.self.view_is
-          (replace_stopped old put text staged start mid done end (g.met.D.Disk.lawful c.retire.new.disk)
-          c.retire.ensures.any_moment c.in-Ok.ensures.calls.passed);
+      room = subst (λ (s : SlotStore). HasRecordRoom s.area c.put.new.text.items) c.self.view_is c.put.ensures.room;
     }
 
 pub returns : goal.returns
 returns g c =
     let old = c.self.inside.pager in
     let put = c.put.new.self in
-    let text = c.args.text.now in
+    let text = take c.args.len c.args.text.now.items in
     let start = g.D.Disk.state c.args.disk.now in
     let mid = g.D.Disk.state c.put.new.disk in
     let end = g.D.Disk.state c.retire.new.disk in
     let staged = c.put.ensures.staged in
     let done = c.in-Ok.ensures.done in
-    let fits = subst (λ (s : SlotStore). Fits s.area text) (sym c.self.view_is) c.requires.fits in
+    let fits = held_fits old.area c.args.text.now.items c.args.len
+    (subst (λ (s : SlotStore). HasText s.area c.args.text.now.items c.args.len) (sym c.self.view_is) c.requires.text) in
     record {
-      any_moment = subst (λ (s : SlotStore). Span start end (IsOldOrNew start s.area s.content (Some text))) c.self.view_is
-          (replace_whole old put text staged start mid done end c.put.ensures.any_moment c.retire.ensures.any_moment);
+      replaces = record {
+        any_moment = subst (λ (s : SlotStore). Span start end (IsOldOrNew start s.area s.content (Some text))) c.self.view_is
+            (replace_whole old put text staged start mid done end c.put.ensures.replaces.any_moment c.retire.ensures.any_moment);
+        reads = subst (λ (s : SlotStore). ReadsOutsideArea s.area start end) c.self.view_is
+            (reads_both old put text staged start mid end c.put.ensures.replaces.reads c.retire.ensures.reads);
+        stopped = tt;
+      };
       done = subst (λ (s : SlotStore). Always (HasReplaced s (seen c.retire.new.self) text start) end) c.self.view_is
           (replace_done old put text staged start mid done c.retire.new.self end c.retire.ensures.same c.in-Ok-retire.ensures.at_rest);
-      reads = subst (λ (s : SlotStore). ReadsOutsideArea s.area start end) c.self.view_is
-          (reads_both old put text staged start mid end c.put.ensures.reads c.retire.ensures.reads);
       holds = ap content c.retire.ensures.same ∙ staged.holds;
       next = subst (λ (s : SlotStore). IsNext s (seen c.retire.new.self) text) c.self.view_is
           (subst (λ p. IsNext (seen old) (seen p) text) (sym c.retire.ensures.same) staged.next);
@@ -96,5 +109,5 @@ returns g c =
           (counted old put text staged start mid end _ fits
           (passed_both (putting (content old) (Some text)) (retire_calls put) call_of call_of call_of _ _ _ _ _ _
           c.in-Ok.ensures.calls c.in-Ok-retire.ensures.calls));
-      stopped = tt;
+      room = subst (λ (s : SlotStore). HasRecordRoom s.area c.put.new.text.items) c.self.view_is c.put.ensures.room;
     }
