@@ -1,13 +1,13 @@
 use Rattle.std.proofs.Common.{inl, arith, None, Some, [], ap, refl, subst, sym, ◌∙◌}
 use Rattle.std.proofs.lemmas.Grind.{common_steps}
 use Rattle.dr_disk.specs.Spans.{Span}
-use Rattle.dr_disk.proofs.Steps.{quiet_twice}
+use Rattle.dr_disk.proofs.Steps.{quiet_twice, widen}
 use Rattle.session_model.specs.States.{State}
 use Rattle.session_record.specs.Record.{client_of, record_text}
 use Rattle.slot_store.specs.Found.{found_as, has_content}
-use Rattle.slot_store.specs.Reading.{no_content}
+use Rattle.slot_store.specs.Reading.{IsEntryOrLike, no_content}
 use Rattle.slot_store.specs.Store.{IsOldOrNew, content}
-use Rattle.client.specs.Beginning.{IsUnbegun, begun_client}
+use Rattle.client.specs.Beginning.{IsEntryOrFirst, IsUnbegun, begun_client}
 use Rattle.client.specs.Clients.{client_area}
 use Rattle.client.specs.Opening.{IsReadAs}
 use Rattle.client.proofs.Beginnings.{first_left, first_moments, held, kept_first, none_by, rests_as_read, unbegun}
@@ -19,6 +19,13 @@ returns-in-Err-clause-unbegun g c =
     subst (IsUnbegun g.D.Disk.state k c.args.key.now.bytes c.args.disk.now c.open.new.disk) (sym c.refusal.ensures)
     (unbegun g.D.Disk.state k c.args.key.now.bytes c.args.disk.now c.open.new.disk c.in-Err.error c.in-Err.ensures.refused.damaged
     c.in-Err.ensures.memory c.in-Err.ensures.refused.fault)
+
+pub returns-in-Err-clause-any_moment : goal.returns-in-Err-clause-any_moment
+returns-in-Err-clause-any_moment g c =
+    let start = g.D.Disk.state c.args.disk.now in
+    widen start (g.D.Disk.state c.open.new.disk) (IsEntryOrLike client_area start)
+    (IsEntryOrFirst g.K.Kem.mechanism c.args.key.now.bytes c.args.side start) (λ f left. inl left)
+    c.open.ensures.any_moment
 
 pub returns-in-Content-clause-unbegun : goal.returns-in-Content-clause-unbegun
 returns-in-Content-clause-unbegun g c =
