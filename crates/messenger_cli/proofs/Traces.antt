@@ -4,15 +4,13 @@ use Rattle.std.specs.Prelude.{IfSome, IsSome, IsNone}
 use Rattle.kem_laws.specs.Mechanism.{IsLawfulMechanism}
 use Rattle.kem_laws.specs.OpenLaw.{open_law}
 use Rattle.sntrup761.specs.MechanismLaw.{sntrup761_law}
-use Rattle.session_model.specs.Schedule.{agreement_seed}
 use Rattle.scripts.specs.Script.{Scripted, script_of}
-use Rattle.duet.specs.Trace.{played}
 use Rattle.duet.proofs.Following.{follows}
 use Rattle.scripts.proofs.ScriptSeeds.{whole_seeds}
 use Rattle.messenger_cli.specs.declared.playing.TheConstants.{SCRIPT_LIMIT}
 use Rattle.scripts.specs.declared.script.KemName.{KemName}
 use Rattle.scripts.specs.declared.script.KemName.TheVariants.{Open, Sntrup761}
-use Rattle.messenger_cli.specs.Mechanisms.{mechanism_of}
+use Rattle.messenger_cli.specs.Mechanisms.{first_pair, mechanism_of, played_named}
 use Rattle.dr_ports.specs.Ports.{appended}
 use Rattle.dr_ports.specs.Writing.{TookBeginning}
 use Rattle.dr_ports.proofs.Told.{appended-none}
@@ -25,7 +23,7 @@ law_of Sntrup761 = sntrup761_law
 
 -- what was read is all that the source told
 pub is_trace : (left : Option (List ℕ)) (read : List ℕ) (script : Scripted) → IfSome left (λ text. read ≡ text) → length read ≤ SCRIPT_LIMIT → script_of read ≡ Ok script
-    → IsSome ((mechanism_of script.kem).meaning.pair_of (agreement_seed script.key)) → IfSome left (λ text. IsTraceOf text (played (mechanism_of script.kem) script))
+    → IsSome (first_pair script) → IfSome left (λ text. IsTraceOf text (played_named script))
 is_trace (Some text) read script same fits reads pairs = record {
   script = script;
   fits = omega (arith, fits, ap length same);
@@ -38,7 +36,7 @@ is_trace None read script same fits reads pairs = tt
 
 -- and so where its key gives no pair
 pub has_no_pair : (left : Option (List ℕ)) (read : List ℕ) (script : Scripted) → IfSome left (λ text. read ≡ text) → length read ≤ SCRIPT_LIMIT → script_of read ≡ Ok script
-    → IsNone ((mechanism_of script.kem).meaning.pair_of (agreement_seed script.key)) → IfSome left HasNoPair
+    → IsNone (first_pair script) → IfSome left HasNoPair
 has_no_pair (Some text) read script same fits reads none = record {
   script = script;
   fits = omega (arith, fits, ap length same);

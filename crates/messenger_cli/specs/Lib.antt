@@ -3,6 +3,7 @@ pub mod Reads
 pub mod Mechanisms
 pub mod Runs
 pub mod Held
+pub mod Counts
 pub mod Performing
 pub mod Making
 pub mod Limits

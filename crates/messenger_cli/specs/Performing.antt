@@ -1,10 +1,13 @@
 -- What the program does, command by command.
-use Rattle.std.specs.Prelude.{List, None, Option, Some, [], ℕ, ◌≡◌, ◌⊎◌}
+use Rattle.std.specs.Prelude.{Err, List, None, Ok, Option, Result, Some, String, [], map, string_bytes, ℕ, ◌≡◌, ◌⊎◌}
+use Rattle.std.specs.declared.alloc.Global.{Global}
+use Rattle.std.specs.declared.io.Error.{Error}
+use Rattle.std.specs.declared.vec.IntoIter.{IntoIter}
 use Rattle.dr_model.specs.Machines.Acts.{finishing, sending}
 use Rattle.endings.specs.Ends.{Ends}
 use Rattle.endings.specs.declared.ending.Ending.{Ending}
 use Rattle.endings.specs.declared.ending.Ending.TheVariants.{NoMemory, Usage}
-use Rattle.command_words.specs.Commands.{Work, begins, says, takes, shows_inbox, drops_done, drops_sent, shows_outbox, shows_state, checks, syncs, serves, plays, plays_made}
+use Rattle.command_words.specs.Commands.{Work, command_of, begins, says, takes, shows_inbox, drops_done, drops_sent, shows_outbox, shows_state, checks, syncs, serves, plays, plays_made}
 use Rattle.session_commands.specs.Asking.{asked_drop, asked_say}
 use Rattle.session_commands.specs.Beginning.{RunsBegin}
 use Rattle.session_commands.specs.Checking.{RunsCheck}
@@ -15,6 +18,7 @@ use Rattle.session_commands.specs.Showing.{RunsShow}
 use Rattle.session_commands.specs.Syncing.{RunsSync}
 use Rattle.relay_command.specs.Relaying.{RunsRelay}
 use Rattle.sntrup761.specs.Mechanism.{sntrup761_kem}
+use Rattle.messenger_cli.specs.Arguments.{ending_without_words, words_of}
 use Rattle.messenger_cli.specs.Held.{Held, IsIdle, IsOffline, Seen}
 use Rattle.messenger_cli.specs.Making.{PlaysMade}
 use Rattle.messenger_cli.specs.Runs.{RunsDuet}
@@ -78,31 +82,53 @@ pub record ServesAlone {X R S L A W : Type 0} (seen : Seen X R S L A W) (port co
   pub draws : new.draws ≡ old.draws
 
 -- What a command comes to. Sessions are over sntrup761.
-abbrev pub Performs : {X R S L A W : Type 0} → Seen X R S L A W → Work → Held X R S L A W → Held X R S L A W → ℕ → Type 0
-Performs seen (begins side) old new code =
-    ReadsAndWrites (RunsBegin seen.disk sntrup761_kem side (seen.source old.source) (seen.source new.source) old.disk new.disk) old new code
-Performs seen (says text) old new code =
-    DrawsAndWrites (RunsAct seen.disk sntrup761_kem (asked_say seen.draws text old.draws new.draws) old.disk new.disk) old new code
-Performs seen takes old new code =
-    ReadsAndWrites (RunsTake seen.disk sntrup761_kem (seen.source old.source) (seen.source new.source) old.disk new.disk) old new code
-Performs seen (drops_done n) old new code =
-    WritesAlone (RunsAct seen.disk sntrup761_kem (asked_drop (finishing n)) old.disk new.disk) old new code
-Performs seen (drops_sent n) old new code =
-    WritesAlone (RunsAct seen.disk sntrup761_kem (asked_drop (sending n)) old.disk new.disk) old new code
-Performs seen shows_inbox old new code = WritesAlone (RunsShow seen.disk sntrup761_kem inbox_lines old.disk new.disk) old new code
-Performs seen shows_outbox old new code = WritesAlone (RunsShow seen.disk sntrup761_kem outbox_lines old.disk new.disk) old new code
-Performs seen shows_state old new code = WritesAlone (RunsShow seen.disk sntrup761_kem state_lines old.disk new.disk) old new code
-Performs seen checks old new code = WritesAlone (RunsCheck seen.disk sntrup761_kem old.disk new.disk) old new code
-Performs seen plays old new code = PlaysAlone seen old new code
-Performs seen (plays_made rounds number) old new code = MakesAlone rounds number old new code
-Performs seen (serves port count boxes) old new code = ServesAlone seen port count boxes old new code
-Performs seen (syncs address) old new code = SyncsAlone seen address old new code
+abbrev pub Performs : {X R S L A W : Type 0} → Work → Seen X R S L A W
+    → Held X R S L A W → Held X R S L A W → ℕ → Type 0
+Performs (begins side) seen old new code =
+    ReadsAndWrites (RunsBegin seen.disk sntrup761_kem side
+    (seen.source old.source) (seen.source new.source) old.disk new.disk) old new code
+Performs (says text) seen old new code =
+    DrawsAndWrites (RunsAct seen.disk sntrup761_kem
+    (asked_say seen.draws text old.draws new.draws) old.disk new.disk) old new code
+Performs takes seen old new code =
+    ReadsAndWrites (RunsTake seen.disk sntrup761_kem
+    (seen.source old.source) (seen.source new.source) old.disk new.disk) old new code
+Performs (drops_done n) seen old new code =
+    WritesAlone (RunsAct seen.disk sntrup761_kem (asked_drop (finishing n))
+    old.disk new.disk) old new code
+Performs (drops_sent n) seen old new code =
+    WritesAlone (RunsAct seen.disk sntrup761_kem (asked_drop (sending n))
+    old.disk new.disk) old new code
+Performs shows_inbox seen old new code =
+    WritesAlone (RunsShow seen.disk sntrup761_kem inbox_lines old.disk new.disk) old new code
+Performs shows_outbox seen old new code =
+    WritesAlone (RunsShow seen.disk sntrup761_kem outbox_lines old.disk new.disk) old new code
+Performs shows_state seen old new code =
+    WritesAlone (RunsShow seen.disk sntrup761_kem state_lines old.disk new.disk) old new code
+Performs checks seen old new code =
+    WritesAlone (RunsCheck seen.disk sntrup761_kem old.disk new.disk) old new code
+Performs plays seen old new code = PlaysAlone seen old new code
+Performs (plays_made rounds number) seen old new code = MakesAlone rounds number old new code
+Performs (serves port count boxes) seen old new code =
+    ServesAlone seen port count boxes old new code
+Performs (syncs address) seen old new code = SyncsAlone seen address old new code
 
--- What the program does on words: what the command that they are comes to, or the last line of words that are none.
-abbrev pub Answers : {X R S L A W : Type 0} → Seen X R S L A W → Option Work → Held X R S L A W → Held X R S L A W → ℕ → Type 0
-Answers seen None old new code = EndsIdle Usage old new code
-Answers seen (Some work) old new code = Performs seen work old new code
+-- What the program does on words: what the command that they are comes to, or the last line of
+-- words that are none.
+abbrev pub Answers : {X R S L A W : Type 0} → Option Work → Seen X R S L A W
+    → Held X R S L A W → Held X R S L A W → ℕ → Type 0
+Answers None seen old new code = EndsIdle Usage old new code
+Answers (Some work) seen old new code = Performs work seen old new code
 
 -- or memory was wanting for the words, and nothing was done
-abbrev pub RunsProgram : {X R S L A W : Type 0} → Seen X R S L A W → Option Work → Held X R S L A W → Held X R S L A W → ℕ → Type 0
-RunsProgram seen asked old new code = Answers seen asked old new code ⊎ EndsIdle NoMemory old new code
+abbrev pub RunsProgram : {X R S L A W : Type 0} → Option Work → Seen X R S L A W
+    → Held X R S L A W → Held X R S L A W → ℕ → Type 0
+RunsProgram asked seen old new code =
+    Answers asked seen old new code ⊎ EndsIdle NoMemory old new code
+
+-- The same of the arguments as the system gave them. Arguments that aren't text are no command.
+abbrev pub RunsArguments : {X R S L A W : Type 0} → Result (IntoIter (String Global) Global) Error
+    → Seen X R S L A W → Held X R S L A W → Held X R S L A W → ℕ → Type 0
+RunsArguments (Ok arguments) seen old new code =
+    RunsProgram (command_of (map string_bytes (words_of arguments))) seen old new code
+RunsArguments (Err error) seen old new code = EndsIdle (ending_without_words error) old new code

@@ -3,15 +3,14 @@ use Rattle.std.specs.Prelude.{◌≡◌, ◌⊎◌, ℕ, ◌<◌, ◌≤◌, Lis
 use Rattle.dr_ports.specs.Ports.{Rose, appended}
 use Rattle.dr_ports.specs.States.{SinkState, SourceState}
 use Rattle.dr_ports.specs.Writing.{TookBeginning}
-use Rattle.session_model.specs.Schedule.{agreement_seed}
 use Rattle.session_model.specs.declared.answer.Refusal.TheVariants.{NoPair}
 use Rattle.scripts.specs.Script.{Scripted, script_of}
-use Rattle.duet.specs.Trace.{IsUnforgedScript, played, trace_of}
+use Rattle.duet.specs.Trace.{IsUnforgedScript, trace_of}
 use Rattle.endings.specs.declared.ending.Ending.{Ending}
 use Rattle.endings.specs.declared.ending.Ending.TheVariants.{Done, InputTooLong, BadLine, Refused, ReadFault, NoMemory}
 use Rattle.messenger_cli.specs.declared.playing.TheConstants.{SCRIPT_LIMIT}
 use Rattle.endings.specs.Ends.{Ends}
-use Rattle.messenger_cli.specs.Mechanisms.{mechanism_of}
+use Rattle.messenger_cli.specs.Mechanisms.{first_pair, mechanism_of, played_named}
 use Rattle.messenger_cli.specs.Reads.{Leaves, CountsReads}
 
 -- the source's text is a script, and these lines are what both sides answer to it over the mechanism that it names:
@@ -20,8 +19,8 @@ pub record IsTraceOf (text lines : List ℕ) : Type 0 where
   pub script : Scripted
   pub fits : length text ≤ SCRIPT_LIMIT
   pub read : script_of text ≡ Ok script
-  pub pairs : IsSome ((mechanism_of script.kem).meaning.pair_of (agreement_seed script.key))
-  pub lines_are : lines ≡ played (mechanism_of script.kem) script
+  pub pairs : IsSome (first_pair script)
+  pub lines_are : lines ≡ played_named script
   pub trace_is : IsUnforgedScript (mechanism_of script.kem) script → lines ≡ trace_of (mechanism_of script.kem) script
 
 -- the source's text is a script of whose trace these lines are a beginning
@@ -34,7 +33,7 @@ pub record HasNoPair (text : List ℕ) : Type 0 where
   pub script : Scripted
   pub fits : length text ≤ SCRIPT_LIMIT
   pub read : script_of text ≡ Ok script
-  pub none : IsNone ((mechanism_of script.kem).meaning.pair_of (agreement_seed script.key))
+  pub none : IsNone (first_pair script)
 
 -- the text's first bad line
 pub record HasBadLine (text : List ℕ) (number : ℕ) : Type 0 where

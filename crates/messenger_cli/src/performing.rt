@@ -1,13 +1,7 @@
 //! The work of a command.
 
-ghost use Rattle.std.specs.Prelude.{◌≡◌, ◌≤◌};
-ghost use Rattle.dr_disk.specs.Spans.{IsQuiet};
-ghost use Rattle.dr_ports.specs.declared.pipe.Part.{Part};
-ghost use Rattle.dr_ports.specs.declared.pipe.Part.TheVariants.{Gate};
-ghost use Rattle.slot_store.specs.Store.{IsWithin};
-ghost use Rattle.client.specs.Clients.{client_area};
 ghost use Rattle.command_words.specs.Seen.{work_of};
-ghost use Rattle.relay_command.specs.declared.relaying.TheConstants.{RELAY_DISK_SIZE};
+ghost use Rattle.messenger_cli.specs.Counts.{HaveRoom, IsRun};
 ghost use Rattle.messenger_cli.specs.Held.{held, seen};
 ghost use Rattle.messenger_cli.specs.Performing.{Performs};
 
@@ -34,24 +28,12 @@ pub(crate) fn perform<D: Disk, R: Disk, S: Source, O: Sink, L: Link, A: Door, W:
     door: &mut A,
     draws: &mut W,
 ) -> Status
-    requires within { IsWithin client_area (D.state disk.old) }
-    requires areas { RELAY_DISK_SIZE ≤ (R.state relay_disk.old).size }
-    ensures performs { Performs (seen D.state R.state S.at L.port A.port W.at)
-        (work_of command.entry)
+    requires { HaveRoom (D.state disk.old) (R.state relay_disk.old) }
+    ensures { IsRun (Performs (work_of command.entry))
+        (seen D.state R.state S.at L.port A.port W.at)
         (held disk.old relay_disk.old source.old link.old door.old draws.old (O.at out.old))
         (held disk.new relay_disk.new source.new link.new door.new draws.new (O.at out.new))
         result.code }
-    ensures reads { (S.at source.old).faults ≤ (S.at source.new).faults }
-    ensures writes { (O.at out.old).faults ≤ (O.at out.new).faults }
-    // Status 0 says that no call on a disk, no read, no write, no draw and no call on the link
-    // failed, and no listening or accepting of the door.
-    ensures quiet { result.code ≡ 0 → IsQuiet (D.state disk.old) (D.state disk.new)
-        × IsQuiet (R.state relay_disk.old) (R.state relay_disk.new)
-        × ((S.at source.new).faults ≡ (S.at source.old).faults)
-        × ((O.at out.new).faults ≡ (O.at out.old).faults)
-        × ((W.at draws.new).faults ≡ (W.at draws.old).faults)
-        × ((part : Part) → (L.port link.new).faults part ≡ (L.port link.old).faults part)
-        × ((A.port door.new).faults Gate ≡ (A.port door.old).faults Gate) }
 {
     match command {
         Command::Begin(side) => begin::<Sntrup761, D, S, O>(alloc, side, disk, source, out),

@@ -1,9 +1,8 @@
 //! One connection, if there is one.
 
-ghost use Rattle.std.specs.Prelude.{◌≡◌, ◌<◌, ◌≤◌, ◌↔◌, length, IsTrue, IfOk, OnErr, IfSome};
-ghost use Rattle.dr_ports.specs.Ports.{HasCause};
+ghost use Rattle.std.specs.Prelude.{◌≡◌, ◌<◌, ◌↔◌, length, None, IsTrue, IfOk, IfSome};
 ghost use Rattle.dr_base.specs.Descriptors.{IsOwn};
-ghost use Rattle.tcp_ports.specs.Times.{received, sent};
+ghost use Rattle.tcp_ports.specs.Streams.{Passes, Received, Sent};
 
 use crate::patience::{Patience, Traffic};
 use dr_ports::Failed;
@@ -34,7 +33,7 @@ struct Open<S: Drop> {
 pub struct Connection<'a, R: Net + Clock> {
     system: &'a R,
     patience: Patience,
-    open: Option<Open<R::Stream>>,
+    current: Option<Open<R::Stream>>,
     pub faults: u64,
 }
 
@@ -65,11 +64,7 @@ impl<S: Read + OpenStream + Drop> Open<S> {
         patience: Patience,
         into: &mut [u8],
     ) -> io::Result<usize>
-        ensures bound { IfOk result (λ count. count ≤ length into.old) }
-        ensures counted { IfOk result
-            (λ count. self.new.traffic ≡ received self.old.traffic count) }
-        ensures uncounted { OnErr result (self.new.traffic ≡ self.old.traffic) }
-        ensures begun { self.new.begun ≡ self.old.begun }
+        ensures { Received into.old self.old self.new result }
     {
         let wait = self.wait(clock, patience)?;
         self.stream.set_read_timeout(Some(wait))?;
@@ -85,11 +80,7 @@ impl<S: Read + OpenStream + Drop> Open<S> {
         patience: Patience,
         into: &mut [u8],
     ) -> io::Result<usize>
-        ensures bound { IfOk result (λ count. count ≤ length into.old) }
-        ensures counted { IfOk result
-            (λ count. self.new.traffic ≡ received self.old.traffic count) }
-        ensures uncounted { OnErr result (self.new.traffic ≡ self.old.traffic) }
-        ensures begun { self.new.begun ≡ self.old.begun }
+        ensures { Received into.old self.old self.new result }
     {
         for _ in 0..TRIES {
             match self.receive_once(clock, patience, into) {
@@ -109,10 +100,7 @@ impl<S: Write + OpenStream + Drop> Open<S> {
         patience: Patience,
         bytes: &[u8],
     ) -> io::Result<usize>
-        ensures bound { IfOk result (λ count. count ≤ length bytes.now) }
-        ensures counted { IfOk result (λ count. self.new.traffic ≡ sent self.old.traffic count) }
-        ensures uncounted { OnErr result (self.new.traffic ≡ self.old.traffic) }
-        ensures begun { self.new.begun ≡ self.old.begun }
+        ensures { Sent bytes.now self.old self.new result }
     {
         let wait = self.wait(clock, patience)?;
         self.stream.set_write_timeout(Some(wait))?;
@@ -124,10 +112,7 @@ impl<S: Write + OpenStream + Drop> Open<S> {
 
     /// Sends a beginning of the bytes.
     fn send<C: Clock>(&mut self, clock: &C, patience: Patience, bytes: &[u8]) -> io::Result<usize>
-        ensures bound { IfOk result (λ count. count ≤ length bytes.now) }
-        ensures counted { IfOk result (λ count. self.new.traffic ≡ sent self.old.traffic count) }
-        ensures uncounted { OnErr result (self.new.traffic ≡ self.old.traffic) }
-        ensures begun { self.new.begun ≡ self.old.begun }
+        ensures { Sent bytes.now self.old self.new result }
     {
         for _ in 0..TRIES {
             match self.send_once(clock, patience, bytes) {
@@ -147,7 +132,7 @@ impl<'a, R: Net + Clock> Connection<'a, R> {
         Connection {
             system,
             patience,
-            open: None,
+            current: None,
             faults: 0,
         }
     }
@@ -157,7 +142,7 @@ impl<'a, R: Net + Clock> Connection<'a, R> {
     pub fn take(&mut self, stream: R::Stream) -> bool
         ensures { self.new.faults ≡ self.old.faults }
     {
-        self.open = None;
+        self.shut();
         if !is_own(&stream) {
             return false;
         }
@@ -167,7 +152,7 @@ impl<'a, R: Net + Clock> Connection<'a, R> {
                     bytes: 0,
                     pieces: 0,
                 };
-                self.open = Some(Open {
+                self.current = Some(Open {
                     stream,
                     begun,
                     traffic,
@@ -180,17 +165,16 @@ impl<'a, R: Net + Clock> Connection<'a, R> {
 
     /// Ends the connection.
     pub fn shut(&mut self)
-        ensures { self.new.faults ≡ self.old.faults }
+        ensures { self.new ≡ record self.old { current = None } }
     {
-        self.open = None;
+        self.current = None;
     }
 
     /// Receives the next bytes.
     pub fn receive(&mut self, into: &mut [u8]) -> Result<usize, Failed>
-        ensures bound { IfOk result (λ count. count ≤ length into.old) }
-        ensures cause { HasCause self.old.faults self.new.faults result }
+        ensures { Passes into.old self.old.faults self.new.faults result }
     {
-        if let Some(open) = &mut self.open {
+        if let Some(open) = &mut self.current {
             if let Ok(count) = open.receive(self.system, self.patience, into) {
                 return Ok(count);
             }
@@ -201,11 +185,10 @@ impl<'a, R: Net + Clock> Connection<'a, R> {
 
     /// Sends a beginning of the bytes.
     pub fn send(&mut self, bytes: &[u8]) -> Result<usize, Failed>
-        ensures bound { IfOk result (λ count. count ≤ length bytes.now) }
+        ensures passes { Passes bytes.now self.old.faults self.new.faults result }
         ensures progress { IfOk result (λ count. 0 < length bytes.now → 0 < count) }
-        ensures cause { HasCause self.old.faults self.new.faults result }
     {
-        if let Some(open) = &mut self.open {
+        if let Some(open) = &mut self.current {
             if let Ok(count) = open.send(self.system, self.patience, bytes) {
                 if count > 0 || bytes.is_empty() {
                     return Ok(count);

@@ -2,7 +2,7 @@
 
 ghost use Rattle.std.specs.Prelude.{◌≡◌};
 ghost use Rattle.dr_ports.specs.MemoryWires.{nobody};
-ghost use Rattle.tcp_ports.specs.Sockets.{untold_port};
+ghost use Rattle.tcp_ports.specs.Sockets.{no_faults, untold_port};
 
 use crate::connection::{Connection, is_own};
 use crate::patience::Patience;
@@ -34,14 +34,14 @@ impl<'a, R: Net + Clock> TcpDoor<'a, R> {
     /// seconds at most, and the connection may take ten seconds, one more for each reply and each
     /// `RATE` bytes, and a minute at most.
     pub fn new(net: &'a R) -> TcpDoor<'a, R>
-        ensures { result ≡ record { flow = 0; gate = 0 } }
+        ensures { result ≡ no_faults }
     {
         TcpDoor::with_patience(net, Patience::with_a_client())
     }
 
     /// The same with another patience.
     pub fn with_patience(net: &'a R, patience: Patience) -> TcpDoor<'a, R>
-        ensures { result ≡ record { flow = 0; gate = 0 } }
+        ensures { result ≡ no_faults }
     {
         TcpDoor {
             net,

@@ -1,7 +1,6 @@
 use Rattle.std.proofs.Common.{inr, rules, ◌≤◌, [], length, arith, refl, sym, ◌∙◌, ap}
 use Rattle.scripts.specs.Script.{script_of}
-use Rattle.duet.specs.Trace.{played}
-use Rattle.messenger_cli.specs.Mechanisms.{mechanism_of}
+use Rattle.messenger_cli.specs.Mechanisms.{played_named}
 use Rattle.dr_ports.proofs.Told.{appended-none}
 use Rattle.messenger_cli.specs.declared.playing.TheConstants.{SCRIPT_LIMIT}
 use Rattle.messenger_cli.proofs.Traces.{cut_short, has_no_pair, is_trace}
@@ -12,7 +11,7 @@ returns-in-Ok-play_named-clause-ended g c =
     let fits : length c.in-Ok.text.items ≤ SCRIPT_LIMIT =
     omega (arith, ap length c.as_slice.ensures.value, c.as_slice.ensures.len, c.in-Ok.ensures.fits) in
     record {
-      lines = played (mechanism_of c.in-Ok-parse.script.kem) c.in-Ok-parse.script;
+      lines = played_named c.in-Ok-parse.script;
       reason = is_trace _ _ _ c.in-Ok.ensures.whole fits (ap script_of (sym c.as_slice.ensures.value) ∙ c.in-Ok-parse.ensures.ok) c.in-Ok-play_named.ensures.pair;
       leaves = c.in-Ok.ensures.drained;
       reads = c.in-Ok.ensures.quiet (λ h. cc);
@@ -26,7 +25,7 @@ returns-clause-cut g c =
     omega (arith, ap length c.as_slice.ensures.value, c.as_slice.ensures.len, c.in-Ok.ensures.fits) in
     let write = c.in-Err-Write.ensures.write (search rules) in
     record {
-      lines = played (mechanism_of c.in-Ok-parse.script.kem) c.in-Ok-parse.script;
+      lines = played_named c.in-Ok-parse.script;
       reason = is_trace _ _ _ c.in-Ok.ensures.whole fits (ap script_of (sym c.as_slice.ensures.value) ∙ c.in-Ok-parse.ensures.ok) write.2;
       leaves = c.in-Ok.ensures.drained;
       reads = c.in-Ok.ensures.quiet (λ h. cc);
@@ -52,7 +51,7 @@ pub returns-in-Err-Memory-play_named-clause-ended : goal.returns-in-Err-Memory-p
 returns-in-Err-Memory-play_named-clause-ended g c =
     let fits : length c.in-Ok.text.items ≤ SCRIPT_LIMIT =
     omega (arith, ap length c.as_slice.ensures.value, c.as_slice.ensures.len, c.in-Ok.ensures.fits) in
-    let short = cut_short _ _ _ (played (mechanism_of c.in-Ok-parse.script.kem) c.in-Ok-parse.script) _
+    let short = cut_short _ _ _ (played_named c.in-Ok-parse.script) _
     (λ pairs. is_trace _ _ _ c.in-Ok.ensures.whole fits (ap script_of (sym c.as_slice.ensures.value) ∙ c.in-Ok-parse.ensures.ok) pairs)
     (c.in-Err-Memory-play_named.ensures.memory (search rules)) in
     record {
