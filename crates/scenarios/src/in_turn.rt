@@ -75,10 +75,11 @@ fn calls_told(
     Ok(None)
 }
 
-/// The ports that a command calls.
+/// Whether a command makes calls on a port that can be told to fail: of a disk, writes and syncs.
 fn is_called(port: Port, words: &str) -> bool {
     match port {
-        Port::Disk | Port::Out => true,
+        Port::Disk => words != "check",
+        Port::Out => true,
         Port::Source => words.starts_with("begin") || words == "take",
         Port::Draws => words.starts_with("say"),
         Port::Link => words.starts_with("sync"),

@@ -2,7 +2,7 @@
 
 use dr_base::Key32;
 use dr_disk::{Disk, SteadyDisk};
-use dr_ports::{Draws, MemoryDoor, MemoryLink, Sink, Source, SteadyDraws};
+use dr_ports::{Draws, MemoryDoor, MemoryDraws, MemoryLink, Sink, Source};
 use messenger_cli::{DISK_SIZE, RELAY_DISK_SIZE, Status, run, run_arguments};
 use std::alloc::{AllocError, Global};
 use std::env::Args;
@@ -40,7 +40,7 @@ pub fn run_on<D: Disk, S: Source, O: Sink>(
     source: &mut S,
     out: &mut O,
 ) -> Result<Status, AllocError> {
-    let mut draws = SteadyDraws::new(alloc, &SEEDS)?;
+    let mut draws = MemoryDraws::new(alloc, &SEEDS, &[])?;
     run_drawing(alloc, line, disk, network, source, out, &mut draws)
 }
 
@@ -94,7 +94,7 @@ fn run_over<S: Source, O: Sink>(
     source: &mut S,
     out: &mut O,
 ) -> Result<Status, AllocError> {
-    let mut draws = SteadyDraws::new(alloc, &[Key32 { bytes: [7; 32] }])?;
+    let mut draws = MemoryDraws::new(alloc, &SEEDS, &[])?;
     if disk.size() < DISK_SIZE || network.relay_disk.size() < RELAY_DISK_SIZE {
         return Err(AllocError);
     }
