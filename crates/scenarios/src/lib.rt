@@ -5,6 +5,8 @@
 #[cfg(test)]
 mod answers;
 #[cfg(test)]
+mod earlier;
+#[cfg(test)]
 mod failing;
 #[cfg(test)]
 mod faults;

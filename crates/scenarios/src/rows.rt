@@ -2,16 +2,14 @@
 //! it or as after it.
 
 use crate::answers::is_answered;
+use crate::earlier::{FIRST, SECOND};
 use crate::failing::{Case, PACKET, Port, run_case};
-use crate::in_turn::FIRST;
 use crate::running::Network;
 use dr_disk::SteadyDisk;
 use dr_ports::MemoryDoor;
 use messenger_cli::DISK_SIZE;
 use std::alloc::{AllocError, Global};
 use std::test::Fail;
-
-const SECOND: &str = "begin|second>^>0>session 70e0f9cd1a5863238d67aecce0c032e5;";
 
 /// What First shows where nothing was done.
 const BEGUN: &[u8] =
