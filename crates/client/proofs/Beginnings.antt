@@ -17,9 +17,9 @@ use Rattle.session_model.specs.Schedule.{agreement_seed}
 use Rattle.session_record.specs.Record.{record_text}
 use Rattle.slot_store.specs.Found.{found_as}
 use Rattle.slot_store.specs.Laws.{IsRead}
-use Rattle.slot_store.specs.Reading.{IsEntryOrLike, IsLikeRead, IsUndamaged, damaged, holds, no_content, reading}
-use Rattle.slot_store.specs.Records.{recovered}
-use Rattle.slot_store.specs.Store.{IsOldOrNew, KeepsOutside, Rests, SlotStore, content}
+use Rattle.slot_store.specs.Reading.{IsEntryOrLike, IsLikeRead, IsUndamaged, damaged, holds, no_content, area_reading}
+use Rattle.slot_store.specs.Records.{stored_record}
+use Rattle.slot_store.specs.Store.{IsOldOrNew, KeepsOutsideArea, Rests, SlotStore, content}
 use Rattle.slot_store.proofs.Outside.{keeps_twice, twice_outside}
 use Rattle.slot_store.specs.declared.errors.OpenError.{OpenError}
 use Rattle.slot_store.specs.declared.errors.OpenError.TheVariants.{Damaged, Memory, StoreFault}
@@ -27,13 +27,13 @@ use Rattle.slot_store.specs.declared.opening.Found.{Found}
 use Rattle.slot_store.specs.declared.opening.Found.TheVariants.{Content}
 use Rattle.client.specs.Beginning.{IsEntryOrFirst, IsFirst, IsUnbegun, begin_refusal, begun_client}
 use Rattle.client.specs.Clients.{client_area}
-use Rattle.client.specs.Opening.{IsReadAs, RestsAsRead, record_fault}
+use Rattle.client.specs.Opening.{IsReadAs, RestsAsOpened, client_record_fault}
 
 -- the store refused
 pub unbegun : {X : Type 0} (state : X → DiskState) (k : Mechanism) (key : List ℕ) (start now : X) (error : OpenError)
     → ((slot at : ℕ) → error ≡ Damaged slot at → Unwritten (state start) (state now) × IsQuiet (state start) (state now)
     × HavePassed 1 (state start) (state now)
-    × ((s : List ℕ) → (state start).seen ≡ Some s → reading (record_fault k) client_area s ≡ damaged slot at))
+    × ((s : List ℕ) → (state start).seen ≡ Some s → area_reading (client_record_fault k) client_area s ≡ damaged slot at))
     → (error ≡ Memory → now ≡ start)
     → ((call : Call) → error ≡ StoreFault call → Rose ((state start).faults call) ((state now).faults call))
     → IsUnbegun state k key start now (begin_refusal error)
@@ -54,8 +54,8 @@ has_some (Some text) some = (text, refl)
 -- and the area is at rest for it
 pub rests_as_read : (k : Mechanism) → IsRead → (found : Found) (store : SlotStore) (start now : DiskState) → found ≡ Content
     → is_some (content store) ≡ true → store.area ≡ client_area
-    → ((s : List ℕ) → start.seen ≡ Some s → reading (record_fault k) client_area s ≡ found_as found (content store))
-    → Always (λ c. Rests store c × IsLikeRead client_area start c) now → RestsAsRead start now
+    → ((s : List ℕ) → start.seen ≡ Some s → area_reading (client_record_fault k) client_area s ≡ found_as found (content store))
+    → Always (λ c. Rests store c × IsLikeRead client_area start c) now → RestsAsOpened start now
 rests_as_read k readings found store start now is some area verdict rest =
     let text = has_some (content store) some in
     record {
@@ -63,7 +63,7 @@ rests_as_read k readings found store start now is some area verdict rest =
       area = area;
       rests = λ c left. (rest c left).0;
       read = λ s told.
-          readings.content (record_fault k) client_area s text.0
+          readings.content (client_record_fault k) client_area s text.0
           (verdict s told ∙ ap (λ f. found_as f (content store)) is ∙ ap (found_as Content) text.1)
           ∙ sym text.1;
     }
@@ -73,18 +73,18 @@ module _ (k : Mechanism) (readings : IsRead) (key : List ℕ) (side : Side) (sta
     (opening : Span start mid (IsEntryOrLike client_area start))
     (putting : Span mid now (IsOldOrNew mid client_area None (Some (record_text (begun_client k key side))))) where
   -- what has no record is like what was read, which had none
-  no_record : (c : List ℕ) → recovered client_area c ≡ None → IsUndamaged client_area c → KeepsOutside client_area mid c → IsLikeRead client_area start c
+  no_record : (c : List ℕ) → stored_record client_area c ≡ None → IsUndamaged client_area c → KeepsOutsideArea client_area mid c → IsLikeRead client_area start c
   no_record c without whole kept =
       let like = alike kept.0 kept.1 in
       record {
         read = like.read;
         told = like.told;
-        same = without ∙ sym (readings.none (record_fault k) client_area like.read (none like.read like.told));
+        same = without ∙ sym (readings.none (client_record_fault k) client_area like.read (none like.read like.told));
         undamaged = λ _. whole;
         outside = twice_outside client_area like.read kept.0 c like.outside kept.2;
       }
 
-  outside_mid : Always (KeepsOutside client_area start) mid
+  outside_mid : Always (KeepsOutsideArea client_area start) mid
   outside_mid d left = let like = alike d left in (like.read, lawful.seen_now like.read like.told, like.outside)
 
   left_by : (c : List ℕ) → IsOldOrNew mid client_area None (Some (record_text (begun_client k key side))) c

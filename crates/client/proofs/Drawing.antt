@@ -14,7 +14,7 @@ use Rattle.session_model.specs.Clients.{say_check, say_on}
 use Rattle.session_model.specs.declared.answer.Refusal.{Refusal}
 use Rattle.client.specs.Clients.{ClientNow, IsOpenOn}
 use Rattle.client.specs.Outcomes.{Acts, said_as}
-use Rattle.client.specs.Saying.{HandsBack, Says, asks_seed, draw_failed, with_draw, without_draw}
+use Rattle.client.specs.Saying.{HandsBack, SaysWithDraw, asks_seed, draw_failed, with_draw, without_draw}
 use Rattle.client.specs.declared.refusals.SayRefusal.{SayRefusal}
 use Rattle.client.specs.declared.refusals.SayRefusal.TheVariants.{Closed, DrawFault, Refused}
 
@@ -27,7 +27,7 @@ asks_by client len r unclosed is =
 module _ {X W : Type 0} (state : X → DiskState) (draws : W → DrawsState) (k : Mechanism)
     (text : List ℕ) (old new : ClientNow) (start now : X) (source left : W) where
   abbrev Said : Result Position SayRefusal → Type 0
-  Said = Says state draws k text old new start now source left
+  Said = SaysWithDraw state draws k text old new start now source left
 
   pub says_closed : (call : Call) → old.closed ≡ Some call → new ≡ old → now ≡ start → left ≡ source → Said (Err (Closed call))
   says_closed call closed same stays leaves =

@@ -15,7 +15,7 @@ use Rattle.session_model.specs.Clients.{Client}
 use Rattle.session_model.specs.declared.answer.Answer.{Answer}
 use Rattle.session_model.specs.declared.answer.Refusal.{Refusal}
 use Rattle.session_record.specs.Record.{record_read, record_text}
-use Rattle.slot_store.specs.Records.{recovered}
+use Rattle.slot_store.specs.Records.{stored_record}
 use Rattle.slot_store.specs.Store.{IsOldOrNew, SlotStore}
 use Rattle.slot_store.specs.Areas.{Area}
 use Rattle.client.specs.Clients.{ClientNow, IsReady, MayActOn, client_area}
@@ -26,7 +26,7 @@ use Rattle.client.proofs.Lawful.Records.{lawful_kept}
 
 -- the record of what a side keeps stands for the world
 pub record_stands : (k : Mechanism) → Grounds k → (w : World) (side : Side) (kept : Client) (c : List ℕ) → IsLawfulWorld k w
-    → kept ≡ kept_in k w side → recovered client_area c ≡ Some (record_text kept) → StandsFor k w side c
+    → kept ≡ kept_in k w side → stored_record client_area c ≡ Some (record_text kept) → StandsFor k w side c
 record_stands k grounds w side kept c lawful is has =
     ap (option_map (record_read k)) (has ∙ ap (λ (x : Client). Some (record_text x)) is)
     ∙ ap Some (grounds.records.reads (kept_in k w side) (lawful_kept k w side grounds.mechanism lawful))
@@ -36,7 +36,7 @@ pub ready_stands : (k : Mechanism) → Grounds k → (w : World) (side : Side) (
     → IsLawfulWorld k w → kept ≡ kept_in k w side → IsReady kept store disk → Always (StandsFor k w side) disk
 ready_stands k grounds w side kept store disk lawful is ready c left =
     record_stands k grounds w side kept c lawful is
-    (subst (λ (a : Area). recovered a c ≡ Some (record_text kept)) ready.area
+    (subst (λ (a : Area). stored_record a c ≡ Some (record_text kept)) ready.area
     (grounds.resting.record_of store c (ready.rests c left) ∙ ready.holds))
 
 module _ (k : Mechanism) (grounds : Grounds k) (w : World) (side : Side) (act : Act) (old new : ClientNow) (is : IsIn k w side old) where

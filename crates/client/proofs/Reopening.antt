@@ -4,26 +4,26 @@ use Rattle.std.specs.Prelude.{slice_get}
 use Rattle.dr_disk.specs.State.{Always, DiskState, IsLawful}
 use Rattle.kem_laws.specs.Mechanism.{Mechanism}
 use Rattle.session_record.specs.Record.{record_read, record_text}
-use Rattle.slot_store.specs.Reading.{IsLikeRead, IsUndamaged, OpensAs, damaged, holds, no_content, reading}
+use Rattle.slot_store.specs.Reading.{IsLikeRead, IsUndamaged, OpensAs, damaged, holds, no_content, area_reading}
 use Rattle.client.specs.Beginning.{HoldsRecord}
 use Rattle.client.specs.Clients.{client_area}
 use Rattle.client.specs.Moments.{LeavesWhole}
-use Rattle.client.specs.Opening.{IsUnopened, ReadsClient, SaysNothing, fault_of, record_fault}
+use Rattle.client.specs.Opening.{IsUnopened, ReadsClient, SaysNothing, fault_of, client_record_fault}
 use Rattle.client.specs.declared.refusals.OpenRefusal.{OpenRefusal}
 use Rattle.client.specs.declared.refusals.OpenRefusal.TheVariants.{Damaged, Memory, NoSession, StoreFault}
 use Rattle.client.proofs.Standing.{get_before}
 
 is_read : (k : Mechanism) (disk : DiskState) (held : ReadsClient k disk) → record_read k (record_text held.kept) ≡ Ok held.kept
-    → reading (record_fault k) client_area held.bytes ≡ holds (record_text held.kept)
+    → area_reading (client_record_fault k) client_area held.bytes ≡ holds (record_text held.kept)
 is_read k disk held back =
     let opens = subst (λ (o : Option (List ℕ)). OpensAs client_area o held.bytes) held.has held.undamaged in
-    opens (record_fault k) (ap fault_of back)
+    opens (client_record_fault k) (ap fault_of back)
 
 pub holds_record : (k : Mechanism) (disk : DiskState) (held : ReadsClient k disk) → record_read k (record_text held.kept) ≡ Ok held.kept
     → HoldsRecord k disk
 holds_record k disk held back s told =
     let same : held.bytes ≡ s = let e : Some held.bytes ≡ Some s = sym held.told ∙ told in cc in
-    (record_text held.kept, ap (reading (record_fault k) client_area) (sym same) ∙ is_read k disk held back)
+    (record_text held.kept, ap (area_reading (client_record_fault k) client_area) (sym same) ∙ is_read k disk held back)
 
 pub not_refused : {X : Type 0} (state : X → DiskState) (k : Mechanism) (start now : X) (held : ReadsClient k (state start))
     → record_read k (record_text held.kept) ≡ Ok held.kept → (refusal : OpenRefusal) → IsUnopened state k start now refusal

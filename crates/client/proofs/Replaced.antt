@@ -6,9 +6,9 @@ use Rattle.dr_disk.specs.State.{Always, DiskState}
 use Rattle.dr_disk.specs.declared.call.Call.{Call}
 use Rattle.session_model.specs.Clients.{Client}
 use Rattle.session_record.specs.Record.{record_text}
-use Rattle.slot_store.specs.Records.{recovered}
+use Rattle.slot_store.specs.Records.{stored_record}
 use Rattle.slot_store.specs.Stops.{IsStopped, calls_of}
-use Rattle.slot_store.specs.Store.{IsOldOrNew, KeepsOutside, ReadsOutsideArea, Rests, SlotStore, content}
+use Rattle.slot_store.specs.Store.{IsOldOrNew, KeepsOutsideArea, ReadsOutsideArea, Rests, SlotStore, content}
 use Rattle.slot_store.specs.Areas.{Area}
 use Rattle.client.specs.Clients.{IsReady, client_area}
 use Rattle.client.specs.Outcomes.{IsKept, IsLost, IsReplacing, replacing_calls}
@@ -29,7 +29,7 @@ module _ (before after : Client) (old : SlotStore) (text : List ℕ) (start now 
   reads_in reads = subst (λ (a : Area). ReadsOutsideArea a start now) ready.area reads
 
   pub kept : (new : SlotStore) → Span start now (IsOldOrNew start old.area (content old) (Some text))
-      → Always (λ c. Rests new c × (recovered new.area c ≡ Some text) × KeepsOutside old.area start c) now
+      → Always (λ c. Rests new c × (stored_record new.area c ≡ Some text) × KeepsOutsideArea old.area start c) now
       → ReadsOutsideArea old.area start now → content new ≡ Some text → new.area ≡ old.area
       → HavePassed (calls_of (content old) (Some text)) start now → FailsLater start now
       → IsQuiet start now → IsKept before after new start now

@@ -16,7 +16,7 @@ use Rattle.session_model.specs.declared.answer.Answer.TheVariants.{Opened, Said}
 use Rattle.session_model.specs.declared.answer.Refusal.{Refusal}
 use Rattle.session_model.specs.declared.answer.Refusal.TheVariants.{InboxFull, OwnPacket, SkipLimit, Spent}
 use Rattle.session_record.specs.Record.{record_read}
-use Rattle.slot_store.specs.Records.{recovered}
+use Rattle.slot_store.specs.Records.{stored_record}
 use Rattle.dr_model.specs.Conversations.Conversation.{Conversation, is_said, positions}
 use Rattle.dr_model.specs.Conversations.Posts.{post_at}
 use Rattle.dr_model.specs.Conversations.Views.{View, after_opening, has_opened, missing_of, outbox_of}
@@ -159,7 +159,7 @@ said_used k w side client next text draw p made lawful is =
 -- bytes that stand for a world in which a position was used
 pub erased_at : (k : Mechanism) → IsErased k → (w : World) (side : Side) (p : Position) (c : List ℕ) (kept : Client)
     → IsLawfulWorld k w → StandsFor k w side c → IsUsed w side p
-    → option_map (record_read k) (recovered client_area c) ≡ Some (Ok kept)
+    → option_map (record_read k) (stored_record client_area c) ≡ Some (Ok kept)
     → Made (Holds kept.state) (the_message_key p.epoch p.index) → ⊥
 erased_at k erased w side p c kept lawful stood used reads made =
     let same : kept_in k w side ≡ kept = cc (sym stood ∙ reads) in
@@ -184,7 +184,7 @@ used_later k w last side p lawful later used =
 -- bytes that stand for a later world
 pub erased_in : (k : Mechanism) → IsErased k → (w last : World) (side : Side) (p : Position) (c : List ℕ) (kept : Client)
     → IsLawfulWorld k w → IsLater k w last → StandsFor k last side c → IsUsed w side p
-    → option_map (record_read k) (recovered client_area c) ≡ Some (Ok kept)
+    → option_map (record_read k) (stored_record client_area c) ≡ Some (Ok kept)
     → Made (Holds kept.state) (the_message_key p.epoch p.index) → ⊥
 erased_in k erased w last side p c kept lawful later stood used =
     erased_at k erased last side p c kept (lawful_at k w last lawful later) stood (used_later k w last side p lawful later used)

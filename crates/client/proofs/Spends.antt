@@ -18,7 +18,7 @@ use Rattle.client.specs.Clients.{ClientNow, MayActOn}
 use Rattle.client.specs.Grounds.{Grounds}
 use Rattle.client.specs.InWorlds.{ActsIn, IsIn}
 use Rattle.client.specs.Outcomes.{IsDone, acknowledged, said_as, taken_as}
-use Rattle.client.specs.Saying.{IsDrawn, Says, SaysIn, acted, asks_seed, draw_failed, stayed, was_drawn, was_unasked, with_draw, without_draw}
+use Rattle.client.specs.Saying.{IsSeedDrawn, SaysWithDraw, SaysIn, acted, asks_seed, draw_failed, stayed, was_drawn, was_unasked, with_draw, without_draw}
 use Rattle.client.specs.Spent.{IsSpent}
 use Rattle.client.specs.declared.refusals.SayRefusal.{SayRefusal}
 use Rattle.client.specs.declared.refusals.TakeRefusal.{TakeRefusal}
@@ -60,7 +60,7 @@ module _ (k : Mechanism) (grounds : Grounds k) (w : World) (side : Side) (text :
       → IsFairAct k w side (saying text (Some seed))
   fair_with seed asks long unclosed = record { needed = asked k w side old (length text) true is asks unclosed; whole = long }
 
-  pub says_in : (result : Result Position SayRefusal) → Says state draws k text old new start now source left result
+  pub says_in : (result : Result Position SayRefusal) → SaysWithDraw state draws k text old new start now source left result
       → SaysIn draws k w side text old new (state start) (state now) source left (said_as result)
   says_in result (without_draw r none same acts) =
       acted (said_as r) None (was_unasked none same) (fair_without none)
@@ -81,8 +81,8 @@ module _ (k : Mechanism) (grounds : Grounds k) (w : World) (side : Side) (text :
       record { used = used; erased = used_erased k grounds.erased next side p (state now) worlds.1.lawful worlds.3 used }
 
   pub say_spends : (result : Result Position SayRefusal)
-      → Says state draws k text old new start now source left result
-      → IfOk result (λ p. (draw : Option (List ℕ)) × IsDrawn draws old (length text) source left draw
+      → SaysWithDraw state draws k text old new start now source left result
+      → IfOk result (λ p. (draw : Option (List ℕ)) × IsSeedDrawn draws old (length text) source left draw
       × IsSpent k (act_in k w side (saying text draw)).next side p (state now))
   say_spends result (without_draw (Ok p) none same acts) = (None, was_unasked none same, done_spends None p (fair_without none) acts)
   say_spends result (without_draw (Err e) none same acts) = tt

@@ -10,7 +10,7 @@ use Rattle.dr_model.specs.Machines.Worlds.{World}
 use Rattle.kem_laws.specs.Mechanism.{Mechanism}
 use Rattle.sync_model.specs.Courses.{begun}
 use Rattle.client.specs.InWorlds.{StandsFor}
-use Rattle.client.specs.Moments.{AreLinked, IsActed, IsKnown, IsLater, IsOneOf, Known, Link, StandsStill, reached_by, settled_in, synced_in, was_acknowledged, was_cut, was_cut_in_sync, was_left, was_moved, was_opened, was_synced, with_doubts}
+use Rattle.client.specs.Moments.{AreLinked, IsActed, IsKnown, IsLater, IsAmongKnown, Known, Link, StandsStill, reached_by, settled_in, known_after_sync, was_acknowledged, was_cut, was_cut_in_sync, was_left, was_moved, was_opened, was_synced, with_doubts}
 use Rattle.client.specs.Syncing.InWorlds.{course_in}
 use Rattle.client.specs.Syncing.Parties.{world_party}
 use Rattle.client.proofs.Later.{act_later, acted_later, acted_none, acted_once, acted_twice, back_acted, front_later, itself, later_twice}
@@ -42,7 +42,7 @@ in_second P xs ys at =
     (length xs + at.0, at.1, omega (arith, at.2, length-append xs ys), get_or-append-add xs ys at.0 at.1 ∙ at.3, at.4)
 
 -- what stood for a known world, or stands for one that is known or for one of more, is known with those
-more_known : (k : Mechanism) (side : Side) (known : Known) (worlds : List World) (w : World) (c : List ℕ) → IsOneOf known w
+more_known : (k : Mechanism) (side : Side) (known : Known) (worlds : List World) (w : World) (c : List ℕ) → IsAmongKnown known w
     → IsKnown k side known c ⊎ (StandsFor k w side c ⊎ Any (λ v. StandsFor k v side c) worlds)
     → IsKnown k side (with_doubts known worlds) c
 more_known k side known worlds w c which either =
@@ -74,17 +74,17 @@ module _ (k : Mechanism) (side : Side) (first : World) where
   }
 
   -- acts of this side lead from the last world to one that is opened
-  opened_acted : (known : Known) (a : DiskState) (w : World) → IsOneOf known w → Still known a → IsActed k side known.last w
+  opened_acted : (known : Known) (a : DiskState) (w : World) → IsAmongKnown known w → Still known a → IsActed k side known.last w
   opened_acted known a w which still =
       ⊎_elim (λ e. subst (IsActed k side known.last) (sym e) (acted_none k side known.last))
       (λ at. among (IsActed k side known.last) known.doubtful w still.doubtful_acted at) which
 
-  opened_later : (known : Known) (a : DiskState) (w : World) → IsOneOf known w → Still known a → IsLater k first w
+  opened_later : (known : Known) (a : DiskState) (w : World) → IsAmongKnown known w → Still known a → IsLater k first w
   opened_later known a w which still =
       later_twice k first known.last w still.last_later (acted_later k side known.last w (opened_acted known a w which still))
 
   -- more worlds in doubt, to which acts lead from one that is known
-  doubts_still : (known : Known) (a b : DiskState) (w : World) (worlds : List World) → IsOneOf known w → Still known a
+  doubts_still : (known : Known) (a b : DiskState) (w : World) (worlds : List World) → IsAmongKnown known w → Still known a
       → All (IsActed k side w) worlds
       → ((c : List ℕ) → b.image c → a.image c ⊎ (StandsFor k w side c ⊎ Any (λ v. StandsFor k v side c) worlds))
       → Still (with_doubts known worlds) b
@@ -106,7 +106,7 @@ module _ (k : Mechanism) (side : Side) (first : World) where
       (All-cons (IsActed k side w) next [] (acted_once k side w act fair) (All-nil (IsActed k side w)))
       (λ c left. ⊎_elim inl (λ stood. inr (⊎_elim inl (λ is. inr (one_known k next side c is)) stood)) (left_by c left))
   goes_on a b before after (was_synced known w which prefix front back fair images) still =
-      still_by (synced_in k prefix side w front back) b images
+      still_by (known_after_sync k prefix side w front back) b images
       (later_twice k first w (course_in k prefix side w front).state (opened_later known a w which still) (front_later k prefix side w front back fair))
       (back_acted k prefix side w front back fair)
   goes_on a b before after (was_cut_in_sync known w which prefix replies fair left_by) still =

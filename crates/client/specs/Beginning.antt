@@ -10,13 +10,13 @@ use Rattle.session_model.specs.Clients.{Client}
 use Rattle.session_model.specs.Schedule.{agreement_seed}
 use Rattle.session_model.specs.States.{opening_state}
 use Rattle.session_record.specs.Record.{client_of, record_text}
-use Rattle.slot_store.specs.Reading.{IsEntryOrLike, IsUndamaged, damaged, holds, no_content, reading}
-use Rattle.slot_store.specs.Records.{recovered}
-use Rattle.slot_store.specs.Store.{KeepsOutside}
+use Rattle.slot_store.specs.Reading.{IsEntryOrLike, IsUndamaged, damaged, holds, no_content, area_reading}
+use Rattle.slot_store.specs.Records.{stored_record}
+use Rattle.slot_store.specs.Store.{KeepsOutsideArea}
 use Rattle.slot_store.specs.declared.errors.OpenError.{OpenError}
 use Rattle.slot_store.specs.declared.errors.OpenError.TheVariants.{Damaged as StoreDamaged, Memory as StoreMemory, StoreFault as DiskFault}
 use Rattle.client.specs.Clients.{ClientNow, IsReady, client_area}
-use Rattle.client.specs.Opening.{IsReadAs, RestsAsRead, record_fault}
+use Rattle.client.specs.Opening.{IsReadAs, RestsAsOpened, client_record_fault}
 use Rattle.client.specs.declared.refusals.BeginRefusal.{BeginRefusal}
 use Rattle.client.specs.declared.refusals.BeginRefusal.TheVariants.{Damaged, Exists, Memory, NoPair, StoreFault}
 
@@ -29,9 +29,9 @@ begun_client k key side = client_of (opening_state k key side) [] []
 pub record IsFirst (k : Mechanism) (key : List ℕ) (side : Side) (start : DiskState) (c : List ℕ) : Type 0 where
   pub none : IsReadAs k start no_content
   pub pair : IsSome (k.meaning.pair_of (agreement_seed key))
-  pub holds : recovered client_area c ≡ Some (record_text (begun_client k key side))
+  pub holds : stored_record client_area c ≡ Some (record_text (begun_client k key side))
   pub undamaged : IsUndamaged client_area c
-  pub outside : KeepsOutside client_area start c
+  pub outside : KeepsOutsideArea client_area start c
 
 -- what a crash may leave while a client is begun: what one might have left at entry, or what is like what was read, or,
 -- where that held no record, the first one
@@ -45,7 +45,7 @@ begin_refusal (DiskFault call) = StoreFault call
 begin_refusal (StoreDamaged slot at) = Damaged slot at
 
 -- A client that was begun, where no table was open.
-pub record IsBegun (k : Mechanism) (key : List ℕ) (side : Side) (client : ClientNow) (start now : DiskState) : Type 0 where
+pub record IsClientBegun (k : Mechanism) (key : List ℕ) (side : Side) (client : ClientNow) (start now : DiskState) : Type 0 where
   pub is_open : client.closed ≡ None
   pub keeps : client.kept ≡ begun_client k key side
   pub ready : IsReady client.kept client.store now
@@ -55,7 +55,7 @@ pub record IsBegun (k : Mechanism) (key : List ℕ) (side : Side) (client : Clie
 
 -- what a read gives is a record
 abbrev pub HoldsRecord : Mechanism → DiskState → Type 0
-HoldsRecord k disk = (s : List ℕ) → disk.seen ≡ Some s → (text : List ℕ) × (reading (record_fault k) client_area s ≡ holds text)
+HoldsRecord k disk = (s : List ℕ) → disk.seen ≡ Some s → (text : List ℕ) × (area_reading (client_record_fault k) client_area s ≡ holds text)
 
 -- why no client was begun
 abbrev pub IsUnbegun : {X : Type 0} → (X → DiskState) → Mechanism → List ℕ → X → X → BeginRefusal → Type 0
@@ -64,6 +64,6 @@ IsUnbegun state k key start now (StoreFault call) = Rose ((state start).faults c
 IsUnbegun state k key start now (Damaged slot at) =
     IsReadAs k (state start) (damaged slot at) × IsQuiet (state start) (state now) × Unwritten (state start) (state now)
 IsUnbegun state k key start now Exists =
-    HoldsRecord k (state start) × IsQuiet (state start) (state now) × RestsAsRead (state start) (state now)
+    HoldsRecord k (state start) × IsQuiet (state start) (state now) × RestsAsOpened (state start) (state now)
 IsUnbegun state k key start now NoPair =
     IsReadAs k (state start) no_content × IsNone (k.meaning.pair_of (agreement_seed key)) × IsQuiet (state start) (state now)

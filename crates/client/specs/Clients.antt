@@ -6,7 +6,7 @@ use Rattle.kem_laws.specs.Mechanism.{Mechanism}
 use Rattle.session_model.specs.Clients.{Client}
 use Rattle.session_record.specs.Lawful.{IsLawfulClient}
 use Rattle.session_record.specs.Record.{record_text}
-use Rattle.slot_store.specs.Store.{IsWithin, Rests, SlotStore, content}
+use Rattle.slot_store.specs.Store.{HasArea, Rests, SlotStore, content}
 use Rattle.slot_store.specs.Areas.{Area, HasRecordRoom}
 use Rattle.client.specs.declared.client.TheConstants.{AREA_PAGES, RECORD_PAGES}
 
@@ -24,7 +24,7 @@ pub record ClientNow : Type 0 where
 -- the disk is at rest for the record of what is kept
 pub record IsReady (kept : Client) (store : SlotStore) (disk : DiskState) : Type 0 where
   pub area : store.area ≡ client_area
-  pub within : IsWithin client_area disk
+  pub within : HasArea client_area disk
   pub holds : content store ≡ Some (record_text kept)
   pub rests : Always (Rests store) disk
 

@@ -15,7 +15,7 @@ use Rattle.kem_laws.specs.Mechanism.{Mechanism}
 use Rattle.client.specs.Clients.{ClientNow}
 use Rattle.client.specs.InWorlds.{ActsIn, IsIn}
 use Rattle.client.specs.Moments.{AreLinked, Known, settled_in}
-use Rattle.client.specs.Opening.{OpensIn, Reads}
+use Rattle.client.specs.Opening.{OpensIn, ReadsAsSide}
 use Rattle.client.specs.Outcomes.{said_as, taken_as}
 use Rattle.client.specs.Saying.{SaysIn}
 
@@ -40,7 +40,7 @@ pub record Spoke {D V : Type 0} (state : D → DiskState) (draws : V → DrawsSt
   pub stands : slice_get call.new.kept.outbox at ≡ Some post
 
 -- A client took a packet, and opened it.
-pub record Took {D : Type 0} (state : D → DiskState) (k : Mechanism) (call : Call D) (packet : List ℕ) : Type 0 where
+pub record HasTaken {D : Type 0} (state : D → DiskState) (k : Mechanism) (call : Call D) (packet : List ℕ) : Type 0 where
   pub position : Position
   pub takes : (w : World) (side : Side) → IsIn k w side call.old → IsUnforged k w side packet
       → ActsIn k w side (taking packet) call.old call.new (state call.start) (state call.now) (taken_as (Ok position))
@@ -52,16 +52,16 @@ pub record IsExchange {D E V : Type 0} (state : D → DiskState) (peers : E → 
     (k : Mechanism) (asks : Call D) (hears answers : Call E) (crashed : D) (reads : Call D) (question answer : Item) : Type 0 where
   pub text : List ℕ
   pub asked : Spoke state draws k asks text question
-  pub heard : Took peers k hears question.bytes
+  pub heard : HasTaken peers k hears question.bytes
   pub again : answers.old ≡ hears.new
   pub reply : List ℕ
   pub answered : Spoke peers draws k answers reply answer
   pub crashes : (c : List ℕ) → (state crashed).image c → (state asks.now).image c
   pub read : List ℕ
   pub told : (state crashed).seen ≡ Some read
-  pub opens : (w : World) (side : Side) → IsLawfulWorld k w → Reads k w side (state crashed)
+  pub opens : (w : World) (side : Side) → IsLawfulWorld k w → ReadsAsSide k w side (state crashed)
       → OpensIn k w side (state crashed) (state reads.start) (Ok reads.old)
-  pub took : Took state k reads answer.bytes
+  pub took : HasTaken state k reads answer.bytes
 
 -- First's moments are linked. What it takes is, in the world that it was opened in, the packet of a text that Second said; and
 -- at the last moment it has opened it.

@@ -11,8 +11,8 @@ use Rattle.kem_laws.specs.Mechanism.{Mechanism}
 use Rattle.session_model.specs.declared.answer.Answer.TheVariants.{Refused}
 use Rattle.session_record.specs.Record.{record_read}
 use Rattle.slot_store.specs.Reading.{IsUndamaged}
-use Rattle.slot_store.specs.Records.{recovered}
-use Rattle.slot_store.specs.Store.{KeepsOutside}
+use Rattle.slot_store.specs.Records.{stored_record}
+use Rattle.slot_store.specs.Store.{KeepsOutsideArea}
 use Rattle.client.specs.Clients.{ClientNow, client_area}
 use Rattle.client.specs.Outcomes.{Outcome, acknowledged, faulted, is_closed, refused, undrawn}
 
@@ -23,13 +23,13 @@ pub record IsIn (k : Mechanism) (w : World) (side : Side) (client : ClientNow) :
 
 -- bytes that stand for a side of a world: the record that they have is read as what the side keeps there
 abbrev pub StandsFor : Mechanism → World → Side → List ℕ → Type 0
-StandsFor k w side c = option_map (record_read k) (recovered client_area c) ≡ Some (Ok (kept_in k w side))
+StandsFor k w side c = option_map (record_read k) (stored_record client_area c) ≡ Some (Ok (kept_in k w side))
 
 -- bytes that stand for a side of one of two worlds, and are read without damage; outside the client's area they are as they were
 pub record StandsForEither (k : Mechanism) (side : Side) (before after : World) (start : DiskState) (c : List ℕ) : Type 0 where
   pub either : StandsFor k before side c ⊎ StandsFor k after side c
   pub undamaged : IsUndamaged client_area c
-  pub outside : KeepsOutside client_area start c
+  pub outside : KeepsOutsideArea client_area start c
 
 -- from one moment to the other each crash leaves the one world or the other
 abbrev pub IsBetween : Mechanism → Side → World → World → DiskState → DiskState → Type 0

@@ -64,14 +64,14 @@ abbrev pub with_doubts : Known → List World → Known
 with_doubts known worlds = record known { doubtful = known.doubtful ++ worlds }
 
 -- a sync came as far as the first of its replies lead it, and what it makes of those behind them is in doubt
-abbrev pub synced_in : Mechanism → List ℕ → Side → World → List Replied → List Replied → Known
-synced_in k prefix side w front back = record {
+abbrev pub known_after_sync : Mechanism → List ℕ → Side → World → List Replied → List Replied → Known
+known_after_sync k prefix side w front back = record {
   last = (course_in k prefix side w front).state;
   doubtful = reached_by (world_party k prefix side w) (course_in k prefix side w front) back;
 }
 
-abbrev pub IsOneOf : Known → World → Type 0
-IsOneOf known w = (w ≡ known.last) ⊎ Contains known.doubtful w
+abbrev pub IsAmongKnown : Known → World → Type 0
+IsAmongKnown known w = (w ≡ known.last) ⊎ Contains known.doubtful w
 
 abbrev pub IsKnown : Mechanism → Side → Known → List ℕ → Type 0
 IsKnown k side known c = StandsFor k known.last side c ⊎ Any (λ w. StandsFor k w side c) known.doubtful
@@ -89,22 +89,22 @@ pub record HaveMoved (k : Mechanism) (side : Side) (known moved : Known) : Type 
 -- known, which is the last one where none was in doubt.
 pub data Link (k : Mechanism) (side : Side) (a b : DiskState) : Known → Known → Type 0 where
   -- the client was opened, in the world whose record was read
-  was_opened : (known : Known) (w : World) → IsOneOf known w → Always (StandsFor k w side) b → Link k side a b known (settled_in w)
+  was_opened : (known : Known) (w : World) → IsAmongKnown known w → Always (StandsFor k w side) b → Link k side a b known (settled_in w)
   -- an act was acknowledged
-  was_acknowledged : (known : Known) (w : World) → IsOneOf known w → (act : Act) → IsFairAct k w side act
+  was_acknowledged : (known : Known) (w : World) → IsAmongKnown known w → (act : Act) → IsFairAct k w side act
       → Always (StandsFor k (act_in k w side act).next side) b → Link k side a b known (settled_in (act_in k w side act).next)
   -- a call on the disk failed in an act, or a crash cut it off: what stands now, the disk might have left meanwhile
-  was_cut : (known : Known) (w : World) → IsOneOf known w → (act : Act) → IsFairAct k w side act
+  was_cut : (known : Known) (w : World) → IsAmongKnown known w → (act : Act) → IsFairAct k w side act
       → ((c : List ℕ) → b.image c → a.image c ⊎ (StandsFor k w side c ⊎ StandsFor k (act_in k w side act).next side c))
       → Link k side a b known (with_doubts known ((act_in k w side act).next ∷ []))
   -- a sync ended: it has settled what was in doubt before, all but the step in which a call on the disk failed
-  was_synced : (known : Known) (w : World) → IsOneOf known w → (prefix : List ℕ) (front back : List Replied)
-      → AreUnforged k prefix side w (front ++ back) → Always (IsKnown k side (synced_in k prefix side w front back)) b
-      → Link k side a b known (synced_in k prefix side w front back)
+  was_synced : (known : Known) (w : World) → IsAmongKnown known w → (prefix : List ℕ) (front back : List Replied)
+      → AreUnforged k prefix side w (front ++ back) → Always (IsKnown k side (known_after_sync k prefix side w front back)) b
+      → Link k side a b known (known_after_sync k prefix side w front back)
   -- a sync was cut off anywhere: what stands now, the disk might have left meanwhile
-  was_cut_in_sync : (known : Known) (w : World) → IsOneOf known w → (prefix : List ℕ) (replies : List Replied)
+  was_cut_in_sync : (known : Known) (w : World) → IsAmongKnown known w → (prefix : List ℕ) (replies : List Replied)
       → AreUnforged k prefix side w replies
-      → ((c : List ℕ) → b.image c → a.image c ⊎ IsKnown k side (synced_in k prefix side w [] replies) c)
+      → ((c : List ℕ) → b.image c → a.image c ⊎ IsKnown k side (known_after_sync k prefix side w [] replies) c)
       → Link k side a b known (with_doubts known (reached_by (world_party k prefix side w) (begun (world_party k prefix side w) w) replies))
   -- nothing but what stood before was left: by a refusal, a crash between two calls, or an opening that was cut off
   was_left : (known : Known) → ((c : List ℕ) → b.image c → a.image c ⊎ IsKnown k side known c) → Link k side a b known known

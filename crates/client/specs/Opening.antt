@@ -10,8 +10,8 @@ use Rattle.kem_laws.specs.Mechanism.{Mechanism}
 use Rattle.session_model.specs.Clients.{Client}
 use Rattle.session_record.specs.Lawful.{IsLawfulClient}
 use Rattle.session_record.specs.Record.{record_read, record_text}
-use Rattle.slot_store.specs.Reading.{IsLikeRead, IsUndamaged, Reading, damaged, no_content, reading}
-use Rattle.slot_store.specs.Records.{recovered}
+use Rattle.slot_store.specs.Reading.{IsLikeRead, IsUndamaged, AreaReading, damaged, no_content, area_reading}
+use Rattle.slot_store.specs.Records.{stored_record}
 use Rattle.slot_store.specs.Store.{Rests, SlotStore, content}
 use Rattle.slot_store.specs.declared.errors.OpenError.{OpenError}
 use Rattle.slot_store.specs.declared.errors.OpenError.TheVariants.{Damaged as StoreDamaged, Memory as StoreMemory, StoreFault as DiskFault}
@@ -25,12 +25,12 @@ abbrev pub fault_of : Result Client ℕ → Option ℕ
 fault_of (Ok client) = None
 fault_of (Err at) = Some at
 
-abbrev pub record_fault : Mechanism → List ℕ → Option ℕ
-record_fault k text = fault_of (record_read k text)
+abbrev pub client_record_fault : Mechanism → List ℕ → Option ℕ
+client_record_fault k text = fault_of (record_read k text)
 
 -- what a read gives is read as this
-abbrev pub IsReadAs : Mechanism → DiskState → Reading → Type 0
-IsReadAs k disk verdict = (s : List ℕ) → disk.seen ≡ Some s → reading (record_fault k) client_area s ≡ verdict
+abbrev pub IsReadAs : Mechanism → DiskState → AreaReading → Type 0
+IsReadAs k disk verdict = (s : List ℕ) → disk.seen ≡ Some s → area_reading (client_record_fault k) client_area s ≡ verdict
 
 -- why a store's opening refuses a client
 abbrev pub open_refusal : OpenError → OpenRefusal
@@ -39,21 +39,21 @@ open_refusal (DiskFault call) = StoreFault call
 open_refusal (StoreDamaged slot at) = Damaged slot at
 
 -- A client that was opened keeps what was read. Each image is like what was read, and at rest.
-pub record IsOpened (k : Mechanism) (client : ClientNow) (start now : DiskState) : Type 0 where
+pub record IsClientOpened (k : Mechanism) (client : ClientNow) (start now : DiskState) : Type 0 where
   pub is_open : client.closed ≡ None
   pub ready : IsReady client.kept client.store now
   pub read : (s : List ℕ) → start.seen ≡ Some s
-      → option_map (record_read k) (recovered client_area s) ≡ Some (Ok client.kept)
+      → option_map (record_read k) (stored_record client_area s) ≡ Some (Ok client.kept)
   pub alike : Always (IsLikeRead client_area start) now
   pub settled : IsSettled now
   pub quiet : IsQuiet start now
 
 -- at rest for the record that was read
-pub record RestsAsRead (start now : DiskState) : Type 0 where
+pub record RestsAsOpened (start now : DiskState) : Type 0 where
   pub store : SlotStore
   pub area : store.area ≡ client_area
   pub rests : Always (Rests store) now
-  pub read : (s : List ℕ) → start.seen ≡ Some s → recovered client_area s ≡ content store
+  pub read : (s : List ℕ) → start.seen ≡ Some s → stored_record client_area s ≡ content store
 
 -- why no client was opened
 abbrev pub IsUnopened : {X : Type 0} → (X → DiskState) → Mechanism → X → X → OpenRefusal → Type 0
@@ -69,7 +69,7 @@ pub record ReadsClient (k : Mechanism) (disk : DiskState) : Type 0 where
   pub lawful : IsLawfulClient k kept
   pub bytes : List ℕ
   pub told : disk.seen ≡ Some bytes
-  pub has : recovered client_area bytes ≡ Some (record_text kept)
+  pub has : stored_record client_area bytes ≡ Some (record_text kept)
   pub undamaged : IsUndamaged client_area bytes
 
 -- a refusal that says nothing of what was read: memory was wanting, or a call on the disk failed
@@ -90,7 +90,7 @@ pub record IsLeftAtRest (start now : DiskState) (result : Result ClientNow OpenR
   pub one_sync : HasOneSync start now result
 
 -- what a read gives stands for a side of a world
-pub record Reads (k : Mechanism) (w : World) (side : Side) (disk : DiskState) : Type 0 where
+pub record ReadsAsSide (k : Mechanism) (w : World) (side : Side) (disk : DiskState) : Type 0 where
   pub bytes : List ℕ
   pub told : disk.seen ≡ Some bytes
   pub stands : StandsFor k w side bytes

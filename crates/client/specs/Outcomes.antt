@@ -135,5 +135,5 @@ abbrev pub IsPassed : Outcome → Type 0
 IsPassed (faulted call) = ⊥
 IsPassed outcome = Unit {0}
 
-abbrev pub Passes : DiskState → DiskState → Outcome → Type 0
-Passes start now outcome = start.fate ≡ all_pass → IsPassed outcome × (now.fate ≡ all_pass)
+abbrev pub StaysPassing : DiskState → DiskState → Outcome → Type 0
+StaysPassing start now outcome = start.fate ≡ all_pass → IsPassed outcome × (now.fate ≡ all_pass)

@@ -29,39 +29,39 @@ HandsBack seed _ = ⊤
 
 -- The act with the seed that the source gave, or without one where none is asked for; where the source gives none, nothing
 -- changes and no call on the disk is made.
-pub data Says {X W : Type 0} (state : X → DiskState) (draws : W → DrawsState) (k : Mechanism)
+pub data SaysWithDraw {X W : Type 0} (state : X → DiskState) (draws : W → DrawsState) (k : Mechanism)
     (text : List ℕ) (old new : ClientNow) (start now : X) (source left : W) : Result Position SayRefusal → Type 0 where
   without_draw : (result : Result Position SayRefusal) → asks_seed old (length text) ≡ false → left ≡ source
       → Acts state (act_on k old.kept (saying text None)) old new start now (said_as result)
-      → Says state draws k text old new start now source left result
+      → SaysWithDraw state draws k text old new start now source left result
   with_draw : (result : Result Position SayRefusal) (seed : Key32) → asks_seed old (length text) ≡ true
       → length seed.bytes ≡ 32
       → (draws source).coming ≡ drawn (seed.bytes ∷ []) (draws left).coming → (draws left).faults ≡ (draws source).faults
       → Acts state (act_on k old.kept (saying text (Some seed.bytes))) old new start now (said_as result)
       → HandsBack (Some seed) result
-      → Says state draws k text old new start now source left result
+      → SaysWithDraw state draws k text old new start now source left result
   draw_failed : asks_seed old (length text) ≡ true → Rose (draws source).faults (draws left).faults
       → (draws left).coming ≡ (draws source).coming
       → new ≡ old → now ≡ start
-      → Says state draws k text old new start now source left (Err DrawFault)
+      → SaysWithDraw state draws k text old new start now source left (Err DrawFault)
 
 -- Whether a seed was drawn for a text of this length, and which one: just where one is asked for, the next that the source gives.
-pub data IsDrawn {W : Type 0} (draws : W → DrawsState) (client : ClientNow) (len : ℕ)
+pub data IsSeedDrawn {W : Type 0} (draws : W → DrawsState) (client : ClientNow) (len : ℕ)
     (source left : W)
     : Option (List ℕ) → Type 0 where
   was_unasked : asks_seed client len ≡ false → left ≡ source
-      → IsDrawn draws client len source left None
+      → IsSeedDrawn draws client len source left None
   was_drawn : (seed : List ℕ) → asks_seed client len ≡ true → length seed ≡ 32
       → (draws source).coming ≡ drawn (seed ∷ []) (draws left).coming
       → (draws left).faults ≡ (draws source).faults
-      → IsDrawn draws client len source left (Some seed)
+      → IsSeedDrawn draws client len source left (Some seed)
 
 -- in a world that the client stands for: the act, with the seed that the source gave; or nothing, where it gave none
 pub data SaysIn {W : Type 0} (draws : W → DrawsState) (k : Mechanism) (w : World) (side : Side)
     (text : List ℕ)
     (old new : ClientNow) (start now : DiskState) (source left : W) : Outcome → Type 0 where
   acted : (outcome : Outcome) (draw : Option (List ℕ))
-      → IsDrawn draws old (length text) source left draw
+      → IsSeedDrawn draws old (length text) source left draw
       → (old.closed ≡ None → IsFairAct k w side (saying text draw))
       → ActsIn k w side (saying text draw) old new start now outcome
       → SaysIn draws k w side text old new start now source left outcome

@@ -13,7 +13,7 @@ use Rattle.dr_model.specs.Secrets.Secret.{the_message_key}
 use Rattle.kem_laws.specs.Mechanism.{Mechanism}
 use Rattle.session_model.specs.Clients.{Client}
 use Rattle.session_record.specs.Record.{record_read}
-use Rattle.slot_store.specs.Records.{recovered}
+use Rattle.slot_store.specs.Records.{stored_record}
 use Rattle.client.specs.Clients.{client_area}
 
 -- the side has opened the packet of a position, or has said its text
@@ -24,7 +24,7 @@ IsUsed w side p =
 -- whatever a crash leaves, the state that is read then doesn't give the message key of the position
 abbrev pub IsErasedOn : Mechanism → Position → DiskState → Type 0
 IsErasedOn k p disk = (c : List ℕ) (kept : Client) → disk.image c
-    → option_map (record_read k) (recovered client_area c) ≡ Some (Ok kept)
+    → option_map (record_read k) (stored_record client_area c) ≡ Some (Ok kept)
     → Made (Holds kept.state) (the_message_key p.epoch p.index) → ⊥
 
 pub record IsSpent (k : Mechanism) (w : World) (side : Side) (p : Position) (disk : DiskState) : Type 0 where

@@ -9,8 +9,8 @@ ghost use Rattle.dr_model.specs.Machines.Worlds.{opening_world};
 ghost use Rattle.session_record.specs.Lawful.{IsLawfulClient};
 ghost use Rattle.session_record.specs.Record.{client_of, record_text};
 ghost use Rattle.slot_store.specs.Reading.{IsLikeRead};
-ghost use Rattle.slot_store.specs.Store.{IsOldOrNew, IsWithin, Rests, content};
-ghost use Rattle.client.specs.Beginning.{IsBegun, IsEntryOrFirst, IsFirst, IsUnbegun, begin_refusal};
+ghost use Rattle.slot_store.specs.Store.{IsOldOrNew, HasArea, Rests, content};
+ghost use Rattle.client.specs.Beginning.{IsClientBegun, IsEntryOrFirst, IsFirst, IsUnbegun, begin_refusal};
 ghost use Rattle.client.specs.Clients.{IsReady, client_area};
 ghost use Rattle.client.specs.InWorlds.{IsIn};
 
@@ -40,7 +40,7 @@ fn first<K: Kem, D: Disk>(
     requires lawful { IsLawfulClient K.mechanism (client_of session [] []) }
     requires none { content store ≡ None }
     requires area { store.area ≡ client_area }
-    requires within { IsWithin client_area (D.state disk.old) }
+    requires within { HasArea client_area (D.state disk.old) }
     requires rests { Always (Rests store) (D.state disk.old) }
     ensures open { IfOk result (λ client. client.closed ≡ None) }
     ensures keeps { IfOk result (λ client. client.kept ≡ client_of session [] []) }
@@ -100,9 +100,9 @@ impl<K: Kem> Client<K> {
         side: Side,
         key: &Key32,
     ) -> Result<Client<K>, BeginRefusal>
-        requires { IsWithin client_area (D.state disk.old) }
+        requires { HasArea client_area (D.state disk.old) }
         ensures begun { IfOk result
-            (λ client. IsBegun K.mechanism key.now.bytes side client (D.state disk.old)
+            (λ client. IsClientBegun K.mechanism key.now.bytes side client (D.state disk.old)
             (D.state disk.new)) }
         ensures unbegun { IfErr result
             (IsUnbegun D.state K.mechanism key.now.bytes disk.old disk.new) }

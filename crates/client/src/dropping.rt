@@ -8,7 +8,7 @@ ghost use Rattle.session_model.specs.declared.answer.Answer.TheVariants.{Done, S
 ghost use Rattle.client.specs.Acting.{IsAct};
 ghost use Rattle.client.specs.Clients.{IsOpenOn, MayActOn};
 ghost use Rattle.client.specs.InWorlds.{ActsIn, IsIn};
-ghost use Rattle.client.specs.Outcomes.{Acts, Passes, dropped_as};
+ghost use Rattle.client.specs.Outcomes.{Acts, StaysPassing, dropped_as};
 
 use crate::client::Client;
 use crate::keeping::keep;
@@ -34,7 +34,7 @@ impl<K: Kem> Client<K> {
             → ActsIn K.mechanism w side (finishing n) self.old self.new (D.state disk.old)
             (D.state disk.new)
             (dropped_as (Done n) result) }
-        ensures fate { Passes (D.state disk.old) (D.state disk.new) (dropped_as (Done n) result) }
+        ensures fate { StaysPassing (D.state disk.old) (D.state disk.new) (dropped_as (Done n) result) }
     {
         grounds::<K>();
         self.done_exact(disk, n)
@@ -98,7 +98,7 @@ impl<K: Kem> Client<K> {
             → ActsIn K.mechanism w side (sending n) self.old self.new (D.state disk.old)
             (D.state disk.new)
             (dropped_as (Sent n) result) }
-        ensures fate { Passes (D.state disk.old) (D.state disk.new) (dropped_as (Sent n) result) }
+        ensures fate { StaysPassing (D.state disk.old) (D.state disk.new) (dropped_as (Sent n) result) }
     {
         grounds::<K>();
         self.sent_exact(disk, n)

@@ -20,7 +20,7 @@ ghost use Rattle.client.specs.Clients.{ClientNow};
 ghost use Rattle.client.specs.declared.syncing.faults.SyncFault.{SyncFault};
 ghost use Rattle.client.specs.Exchanges.{Call, IsExchange, IsHistory};
 ghost use Rattle.client.specs.InWorlds.{IsIn, StandsFor};
-ghost use Rattle.client.specs.Moments.{HaveMoved, IsActed, IsOneOf, Known, Link, reached_by, synced_in, with_doubts};
+ghost use Rattle.client.specs.Moments.{HaveMoved, IsActed, IsAmongKnown, Known, Link, reached_by, known_after_sync, with_doubts};
 ghost use Rattle.client.specs.Syncing.InWorlds.{AreLeft, AreUnforged, IsReachedIn, SyncsIn, course_in};
 ghost use Rattle.client.specs.Syncing.Moments.{moment};
 ghost use Rattle.client.specs.Syncing.Parties.{world_party};
@@ -53,17 +53,17 @@ pub fn syncs_are_links<D: Disk>(before: &D, after: &D)
         → AreUnforged k prefix side w replies
         → SyncsIn k prefix side w replies (moment old (D.state before.now) sink)
         (moment new (D.state after.now) wrote) result
-        → (known : Known) → IsOneOf known w
+        → (known : Known) → IsAmongKnown known w
         → (front back : List Replied) × (replies ≡ front ++ back) × AreLeft result back
         × IsIn k (course_in k prefix side w front).state side new
         × Link k side (D.state before.now) (D.state after.now) known
-        (synced_in k prefix side w front back) }
+        (known_after_sync k prefix side w front back) }
     ensures cut { (k : Mechanism) (prefix : List ℕ) (side : Side) (w : World)
         (replies : List Replied)
         → AreUnforged k prefix side w replies
         → ((c : List ℕ) → (D.state after.now).image c
         → (D.state before.now).image c ⊎ IsReachedIn k prefix side w replies (D.state before.now) c)
-        → (known : Known) → IsOneOf known w
+        → (known : Known) → IsAmongKnown known w
         → Link k side (D.state before.now) (D.state after.now) known
         (with_doubts known (reached_by (world_party k prefix side w)
         (begun (world_party k prefix side w) w) replies)) }

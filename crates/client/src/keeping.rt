@@ -8,7 +8,7 @@ ghost use Rattle.session_model.specs.LawfulStates.{IsLawfulState};
 ghost use Rattle.session_record.specs.Changes.{FitsInbox, FitsOutbox, changed};
 ghost use Rattle.session_record.specs.Record.{client_of};
 ghost use Rattle.slot_store.specs.Areas.{HasRecordRoom};
-ghost use Rattle.slot_store.specs.Store.{IsWithin, Rests};
+ghost use Rattle.slot_store.specs.Store.{HasArea, Rests};
 ghost use Rattle.client.specs.Clients.{client_area};
 ghost use Rattle.client.specs.Outcomes.{Keeps, Loses};
 
@@ -34,7 +34,7 @@ pub(crate) fn keep<K: Kem, D: Disk>(
     requires fits_outbox { FitsOutbox outbox.now change.now }
     requires room { HasRecordRoom client_area text.old.items }
     requires area { store.old.area ≡ client_area }
-    requires within { IsWithin client_area (D.state disk.old) }
+    requires within { HasArea client_area (D.state disk.old) }
     requires rests { Always (Rests store.old) (D.state disk.old) }
     ensures kept { let before = client_of part.now inbox.now outbox.now in
         OnOk result (Keeps (changed K.mechanism before change.now)
@@ -71,7 +71,7 @@ pub(crate) fn keep_taken<K: Kem, D: Disk>(
     requires fits_outbox { FitsOutbox outbox.now change.now }
     requires room { HasRecordRoom client_area text.old.items }
     requires area { store.old.area ≡ client_area }
-    requires within { IsWithin client_area (D.state disk.old) }
+    requires within { HasArea client_area (D.state disk.old) }
     requires rests { Always (Rests store.old) (D.state disk.old) }
     ensures kept { let part = (received_of session.now draft.now).next in
         OnOk result (Keeps (changed K.mechanism (client_of part inbox.now outbox.now) change.now)

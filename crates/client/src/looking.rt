@@ -7,9 +7,9 @@ ghost use Rattle.dr_disk.specs.Calls.{Unwritten};
 ghost use Rattle.dr_disk.specs.Spans.{IsQuiet, Span};
 ghost use Rattle.dr_disk.specs.State.{OnSeen};
 ghost use Rattle.slot_store.specs.Reports.{IsReport};
-ghost use Rattle.slot_store.specs.Store.{IsWithin};
+ghost use Rattle.slot_store.specs.Store.{HasArea};
 ghost use Rattle.client.specs.Clients.{client_area};
-ghost use Rattle.client.specs.Opening.{record_fault};
+ghost use Rattle.client.specs.Opening.{client_record_fault};
 
 use crate::client::AREA;
 use crate::opening::Records;
@@ -21,11 +21,11 @@ use std::alloc::Global;
 /// Reads a client's area as opening it does, and all its other pages: which tables are open, what
 /// opening would find, and whether it would leave all bytes as they are. It makes reads alone.
 pub fn look<K: Kem, D: Disk>(alloc: Global, disk: &mut D) -> Result<Report, InspectError>
-    requires { IsWithin client_area (D.state disk.old) }
+    requires { HasArea client_area (D.state disk.old) }
 
     // The report is a function of the bytes that a read gives.
     ensures report { IfOk result (λ report. OnSeen
-        (IsReport (record_fault K.mechanism) client_area report) (D.state disk.old)) }
+        (IsReport (client_record_fault K.mechanism) client_area report) (D.state disk.old)) }
 
     // Nothing is written or synced, and no crash meanwhile leaves anything else.
     ensures unwritten { Unwritten (D.state disk.old) (D.state disk.new) }

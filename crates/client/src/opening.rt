@@ -11,9 +11,9 @@ ghost use Rattle.session_record.specs.Lawful.{IsLawfulClient};
 ghost use Rattle.session_record.specs.Record.{client_of, record_read, record_text};
 ghost use Rattle.slot_store.specs.AtRest.{IsReadAtRest};
 ghost use Rattle.slot_store.specs.Reading.{IsEntryOrLike, IsLikeRead};
-ghost use Rattle.slot_store.specs.Store.{IsWithin, content};
+ghost use Rattle.slot_store.specs.Store.{HasArea, content};
 ghost use Rattle.client.specs.Clients.{client_area};
-ghost use Rattle.client.specs.Opening.{IsLeftAtRest, IsOpened, IsUnopened, OpensIn, Reads, open_refusal, record_fault};
+ghost use Rattle.client.specs.Opening.{IsLeftAtRest, IsClientOpened, IsUnopened, OpensIn, ReadsAsSide, open_refusal, client_record_fault};
 
 use crate::client::{AREA, Client};
 use crate::refusals::OpenRefusal;
@@ -33,7 +33,7 @@ pub(crate) struct Records<K: Kem> {
 }
 
 impl<K: Kem> Grammar for Records<K> {
-    ghost fault_at = { λ text. record_fault K.mechanism text };
+    ghost fault_at = { λ text. client_record_fault K.mechanism text };
 
     fn check(text: &[u8]) -> Result<(), u32> {
         match check::<K>(text) {
@@ -47,7 +47,7 @@ impl<K: Kem> Grammar for Records<K> {
 fn resumed<K: Kem>(text: &[u8], inbox: &mut Inbox, outbox: &mut Outbox) -> Session<K>
     requires inbox { inbox.old ≡ [] }
     requires outbox { outbox.old ≡ [] }
-    requires reads { record_fault K.mechanism text.now ≡ None }
+    requires reads { client_record_fault K.mechanism text.now ≡ None }
     ensures read { record_read K.mechanism text.now ≡ Ok (client_of result inbox.new outbox.new) }
     ensures text { text.now ≡ record_text (client_of result inbox.new outbox.new) }
     ensures lawful { IsLawfulClient K.mechanism (client_of result inbox.new outbox.new) }
@@ -76,7 +76,7 @@ fn client_in<K: Kem>(room: Room<K>, store: SlotStore) -> Client<K>
     requires outbox { room.outbox ≡ [] }
     requires some { is_some (content store) ≡ true }
     requires reads { (text : List ℕ) → content store ≡ Some text
-        → record_fault K.mechanism text ≡ None }
+        → client_record_fault K.mechanism text ≡ None }
     ensures open { result.closed ≡ None }
     ensures store { result.store ≡ store }
     ensures read { (text : List ℕ) → content store ≡ Some text
@@ -109,9 +109,9 @@ impl<K: Kem> Client<K> {
     /// is no record; then nothing was written. `StoreFault` only where a call on the disk failed,
     /// and with `Memory` none was made.
     pub fn open<D: Disk>(alloc: Global, disk: &mut D) -> Result<Client<K>, OpenRefusal>
-        requires { IsWithin client_area (D.state disk.old) }
+        requires { HasArea client_area (D.state disk.old) }
         ensures opened { IfOk result
-            (λ client. IsOpened K.mechanism client (D.state disk.old) (D.state disk.new)) }
+            (λ client. IsClientOpened K.mechanism client (D.state disk.old) (D.state disk.new)) }
         ensures unopened { IfErr result (IsUnopened D.state K.mechanism disk.old disk.new) }
         // Meanwhile, and in each ending, crashes and reads give what they gave, but for what was
         // tidied.
@@ -124,7 +124,7 @@ impl<K: Kem> Client<K> {
             → IsLeftAtRest (D.state disk.old) (D.state disk.new) result }
         // In each world that a read stands for.
         ensures in_worlds { (w : World) (side : Side) → IsLawfulWorld K.mechanism w
-            → Reads K.mechanism w side (D.state disk.old)
+            → ReadsAsSide K.mechanism w side (D.state disk.old)
             → OpensIn K.mechanism w side (D.state disk.old) (D.state disk.new) result }
         ensures fate { (D.state disk.old).fate ≡ Fate.all_pass →
             IfErr result (λ e. (call : Call) → e ≢ OpenRefusal.StoreFault call)

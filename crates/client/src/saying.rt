@@ -13,8 +13,8 @@ ghost use Rattle.session_record.specs.Record.{client_of};
 ghost use Rattle.client.specs.Acting.{IsAct};
 ghost use Rattle.client.specs.Clients.{IsOpenOn, MayActOn};
 ghost use Rattle.client.specs.InWorlds.{IsIn};
-ghost use Rattle.client.specs.Outcomes.{Passes, said_as};
-ghost use Rattle.client.specs.Saying.{HandsBack, IsDrawn, Says, SaysIn};
+ghost use Rattle.client.specs.Outcomes.{StaysPassing, said_as};
+ghost use Rattle.client.specs.Saying.{HandsBack, IsSeedDrawn, SaysWithDraw, SaysIn};
 ghost use Rattle.client.specs.Spent.{IsSpent};
 
 use crate::client::Client;
@@ -67,7 +67,7 @@ impl<K: Kem> Client<K> {
     ) -> Result<Position, SayRefusal>
         requires { MayActOn self.old (D.state disk.old) }
         // Exactly what the side makes of it, but for a failing draw or call on the disk.
-        ensures exact { Says D.state W.at K.mechanism text.now
+        ensures exact { SaysWithDraw D.state W.at K.mechanism text.now
             self.old self.new disk.old disk.new draws.old draws.new result }
         ensures ready { OnOk result (IsOpenOn self.new (D.state disk.new)) }
         // In each world that the client stands for, at every moment.
@@ -80,10 +80,10 @@ impl<K: Kem> Client<K> {
         ensures spent { IfOk result (λ position. (w : World) (side : Side)
             → IsIn K.mechanism w side self.old
             → (draw : Option (List ℕ))
-            × IsDrawn W.at self.old (length text.now) draws.old draws.new draw
+            × IsSeedDrawn W.at self.old (length text.now) draws.old draws.new draw
             × IsSpent K.mechanism (act_in K.mechanism w side (saying text.now draw)).next side
             position (D.state disk.new)) }
-        ensures fate { Passes (D.state disk.old) (D.state disk.new) (said_as result) }
+        ensures fate { StaysPassing (D.state disk.old) (D.state disk.new) (said_as result) }
     {
         grounds::<K>();
         self.say_exact(disk, text, draws)
@@ -96,9 +96,9 @@ impl<K: Kem> Client<K> {
         draws: &mut W,
     ) -> Result<Position, SayRefusal>
         requires { MayActOn self.old (D.state disk.old) }
-        ensures exact { Says D.state W.at K.mechanism text.now
+        ensures exact { SaysWithDraw D.state W.at K.mechanism text.now
             self.old self.new disk.old disk.new draws.old draws.new result }
-        ensures fate { Passes (D.state disk.old) (D.state disk.new) (said_as result) }
+        ensures fate { StaysPassing (D.state disk.old) (D.state disk.new) (said_as result) }
     {
         if let Some(call) = self.closed {
             return Err(SayRefusal::Closed { call });

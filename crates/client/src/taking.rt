@@ -14,7 +14,7 @@ ghost use Rattle.client.specs.Acting.{IsAct};
 ghost use Rattle.client.specs.Clients.{IsOpenOn, MayActOn};
 ghost use Rattle.client.specs.Drafting.{DraftsFor, IsDraftOf, taken_of};
 ghost use Rattle.client.specs.InWorlds.{ActsIn, IsIn};
-ghost use Rattle.client.specs.Outcomes.{Acts, Passes, taken_as};
+ghost use Rattle.client.specs.Outcomes.{Acts, StaysPassing, taken_as};
 ghost use Rattle.client.specs.Spent.{IsSpent};
 
 use crate::client::Client;
@@ -89,7 +89,7 @@ impl<K: Kem> Client<K> {
             → IsUnforged K.mechanism w side packet.now
             → IsSpent K.mechanism (act_in K.mechanism w side (taking packet.now)).next side position
             (D.state disk.new)) }
-        ensures fate { Passes (D.state disk.old) (D.state disk.new) (taken_as result) }
+        ensures fate { StaysPassing (D.state disk.old) (D.state disk.new) (taken_as result) }
     {
         grounds::<K>();
         self.take_exact(disk, packet)

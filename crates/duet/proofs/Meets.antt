@@ -27,7 +27,7 @@ use Rattle.sync_model.specs.declared.more.More.{More}
 use Rattle.sync_model.proofs.Answering.{never_wrong}
 use Rattle.sync_model.proofs.Asking.{ArePackets, are_made}
 use Rattle.sync_model.proofs.Reading.{bytes_last}
-use Rattle.relay_link.specs.Connections.{Behind, Connection, IsLawful, behind_of, boxes_of, connected, port_of}
+use Rattle.relay_link.specs.Connections.{Behind, LinkConnection, IsLawfulConnection, behind_of, boxes_now, fresh_connection, connection_port}
 use Rattle.relay_link.specs.Playing.{IsSynced, synced}
 use Rattle.relay_link.specs.declared.limits.TheConstants.{REPLY_LIMIT}
 use Rattle.relay_link.proofs.Bringing.{brought}
@@ -36,19 +36,19 @@ use Rattle.relay_link.proofs.Playing.{ended as ends_so}
 use Rattle.client.specs.Syncing.Lines.{own_box, peers_box}
 use Rattle.client.specs.Syncing.Moments.{Moment, Wrote, WroteBeginning}
 use Rattle.client.specs.Syncing.Parties.{client_party, waiting}
-use Rattle.client.specs.Syncing.Rounds.{fault_in}
+use Rattle.client.specs.Syncing.Rounds.{sync_fault_of}
 use Rattle.client.specs.Syncing.SoFar.{Stands, Talked}
-use Rattle.client.specs.Syncing.Syncs.{Ends, IsNoReply, IsOver, IsUnheard, IsUnwritten, Syncs, is_cut, is_unread}
+use Rattle.client.specs.Syncing.Syncs.{EndsSync, IsNoReply, IsSyncOver, IsUnheard, IsUnwritten, Syncs, is_cut, is_unread}
 use Rattle.client.proofs.Syncs.Parties.{drops_one, keeps_outbox}
 use Rattle.client.specs.declared.syncing.faults.SyncFault.{SyncFault}
 use Rattle.client.specs.declared.syncing.faults.SyncFault.TheVariants.{Closed, Link, Peer, Refused, Store, Write}
 use Rattle.dr_ports.proofs.WritingLemmas.{took_of_first}
-use Rattle.duet.specs.Meetings.{EndsBy, Plays, Reaches, Rests}
+use Rattle.duet.specs.Meetings.{EndsBy, Plays, Reaches, IsOpenAtRest}
 
-module _ (k : Mechanism) (prefix : List ℕ) (kept : ℕ) (boxes : List Box) (a b : Moment) (now : Connection)
+module _ (k : Mechanism) (prefix : List ℕ) (kept : ℕ) (boxes : List Box) (a b : Moment) (now : LinkConnection)
     (own : is_name (own_box a.client.kept) ≡ true) (peers : is_name (peers_box a.client.kept) ≡ true) (packets : ArePackets (waiting a.client.kept))
-    (lawful_boxes : All IsLawfulBox boxes) (passes : a.disk.fate ≡ all_pass) (stands : behind_of now ≡ behind_of (connected kept boxes))
-    (lawful : IsLawful now) (later : a.sink.faults ≤ b.sink.faults) where
+    (lawful_boxes : All IsLawfulBox boxes) (passes : a.disk.fate ≡ all_pass) (stands : behind_of now ≡ behind_of (fresh_connection kept boxes))
+    (lawful : IsLawfulConnection now) (later : a.sink.faults ≤ b.sink.faults) where
   abbrev first : Client
   first = a.client.kept
 
@@ -59,10 +59,10 @@ module _ (k : Mechanism) (prefix : List ℕ) (kept : ℕ) (boxes : List Box) (a 
   m = scene p kept first boxes
 
   abbrev start : Port
-  start = port_of (connected kept boxes)
+  start = connection_port (fresh_connection kept boxes)
 
   abbrev end : Port
-  end = port_of now
+  end = connection_port now
 
   few : kept ≤ REPLY_LIMIT
   few = omega (arith, lawful.few, ap (λ (b : List ℕ → Behind). (b []).kept) stands)
@@ -83,10 +83,10 @@ module _ (k : Mechanism) (prefix : List ℕ) (kept : ℕ) (boxes : List Box) (a 
       brought = brought boxes kept (replied_bytes replies ++ rest) (request_bytes course.requests ++ put) now told stands lawful;
     }
 
-    rested : Stands p replies a b → Rests b
+    rested : Stands p replies a b → IsOpenAtRest b
     rested stood = record { is_open = stood.is_open; ready = stood.ready; passes = stood.fate passes }
 
-    reached : m ≡ synced p first replies now → Stands p replies a b → Reaches m b (boxes_of now)
+    reached : m ≡ synced p first replies now → Stands p replies a b → Reaches m b (boxes_now now)
     reached is stood = record {
       keeps = stood.keeps ∙ ap (λ (x : Meeting Client). x.course.state) (sym is);
       rests = rested stood;
@@ -101,7 +101,7 @@ module _ (k : Mechanism) (prefix : List ℕ) (kept : ℕ) (boxes : List Box) (a 
         (subst (λ (q : List ℕ). Exchanges (replied_bytes replies) q start end) (sym (append-nil (request_bytes course.requests))) talked.told))
 
     -- the course has ended
-    over_so : (ending : Ending) → IsOver p replies ending a b start end → m ≡ synced p first replies now
+    over_so : (ending : Ending) → IsSyncOver p replies ending a b start end → m ≡ synced p first replies now
     over_so ending is = ends_so p kept first boxes replies now (talked_so is.talked) ending is.is_over
 
     -- a write failed in a beginning of the lines
@@ -112,14 +112,14 @@ module _ (k : Mechanism) (prefix : List ℕ) (kept : ℕ) (boxes : List Box) (a 
           rose = is.wrote.rose;
         }
 
-    ends_by : (ending : Ending) → IsOver p replies ending a b start end → Reaches m b (boxes_of now) × EndsBy p m a b ending
+    ends_by : (ending : Ending) → IsSyncOver p replies ending a b start end → Reaches m b (boxes_now now) × EndsBy p m a b ending
     ends_by ending is =
         let same = over_so ending is in
         let wrote = subst (λ (c : Course Client). Wrote (all_lines p c) a b) (ap (λ (x : Meeting Client). x.course) (sym same)) is.wrote in
         (reached same is.stands, (ap (λ (x : Meeting Client). x.course.wait) same ∙ is.is_over, wrote))
 
     -- it doesn't end wrong
-    not_wrong : (ending : Ending) (at : ℕ) (what : PeerKind) → fault_in ending ≡ Some (Peer at what) → IsOver p replies ending a b start end
+    not_wrong : (ending : Ending) (at : ℕ) (what : PeerKind) → sync_fault_of ending ≡ Some (Peer at what) → IsSyncOver p replies ending a b start end
         → ⊥
     not_wrong (ended which) at what is ends = absurd (cc)
     not_wrong inbox_full at what is ends = absurd (cc)
@@ -140,7 +140,7 @@ module _ (k : Mechanism) (prefix : List ℕ) (kept : ℕ) (boxes : List Box) (a 
         by_came f rest so (is_unread bad whole reads) = always_read p kept first boxes replies rest now is.asked so is.waits bad whole reads
         by_came f rest so (is_cut partial ends) = never_ends p kept first boxes replies rest now is.asked so is.waits partial ends
 
-    by_ends : (result : Result More SyncFault) → Ends p replies a b start end result → Plays p m a b (boxes_of now) result
+    by_ends : (result : Result More SyncFault) → EndsSync p replies a b start end result → Plays p m a b (boxes_now now) result
     by_ends (Ok more) ends = ends_by (ended more) ends
     by_ends (Err (Refused refusal)) ends = let e = ends_by ends.0 ends.2 in (e.0, (ends.0, ends.1, e.1))
     by_ends (Err (Peer at what)) (inl ends) = not_wrong ends.0 at what ends.1 ends.2
@@ -158,5 +158,5 @@ module _ (k : Mechanism) (prefix : List ℕ) (kept : ℕ) (boxes : List Box) (a 
     by_ends (Err (Store call)) ends = ends.fate passes
     by_ends (Err (Closed call)) ends = ends
 
-  pub plays : (result : Result More SyncFault) → Syncs p a b start end result → Plays p m a b (boxes_of now) result
+  pub plays : (result : Result More SyncFault) → Syncs p a b start end result → Plays p m a b (boxes_now now) result
   plays result syncs = by_ends syncs.replies syncs.syncs.lawful result syncs.syncs.ends

@@ -15,7 +15,7 @@ use Rattle.scripts.specs.Deeds.{Deed, acts, stops, syncs}
 use Rattle.scripts.specs.Sides.{deed_side}
 use Rattle.duet.specs.Held.{DuetNow, after_deed, beside, opening_duet}
 use Rattle.scripts.specs.Script.{Scripted}
-use Rattle.duet.specs.Tally.{IsBelow, IsSideBelow, both_reached, counted, counted_all, counted_by, counted_of, no_tally, opening_tally, tally_of}
+use Rattle.duet.specs.Tally.{IsBelow, IsSideBelow, both_reached, with_answer, counted_all, counted_by, counted_of, no_tally, opening_tally, tally_of}
 use Rattle.duet.specs.Trace.{after_by, beginning, lines_by, played}
 use Rattle.duet.specs.declared.tally.SideTally.{SideTally}
 use Rattle.duet.specs.declared.tally.Tally.{Tally}
@@ -41,7 +41,7 @@ side_wider n m t h b = record { said = omega (arith, b.said); opened = omega (ar
 pub wider : (n m : ℕ) (t : Tally) → n ≤ m → IsBelow n t → IsBelow m t
 wider n m t h b = record { first = side_wider n m t.first h b.first; second = side_wider n m t.second h b.second }
 
-side_more : (n : ℕ) (answer : Answer) (t : SideTally) → IsSideBelow n t → IsSideBelow (n + 1) (counted answer t)
+side_more : (n : ℕ) (answer : Answer) (t : SideTally) → IsSideBelow n t → IsSideBelow (n + 1) (with_answer answer t)
 side_more n (Said p) t b = record { said = omega (arith, b.said); opened = omega (arith, b.opened); refused = omega (arith, b.refused) }
 side_more n (Opened p) t b = record { said = omega (arith, b.said); opened = omega (arith, b.opened); refused = omega (arith, b.refused) }
 side_more n Nothing t b = record { said = omega (arith, b.said); opened = omega (arith, b.opened); refused = omega (arith, b.refused) }

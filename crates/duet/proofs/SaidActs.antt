@@ -14,7 +14,7 @@ use Rattle.ratchet.specs.Seen.{seed_bytes}
 use Rattle.session_model.specs.Clients.{say_check, say_on}
 use Rattle.client.specs.Clients.{ClientNow}
 use Rattle.client.specs.Outcomes.{Acts, said_as}
-use Rattle.client.specs.Saying.{Says, asks_seed, draw_failed, with_draw, without_draw}
+use Rattle.client.specs.Saying.{SaysWithDraw, asks_seed, draw_failed, with_draw, without_draw}
 use Rattle.client.specs.declared.refusals.SayRefusal.{SayRefusal}
 
 abbrev first_of : Option Seeds → List ℕ
@@ -45,7 +45,7 @@ pub said_acts : {W : Type 0} (draws : W → DrawsState) (k : Mechanism) (text : 
     (start now : MemoryDisk) (source left : W) (seed : Option Key32) (one : List ℕ) (result : Result Position SayRefusal)
     → old.closed ≡ None → say_check old.kept (length text) ≡ Ok (is_some seed)
     → (draws source).coming ≡ Some (λ j. one) → (draws source).faults ≡ 0 → (draws left).faults ≡ 0 → ((key : Key32) → seed ≡ Some key → one ≡ key.bytes)
-    → Says state_of draws k text old new start now source left result
+    → SaysWithDraw state_of draws k text old new start now source left result
     → Acts state_of (said_by (say_on k old.kept text (seed_bytes seed))) old new start now (said_as result)
 said_acts draws k text old new start now source left seed one result unclosed checked tells before after gives (without_draw ended asks leaves acts) =
     let none : is_some seed ≡ false = sym (asks_is old (length text) (is_some seed) unclosed checked) ∙ asks in

@@ -18,7 +18,7 @@ use Rattle.dr_model.proofs.Growth.SaidStays.{packets_stay}
 use Rattle.dr_model.proofs.Taking.PacketsApart.{real}
 use Rattle.dr_model.proofs.Worlds.LawfulWorlds.{lawful_next}
 use Rattle.kem_laws.specs.Mechanism.{Mechanism}
-use Rattle.relay_core.specs.Boxes.{Answer, Box, Kept, answer_of, answers_of, becomes, behind, has_number, is_full, is_named, of_first, stays, with_packet, without}
+use Rattle.relay_core.specs.Boxes.{Answer, Box, Kept, answer_of, answers_of, becomes, after_box, has_number, is_full, is_named, of_first, stays, with_packet, without_number}
 use Rattle.relay_wire.specs.Replies.{absent, acked, box_full, stored}
 use Rattle.relay_wire.specs.Requests.{Asked, Asking, acks, fetches, posts}
 use Rattle.client.specs.Syncing.Parties.{waiting}
@@ -82,7 +82,7 @@ module _ (Is : List ℕ → Type 0) where
       (All-push (λ (kept : Kept). Is kept.packet) box.packets (record { number = box.last + 1; packet = packet }) holds is)
   answer_holds box fetches holds is = holds
   answer_holds box (acks number) holds is =
-      either_holds (has_number number box.packets) (becomes acked (without box number)) (stays (absent number) box)
+      either_holds (has_number number box.packets) (becomes acked (without_number box number)) (stays (absent number) box)
       (All-filter (λ (kept : Kept). not (kept.number == number)) (λ (kept : Kept). Is kept.packet) box.packets holds) holds
 
   -- the relay keeps them so
@@ -99,7 +99,7 @@ module _ (Is : List ℕ → Type 0) where
       rest = All-tail (HoldsOnly Is) box boxes hold
 
       by_name : (named : Bool) → All (HoldsOnly Is) (answers_of boxes asked).next
-          → All (HoldsOnly Is) (if named then of_first (answer_of box asked.ask) boxes else behind box (answers_of boxes asked)).next
+          → All (HoldsOnly Is) (if named then of_first (answer_of box asked.ask) boxes else after_box box (answers_of boxes asked)).next
       by_name true more = All-cons (HoldsOnly Is) (answer_of box asked.ask).next boxes (answer_holds box asked.ask first is) rest
       by_name false more = All-cons (HoldsOnly Is) box (answers_of boxes asked).next first more
 

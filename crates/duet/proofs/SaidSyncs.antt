@@ -8,12 +8,12 @@ use Rattle.dr_model.specs.Machines.WorldSides.{kept_in}
 use Rattle.dr_model.specs.Machines.Worlds.{World}
 use Rattle.dr_model.specs.Theorems.Fairness.{IsUnforged}
 use Rattle.kem_laws.specs.Mechanism.{Mechanism}
-use Rattle.relay_core.specs.Boxes.{Box, Kept, answer_of, answers_of, behind, is_named, of_first, oldest}
+use Rattle.relay_core.specs.Boxes.{Box, Kept, answer_of, answers_of, after_box, is_named, of_first, oldest}
 use Rattle.relay_link.specs.Connections.{kept_before}
 use Rattle.relay_wire.specs.Requests.{Asked, fetches}
 use Rattle.sync_model.specs.Carried.{relay_after}
 use Rattle.sync_model.specs.Courses.{as_list}
-use Rattle.sync_model.specs.Moves.{Wait, acking, asked_in, asked_of, fetching, over, posting}
+use Rattle.sync_model.specs.Moves.{Wait, acking, asked_in, posting_of, fetching, over, posting}
 use Rattle.sync_model.specs.Parties.{Party}
 use Rattle.sync_model.specs.Scenes.{IsFairNext, MeetsFairly, scene, without_reply}
 use Rattle.sync_model.specs.Simulation.{AreAlike, IsFairReply}
@@ -42,13 +42,13 @@ module _ {S : Type 0} (Is : S → List ℕ → Type 0) (s : S) (n : ℕ) where
   fetched_is name (box ∷ boxes) hold = by_name (is_named name box) (fetched_is name boxes (All-tail (HoldsOnly (Is s)) box boxes hold))
     where
       by_name : (named : Bool) → IsFairReply Is s (fetching n) (answers_of boxes (fetch_of name)).reply
-          → IsFairReply Is s (fetching n) (if named then of_first (answer_of box fetches) boxes else behind box (answers_of boxes (fetch_of name))).reply
+          → IsFairReply Is s (fetching n) (if named then of_first (answer_of box fetches) boxes else after_box box (answers_of boxes (fetch_of name))).reply
       by_name true more = oldest_is box.packets (All-head (HoldsOnly (Is s)) box boxes hold)
       by_name false more = more
 
 -- a post sends the oldest packet of the outbox
 oldest_posted : (Is : List ℕ → Type 0) (name : List ℕ) (packets : List (List ℕ)) → All Is packets
-    → IfSome (asked_of name packets) (λ (asked : Asked). AsksOnly Is asked.ask)
+    → IfSome (posting_of name packets) (λ (asked : Asked). AsksOnly Is asked.ask)
 oldest_posted Is name [] are = tt
 oldest_posted Is name (packet ∷ packets) are = All-head Is packet packets are
 

@@ -18,7 +18,7 @@ use Rattle.sync_model.specs.Transfers.{Meeting}
 use Rattle.sync_model.specs.declared.more.More.{More}
 use Rattle.sync_model.proofs.Growing.{Begins}
 use Rattle.client.specs.Syncing.Moments.{Moment, Wrote}
-use Rattle.client.specs.Syncing.Rounds.{fault_in}
+use Rattle.client.specs.Syncing.Rounds.{sync_fault_of}
 use Rattle.client.specs.declared.syncing.faults.SyncFault.{SyncFault}
 use Rattle.client.specs.declared.syncing.faults.SyncFault.TheVariants.{Closed, Link, Peer, Refused, Store, Write}
 use Rattle.client.specs.declared.syncing.faults.SyncRefusal.{SyncRefusal}
@@ -53,7 +53,7 @@ module _ {S : Type 0} (p : Party S) (side : Side) where
       ap (λ (b : List ℕ). b ++ fault_line side (Refused refusal)) (append-nil lines) ∙ ap (λ (t : List ℕ). lines ++ (side_text side ++ t)) (sym is)
 
   -- after a refusal
-  refused_by : (lines : List ℕ) (ending : Ending) (refusal : SyncRefusal) → fault_in ending ≡ Some (Refused refusal)
+  refused_by : (lines : List ℕ) (ending : Ending) (refusal : SyncRefusal) → sync_fault_of ending ≡ Some (Refused refusal)
       → (lines ++ courses.last_line p (over ending)) ++ fault_line side (Refused refusal) ≡ lines ++ closing_line p side (over ending)
   refused_by lines (ended which) refusal is = absurd (cc)
   refused_by lines inbox_full refusal is = told_behind lines (codes "refused InboxFull\n") refusal (ap text_in is)

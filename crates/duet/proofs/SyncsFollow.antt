@@ -26,7 +26,7 @@ use Rattle.sync_model.specs.Simulation.{AreAlike}
 use Rattle.sync_model.specs.Transfers.{Meeting, begins}
 use Rattle.sync_model.proofs.Scenes.{scenes_alike}
 use Rattle.client.specs.Syncing.Lines.{answer_line, own_box, peers_box}
-use Rattle.client.specs.Syncing.Parties.{client_party, is_full, waiting, world_party}
+use Rattle.client.specs.Syncing.Parties.{client_party, is_inbox_full, waiting, world_party}
 use Rattle.duet.specs.Outcomes.{Played, ending_line, closing_line, sync_lines, synced_on}
 use Rattle.duet.specs.Held.{on_side}
 use Rattle.scripts.specs.Sides.{side_text}
@@ -129,7 +129,7 @@ module _ (k : Mechanism) (law : IsLawfulMechanism k) (side : Side) (start : Worl
     sent = λ kept w is. (sent kept w is).next;
     takes = λ kept w packet is fair. let took = took kept w packet is fair in record {
       line = ap (answer_line (side_text side)) took.answer;
-      full = ap is_full took.answer;
+      full = ap is_inbox_full took.answer;
       next = took.next;
     };
   }

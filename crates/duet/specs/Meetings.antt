@@ -15,13 +15,13 @@ use Rattle.sync_model.specs.Transfers.{Meeting}
 use Rattle.sync_model.specs.declared.more.More.{More}
 use Rattle.client.specs.Clients.{IsReady}
 use Rattle.client.specs.Syncing.Moments.{Moment, Wrote, WroteBeginning}
-use Rattle.client.specs.Syncing.Rounds.{fault_in}
+use Rattle.client.specs.Syncing.Rounds.{sync_fault_of}
 use Rattle.client.specs.declared.syncing.faults.SyncFault.{SyncFault}
 use Rattle.client.specs.declared.syncing.faults.SyncFault.TheVariants.{Closed, Link, Peer, Refused, Store, Write}
 use Rattle.duet.specs.Replies.{fault_line}
 
 -- the client is open, and its disk is at rest for it, whose calls all pass
-pub record Rests (b : Moment) : Type 0 where
+pub record IsOpenAtRest (b : Moment) : Type 0 where
   pub is_open : b.client.closed ≡ None
   pub ready : IsReady b.client.kept b.client.store b.disk
   pub passes : b.disk.fate ≡ all_pass
@@ -29,7 +29,7 @@ pub record Rests (b : Moment) : Type 0 where
 -- it keeps what the scene does, and the boxes are the scene's
 pub record Reaches (m : Meeting Client) (b : Moment) (boxes : List Box) : Type 0 where
   pub keeps : b.client.kept ≡ m.course.state
-  pub rests : Rests b
+  pub rests : IsOpenAtRest b
   pub boxes_are : boxes ≡ m.boxes
 
 -- the scene has this end
@@ -39,9 +39,9 @@ EndsBy p m a b ending = (m.course.wait ≡ over ending) × Wrote (all_lines p m.
 -- The scene has ended; or it still waits, and a reply is lost; or a write has failed, in a beginning of its lines.
 abbrev pub Plays : Party Client → Meeting Client → Moment → Moment → List Box → Result More SyncFault → Type 0
 Plays p m a b boxes (Ok which) = Reaches m b boxes × EndsBy p m a b (ended which)
-Plays p m a b boxes (Err (Refused refusal)) = Reaches m b boxes × ((ending : Ending) × (fault_in ending ≡ Some (Refused refusal)) × EndsBy p m a b ending)
+Plays p m a b boxes (Err (Refused refusal)) = Reaches m b boxes × ((ending : Ending) × (sync_fault_of ending ≡ Some (Refused refusal)) × EndsBy p m a b ending)
 Plays p m a b boxes (Err Link) = Reaches m b boxes × ((asked : Asked) × (asked_in p m.course.state m.course.wait ≡ Some asked)) × Wrote m.course.lines a b
-Plays p m a b boxes (Err Write) = Rests b × WroteBeginning (all_lines p m.course) a b
+Plays p m a b boxes (Err Write) = IsOpenAtRest b × WroteBeginning (all_lines p m.course) a b
     × (a.sink.faults ≤ b.sink.faults)
 Plays p m a b boxes (Err (Peer at what)) = ⊥
 Plays p m a b boxes (Err (Store call)) = ⊥

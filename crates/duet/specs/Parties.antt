@@ -5,7 +5,7 @@ use Rattle.dr_disk.specs.State.{DiskState, all_pass}
 use Rattle.dr_disk.specs.declared.memory.MemoryDisk.{MemoryDisk}
 use Rattle.session_model.specs.Clients.{Client}
 use Rattle.session_record.specs.Record.{record_text}
-use Rattle.slot_store.specs.Records.{recovered}
+use Rattle.slot_store.specs.Records.{stored_record}
 use Rattle.client.specs.Clients.{ClientNow, IsReady, client_area}
 use Rattle.client.specs.declared.refusals.BeginRefusal.{BeginRefusal}
 use Rattle.client.specs.declared.refusals.BeginRefusal.TheVariants.{Memory as FirstMemory, NoPair}
@@ -24,8 +24,8 @@ IsFirstRefusal NoPair = ⊤
 IsFirstRefusal _ = ⊥
 
 -- the bytes of a disk have the record of what a client keeps
-abbrev pub HasRecord : Client → DiskState → Type 0
-HasRecord kept disk = (s : List ℕ) → disk.seen ≡ Some s → recovered client_area s ≡ Some (record_text kept)
+abbrev pub DiskHasRecord : Client → DiskState → Type 0
+DiskHasRecord kept disk = (s : List ℕ) → disk.seen ≡ Some s → stored_record client_area s ≡ Some (record_text kept)
 
 -- memory was wanting
 abbrev pub IsWantOfMemory : OpenRefusal → Type 0

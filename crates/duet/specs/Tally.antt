@@ -25,17 +25,17 @@ abbrev pub opening_tally : ℕ → Tally
 opening_tally rounds = record { rounds = rounds; first = no_tally; second = no_tally }
 
 -- one answer more: what the network doesn't hold counts as refused
-abbrev pub counted : Answer → SideTally → SideTally
-counted (Said p) t = record t { said = t.said + 1 }
-counted (Opened p) t = record t { opened = t.opened + 1 }
-counted Nothing t = record t { refused = t.refused + 1 }
-counted (Refused refusal) t = record t { refused = t.refused + 1 }
-counted _ t = t
+abbrev pub with_answer : Answer → SideTally → SideTally
+with_answer (Said p) t = record t { said = t.said + 1 }
+with_answer (Opened p) t = record t { opened = t.opened + 1 }
+with_answer Nothing t = record t { refused = t.refused + 1 }
+with_answer (Refused refusal) t = record t { refused = t.refused + 1 }
+with_answer _ t = t
 
 -- one answer of a side more
 abbrev pub counted_of : Side → Answer → Tally → Tally
-counted_of First answer t = record t { first = counted answer t.first }
-counted_of Second answer t = record t { second = counted answer t.second }
+counted_of First answer t = record t { first = with_answer answer t.first }
+counted_of Second answer t = record t { second = with_answer answer t.second }
 
 -- answers of a side more
 abbrev pub counted_all : Side → List Answer → Tally → Tally

@@ -7,7 +7,7 @@ ghost use Rattle.ratchet.specs.Seen.{seed_bytes};
 ghost use Rattle.session_model.specs.Clients.{say_check, say_on};
 ghost use Rattle.session_model.specs.declared.answer.Answer.TheVariants.{Nothing};
 ghost use Rattle.client.specs.Clients.{IsReady};
-ghost use Rattle.client.specs.Outcomes.{Acts, Passes, dropped_as, said_as, taken_as};
+ghost use Rattle.client.specs.Outcomes.{Acts, StaysPassing, dropped_as, said_as, taken_as};
 ghost use Rattle.duet.specs.Acts.{IsChecked, IsEnded, ended_as, made_by};
 ghost use Rattle.session_model.specs.declared.answer.Answer.{Answer as Answered};
 
@@ -93,7 +93,7 @@ fn say<K: Kem>(
     ensures acts { Acts state_of
         (said_by (say_on K.mechanism client.old.kept text.now (seed_bytes seed)))
         client.old client.new disk.old disk.new (ended_as result) }
-    ensures fate { Passes (state_of disk.old) (state_of disk.new) (ended_as result) }
+    ensures fate { StaysPassing (state_of disk.old) (state_of disk.new) (ended_as result) }
 {
     let mut source = Given::new(seed);
     match client.say(disk, text, &mut source) {
@@ -109,7 +109,7 @@ pub fn perform<K: Kem>(client: &mut Client<K>, disk: &mut MemoryDisk, act: Act<'
     requires checked { IsChecked client.old.kept act }
     ensures acts { Acts state_of (made_by K.mechanism client.old.kept act.entry)
         client.old client.new disk.old disk.new (ended_as result) }
-    ensures fate { Passes (state_of disk.old) (state_of disk.new) (ended_as result) }
+    ensures fate { StaysPassing (state_of disk.old) (state_of disk.new) (ended_as result) }
 {
     match act {
         Act::Say(text, seed) => say(client, disk, text, seed),

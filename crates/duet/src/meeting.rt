@@ -1,7 +1,7 @@
 //! A client syncs over a link to a relay in memory.
 
 ghost use Rattle.dr_disk.specs.MemoryDisks.{state_of};
-ghost use Rattle.relay_link.specs.Connections.{boxes_of, kept_before};
+ghost use Rattle.relay_link.specs.Connections.{boxes_now, kept_before};
 ghost use Rattle.sync_model.specs.Scenes.{scene};
 ghost use Rattle.client.specs.Syncing.Moments.{moment};
 ghost use Rattle.client.specs.Syncing.Parties.{client_party};
@@ -28,9 +28,9 @@ pub fn meet<K: Kem, O: Sink>(
 ) -> Result<More, SyncFault>
     requires { IsHeld client.old disk.old }
     ensures { let party = client_party K.mechanism prefix.now client.old.kept in
-        Plays party (scene party (kept_before lost) client.old.kept (boxes_of link.old))
+        Plays party (scene party (kept_before lost) client.old.kept (boxes_now link.old))
         (moment client.old (state_of disk.old) (O.at out.old))
-        (moment client.new (state_of disk.new) (O.at out.new)) (boxes_of link.new) result }
+        (moment client.new (state_of disk.new) (O.at out.new)) (boxes_now link.new) result }
 {
     link.relay().lawful();
     client.may_post();

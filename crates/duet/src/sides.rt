@@ -34,12 +34,12 @@ pub struct Duet<K: Kem> {
 
 impl<K: Kem> Model for Duet<K> {
     ghost use Rattle.std.specs.Prelude.{vec_capacity};
-    ghost use Rattle.relay_link.specs.Connections.{boxes_of};
+    ghost use Rattle.relay_link.specs.Connections.{boxes_now};
     ghost use Rattle.duet.specs.Held.{DuetNow, duet_now};
 
     ghost Value = { DuetNow };
 
-    ghost view = { λ d. duet_now d.key.bytes d.first d.second d.posts.items d.draws (boxes_of d.relay) (vec_capacity d.posts) };
+    ghost view = { λ d. duet_now d.key.bytes d.first d.second d.posts.items d.draws (boxes_now d.relay) (vec_capacity d.posts) };
 }
 
 impl<K: Kem> Duet<K> {

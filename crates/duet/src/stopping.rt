@@ -6,11 +6,11 @@ ghost use Rattle.dr_disk.specs.State.{Fate};
 ghost use Rattle.dr_model.specs.Machines.Steps.{settled, step};
 ghost use Rattle.session_model.specs.Clients.{Client as Keeping};
 ghost use Rattle.session_record.specs.Lawful.{IsLawfulClient};
-ghost use Rattle.slot_store.specs.Store.{IsWithin};
+ghost use Rattle.slot_store.specs.Store.{HasArea};
 ghost use Rattle.client.specs.Clients.{client_area};
 ghost use Rattle.duet.specs.Acts.{IsChecked, made_by};
 ghost use Rattle.client.specs.Opening.{ReadsClient};
-ghost use Rattle.duet.specs.Parties.{HasRecord, IsWantOfMemory};
+ghost use Rattle.duet.specs.Parties.{DiskHasRecord, IsWantOfMemory};
 ghost use Rattle.duet.specs.Stops.{stopped_client};
 
 use crate::acts::{Act, Ended, perform};
@@ -35,11 +35,11 @@ fn want_of_memory(refusal: OpenRefusal) -> AllocError
 /// The side whose record a disk has, all of whose calls pass. It isn't refused: its only error is
 /// want of memory.
 fn reopened<K: Kem>(alloc: Global, disk: MemoryDisk) -> Result<Party<K>, AllocError>
-    requires within { IsWithin client_area (state_of disk) }
+    requires within { HasArea client_area (state_of disk) }
     requires passes { (state_of disk).fate ≡ Fate.all_pass }
     requires holds { ReadsClient K.mechanism (state_of disk) }
     ensures { IfOk result (λ p. (kept : Keeping) → IsLawfulClient K.mechanism kept
-        → HasRecord kept (state_of disk) → p ≡ kept) }
+        → DiskHasRecord kept (state_of disk) → p ≡ kept) }
 {
     record_law();
     let mut disk = disk;

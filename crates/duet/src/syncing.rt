@@ -2,7 +2,7 @@
 
 ghost use Rattle.std.specs.Prelude.{◌≡◌, OnOk};
 ghost use Rattle.dr_ports.specs.Writing.{Writes};
-ghost use Rattle.relay_link.specs.Connections.{boxes_of, kept_before};
+ghost use Rattle.relay_link.specs.Connections.{boxes_now, kept_before};
 ghost use Rattle.sync_model.specs.Scenes.{scene};
 ghost use Rattle.client.specs.Syncing.Parties.{client_party};
 ghost use Rattle.duet.specs.Outcomes.{deed_on, sync_lines};
@@ -63,13 +63,13 @@ impl<K: Kem> Party<K> {
     ) -> Result<(), Failed>
         ensures writes { let p = client_party K.mechanism (side_text side) self.old in
             Writes (O.at out.old) (O.at out.new)
-            (sync_lines p side (scene p (kept_before lost) self.old (boxes_of relay.old))) result }
+            (sync_lines p side (scene p (kept_before lost) self.old (boxes_now relay.old))) result }
         ensures keeps { let p = client_party K.mechanism (side_text side) self.old in
             OnOk result (self.new
-            ≡ (scene p (kept_before lost) self.old (boxes_of relay.old)).course.state) }
+            ≡ (scene p (kept_before lost) self.old (boxes_now relay.old)).course.state) }
         ensures boxes { let p = client_party K.mechanism (side_text side) self.old in
-            OnOk result (boxes_of relay.new
-            ≡ (scene p (kept_before lost) self.old (boxes_of relay.old)).boxes) }
+            OnOk result (boxes_now relay.new
+            ≡ (scene p (kept_before lost) self.old (boxes_now relay.old)).boxes) }
     {
         match meet(
             &mut self.client,

@@ -1,7 +1,7 @@
 //! A run in numbers.
 
 ghost use Rattle.std.specs.Prelude.{◌≡◌, ◌-◌, ◌^◌, ◌<◌};
-ghost use Rattle.duet.specs.Tally.{IsBelow, IsSideBelow, counted, counted_of, opening_tally, no_tally};
+ghost use Rattle.duet.specs.Tally.{IsBelow, IsSideBelow, with_answer, counted_of, opening_tally, no_tally};
 
 use dr_base::Side;
 use session_model::Answer;
@@ -47,7 +47,7 @@ impl SideTally {
     /// Counts an answer.
     fn count(&mut self, answer: Answer)
         requires { IsSideBelow (2 ^ 32 - 1) self.old }
-        ensures { self.new ≡ counted answer self.old }
+        ensures { self.new ≡ with_answer answer self.old }
     {
         match answer {
             Answer::Said(_) => self.said += 1,

@@ -16,12 +16,12 @@ words_of arguments = drop 1 (into_iter_items arguments)
 
 -- how the program ends where its arguments couldn't be read: where that wasn't for want of memory, one of them is no
 -- text, and such words are no command
-abbrev pub ending_by : ErrorKind → Ending
-ending_by OutOfMemory = NoMemory
-ending_by _ = Usage
+abbrev pub ending_of_arguments : ErrorKind → Ending
+ending_of_arguments OutOfMemory = NoMemory
+ending_of_arguments _ = Usage
 
 abbrev pub ending_without_words : Error → Ending
-ending_without_words error = ending_by (error_kind error)
+ending_without_words error = ending_of_arguments (error_kind error)
 
 -- the words were taken out of the arguments; or memory was wanting for them; or the arguments couldn't be read
 abbrev pub HasWords : Result (IntoIter (String Global) Global) Error → Result (Vec (String Global) Global) Ending → Type 0

@@ -4,20 +4,20 @@ use Rattle.dr_disk.specs.Spans.{IsQuiet}
 use Rattle.dr_disk.specs.State.{DiskState}
 use Rattle.dr_ports.specs.declared.pipe.Part.{Part}
 use Rattle.dr_ports.specs.declared.pipe.Part.TheVariants.{Gate}
-use Rattle.slot_store.specs.Store.{IsWithin}
+use Rattle.slot_store.specs.Store.{HasArea}
 use Rattle.client.specs.Clients.{client_area}
 use Rattle.relay_command.specs.declared.relaying.TheConstants.{RELAY_DISK_SIZE}
-use Rattle.messenger_cli.specs.Held.{Held, Seen}
+use Rattle.messenger_cli.specs.Held.{PortsNow, Seen}
 
 -- the one disk has room for a session, the other for a relay's boxes
 pub record HaveRoom (disk relay_disk : DiskState) : Type 0 where
-  pub session : IsWithin client_area disk
+  pub session : HasArea client_area disk
   pub boxes : RELAY_DISK_SIZE ≤ relay_disk.size
 
 -- no call on a disk, no read, no write, no draw and no call on the link failed, and no listening
 -- or accepting of the door
 pub record IsQuietRun {X R S L A W : Type 0} (seen : Seen X R S L A W)
-    (old new : Held X R S L A W) : Type 0 where
+    (old new : PortsNow X R S L A W) : Type 0 where
   pub disk : IsQuiet (seen.disk old.disk) (seen.disk new.disk)
   pub relay_disk : IsQuiet (seen.relay_disk old.relay_disk) (seen.relay_disk new.relay_disk)
   pub source : (seen.source new.source).faults ≡ (seen.source old.source).faults
@@ -28,14 +28,14 @@ pub record IsQuietRun {X R S L A W : Type 0} (seen : Seen X R S L A W)
 
 -- status 0 says that none failed; and no count of reads or of writes falls
 pub record CountsFaults {X R S L A W : Type 0} (seen : Seen X R S L A W)
-    (old new : Held X R S L A W) (code : ℕ) : Type 0 where
+    (old new : PortsNow X R S L A W) (code : ℕ) : Type 0 where
   pub quiet : code ≡ 0 → IsQuietRun seen old new
   pub reads : (seen.source old.source).faults ≤ (seen.source new.source).faults
   pub writes : old.sink.faults ≤ new.sink.faults
 
 -- a run that comes to this, and counts what failed
 pub record IsRun {X R S L A W : Type 0}
-    (comes : Seen X R S L A W → Held X R S L A W → Held X R S L A W → ℕ → Type 0)
-    (seen : Seen X R S L A W) (old new : Held X R S L A W) (code : ℕ) : Type 0 where
+    (comes : Seen X R S L A W → PortsNow X R S L A W → PortsNow X R S L A W → ℕ → Type 0)
+    (seen : Seen X R S L A W) (old new : PortsNow X R S L A W) (code : ℕ) : Type 0 where
   pub comes_to : comes seen old new code
   pub counts : CountsFaults seen old new code

@@ -5,7 +5,7 @@ use Rattle.dr_ports.specs.States.{DrawsState, SinkState, SourceState}
 use Rattle.dr_ports.specs.Wires.{Port}
 
 -- The two disks, the source, the link, the door and the draws at one moment, and how the sink stood then.
-pub record Held (X R S L A W : Type 0) : Type 0 where
+pub record PortsNow (X R S L A W : Type 0) : Type 0 where
   pub disk : X
   pub relay_disk : R
   pub source : S
@@ -14,7 +14,7 @@ pub record Held (X R S L A W : Type 0) : Type 0 where
   pub draws : W
   pub sink : SinkState
 
-abbrev pub held : {X R S L A W : Type 0} → X → R → S → L → A → W → SinkState → Held X R S L A W
+abbrev pub held : {X R S L A W : Type 0} → X → R → S → L → A → W → SinkState → PortsNow X R S L A W
 held disk relay_disk source link door draws sink = record {
   disk = disk;
   relay_disk = relay_disk;
@@ -35,10 +35,10 @@ pub record Seen (X R S L A W : Type 0) : Type 1 where
   pub door : A → Port
   pub draws : W → DrawsState
 
-abbrev pub seen : {X R S L A W : Type 0} → (X → DiskState) → (R → DiskState) → (S → SourceState)
+abbrev pub ports_seen : {X R S L A W : Type 0} → (X → DiskState) → (R → DiskState) → (S → SourceState)
     → (L → Port) → (A → Port)
     → (W → DrawsState) → Seen X R S L A W
-seen disk relay_disk source link door draws = record {
+ports_seen disk relay_disk source link door draws = record {
   disk = disk;
   relay_disk = relay_disk;
   source = source;
@@ -48,13 +48,13 @@ seen disk relay_disk source link door draws = record {
 }
 
 -- the relay's disk, the link and the door were left alone
-pub record IsOffline {X R S L A W : Type 0} (old new : Held X R S L A W) : Type 0 where
+pub record IsOffline {X R S L A W : Type 0} (old new : PortsNow X R S L A W) : Type 0 where
   pub relay_disk : new.relay_disk ≡ old.relay_disk
   pub link : new.link ≡ old.link
   pub door : new.door ≡ old.door
 
 -- all but the sink was left alone
-pub record IsIdle {X R S L A W : Type 0} (old new : Held X R S L A W) : Type 0 where
+pub record LeavesAllButSink {X R S L A W : Type 0} (old new : PortsNow X R S L A W) : Type 0 where
   pub disk : new.disk ≡ old.disk
   pub source : new.source ≡ old.source
   pub draws : new.draws ≡ old.draws

@@ -19,61 +19,61 @@ use Rattle.session_commands.specs.Syncing.{RunsSync}
 use Rattle.relay_command.specs.Relaying.{RunsRelay}
 use Rattle.sntrup761.specs.Mechanism.{sntrup761_kem}
 use Rattle.messenger_cli.specs.Arguments.{ending_without_words, words_of}
-use Rattle.messenger_cli.specs.Held.{Held, IsIdle, IsOffline, Seen}
+use Rattle.messenger_cli.specs.Held.{PortsNow, LeavesAllButSink, IsOffline, Seen}
 use Rattle.messenger_cli.specs.Making.{PlaysMade}
 use Rattle.messenger_cli.specs.Runs.{RunsDuet}
 
 -- a command that comes to an ending with its lines, and what was written of them
-abbrev pub Writes : {X R S L A W : Type 0} → (Ending → List ℕ → Type 0) → Held X R S L A W → Held X R S L A W → ℕ → Type 0
-Writes comes old new code = Runs comes old.sink new.sink code
+abbrev pub WritesEnding : {X R S L A W : Type 0} → (Ending → List ℕ → Type 0) → PortsNow X R S L A W → PortsNow X R S L A W → ℕ → Type 0
+WritesEnding comes old new code = Runs comes old.sink new.sink code
 
 -- nothing was done: just this last line was written
-pub record EndsIdle {X R S L A W : Type 0} (ending : Ending) (old new : Held X R S L A W) (code : ℕ) : Type 0 where
+pub record EndsIdle {X R S L A W : Type 0} (ending : Ending) (old new : PortsNow X R S L A W) (code : ℕ) : Type 0 where
   pub ends : Ends ending [] old.sink new.sink code
-  pub idle : IsIdle old new
+  pub idle : LeavesAllButSink old new
 
 -- a command on the disk and the source
-pub record ReadsAndWrites {X R S L A W : Type 0} (comes : Ending → List ℕ → Type 0) (old new : Held X R S L A W) (code : ℕ) : Type 0 where
-  pub writes : Writes comes old new code
+pub record ReadsAndWrites {X R S L A W : Type 0} (comes : Ending → List ℕ → Type 0) (old new : PortsNow X R S L A W) (code : ℕ) : Type 0 where
+  pub writes : WritesEnding comes old new code
   pub draws : new.draws ≡ old.draws
   pub offline : IsOffline old new
 
 -- a command on the disk and the draws
-pub record DrawsAndWrites {X R S L A W : Type 0} (comes : Ending → List ℕ → Type 0) (old new : Held X R S L A W) (code : ℕ) : Type 0 where
-  pub writes : Writes comes old new code
+pub record DrawsAndWrites {X R S L A W : Type 0} (comes : Ending → List ℕ → Type 0) (old new : PortsNow X R S L A W) (code : ℕ) : Type 0 where
+  pub writes : WritesEnding comes old new code
   pub source : new.source ≡ old.source
   pub offline : IsOffline old new
 
 -- a command on the disk alone
-pub record WritesAlone {X R S L A W : Type 0} (comes : Ending → List ℕ → Type 0) (old new : Held X R S L A W) (code : ℕ) : Type 0 where
-  pub writes : Writes comes old new code
+pub record WritesAlone {X R S L A W : Type 0} (comes : Ending → List ℕ → Type 0) (old new : PortsNow X R S L A W) (code : ℕ) : Type 0 where
+  pub writes : WritesEnding comes old new code
   pub source : new.source ≡ old.source
   pub draws : new.draws ≡ old.draws
   pub offline : IsOffline old new
 
 -- a script is played: the disks, the link, the door and the draws are left alone
-pub record PlaysAlone {X R S L A W : Type 0} (seen : Seen X R S L A W) (old new : Held X R S L A W) (code : ℕ) : Type 0 where
+pub record PlaysAlone {X R S L A W : Type 0} (seen : Seen X R S L A W) (old new : PortsNow X R S L A W) (code : ℕ) : Type 0 where
   pub plays : RunsDuet (seen.source old.source) (seen.source new.source) old.sink new.sink code
   pub disk : new.disk ≡ old.disk
   pub draws : new.draws ≡ old.draws
   pub offline : IsOffline old new
 
 -- a script made from a number is played: all but the sink is left alone
-pub record MakesAlone {X R S L A W : Type 0} (rounds number : ℕ) (old new : Held X R S L A W) (code : ℕ) : Type 0 where
-  pub writes : Writes (PlaysMade rounds number) old new code
-  pub idle : IsIdle old new
+pub record MakesAlone {X R S L A W : Type 0} (rounds number : ℕ) (old new : PortsNow X R S L A W) (code : ℕ) : Type 0 where
+  pub writes : WritesEnding (PlaysMade rounds number) old new code
+  pub idle : LeavesAllButSink old new
 
 -- a sync at an address: the relay's disk, the source, the door and the draws are left alone
-pub record SyncsAlone {X R S L A W : Type 0} (seen : Seen X R S L A W) (address : List ℕ) (old new : Held X R S L A W) (code : ℕ)
+pub record SyncsAlone {X R S L A W : Type 0} (seen : Seen X R S L A W) (address : List ℕ) (old new : PortsNow X R S L A W) (code : ℕ)
     : Type 0 where
-  pub writes : Writes (RunsSync seen.disk seen.link sntrup761_kem address old.disk new.disk old.link new.link old.sink.faults new.sink.faults) old new code
+  pub writes : WritesEnding (RunsSync seen.disk seen.link sntrup761_kem address old.disk new.disk old.link new.link old.sink.faults new.sink.faults) old new code
   pub relay_disk : new.relay_disk ≡ old.relay_disk
   pub source : new.source ≡ old.source
   pub door : new.door ≡ old.door
   pub draws : new.draws ≡ old.draws
 
 -- a relay serves: the session's disk, the source, the link and the draws are left alone
-pub record ServesAlone {X R S L A W : Type 0} (seen : Seen X R S L A W) (port count : ℕ) (boxes : List (List ℕ)) (old new : Held X R S L A W)
+pub record ServesAlone {X R S L A W : Type 0} (seen : Seen X R S L A W) (port count : ℕ) (boxes : List (List ℕ)) (old new : PortsNow X R S L A W)
     (code : ℕ) : Type 0 where
   pub serves : RunsRelay seen.relay_disk seen.door boxes port count old.relay_disk new.relay_disk old.door new.door old.sink new.sink code
   pub disk : new.disk ≡ old.disk
@@ -83,7 +83,7 @@ pub record ServesAlone {X R S L A W : Type 0} (seen : Seen X R S L A W) (port co
 
 -- What a command comes to. Sessions are over sntrup761.
 abbrev pub Performs : {X R S L A W : Type 0} → Work → Seen X R S L A W
-    → Held X R S L A W → Held X R S L A W → ℕ → Type 0
+    → PortsNow X R S L A W → PortsNow X R S L A W → ℕ → Type 0
 Performs (begins side) seen old new code =
     ReadsAndWrites (RunsBegin seen.disk sntrup761_kem side
     (seen.source old.source) (seen.source new.source) old.disk new.disk) old new code
@@ -115,20 +115,20 @@ Performs (syncs address) seen old new code = SyncsAlone seen address old new cod
 
 -- What the program does on words: what the command that they are comes to, or the last line of
 -- words that are none.
-abbrev pub Answers : {X R S L A W : Type 0} → Option Work → Seen X R S L A W
-    → Held X R S L A W → Held X R S L A W → ℕ → Type 0
-Answers None seen old new code = EndsIdle Usage old new code
-Answers (Some work) seen old new code = Performs work seen old new code
+abbrev pub AnswersWords : {X R S L A W : Type 0} → Option Work → Seen X R S L A W
+    → PortsNow X R S L A W → PortsNow X R S L A W → ℕ → Type 0
+AnswersWords None seen old new code = EndsIdle Usage old new code
+AnswersWords (Some work) seen old new code = Performs work seen old new code
 
 -- or memory was wanting for the words, and nothing was done
 abbrev pub RunsProgram : {X R S L A W : Type 0} → Option Work → Seen X R S L A W
-    → Held X R S L A W → Held X R S L A W → ℕ → Type 0
+    → PortsNow X R S L A W → PortsNow X R S L A W → ℕ → Type 0
 RunsProgram asked seen old new code =
-    Answers asked seen old new code ⊎ EndsIdle NoMemory old new code
+    AnswersWords asked seen old new code ⊎ EndsIdle NoMemory old new code
 
 -- The same of the arguments as the system gave them. Arguments that aren't text are no command.
 abbrev pub RunsArguments : {X R S L A W : Type 0} → Result (IntoIter (String Global) Global) Error
-    → Seen X R S L A W → Held X R S L A W → Held X R S L A W → ℕ → Type 0
+    → Seen X R S L A W → PortsNow X R S L A W → PortsNow X R S L A W → ℕ → Type 0
 RunsArguments (Ok arguments) seen old new code =
     RunsProgram (command_of (map string_bytes (words_of arguments))) seen old new code
 RunsArguments (Err error) seen old new code = EndsIdle (ending_without_words error) old new code

@@ -13,15 +13,15 @@ IsDrained left = IfSome left (λ bytes. bytes ≡ [])
 -- What is left in the source, where that is told: nothing once a script was read; all after one byte past the limit;
 -- all after what came before a read failed. Words that are no command leave all. For want of memory the script was
 -- read or it wasn't.
-abbrev pub Leaves : Ending → Option (List ℕ) → Option (List ℕ) → Type 0
-Leaves Done old new = IsDrained new
-Leaves Usage old new = new ≡ old
-Leaves (InputTooLong limit) old new = new ≡ option_map (drop (SCRIPT_LIMIT + 1)) old
-Leaves (BadLine number) old new = IsDrained new
-Leaves (Refused refusal) old new = IsDrained new
-Leaves ReadFault old new = GaveAtMost (SCRIPT_LIMIT + 1) old new
-Leaves NoMemory old new = (new ≡ old) ⊎ IsDrained new
-Leaves _ old new = ⊥
+abbrev pub LeavesSource : Ending → Option (List ℕ) → Option (List ℕ) → Type 0
+LeavesSource Done old new = IsDrained new
+LeavesSource Usage old new = new ≡ old
+LeavesSource (InputTooLong limit) old new = new ≡ option_map (drop (SCRIPT_LIMIT + 1)) old
+LeavesSource (BadLine number) old new = IsDrained new
+LeavesSource (Refused refusal) old new = IsDrained new
+LeavesSource ReadFault old new = GaveAtMost (SCRIPT_LIMIT + 1) old new
+LeavesSource NoMemory old new = (new ≡ old) ⊎ IsDrained new
+LeavesSource _ old new = ⊥
 
 -- the source's count of faults: it rose where the ending says that a read failed, and else is as it was
 abbrev pub CountsReads : Ending → ℕ → ℕ → Type 0

@@ -11,7 +11,7 @@ use Rattle.endings.specs.declared.ending.Ending.TheVariants.{Done, InputTooLong,
 use Rattle.messenger_cli.specs.declared.playing.TheConstants.{SCRIPT_LIMIT}
 use Rattle.endings.specs.Ends.{Ends}
 use Rattle.messenger_cli.specs.Mechanisms.{first_pair, mechanism_of, played_named}
-use Rattle.messenger_cli.specs.Reads.{Leaves, CountsReads}
+use Rattle.messenger_cli.specs.Reads.{LeavesSource, CountsReads}
 
 -- the source's text is a script, and these lines are what both sides answer to it over the mechanism that it names:
 -- where no packet that the script makes up has a forged tag, the machine's trace
@@ -57,7 +57,7 @@ pub record RunsDuet (from to : SourceState) (old new : SinkState) (code : ℕ) :
   pub ending : Ending
   pub lines : List ℕ
   pub reason : HasReason from.left ending lines
-  pub leaves : Leaves ending from.left to.left
+  pub leaves : LeavesSource ending from.left to.left
   pub reads : CountsReads ending from.faults to.faults
   pub ends : Ends ending lines old new code
 
@@ -65,15 +65,15 @@ pub record RunsDuet (from to : SourceState) (old new : SinkState) (code : ℕ) :
 pub record Works (from to : SourceState) (old new : SinkState) (ending : Ending) : Type 0 where
   pub lines : List ℕ
   pub reason : HasReason from.left ending lines
-  pub leaves : Leaves ending from.left to.left
+  pub leaves : LeavesSource ending from.left to.left
   pub reads : CountsReads ending from.faults to.faults
   pub wrote : new.taken ≡ appended old.taken lines
   pub quiet : new.faults ≡ old.faults
 
-pub record IsCutOff (from to : SourceState) (old new : SinkState) : Type 0 where
+pub record IsReadCut (from to : SourceState) (old new : SinkState) : Type 0 where
   pub lines : List ℕ
   pub reason : HasReason from.left Done lines
-  pub leaves : Leaves Done from.left to.left
+  pub leaves : LeavesSource Done from.left to.left
   pub reads : CountsReads Done from.faults to.faults
   pub wrote : TookBeginning old.taken new.taken lines
   pub rose : Rose old.faults new.faults

@@ -3,7 +3,7 @@
 ghost use Rattle.std.specs.Prelude.{◌≡◌, IfOk};
 ghost use Rattle.messenger_cli.specs.Arguments.{HasWords, ending_without_words, words_of};
 ghost use Rattle.messenger_cli.specs.Counts.{HaveRoom, IsRun};
-ghost use Rattle.messenger_cli.specs.Held.{held, seen};
+ghost use Rattle.messenger_cli.specs.Held.{held, ports_seen};
 ghost use Rattle.messenger_cli.specs.Performing.{RunsArguments};
 
 use crate::program::run;
@@ -58,7 +58,7 @@ pub fn run_arguments<D: Disk, R: Disk, S: Source, O: Sink, L: Link, A: Door, W: 
 ) -> Status
     requires { HaveRoom (D.state disk.old) (R.state relay_disk.old) }
     ensures { IsRun (RunsArguments arguments)
-        (seen D.state R.state S.at L.port A.port W.at)
+        (ports_seen D.state R.state S.at L.port A.port W.at)
         (held disk.old relay_disk.old source.old link.old door.old draws.old (O.at out.old))
         (held disk.new relay_disk.new source.new link.new door.new draws.new (O.at out.new))
         result.code }

@@ -2,7 +2,7 @@
 
 ghost use Rattle.command_words.specs.Seen.{work_of};
 ghost use Rattle.messenger_cli.specs.Counts.{HaveRoom, IsRun};
-ghost use Rattle.messenger_cli.specs.Held.{held, seen};
+ghost use Rattle.messenger_cli.specs.Held.{held, ports_seen};
 ghost use Rattle.messenger_cli.specs.Performing.{Performs};
 
 use crate::making::play_made;
@@ -30,7 +30,7 @@ pub(crate) fn perform<D: Disk, R: Disk, S: Source, O: Sink, L: Link, A: Door, W:
 ) -> Status
     requires { HaveRoom (D.state disk.old) (R.state relay_disk.old) }
     ensures { IsRun (Performs (work_of command.entry))
-        (seen D.state R.state S.at L.port A.port W.at)
+        (ports_seen D.state R.state S.at L.port A.port W.at)
         (held disk.old relay_disk.old source.old link.old door.old draws.old (O.at out.old))
         (held disk.new relay_disk.new source.new link.new door.new draws.new (O.at out.new))
         result.code }

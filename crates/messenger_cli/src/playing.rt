@@ -1,7 +1,7 @@
 //! The command that plays a script.
 
 ghost use Rattle.std.specs.Prelude.{◌≡◌, ◌≤◌, IfOk, OnErr};
-ghost use Rattle.messenger_cli.specs.Runs.{IsCutOff, RunsDuet, Works};
+ghost use Rattle.messenger_cli.specs.Runs.{IsReadCut, RunsDuet, Works};
 
 use crate::mechanisms::play_named;
 use dr_ports::{Failed, InputError, Sink, Source, read_whole};
@@ -18,7 +18,7 @@ pub const SCRIPT_LIMIT: usize = 65536;
 fn work<S: Source, O: Sink>(alloc: Global, source: &mut S, out: &mut O) -> Result<Ending, Failed>
     ensures ended { IfOk result (Works (S.at source.old) (S.at source.new)
         (O.at out.old) (O.at out.new)) }
-    ensures cut { OnErr result (IsCutOff (S.at source.old) (S.at source.new)
+    ensures cut { OnErr result (IsReadCut (S.at source.old) (S.at source.new)
         (O.at out.old) (O.at out.new)) }
     ensures reads { (S.at source.old).faults ≤ (S.at source.new).faults }
     ensures writes { (O.at out.old).faults ≤ (O.at out.new).faults }

@@ -3,7 +3,7 @@
 ghost use Rattle.std.specs.Prelude.{map, string_bytes};
 ghost use Rattle.command_words.specs.Commands.{command_of};
 ghost use Rattle.messenger_cli.specs.Counts.{CountsFaults, HaveRoom};
-ghost use Rattle.messenger_cli.specs.Held.{held, seen};
+ghost use Rattle.messenger_cli.specs.Held.{held, ports_seen};
 ghost use Rattle.messenger_cli.specs.Performing.{RunsProgram};
 
 use crate::performing::perform;
@@ -37,12 +37,12 @@ pub fn run<D: Disk, R: Disk, S: Source, O: Sink, L: Link, A: Door, W: Draws>(
     // meanwhile and a read at the end stand for, what was read and what was drawn. Memory may be
     // wanting for the words; then nothing was done.
     ensures runs { RunsProgram (command_of (map string_bytes words.now))
-        (seen D.state R.state S.at L.port A.port W.at)
+        (ports_seen D.state R.state S.at L.port A.port W.at)
         (held disk.old relay_disk.old source.old link.old door.old draws.old (O.at out.old))
         (held disk.new relay_disk.new source.new link.new door.new draws.new (O.at out.new))
         result.code }
     // Status 0 says that no call failed.
-    ensures quiet { CountsFaults (seen D.state R.state S.at L.port A.port W.at)
+    ensures quiet { CountsFaults (ports_seen D.state R.state S.at L.port A.port W.at)
         (held disk.old relay_disk.old source.old link.old door.old draws.old (O.at out.old))
         (held disk.new relay_disk.new source.new link.new door.new draws.new (O.at out.new))
         result.code }

@@ -12,7 +12,7 @@ use Rattle.dr_disk.proofs.Steps.{spans, stays, widen}
 use Rattle.pages.specs.declared.layout.Layout.{Layout}
 use Rattle.dr_base.specs.declared.limits.TheConstants.{PAGE}
 use Rattle.pages.specs.Layouts.{IsPage, IsSound, page_place}
-use Rattle.pages.specs.Tables.{standing, standing_of, table_at}
+use Rattle.pages.specs.Tables.{tables_standing, standing_of, table_at}
 use Rattle.pages.specs.Runs.{IsUntouched}
 use Rattle.pages.specs.Snapshots.{IsFree, IsSameShot, IsUnnamed, StaysUnnamed, page_of}
 use Rattle.pages.specs.Clearing.{AreCleared, AreReadBlank, AreUnmarked, IsClearing, IsPageCleared, IsReadBlank, IsSameShots}
@@ -121,7 +121,7 @@ module _ (names : List ℕ → List ℕ) (l : Layout) (named : List Bool) (i : �
     (start mid now : DiskState) (is : IsPage l i) (so_far : IsClearing names l named i start mid)
     (span : Span mid now (IsSameShot names l i mid)) where
   by_tables : (d c : List ℕ) → ((k : Bool) → table_at l k c ≡ table_at l k d)
-      → standing l c ≡ standing l d
+      → tables_standing l c ≡ tables_standing l d
   by_tables d c same = ap (λ t. standing_of t (table_at l true c)) (same false)
       ∙ ap (λ t. standing_of (table_at l false d) t) (same true)
 

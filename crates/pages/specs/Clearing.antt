@@ -7,7 +7,7 @@ use Rattle.dr_disk.specs.Called.{Went, itself}
 use Rattle.pages.specs.declared.layout.Layout.{Layout}
 use Rattle.dr_base.specs.declared.limits.TheConstants.{PAGE}
 use Rattle.pages.specs.Layouts.{IsPage, blank_page}
-use Rattle.pages.specs.Tables.{standing, table_at}
+use Rattle.pages.specs.Tables.{tables_standing, table_at}
 use Rattle.pages.specs.Around.{IsSameOutside}
 use Rattle.pages.specs.Snapshots.{IsUnnamed, page_of, snapshot}
 
@@ -18,7 +18,7 @@ pub record IsSameShots (names : List ℕ → List ℕ) (l : Layout) (start : Dis
   pub entry : List ℕ
   pub image : start.image entry
   pub same : snapshot names l c ≡ snapshot names l entry
-  pub counts_same : standing l c ≡ standing l entry
+  pub counts_same : tables_standing l c ≡ tables_standing l entry
   pub outside : IsSameOutside l entry c
 
 -- Each crash meanwhile leaves what one at the beginning might have left, by what counts and by what

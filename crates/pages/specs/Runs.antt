@@ -11,7 +11,7 @@ use Rattle.pages.specs.Around.{KeepsOutside, ReadsAround}
 
 -- This many writes and syncs, which leave all around tables and pages; where none failed, a crash
 -- leaves what a read gives.
-pub record Runs {T : Type 0} (l : Layout) (n : ℕ) (start now : DiskState) (result : Result T Call)
+pub record RunsCalls {T : Type 0} (l : Layout) (n : ℕ) (start now : DiskState) (result : Result T Call)
     : Type 0
   where
     pub around : Span start now (KeepsOutside l start)
@@ -30,7 +30,7 @@ pub record IsUntouched (start now : DiskState) : Type 0 where
   pub passed : now.passed ≡ start.passed
 
 -- reads alone
-pub record Looks {T : Type 0} (start now : DiskState) (result : Result T Call) : Type 0 where
+pub record ReadsAlone {T : Type 0} (start now : DiskState) (result : Result T Call) : Type 0 where
   pub during : Span start now start.image
   pub untouched : IsUntouched start now
   pub calls : Went itself start now result

@@ -5,7 +5,7 @@ use Rattle.dr_disk.specs.State.{Always, DiskState}
 use Rattle.pages.specs.declared.layout.Layout.{Layout}
 use Rattle.dr_base.specs.declared.limits.TheConstants.{PAGE}
 use Rattle.pages.specs.Layouts.{IsPage, IsSound, page_place, table_place}
-use Rattle.pages.specs.Tables.{Standing, Table, alike, counts, is_open, none_open, standing, table_at}
+use Rattle.pages.specs.Tables.{TableStanding, Table, alike, counts, is_open, none_open, tables_standing, table_at}
 
 abbrev pub page_of : Layout → List ℕ → ℕ → List ℕ
 page_of l c n = slice_range c (page_place l n) (page_place l n + PAGE)
@@ -22,14 +22,14 @@ pub data Shot : Type 0 where
   shot : Snapshot → Shot
   unclear : Shot
 
-abbrev pub shot_of : (List ℕ → List ℕ) → Layout → List ℕ → Standing → Shot
+abbrev pub shot_of : (List ℕ → List ℕ) → Layout → List ℕ → TableStanding → Shot
 shot_of names l c none_open = no_shot
 shot_of names l c (counts k table) =
     shot (record { second = k; table = table; pages = map (page_of l c) (names table.body) })
 shot_of names l c alike = unclear
 
 unfoldable pub snapshot : (List ℕ → List ℕ) → Layout → List ℕ → Shot
-snapshot names l c = shot_of names l c (standing l c)
+snapshot names l c = shot_of names l c (tables_standing l c)
 
 -- a page that this table doesn't name, and that lies apart from those that it names
 abbrev pub IsBeside : (List ℕ → List ℕ) → Layout → ℕ → Table → Type 0
@@ -38,7 +38,7 @@ IsBeside names l n table = All (λ m. IsPage l m × (m ≢ n)) (names table.body
 -- no open table of these bytes that counts names the page
 abbrev pub IsUnnamed : (List ℕ → List ℕ) → Layout → ℕ → List ℕ → Type 0
 IsUnnamed names l n c =
-    (k : Bool) (table : Table) → standing l c ≡ counts k table → IsBeside names l n table
+    (k : Bool) (table : Table) → tables_standing l c ≡ counts k table → IsBeside names l n table
 
 -- a page that may be written: no open table of any image names it
 pub record IsFree (names : List ℕ → List ℕ) (l : Layout) (n : ℕ) (disk : DiskState) : Type 0 where

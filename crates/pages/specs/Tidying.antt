@@ -6,7 +6,7 @@ use Rattle.dr_disk.specs.Calls.{IsWrittenOver}
 use Rattle.pages.specs.declared.layout.Layout.{Layout}
 use Rattle.pages.specs.declared.layout.TheConstants.{OPEN}
 use Rattle.pages.specs.Layouts.{IsPage, IsSound, blank_page, table_place}
-use Rattle.pages.specs.Tables.{Comes, Table, counts, is_open, open_table, standing, table_at, wiped}
+use Rattle.pages.specs.Tables.{Comes, Table, counts, is_open, open_table, tables_standing, table_at, wiped}
 use Rattle.pages.specs.Snapshots.{page_of}
 use Rattle.pages.specs.Clearing.{AreUnmarked}
 
@@ -33,11 +33,11 @@ IsBlankTable l k c = (table_at l k c).body ≡ replicate (l.table - 1) 0
 
 -- the pages that count are pages of the layout
 abbrev pub AreNamed : (List ℕ → List ℕ) → Layout → List ℕ → Type 0
-AreNamed names l c = (k : Bool) (table : Table) → standing l c ≡ counts k table
+AreNamed names l c = (k : Bool) (table : Table) → tables_standing l c ≡ counts k table
     → All (IsPage l) (names table.body)
 
 -- a disk that has the layout, and where what counts names pages of it
-pub record IsReady (names : List ℕ → List ℕ) (l : Layout) (disk : DiskState) : Type 0 where
+pub record HasSoundLayout (names : List ℕ → List ℕ) (l : Layout) (disk : DiskState) : Type 0 where
   pub sound : IsSound l disk.size
   pub named : Always (AreNamed names l) disk
 
@@ -47,7 +47,7 @@ pub record IsToTidy
     (names : List ℕ → List ℕ) (l : Layout) (k : Bool) (gate : ℕ) (blank : Bool) (named : List Bool)
     (disk : DiskState)
     : Type 0 where
-  pub ready : IsReady names l disk
+  pub ready : HasSoundLayout names l disk
   pub settled : IsSettled disk
   pub unnamed : AreUnmarked names l named disk
   pub gate_is : Always (HasGateAt l k gate) disk

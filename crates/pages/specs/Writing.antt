@@ -79,7 +79,7 @@ pub record AreWritten
 -- ---- what stays meanwhile
 
 -- the tables and the named pages are as they were, and so is what lies around
-pub record IsStaged (names : List ℕ → List ℕ) (l : Layout) (was : Snapshot) (start : DiskState)
+pub record KeepsNamed (names : List ℕ → List ℕ) (l : Layout) (was : Snapshot) (start : DiskState)
     (c : List ℕ)
     : Type 0 where
   pub still : IsStill names l was c
@@ -88,8 +88,8 @@ pub record IsStaged (names : List ℕ → List ℕ) (l : Layout) (was : Snapshot
 pub record IsStaging (names : List ℕ → List ℕ) (l : Layout) (was : Snapshot) (start now : DiskState)
     : Type 0
   where
-    pub during : Span start now (IsStaged names l was start)
-    pub still : Always (IsStaged names l was start) now
+    pub during : Span start now (KeepsNamed names l was start)
+    pub still : Always (KeepsNamed names l was start) now
 
 -- some of these pages were written, and nothing that counts has changed
 pub record Stages (names : List ℕ → List ℕ) (l : Layout) (numbers : List ℕ) (start now : DiskState)

@@ -2,7 +2,7 @@
 
 ghost use Rattle.std.specs.Prelude.{[], ℕ, List};
 ghost use Rattle.pages.specs.Layouts.{IsSound};
-ghost use Rattle.pages.specs.Runs.{Runs};
+ghost use Rattle.pages.specs.Runs.{RunsCalls};
 ghost use Rattle.pages.specs.Snapshots.{Snapshot};
 ghost use Rattle.pages.specs.Tables.{IsBody};
 ghost use Rattle.pages.specs.Stops.{puts};
@@ -26,7 +26,7 @@ pub fn commit<T: Directory, D: Disk>(
         → IsReadyFor T.names layout second body.now was pages (D.state disk.old)
         → TakesPlace T.names layout [] was (next_shot was body.now pages)
         (D.state disk.old) (D.state disk.new) result }
-    ensures runs { Runs layout (puts 0) (D.state disk.old) (D.state disk.new) result }
+    ensures runs { RunsCalls layout (puts 0) (D.state disk.old) (D.state disk.new) result }
 {
     let at = place(layout, !second);
     if let Err(call) = write_synced(disk, at + 1, body) {

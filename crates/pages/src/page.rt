@@ -6,7 +6,7 @@ ghost use Rattle.dr_disk.specs.Spans.{ReadsOutside, Span};
 ghost use Rattle.dr_disk.specs.Bytes.{overwritten_told};
 ghost use Rattle.dr_disk.specs.Called.{Called, itself};
 ghost use Rattle.pages.specs.Layouts.{IsPage, IsSound, page_place};
-ghost use Rattle.pages.specs.Runs.{Looks};
+ghost use Rattle.pages.specs.Runs.{ReadsAlone};
 ghost use Rattle.pages.specs.Snapshots.{IsFree, IsSameShot, StaysUnnamed, page_of};
 
 use crate::directory::Directory;
@@ -58,7 +58,7 @@ pub fn read_page<D: Disk>(
     requires long { length into.old ≡ PAGE }
     ensures bytes { OnOk result (OnSeen (λ s. into.new ≡ page_of layout s number)
         (D.state disk.old)) }
-    ensures looks { Looks (D.state disk.old) (D.state disk.new) result }
+    ensures looks { ReadsAlone (D.state disk.old) (D.state disk.new) result }
 {
     let at = page_at(layout, number);
     let Ok(()) = disk.read(at, into) else {

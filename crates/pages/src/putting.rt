@@ -1,7 +1,7 @@
 //! Pages are written, and then the table that names them takes the place of the one that counts.
 
 ghost use Rattle.std.specs.Prelude.{ℕ, List, length};
-ghost use Rattle.pages.specs.Runs.{Runs};
+ghost use Rattle.pages.specs.Runs.{RunsCalls};
 ghost use Rattle.pages.specs.Snapshots.{Snapshot};
 ghost use Rattle.pages.specs.Tables.{IsBody};
 ghost use Rattle.pages.specs.Writing.{AreToWrite, piece_at};
@@ -33,7 +33,7 @@ pub fn put<T: Directory, D: Disk>(
         (D.state disk.old)
         → TakesPlace T.names layout numbers.now was (next_shot was body.now next)
         (D.state disk.old) (D.state disk.new) result }
-    ensures runs { Runs layout (puts (length numbers.now))
+    ensures runs { RunsCalls layout (puts (length numbers.now))
         (D.state disk.old) (D.state disk.new) result }
 {
     match write_pages::<T, D>(disk, layout, numbers, places, pages) {

@@ -2,7 +2,7 @@
 
 ghost use Rattle.std.specs.Prelude.{ℕ, List, length};
 ghost use Rattle.dr_disk.specs.State.{Always};
-ghost use Rattle.pages.specs.Runs.{Runs};
+ghost use Rattle.pages.specs.Runs.{RunsCalls};
 ghost use Rattle.pages.specs.Tables.{AreZeros, Table};
 ghost use Rattle.pages.specs.Writing.{AreFree};
 ghost use Rattle.pages.specs.Stops.{retires};
@@ -32,7 +32,7 @@ pub fn retire<T: Directory, D: Disk>(
         → Retires T.names layout dropped.now
         (record { second = second; table = table; pages = pages })
         (D.state disk.old) (D.state disk.new) result }
-    ensures runs { Runs layout (retires (length dropped.now))
+    ensures runs { RunsCalls layout (retires (length dropped.now))
         (D.state disk.old) (D.state disk.new) result }
 {
     match close(disk, layout, !second) {

@@ -8,7 +8,7 @@ ghost use Rattle.pages.specs.Layouts.{table_place};
 ghost use Rattle.pages.specs.Runs.{IsUntouched, WritesNone};
 ghost use Rattle.pages.specs.Tables.{AreZeros, IsBody};
 ghost use Rattle.pages.specs.Clearing.{AreReadBlank, KeepsShots};
-ghost use Rattle.pages.specs.Tidying.{HasClosed, IsClosed, IsMute, IsReady, IsTidied, IsToTidy};
+ghost use Rattle.pages.specs.Tidying.{HasClosed, IsClosed, IsMute, HasSoundLayout, IsTidied, IsToTidy};
 
 use crate::clearing::{either, wipe_unnamed};
 use crate::directory::Directory;
@@ -24,7 +24,7 @@ fn shut<T: Directory, D: Disk>(
     second: bool,
     gate: u8,
 ) -> Result<u8, Call>
-    requires ready { IsReady T.names layout (D.state disk.old) }
+    requires ready { HasSoundLayout T.names layout (D.state disk.old) }
     requires mute { gate ≡ OPEN → Always (IsMute layout second) (D.state disk.old) }
     ensures shots { KeepsShots T.names layout (D.state disk.old) (D.state disk.new) result }
     ensures stands { IfOk result (λ stands. stands ≡ (if gate == OPEN then 0 else gate)) }
@@ -49,7 +49,7 @@ fn clear_rest<T: Directory, D: Disk>(
     blank: bool,
     zeros: &[u8],
 ) -> Result<(), Call>
-    requires ready { IsReady T.names layout (D.state disk.old) }
+    requires ready { HasSoundLayout T.names layout (D.state disk.old) }
     requires long { IsBody layout zeros.now }
     requires closed { Always (IsClosed layout second) (D.state disk.old) }
     ensures shots { KeepsShots T.names layout (D.state disk.old) (D.state disk.new) result }
@@ -89,7 +89,7 @@ fn clear_if<T: Directory, D: Disk>(
     second: bool,
     gate: u8,
 ) -> Result<(), Call>
-    requires ready { IsReady T.names layout (D.state disk.old) }
+    requires ready { HasSoundLayout T.names layout (D.state disk.old) }
     requires mute { Always (IsMute layout second) (D.state disk.old) }
     ensures shots { KeepsShots T.names layout (D.state disk.old) (D.state disk.new) result }
     ensures closed { gate ≢ 0

@@ -8,22 +8,22 @@ use Rattle.dr_ports.specs.Wires.{Port}
 use Rattle.endings.specs.declared.ending.Ending.TheVariants.{Done}
 use Rattle.endings.proofs.Closing.{ends_cut}
 use Rattle.relay_core.specs.Record.{box_text}
-use Rattle.relay_server.specs.Durable.{IsReady, ServerNow}
-use Rattle.relay_command.specs.Connections.{Connection, Standing, port_line}
-use Rattle.relay_command.specs.Serving.{HaveCome, Runs, relay_lines, standing, went_on}
+use Rattle.relay_server.specs.Durable.{IsServerReady, ServerNow}
+use Rattle.relay_command.specs.Connections.{Connection, ConnectionStanding, port_line}
+use Rattle.relay_command.specs.Serving.{HaveCome, RelayRuns, relay_lines, entry_standing, went_on}
 use Rattle.relay_command.proofs.Rounds.{SoFar, never, nothing_came, rests_as}
 
 module _ (turns : List Connection → Type 0) (none : turns []) (port count : ℕ) (server : ServerNow) (start : DiskState) (door : Port) (old : SinkState)
-    (ready : IsReady box_text server start) where
-  abbrev first : Standing
-  first = standing server.boxes door
+    (ready : IsServerReady box_text server start) where
+  abbrev first : ConnectionStanding
+  first = entry_standing server.boxes door
 
   come : HaveCome never turns first [] start start door
   come = nothing_came turns first start door none refl refl
 
   -- the line couldn't be written
   pub unwritten : (new : SinkState) → TookBeginning old.taken new.taken (port_line port) → Rose old.faults new.faults
-      → Runs turns first port count start start door door old new 5
+      → RelayRuns turns first port count start start door door old new 5
   unwritten new took rose = record {
     ending = Done;
     lines = relay_lines port first [];

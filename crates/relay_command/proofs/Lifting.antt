@@ -9,11 +9,11 @@ use Rattle.endings.specs.declared.ending.Ending.{Ending}
 use Rattle.relay_server.specs.Places.{IsSameBehind, SameBehind}
 use Rattle.relay_server.specs.Opening.{IsOpening}
 use Rattle.relay_server.proofs.Behind.{behind_twice}
-use Rattle.relay_command.specs.Connections.{Connection, HasRisen, Standing}
-use Rattle.relay_command.specs.Serving.{HaveCome, Serves, WereServed, was_stopped, was_unaccepted, went_on}
+use Rattle.relay_command.specs.Connections.{Connection, HasRisen, ConnectionStanding}
+use Rattle.relay_command.specs.Serving.{HaveCome, ServesConnections, WereServed, was_stopped, was_unaccepted, went_on}
 use Rattle.relay_command.proofs.Rounds.{never}
 
-module _ (words : List (List ℕ)) (turns : List Connection → Type 0) (s : Standing) (start mid now : DiskState) (from door : Port) (sized : length s.boxes ≡ length words) (span : Span start mid (IsOpening words start)) (quiet : IsQuiet start mid) where
+module _ (words : List (List ℕ)) (turns : List Connection → Type 0) (s : ConnectionStanding) (start mid now : DiskState) (from door : Port) (sized : length s.boxes ≡ length words) (span : Span start mid (IsOpening words start)) (quiet : IsQuiet start mid) where
   -- what an opening leaves after the areas
   same_behind : (c : List ℕ) → IsOpening words start c → IsSameBehind (length s.boxes) start c
   same_behind c is = (is.entry, is.image, subst (λ (n : ℕ). SameBehind n is.entry c) (sym sized) is.outside)
@@ -43,13 +43,13 @@ module _ (words : List (List ℕ)) (turns : List Connection → Type 0) (s : Sta
   }
 
 -- they come once the door listens
-module _ (words : List (List ℕ)) (turns : List Connection → Type 0) (s : Standing) (start mid now : DiskState) (from heard door : Port) (sized : length s.boxes ≡ length words)
+module _ (words : List (List ℕ)) (turns : List Connection → Type 0) (s : ConnectionStanding) (start mid now : DiskState) (from heard door : Port) (sized : length s.boxes ≡ length words)
     (span : Span start mid (IsOpening words start)) (quiet : IsQuiet start mid) (gate_is : heard.faults Gate ≡ from.faults Gate) (port count code : ℕ) where
   abbrev served : (xs : List Connection) → WereServed never turns s xs mid now door → WereServed (IsOpening words start) turns s xs start now door
   served = lift_served words turns s start mid now from door sized span quiet
 
-  pub lift : (ending : Ending) (lines : List ℕ) → Serves never turns s port count mid now heard door code ending lines
-      → Serves (IsOpening words start) turns s port count start now from door code ending lines
+  pub lift : (ending : Ending) (lines : List ℕ) → ServesConnections never turns s port count mid now heard door code ending lines
+      → ServesConnections (IsOpening words start) turns s port count start now from door code ending lines
   lift ending lines (was_unaccepted xs were less rose) = was_unaccepted xs (served xs were) less (subst (λ (n : ℕ). HasRisen n (door.faults Gate)) gate_is rose)
   lift ending lines (was_stopped xs x call come each stopped less rose gate) =
       was_stopped xs x call (lift_come words turns s start mid now from door sized span quiet (xs ++ x ∷ []) come) each stopped less

@@ -14,14 +14,14 @@ use Rattle.relay_core.specs.Record.{box_text}
 use Rattle.relay_server.specs.Durable.{ServerNow}
 use Rattle.relay_server.specs.Filling.{IsFilling}
 use Rattle.relay_server.specs.Looking.{HasSettled}
-use Rattle.relay_server.specs.Opening.{IsOpened, IsOpening}
+use Rattle.relay_server.specs.Opening.{IsServerOpened, IsOpening}
 use Rattle.relay_server.proofs.FrameByFrame.{at_rest}
 use Rattle.relay_server.proofs.OpenedBoxes.{fault_then, opened_then, settled_moments}
-use Rattle.relay_command.specs.Connections.{Connection, IsHeard, IsUnheard, Standing, listening}
+use Rattle.relay_command.specs.Connections.{Connection, IsHeard, CouldNotListen, ConnectionStanding, listening}
 use Rattle.relay_command.specs.InTurn.{CameInTurn}
 use Rattle.relay_command.specs.Names.{AreNames}
 use Rattle.relay_command.specs.Relaying.{Looks, Relays, RunsRelay, was_opened, was_unheard, was_unopened, was_unsettled}
-use Rattle.relay_command.specs.Serving.{Runs, Serves, standing}
+use Rattle.relay_command.specs.Serving.{RelayRuns, ServesConnections, entry_standing}
 use Rattle.relay_command.proofs.Lifting.{lift}
 use Rattle.relay_command.proofs.Rounds.{never}
 
@@ -38,7 +38,7 @@ module _ {X Y : Type 0} (state : X → DiskState) (port_of : Y → Port) (words 
 
   module _ (looked : ServerNow) (looks : Looks words (state start) (state mid) (Ok looked)) where
     -- the port was taken
-    pub unheard_runs : (door : Y) → IsUnheard (port_of from) (port_of door) → Ends LinkFault [] old new code
+    pub unheard_runs : (door : Y) → CouldNotListen (port_of from) (port_of door) → Ends LinkFault [] old new code
         → RunsRelay state port_of words port count start mid from door old new code
     unheard_runs door unheard ends = record { ending = LinkFault; lines = []; came = was_unheard names looked looks.0 looks.1 unheard; ends = ends }
 
@@ -59,29 +59,29 @@ module _ {X Y : Type 0} (state : X → DiskState) (port_of : Y → Port) (words 
 
       -- the boxes were opened, and their connections served
       module _ (server : ServerNow) (settled : HasSettled looked server (state mid) (state opened)) where
-        is_opened : IsOpened words server (state start) (state opened)
+        is_opened : IsServerOpened words server (state start) (state opened)
         is_opened = opened_then words (state start) (state mid) (state opened) looked looks.0 looks.1 span server settled
 
-        abbrev first : Standing
-        first = listening port (standing server.boxes (port_of from))
+        abbrev first : ConnectionStanding
+        first = listening port (entry_standing server.boxes (port_of from))
 
         -- what stands before the first connection
-        first_is : standing server.boxes (port_of heard) ≡ first
+        first_is : entry_standing server.boxes (port_of heard) ≡ first
         first_is =
             ap (λ (t : Option Told). record { boxes = server.boxes; told = t; faults = (port_of heard).faults Flow }) is_heard.told
             ∙ ap (λ (n : ℕ). record first { faults = n }) is_heard.flow
 
-        abbrev Turns : X → Standing → List Connection → Type 0
+        abbrev Turns : X → ConnectionStanding → List Connection → Type 0
         Turns now s xs = CameInTurn state port_of s opened xs now
 
         pub opened_runs : (now : X) (door : Y)
-            → Runs (Turns now (standing server.boxes (port_of heard))) (standing server.boxes (port_of heard)) port count (state opened) (state now) (port_of heard) (port_of door) old new code
+            → RelayRuns (Turns now (entry_standing server.boxes (port_of heard))) (entry_standing server.boxes (port_of heard)) port count (state opened) (state now) (port_of heard) (port_of door) old new code
             → RunsRelay state port_of words port count start now from door old new code
         opened_runs now door runs = record {
           ending = runs.ending;
           lines = runs.lines;
           came = was_opened names server.boxes is_opened.boxes opened moments (at_rest box_text server.boxes server (state opened) refl is_opened.ready) runs.ending runs.lines
               (lift words (Turns now first) first (state start) (state opened) (state now) (port_of from) (port_of heard) (port_of door) is_opened.boxes.count moments is_opened.quiet is_heard.gate port count code runs.ending runs.lines
-              (subst (λ (s : Standing). Serves never (Turns now s) s port count (state opened) (state now) (port_of heard) (port_of door) code runs.ending runs.lines) first_is runs.came));
+              (subst (λ (s : ConnectionStanding). ServesConnections never (Turns now s) s port count (state opened) (state now) (port_of heard) (port_of door) code runs.ending runs.lines) first_is runs.came));
           ends = runs.ends;
         }

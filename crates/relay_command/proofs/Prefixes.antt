@@ -8,7 +8,7 @@ use Rattle.relay_wire.proofs.Joining.{flat, frames_join}
 use Rattle.relay_wire.proofs.Splitting.{each}
 use Rattle.relay_core.specs.declared.limits.TheConstants.{EXCHANGE_LIMIT}
 use Rattle.relay_core.specs.Boxes.{Box}
-use Rattle.relay_core.specs.Streams.{Exchange, Served, and_then, boxes_after, exchange_of, is_last, nothing_served, reply_bytes, reply_frame, served, served_within}
+use Rattle.relay_core.specs.Streams.{Exchange, Served, exchange_then, boxes_after, exchange_of, is_last, nothing_served, reply_bytes, reply_frame, served, served_within}
 
 -- more exchanges after those
 abbrev GoesOn : Served → Served → Type 0
@@ -20,8 +20,8 @@ within_on (suc n) boxes [] more = ((served_within (suc n) boxes more).exchanges,
 within_on (suc n) boxes (frame ∷ frames) more = by (is_last (read_request (drop 2 frame))) (within_on n (boxes_after boxes frame) frames more)
   where
     by : (last : Bool) → GoesOn (served_within n (boxes_after boxes frame) frames) (served_within n (boxes_after boxes frame) (frames ++ more))
-        → GoesOn (and_then (exchange_of boxes frame) (if last then nothing_served (boxes_after boxes frame) else served_within n (boxes_after boxes frame) frames))
-        (and_then (exchange_of boxes frame) (if last then nothing_served (boxes_after boxes frame) else served_within n (boxes_after boxes frame) (frames ++ more)))
+        → GoesOn (exchange_then (exchange_of boxes frame) (if last then nothing_served (boxes_after boxes frame) else served_within n (boxes_after boxes frame) frames))
+        (exchange_then (exchange_of boxes frame) (if last then nothing_served (boxes_after boxes frame) else served_within n (boxes_after boxes frame) (frames ++ more)))
     by true on = ([], refl)
     by false on = (on.0, ap (λ (es : List Exchange). exchange_of boxes frame ∷ es) on.1)
 

@@ -12,21 +12,21 @@ use Rattle.endings.specs.Ends.{Ends}
 use Rattle.endings.specs.declared.ending.Ending.{Ending}
 use Rattle.relay_server.specs.declared.errors.ServerOpenError.{ServerOpenError}
 use Rattle.relay_server.specs.declared.errors.ServerOpenError.TheVariants.{BoxName, Damaged, Memory, StoreFault}
-use Rattle.relay_command.specs.Connections.{AreServed, Connection, Sent, Standing, Went, behind, behind_all, ended, failed, stopped}
-use Rattle.relay_command.specs.Serving.{Serves, was_stopped, was_unaccepted, went_on}
-use Rattle.relay_command.specs.Relaying.{Relays, RunsRelay, ending_of_open, had_bad_box, was_opened, was_unheard, was_unopened, was_unsettled}
+use Rattle.relay_command.specs.Connections.{AreServed, Connection, SentReplies, ConnectionStanding, HowItWent, after_connection, behind_all, ended, failed, stopped}
+use Rattle.relay_command.specs.Serving.{ServesConnections, was_stopped, was_unaccepted, went_on}
+use Rattle.relay_command.specs.Relaying.{Relays, RunsRelay, ending_after_look, had_bad_box, was_opened, was_unheard, was_unopened, was_unsettled}
 use Rattle.relay_command.proofs.Connections.{behind_more}
 
 -- ---- status 0
 
-open_code : (error : ServerOpenError) → code_of (ending_of_open error) ≡ 0 → ⊥
+open_code : (error : ServerOpenError) → code_of (ending_after_look error) ≡ 0 → ⊥
 open_code Memory e = omega (arith, e)
 open_code (StoreFault call) e = omega (arith, e)
 open_code (Damaged area slot at) e = omega (arith, e)
 open_code (BoxName k) e = omega (arith, e)
 
-serves_quiet : (earlier : List ℕ → Type 0) (turns : List Connection → Type 0) (s : Standing) (port count : ℕ) (start now : DiskState) (from door : Port) (code : ℕ) (ending : Ending) (lines : List ℕ)
-    → Serves earlier turns s port count start now from door code ending lines → code_of ending ≡ 0 → IsQuiet start now × (door.faults Gate ≡ from.faults Gate)
+serves_quiet : (earlier : List ℕ → Type 0) (turns : List Connection → Type 0) (s : ConnectionStanding) (port count : ℕ) (start now : DiskState) (from door : Port) (code : ℕ) (ending : Ending) (lines : List ℕ)
+    → ServesConnections earlier turns s port count start now from door code ending lines → code_of ending ≡ 0 → IsQuiet start now × (door.faults Gate ≡ from.faults Gate)
 serves_quiet earlier turns s port count start now from door code ending lines (was_unaccepted xs were less rose) e = absurd (omega (arith, e))
 serves_quiet earlier turns s port count start now from door code ending lines (was_stopped xs x call come each stop less rose gate) e = absurd (omega (arith, e))
 serves_quiet earlier turns s port count start now from door code ending lines (went_on xs were most full gate) e = (were.quiet, gate)
@@ -55,21 +55,21 @@ relay_quiet state port_of words port count start now from door old new code runs
 
 -- ---- counts
 
-sent_later : (s : Standing) (x : Connection) (went : Went) → Sent s x went → s.faults ≤ x.faults
+sent_later : (s : ConnectionStanding) (x : Connection) (went : HowItWent) → SentReplies s x went → s.faults ≤ x.faults
 sent_later s x ended sent = omega (arith, sent.2)
 sent_later s x failed sent = sent.2.0
 sent_later s x stopped sent = absurd sent
 
-each_later : (s : Standing) (xs : List Connection) → AreServed s xs → s.faults ≤ (behind_all s xs).faults
+each_later : (s : ConnectionStanding) (xs : List Connection) → AreServed s xs → s.faults ≤ (behind_all s xs).faults
 each_later s [] each = omega arith
-each_later s (x ∷ xs) each = let first = sent_later s x x.went each.0 in let next = each_later (behind s x) xs each.1 in omega (arith, first, next)
+each_later s (x ∷ xs) each = let first = sent_later s x x.went each.0 in let next = each_later (after_connection s x) xs each.1 in omega (arith, first, next)
 
-serves_later : (earlier : List ℕ → Type 0) (turns : List Connection → Type 0) (s : Standing) (port count : ℕ) (start now : DiskState) (from door : Port) (code : ℕ) (ending : Ending) (lines : List ℕ) → from.faults Flow ≡ s.faults
-    → Serves earlier turns s port count start now from door code ending lines → (part : Part) → from.faults part ≤ door.faults part
+serves_later : (earlier : List ℕ → Type 0) (turns : List Connection → Type 0) (s : ConnectionStanding) (port count : ℕ) (start now : DiskState) (from door : Port) (code : ℕ) (ending : Ending) (lines : List ℕ) → from.faults Flow ≡ s.faults
+    → ServesConnections earlier turns s port count start now from door code ending lines → (part : Part) → from.faults part ≤ door.faults part
 serves_later earlier turns s port count start now from door code ending lines same (was_unaccepted xs were less rose) Flow = omega (arith, same, were.come.faults, each_later s xs were.each)
 serves_later earlier turns s port count start now from door code ending lines same (was_unaccepted xs were less rose) Gate = rose.0
 serves_later earlier turns s port count start now from door code ending lines same (was_stopped xs x call come each stop less rose gate) Flow =
-    omega (arith, same, come.faults, ap (λ (t : Standing). t.faults) (behind_more s xs x), each_later s xs each, stop.later)
+    omega (arith, same, come.faults, ap (λ (t : ConnectionStanding). t.faults) (behind_more s xs x), each_later s xs each, stop.later)
 serves_later earlier turns s port count start now from door code ending lines same (was_stopped xs x call come each stop less rose gate) Gate = omega (arith, gate)
 serves_later earlier turns s port count start now from door code ending lines same (went_on xs were most full gate) Flow = omega (arith, same, were.come.faults, each_later s xs were.each)
 serves_later earlier turns s port count start now from door code ending lines same (went_on xs were most full gate) Gate = omega (arith, gate)
@@ -85,8 +85,8 @@ door_later state port_of words port count start now from door code ending lines 
 door_later state port_of words port count start now from door code ending lines (was_opened names boxes read opened span rests ending' lines' serves) part =
     serves_later _ _ _ _ _ _ _ _ _ _ _ _ refl serves part
 
-serves_counts : (earlier : List ℕ → Type 0) (turns : List Connection → Type 0) (s : Standing) (port count : ℕ) (start now : DiskState) (from door : Port) (code : ℕ) (ending : Ending) (lines : List ℕ)
-    → Serves earlier turns s port count start now from door code ending lines → (call : Call) → start.faults call ≤ now.faults call
+serves_counts : (earlier : List ℕ → Type 0) (turns : List Connection → Type 0) (s : ConnectionStanding) (port count : ℕ) (start now : DiskState) (from door : Port) (code : ℕ) (ending : Ending) (lines : List ℕ)
+    → ServesConnections earlier turns s port count start now from door code ending lines → (call : Call) → start.faults call ≤ now.faults call
 serves_counts earlier turns s port count start now from door code ending lines (was_unaccepted xs were less rose) call = were.come.during.counts call
 serves_counts earlier turns s port count start now from door code ending lines (was_stopped xs x c come each stop less rose gate) call = come.during.counts call
 serves_counts earlier turns s port count start now from door code ending lines (went_on xs were most full gate) call = were.come.during.counts call

@@ -15,40 +15,40 @@ use Rattle.endings.specs.declared.ending.Ending.TheVariants.{DiskFault, Done, Li
 use Rattle.endings.proofs.Closing.{ends_behind, ends_cut}
 use Rattle.relay_core.specs.Boxes.{Box}
 use Rattle.relay_core.specs.Record.{box_text}
-use Rattle.relay_server.specs.Durable.{IsReady, ServerNow}
+use Rattle.relay_server.specs.Durable.{IsServerReady, ServerNow}
 use Rattle.relay_server.specs.Places.{IsSameBehind, SameBehind}
 use Rattle.relay_server.specs.Serving.{Reached}
 use Rattle.relay_server.proofs.Behind.{behind_twice}
 use Rattle.relay_command.specs.declared.connecting.Connected.{Connected}
 use Rattle.relay_command.specs.declared.connecting.Fault.{Fault}
 use Rattle.relay_command.specs.declared.connecting.Fault.TheVariants.{Accept, Store}
-use Rattle.relay_command.specs.Connections.{AreServed, Connection, HasRisen, Sent, Standing, behind, behind_all, lines_behind, port_line}
-use Rattle.relay_command.specs.Serving.{HaveCome, IsStopped, Runs, WereServed, relay_lines, standing, was_stopped, was_unaccepted, went_on}
-use Rattle.relay_command.specs.Turns.{IsServedTurn, IsTurn, Turns, ending_of_fault, line_of}
+use Rattle.relay_command.specs.Connections.{AreServed, Connection, HasRisen, SentReplies, ConnectionStanding, after_connection, behind_all, lines_behind, port_line}
+use Rattle.relay_command.specs.Serving.{HaveCome, IsConnectionStopped, RelayRuns, WereServed, relay_lines, entry_standing, was_stopped, was_unaccepted, went_on}
+use Rattle.relay_command.specs.Turns.{IsServedTurn, IsTurn, Turns, closing_of_fault, line_of}
 use Rattle.relay_command.proofs.Connections.{behind_more, line_is, lines_more, own_line, reached_before, reached_last, served_more}
 
 abbrev pub never : List ℕ → Type 0
 never c = ⊥
 
 -- n connections were served, and their lines written
-pub record SoFar (turns : List Connection → Type 0) (s : Standing) (port n : ℕ) (server : ServerNow) (start now : DiskState) (from door : Port) (old new : SinkState) : Type 0 where
+pub record SoFar (turns : List Connection → Type 0) (s : ConnectionStanding) (port n : ℕ) (server : ServerNow) (start now : DiskState) (from door : Port) (old new : SinkState) : Type 0 where
   pub xs : List Connection
   pub count : length xs ≡ n
   pub come : HaveCome never turns s xs start now door
   pub each : AreServed s xs
   pub boxes : server.boxes ≡ (behind_all s xs).boxes
   pub sized : length server.boxes ≡ length s.boxes
-  pub ready : IsReady box_text server now
+  pub ready : IsServerReady box_text server now
   pub quiet : IsQuiet start now
   pub gate : door.faults Gate ≡ from.faults Gate
   pub wrote : new.taken ≡ appended old.taken (relay_lines port s xs)
   pub writes : new.faults ≡ old.faults
 
 -- no call was made on the disk
-pub nothing_came : (turns : List Connection → Type 0) (s : Standing) (start : DiskState) (door : Port) → turns [] → door.told ≡ s.told → door.faults Flow ≡ s.faults → HaveCome never turns s [] start start door
+pub nothing_came : (turns : List Connection → Type 0) (s : ConnectionStanding) (start : DiskState) (door : Port) → turns [] → door.told ≡ s.told → door.faults Flow ≡ s.faults → HaveCome never turns s [] start start door
 nothing_came turns s start door none told faults = record { told = told; faults = faults; in_turn = none; during = stays start _ }
 
-pub still_came : (turns later_turns : List Connection → Type 0) (s : Standing) (xs : List Connection) (start mid now : DiskState) (door later : Port) → HaveCome never turns s xs start mid door → later_turns xs → later.told ≡ door.told → later.faults Flow ≡ door.faults Flow
+pub still_came : (turns later_turns : List Connection → Type 0) (s : ConnectionStanding) (xs : List Connection) (start mid now : DiskState) (door later : Port) → HaveCome never turns s xs start mid door → later_turns xs → later.told ≡ door.told → later.faults Flow ≡ door.faults Flow
     → Span mid now (λ c. ⊥) → HaveCome never later_turns s xs start now later
 still_came turns later_turns s xs start mid now door later come in_turn told faults still = record {
   told = told ∙ come.told;
@@ -57,19 +57,19 @@ still_came turns later_turns s xs start mid now door later come in_turn told fau
   during = spans start mid now _ come.during (widen mid now _ _ (λ c none. absurd none) still);
 }
 
-pub rests_as : (turns : List Connection → Type 0) (s : Standing) (xs : List Connection) (start now : DiskState) (door : Port) (server : ServerNow) → HaveCome never turns s xs start now door → AreServed s xs → server.boxes ≡ (behind_all s xs).boxes → IsReady box_text server now
+pub rests_as : (turns : List Connection → Type 0) (s : ConnectionStanding) (xs : List Connection) (start now : DiskState) (door : Port) (server : ServerNow) → HaveCome never turns s xs start now door → AreServed s xs → server.boxes ≡ (behind_all s xs).boxes → IsServerReady box_text server now
     → IsQuiet start now → WereServed never turns s xs start now door
 rests_as turns s xs start now door server come each boxes ready quiet = record {
   come = come;
   each = each;
-  rests = record { stores = server.stores; ready = subst (λ (bs : List Box). IsReady box_text (record { boxes = bs; stores = server.stores }) now) boxes ready };
+  rests = record { stores = server.stores; ready = subst (λ (bs : List Box). IsServerReady box_text (record { boxes = bs; stores = server.stores }) now) boxes ready };
   quiet = quiet;
 }
 
-module _ (turns : List Connection → Type 0) (s : Standing) (port n : ℕ) (server : ServerNow) (start mid : DiskState) (from door : Port) (old out : SinkState)
+module _ (turns : List Connection → Type 0) (s : ConnectionStanding) (port n : ℕ) (server : ServerNow) (start mid : DiskState) (from door : Port) (old out : SinkState)
     (so : SoFar turns s port n server start mid from door old out) where
   -- what stands before the next connection
-  pub here : standing server.boxes door ≡ behind_all s so.xs
+  pub here : entry_standing server.boxes door ≡ behind_all s so.xs
   here =
       ap (λ (bs : List Box). record { boxes = bs; told = door.told; faults = door.faults Flow }) so.boxes
       ∙ ap (λ (t : Option Told). record { boxes = (behind_all s so.xs).boxes; told = t; faults = door.faults Flow }) so.come.told
@@ -85,15 +85,15 @@ module _ (turns : List Connection → Type 0) (s : Standing) (port n : ℕ) (ser
     come_more : (next : List Connection → Type 0) → next (so.xs ++ x ∷ []) → HaveCome never next s (so.xs ++ x ∷ []) start now later
     come_more next in_turn = record {
       in_turn = in_turn;
-      told = turn.told ∙ ap (λ (t : Standing). (behind t x).told) here ∙ ap (λ (t : Standing). t.told) (sym (behind_more s so.xs x));
-      faults = turn.faults ∙ ap (λ (t : Standing). t.faults) (sym (behind_more s so.xs x));
+      told = turn.told ∙ ap (λ (t : ConnectionStanding). (after_connection t x).told) here ∙ ap (λ (t : ConnectionStanding). t.told) (sym (behind_more s so.xs x));
+      faults = turn.faults ∙ ap (λ (t : ConnectionStanding). t.faults) (sym (behind_more s so.xs x));
       during = spans start mid now _
           (widen start mid _ _ (λ c is. (⊎_elim (λ none. absurd none) (λ was. inr (reached_before s so.xs x c was)) is.0, is.1)) so.come.during)
           (widen mid now _ _ (λ c is. (inr (reached_last s so.xs x c (subst (λ (bs : List Box). Reached box_text bs x.got c) so.boxes is.0)), outside c is.1)) turn.during);
     }
 
     boxes_more : new.boxes ≡ (behind_all s (so.xs ++ x ∷ [])).boxes
-    boxes_more = turn.next ∙ ap (λ (t : Standing). (behind t x).boxes) here ∙ ap (λ (t : Standing). t.boxes) (sym (behind_more s so.xs x))
+    boxes_more = turn.next ∙ ap (λ (t : ConnectionStanding). (after_connection t x).boxes) here ∙ ap (λ (t : ConnectionStanding). t.boxes) (sym (behind_more s so.xs x))
 
     count_more : length (so.xs ++ x ∷ []) ≡ n + 1
     count_more = omega (arith, length-append {A = Connection} so.xs (x ∷ []), so.count)
@@ -104,13 +104,13 @@ module _ (turns : List Connection → Type 0) (s : Standing) (port n : ℕ) (ser
     came_then = come_more order new now later t.x t.turn next (one t.x so.come.in_turn t.turn.in_order)
 
     each_more : AreServed s (so.xs ++ t.x ∷ [])
-    each_more = served_more s so.xs t.x so.each (subst (λ (st : Standing). Sent st t.x t.x.went) here t.sent)
+    each_more = served_more s so.xs t.x so.each (subst (λ (st : ConnectionStanding). SentReplies st t.x t.x.went) here t.sent)
 
     lines_then : relay_lines port s so.xs ++ line_of (n + 1) connected ≡ relay_lines port s (so.xs ++ t.x ∷ [])
     lines_then =
         append_assoc (port_line port) (lines_behind 0 s so.xs) (line_of (n + 1) connected)
         ∙ ap (λ (l : List ℕ). port_line port ++ (lines_behind 0 s so.xs ++ l))
-        (line_is (n + 1) (standing server.boxes door) t.x connected t.how ∙ ap (λ (st : Standing). own_line (n + 1) st t.x) here
+        (line_is (n + 1) (entry_standing server.boxes door) t.x connected t.how ∙ ap (λ (st : ConnectionStanding). own_line (n + 1) st t.x) here
         ∙ ap (λ (k : ℕ). own_line k (behind_all s so.xs) t.x) (let e : n + 1 ≡ 0 + length so.xs + 1 = omega (arith, so.count) in e))
         ∙ ap (λ (l : List ℕ). port_line port ++ l) (sym (lines_more 0 s so.xs t.x))
 
@@ -133,7 +133,7 @@ module _ (turns : List Connection → Type 0) (s : Standing) (port n : ℕ) (ser
 
     -- or it couldn't be
     pub cut_then : (count : ℕ) → n < count → (new_out : SinkState) → TookBeginning out.taken new_out.taken (line_of (n + 1) connected) → Rose out.faults new_out.faults
-        → Runs next s port count start now from later old new_out 5
+        → RelayRuns next s port count start now from later old new_out 5
     cut_then count less new_out took rose = record {
       ending = Done;
       lines = relay_lines port s (so.xs ++ t.x ∷ []);
@@ -148,7 +148,7 @@ module _ (turns : List Connection → Type 0) (s : Standing) (port n : ℕ) (ser
   -- no connection more is served
   pub faulty : (order : Connection → Type 0) (next : List Connection → Type 0) → ((x : Connection) → turns so.xs → order x → next (so.xs ++ x ∷ [])) → (new : ServerNow) (now : DiskState) (later : Port) → (turns so.xs → Span mid now (λ c. ⊥) → next so.xs)
       → (count : ℕ) → n < count → (fault : Fault) → Turns order server new mid now door later (Err fault) → (code : ℕ) (new_out : SinkState)
-      → Ends (ending_of_fault fault) [] out new_out code → Runs next s port count start now from later old new_out code
+      → Ends (closing_of_fault fault) [] out new_out code → RelayRuns next s port count start now from later old new_out code
   faulty order next one new now later alone count less Accept none code new_out ends = record {
     ending = LinkFault;
     lines = relay_lines port s so.xs;
@@ -160,13 +160,13 @@ module _ (turns : List Connection → Type 0) (s : Standing) (port n : ℕ) (ser
   faulty order next one new now later alone count less Store t code new_out ends = record {
     ending = DiskFault;
     lines = relay_lines port s so.xs;
-    came = was_stopped so.xs t.x t.call (come_more order new now later t.x t.turn next (one t.x so.come.in_turn t.turn.in_order)) so.each (subst (λ (st : Standing). IsStopped st t.x now) here t.stopped)
+    came = was_stopped so.xs t.x t.call (come_more order new now later t.x t.turn next (one t.x so.come.in_turn t.turn.in_order)) so.each (subst (λ (st : ConnectionStanding). IsConnectionStopped st t.x now) here t.stopped)
         (omega (arith, less, so.count)) (let counts = so.come.during.counts t.call in omega (arith, t.rose, counts)) (t.turn.gate ∙ so.gate);
     ends = ends_behind DiskFault (relay_lines port s so.xs) old out new_out code so.wrote so.writes ends;
   }
 
   -- all were served
-  pub all_served : (count : ℕ) → n ≡ count → (code : ℕ) (new_out : SinkState) → Ends Done [] out new_out code → Runs turns s port count start mid from door old new_out code
+  pub all_served : (count : ℕ) → n ≡ count → (code : ℕ) (new_out : SinkState) → Ends Done [] out new_out code → RelayRuns turns s port count start mid from door old new_out code
   all_served count full code new_out ends = record {
     ending = Done;
     lines = relay_lines port s so.xs;

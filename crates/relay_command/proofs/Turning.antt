@@ -10,12 +10,12 @@ use Rattle.relay_core.specs.Boxes.{Box}
 use Rattle.relay_core.specs.Record.{box_text}
 use Rattle.relay_core.specs.Streams.{reply_bytes, reply_frame, served}
 use Rattle.relay_server.specs.Durable.{ServerNow}
-use Rattle.relay_server.specs.Serving.{Answers, Exchanges, IsServed, LastOrBefore, exchanged}
+use Rattle.relay_server.specs.Serving.{AnswersStream, Exchanges, IsServed, LastOrBefore, exchanged}
 use Rattle.relay_server.specs.declared.serving.Ended.{Ended}
 use Rattle.relay_server.specs.declared.serving.ServeFault.{ServeFault}
 use Rattle.relay_server.specs.declared.serving.ServeFault.TheVariants.{Read, Store, Write}
 use Rattle.relay_command.specs.declared.connecting.Connected.TheVariants.{Ended as IsEnded, Failed}
-use Rattle.relay_command.specs.Connections.{Connection, HasRisen, IsBeginning, Went, ended, failed, stopped}
+use Rattle.relay_command.specs.Connections.{Connection, HasRisen, IsBeginning, HowItWent, ended, failed, stopped}
 use Rattle.relay_command.proofs.Prefixes.{replies_on}
 use Rattle.relay_command.specs.Turns.{IsServedTurn, IsStoppedTurn, IsTurn, Turns, broken_as}
 
@@ -43,18 +43,18 @@ whole_of (Some t) at boxes got put is all ahead =
 module _ (order : Connection → Type 0) (old new : ServerNow) (start now : DiskState) (from accepted after door : Port) (told : accepted.told ≡ option_map next_of from.told) (flow : accepted.faults Flow ≡ from.faults Flow)
     (gate : after.faults Gate ≡ from.faults Gate) (shut : door.told ≡ option_map hung_up after.told) (still : door.faults Flow ≡ after.faults Flow)
     (shut_gate : door.faults Gate ≡ after.faults Gate) (ahead : IfSome after.told (λ t. IsAhead t.now)) where
-  abbrev connection : List ℕ → List ℕ → Went → Connection
+  abbrev connection : List ℕ → List ℕ → HowItWent → Connection
   connection got put went = record { got = got; put = put; went = went; faults = door.faults Flow }
 
   abbrev Ordered : List ℕ → Type 0
   Ordered got = (x : Connection) → x.got ≡ got → Exchanges x.got x.put accepted after → order x
 
   module _ (result : Result Ended ServeFault) (s : IsServed box_text old new accepted after start now result) (ordered : Ordered s.got) where
-    exchanges : (put : List ℕ) → Answers old.boxes new.boxes s.got put accepted after
+    exchanges : (put : List ℕ) → AnswersStream old.boxes new.boxes s.got put accepted after
         → after.told ≡ option_map (exchanged s.got put) (option_map next_of from.told)
     exchanges put answers = answers.exchanges ∙ ap (option_map (exchanged s.got put)) told
 
-    turn_of : (put : List ℕ) (went : Went) → Answers old.boxes new.boxes s.got put accepted after → IsTurn order old new start now from door (connection s.got put went)
+    turn_of : (put : List ℕ) (went : HowItWent) → AnswersStream old.boxes new.boxes s.got put accepted after → IsTurn order old new start now from door (connection s.got put went)
     turn_of put went answers = record {
       told = shut ∙ ap (option_map hung_up) (exchanges put answers);
       faults = refl;

@@ -6,12 +6,12 @@ use Rattle.dr_disk.specs.State.{DiskState}
 use Rattle.dr_ports.specs.Wires.{Port, next_of}
 use Rattle.relay_core.specs.Record.{box_text}
 use Rattle.relay_server.specs.Serving.{Exchanges}
-use Rattle.relay_server.specs.FrameByFrame.{IsAtRest, IsInOrder, IsMoment}
-use Rattle.relay_command.specs.Connections.{Connection, Standing, behind_all}
+use Rattle.relay_server.specs.FrameByFrame.{IsServerAtRest, IsInOrder, IsMoment}
+use Rattle.relay_command.specs.Connections.{Connection, ConnectionStanding, behind_all}
 
 -- A connection was accepted at a door that told what stood before it, and served frame by frame,
 -- from one disk on until another; its pipe gave and took what it is said to.
-pub record WasServed {X Y : Type 0} (state : X → DiskState) (port_of : Y → Port) (s : Standing)
+pub record WasServed {X Y : Type 0} (state : X → DiskState) (port_of : Y → Port) (s : ConnectionStanding)
     (start now : X) (x : Connection) : Type 0 where
   pub accepted : Y
   pub served : Y
@@ -20,11 +20,11 @@ pub record WasServed {X Y : Type 0} (state : X → DiskState) (port_of : Y → P
   pub in_order : IsInOrder state port_of box_text s.boxes x.got start now accepted served
 
 -- These connections came in turn: before each the disk is at rest for the boxes that those before it left.
-pub data CameInTurn {X Y : Type 0} (state : X → DiskState) (port_of : Y → Port) (s : Standing) (start : X)
+pub data CameInTurn {X Y : Type 0} (state : X → DiskState) (port_of : Y → Port) (s : ConnectionStanding) (start : X)
     : List Connection → X → Type 0 where
   none_came : CameInTurn state port_of s start [] start
   one_came : (xs : List Connection) (x : Connection) (disk next : X)
-      → CameInTurn state port_of s start xs disk → IsAtRest box_text (behind_all s xs).boxes (state disk)
+      → CameInTurn state port_of s start xs disk → IsServerAtRest box_text (behind_all s xs).boxes (state disk)
       → WasServed state port_of (behind_all s xs) disk next x
       → CameInTurn state port_of s start (xs ++ x ∷ []) next
   -- nothing new could be left meanwhile
@@ -33,7 +33,7 @@ pub data CameInTurn {X Y : Type 0} (state : X → DiskState) (port_of : Y → Po
 
 -- These bytes may have been left in the connection after these, at a moment at which the replies to these frames of it
 -- were sent whole, and no other.
-pub record WasLeftIn {X Y : Type 0} (state : X → DiskState) (port_of : Y → Port) (s : Standing) (start : X)
+pub record WasLeftIn {X Y : Type 0} (state : X → DiskState) (port_of : Y → Port) (s : ConnectionStanding) (start : X)
     (xs : List Connection) (frames : List (List ℕ)) (c : List ℕ) : Type 0 where
   pub disk : X
   pub accepted : Y

@@ -10,7 +10,7 @@ use Rattle.endings.specs.declared.ending.Ending.{Ending as Closing}
 use Rattle.endings.specs.declared.ending.Ending.TheVariants.{DiskFault, LinkFault}
 use Rattle.relay_core.specs.Record.{box_text}
 use Rattle.relay_core.specs.Streams.{served}
-use Rattle.relay_server.specs.Durable.{IsReady, ServerNow}
+use Rattle.relay_server.specs.Durable.{IsServerReady, ServerNow}
 use Rattle.relay_server.specs.Places.{IsSameBehind}
 use Rattle.relay_server.specs.Serving.{Reached}
 use Rattle.relay_server.specs.declared.serving.ServeFault.{ServeFault}
@@ -19,11 +19,11 @@ use Rattle.relay_command.specs.declared.connecting.Connected.{Connected}
 use Rattle.relay_command.specs.declared.connecting.Connected.TheVariants.{Ended, Failed}
 use Rattle.relay_command.specs.declared.connecting.Fault.{Fault}
 use Rattle.relay_command.specs.declared.connecting.Fault.TheVariants.{Accept, Store}
-use Rattle.relay_command.specs.Connections.{Connection, HasRisen, Sent, Standing, behind, connection_line, ended, failed}
-use Rattle.relay_command.specs.Serving.{IsStopped, standing}
+use Rattle.relay_command.specs.Connections.{Connection, HasRisen, SentReplies, ConnectionStanding, after_connection, connection_line, ended, failed}
+use Rattle.relay_command.specs.Serving.{IsConnectionStopped, entry_standing}
 
 -- how it is told
-abbrev pub IsConnected : Standing → Connection → Connected → Type 0
+abbrev pub IsConnected : ConnectionStanding → Connection → Connected → Type 0
 IsConnected s x (Ended replies) = (x.went ≡ ended) × (replies ≡ length (served s.boxes x.got).exchanges)
 IsConnected s x Failed = x.went ≡ failed
 
@@ -34,7 +34,7 @@ line_of i Failed = connection_line i 0 failed
 
 -- A connection came, in the order that is said of it.
 pub record IsTurn (order : Connection → Type 0) (old new : ServerNow) (start now : DiskState) (from door : Port) (x : Connection) : Type 0 where
-  pub told : door.told ≡ (behind (standing old.boxes from) x).told
+  pub told : door.told ≡ (after_connection (entry_standing old.boxes from) x).told
   pub faults : door.faults Flow ≡ x.faults
   pub gate : door.faults Gate ≡ from.faults Gate
   pub next : new.boxes ≡ (served old.boxes x.got).next
@@ -46,16 +46,16 @@ pub record IsTurn (order : Connection → Type 0) (old new : ServerNow) (start n
 pub record IsServedTurn (order : Connection → Type 0) (old new : ServerNow) (start now : DiskState) (from door : Port) (connected : Connected) : Type 0 where
   pub x : Connection
   pub turn : IsTurn order old new start now from door x
-  pub sent : Sent (standing old.boxes from) x x.went
-  pub how : IsConnected (standing old.boxes from) x connected
-  pub ready : IsReady box_text new now
+  pub sent : SentReplies (entry_standing old.boxes from) x x.went
+  pub how : IsConnected (entry_standing old.boxes from) x connected
+  pub ready : IsServerReady box_text new now
   pub quiet : IsQuiet start now
 
 -- a call on the disk failed meanwhile
 pub record IsStoppedTurn (order : Connection → Type 0) (old new : ServerNow) (start now : DiskState) (from door : Port) : Type 0 where
   pub x : Connection
   pub turn : IsTurn order old new start now from door x
-  pub stopped : IsStopped (standing old.boxes from) x now
+  pub stopped : IsConnectionStopped (entry_standing old.boxes from) x now
   pub call : Call
   pub rose : Rose (start.faults call) (now.faults call)
 
@@ -65,7 +65,7 @@ pub record IsNoTurn (old new : ServerNow) (start now : DiskState) (from door : P
   pub faults : door.faults Flow ≡ from.faults Flow
   pub rose : HasRisen (from.faults Gate) (door.faults Gate)
   pub next : new.boxes ≡ old.boxes
-  pub ready : IsReady box_text new now
+  pub ready : IsServerReady box_text new now
   pub still : Span start now (λ c. ⊥)
   pub quiet : IsQuiet start now
 
@@ -81,6 +81,6 @@ broken_as Write = Ok Failed
 broken_as (FaultOf call) = Err Store
 
 -- how the command ends where no connection more is served
-abbrev pub ending_of_fault : Fault → Closing
-ending_of_fault Accept = LinkFault
-ending_of_fault Store = DiskFault
+abbrev pub closing_of_fault : Fault → Closing
+closing_of_fault Accept = LinkFault
+closing_of_fault Store = DiskFault

@@ -2,9 +2,9 @@
 
 ghost use Rattle.std.specs.Prelude.{◌≡◌};
 ghost use Rattle.relay_core.specs.Record.{box_text};
-ghost use Rattle.relay_server.specs.Durable.{IsReady};
+ghost use Rattle.relay_server.specs.Durable.{IsServerReady};
 ghost use Rattle.relay_command.specs.InTurn.{WasServed};
-ghost use Rattle.relay_command.specs.Serving.{standing};
+ghost use Rattle.relay_command.specs.Serving.{entry_standing};
 ghost use Rattle.relay_command.specs.Turns.{Turns, broken_as};
 
 use dr_disk::Disk;
@@ -46,9 +46,9 @@ pub(crate) fn serve_next<A: Disk, L: Door>(
     disk: &mut A,
     door: &mut L,
 ) -> Result<Connected, Fault>
-    requires { IsReady box_text server.old (A.state disk.old) }
+    requires { IsServerReady box_text server.old (A.state disk.old) }
     ensures { Turns (WasServed A.state L.port
-        (standing server.old.boxes (L.port door.old)) disk.old disk.new)
+        (entry_standing server.old.boxes (L.port door.old)) disk.old disk.new)
         server.old server.new (A.state disk.old) (A.state disk.new) (L.port door.old)
         (L.port door.new) result }
 {

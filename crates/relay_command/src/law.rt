@@ -2,7 +2,7 @@
 
 ghost use Rattle.std.specs.Prelude.{List, ℕ};
 ghost use Rattle.relay_server.specs.FrameByFrame.{StandsForSent};
-ghost use Rattle.relay_command.specs.Connections.{Connection, Standing, behind_all};
+ghost use Rattle.relay_command.specs.Connections.{Connection, ConnectionStanding, behind_all};
 ghost use Rattle.relay_command.specs.InTurn.{WasLeftIn};
 ghost use Rattle.relay_command.specs.Limits.{HasLimits};
 
@@ -15,7 +15,7 @@ use relay_server::crashes as crashes_in_one;
 /// connection's own accepted requests for it among these n frames, or among the first n + 1. So
 /// nothing of a connection comes back once the next one has begun.
 pub fn crashes<A: Disk, L: Door>()
-    ensures { (s : Standing) (start : A) (xs : List Connection) (frames : List (List ℕ))
+    ensures { (s : ConnectionStanding) (start : A) (xs : List Connection) (frames : List (List ℕ))
         (c : List ℕ) →
         WasLeftIn A.state L.port s start xs frames c
         → StandsForSent (behind_all s xs).boxes frames c }

@@ -7,7 +7,7 @@ ghost use Rattle.dr_ports.specs.declared.pipe.Part.{Part};
 ghost use Rattle.dr_ports.specs.declared.pipe.Part.TheVariants.{Gate};
 ghost use Rattle.relay_core.specs.declared.limits.TheConstants.{RELAY_LIMIT};
 ghost use Rattle.relay_command.specs.Names.{AreNames};
-ghost use Rattle.relay_command.specs.Relaying.{Looks, RunsRelay, ending_of_open};
+ghost use Rattle.relay_command.specs.Relaying.{Looks, RunsRelay, ending_after_look};
 ghost use Rattle.relay_command.specs.declared.relaying.TheConstants.{RELAY_DISK_SIZE};
 
 use crate::names::{check_names, names_of};
@@ -25,7 +25,7 @@ pub const RELAY_DISK_SIZE: u64 = AREA_SIZE * RELAY_LIMIT as u64;
 /// How the command ends where the look is refused. Boxes are counted from 1 here.
 fn unopened(error: ServerOpenError) -> Ending
     requires { (k : ℕ) → error ≡ ServerOpenError.BoxName k → k < RELAY_LIMIT }
-    ensures { result ≡ ending_of_open error }
+    ensures { result ≡ ending_after_look error }
 {
     match error {
         ServerOpenError::Memory => Ending::NoMemory,

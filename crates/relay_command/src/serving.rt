@@ -2,10 +2,10 @@
 
 ghost use Rattle.std.specs.Prelude.{◌≡◌, ◌≤◌};
 ghost use Rattle.relay_core.specs.Record.{box_text};
-ghost use Rattle.relay_server.specs.Durable.{IsReady};
+ghost use Rattle.relay_server.specs.Durable.{IsServerReady};
 ghost use Rattle.relay_command.specs.InTurn.{CameInTurn};
-ghost use Rattle.relay_command.specs.Serving.{Runs, standing};
-ghost use Rattle.relay_command.specs.Turns.{ending_of_fault};
+ghost use Rattle.relay_command.specs.Serving.{RelayRuns, entry_standing};
+ghost use Rattle.relay_command.specs.Turns.{closing_of_fault};
 
 use crate::connecting::{Fault, serve_next};
 use crate::lines::{connection_line, port_line};
@@ -16,7 +16,7 @@ use relay_server::Server;
 
 /// How the command ends where no connection more is served.
 fn ending_of(fault: Fault) -> Ending
-    ensures { result ≡ ending_of_fault fault }
+    ensures { result ≡ closing_of_fault fault }
 {
     match fault {
         Fault::Accept => Ending::LinkFault,
@@ -34,10 +34,10 @@ pub(crate) fn serve_all<A: Disk, L: Door, O: Sink>(
     door: &mut L,
     out: &mut O,
 ) -> Status
-    requires { IsReady box_text server.old (A.state disk.old) }
-    ensures runs { Runs (λ xs. CameInTurn A.state L.port
-        (standing server.old.boxes (L.port door.old)) disk.old xs disk.new)
-        (standing server.old.boxes (L.port door.old)) port count (A.state disk.old)
+    requires { IsServerReady box_text server.old (A.state disk.old) }
+    ensures runs { RelayRuns (λ xs. CameInTurn A.state L.port
+        (entry_standing server.old.boxes (L.port door.old)) disk.old xs disk.new)
+        (entry_standing server.old.boxes (L.port door.old)) port count (A.state disk.old)
         (A.state disk.new)
         (L.port door.old) (L.port door.new) (O.at out.old) (O.at out.new) result.code }
     ensures later { (O.at out.old).faults ≤ (O.at out.new).faults }

@@ -3,9 +3,9 @@ use Rattle.std.proofs.Common.{◌≡◌, ℕ, zero, suc, Bool, true, false, List
 use Rattle.std.specs.Prelude.{drop, if◌then◌else◌}
 use Rattle.std.specs.Str.{bytes_eq}
 use Rattle.relay_core.specs.declared.limits.TheConstants.{EXCHANGE_LIMIT}
-use Rattle.relay_core.specs.Boxes.{Box, answer_of, answers_of, answers_read, box_of, is_named, of_first, behind}
+use Rattle.relay_core.specs.Boxes.{Box, answer_of, answers_of, answers_read, box_of, is_named, of_first, after_box}
 use Rattle.relay_core.specs.Alone.{reply_alone, next_alone, replies_alone, box_after}
-use Rattle.relay_core.specs.Streams.{Served, and_then, nothing_served, served, served_within, is_last, Told, told, asks, replies, IsIsolated}
+use Rattle.relay_core.specs.Streams.{Served, exchange_then, nothing_served, served, served_within, is_last, BoxExchange, told, asks, replies, IsIsolated}
 use Rattle.relay_core.proofs.Names.{same_name, names_agree, name_stays}
 use Rattle.relay_wire.specs.Frames.{frames_of}
 use Rattle.relay_wire.specs.Replies.{Replied}
@@ -20,7 +20,7 @@ reply_own [] asked = refl
 reply_own (box ∷ boxes) asked = by_name (reply_own boxes asked) (is_named asked.name box)
   where
     by_name : ((answers_of boxes asked).reply ≡ reply_alone (box_of asked.name boxes) asked.ask) → (is : Bool)
-        → (if is then of_first (answer_of box asked.ask) boxes else behind box (answers_of boxes asked)).reply ≡ reply_alone (if is then Some box else box_of asked.name boxes) asked.ask
+        → (if is then of_first (answer_of box asked.ask) boxes else after_box box (answers_of boxes asked)).reply ≡ reply_alone (if is then Some box else box_of asked.name boxes) asked.ask
     by_name more true = refl
     by_name more false = more
 
@@ -32,7 +32,7 @@ next_own [] asked name same = refl
 next_own (box ∷ boxes) asked name same = by_name (next_own boxes asked name same) (is_named asked.name box) refl
   where
     by_name : (box_of name (answers_of boxes asked).next ≡ next_alone (box_of name boxes) asked.ask) → (is : Bool) → is_named asked.name box ≡ is
-        → box_of name (if is then of_first (answer_of box asked.ask) boxes else behind box (answers_of boxes asked)).next
+        → box_of name (if is then of_first (answer_of box asked.ask) boxes else after_box box (answers_of boxes asked)).next
         ≡ next_alone (if is_named name box then Some box else box_of name boxes) asked.ask
     by_name more true is =
         let named : is_named name box ≡ true = names_agree box.name asked.name name is same in
@@ -49,7 +49,7 @@ next_other [] asked name other = refl
 next_other (box ∷ boxes) asked name other = by_name (next_other boxes asked name other) (is_named asked.name box) refl
   where
     by_name : (box_of name (answers_of boxes asked).next ≡ box_of name boxes) → (is : Bool) → is_named asked.name box ≡ is
-        → box_of name (if is then of_first (answer_of box asked.ask) boxes else behind box (answers_of boxes asked)).next
+        → box_of name (if is then of_first (answer_of box asked.ask) boxes else after_box box (answers_of boxes asked)).next
         ≡ (if is_named name box then Some box else box_of name boxes)
     by_name more true is =
         let there : is_named name box ≡ false = ap (λ (n : List ℕ). bytes_eq n name) (same_name box.name asked.name is) ∙ other in
@@ -60,20 +60,20 @@ next_other (box ∷ boxes) asked name other = by_name (next_other boxes asked na
 -- ---- streams
 
 -- by the requests that the box was told
-from_told : (name : List ℕ) (boxes : List Box) (s : Served) (list : List Told) → told name s.exchanges ≡ list
+from_told : (name : List ℕ) (boxes : List Box) (s : Served) (list : List BoxExchange) → told name s.exchanges ≡ list
     → replies list ≡ replies_alone (box_of name boxes) (asks list) → box_of name s.next ≡ box_after (box_of name boxes) (asks list) → IsIsolated name boxes s
 from_told name boxes s list is replied next = record {
-  replied = subst (λ (l : List Told). replies l ≡ replies_alone (box_of name boxes) (asks l)) (sym is) replied;
-  next = subst (λ (l : List Told). box_of name s.next ≡ box_after (box_of name boxes) (asks l)) (sym is) next;
+  replied = subst (λ (l : List BoxExchange). replies l ≡ replies_alone (box_of name boxes) (asks l)) (sym is) replied;
+  next = subst (λ (l : List BoxExchange). box_of name s.next ≡ box_after (box_of name boxes) (asks l)) (sym is) next;
 }
 
 -- one exchange before others that are isolated
 step : (name : List ℕ) (boxes : List Box) (asked : Result Asked ℕ) (more : Served) → IsIsolated name (answers_read boxes asked).next more
-    → IsIsolated name boxes (and_then (record { asked = asked; reply = (answers_read boxes asked).reply }) more)
+    → IsIsolated name boxes (exchange_then (record { asked = asked; reply = (answers_read boxes asked).reply }) more)
 step name boxes (Err kind) more is = record { replied = is.replied; next = is.next }
 step name boxes (Ok asked) more is = by_name (bytes_eq asked.name name) refl
   where
-    by_name : (same : Bool) → bytes_eq asked.name name ≡ same → IsIsolated name boxes (and_then (record { asked = Ok asked; reply = (answers_of boxes asked).reply }) more)
+    by_name : (same : Bool) → bytes_eq asked.name name ≡ same → IsIsolated name boxes (exchange_then (record { asked = Ok asked; reply = (answers_of boxes asked).reply }) more)
     by_name true same =
         let own : box_of asked.name boxes ≡ box_of name boxes = ap (λ (n : List ℕ). box_of n boxes) (same_name asked.name name same) in
         let next = next_own boxes asked name same in

@@ -16,7 +16,7 @@ use Rattle.grammar.proofs.Whole.{whole_grammar}
 use Rattle.relay_core.specs.declared.limits.TheConstants.{BOX_LIMIT, BOX_ITEM_LIMIT, RECORD_LIMIT}
 use Rattle.relay_core.specs.Boxes.{Kept, Box}
 use Rattle.relay_core.specs.Lawful.{Rises, last_number, IsLawfulBox}
-use Rattle.relay_core.specs.Record.{HeadParts, is_version, is_name_size, is_count, name_field, head_fields, is_number, is_packet_size, packet_field, kept_of, kept_field, next_kept, box_of_parts, box_fields, box_read, head_text, kept_text, box_text}
+use Rattle.relay_core.specs.Record.{HeadParts, is_version, is_name_size, is_count, name_field, head_fields, is_kept_number, is_packet_size, packet_field, kept_packet_of, kept_packet_field, next_kept, box_of_parts, box_fields, box_read, head_text, kept_packet_text, box_text}
 use Rattle.relay_core.proofs.Rising.{rises-append, rises-at}
 use Rattle.relay_wire.specs.declared.limits.TheConstants.{NAME_LIMIT, PACKET_LIMIT}
 use Rattle.relay_wire.specs.Names.{is_name, is_packet}
@@ -44,23 +44,23 @@ short_packet packet is = (below (length packet) is, is)
 -- a packet that may stand after those before it
 record IsNext (last : ℕ) (before : List Kept) (kept : Kept) : Type 0 where
   fits : kept.number < 2 ^ 64
-  above : is_number (last_number 0 before) last kept.number ≡ true
+  above : is_kept_number (last_number 0 before) last kept.number ≡ true
   packet : is_packet kept.packet ≡ true
 
-kept_grammar : (last : ℕ) (before : List Kept) → IsGrammar kept_text (IsNext last before) (next_kept last before)
-unfolding kept_field packet_field
+kept_grammar : (last : ℕ) (before : List Kept) → IsGrammar kept_packet_text (IsNext last before) (next_kept last before)
+unfolding kept_packet_field packet_field
 kept_grammar last before =
     mapped_grammar _ _ _
-    (both_grammar _ _ _ _ _ _ (checked_grammar _ _ _ (number_grammar w64 (2 ^ 64) exact64) (is_number (last_number 0 before) last)) (λ _ _.
+    (both_grammar _ _ _ _ _ _ (checked_grammar _ _ _ (number_grammar w64 (2 ^ 64) exact64) (is_kept_number (last_number 0 before) last)) (λ _ _.
     sized_grammar w16 (2 ^ 16) exact16 is_packet_size is_packet))
-    (IsNext last before) kept_of (λ kept. (kept.number, kept.packet))
+    (IsNext last before) kept_packet_of (λ kept. (kept.number, kept.packet))
     (λ e lawful. (record { fits = lawful.0.0; above = lawful.0.1; packet = lawful.1.1 }, refl))
     (λ kept lawful. (((lawful.fits, lawful.above), (short_packet kept.packet lawful.packet, lawful.packet)), refl))
 
-between : (low last n : ℕ) → is_number low last n ≡ true → (low < n) × (n ≤ last)
+between : (low last n : ℕ) → is_kept_number low last n ≡ true → (low < n) × (n ≤ last)
 between low last n passes = (grind (arith, nat_tests), grind (arith, nat_tests))
 
-is_between : (low last n : ℕ) → low < n → n ≤ last → is_number low last n ≡ true
+is_between : (low last n : ℕ) → low < n → n ≤ last → is_kept_number low last n ≡ true
 is_between low last n above below = grind (arith, nat_tests)
 
 -- packets that were read one by one rise, and are packets
@@ -108,7 +108,7 @@ box_grammar =
     both_grammar _ _ _ _ _ _ (sized_grammar w8 (2 ^ 8) exact8 is_name_size is_name) (λ _ _.
     both_grammar _ _ _ _ _ _ (number_grammar w64 (2 ^ 64) exact64) (λ _ _.
     checked_grammar _ _ _ (number_grammar w8 (2 ^ 8) exact8) is_count))))
-    (λ h _. items_grammar kept_text (IsNext h.1.1.0) (next_kept h.1.1.0) (kept_grammar h.1.1.0) h.1.1.1))
+    (λ h _. items_grammar kept_packet_text (IsNext h.1.1.0) (next_kept h.1.1.0) (kept_grammar h.1.1.0) h.1.1.1))
     IsLawfulBox box_of_parts parts_of
     (λ e lawful.
     let long = length-items (IsNext e.0.1.1.0) e.0.1.1.1 e.1 lawful.1 in
@@ -148,9 +148,9 @@ short_box_name name is = most (length name) (and_parts _ _ is).0
     most n passes = grind (arith, nat_tests)
 
 packets_size : (list : List Kept) → All (λ (k : Kept). is_packet k.packet ≡ true) list
-    → length (print_items kept_text list) ≤ BOX_ITEM_LIMIT * length list
+    → length (print_items kept_packet_text list) ≤ BOX_ITEM_LIMIT * length list
 packets_size list are =
-    size-items kept_text BOX_ITEM_LIMIT list (λ k d inside. omega (arith, short_kept (get_or list k d).packet (are k d inside)))
+    size-items kept_packet_text BOX_ITEM_LIMIT list (λ k d inside. omega (arith, short_kept (get_or list k d).packet (are k d inside)))
 
 pub record_size : (box : Box) → IsLawfulBox box → length (box_text box) ≤ RECORD_LIMIT
 unfolding box_text
@@ -160,7 +160,7 @@ record_size box lawful =
     let count = lawful.count in
     let head = head_text box.name box.last (length box.packets) in
     let behind_name = to_be_bytes w64 box.last ++ to_be_bytes w8 (length box.packets) in
-    omega (arith, name, packets, count, length-append head (print_items kept_text box.packets), length-append box.name behind_name)
+    omega (arith, name, packets, count, length-append head (print_items kept_packet_text box.packets), length-append box.name behind_name)
 
 -- a buffer that has room for a lawful box's record holds it
 pub record_fits : (box : Box) (room : ℕ) → IsLawfulBox box → HasRoom RECORD_LIMIT (box_text box) room → length (box_text box) ≤ room

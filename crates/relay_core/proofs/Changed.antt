@@ -1,7 +1,7 @@
 -- At most the box that is told changes.
 use Rattle.std.proofs.Common.{◌≡◌, ◌≢◌, ℕ, zero, suc, ◌+◌, Bool, true, false, List, [], ◌∷◌, Option, Some, None, Result, Ok, Err, refl, sym, ◌∙◌, ap, subst, arith}
 use Rattle.std.specs.Prelude.{slice_get, option_map, if◌then◌else◌}
-use Rattle.relay_core.specs.Boxes.{Box, Answer, Answers, answer_of, answers_of, answers_read, of_first, behind, is_named, is_full, has_number, stays}
+use Rattle.relay_core.specs.Boxes.{Box, Answer, Answers, answer_of, answers_of, answers_read, of_first, after_box, is_named, is_full, has_number, stays}
 use Rattle.relay_core.specs.Changes.{ChangesOne, IsChange}
 use Rattle.relay_wire.specs.Replies.{box_full, absent}
 use Rattle.relay_wire.specs.Requests.{Asking, posts, fetches, acks, Asked}
@@ -49,7 +49,7 @@ of_box box boxes a same = by_change a.changed refl
 
 -- ---- a box after it
 
-of_behind : (box : Box) (boxes : List Box) (a : Answers) → IsChange boxes a → IsChange (box ∷ boxes) (behind box a)
+of_behind : (box : Box) (boxes : List Box) (a : Answers) → IsChange boxes a → IsChange (box ∷ boxes) (after_box box a)
 of_behind box boxes a is = record {
   count = ap suc is.count;
   none = λ h. ap (λ (bs : List Box). box ∷ bs) (is.none (by_none a.changed h));
@@ -82,7 +82,7 @@ unfolding answers_of
 of_answers [] asked = record { count = refl; none = λ h. refl; one = λ k h. absurd (let e : None ≡ Some k = h in cc) }
 of_answers (box ∷ boxes) asked = by_name (of_answers boxes asked) (is_named asked.name box)
   where
-    by_name : IsChange boxes (answers_of boxes asked) → (is : Bool) → IsChange (box ∷ boxes) (if is then of_first (answer_of box asked.ask) boxes else behind box (answers_of boxes asked))
+    by_name : IsChange boxes (answers_of boxes asked) → (is : Bool) → IsChange (box ∷ boxes) (if is then of_first (answer_of box asked.ask) boxes else after_box box (answers_of boxes asked))
     by_name more true = of_box box boxes (answer_of box asked.ask) (same_box box asked.ask)
     by_name more false = of_behind box boxes (answers_of boxes asked) more
 

@@ -3,7 +3,7 @@ use Rattle.std.proofs.Common.{◌≡◌, ℕ, zero, suc, ◌+◌, ◌^◌, ◌<�
 use Rattle.std.specs.Prelude.{◌-◌, ◌||◌, ◌==◌, nat_le, All, if◌then◌else◌}
 use Rattle.std.proofs.lemmas.Bool.Decides.{nat_tests}
 use Rattle.relay_core.specs.declared.limits.TheConstants.{BOX_LIMIT}
-use Rattle.relay_core.specs.Boxes.{Kept, Box, Answer, Answers, answer_of, answers_of, answers_read, of_first, behind, is_named, is_full, has_number, oldest, stays, becomes, with_packet, without}
+use Rattle.relay_core.specs.Boxes.{Kept, Box, Answer, Answers, answer_of, answers_of, answers_read, of_first, after_box, is_named, is_full, has_number, oldest, stays, becomes, with_packet, without_number}
 use Rattle.relay_core.specs.Lawful.{IsLawfulBox, IsLawfulRead}
 use Rattle.relay_core.proofs.Rising.{lawful_post, lawful_without, rises-at}
 use Rattle.relay_wire.specs.Names.{is_packet}
@@ -45,7 +45,7 @@ lawful_answer box (posts packet) lawful is =
     (λ room. record { reply = below_last box lawful room; next = lawful_post box packet lawful room is })
 lawful_answer box fetches lawful is = record { reply = lawful_oldest box box.packets refl lawful; next = lawful }
 lawful_answer box (acks n) lawful is =
-    either_lawful (has_number n box.packets) (becomes acked (without box n)) (stays (absent n) box)
+    either_lawful (has_number n box.packets) (becomes acked (without_number box n)) (stays (absent n) box)
     (λ there. record { reply = tt; next = lawful_without box n lawful })
     (λ absent. record { reply = is; next = lawful })
 
@@ -71,7 +71,7 @@ lawful_asked (box ∷ boxes) asked are is = by_name (is_named asked.name box) (l
     first = are 0 box (omega arith)
 
     by_name : (named : Bool) → AreLawfulAnswers (answers_of boxes asked)
-        → AreLawfulAnswers (if named then of_first (answer_of box asked.ask) boxes else behind box (answers_of boxes asked))
+        → AreLawfulAnswers (if named then of_first (answer_of box asked.ask) boxes else after_box box (answers_of boxes asked))
     by_name true more =
         let a = lawful_answer box asked.ask first is in
         record { reply = a.reply; next = all_more (answer_of box asked.ask).next boxes a.next (all_tail box boxes are) }

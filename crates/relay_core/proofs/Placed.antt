@@ -3,7 +3,7 @@ use Rattle.std.proofs.Common.{◌≡◌, ℕ, zero, suc, ◌+◌, Bool, true, fa
 use Rattle.std.specs.Prelude.{slice_get, slice_set, option_map, if◌then◌else◌}
 use Rattle.std.specs.List.{list_any}
 use Rattle.std.proofs.lemmas.Bool.{or_parts}
-use Rattle.relay_core.specs.Boxes.{Box, Answers, answer_of, answers_of, of_first, behind, is_named}
+use Rattle.relay_core.specs.Boxes.{Box, Answers, answer_of, answers_of, of_first, after_box, is_named}
 use Rattle.relay_wire.specs.Replies.{unknown}
 use Rattle.relay_wire.specs.Requests.{Asked}
 
@@ -19,8 +19,8 @@ unfolding answers_of
 nobody [] asked none = refl
 nobody (box ∷ boxes) asked none =
     let both = or_parts (is_named asked.name box) (list_any (is_named asked.name) boxes) none in
-    ap (λ (is : Bool). if is then of_first (answer_of box asked.ask) boxes else behind box (answers_of boxes asked)) both.0
-    ∙ ap (behind box) (nobody boxes asked both.1)
+    ap (λ (is : Bool). if is then of_first (answer_of box asked.ask) boxes else after_box box (answers_of boxes asked)) both.0
+    ∙ ap (after_box box) (nobody boxes asked both.1)
 
 -- the place of a box is one more after another
 moved : (changed : Bool) (k : ℕ) → option_map (λ (m : ℕ). m + 1) (if changed then Some k else None) ≡ (if changed then Some (suc k) else None)
@@ -34,10 +34,10 @@ first_named [] k box asked here is none = absurd (let e : None ≡ Some box = he
 first_named (b ∷ boxes) zero box asked here is none =
     let same : b ≡ box = cc in
     subst (λ (x : Box). answers_of (x ∷ boxes) asked ≡ answers_at (x ∷ boxes) 0 box asked) (sym same)
-    (ap (λ (named : Bool). if named then of_first (answer_of box asked.ask) boxes else behind box (answers_of boxes asked)) is)
+    (ap (λ (named : Bool). if named then of_first (answer_of box asked.ask) boxes else after_box box (answers_of boxes asked)) is)
 first_named (b ∷ boxes) (suc k) box asked here is none =
     let both = or_parts (is_named asked.name b) (list_any (is_named asked.name) (take k boxes)) none in
     let a = answer_of box asked.ask in
-    ap (λ (named : Bool). if named then of_first (answer_of b asked.ask) boxes else behind b (answers_of boxes asked)) both.0
-    ∙ ap (behind b) (first_named boxes k box asked here is both.1)
+    ap (λ (named : Bool). if named then of_first (answer_of b asked.ask) boxes else after_box b (answers_of boxes asked)) both.0
+    ∙ ap (after_box b) (first_named boxes k box asked here is both.1)
     ∙ ap (λ (o : Option ℕ). record { reply = a.reply; next = b ∷ slice_set boxes k a.next; changed = o }) (moved a.changed k)

@@ -3,7 +3,7 @@ use Rattle.std.proofs.Common.{◌≡◌, ℕ, zero, suc, ◌+◌, ◌<◌, ◌�
 use Rattle.std.specs.Prelude.{◌==◌, not, filter}
 use Rattle.std.proofs.lemmas.Bool.Decides.{nat_tests}
 use Rattle.std.proofs.lemmas.List.Elements.{All-push, All-filter}
-use Rattle.relay_core.specs.Boxes.{Kept, Box, is_full, with_packet, without}
+use Rattle.relay_core.specs.Boxes.{Kept, Box, is_full, with_packet, without_number}
 use Rattle.relay_core.specs.Lawful.{Rises, last_number, IsLawfulBox}
 use Rattle.relay_wire.specs.Names.{is_packet}
 
@@ -45,7 +45,7 @@ lawful_post box packet lawful room is =
       packets = All-push (λ (k : Kept). is_packet k.packet ≡ true) box.packets kept lawful.packets is;
     }
 
-pub lawful_without : (box : Box) (number : ℕ) → IsLawfulBox box → IsLawfulBox (without box number)
+pub lawful_without : (box : Box) (number : ℕ) → IsLawfulBox box → IsLawfulBox (without_number box number)
 lawful_without box number lawful =
     let stays : Kept → Bool = λ kept. not (kept.number == number) in
     record {

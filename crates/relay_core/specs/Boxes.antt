@@ -50,8 +50,8 @@ abbrev pub has_number : ℕ → List Kept → Bool
 has_number number packets = list_any (λ kept. kept.number == number) packets
 
 -- the box without the packet of a number
-abbrev pub without : Box → ℕ → Box
-without box number = record box { packets = filter (λ kept. not (kept.number == number)) box.packets }
+abbrev pub without_number : Box → ℕ → Box
+without_number box number = record box { packets = filter (λ kept. not (kept.number == number)) box.packets }
 
 abbrev pub oldest : List Kept → Replied
 oldest [] = empty
@@ -63,7 +63,7 @@ answer_of box (posts packet) =
     if is_full box then stays box_full box else becomes (stored (box.last + 1)) (with_packet box packet)
 answer_of box fetches = stays (oldest box.packets) box
 answer_of box (acks number) =
-    if has_number number box.packets then becomes acked (without box number) else stays (absent number) box
+    if has_number number box.packets then becomes acked (without_number box number) else stays (absent number) box
 
 -- ---- all boxes
 
@@ -79,14 +79,14 @@ pub record Answers : Type 0 where
 abbrev pub of_first : Answer → List Box → Answers
 of_first a boxes = record { reply = a.reply; next = a.next ∷ boxes; changed = if a.changed then Some 0 else None }
 
-abbrev pub behind : Box → Answers → Answers
-behind box a = record { reply = a.reply; next = box ∷ a.next; changed = option_map (λ k. k + 1) a.changed }
+abbrev pub after_box : Box → Answers → Answers
+after_box box a = record { reply = a.reply; next = box ∷ a.next; changed = option_map (λ k. k + 1) a.changed }
 
 -- the first box of the name answers; where none has it, the name is unknown
 unfoldable pub answers_of : List Box → Asked → Answers
 answers_of [] asked = record { reply = unknown; next = []; changed = None }
 answers_of (box ∷ boxes) asked =
-    if is_named asked.name box then of_first (answer_of box asked.ask) boxes else behind box (answers_of boxes asked)
+    if is_named asked.name box then of_first (answer_of box asked.ask) boxes else after_box box (answers_of boxes asked)
 
 -- a frame that is no request is answered by the kind of what is wrong with it
 abbrev pub answers_read : List Box → Result Asked ℕ → Answers

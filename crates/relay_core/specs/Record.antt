@@ -39,8 +39,8 @@ head_fields =
 
 -- ---- packets, each with a number above that of the one before, and not above the last that was given
 
-abbrev pub is_number : ℕ → ℕ → ℕ → Bool
-is_number low last n = nat_lt low n && nat_le n last
+abbrev pub is_kept_number : ℕ → ℕ → ℕ → Bool
+is_kept_number low last n = nat_lt low n && nat_le n last
 
 abbrev pub is_packet_size : ℕ → Bool
 is_packet_size n = nat_le 1 n && nat_le n PACKET_LIMIT
@@ -48,15 +48,15 @@ is_packet_size n = nat_le 1 n && nat_le n PACKET_LIMIT
 unfoldable pub packet_field : Reader (List ℕ)
 packet_field = sized w16 is_packet_size is_packet
 
-abbrev pub kept_of : ℕ × List ℕ → Kept
-kept_of e = record { number = e.0; packet = e.1 }
+abbrev pub kept_packet_of : ℕ × List ℕ → Kept
+kept_packet_of e = record { number = e.0; packet = e.1 }
 
-unfoldable pub kept_field : ℕ → ℕ → Reader Kept
-kept_field low last = mapped kept_of (both (checked (is_number low last) (number w64)) (λ _. packet_field))
+unfoldable pub kept_packet_field : ℕ → ℕ → Reader Kept
+kept_packet_field low last = mapped kept_packet_of (both (checked (is_kept_number low last) (number w64)) (λ _. packet_field))
 
 -- the packet after those before it
 abbrev pub next_kept : ℕ → List Kept → Reader Kept
-next_kept last before = kept_field (last_number 0 before) last
+next_kept last before = kept_packet_field (last_number 0 before) last
 
 -- ---- the record
 
@@ -75,11 +75,11 @@ box_read = whole box_fields
 abbrev pub head_text : List ℕ → ℕ → ℕ → List ℕ
 head_text name last count = to_be_bytes w8 1 ++ (print_sized w8 name ++ (to_be_bytes w64 last ++ to_be_bytes w8 count))
 
-abbrev pub kept_text : Kept → List ℕ
-kept_text kept = to_be_bytes w64 kept.number ++ print_sized w16 kept.packet
+abbrev pub kept_packet_text : Kept → List ℕ
+kept_packet_text kept = to_be_bytes w64 kept.number ++ print_sized w16 kept.packet
 
 unfoldable pub box_text : Box → List ℕ
-box_text box = head_text box.name box.last (length box.packets) ++ print_items kept_text box.packets
+box_text box = head_text box.name box.last (length box.packets) ++ print_items kept_packet_text box.packets
 
 -- ---- what code read
 

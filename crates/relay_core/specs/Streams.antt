@@ -21,8 +21,8 @@ pub record Served : Type 0 where
 abbrev pub nothing_served : List Box → Served
 nothing_served boxes = record { exchanges = []; next = boxes }
 
-abbrev pub and_then : Exchange → Served → Served
-and_then exchange served = record { exchanges = exchange ∷ served.exchanges; next = served.next }
+abbrev pub exchange_then : Exchange → Served → Served
+exchange_then exchange served = record { exchanges = exchange ∷ served.exchanges; next = served.next }
 
 -- these exchanges, and then more
 abbrev pub prepend : List Exchange → Served → Served
@@ -49,7 +49,7 @@ served_within (suc n) boxes (frame ∷ frames) =
     let asked = read_request (drop 2 frame) in
     let a = answers_read boxes asked in
     let more = if is_last asked then nothing_served a.next else served_within n a.next frames in
-    and_then (record { asked = asked; reply = a.reply }) more
+    exchange_then (record { asked = asked; reply = a.reply }) more
 
 -- the stream of one connection, answered
 unfoldable pub served : List Box → List ℕ → Served
@@ -65,23 +65,23 @@ reply_bytes served = flat_map reply_frame served.exchanges
 -- ---- of one box
 
 -- a request for the box that was answered, and the reply
-pub record Told : Type 0 where
+pub record BoxExchange : Type 0 where
   pub ask : Asking
   pub reply : Replied
 
-abbrev pub told_of : List ℕ → Replied → Result Asked ℕ → List Told
+abbrev pub told_of : List ℕ → Replied → Result Asked ℕ → List BoxExchange
 told_of name reply (Ok asked) =
     if bytes_eq asked.name name then record { ask = asked.ask; reply = reply } ∷ [] else []
 told_of name reply (Err kind) = []
 
 -- the requests for the box of a name that were answered, in order
-abbrev pub told : List ℕ → List Exchange → List Told
+abbrev pub told : List ℕ → List Exchange → List BoxExchange
 told name exchanges = flat_map (λ e. told_of name e.reply e.asked) exchanges
 
-abbrev pub asks : List Told → List Asking
+abbrev pub asks : List BoxExchange → List Asking
 asks list = map (λ t. t.ask) list
 
-abbrev pub replies : List Told → List Replied
+abbrev pub replies : List BoxExchange → List Replied
 replies list = map (λ t. t.reply) list
 
 -- The box by itself gives the same replies to the requests for it, and is then what they alone make of it: no other box

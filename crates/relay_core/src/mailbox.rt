@@ -2,7 +2,7 @@
 
 ghost use Rattle.std.specs.Prelude.{◌≡◌, ◌≤◌, ◌==◌, not, filter, length, vec_capacity, IfOk};
 ghost use Rattle.dr_base.specs.Buffer.{Puts};
-ghost use Rattle.relay_core.specs.Boxes.{answer_of, empty_box, has_number, is_full, oldest, without};
+ghost use Rattle.relay_core.specs.Boxes.{answer_of, empty_box, has_number, is_full, oldest, without_number};
 ghost use Rattle.relay_core.specs.Lawful.{IsLawfulBox};
 ghost use Rattle.relay_wire.specs.Frames.{framed};
 ghost use Rattle.relay_wire.specs.Replies.{reply_body};
@@ -123,7 +123,7 @@ impl Mailbox {
 
     /// Drops the packet of a number.
     fn drop_number(&mut self, number: u64)
-        ensures { self.new ≡ without self.old number }
+        ensures { self.new ≡ without_number self.old number }
     {
         drop_number(&mut self.packets, number);
     }

@@ -6,7 +6,7 @@ ghost use Rattle.dr_base.specs.Buffer.{Puts};
 ghost use Rattle.grammar.specs.Printer.{HasRoom, print_items};
 ghost use Rattle.relay_core.specs.declared.limits.TheConstants.{BOX_LIMIT, RECORD_LIMIT};
 ghost use Rattle.relay_core.specs.Lawful.{IsLawfulBox};
-ghost use Rattle.relay_core.specs.Record.{box_text, head_text, kept_text};
+ghost use Rattle.relay_core.specs.Record.{box_text, head_text, kept_packet_text};
 
 use crate::kept_packet::KeptPacket;
 use crate::mailbox::Mailbox;
@@ -31,8 +31,8 @@ fn put_head(out: &mut [u8], name: &Name, last: u64, count: usize) -> usize
 
 /// Puts a packet after its number at a place.
 fn put_kept(out: &mut [u8], at: usize, kept: &KeptPacket) -> usize
-    requires { at + length (kept_text kept.now) ≤ length out.old }
-    ensures { Puts out.old out.new at (kept_text kept.now) result }
+    requires { at + length (kept_packet_text kept.now) ≤ length out.old }
+    ensures { Puts out.old out.new at (kept_packet_text kept.now) result }
 {
     let packet = kept.bytes();
     let at_size = put_u64(out, at, kept.number());
@@ -42,8 +42,8 @@ fn put_kept(out: &mut [u8], at: usize, kept: &KeptPacket) -> usize
 
 /// Puts packets at a place.
 fn put_packets(out: &mut [u8], at: usize, packets: &[KeptPacket]) -> usize
-    requires { at + length (print_items kept_text packets.now) ≤ length out.old }
-    ensures { Puts out.old out.new at (print_items kept_text packets.now) result }
+    requires { at + length (print_items kept_packet_text packets.now) ≤ length out.old }
+    ensures { Puts out.old out.new at (print_items kept_packet_text packets.now) result }
 {
     let mut next = at;
     'packets: for i in 0..packets.len() {

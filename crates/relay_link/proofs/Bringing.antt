@@ -10,7 +10,7 @@ use Rattle.relay_core.specs.declared.limits.TheConstants.{EXCHANGE_LIMIT}
 use Rattle.relay_pipe.specs.Exchanging.{Exchanges}
 use Rattle.relay_core.proofs.Served.{none_answered}
 use Rattle.relay_link.specs.Bringing.{IsBrought}
-use Rattle.relay_link.specs.Connections.{Behind, Connection, IsLawful, behind_of, coming_of, connected, exchanges_of, port_of}
+use Rattle.relay_link.specs.Connections.{Behind, LinkConnection, IsLawfulConnection, behind_of, replies_coming, fresh_connection, exchanges_of, connection_port}
 use Rattle.relay_link.specs.declared.limits.TheConstants.{SENT_LIMIT}
 
 abbrev sent_of : Option Told → List ℕ
@@ -26,8 +26,8 @@ pub same_boxes : (boxes : List Box) → (served boxes []).next ≡ boxes
 unfolding served
 same_boxes boxes = ap (λ (s : Served). s.next) (none_answered EXCHANGE_LIMIT boxes [] (omega arith))
 
-module _ (boxes : List Box) (kept : ℕ) (got put : List ℕ) (now : Connection) (told : Exchanges got put (port_of (connected kept boxes)) (port_of now))
-    (stands : behind_of now ≡ behind_of (connected kept boxes)) (lawful : IsLawful now) where
+module _ (boxes : List Box) (kept : ℕ) (got put : List ℕ) (now : LinkConnection) (told : Exchanges got put (connection_port (fresh_connection kept boxes)) (connection_port now))
+    (stands : behind_of now ≡ behind_of (fresh_connection kept boxes)) (lawful : IsLawfulConnection now) where
   sent : now.sent ≡ put
   sent = ap sent_of told
 
@@ -43,22 +43,22 @@ module _ (boxes : List Box) (kept : ℕ) (got put : List ℕ) (now : Connection)
   served_is : served now.start now.sent ≡ served boxes put
   served_is = ap₂ served start_is sent
 
-  coming_is : coming_of now ≡ flat_map reply_frame (take kept (served boxes put).exchanges)
+  coming_is : replies_coming now ≡ flat_map reply_frame (take kept (served boxes put).exchanges)
   coming_is = ap₂ (λ (k : ℕ) (s : Served). flat_map reply_frame (take k s.exchanges)) kept_is served_is
 
-  all_are : reply_bytes (served now.start now.sent) ≡ coming_of now ++ flat_map reply_frame (drop now.kept (exchanges_of now))
+  all_are : reply_bytes (served now.start now.sent) ≡ replies_coming now ++ flat_map reply_frame (drop now.kept (exchanges_of now))
   all_are =
       ap (flat_map reply_frame) (sym (take-append-drop now.kept (exchanges_of now)))
       ∙ flat_map-append reply_frame (take now.kept (exchanges_of now)) (drop now.kept (exchanges_of now))
 
-  got_is : got ≡ take now.at (coming_of now)
-  got_is = sym received ∙ ap (take now.at) all_are ∙ take-append-le now.at (coming_of now) _ lawful.received
+  got_is : got ≡ take now.at (replies_coming now)
+  got_is = sym received ∙ ap (take now.at) all_are ∙ take-append-le now.at (replies_coming now) _ lawful.received
 
   pub brought : IsBrought boxes kept got put now
   brought = record {
     sent = sent;
-    more = drop now.at (coming_of now);
-    came = ap (λ (b : List ℕ). b ++ drop now.at (coming_of now)) got_is ∙ take-append-drop now.at (coming_of now) ∙ coming_is;
+    more = drop now.at (replies_coming now);
+    came = ap (λ (b : List ℕ). b ++ drop now.at (replies_coming now)) got_is ∙ take-append-drop now.at (replies_coming now) ∙ coming_is;
     boxes_are = ap (λ (s : Served). s.next) served_is;
     ends = λ end. sym received ∙ end ∙ ap reply_bytes served_is;
     failed = λ some. subst (λ (p : List ℕ). (kept < length (served boxes put).exchanges) ⊎ (SENT_LIMIT ≤ length p)) sent

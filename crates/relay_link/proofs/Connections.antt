@@ -11,8 +11,8 @@ use Rattle.relay_core.specs.Streams.{Exchange, Served, prepend, reply_bytes, rep
 use Rattle.relay_core.specs.declared.limits.TheConstants.{EXCHANGE_LIMIT}
 use Rattle.relay_wire.specs.Frames.{frames_of}
 use Rattle.relay_core.proofs.Served.{none_answered}
-use Rattle.relay_link.specs.Connections.{Connection, HasLost, boxes_of, connected, exchanges_of, port_of, wire_of}
-use Rattle.relay_link.specs.Desks.{DeskNow, fresh}
+use Rattle.relay_link.specs.Connections.{LinkConnection, HasLost, boxes_now, fresh_connection, exchanges_of, connection_port, connection_wire}
+use Rattle.relay_link.specs.Desks.{DeskNow, fresh_desk}
 use Rattle.relay_link.specs.Serving.{IsServing}
 use Rattle.relay_link.specs.declared.limits.TheConstants.{REPLY_LIMIT}
 
@@ -30,7 +30,7 @@ all_served : (boxes : List Box) (more : List ℕ) → served boxes more ≡ serv
 unfolding served
 all_served boxes more = refl
 
-pub begins : (kept : ℕ) (boxes : List Box) → kept ≤ REPLY_LIMIT → IsServing (connected kept boxes) (fresh kept boxes) []
+pub begins : (kept : ℕ) (boxes : List Box) → kept ≤ REPLY_LIMIT → IsServing (fresh_connection kept boxes) (fresh_desk kept boxes) []
 begins kept boxes few = record {
   partial = omega arith;
   ahead = λ more. all_served boxes more ∙ ap (λ (xs : List Exchange). prepend xs (served_within EXCHANGE_LIMIT boxes (frames_of more))) (sym (nothing_served boxes));
@@ -44,15 +44,15 @@ begins kept boxes few = record {
 
 -- the same of a link's parts
 pub fresh_stands : (kept : ℕ) (start boxes : List Box) (items held : List ℕ) (desk : DeskNow) → kept ≤ REPLY_LIMIT → start ≡ boxes → items ≡ [] → held ≡ []
-    → desk ≡ fresh kept boxes → IsServing (record { start = start; kept = desk.kept; sent = items; at = 0; faults = 0 }) desk held
+    → desk ≡ fresh_desk kept boxes → IsServing (record { start = start; kept = desk.kept; sent = items; at = 0; faults = 0 }) desk held
 fresh_stands kept start boxes items held desk few one two three four =
     subst (λ (d : DeskNow). IsServing (record { start = start; kept = d.kept; sent = items; at = 0; faults = 0 }) d held) (sym four)
-    (subst (λ (s : List Box). IsServing (record { start = s; kept = kept; sent = items; at = 0; faults = 0 }) (fresh kept boxes) held) (sym one)
-    (subst (λ (b : List ℕ). IsServing (record { start = boxes; kept = kept; sent = b; at = 0; faults = 0 }) (fresh kept boxes) held) (sym two)
-    (subst (λ (b : List ℕ). IsServing (connected kept boxes) (fresh kept boxes) b) (sym three) (begins kept boxes few))))
+    (subst (λ (s : List Box). IsServing (record { start = s; kept = kept; sent = items; at = 0; faults = 0 }) (fresh_desk kept boxes) held) (sym one)
+    (subst (λ (b : List ℕ). IsServing (record { start = boxes; kept = kept; sent = b; at = 0; faults = 0 }) (fresh_desk kept boxes) held) (sym two)
+    (subst (λ (b : List ℕ). IsServing (fresh_connection kept boxes) (fresh_desk kept boxes) b) (sym three) (begins kept boxes few))))
 
-pub connected_is : (start boxes : List Box) (kept k : ℕ) (sent : List ℕ) (c : Connection) → c ≡ record { start = start; kept = kept; sent = sent; at = 0; faults = 0 }
-    → start ≡ boxes → kept ≡ k → sent ≡ [] → c ≡ connected k boxes
+pub connected_is : (start boxes : List Box) (kept k : ℕ) (sent : List ℕ) (c : LinkConnection) → c ≡ record { start = start; kept = kept; sent = sent; at = 0; faults = 0 }
+    → start ≡ boxes → kept ≡ k → sent ≡ [] → c ≡ fresh_connection k boxes
 connected_is start boxes kept k sent c is one two three =
     is ∙ ap (λ (s : List Box). record { start = s; kept = kept; sent = sent; at = 0; faults = 0 }) one
     ∙ ap (λ (n : ℕ). record { start = boxes; kept = n; sent = sent; at = 0; faults = 0 }) two
@@ -68,9 +68,9 @@ given_piece new bytes replies at count size next size_is fits is next_is front =
 
 -- ---- what stands
 
-module _ (c : Connection) (desk : DeskNow) (held : List ℕ) (is : IsServing c desk held) where
+module _ (c : LinkConnection) (desk : DeskNow) (held : List ℕ) (is : IsServing c desk held) where
   -- the boxes are the desk's
-  pub boxes_are : boxes_of c ≡ desk.boxes
+  pub boxes_are : boxes_now c ≡ desk.boxes
   boxes_are =
       ap (λ (b : List ℕ). (served c.start b).next) (sym (append-nil c.sent)) ∙ ap (λ (s : Served). s.next) (is.ahead [])
       ∙ ap (λ (b : List ℕ). (served_within desk.left desk.boxes (frames_of b)).next) (append-nil held)
@@ -85,7 +85,7 @@ module _ (c : Connection) (desk : DeskNow) (held : List ℕ) (is : IsServing c d
   -- ---- a receive
 
   module _ (count : ℕ) (fits : c.at + count ≤ length desk.replies) (piece : List ℕ) (given : piece ≡ take count (drop c.at desk.replies)) where
-    abbrev received : Connection
+    abbrev received : LinkConnection
     received = record c { at = c.at + count }
 
     piece_is : take count (drop c.at (reply_bytes (served c.start c.sent))) ≡ piece
@@ -93,8 +93,8 @@ module _ (c : Connection) (desk : DeskNow) (held : List ℕ) (is : IsServing c d
         ap (λ (b : List ℕ). take count (drop c.at b)) all_are ∙ ap (take count) (drop-append-le c.at desk.replies _ (omega (arith, fits)))
         ∙ take-append-le count (drop c.at desk.replies) _ (omega (arith, fits, length-drop c.at desk.replies)) ∙ sym given
 
-    pub gave : Gave piece (port_of c) (port_of received)
-    gave = ap (λ (b : List ℕ). Some (record { now = record { gives = λ sent. reply_bytes (served c.start sent); received = b; sent = c.sent; fate = (wire_of c).fate }; before = []; coming = nothing_comes; line = plain }))
+    pub gave : Gave piece (connection_port c) (connection_port received)
+    gave = ap (λ (b : List ℕ). Some (record { now = record { gives = λ sent. reply_bytes (served c.start sent); received = b; sent = c.sent; fate = (connection_wire c).fate }; before = []; coming = nothing_comes; line = plain }))
         (take-add c.at count (reply_bytes (served c.start c.sent)) ∙ ap (λ (b : List ℕ). take c.at (reply_bytes (served c.start c.sent)) ++ b) piece_is)
 
     pub serves_received : IsServing received desk held
@@ -110,7 +110,7 @@ module _ (c : Connection) (desk : DeskNow) (held : List ℕ) (is : IsServing c d
     }
 
   -- where no reply was lost, all have come
-  pub at_end : desk.answered ≤ desk.kept → length desk.replies ≤ c.at → IsAtEnd (wire_of c)
+  pub at_end : desk.answered ≤ desk.kept → length desk.replies ≤ c.at → IsAtEnd (connection_wire c)
   at_end none end =
       let whole : take c.kept (exchanges_of c) ≡ exchanges_of c = take_all c.kept (exchanges_of c) (omega (arith, none, is.count, is.same)) in
       let all : desk.replies ≡ reply_bytes (served c.start c.sent) = is.replies ∙ ap (flat_map reply_frame) whole in

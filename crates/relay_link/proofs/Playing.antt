@@ -24,12 +24,12 @@ use Rattle.sync_model.proofs.Pending.{not_cut, not_unread, pending}
 use Rattle.sync_model.proofs.Reading.{bytes_last}
 use Rattle.sync_model.proofs.Replying.{replies_count, replies_lawful, request_frames}
 use Rattle.sync_model.proofs.Staging.{comes_first, made_few, no_more, replies_of, reply_of, shown, staged, within}
-use Rattle.relay_link.specs.Connections.{Connection, wire_of}
+use Rattle.relay_link.specs.Connections.{LinkConnection, connection_wire}
 use Rattle.relay_link.specs.Playing.{IsSynced, synced}
 use Rattle.relay_link.specs.declared.limits.TheConstants.{SENT_LIMIT}
 use Rattle.relay_link.proofs.Requests.{back_lawful, begins_partial, bytes_short, frame_short, front_lawful, never_full, part_unanswered}
 
-module _ {S : Type 0} (p : Party S) (kept : ℕ) (s : S) (boxes : List Box) (replies : List Replied) (rest put : List ℕ) (now : Connection)
+module _ {S : Type 0} (p : Party S) (kept : ℕ) (s : S) (boxes : List Box) (replies : List Replied) (rest put : List ℕ) (now : LinkConnection)
     (is : IsSynced p kept s boxes replies rest put now) where
   abbrev course : Course S
   course = course_of p s replies
@@ -80,7 +80,7 @@ module _ {S : Type 0} (p : Party S) (kept : ℕ) (s : S) (boxes : List Box) (rep
           } in
           not_unread rest (is.brought.more ++ lost) bad (pending p s boxes replies carries asked (ap as_list waits)) frame reads
 
-      goes_on : IsPartial rest → IsAtEnd (wire_of now) → ⊥
+      goes_on : IsPartial rest → IsAtEnd (connection_wire now) → ⊥
       goes_on partial end =
           let carries : IsCarried p s boxes replies = record {
             lawful_boxes = is.lawful_boxes;
@@ -161,7 +161,7 @@ module _ {S : Type 0} (p : Party S) (kept : ℕ) (s : S) (boxes : List Box) (rep
 -- ---- the law
 
 module _ {S : Type 0} (p : Party S) (kept : ℕ) (s : S) (boxes : List Box) (replies : List Replied) where
-  pub ended : (now : Connection) → IsSynced p kept s boxes replies [] [] now → (ending : Ending) → (course_of p s replies).wait ≡ over ending
+  pub ended : (now : LinkConnection) → IsSynced p kept s boxes replies [] [] now → (ending : Ending) → (course_of p s replies).wait ≡ over ending
       → scene p kept s boxes ≡ synced p s replies now
   ended now is ending is_over =
       let requests = (course_of p s replies).requests in
@@ -170,7 +170,7 @@ module _ {S : Type 0} (p : Party S) (kept : ℕ) (s : S) (boxes : List Box) (rep
       plays p kept s boxes replies [] [] now is (append-nil (request_bytes requests) ∙ ap request_bytes (sym none)) (inl (ending, is_over))
 
   -- where it has broken off otherwise, what was printed so far begins what the scene prints
-  pub shown_so : (now : Connection) → IsSynced p kept s boxes replies [] [] now
+  pub shown_so : (now : LinkConnection) → IsSynced p kept s boxes replies [] [] now
       → Begins (all_lines p (course_of p s replies)) (all_lines p (scene p kept s boxes).course)
   shown_so now is =
       let course = course_of p s replies in
@@ -190,17 +190,17 @@ module _ {S : Type 0} (p : Party S) (kept : ℕ) (s : S) (boxes : List Box) (rep
         came = sym (append_assoc (replied_bytes replies) is.brought.more all.0) ∙ ap (λ (b : List ℕ). b ++ all.0) came ∙ sym all.1;
       })
 
-  pub broken : (rest put : List ℕ) (now : Connection) → IsSynced p kept s boxes replies rest put now → (asked : Asked)
+  pub broken : (rest put : List ℕ) (now : LinkConnection) → IsSynced p kept s boxes replies rest put now → (asked : Asked)
       → asked_in p (course_of p s replies).state (course_of p s replies).wait ≡ Some asked → (left : List ℕ) → request_frame asked ≡ put ++ left → 0 < now.faults
       → scene p kept s boxes ≡ synced p s replies now
   broken rest put now is asked waits left split some = breaks p kept s boxes replies rest put now is asked waits left split some
 
-  pub always_read : (rest : List ℕ) (now : Connection) (asked : Asked) → IsSynced p kept s boxes replies rest (request_frame asked) now
+  pub always_read : (rest : List ℕ) (now : LinkConnection) (asked : Asked) → IsSynced p kept s boxes replies rest (request_frame asked) now
       → asked_in p (course_of p s replies).state (course_of p s replies).wait ≡ Some asked → (bad : BadReply) → IsFrame rest → read_reply (drop 2 rest) ≡ Err bad → ⊥
   always_read rest now asked is waits bad frame reads =
       read p kept s boxes replies rest (request_frame asked) now is (all_sent p kept s boxes replies rest (request_frame asked) now is asked waits refl) asked waits bad frame reads
 
-  pub never_ends : (rest : List ℕ) (now : Connection) (asked : Asked) → IsSynced p kept s boxes replies rest (request_frame asked) now
-      → asked_in p (course_of p s replies).state (course_of p s replies).wait ≡ Some asked → IsPartial rest → IsAtEnd (wire_of now) → ⊥
+  pub never_ends : (rest : List ℕ) (now : LinkConnection) (asked : Asked) → IsSynced p kept s boxes replies rest (request_frame asked) now
+      → asked_in p (course_of p s replies).state (course_of p s replies).wait ≡ Some asked → IsPartial rest → IsAtEnd (connection_wire now) → ⊥
   never_ends rest now asked is waits partial end =
       goes_on p kept s boxes replies rest (request_frame asked) now is (all_sent p kept s boxes replies rest (request_frame asked) now is asked waits refl) asked waits partial end

@@ -7,12 +7,12 @@ use Rattle.std.proofs.lemmas.List.{length-append, length_push, take-append-drop,
 use Rattle.dr_ports.specs.MemoryWires.{nothing_comes, plain}
 use Rattle.dr_ports.specs.Wires.{Took}
 use Rattle.relay_core.specs.Boxes.{Box, answers_read}
-use Rattle.relay_core.specs.Streams.{Exchange, Served, and_then, boxes_after, exchange_of, is_last, nothing_served, prepend, served, served_within, reply_bytes, reply_frame}
+use Rattle.relay_core.specs.Streams.{Exchange, Served, exchange_then, boxes_after, exchange_of, is_last, nothing_served, prepend, served, served_within, reply_bytes, reply_frame}
 use Rattle.relay_wire.specs.Frames.{IsFrame, IsPartial, frames_of}
 use Rattle.relay_wire.specs.Requests.{read_request}
 use Rattle.relay_wire.proofs.Joining.{frames_join, no_frames}
 use Rattle.relay_core.proofs.Served.{none_answered, served_nothing}
-use Rattle.relay_link.specs.Connections.{Connection, HasLost, coming_of, exchanges_of, port_of, wire_of}
+use Rattle.relay_link.specs.Connections.{LinkConnection, HasLost, replies_coming, exchanges_of, connection_port, connection_wire}
 use Rattle.relay_link.specs.Desks.{DeskNow, after_frame, frame_left}
 use Rattle.relay_link.specs.Serving.{IsServing}
 use Rattle.relay_link.specs.declared.limits.TheConstants.{SENT_LIMIT}
@@ -29,7 +29,7 @@ desk_goes : (d : DeskNow) (frame : List ℕ) (fs : List (List ℕ)) (n : ℕ) �
 desk_goes d frame fs zero is = ap (λ (m : ℕ). prepend [] (served_within m d.boxes fs)) (sym is)
 desk_goes d frame fs (suc n) is = by_last (is_last (read_request (drop 2 frame)))
   where
-    by_last : (last : Bool) → and_then (exchange_of d.boxes frame) (if last then nothing_served (boxes_after d.boxes frame) else served_within n (boxes_after d.boxes frame) fs)
+    by_last : (last : Bool) → exchange_then (exchange_of d.boxes frame) (if last then nothing_served (boxes_after d.boxes frame) else served_within n (boxes_after d.boxes frame) fs)
         ≡ prepend (exchange_of d.boxes frame ∷ []) (served_within (if last then 0 else n) (boxes_after d.boxes frame) fs)
     by_last true = refl
     by_last false = refl
@@ -77,26 +77,26 @@ replies_longer d (suc n) frame = by_test (nat_lt d.answered d.kept)
 
 -- ---- the connection
 
-module _ (c : Connection) (desk : DeskNow) (held : List ℕ) (is : IsServing c desk held) (piece : List ℕ) where
-  abbrev sent : Connection
+module _ (c : LinkConnection) (desk : DeskNow) (held : List ℕ) (is : IsServing c desk held) (piece : List ℕ) where
+  abbrev sent : LinkConnection
   sent = record c { sent = c.sent ++ piece }
 
   grown : exchanges_of sent ≡ exchanges_of c ++ (served_within desk.left desk.boxes (frames_of (held ++ piece))).exchanges
   grown = ap (λ (s : Served). s.exchanges) (is.ahead piece)
 
   -- what was received is the same beginning
-  pub took : Took piece (port_of c) (port_of sent)
+  pub took : Took piece (connection_port c) (connection_port sent)
   took =
-      ap (λ (b : List ℕ). Some (record { now = record { gives = λ to. reply_bytes (served c.start to); received = b; sent = c.sent ++ piece; fate = (wire_of c).fate }; before = []; coming = nothing_comes; line = plain }))
+      ap (λ (b : List ℕ). Some (record { now = record { gives = λ to. reply_bytes (served c.start to); received = b; sent = c.sent ++ piece; fate = (connection_wire c).fate }; before = []; coming = nothing_comes; line = plain }))
       (ap (λ (xs : List Exchange). take c.at (flat_map reply_frame xs)) grown
       ∙ ap (take c.at) (flat_map-append reply_frame (exchanges_of c) (served_within desk.left desk.boxes (frames_of (held ++ piece))).exchanges)
       ∙ take-append-le c.at (reply_bytes (served c.start c.sent)) _ (omega (arith, is.received, ap length is.replies, few_bytes)))
     where
-      few_bytes : length (coming_of c) ≤ length (reply_bytes (served c.start c.sent))
+      few_bytes : length (replies_coming c) ≤ length (reply_bytes (served c.start c.sent))
       few_bytes =
-          let all : reply_bytes (served c.start c.sent) ≡ coming_of c ++ flat_map reply_frame (drop c.kept (exchanges_of c)) =
+          let all : reply_bytes (served c.start c.sent) ≡ replies_coming c ++ flat_map reply_frame (drop c.kept (exchanges_of c)) =
           ap (flat_map reply_frame) (sym (take-append-drop c.kept (exchanges_of c))) ∙ flat_map-append reply_frame (take c.kept (exchanges_of c)) (drop c.kept (exchanges_of c)) in
-          omega (arith, ap length all, length-append (coming_of c) (flat_map reply_frame (drop c.kept (exchanges_of c))))
+          omega (arith, ap length all, length-append (replies_coming c) (flat_map reply_frame (drop c.kept (exchanges_of c))))
 
   cause_stays : (more : List Exchange) → exchanges_of sent ≡ exchanges_of c ++ more → HasLost c ⊎ (SENT_LIMIT ≤ length c.sent) → HasLost sent ⊎ (SENT_LIMIT ≤ length (c.sent ++ piece))
   cause_stays more are (inl lost) = inl (omega (arith, lost, ap length are, length-append (exchanges_of c) more))

@@ -10,7 +10,7 @@ use Rattle.relay_link.specs.declared.limits.TheConstants.{REPLY_LIMIT, SENT_LIMI
 
 -- A connection: the relay's boxes when it began, how many replies come on it, what was sent, how many bytes of the replies were
 -- received, and how often a call failed.
-pub record Connection : Type 0 where
+pub record LinkConnection : Type 0 where
   pub start : List Box
   pub kept : ℕ
   pub sent : List ℕ
@@ -18,20 +18,20 @@ pub record Connection : Type 0 where
   pub faults : ℕ
 
 -- before the first request
-abbrev pub connected : ℕ → List Box → Connection
-connected kept boxes = record { start = boxes; kept = kept; sent = []; at = 0; faults = 0 }
+abbrev pub fresh_connection : ℕ → List Box → LinkConnection
+fresh_connection kept boxes = record { start = boxes; kept = kept; sent = []; at = 0; faults = 0 }
 
 -- the frames that were answered, with their replies
-abbrev pub exchanges_of : Connection → List Exchange
+abbrev pub exchanges_of : LinkConnection → List Exchange
 exchanges_of c = (served c.start c.sent).exchanges
 
 -- the boxes after them
-abbrev pub boxes_of : Connection → List Box
-boxes_of c = (served c.start c.sent).next
+abbrev pub boxes_now : LinkConnection → List Box
+boxes_now c = (served c.start c.sent).next
 
 -- the replies that come, in bytes; those after them are lost
-abbrev pub coming_of : Connection → List ℕ
-coming_of c = flat_map reply_frame (take c.kept (exchanges_of c))
+abbrev pub replies_coming : LinkConnection → List ℕ
+replies_coming c = flat_map reply_frame (take c.kept (exchanges_of c))
 
 -- how many replies come: those before the lost one
 abbrev pub kept_before : Option ℕ → ℕ
@@ -40,17 +40,17 @@ kept_before (Some lost) = min (lost - 1) REPLY_LIMIT
 
 -- ---- as a pipe
 
-abbrev pub wire_of : Connection → Wire
-wire_of c = record {
+abbrev pub connection_wire : LinkConnection → Wire
+connection_wire c = record {
   gives = λ sent. reply_bytes (served c.start sent);
   received = take c.at (reply_bytes (served c.start c.sent));
   sent = c.sent;
   fate = untold_fate;
 }
 
-abbrev pub port_of : Connection → Port
-port_of c = record {
-  told = Some (record { now = wire_of c; before = []; coming = nothing_comes; line = plain });
+abbrev pub connection_port : LinkConnection → Port
+connection_port c = record {
+  told = Some (record { now = connection_wire c; before = []; coming = nothing_comes; line = plain });
   faults = faults_of c.faults 0;
 }
 
@@ -59,20 +59,20 @@ pub record Behind : Type 0 where
   pub boxes : List Box
   pub kept : ℕ
 
-abbrev pub behind_of : Connection → List ℕ → Behind
+abbrev pub behind_of : LinkConnection → List ℕ → Behind
 behind_of c sent = record { boxes = (served c.start sent).next; kept = c.kept }
 
-pub is_ahead : (c : Connection) → IsAhead (wire_of c)
-is_ahead c = (drop c.at (reply_bytes (served c.start c.sent)), sym (take-append-drop c.at (reply_bytes (served c.start c.sent))))
+pub connection_is_ahead : (c : LinkConnection) → IsAhead (connection_wire c)
+connection_is_ahead c = (drop c.at (reply_bytes (served c.start c.sent)), sym (take-append-drop c.at (reply_bytes (served c.start c.sent))))
 
 -- ---- where it fails
 
 -- a reply was lost
-abbrev pub HasLost : Connection → Type 0
+abbrev pub HasLost : LinkConnection → Type 0
 HasLost c = c.kept < length (exchanges_of c)
 
 -- Only replies that come were received. A call has failed only where a reply was lost, or where no more bytes are taken.
-pub record IsLawful (c : Connection) : Type 0 where
-  pub received : c.at ≤ length (coming_of c)
+pub record IsLawfulConnection (c : LinkConnection) : Type 0 where
+  pub received : c.at ≤ length (replies_coming c)
   pub few : c.kept ≤ REPLY_LIMIT
   pub failed : 0 < c.faults → HasLost c ⊎ (SENT_LIMIT ≤ length c.sent)

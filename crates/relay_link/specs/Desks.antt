@@ -15,8 +15,8 @@ pub record DeskNow : Type 0 where
   pub left : ℕ
 
 -- before the first frame
-abbrev pub fresh : ℕ → List Box → DeskNow
-fresh kept boxes = record { boxes = boxes; replies = []; kept = kept; answered = 0; left = EXCHANGE_LIMIT }
+abbrev pub fresh_desk : ℕ → List Box → DeskNow
+fresh_desk kept boxes = record { boxes = boxes; replies = []; kept = kept; answered = 0; left = EXCHANGE_LIMIT }
 
 -- the frame is answered; its reply comes, if it is one of the first
 abbrev pub answered_frame : DeskNow → ℕ → List ℕ → DeskNow

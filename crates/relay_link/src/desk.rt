@@ -3,7 +3,7 @@
 ghost use Rattle.std.specs.Prelude.{◌≡◌, ◌+◌, ◌*◌, ◌≤◌, ◌<◌, [], ◌++◌, length, map, nat_lt, take, IfOk};
 ghost use Rattle.relay_core.specs.Boxes.{empty_box};
 ghost use Rattle.relay_core.specs.declared.limits.TheConstants.{EXCHANGE_LIMIT};
-ghost use Rattle.relay_link.specs.Desks.{HasAnswered, after_frame, fresh};
+ghost use Rattle.relay_link.specs.Desks.{HasAnswered, after_frame, fresh_desk};
 ghost use Rattle.relay_link.specs.declared.limits.TheConstants.{REPLY_LIMIT};
 
 use crate::limits::REPLY_LIMIT;
@@ -42,7 +42,7 @@ impl Desk {
     /// The desk of a relay with empty boxes of these names, before its first connection's first
     /// frame.
     pub(crate) fn new(alloc: Global, names: &[Name]) -> Result<Desk, AllocError>
-        ensures { IfOk result (λ desk. desk ≡ fresh REPLY_LIMIT (map empty_box names.now)) }
+        ensures { IfOk result (λ desk. desk ≡ fresh_desk REPLY_LIMIT (map empty_box names.now)) }
     {
         Ok(Desk {
             relay: Relay::new(alloc, names)?,
@@ -57,7 +57,7 @@ impl Desk {
     /// Begins another connection on the boxes as they stand, on which this many replies come.
     pub(crate) fn begin(&mut self, kept: usize)
         requires { kept ≤ REPLY_LIMIT }
-        ensures { self.new ≡ fresh kept self.old.boxes }
+        ensures { self.new ≡ fresh_desk kept self.old.boxes }
     {
         self.replies.clear();
         self.kept = kept;

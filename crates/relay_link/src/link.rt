@@ -3,7 +3,7 @@
 ghost use Rattle.std.specs.Prelude.{◌≡◌, ◌↔◌, ◌-◌, ◌≤◌, min, length, map, IfOk, IsErr};
 ghost use Rattle.dr_ports.specs.Calls.{Receives, Sends};
 ghost use Rattle.relay_core.specs.Boxes.{empty_box};
-ghost use Rattle.relay_link.specs.Connections.{Behind, HasLost, IsLawful, behind_of, boxes_of, coming_of, connected, is_ahead, kept_before, port_of};
+ghost use Rattle.relay_link.specs.Connections.{Behind, HasLost, IsLawfulConnection, behind_of, boxes_now, replies_coming, fresh_connection, connection_is_ahead, kept_before, connection_port};
 ghost use Rattle.relay_link.specs.declared.limits.TheConstants.{REPLY_LIMIT, SENT_LIMIT};
 
 use crate::desk::Desk;
@@ -33,11 +33,11 @@ pub struct RelayLink {
 
 impl Model for RelayLink {
     ghost use Rattle.std.specs.Prelude.{◌≡◌, ◌≤◌, ◌+◌, length, vec_len, vec_capacity};
-    ghost use Rattle.relay_link.specs.Connections.{Connection};
+    ghost use Rattle.relay_link.specs.Connections.{LinkConnection};
     ghost use Rattle.relay_link.specs.Serving.{IsServing};
     ghost use Rattle.relay_link.specs.declared.limits.TheConstants.{SENT_LIMIT};
 
-    ghost Value = { Connection };
+    ghost Value = { LinkConnection };
 
     ghost view = { λ l. record { start = l.start.value; kept = l.desk.kept; sent = l.sent.items; at = l.at; faults = l.faults } };
 
@@ -61,7 +61,7 @@ impl RelayLink {
     /// A link to a relay with empty boxes of these names, on which no reply is lost. A relay has up
     /// to 16, no two alike.
     pub fn new(alloc: Global, names: &[Name]) -> Result<RelayLink, AllocError>
-        ensures { IfOk result (λ link. link ≡ connected REPLY_LIMIT (map empty_box names.now)) }
+        ensures { IfOk result (λ link. link ≡ fresh_connection REPLY_LIMIT (map empty_box names.now)) }
     {
         let desk = Desk::new(alloc, names)?;
         Ok(RelayLink {
@@ -78,7 +78,7 @@ impl RelayLink {
     /// number, from 1, is lost, and with it the link; without one no reply is lost. Faults are
     /// counted anew.
     pub fn connect(&mut self, lost: Option<u32>)
-        ensures { self.new ≡ connected (kept_before lost) (boxes_of self.old) }
+        ensures { self.new ≡ fresh_connection (kept_before lost) (boxes_now self.old) }
     {
         self.start = Snapshot::of(self.desk.relay());
         self.desk.begin(kept_before(lost));
@@ -90,29 +90,29 @@ impl RelayLink {
 
     /// The relay, with its boxes as they stand.
     pub fn relay(&self) -> &Relay
-        ensures boxes { result.now ≡ boxes_of self.now }
-        ensures lawful { IsLawful self.now }
+        ensures boxes { result.now ≡ boxes_now self.now }
+        ensures lawful { IsLawfulConnection self.now }
     {
         self.desk.relay()
     }
 }
 
 impl Pipe for RelayLink {
-    ghost port = { port_of };
+    ghost port = { connection_port };
 
     ghost Behind = { Behind };
 
     ghost behind = { λ l. behind_of l };
 
-    ghost ahead = { λ l. is_ahead l };
+    ghost ahead = { λ l. connection_is_ahead l };
 
     fn receive(&mut self, into: &mut [u8]) -> Result<usize, Failed>
-        ensures receives { Receives (port_of self.old) (port_of self.new) (behind_of self.old)
+        ensures receives { Receives (connection_port self.old) (connection_port self.new) (behind_of self.old)
             (behind_of self.new) into.old into.new result }
         ensures exact { IsErr result
-            ↔ (HasLost self.old × (self.old.at ≡ length (coming_of self.old))) }
+            ↔ (HasLost self.old × (self.old.at ≡ length (replies_coming self.old))) }
         ensures most { IfOk result
-            (λ count. count ≡ min (length into.old) (length (coming_of self.old) - self.old.at)) }
+            (λ count. count ≡ min (length into.old) (length (replies_coming self.old) - self.old.at)) }
         ensures stays { self.new ≡ record self.old { at = self.new.at; faults = self.new.faults } }
     {
         let left = self.desk.replies().len() - self.at;
@@ -127,7 +127,7 @@ impl Pipe for RelayLink {
     }
 
     fn send(&mut self, bytes: &[u8]) -> Result<usize, Failed>
-        ensures sends { Sends (port_of self.old) (port_of self.new) (behind_of self.old)
+        ensures sends { Sends (connection_port self.old) (connection_port self.new) (behind_of self.old)
             (behind_of self.new) bytes.now result }
         ensures exact { IsErr result ↔ (length self.old.sent ≡ SENT_LIMIT) }
         ensures stays { self.new

@@ -1,12 +1,12 @@
 -- What lies in none of a relay's areas, over two moments.
 use Rattle.std.proofs.Common.{◌≡◌, ◌≢◌, inl, inr, ℕ, ◌+◌, ◌<◌, ◌≤◌, List, refl, ◌∙◌, arith}
 use Rattle.std.proofs.lemmas.Bool.{cases_lt}
-use Rattle.slot_store.specs.Areas.{IsInside, IsOutside, IsSameOutside}
+use Rattle.slot_store.specs.Areas.{IsInArea, IsOutsideArea, IsSameOutsideArea}
 use Rattle.slot_store.proofs.Rows.{is_outside, is_within}
 use Rattle.relay_server.specs.Places.{SameBehind, area_of}
 
 -- two areas have no place in common
-pub area_apart : (j k i : ℕ) → j ≢ k → IsInside (area_of j) i → IsOutside (area_of k) i
+pub area_apart : (j k i : ℕ) → j ≢ k → IsInArea (area_of j) i → IsOutsideArea (area_of k) i
 area_apart j k i other inside =
     let here = is_within (area_of j) (omega arith) i inside in
     is_outside (area_of k) (omega arith) i (elim (cases_lt j k) [
@@ -31,7 +31,7 @@ behind_more m n d c le same = record {
 }
 
 -- what lies outside of one of them
-pub behind_one : (n k : ℕ) (d c : List ℕ) → k < n → IsSameOutside (area_of k) d c → SameBehind n d c
+pub behind_one : (n k : ℕ) (d c : List ℕ) → k < n → IsSameOutsideArea (area_of k) d c → SameBehind n d c
 behind_one n k d c inside same = record {
   size = same.size;
   outside = λ i out. same.outside i (out k inside);

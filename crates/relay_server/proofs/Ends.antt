@@ -15,8 +15,8 @@ use Rattle.relay_core.specs.declared.limits.TheConstants.{EXCHANGE_LIMIT}
 use Rattle.relay_core.specs.Boxes.{Box}
 use Rattle.relay_core.specs.Streams.{Exchange, Served, exchange_of, is_last, prepend, reply_bytes, reply_frame, served, served_within}
 use Rattle.relay_pipe.proofs.Exchanged.{both}
-use Rattle.relay_server.specs.Durable.{ServerNow, StandsForEither}
-use Rattle.relay_server.specs.Serving.{Exchanges, Idle, Came, reply_to, ReachedIn, Reached, IsAll, LastOrBefore, Answers, SoFar}
+use Rattle.relay_server.specs.Durable.{ServerNow, StandsForEitherBoxes}
+use Rattle.relay_server.specs.Serving.{Exchanges, Idle, Came, reply_to, ReachedIn, Reached, IsAll, LastOrBefore, AnswersStream, ServedSoFar}
 use Rattle.relay_server.proofs.Serve.{ended_with, serves_frame, so_served, with_frame, span_with, whole_with, flat_with, count_with}
 use Rattle.relay_server.specs.Places.{IsSameBehind}
 
@@ -30,7 +30,7 @@ nothing_left = no_frames [] (omega arith)
 same_span : (text : Box → List ℕ) (boxes : List Box) (frames : List (List ℕ)) (got : List ℕ) (a b : DiskState) → frames_of got ≡ frames → Span a b (λ c. ReachedIn text EXCHANGE_LIMIT boxes frames c × IsSameBehind (length boxes) a c) → Span a b (λ c. Reached text boxes got c × IsSameBehind (length boxes) a c)
 same_span text boxes frames got a b is span = subst (λ (fs : List (List ℕ)). Span a b (λ c. ReachedIn text EXCHANGE_LIMIT boxes fs c × IsSameBehind (length boxes) a c)) (sym is) span
 
-module _ (text : Box → List ℕ) (old : ServerNow) (boxes : List Box) (start now : Port) (dstart dnow : DiskState) (n : ℕ) (so : SoFar text EXCHANGE_LIMIT old boxes start now dstart dnow n) where
+module _ (text : Box → List ℕ) (old : ServerNow) (boxes : List Box) (start now : Port) (dstart dnow : DiskState) (n : ℕ) (so : ServedSoFar text EXCHANGE_LIMIT old boxes start now dstart dnow n) where
   pub frames_are : frames_of (flat so.frames) ≡ so.frames
   frames_are = ap frames_of (sym (append-nil (flat so.frames))) ∙ frames_join so.frames [] so.each ∙ ap (λ (fs : List (List ℕ)). so.frames ++ fs) nothing_left ∙ append-nil so.frames
 
@@ -46,7 +46,7 @@ module _ (text : Box → List ℕ) (old : ServerNow) (boxes : List Box) (start n
     total_served = served_is old.boxes so.frames got so.each ∙ ap (λ (fs : List (List ℕ)). served_within EXCHANGE_LIMIT old.boxes (so.frames ++ fs)) (no_frames got idle.partial)
         ∙ ap (served_within EXCHANGE_LIMIT old.boxes) (append-nil so.frames) ∙ so_served text EXCHANGE_LIMIT old boxes start now dstart dnow n so
 
-    pub idle_answers : Answers old.boxes next total (reply_bytes (served old.boxes total)) start after
+    pub idle_answers : AnswersStream old.boxes next total (reply_bytes (served old.boxes total)) start after
     idle_answers = record {
       exchanges =
           let put_is : flat_map reply_frame so.exs ++ [] ≡ reply_bytes (served old.boxes total) = append-nil (flat_map reply_frame so.exs) ∙ ap reply_bytes (sym total_served) in
@@ -95,19 +95,19 @@ module _ (text : Box → List ℕ) (old : ServerNow) (boxes : List Box) (start n
     pub came_boxes : length next ≡ length old.boxes
     came_boxes = count_with text EXCHANGE_LIMIT old boxes start now dstart dnow n so frame put next after dafter under came
 
-    pub came_stands : Always (StandsForEither text boxes next) dafter → LastOrBefore text old.boxes next whole dafter
+    pub came_stands : Always (StandsForEitherBoxes text boxes next) dafter → LastOrBefore text old.boxes next whole dafter
     came_stands each = record {
       front = so.frames;
       frame = frame;
       split = whole_frames;
-      each = subst (λ (bs : List Box). Always (StandsForEither text bs next) dafter) (sym (ap (λ (s : Served). s.next) (so_served text EXCHANGE_LIMIT old boxes start now dstart dnow n so))) each;
+      each = subst (λ (bs : List Box). Always (StandsForEitherBoxes text bs next) dafter) (sym (ap (λ (s : Served). s.next) (so_served text EXCHANGE_LIMIT old boxes start now dstart dnow n so))) each;
     }
 
     -- the replies, up to what was sent of the last
     pub came_bytes : reply_bytes (served old.boxes whole) ≡ flat_map reply_frame so.exs ++ reply_to boxes frame
     came_bytes = ap reply_bytes whole_served ∙ flat_map-append reply_frame so.exs (exchange_of boxes frame ∷ []) ∙ ap (λ (p : List ℕ). flat_map reply_frame so.exs ++ p) (append-nil (reply_to boxes frame))
 
-    pub came_answers : Answers old.boxes next whole (flat_map reply_frame so.exs ++ put) start after
+    pub came_answers : AnswersStream old.boxes next whole (flat_map reply_frame so.exs ++ put) start after
     came_answers = record {
       exchanges = both (flat so.frames) frame (flat_map reply_frame so.exs) put start now after so.exchanges came.exchanges;
       next_is = ap (λ (s : Served). s.next) (sym whole_served);
@@ -134,7 +134,7 @@ module _ (text : Box → List ℕ) (old : ServerNow) (boxes : List Box) (start n
     full_here : served old.boxes (flat so.frames) ≡ ended_with so.exs boxes
     full_here = ap (served old.boxes) (sym (append-nil (flat so.frames))) ∙ full_served []
 
-    pub full_answers : Answers old.boxes boxes (flat so.frames) (reply_bytes (served old.boxes (flat so.frames))) start now
+    pub full_answers : AnswersStream old.boxes boxes (flat so.frames) (reply_bytes (served old.boxes (flat so.frames))) start now
     full_answers = record {
       exchanges = subst (λ (p : List ℕ). Exchanges (flat so.frames) p start now) (ap reply_bytes (sym full_here)) so.exchanges;
       next_is = ap (λ (s : Served). s.next) (sym full_here);

@@ -16,15 +16,15 @@ use Rattle.relay_server.specs.declared.serving.Ended.{Ended}
 use Rattle.relay_server.specs.declared.serving.ServeFault.{ServeFault}
 use Rattle.relay_server.specs.declared.serving.ServeFault.TheVariants.{Read, Write, Store}
 use Rattle.relay_server.specs.declared.serving.Round.TheVariants.{AtEnd, Answered}
-use Rattle.relay_server.specs.Durable.{ServerNow, IsReady}
-use Rattle.relay_server.specs.Serving.{Exchanges, Rounds, IsServed, SoFar, reply_to}
+use Rattle.relay_server.specs.Durable.{ServerNow, IsServerReady}
+use Rattle.relay_server.specs.Serving.{Exchanges, Rounds, IsServed, ServedSoFar, reply_to}
 use Rattle.relay_server.proofs.Serve.{one_more_round}
 use Rattle.relay_server.proofs.Ends.{idle_answers, idle_boxes, idle_during, idle_count, idle_all, came_boxes, came_during, came_bytes, came_answers, came_count, came_last, came_stands, full_answers, full_during, full_count, full_all}
 
 pub rose_since : (a b c : ℕ) → a ≤ b → Rose b c → Rose a c
 rose_since a b c le rose = omega (arith, le, rose)
 
-module _ (text : Box → List ℕ) (old server new : ServerNow) (start now after : Port) (dstart dnow dafter : DiskState) (n : ℕ) (so : SoFar text EXCHANGE_LIMIT old server.boxes start now dstart dnow n) (under : n < EXCHANGE_LIMIT) where
+module _ (text : Box → List ℕ) (old server new : ServerNow) (start now after : Port) (dstart dnow dafter : DiskState) (n : ℕ) (so : ServedSoFar text EXCHANGE_LIMIT old server.boxes start now dstart dnow n) (under : n < EXCHANGE_LIMIT) where
   abbrev pub exit_fault : (fault : ServeFault) → IsQuiet dstart dnow → Rounds text server new now after dnow dafter (Err fault) → IsServed text old new start after dstart dafter (Err fault)
   exit_fault Read quiet r = record {
     got = flat so.frames ++ r.0;
@@ -96,10 +96,10 @@ module _ (text : Box → List ℕ) (old server new : ServerNow) (start now after
     );
   }
 
-  abbrev pub goes_on : (last : Bool) → last ≡ false → now.faults Flow ≤ after.faults Flow → Rounds text server new now after dnow dafter (Ok (Answered last)) → SoFar text EXCHANGE_LIMIT old new.boxes start after dstart dafter (n + 1)
+  abbrev pub goes_on : (last : Bool) → last ≡ false → now.faults Flow ≤ after.faults Flow → Rounds text server new now after dnow dafter (Ok (Answered last)) → ServedSoFar text EXCHANGE_LIMIT old new.boxes start after dstart dafter (n + 1)
   goes_on last not_last later r = one_more_round text EXCHANGE_LIMIT old server.boxes start now dstart dnow n so r.0 (reply_to server.boxes r.0) new.boxes after dafter under r.1 refl (sym r.2 ∙ not_last) later
 
-abbrev pub exit_full : (text : Box → List ℕ) (old server : ServerNow) (start now : Port) (dstart dnow : DiskState) (n : ℕ) → SoFar text EXCHANGE_LIMIT old server.boxes start now dstart dnow n → n ≡ EXCHANGE_LIMIT → IsReady text server dnow → IsQuiet dstart dnow → (ended : Ended) → ended.answered ≡ EXCHANGE_LIMIT
+abbrev pub exit_full : (text : Box → List ℕ) (old server : ServerNow) (start now : Port) (dstart dnow : DiskState) (n : ℕ) → ServedSoFar text EXCHANGE_LIMIT old server.boxes start now dstart dnow n → n ≡ EXCHANGE_LIMIT → IsServerReady text server dnow → IsQuiet dstart dnow → (ended : Ended) → ended.answered ≡ EXCHANGE_LIMIT
     → IsServed text old server start now dstart dnow (Ok ended)
 exit_full text old server start now dstart dnow n so full ready quiet ended is = record {
   got = flat so.frames;

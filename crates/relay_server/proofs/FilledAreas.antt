@@ -9,11 +9,11 @@ use Rattle.dr_disk.specs.Spans.{Span}
 use Rattle.dr_disk.specs.State.{Always, DiskState}
 use Rattle.dr_disk.proofs.Steps.{spans, widen}
 use Rattle.slot_store.specs.Areas.{Area, HasText}
-use Rattle.slot_store.specs.Laws.{IsLocal}
-use Rattle.slot_store.specs.Records.{recovered}
-use Rattle.slot_store.specs.Store.{IsOldOrNew, IsWithin, KeepsOutside, Rests, SlotStore, content}
+use Rattle.slot_store.specs.Laws.{DependsOnAreaAlone}
+use Rattle.slot_store.specs.Records.{stored_record}
+use Rattle.slot_store.specs.Store.{IsOldOrNew, HasArea, KeepsOutsideArea, Rests, SlotStore, content}
 use Rattle.relay_core.specs.Boxes.{Box, empty_box}
-use Rattle.relay_core.specs.Record.{box_text, head_text, kept_text}
+use Rattle.relay_core.specs.Record.{box_text, head_text, kept_packet_text}
 use Rattle.relay_server.specs.Durable.{IsReplaced}
 use Rattle.relay_server.specs.Places.{IsBoxRoom, area_of}
 use Rattle.relay_server.specs.Filling.{AreFilled, HasBox, IsFilling}
@@ -51,7 +51,7 @@ first_of xs ys some is = omega (arith, some, is, length-append {A = ℕ} xs ys)
 some_text : (box : Box) → length (box_text box) ≡ 0 → ⊥
 unfolding box_text
 some_text box is =
-    first_of (head_text box.name box.last (length box.packets)) (print_items kept_text box.packets)
+    first_of (head_text box.name box.last (length box.packets)) (print_items kept_packet_text box.packets)
     (let one : length (to_be_bytes w8 1) ≡ 1 = refl in omega (arith, one, length-append {A = ℕ} (to_be_bytes w8 1) (print_sized w8 box.name ++ (to_be_bytes w64 box.last ++ to_be_bytes w8 (length box.packets))))) is
 
 pub none_there : (n k : ℕ) (box : Box) (o : Option (List ℕ)) → HasBox n k box o → length (content_or_empty o) ≡ 0 → o ≡ None
@@ -71,10 +71,10 @@ stays_text n k box (Some s) t has is = has
 -- what a call in one area needs
 pub place_ready : (n : ℕ) (boxes : List Box) (stores : List SlotStore) (d : DiskState) (bytes : List ℕ) (len : ℕ)
     → AreFilled n boxes stores d → n < length boxes → IsBoxRoom bytes → len ≤ length bytes → (store : SlotStore) → slice_get stores n ≡ Some store
-    → HasText store.area bytes len × IsWithin store.area d × Always (Rests store) d
+    → HasText store.area bytes len × HasArea store.area d × Always (Rests store) d
 place_ready n boxes stores d bytes len filled inside room few store there =
     let area = filled.areas n store there in
-    (subst (λ (a : Area). HasText a bytes len) (sym area) (record { room = room; inside = few }), subst (λ (a : Area). IsWithin a d) (sym area) (omega (arith, inside, filled.within)), filled.rests n store there)
+    (subst (λ (a : Area). HasText a bytes len) (sym area) (record { room = room; inside = few }), subst (λ (a : Area). HasArea a d) (sym area) (omega (arith, inside, filled.within)), filled.rests n store there)
 
 pub stands_on : (n : ℕ) (boxes : List Box) (stores : List SlotStore) (d : DiskState) (store : SlotStore) (t : List ℕ) → AreFilled n boxes stores d → slice_get stores n ≡ Some store → content store ≡ Some t → AreFilled (n + 1) boxes stores d
 stands_on n boxes stores d store t filled here has = record {
@@ -101,8 +101,8 @@ pub record Put (n : ℕ) (boxes : List Box) (stores news : List SlotStore) (t : 
   pub written : (box : Box) → slice_get boxes n ≡ Some box → t ≡ box_text box
   pub others : (j : ℕ) → j ≢ n → slice_get news j ≡ slice_get stores j
   pub there : (old new : SlotStore) → slice_get stores n ≡ Some old → slice_get news n ≡ Some new → IsReplaced t old new start now done
-  pub local : IsLocal
-  pub resting : (store : SlotStore) (c : List ℕ) → Rests store c → recovered store.area c ≡ content store
+  pub local : DependsOnAreaAlone
+  pub resting : (store : SlotStore) (c : List ℕ) → Rests store c → stored_record store.area c ≡ content store
 
 empty_there : (n : ℕ) (box : Box) (text : Option (List ℕ)) → text ≡ None → HasBox n n box text → box ≡ empty_box box.name
 empty_there n box None is has = has.1
@@ -132,13 +132,13 @@ module _ (n : ℕ) (boxes : List Box) (stores news : List SlotStore) (t : List �
   old_area : the_old.0.area ≡ area_of n
   old_area = r.filled.areas n the_old.0 the_old.1
 
-  framed : (c : List ℕ) → KeepsOutside the_old.0.area start c
-      → KeepsOutside (area_of n) start c
+  framed : (c : List ℕ) → KeepsOutsideArea the_old.0.area start c
+      → KeepsOutsideArea (area_of n) start c
   framed = around_area n stores news t start now done one_store
 
   -- before, the area has no record
-  was_none : (d : List ℕ) → start.image d → recovered (area_of n) d ≡ None
-  was_none d left = ap (λ (a : Area). recovered a d) (sym old_area) ∙ r.resting the_old.0 d (r.filled.rests n the_old.0 the_old.1 d left) ∙ r.none the_old.0 the_old.1
+  was_none : (d : List ℕ) → start.image d → stored_record (area_of n) d ≡ None
+  was_none d left = ap (λ (a : Area). stored_record a d) (sym old_area) ∙ r.resting the_old.0 d (r.filled.rests n the_old.0 the_old.1 d left) ∙ r.none the_old.0 the_old.1
 
   empty_text : t ≡ box_text (empty_box the_box.0.name)
   empty_text = r.written the_box.0 the_box.1 ∙ ap box_text (empty_there n the_box.0 (content the_old.0) (r.none the_old.0 the_old.1) (r.filled.each n the_old.0 the_box.0 the_old.1 the_box.1))
@@ -146,9 +146,9 @@ module _ (n : ℕ) (boxes : List Box) (stores news : List SlotStore) (t : List �
   named : (box : Box) → slice_get boxes n ≡ Some box → the_box.0 ≡ box
   named box there = let e : Some the_box.0 ≡ Some box = sym the_box.1 ∙ there in cc
 
-  either : (c : List ℕ) (box : Box) → slice_get boxes n ≡ Some box → IsOldOrNew start the_old.0.area (content the_old.0) (Some t) c → (d : List ℕ) → start.image d → StaysOrBegins box.name (recovered (area_of n) d) (recovered (area_of n) c)
+  either : (c : List ℕ) (box : Box) → slice_get boxes n ≡ Some box → IsOldOrNew start the_old.0.area (content the_old.0) (Some t) c → (d : List ℕ) → start.image d → StaysOrBegins box.name (stored_record (area_of n) d) (stored_record (area_of n) c)
   either c box there o d left =
-      let at : recovered (area_of n) c ≡ recovered the_old.0.area c = ap (λ (a : Area). recovered a c) (sym old_area) in
+      let at : stored_record (area_of n) c ≡ stored_record the_old.0.area c = ap (λ (a : Area). stored_record a c) (sym old_area) in
       ⊎_elim (λ old. inl (at ∙ old ∙ r.none the_old.0 the_old.1 ∙ sym (was_none d left)))
       (λ new. inr (was_none d left, at ∙ new ∙ ap (λ (x : List ℕ). Some x) (empty_text ∙ ap (λ (b : Box). box_text (empty_box b.name)) (named box there)))) o.either
 
@@ -161,7 +161,7 @@ module _ (n : ℕ) (boxes : List Box) (stores news : List SlotStore) (t : List �
         each = λ k box there. elim (cases_eq k n) [
           | inl same ↦
               let here : slice_get boxes n ≡ Some box = subst (λ (m : ℕ). slice_get boxes m ≡ Some box) same there in
-              subst (λ (m : ℕ). StaysOrBegins box.name (recovered (area_of m) frame.0) (recovered (area_of m) c)) (sym same) (either c box here o frame.0 frame.1)
+              subst (λ (m : ℕ). StaysOrBegins box.name (stored_record (area_of m) frame.0) (stored_record (area_of m) c)) (sym same) (either c box here o frame.0 frame.1)
           | inr other ↦ inl (other_same r.local k n frame.0 c other frame.2)
         ];
         outside = behind_one (length boxes) n frame.0 c r.inside frame.2;

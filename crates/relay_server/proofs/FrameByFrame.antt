@@ -15,26 +15,26 @@ use Rattle.relay_server.specs.declared.serving.ServeFault.{ServeFault}
 use Rattle.relay_server.specs.declared.serving.ServeFault.TheVariants.{Read, Write, Store}
 use Rattle.relay_server.specs.declared.serving.Round.{Round}
 use Rattle.relay_server.specs.declared.serving.Round.TheVariants.{AtEnd, Answered}
-use Rattle.relay_server.specs.Durable.{IsReady, ServerNow}
-use Rattle.relay_server.specs.Serving.{Came, Idle, LeavesCounts, Rounds, SoFar, reply_to}
-use Rattle.relay_server.specs.FrameByFrame.{AreAnswered, IsAtRest, IsServedInOrder, after_frames, broke_off_in, ended_behind, none_yet, one_more}
+use Rattle.relay_server.specs.Durable.{IsServerReady, ServerNow}
+use Rattle.relay_server.specs.Serving.{Came, Idle, LeavesCounts, Rounds, ServedSoFar, reply_to}
+use Rattle.relay_server.specs.FrameByFrame.{AreAnswered, IsServerAtRest, IsServedInOrder, after_frames, broke_off_in, ended_behind, none_yet, one_more}
 use Rattle.relay_server.proofs.Serve.{with_frame}
 use Rattle.relay_server.proofs.Ends.{frames_are, total_frames, whole_frames}
 use Rattle.relay_server.proofs.Exits.{exit_end, exit_fault, exit_full, exit_last}
 
-pub at_rest : (text : Box → List ℕ) (boxes : List Box) (server : ServerNow) (disk : DiskState) → server.boxes ≡ boxes → IsReady text server disk → IsAtRest text boxes disk
+pub at_rest : (text : Box → List ℕ) (boxes : List Box) (server : ServerNow) (disk : DiskState) → server.boxes ≡ boxes → IsServerReady text server disk → IsServerAtRest text boxes disk
 at_rest text boxes server disk same ready = record {
   stores = server.stores;
-  ready = subst (λ (bs : List Box). IsReady text (record { boxes = bs; stores = server.stores }) disk) same ready;
+  ready = subst (λ (bs : List Box). IsServerReady text (record { boxes = bs; stores = server.stores }) disk) same ready;
 }
 
 module _ {X Y : Type 0} (state : X → DiskState) (port : Y → Port) (text : Box → List ℕ) where
-  pub nothing_answered : (old : ServerNow) (start : X) (from : Y) → IsReady text old (state start)
+  pub nothing_answered : (old : ServerNow) (start : X) (from : Y) → IsServerReady text old (state start)
       → AreAnswered state port text old.boxes start from [] old.boxes start from
   nothing_answered old start from ready = none_yet (at_rest text old.boxes old (state start) refl ready)
 
   module _ (old server new : ServerNow) (from pipe later : Y) (start disk next : X) (n : ℕ)
-      (so : SoFar text EXCHANGE_LIMIT old server.boxes (port from) (port pipe) (state start) (state disk) n)
+      (so : ServedSoFar text EXCHANGE_LIMIT old server.boxes (port from) (port pipe) (state start) (state disk) n)
       (under : n < EXCHANGE_LIMIT)
       (answered : AreAnswered state port text old.boxes start from so.frames server.boxes disk pipe) where
     -- the round after these
@@ -120,9 +120,9 @@ module _ {X Y : Type 0} (state : X → DiskState) (port : Y → Port) (text : Bo
     }
 
   pub order_full : (old server : ServerNow) (from pipe : Y) (start disk : X) (n : ℕ)
-      (so : SoFar text EXCHANGE_LIMIT old server.boxes (port from) (port pipe) (state start) (state disk) n)
+      (so : ServedSoFar text EXCHANGE_LIMIT old server.boxes (port from) (port pipe) (state start) (state disk) n)
       → AreAnswered state port text old.boxes start from so.frames server.boxes disk pipe → n ≡ EXCHANGE_LIMIT
-      → IsReady text server (state disk) → (ended : Ended) → LeavesCounts {E = ServeFault} state port start disk from pipe (Ok ended)
+      → IsServerReady text server (state disk) → (ended : Ended) → LeavesCounts {E = ServeFault} state port start disk from pipe (Ok ended)
       → ended.answered ≡ EXCHANGE_LIMIT → IsServedInOrder state port text old server start disk from pipe (Ok ended)
   order_full old server from pipe start disk n so answered full ready ended counts is = record {
     served = exit_full text old server (port from) (port pipe) (state start) (state disk) n so full ready counts.quiet ended is;

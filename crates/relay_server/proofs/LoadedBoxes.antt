@@ -9,8 +9,8 @@ use Rattle.relay_core.specs.Loading.{Loads}
 use Rattle.relay_core.specs.declared.loading.Loaded.TheVariants.{OtherName, Taken}
 use Rattle.relay_core.specs.Boxes.{Box}
 use Rattle.relay_core.specs.Record.{box_fields, box_read, box_text, head_fields}
-use Rattle.relay_server.specs.Opening.{box_fault, fault_of}
-use Rattle.relay_server.specs.Filling.{AreLoaded, IsFirstOthers, IsKept, IsLoadedAt, IsOthers}
+use Rattle.relay_server.specs.Opening.{box_fault, box_fault_of}
+use Rattle.relay_server.specs.Filling.{AreLoaded, IsFirstOthers, IsBoxKept, IsLoadedAt, IsOthers}
 use Rattle.relay_server.proofs.OneStore.{there_is}
 
 -- ---- a record is never empty
@@ -31,7 +31,7 @@ some_there (Some t) text is more = ap (λ (x : List ℕ). Some x) (sym is)
 
 -- ---- one box
 
-ok_of : (r : Result Box ℕ) → fault_of r ≡ None → (b : Box) × (r ≡ Ok b)
+ok_of : (r : Result Box ℕ) → box_fault_of r ≡ None → (b : Box) × (r ≡ Ok b)
 ok_of (Ok b) is = (b, refl)
 ok_of (Err at) is = absurd (let e : Some at ≡ None = is in cc)
 
@@ -100,7 +100,7 @@ loaded_on n old boxes news stores store so_far here one = record {
         let e : Some store ≡ Some other = sym here ∙ at in
         let f : store ≡ other = cc in
         let first : slice_get boxes n ≡ Some was = so_far.others n (from_itself n) ∙ subst (λ (m : ℕ). slice_get old m ≡ Some was) same wased in
-        subst (λ (x : SlotStore). IsKept was box (content x)) f (one.2 was box first (subst (λ (m : ℕ). slice_get news m ≡ Some box) same boxed))
+        subst (λ (x : SlotStore). IsBoxKept was box (content x)) f (one.2 was box first (subst (λ (m : ℕ). slice_get news m ≡ Some box) same boxed))
     | inr another ↦ so_far.loaded k was box other (omega (arith, less, another)) wased (sym (one.1 k another) ∙ boxed) there
   ];
   others = λ k from. one.1 k (λ same. omega (arith, same, from)) ∙ so_far.others k (omega (arith, from));

@@ -3,9 +3,9 @@ use Rattle.std.proofs.Common.{◌≡◌, ◌≢◌, inl, inr, ℕ, zero, suc, �
 use Rattle.std.specs.Prelude.{slice_get}
 use Rattle.std.proofs.lemmas.Bool.{cases_eq}
 use Rattle.dr_disk.specs.State.{Always, DiskState}
-use Rattle.slot_store.specs.Areas.{Area, IsSameOutside}
-use Rattle.slot_store.specs.Laws.{IsLocal, SameWithin}
-use Rattle.slot_store.specs.Store.{KeepsOutside, Rests, SlotStore}
+use Rattle.slot_store.specs.Areas.{Area, IsSameOutsideArea}
+use Rattle.slot_store.specs.Laws.{DependsOnAreaAlone, SameWithin}
+use Rattle.slot_store.specs.Store.{KeepsOutsideArea, Rests, SlotStore}
 use Rattle.relay_server.specs.Durable.{IsReplaced}
 use Rattle.relay_server.specs.Places.{area_of}
 use Rattle.relay_server.proofs.Behind.{area_apart}
@@ -16,7 +16,7 @@ there_is (x ∷ xs) zero inside = (x, refl)
 there_is (x ∷ xs) (suc k) inside = there_is xs k (omega (arith, inside))
 
 -- what changes in one area alone is the same in each other
-pub apart : (j k : ℕ) (c d : List ℕ) → j ≢ k → IsSameOutside (area_of k) d c → SameWithin (area_of j) c d
+pub apart : (j k : ℕ) (c d : List ℕ) → j ≢ k → IsSameOutsideArea (area_of k) d c → SameWithin (area_of j) c d
 apart j k c d other same = record {
   size = same.size;
   bytes = λ i inside. same.outside i (area_apart j k i other inside);
@@ -30,7 +30,7 @@ pub record OneReplaced (n : ℕ) (stores news : List SlotStore) (t : List ℕ) (
   pub count : length news ≡ length stores
   pub others : (j : ℕ) → j ≢ n → slice_get news j ≡ slice_get stores j
   pub there : (old new : SlotStore) → slice_get stores n ≡ Some old → slice_get news n ≡ Some new → IsReplaced t old new start now done
-  pub local : IsLocal
+  pub local : DependsOnAreaAlone
 
 module _ (n : ℕ) (stores news : List SlotStore) (t : List ℕ) (start now : DiskState) (done : Bool) (r : OneReplaced n stores news t start now done) where
   -- before and after
@@ -47,9 +47,9 @@ module _ (n : ℕ) (stores news : List SlotStore) (t : List ℕ) (start now : Di
   is_new j store same there =
       let e : Some new_store.0 ≡ Some store = sym new_store.1 ∙ subst (λ (m : ℕ). slice_get news m ≡ Some store) same there in cc
 
-  pub around_area : (c : List ℕ) → KeepsOutside old_store.0.area start c
-      → KeepsOutside (area_of n) start c
-  around_area c f = subst (λ (a : Area). KeepsOutside a start c) (r.areas n old_store.0 old_store.1) f
+  pub around_area : (c : List ℕ) → KeepsOutsideArea old_store.0.area start c
+      → KeepsOutsideArea (area_of n) start c
+  around_area c f = subst (λ (a : Area). KeepsOutsideArea a start c) (r.areas n old_store.0 old_store.1) f
 
   pub new_areas : (j : ℕ) (store : SlotStore) → slice_get news j ≡ Some store → store.area ≡ area_of j
   new_areas j store there = elim (cases_eq j n) [

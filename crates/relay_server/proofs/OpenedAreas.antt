@@ -7,25 +7,25 @@ use Rattle.dr_disk.specs.Calls.{Unwritten}
 use Rattle.dr_disk.specs.Spans.{IsQuiet, Span}
 use Rattle.dr_disk.specs.State.{Always, DiskState, IsLawful}
 use Rattle.dr_disk.proofs.Steps.{quiet_twice, spans, stays, widen}
-use Rattle.slot_store.specs.Areas.{Area, IsSameOutside}
+use Rattle.slot_store.specs.Areas.{Area, IsSameOutsideArea}
 use Rattle.slot_store.specs.AtRest.{IsReadAtRest}
 use Rattle.slot_store.specs.declared.opening.Found.{Found}
 use Rattle.slot_store.specs.declared.opening.Found.TheVariants.{Content, NoContent}
 use Rattle.slot_store.specs.Found.{found_as, has_content}
-use Rattle.slot_store.specs.Laws.{IsLocal, SameWithin}
+use Rattle.slot_store.specs.Laws.{DependsOnAreaAlone, SameWithin}
 use Rattle.slot_store.specs.Reading.{IsEntryOrLike, IsLikeRead, damaged}
-use Rattle.slot_store.specs.Records.{recovered}
+use Rattle.slot_store.specs.Records.{stored_record}
 use Rattle.slot_store.specs.Store.{Rests, SlotStore, content}
-use Rattle.relay_server.specs.Areas.{AreAtRest, AreOpened, AreRefused, HasLooked, IsAreaOpened, IsAreaRefused, IsLikeEntry, reading_of}
+use Rattle.relay_server.specs.Areas.{AreAtRest, AreOpened, AreRefused, HasLooked, IsAreaOpened, IsAreaRefused, IsLikeEntry, store_reading}
 use Rattle.relay_server.specs.Places.{SameBehind, area_of}
-use Rattle.relay_server.specs.Opening.{IsFirstDamaged, IsUnopened, IsWhole, OfRead, area_read, box_fault}
+use Rattle.relay_server.specs.Opening.{IsFirstDamaged, IsServerUnopened, IsUndamagedReading, OfRead, area_read, box_fault}
 use Rattle.relay_server.specs.declared.errors.ServerOpenError.{ServerOpenError}
 use Rattle.relay_server.specs.declared.errors.ServerOpenError.TheVariants.{BoxName, Damaged, Memory, StoreFault}
 use Rattle.relay_server.proofs.Behind.{area_apart, behind_more, behind_one, behind_self, behind_twice}
 use Rattle.relay_server.proofs.OneStore.{apart, there_is}
 
 -- a store was read as its record
-pub read_as : (found : Found) (text : Option (List ℕ)) → is_some text ≡ has_content found → found_as found text ≡ reading_of text
+pub read_as : (found : Found) (text : Option (List ℕ)) → is_some text ≡ has_content found → found_as found text ≡ store_reading text
 read_as NoContent None is = refl
 read_as NoContent (Some text) is = absurd (let e : true ≡ false = is in cc)
 read_as Content None is = refl
@@ -44,7 +44,7 @@ area_opened k store found start now area clean has read rest quiet = record {
 }
 
 -- a store's record is no damage
-pub whole_of : (text : Option (List ℕ)) → IsWhole (reading_of text)
+pub whole_of : (text : Option (List ℕ)) → IsUndamagedReading (store_reading text)
 whole_of None = tt
 whole_of (Some text) = tt
 
@@ -60,7 +60,7 @@ pub unlooked : (count : ℕ) (start : DiskState) → HasLooked count start start
 unlooked count start = record { during = stays start (IsLikeEntry count start); still = λ rest. record { seen = refl; images = λ c left. left } }
 
 -- why no area was opened is why no server is
-pub unopened : (names : List (List ℕ)) (start now : DiskState) (error : ServerOpenError) → AreRefused (length names) start now error → IsUnopened names start now error
+pub unopened : (names : List (List ℕ)) (start now : DiskState) (error : ServerOpenError) → AreRefused (length names) start now error → IsServerUnopened names start now error
 unopened names start now Memory is = is
 unopened names start now (StoreFault call) is = is
 unopened names start now (Damaged area slot at) is = is
@@ -83,10 +83,10 @@ pub entry_self : (count : ℕ) (start : DiskState) (c : List ℕ) → start.imag
 entry_self count start c left = record { entry = c; image = left; same = λ k. refl; outside = behind_self count c }
 
 -- where one area alone changes, each other is read as it was
-pub other_same : IsLocal → (j k : ℕ) (d c : List ℕ) → j ≢ k → IsSameOutside (area_of k) d c → recovered (area_of j) c ≡ recovered (area_of j) d
+pub other_same : DependsOnAreaAlone → (j k : ℕ) (d c : List ℕ) → j ≢ k → IsSameOutsideArea (area_of k) d c → stored_record (area_of j) c ≡ stored_record (area_of j) d
 other_same local j k d c other same = local.record_of (area_of j) c d (apart j k c d other same)
 
-module _ (local : IsLocal) (n count : ℕ) (start d now : DiskState) (stores : List SlotStore) (lawful : IsLawful d) (less : n < count)
+module _ (local : DependsOnAreaAlone) (n count : ℕ) (start d now : DiskState) (stores : List SlotStore) (lawful : IsLawful d) (less : n < count)
     (so_far : AreOpened n count stores start d) (span : Span d now (IsEntryOrLike (area_of n) d))
     (still : IsReadAtRest (area_of n) d → Unwritten d now) where
   entry_of : (c : List ℕ) → d.image c → IsLikeEntry count start c
@@ -99,7 +99,7 @@ module _ (local : IsLocal) (n count : ℕ) (start d now : DiskState) (stores : L
         entry = before.entry;
         image = before.image;
         same = λ k. elim (cases_eq k n) [
-          | inl here ↦ subst (λ (m : ℕ). recovered (area_of m) c ≡ recovered (area_of m) like.read) (sym here) like.same ∙ before.same k
+          | inl here ↦ subst (λ (m : ℕ). stored_record (area_of m) c ≡ stored_record (area_of m) like.read) (sym here) like.same ∙ before.same k
           | inr other ↦ other_same local k n like.read c other like.outside ∙ before.same k
         ];
         outside = behind_twice count before.entry like.read c before.outside (behind_one count n like.read c less like.outside);
@@ -133,7 +133,7 @@ module _ (local : IsLocal) (n count : ℕ) (start d now : DiskState) (stores : L
     inside = less;
     before = λ j below.
         let there = there_is stores j (omega (arith, so_far.count_is, below)) in
-        subst IsWhole (sym (so_far.read s was j there.0 there.1)) (whole_of (content there.0));
+        subst IsUndamagedReading (sym (so_far.read s was j there.0 there.1)) (whole_of (content there.0));
     here = let r = so_far.looked.during.told s was in unread s r.0 was r.1 ∙ here r.0 r.1;
   }
 
@@ -173,8 +173,8 @@ module _ (local : IsLocal) (n count : ℕ) (start d now : DiskState) (stores : L
       read = λ s was k other there.
           let r = so_far.looked.during.told s was in
           ⊎_elim (λ old. so_far.read s was k other old)
-          (λ new. subst (λ (m : ℕ). area_read m s ≡ reading_of (content other)) (sym (new.0 ∙ so_far.count_is))
-          (unread s r.0 was r.1 ∙ one.read r.0 r.1 ∙ ap (λ (x : SlotStore). reading_of (content x)) new.1)) (pushed stores store other k there);
+          (λ new. subst (λ (m : ℕ). area_read m s ≡ store_reading (content other)) (sym (new.0 ∙ so_far.count_is))
+          (unread s r.0 was r.1 ∙ one.read r.0 r.1 ∙ ap (λ (x : SlotStore). store_reading (content x)) new.1)) (pushed stores store other k there);
       untouched = λ s r was is.
           let like = reads r is in
           behind_twice (n + 1) s like.read r (behind_more n (n + 1) s like.read (omega arith) (so_far.untouched s like.read was like.told))

@@ -8,15 +8,15 @@ use Rattle.dr_disk.specs.declared.call.Call.{Call}
 use Rattle.dr_disk.specs.Spans.{Span}
 use Rattle.dr_disk.specs.State.{DiskState}
 use Rattle.dr_disk.proofs.Steps.{quiet_twice, spans, widen}
-use Rattle.slot_store.specs.Records.{recovered}
+use Rattle.slot_store.specs.Records.{stored_record}
 use Rattle.slot_store.specs.Store.{SlotStore, content}
 use Rattle.relay_core.specs.Boxes.{Box, empty_box}
-use Rattle.relay_server.specs.Areas.{AreOpened, HasLooked, IsLikeEntry, reading_of}
-use Rattle.relay_server.specs.Places.{HasRoom, SameBehind, area_of}
+use Rattle.relay_server.specs.Areas.{AreOpened, HasLooked, IsLikeEntry, store_reading}
+use Rattle.relay_server.specs.Places.{HasRoomForAreas, SameBehind, area_of}
 use Rattle.relay_server.specs.Durable.{ServerNow}
 use Rattle.relay_server.specs.Looking.{HasSettled, IsLooked}
-use Rattle.relay_server.specs.Filling.{AreFilled, AreLoaded, HasBox, IsFilling, IsFirstOthers, IsKept, IsOthers}
-use Rattle.relay_server.specs.Opening.{AreRead, GivesBox, HasOtherName, IsOpened, IsOpening, IsUnopened, IsWhole, StaysOrBegins}
+use Rattle.relay_server.specs.Filling.{AreFilled, AreLoaded, HasBox, IsFilling, IsFirstOthers, IsBoxKept, IsOthers}
+use Rattle.relay_server.specs.Opening.{AreBoxesRead, GivesBox, HasOtherName, IsServerOpened, IsOpening, IsServerUnopened, IsUndamagedReading, StaysOrBegins}
 use Rattle.relay_server.specs.declared.errors.ServerOpenError.TheVariants.{BoxName}
 use Rattle.relay_server.proofs.Behind.{behind_twice}
 use Rattle.relay_server.proofs.OpenedAreas.{entry_self, whole_of}
@@ -32,19 +32,19 @@ begins_as (n ∷ names) (suc k) name is = begins_as names k name is
 
 -- ---- by the text of one store
 
-gives_of : (name : List ℕ) (box : Box) (text : Option (List ℕ)) → IsKept (empty_box name) box text → GivesBox name box (reading_of text)
+gives_of : (name : List ℕ) (box : Box) (text : Option (List ℕ)) → IsBoxKept (empty_box name) box text → GivesBox name box (store_reading text)
 gives_of name box None is = is
 gives_of name box (Some text) is = (is.0, is.1)
 
-name_of : (name : List ℕ) (box : Box) (text : Option (List ℕ)) → IsKept (empty_box name) box text → box.name ≡ name
+name_of : (name : List ℕ) (box : Box) (text : Option (List ℕ)) → IsBoxKept (empty_box name) box text → box.name ≡ name
 name_of name box None is = ap (λ (b : Box). b.name) is
 name_of name box (Some text) is = is.1
 
-has_of : (k : ℕ) (name : List ℕ) (box : Box) (text : Option (List ℕ)) → IsKept (empty_box name) box text → HasBox 0 k box text
+has_of : (k : ℕ) (name : List ℕ) (box : Box) (text : Option (List ℕ)) → IsBoxKept (empty_box name) box text → HasBox 0 k box text
 has_of k name box None is = (omega arith, is ∙ ap (λ (b : Box). empty_box b.name) (sym is))
 has_of k name box (Some text) is = is.2
 
-other_of : (name : List ℕ) (text : Option (List ℕ)) → IsOthers (empty_box name) text → HasOtherName name (reading_of text)
+other_of : (name : List ℕ) (text : Option (List ℕ)) → IsOthers (empty_box name) text → HasOtherName name (store_reading text)
 other_of name None is = is
 other_of name (Some text) is = is
 
@@ -62,13 +62,13 @@ module _ (names : List (List ℕ)) (start mid : DiskState) (stores : List SlotSt
 
   -- ---- an area has the record of another box
 
-  pub other_name : (k : ℕ) → IsFirstOthers k (map empty_box names) stores → IsUnopened names start mid (BoxName k)
+  pub other_name : (k : ℕ) → IsFirstOthers k (map empty_box names) stores → IsServerUnopened names start mid (BoxName k)
   other_name k first = (
     omega (arith, first.inside, length-map names empty_box),
     opened.quiet,
     λ s was. record {
       inside = omega (arith, first.inside, length-map names empty_box);
-      whole = λ j inside. let at = store_at j inside in subst IsWhole (sym (opened.read s was j at.0 at.1)) (whole_of (content at.0));
+      whole = λ j inside. let at = store_at j inside in subst IsUndamagedReading (sym (opened.read s was j at.0 at.1)) (whole_of (content at.0));
       before = λ j name less named.
           let at = store_at j (omega (arith, slice_get_within names j name named)) in
           let box = first.before j (empty_box name) at.0 less (begins_as names j name named) at.1 in
@@ -85,7 +85,7 @@ module _ (names : List (List ℕ)) (start mid : DiskState) (stores : List SlotSt
     count_is : length boxes ≡ length names
     count_is = loaded.count ∙ length-map names empty_box
 
-    kept_at : (k : ℕ) (name : List ℕ) (box : Box) (store : SlotStore) → slice_get names k ≡ Some name → slice_get boxes k ≡ Some box → slice_get stores k ≡ Some store → IsKept (empty_box name) box (content store)
+    kept_at : (k : ℕ) (name : List ℕ) (box : Box) (store : SlotStore) → slice_get names k ≡ Some name → slice_get boxes k ≡ Some box → slice_get stores k ≡ Some store → IsBoxKept (empty_box name) box (content store)
     kept_at k name box store named boxed there =
         loaded.loaded k (empty_box name) box store (omega (arith, slice_get_within names k name named, length-map names empty_box)) (begins_as names k name named) boxed there
 
@@ -94,7 +94,7 @@ module _ (names : List (List ℕ)) (start mid : DiskState) (stores : List SlotSt
         let at = store_at k (slice_get_within names k name named) in
         name_of name box (content at.0) (kept_at k name box at.0 named boxed at.1)
 
-    to_fill : HasRoom (length names) start → AreFilled 0 boxes stores mid
+    to_fill : HasRoomForAreas (length names) start → AreFilled 0 boxes stores mid
     to_fill fits = record {
       count = opened.count_is ∙ sym count_is;
       within = omega (arith, fits, count_is, opened.looked.during.size);
@@ -105,7 +105,7 @@ module _ (names : List (List ℕ)) (start mid : DiskState) (stores : List SlotSt
           has_of k name.0 box (content store) (kept_at k name.0 box store name.1 boxed there);
     }
 
-    pub looked_then : HasRoom (length names) start → IsLooked names (with_stores boxes stores) start mid
+    pub looked_then : HasRoomForAreas (length names) start → IsLooked names (with_stores boxes stores) start mid
     looked_then fits = record {
       unsettled = to_fill fits;
       boxes = record {
@@ -130,8 +130,8 @@ module _ (names : List (List ℕ)) (start mid now : DiskState) (looked : ServerN
         image = like.image;
         each = λ k name named.
             let box = there_is looked.boxes k (omega (arith, slice_get_within names k name named, is_looked.boxes.count)) in
-            subst (λ (o : Option (List ℕ)). StaysOrBegins name o (recovered (area_of k) c)) (like.same k)
-            (subst (λ (n : List ℕ). StaysOrBegins n (recovered (area_of k) is.entry) (recovered (area_of k) c)) (is_looked.boxes.named k name box.0 named box.1) (is.each k box.0 box.1));
+            subst (λ (o : Option (List ℕ)). StaysOrBegins name o (stored_record (area_of k) c)) (like.same k)
+            (subst (λ (n : List ℕ). StaysOrBegins n (stored_record (area_of k) is.entry) (stored_record (area_of k) c)) (is_looked.boxes.named k name box.0 named box.1) (is.each k box.0 box.1));
         outside = behind_twice (length names) like.entry is.entry c like.outside (subst (λ (n : ℕ). SameBehind n is.entry c) is_looked.boxes.count is.outside);
       }
 
@@ -143,9 +143,9 @@ module _ (names : List (List ℕ)) (start mid now : DiskState) (looked : ServerN
   fault_then call rose = omega (arith, rose, looks.during.counts call)
 
   -- all areas have their boxes
-  pub opened_then : (server : ServerNow) → HasSettled looked server mid now → IsOpened names server start now
+  pub opened_then : (server : ServerNow) → HasSettled looked server mid now → IsServerOpened names server start now
   opened_then server settled = record {
     ready = settled.ready;
-    boxes = subst (λ (bs : List Box). AreRead names bs start) (sym settled.boxes) is_looked.boxes;
+    boxes = subst (λ (bs : List Box). AreBoxesRead names bs start) (sym settled.boxes) is_looked.boxes;
     quiet = quiet_twice start mid now is_looked.quiet settled.quiet;
   }

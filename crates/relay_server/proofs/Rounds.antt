@@ -11,7 +11,7 @@ use Rattle.relay_core.specs.Boxes.{Box, answers_read}
 use Rattle.relay_pipe.specs.Pulling.{Pulled}
 use Rattle.relay_pipe.specs.Exchanging.{exchanged}
 use Rattle.relay_pipe.proofs.Exchanged.{gave_exchanges, pulled_held}
-use Rattle.relay_server.specs.Durable.{StandsForEither}
+use Rattle.relay_server.specs.Durable.{StandsForEitherBoxes}
 use Rattle.relay_server.specs.Places.{IsSameBehind}
 use Rattle.relay_server.specs.Serving.{Came, Idle}
 
@@ -32,7 +32,7 @@ then_took got put (Some t) = refl
 pub came_part : (text : Box → List ℕ) (reader held : Held) (put : List ℕ) (old new : List Box) (start mid now : Port) (dstart dnow : DiskState)
     → reader.bytes ≡ [] → Pulled reader held start mid → IsFrame held.bytes → Took put mid now
     → new ≡ (answers_read old (read_request (drop 2 held.bytes))).next
-    → Span dstart dnow (λ c. StandsForEither text old new c × IsSameBehind (length old) dstart c)
+    → Span dstart dnow (λ c. StandsForEitherBoxes text old new c × IsSameBehind (length old) dstart c)
     → Came text held.bytes put old new start now dstart dnow
 came_part text reader held put old new start mid now dstart dnow fresh pulled whole took next during = record {
   exchanges =

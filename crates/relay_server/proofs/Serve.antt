@@ -13,12 +13,12 @@ use Rattle.relay_wire.specs.Requests.{read_request}
 use Rattle.relay_wire.specs.Frames.{IsFrame}
 use Rattle.relay_wire.proofs.Joining.{all_append, flat, flat_append}
 use Rattle.relay_core.specs.Boxes.{Box}
-use Rattle.relay_core.specs.Streams.{Exchange, Served, and_then, boxes_after, exchange_of, is_last, nothing_served, prepend, reply_frame, served_within}
+use Rattle.relay_core.specs.Streams.{Exchange, Served, exchange_then, boxes_after, exchange_of, is_last, nothing_served, prepend, reply_frame, served_within}
 use Rattle.relay_core.proofs.Changed.{change}
 use Rattle.relay_core.proofs.Served.{served_nothing}
 use Rattle.relay_pipe.proofs.Exchanged.{both, nothing_yet}
-use Rattle.relay_server.specs.Durable.{ServerNow, StandsFor}
-use Rattle.relay_server.specs.Serving.{Exchanges, Came, reply_to, ReachedIn, SoFar}
+use Rattle.relay_server.specs.Durable.{ServerNow, StandsForBoxes}
+use Rattle.relay_server.specs.Serving.{Exchanges, Came, reply_to, ReachedIn, ServedSoFar}
 use Rattle.relay_server.specs.Places.{SameBehind, IsSameBehind}
 use Rattle.relay_server.proofs.Behind.{behind_twice}
 
@@ -29,7 +29,7 @@ ended_with exs boxes = record { exchanges = exs; next = boxes }
 
 -- by whether the frame is the last
 abbrev by_last : List Box → List ℕ → ℕ → List (List ℕ) → Bool → Served
-by_last boxes frame n fs last = and_then (exchange_of boxes frame) (if last then nothing_served (boxes_after boxes frame) else served_within n (boxes_after boxes frame) fs)
+by_last boxes frame n fs last = exchange_then (exchange_of boxes frame) (if last then nothing_served (boxes_after boxes frame) else served_within n (boxes_after boxes frame) fs)
 
 one_more : (most n : ℕ) → n < most → (most - n) ≡ suc (most - (n + 1))
 one_more most n lt = omega (arith, lt)
@@ -42,7 +42,7 @@ serves_frame most n boxes frame fs last lt is =
 -- ---- before the first round
 
 module _ (text : Box → List ℕ) (most : ℕ) (old : ServerNow) where
-  abbrev pub nothing_so_far : (start : Port) (dstart : DiskState) → Span dstart dstart (λ c. ReachedIn text most old.boxes [] c × IsSameBehind (length old.boxes) dstart c) → SoFar text most old old.boxes start start dstart dstart 0
+  abbrev pub nothing_so_far : (start : Port) (dstart : DiskState) → Span dstart dstart (λ c. ReachedIn text most old.boxes [] c × IsSameBehind (length old.boxes) dstart c) → ServedSoFar text most old old.boxes start start dstart dstart 0
   nothing_so_far start dstart span = record {
     frames = [];
     each = tt;
@@ -55,7 +55,7 @@ module _ (text : Box → List ℕ) (most : ℕ) (old : ServerNow) where
     boxes_count = refl;
   }
 
-  module _ (boxes : List Box) (start now : Port) (dstart dnow : DiskState) (n : ℕ) (so : SoFar text most old boxes start now dstart dnow n) where
+  module _ (boxes : List Box) (start now : Port) (dstart dnow : DiskState) (n : ℕ) (so : ServedSoFar text most old boxes start now dstart dnow n) where
     -- what all the frames so far are answered
     pub so_served : served_within most old.boxes so.frames ≡ ended_with so.exs boxes
     so_served =
@@ -71,7 +71,7 @@ module _ (text : Box → List ℕ) (most : ℕ) (old : ServerNow) where
         where
           by_end : (last : Bool) → by_last boxes frame (most - (n + 1)) [] last ≡ ended_with (exchange_of boxes frame ∷ []) (boxes_after boxes frame)
           by_end true = refl
-          by_end false = ap (and_then (exchange_of boxes frame)) (served_nothing (most - (n + 1)) (boxes_after boxes frame))
+          by_end false = ap (exchange_then (exchange_of boxes frame)) (served_nothing (most - (n + 1)) (boxes_after boxes frame))
 
       -- what lies after the areas, of a moment of this round
       behind_with : (c : List ℕ) → IsSameBehind (length boxes) dnow c → IsSameBehind (length old.boxes) dstart c
@@ -84,8 +84,8 @@ module _ (text : Box → List ℕ) (most : ℕ) (old : ServerNow) where
           (widen dstart dnow _ _ (λ c r. (record { front = r.0.front; back = r.0.back ++ frame ∷ []; split = ap (λ (fs : List (List ℕ)). fs ++ frame ∷ []) r.0.split ∙ append_assoc r.0.front r.0.back (frame ∷ []); stands = r.0.stands }, r.1)) so.during)
           (widen dnow dafter _ _ (λ c e. (
             ⊎_elim
-                (λ before. record { front = so.frames; back = frame ∷ []; split = refl; stands = subst (λ (bs : List Box). StandsFor text bs c) (sym (ap (λ (s : Served). s.next) so_served)) before })
-                (λ behind. record { front = so.frames ++ frame ∷ []; back = []; split = sym (append-nil (so.frames ++ frame ∷ [])); stands = subst (λ (bs : List Box). StandsFor text bs c) (sym (ap (λ (s : Served). s.next) with_frame)) behind })
+                (λ before. record { front = so.frames; back = frame ∷ []; split = refl; stands = subst (λ (bs : List Box). StandsForBoxes text bs c) (sym (ap (λ (s : Served). s.next) so_served)) before })
+                (λ behind. record { front = so.frames ++ frame ∷ []; back = []; split = sym (append-nil (so.frames ++ frame ∷ [])); stands = subst (λ (bs : List Box). StandsForBoxes text bs c) (sym (ap (λ (s : Served). s.next) with_frame)) behind })
                 e.0,
             behind_with c e.1,
           )) came.during)
@@ -100,7 +100,7 @@ module _ (text : Box → List ℕ) (most : ℕ) (old : ServerNow) where
       count_with = ap length came.next ∙ (change boxes (read_request (drop 2 frame))).count ∙ so.boxes_count
 
       -- another round may follow
-      abbrev pub one_more_round : put ≡ reply_to boxes frame → is_last (read_request (drop 2 frame)) ≡ false → now.faults Flow ≤ after.faults Flow → SoFar text most old next start after dstart dafter (n + 1)
+      abbrev pub one_more_round : put ≡ reply_to boxes frame → is_last (read_request (drop 2 frame)) ≡ false → now.faults Flow ≤ after.faults Flow → ServedSoFar text most old next start after dstart dafter (n + 1)
       one_more_round is not_last later = record {
         frames = so.frames ++ frame ∷ [];
         each = whole_with;

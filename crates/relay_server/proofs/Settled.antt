@@ -7,7 +7,7 @@ use Rattle.dr_disk.specs.State.{DiskState}
 use Rattle.slot_store.specs.Store.{SlotStore, content}
 use Rattle.relay_core.specs.Boxes.{Box}
 use Rattle.relay_core.specs.Record.{box_text}
-use Rattle.relay_server.specs.Durable.{IsReady, ServerNow}
+use Rattle.relay_server.specs.Durable.{IsServerReady, ServerNow}
 use Rattle.relay_server.specs.Filling.{AreFilled, HasBox}
 use Rattle.relay_server.specs.Looking.{HasSettled}
 use Rattle.relay_server.proofs.Replacing.{with_stores}
@@ -16,7 +16,7 @@ has_text : (n k : ℕ) (box : Box) (text : Option (List ℕ)) → k < n → HasB
 has_text n k box None less has = absurd (omega (arith, less, has.0))
 has_text n k box (Some t) less has = ap (λ (x : List ℕ). Some x) has
 
-pub filled_ready : (boxes : List Box) (stores : List SlotStore) (disk : DiskState) → AreFilled (length boxes) boxes stores disk → IsReady box_text (with_stores boxes stores) disk
+pub filled_ready : (boxes : List Box) (stores : List SlotStore) (disk : DiskState) → AreFilled (length boxes) boxes stores disk → IsServerReady box_text (with_stores boxes stores) disk
 filled_ready boxes stores disk filled = record {
   count = filled.count;
   within = λ k inside. omega (arith, inside, filled.within);

@@ -3,8 +3,8 @@ use Rattle.std.specs.Prelude.{◌≡◌, ℕ, ◌<◌, List, length, slice_get, 
 use Rattle.dr_base.specs.Causes.{Rose}
 use Rattle.dr_disk.specs.Spans.{IsQuiet, Span}
 use Rattle.dr_disk.specs.State.{DiskState, Always}
-use Rattle.slot_store.specs.Reading.{IsLikeRead, Reading, damaged, holds, no_content}
-use Rattle.slot_store.specs.Records.{recovered}
+use Rattle.slot_store.specs.Reading.{IsLikeRead, AreaReading, damaged, holds, no_content}
+use Rattle.slot_store.specs.Records.{stored_record}
 use Rattle.slot_store.specs.Store.{Rests, SlotStore, content}
 use Rattle.dr_disk.specs.Calls.{Unwritten}
 use Rattle.slot_store.specs.AtRest.{IsReadAtRest}
@@ -14,15 +14,15 @@ use Rattle.relay_server.specs.declared.errors.ServerOpenError.{ServerOpenError}
 use Rattle.relay_server.specs.declared.errors.ServerOpenError.TheVariants.{BoxName, Damaged, Memory, StoreFault}
 
 -- what a store was read as
-abbrev pub reading_of : Option (List ℕ) → Reading
-reading_of None = no_content
-reading_of (Some text) = holds text
+abbrev pub store_reading : Option (List ℕ) → AreaReading
+store_reading None = no_content
+store_reading (Some text) = holds text
 
 -- one area was opened
 pub record IsAreaOpened (k : ℕ) (store : SlotStore) (start now : DiskState) : Type 0 where
   pub area : store.area ≡ area_of k
   pub clean : (text : List ℕ) → content store ≡ Some text → box_fault text ≡ None
-  pub read : (s : List ℕ) → start.seen ≡ Some s → area_read k s ≡ reading_of (content store)
+  pub read : (s : List ℕ) → start.seen ≡ Some s → area_read k s ≡ store_reading (content store)
   pub rests : Always (Rests store) now
   pub alike : Always (IsLikeRead (area_of k) start) now
   pub quiet : IsQuiet start now
@@ -39,7 +39,7 @@ IsAreaRefused k start now (BoxName j) = ⊥
 pub record IsLikeEntry (count : ℕ) (start : DiskState) (c : List ℕ) : Type 0 where
   pub entry : List ℕ
   pub image : start.image entry
-  pub same : (k : ℕ) → recovered (area_of k) c ≡ recovered (area_of k) entry
+  pub same : (k : ℕ) → stored_record (area_of k) c ≡ stored_record (area_of k) entry
   pub outside : SameBehind count entry c
 
 -- what a read gives has each of this many areas at rest
@@ -60,7 +60,7 @@ pub record AreOpened (n count : ℕ) (stores : List SlotStore) (start now : Disk
   pub areas : (k : ℕ) (store : SlotStore) → slice_get stores k ≡ Some store → store.area ≡ area_of k
   pub clean : (k : ℕ) (store : SlotStore) (text : List ℕ) → slice_get stores k ≡ Some store → content store ≡ Some text → box_fault text ≡ None
   pub rests : (k : ℕ) (store : SlotStore) → slice_get stores k ≡ Some store → Always (Rests store) now
-  pub read : OfRead start (λ s. (k : ℕ) (store : SlotStore) → slice_get stores k ≡ Some store → area_read k s ≡ reading_of (content store))
+  pub read : OfRead start (λ s. (k : ℕ) (store : SlotStore) → slice_get stores k ≡ Some store → area_read k s ≡ store_reading (content store))
   pub untouched : (s r : List ℕ) → start.seen ≡ Some s → now.seen ≡ Some r → SameBehind n s r
 
 -- why they weren't

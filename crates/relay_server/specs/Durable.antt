@@ -4,8 +4,8 @@ use Rattle.dr_base.specs.Causes.{Rose}
 use Rattle.dr_disk.specs.declared.call.Call.{Call}
 use Rattle.dr_disk.specs.State.{DiskState, Always}
 use Rattle.dr_disk.specs.Spans.{IsQuiet, Span}
-use Rattle.slot_store.specs.Records.{recovered}
-use Rattle.slot_store.specs.Store.{IsOldOrNew, IsWithin, KeepsOutside, Rests, SlotStore, content}
+use Rattle.slot_store.specs.Records.{stored_record}
+use Rattle.slot_store.specs.Store.{IsOldOrNew, HasArea, KeepsOutsideArea, Rests, SlotStore, content}
 use Rattle.relay_core.specs.Boxes.{Box}
 use Rattle.relay_server.specs.Places.{IsSameBehind, area_of}
 
@@ -15,20 +15,20 @@ pub record ServerNow : Type 0 where
   pub stores : List SlotStore
 
 -- bytes that stand for these boxes
-abbrev pub StandsFor : (Box → List ℕ) → List Box → List ℕ → Type 0
-StandsFor text boxes c = (k : ℕ) (box : Box) → slice_get boxes k ≡ Some box → recovered (area_of k) c ≡ Some (text box)
+abbrev pub StandsForBoxes : (Box → List ℕ) → List Box → List ℕ → Type 0
+StandsForBoxes text boxes c = (k : ℕ) (box : Box) → slice_get boxes k ≡ Some box → stored_record (area_of k) c ≡ Some (text box)
 
 -- Each image is at rest for the boxes.
-pub record IsReady (text : Box → List ℕ) (server : ServerNow) (disk : DiskState) : Type 0 where
+pub record IsServerReady (text : Box → List ℕ) (server : ServerNow) (disk : DiskState) : Type 0 where
   pub count : length server.stores ≡ length server.boxes
-  pub within : (k : ℕ) → k < length server.boxes → IsWithin (area_of k) disk
+  pub within : (k : ℕ) → k < length server.boxes → HasArea (area_of k) disk
   pub areas : (k : ℕ) (store : SlotStore) → slice_get server.stores k ≡ Some store → store.area ≡ area_of k
   pub holds : (k : ℕ) (store : SlotStore) (box : Box) → slice_get server.stores k ≡ Some store → slice_get server.boxes k ≡ Some box → content store ≡ Some (text box)
   pub rests : (k : ℕ) (store : SlotStore) → slice_get server.stores k ≡ Some store → Always (Rests store) disk
 
 -- bytes that stand for the boxes from before a request or from after it
-abbrev pub StandsForEither : (Box → List ℕ) → List Box → List Box → List ℕ → Type 0
-StandsForEither text before after c = StandsFor text before c ⊎ StandsFor text after c
+abbrev pub StandsForEitherBoxes : (Box → List ℕ) → List Box → List Box → List ℕ → Type 0
+StandsForEitherBoxes text before after c = StandsForBoxes text before c ⊎ StandsForBoxes text after c
 
 -- an error is a call that failed
 abbrev pub FailsByCall : {T : Type 0} → DiskState → DiskState → Result T Call → Type 0
@@ -39,10 +39,10 @@ FailsByCall start now result = IfErr result (λ call. Rose (start.faults call) (
 -- is at rest for the boxes from after it.
 pub record LeavesBoxes {T : Type 0} (text : Box → List ℕ) (old new : ServerNow)
     (start now : DiskState) (result : Result T Call) : Type 0 where
-  pub any_moment : Span start now (λ c. StandsForEither text old.boxes new.boxes c
+  pub any_moment : Span start now (λ c. StandsForEitherBoxes text old.boxes new.boxes c
       × IsSameBehind (length old.boxes) start c)
-  pub at_return : Always (StandsForEither text old.boxes new.boxes) now
-  pub ready : OnOk result (IsReady text new now)
+  pub at_return : Always (StandsForEitherBoxes text old.boxes new.boxes) now
+  pub ready : OnOk result (IsServerReady text new now)
   pub fault : FailsByCall start now result
   pub quiet : OnOk result (IsQuiet start now)
 
@@ -52,4 +52,4 @@ pub record IsReplaced (text : List ℕ) (old new : SlotStore) (start now : DiskS
   pub same : new.area ≡ old.area
   pub holds : done ≡ true → content new ≡ Some text
   pub rests : done ≡ true → Always (Rests new) now
-  pub outside : done ≡ true → Always (KeepsOutside old.area start) now
+  pub outside : done ≡ true → Always (KeepsOutsideArea old.area start) now

@@ -1,22 +1,22 @@
 -- The boxes are loaded, and each area without a record gets an empty box's.
 use Rattle.std.specs.Prelude.{◌≡◌, ◌≢◌, ℕ, ◌<◌, ◌≤◌, List, length, slice_get, Option, Some, None, Ok}
 use Rattle.dr_disk.specs.State.{DiskState, Always}
-use Rattle.slot_store.specs.Records.{recovered}
+use Rattle.slot_store.specs.Records.{stored_record}
 use Rattle.slot_store.specs.Store.{Rests, SlotStore, content}
 use Rattle.relay_core.specs.Boxes.{Box, empty_box}
 use Rattle.relay_core.specs.Record.{box_read, box_text}
-use Rattle.relay_server.specs.Places.{area_of, HasRoom, SameBehind}
+use Rattle.relay_server.specs.Places.{area_of, HasRoomForAreas, SameBehind}
 use Rattle.relay_server.specs.Opening.{StaysOrBegins}
 
 -- a box is the one of its store's record, and has the name that it had; without a record it is as it was
-abbrev pub IsKept : Box → Box → Option (List ℕ) → Type 0
-IsKept was box None = box ≡ was
-IsKept was box (Some text) = (box_read text ≡ Ok box) × (box.name ≡ was.name) × (text ≡ box_text box)
+abbrev pub IsBoxKept : Box → Box → Option (List ℕ) → Type 0
+IsBoxKept was box None = box ≡ was
+IsBoxKept was box (Some text) = (box_read text ≡ Ok box) × (box.name ≡ was.name) × (text ≡ box_text box)
 
 -- the first n boxes were loaded
 pub record AreLoaded (n : ℕ) (old boxes : List Box) (stores : List SlotStore) : Type 0 where
   pub count : length boxes ≡ length old
-  pub loaded : (k : ℕ) (was box : Box) (store : SlotStore) → k < n → slice_get old k ≡ Some was → slice_get boxes k ≡ Some box → slice_get stores k ≡ Some store → IsKept was box (content store)
+  pub loaded : (k : ℕ) (was box : Box) (store : SlotStore) → k < n → slice_get old k ≡ Some was → slice_get boxes k ≡ Some box → slice_get stores k ≡ Some store → IsBoxKept was box (content store)
   pub others : (k : ℕ) → n ≤ k → slice_get boxes k ≡ slice_get old k
 
 -- a store's record is that of a box of another name
@@ -27,14 +27,14 @@ IsOthers was (Some text) = (box : Box) × (box_read text ≡ Ok box) × (box.nam
 -- the first store with the record of another box
 pub record IsFirstOthers (k : ℕ) (old : List Box) (stores : List SlotStore) : Type 0 where
   pub inside : k < length old
-  pub before : (j : ℕ) (was : Box) (store : SlotStore) → j < k → slice_get old j ≡ Some was → slice_get stores j ≡ Some store → (box : Box) × IsKept was box (content store)
+  pub before : (j : ℕ) (was : Box) (store : SlotStore) → j < k → slice_get old j ≡ Some was → slice_get stores j ≡ Some store → (box : Box) × IsBoxKept was box (content store)
   pub here : (was : Box) (store : SlotStore) → slice_get old k ≡ Some was → slice_get stores k ≡ Some store → IsOthers was (content store)
 
 -- what became of the box at a place, by its store's record
 abbrev pub IsLoadedAt : ℕ → List Box → List Box → Option (List ℕ) → Type 0
 IsLoadedAt k old new text =
     (length new ≡ length old) × ((j : ℕ) → j ≢ k → slice_get new j ≡ slice_get old j)
-    × ((was box : Box) → slice_get old k ≡ Some was → slice_get new k ≡ Some box → IsKept was box text)
+    × ((was box : Box) → slice_get old k ≡ Some was → slice_get new k ≡ Some box → IsBoxKept was box text)
 
 -- ---- empty boxes
 
@@ -45,7 +45,7 @@ HasBox n k box (Some text) = text ≡ box_text box
 
 pub record AreFilled (n : ℕ) (boxes : List Box) (stores : List SlotStore) (disk : DiskState) : Type 0 where
   pub count : length stores ≡ length boxes
-  pub within : HasRoom (length boxes) disk
+  pub within : HasRoomForAreas (length boxes) disk
   pub areas : (k : ℕ) (store : SlotStore) → slice_get stores k ≡ Some store → store.area ≡ area_of k
   pub rests : (k : ℕ) (store : SlotStore) → slice_get stores k ≡ Some store → Always (Rests store) disk
   pub each : (k : ℕ) (store : SlotStore) (box : Box) → slice_get stores k ≡ Some store → slice_get boxes k ≡ Some box → HasBox n k box (content store)
@@ -53,5 +53,5 @@ pub record AreFilled (n : ℕ) (boxes : List Box) (stores : List SlotStore) (dis
 pub record IsFilling (boxes : List Box) (start : DiskState) (c : List ℕ) : Type 0 where
   pub entry : List ℕ
   pub image : start.image entry
-  pub each : (k : ℕ) (box : Box) → slice_get boxes k ≡ Some box → StaysOrBegins box.name (recovered (area_of k) entry) (recovered (area_of k) c)
+  pub each : (k : ℕ) (box : Box) → slice_get boxes k ≡ Some box → StaysOrBegins box.name (stored_record (area_of k) entry) (stored_record (area_of k) c)
   pub outside : SameBehind (length boxes) entry c

@@ -12,17 +12,17 @@ use Rattle.relay_core.specs.declared.limits.TheConstants.{EXCHANGE_LIMIT}
 use Rattle.relay_core.specs.Alone.{box_after}
 use Rattle.relay_core.specs.Boxes.{Box, box_of}
 use Rattle.relay_core.specs.Record.{box_text}
-use Rattle.relay_core.specs.Streams.{Served, Told, asks, served_within, told}
+use Rattle.relay_core.specs.Streams.{Served, BoxExchange, asks, served_within, told}
 use Rattle.slot_store.specs.Store.{SlotStore}
-use Rattle.relay_server.specs.Durable.{IsReady, ServerNow, StandsFor}
+use Rattle.relay_server.specs.Durable.{IsServerReady, ServerNow, StandsForBoxes}
 use Rattle.relay_server.specs.Serving.{Came, IsServed, LeavesCounts, reply_to}
 use Rattle.relay_server.specs.declared.serving.Ended.{Ended}
 use Rattle.relay_server.specs.declared.serving.ServeFault.{ServeFault}
 
 -- each image is at rest for these boxes
-pub record IsAtRest (text : Box → List ℕ) (boxes : List Box) (disk : DiskState) : Type 0 where
+pub record IsServerAtRest (text : Box → List ℕ) (boxes : List Box) (disk : DiskState) : Type 0 where
   pub stores : List SlotStore
-  pub ready : IsReady text (record { boxes = boxes; stores = stores }) disk
+  pub ready : IsServerReady text (record { boxes = boxes; stores = stores }) disk
 
 -- these frames, answered by these boxes
 abbrev pub after_frames : List Box → List (List ℕ) → Served
@@ -32,11 +32,11 @@ after_frames boxes frames = served_within EXCHANGE_LIMIT boxes frames
 -- after it. While one is answered each image stands for the boxes before it, or for those after it.
 pub data AreAnswered {X Y : Type 0} (state : X → DiskState) (port : Y → Port) (text : Box → List ℕ) (boxes : List Box)
     (start : X) (from : Y) : List (List ℕ) → List Box → X → Y → Type 0 where
-  none_yet : IsAtRest text boxes (state start) → AreAnswered state port text boxes start from [] boxes start from
+  none_yet : IsServerAtRest text boxes (state start) → AreAnswered state port text boxes start from [] boxes start from
   one_more : (frames : List (List ℕ)) (frame : List ℕ) (before after : List Box) (disk next : X) (pipe later : Y)
       → AreAnswered state port text boxes start from frames before disk pipe
       → Came text frame (reply_to before frame) before after (port pipe) (port later) (state disk) (state next)
-      → after ≡ (after_frames boxes (frames ++ frame ∷ [])).next → IsAtRest text after (state next)
+      → after ≡ (after_frames boxes (frames ++ frame ∷ [])).next → IsServerAtRest text after (state next)
       → AreAnswered state port text boxes start from (frames ++ frame ∷ []) after next later
 
 -- A whole connection, by the frames whose replies were sent whole, and what followed. That is at most a part of a frame,
@@ -47,14 +47,14 @@ pub data IsInOrder {X Y : Type 0} (state : X → DiskState) (port : Y → Port) 
   ended_behind : (behind : List Box) (disk : X) (pipe : Y) (part : List ℕ)
       → AreAnswered state port text boxes start from (frames_of got) behind disk pipe
       → Exchanges part [] (port pipe) (port door)
-      → Span (state disk) (state now) (λ c. ⊥) → IsAtRest text behind (state now)
+      → Span (state disk) (state now) (λ c. ⊥) → IsServerAtRest text behind (state now)
       → IsInOrder state port text boxes got start now from door
   broke_off_in : (frames : List (List ℕ)) (frame put rest : List ℕ) (before after : List Box) (disk : X) (pipe : Y)
       → frames_of got ≡ frames ++ frame ∷ []
       → AreAnswered state port text boxes start from frames before disk pipe
       → Came text frame put before after (port pipe) (port door) (state disk) (state now)
       → after ≡ (after_frames boxes (frames ++ frame ∷ [])).next → reply_to before frame ≡ put ++ rest
-      → (put ≡ []) ⊎ IsAtRest text after (state now)
+      → (put ≡ []) ⊎ IsServerAtRest text after (state now)
       → IsInOrder state port text boxes got start now from door
 
 -- one call of `serve`, as a whole and frame by frame, and what it counts
@@ -90,13 +90,13 @@ is_accepting acked = true
 is_accepting _ = false
 
 -- the requests that were accepted
-abbrev pub accepted : List Told → List Told
+abbrev pub accepted : List BoxExchange → List BoxExchange
 accepted list = filter (λ t. is_accepting t.reply) list
 
 -- Bytes that stand for the boxes after these frames, or after one more: each is what its own accepted requests made of it.
 pub record StandsForSent (boxes : List Box) (frames : List (List ℕ)) (c : List ℕ) : Type 0 where
   pub front : List (List ℕ)
   pub reach : (front ≡ frames) ⊎ ((frame : List ℕ) × (front ≡ frames ++ frame ∷ []))
-  pub stands : StandsFor box_text (after_frames boxes front).next c
+  pub stands : StandsForBoxes box_text (after_frames boxes front).next c
   pub alone : (name : List ℕ) → box_of name (after_frames boxes front).next
       ≡ box_after (box_of name boxes) (asks (accepted (told name (after_frames boxes front).exchanges)))

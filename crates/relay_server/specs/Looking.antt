@@ -4,9 +4,9 @@ use Rattle.dr_disk.specs.Spans.{IsQuiet}
 use Rattle.dr_disk.specs.State.{DiskState}
 use Rattle.relay_core.specs.Record.{box_text}
 use Rattle.relay_server.specs.Areas.{HasLooked}
-use Rattle.relay_server.specs.Durable.{IsReady, ServerNow}
+use Rattle.relay_server.specs.Durable.{IsServerReady, ServerNow}
 use Rattle.relay_server.specs.Filling.{AreFilled}
-use Rattle.relay_server.specs.Opening.{AreRead, IsUnopened}
+use Rattle.relay_server.specs.Opening.{AreBoxesRead, IsServerUnopened}
 use Rattle.relay_server.specs.declared.errors.ServerOpenError.{ServerOpenError}
 
 -- each area has the record of its box, or none where the box is empty
@@ -16,18 +16,18 @@ IsUnsettled server disk = AreFilled 0 server.boxes server.stores disk
 -- A server has the boxes that were read, and its areas are not settled.
 pub record IsLooked (names : List (List ℕ)) (server : ServerNow) (start now : DiskState) : Type 0 where
   pub unsettled : IsUnsettled server now
-  pub boxes : AreRead names server.boxes start
+  pub boxes : AreBoxesRead names server.boxes start
   pub quiet : IsQuiet start now
 
 -- A look at the areas of these names: what it gives, and what it does meanwhile and in each ending.
 pub record LooksAt (names : List (List ℕ)) (start now : DiskState)
     (result : Result ServerNow ServerOpenError) : Type 0 where
   pub looked : IfOk result (λ server. IsLooked names server start now)
-  pub unopened : IfErr result (IsUnopened names start now)
+  pub unopened : IfErr result (IsServerUnopened names start now)
   pub looks : HasLooked (length names) start now
 
 -- It was settled, and is ready with the same boxes.
 pub record HasSettled (looked server : ServerNow) (start now : DiskState) : Type 0 where
   pub boxes : server.boxes ≡ looked.boxes
-  pub ready : IsReady box_text server now
+  pub ready : IsServerReady box_text server now
   pub quiet : IsQuiet start now

@@ -4,11 +4,11 @@ use Rattle.std.specs.Prelude.{◌≡◌, ◌≢◌, ◌⊎◌, ℕ, ◌<◌, Lis
 use Rattle.dr_base.specs.Causes.{Rose}
 use Rattle.dr_disk.specs.Spans.{IsQuiet}
 use Rattle.dr_disk.specs.State.{DiskState}
-use Rattle.slot_store.specs.Reading.{Reading, damaged, holds, no_content, reading}
-use Rattle.slot_store.specs.Records.{recovered}
+use Rattle.slot_store.specs.Reading.{AreaReading, damaged, holds, no_content, area_reading}
+use Rattle.slot_store.specs.Records.{stored_record}
 use Rattle.relay_core.specs.Boxes.{Box, empty_box}
 use Rattle.relay_core.specs.Record.{box_read, box_text}
-use Rattle.relay_server.specs.Durable.{IsReady, ServerNow}
+use Rattle.relay_server.specs.Durable.{IsServerReady, ServerNow}
 use Rattle.relay_server.specs.Places.{area_of, SameBehind}
 use Rattle.relay_server.specs.declared.errors.ServerOpenError.{ServerOpenError}
 use Rattle.relay_server.specs.declared.errors.ServerOpenError.TheVariants.{BoxName, Damaged, Memory, StoreFault}
@@ -16,30 +16,30 @@ use Rattle.relay_server.specs.declared.errors.ServerOpenError.TheVariants.{BoxNa
 -- ---- what an area is read as
 
 -- the place of the first fault of a text that is no box's record
-abbrev pub fault_of : Result Box ℕ → Option ℕ
-fault_of (Ok box) = None
-fault_of (Err at) = Some at
+abbrev pub box_fault_of : Result Box ℕ → Option ℕ
+box_fault_of (Ok box) = None
+box_fault_of (Err at) = Some at
 
 abbrev pub box_fault : List ℕ → Option ℕ
-box_fault text = fault_of (box_read text)
+box_fault text = box_fault_of (box_read text)
 
-abbrev pub area_read : ℕ → List ℕ → Reading
-area_read k s = reading box_fault (area_of k) s
+abbrev pub area_read : ℕ → List ℕ → AreaReading
+area_read k s = area_reading box_fault (area_of k) s
 
 -- no damage
-abbrev pub IsWhole : Reading → Type 0
-IsWhole no_content = Unit {0}
-IsWhole (holds text) = Unit {0}
-IsWhole (damaged slot at) = ⊥
+abbrev pub IsUndamagedReading : AreaReading → Type 0
+IsUndamagedReading no_content = Unit {0}
+IsUndamagedReading (holds text) = Unit {0}
+IsUndamagedReading (damaged slot at) = ⊥
 
 -- the box of a name: the record's, or an empty one where no record stands
-abbrev pub GivesBox : List ℕ → Box → Reading → Type 0
+abbrev pub GivesBox : List ℕ → Box → AreaReading → Type 0
 GivesBox name box no_content = box ≡ empty_box name
 GivesBox name box (holds text) = (box_read text ≡ Ok box) × (box.name ≡ name)
 GivesBox name box (damaged slot at) = ⊥
 
 -- the record of a box of another name
-abbrev pub HasOtherName : List ℕ → Reading → Type 0
+abbrev pub HasOtherName : List ℕ → AreaReading → Type 0
 HasOtherName name no_content = ⊥
 HasOtherName name (holds text) = (box : Box) × (box_read text ≡ Ok box) × (box.name ≢ name)
 HasOtherName name (damaged slot at) = ⊥
@@ -51,13 +51,13 @@ OfRead start P = (s : List ℕ) → start.seen ≡ Some s → P s
 -- the first of this many areas that is damaged
 pub record IsFirstDamaged (count k slot at : ℕ) (s : List ℕ) : Type 0 where
   pub inside : k < count
-  pub before : (j : ℕ) → j < k → IsWhole (area_read j s)
+  pub before : (j : ℕ) → j < k → IsUndamagedReading (area_read j s)
   pub here : area_read k s ≡ damaged slot at
 
 -- no area is damaged, and this is the first whose record has another name
 pub record IsFirstOther (names : List (List ℕ)) (k : ℕ) (s : List ℕ) : Type 0 where
   pub inside : k < length names
-  pub whole : (j : ℕ) → j < length names → IsWhole (area_read j s)
+  pub whole : (j : ℕ) → j < length names → IsUndamagedReading (area_read j s)
   pub before : (j : ℕ) (name : List ℕ) → j < k → slice_get names j ≡ Some name → (box : Box) × GivesBox name box (area_read j s)
   pub here : (name : List ℕ) → slice_get names k ≡ Some name → HasOtherName name (area_read k s)
 
@@ -72,26 +72,26 @@ StaysOrBegins name old new = (new ≡ old) ⊎ ((old ≡ None) × (new ≡ Some 
 pub record IsOpening (names : List (List ℕ)) (start : DiskState) (c : List ℕ) : Type 0 where
   pub entry : List ℕ
   pub image : start.image entry
-  pub each : (k : ℕ) (name : List ℕ) → slice_get names k ≡ Some name → StaysOrBegins name (recovered (area_of k) entry) (recovered (area_of k) c)
+  pub each : (k : ℕ) (name : List ℕ) → slice_get names k ≡ Some name → StaysOrBegins name (stored_record (area_of k) entry) (stored_record (area_of k) c)
   pub outside : SameBehind (length names) entry c
 
 -- ---- how it ends
 
 -- A box for each name, as its area is read.
-pub record AreRead (names : List (List ℕ)) (boxes : List Box) (start : DiskState) : Type 0 where
+pub record AreBoxesRead (names : List (List ℕ)) (boxes : List Box) (start : DiskState) : Type 0 where
   pub count : length boxes ≡ length names
   pub named : (k : ℕ) (name : List ℕ) (box : Box) → slice_get names k ≡ Some name → slice_get boxes k ≡ Some box → box.name ≡ name
   pub read : OfRead start (λ s. (k : ℕ) (name : List ℕ) (box : Box) → slice_get names k ≡ Some name → slice_get boxes k ≡ Some box → GivesBox name box (area_read k s))
 
 -- The server is ready, with the boxes that were read.
-pub record IsOpened (names : List (List ℕ)) (server : ServerNow) (start now : DiskState) : Type 0 where
-  pub ready : IsReady box_text server now
-  pub boxes : AreRead names server.boxes start
+pub record IsServerOpened (names : List (List ℕ)) (server : ServerNow) (start now : DiskState) : Type 0 where
+  pub ready : IsServerReady box_text server now
+  pub boxes : AreBoxesRead names server.boxes start
   pub quiet : IsQuiet start now
 
 -- why no server was opened
-abbrev pub IsUnopened : List (List ℕ) → DiskState → DiskState → ServerOpenError → Type 0
-IsUnopened names start now Memory = IsQuiet start now
-IsUnopened names start now (StoreFault call) = Rose (start.faults call) (now.faults call)
-IsUnopened names start now (Damaged area slot at) = (area < length names) × IsQuiet start now × OfRead start (IsFirstDamaged (length names) area slot at)
-IsUnopened names start now (BoxName k) = (k < length names) × IsQuiet start now × OfRead start (IsFirstOther names k)
+abbrev pub IsServerUnopened : List (List ℕ) → DiskState → DiskState → ServerOpenError → Type 0
+IsServerUnopened names start now Memory = IsQuiet start now
+IsServerUnopened names start now (StoreFault call) = Rose (start.faults call) (now.faults call)
+IsServerUnopened names start now (Damaged area slot at) = (area < length names) × IsQuiet start now × OfRead start (IsFirstDamaged (length names) area slot at)
+IsServerUnopened names start now (BoxName k) = (k < length names) × IsQuiet start now × OfRead start (IsFirstOther names k)

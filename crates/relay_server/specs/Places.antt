@@ -1,7 +1,7 @@
 -- Where the boxes of a relay lie on its disk: area after area.
 use Rattle.std.specs.Prelude.{◌≡◌, ◌<◌, ◌≤◌, ◌*◌, ℕ, List, length, slice_index}
 use Rattle.dr_disk.specs.State.{DiskState}
-use Rattle.slot_store.specs.Areas.{Area, HasRecordRoom, IsOutside}
+use Rattle.slot_store.specs.Areas.{Area, HasRecordRoom, IsOutsideArea}
 use Rattle.relay_core.specs.declared.limits.TheConstants.{RELAY_LIMIT}
 use Rattle.relay_server.specs.declared.limits.TheConstants.{AREA_SIZE, BOX_PAGES, RECORD_PAGES}
 
@@ -18,18 +18,18 @@ abbrev pub IsBoxRoom : List ℕ → Type 0
 IsBoxRoom bytes = HasRecordRoom (area_of 0) bytes
 
 -- a disk has room for this many areas
-abbrev pub HasRoom : ℕ → DiskState → Type 0
-HasRoom n disk = areas_size n ≤ disk.size
+abbrev pub HasRoomForAreas : ℕ → DiskState → Type 0
+HasRoomForAreas n disk = areas_size n ≤ disk.size
 
 -- a relay has room for boxes of these names, and a disk for their areas
 pub record HasRoomFor (names : List (List ℕ)) (disk : DiskState) : Type 0 where
   pub few : length names ≤ RELAY_LIMIT
-  pub within : HasRoom (length names) disk
+  pub within : HasRoomForAreas (length names) disk
 
 -- what lies in none of this many areas of the one is the same in the other
 pub record SameBehind (n : ℕ) (d c : List ℕ) : Type 0 where
   pub size : length c ≡ length d
-  pub outside : (i : ℕ) → ((k : ℕ) → k < n → IsOutside (area_of k) i) → slice_index c i ≡ slice_index d i
+  pub outside : (i : ℕ) → ((k : ℕ) → k < n → IsOutsideArea (area_of k) i) → slice_index c i ≡ slice_index d i
 
 -- what lies in none of this many areas is as an image of that moment has it
 abbrev pub IsSameBehind : ℕ → DiskState → List ℕ → Type 0

@@ -16,7 +16,7 @@ use Rattle.relay_core.specs.Boxes.{Box, answers_read, box_of}
 use Rattle.relay_core.specs.Streams.{Exchange, prepend, served, served_within, reply_frame, reply_bytes, is_last, IsIsolated, asks, told}
 use Rattle.relay_core.specs.Alone.{box_after}
 use Rattle.relay_core.specs.Record.{box_text}
-use Rattle.relay_server.specs.Durable.{ServerNow, IsReady, StandsFor, StandsForEither}
+use Rattle.relay_server.specs.Durable.{ServerNow, IsServerReady, StandsForBoxes, StandsForEitherBoxes}
 use Rattle.relay_server.specs.Places.{IsSameBehind}
 use Rattle.relay_server.specs.declared.serving.Ended.{Ended}
 use Rattle.relay_server.specs.declared.serving.Round.{Round}
@@ -38,7 +38,7 @@ pub record Came (text : Box → List ℕ) (frame put : List ℕ) (old new : List
   pub exchanges : Exchanges frame put start now
   pub whole : IsFrame frame
   pub next : new ≡ (answers_read old (read_request (drop 2 frame))).next
-  pub during : Span dstart dnow (λ c. StandsForEither text old new c × IsSameBehind (length old) dstart c)
+  pub during : Span dstart dnow (λ c. StandsForEitherBoxes text old new c × IsSameBehind (length old) dstart c)
 
 abbrev pub reply_to : List Box → List ℕ → List ℕ
 reply_to boxes frame = framed (reply_body (answers_read boxes (read_request (drop 2 frame))).reply)
@@ -61,15 +61,15 @@ pub record LeavesCounts {D P T E : Type 0} (state : D → DiskState) (port : P �
   pub quiet : OnOk result (IsQuiet (state start) (state now))
 
 abbrev pub Rounds : (Box → List ℕ) → ServerNow → ServerNow → Port → Port → DiskState → DiskState → Result Round ServeFault → Type 0
-Rounds text old new start now dstart dnow (Ok AtEnd) = (got : List ℕ) × Idle got old.boxes new.boxes start now dstart dnow × EndsAt now × IsReady text new dnow
+Rounds text old new start now dstart dnow (Ok AtEnd) = (got : List ℕ) × Idle got old.boxes new.boxes start now dstart dnow × EndsAt now × IsServerReady text new dnow
 Rounds text old new start now dstart dnow (Ok (Answered last)) =
-    (frame : List ℕ) × Came text frame (reply_to old.boxes frame) old.boxes new.boxes start now dstart dnow × (last ≡ is_last (read_request (drop 2 frame))) × IsReady text new dnow
-Rounds text old new start now dstart dnow (Err Read) = (got : List ℕ) × Idle got old.boxes new.boxes start now dstart dnow × Rose (start.faults Flow) (now.faults Flow) × IsReady text new dnow × IsQuiet dstart dnow
+    (frame : List ℕ) × Came text frame (reply_to old.boxes frame) old.boxes new.boxes start now dstart dnow × (last ≡ is_last (read_request (drop 2 frame))) × IsServerReady text new dnow
+Rounds text old new start now dstart dnow (Err Read) = (got : List ℕ) × Idle got old.boxes new.boxes start now dstart dnow × Rose (start.faults Flow) (now.faults Flow) × IsServerReady text new dnow × IsQuiet dstart dnow
 Rounds text old new start now dstart dnow (Err Write) =
     (frame : List ℕ) × (put : List ℕ) × (rest : List ℕ) × Came text frame put old.boxes new.boxes start now dstart dnow × (reply_to old.boxes frame ≡ put ++ rest)
-    × Rose (start.faults Flow) (now.faults Flow) × IsReady text new dnow × IsQuiet dstart dnow
+    × Rose (start.faults Flow) (now.faults Flow) × IsServerReady text new dnow × IsQuiet dstart dnow
 Rounds text old new start now dstart dnow (Err (Store call)) = (frame : List ℕ) × Came text frame [] old.boxes new.boxes start now dstart dnow × Rose (dstart.faults call) (dnow.faults call)
-    × Always (StandsForEither text old.boxes new.boxes) dnow
+    × Always (StandsForEitherBoxes text old.boxes new.boxes) dnow
 
 -- ---- a whole connection
 
@@ -78,7 +78,7 @@ pub record ReachedIn (text : Box → List ℕ) (most : ℕ) (boxes : List Box) (
   pub front : List (List ℕ)
   pub back : List (List ℕ)
   pub split : frames ≡ front ++ back
-  pub stands : StandsFor text (served_within most boxes front).next c
+  pub stands : StandsForBoxes text (served_within most boxes front).next c
 
 abbrev pub Reached : (Box → List ℕ) → List Box → List ℕ → List ℕ → Type 0
 Reached text boxes got = ReachedIn text EXCHANGE_LIMIT boxes (frames_of got)
@@ -88,33 +88,33 @@ pub record LastOrBefore (text : Box → List ℕ) (boxes next : List Box) (got :
   pub front : List (List ℕ)
   pub frame : List ℕ
   pub split : frames_of got ≡ front ++ frame ∷ []
-  pub each : Always (StandsForEither text (served_within EXCHANGE_LIMIT boxes front).next next) disk
+  pub each : Always (StandsForEitherBoxes text (served_within EXCHANGE_LIMIT boxes front).next next) disk
 
 -- Bytes that stand, box by box, for what the box's own requests in a beginning of the frames made of it.
 pub record StandsForPart (boxes : List Box) (got c : List ℕ) : Type 0 where
   pub front : List (List ℕ)
   pub back : List (List ℕ)
   pub split : frames_of got ≡ front ++ back
-  pub stands : StandsFor box_text (served_within EXCHANGE_LIMIT boxes front).next c
+  pub stands : StandsForBoxes box_text (served_within EXCHANGE_LIMIT boxes front).next c
   pub alone : (name : List ℕ) → box_of name (served_within EXCHANGE_LIMIT boxes front).next ≡ box_after (box_of name boxes) (asks (told name (served_within EXCHANGE_LIMIT boxes front).exchanges))
 
 -- nothing more would be answered, whatever is left
 abbrev pub IsAll : List Box → List ℕ → Port → Type 0
 IsAll boxes got now = (t : Told) (more : List ℕ) → now.told ≡ Some t → t.now.gives t.now.sent ≡ t.now.received ++ more → served boxes (got ++ more) ≡ served boxes got
 
-pub record Answers (boxes next : List Box) (got put : List ℕ) (start now : Port) : Type 0 where
+pub record AnswersStream (boxes next : List Box) (got put : List ℕ) (start now : Port) : Type 0 where
   pub exchanges : Exchanges got put start now
   pub next_is : next ≡ (served boxes got).next
 
 abbrev pub Serves : (Box → List ℕ) → ServerNow → ServerNow → Port → Port → DiskState → DiskState → List ℕ → Result Ended ServeFault → Type 0
 Serves text old new start now dstart dnow got (Ok ended) =
-    Answers old.boxes new.boxes got (reply_bytes (served old.boxes got)) start now × IsReady text new dnow × IsQuiet dstart dnow × (ended.answered ≡ length (served old.boxes got).exchanges) × IsAll old.boxes got now
+    AnswersStream old.boxes new.boxes got (reply_bytes (served old.boxes got)) start now × IsServerReady text new dnow × IsQuiet dstart dnow × (ended.answered ≡ length (served old.boxes got).exchanges) × IsAll old.boxes got now
 Serves text old new start now dstart dnow got (Err Read) =
-    Answers old.boxes new.boxes got (reply_bytes (served old.boxes got)) start now × IsReady text new dnow × IsQuiet dstart dnow × Rose (start.faults Flow) (now.faults Flow)
+    AnswersStream old.boxes new.boxes got (reply_bytes (served old.boxes got)) start now × IsServerReady text new dnow × IsQuiet dstart dnow × Rose (start.faults Flow) (now.faults Flow)
 Serves text old new start now dstart dnow got (Err Write) =
-    (put : List ℕ) × (rest : List ℕ) × Answers old.boxes new.boxes got put start now × (reply_bytes (served old.boxes got) ≡ put ++ rest) × IsReady text new dnow × IsQuiet dstart dnow × Rose (start.faults Flow) (now.faults Flow)
+    (put : List ℕ) × (rest : List ℕ) × AnswersStream old.boxes new.boxes got put start now × (reply_bytes (served old.boxes got) ≡ put ++ rest) × IsServerReady text new dnow × IsQuiet dstart dnow × Rose (start.faults Flow) (now.faults Flow)
 Serves text old new start now dstart dnow got (Err (Store call)) =
-    (put : List ℕ) × (last : Exchange) × Answers old.boxes new.boxes got put start now × (reply_bytes (served old.boxes got) ≡ put ++ reply_frame last) × Rose (dstart.faults call) (dnow.faults call)
+    (put : List ℕ) × (last : Exchange) × AnswersStream old.boxes new.boxes got put start now × (reply_bytes (served old.boxes got) ≡ put ++ reply_frame last) × Rose (dstart.faults call) (dnow.faults call)
     × LastOrBefore text old.boxes new.boxes got dnow
 
 -- all that one call of `serve` did
@@ -127,7 +127,7 @@ pub record IsServed (text : Box → List ℕ) (old new : ServerNow) (start now :
 
 -- ---- between rounds
 
-pub record SoFar (text : Box → List ℕ) (most : ℕ) (old : ServerNow) (boxes : List Box) (start now : Port) (dstart dnow : DiskState) (n : ℕ) : Type 0 where
+pub record ServedSoFar (text : Box → List ℕ) (most : ℕ) (old : ServerNow) (boxes : List Box) (start now : Port) (dstart dnow : DiskState) (n : ℕ) : Type 0 where
   pub frames : List (List ℕ)
   pub each : AllByRecursion IsFrame frames
   pub exs : List Exchange

@@ -5,10 +5,10 @@ ghost use Rattle.dr_disk.specs.Calls.{Unwritten};
 ghost use Rattle.dr_disk.specs.Spans.{Span};
 ghost use Rattle.slot_store.specs.AtRest.{IsReadAtRest};
 ghost use Rattle.slot_store.specs.Reading.{IsEntryOrLike, IsLikeRead};
-ghost use Rattle.slot_store.specs.Store.{IsWithin};
+ghost use Rattle.slot_store.specs.Store.{HasArea};
 ghost use Rattle.relay_core.specs.declared.limits.TheConstants.{RELAY_LIMIT};
 ghost use Rattle.relay_server.specs.Areas.{AreOpened, AreRefused, HasLooked, IsAreaOpened, IsAreaRefused};
-ghost use Rattle.relay_server.specs.Places.{HasRoom, area_of};
+ghost use Rattle.relay_server.specs.Places.{HasRoomForAreas, area_of};
 ghost use Rattle.relay_server.specs.Opening.{box_fault};
 
 use crate::errors::ServerOpenError;
@@ -39,7 +39,7 @@ impl Grammar for BoxRecords {
 /// Opens the store of an area.
 fn open_area<D: Disk>(alloc: Global, disk: &mut D, k: usize) -> Result<SlotStore, ServerOpenError>
     requires few { k < RELAY_LIMIT }
-    requires within { IsWithin (area_of k) (D.state disk.old) }
+    requires within { HasArea (area_of k) (D.state disk.old) }
     ensures opened { IfOk result
         (λ store. IsAreaOpened k store (D.state disk.old) (D.state disk.new)) }
     ensures refused { IfErr result (IsAreaRefused k (D.state disk.old) (D.state disk.new)) }
@@ -73,7 +73,7 @@ pub(crate) fn open_areas<D: Disk>(
     count: usize,
 ) -> Result<Vec<SlotStore>, ServerOpenError>
     requires few { count ≤ RELAY_LIMIT }
-    requires within { HasRoom count (D.state disk.old) }
+    requires within { HasRoomForAreas count (D.state disk.old) }
     ensures opened { IfOk result
         (λ stores. AreOpened count count stores.items (D.state disk.old) (D.state disk.new)) }
     ensures refused { IfErr result (AreRefused count (D.state disk.old) (D.state disk.new)) }

@@ -5,13 +5,13 @@ ghost use Rattle.dr_base.specs.Causes.{Rose};
 ghost use Rattle.dr_disk.specs.State.{Always};
 ghost use Rattle.dr_disk.specs.Spans.{IsQuiet, Span};
 ghost use Rattle.slot_store.specs.Areas.{HasText};
-ghost use Rattle.slot_store.specs.Store.{IsWithin, Rests, SlotStore};
+ghost use Rattle.slot_store.specs.Store.{HasArea, Rests, SlotStore};
 ghost use Rattle.relay_wire.specs.Frames.{IsFrame};
 ghost use Rattle.relay_wire.specs.Requests.{read_request};
 ghost use Rattle.relay_wire.specs.declared.limits.TheConstants.{FRAME_LIMIT};
 ghost use Rattle.relay_core.specs.Boxes.{answers_read};
 ghost use Rattle.relay_core.specs.Record.{box_text};
-ghost use Rattle.relay_server.specs.Durable.{IsReady, IsReplaced, LeavesBoxes};
+ghost use Rattle.relay_server.specs.Durable.{IsServerReady, IsReplaced, LeavesBoxes};
 ghost use Rattle.relay_server.specs.FrameByFrame.{IsServedInOrder};
 ghost use Rattle.relay_server.specs.Serving.{HasReply, LeavesCounts, Rounds};
 
@@ -55,7 +55,7 @@ pub(crate) fn replace_at<D: Disk>(
 ) -> Result<(), Call>
     requires inside { place < length stores.old }
     requires ready { (store : SlotStore) → slice_get stores.old place ≡ Option.Some store
-        → HasText store.area text.old.items len × IsWithin store.area (D.state disk.old)
+        → HasText store.area text.old.items len × HasArea store.area (D.state disk.old)
         × Always (Rests store) (D.state disk.old) }
     ensures others { (j : ℕ) → j ≢ place → slice_get stores.new j ≡ slice_get stores.old j }
     ensures there { (old new : SlotStore) → slice_get stores.old place ≡ Option.Some old
@@ -82,7 +82,7 @@ impl DurableBoxes {
         frame: &Frame<'_>,
         out: &mut [u8],
     ) -> Result<Answered, Call>
-        requires ready { IsReady box_text self.old (D.state disk.old) }
+        requires ready { IsServerReady box_text self.old (D.state disk.old) }
         requires room { FRAME_LIMIT ≤ length out.old }
         ensures next { self.new.boxes
             ≡ (answers_read self.old.boxes (read_request (drop 2 frame.now.bytes.now))).next }
@@ -110,7 +110,7 @@ impl DurableBoxes {
         reader: &mut FrameReader,
         out: &mut [u8],
     ) -> Result<Answered, Call>
-        requires ready { IsReady box_text self.old (D.state disk.old) }
+        requires ready { IsServerReady box_text self.old (D.state disk.old) }
         requires whole { IsFrame reader.old.bytes }
         requires room { FRAME_LIMIT ≤ length out.old }
         ensures next { self.new.boxes
@@ -135,7 +135,7 @@ impl DurableBoxes {
         reader: &mut FrameReader,
         out: &mut [u8],
     ) -> Result<Round, ServeFault>
-        requires ready { IsReady box_text self.old (D.state disk.old) }
+        requires ready { IsServerReady box_text self.old (D.state disk.old) }
         requires fresh { reader.old.bytes ≡ [] }
         requires ends { reader.old.place + FRAME_LIMIT < 2 ^ 64 }
         requires room { FRAME_LIMIT ≤ length out.old }
@@ -170,7 +170,7 @@ impl DurableBoxes {
         reader: &mut FrameReader,
         out: &mut [u8],
     ) -> Result<Ended, ServeFault>
-        requires ready { IsReady box_text self.old (D.state disk.old) }
+        requires ready { IsServerReady box_text self.old (D.state disk.old) }
         requires room { FRAME_LIMIT ≤ length out.old }
         ensures { IsServedInOrder D.state P.port box_text self.old self.new disk.old disk.new
             pipe.old pipe.new result }

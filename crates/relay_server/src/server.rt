@@ -3,10 +3,10 @@
 ghost use Rattle.std.specs.Prelude.{◌≡◌, ◌≤◌, length, IfErr, IfOk};
 ghost use Rattle.dr_disk.specs.Spans.{Span};
 ghost use Rattle.relay_core.specs.Record.{box_text};
-ghost use Rattle.relay_server.specs.Durable.{FailsByCall, IsReady};
+ghost use Rattle.relay_server.specs.Durable.{FailsByCall, IsServerReady};
 ghost use Rattle.relay_server.specs.Filling.{IsFilling};
 ghost use Rattle.relay_server.specs.Looking.{HasSettled, IsUnsettled, LooksAt};
-ghost use Rattle.relay_server.specs.Opening.{IsOpened, IsOpening, IsUnopened};
+ghost use Rattle.relay_server.specs.Opening.{IsServerOpened, IsOpening, IsServerUnopened};
 ghost use Rattle.relay_server.specs.Places.{HasRoomFor};
 ghost use Rattle.relay_server.specs.FrameByFrame.{IsServedInOrder};
 ghost use Rattle.relay_wire.specs.declared.limits.TheConstants.{FRAME_LIMIT};
@@ -124,9 +124,9 @@ impl Server {
     ) -> Result<Server, ServerOpenError>
         requires { HasRoomFor names.now (D.state disk.old) }
         ensures opened { IfOk result
-            (λ server. IsOpened names.now server (D.state disk.old) (D.state disk.new)) }
+            (λ server. IsServerOpened names.now server (D.state disk.old) (D.state disk.new)) }
         ensures unopened { IfErr result
-            (IsUnopened names.now (D.state disk.old) (D.state disk.new)) }
+            (IsServerUnopened names.now (D.state disk.old) (D.state disk.new)) }
         // Meanwhile, and in each ending.
         ensures any_moment { Span (D.state disk.old) (D.state disk.new)
             (IsOpening names.now (D.state disk.old)) }
@@ -149,7 +149,7 @@ impl Server {
         disk: &mut D,
         pipe: &mut P,
     ) -> Result<Ended, ServeFault>
-        requires { IsReady box_text self.old (D.state disk.old) }
+        requires { IsServerReady box_text self.old (D.state disk.old) }
         ensures { IsServedInOrder D.state P.port box_text self.old self.new disk.old disk.new
             pipe.old pipe.new result }
     {

@@ -2,7 +2,7 @@
 
 ghost use Rattle.std.specs.Prelude.{IfOk};
 ghost use Rattle.relay_core.specs.Record.{box_text};
-ghost use Rattle.relay_server.specs.Durable.{IsReady};
+ghost use Rattle.relay_server.specs.Durable.{IsServerReady};
 
 use dr_disk::{Call, Disk, MemoryDisk, Mode};
 use dr_ports::MemoryPipe;
@@ -38,7 +38,7 @@ pub fn blank(alloc: Global) -> Result<MemoryDisk, AllocError> {
 
 /// The server of one box, or why none is opened.
 pub fn open<D: Disk>(alloc: Global, disk: &mut D, name: &[u8]) -> Result<Server, ServerOpenError>
-    ensures { IfOk result (λ server. IsReady box_text server (D.state disk.new)) }
+    ensures { IfOk result (λ server. IsServerReady box_text server (D.state disk.new)) }
 {
     let Some(name) = Name::new(name) else {
         return Err(ServerOpenError::Memory);
@@ -55,7 +55,7 @@ fn serve_on<D: Disk>(
     disk: &mut D,
     pipe: &mut MemoryPipe,
 ) -> Result<u32, ServeFault>
-    requires { IsReady box_text server.old (D.state disk.old) }
+    requires { IsServerReady box_text server.old (D.state disk.old) }
 {
     match server.serve(disk, pipe) {
         Ok(Ended { answered }) => Ok(answered),

@@ -13,7 +13,7 @@ use Rattle.dr_base.specs.declared.position.Position.{Position}
 use Rattle.dr_base.specs.declared.position.Side.{Side}
 use Rattle.dr_base.specs.declared.position.Side.TheVariants.{First, Second}
 use Rattle.dr_model.specs.Machines.Events.{Event, seeds, says, takes, takes_nth, flips, takes_bytes, drops_sent, drops_done, shows_inbox, shows_state, cuts}
-use Rattle.scripts.specs.Number.{number_read}
+use Rattle.scripts.specs.Number.{script_number_read}
 use Rattle.scripts.specs.Printed.{IsNumbered, IsSayableEvent, event_text, words_text}
 use Rattle.answer_lines.specs.Answers.{position_text}
 use Rattle.scripts.specs.Sides.{acting_side, side_text}
@@ -36,7 +36,7 @@ position_hashless p h =
 
 packet_back : (side : Side) (p : Position) → IsNumbered p → packet_read side (position_text p) ≡ Some (takes side p)
 packet_back side p h =
-    ap (λ o. option_or (option_map (takes_nth side) (option_and_then number_read o)) (option_map (takes side) (position_read (position_text p)))) (position_hashless p h)
+    ap (λ o. option_or (option_map (takes_nth side) (option_and_then script_number_read o)) (option_map (takes side) (position_read (position_text p)))) (position_hashless p h)
     ∙ ap (option_map (takes side)) (position_back p h)
 
 -- a position holds no space
@@ -57,7 +57,7 @@ flip_back : (side : Side) (p : Position) (bit : ℕ) → IsNumbered p → bit < 
 flip_back side p bit h k =
     ap (λ xs. option_and_then (flip_read side) (halves_of 32 xs)) (spaced (position_text p) (decimal bit))
     ∙ ap (option_and_then (flip_read side)) (halves_back (position_text p) (decimal bit) 32 (position_spaceless p h))
-    ∙ ap (option_and_then (λ q. option_map (flips side q) (number_read (decimal bit)))) (position_back p h)
+    ∙ ap (option_and_then (λ q. option_map (flips side q) (script_number_read (decimal bit)))) (position_back p h)
     ∙ ap (option_map (flips side p)) (number_back bit k)
 
 -- ---- lines

@@ -17,10 +17,10 @@ use Rattle.dr_base.specs.declared.position.Position.{Position}
 use Rattle.session_model.specs.declared.answer.Amount.{Amount}
 use Rattle.session_model.specs.declared.answer.Amount.TheVariants.{All, Exactly}
 use Rattle.scripts.specs.declared.hexed.TheConstants.{DIGIT_LIMIT, HEX_LIMIT}
-use Rattle.scripts.specs.Number.{is_number, is_unpadded, number_read}
+use Rattle.scripts.specs.Number.{is_number_text, is_unpadded, script_number_read}
 use Rattle.scripts.specs.Printed.{IsAmount, IsNumbered, amount_text}
 use Rattle.answer_lines.specs.Answers.{position_text}
-use Rattle.scripts.specs.Words.{amount_read, halves_of, hex_read, is_text, numbers_read, position_read}
+use Rattle.scripts.specs.Words.{amount_words, halves_of, hex_read, is_text, numbers_read, position_read}
 
 -- ---- numbers
 
@@ -51,12 +51,12 @@ guarded : {A : Type 0} (b : Bool) (x : A) → b ≡ true → (if b then Some x e
 guarded true x h = refl
 guarded false x h = cc h
 
-pub number_back : (n : ℕ) → n < 2 ^ 32 → number_read (decimal n) ≡ Some n
-unfolding number_read
+pub number_back : (n : ℕ) → n < 2 ^ 32 → script_number_read (decimal n) ≡ Some n
+unfolding script_number_read
 number_back n h =
     let numeral = decimal_is_IsNumeral n (omega arith) in
     let below : nat_lt (digits_value 10 (decimal n)) (2 ^ 32) ≡ true = let value = numeral.1 in grind (arith, nat_tests) in
-    guarded (is_number (decimal n)) (digits_value 10 (decimal n))
+    guarded (is_number_text (decimal n)) (digits_value 10 (decimal n))
     (and_from (is_unpadded (decimal n)) (list_all is_ascii_digit (decimal n) && nat_lt (digits_value 10 (decimal n)) (2 ^ 32)) (decimal_unpadded n h)
     (and_from (list_all is_ascii_digit (decimal n)) (nat_lt (digits_value 10 (decimal n)) (2 ^ 32)) (all_digits (decimal n) numeral.0.1) below))
     ∙ ap Some numeral.1
@@ -112,7 +112,7 @@ digits_of n h = (decimal_is_IsNumeral n (omega arith)).0.1
 both_back : (p : Position) → IsNumbered p → numbers_read (decimal p.epoch, decimal p.index) ≡ Some p
 both_back p h =
     let at : ℕ → ℕ → Position = λ epoch index. record { epoch = epoch; index = index } in
-    ap (option_and_then (λ epoch. option_map (at epoch) (number_read (decimal p.index)))) (number_back p.epoch h.0)
+    ap (option_and_then (λ epoch. option_map (at epoch) (script_number_read (decimal p.index)))) (number_back p.epoch h.0)
     ∙ ap (option_map (at p.epoch)) (number_back p.index h.1)
 
 -- a point is one byte
@@ -132,8 +132,8 @@ not_all : (ds : List ℕ) → AllDigits 10 ds → is_text (codes "all") ds ≡ f
 not_all [] h = refl
 not_all (c ∷ cs) h = and_left (c == 97) _ (let to = digit_to c h.0 in grind (arith, nat_tests))
 
-pub amount_back : (amount : Amount) → IsAmount amount → amount_read (amount_text amount) ≡ Some amount
-unfolding amount_read amount_text
+pub amount_back : (amount : Amount) → IsAmount amount → amount_words (amount_text amount) ≡ Some amount
+unfolding amount_words amount_text
 amount_back All h = refl
 amount_back (Exactly n) h = cond-false (is_text (codes "all") (decimal n)) _ _ (not_all (decimal n) (digits_of n h)) ∙ ap (option_map Exactly) (number_back n h)
 

@@ -11,7 +11,7 @@ use Rattle.dr_model.specs.Theorems.Fairness.{IsSeedWhole}
 use Rattle.scripts.specs.Deeds.{Deed, acts, stops, syncs}
 use Rattle.scripts.specs.Script.{deeds_of, kem_read, key_read, keyed, after_kem, lines_of, or_bad, script_of, script_of_lines, scripted, Scripted, with_deed}
 use Rattle.scripts.specs.Deeds.{HasWholeSeed}
-use Rattle.scripts.specs.Number.{number_read}
+use Rattle.scripts.specs.Number.{script_number_read}
 use Rattle.scripts.specs.Words.{after_prefix, call_words, crash_read, halves_of, if_call, is_call, line_read, mode_read, plain_read, side_words, stop_line_read, stop_read, stop_words, sync_read, sync_words}
 use Rattle.scripts.specs.declared.script.KemName.{KemName}
 use Rattle.scripts.proofs.Seeds.{whole_plain, whole_words}
@@ -45,7 +45,7 @@ whole_stop side words =
     whole_then (stop_read side)
     (option_and_then (halves_of 32) (after_prefix (codes "stop ") words))
     (λ halves. whole_then (λ n. option_and_then (crash_read side n) (halves_of 32 halves.1))
-    (number_read halves.0)
+    (script_number_read halves.0)
     (λ n. whole_then (crash_read side n) (halves_of 32 halves.1)
     (λ rest. whole_then (λ mode. option_map (stops n mode) (call_words side rest.1))
     (mode_read rest.0)

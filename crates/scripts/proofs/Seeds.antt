@@ -8,8 +8,8 @@ use Rattle.hex.proofs.HexLemmas.{decode_of-ok, decode_sized-ok, decode_sized-twi
 use Rattle.dr_base.specs.declared.position.Side.{Side}
 use Rattle.dr_base.specs.declared.position.Side.TheVariants.{First, Second}
 use Rattle.dr_model.specs.Machines.Events.{Event, seeds, says, takes, takes_nth, flips, takes_bytes, drops_sent, drops_done, shows_inbox, shows_state}
-use Rattle.scripts.specs.Words.{after_prefix, amount_read, bytes_words, done_words, flip_words, flip_read, halves_of, hex_read, is_text, look_words, packet_read, plain_read, position_read, say_words, seed_read, sent_words, take_words, side_words}
-use Rattle.scripts.specs.Number.{number_read}
+use Rattle.scripts.specs.Words.{after_prefix, amount_words, bytes_words, done_words, flip_words, flip_read, halves_of, hex_read, is_text, look_words, packet_read, plain_read, position_read, say_words, seed_read, sent_words, take_words, side_words}
+use Rattle.scripts.specs.Number.{script_number_read}
 use Rattle.dr_model.specs.Theorems.Fairness.{IsSeedWhole}
 
 -- ---- choices
@@ -59,8 +59,8 @@ whole_say side words =
 
 whole_packet : (side : Side) (text : List ℕ) → IfSome (packet_read side text) IsSeedWhole
 whole_packet side text =
-    whole_or (option_map (takes_nth side) (option_and_then number_read (after_prefix (codes "#") text))) (option_map (takes side) (position_read text))
-    (whole_map (takes_nth side) (option_and_then number_read (after_prefix (codes "#") text)) (λ _. tt))
+    whole_or (option_map (takes_nth side) (option_and_then script_number_read (after_prefix (codes "#") text))) (option_map (takes side) (position_read text))
+    (whole_map (takes_nth side) (option_and_then script_number_read (after_prefix (codes "#") text)) (λ _. tt))
     (whole_map (takes side) (position_read text) (λ _. tt))
 
 whole_take : (side : Side) (words : List ℕ) → IfSome (take_words side words) IsSeedWhole
@@ -71,8 +71,8 @@ whole_flip : (side : Side) (words : List ℕ) → IfSome (flip_words side words)
 unfolding flip_words
 whole_flip side words =
     whole_then (flip_read side) (option_and_then (halves_of 32) (after_prefix (codes "flip ") words))
-    (λ halves. whole_then (λ p. option_map (flips side p) (number_read halves.1)) (position_read halves.0)
-    (λ p. whole_map (flips side p) (number_read halves.1) (λ _. tt)))
+    (λ halves. whole_then (λ p. option_map (flips side p) (script_number_read halves.1)) (position_read halves.0)
+    (λ p. whole_map (flips side p) (script_number_read halves.1) (λ _. tt)))
 
 whole_bytes : (side : Side) (words : List ℕ) → IfSome (bytes_words side words) IsSeedWhole
 unfolding bytes_words
@@ -84,11 +84,11 @@ whole_bytes side words =
 
 whole_sent : (side : Side) (words : List ℕ) → IfSome (sent_words side words) IsSeedWhole
 unfolding sent_words
-whole_sent side words = whole_map (drops_sent side) (option_and_then amount_read (after_prefix (codes "sent ") words)) (λ _. tt)
+whole_sent side words = whole_map (drops_sent side) (option_and_then amount_words (after_prefix (codes "sent ") words)) (λ _. tt)
 
 whole_done : (side : Side) (words : List ℕ) → IfSome (done_words side words) IsSeedWhole
 unfolding done_words
-whole_done side words = whole_map (drops_done side) (option_and_then amount_read (after_prefix (codes "done ") words)) (λ _. tt)
+whole_done side words = whole_map (drops_done side) (option_and_then amount_words (after_prefix (codes "done ") words)) (λ _. tt)
 
 whole_look : (side : Side) (words : List ℕ) → IfSome (look_words side words) IsSeedWhole
 unfolding look_words

@@ -11,9 +11,9 @@ is_unpadded (c ∷ []) = true
 is_unpadded (c ∷ d ∷ ds) = not (c == 48)
 
 -- the text of a number below 2^32
-abbrev pub is_number : List ℕ → Bool
-is_number text = is_unpadded text && (list_all is_ascii_digit text && nat_lt (digits_value 10 text) (2 ^ 32))
+abbrev pub is_number_text : List ℕ → Bool
+is_number_text text = is_unpadded text && (list_all is_ascii_digit text && nat_lt (digits_value 10 text) (2 ^ 32))
 
 -- the number that a text says
-unfoldable pub number_read : List ℕ → Option ℕ
-number_read text = if is_number text then Some (digits_value 10 text) else None
+unfoldable pub script_number_read : List ℕ → Option ℕ
+script_number_read text = if is_number_text text then Some (digits_value 10 text) else None

@@ -14,7 +14,7 @@ use Rattle.session_model.specs.declared.answer.Amount.{Amount}
 use Rattle.session_model.specs.declared.answer.Amount.TheVariants.{All, Exactly}
 use Rattle.dr_model.specs.Machines.Events.{Event, seeds, says, takes, takes_nth, flips, takes_bytes, drops_sent, drops_done, shows_inbox, shows_state}
 use Rattle.scripts.specs.Deeds.{Deed, acts, stops, syncs}
-use Rattle.scripts.specs.Number.{number_read}
+use Rattle.scripts.specs.Number.{script_number_read}
 use Rattle.scripts.specs.declared.hexed.TheConstants.{DIGIT_LIMIT}
 
 -- what follows a prefix
@@ -30,12 +30,12 @@ unfoldable pub halves_of : ℕ → List ℕ → Option (List ℕ × List ℕ)
 halves_of mark text = option_map (λ at. (take at text, drop (at + 1) text)) (position (λ byte. byte == mark) text)
 
 -- `all`, or a number
-unfoldable pub amount_read : List ℕ → Option Amount
-amount_read text = if is_text (codes "all") text then Some All else option_map Exactly (number_read text)
+unfoldable pub amount_words : List ℕ → Option Amount
+amount_words text = if is_text (codes "all") text then Some All else option_map Exactly (script_number_read text)
 
 -- two numbers, an epoch and an index
 abbrev pub numbers_read : List ℕ × List ℕ → Option Position
-numbers_read halves = option_and_then (λ epoch. option_map (λ index. record { epoch = epoch; index = index }) (number_read halves.1)) (number_read halves.0)
+numbers_read halves = option_and_then (λ epoch. option_map (λ index. record { epoch = epoch; index = index }) (script_number_read halves.1)) (script_number_read halves.0)
 
 -- an epoch, a point and an index
 unfoldable pub position_read : List ℕ → Option Position
@@ -58,7 +58,7 @@ say_words side words =
 -- `#` and a number, or a position
 abbrev pub packet_read : Side → List ℕ → Option Event
 packet_read side text =
-    option_or (option_map (takes_nth side) (option_and_then number_read (after_prefix (codes "#") text)))
+    option_or (option_map (takes_nth side) (option_and_then script_number_read (after_prefix (codes "#") text)))
     (option_map (takes side) (position_read text))
 
 -- `take` and a packet
@@ -67,7 +67,7 @@ take_words side words = option_and_then (packet_read side) (after_prefix (codes 
 
 -- a position, a space, and the number of a bit
 abbrev pub flip_read : Side → List ℕ × List ℕ → Option Event
-flip_read side halves = option_and_then (λ p. option_map (flips side p) (number_read halves.1)) (position_read halves.0)
+flip_read side halves = option_and_then (λ p. option_map (flips side p) (script_number_read halves.1)) (position_read halves.0)
 
 -- `flip`, a position, and the number of a bit
 unfoldable pub flip_words : Side → List ℕ → Option Event
@@ -81,11 +81,11 @@ bytes_words side words =
 
 -- `sent` and an amount
 unfoldable pub sent_words : Side → List ℕ → Option Event
-sent_words side words = option_map (drops_sent side) (option_and_then amount_read (after_prefix (codes "sent ") words))
+sent_words side words = option_map (drops_sent side) (option_and_then amount_words (after_prefix (codes "sent ") words))
 
 -- `done` and an amount
 unfoldable pub done_words : Side → List ℕ → Option Event
-done_words side words = option_map (drops_done side) (option_and_then amount_read (after_prefix (codes "done ") words))
+done_words side words = option_map (drops_done side) (option_and_then amount_words (after_prefix (codes "done ") words))
 
 -- `inbox` or `state`
 unfoldable pub look_words : Side → List ℕ → Option Event
@@ -136,7 +136,7 @@ crash_read side n halves =
 
 -- a number, a space, and the rest
 abbrev pub stop_read : Side → List ℕ × List ℕ → Option Deed
-stop_read side halves = option_and_then (λ n. option_and_then (crash_read side n) (halves_of 32 halves.1)) (number_read halves.0)
+stop_read side halves = option_and_then (λ n. option_and_then (crash_read side n) (halves_of 32 halves.1)) (script_number_read halves.0)
 
 -- `stop`, how many writes and syncs pass, the mode of the crash, and the call
 unfoldable pub stop_words : Side → List ℕ → Option Deed
@@ -156,7 +156,7 @@ if_some_reply n = if nat_le 1 n then Some n else None
 
 -- `lose`, and the number of the reply that is lost
 unfoldable pub lose_words : List ℕ → Option ℕ
-lose_words words = option_and_then if_some_reply (option_and_then number_read (after_prefix (codes "lose ") words))
+lose_words words = option_and_then if_some_reply (option_and_then script_number_read (after_prefix (codes "lose ") words))
 
 -- `sync`, or a sync that loses a reply
 unfoldable pub sync_words : List ℕ → Option (Option ℕ)

@@ -1,7 +1,7 @@
 //! Numbers as scripts write them: decimal digits without a sign or a leading zero, below 2^32.
 
 ghost use Rattle.std.specs.Prelude.{◌≡◌, ℕ};
-ghost use Rattle.scripts.specs.Number.{is_unpadded, number_read};
+ghost use Rattle.scripts.specs.Number.{is_unpadded, script_number_read};
 
 /// Whether the text has at least one byte, and no zero before another.
 fn is_unpadded(text: &[u8]) -> bool
@@ -15,9 +15,9 @@ fn is_unpadded(text: &[u8]) -> bool
 }
 
 /// The number that a text says.
-#[tactic(auto, unfolding(crate::specs::Number::number_read))]
+#[tactic(auto, unfolding(crate::specs::Number::script_number_read))]
 pub fn number(text: &[u8]) -> Option<u32>
-    ensures { result ≡ number_read text.now }
+    ensures { result ≡ script_number_read text.now }
 {
     if !is_unpadded(text) {
         return None;

@@ -2,7 +2,7 @@
 
 ghost use Rattle.std.specs.Prelude.{◌≡◌, [], Some, None, codes, option_map, if◌then◌else◌};
 ghost use Rattle.dr_model.specs.Machines.Events.{takes_bytes};
-ghost use Rattle.scripts.specs.Words.{amount_read, bytes_words, done_words, flip_words, hex_read, is_text, look_words, packet_read, position_read, say_words, sent_words, take_words};
+ghost use Rattle.scripts.specs.Words.{amount_words, bytes_words, done_words, flip_words, hex_read, is_text, look_words, packet_read, position_read, say_words, sent_words, take_words};
 ghost use Rattle.scripts.specs.Seen.{bytes_of_hex, event_of};
 
 use crate::call::{Call, Source};
@@ -156,9 +156,9 @@ pub fn parse_look(side: Side, words: &[u8]) -> Option<Line<'_>>
 }
 
 /// Reads `all` or a number.
-#[tactic(auto, unfolding(crate::specs::Words::amount_read))]
+#[tactic(auto, unfolding(crate::specs::Words::amount_words))]
 fn parse_amount(text: &[u8]) -> Option<Amount>
-    ensures { result ≡ amount_read text.now }
+    ensures { result ≡ amount_words text.now }
 {
     if text == b"all".as_slice() {
         return Some(Amount::All);

@@ -17,26 +17,26 @@ use Rattle.session_model.specs.declared.answer.Answer.{Answer}
 use Rattle.slot_store.specs.Reading.{IsEntryOrLike}
 use Rattle.client.specs.Clients.{ClientNow, IsReady, client_area}
 use Rattle.client.specs.InWorlds.{ActsIn, IsIn}
-use Rattle.client.specs.Opening.{IsOpened, OpensIn, Reads}
+use Rattle.client.specs.Opening.{IsClientOpened, OpensIn, ReadsAsSide}
 use Rattle.client.specs.Outcomes.{Acts, IsEffected, Outcome, acknowledged, faulted, is_closed, refused, undrawn}
-use Rattle.session_commands.specs.Acting.{Acted, Asked, was_cut, was_done, was_refused}
-use Rattle.session_commands.specs.Closing.{answer_line, ending_by, lines_by, worked_as}
-use Rattle.session_commands.specs.Disks.{IsAtRest, Leaves}
+use Rattle.session_commands.specs.Acting.{Acted, ClientAsk, was_cut, was_done, was_refused}
+use Rattle.session_commands.specs.Closing.{printed_answer, ending_by, lines_of_ending, worked_as}
+use Rattle.session_commands.specs.Disks.{IsClientAtRest, LeavesAtRest}
 use Rattle.session_commands.specs.InWorlds.{RunsAct, RunsIn, goes_on, is_in_doubt, stays_refused, stays_undrawn}
 use Rattle.session_commands.proofs.Standing.{leaves_either, runs_on, stays_on, still_ready, stood}
 
 -- the record of a client that is kept in a world
 at_rest_in : (k : Mechanism) (w : World) (side : Side) (client : ClientNow) (disk : DiskState) → client.kept ≡ kept_in k w side
-    → IsReady client.kept client.store disk → IsAtRest (kept_in k w side) disk
+    → IsReady client.kept client.store disk → IsClientAtRest (kept_in k w side) disk
 at_rest_in k w side client disk keeps ready =
-    subst (λ (kept : Client). IsAtRest kept disk) keeps (record { store = client.store; ready = ready })
+    subst (λ (kept : Client). IsClientAtRest kept disk) keeps (record { store = client.store; ready = ready })
 
 module _ {X : Type 0} (state : X → DiskState) (k : Mechanism) (start mid now : X) (lawful : IsLawful (state now))
-    (client after : ClientNow) (opened : IsOpened k client (state start) (state mid))
+    (client after : ClientNow) (opened : IsClientOpened k client (state start) (state mid))
     (opening : Span (state start) (state mid) (IsEntryOrLike client_area (state start))) where
-  module _ (asked : Asked) (act : Act) (asks : asked.acts client.kept act) where
+  module _ (asked : ClientAsk) (act : Act) (asks : asked.acts client.kept act) where
     done_by : (effect : Bool) (answer : Answer) → IsEffected state effect (act_on k client.kept act) client after mid now answer
-        → Acted state k asked start now Done (answer_line answer)
+        → Acted state k asked start now Done (printed_answer answer)
     done_by true answer acts =
         was_done client.kept act (step answer after.kept) opened.read asks acts.made_is (record {
           either =
@@ -47,11 +47,11 @@ module _ {X : Type 0} (state : X → DiskState) (k : Mechanism) (start mid now :
         })
     done_by false answer acts =
         was_done client.kept act (step answer after.kept) opened.read asks acts.0
-        (subst (λ (n : ClientNow). Leaves client.kept n.kept (state start) (state now)) (sym acts.2)
+        (subst (λ (n : ClientNow). LeavesAtRest client.kept n.kept (state start) (state now)) (sym acts.2)
         (stood state k start mid now lawful client opened acts.3 opening))
 
     pub acted_as : (outcome : Outcome) → Acts state (act_on k client.kept act) client after mid now outcome
-        → Acted state k asked start now (ending_by (worked_as outcome)) (lines_by (worked_as outcome))
+        → Acted state k asked start now (ending_by (worked_as outcome)) (lines_of_ending (worked_as outcome))
     acted_as (is_closed call) acts = absurd (let e : None ≡ Some call = sym opened.is_open ∙ acts.0 in cc)
     acted_as (refused refusal) acts =
         was_refused client.kept act refusal opened.read asks acts.1
@@ -88,8 +88,8 @@ module _ {X : Type 0} (state : X → DiskState) (k : Mechanism) (start mid now :
   settles act (acknowledged answer) acts = ready_by (has_effect answer) act answer acts
   settles act (faulted call) acts = tt
 
-  module _ (w : World) (side : Side) (stands : Reads k w side (state start)) (opens : OpensIn k w side (state start) (state mid) (Ok client))
-      (asked : Asked) where
+  module _ (w : World) (side : Side) (stands : ReadsAsSide k w side (state start)) (opens : OpensIn k w side (state start) (state mid) (Ok client))
+      (asked : ClientAsk) where
     pub undrawn_in : asked.undrawn client.kept → now ≡ mid
         → RunsIn k w side asked (state start) (state now) (ending_by (worked_as undrawn)) []
     undrawn_in lacks same =
@@ -103,7 +103,7 @@ module _ {X : Type 0} (state : X → DiskState) (k : Mechanism) (start mid now :
 
     pub runs_in : (act : Act) → asked.acts client.kept act → IsFairAct k w side act → (outcome : Outcome) → Settles outcome
         → ActsIn k w side act client after (state mid) (state now) outcome
-        → RunsIn k w side asked (state start) (state now) (ending_by (worked_as outcome)) (lines_by (worked_as outcome))
+        → RunsIn k w side asked (state start) (state now) (ending_by (worked_as outcome)) (lines_of_ending (worked_as outcome))
     runs_in act asks fair (is_closed call) settled acts =
         absurd (let e : None ≡ Some call = sym opened.is_open ∙ settled in cc)
     runs_in act asks fair (refused refusal) settled acts =
@@ -113,7 +113,7 @@ module _ {X : Type 0} (state : X → DiskState) (k : Mechanism) (start mid now :
         (still_ready state k start mid now lawful client opened settled))
     runs_in act asks fair undrawn settled acts = absurd acts
     runs_in act asks fair (acknowledged answer) settled acts =
-        subst (λ a. RunsIn k w side asked (state start) (state now) Done (answer_line a)) acts.0
+        subst (λ a. RunsIn k w side asked (state start) (state now) Done (printed_answer a)) acts.0
         (goes_on act (asked_in act asks) fair
         (runs_on (state start) (state mid) (state now) lawful k side w (act_in k w side act).next stands opening opened.alike
         acts.2)
@@ -124,14 +124,14 @@ module _ {X : Type 0} (state : X → DiskState) (k : Mechanism) (start mid now :
         acts.1)
 
   -- the whole of a command whose act is what it asks
-  pub act_runs : (asked : Asked) (act : Act) → asked.acts client.kept act
+  pub act_runs : (asked : ClientAsk) (act : Act) → asked.acts client.kept act
       → ((w : World) (side : Side) → asked.fair w side → IsFairAct k w side act) → (outcome : Outcome)
       → Acts state (act_on k client.kept act) client after mid now outcome
-      → ((w : World) (side : Side) → IsLawfulWorld k w → Reads k w side (state start)
+      → ((w : World) (side : Side) → IsLawfulWorld k w → ReadsAsSide k w side (state start)
       → OpensIn k w side (state start) (state mid) (Ok client))
       → ((w : World) (side : Side) → IsIn k w side client → asked.fair w side
       → ActsIn k w side act client after (state mid) (state now) outcome)
-      → RunsAct state k asked start now (ending_by (worked_as outcome)) (lines_by (worked_as outcome))
+      → RunsAct state k asked start now (ending_by (worked_as outcome)) (lines_of_ending (worked_as outcome))
   act_runs asked act asks fairly outcome acts opens acts_in = record {
     acted = acted_as asked act asks outcome acts;
     in_worlds = λ w side lawful_world stands fair.

@@ -13,31 +13,31 @@ use Rattle.session_model.specs.Clients.{Client}
 use Rattle.session_record.specs.Record.{record_read}
 use Rattle.slot_store.specs.Laws.{IsRead}
 use Rattle.slot_store.specs.Reading.{IsLikeRead}
-use Rattle.slot_store.specs.Records.{recovered}
-use Rattle.client.specs.Beginning.{IsBegun, IsEntryOrFirst, IsFirst, IsUnbegun}
+use Rattle.slot_store.specs.Records.{stored_record}
+use Rattle.client.specs.Beginning.{IsClientBegun, IsEntryOrFirst, IsFirst, IsUnbegun}
 use Rattle.client.specs.Clients.{ClientNow, client_area}
 use Rattle.client.specs.InWorlds.{IsIn}
-use Rattle.client.specs.Opening.{Reads, record_fault}
+use Rattle.client.specs.Opening.{ReadsAsSide, client_record_fault}
 use Rattle.client.specs.declared.refusals.BeginRefusal.{BeginRefusal}
 use Rattle.session_commands.specs.Beginning.{Began, Begins, was_begun, wasnt_begun}
-use Rattle.session_commands.specs.Disks.{IsAtRest, RunsOn, StandsForOne}
+use Rattle.session_commands.specs.Disks.{IsClientAtRest, RunsOn, StandsForOne}
 use Rattle.session_commands.specs.Lines.{session_line}
 use Rattle.session_commands.specs.Opening.{ending_of_begin}
 use Rattle.session_commands.proofs.Standing.{like_stands_for}
 
 -- where a world was read, no first record was put
 never_first : (k : Mechanism) → IsRead → (key : List ℕ) (side : Side) (w : World) (whose : Side) (start : DiskState) (c : List ℕ)
-    → Reads k w whose start → IsFirst k key side start c → ⊥
+    → ReadsAsSide k w whose start → IsFirst k key side start c → ⊥
 never_first k readings key side w whose start c reads first =
-    let none : recovered client_area reads.bytes ≡ None =
-    readings.none (record_fault k) client_area reads.bytes (first.none reads.bytes reads.told) in
+    let none : stored_record client_area reads.bytes ≡ None =
+    readings.none (client_record_fault k) client_area reads.bytes (first.none reads.bytes reads.told) in
     let same : None ≡ Some (Ok (kept_in k w whose)) = sym (ap (option_map (record_read k)) none) ∙ reads.stands in cc
 
 module _ {X : Type 0} (state : X → DiskState) (k : Mechanism) (readings : IsRead) (key : List ℕ) (side : Side) (start now : X)
     (span : Span (state start) (state now) (IsEntryOrFirst k key side (state start)))
     (seen : (s : List ℕ) → (state now).seen ≡ Some s
     → IsLikeRead client_area (state start) s ⊎ IsFirst k key side (state start) s) where
-  worlds_stay : (w : World) (whose : Side) → Reads k w whose (state start) → RunsOn k whose w w (state start) (state now)
+  worlds_stay : (w : World) (whose : Side) → ReadsAsSide k w whose (state start) → RunsOn k whose w w (state start) (state now)
   worlds_stay w whose reads = record {
     any_moment =
         widen (state start) (state now) (IsEntryOrFirst k key side (state start))
@@ -56,14 +56,14 @@ module _ {X : Type 0} (state : X → DiskState) (k : Mechanism) (readings : IsRe
   unbegun_begins refusal why =
       record { began = wasnt_begun refusal why; any_moment = span; reads = seen; in_worlds = worlds_stay }
 
-  pub begun_begins : (client : ClientNow) → IsBegun k key side client (state start) (state now)
+  pub begun_begins : (client : ClientNow) → IsClientBegun k key side client (state start) (state now)
       → IsIn k (opening_world key) side client
       → Begins state k key side start now Done (session_line client.kept.state.session)
   begun_begins client begun is = record {
     began =
         subst (λ (kept : Client). Began state k key side start now Done (session_line kept.state.session)) (sym begun.keeps)
         (was_begun begun.read begun.pair is.lawful
-        (subst (λ (kept : Client). IsAtRest kept (state now)) is.keeps
+        (subst (λ (kept : Client). IsClientAtRest kept (state now)) is.keeps
         (record { store = client.store; ready = begun.ready }))
         begun.quiet);
     any_moment = span;

@@ -12,7 +12,7 @@ use Rattle.slot_store.specs.Reading.{damaged, holds, no_content}
 use Rattle.client.specs.Opening.{IsUnopened}
 use Rattle.client.specs.declared.refusals.OpenRefusal.{OpenRefusal}
 use Rattle.client.specs.declared.refusals.OpenRefusal.TheVariants.{Damaged as OpenDamaged, Memory as OpenMemory, NoSession as OpenNoSession, StoreFault as OpenFault}
-use Rattle.session_commands.specs.Acting.{Acted, Asked, was_cut, was_done, was_refused, was_undrawn, was_unopened}
+use Rattle.session_commands.specs.Acting.{Acted, ClientAsk, was_cut, was_done, was_refused, was_undrawn, was_unopened}
 use Rattle.session_commands.specs.Completing.{DidWork, IsAccepted, NoneFailed, ReadsWhole}
 use Rattle.session_commands.specs.InWorlds.{RunsAct, RunsIn, goes_on, is_in_doubt, stays_refused, stays_undrawn, stays_unopened}
 use Rattle.session_commands.specs.Opening.{ending_of_open}
@@ -26,7 +26,7 @@ no_refusal (OpenDamaged slot at) reason e = cc
 no_refusal OpenNoSession reason e = cc
 
 -- the machine refuses, where the client does
-refused_in : (k : Mechanism) (w : World) (side : Side) (asked : Asked) (start now : DiskState) (ending : Ending) (lines : List ℕ)
+refused_in : (k : Mechanism) (w : World) (side : Side) (asked : ClientAsk) (start now : DiskState) (ending : Ending) (lines : List ℕ)
     (reason : Refusal) → ending ≡ Refused reason → IsAccepted k w side asked
     → RunsIn k w side asked start now ending lines → ⊥
 refused_in k w side asked start now ending lines reason e accepted (stays_unopened refusal on) = no_refusal refusal reason e
@@ -48,7 +48,7 @@ unopened state k w side start now OpenNoSession whole none why =
     let held = whole.undamaged whole.reads.bytes whole.reads.told in
     let same : holds held.0 ≡ no_content = sym held.1 ∙ why.0 whole.reads.bytes whole.reads.told in absurd (cc)
 
-acted : {X : Type 0} (state : X → DiskState) (k : Mechanism) (w : World) (side : Side) (asked : Asked) (start now : X)
+acted : {X : Type 0} (state : X → DiskState) (k : Mechanism) (w : World) (side : Side) (asked : ClientAsk) (start now : X)
     (ending : Ending) (lines : List ℕ) → ReadsWhole k w side (state start) → NoneFailed (state start) (state now)
     → IsAccepted k w side asked → RunsIn k w side asked (state start) (state now) ending lines
     → Acted state k asked start now ending lines → DidWork ending
@@ -62,7 +62,7 @@ acted state k w side asked start now ending lines whole none accepted runs (was_
 acted state k w side asked start now ending lines whole none accepted runs (was_cut kept act made call is asks makes leaves rose) =
     absurd (none call rose)
 
-pub act_completes : {X : Type 0} (state : X → DiskState) (k : Mechanism) (w : World) (side : Side) (asked : Asked) (start now : X)
+pub act_completes : {X : Type 0} (state : X → DiskState) (k : Mechanism) (w : World) (side : Side) (asked : ClientAsk) (start now : X)
     (ending : Ending) (lines : List ℕ) → ReadsWhole k w side (state start) → NoneFailed (state start) (state now)
     → IsAccepted k w side asked → RunsAct state k asked start now ending lines → DidWork ending
 act_completes state k w side asked start now ending lines whole none accepted runs =

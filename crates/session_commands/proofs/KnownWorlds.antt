@@ -15,12 +15,12 @@ use Rattle.endings.specs.declared.ending.Ending.{Ending}
 use Rattle.kem_laws.specs.Mechanism.{Mechanism}
 use Rattle.sync_model.specs.Courses.{begun}
 use Rattle.client.specs.Grounds.{Grounds}
-use Rattle.client.specs.Moments.{IsActed, IsOneOf, Known, Link, reached_by, settled_in, was_acknowledged, was_cut, was_cut_in_sync, was_left, was_moved, was_opened, was_synced, with_doubts}
+use Rattle.client.specs.Moments.{IsActed, IsAmongKnown, Known, Link, reached_by, settled_in, was_acknowledged, was_cut, was_cut_in_sync, was_left, was_moved, was_opened, was_synced, with_doubts}
 use Rattle.client.specs.Syncing.InWorlds.{course_in}
 use Rattle.client.specs.Syncing.Parties.{world_party}
 use Rattle.client.proofs.Later.{act_later, acted_later, back_acted, front_later, lawful_at}
 use Rattle.client.proofs.Standing.{among}
-use Rattle.session_commands.specs.Acting.{Asked}
+use Rattle.session_commands.specs.Acting.{ClientAsk}
 use Rattle.session_commands.specs.Histories.{cut_known}
 use Rattle.session_commands.specs.InWorlds.{RunsIn, goes_on, is_in_doubt, stays_refused, stays_undrawn, stays_unopened}
 
@@ -31,12 +31,12 @@ pub record AreLawful (k : Mechanism) (known : Known) : Type 0 where
   pub doubtful : All (IsLawfulWorld k) known.doubtful
 
 pub one_has : (P : World → Type 0) (known : Known) (w : World) → P known.last → All P known.doubtful
-    → IsOneOf known w → P w
+    → IsAmongKnown known w → P w
 one_has P known w last doubtful which = ⊎_elim (λ e. subst P (sym e) last)
     (λ at. among P known.doubtful w doubtful at) which
 
 module _ (k : Mechanism) where
-  pub one_lawful : (known : Known) (w : World) → AreLawful k known → IsOneOf known w
+  pub one_lawful : (known : Known) (w : World) → AreLawful k known → IsAmongKnown known w
       → IsLawfulWorld k w
   one_lawful known w are = one_has (IsLawfulWorld k) known w are.last are.doubtful
 
@@ -101,21 +101,21 @@ module _ (k : Mechanism) (grounds : Grounds k) where
   abbrev KeepsSecond : World → World → Type 0
   KeepsSecond w v = kept_in k v Second ≡ kept_in k w Second
 
-  stays_kept : (w v : World) → IsOneOf (settled_in w) v → KeepsSecond w v
+  stays_kept : (w v : World) → IsAmongKnown (settled_in w) v → KeepsSecond w v
   stays_kept w v = one_has (KeepsSecond w) (settled_in w) v refl (All-nil (KeepsSecond w))
 
   doubt_kept : (w : World) (act : Act) → IsLawfulWorld k w → IsFairAct k w First act → (v : World)
-      → IsOneOf (with_doubts (settled_in w) ((act_in k w First act).next ∷ [])) v → KeepsSecond w v
+      → IsAmongKnown (with_doubts (settled_in w) ((act_in k w First act).next ∷ [])) v → KeepsSecond w v
   doubt_kept w act lawful fair v =
       let next = (act_in k w First act).next in
       one_has (KeepsSecond w) (with_doubts (settled_in w) (next ∷ [])) v refl
       (All-cons (KeepsSecond w) next [] (grounds.follow.others w First act lawful fair)
       (All-nil (KeepsSecond w)))
 
-  pub cut_keeps : (w : World) (asked : Asked) (start now : DiskState) (ending : Ending)
+  pub cut_keeps : (w : World) (asked : ClientAsk) (start now : DiskState) (ending : Ending)
       (lines : List ℕ) → IsLawfulWorld k w
       → (runs : RunsIn k w First asked start now ending lines) (v : World)
-      → IsOneOf (cut_known runs (settled_in w)) v
+      → IsAmongKnown (cut_known runs (settled_in w)) v
       → KeepsSecond w v
   cut_keeps w asked start now ending lines lawful (stays_unopened refusal on) v = stays_kept w v
   cut_keeps w asked start now ending lines lawful (stays_undrawn lacks on rests) v = stays_kept w v

@@ -15,8 +15,8 @@ use Rattle.sync_model.specs.Courses.{begun}
 use Rattle.sync_model.specs.declared.more.More.{More}
 use Rattle.client.specs.Grounds.{Grounds}
 use Rattle.client.specs.InWorlds.{StandsFor}
-use Rattle.client.specs.Moments.{IsKnown, IsLater, IsOneOf, Known, Link, StandsStill, synced_in, was_acknowledged, was_cut, was_cut_in_sync, was_left, was_opened, was_synced}
-use Rattle.client.specs.Opening.{Reads}
+use Rattle.client.specs.Moments.{IsKnown, IsLater, IsAmongKnown, Known, Link, StandsStill, known_after_sync, was_acknowledged, was_cut, was_cut_in_sync, was_left, was_opened, was_synced}
+use Rattle.client.specs.Opening.{ReadsAsSide}
 use Rattle.client.specs.Syncing.InWorlds.{AreUnforged, course_in}
 use Rattle.client.specs.Syncing.Parties.{world_party}
 use Rattle.client.specs.declared.syncing.faults.SyncFault.{SyncFault}
@@ -25,8 +25,8 @@ use Rattle.client.proofs.Later.{front_later, later_twice, lawful_at}
 use Rattle.client.proofs.Lifted.{ready_stands}
 use Rattle.client.proofs.Standing.{among}
 use Rattle.client.proofs.Syncs.Links.{reaches}
-use Rattle.session_commands.specs.Acting.{Asked}
-use Rattle.session_commands.specs.Disks.{IsAtRest, RunsOn, StandsForOne}
+use Rattle.session_commands.specs.Acting.{ClientAsk}
+use Rattle.session_commands.specs.Disks.{IsClientAtRest, RunsOn, StandsForOne}
 use Rattle.session_commands.specs.Histories.{IsLeftBetween, acted_known, cut_in_sync, cut_known, shown_known, synced_known}
 use Rattle.session_commands.specs.InWorlds.{RunsIn, goes_on, is_in_doubt, stays_refused, stays_undrawn, stays_unopened}
 use Rattle.session_commands.specs.Showing.{ShowsIn, shows_nothing, shows_world}
@@ -35,7 +35,7 @@ use Rattle.session_commands.specs.Syncing.{StandsForCourse, SyncRunsIn}
 -- ---- what is read at entry
 
 read_one_of : (k : Mechanism) (side : Side) (first : World) (known : Known) (disk : DiskState) (c : List ℕ) → StandsStill k side first known disk
-    → IsKnown k side known c → (w : World) × IsOneOf known w × IsLater k first w × StandsFor k w side c
+    → IsKnown k side known c → (w : World) × IsAmongKnown known w × IsLater k first w × StandsFor k w side c
 read_one_of k side first known disk c still (inl stood) = (known.last, inl refl, still.last_later, stood)
 read_one_of k side first known disk c still (inr at) = (
   at.1,
@@ -47,13 +47,13 @@ read_one_of k side first known disk c still (inr at) = (
 
 pub reads_one : (k : Mechanism) (side : Side) (first : World) (known : Known) (disk : DiskState) (lawful : IsLawful disk) (bytes : List ℕ)
     → IsLawfulWorld k first → StandsStill k side first known disk → disk.seen ≡ Some bytes
-    → (w : World) × IsOneOf known w × IsLawfulWorld k w × Reads k w side disk
+    → (w : World) × IsAmongKnown known w × IsLawfulWorld k w × ReadsAsSide k w side disk
 reads_one k side first known disk lawful bytes whole still told =
     let found = read_one_of k side first known disk bytes still (still.images bytes (lawful.seen_now bytes told)) in
     (found.0, found.1, lawful_at k first found.0 whole found.2, record { bytes = bytes; told = told; stands = found.3 })
 
 -- what stands for one of the worlds is known
-is_known : (k : Mechanism) (side : Side) (known : Known) (w : World) (c : List ℕ) → IsOneOf known w → StandsFor k w side c → IsKnown k side known c
+is_known : (k : Mechanism) (side : Side) (known : Known) (w : World) (c : List ℕ) → IsAmongKnown known w → StandsFor k w side c → IsKnown k side known c
 is_known k side known w c which stood =
     ⊎_elim (λ e. inl (subst (λ v. StandsFor k v side c) e stood)) (λ at. inr (at.0, w, at.1, at.2, stood)) which
 
@@ -66,12 +66,12 @@ left_by start now P lawful span c left =
 
 -- what stands for a world of a course
 course_known : (k : Mechanism) (side : Side) (w : World) (replies : List Replied) (start : DiskState) (c : List ℕ)
-    → StandsForCourse k side w replies start c → IsKnown k side (synced_in k [] side w [] replies) c
+    → StandsForCourse k side w replies start c → IsKnown k side (known_after_sync k [] side w [] replies) c
 course_known k side w replies start c r =
-    subst (λ (xs : List Replied). IsKnown k side (synced_in k [] side w [] xs) c) (sym r.split)
+    subst (λ (xs : List Replied). IsKnown k side (known_after_sync k [] side w [] xs) c) (sym r.split)
     (reaches k [] side w r.front r.back (begun (world_party k [] side w) w) c r.stands)
 
-module _ (k : Mechanism) (side : Side) (known : Known) (w : World) (which : IsOneOf known w) where
+module _ (k : Mechanism) (side : Side) (known : Known) (w : World) (which : IsAmongKnown known w) where
   on_known : (start : DiskState) (c : List ℕ) → StandsForOne k side w w start c → IsKnown k side known c
   on_known start c stood = is_known k side known w c which (⊎_elim (λ is. is) (λ is. is) stood.either)
 
@@ -93,7 +93,7 @@ module _ (k : Mechanism) (side : Side) (known : Known) (w : World) (which : IsOn
     in_doubt next on c left =
         ⊎_elim inl (λ stood. inr stood.either) (left_by start now (StandsForOne k side w next start) lawful on.any_moment c (leaves c left))
 
-    pub acts_cut : (asked : Asked) (ending : Ending) (lines : List ℕ) (runs : RunsIn k w side asked start now ending lines)
+    pub acts_cut : (asked : ClientAsk) (ending : Ending) (lines : List ℕ) (runs : RunsIn k w side asked start now ending lines)
         → Link k side start crashed known (cut_known runs known)
     acts_cut asked ending lines (stays_unopened refusal on) = stays_cut on
     acts_cut asked ending lines (stays_undrawn lacks on rests) = stays_cut on
@@ -112,10 +112,10 @@ module _ (k : Mechanism) (side : Side) (known : Known) (w : World) (which : IsOn
   -- ---- a command that ended
 
   module _ (grounds : Grounds k) (start now : DiskState) where
-    rest_stands : (v : World) → IsLawfulWorld k v → IsAtRest (kept_in k v side) now → Always (StandsFor k v side) now
+    rest_stands : (v : World) → IsLawfulWorld k v → IsClientAtRest (kept_in k v side) now → Always (StandsFor k v side) now
     rest_stands v lawful rests = ready_stands k grounds v side (kept_in k v side) rests.store now lawful refl rests.ready
 
-    pub acts_link : IsLawfulWorld k w → (asked : Asked) (ending : Ending) (lines : List ℕ) (runs : RunsIn k w side asked start now ending lines)
+    pub acts_link : IsLawfulWorld k w → (asked : ClientAsk) (ending : Ending) (lines : List ℕ) (runs : RunsIn k w side asked start now ending lines)
         → Link k side start now known (acted_known runs known)
     acts_link lawful asked ending lines (stays_unopened refusal on) = stays_link start now on
     acts_link lawful asked ending lines (stays_undrawn lacks on rests) = was_opened known w which (rest_stands w lawful rests)
@@ -132,8 +132,8 @@ module _ (k : Mechanism) (side : Side) (known : Known) (w : World) (which : IsOn
     shows_link lawful shows ending lines (shows_world on rests) = was_opened known w which (rest_stands w lawful rests)
 
     module _ (lawful : IsLawfulWorld k w) (kept : Client) (replies : List Replied) (fair : AreUnforged k [] side w replies) where
-      stored : IsAtRest (kept_in k (course_in k [] side w replies).state side) now
-          → Link k side start now known (synced_in k [] side w replies [])
+      stored : IsClientAtRest (kept_in k (course_in k [] side w replies).state side) now
+          → Link k side start now known (known_after_sync k [] side w replies [])
       stored rests =
           let there = course_in k [] side w replies in
           let whole : AreUnforged k [] side w (replies ++ []) = subst (AreUnforged k [] side w) (sym (append-nil replies)) fair in

@@ -14,7 +14,7 @@ use Rattle.client.specs.declared.refusals.BeginRefusal.{BeginRefusal}
 use Rattle.client.specs.declared.refusals.BeginRefusal.TheVariants.{Damaged as BeginDamaged, Exists as BeginExists, Memory as BeginMemory, NoPair as BeginNoPair, StoreFault as BeginFault}
 use Rattle.client.specs.declared.refusals.OpenRefusal.{OpenRefusal}
 use Rattle.client.specs.declared.refusals.OpenRefusal.TheVariants.{Damaged as OpenDamaged, Memory as OpenMemory, NoSession as OpenNoSession, StoreFault as OpenFault}
-use Rattle.session_commands.specs.Acting.{Acted, Asked, was_cut, was_done, was_refused, was_undrawn, was_unopened}
+use Rattle.session_commands.specs.Acting.{Acted, ClientAsk, was_cut, was_done, was_refused, was_undrawn, was_unopened}
 use Rattle.session_commands.specs.Asking.{SaysText, with_seed, without_seed}
 use Rattle.session_commands.specs.Beginning.{Began, RunsBegin, had_key, had_no_key, was_begun, wasnt_begun}
 use Rattle.session_commands.specs.InWorlds.{RunsAct}
@@ -53,7 +53,7 @@ ended ending lines old new code zero (inr cut) = absurd (omega (arith, zero, cut
 
 -- ---- what came to pass with it
 
-acted_quiet : {X : Type 0} (state : X → DiskState) (k : Mechanism) (asked : Asked) (start now : X) (Q : Type 0)
+acted_quiet : {X : Type 0} (state : X → DiskState) (k : Mechanism) (asked : ClientAsk) (start now : X) (Q : Type 0)
     → ((kept : Client) (act : Act) → asked.acts kept act → Q) → (ending : Ending) (lines : List ℕ)
     → Acted state k asked start now ending lines → code_of ending ≡ 0 → IsQuiet (state start) (state now) × Q
 acted_quiet state k asked start now Q so ending lines (was_unopened refusal why leaves idle) e = absurd (open_code refusal e)
@@ -65,7 +65,7 @@ acted_quiet state k asked start now Q so ending lines (was_done kept act made is
 acted_quiet state k asked start now Q so ending lines (was_cut kept act made call is asks makes leaves rose) e =
     absurd (omega (arith, e))
 
-pub act_quiet : {X : Type 0} (state : X → DiskState) (k : Mechanism) (asked : Asked) (start now : X) (Q : Type 0)
+pub act_quiet : {X : Type 0} (state : X → DiskState) (k : Mechanism) (asked : ClientAsk) (start now : X) (Q : Type 0)
     → ((kept : Client) (act : Act) → asked.acts kept act → Q) → (old new : SinkState) (code : ℕ)
     → Runs (RunsAct state k asked start now) old new code → code ≡ 0
     → IsQuiet (state start) (state now) × (new.faults ≡ old.faults) × Q

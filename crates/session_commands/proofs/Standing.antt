@@ -9,22 +9,22 @@ use Rattle.kem_laws.specs.Mechanism.{Mechanism}
 use Rattle.session_model.specs.Clients.{Client}
 use Rattle.session_record.specs.Record.{record_text}
 use Rattle.slot_store.specs.Reading.{IsEntryOrLike, IsLikeRead, IsUndamaged}
-use Rattle.slot_store.specs.Store.{IsOldOrNew, KeepsOutside}
+use Rattle.slot_store.specs.Store.{IsOldOrNew, KeepsOutsideArea}
 use Rattle.slot_store.proofs.Outside.{twice_outside}
 use Rattle.client.specs.Clients.{ClientNow, IsReady, client_area}
 use Rattle.client.specs.InWorlds.{IsBetween, StandsForEither}
-use Rattle.client.specs.Opening.{IsOpened, Reads}
+use Rattle.client.specs.Opening.{IsClientOpened, ReadsAsSide}
 use Rattle.client.specs.Outcomes.{IsReplacing}
 use Rattle.client.proofs.Openings.{like_stands}
-use Rattle.session_commands.specs.Disks.{IsLeft, IsSound, Leaves, LeavesEither, RunsOn, StandsForOne, is_after, is_before, is_like}
+use Rattle.session_commands.specs.Disks.{IsReadOrEither, StaysSound, LeavesAtRest, LeavesEither, RunsOn, StandsForOne, is_after, is_before, is_like}
 
 -- what is like what was read is sound
-pub like_sound : (start : DiskState) (c : List ℕ) → IsLikeRead client_area start c → IsSound start c
+pub like_sound : (start : DiskState) (c : List ℕ) → IsLikeRead client_area start c → StaysSound start c
 like_sound start c like = record { read = like.read; told = like.told; undamaged = like.undamaged; outside = like.outside }
 
 -- so is what was left over such bytes, read without damage
 pub left_sound : (start mid : DiskState) (c : List ℕ) → Always (IsLikeRead client_area start) mid → IsUndamaged client_area c
-    → KeepsOutside client_area mid c → IsSound start c
+    → KeepsOutsideArea client_area mid c → StaysSound start c
 left_sound start mid c alike whole kept =
     let like = alike kept.0 kept.1 in
     record {
@@ -34,7 +34,7 @@ left_sound start mid c alike whole kept =
       outside = twice_outside client_area like.read kept.0 c like.outside kept.2;
     }
 
-pub like_stands_for : (k : Mechanism) (side : Side) (before after : World) (start : DiskState) (c : List ℕ) → Reads k before side start
+pub like_stands_for : (k : Mechanism) (side : Side) (before after : World) (start : DiskState) (c : List ℕ) → ReadsAsSide k before side start
     → IsLikeRead client_area start c → StandsForOne k side before after start c
 like_stands_for k side before after start c reads like =
     record { either = inl (like_stands k before side start c reads like); sound = like_sound start c like }
@@ -42,7 +42,7 @@ like_stands_for k side before after start c reads like =
 module _ (start mid now : DiskState) (lawful : IsLawful now) where
   module _ (alike : Always (IsLikeRead client_area start) mid) where
     left_by : (before after : Client) (c : List ℕ)
-        → IsOldOrNew mid client_area (Some (record_text before)) (Some (record_text after)) c → IsLeft before after start c
+        → IsOldOrNew mid client_area (Some (record_text before)) (Some (record_text after)) c → IsReadOrEither before after start c
     left_by before after c s =
         let sound = left_sound start mid c alike s.undamaged s.frame in
         ⊎_elim (λ old. is_before (record { has = old; undamaged = s.undamaged; sound = sound }))
@@ -56,17 +56,17 @@ module _ (start mid now : DiskState) (lawful : IsLawful now) where
       → Always (IsLikeRead client_area start) mid → IsReplacing before after mid now → LeavesEither before after start now
   leaves_either before after opening alike replacing = record {
     any_moment =
-        spans start mid now (λ c. start.image c ⊎ IsLeft before after start c)
-        (widen start mid (IsEntryOrLike client_area start) (λ c. start.image c ⊎ IsLeft before after start c)
+        spans start mid now (λ c. start.image c ⊎ IsReadOrEither before after start c)
+        (widen start mid (IsEntryOrLike client_area start) (λ c. start.image c ⊎ IsReadOrEither before after start c)
         (λ c s. ⊎_elim (λ was. inl was) (λ like. inr (is_like like)) s) opening)
         (widen mid now (IsOldOrNew mid client_area (Some (record_text before)) (Some (record_text after)))
-        (λ c. start.image c ⊎ IsLeft before after start c) (λ c s. inr (left_by alike before after c s)) replacing);
+        (λ c. start.image c ⊎ IsReadOrEither before after start c) (λ c s. inr (left_by alike before after c s)) replacing);
     reads = λ s told.
         ⊎_elim (λ was. is_like (alike s was)) (λ new. left_by alike before after s new)
         (replacing.last s (lawful.seen_now s told));
   }
 
-  pub runs_on : (k : Mechanism) (side : Side) (before after : World) → Reads k before side start
+  pub runs_on : (k : Mechanism) (side : Side) (before after : World) → ReadsAsSide k before side start
       → Span start mid (IsEntryOrLike client_area start) → Always (IsLikeRead client_area start) mid
       → IsBetween k side before after mid now → RunsOn k side before after start now
   runs_on k side before after stands opening alike between = record {
@@ -82,7 +82,7 @@ module _ (start mid now : DiskState) (lawful : IsLawful now) where
   }
 
 -- where only the opening was
-pub only_opened : (k : Mechanism) (side : Side) (w : World) (start now : DiskState) → Reads k w side start
+pub only_opened : (k : Mechanism) (side : Side) (w : World) (start now : DiskState) → ReadsAsSide k w side start
     → Span start now (IsEntryOrLike client_area start)
     → ((s : List ℕ) → now.seen ≡ Some s → IsLikeRead client_area start s) → RunsOn k side w w start now
 only_opened k side w start now stands opening reads = record {
@@ -95,11 +95,11 @@ only_opened k side w start now stands opening reads = record {
 -- ---- where no call was made after the opening
 
 module _ {X : Type 0} (state : X → DiskState) (k : Mechanism) (start mid now : X) (lawful : IsLawful (state now)) (client : ClientNow)
-    (opened : IsOpened k client (state start) (state mid)) (same : now ≡ mid) where
+    (opened : IsClientOpened k client (state start) (state mid)) (same : now ≡ mid) where
   pub still_ready : IsReady client.kept client.store (state now)
   still_ready = subst (λ x. IsReady client.kept client.store (state x)) (sym same) opened.ready
 
-  pub stood : Span (state start) (state mid) (IsEntryOrLike client_area (state start)) → Leaves client.kept client.kept (state start) (state now)
+  pub stood : Span (state start) (state mid) (IsEntryOrLike client_area (state start)) → LeavesAtRest client.kept client.kept (state start) (state now)
   stood opening = record {
     either =
         leaves_either (state start) (state mid) (state now) lawful client.kept client.kept opening opened.alike
@@ -110,7 +110,7 @@ module _ {X : Type 0} (state : X → DiskState) (k : Mechanism) (start mid now :
     quiet = subst (λ x. IsQuiet (state start) (state x)) (sym same) opened.quiet;
   }
 
-  pub stays_on : (side : Side) (w : World) → Reads k w side (state start)
+  pub stays_on : (side : Side) (w : World) → ReadsAsSide k w side (state start)
       → Span (state start) (state mid) (IsEntryOrLike client_area (state start)) → RunsOn k side w w (state start) (state now)
   stays_on side w stands opening =
       runs_on (state start) (state mid) (state now) lawful k side w w stands opening opened.alike

@@ -20,15 +20,15 @@ use Rattle.sync_model.specs.Parties.{Party}
 use Rattle.sync_model.specs.declared.more.More.{More}
 use Rattle.client.specs.Clients.{ClientNow, IsReady, client_area}
 use Rattle.client.specs.InWorlds.{IsIn}
-use Rattle.client.specs.Opening.{Reads}
+use Rattle.client.specs.Opening.{ReadsAsSide}
 use Rattle.client.proofs.Openings.{like_stands}
 use Rattle.client.specs.Syncing.InWorlds.{IsReachedIn, LeadsTo, SyncsIn}
 use Rattle.client.specs.Syncing.Moments.{Moment, moment}
 use Rattle.client.specs.Syncing.SoFar.{IsReached, Stands, Talked}
-use Rattle.client.specs.Syncing.Syncs.{Ends, IsCutOff, IsOver, IsUnheard}
+use Rattle.client.specs.Syncing.Syncs.{EndsSync, IsRequestCut, IsSyncOver, IsUnheard}
 use Rattle.client.specs.declared.syncing.faults.SyncFault.{SyncFault}
 use Rattle.client.specs.declared.syncing.faults.SyncFault.TheVariants.{Closed, Link, Peer, Refused, Store, Write}
-use Rattle.session_commands.specs.Disks.{IsAtRest}
+use Rattle.session_commands.specs.Disks.{IsClientAtRest}
 use Rattle.session_commands.specs.Syncing.{CameToEnd, IsStored, IsSyncLeft, LeavesCourse, RestsIn, StandsForCourse, SyncEnds, SyncRunsIn, is_as_read, is_of_course}
 use Rattle.session_commands.proofs.Standing.{left_sound, like_sound}
 
@@ -52,18 +52,18 @@ module _ (p : Party Client) (kept : Client) (replies : List Replied) (opened now
       quiet = quiet_twice start mid end opening stands.quiet;
     }
 
-    came_by : (ending : Ending) → IsOver p replies ending from to opened now → CameToEnd p kept replies ending start end opened now
+    came_by : (ending : Ending) → IsSyncOver p replies ending from to opened now → CameToEnd p kept replies ending start end opened now
     came_by ending is = record {
       is_over = ap (λ (x : Client). (course_of p x replies).wait) (sym same) ∙ is.is_over;
       talked = subst (λ (x : Client). Talked p x replies opened now) same is.talked;
       stored = stored_by is.stands;
     }
 
-    pub sync_ends : (result : Result More SyncFault) → Ends p replies from to opened now result
+    pub sync_ends : (result : Result More SyncFault) → EndsSync p replies from to opened now result
         → SyncEnds p kept replies start end opened now before.faults final result
     sync_ends (Ok which) ends = came_by _ ends
     sync_ends (Err (Closed call)) ends = ends
-    sync_ends (Err Link) ends = (subst (λ (x : Client). IsCutOff p x replies opened now) same ends.1, stored_by ends.0)
+    sync_ends (Err Link) ends = (subst (λ (x : Client). IsRequestCut p x replies opened now) same ends.1, stored_by ends.0)
     sync_ends (Err (Peer at what)) ends =
         ⊎_elim (λ over. inl (over.0, over.1, came_by over.0 over.2))
         (λ cut. inr (subst (λ (x : Client). IsUnheard p x replies opened now (fault_at at what)) same cut.1, stored_by cut.0)) ends
@@ -107,7 +107,7 @@ module _ (start mid now : DiskState) (lawful : IsLawful now) where
   }
 
   module _ (k : Mechanism) (side : Side) (w : World) (replies : List Replied) where
-    stands_first : (c : List ℕ) → Reads k w side start → IsLikeRead client_area start c → StandsForCourse k side w replies start c
+    stands_first : (c : List ℕ) → ReadsAsSide k w side start → IsLikeRead client_area start c → StandsForCourse k side w replies start c
     stands_first c reads like = record {
       front = [];
       back = replies;
@@ -123,11 +123,11 @@ module _ (start mid now : DiskState) (lawful : IsLawful now) where
       abbrev behind : Moment
       behind = moment after now wrote
 
-      at_rest : Stands p replies ahead behind → (last : World) → IsIn k last side after → IsAtRest (kept_in k last side) now
+      at_rest : Stands p replies ahead behind → (last : World) → IsIn k last side after → IsClientAtRest (kept_in k last side) now
       at_rest stands last is =
           record { store = after.store; ready = subst (λ (x : Client). IsReady x after.store now) is.keeps stands.ready }
 
-      rests_in : (result : Result More SyncFault) → Ends p replies ahead behind from to result → LeadsTo k [] side w replies behind result
+      rests_in : (result : Result More SyncFault) → EndsSync p replies ahead behind from to result → LeadsTo k [] side w replies behind result
           → RestsIn k side w replies now result
       rests_in (Ok which) ends leads = at_rest ends.stands _ leads.0
       rests_in (Err (Closed call)) ends leads = absurd ends
@@ -137,8 +137,8 @@ module _ (start mid now : DiskState) (lawful : IsLawful now) where
       rests_in (Err (Store call)) ends leads = tt
       rests_in (Err Write) ends leads = at_rest ends.stands _ leads.0
 
-      pub sync_runs : (result : Result More SyncFault) → Reads k w side start → Span start mid (IsEntryOrLike client_area start)
-          → Always (IsLikeRead client_area start) mid → Ends p replies ahead behind from to result
+      pub sync_runs : (result : Result More SyncFault) → ReadsAsSide k w side start → Span start mid (IsEntryOrLike client_area start)
+          → Always (IsLikeRead client_area start) mid → EndsSync p replies ahead behind from to result
           → SyncsIn k [] side w replies ahead behind result → SyncRunsIn k side w client.kept replies start now result
       sync_runs result stands opening alike ends syncs = record {
         same = syncs.same;

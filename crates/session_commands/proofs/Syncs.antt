@@ -27,12 +27,12 @@ use Rattle.sync_model.specs.Moves.{Ending as CourseEnding, Wait, acking, asked_i
 use Rattle.sync_model.specs.Parties.{Party}
 use Rattle.sync_model.specs.declared.more.More.{More}
 use Rattle.client.specs.Syncing.Moments.{Moment, Wrote}
-use Rattle.client.specs.Syncing.Rounds.{fault_in}
-use Rattle.client.specs.Syncing.Syncs.{Ends, IsNoReply, Syncs, is_cut, is_unread}
+use Rattle.client.specs.Syncing.Rounds.{sync_fault_of}
+use Rattle.client.specs.Syncing.Syncs.{EndsSync, IsNoReply, Syncs, is_cut, is_unread}
 use Rattle.client.specs.declared.syncing.faults.SyncFault.{SyncFault}
 use Rattle.client.specs.declared.syncing.faults.SyncFault.TheVariants.{Closed, Link, Peer, Refused, Store, Write}
 use Rattle.client.specs.declared.syncing.faults.SyncRefusal.TheVariants.{BoxFull, InboxFull, Unknown}
-use Rattle.session_commands.specs.Syncing.{HasWritten, IsNear, ending_of_fault, sync_lines}
+use Rattle.session_commands.specs.Syncing.{HasWritten, HasPrintedPlace, ending_of_fault, lines_of_sync}
 
 -- ---- what was written
 
@@ -58,8 +58,8 @@ module _ (p : Party Client) where
   wrote_so : (lines : List ℕ) (other : List ℕ) (a b : Moment) → lines ≡ other → Wrote lines a b → (b.sink.taken ≡ appended a.sink.taken other) × (b.sink.faults ≡ a.sink.faults)
   wrote_so lines other a b is wrote = (wrote.bytes_are ∙ ap (appended a.sink.taken) is, wrote.unfailing)
 
-  pub has_written : (replies : List Replied) (a b : Moment) (start now : Port) (result : Result More SyncFault) → Ends p replies a b start now result
-      → HasWritten (sync_lines p a.client.kept replies result) a.sink b.sink result
+  pub has_written : (replies : List Replied) (a b : Moment) (start now : Port) (result : Result More SyncFault) → EndsSync p replies a b start now result
+      → HasWritten (lines_of_sync p a.client.kept replies result) a.sink b.sink result
   has_written replies a b start now (Ok which) ends = (ends.wrote.bytes_are, ends.wrote.unfailing)
   has_written replies a b start now (Err (Closed call)) ends = absurd ends
   has_written replies a b start now (Err Link) ends = wrote_so _ _ a b (still_lines a.client.kept replies ends.1.asked ends.1.waits) ends.2
@@ -91,14 +91,14 @@ near_fault now rest fault (is_unread NoKind whole reads) = omega arith
 near_fault now rest fault (is_unread NoSize whole reads) = omega arith
 near_fault now rest fault (is_cut partial end) = omega (arith, partial, most_size rest)
 
-near_end : (ending : CourseEnding) (at : ℕ) (what : PeerKind) → fault_in ending ≡ Some (Peer at what) → at < 2 ^ 32
+near_end : (ending : CourseEnding) (at : ℕ) (what : PeerKind) → sync_fault_of ending ≡ Some (Peer at what) → at < 2 ^ 32
 near_end (ended which) at what is = absurd (let e : None ≡ Some (Peer at what) = is in cc)
 near_end inbox_full at what is = absurd (let e : Some (Refused InboxFull) ≡ Some (Peer at what) = is in cc)
 near_end box_is_full at what is = absurd (let e : Some (Refused BoxFull) ≡ Some (Peer at what) = is in cc)
 near_end no_such_box at what is = absurd (let e : Some (Refused Unknown) ≡ Some (Peer at what) = is in cc)
 near_end wrong at what is = let e : Some (Peer 2 Wrong) ≡ Some (Peer at what) = is in let f : 2 ≡ at = cc in omega (arith, f)
 
-pub near : (p : Party Client) (replies : List Replied) (a b : Moment) (start now : Port) (fault : SyncFault) → Ends p replies a b start now (Err fault) → IsNear fault
+pub near : (p : Party Client) (replies : List Replied) (a b : Moment) (start now : Port) (fault : SyncFault) → EndsSync p replies a b start now (Err fault) → HasPrintedPlace fault
 near p replies a b start now (Closed call) ends = tt
 near p replies a b start now Link ends = tt
 near p replies a b start now (Peer at what) ends =
@@ -140,7 +140,7 @@ not_done fault old new code not (inr cut) zero = omega (arith, zero, cut.code_is
 
 -- ---- a whole sync
 
-pub near_result : (p : Party Client) (a b : Moment) (start now : Port) (result : Result More SyncFault) → Syncs p a b start now result → IfErr result IsNear
+pub near_result : (p : Party Client) (a b : Moment) (start now : Port) (result : Result More SyncFault) → Syncs p a b start now result → IfErr result HasPrintedPlace
 near_result p a b start now (Ok which) syncs = tt
 near_result p a b start now (Err fault) syncs = near p syncs.replies a b start now fault syncs.syncs.ends
 

@@ -14,10 +14,10 @@ use Rattle.endings.specs.declared.ending.Ending.TheVariants.{Done}
 use Rattle.kem_laws.specs.Mechanism.{Mechanism}
 use Rattle.client.specs.Grounds.{Grounds}
 use Rattle.client.specs.InWorlds.{StandsFor}
-use Rattle.client.specs.Moments.{IsOneOf, Known, settled_in}
-use Rattle.client.specs.Opening.{Reads}
+use Rattle.client.specs.Moments.{IsAmongKnown, Known, settled_in}
+use Rattle.client.specs.Opening.{ReadsAsSide}
 use Rattle.client.proofs.Standing.{stands}
-use Rattle.session_commands.specs.Acting.{Asked}
+use Rattle.session_commands.specs.Acting.{ClientAsk}
 use Rattle.session_commands.specs.Asking.{asked_say, asked_take}
 use Rattle.session_commands.specs.Histories.{acted_known, cut_known}
 use Rattle.session_commands.specs.InWorlds.{RunsIn}
@@ -34,15 +34,15 @@ module _ {D E V : Type 0} (state : D → DiskState) (sound : (d : D) → IsLawfu
     (start said cut crashed took : D) (hears heard answers : E) (question answer : Item)
     (talk : IsTalk state peers draws k start said cut crashed took hears heard answers
     question answer)
-    (lawful : IsLawfulWorld k w) (first : Reads k w First (state start))
-    (second : Reads k w Second (peers hears))
+    (lawful : IsLawfulWorld k w) (first : ReadsAsSide k w First (state start))
+    (second : ReadsAsSide k w Second (peers hears))
     (rests : Always (StandsFor k w First) (state start)) where
   abbrev Runs : D → D → Known → Known → Type 0
   Runs = Ran state draws k First
 
   -- ---- First says a text
 
-  abbrev asking : Asked
+  abbrev asking : ClientAsk
   asking = asked_say draws talk.asks.text talk.asks.source talk.asks.left
 
   asks_runs : RunsIn k w First asking (state start) (state said) Done talk.asks.lines
@@ -58,7 +58,7 @@ module _ {D E V : Type 0} (state : D → DiskState) (sound : (d : D) → IsLawfu
 
   -- ---- Second takes its packet
 
-  second_then : Reads k w1 Second (peers hears)
+  second_then : ReadsAsSide k w1 Second (peers hears)
   second_then =
       reads_ahead k grounds Second w w1 (peers hears)
       (grounds.follow.others w First asked.act lawful asked.fair) second
@@ -81,7 +81,7 @@ module _ {D E V : Type 0} (state : D → DiskState) (sound : (d : D) → IsLawfu
 
   -- ---- and says a text
 
-  abbrev replying : Asked
+  abbrev replying : ClientAsk
   replying = asked_say draws talk.answering.text talk.answering.source talk.answering.left
 
   answers_runs : RunsIn k w2 Second replying (peers heard) (peers answers) Done
@@ -161,7 +161,7 @@ module _ {D E V : Type 0} (state : D → DiskState) (sound : (d : D) → IsLawfu
       }
 
   -- what is read after the crash
-  found : (v : World) × IsOneOf known4 v × IsLawfulWorld k v × Reads k v First (state crashed)
+  found : (v : World) × IsAmongKnown known4 v × IsLawfulWorld k v × ReadsAsSide k v First (state crashed)
   found =
       let before = said ∷ said ∷ said ∷ crashed ∷ [] in
       let worlds = settled_in w1 ∷ settled_in w2 ∷ settled_in w3 ∷ known4 ∷ [] in

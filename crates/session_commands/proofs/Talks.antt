@@ -26,13 +26,13 @@ use Rattle.session_model.specs.Clients.{Client}
 use Rattle.client.specs.Grounds.{Grounds}
 use Rattle.client.specs.InWorlds.{StandsFor}
 use Rattle.client.specs.Moments.{HaveMoved, IsActed, Known, settled_in}
-use Rattle.client.specs.Opening.{Reads}
+use Rattle.client.specs.Opening.{ReadsAsSide}
 use Rattle.client.specs.declared.refusals.OpenRefusal.{OpenRefusal}
 use Rattle.client.specs.declared.refusals.OpenRefusal.TheVariants.{Damaged as OpenDamaged, Memory as OpenMemory, NoSession as OpenNoSession, StoreFault as OpenFault}
 use Rattle.client.proofs.Later.{act_later}
 use Rattle.client.proofs.Lifted.{ready_stands}
 use Rattle.client.proofs.Standing.{among}
-use Rattle.session_commands.specs.Acting.{Asked}
+use Rattle.session_commands.specs.Acting.{ClientAsk}
 use Rattle.session_commands.specs.Histories.{acted_known}
 use Rattle.session_commands.specs.InWorlds.{RunsIn, goes_on, is_in_doubt, stays_refused, stays_undrawn, stays_unopened}
 use Rattle.session_commands.specs.Opening.{ending_of_open}
@@ -69,7 +69,7 @@ pub record IsDone (k : Mechanism) (w : World) (side : Side) (start now : DiskSta
   pub fair : IsFairAct k w side act
   pub lawful : IsLawfulWorld k (act_in k w side act).next
   pub stands : Always (StandsFor k (act_in k w side act).next side) now
-  pub reads : Reads k w side start → Reads k (act_in k w side act).next side now
+  pub reads : ReadsAsSide k w side start → ReadsAsSide k (act_in k w side act).next side now
   pub settles : (known : Known) → after known ≡ settled_in (act_in k w side act).next
 
 unopened_undone : (refusal : OpenRefusal) → ending_of_open refusal ≡ Done → ⊥
@@ -79,7 +79,7 @@ unopened_undone (OpenDamaged slot at) is = absurd (let e : Damaged slot at ≡ D
 unopened_undone OpenNoSession is = absurd (let e : NoSession ≡ Done = is in cc)
 
 module _ (k : Mechanism) (grounds : Grounds k) where
-  pub done_in : (w : World) (side : Side) (asked : Asked) (start now : DiskState)
+  pub done_in : (w : World) (side : Side) (asked : ClientAsk) (start now : DiskState)
       (sound : IsLawful now) (ending : Ending) (lines : List ℕ)
       → IsLawfulWorld k w → (runs : RunsIn k w side asked start now ending lines) → ending ≡ Done
       → IsDone k w side start now (acted_known runs)
@@ -122,8 +122,8 @@ module _ (k : Mechanism) (grounds : Grounds k) where
   stands_ahead side w ahead c keeps stood = stood ∙ ap (λ (x : Client). Some (Ok x)) (sym keeps)
 
   pub reads_ahead : (side : Side) (w ahead : World) (disk : DiskState)
-      → kept_in k ahead side ≡ kept_in k w side → Reads k w side disk
-      → Reads k ahead side disk
+      → kept_in k ahead side ≡ kept_in k w side → ReadsAsSide k w side disk
+      → ReadsAsSide k ahead side disk
   reads_ahead side w ahead disk keeps reads =
       record {
         bytes = reads.bytes;

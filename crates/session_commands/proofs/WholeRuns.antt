@@ -15,9 +15,9 @@ use Rattle.session_model.specs.Clients.{Client}
 use Rattle.slot_store.specs.Reading.{IsUndamaged}
 use Rattle.client.specs.Clients.{client_area}
 use Rattle.client.specs.Grounds.{Grounds}
-use Rattle.client.specs.Moments.{AreLinked, IsOneOf, Known, Link, was_left, was_moved}
+use Rattle.client.specs.Moments.{AreLinked, IsAmongKnown, Known, Link, was_left, was_moved}
 use Rattle.client.proofs.Standing.{get_before, stands}
-use Rattle.session_commands.specs.Acting.{Asked}
+use Rattle.session_commands.specs.Acting.{ClientAsk}
 use Rattle.session_commands.specs.Completing.{ReadsWhole}
 use Rattle.session_commands.specs.Disks.{RunsOn}
 use Rattle.session_commands.specs.InWorlds.{RunsIn, goes_on, is_in_doubt, stays_refused, stays_undrawn, stays_unopened}
@@ -29,7 +29,7 @@ use Rattle.session_commands.proofs.Wholeness.{reads_whole, runs_whole, syncs_who
 
 -- ---- the disk over a command
 
-stays_on : (k : Mechanism) (w : World) (side : Side) (asked : Asked) (start now : DiskState)
+stays_on : (k : Mechanism) (w : World) (side : Side) (asked : ClientAsk) (start now : DiskState)
     (ending : Ending) (lines : List ℕ)
     → RunsIn k w side asked start now ending lines → (next : World) × RunsOn k side w next start now
 stays_on k w side asked start now ending lines (stays_unopened refusal on) = (w, on)
@@ -167,7 +167,7 @@ module _ {X W : Type 0} (state : X → DiskState) (sound : (x : X) → IsLawful 
       pub all_read : ((a : X) → slice_get xs 0 ≡ Some a
           → Always (IsUndamaged client_area) (state a)) → (n : ℕ) (a : X) (bytes : List ℕ)
           → slice_get xs n ≡ Some a → (state a).seen ≡ Some bytes
-          → (w : World) × IsOneOf (known n) w × ReadsWhole k w side (state a)
+          → (w : World) × IsAmongKnown (known n) w × ReadsWhole k w side (state a)
       all_read whole n a bytes is told =
           let found = reads_one k side first (known n) (state a) (sound a) bytes lawful
           (stands state xs k side first known all_linked n a is) told in (

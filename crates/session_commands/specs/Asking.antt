@@ -7,7 +7,7 @@ use Rattle.dr_ports.specs.Seeds.{drawn}
 use Rattle.dr_ports.specs.States.{DrawsState}
 use Rattle.kem_laws.specs.Mechanism.{Mechanism}
 use Rattle.session_model.specs.Clients.{Client, say_check}
-use Rattle.session_commands.specs.Acting.{Asked}
+use Rattle.session_commands.specs.Acting.{ClientAsk}
 
 -- a text, with a seed exactly where what is kept needs one: the one that the draws gave
 pub data SaysText {W : Type 0} (draws : W → DrawsState) (text : List ℕ) (source left : W)
@@ -28,7 +28,7 @@ pub record LacksSeed {W : Type 0} (draws : W → DrawsState) (text : List ℕ) (
   pub rose : Rose (draws source).faults (draws left).faults
   pub none : (draws left).coming ≡ (draws source).coming
 
-abbrev pub asked_say : {W : Type 0} → (W → DrawsState) → List ℕ → W → W → Asked
+abbrev pub asked_say : {W : Type 0} → (W → DrawsState) → List ℕ → W → W → ClientAsk
 asked_say draws text source left = record {
   acts = SaysText draws text source left;
   undrawn = LacksSeed draws text source left;
@@ -36,7 +36,7 @@ asked_say draws text source left = record {
   fair = λ w side. ⊤;
 }
 
-abbrev pub asked_take : Mechanism → List ℕ → Asked
+abbrev pub asked_take : Mechanism → List ℕ → ClientAsk
 asked_take k packet = record {
   acts = λ kept act. act ≡ taking packet;
   undrawn = λ kept. ⊥;
@@ -45,7 +45,7 @@ asked_take k packet = record {
 }
 
 -- an act for which nothing is drawn and nothing is premised
-abbrev pub asked_drop : Act → Asked
+abbrev pub asked_drop : Act → ClientAsk
 asked_drop drop = record {
   acts = λ kept act. act ≡ drop;
   undrawn = λ kept. ⊥;

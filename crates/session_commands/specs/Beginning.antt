@@ -14,10 +14,10 @@ use Rattle.session_model.specs.Schedule.{agreement_seed, session_of}
 use Rattle.slot_store.specs.Reading.{IsLikeRead, no_content}
 use Rattle.client.specs.Beginning.{IsEntryOrFirst, IsFirst, IsUnbegun}
 use Rattle.client.specs.Clients.{client_area}
-use Rattle.client.specs.Opening.{IsReadAs, Reads}
+use Rattle.client.specs.Opening.{IsReadAs, ReadsAsSide}
 use Rattle.client.specs.declared.refusals.BeginRefusal.{BeginRefusal}
-use Rattle.session_commands.specs.Disks.{IsAtRest, RunsOn}
-use Rattle.session_commands.specs.Inputs.{IsInput, IsNoInput, key_of}
+use Rattle.session_commands.specs.Disks.{IsClientAtRest, RunsOn}
+use Rattle.session_commands.specs.Inputs.{IsInput, IsNoInput, key_in_hex}
 use Rattle.session_commands.specs.Lines.{session_line}
 use Rattle.session_commands.specs.Opening.{ending_of_begin}
 use Rattle.session_commands.specs.declared.input.TheConstants.{KEY_TEXT_LIMIT}
@@ -28,7 +28,7 @@ pub data Began {X : Type 0} (state : X → DiskState) (k : Mechanism) (key : Lis
   wasnt_begun : (refusal : BeginRefusal) → IsUnbegun state k key start now refusal
       → Began state k key side start now (ending_of_begin refusal) []
   was_begun : IsReadAs k (state start) no_content → IsSome (k.meaning.pair_of (agreement_seed key))
-      → IsLawfulWorld k (opening_world key) → IsAtRest (kept_in k (opening_world key) side) (state now)
+      → IsLawfulWorld k (opening_world key) → IsClientAtRest (kept_in k (opening_world key) side) (state now)
       → IsQuiet (state start) (state now) → Began state k key side start now Done (session_line (session_of key))
 
 -- With what each crash meanwhile leaves and a read gives: what it did, but for what was tidied, or the first record, where
@@ -39,16 +39,16 @@ pub record Begins {X : Type 0} (state : X → DiskState) (k : Mechanism) (key : 
   pub any_moment : Span (state start) (state now) (IsEntryOrFirst k key side (state start))
   pub reads : (s : List ℕ) → (state now).seen ≡ Some s
       → IsLikeRead client_area (state start) s ⊎ IsFirst k key side (state start) s
-  pub in_worlds : (w : World) (whose : Side) → Reads k w whose (state start) → RunsOn k whose w w (state start) (state now)
+  pub in_worlds : (w : World) (whose : Side) → ReadsAsSide k w whose (state start) → RunsOn k whose w w (state start) (state now)
 
 -- The source holds no key, and the disk is left alone; or the session of the key is begun.
 pub data RunsBegin {X : Type 0} (state : X → DiskState) (k : Mechanism) (side : Side)
     (from to : SourceState)
     (start now : X) : Ending → List ℕ → Type 0 where
-  had_no_key : (ending : Ending) → IsNoInput KEY_TEXT_LIMIT key_of BadKey from to ending
+  had_no_key : (ending : Ending) → IsNoInput KEY_TEXT_LIMIT key_in_hex BadKey from to ending
       → now ≡ start
       → RunsBegin state k side from to start now ending []
   had_key : (key : List ℕ) (ending : Ending) (lines : List ℕ)
-      → IsInput KEY_TEXT_LIMIT key_of from to key
+      → IsInput KEY_TEXT_LIMIT key_in_hex from to key
       → Begins state k key side start now ending lines
       → RunsBegin state k side from to start now ending lines

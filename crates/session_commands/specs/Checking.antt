@@ -17,7 +17,7 @@ use Rattle.slot_store.specs.declared.report.Gate.TheVariants.{Closed, Open}
 use Rattle.slot_store.specs.declared.report.Report.{Report}
 use Rattle.slot_store.specs.Reports.{IsReport}
 use Rattle.client.specs.Clients.{client_area}
-use Rattle.client.specs.Opening.{record_fault}
+use Rattle.client.specs.Opening.{client_record_fault}
 use Rattle.session_commands.specs.Lines.{count_line}
 
 -- ---- the lines of a report
@@ -62,7 +62,7 @@ pub data Checked {X : Type 0} (state : X → DiskState) (k : Mechanism) (start n
   read_failed : Rose ((state start).faults Read) ((state now).faults Read)
       → Checked state k start now DiskFault []
   was_checked : (report : Report)
-      → OnSeen (IsReport (record_fault k) client_area report) (state start)
+      → OnSeen (IsReport (client_record_fault k) client_area report) (state start)
       → IsQuiet (state start) (state now) → Checked state k start now Done (report_lines report)
 
 -- Nothing is written or synced, and no crash meanwhile leaves anything else.

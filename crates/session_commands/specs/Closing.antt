@@ -7,16 +7,16 @@ use Rattle.session_model.specs.declared.answer.Answer.{Answer}
 use Rattle.client.specs.Outcomes.{Outcome, acknowledged, faulted, is_closed, refused, undrawn}
 
 -- the line of an answer
-abbrev pub answer_line : Answer → List ℕ
-answer_line answer = answer_text answer ++ codes "\n"
+abbrev pub printed_answer : Answer → List ℕ
+printed_answer answer = answer_text answer ++ codes "\n"
 
 abbrev pub ending_by : Result Answer Ending → Ending
 ending_by (Ok answer) = Done
 ending_by (Err ending) = ending
 
-abbrev pub lines_by : Result Answer Ending → List ℕ
-lines_by (Ok answer) = answer_line answer
-lines_by (Err ending) = []
+abbrev pub lines_of_ending : Result Answer Ending → List ℕ
+lines_of_ending (Ok answer) = printed_answer answer
+lines_of_ending (Err ending) = []
 
 -- what an act came to
 abbrev pub worked_as : Outcome → Result Answer Ending

@@ -16,8 +16,8 @@ use Rattle.session_model.specs.Clients.{Client}
 use Rattle.session_model.specs.declared.answer.Answer.TheVariants.{Refused}
 use Rattle.session_model.specs.declared.answer.Refusal.{Refusal}
 use Rattle.client.specs.Beginning.{HoldsRecord}
-use Rattle.client.specs.Opening.{Reads}
-use Rattle.session_commands.specs.Acting.{Asked}
+use Rattle.client.specs.Opening.{ReadsAsSide}
+use Rattle.session_commands.specs.Acting.{ClientAsk}
 
 abbrev pub DidWork : Ending → Type 0
 DidWork ending = (ending ≡ Done) ⊎ (ending ≡ NoMemory)
@@ -29,11 +29,11 @@ NoneFailed start now = (call : Call) → Rose (start.faults call) (now.faults ca
 -- the disk reads a side of a lawful world, and nothing of the record's area is damaged
 pub record ReadsWhole (k : Mechanism) (w : World) (side : Side) (disk : DiskState) : Type 0 where
   pub lawful : IsLawfulWorld k w
-  pub reads : Reads k w side disk
+  pub reads : ReadsAsSide k w side disk
   pub undamaged : HoldsRecord k disk
 
 -- the machine refuses no act that the command may be, and no draw failed
-pub record IsAccepted (k : Mechanism) (w : World) (side : Side) (asked : Asked) : Type 0 where
+pub record IsAccepted (k : Mechanism) (w : World) (side : Side) (asked : ClientAsk) : Type 0 where
   pub fair : asked.fair w side
   pub accepts : (act : Act) → asked.acts (kept_in k w side) act → IsFairAct k w side act → (refusal : Refusal)
       → (act_in k w side act).answer ≡ Refused refusal → ⊥

@@ -8,39 +8,39 @@ use Rattle.kem_laws.specs.Mechanism.{Mechanism}
 use Rattle.session_model.specs.Clients.{Client}
 use Rattle.session_record.specs.Record.{record_read, record_text}
 use Rattle.slot_store.specs.Reading.{IsEntryOrLike, IsLikeRead, IsUndamaged}
-use Rattle.slot_store.specs.Records.{recovered}
+use Rattle.slot_store.specs.Records.{stored_record}
 use Rattle.slot_store.specs.Store.{SlotStore}
-use Rattle.slot_store.specs.Areas.{IsSameOutside}
+use Rattle.slot_store.specs.Areas.{IsSameOutsideArea}
 use Rattle.client.specs.Clients.{IsReady, client_area}
 use Rattle.client.specs.InWorlds.{StandsFor}
 
 -- what a read gives is read as what a client keeps
-abbrev pub IsKept : Mechanism → DiskState → Client → Type 0
-IsKept k disk kept = (s : List ℕ) → disk.seen ≡ Some s → option_map (record_read k) (recovered client_area s) ≡ Some (Ok kept)
+abbrev pub ReadsAsKept : Mechanism → DiskState → Client → Type 0
+ReadsAsKept k disk kept = (s : List ℕ) → disk.seen ≡ Some s → option_map (record_read k) (stored_record client_area s) ≡ Some (Ok kept)
 
 -- each image is at rest for the record of what a client keeps
-pub record IsAtRest (kept : Client) (disk : DiskState) : Type 0 where
+pub record IsClientAtRest (kept : Client) (disk : DiskState) : Type 0 where
   pub store : SlotStore
   pub ready : IsReady kept store disk
 
 -- bytes that are read without damage where those were that a read gave at entry, and are the same outside the client's area
-pub record IsSound (start : DiskState) (c : List ℕ) : Type 0 where
+pub record StaysSound (start : DiskState) (c : List ℕ) : Type 0 where
   pub read : List ℕ
   pub told : start.seen ≡ Some read
   pub undamaged : IsUndamaged client_area read → IsUndamaged client_area c
-  pub outside : IsSameOutside client_area read c
+  pub outside : IsSameOutsideArea client_area read c
 
 -- bytes with a client's record, read without damage, and the same outside the client's area as at entry
-pub record HasRecord (kept : Client) (start : DiskState) (c : List ℕ) : Type 0 where
-  pub has : recovered client_area c ≡ Some (record_text kept)
+pub record HasRecordUnharmed (kept : Client) (start : DiskState) (c : List ℕ) : Type 0 where
+  pub has : stored_record client_area c ≡ Some (record_text kept)
   pub undamaged : IsUndamaged client_area c
-  pub sound : IsSound start c
+  pub sound : StaysSound start c
 
 -- bytes like those that were read, or with the record of one of two clients
-pub data IsLeft (before after : Client) (start : DiskState) (c : List ℕ) : Type 0 where
-  is_like : IsLikeRead client_area start c → IsLeft before after start c
-  is_before : HasRecord before start c → IsLeft before after start c
-  is_after : HasRecord after start c → IsLeft before after start c
+pub data IsReadOrEither (before after : Client) (start : DiskState) (c : List ℕ) : Type 0 where
+  is_like : IsLikeRead client_area start c → IsReadOrEither before after start c
+  is_before : HasRecordUnharmed before start c → IsReadOrEither before after start c
+  is_after : HasRecordUnharmed after start c → IsReadOrEither before after start c
 
 -- Each crash meanwhile leaves what one might have left at entry, or what is like what was read; a read gives such.
 pub record LeavesLike (start now : DiskState) : Type 0 where
@@ -49,13 +49,13 @@ pub record LeavesLike (start now : DiskState) : Type 0 where
 
 -- or what has one of two clients' records
 pub record LeavesEither (before after : Client) (start now : DiskState) : Type 0 where
-  pub any_moment : Span start now (λ c. start.image c ⊎ IsLeft before after start c)
-  pub reads : (s : List ℕ) → now.seen ≡ Some s → IsLeft before after start s
+  pub any_moment : Span start now (λ c. start.image c ⊎ IsReadOrEither before after start c)
+  pub reads : (s : List ℕ) → now.seen ≡ Some s → IsReadOrEither before after start s
 
 -- and then all is at rest for the latter, and no call failed
-pub record Leaves (before after : Client) (start now : DiskState) : Type 0 where
+pub record LeavesAtRest (before after : Client) (start now : DiskState) : Type 0 where
   pub either : LeavesEither before after start now
-  pub rests : IsAtRest after now
+  pub rests : IsClientAtRest after now
   pub quiet : IsQuiet start now
 
 -- ---- in worlds
@@ -63,7 +63,7 @@ pub record Leaves (before after : Client) (start now : DiskState) : Type 0 where
 -- bytes that stand for one of two worlds, and are sound
 pub record StandsForOne (k : Mechanism) (side : Side) (before after : World) (start : DiskState) (c : List ℕ) : Type 0 where
   pub either : StandsFor k before side c ⊎ StandsFor k after side c
-  pub sound : IsSound start c
+  pub sound : StaysSound start c
 
 -- Each crash meanwhile leaves what one might have left at entry, or what stands for one of two worlds; a read gives what does.
 pub record RunsOn (k : Mechanism) (side : Side) (before after : World) (start now : DiskState) : Type 0 where

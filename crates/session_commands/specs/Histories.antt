@@ -15,12 +15,12 @@ use Rattle.client.specs.Syncing.InWorlds.{course_in}
 use Rattle.client.specs.Syncing.Parties.{world_party}
 use Rattle.client.specs.declared.syncing.faults.SyncFault.{SyncFault}
 use Rattle.client.specs.declared.syncing.faults.SyncFault.TheVariants.{Store}
-use Rattle.session_commands.specs.Acting.{Asked}
+use Rattle.session_commands.specs.Acting.{ClientAsk}
 use Rattle.session_commands.specs.InWorlds.{RunsIn, goes_on, is_in_doubt, stays_refused, stays_undrawn, stays_unopened}
 use Rattle.session_commands.specs.Showing.{ShowsIn, shows_nothing, shows_world}
 
 -- after a command that lets the client act once, in the world that it read: settled by all but a failing call on the disk
-abbrev pub acted_known : {k : Mechanism} {w : World} {side : Side} {asked : Asked} {start now : DiskState} {ending : Ending} {lines : List ℕ}
+abbrev pub acted_known : {k : Mechanism} {w : World} {side : Side} {asked : ClientAsk} {start now : DiskState} {ending : Ending} {lines : List ℕ}
     → RunsIn k w side asked start now ending lines → Known → Known
 acted_known (stays_unopened refusal on) known = known
 acted_known {w = w} (stays_undrawn lacks on rests) known = settled_in w
@@ -29,7 +29,7 @@ acted_known {k = k} {w = w} {side = side} (goes_on act asks fair on rests) known
 acted_known {k = k} {w = w} {side = side} (is_in_doubt act asks fair on) known = with_doubts known ((act_in k w side act).next ∷ [])
 
 -- after a crash in it
-abbrev pub cut_known : {k : Mechanism} {w : World} {side : Side} {asked : Asked} {start now : DiskState} {ending : Ending} {lines : List ℕ}
+abbrev pub cut_known : {k : Mechanism} {w : World} {side : Side} {asked : ClientAsk} {start now : DiskState} {ending : Ending} {lines : List ℕ}
     → RunsIn k w side asked start now ending lines → Known → Known
 cut_known {k = k} {w = w} {side = side} (goes_on act asks fair on rests) known = with_doubts known ((act_in k w side act).next ∷ [])
 cut_known {k = k} {w = w} {side = side} (is_in_doubt act asks fair on) known = with_doubts known ((act_in k w side act).next ∷ [])
@@ -56,11 +56,11 @@ abbrev pub IsLeftBetween : DiskState → DiskState → List ℕ → Type 0
 IsLeftBetween start now c = now.image c ⊎ now.since start.moment c
 
 -- whatever a command that asks this comes to in a world, it is a link from before it to after it
-abbrev pub LinksActs : Mechanism → Side → Known → World → Asked → DiskState → DiskState → Type 0
+abbrev pub LinksActs : Mechanism → Side → Known → World → ClientAsk → DiskState → DiskState → Type 0
 LinksActs k side known w asked start now =
     (ending : Ending) (lines : List ℕ) (runs : RunsIn k w side asked start now ending lines) → Link k side start now known (acted_known runs known)
 
 -- or from before it to what a crash in it left
-abbrev pub LinksCuts : Mechanism → Side → Known → World → Asked → DiskState → DiskState → DiskState → Type 0
+abbrev pub LinksCuts : Mechanism → Side → Known → World → ClientAsk → DiskState → DiskState → DiskState → Type 0
 LinksCuts k side known w asked start now crashed =
     (ending : Ending) (lines : List ℕ) (runs : RunsIn k w side asked start now ending lines) → Link k side start crashed known (cut_known runs known)

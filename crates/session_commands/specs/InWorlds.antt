@@ -12,30 +12,30 @@ use Rattle.endings.specs.declared.ending.Ending.TheVariants.{DiskFault, Done, Dr
 use Rattle.kem_laws.specs.Mechanism.{Mechanism}
 use Rattle.session_model.specs.declared.answer.Answer.TheVariants.{Refused}
 use Rattle.session_model.specs.declared.answer.Refusal.{Refusal}
-use Rattle.client.specs.Opening.{Reads}
+use Rattle.client.specs.Opening.{ReadsAsSide}
 use Rattle.client.specs.declared.refusals.OpenRefusal.{OpenRefusal}
-use Rattle.session_commands.specs.Acting.{Acted, Asked}
-use Rattle.session_commands.specs.Closing.{answer_line}
-use Rattle.session_commands.specs.Disks.{IsAtRest, RunsOn}
+use Rattle.session_commands.specs.Acting.{Acted, ClientAsk}
+use Rattle.session_commands.specs.Closing.{printed_answer}
+use Rattle.session_commands.specs.Disks.{IsClientAtRest, RunsOn}
 use Rattle.session_commands.specs.Opening.{ending_of_open}
 
 -- The machine's answer to what is asked of the side, and the world before the act or the one after it.
-pub data RunsIn (k : Mechanism) (w : World) (side : Side) (asked : Asked) (start now : DiskState) : Ending → List ℕ → Type 0 where
+pub data RunsIn (k : Mechanism) (w : World) (side : Side) (asked : ClientAsk) (start now : DiskState) : Ending → List ℕ → Type 0 where
   stays_unopened : (refusal : OpenRefusal) → RunsOn k side w w start now
       → RunsIn k w side asked start now (ending_of_open refusal) []
-  stays_undrawn : asked.undrawn (kept_in k w side) → RunsOn k side w w start now → IsAtRest (kept_in k w side) now → RunsIn k w side asked start now DrawFault []
+  stays_undrawn : asked.undrawn (kept_in k w side) → RunsOn k side w w start now → IsClientAtRest (kept_in k w side) now → RunsIn k w side asked start now DrawFault []
   stays_refused : (act : Act) (refusal : Refusal) → asked.acts (kept_in k w side) act → IsFairAct k w side act
-      → (act_in k w side act).answer ≡ Refused refusal → RunsOn k side w w start now → IsAtRest (kept_in k w side) now
+      → (act_in k w side act).answer ≡ Refused refusal → RunsOn k side w w start now → IsClientAtRest (kept_in k w side) now
       → RunsIn k w side asked start now (EndsRefused refusal) []
   goes_on : (act : Act) → asked.acts (kept_in k w side) act → IsFairAct k w side act → RunsOn k side w (act_in k w side act).next start now
-      → IsAtRest (kept_in k (act_in k w side act).next side) now
-      → RunsIn k w side asked start now Done (answer_line (act_in k w side act).answer)
+      → IsClientAtRest (kept_in k (act_in k w side act).next side) now
+      → RunsIn k w side asked start now Done (printed_answer (act_in k w side act).answer)
   is_in_doubt : (act : Act) → asked.acts (kept_in k w side) act → IsFairAct k w side act → RunsOn k side w (act_in k w side act).next start now
       → RunsIn k w side asked start now DiskFault []
 
 -- A command that lets the client act once: exactly, and in each world that the disk reads at entry.
-pub record RunsAct {X : Type 0} (state : X → DiskState) (k : Mechanism) (asked : Asked) (start now : X) (ending : Ending) (lines : List ℕ)
+pub record RunsAct {X : Type 0} (state : X → DiskState) (k : Mechanism) (asked : ClientAsk) (start now : X) (ending : Ending) (lines : List ℕ)
     : Type 0 where
   pub acted : Acted state k asked start now ending lines
-  pub in_worlds : (w : World) (side : Side) → IsLawfulWorld k w → Reads k w side (state start) → asked.fair w side
+  pub in_worlds : (w : World) (side : Side) → IsLawfulWorld k w → ReadsAsSide k w side (state start) → asked.fair w side
       → RunsIn k w side asked (state start) (state now) ending lines

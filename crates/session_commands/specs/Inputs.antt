@@ -18,12 +18,12 @@ where_ok (Ok bytes) = Some bytes
 where_ok (Err e) = None
 
 -- the packet that the source's text is, in hex digits
-unfoldable pub packet_of : List ℕ → Option (List ℕ)
-packet_of text = where_ok (decode_sized (stripped text) (length (stripped text) / 2))
+unfoldable pub packet_in_hex : List ℕ → Option (List ℕ)
+packet_in_hex text = where_ok (decode_sized (stripped text) (length (stripped text) / 2))
 
 -- the key that it is
-unfoldable pub key_of : List ℕ → Option (List ℕ)
-key_of text = where_ok (decode_sized (stripped text) 32)
+unfoldable pub key_in_hex : List ℕ → Option (List ℕ)
+key_in_hex text = where_ok (decode_sized (stripped text) 32)
 
 -- All was read, and is this value. The source stood as `from` says and stands as `to` does.
 pub record IsInput (limit : ℕ) (parse : List ℕ → Option (List ℕ)) (from to : SourceState)

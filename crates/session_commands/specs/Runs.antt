@@ -8,7 +8,7 @@ use Rattle.endings.specs.declared.ending.Ending.TheVariants.{NotHex}
 use Rattle.kem_laws.specs.Mechanism.{Mechanism}
 use Rattle.session_commands.specs.Asking.{asked_take}
 use Rattle.session_commands.specs.InWorlds.{RunsAct}
-use Rattle.session_commands.specs.Inputs.{IsInput, IsNoInput, packet_of}
+use Rattle.session_commands.specs.Inputs.{IsInput, IsNoInput, packet_in_hex}
 use Rattle.session_commands.specs.declared.input.TheConstants.{PACKET_TEXT_LIMIT}
 
 pub record Runs (comes : Ending → List ℕ → Type 0) (old new : SinkState) (code : ℕ) : Type 0 where
@@ -21,10 +21,10 @@ pub record Runs (comes : Ending → List ℕ → Type 0) (old new : SinkState) (
 pub data RunsTake {X : Type 0} (state : X → DiskState) (k : Mechanism) (from to : SourceState)
     (start now : X)
     : Ending → List ℕ → Type 0 where
-  had_no_packet : (ending : Ending) → IsNoInput PACKET_TEXT_LIMIT packet_of NotHex from to ending
+  had_no_packet : (ending : Ending) → IsNoInput PACKET_TEXT_LIMIT packet_in_hex NotHex from to ending
       → now ≡ start
       → RunsTake state k from to start now ending []
   had_packet : (packet : List ℕ) (ending : Ending) (lines : List ℕ)
-      → IsInput PACKET_TEXT_LIMIT packet_of from to packet
+      → IsInput PACKET_TEXT_LIMIT packet_in_hex from to packet
       → RunsAct state k (asked_take k packet) start now ending lines
       → RunsTake state k from to start now ending lines

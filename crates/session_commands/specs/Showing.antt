@@ -9,26 +9,26 @@ use Rattle.endings.specs.declared.ending.Ending.{Ending}
 use Rattle.endings.specs.declared.ending.Ending.TheVariants.{Done}
 use Rattle.kem_laws.specs.Mechanism.{Mechanism}
 use Rattle.session_model.specs.Clients.{Client}
-use Rattle.client.specs.Opening.{IsUnopened, Reads}
+use Rattle.client.specs.Opening.{IsUnopened, ReadsAsSide}
 use Rattle.client.specs.declared.refusals.OpenRefusal.{OpenRefusal}
-use Rattle.session_commands.specs.Disks.{IsAtRest, IsKept, Leaves, LeavesLike, RunsOn}
+use Rattle.session_commands.specs.Disks.{IsClientAtRest, ReadsAsKept, LeavesAtRest, LeavesLike, RunsOn}
 use Rattle.session_commands.specs.Opening.{ending_of_open}
 
 -- The client wasn't opened, or what was read is shown.
 pub data Shown {X : Type 0} (state : X → DiskState) (k : Mechanism) (shows : Client → List ℕ) (start now : X) : Ending → List ℕ → Type 0 where
   wasnt_opened : (refusal : OpenRefusal) → IsUnopened state k start now refusal → LeavesLike (state start) (state now)
       → Shown state k shows start now (ending_of_open refusal) []
-  was_shown : (kept : Client) → IsKept k (state start) kept → Leaves kept kept (state start) (state now)
+  was_shown : (kept : Client) → ReadsAsKept k (state start) kept → LeavesAtRest kept kept (state start) (state now)
       → Shown state k shows start now Done (shows kept)
 
 -- The same in a world: what the side keeps there.
 pub data ShowsIn (k : Mechanism) (w : World) (side : Side) (shows : Client → List ℕ) (start now : DiskState) : Ending → List ℕ → Type 0 where
   shows_nothing : (refusal : OpenRefusal) → RunsOn k side w w start now → ShowsIn k w side shows start now (ending_of_open refusal) []
-  shows_world : RunsOn k side w w start now → IsAtRest (kept_in k w side) now
+  shows_world : RunsOn k side w w start now → IsClientAtRest (kept_in k w side) now
       → ShowsIn k w side shows start now Done (shows (kept_in k w side))
 
 pub record RunsShow {X : Type 0} (state : X → DiskState) (k : Mechanism) (shows : Client → List ℕ) (start now : X) (ending : Ending)
     (lines : List ℕ) : Type 0 where
   pub shown : Shown state k shows start now ending lines
-  pub in_worlds : (w : World) (side : Side) → IsLawfulWorld k w → Reads k w side (state start)
+  pub in_worlds : (w : World) (side : Side) → IsLawfulWorld k w → ReadsAsSide k w side (state start)
       → ShowsIn k w side shows (state start) (state now) ending lines

@@ -28,19 +28,19 @@ use Rattle.sync_model.specs.Simulation.{IsSameCourse}
 use Rattle.sync_model.specs.declared.more.More.{More}
 use Rattle.client.specs.Clients.{client_area}
 use Rattle.client.specs.InWorlds.{StandsFor}
-use Rattle.client.specs.Opening.{IsUnopened, Reads}
-use Rattle.client.specs.Syncing.Arrivals.{Opens}
+use Rattle.client.specs.Opening.{IsUnopened, ReadsAsSide}
+use Rattle.client.specs.Syncing.Arrivals.{OpensArrived}
 use Rattle.client.specs.Syncing.InWorlds.{AreUnforged, IsKeptIn, course_in}
 use Rattle.client.specs.Syncing.Parties.{client_party}
-use Rattle.client.specs.Syncing.Rounds.{fault_in}
+use Rattle.client.specs.Syncing.Rounds.{sync_fault_of}
 use Rattle.client.specs.Syncing.SoFar.{Talked}
-use Rattle.client.specs.Syncing.Syncs.{IsCutOff, IsUnheard}
+use Rattle.client.specs.Syncing.Syncs.{IsRequestCut, IsUnheard}
 use Rattle.client.specs.Syncing.Transfers.{Transfers}
 use Rattle.client.specs.declared.refusals.OpenRefusal.{OpenRefusal}
 use Rattle.client.specs.declared.syncing.faults.SyncFault.{SyncFault}
 use Rattle.client.specs.declared.syncing.faults.SyncFault.TheVariants.{Closed as SyncClosed, Link as SyncLink, Peer as SyncPeer, Refused as SyncRefused, Store as SyncStore, Write as SyncWrite}
 use Rattle.client.specs.declared.syncing.faults.SyncRefusal.TheVariants.{BoxFull as SyncBoxFull, InboxFull as SyncInboxFull, Unknown as SyncUnknown}
-use Rattle.session_commands.specs.Disks.{HasRecord, IsAtRest, IsKept, IsSound, Leaves, LeavesLike, RunsOn}
+use Rattle.session_commands.specs.Disks.{HasRecordUnharmed, IsClientAtRest, ReadsAsKept, StaysSound, LeavesAtRest, LeavesLike, RunsOn}
 use Rattle.session_commands.specs.Opening.{ending_of_open}
 
 -- ---- how the command ends
@@ -61,14 +61,14 @@ ending_of_sync (Ok which) = Done
 ending_of_sync (Err fault) = ending_of_fault fault
 
 -- a place that the last line shows
-abbrev pub IsNear : SyncFault → Type 0
-IsNear (SyncPeer at what) = at < 2 ^ 32
-IsNear _ = ⊤
+abbrev pub HasPrintedPlace : SyncFault → Type 0
+HasPrintedPlace (SyncPeer at what) = at < 2 ^ 32
+HasPrintedPlace _ = ⊤
 
 -- the course's lines: where a call on the disk failed, those before the last reply
-abbrev pub sync_lines : Party Client → Client → List Replied → Result More SyncFault → List ℕ
-sync_lines p kept replies (Err (SyncStore call)) = (course_of p kept (take (length replies - 1) replies)).lines
-sync_lines p kept replies _ = all_lines p (course_of p kept replies)
+abbrev pub lines_of_sync : Party Client → Client → List Replied → Result More SyncFault → List ℕ
+lines_of_sync p kept replies (Err (SyncStore call)) = (course_of p kept (take (length replies - 1) replies)).lines
+lines_of_sync p kept replies _ = all_lines p (course_of p kept replies)
 
 -- they were written, or a write failed after a beginning of them
 abbrev pub HasWritten : List ℕ → SinkState → SinkState → Result More SyncFault → Type 0
@@ -81,7 +81,7 @@ HasWritten lines old new _ = (new.taken ≡ appended old.taken lines) × (new.fa
 -- bytes like those that were read, or with the record of what the course keeps after a beginning of the replies
 pub data IsSyncLeft (p : Party Client) (kept : Client) (replies : List Replied) (start : DiskState) (c : List ℕ) : Type 0 where
   is_as_read : IsLikeRead client_area start c → IsSyncLeft p kept replies start c
-  is_of_course : (front back : List Replied) → replies ≡ front ++ back → HasRecord (course_of p kept front).state start c
+  is_of_course : (front back : List Replied) → replies ≡ front ++ back → HasRecordUnharmed (course_of p kept front).state start c
       → IsSyncLeft p kept replies start c
 
 -- Each crash meanwhile leaves such, or what one might have left at entry; a read gives such.
@@ -93,7 +93,7 @@ pub record LeavesCourse (p : Party Client) (kept : Client) (replies : List Repli
 
 -- all is at rest for what the course keeps, and no call on the disk failed
 pub record IsStored (p : Party Client) (kept : Client) (replies : List Replied) (start now : DiskState) : Type 0 where
-  pub rests : IsAtRest (course_of p kept replies).state now
+  pub rests : IsClientAtRest (course_of p kept replies).state now
   pub quiet : IsQuiet start now
 
 -- the course has this end
@@ -106,12 +106,12 @@ pub record CameToEnd (p : Party Client) (kept : Client) (replies : List Replied)
 abbrev pub SyncEnds : Party Client → Client → List Replied → DiskState → DiskState → Port → Port → ℕ → ℕ → Result More SyncFault → Type 0
 SyncEnds p kept replies start now link left before after (Ok which) = CameToEnd p kept replies (ended which) start now link left
 SyncEnds p kept replies start now link left before after (Err (SyncRefused refusal)) =
-    (ending : CourseEnding) × (fault_in ending ≡ Some (SyncRefused refusal)) × CameToEnd p kept replies ending start now link left
+    (ending : CourseEnding) × (sync_fault_of ending ≡ Some (SyncRefused refusal)) × CameToEnd p kept replies ending start now link left
 SyncEnds p kept replies start now link left before after (Err (SyncPeer at kind)) =
-    ((ending : CourseEnding) × (fault_in ending ≡ Some (SyncPeer at kind)) × CameToEnd p kept replies ending start now link left)
+    ((ending : CourseEnding) × (sync_fault_of ending ≡ Some (SyncPeer at kind)) × CameToEnd p kept replies ending start now link left)
     ⊎ (IsUnheard p kept replies link left (fault_at at kind) × IsStored p kept replies start now)
 SyncEnds p kept replies start now link left before after (Err SyncLink) =
-    IsCutOff p kept replies link left × IsStored p kept replies start now
+    IsRequestCut p kept replies link left × IsStored p kept replies start now
 SyncEnds p kept replies start now link left before after (Err SyncWrite) =
     Talked p kept replies link left × IsStored p kept replies start now × Rose before after
 SyncEnds p kept replies start now link left before after (Err (SyncStore call)) =
@@ -127,12 +127,12 @@ pub record StandsForCourse (k : Mechanism) (side : Side) (w : World) (replies : 
   pub back : List Replied
   pub split : replies ≡ front ++ back
   pub stands : StandsFor k (course_in k [] side w front).state side c
-  pub sound : IsSound start c
+  pub sound : StaysSound start c
 
 -- where no call on the disk failed, all is at rest for the world that the course reaches
 abbrev pub RestsIn : Mechanism → Side → World → List Replied → DiskState → Result More SyncFault → Type 0
 RestsIn k side w replies now (Err (SyncStore call)) = ⊤
-RestsIn k side w replies now _ = IsAtRest (kept_in k (course_in k [] side w replies).state side) now
+RestsIn k side w replies now _ = IsClientAtRest (kept_in k (course_in k [] side w replies).state side) now
 
 pub record SyncRunsIn (k : Mechanism) (side : Side) (w : World) (kept : Client) (replies : List Replied) (start now : DiskState)
     (result : Result More SyncFault) : Type 0 where
@@ -159,19 +159,19 @@ pub record HasTalkedTo (address : List ℕ) (link left : Port) (talk : Port → 
 pub data RunsSync {X L : Type 0} (state : X → DiskState) (port : L → Port) (k : Mechanism) (address : List ℕ) (start now : X) (link left : L)
     (before after : ℕ) : Ending → List ℕ → Type 0 where
   wasnt_synced : (refusal : OpenRefusal) → IsUnopened state k start now refusal → LeavesLike (state start) (state now) → left ≡ link
-      → ((w : World) (side : Side) → IsLawfulWorld k w → Reads k w side (state start) → RunsOn k side w w (state start) (state now))
+      → ((w : World) (side : Side) → IsLawfulWorld k w → ReadsAsSide k w side (state start) → RunsOn k side w w (state start) (state now))
       → RunsSync state port k address start now link left before after (ending_of_open refusal) []
-  wasnt_linked : (kept : Client) → IsKept k (state start) kept → Leaves kept kept (state start) (state now)
+  wasnt_linked : (kept : Client) → ReadsAsKept k (state start) kept → LeavesAtRest kept kept (state start) (state now)
       → (port left).told ≡ (port link).told → (port left).faults Flow ≡ (port link).faults Flow
       → Rose ((port link).faults Gate) ((port left).faults Gate)
-      → ((w : World) (side : Side) → IsLawfulWorld k w → Reads k w side (state start) → RunsOn k side w w (state start) (state now))
+      → ((w : World) (side : Side) → IsLawfulWorld k w → ReadsAsSide k w side (state start) → RunsOn k side w w (state start) (state now))
       → RunsSync state port k address start now link left before after LinkFault []
-  was_synced : (kept : Client) (replies : List Replied) (result : Result More SyncFault) → IsKept k (state start) kept
-      → AllByRecursion IsLawfulReplied replies → Transfers (client_party k [] kept) kept replies → Opens k [] kept replies
+  was_synced : (kept : Client) (replies : List Replied) (result : Result More SyncFault) → ReadsAsKept k (state start) kept
+      → AllByRecursion IsLawfulReplied replies → Transfers (client_party k [] kept) kept replies → OpensArrived k [] kept replies
       → LeavesCourse (client_party k [] kept) kept replies (state start) (state now)
       → HasTalkedTo address (port link) (port left) (λ opened last.
       SyncEnds (client_party k [] kept) kept replies (state start) (state now) opened last before after result)
       → (port left).faults Gate ≡ (port link).faults Gate
-      → ((w : World) (side : Side) → IsLawfulWorld k w → Reads k w side (state start) → AreUnforged k [] side w replies
+      → ((w : World) (side : Side) → IsLawfulWorld k w → ReadsAsSide k w side (state start) → AreUnforged k [] side w replies
       → SyncRunsIn k side w kept replies (state start) (state now) result)
-      → RunsSync state port k address start now link left before after (ending_of_sync result) (sync_lines (client_party k [] kept) kept replies result)
+      → RunsSync state port k address start now link left before after (ending_of_sync result) (lines_of_sync (client_party k [] kept) kept replies result)

@@ -12,20 +12,20 @@ use Rattle.kem_laws.specs.Mechanism.{Mechanism}
 use Rattle.session_model.specs.Clients.{Client}
 use Rattle.client.specs.Moments.{Known, settled_in}
 use Rattle.session_commands.specs.Asking.{asked_say, asked_take}
-use Rattle.session_commands.specs.Disks.{IsKept}
+use Rattle.session_commands.specs.Disks.{ReadsAsKept}
 use Rattle.session_commands.specs.InWorlds.{RunsAct}
 use Rattle.session_commands.specs.WholeRuns.{AreRun, IsCutFrom}
 
 -- what a read gives has this packet in its outbox
 pub record IsPostedOn (k : Mechanism) (disk : DiskState) (post : Item) : Type 0 where
   pub kept : Client
-  pub held : IsKept k disk kept
+  pub held : ReadsAsKept k disk kept
   pub bytes : List ℕ
   pub told : disk.seen ≡ Some bytes
   pub stands : Contains kept.outbox post
 
 -- a text was said, and its packet stands in the outbox
-pub record Spoke {X W : Type 0} (state : X → DiskState) (draws : W → DrawsState)
+pub record HasSaid {X W : Type 0} (state : X → DiskState) (draws : W → DrawsState)
     (k : Mechanism) (start now : X) (post : Item) : Type 0 where
   pub text : List ℕ
   pub source : W
@@ -40,10 +40,10 @@ pub record Spoke {X W : Type 0} (state : X → DiskState) (draws : W → DrawsSt
 pub record IsTalk {D E W : Type 0} (state : D → DiskState) (peers : E → DiskState)
     (draws : W → DrawsState) (k : Mechanism) (start said cut crashed took : D)
     (hears heard answers : E) (question answer : Item) : Type 0 where
-  pub asks : Spoke state draws k start said question
+  pub asks : HasSaid state draws k start said question
   pub lines : List ℕ
   pub hearing : RunsAct peers k (asked_take k question.bytes) hears heard Done lines
-  pub answering : Spoke peers draws k heard answers answer
+  pub answering : HasSaid peers draws k heard answers answer
   pub ending : Ending
   pub shown : List ℕ
   pub takes : RunsAct state k (asked_take k answer.bytes) said cut ending shown

@@ -12,10 +12,10 @@ use Rattle.relay_wire.specs.Replies.{Replied}
 use Rattle.session_model.specs.Clients.{Client}
 use Rattle.sync_model.specs.declared.more.More.{More}
 use Rattle.client.specs.InWorlds.{StandsFor}
-use Rattle.client.specs.Moments.{HaveMoved, IsOneOf, Known, settled_in}
+use Rattle.client.specs.Moments.{HaveMoved, IsAmongKnown, Known, settled_in}
 use Rattle.client.specs.Syncing.InWorlds.{AreUnforged}
 use Rattle.client.specs.declared.syncing.faults.SyncFault.{SyncFault}
-use Rattle.session_commands.specs.Acting.{Asked}
+use Rattle.session_commands.specs.Acting.{ClientAsk}
 use Rattle.session_commands.specs.Asking.{asked_drop, asked_say, asked_take}
 use Rattle.session_commands.specs.Disks.{RunsOn}
 use Rattle.session_commands.specs.Histories.{IsLeftBetween, acted_known, cut_in_sync, cut_known, shown_known, synced_known}
@@ -31,7 +31,7 @@ pub data Command (W : Type 0) : Type 0 where
   drops_done : ℕ → Command W
   drops_sent : ℕ → Command W
 
-abbrev pub asked_by : {W : Type 0} → (W → DrawsState) → Mechanism → Command W → Asked
+abbrev pub asked_by : {W : Type 0} → (W → DrawsState) → Mechanism → Command W → ClientAsk
 asked_by draws k (says text source left) = asked_say draws text source left
 asked_by draws k (takes packet) = asked_take k packet
 asked_by draws k (drops_done n) = asked_drop (finishing n)
@@ -51,43 +51,43 @@ IsCutFrom start now crashed = (c : List ℕ) → crashed.image c → IsLeftBetwe
 pub data Ran {X W : Type 0} (state : X → DiskState) (draws : W → DrawsState)
     (k : Mechanism) (side : Side) (a b : X) : Known → Known → Type 0 where
   -- a command let the client act once
-  acted : (known : Known) (w : World) → IsOneOf known w
+  acted : (known : Known) (w : World) → IsAmongKnown known w
       → (command : Command W) (ending : Ending) (lines : List ℕ)
       → (runs : RunsIn k w side (asked_by draws k command) (state a) (state b)
       ending lines)
       → Ran state draws k side a b known (acted_known runs known)
-  was_cut_acting : (known : Known) (w : World) → IsOneOf known w
+  was_cut_acting : (known : Known) (w : World) → IsAmongKnown known w
       → (command : Command W) (now : X) (ending : Ending) (lines : List ℕ)
       → (runs : RunsIn k w side (asked_by draws k command) (state a) (state now)
       ending lines)
       → IsCutFrom (state a) (state now) (state b)
       → Ran state draws k side a b known (cut_known runs known)
   -- one showed what is kept
-  showed : (known : Known) (w : World) → IsOneOf known w
+  showed : (known : Known) (w : World) → IsAmongKnown known w
       → (shows : Client → List ℕ) (ending : Ending) (lines : List ℕ)
       → (runs : ShowsIn k w side shows (state a) (state b) ending lines)
       → Ran state draws k side a b known (shown_known runs known)
-  was_cut_showing : (known : Known) (w : World) → IsOneOf known w
+  was_cut_showing : (known : Known) (w : World) → IsAmongKnown known w
       → (shows : Client → List ℕ) (now : X) (ending : Ending) (lines : List ℕ)
       → ShowsIn k w side shows (state a) (state now) ending lines
       → IsCutFrom (state a) (state now) (state b)
       → Ran state draws k side a b known known
   -- one synced, by replies that bring no forged packet
-  synced : (known : Known) (w : World) → IsOneOf known w
+  synced : (known : Known) (w : World) → IsAmongKnown known w
       → (kept : Client) (replies : List Replied) (result : Result More SyncFault)
       → AreUnforged k [] side w replies
       → SyncRunsIn k side w kept replies (state a) (state b) result
       → Ran state draws k side a b known (synced_known k side w replies result known)
-  was_cut_syncing : (known : Known) (w : World) → IsOneOf known w
+  was_cut_syncing : (known : Known) (w : World) → IsAmongKnown known w
       → (kept : Client) (replies : List Replied) (now : X) (result : Result More SyncFault)
       → AreUnforged k [] side w replies
       → SyncRunsIn k side w kept replies (state a) (state now) result
       → IsCutFrom (state a) (state now) (state b)
       → Ran state draws k side a b known (cut_in_sync k side w replies known)
   -- one stayed in the world that it read
-  stayed : (known : Known) (w : World) → IsOneOf known w → RunsOn k side w w (state a) (state b)
+  stayed : (known : Known) (w : World) → IsAmongKnown known w → RunsOn k side w w (state a) (state b)
       → Ran state draws k side a b known known
-  was_cut_staying : (known : Known) (w : World) → IsOneOf known w → (now : X)
+  was_cut_staying : (known : Known) (w : World) → IsAmongKnown known w → (now : X)
       → RunsOn k side w w (state a) (state now) → IsCutFrom (state a) (state now) (state b)
       → Ran state draws k side a b known known
   -- a crash between two commands, or a command that left the disk alone

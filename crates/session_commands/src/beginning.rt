@@ -2,7 +2,7 @@
 
 ghost use Rattle.std.specs.Prelude.{◌≡◌, ◌≤◌};
 ghost use Rattle.dr_disk.specs.Spans.{IsQuiet};
-ghost use Rattle.slot_store.specs.Store.{IsWithin};
+ghost use Rattle.slot_store.specs.Store.{HasArea};
 ghost use Rattle.client.specs.Clients.{client_area};
 ghost use Rattle.session_commands.specs.Beginning.{Begins, RunsBegin};
 ghost use Rattle.session_commands.specs.Closing.{begun_ending, begun_lines};
@@ -28,7 +28,7 @@ fn begin_on<K: Kem, D: Disk>(
     key: &Key32,
     disk: &mut D,
 ) -> Result<OutputLine, Ending>
-    requires { IsWithin client_area (D.state disk.old) }
+    requires { HasArea client_area (D.state disk.old) }
     ensures { Begins D.state K.mechanism key.now.bytes side disk.old disk.new (begun_ending result)
         (begun_lines result) }
 {
@@ -46,7 +46,7 @@ fn read_and_begin<K: Kem, D: Disk, S: Source>(
     disk: &mut D,
     source: &mut S,
 ) -> Result<OutputLine, Ending>
-    requires { IsWithin client_area (D.state disk.old) }
+    requires { HasArea client_area (D.state disk.old) }
     ensures runs { RunsBegin D.state K.mechanism side (S.at source.old) (S.at source.new)
         disk.old disk.new (begun_ending result) (begun_lines result) }
     ensures later { (S.at source.old).faults ≤ (S.at source.new).faults }
@@ -66,7 +66,7 @@ pub fn begin<K: Kem, D: Disk, S: Source, O: Sink>(
     source: &mut S,
     out: &mut O,
 ) -> Status
-    requires { IsWithin client_area (D.state disk.old) }
+    requires { HasArea client_area (D.state disk.old) }
     ensures runs { Runs (RunsBegin D.state K.mechanism side (S.at source.old)
         (S.at source.new) disk.old disk.new)
         (O.at out.old) (O.at out.new) result.code }

@@ -3,7 +3,7 @@
 ghost use Rattle.std.specs.Prelude.{◌≡◌, ◌+◌, ◌≤◌, ◌++◌, length};
 ghost use Rattle.dr_disk.specs.Spans.{IsQuiet};
 ghost use Rattle.dr_ports.specs.Writing.{Writes};
-ghost use Rattle.slot_store.specs.Store.{IsWithin};
+ghost use Rattle.slot_store.specs.Store.{HasArea};
 ghost use Rattle.client.specs.Clients.{client_area};
 ghost use Rattle.session_commands.specs.Checking.{RunsCheck, ending_of_look, finding_line, found_lines, gate_line, gate_lines, report_lines, rest_line};
 ghost use Rattle.session_commands.specs.Runs.{Runs};
@@ -107,7 +107,7 @@ fn unread(error: InspectError) -> Ending
 /// `slot 0 closed`, the same of table 1, `record LENGTH`, `no record` or `damaged slot S at A`, and
 /// `rest yes` or `rest no`.
 pub fn check<K: Kem, D: Disk, O: Sink>(alloc: Global, disk: &mut D, out: &mut O) -> Status
-    requires { IsWithin client_area (D.state disk.old) }
+    requires { HasArea client_area (D.state disk.old) }
     ensures runs { Runs (RunsCheck D.state K.mechanism disk.old disk.new)
         (O.at out.old) (O.at out.new) result.code }
     // Status 0 says that no call failed.

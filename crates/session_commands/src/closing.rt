@@ -5,7 +5,7 @@ ghost use Rattle.dr_ports.specs.States.{SinkState};
 ghost use Rattle.dr_ports.specs.Writing.{Writes};
 ghost use Rattle.endings.specs.Ends.{Ends};
 ghost use Rattle.endings.specs.declared.ending.Ending.TheVariants.{Done};
-ghost use Rattle.session_commands.specs.Closing.{answer_line, ending_by, lines_by};
+ghost use Rattle.session_commands.specs.Closing.{printed_answer, ending_by, lines_of_ending};
 
 use answer_lines::put_answer;
 use dr_ports::{Failed, OutputLine, Sink, write_all};
@@ -14,7 +14,7 @@ use session_model::Answer;
 
 /// The line of an answer.
 fn answer_line(answer: Answer) -> OutputLine
-    ensures { result ≡ answer_line answer }
+    ensures { result ≡ printed_answer answer }
 {
     let mut line = OutputLine::new();
     put_answer(&mut line, answer);
@@ -46,7 +46,7 @@ pub(crate) fn finish_with<O: Sink>(out: &mut O, lines: &[u8]) -> Status
 
 /// Writes the line of an answer, or the last line of another ending.
 pub(crate) fn close<O: Sink>(out: &mut O, worked: Result<Answer, Ending>) -> Status
-    ensures ends { Ends (ending_by worked) (lines_by worked) (O.at out.old)
+    ensures ends { Ends (ending_by worked) (lines_of_ending worked) (O.at out.old)
         (O.at out.new) result.code }
     ensures later { (O.at out.old).faults ≤ (O.at out.new).faults }
 {

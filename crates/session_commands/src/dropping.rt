@@ -3,10 +3,10 @@
 ghost use Rattle.std.specs.Prelude.{◌≡◌, ◌≤◌};
 ghost use Rattle.dr_disk.specs.Spans.{IsQuiet};
 ghost use Rattle.dr_model.specs.Machines.Acts.{finishing, sending};
-ghost use Rattle.slot_store.specs.Store.{IsWithin};
+ghost use Rattle.slot_store.specs.Store.{HasArea};
 ghost use Rattle.client.specs.Clients.{client_area};
 ghost use Rattle.session_commands.specs.Asking.{asked_drop};
-ghost use Rattle.session_commands.specs.Closing.{ending_by, lines_by};
+ghost use Rattle.session_commands.specs.Closing.{ending_by, lines_of_ending};
 ghost use Rattle.session_commands.specs.InWorlds.{RunsAct};
 ghost use Rattle.session_commands.specs.Runs.{Runs};
 
@@ -22,9 +22,9 @@ use std::alloc::Global;
 
 /// Opens the client, which drops the oldest texts of its inbox.
 fn drop_texts<K: Kem, D: Disk>(alloc: Global, n: u32, disk: &mut D) -> Result<Answer, Ending>
-    requires { IsWithin client_area (D.state disk.old) }
+    requires { HasArea client_area (D.state disk.old) }
     ensures { RunsAct D.state K.mechanism (asked_drop (finishing n)) disk.old disk.new
-        (ending_by result) (lines_by result) }
+        (ending_by result) (lines_of_ending result) }
 {
     match Client::<K>::open(alloc, disk) {
         Err(refusal) => Err(unopened(refusal)),
@@ -37,7 +37,7 @@ fn drop_texts<K: Kem, D: Disk>(alloc: Global, n: u32, disk: &mut D) -> Result<An
 
 /// Drops the `n` oldest texts of the inbox, and writes `done N`.
 pub fn done<K: Kem, D: Disk, O: Sink>(alloc: Global, n: u32, disk: &mut D, out: &mut O) -> Status
-    requires { IsWithin client_area (D.state disk.old) }
+    requires { HasArea client_area (D.state disk.old) }
     ensures runs { Runs (RunsAct D.state K.mechanism (asked_drop (finishing n)) disk.old disk.new)
         (O.at out.old) (O.at out.new) result.code }
     // Status 0 says that no call failed.
@@ -51,9 +51,9 @@ pub fn done<K: Kem, D: Disk, O: Sink>(alloc: Global, n: u32, disk: &mut D, out: 
 
 /// Opens the client, which drops the oldest packets of its outbox.
 fn drop_packets<K: Kem, D: Disk>(alloc: Global, n: u32, disk: &mut D) -> Result<Answer, Ending>
-    requires { IsWithin client_area (D.state disk.old) }
+    requires { HasArea client_area (D.state disk.old) }
     ensures { RunsAct D.state K.mechanism (asked_drop (sending n)) disk.old disk.new
-        (ending_by result) (lines_by result) }
+        (ending_by result) (lines_of_ending result) }
 {
     match Client::<K>::open(alloc, disk) {
         Err(refusal) => Err(unopened(refusal)),
@@ -66,7 +66,7 @@ fn drop_packets<K: Kem, D: Disk>(alloc: Global, n: u32, disk: &mut D) -> Result<
 
 /// Drops the `n` oldest packets of the outbox, which were sent, and writes `sent N`.
 pub fn sent<K: Kem, D: Disk, O: Sink>(alloc: Global, n: u32, disk: &mut D, out: &mut O) -> Status
-    requires { IsWithin client_area (D.state disk.old) }
+    requires { HasArea client_area (D.state disk.old) }
     ensures runs { Runs (RunsAct D.state K.mechanism (asked_drop (sending n)) disk.old disk.new)
         (O.at out.old) (O.at out.new) result.code }
     // Status 0 says that no call failed.

@@ -14,8 +14,8 @@ ghost use Rattle.session_model.specs.Clients.{Client};
 ghost use Rattle.slot_store.specs.Reading.{IsUndamaged};
 ghost use Rattle.sync_model.specs.declared.more.More.{More};
 ghost use Rattle.client.specs.Clients.{client_area};
-ghost use Rattle.client.specs.Moments.{IsOneOf, Known, Link, StandsStill};
-ghost use Rattle.client.specs.Opening.{Reads};
+ghost use Rattle.client.specs.Moments.{IsAmongKnown, Known, Link, StandsStill};
+ghost use Rattle.client.specs.Opening.{ReadsAsSide};
 ghost use Rattle.client.specs.Syncing.InWorlds.{AreUnforged};
 ghost use Rattle.client.specs.declared.syncing.faults.SyncFault.{SyncFault};
 ghost use Rattle.session_commands.specs.Asking.{asked_drop, asked_say, asked_take};
@@ -35,12 +35,12 @@ pub fn reads_known<D: Disk>(disk: &D)
     ensures known { (k : Mechanism) (side : Side) (first : World) (known : Known) (bytes : List ℕ)
         → IsLawfulWorld k first
         → StandsStill k side first known (D.state disk.now) → (D.state disk.now).seen ≡ Some bytes
-        → (w : World) × IsOneOf known w × IsLawfulWorld k w × Reads k w side (D.state disk.now) }
+        → (w : World) × IsAmongKnown known w × IsLawfulWorld k w × ReadsAsSide k w side (D.state disk.now) }
     ensures whole { (k : Mechanism) (side : Side) (first : World) (known : Known) (bytes : List ℕ)
         → IsLawfulWorld k first
         → StandsStill k side first known (D.state disk.now)
         → Always (IsUndamaged client_area) (D.state disk.now)
-        → (D.state disk.now).seen ≡ Some bytes → (w : World) × IsOneOf known w
+        → (D.state disk.now).seen ≡ Some bytes → (w : World) × IsAmongKnown known w
         × ReadsWhole k w side (D.state disk.now) }
 {}
 
@@ -66,30 +66,30 @@ pub fn stays_whole<D: Disk>(before: &D, after: &D, crashed: &D)
 /// to after it. So the laws of `client` over whole runs hold of runs of commands.
 pub fn runs_are_links<D: Disk, W: Draws>(before: &D, after: &D, draws: &W, left: &W)
     ensures says { (k : Mechanism) → IsLawfulMechanism k → (side : Side) (known : Known) (w : World)
-        → IsOneOf known w → IsLawfulWorld k w
+        → IsAmongKnown known w → IsLawfulWorld k w
         → (text : List ℕ) → LinksActs k side known w (asked_say W.at text draws.now left.now)
         (D.state before.now) (D.state after.now) }
     ensures takes { (k : Mechanism) → IsLawfulMechanism k
-        → (side : Side) (known : Known) (w : World) → IsOneOf known w → IsLawfulWorld k w
+        → (side : Side) (known : Known) (w : World) → IsAmongKnown known w → IsLawfulWorld k w
         → (packet : List ℕ) → LinksActs k side known w (asked_take k packet) (D.state before.now)
         (D.state after.now) }
     ensures drops { (k : Mechanism) → IsLawfulMechanism k
-        → (side : Side) (known : Known) (w : World) → IsOneOf known w → IsLawfulWorld k w
+        → (side : Side) (known : Known) (w : World) → IsAmongKnown known w → IsLawfulWorld k w
         → (act : Act) → LinksActs k side known w (asked_drop act) (D.state before.now)
         (D.state after.now) }
     ensures shows { (k : Mechanism) → IsLawfulMechanism k
-        → (side : Side) (known : Known) (w : World) → IsOneOf known w → IsLawfulWorld k w
+        → (side : Side) (known : Known) (w : World) → IsAmongKnown known w → IsLawfulWorld k w
         → (shows : Client → List ℕ) (ending : Ending) (lines : List ℕ)
         → (runs : ShowsIn k w side shows (D.state before.now) (D.state after.now) ending lines)
         → Link k side (D.state before.now) (D.state after.now) known (shown_known runs known) }
     ensures syncs { (k : Mechanism) → IsLawfulMechanism k
-        → (side : Side) (known : Known) (w : World) → IsOneOf known w → IsLawfulWorld k w
+        → (side : Side) (known : Known) (w : World) → IsAmongKnown known w → IsLawfulWorld k w
         → (kept : Client) (replies : List Replied) (result : Result More SyncFault)
         → AreUnforged k [] side w replies
         → SyncRunsIn k side w kept replies (D.state before.now) (D.state after.now) result
         → Link k side (D.state before.now) (D.state after.now) known
         (synced_known k side w replies result known) }
-    ensures stays { (k : Mechanism) (side : Side) (known : Known) (w : World) → IsOneOf known w
+    ensures stays { (k : Mechanism) (side : Side) (known : Known) (w : World) → IsAmongKnown known w
         → RunsOn k side w w (D.state before.now) (D.state after.now)
         → Link k side (D.state before.now) (D.state after.now) known known }
 {
@@ -99,22 +99,22 @@ pub fn runs_are_links<D: Disk, W: Draws>(before: &D, after: &D, draws: &W, left:
 /// A crash inside a command is a link too, from before it to what the crash left: it leaves what
 /// one might have left at a moment of the run.
 pub fn crashes_are_links<D: Disk, W: Draws>(before: &D, after: &D, crashed: &D, draws: &W, left: &W)
-    ensures says { (k : Mechanism) (side : Side) (known : Known) (w : World) → IsOneOf known w
+    ensures says { (k : Mechanism) (side : Side) (known : Known) (w : World) → IsAmongKnown known w
         → ((c : List ℕ) → (D.state crashed.now).image c
         → IsLeftBetween (D.state before.now) (D.state after.now) c)
         → (text : List ℕ) → LinksCuts k side known w (asked_say W.at text draws.now left.now)
         (D.state before.now) (D.state after.now) (D.state crashed.now) }
-    ensures takes { (k : Mechanism) (side : Side) (known : Known) (w : World) → IsOneOf known w
+    ensures takes { (k : Mechanism) (side : Side) (known : Known) (w : World) → IsAmongKnown known w
         → ((c : List ℕ) → (D.state crashed.now).image c
         → IsLeftBetween (D.state before.now) (D.state after.now) c)
         → (packet : List ℕ) → LinksCuts k side known w (asked_take k packet) (D.state before.now)
         (D.state after.now) (D.state crashed.now) }
-    ensures drops { (k : Mechanism) (side : Side) (known : Known) (w : World) → IsOneOf known w
+    ensures drops { (k : Mechanism) (side : Side) (known : Known) (w : World) → IsAmongKnown known w
         → ((c : List ℕ) → (D.state crashed.now).image c
         → IsLeftBetween (D.state before.now) (D.state after.now) c)
         → (act : Act) → LinksCuts k side known w (asked_drop act) (D.state before.now)
         (D.state after.now) (D.state crashed.now) }
-    ensures syncs { (k : Mechanism) (side : Side) (known : Known) (w : World) → IsOneOf known w
+    ensures syncs { (k : Mechanism) (side : Side) (known : Known) (w : World) → IsAmongKnown known w
         → (kept : Client) (replies : List Replied) (result : Result More SyncFault)
         → AreUnforged k [] side w replies
         → SyncRunsIn k side w kept replies (D.state before.now) (D.state after.now) result
@@ -122,7 +122,7 @@ pub fn crashes_are_links<D: Disk, W: Draws>(before: &D, after: &D, crashed: &D, 
         → IsLeftBetween (D.state before.now) (D.state after.now) c)
         → Link k side (D.state before.now) (D.state crashed.now) known
         (cut_in_sync k side w replies known) }
-    ensures stays { (k : Mechanism) (side : Side) (known : Known) (w : World) → IsOneOf known w
+    ensures stays { (k : Mechanism) (side : Side) (known : Known) (w : World) → IsAmongKnown known w
         → RunsOn k side w w (D.state before.now) (D.state after.now)
         → ((c : List ℕ) → (D.state crashed.now).image c
         → IsLeftBetween (D.state before.now) (D.state after.now) c)

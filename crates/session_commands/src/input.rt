@@ -3,7 +3,7 @@
 ghost use Rattle.std.specs.Prelude.{◌≡◌, ◌≤◌, length, option_map};
 ghost use Rattle.dr_base.specs.declared.key.Key32.{Key32};
 ghost use Rattle.endings.specs.declared.ending.Ending.TheVariants.{BadKey, NotHex};
-ghost use Rattle.session_commands.specs.Inputs.{ReadsInput, key_of, packet_of, stripped};
+ghost use Rattle.session_commands.specs.Inputs.{ReadsInput, key_in_hex, packet_in_hex, stripped};
 ghost use Rattle.session_commands.specs.Limits.{HasLimits};
 
 use arrayvec::ArrayVec;
@@ -35,10 +35,10 @@ fn stripped(text: &[u8]) -> &[u8]
 }
 
 /// The packet that the digits are.
-#[tactic(auto, unfolding(crate::specs::Inputs::packet_of))]
+#[tactic(auto, unfolding(crate::specs::Inputs::packet_in_hex))]
 fn packet_in(text: &[u8]) -> Option<Packet>
     requires { length text.now ≤ PACKET_TEXT_LIMIT }
-    ensures { option_map (λ packet. packet.items) result ≡ packet_of text.now }
+    ensures { option_map (λ packet. packet.items) result ≡ packet_in_hex text.now }
 {
     let digits = stripped(text);
     let size = digits.len() / 2;
@@ -53,7 +53,7 @@ fn packet_in(text: &[u8]) -> Option<Packet>
 
 /// Reads the packet that the source holds.
 pub(crate) fn read_packet<S: Source>(alloc: Global, source: &mut S) -> Result<Packet, Ending>
-    ensures input { ReadsInput (λ packet. packet.items) PACKET_TEXT_LIMIT packet_of NotHex
+    ensures input { ReadsInput (λ packet. packet.items) PACKET_TEXT_LIMIT packet_in_hex NotHex
         (S.at source.old) (S.at source.new) result }
     ensures later { (S.at source.old).faults ≤ (S.at source.new).faults }
 {
@@ -70,9 +70,9 @@ pub(crate) fn read_packet<S: Source>(alloc: Global, source: &mut S) -> Result<Pa
 }
 
 /// The key that the digits are.
-#[tactic(auto, unfolding(crate::specs::Inputs::key_of))]
+#[tactic(auto, unfolding(crate::specs::Inputs::key_in_hex))]
 fn key_in(text: &[u8]) -> Option<Key32>
-    ensures { option_map (λ (key : Key32). key.bytes) result ≡ key_of text.now }
+    ensures { option_map (λ (key : Key32). key.bytes) result ≡ key_in_hex text.now }
 {
     let mut bytes = [0; 32];
     if decode_to_slice(stripped(text), &mut bytes).is_err() {
@@ -83,7 +83,7 @@ fn key_in(text: &[u8]) -> Option<Key32>
 
 /// Reads the key that the source holds.
 pub(crate) fn read_key<S: Source>(alloc: Global, source: &mut S) -> Result<Key32, Ending>
-    ensures input { ReadsInput (λ (key : Key32). key.bytes) KEY_TEXT_LIMIT key_of BadKey
+    ensures input { ReadsInput (λ (key : Key32). key.bytes) KEY_TEXT_LIMIT key_in_hex BadKey
         (S.at source.old) (S.at source.new) result }
     ensures later { (S.at source.old).faults ≤ (S.at source.new).faults }
 {

@@ -2,10 +2,10 @@
 
 ghost use Rattle.std.specs.Prelude.{◌≡◌, ◌≤◌};
 ghost use Rattle.dr_disk.specs.Spans.{IsQuiet};
-ghost use Rattle.slot_store.specs.Store.{IsWithin};
+ghost use Rattle.slot_store.specs.Store.{HasArea};
 ghost use Rattle.client.specs.Clients.{client_area};
 ghost use Rattle.session_commands.specs.Asking.{asked_say};
-ghost use Rattle.session_commands.specs.Closing.{ending_by, lines_by};
+ghost use Rattle.session_commands.specs.Closing.{ending_by, lines_of_ending};
 ghost use Rattle.session_commands.specs.InWorlds.{RunsAct};
 ghost use Rattle.session_commands.specs.Runs.{Runs};
 
@@ -26,10 +26,10 @@ fn say_text<K: Kem, D: Disk, W: Draws>(
     disk: &mut D,
     draws: &mut W,
 ) -> Result<Answer, Ending>
-    requires { IsWithin client_area (D.state disk.old) }
+    requires { HasArea client_area (D.state disk.old) }
     ensures { RunsAct D.state K.mechanism
         (asked_say W.at text.now draws.old draws.new) disk.old disk.new
-        (ending_by result) (lines_by result) }
+        (ending_by result) (lines_of_ending result) }
 {
     match Client::<K>::open(alloc, disk) {
         Err(refusal) => Err(unopened(refusal)),
@@ -49,7 +49,7 @@ pub fn say<K: Kem, D: Disk, O: Sink, W: Draws>(
     out: &mut O,
     draws: &mut W,
 ) -> Status
-    requires { IsWithin client_area (D.state disk.old) }
+    requires { HasArea client_area (D.state disk.old) }
     ensures runs { Runs (RunsAct D.state K.mechanism
         (asked_say W.at text.now draws.old draws.new) disk.old disk.new)
         (O.at out.old) (O.at out.new) result.code }

@@ -5,7 +5,7 @@ ghost use Rattle.boxes.specs.Items.{Item};
 ghost use Rattle.dr_disk.specs.Spans.{IsQuiet};
 ghost use Rattle.dr_ports.specs.Writing.{Writes};
 ghost use Rattle.answer_lines.specs.Texts.{text_line};
-ghost use Rattle.slot_store.specs.Store.{IsWithin};
+ghost use Rattle.slot_store.specs.Store.{HasArea};
 ghost use Rattle.client.specs.Clients.{client_area};
 ghost use Rattle.session_commands.specs.Lines.{inbox_lines, outbox_lines, packet_line, state_lines};
 ghost use Rattle.session_commands.specs.Runs.{Runs};
@@ -84,7 +84,7 @@ fn write_state<K: Kem, O: Sink>(client: &Client<K>, out: &mut O) -> Result<(), F
 
 /// Shows the texts of the inbox, a line `E.I "TEXT"` for each, the oldest first.
 pub fn inbox<K: Kem, D: Disk, O: Sink>(alloc: Global, disk: &mut D, out: &mut O) -> Status
-    requires { IsWithin client_area (D.state disk.old) }
+    requires { HasArea client_area (D.state disk.old) }
     ensures runs { Runs (RunsShow D.state K.mechanism inbox_lines disk.old disk.new)
         (O.at out.old) (O.at out.new) result.code }
     // Status 0 says that no call failed.
@@ -103,7 +103,7 @@ pub fn inbox<K: Kem, D: Disk, O: Sink>(alloc: Global, disk: &mut D, out: &mut O)
 
 /// Shows the packets of the outbox, a line `E.I HEX` for each, the oldest first.
 pub fn outbox<K: Kem, D: Disk, O: Sink>(alloc: Global, disk: &mut D, out: &mut O) -> Status
-    requires { IsWithin client_area (D.state disk.old) }
+    requires { HasArea client_area (D.state disk.old) }
     ensures runs { Runs (RunsShow D.state K.mechanism outbox_lines disk.old disk.new)
         (O.at out.old) (O.at out.new) result.code }
     // Status 0 says that no call failed.
@@ -123,7 +123,7 @@ pub fn outbox<K: Kem, D: Disk, O: Sink>(alloc: Global, disk: &mut D, out: &mut O
 /// Shows what the client is and holds: the lines `session S`, `side SIDE`, `epoch E`, `missing M`,
 /// `inbox I` and `outbox O`.
 pub fn state<K: Kem, D: Disk, O: Sink>(alloc: Global, disk: &mut D, out: &mut O) -> Status
-    requires { IsWithin client_area (D.state disk.old) }
+    requires { HasArea client_area (D.state disk.old) }
     ensures runs { Runs (RunsShow D.state K.mechanism state_lines disk.old disk.new)
         (O.at out.old) (O.at out.new) result.code }
     // Status 0 says that no call failed.

@@ -4,12 +4,12 @@ ghost use Rattle.std.specs.Prelude.{◌≡◌, ◌≢◌, ◌≤◌, ℕ, List, 
 ghost use Rattle.dr_disk.specs.Spans.{IsQuiet};
 ghost use Rattle.dr_ports.specs.States.{SinkState};
 ghost use Rattle.dr_ports.specs.declared.pipe.Part.{Part};
-ghost use Rattle.slot_store.specs.Store.{IsWithin};
+ghost use Rattle.slot_store.specs.Store.{HasArea};
 ghost use Rattle.sync_model.specs.declared.more.More.{More};
 ghost use Rattle.endings.specs.Ends.{Ends};
 ghost use Rattle.client.specs.Clients.{client_area};
 ghost use Rattle.session_commands.specs.Runs.{Runs};
-ghost use Rattle.session_commands.specs.Syncing.{HasWritten, IsNear, RunsSync, ending_of_fault, ending_of_sync};
+ghost use Rattle.session_commands.specs.Syncing.{HasWritten, HasPrintedPlace, RunsSync, ending_of_fault, ending_of_sync};
 
 use crate::endings_of::unopened;
 use client::{Client, SyncFault, SyncRefusal};
@@ -23,7 +23,7 @@ use sync_model::More;
 
 /// How the command ends where a sync broke off.
 fn broken_off(fault: SyncFault) -> Ending
-    requires { IsNear fault }
+    requires { HasPrintedPlace fault }
     ensures { result ≡ ending_of_fault fault }
 {
     match fault {
@@ -43,7 +43,7 @@ fn broken_off(fault: SyncFault) -> Ending
 
 /// Writes the last line after those of a sync that broke off, if no write failed in it.
 fn close_broken<O: Sink>(out: &mut O, fault: SyncFault) -> Status
-    requires { IsNear fault }
+    requires { HasPrintedPlace fault }
     ensures ends { (lines : List ℕ) (old : SinkState)
         → HasWritten lines old (O.at out.old) (Err fault)
         → Ends (ending_of_fault fault) lines old (O.at out.new) result.code }
@@ -58,7 +58,7 @@ fn close_broken<O: Sink>(out: &mut O, fault: SyncFault) -> Status
 
 /// Writes the last line after those of a sync.
 fn close<O: Sink>(out: &mut O, synced: Result<More, SyncFault>) -> Status
-    requires { IfErr synced IsNear }
+    requires { IfErr synced HasPrintedPlace }
     ensures ends { (lines : List ℕ) (old : SinkState) → HasWritten lines old (O.at out.old) synced
         → Ends (ending_of_sync synced) lines old (O.at out.new) result.code }
     ensures done { result.code ≡ 0 → (more : More) × (synced ≡ Ok more) }
@@ -80,7 +80,7 @@ pub fn sync<K: Kem, D: Disk, L: Link, O: Sink>(
     link: &mut L,
     out: &mut O,
 ) -> Status
-    requires { IsWithin client_area (D.state disk.old) }
+    requires { HasArea client_area (D.state disk.old) }
     ensures runs { Runs (RunsSync D.state L.port K.mechanism address.now disk.old disk.new link.old
         link.new (O.at out.old).faults (O.at out.new).faults)
         (O.at out.old) (O.at out.new) result.code }

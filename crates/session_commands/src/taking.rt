@@ -2,10 +2,10 @@
 
 ghost use Rattle.std.specs.Prelude.{◌≡◌, ◌≤◌};
 ghost use Rattle.dr_disk.specs.Spans.{IsQuiet};
-ghost use Rattle.slot_store.specs.Store.{IsWithin};
+ghost use Rattle.slot_store.specs.Store.{HasArea};
 ghost use Rattle.client.specs.Clients.{client_area};
 ghost use Rattle.session_commands.specs.Asking.{asked_take};
-ghost use Rattle.session_commands.specs.Closing.{ending_by, lines_by};
+ghost use Rattle.session_commands.specs.Closing.{ending_by, lines_of_ending};
 ghost use Rattle.session_commands.specs.InWorlds.{RunsAct};
 ghost use Rattle.session_commands.specs.Runs.{Runs, RunsTake};
 
@@ -26,9 +26,9 @@ fn take_packet<K: Kem, D: Disk>(
     packet: &[u8],
     disk: &mut D,
 ) -> Result<Answer, Ending>
-    requires { IsWithin client_area (D.state disk.old) }
+    requires { HasArea client_area (D.state disk.old) }
     ensures { RunsAct D.state K.mechanism (asked_take K.mechanism packet.now) disk.old disk.new
-        (ending_by result) (lines_by result) }
+        (ending_by result) (lines_of_ending result) }
 {
     match Client::<K>::open(alloc, disk) {
         Err(refusal) => Err(unopened(refusal)),
@@ -45,9 +45,9 @@ fn read_and_take<K: Kem, D: Disk, S: Source>(
     disk: &mut D,
     source: &mut S,
 ) -> Result<Answer, Ending>
-    requires { IsWithin client_area (D.state disk.old) }
+    requires { HasArea client_area (D.state disk.old) }
     ensures runs { RunsTake D.state K.mechanism (S.at source.old) (S.at source.new)
-        disk.old disk.new (ending_by result) (lines_by result) }
+        disk.old disk.new (ending_by result) (lines_of_ending result) }
     ensures later { (S.at source.old).faults ≤ (S.at source.new).faults }
 {
     match read_packet(alloc, source) {
@@ -64,7 +64,7 @@ pub fn take<K: Kem, D: Disk, S: Source, O: Sink>(
     source: &mut S,
     out: &mut O,
 ) -> Status
-    requires { IsWithin client_area (D.state disk.old) }
+    requires { HasArea client_area (D.state disk.old) }
     ensures runs { Runs (RunsTake D.state K.mechanism (S.at source.old)
         (S.at source.new) disk.old disk.new)
         (O.at out.old) (O.at out.new) result.code }

@@ -12,8 +12,8 @@ ghost use Rattle.kem_laws.specs.Mechanism.{IsLawfulMechanism, Mechanism};
 ghost use Rattle.slot_store.specs.Reading.{IsUndamaged};
 ghost use Rattle.client.specs.Clients.{client_area};
 ghost use Rattle.client.specs.InWorlds.{StandsFor};
-ghost use Rattle.client.specs.Moments.{AreLinked, IsOneOf, Known};
-ghost use Rattle.client.specs.Opening.{Reads};
+ghost use Rattle.client.specs.Moments.{AreLinked, IsAmongKnown, Known};
+ghost use Rattle.client.specs.Opening.{ReadsAsSide};
 ghost use Rattle.session_commands.specs.Completing.{ReadsWhole};
 ghost use Rattle.session_commands.specs.Talks.{HaveTalked, IsTalk};
 ghost use Rattle.session_commands.specs.WholeRuns.{AreRun};
@@ -35,7 +35,7 @@ pub fn runs_are_linked<D: Disk, W: Draws>(moments: &[D])
     ensures lawful { (k : Mechanism) → IsLawfulMechanism k
         → (side : Side) (first : World) (known : ℕ → Known) → IsLawfulWorld k first
         → AreRun D.state W.at moments.now k side first known
-        → (n : ℕ) (a : D) (w : World) → slice_get moments.now n ≡ Some a → IsOneOf (known n) w
+        → (n : ℕ) (a : D) (w : World) → slice_get moments.now n ≡ Some a → IsAmongKnown (known n) w
         → IsLawfulWorld k w }
     ensures whole { (k : Mechanism) (side : Side) (first : World) (known : ℕ → Known)
         → AreRun D.state W.at moments.now k side first known
@@ -50,7 +50,7 @@ pub fn runs_are_linked<D: Disk, W: Draws>(moments: &[D])
         → Always (IsUndamaged client_area) (D.state a))
         → (n : ℕ) (a : D) (bytes : List ℕ) → slice_get moments.now n ≡ Some a
         → (D.state a).seen ≡ Some bytes
-        → (w : World) × IsOneOf (known n) w × ReadsWhole k w side (D.state a) }
+        → (w : World) × IsAmongKnown (known n) w × ReadsWhole k w side (D.state a) }
 {
     client_grounds();
 }
@@ -65,7 +65,7 @@ pub fn talk<D: Disk, E: Disk, W: Draws>()
         (question answer : Item)
         → IsTalk D.state E.state W.at k start said cut crashed took hears heard answers
         question answer
-        → IsLawfulWorld k w → Reads k w First (D.state start) → Reads k w Second (E.state hears)
+        → IsLawfulWorld k w → ReadsAsSide k w First (D.state start) → ReadsAsSide k w Second (E.state hears)
         → Always (StandsFor k w First) (D.state start)
         → HaveTalked D.state W.at k w start said crashed took answer }
 {

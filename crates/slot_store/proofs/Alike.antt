@@ -6,21 +6,21 @@ use Rattle.dr_disk.proofs.Steps.{spans, widen}
 use Rattle.pages.specs.Clearing.{IsSameShots}
 use Rattle.record_pages.specs.Tables.{record_names}
 use Rattle.slot_store.specs.Areas.{Area, layout_of}
-use Rattle.slot_store.specs.Reading.{IsLikeRead, IsUndamaged, OpensAs, read_as, reading}
-use Rattle.slot_store.specs.Records.{recovered, shot_in, shown}
+use Rattle.slot_store.specs.Reading.{IsLikeRead, IsUndamaged, OpensAs, read_as, area_reading}
+use Rattle.slot_store.specs.Records.{stored_record, shot_in, record_shown}
 use Rattle.slot_store.proofs.Outside.{self_outside, twice_outside}
 
 module _ (area : Area) (c d : List ℕ) (same : shot_in area c ≡ shot_in area d) where
-  pub same_record : recovered area c ≡ recovered area d
-  unfolding recovered
-  same_record = ap (shown area) same
+  pub same_record : stored_record area c ≡ stored_record area d
+  unfolding stored_record
+  same_record = ap (record_shown area) same
 
-  same_reading : (fault_at : List ℕ → Option ℕ) → reading fault_at area c ≡ reading fault_at area d
-  unfolding reading
+  same_reading : (fault_at : List ℕ → Option ℕ) → area_reading fault_at area c ≡ area_reading fault_at area d
+  unfolding area_reading
   same_reading fault_at = ap (read_as fault_at area) same
 
   pub same_undamaged : IsUndamaged area d → IsUndamaged area c
-  same_undamaged whole = by (recovered area d) (recovered area c) same_record whole
+  same_undamaged whole = by (stored_record area d) (stored_record area c) same_record whole
     where
       by : (o p : Option (List ℕ)) → p ≡ o → OpensAs area o d → OpensAs area p c
       by None p is opens = subst (λ q. OpensAs area q c) (sym is) (λ fault_at. same_reading fault_at ∙ opens fault_at)

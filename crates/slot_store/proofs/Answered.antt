@@ -17,7 +17,7 @@ use Rattle.slot_store.specs.declared.outcome.Outcome.TheVariants.{Refused, Store
 use Rattle.slot_store.specs.Areas.{Area}
 use Rattle.slot_store.specs.AtRest.{IsLeft, IsReadAtRest}
 use Rattle.slot_store.specs.Opened.{IsOpened, IsRefused}
-use Rattle.slot_store.specs.Outcome.{IsOutcome, Opens, answer_of}
+use Rattle.slot_store.specs.Outcome.{IsOutcome, OpensStore, opening_answer}
 use Rattle.slot_store.specs.Reading.{IsEntryOrLike, IsLikeRead, damaged}
 use Rattle.slot_store.proofs.Alike.{as_read, like_before}
 
@@ -32,7 +32,7 @@ refused_by fault_at area start now call went = record {
 
 module _ {U : Type 0} (fault_at : List ℕ → Option ℕ) (area : Area) (start a b : DiskState) (x : U) (r : Result Outcome Call)
     (read : Span start a start.image) (same : Unwritten start a) (settled : IsSettled a) (passed : HavePassed 1 start a)
-    (went : Went itself start a (Ok x)) (opens : Opens fault_at area a b r) where
+    (went : Went itself start a (Ok x)) (opens : OpensStore fault_at area a b r) where
   pub answered_moment : Span start b (IsEntryOrLike area start)
   answered_moment = spans start a b (IsEntryOrLike area start)
       (widen start a start.image (IsEntryOrLike area start) (λ c left. inl left) read)
@@ -48,11 +48,11 @@ module _ {U : Type 0} (fault_at : List ℕ → Option ℕ) (area : Area) (start 
   all_went = then_any x start a b start.image r read went opens.calls
 
   -- a store
-  pub answered_opened : IfOk (answer_of r) (λ both. IsOpened fault_at area start b both.0 both.1)
+  pub answered_opened : IfOk (opening_answer r) (λ both. IsOpened fault_at area start b both.0 both.1)
   answered_opened = by r opens.found
     where
       by : (r : Result Outcome Call) → IfOk r (IsOutcome fault_at area a b)
-          → IfOk (answer_of r) (λ both. IsOpened fault_at area start b both.0 both.1)
+          → IfOk (opening_answer r) (λ both. IsOpened fault_at area start b both.0 both.1)
       by (Ok (Stored pager what)) is = record {
         area = is.area;
         read = λ s told. is.read s (same.seen ∙ told);
@@ -69,7 +69,7 @@ module _ {U : Type 0} (fault_at : List ℕ → Option ℕ) (area : Area) (start 
   untouched_passed : IsUntouched a b → HavePassed 1 start b
   untouched_passed untouched m told = passed m (sym untouched.passed ∙ told)
 
-  pub answered_still : IsReadAtRest area start → IsLeft start b (answer_of r)
+  pub answered_still : IsReadAtRest area start → IsLeft start b (opening_answer r)
   answered_still was =
       let untouched = opens.still (record {
         bytes = was.bytes;
@@ -83,17 +83,17 @@ module _ {U : Type 0} (fault_at : List ℕ → Option ℕ) (area : Area) (start 
         one_sync = by r untouched;
       }
     where
-      by : (r : Result Outcome Call) → IsUntouched a b → OnOk (answer_of r) (HavePassed 1 start b)
+      by : (r : Result Outcome Call) → IsUntouched a b → OnOk (opening_answer r) (HavePassed 1 start b)
       by (Ok (Stored pager what)) untouched = untouched_passed untouched
       by (Ok (Refused slot at)) untouched = tt
       by (Err call) untouched = tt
 
   -- a refusal
-  pub answered_refused : IfErr (answer_of r) (IsRefused fault_at area start b)
+  pub answered_refused : IfErr (opening_answer r) (IsRefused fault_at area start b)
   answered_refused = by r opens.found opens.calls all_went
     where
       by : (r : Result Outcome Call) → IfOk r (IsOutcome fault_at area a b) → Went itself a b r → Went itself start b r
-          → IfErr (answer_of r) (IsRefused fault_at area start b)
+          → IfErr (opening_answer r) (IsRefused fault_at area start b)
       by (Ok (Stored pager what)) is calls all = tt
       by (Ok (Refused slot at)) is calls all = record {
         damaged = λ slot' at' e.
@@ -109,35 +109,35 @@ module _ {U : Type 0} (fault_at : List ℕ → Option ℕ) (area : Area) (start 
       }
       by (Err call) is calls all = refused_by fault_at area start b call all
 
-  pub answered_memory : (P : Type 0) → IfErr (answer_of r) (λ e. e ≡ Memory → P)
+  pub answered_memory : (P : Type 0) → IfErr (opening_answer r) (λ e. e ≡ Memory → P)
   answered_memory P = by r
     where
-      by : (r : Result Outcome Call) → IfErr (answer_of r) (λ e. e ≡ Memory → P)
+      by : (r : Result Outcome Call) → IfErr (opening_answer r) (λ e. e ≡ Memory → P)
       by (Ok (Stored pager what)) = tt
       by (Ok (Refused slot at)) = λ e. absurd (let f : Damaged slot at ≡ Memory = e in cc)
       by (Err call) = λ e. absurd (let f : StoreFault call ≡ Memory = e in cc)
 
-  pub answered_quiet : OnOk (answer_of r) (IsQuiet start b)
+  pub answered_quiet : OnOk (opening_answer r) (IsQuiet start b)
   answered_quiet = by r all_went.quiet
     where
-      by : (r : Result Outcome Call) → OnOk r (IsQuiet start b) → OnOk (answer_of r) (IsQuiet start b)
+      by : (r : Result Outcome Call) → OnOk r (IsQuiet start b) → OnOk (opening_answer r) (IsQuiet start b)
       by (Ok (Stored pager what)) is = is
       by (Ok (Refused slot at)) is = tt
       by (Err call) is = tt
 
-  pub answered_ahead : OnOk (answer_of r) (FailsLater start b)
+  pub answered_ahead : OnOk (opening_answer r) (FailsLater start b)
   answered_ahead = by r all_went.ahead
     where
-      by : (r : Result Outcome Call) → OnOk r (FailsLater start b) → OnOk (answer_of r) (FailsLater start b)
+      by : (r : Result Outcome Call) → OnOk r (FailsLater start b) → OnOk (opening_answer r) (FailsLater start b)
       by (Ok (Stored pager what)) is = is
       by (Ok (Refused slot at)) is = tt
       by (Err call) is = tt
 
   pub answered_fate : start.fate ≡ all_pass
-      → IfErr (answer_of r) (λ e. (call : Call) → e ≢ StoreFault call) × (b.fate ≡ all_pass)
+      → IfErr (opening_answer r) (λ e. (call : Call) → e ≢ StoreFault call) × (b.fate ≡ all_pass)
   answered_fate all = (by r (all_went.fate all).0, (all_went.fate all).1)
     where
-      by : (r : Result Outcome Call) → is_ok r ≡ true → IfErr (answer_of r) (λ e. (call : Call) → e ≢ StoreFault call)
+      by : (r : Result Outcome Call) → is_ok r ≡ true → IfErr (opening_answer r) (λ e. (call : Call) → e ≢ StoreFault call)
       by (Ok (Stored pager what)) ok = tt
       by (Ok (Refused slot at)) ok = λ call e. let f : Damaged slot at ≡ StoreFault call = e in cc
       by (Err call) ok = absurd (let f : false ≡ true = ok in cc)

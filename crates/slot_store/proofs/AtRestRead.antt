@@ -2,16 +2,16 @@
 use Rattle.std.proofs.Common.{◌≡◌, ℕ, Bool, true, false, List, take, Option, Some, None, refl, sym, ◌∙◌, ap, subst, arith, if◌then◌else◌}
 use Rattle.std.specs.Prelude.{◌==◌}
 use Rattle.std.proofs.lemmas.Bool.Decides.{nat_tests}
-use Rattle.pages.specs.Resting.{IsAtRest as AreAtRest}
+use Rattle.pages.specs.Resting.{IsShotAtRest as AreAtRest}
 use Rattle.pages.specs.Snapshots.{Snapshot, kept_shot, no_shot, shot}
-use Rattle.pages.specs.Tables.{turn_of}
+use Rattle.pages.specs.Tables.{table_turn}
 use Rattle.pages.proofs.Shots.{shot_still}
 use Rattle.record_pages.specs.Tables.{record_names}
 use Rattle.slot_store.specs.declared.pager.Pager.{Pager}
 use Rattle.slot_store.specs.Areas.{layout_of}
 use Rattle.slot_store.specs.AtRest.{IsAtRest}
 use Rattle.slot_store.specs.Layout.{IsMarked, Mark, laid}
-use Rattle.slot_store.specs.Records.{shown}
+use Rattle.slot_store.specs.Records.{record_shown}
 use Rattle.slot_store.specs.Settling.{HasShot}
 use Rattle.slot_store.specs.Pager.{IsLaidFor, content, mark}
 use Rattle.slot_store.proofs.EmptySettled.{empty_rests, laid_empty}
@@ -61,7 +61,7 @@ module _ (pager : Pager) (s : List ℕ) (is_shown : HasShot pager s) (m : Mark) 
 
     texts : kept ≡ other
     texts =
-        let e : Some kept ≡ Some other = sym (laid_shown pager.area (mark pager) kept pager.lawful mine) ∙ ap (shown pager.area) both
+        let e : Some kept ≡ Some other = sym (laid_shown pager.area (mark pager) kept pager.lawful mine) ∙ ap (record_shown pager.area) both
         ∙ laid_shown pager.area m other pager.lawful theirs in
         inner kept other e
       where
@@ -77,7 +77,7 @@ module _ (pager : Pager) (s : List ℕ) (is_shown : HasShot pager s) (m : Mark) 
     second = ap (λ (x : Snapshot). x.second) snaps
 
     turn : (mark pager).turn ≡ m.turn
-    turn = ap (λ (x : Snapshot). turn_of x.table) snaps
+    turn = ap (λ (x : Snapshot). table_turn x.table) snaps
 
     marks : mark pager ≡ m
     marks = λ i. record { second = second i; turn = turn i; numbers = numbers i }

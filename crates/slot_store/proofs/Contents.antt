@@ -4,7 +4,7 @@ use Rattle.std.specs.Prelude.{All, not, is_some, if◌then◌else◌, ◌==◌}
 use Rattle.std.proofs.lemmas.Bool.{eqb-true, ne_eqb}
 use Rattle.std.proofs.lemmas.List.Elements.{All-same, All-weaker}
 use Rattle.dr_base.specs.declared.limits.TheConstants.{PAGE}
-use Rattle.pages.specs.Tables.{next_turn}
+use Rattle.pages.specs.Tables.{turn_after}
 use Rattle.record_pages.specs.Pages.{pages_in}
 use Rattle.record_pages.specs.Plans.{changed_places, dropped, numbered}
 use Rattle.record_pages.specs.Tables.{entry_fault, table_body}
@@ -74,7 +74,7 @@ body_is turn len k numbers now is long =
 -- ---- a text in the record's place
 
 module _ (old new : Pager) (text : List ℕ)
-    (same_area : new.area ≡ old.area) (other : new.second ≡ not old.second) (turn : new.turn ≡ next_turn old.turn) (low : 1 ≤ new.turn)
+    (same_area : new.area ≡ old.area) (other : new.second ≡ not old.second) (turn : new.turn ≡ turn_after old.turn) (low : 1 ≤ new.turn)
     (replaced : new.replaced ≡ not (old.turn == 0)) (text_held : take new.kept.len new.kept.bytes.items ≡ text) where
   abbrev was : List (List ℕ)
   was = pages_in (take old.kept.len old.kept.bytes.items)

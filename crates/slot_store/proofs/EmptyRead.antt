@@ -2,20 +2,20 @@
 use Rattle.std.proofs.Common.{◌≡◌, ℕ, false, true, List, Option, Some, None, sym, ◌∙◌, ap, ap₂}
 use Rattle.dr_disk.specs.State.{DiskState, OnSeen}
 use Rattle.pages.specs.Snapshots.{kept_shot, shot_of, snapshot}
-use Rattle.pages.specs.Tables.{Standing, Table, alike, none_open, standing, standing_of, table_at}
+use Rattle.pages.specs.Tables.{TableStanding, Table, alike, none_open, tables_standing, standing_of, table_at}
 use Rattle.record_pages.specs.Tables.{record_names}
 use Rattle.slot_store.specs.declared.pager.Pager.{Pager}
 use Rattle.slot_store.specs.Areas.{Area, layout_of}
 use Rattle.slot_store.specs.Judged.{table_with}
 use Rattle.slot_store.specs.Layout.{laid}
-use Rattle.slot_store.specs.Reading.{damaged, read_as, reading, reading_of}
+use Rattle.slot_store.specs.Reading.{damaged, read_as, area_reading, reading_of}
 use Rattle.slot_store.specs.Records.{shot_in}
-use Rattle.slot_store.specs.Settling.{AreRead, HasShot}
+use Rattle.slot_store.specs.Settling.{AreTablesRead, HasShot}
 use Rattle.slot_store.specs.Pager.{content, mark}
 use Rattle.slot_store.proofs.Settled.{has_none}
 
 module _ (area : Area) (pager : Pager) (is_area : pager.area ≡ area) (turn : pager.turn ≡ 0) where
-  pub empty_shown : (s : List ℕ) → standing (layout_of area) s ≡ none_open → HasShot pager s
+  pub empty_shown : (s : List ℕ) → tables_standing (layout_of area) s ≡ none_open → HasShot pager s
   unfolding snapshot
   empty_shown s closed = ap (λ a. shot_in a s) is_area ∙ ap (shot_of record_names (layout_of area) s) closed
       ∙ ap (λ o. kept_shot (laid (mark pager) o)) (sym (has_none pager turn))
@@ -24,27 +24,27 @@ module _ (fault_at : List ℕ → Option ℕ) (area : Area) (pager : Pager) (is_
   pub empty_text : (text : List ℕ) → content pager ≡ Some text → fault_at text ≡ None
   empty_text text is = absurd (let e : None ≡ Some text = sym (has_none pager turn) ∙ is in cc)
 
-  pub empty_reading : (s : List ℕ) → standing (layout_of area) s ≡ none_open
-      → reading fault_at area s ≡ reading_of (content pager)
-  unfolding reading snapshot
+  pub empty_reading : (s : List ℕ) → tables_standing (layout_of area) s ≡ none_open
+      → area_reading fault_at area s ≡ reading_of (content pager)
+  unfolding area_reading snapshot
   empty_reading s closed = ap (λ o. read_as fault_at area (shot_of record_names (layout_of area) s o)) closed
       ∙ ap reading_of (sym (has_none pager turn))
 
 -- both are open, and neither is newer
-pub alike_reading : (fault_at : List ℕ → Option ℕ) (area : Area) (s : List ℕ) → standing (layout_of area) s ≡ alike
-    → reading fault_at area s ≡ damaged 1 1
-unfolding reading snapshot
+pub alike_reading : (fault_at : List ℕ → Option ℕ) (area : Area) (s : List ℕ) → tables_standing (layout_of area) s ≡ alike
+    → area_reading fault_at area s ≡ damaged 1 1
+unfolding area_reading snapshot
 alike_reading fault_at area s is = ap (λ o. read_as fault_at area (shot_of record_names (layout_of area) s o)) is
 
 -- as both tables were read
 pub stands_as : (area : Area) (s : List ℕ) (first second : Table) → table_at (layout_of area) false s ≡ first
-    → table_at (layout_of area) true s ≡ second → standing (layout_of area) s ≡ standing_of first second
+    → table_at (layout_of area) true s ≡ second → tables_standing (layout_of area) s ≡ standing_of first second
 stands_as area s first second one two =
     ap (λ t. standing_of t (table_at (layout_of area) true s)) one ∙ ap (λ t. standing_of first t) two
 
-pub judged_read : (area : Area) (disk : DiskState) (g1 g2 : ℕ) (b1 b2 d1 d2 : List ℕ) (o : Standing) → d1 ≡ b1 → d2 ≡ b2
-    → o ≡ standing_of (table_with g1 d1) (table_with g2 d2) → AreRead area (table_with g1 b1) (table_with g2 b2) disk
-    → OnSeen (λ s. standing (layout_of area) s ≡ o) disk
+pub judged_read : (area : Area) (disk : DiskState) (g1 g2 : ℕ) (b1 b2 d1 d2 : List ℕ) (o : TableStanding) → d1 ≡ b1 → d2 ≡ b2
+    → o ≡ standing_of (table_with g1 d1) (table_with g2 d2) → AreTablesRead area (table_with g1 b1) (table_with g2 b2) disk
+    → OnSeen (λ s. tables_standing (layout_of area) s ≡ o) disk
 judged_read area disk g1 g2 b1 b2 d1 d2 o one two judged read s told =
     stands_as area s (table_with g1 b1) (table_with g2 b2) (read.first_is s told) (read.second_is s told)
     ∙ sym (judged ∙ ap₂ (λ (x y : List ℕ). standing_of (table_with g1 x) (table_with g2 y)) one two)

@@ -8,8 +8,8 @@ use Rattle.pages.specs.declared.layout.TheConstants.{OPEN}
 use Rattle.pages.specs.Layouts.{IsPage, blank_page}
 use Rattle.pages.specs.Clearing.{AreReadBlank, AreUnmarked, IsSameShots}
 use Rattle.pages.specs.Snapshots.{kept_shot, page_of, snapshot}
-use Rattle.pages.specs.Tables.{Table, counts, none_open, standing, table_at, wiped}
-use Rattle.pages.specs.Resting.{IsAtRest as AreAtRest}
+use Rattle.pages.specs.Tables.{Table, counts, none_open, tables_standing, table_at, wiped}
+use Rattle.pages.specs.Resting.{IsShotAtRest as AreAtRest}
 use Rattle.pages.specs.Tidying.{AreNamed, IsMute, IsTidied}
 use Rattle.record_pages.specs.Tables.{record_names}
 use Rattle.slot_store.specs.declared.pager.Pager.{Pager}
@@ -17,7 +17,7 @@ use Rattle.slot_store.specs.Areas.{layout_of}
 use Rattle.slot_store.specs.Judged.{table_with}
 use Rattle.slot_store.specs.Layout.{Mark, laid}
 use Rattle.slot_store.specs.Reading.{IsLikeRead}
-use Rattle.slot_store.specs.Settling.{HasShot, IsReadAs, RestsAsRead}
+use Rattle.slot_store.specs.Settling.{HasShot, IsAtRestAsRead, RestsAsRead}
 use Rattle.slot_store.specs.Pager.{IsLaidFor, mark}
 use Rattle.slot_store.proofs.Named.{blank_names}
 use Rattle.slot_store.proofs.Settled.{has_none, rests_as, rests_of}
@@ -25,7 +25,7 @@ use Rattle.slot_store.proofs.Standings.{mute_none, none_back}
 use Rattle.std.proofs.lemmas.List.Elements.{All-nil}
 
 -- where no table is open nothing is named
-module _ (pager : Pager) (disk : DiskState) (closed : Always (λ c. standing (layout_of pager.area) c ≡ none_open) disk) where
+module _ (pager : Pager) (disk : DiskState) (closed : Always (λ c. tables_standing (layout_of pager.area) c ≡ none_open) disk) where
   pub none_counts : Always (AreNamed record_names (layout_of pager.area)) disk
   none_counts c left k table is = absurd (let e : none_open ≡ counts k table = sym (closed c left) ∙ is in cc)
 
@@ -41,13 +41,13 @@ module _ (pager : Pager) (disk : DiskState) (closed : Always (λ c. standing (la
 
 module _ (pager : Pager) (turn : pager.turn ≡ 0) (start : DiskState) (settled : IsSettled start)
     (shown : OnSeen (HasShot pager) start) where
-  pub empty_closed : Always (λ c. standing (layout_of pager.area) c ≡ none_open) start
+  pub empty_closed : Always (λ c. tables_standing (layout_of pager.area) c ≡ none_open) start
   unfolding snapshot
-  empty_closed c left = none_back record_names (layout_of pager.area) c (standing (layout_of pager.area) c)
+  empty_closed c left = none_back record_names (layout_of pager.area) c (tables_standing (layout_of pager.area) c)
       (shown c (settled c left) ∙ ap (λ o. kept_shot (laid (mark pager) o)) (has_none pager turn))
 
   pub later_closed : (a : DiskState) → Span start a (IsSameShots record_names (layout_of pager.area) start)
-      → Always (λ c. standing (layout_of pager.area) c ≡ none_open) a
+      → Always (λ c. tables_standing (layout_of pager.area) c ≡ none_open) a
   later_closed a span c left = ⊎_elim (λ was. empty_closed c was) (λ is. is.counts_same ∙ empty_closed is.entry is.image) (span.last c left)
 
 -- all of it is zeros
@@ -107,7 +107,7 @@ module _ (pager : Pager) (turn : pager.turn ≡ 0) (named : List Bool) (none : (
   twice_rests first next like c left = (empty_rests pager turn c (twice_empty first c (next c left)), like c left)
 
 -- what was read of them
-module _ (pager : Pager) (turn : pager.turn ≡ 0) (start : DiskState) (rests : IsReadAs pager start) (k : Bool) (gate : ℕ)
+module _ (pager : Pager) (turn : pager.turn ≡ 0) (start : DiskState) (rests : IsAtRestAsRead pager start) (k : Bool) (gate : ℕ)
     (body : List ℕ) (read : OnSeen (λ s. table_at (layout_of pager.area) k s ≡ table_with gate body) start) where
   was : table_with gate body ≡ table_with 0 (replicate (PAGE - 1) 0)
   was = sym (read rests.0 rests.1) ∙ (rests_empty pager turn rests.0 rests.2).tables k
@@ -118,7 +118,7 @@ module _ (pager : Pager) (turn : pager.turn ≡ 0) (start : DiskState) (rests : 
   pub empty_body : body ≡ replicate (PAGE - 1) 0
   empty_body = ap (λ t. t.body) was
 
-pub empty_blank : (pager : Pager) → pager.turn ≡ 0 → (named : List Bool) (disk : DiskState) → IsReadAs pager disk
+pub empty_blank : (pager : Pager) → pager.turn ≡ 0 → (named : List Bool) (disk : DiskState) → IsAtRestAsRead pager disk
     → AreReadBlank (layout_of pager.area) named disk
 empty_blank pager turn named disk rests =
     (rests.0, rests.1, λ n page none. (rests_empty pager turn rests.0 rests.2).pages n page)

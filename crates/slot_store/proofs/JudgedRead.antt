@@ -1,11 +1,11 @@
 -- The newer table, as code judged it.
 use Rattle.std.proofs.Common.{◌≡◌, ℕ, Bool, false, true, List, sym, ◌∙◌, ap, subst}
 use Rattle.dr_disk.specs.State.{DiskState, OnSeen}
-use Rattle.pages.specs.Tables.{counts, is_open, open_table, standing, standing_of}
+use Rattle.pages.specs.Tables.{counts, is_open, open_table, tables_standing, standing_of}
 use Rattle.slot_store.specs.declared.judging.Judged.TheVariants.{Newer}
 use Rattle.slot_store.specs.Areas.{Area, layout_of}
 use Rattle.slot_store.specs.Judged.{standing_seen, table_with}
-use Rattle.slot_store.specs.Settling.{AreRead}
+use Rattle.slot_store.specs.Settling.{AreTablesRead}
 use Rattle.slot_store.proofs.EmptyRead.{judged_read}
 use Rattle.slot_store.proofs.Standings.{counts_opened, gate_open, open_as}
 
@@ -31,8 +31,8 @@ module _ (area : Area) (disk : DiskState) (g1 g2 : ℕ) (b1 b2 d1 d2 body : List
     second_opened = ap is_open (sym second_as)
         ∙ counts_opened (table_with g1 d1) (table_with g2 d2) true (table_with g2 d2) (judged_as true is)
 
-    pub second_counts : AreRead area (table_with g1 b1) (table_with g2 b2) disk
-        → OnSeen (λ s. standing (layout_of area) s ≡ counts true (open_table body)) disk
+    pub second_counts : AreTablesRead area (table_with g1 b1) (table_with g2 b2) disk
+        → OnSeen (λ s. tables_standing (layout_of area) s ≡ counts true (open_table body)) disk
     second_counts read s told =
         judged_read area disk g1 g2 b1 b2 d1 d2 (counts true (table_with g2 d2)) one two (sym (judged_as true is)) read s told
         ∙ ap (counts true) second_as
@@ -46,8 +46,8 @@ module _ (area : Area) (disk : DiskState) (g1 g2 : ℕ) (b1 b2 d1 d2 body : List
     first_opened = ap is_open (sym first_as)
         ∙ counts_opened (table_with g1 d1) (table_with g2 d2) false (table_with g1 d1) (judged_as false is)
 
-    pub first_counts : AreRead area (table_with g1 b1) (table_with g2 b2) disk
-        → OnSeen (λ s. standing (layout_of area) s ≡ counts false (open_table body)) disk
+    pub first_counts : AreTablesRead area (table_with g1 b1) (table_with g2 b2) disk
+        → OnSeen (λ s. tables_standing (layout_of area) s ≡ counts false (open_table body)) disk
     first_counts read s told =
         judged_read area disk g1 g2 b1 b2 d1 d2 (counts false (table_with g1 d1)) one two (sym (judged_as false is)) read s told
         ∙ ap (counts false) first_as

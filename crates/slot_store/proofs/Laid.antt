@@ -18,7 +18,7 @@ use Rattle.record_pages.proofs.TableTexts.{length_back, names_back}
 use Rattle.slot_store.specs.Areas.{Area, IsArea, layout_of}
 use Rattle.slot_store.specs.Layout.{IsMarked, Mark, laid, table_for}
 use Rattle.slot_store.specs.Reading.{behind_table, fault_in, holds, judged, read_as}
-use Rattle.slot_store.specs.Records.{faultless, record_in, shown}
+use Rattle.slot_store.specs.Records.{faultless, record_in, record_shown}
 use Rattle.slot_store.proofs.Entries.{entries_within}
 use Rattle.slot_store.proofs.Joined.{joined_rest, zeros_none}
 
@@ -92,7 +92,7 @@ module _ (area : Area) (mark : Mark) (text : List ℕ) (lawful : IsArea area) (m
   pub laid_record : record_in (table_for mark text) (pages_in text) ≡ text
   laid_record = ap (λ k. take k (joined (pages_in text))) laid_length ∙ read_back (page_count (length text)) text filled
 
-  pub laid_shown : shown area (shot (laid mark (Some text))) ≡ Some text
+  pub laid_shown : record_shown area (shot (laid mark (Some text))) ≡ Some text
   laid_shown =
       ap (λ f. faultless f (record_in (table_for mark text) (pages_in text))) laid_lawful ∙ ap Some laid_record
 

@@ -4,7 +4,7 @@ use Rattle.std.specs.Prelude.{slice_index}
 use Rattle.std.proofs.lemmas.List.{length-take-le}
 use Rattle.dr_base.specs.declared.limits.TheConstants.{PAGE}
 use Rattle.pages.specs.Snapshots.{kept_shot, shot, shot_of, snapshot}
-use Rattle.pages.specs.Tables.{counts, is_open, open_table, standing}
+use Rattle.pages.specs.Tables.{counts, is_open, open_table, tables_standing}
 use Rattle.pages.proofs.Newest.{open_low, open_high}
 use Rattle.record_pages.specs.Pages.{pages_in}
 use Rattle.record_pages.specs.Tables.{entry_fault, length_in, record_names, table_body}
@@ -13,7 +13,7 @@ use Rattle.slot_store.specs.declared.pager.Pager.{Pager}
 use Rattle.slot_store.specs.Areas.{Area, layout_of}
 use Rattle.slot_store.specs.Layout.{IsMarked, laid, table_for}
 use Rattle.slot_store.specs.Loading.{IsNamed, pages_named}
-use Rattle.slot_store.specs.Reading.{damaged, fault_in, judged, number_of, read_as, reading, reading_of}
+use Rattle.slot_store.specs.Reading.{damaged, fault_in, judged, table_number, read_as, area_reading, reading_of}
 use Rattle.slot_store.specs.Records.{record_in, shot_in}
 use Rattle.slot_store.specs.Settling.{HasShot}
 use Rattle.slot_store.specs.Pager.{content, mark}
@@ -24,10 +24,10 @@ use Rattle.slot_store.proofs.Standing.{pager_marked}
 
 -- a fault in it
 pub damaged_newer : (fault_at : List ℕ → Option ℕ) (area : Area) (second : Bool) (body s : List ℕ) (slot at : ℕ)
-    → standing (layout_of area) s ≡ counts second (open_table body)
-    → fault_in fault_at area body (pages_named area body s) ≡ Some at → slot ≡ number_of second
-    → reading fault_at area s ≡ damaged slot at
-unfolding reading snapshot
+    → tables_standing (layout_of area) s ≡ counts second (open_table body)
+    → fault_in fault_at area body (pages_named area body s) ≡ Some at → slot ≡ table_number second
+    → area_reading fault_at area s ≡ damaged slot at
+unfolding area_reading snapshot
 damaged_newer fault_at area second body s slot at stands is number =
     ap (λ o. read_as fault_at area (shot_of record_names (layout_of area) s o)) stands
     ∙ ap (λ f. judged second f (record_in body (pages_named area body s))) is
@@ -78,7 +78,7 @@ module _ (fault_at : List ℕ → Option ℕ) (area : Area) (second : Bool) (bod
   body_is = table_of area.pages area.most body few long are named.lawful
       ∙ (λ i. table_body (turn i) (text_long i) (numbers i) (PAGE - (6 + 2 * length (numbers i))))
 
-  module _ (s : List ℕ) (stands : standing (layout_of area) s ≡ counts second (open_table body))
+  module _ (s : List ℕ) (stands : tables_standing (layout_of area) s ≡ counts second (open_table body))
       (pages : pages_named area body s ≡ pages_in (take kept.len kept.bytes.items)) where
     all_pages : pages_named area body s ≡ pages_in text
     all_pages = pages ∙ ap pages_in (sym text_is)
@@ -105,9 +105,9 @@ module _ (fault_at : List ℕ → Option ℕ) (area : Area) (second : Bool) (bod
       inner : (x y : List ℕ) → Some x ≡ Some y → x ≡ y
       inner x y h = cc
 
-  pub newer_reading : (s : List ℕ) → HasShot pager s → reading fault_at area s ≡ reading_of (content pager)
-  unfolding reading
-  newer_reading s shown = sym (ap (λ a. reading fault_at a s) is_area) ∙ ap (read_as fault_at pager.area)
+  pub newer_reading : (s : List ℕ) → HasShot pager s → area_reading fault_at area s ≡ reading_of (content pager)
+  unfolding area_reading
+  newer_reading s shown = sym (ap (λ a. area_reading fault_at a s) is_area) ∙ ap (read_as fault_at pager.area)
       (shown ∙ ap (λ o. kept_shot (laid (mark pager) o)) has ∙ held pager.area (mark pager) text marked)
       ∙ laid_read pager.area (mark pager) text pager.lawful marked fault_at none
       ∙ ap reading_of (sym has)

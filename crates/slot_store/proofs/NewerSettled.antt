@@ -13,7 +13,7 @@ use Rattle.slot_store.specs.declared.pager.Pager.{Pager}
 use Rattle.slot_store.specs.Areas.{layout_of}
 use Rattle.slot_store.specs.Judged.{table_with}
 use Rattle.slot_store.specs.Reading.{IsLikeRead}
-use Rattle.slot_store.specs.Settling.{HasShot, IsReadAs, RestsAsRead}
+use Rattle.slot_store.specs.Settling.{HasShot, IsAtRestAsRead, RestsAsRead}
 use Rattle.slot_store.specs.Pager.{content, mark}
 use Rattle.slot_store.proofs.Alike.{left_like}
 use Rattle.slot_store.proofs.Marks.{AreMarked}
@@ -37,15 +37,15 @@ module _ (pager : Pager) (turn : pager.turn ≢ 0) (start : DiskState) (settled 
     newer_mute is c left = mute_other pager (take pager.kept.len pager.kept.bytes.items) has c (shown c (settled c left))
         (ap (λ t. t.gate) (read c (settled c left)) ∙ is)
 
-    other_rests : IsReadAs pager start → table_with gate other ≡ table_with 0 (replicate (PAGE - 1) 0)
+    other_rests : IsAtRestAsRead pager start → table_with gate other ≡ table_with 0 (replicate (PAGE - 1) 0)
     unfolding mark
     other_rests rests = sym (read rests.0 rests.1)
         ∙ (rests_as pager (Some (take pager.kept.len pager.kept.bytes.items)) has rests.0 rests.2).other
 
-    pub newer_gate : IsReadAs pager start → gate ≡ 0
+    pub newer_gate : IsAtRestAsRead pager start → gate ≡ 0
     newer_gate rests = ap (λ t. t.gate) (other_rests rests)
 
-    pub newer_body : IsReadAs pager start → other ≡ replicate (PAGE - 1) 0
+    pub newer_body : IsAtRestAsRead pager start → other ≡ replicate (PAGE - 1) 0
     newer_body rests = ap (λ t. t.body) (other_rests rests)
 
   module _ (named : List Bool) (marks : AreMarked named pager.kept.numbers.items) where
@@ -53,7 +53,7 @@ module _ (pager : Pager) (turn : pager.turn ≢ 0) (start : DiskState) (settled 
     newer_unnamed n is none c left =
         unnamed_pages pager (take pager.kept.len pager.kept.bytes.items) has named marks n none c (shown c (settled c left))
 
-    pub newer_blank : IsReadAs pager start → AreReadBlank (layout_of pager.area) named start
+    pub newer_blank : IsAtRestAsRead pager start → AreReadBlank (layout_of pager.area) named start
     newer_blank rests = (
       rests.0,
       rests.1,

@@ -7,7 +7,7 @@ use Rattle.dr_disk.specs.Spans.{Span}
 use Rattle.dr_disk.specs.Called.{Went, itself}
 use Rattle.dr_disk.proofs.Calling.{failed_as, passed_as, then_any}
 use Rattle.dr_disk.proofs.Steps.{spans, widen}
-use Rattle.pages.specs.Runs.{IsUntouched, Looks}
+use Rattle.pages.specs.Runs.{IsUntouched, ReadsAlone}
 use Rattle.pages.proofs.Looking.{untouched_twice}
 use Rattle.slot_store.specs.declared.pager.Pager.{Pager}
 use Rattle.slot_store.specs.declared.opening.Found.{Found}
@@ -16,10 +16,10 @@ use Rattle.slot_store.specs.declared.outcome.Outcome.{Outcome}
 use Rattle.slot_store.specs.declared.outcome.Outcome.TheVariants.{Refused, Stored}
 use Rattle.slot_store.specs.Areas.{Area}
 use Rattle.slot_store.specs.Found.{found_as, has_content}
-use Rattle.slot_store.specs.Outcome.{Opens}
+use Rattle.slot_store.specs.Outcome.{OpensStore}
 use Rattle.slot_store.specs.AtRest.{IsAtRest, IsReadAtRest}
 use Rattle.slot_store.specs.Layout.{Mark}
-use Rattle.slot_store.specs.Reading.{IsLikeRead, damaged, reading, reading_of}
+use Rattle.slot_store.specs.Reading.{IsLikeRead, damaged, area_reading, reading_of}
 use Rattle.slot_store.specs.Settling.{HasShot, RestsAsRead, Settles}
 use Rattle.slot_store.specs.Pager.{content, mark}
 use Rattle.slot_store.proofs.Alike.{as_read, like_before}
@@ -28,14 +28,14 @@ use Rattle.slot_store.proofs.Standing.{rests_seen}
 use Rattle.slot_store.proofs.Wiping.{on_ok}
 
 -- reads alone leave what was read
-pub looked_like : {T : Type 0} (area : Area) (start b : DiskState) (r : Result T Call) → IsSettled start → Looks start b r
+pub looked_like : {T : Type 0} (area : Area) (start b : DiskState) (r : Result T Call) → IsSettled start → ReadsAlone start b r
     → Span start b (IsLikeRead area start)
 looked_like area start b r settled looks =
     widen start b start.image (IsLikeRead area start) (λ c left. as_read area start c (settled c left)) looks.during
 
 -- after reads alone, all else was wiped
 module _ {T U : Type 0} (pager : Pager) (x : U) (start b now : DiskState) (r : Result T Call) (settled : IsSettled start)
-    (looks : Looks start b (Ok x)) (shown : OnSeen (HasShot pager) start) (settles : Settles pager b now r) where
+    (looks : ReadsAlone start b (Ok x)) (shown : OnSeen (HasShot pager) start) (settles : Settles pager b now r) where
   same : b.seen ≡ start.seen
   same = looks.untouched.unwritten.seen
 
@@ -74,17 +74,17 @@ found_reading Content (Some text) is = refl
 -- ---- what opening comes to
 
 module _ {T U : Type 0} (fault_at : List ℕ → Option ℕ) (area : Area) (pager : Pager) (is_area : pager.area ≡ area) (x : U)
-    (start b now : DiskState) (settled : IsSettled start) (looks : Looks start b (Ok x))
+    (start b now : DiskState) (settled : IsSettled start) (looks : ReadsAlone start b (Ok x))
     (shown : OnSeen (HasShot pager) start) where
   pub opens_stored : (what : Found) (y : T) → Settles pager b now (Ok y)
-      → OnSeen (λ s. reading fault_at area s ≡ reading_of (content pager)) start
+      → OnSeen (λ s. area_reading fault_at area s ≡ reading_of (content pager)) start
       → ((text : List ℕ) → content pager ≡ Some text → fault_at text ≡ None)
       → has_content what ≡ is_some (content pager)
-      → Opens fault_at area start now (Ok (Stored pager what))
-  opens_stored what y settles read text found = subst (λ a. Opens fault_at a start now (Ok (Stored pager what))) is_area (record {
+      → OpensStore fault_at area start now (Ok (Stored pager what))
+  opens_stored what y settles read text found = subst (λ a. OpensStore fault_at a start now (Ok (Stored pager what))) is_area (record {
     found = record {
       area = refl;
-      read = λ s told. ap (λ a. reading fault_at a s) is_area ∙ read s told ∙ found_reading what (content pager) found;
+      read = λ s told. ap (λ a. area_reading fault_at a s) is_area ∙ read s told ∙ found_reading what (content pager) found;
       text = text;
       found = sym found;
       at_rest = λ c left. let rests = opened_rests pager x start b now (Ok y) settled looks shown settles c left in
@@ -97,8 +97,8 @@ module _ {T U : Type 0} (fault_at : List ℕ → Option ℕ) (area : Area) (page
     calls = passed_as itself itself (Stored pager what) y start now (opened_calls pager x start b now (Ok y) settled looks shown settles);
   })
 
-  pub opens_failed : (call : Call) → Settles {T = T} pager b now (Err call) → Opens fault_at area start now (Err call)
-  opens_failed call settles = subst (λ a. Opens fault_at a start now (Err call)) is_area (record {
+  pub opens_failed : (call : Call) → Settles {T = T} pager b now (Err call) → OpensStore fault_at area start now (Err call)
+  opens_failed call settles = subst (λ a. OpensStore fault_at a start now (Err call)) is_area (record {
     found = tt;
     any_moment = opened_moment {T = T} pager x start b now (Err call) settled looks shown settles;
     still = opened_still {T = T} pager x start b now (Err call) settled looks shown settles;
@@ -108,8 +108,8 @@ module _ {T U : Type 0} (fault_at : List ℕ → Option ℕ) (area : Area) (page
 
 -- what was read is damaged, or a read failed
 module _ {U : Type 0} (fault_at : List ℕ → Option ℕ) (area : Area) (start now : DiskState) (settled : IsSettled start) where
-  pub opens_refused : (slot at : ℕ) (x : U) → Looks start now (Ok x) → OnSeen (λ s. reading fault_at area s ≡ damaged slot at) start
-      → Opens fault_at area start now (Ok (Refused slot at))
+  pub opens_refused : (slot at : ℕ) (x : U) → ReadsAlone start now (Ok x) → OnSeen (λ s. area_reading fault_at area s ≡ damaged slot at) start
+      → OpensStore fault_at area start now (Ok (Refused slot at))
   opens_refused slot at x looks is = record {
     found = (looks.untouched, is);
     any_moment = looked_like area start now (Ok x) settled looks;
@@ -117,7 +117,7 @@ module _ {U : Type 0} (fault_at : List ℕ → Option ℕ) (area : Area) (start 
     calls = passed_as itself itself (Refused slot at) x start now looks.calls;
   }
 
-  pub opens_unread : (call : Call) → Looks {T = U} start now (Err call) → Opens fault_at area start now (Err call)
+  pub opens_unread : (call : Call) → ReadsAlone {T = U} start now (Err call) → OpensStore fault_at area start now (Err call)
   opens_unread call looks = record {
     found = tt;
     any_moment = looked_like {T = U} area start now (Err call) settled looks;

@@ -8,7 +8,7 @@ use Rattle.dr_disk.proofs.Calling.{failed_as, passed_as}
 use Rattle.pages.specs.declared.layout.Layout.{Layout}
 use Rattle.pages.specs.Around.{ReadsAround}
 use Rattle.pages.specs.Commits.{IsPlan, TakesPlace, next_shot}
-use Rattle.pages.specs.Runs.{Runs}
+use Rattle.pages.specs.Runs.{RunsCalls}
 use Rattle.pages.specs.Snapshots.{Snapshot}
 use Rattle.pages.specs.Stops.{puts}
 use Rattle.pages.specs.Writing.{AreToWrite, piece_at}
@@ -166,13 +166,13 @@ module _ {old new : Pager} {text : List ℕ} {start : DiskState} {lay : Layout} 
       ∙ put_counts call.set
 
   pub passed_here : {T U : Type 0} (end : DiskState) (x : U) (y : T)
-      → Runs lay (puts (length (take k free))) start end (Ok x)
+      → RunsCalls lay (puts (length (take k free))) start end (Ok x)
       → Called (putting (content old) (Some text)) call_of start end (Ok y)
   passed_here end x y runs = called_ok (puts (length (take k free)))
       (putting (content old) (Some text)) x y start end counts_here runs.calls
 
   pub failed_here : {T U : Type 0} (end : DiskState) (failed : Call) (e : StoreFault)
-      → Runs {T = U} lay (puts (length (take k free))) start end (Err failed)
+      → RunsCalls {T = U} lay (puts (length (take k free))) start end (Err failed)
       → failed ≡ call_of e
       → Called {T = T} (putting (content old) (Some text)) call_of start end (Err e)
   failed_here {T = T} {U = U} end failed e runs same = called_err {T = T} {U = U}

@@ -10,7 +10,7 @@ use Rattle.pages.specs.Layouts.{IsPage, blank_page}
 use Rattle.pages.specs.Tables.{Comes, open_table, table_at, wiped}
 use Rattle.pages.specs.Snapshots.{IsBeside, Snapshot, kept_shot, page_of, shot}
 use Rattle.pages.specs.Writing.{IsOneOf}
-use Rattle.pages.specs.Commits.{IsCommitted, IsOldOrNew as IsEither}
+use Rattle.pages.specs.Commits.{IsCommitted, IsOldOrNewShot as IsEither}
 use Rattle.pages.proofs.Newest.{not_not}
 use Rattle.record_pages.specs.Tables.{record_names}
 use Rattle.slot_store.specs.declared.pager.Pager.{Pager}
@@ -18,7 +18,7 @@ use Rattle.slot_store.specs.Areas.{layout_of}
 use Rattle.slot_store.specs.Layout.{IsLaidOut, IsPut, laid, table_for}
 use Rattle.slot_store.specs.Putting.{HasPut}
 use Rattle.slot_store.specs.Reading.{IsUndamaged}
-use Rattle.slot_store.specs.Records.{recovered, shot_in}
+use Rattle.slot_store.specs.Records.{stored_record, shot_in}
 use Rattle.slot_store.specs.Stops.{wipes_of, writes_of}
 use Rattle.slot_store.specs.Pager.{Awaits, content, has_replaced, mark}
 use Rattle.slot_store.specs.Store.{IsOldOrNew}
@@ -47,8 +47,8 @@ module _ {old new : Pager} {text : List ℕ} {start : DiskState}
       ∙ ap (λ t. kept_shot (laid (mark new) t)) (sym set.staged.holds)
 
   pub new_recovered : (c : List ℕ) → shot_in old.area c ≡ shot next
-      → recovered old.area c ≡ Some text
-  new_recovered c is = ap (λ a. recovered a c) (sym set.staged.next.area)
+      → stored_record old.area c ≡ Some text
+  new_recovered c is = ap (λ a. stored_record a c) (sym set.staged.next.area)
       ∙ kept_recovered new c (kept_new c is) ∙ set.staged.holds
 
   new_undamaged : (c : List ℕ) → shot_in old.area c ≡ shot next → IsUndamaged old.area c
@@ -139,6 +139,6 @@ module _ {old new : Pager} {text : List ℕ} {start : DiskState}
     pub has_put : HasPut old new text start c
     has_put = (
       awaits,
-      ap (λ a. recovered a c) set.staged.next.area ∙ new_recovered c done.same,
+      ap (λ a. stored_record a c) set.staged.next.area ∙ new_recovered c done.same,
       done.around,
     )

@@ -7,7 +7,7 @@ use Rattle.dr_base.specs.declared.limits.TheConstants.{PAGE}
 use Rattle.pages.specs.declared.layout.Layout.{Layout}
 use Rattle.pages.specs.declared.layout.TheConstants.{OPEN}
 use Rattle.pages.specs.Layouts.{IsSound}
-use Rattle.pages.specs.Tables.{alone, counts, is_open, next_turn, none_open, open_table, table_at, turn_of, wiped}
+use Rattle.pages.specs.Tables.{alone, counts, is_open, turn_after, none_open, open_table, table_at, table_turn, wiped}
 use Rattle.pages.specs.Snapshots.{IsBeside, IsStill, IsUnnamed, Snapshot, kept_shot, no_shot, shot}
 use Rattle.pages.specs.Writing.{IsNoneOf, IsOneOf}
 use Rattle.pages.proofs.Newest.{closed, stands_alone}
@@ -16,7 +16,7 @@ use Rattle.record_pages.specs.Pages.{page_count}
 use Rattle.record_pages.specs.Tables.{record_names}
 use Rattle.slot_store.proofs.Paging.{each_of}
 use Rattle.slot_store.specs.declared.pager.Pager.{Pager}
-use Rattle.slot_store.specs.Areas.{Area, IsArea, layout_of, size_of}
+use Rattle.slot_store.specs.Areas.{Area, IsArea, layout_of, area_size}
 use Rattle.slot_store.specs.Layout.{Mark, laid, table_for}
 use Rattle.slot_store.specs.Pager.{content, mark}
 use Rattle.slot_store.proofs.Laid.{laid_names}
@@ -68,7 +68,7 @@ laid_second mark (Some text) = refl
 -- ---- an area
 
 module _ (area : Area) (lawful : IsArea area) where
-  pub layout_sound : (size : ℕ) → size < 2 ^ 64 → area.start + size_of area ≤ size
+  pub layout_sound : (size : ℕ) → size < 2 ^ 64 → area.start + area_size area ≤ size
       → IsSound (layout_of area) size
   layout_sound size ends within = area_sound area.start area.pages size ends
       (omega (arith, lawful.least)) within
@@ -111,8 +111,8 @@ own_names pager = by (content pager) refl
 
 -- the turn of the table that is to come follows
 pub comes_next : (was now : Mark) (old : Option (List ℕ)) (text : List ℕ)
-    → now.turn ≡ next_turn was.turn → 1 ≤ turn_of (laid was old).table
-    → turn_of (open_table (table_for now text)) ≡ next_turn (turn_of (laid was old).table)
-comes_next was now None text is low = absurd (let e : turn_of (wiped PAGE) ≡ 0 = refl in omega
+    → now.turn ≡ turn_after was.turn → 1 ≤ table_turn (laid was old).table
+    → table_turn (open_table (table_for now text)) ≡ turn_after (table_turn (laid was old).table)
+comes_next was now None text is low = absurd (let e : table_turn (wiped PAGE) ≡ 0 = refl in omega
     (arith, low, e))
 comes_next was now (Some old) text is low = is

@@ -16,7 +16,7 @@ use Rattle.slot_store.specs.Areas.{Fits, layout_of}
 use Rattle.slot_store.specs.Layout.{IsLaidOut, IsMarked, Mark, laid, pages_held, table_for}
 use Rattle.slot_store.specs.Putting.{IsStaged}
 use Rattle.slot_store.specs.Pager.{IsLaidFor, content, mark}
-use Rattle.slot_store.specs.Store.{IsWithin}
+use Rattle.slot_store.specs.Store.{HasArea}
 use Rattle.slot_store.proofs.HasPlan.{AreOthers, HasPlan, fresh}
 use Rattle.slot_store.proofs.Laid.{laid_names, laid_open}
 use Rattle.slot_store.proofs.PlanFacts.{plans, pager_named}
@@ -28,7 +28,7 @@ pub record Setting (old new : Pager) (text : List ℕ) (start : DiskState) : Typ
   pub staged : IsStaged old new text
   pub fits : Fits old.area text
   pub ends : start.size < 2 ^ 64
-  pub within : IsWithin old.area start
+  pub within : HasArea old.area start
   pub lawful : IsLawful start
   pub rests : Always (IsLaidFor old) start
 

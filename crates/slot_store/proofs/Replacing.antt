@@ -11,10 +11,10 @@ use Rattle.slot_store.specs.declared.errors.StoreFault.{StoreFault}
 use Rattle.slot_store.specs.declared.pager.Pager.{Pager}
 use Rattle.slot_store.specs.Putting.{HasPut, HasReplaced, HasRested, IsStaged, KeepsRecord, call_of, retire_calls}
 use Rattle.slot_store.specs.Reading.{IsUndamaged}
-use Rattle.slot_store.specs.Records.{recovered}
+use Rattle.slot_store.specs.Records.{stored_record}
 use Rattle.slot_store.specs.Stops.{IsStopped, calls_of, putting, retiring, wipes_of}
-use Rattle.slot_store.specs.Pager.{content, has_replaced, seen}
-use Rattle.slot_store.specs.Store.{IsOldOrNew, KeepsOutside, ReadsOutsideArea}
+use Rattle.slot_store.specs.Pager.{content, has_replaced, store_seen}
+use Rattle.slot_store.specs.Store.{IsOldOrNew, KeepsOutsideArea, ReadsOutsideArea}
 use Rattle.slot_store.proofs.Outside.{keeps_twice}
 use Rattle.slot_store.proofs.PlanFacts.{plans}
 use Rattle.slot_store.proofs.Standing.{rests_seen}
@@ -50,15 +50,15 @@ module _ (old put : Pager) (text : List ℕ) (staged : IsStaged old put text)
       (ap (λ n. putting (content old) (Some text) + n) (retire_count fits)) called
 
   module _ (done : Always (HasPut old put text start) mid) where
-    outside : Always (KeepsOutside old.area start) mid
+    outside : Always (KeepsOutsideArea old.area start) mid
     outside c left = (done c left).2
 
-    area_kept : (c : List ℕ) → KeepsRecord put mid c → KeepsOutside old.area start c
+    area_kept : (c : List ℕ) → KeepsRecord put mid c → KeepsOutsideArea old.area start c
     area_kept c kept = keeps_twice old.area start mid outside c
-        (subst (λ a. KeepsOutside a mid c) staged.next.area kept.1)
+        (subst (λ a. KeepsOutsideArea a mid c) staged.next.area kept.1)
 
-    is_new : (c : List ℕ) → KeepsRecord put mid c → recovered old.area c ≡ Some text
-    is_new c kept = ap (λ a. recovered a c) (sym staged.next.area) ∙ kept.0 ∙ staged.holds
+    is_new : (c : List ℕ) → KeepsRecord put mid c → stored_record old.area c ≡ Some text
+    is_new c kept = ap (λ a. stored_record a c) (sym staged.next.area) ∙ kept.0 ∙ staged.holds
 
     either : (c : List ℕ) → KeepsRecord put mid c → Either c
     either c kept = record {
@@ -77,15 +77,15 @@ module _ (old put : Pager) (text : List ℕ) (staged : IsStaged old put text)
         → IsStopped old.area (content old) (Some text) start end
     replace_stopped end lawful span passed = stopped_late old.area (content old) (Some text) start
         mid end lawful
-        (λ c left. ap (λ a. recovered a c) (sym staged.next.area) ∙ (done c left).1)
+        (λ c left. ap (λ a. stored_record a c) (sym staged.next.area) ∙ (done c left).1)
         (KeepsRecord put mid) span is_new passed
 
     pub replace_done : (new : Pager) (end : DiskState) → new ≡ put
-        → Always (HasRested put new mid) end → Always (HasReplaced (seen old) (seen new) text start) end
+        → Always (HasRested put new mid) end → Always (HasReplaced (store_seen old) (store_seen new) text start) end
     replace_done new end same rested c left =
         let rest = rested c left in (
           rests_seen new c rest.0,
           rest.1 ∙ ap content same ∙ staged.holds,
           keeps_twice old.area start mid outside c
-              (subst (λ a. KeepsOutside a mid c) staged.next.area rest.2),
+              (subst (λ a. KeepsOutsideArea a mid c) staged.next.area rest.2),
         )

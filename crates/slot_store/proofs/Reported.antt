@@ -8,13 +8,13 @@ use Rattle.slot_store.specs.declared.report.Gate.{Gate}
 use Rattle.slot_store.specs.Areas.{Area}
 use Rattle.slot_store.specs.AtRest.{IsAtRest}
 use Rattle.slot_store.specs.Judged.{table_with}
-use Rattle.slot_store.specs.Locating.{IsHeld}
+use Rattle.slot_store.specs.Locating.{HoldsWhatCounts}
 use Rattle.slot_store.specs.Pager.{IsLaidFor, content, mark}
 use Rattle.slot_store.specs.Reports.{RestsAsFound, gate_of}
 use Rattle.slot_store.proofs.AtRestRead.{is_same}
 use Rattle.slot_store.proofs.Standing.{pager_marked}
 
-module _ (fault_at : List ℕ → Option ℕ) (area : Area) (disk : DiskState) (pager : Pager) (held : IsHeld fault_at area disk pager)
+module _ (fault_at : List ℕ → Option ℕ) (area : Area) (disk : DiskState) (pager : Pager) (held : HoldsWhatCounts fault_at area disk pager)
     (s : List ℕ) (told : disk.seen ≡ Some s) where
   laid_rests : IsLaidFor pager s → IsAtRest pager.area (mark pager) (content pager) s
   unfolding IsLaidFor

@@ -5,7 +5,7 @@ use Rattle.std.specs.Prelude.{not, slice_index}
 use Rattle.std.proofs.lemmas.Bool.{cases_eq}
 use Rattle.pages.specs.Around.{IsInside}
 use Rattle.pages.specs.Layouts.{IsPage}
-use Rattle.pages.specs.Resting.{IsAtRest as AreAtRest}
+use Rattle.pages.specs.Resting.{IsShotAtRest as AreAtRest}
 use Rattle.pages.specs.Snapshots.{Snapshot, page_of}
 use Rattle.pages.specs.Tables.{table_at}
 use Rattle.record_pages.specs.Tables.{record_names}

@@ -11,7 +11,7 @@ use Rattle.pages.specs.Snapshots.{Snapshot}
 use Rattle.pages.specs.Stops.{retires as page_retires}
 use Rattle.pages.specs.Tables.{AreZeros, Table}
 use Rattle.pages.specs.Retiring.{IsNewest, IsOver, Retires}
-use Rattle.pages.specs.Runs.{Runs}
+use Rattle.pages.specs.Runs.{RunsCalls}
 use Rattle.pages.specs.Writing.{AreFree}
 use Rattle.record_pages.specs.Tables.{record_names}
 use Rattle.slot_store.specs.declared.errors.StoreFault.{StoreFault}
@@ -20,7 +20,7 @@ use Rattle.slot_store.specs.Areas.{layout_of}
 use Rattle.slot_store.specs.Putting.{HasRested, KeepsRecord, call_of, retire_calls}
 use Rattle.slot_store.specs.Stops.{retiring}
 use Rattle.slot_store.specs.Pager.{Awaits}
-use Rattle.slot_store.specs.Store.{IsWithin, ReadsOutsideArea}
+use Rattle.slot_store.specs.Store.{HasArea, ReadsOutsideArea}
 use Rattle.slot_store.proofs.PutCalls.{called_err, called_ok}
 use Rattle.slot_store.proofs.Retiring.{free, newest, retire_done, retire_whole}
 
@@ -65,7 +65,7 @@ module _ (pager : Pager) (start : DiskState) (awaits : Always (Awaits pager) sta
   abbrev placed : Table → List (List ℕ) → Snapshot
   placed table pages = record { second = pager.second; table = table; pages = pages }
 
-  pub free_here : start.size < 2 ^ 64 → IsWithin pager.area start
+  pub free_here : start.size < 2 ^ 64 → HasArea pager.area start
       → AreFree record_names lay numbers start
   free_here ends within =
       subst (λ (x : Layout). AreFree record_names x numbers start) (sym lay_is)
@@ -77,7 +77,7 @@ module _ (pager : Pager) (start : DiskState) (awaits : Always (Awaits pager) sta
       (newest pager start awaits)
 
   module _ {T : Type 0} (end : DiskState) (result : Result T Call)
-      (runs : Runs lay (page_retires (length numbers)) start end result)
+      (runs : RunsCalls lay (page_retires (length numbers)) start end result)
       (takes : (table : Table) (pages : List (List ℕ))
       → IsOver record_names lay pager.second numbers table pages start
       → Retires record_names lay numbers (placed table pages) start end result) where
@@ -105,7 +105,7 @@ module _ (pager : Pager) (start : DiskState) (awaits : Always (Awaits pager) sta
     reads_here = subst (λ (x : Layout). ReadsAround x start end) lay_is runs.reads
 
   pub done_here : {T : Type 0} (end : DiskState) (x : T)
-      → Runs lay (page_retires (length numbers)) start end (Ok x)
+      → RunsCalls lay (page_retires (length numbers)) start end (Ok x)
       → ((table : Table) (pages : List (List ℕ))
       → IsOver record_names lay pager.second numbers table pages start
       → Retires record_names lay numbers (placed table pages) start end (Ok x))
@@ -114,14 +114,14 @@ module _ (pager : Pager) (start : DiskState) (awaits : Always (Awaits pager) sta
       (around end (Ok x) runs takes) (retires_here end (Ok x) runs takes) lawful
 
   pub passed_here : {T U : Type 0} (end : DiskState) (x : U) (y : T)
-      → Runs lay (page_retires (length numbers)) start end (Ok x)
+      → RunsCalls lay (page_retires (length numbers)) start end (Ok x)
       → pager.replaced ≡ true → Called (retire_calls pager) call_of start end (Ok y)
   passed_here end x y runs is = called_ok (page_retires (length numbers)) (retire_calls pager) x y
       start end (ap (λ (ns : List ℕ). page_retires (length ns)) numbers_are ∙ all_calls pager is)
       runs.calls
 
   pub failed_here : {T U : Type 0} (end : DiskState) (call : Call) (e : StoreFault)
-      → Runs {T = U} lay (page_retires (length numbers)) start end (Err call)
+      → RunsCalls {T = U} lay (page_retires (length numbers)) start end (Err call)
       → call ≡ call_of e → pager.replaced ≡ true
       → Called {T = T} (retire_calls pager) call_of start end (Err e)
   failed_here {T = T} {U = U} end call e runs same is = called_err {T = T} {U = U}

@@ -11,8 +11,8 @@ use Rattle.pages.specs.Layouts.{IsPage, blank_page}
 use Rattle.pages.specs.Tables.{Comes, Table, counts, table_at}
 use Rattle.pages.specs.Snapshots.{IsBeside, Snapshot, kept_shot, page_of, shot}
 use Rattle.pages.specs.Writing.{AreFree, AreUnnamed, IsOneOf}
-use Rattle.pages.specs.Retiring.{IsCleared, IsKept, IsNewest, IsOver, Retires}
-use Rattle.pages.specs.Resting.{IsAtRest}
+use Rattle.pages.specs.Retiring.{IsCleared, KeepsWhatCounts, IsNewest, IsOver, Retires}
+use Rattle.pages.specs.Resting.{IsShotAtRest}
 use Rattle.pages.proofs.Newest.{newest_stands}
 use Rattle.record_pages.specs.Tables.{record_names}
 use Rattle.slot_store.specs.declared.pager.Pager.{Pager}
@@ -20,7 +20,7 @@ use Rattle.slot_store.specs.Areas.{layout_of}
 use Rattle.slot_store.specs.Layout.{IsLaidOut, IsPut, laid}
 use Rattle.slot_store.specs.Putting.{HasRested, KeepsRecord}
 use Rattle.slot_store.specs.Pager.{Awaits, IsLaidFor, content, has_replaced, mark}
-use Rattle.slot_store.specs.Store.{IsWithin}
+use Rattle.slot_store.specs.Store.{HasArea}
 use Rattle.slot_store.proofs.Standing.{kept_recovered, kept_undamaged, laid_recovered}
 use Rattle.slot_store.proofs.PlanFacts.{drops_distinct, drops_pages, pager_named}
 use Rattle.slot_store.proofs.Outside.{self_outside}
@@ -90,7 +90,7 @@ module _ (pager : Pager) (start : DiskState) (awaits : Always (Awaits pager) sta
       subst (λ t. IsBeside record_names l (slice_index dropped j) t) (sym (current c left) ∙ same)
       ((put c left).beside j lt)
 
-  pub free : start.size < 2 ^ 64 → IsWithin pager.area start → AreFree record_names l dropped start
+  pub free : start.size < 2 ^ 64 → HasArea pager.area start → AreFree record_names l dropped start
   free ends within = record {
     sound = layout_sound pager.area pager.lawful start.size ends within;
     pages = drops_pages pager;
@@ -122,7 +122,7 @@ module _ (pager : Pager) (start : DiskState) (awaits : Always (Awaits pager) sta
   opened : (d : List ℕ) → start.image d → shot Placed ≡ kept_shot now
   opened d entry = ap shot placed_is ∙ sym (kept_open now (put d entry).comes.opened)
 
-  kept : (c : List ℕ) → IsKept record_names l Placed start c → KeepsRecord pager start c
+  kept : (c : List ℕ) → KeepsWhatCounts record_names l Placed start c → KeepsRecord pager start c
   kept c is =
       let same = is.same ∙ opened is.around.0 is.around.1 in (
         kept_recovered pager c same,
@@ -146,7 +146,7 @@ module _ (pager : Pager) (start : DiskState) (awaits : Always (Awaits pager) sta
         one j = ap (page_of l c) j.2 ∙ cleared.blank (drops_distinct pager) j.0 j.1
 
     laid_out : IsLaidOut pager.area (mark pager) (content pager) c
-    laid_out = subst (λ s. IsAtRest record_names l s c) placed_is
+    laid_out = subst (λ s. IsShotAtRest record_names l s c) placed_is
         (record { still = cleared.still; other = cleared.other; blank = blank })
 
     rests : IsLaidFor pager c
@@ -172,7 +172,7 @@ module _ (pager : Pager) (start : DiskState) (awaits : Always (Awaits pager) sta
 
     pub retire_whole : Span start end (KeepsRecord pager start)
     retire_whole = span_if start end (KeepsRecord pager start) (KeepsOutside l start) span
-        (λ c around. widen start end (IsKept record_names l Placed start) (KeepsRecord pager start)
+        (λ c around. widen start end (KeepsWhatCounts record_names l Placed start) (KeepsRecord pager start)
         kept (by_image around.0 around.1).any_moment)
 
   pub retire_done : {T : Type 0} (end : DiskState) (x : T)

@@ -3,14 +3,14 @@ use Rattle.std.proofs.Common.{◌≡◌, ◌⊎◌, inl, inr, ℕ, ◌+◌, ◌*
 use Rattle.dr_base.specs.declared.limits.TheConstants.{PAGE}
 use Rattle.pages.specs.Layouts.{page_place, table_place}
 use Rattle.pages.proofs.SoundLayouts.{place_row}
-use Rattle.slot_store.specs.Areas.{Area, IsInside, IsOutside, layout_of, size_of}
+use Rattle.slot_store.specs.Areas.{Area, IsInArea, IsOutsideArea, layout_of, area_size}
 
 module _ (area : Area) (least : 2 ≤ area.pages) (i : ℕ) where
   place : (n : ℕ) → page_place (layout_of area) n ≡ area.start + PAGE * n
   place n = place_row (layout_of area) n (omega arith)
 
   -- a place before the row, or behind it
-  pub is_outside : (i < area.start) ⊎ (area.start + size_of area ≤ i) → IsOutside area i
+  pub is_outside : (i < area.start) ⊎ (area.start + area_size area ≤ i) → IsOutsideArea area i
   is_outside (inl below) = record {
     tables = λ k. table_below k;
     pages = λ n is. inl (omega (arith, place n, below));
@@ -29,11 +29,11 @@ module _ (area : Area) (least : 2 ≤ area.pages) (i : ℕ) where
       table_above true = inr (omega (arith, above, least))
 
   -- a place in the row
-  pub is_within : IsInside area i → (area.start ≤ i) × (i < area.start + size_of area)
+  pub is_within : IsInArea area i → (area.start ≤ i) × (i < area.start + area_size area)
   is_within (inl table) = by table.0 table.1 table.2
     where
       by : (k : Bool) → table_place (layout_of area) k ≤ i → i < table_place (layout_of area) k + PAGE
-          → (area.start ≤ i) × (i < area.start + size_of area)
+          → (area.start ≤ i) × (i < area.start + area_size area)
       by false from to = (from, omega (arith, to, least))
       by true from to = (omega (arith, from), omega (arith, to, least))
   is_within (inr page) = (omega (arith, place page.0, page.2), omega (arith, place page.0, page.1.1, page.3))

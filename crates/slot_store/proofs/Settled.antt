@@ -7,9 +7,9 @@ use Rattle.dr_disk.specs.State.{DiskState, OnSeen}
 use Rattle.pages.specs.declared.layout.Layout.{Layout}
 use Rattle.pages.specs.declared.layout.TheConstants.{OPEN}
 use Rattle.pages.specs.Layouts.{IsPage, blank_page}
-use Rattle.pages.specs.Tables.{Table, counts, is_open, open_table, standing, table_at}
+use Rattle.pages.specs.Tables.{Table, counts, is_open, open_table, tables_standing, table_at}
 use Rattle.pages.specs.Snapshots.{IsBeside, IsUnnamed, kept_shot, no_shot, page_of, shot, snapshot}
-use Rattle.pages.specs.Resting.{IsAtRest as AreAtRest}
+use Rattle.pages.specs.Resting.{IsShotAtRest as AreAtRest}
 use Rattle.pages.specs.Tidying.{AreNamed, IsMute, IsTidied}
 use Rattle.pages.proofs.Newest.{not_not}
 use Rattle.record_pages.specs.Pages.{pages_in}
@@ -74,14 +74,14 @@ module _ (pager : Pager) (text : List ℕ) (has : content pager ≡ Some text) w
 
   -- the pager's table counts, and names its pages
   pub stands : (s : List ℕ) → HasShot pager s
-      → (standing (layout_of pager.area) s ≡ counts (mark pager).second (open_table (table_for (mark pager) text)))
+      → (tables_standing (layout_of pager.area) s ≡ counts (mark pager).second (open_table (table_for (mark pager) text)))
       × (map (page_of (layout_of pager.area) s) (record_names (table_for (mark pager) text)) ≡ pages_in text)
   unfolding snapshot
-  stands s shown = shot_back record_names (layout_of pager.area) s (standing (layout_of pager.area) s)
+  stands s shown = shot_back record_names (layout_of pager.area) s (tables_standing (layout_of pager.area) s)
       (laid (mark pager) (Some text))
       (shown ∙ ap (λ p. kept_shot (laid (mark pager) p)) has ∙ held pager.area (mark pager) text marked)
 
-  only : (s : List ℕ) → HasShot pager s → (k : Bool) (t : Table) → standing (layout_of pager.area) s ≡ counts k t
+  only : (s : List ℕ) → HasShot pager s → (k : Bool) (t : Table) → tables_standing (layout_of pager.area) s ≡ counts k t
       → open_table (table_for (mark pager) text) ≡ t
   only s shown k t is = tables (mark pager).second k (open_table (table_for (mark pager) text)) t (sym (stands s shown).0 ∙ is)
     where

@@ -4,8 +4,8 @@ use Rattle.pages.specs.Snapshots.{Shot, Snapshot, no_shot, shot, unclear}
 use Rattle.record_pages.specs.Pages.{joined}
 use Rattle.record_pages.specs.Tables.{length_in, nonzero_from, or_else, table_fault}
 use Rattle.slot_store.specs.Areas.{Area}
-use Rattle.slot_store.specs.Reading.{behind_table, damaged, holds, judged, no_content, number_of, read_as}
-use Rattle.slot_store.specs.Records.{faultless, record_in, shown}
+use Rattle.slot_store.specs.Reading.{behind_table, damaged, holds, judged, no_content, table_number, read_as}
+use Rattle.slot_store.specs.Records.{faultless, record_in, record_shown}
 
 -- no fault: none of the table, none of the record, and none behind it
 pub record IsSound (t r z : Option ℕ) (said text : List ℕ) : Type 0 where
@@ -17,14 +17,14 @@ pub record IsSound (t r z : Option ℕ) (said text : List ℕ) : Type 0 where
 module _ (second : Bool) (said text : List ℕ) where
   pub sound_by : (t r z : Option ℕ) → judged second (or_else t (behind_table (or_else r z))) said ≡ holds text
       → IsSound t r z said text
-  sound_by (Some at) r z is = absurd (let e : damaged (number_of second) at ≡ holds text = is in cc)
-  sound_by None (Some at) z is = absurd (let e : damaged (number_of second) (4096 + at) ≡ holds text = is in cc)
-  sound_by None None (Some at) is = absurd (let e : damaged (number_of second) (4096 + at) ≡ holds text = is in cc)
+  sound_by (Some at) r z is = absurd (let e : damaged (table_number second) at ≡ holds text = is in cc)
+  sound_by None (Some at) z is = absurd (let e : damaged (table_number second) (4096 + at) ≡ holds text = is in cc)
+  sound_by None None (Some at) is = absurd (let e : damaged (table_number second) (4096 + at) ≡ holds text = is in cc)
   sound_by None None None is = record { table = refl; record_is = refl; zeros = refl; same = let e : holds said ≡ holds text = is in cc }
 
   pub never_none : (f : Option ℕ) → judged second f said ≡ no_content → ⊥
   never_none None is = let e : holds said ≡ no_content = is in cc
-  never_none (Some at) is = let e : damaged (number_of second) at ≡ no_content = is in cc
+  never_none (Some at) is = let e : damaged (table_number second) at ≡ no_content = is in cc
 
 module _ (fault_at : List ℕ → Option ℕ) (area : Area) (text : List ℕ) where
   abbrev zeros_in : Snapshot → Option ℕ
@@ -36,7 +36,7 @@ module _ (fault_at : List ℕ → Option ℕ) (area : Area) (text : List ℕ) wh
   sound_shot s is = sound_by s.second (record_in s.table.body s.pages) text (table_fault area.pages area.most s.table.body)
       (fault_at (record_in s.table.body s.pages)) (zeros_in s) is
 
-  pub holds_shown : (sh : Shot) → read_as fault_at area sh ≡ holds text → shown area sh ≡ Some text
+  pub holds_shown : (sh : Shot) → read_as fault_at area sh ≡ holds text → record_shown area sh ≡ Some text
   holds_shown no_shot is = absurd (let e : no_content ≡ holds text = is in cc)
   holds_shown unclear is = absurd (let e : damaged 1 1 ≡ holds text = is in cc)
   holds_shown (shot s) is =
@@ -60,7 +60,7 @@ module _ (fault_at : List ℕ → Option ℕ) (area : Area) (text : List ℕ) wh
 
 -- where there is none, no table is open
 module _ (fault_at : List ℕ → Option ℕ) (area : Area) where
-  pub none_shown : (sh : Shot) → read_as fault_at area sh ≡ no_content → shown area sh ≡ None
+  pub none_shown : (sh : Shot) → read_as fault_at area sh ≡ no_content → record_shown area sh ≡ None
   none_shown no_shot is = refl
   none_shown unclear is = refl
   none_shown (shot s) is = absurd (never_none s.second (record_in s.table.body s.pages) [] _ is)

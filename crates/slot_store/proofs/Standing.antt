@@ -13,9 +13,9 @@ use Rattle.slot_store.proofs.Paging.{each_of}
 use Rattle.slot_store.specs.declared.pager.Pager.{Pager}
 use Rattle.slot_store.specs.Areas.{Area, Fits, HasText, IsArea, layout_of}
 use Rattle.slot_store.specs.Layout.{IsLaidOut, IsMarked, Mark, laid}
-use Rattle.slot_store.specs.Reading.{IsUndamaged, OpensAs, read_as, reading}
-use Rattle.slot_store.specs.Records.{recovered, shot_in, shown}
-use Rattle.slot_store.specs.Pager.{IsLaidFor, content, mark, seen}
+use Rattle.slot_store.specs.Reading.{IsUndamaged, OpensAs, read_as, area_reading}
+use Rattle.slot_store.specs.Records.{stored_record, shot_in, record_shown}
+use Rattle.slot_store.specs.Pager.{IsLaidFor, content, mark, store_seen}
 use Rattle.slot_store.specs.Store.{Rests, SlotStore}
 use Rattle.slot_store.proofs.Laid.{laid_kept, laid_read, laid_shown}
 
@@ -31,21 +31,21 @@ held_fits area bytes len has =
 
 module _ (area : Area) (mark : Mark) (text : Option (List ℕ)) (lawful : IsArea area)
     (marked : (kept : List ℕ) → text ≡ Some kept → IsMarked area mark kept) where
-  shown_as : (o : Option (List ℕ)) → text ≡ o → shown area (kept_shot (laid mark o)) ≡ o
+  shown_as : (o : Option (List ℕ)) → text ≡ o → record_shown area (kept_shot (laid mark o)) ≡ o
   shown_as None is = refl
   shown_as (Some kept) is =
-      ap (shown area) (laid_kept area mark kept lawful (marked kept is)) ∙ laid_shown area mark kept lawful (marked kept is)
+      ap (record_shown area) (laid_kept area mark kept lawful (marked kept is)) ∙ laid_shown area mark kept lawful (marked kept is)
 
   opens_as : (o : Option (List ℕ)) → text ≡ o → (c : List ℕ) → shot_in area c ≡ kept_shot (laid mark o) → OpensAs area o c
-  unfolding reading
+  unfolding area_reading
   opens_as None is c same = λ fault_at. ap (read_as fault_at area) same
   opens_as (Some kept) is c same = λ fault_at none.
       ap (read_as fault_at area) (same ∙ laid_kept area mark kept lawful (marked kept is))
       ∙ laid_read area mark kept lawful (marked kept is) fault_at none
 
-  pub shot_recovered : (c : List ℕ) → shot_in area c ≡ kept_shot (laid mark text) → recovered area c ≡ text
-  unfolding recovered
-  shot_recovered c is = ap (shown area) is ∙ shown_as text refl
+  pub shot_recovered : (c : List ℕ) → shot_in area c ≡ kept_shot (laid mark text) → stored_record area c ≡ text
+  unfolding stored_record
+  shot_recovered c is = ap (record_shown area) is ∙ shown_as text refl
 
   pub shot_undamaged : (c : List ℕ) → shot_in area c ≡ kept_shot (laid mark text) → IsUndamaged area c
   shot_undamaged c is = subst (λ t. OpensAs area t c) (sym (shot_recovered c is)) (opens_as text refl c is)
@@ -57,7 +57,7 @@ rests_shot area mark text c rests = shot_still record_names (layout_of area) c (
 -- ---- what callers see at rest
 
 module _ (store : SlotStore) (c : List ℕ) (rests : Rests store c) where
-  pub rests_recovered : recovered store.area c ≡ store.content
+  pub rests_recovered : stored_record store.area c ≡ store.content
   unfolding Rests
   rests_recovered = shot_recovered store.area store.mark store.content rests.0 rests.1.marked c
       (rests_shot store.area store.mark store.content c rests.1.laid_out)
@@ -95,22 +95,22 @@ module _ (pager : Pager) where
   pager_marked text is = marked_as text (pager.turn == 0) refl is
 
   pub kept_recovered : (c : List ℕ) → shot_in pager.area c ≡ kept_shot (laid (mark pager) (content pager))
-      → recovered pager.area c ≡ content pager
+      → stored_record pager.area c ≡ content pager
   kept_recovered = shot_recovered pager.area (mark pager) (content pager) pager.lawful pager_marked
 
   pub kept_undamaged : (c : List ℕ) → shot_in pager.area c ≡ kept_shot (laid (mark pager) (content pager))
       → IsUndamaged pager.area c
   kept_undamaged = shot_undamaged pager.area (mark pager) (content pager) pager.lawful pager_marked
 
-  pub laid_recovered : (c : List ℕ) → IsLaidFor pager c → recovered pager.area c ≡ content pager
+  pub laid_recovered : (c : List ℕ) → IsLaidFor pager c → stored_record pager.area c ≡ content pager
   unfolding IsLaidFor
   laid_recovered c rests = kept_recovered c (rests_shot pager.area (mark pager) (content pager) c rests)
 
   -- what is at rest for it is at rest for the store that callers see
-  pub rests_seen : (c : List ℕ) → IsLaidFor pager c → Rests (seen pager) c
+  pub rests_seen : (c : List ℕ) → IsLaidFor pager c → Rests (store_seen pager) c
   unfolding IsLaidFor Rests
   rests_seen c rests = (pager.lawful, record { laid_out = rests; marked = pager_marked })
 
-  pub laid_as_seen : (c : List ℕ) → Rests (seen pager) c → IsLaidFor pager c
+  pub laid_as_seen : (c : List ℕ) → Rests (store_seen pager) c → IsLaidFor pager c
   unfolding IsLaidFor Rests
   laid_as_seen c rests = rests.1.laid_out

@@ -4,12 +4,12 @@ use Rattle.std.specs.Prelude.{if◌then◌else◌}
 use Rattle.dr_disk.specs.State.{Always, DiskState, IsLawful}
 use Rattle.dr_disk.specs.Spans.{HavePassed, Span}
 use Rattle.pages.specs.Snapshots.{kept_shot, shot}
-use Rattle.pages.specs.Stops.{IsStopped as IsHalted, puts, shows as page_shows, took as page_took}
+use Rattle.pages.specs.Stops.{IsPutStopped as IsHalted, puts, put_shows as page_shows, put_took as page_took}
 use Rattle.record_pages.specs.Tables.{record_names}
 use Rattle.pages.proofs.Stopping.{shows_true, took_true}
 use Rattle.slot_store.specs.declared.pager.Pager.{Pager}
 use Rattle.slot_store.specs.Areas.{Area, layout_of}
-use Rattle.slot_store.specs.Records.{recovered, shot_in}
+use Rattle.slot_store.specs.Records.{stored_record, shot_in}
 use Rattle.slot_store.specs.Stops.{IsStopped, putting, shows, took, writes_of}
 use Rattle.slot_store.specs.Pager.{content}
 use Rattle.slot_store.proofs.HasPlan.{fresh}
@@ -24,7 +24,7 @@ module _ {old new : Pager} {text : List ℕ} {start : DiskState}
   -- the record that these bytes have, by which snapshot they have
   by_shot : (t : Bool) (c : List ℕ)
       → shot_in old.area c ≡ (if t then shot (shot_new new text) else kept_shot (shot_old old))
-      → recovered old.area c ≡ (if t then Some text else content old)
+      → stored_record old.area c ≡ (if t then Some text else content old)
   by_shot true c is = new_recovered set c is
   by_shot false c is = kept_recovered old c is
 
@@ -50,10 +50,10 @@ module _ {old new : Pager} {text : List ℕ} {start : DiskState}
 -- ---- a call of the retire
 
 module _ (area : Area) (old new : Option (List ℕ)) (start mid end : DiskState)
-    (lawful : IsLawful end) (put : Always (λ c. recovered area c ≡ new) mid) (P : List ℕ → Type 0)
-    (span : Span mid end P) (is_new : (c : List ℕ) → P c → recovered area c ≡ new)
+    (lawful : IsLawful end) (put : Always (λ c. stored_record area c ≡ new) mid) (P : List ℕ → Type 0)
+    (span : Span mid end P) (is_new : (c : List ℕ) → P c → stored_record area c ≡ new)
     (passed : HavePassed (putting old new) start mid) where
-  images : (c : List ℕ) → end.image c → recovered area c ≡ new
+  images : (c : List ℕ) → end.image c → stored_record area c ≡ new
   images c left = ⊎_elim (put c) (is_new c) (span.last c left)
 
   many : (b m : ℕ) → start.passed ≡ Some b → end.passed ≡ Some m → writes_of old new + 4 ≤ m - b

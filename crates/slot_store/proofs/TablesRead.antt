@@ -1,14 +1,14 @@
 -- Tables that were read, while nothing but reads is called.
 use Rattle.std.proofs.Common.{◌≡◌, ℕ, Ok, sym, ◌∙◌, subst, arith}
 use Rattle.dr_disk.specs.State.{DiskState, IsSettled, OnSeen}
-use Rattle.pages.specs.Runs.{Looks}
+use Rattle.pages.specs.Runs.{ReadsAlone}
 use Rattle.pages.proofs.Looking.{looks_settled}
 use Rattle.slot_store.specs.declared.pager.Pager.{Pager}
 use Rattle.slot_store.specs.declared.scratch.Scratch.{Scratch}
 use Rattle.slot_store.specs.Areas.{Area}
 use Rattle.slot_store.specs.Scratch.{HasTables}
 use Rattle.slot_store.specs.Settling.{HasShot, MaySettle}
-use Rattle.slot_store.specs.Store.{IsWithin}
+use Rattle.slot_store.specs.Store.{HasArea}
 
 module _ (area : Area) (first second : ℕ) (scratch : Scratch) (start now : DiskState)
     (has : HasTables area first second scratch start) where
@@ -31,11 +31,11 @@ module _ (area : Area) (first second : ℕ) (scratch : Scratch) (start now : Dis
       subst (λ a. HasTables a first second scratch now) (sym same) (tables_later size seen)
 
   -- and a crash still leaves it
-  pub settling_later : {T : Type 0} (pager : Pager) (x : T) → pager.area ≡ area → Looks start now (Ok x)
+  pub settling_later : {T : Type 0} (pager : Pager) (x : T) → pager.area ≡ area → ReadsAlone start now (Ok x)
       → IsSettled start → OnSeen (HasShot pager) start → MaySettle pager now
   settling_later pager x same looks settled shown = record {
     ready = record {
-      within = subst (λ a. IsWithin a now) (sym same) (omega (arith, has.within, looks.during.size));
+      within = subst (λ a. HasArea a now) (sym same) (omega (arith, has.within, looks.during.size));
       settled = looks_settled start now (Ok x) looks settled;
     };
     shown = λ s told. shown s (sym looks.untouched.unwritten.seen ∙ told);

@@ -13,7 +13,7 @@ use Rattle.pages.proofs.SoundLayouts.{area_sound}
 use Rattle.record_pages.specs.Tables.{record_names}
 use Rattle.slot_store.specs.Areas.{Area, IsArea, layout_of}
 use Rattle.slot_store.specs.Judged.{table_with}
-use Rattle.slot_store.specs.Settling.{IsReady}
+use Rattle.slot_store.specs.Settling.{IsSettledArea}
 
 pub on_ok : {T E : Type 0} {A B : Type 0} (r : Result T E) → (A → B) → OnOk r A → OnOk r B
 on_ok (Ok x) to a = to a
@@ -38,7 +38,7 @@ blank_true b body others zero long = ⊎_elim (λ yes. yes)
     (cases_Bool b)
 
 -- a table as it was read
-module _ (area : Area) (second : Bool) (gate : ℕ) (body : List ℕ) (disk : DiskState) (ready : IsReady area disk)
+module _ (area : Area) (second : Bool) (gate : ℕ) (body : List ℕ) (disk : DiskState) (ready : IsSettledArea area disk)
     (read : OnSeen (λ s. table_at (layout_of area) second s ≡ table_with gate body) disk) where
   pub to_tidy : (blank : Bool) (named : List Bool) → IsArea area → disk.size < 2 ^ 64 → length body + 1 ≡ PAGE
       → (blank ≡ true → body ≡ replicate (length body) 0)

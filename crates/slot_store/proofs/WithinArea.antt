@@ -3,15 +3,15 @@ use Rattle.std.proofs.Common.{◌≡◌, ℕ, ◌+◌, ◌*◌, Bool, true, fals
 use Rattle.std.proofs.lemmas.List.Elements.{All-head, All-tail}
 use Rattle.std.specs.Prelude.{nat_le, not, if◌then◌else◌}
 use Rattle.pages.specs.Layouts.{IsPage}
-use Rattle.pages.specs.Resting.{IsAtRest as AreAtRest}
+use Rattle.pages.specs.Resting.{IsShotAtRest as AreAtRest}
 use Rattle.pages.specs.Snapshots.{Snapshot, page_of, shot_of, snapshot}
-use Rattle.pages.specs.Tables.{Standing, alike, counts, none_open, standing, standing_of}
+use Rattle.pages.specs.Tables.{TableStanding, alike, counts, none_open, tables_standing, standing_of}
 use Rattle.record_pages.specs.Pages.{page_count}
 use Rattle.record_pages.specs.Tables.{entry_fault, length_in, nonzero_from, or_else, record_names, table_fault}
 use Rattle.slot_store.specs.Areas.{Area, layout_of}
 use Rattle.slot_store.specs.Laws.{SameWithin}
-use Rattle.slot_store.specs.Reading.{behind_table, judged, read_as, reading, record_fault}
-use Rattle.slot_store.specs.Records.{faultless, record_in, recovered, shown}
+use Rattle.slot_store.specs.Reading.{behind_table, judged, read_as, area_reading, record_fault}
+use Rattle.slot_store.specs.Records.{faultless, record_in, stored_record, record_shown}
 use Rattle.slot_store.proofs.Entries.{entries_within}
 use Rattle.slot_store.proofs.Local.{same_page, same_table}
 
@@ -37,7 +37,7 @@ map_same P f g (n ∷ ns) all same =
     ap₂ (λ x xs. x ∷ xs) (same n (All-head P n ns all)) (map_same P f g ns (All-tail P n ns all) same)
 
 module _ (area : Area) (c d : List ℕ) (same : SameWithin area c d) where
-  standing_same : standing (layout_of area) c ≡ standing (layout_of area) d
+  standing_same : tables_standing (layout_of area) c ≡ tables_standing (layout_of area) d
   standing_same = ap₂ standing_of (same_table area c d same false) (same_table area c d same true)
 
   pub pages_same : (names : List ℕ) → entry_fault area.pages [] 6 names ≡ None
@@ -45,7 +45,7 @@ module _ (area : Area) (c d : List ℕ) (same : SameWithin area c d) where
   pages_same names is = map_same (IsPage (layout_of area)) (page_of (layout_of area) c) (page_of (layout_of area) d) names
       (entries_within area names is) (λ n page. same_page area c d same n page)
 
-  shown_as : (st : Standing) → shown area (shot_of record_names (layout_of area) c st) ≡ shown area (shot_of record_names (layout_of area) d st)
+  shown_as : (st : TableStanding) → record_shown area (shot_of record_names (layout_of area) c st) ≡ record_shown area (shot_of record_names (layout_of area) d st)
   shown_as none_open = refl
   shown_as alike = refl
   shown_as (counts k t) = by (table_fault area.pages area.most t.body) refl
@@ -56,7 +56,7 @@ module _ (area : Area) (c d : List ℕ) (same : SameWithin area c d) where
       by (Some at) is = refl
       by None is = ap (λ (ps : List (List ℕ)). Some (record_in t.body ps)) (pages_same (record_names t.body) (lawful_table area.pages area.most t.body is))
 
-  read_same : (fault_at : List ℕ → Option ℕ) (st : Standing)
+  read_same : (fault_at : List ℕ → Option ℕ) (st : TableStanding)
       → read_as fault_at area (shot_of record_names (layout_of area) c st) ≡ read_as fault_at area (shot_of record_names (layout_of area) d st)
   read_same fault_at none_open = refl
   read_same fault_at alike = refl
@@ -72,14 +72,14 @@ module _ (area : Area) (c d : List ℕ) (same : SameWithin area c d) where
           ap (λ (ps : List (List ℕ)). judged k (behind_table (record_fault fault_at t.body ps)) (record_in t.body ps))
           (pages_same (record_names t.body) (lawful_table area.pages area.most t.body is))
 
-  pub recovered_same : recovered area c ≡ recovered area d
-  unfolding recovered snapshot
-  recovered_same = ap (λ st. shown area (shot_of record_names (layout_of area) c st)) standing_same ∙ shown_as (standing (layout_of area) d)
+  pub recovered_same : stored_record area c ≡ stored_record area d
+  unfolding stored_record snapshot
+  recovered_same = ap (λ st. record_shown area (shot_of record_names (layout_of area) c st)) standing_same ∙ shown_as (tables_standing (layout_of area) d)
 
-  pub reading_same : (fault_at : List ℕ → Option ℕ) → reading fault_at area c ≡ reading fault_at area d
-  unfolding reading snapshot
+  pub reading_same : (fault_at : List ℕ → Option ℕ) → area_reading fault_at area c ≡ area_reading fault_at area d
+  unfolding area_reading snapshot
   reading_same fault_at =
-      ap (λ st. read_as fault_at area (shot_of record_names (layout_of area) c st)) standing_same ∙ read_same fault_at (standing (layout_of area) d)
+      ap (λ st. read_as fault_at area (shot_of record_names (layout_of area) c st)) standing_same ∙ read_same fault_at (tables_standing (layout_of area) d)
 
   -- at rest, where the snapshot's pages are the area's
   pub rests_same : (now : Snapshot) → entry_fault area.pages [] 6 (record_names now.table.body) ≡ None

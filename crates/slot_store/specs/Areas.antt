@@ -14,8 +14,8 @@ pub record Area : Type 0 where
   pub most : ℕ
 
 -- how many bytes it has
-abbrev pub size_of : Area → ℕ
-size_of area = PAGE * area.pages
+abbrev pub area_size : Area → ℕ
+area_size area = PAGE * area.pages
 
 -- What holds of every area: there is room for the pages of two records, each number has two bytes, one table names all pages of a
 -- record, and no place is 2^64 or more.
@@ -23,7 +23,7 @@ pub record IsArea (area : Area) : Type 0 where
   pub least : 2 + 2 * area.most ≤ area.pages
   pub short : area.pages ≤ 65536
   pub named : area.most ≤ 2045
-  pub ends : area.start + size_of area < 2 ^ 64
+  pub ends : area.start + area_size area < 2 ^ 64
   pub upper : area.start + PAGE * LOWER_PAGES < 2 ^ 64
 
 -- its tables and pages
@@ -31,15 +31,15 @@ abbrev pub layout_of : Area → Layout
 layout_of area = row_layout area.start area.pages
 
 -- a place in one of its tables and pages, and one in none of them
-abbrev pub IsInside : Area → ℕ → Type 0
-IsInside area = IsInsideAll (layout_of area)
+abbrev pub IsInArea : Area → ℕ → Type 0
+IsInArea area = IsInsideAll (layout_of area)
 
-abbrev pub IsOutside : Area → ℕ → Type 0
-IsOutside area = IsOutsideAll (layout_of area)
+abbrev pub IsOutsideArea : Area → ℕ → Type 0
+IsOutsideArea area = IsOutsideAll (layout_of area)
 
 -- bytes that are the same outside of its tables and pages
-abbrev pub IsSameOutside : Area → List ℕ → List ℕ → Type 0
-IsSameOutside area = IsSameAround (layout_of area)
+abbrev pub IsSameOutsideArea : Area → List ℕ → List ℕ → Type 0
+IsSameOutsideArea area = IsSameAround (layout_of area)
 
 -- bytes that have room for any record of the area, and no more
 abbrev pub HasRecordRoom : Area → List ℕ → Type 0

@@ -2,10 +2,10 @@
 use Rattle.std.specs.Prelude.{List, ℕ, Bool, true, false, Option, Some, None}
 use Rattle.slot_store.specs.declared.opening.Found.{Found}
 use Rattle.slot_store.specs.declared.opening.Found.TheVariants.{NoContent, Content}
-use Rattle.slot_store.specs.Reading.{Reading, holds, no_content}
+use Rattle.slot_store.specs.Reading.{AreaReading, holds, no_content}
 
 -- with the store's record
-abbrev pub found_as : Found → Option (List ℕ) → Reading
+abbrev pub found_as : Found → Option (List ℕ) → AreaReading
 found_as NoContent text = no_content
 found_as Content None = no_content
 found_as Content (Some text) = holds text

@@ -2,10 +2,10 @@
 use Rattle.std.specs.Prelude.{◌≡◌, ◌⊎◌, ℕ, ◌+◌, ◌-◌, ◌*◌, ◌≤◌, ◌<◌, Bool, false, not, List, [], length, map, slice_index, Option, Some, None}
 use Rattle.dr_base.specs.declared.limits.TheConstants.{PAGE}
 use Rattle.pages.specs.Layouts.{IsPage, blank_page}
-use Rattle.pages.specs.Tables.{Comes, next_turn, open_table, table_at, wiped}
+use Rattle.pages.specs.Tables.{Comes, turn_after, open_table, table_at, wiped}
 use Rattle.pages.specs.Snapshots.{IsBeside, Snapshot, page_of}
 use Rattle.pages.specs.Writing.{IsOneOf}
-use Rattle.pages.specs.Resting.{IsAtRest as AreAtRest}
+use Rattle.pages.specs.Resting.{IsShotAtRest as AreAtRest}
 use Rattle.record_pages.specs.Pages.{page_count, pages_in}
 use Rattle.record_pages.specs.Plans.{free_from, numbered}
 use Rattle.record_pages.specs.Tables.{entry_fault, record_names, table_body}
@@ -37,7 +37,7 @@ free_in area numbers = free_from numbers (area.pages - 2) 2
 abbrev pub next_mark : Area → Option (List ℕ) → Mark → List ℕ → Mark
 next_mark area old mark text = record {
   second = not mark.second;
-  turn = next_turn mark.turn;
+  turn = turn_after mark.turn;
   numbers = numbered (pages_held old) mark.numbers (pages_in text) (free_in area mark.numbers);
 }
 

@@ -6,19 +6,19 @@ use Rattle.slot_store.specs.declared.locating.Located.TheVariants.{Faulty, Held}
 use Rattle.slot_store.specs.declared.pager.Pager.{Pager}
 use Rattle.slot_store.specs.Areas.{Area}
 use Rattle.slot_store.specs.Pager.{content}
-use Rattle.slot_store.specs.Reading.{damaged, reading, reading_of}
+use Rattle.slot_store.specs.Reading.{damaged, area_reading, reading_of}
 use Rattle.slot_store.specs.Settling.{HasShot}
 
 -- what counts in the bytes that were read is the pager's record, a text of the grammar, or none
-pub record IsHeld (fault_at : List ℕ → Option ℕ) (area : Area) (disk : DiskState) (pager : Pager)
+pub record HoldsWhatCounts (fault_at : List ℕ → Option ℕ) (area : Area) (disk : DiskState) (pager : Pager)
     : Type 0 where
   pub area_is : pager.area ≡ area
   pub shown : OnSeen (HasShot pager) disk
-  pub read : OnSeen (λ s. reading fault_at area s ≡ reading_of (content pager)) disk
+  pub read : OnSeen (λ s. area_reading fault_at area s ≡ reading_of (content pager)) disk
   pub text : (text : List ℕ) → content pager ≡ Some text → fault_at text ≡ None
 
 -- or they are damaged
 abbrev pub IsLocated : (List ℕ → Option ℕ) → Area → DiskState → Located → Type 0
-IsLocated fault_at area disk (Held pager) = IsHeld fault_at area disk pager
+IsLocated fault_at area disk (Held pager) = HoldsWhatCounts fault_at area disk pager
 IsLocated fault_at area disk (Faulty slot at) =
-    OnSeen (λ s. reading fault_at area s ≡ damaged slot at) disk
+    OnSeen (λ s. area_reading fault_at area s ≡ damaged slot at) disk

@@ -5,7 +5,7 @@ use Rattle.slot_store.specs.declared.draft.Draft.{Draft}
 use Rattle.slot_store.specs.Areas.{Area}
 
 -- for the plans of an area, with zeros for a page
-pub record HasRoom (area : Area) (draft : Draft) : Type 0 where
+pub record HasPlanRoom (area : Area) (draft : Draft) : Type 0 where
   pub places : area.most ≤ vec_capacity draft.plan.places
   pub dropped : area.most < vec_capacity draft.plan.dropped
   pub free : area.pages - 2 ≤ vec_capacity draft.free

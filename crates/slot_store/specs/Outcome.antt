@@ -15,10 +15,10 @@ use Rattle.slot_store.specs.declared.outcome.Outcome.TheVariants.{Refused, Store
 use Rattle.slot_store.specs.Areas.{Area}
 use Rattle.slot_store.specs.AtRest.{IsReadAtRest}
 use Rattle.slot_store.specs.Loading.{HasRoomToLoad}
-use Rattle.slot_store.specs.Memory.{HasRoom}
+use Rattle.slot_store.specs.Memory.{HasPlanRoom}
 use Rattle.slot_store.specs.Opened.{IsOpened}
-use Rattle.slot_store.specs.Pager.{seen}
-use Rattle.slot_store.specs.Reading.{IsLikeRead, damaged, reading}
+use Rattle.slot_store.specs.Pager.{store_seen}
+use Rattle.slot_store.specs.Reading.{IsLikeRead, damaged, area_reading}
 use Rattle.slot_store.specs.Store.{SlotStore}
 
 -- memory for a pager that has no record yet
@@ -26,17 +26,17 @@ pub record IsForStore (area : Area) (kept : Kept) (draft : Draft) : Type 0 where
   pub none : kept.len ≡ 0
   pub room : HasRoomToLoad area kept
   pub dropped : draft.plan.dropped.items ≡ []
-  pub plans : HasRoom area draft
+  pub plans : HasPlanRoom area draft
 
 -- a pager over what was read; or what was read is damaged, and nothing is called but reads
 abbrev pub IsOutcome : (List ℕ → Option ℕ) → Area → DiskState → DiskState → Outcome → Type 0
 IsOutcome fault_at area start now (Stored pager found) =
-    IsOpened fault_at area start now (seen pager) found
+    IsOpened fault_at area start now (store_seen pager) found
 IsOutcome fault_at area start now (Refused slot at) =
-    IsUntouched start now × OnSeen (λ s. reading fault_at area s ≡ damaged slot at) start
+    IsUntouched start now × OnSeen (λ s. area_reading fault_at area s ≡ damaged slot at) start
 
 -- Each crash meanwhile leaves what was read. What was read at rest stays as it is.
-pub record Opens (fault_at : List ℕ → Option ℕ) (area : Area) (start now : DiskState)
+pub record OpensStore (fault_at : List ℕ → Option ℕ) (area : Area) (start now : DiskState)
     (result : Result Outcome Call) : Type 0 where
   pub found : IfOk result (IsOutcome fault_at area start now)
   pub any_moment : Span start now (IsLikeRead area start)
@@ -44,7 +44,7 @@ pub record Opens (fault_at : List ℕ → Option ℕ) (area : Area) (start now :
   pub calls : Went itself start now result
 
 -- as callers are told
-abbrev pub answer_of : Result Outcome Call → Result (SlotStore × Found) OpenError
-answer_of (Ok (Stored pager found)) = Ok (seen pager, found)
-answer_of (Ok (Refused slot at)) = Err (Damaged slot at)
-answer_of (Err call) = Err (StoreFault call)
+abbrev pub opening_answer : Result Outcome Call → Result (SlotStore × Found) OpenError
+opening_answer (Ok (Stored pager found)) = Ok (store_seen pager, found)
+opening_answer (Ok (Refused slot at)) = Err (Damaged slot at)
+opening_answer (Err call) = Err (StoreFault call)

@@ -13,8 +13,8 @@ unfoldable pub mark : Pager → Mark
 mark pager = record { second = pager.second; turn = pager.turn; numbers = pager.kept.numbers.items }
 
 -- the pager that it is to callers
-abbrev pub seen : Pager → SlotStore
-seen pager = record { area = pager.area; mark = mark pager; content = content pager }
+abbrev pub store_seen : Pager → SlotStore
+store_seen pager = record { area = pager.area; mark = mark pager; content = content pager }
 
 -- the last put replaced a record, which retiring wipes
 unfoldable pub has_replaced : Pager → Bool

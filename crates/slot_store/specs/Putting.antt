@@ -8,12 +8,12 @@ use Rattle.record_pages.specs.Plans.{changed_places, dropped}
 use Rattle.slot_store.specs.declared.errors.StoreFault.{StoreFault}
 use Rattle.slot_store.specs.declared.pager.Pager.{Pager}
 use Rattle.slot_store.specs.Areas.{Area}
-use Rattle.slot_store.specs.Records.{recovered}
+use Rattle.slot_store.specs.Records.{stored_record}
 use Rattle.slot_store.specs.Stops.{IsStopped, retiring}
 use Rattle.slot_store.specs.Layout.{free_in, next_mark, pages_held, table_for}
-use Rattle.slot_store.specs.Pager.{Awaits, IsLaidFor, content, has_replaced, mark, seen}
+use Rattle.slot_store.specs.Pager.{Awaits, IsLaidFor, content, has_replaced, mark, store_seen}
 use Rattle.slot_store.specs.Reading.{IsUndamaged}
-use Rattle.slot_store.specs.Store.{IsOldOrNew, KeepsOutside, ReadsOutsideArea, Rests, SlotStore}
+use Rattle.slot_store.specs.Store.{IsOldOrNew, KeepsOutsideArea, ReadsOutsideArea, Rests, SlotStore}
 
 -- the call that failed
 abbrev pub call_of : StoreFault → Call
@@ -38,7 +38,7 @@ pub record IsNext (old new : SlotStore) (text : List ℕ) : Type 0 where
 
 -- a pager in whose memory a text has taken the place of the record
 pub record IsStaged (old new : Pager) (text : List ℕ) : Type 0 where
-  pub next : IsNext (seen old) (seen new) text
+  pub next : IsNext (store_seen old) (store_seen new) text
   pub holds : content new ≡ Some text
   pub replaced : has_replaced new ≡ is_some (content old)
   -- what is to be written, and what is to be wiped
@@ -50,16 +50,16 @@ pub record IsStaged (old new : Pager) (text : List ℕ) : Type 0 where
 
 -- each image has the text, which was put and not yet retired
 abbrev pub HasPut : Pager → Pager → List ℕ → DiskState → List ℕ → Type 0
-HasPut old new text start c = Awaits new c × (recovered new.area c ≡ Some text) × KeepsOutside old.area start c
+HasPut old new text start c = Awaits new c × (stored_record new.area c ≡ Some text) × KeepsOutsideArea old.area start c
 
 -- the pager's record, at rest
 abbrev pub HasRested : Pager → Pager → DiskState → List ℕ → Type 0
-HasRested old new start c = IsLaidFor new c × (recovered new.area c ≡ content new) × KeepsOutside old.area start c
+HasRested old new start c = IsLaidFor new c × (stored_record new.area c ≡ content new) × KeepsOutsideArea old.area start c
 
 -- the pager's record, read without damage
 abbrev pub KeepsRecord : Pager → DiskState → List ℕ → Type 0
-KeepsRecord pager start c = (recovered pager.area c ≡ content pager) × KeepsOutside pager.area start c × IsUndamaged pager.area c
+KeepsRecord pager start c = (stored_record pager.area c ≡ content pager) × KeepsOutsideArea pager.area start c × IsUndamaged pager.area c
 
 -- each image has the text, at rest
 abbrev pub HasReplaced : SlotStore → SlotStore → List ℕ → DiskState → List ℕ → Type 0
-HasReplaced old new text start c = Rests new c × (recovered new.area c ≡ Some text) × KeepsOutside old.area start c
+HasReplaced old new text start c = Rests new c × (stored_record new.area c ≡ Some text) × KeepsOutsideArea old.area start c

@@ -15,15 +15,15 @@ faultless None text = Some text
 faultless (Some at) text = None
 
 -- of the newer open table, where it names pages of the area
-abbrev pub shown : Area → Shot → Option (List ℕ)
-shown area no_shot = None
-shown area unclear = None
-shown area (shot s) = faultless (table_fault area.pages area.most s.table.body) (record_in s.table.body s.pages)
+abbrev pub record_shown : Area → Shot → Option (List ℕ)
+record_shown area no_shot = None
+record_shown area unclear = None
+record_shown area (shot s) = faultless (table_fault area.pages area.most s.table.body) (record_in s.table.body s.pages)
 
 -- which table counts, with its pages
 abbrev pub shot_in : Area → List ℕ → Shot
 shot_in area c = snapshot record_names (layout_of area) c
 
 -- the record that these bytes stand for
-unfoldable pub recovered : Area → List ℕ → Option (List ℕ)
-recovered area c = shown area (shot_in area c)
+unfoldable pub stored_record : Area → List ℕ → Option (List ℕ)
+stored_record area c = record_shown area (shot_in area c)

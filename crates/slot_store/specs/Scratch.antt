@@ -5,8 +5,8 @@ use Rattle.slot_store.specs.declared.scratch.Scratch.{Scratch}
 use Rattle.dr_disk.specs.State.{DiskState}
 use Rattle.slot_store.specs.Areas.{Area}
 use Rattle.slot_store.specs.Judged.{table_with}
-use Rattle.slot_store.specs.Settling.{AreRead}
-use Rattle.slot_store.specs.Store.{IsWithin}
+use Rattle.slot_store.specs.Settling.{AreTablesRead}
+use Rattle.slot_store.specs.Store.{HasArea}
 
 -- for both tables and a page, with no page marked
 pub record IsScratch (area : Area) (scratch : Scratch) : Type 0 where
@@ -18,7 +18,7 @@ pub record IsScratch (area : Area) (scratch : Scratch) : Type 0 where
 -- both tables of an area were read into it, with these gates
 pub record HasTables (area : Area) (first_gate second_gate : ℕ) (scratch : Scratch)
     (disk : DiskState) : Type 0 where
-  pub within : IsWithin area disk
+  pub within : HasArea area disk
   pub room : IsScratch area scratch
-  pub read : AreRead area (table_with first_gate scratch.first.items)
+  pub read : AreTablesRead area (table_with first_gate scratch.first.items)
       (table_with second_gate scratch.second.items) disk

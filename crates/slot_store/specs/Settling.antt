@@ -13,15 +13,15 @@ use Rattle.slot_store.specs.Layout.{laid}
 use Rattle.slot_store.specs.Reading.{IsLikeRead}
 use Rattle.slot_store.specs.Records.{shot_in}
 use Rattle.slot_store.specs.Pager.{IsLaidFor, content, mark}
-use Rattle.slot_store.specs.Store.{IsWithin}
+use Rattle.slot_store.specs.Store.{HasArea}
 
 -- a disk that has the area, and on which a crash leaves what a read gives
-pub record IsReady (area : Area) (disk : DiskState) : Type 0 where
-  pub within : IsWithin area disk
+pub record IsSettledArea (area : Area) (disk : DiskState) : Type 0 where
+  pub within : HasArea area disk
   pub settled : IsSettled disk
 
 -- both tables as they were read
-pub record AreRead (area : Area) (first second : Table) (disk : DiskState) : Type 0 where
+pub record AreTablesRead (area : Area) (first second : Table) (disk : DiskState) : Type 0 where
   pub first_is : OnSeen (λ s. table_at (layout_of area) false s ≡ first) disk
   pub second_is : OnSeen (λ s. table_at (layout_of area) true s ≡ second) disk
 
@@ -36,12 +36,12 @@ HasShot pager s = shot_in pager.area s ≡ kept_shot (laid (mark pager) (content
 -- All but the pager's record may be wiped: that is what counts, and a crash leaves what a read
 -- gives.
 pub record MaySettle (pager : Pager) (disk : DiskState) : Type 0 where
-  pub ready : IsReady pager.area disk
+  pub ready : IsSettledArea pager.area disk
   pub shown : OnSeen (HasShot pager) disk
 
 -- what a read gives is at rest for the pager
-abbrev pub IsReadAs : Pager → DiskState → Type 0
-IsReadAs pager disk = (s : List ℕ) × (disk.seen ≡ Some s) × IsLaidFor pager s
+abbrev pub IsAtRestAsRead : Pager → DiskState → Type 0
+IsAtRestAsRead pager disk = (s : List ℕ) × (disk.seen ≡ Some s) × IsLaidFor pager s
 
 -- Each crash meanwhile leaves what was read. Where no call failed a crash then leaves what a read
 -- gives, and the pager rests on it. Where it rested on what was read nothing is called but reads.
@@ -51,4 +51,4 @@ pub record Settles {T : Type 0} (pager : Pager) (start now : DiskState)
   pub done : OnOk result (Always (RestsAsRead pager.area start pager) now)
   pub settled : OnOk result (IsSettled now)
   pub calls : Went itself start now result
-  pub still : IsReadAs pager start → IsUntouched start now
+  pub still : IsAtRestAsRead pager start → IsUntouched start now

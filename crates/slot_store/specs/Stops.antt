@@ -2,11 +2,11 @@
 use Rattle.std.specs.Prelude.{◌≡◌, ℕ, ◌+◌, ◌-◌, Bool, true, false, List, length, Option, Some, is_some, if◌then◌else◌}
 use Rattle.dr_disk.specs.declared.call.Mode.{Mode}
 use Rattle.dr_disk.specs.State.{DiskState}
-use Rattle.pages.specs.Stops.{puts, retires, shows as page_shows, took as page_took}
+use Rattle.pages.specs.Stops.{puts, retires, put_shows as page_shows, put_took as page_took}
 use Rattle.record_pages.specs.Plans.{changed}
 use Rattle.slot_store.specs.Areas.{Area}
 use Rattle.slot_store.specs.Layout.{pages_held}
-use Rattle.slot_store.specs.Records.{recovered}
+use Rattle.slot_store.specs.Records.{stored_record}
 
 -- c, the pages that are written: those of the new record that the old one doesn't have at their place
 unfoldable pub writes_of : Option (List ℕ) → Option (List ℕ) → ℕ
@@ -40,6 +40,6 @@ shows old new n = page_shows (writes_of old new) n
 -- After a call that failed while a record was being replaced: what a crash leaves, and what a read gives.
 pub record IsStopped (area : Area) (old new : Option (List ℕ)) (start now : DiskState) : Type 0 where
   pub crash : (l m : ℕ) (mode : Mode) (c : List ℕ) → start.passed ≡ Some l → now.passed ≡ Some m → now.leaves mode ≡ Some c
-      → recovered area c ≡ (if took old new (m - l) mode then new else old)
+      → stored_record area c ≡ (if took old new (m - l) mode then new else old)
   pub read : start.keeps ≡ true → (l m : ℕ) (s : List ℕ) → start.passed ≡ Some l → now.passed ≡ Some m → now.seen ≡ Some s
-      → recovered area s ≡ (if shows old new (m - l) then new else old)
+      → stored_record area s ≡ (if shows old new (m - l) then new else old)

@@ -13,7 +13,7 @@ ghost use Rattle.slot_store.specs.Pager.{content};
 ghost use Rattle.slot_store.specs.Reading.{reading_of};
 ghost use Rattle.slot_store.specs.Reports.{IsReport, finding_of, gate_of};
 ghost use Rattle.slot_store.specs.Scratch.{HasTables};
-ghost use Rattle.slot_store.specs.Store.{IsWithin};
+ghost use Rattle.slot_store.specs.Store.{HasArea};
 
 use crate::area::Area;
 use crate::draft::Draft;
@@ -103,7 +103,7 @@ pub fn inspect<G: Grammar, D: Disk>(
     disk: &mut D,
     area: Area,
 ) -> Result<Report, InspectError>
-    requires { IsWithin area (D.state disk.old) }
+    requires { HasArea area (D.state disk.old) }
 
     // The report is a function of the bytes that a read gives.
     ensures report { IfOk result (λ report. OnSeen (IsReport G.fault_at area report)

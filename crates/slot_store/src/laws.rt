@@ -1,6 +1,6 @@
 //! The laws of the words that callers see. The functions have no code.
 
-ghost use Rattle.slot_store.specs.Laws.{IsLocal, IsRead, IsResting};
+ghost use Rattle.slot_store.specs.Laws.{DependsOnAreaAlone, IsRead, IsResting};
 
 /// At rest an area has its store's record, and its bytes are a function of the record and the mark.
 pub fn resting()
@@ -9,7 +9,7 @@ pub fn resting()
 
 /// A store speaks of the bytes of its area alone.
 pub fn locality()
-    ensures { IsLocal }
+    ensures { DependsOnAreaAlone }
 {}
 
 /// What bytes are read as without damage is what they stand for.

@@ -4,7 +4,7 @@ ghost use Rattle.std.specs.Prelude.{◌≡◌, ◌≤◌, ◌+◌, ◌*◌, leng
 ghost use Rattle.dr_base.specs.declared.limits.TheConstants.{PAGE};
 ghost use Rattle.dr_disk.specs.State.{OnSeen};
 ghost use Rattle.pages.specs.Layouts.{IsSound};
-ghost use Rattle.pages.specs.Runs.{Looks};
+ghost use Rattle.pages.specs.Runs.{ReadsAlone};
 ghost use Rattle.pages.specs.Snapshots.{page_of};
 ghost use Rattle.pages.specs.Writing.{ArePages};
 ghost use Rattle.record_pages.specs.Pages.{cut};
@@ -13,7 +13,7 @@ ghost use Rattle.slot_store.specs.Areas.{layout_of};
 ghost use Rattle.slot_store.specs.Finds.{Finds};
 ghost use Rattle.slot_store.specs.Loading.{HasRoomToLoad, IsLoaded, IsNamedRecord};
 ghost use Rattle.slot_store.specs.Reading.{behind_table};
-ghost use Rattle.slot_store.specs.Store.{IsWithin};
+ghost use Rattle.slot_store.specs.Store.{HasArea};
 
 use crate::area::{Area, layout, page_total, record_most};
 use crate::grammar::Grammar;
@@ -44,7 +44,7 @@ fn read_pages<D: Disk>(
     ensures pages { OnOk result (OnSeen (λ s. cut (length numbers.now) bytes.new
         ≡ map (page_of (layout_of area) s) numbers.now) (D.state disk.old)) }
     ensures long { length bytes.new ≡ length bytes.old }
-    ensures looks { Looks (D.state disk.old) (D.state disk.new) result }
+    ensures looks { ReadsAlone (D.state disk.old) (D.state disk.new) result }
 {
     let layout = layout(area);
     'pages: for i in 0..numbers.len() {
@@ -81,7 +81,7 @@ pub(crate) fn load<G: Grammar, D: Disk>(
     kept: Kept,
     body: &[u8],
 ) -> Result<Loaded, Call>
-    requires within { IsWithin area (D.state disk.old) }
+    requires within { HasArea area (D.state disk.old) }
     requires none { kept.len ≡ 0 }
     requires room { HasRoomToLoad area kept }
     requires long { length body.now + 1 ≡ PAGE }

@@ -3,16 +3,16 @@
 ghost use Rattle.std.specs.Prelude.{◌≡◌, ◌≤◌, ◌+◌, [], None, true, length};
 ghost use Rattle.dr_base.specs.declared.limits.TheConstants.{PAGE};
 ghost use Rattle.dr_disk.specs.State.{OnSeen};
-ghost use Rattle.pages.specs.Tables.{counts, is_open, open_table, standing};
+ghost use Rattle.pages.specs.Tables.{counts, is_open, open_table, tables_standing};
 ghost use Rattle.record_pages.specs.Tables.{entry_fault};
 ghost use Rattle.slot_store.specs.Areas.{layout_of};
 ghost use Rattle.slot_store.specs.Finds.{Finds};
 ghost use Rattle.slot_store.specs.Loading.{HasRoomToLoad};
 ghost use Rattle.slot_store.specs.Locating.{IsLocated};
-ghost use Rattle.slot_store.specs.Memory.{HasRoom};
+ghost use Rattle.slot_store.specs.Memory.{HasPlanRoom};
 ghost use Rattle.slot_store.specs.Outcome.{IsForStore};
 ghost use Rattle.slot_store.specs.Scratch.{HasTables};
-ghost use Rattle.slot_store.specs.Store.{IsWithin};
+ghost use Rattle.slot_store.specs.Store.{HasArea};
 
 use crate::area::{Area, record_most};
 use crate::draft::Draft;
@@ -39,7 +39,7 @@ fn pager_of(area: Area, second: bool, turn: u8, kept: Kept, draft: Draft) -> Pag
     requires room { HasRoomToLoad area kept }
     requires entries { entry_fault area.pages [] 6 kept.numbers.items ≡ None }
     requires dropped { draft.plan.dropped.items ≡ [] }
-    requires plans { HasRoom area draft }
+    requires plans { HasPlanRoom area draft }
     ensures area { result.area ≡ area }
     ensures second { result.second ≡ second }
     ensures turn { result.turn ≡ turn }
@@ -65,11 +65,11 @@ fn locate_newer<G: Grammar, D: Disk>(
     second: bool,
     body: &[u8],
 ) -> Result<Located, Call>
-    requires within { IsWithin area (D.state disk.old) }
+    requires within { HasArea area (D.state disk.old) }
     requires memory { IsForStore area kept draft }
     requires long { length body.now + 1 ≡ PAGE }
     requires opened { is_open (open_table body.now) ≡ true }
-    requires counts { OnSeen (λ s. standing (layout_of area) s
+    requires counts { OnSeen (λ s. tables_standing (layout_of area) s
         ≡ counts second (open_table body.now)) (D.state disk.old) }
     ensures { Finds (IsLocated G.fault_at area) (D.state disk.old) (D.state disk.new) result }
 {

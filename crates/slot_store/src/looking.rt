@@ -12,7 +12,7 @@ ghost use Rattle.slot_store.specs.Judged.{table_with};
 ghost use Rattle.slot_store.specs.Pager.{IsLaidFor};
 ghost use Rattle.slot_store.specs.Scratch.{HasTables};
 ghost use Rattle.slot_store.specs.Settling.{HasShot};
-ghost use Rattle.slot_store.specs.Store.{IsWithin};
+ghost use Rattle.slot_store.specs.Store.{HasArea};
 
 use crate::area::layout;
 use crate::pager::Pager;
@@ -47,7 +47,7 @@ fn others_blank<D: Disk>(
     named: &mut [bool],
     page: &mut [u8],
 ) -> Result<bool, Call>
-    requires within { IsWithin pager.now.area (D.state disk.old) }
+    requires within { HasArea pager.now.area (D.state disk.old) }
     requires marks { named.old ≡ replicate pager.now.area.pages false }
     requires room { length page.old ≡ PAGE }
     ensures marks { (n : ℕ) → get_or named.new n false

@@ -7,9 +7,9 @@ ghost use Rattle.dr_disk.specs.State.{Fate, OnSeen};
 ghost use Rattle.dr_disk.specs.Spans.{FailsLater, IsQuiet, Span};
 ghost use Rattle.slot_store.specs.Reading.{IsEntryOrLike, IsLikeRead};
 ghost use Rattle.slot_store.specs.AtRest.{IsLeft, IsReadAtRest};
-ghost use Rattle.slot_store.specs.Outcome.{IsForStore, answer_of};
+ghost use Rattle.slot_store.specs.Outcome.{IsForStore, opening_answer};
 ghost use Rattle.slot_store.specs.Scratch.{IsScratch};
-ghost use Rattle.slot_store.specs.Store.{IsWithin};
+ghost use Rattle.slot_store.specs.Store.{HasArea};
 
 use crate::area::Area;
 use crate::draft::Draft;
@@ -46,7 +46,7 @@ pub(crate) fn take_memory(alloc: Global, area: Area) -> Result<(Kept, Draft, Scr
 
 /// What callers are told.
 fn answer(outcome: Result<Outcome, Call>) -> Result<(SlotStore, Found), OpenError>
-    ensures { result ≡ answer_of outcome }
+    ensures { result ≡ opening_answer outcome }
 {
     match outcome {
         Ok(Outcome::Stored { pager, found }) => Ok((SlotStore { pager }, found)),
@@ -66,7 +66,7 @@ impl SlotStore {
         disk: &mut D,
         area: Area,
     ) -> Result<(SlotStore, Found), OpenError>
-        requires { IsWithin area (D.state disk.old) }
+        requires { HasArea area (D.state disk.old) }
 
         // What was read. Meanwhile, and in each ending, crashes and reads give what they gave, but
         // for what was tidied.

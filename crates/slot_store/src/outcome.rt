@@ -3,7 +3,7 @@
 ghost use Rattle.std.specs.Prelude.{◌≡◌, is_some};
 ghost use Rattle.dr_disk.specs.State.{IsSettled};
 ghost use Rattle.slot_store.specs.Found.{has_content};
-ghost use Rattle.slot_store.specs.Outcome.{IsForStore, Opens};
+ghost use Rattle.slot_store.specs.Outcome.{IsForStore, OpensStore};
 ghost use Rattle.slot_store.specs.Pager.{content};
 ghost use Rattle.slot_store.specs.Scratch.{HasTables};
 ghost use Rattle.slot_store.specs.Settling.{MaySettle, Settles};
@@ -89,7 +89,7 @@ pub(crate) fn open_read<G: Grammar, D: Disk>(
     requires settled { IsSettled (D.state disk.old) }
     requires memory { IsForStore area kept draft }
     requires tables { HasTables area first_gate second_gate scratch.old (D.state disk.old) }
-    ensures { Opens G.fault_at area (D.state disk.old) (D.state disk.new) result }
+    ensures { OpensStore G.fault_at area (D.state disk.old) (D.state disk.new) result }
 {
     let pager = match locate::<G, D>(disk, area, kept, draft, first_gate, second_gate, scratch) {
         Ok(Located::Held { pager }) => pager,

@@ -9,7 +9,7 @@ ghost use Rattle.dr_disk.specs.Spans.{Span};
 ghost use Rattle.dr_disk.specs.Called.{Called};
 ghost use Rattle.record_pages.specs.Tables.{entry_fault};
 ghost use Rattle.slot_store.specs.Areas.{HasRecordRoom, HasText, IsArea};
-ghost use Rattle.slot_store.specs.Memory.{HasRoom};
+ghost use Rattle.slot_store.specs.Memory.{HasPlanRoom};
 ghost use Rattle.slot_store.specs.Stops.{putting};
 
 use crate::area::{Area, layout};
@@ -42,12 +42,12 @@ pub(crate) struct Pager {
     ghost entries: { entry_fault area.pages [] 6 kept.numbers.items ≡ None },
     ghost numbers: { area.most ≤ vec_capacity kept.numbers },
     ghost drops: { entry_fault area.pages [] 6 draft.plan.dropped.items ≡ None },
-    ghost room: { HasRoom area draft },
+    ghost room: { HasPlanRoom area draft },
 }
 
 impl Pager {
     ghost use Rattle.slot_store.specs.Pager.{content, IsLaidFor, Awaits};
-    ghost use Rattle.slot_store.specs.Store.{IsWithin, ReadsOutsideArea};
+    ghost use Rattle.slot_store.specs.Store.{HasArea, ReadsOutsideArea};
     ghost use Rattle.slot_store.specs.Putting.{HasPut, HasRested, IsStaged, KeepsRecord, Replaces, call_of, retire_calls};
     ghost use Rattle.slot_store.specs.Kept.{content_or_empty};
 
@@ -82,7 +82,7 @@ impl Pager {
         len: usize,
     ) -> Result<(), StoreFault>
         requires text { HasText self.old.area text.old.items len }
-        requires within { IsWithin self.old.area (D.state disk.old) }
+        requires within { HasArea self.old.area (D.state disk.old) }
         requires at_rest { Always (IsLaidFor self.old) (D.state disk.old) }
 
         // Each crash meanwhile leaves the old record or the new, and after a call that failed it is
@@ -122,7 +122,7 @@ impl Pager {
     /// Closes the gate of the table whose record was replaced, if there is one, and wipes it and
     /// the pages that it alone names.
     pub(crate) fn retire<D: Disk>(&mut self, disk: &mut D) -> Result<(), StoreFault>
-        requires within { IsWithin self.old.area (D.state disk.old) }
+        requires within { HasArea self.old.area (D.state disk.old) }
         requires awaits { Always (Awaits self.old) (D.state disk.old) }
 
         // Each crash meanwhile leaves the record, read without damage; once it is done, the area is

@@ -6,7 +6,7 @@ ghost use Rattle.record_pages.specs.Pages.{pages_in};
 ghost use Rattle.record_pages.specs.Plans.{changed_places, dropped, numbered};
 ghost use Rattle.record_pages.specs.Tables.{entry_fault};
 ghost use Rattle.slot_store.specs.Areas.{HasRecordRoom, HasText};
-ghost use Rattle.slot_store.specs.Memory.{HasRoom};
+ghost use Rattle.slot_store.specs.Memory.{HasPlanRoom};
 ghost use Rattle.slot_store.specs.Layout.{free_in};
 
 use crate::area::{Area, page_total, record_most};
@@ -19,7 +19,7 @@ use std::alloc::{AllocError, Global};
 /// An empty plan, with room for those of an area.
 pub(crate) fn take_draft(alloc: Global, area: Area) -> Result<Draft, AllocError>
     ensures dropped { IfOk result (λ draft. draft.plan.dropped.items ≡ []) }
-    ensures room { IfOk result (HasRoom area) }
+    ensures room { IfOk result (HasPlanRoom area) }
 {
     let most = record_most(area) as usize;
     let total = page_total(area) as usize;
@@ -40,7 +40,7 @@ pub(crate) fn replan(area: Area, kept: &mut Kept, draft: &mut Draft, text: &mut 
     requires long { length kept.old.bytes.items ≡ PAGE * area.most }
     requires entries { entry_fault area.pages [] 6 kept.old.numbers.items ≡ None }
     requires numbers { area.most ≤ vec_capacity kept.old.numbers }
-    requires room { HasRoom area draft.old }
+    requires room { HasPlanRoom area draft.old }
 
     // The record in memory.
     ensures len { kept.new.len ≡ len }
@@ -64,7 +64,7 @@ pub(crate) fn replan(area: Area, kept: &mut Kept, draft: &mut Draft, text: &mut 
         ≡ dropped (pages_in (take kept.old.len kept.old.bytes.items)) kept.old.numbers.items
         (pages_in (take len text.old.items)) }
     ensures drops { entry_fault area.pages [] 6 draft.new.plan.dropped.items ≡ None }
-    ensures room { HasRoom area draft.new }
+    ensures room { HasPlanRoom area draft.new }
 {
     let total = page_total(area);
     fill_free(&kept.numbers, 2, total, &mut draft.free);

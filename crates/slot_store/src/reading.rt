@@ -13,7 +13,7 @@ ghost use Rattle.slot_store.specs.Areas.{layout_of};
 ghost use Rattle.slot_store.specs.Finds.{Finds};
 ghost use Rattle.slot_store.specs.Judged.{table_with};
 ghost use Rattle.slot_store.specs.Scratch.{HasTables, IsScratch};
-ghost use Rattle.slot_store.specs.Store.{IsWithin};
+ghost use Rattle.slot_store.specs.Store.{HasArea};
 
 use crate::area::{Area, layout};
 use crate::scratch::Scratch;
@@ -35,7 +35,7 @@ fn read_table<D: Disk>(
     second: bool,
     body: &mut Vec<u8>,
 ) -> Result<u8, Call>
-    requires within { IsWithin area (D.state disk.old) }
+    requires within { HasArea area (D.state disk.old) }
     requires long { length body.old.items + 1 ≡ PAGE }
     ensures table { Finds (λ disk gate. OnSeen (λ s. table_at (layout_of area) second s
         ≡ table_with gate body.new.items) disk) (D.state disk.old) (D.state disk.new) result }
@@ -69,7 +69,7 @@ pub(crate) fn read_tables<D: Disk>(
     area: Area,
     scratch: &mut Scratch,
 ) -> Result<(u8, u8), Call>
-    requires within { IsWithin area (D.state disk.old) }
+    requires within { HasArea area (D.state disk.old) }
     requires scratch { IsScratch area scratch.old }
     ensures { Finds (λ disk gates. HasTables area gates.0 gates.1 scratch.new disk)
         (D.state disk.old) (D.state disk.new) result }
@@ -90,7 +90,7 @@ pub(crate) fn settle_and_read<D: Disk>(
     area: Area,
     scratch: &mut Scratch,
 ) -> Result<(u8, u8), Call>
-    requires within { IsWithin area (D.state disk.old) }
+    requires within { HasArea area (D.state disk.old) }
     requires scratch { IsScratch area scratch.old }
     ensures tables { IfOk result (λ gates. HasTables area gates.0 gates.1 scratch.new
         (D.state disk.new)) }

@@ -12,7 +12,7 @@ ghost use Rattle.record_pages.specs.Plans.{is_among};
 ghost use Rattle.record_pages.specs.Tables.{record_names};
 ghost use Rattle.slot_store.specs.Areas.{layout_of};
 ghost use Rattle.slot_store.specs.Judged.{table_with};
-ghost use Rattle.slot_store.specs.Settling.{AreRead, IsReady, MaySettle, Settles};
+ghost use Rattle.slot_store.specs.Settling.{AreTablesRead, IsSettledArea, MaySettle, Settles};
 
 use crate::area::{Area, layout};
 use crate::pager::Pager;
@@ -45,7 +45,7 @@ fn wipe_table<D: Disk>(
     page: &mut [u8],
     zeros: &[u8],
 ) -> Result<(), Call>
-    requires ready { IsReady area (D.state disk.old) }
+    requires ready { IsSettledArea area (D.state disk.old) }
     requires long { length body.now + 1 ≡ PAGE }
     requires marks { length named.now ≡ area.pages }
     requires room { length page.old ≡ PAGE }
@@ -131,7 +131,7 @@ pub(crate) fn settle_empty<D: Disk>(
     requires second_long { length second.now + 1 ≡ PAGE }
     requires marks { named.now ≡ replicate pager.now.area.pages false }
     requires room { length page.old ≡ PAGE }
-    requires read { AreRead pager.now.area (table_with first_gate first.now)
+    requires read { AreTablesRead pager.now.area (table_with first_gate first.now)
         (table_with second_gate second.now) (D.state disk.old) }
     ensures { Settles pager.now (D.state disk.old) (D.state disk.new) result }
 {

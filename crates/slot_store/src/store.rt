@@ -19,18 +19,18 @@ pub struct SlotStore {
 }
 
 impl Model for SlotStore {
-    ghost use Rattle.slot_store.specs.Pager.{seen};
+    ghost use Rattle.slot_store.specs.Pager.{store_seen};
     ghost use Rattle.slot_store.specs.Store.{SlotStore as Stored};
 
     ghost Value = { Stored };
 
-    ghost view = { λ s. seen s.pager };
+    ghost view = { λ s. store_seen s.pager };
 }
 
 impl SlotStore {
     ghost use Rattle.slot_store.specs.Kept.{content_or_empty};
     ghost use Rattle.slot_store.specs.Putting.{HasReplaced, IsNext, Replaces, call_of};
-    ghost use Rattle.slot_store.specs.Store.{content, Rests, IsWithin};
+    ghost use Rattle.slot_store.specs.Store.{content, Rests, HasArea};
 
     /// The record that was opened or put last; empty where there is none.
     pub fn content(&self) -> &[u8]
@@ -49,7 +49,7 @@ impl SlotStore {
         len: usize,
     ) -> Result<(), StoreFault>
         requires text { HasText self.old.area text.old.items len }
-        requires within { IsWithin self.old.area (D.state disk.old) }
+        requires within { HasArea self.old.area (D.state disk.old) }
         requires at_rest { Always (Rests self.old) (D.state disk.old) }
 
         // Each crash meanwhile leaves the old record or the new, and after a call that failed it is

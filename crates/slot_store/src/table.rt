@@ -1,8 +1,8 @@
 //! The table of a record, as the pages of a disk know it.
 
 ghost use Rattle.std.specs.Prelude.{◌≡◌, ◌≤◌};
-ghost use Rattle.pages.specs.Tables.{next_turn};
-ghost use Rattle.slot_store.specs.Reading.{number_of};
+ghost use Rattle.pages.specs.Tables.{turn_after};
+ghost use Rattle.slot_store.specs.Reading.{table_number};
 
 use pages::Directory;
 
@@ -18,7 +18,7 @@ impl Directory for RecordTable {
 /// The turn that follows.
 pub(crate) fn next(turn: u8) -> u8
     requires { turn ≤ 3 }
-    ensures next { result ≡ next_turn turn }
+    ensures next { result ≡ turn_after turn }
     ensures low { 1 ≤ result }
     ensures high { result ≤ 3 }
 {
@@ -27,7 +27,7 @@ pub(crate) fn next(turn: u8) -> u8
 
 /// The number of a table.
 pub(crate) fn number(second: bool) -> u32
-    ensures { result ≡ number_of second }
+    ensures { result ≡ table_number second }
 {
     if second { 1 } else { 0 }
 }

@@ -3,8 +3,8 @@ use Rattle.std.proofs.Common.{◌≡◌, ℕ, ◌+◌, ◌==◌, Bool, true, fal
 use Rattle.std.specs.Prelude.{if◌then◌else◌}
 use Rattle.relay_wire.specs.Requests.{Asked, fetches, acks}
 use Rattle.relay_wire.specs.Replies.{Replied, stored, item, empty, acked, box_full, unknown, absent, bad}
-use Rattle.sync_model.specs.Parties.{Act, Party, Took, taking}
-use Rattle.sync_model.specs.Moves.{Move, Wait, fetching, acking, posting, over, inbox_full, wrong, asked_in, asked_of, goes, took_by, acknowledged, stored_by, move, waits_by}
+use Rattle.sync_model.specs.Parties.{SideAct, Party, TookPacket, taking}
+use Rattle.sync_model.specs.Moves.{Move, Wait, fetching, acking, posting, over, inbox_full, wrong, asked_in, posting_of, goes, took_by, acknowledged, stored_by, move, waits_by}
 use Rattle.sync_model.specs.Courses.{Course, begun, read_one, course_from, course_of, as_list}
 use Rattle.sync_model.specs.Simulation.{AreAlike, AreFairFrom, IsFairReply, IsSameCourse, TookAlike}
 use Rattle.sync_model.specs.declared.limits.TheConstants.{ITEM_LIMIT}
@@ -38,7 +38,7 @@ module _ {S T : Type 0} (p : Party S) (q : Party T) (Alike : S → T → Type 0)
   absent_alike s t n alike true = acknowledged_alike s t n alike
   absent_alike s t n alike false = stays s t _ _ alike refl
 
-  took_alike : (s : S) (t : T) (n number : ℕ) (packet : List ℕ) (one : Took S) (other : Took T) → Alike s t → TookAlike Alike one other
+  took_alike : (s : S) (t : T) (n number : ℕ) (packet : List ℕ) (one : TookPacket S) (other : TookPacket T) → Alike s t → TookAlike Alike one other
       → SameMove Alike (took_by p s n number packet one) (took_by q t n number packet other)
   took_alike s t n number packet one other alike took = by_room one.full other.full took.full
     where
@@ -92,7 +92,7 @@ module _ {S T : Type 0} (p : Party S) (q : Party T) (Alike : S → T → Type 0)
   pub asked_alike : (s : S) (t : T) (wait : Wait) → Alike s t → asked_in p s wait ≡ asked_in q t wait
   asked_alike s t (fetching n) alike = ap (λ (name : List ℕ). Some (record { name = name; ask = fetches })) are.own
   asked_alike s t (acking n number) alike = ap (λ (name : List ℕ). Some (record { name = name; ask = acks number })) are.own
-  asked_alike s t (posting which) alike = ap₂ asked_of are.peers (are.outbox s t alike)
+  asked_alike s t (posting which) alike = ap₂ posting_of are.peers (are.outbox s t alike)
   asked_alike s t (over ending) alike = refl
 
   pub read_alike : (c : Course S) (d : Course T) (reply : Replied) → IsSameCourse Alike c d → IsFairReply Fair d.state d.wait reply → IsSameCourse Alike (read_one p c reply) (read_one q d reply)
@@ -102,7 +102,7 @@ module _ {S T : Type 0} (p : Party S) (q : Party T) (Alike : S → T → Type 0)
       let asked : asked_in p c.state c.wait ≡ asked_in q d.state d.wait = ap (asked_in p c.state) same.wait ∙ asked_alike c.state d.state d.wait same.state in
       record {
         state = moves.state;
-        acts = ap₂ (λ (a b : List Act). a ++ b) same.acts moves.acts;
+        acts = ap₂ (λ (a b : List SideAct). a ++ b) same.acts moves.acts;
         lines = ap₂ (λ (a b : List ℕ). a ++ b) same.lines moves.lines;
         requests = ap₂ (λ (a b : List Asked). a ++ b) same.requests (ap as_list asked);
         wait = moves.wait;

@@ -4,9 +4,9 @@ use Rattle.std.specs.Prelude.{⊤, if◌then◌else◌}
 use Rattle.std.proofs.lemmas.Bool.Decides.{nat_tests}
 use Rattle.relay_wire.specs.Requests.{Asking, posts, fetches, acks, Asked}
 use Rattle.relay_wire.specs.Replies.{Replied, stored, item, empty, acked, box_full, unknown, absent, bad}
-use Rattle.relay_core.specs.Boxes.{Kept, Box, answer_of, answers_of, becomes, behind, has_number, is_full, is_named, of_first, oldest, stays, with_packet, without}
-use Rattle.sync_model.specs.Parties.{Party, Took, taking}
-use Rattle.sync_model.specs.Moves.{Move, Wait, Ending, ended, inbox_full, box_is_full, no_such_box, wrong, fetching, acking, posting, over, acknowledged, asked_in, asked_of, goes, move, took_by, waits_by}
+use Rattle.relay_core.specs.Boxes.{Kept, Box, answer_of, answers_of, becomes, after_box, has_number, is_full, is_named, of_first, oldest, stays, with_packet, without_number}
+use Rattle.sync_model.specs.Parties.{Party, TookPacket, taking}
+use Rattle.sync_model.specs.Moves.{Move, Wait, Ending, ended, inbox_full, box_is_full, no_such_box, wrong, fetching, acking, posting, over, acknowledged, asked_in, posting_of, goes, move, took_by, waits_by}
 use Rattle.sync_model.specs.Transfers.{Meeting, answered, begins, meets, meet_times}
 use Rattle.sync_model.specs.declared.limits.TheConstants.{ITEM_LIMIT}
 use Rattle.sync_model.specs.declared.more.More.{More}
@@ -37,7 +37,7 @@ box_replies box (posts packet) = by_test (is_full box)
 box_replies box fetches = oldest_replies box.packets
 box_replies box (acks number) = by_test (has_number number box.packets)
   where
-    by_test : (test : Bool) → Replies (acks number) (if test then becomes acked (without box number) else stays (absent number) box).reply
+    by_test : (test : Bool) → Replies (acks number) (if test then becomes acked (without_number box number) else stays (absent number) box).reply
     by_test true = tt
     by_test false = refl
 
@@ -52,7 +52,7 @@ relay_answers [] asked = none_named asked.ask
 relay_answers (box ∷ boxes) asked = by_name (is_named asked.name box) (relay_answers boxes asked)
   where
     by_name : (test : Bool) → Replies asked.ask (answers_of boxes asked).reply
-        → Replies asked.ask (if test then of_first (answer_of box asked.ask) boxes else behind box (answers_of boxes asked)).reply
+        → Replies asked.ask (if test then of_first (answer_of box asked.ask) boxes else after_box box (answers_of boxes asked)).reply
     by_name true more = box_replies box asked.ask
     by_name false more = more
 
@@ -76,7 +76,7 @@ ask_is a b h = ap (λ (o : Option Asked). ask_or o) h
     ask_or None = fetches
     ask_or (Some asked) = asked.ask
 
-posts_one : (name : List ℕ) (packets : List (List ℕ)) (asked : Asked) → asked_of name packets ≡ Some asked → (packet : List ℕ) × (posts packet ≡ asked.ask)
+posts_one : (name : List ℕ) (packets : List (List ℕ)) (asked : Asked) → posting_of name packets ≡ Some asked → (packet : List ℕ) × (posts packet ≡ asked.ask)
 posts_one name [] asked is = absurd (let e : None ≡ Some asked = is in cc)
 posts_one name (packet ∷ packets) asked is = (packet, ask_is (record { name = name; ask = posts packet }) asked is)
 
@@ -88,12 +88,12 @@ module _ {S : Type 0} (p : Party S) where
       by_test true = second_right (p.outbox s) MoreStands
       by_test false = tt
 
-  abbrev took_as : S → ℕ → ℕ → List ℕ → Took S → Bool → Move S
+  abbrev took_as : S → ℕ → ℕ → List ℕ → TookPacket S → Bool → Move S
   took_as s n number packet took full =
       if full then record { state = s; acts = taking packet ∷ []; lines = []; wait = over inbox_full }
       else record { state = took.next; acts = taking packet ∷ []; lines = took.line; wait = acking n number }
 
-  took_right : (s : S) (n number : ℕ) (packet : List ℕ) (took : Took S) → IsRight (took_by p s n number packet took).wait
+  took_right : (s : S) (n number : ℕ) (packet : List ℕ) (took : TookPacket S) → IsRight (took_by p s n number packet took).wait
   took_right s n number packet took = by_test took.full
     where
       by_test : (full : Bool) → IsRight (took_as s n number packet took full).wait

@@ -12,7 +12,7 @@ use Rattle.relay_core.proofs.Lawfully.{lawful_next}
 use Rattle.sync_model.specs.Parties.{Party}
 use Rattle.sync_model.specs.Moves.{Wait, Ending, asked_in, ended, over}
 use Rattle.sync_model.specs.Courses.{as_list, course_of, made_requests}
-use Rattle.sync_model.specs.Transfers.{AreDistinct, CanTransfer, Fits, HasRoom, Meeting, StandsAt, begins, emptied, meet_times, posted, sent_all, taken_all}
+use Rattle.sync_model.specs.Transfers.{HaveOtherNumbers, CanTransfer, HasRoomForAll, HasRoom, Meeting, StandsAt, begins, emptied, meet_times, with_posts, sent_all, taken_all}
 use Rattle.sync_model.specs.Carried.{IsCarried, relay_after, request_bytes}
 use Rattle.sync_model.specs.declared.more.More.TheVariants.{End}
 use Rattle.sync_model.proofs.Carried.{meeting}
@@ -27,7 +27,7 @@ others_differ number low last [] le rises = tt
 others_differ number low last (k ∷ ks) le rises =
     ((λ same. absurd (let lt = rises.0 in omega (arith, le, lt, same))), others_differ number k.number last ks (let lt = rises.0 in omega (arith, le, lt)) rises.1)
 
-distinct : (low last : ℕ) (ks : List Kept) → Rises low last ks → AreDistinct ks
+distinct : (low last : ℕ) (ks : List Kept) → Rises low last ks → HaveOtherNumbers ks
 distinct low last [] rises = tt
 distinct low last (k ∷ ks) rises = (others_differ k.number k.number last ks (omega arith) rises.1, distinct k.number last ks rises.1)
 
@@ -105,9 +105,9 @@ module _ {S : Type 0} (p : Party S) (s : S) (boxes : List Box) (own peers : Box)
         (past_end p can.apart (emptied own) came.0 (length replies) (begins p s boxes) (taken_all p s own.packets) (p.outbox s) End peers came.1 ending over_there)
 
     -- and all of the outbox stands in the peer's box
-    pub ends_delivered : Fits (p.outbox s) peers
-        → StandsAt p final (sent_all p (length (p.outbox s)) (taken_all p s own.packets)) (over (ended End)) (emptied own) (posted peers (p.outbox s))
+    pub ends_delivered : HasRoomForAll (p.outbox s) peers
+        → StandsAt p final (sent_all p (length (p.outbox s)) (taken_all p s own.packets)) (over (ended End)) (emptied own) (with_posts peers (p.outbox s))
     ends_delivered fits =
         let came = delivers p s boxes own peers can fits in
-        subst (λ (m : Meeting S). StandsAt p m (sent_all p (length (p.outbox s)) (taken_all p s own.packets)) (over (ended End)) (emptied own) (posted peers (p.outbox s)))
+        subst (λ (m : Meeting S). StandsAt p m (sent_all p (length (p.outbox s)) (taken_all p s own.packets)) (over (ended End)) (emptied own) (with_posts peers (p.outbox s)))
         (same_end p came.0 (length replies) (begins p s boxes) (ended End) ending came.1.waits over_there ∙ met) came.1

@@ -5,7 +5,7 @@ use Rattle.relay_wire.specs.Names.{is_name, is_packet}
 use Rattle.relay_wire.specs.Requests.{Asked, IsLawfulAsked}
 use Rattle.relay_wire.specs.Replies.{Replied, IsLawfulReplied}
 use Rattle.sync_model.specs.Parties.{Party}
-use Rattle.sync_model.specs.Moves.{Move, Wait, Ending, fetching, acking, posting, over, asked_in, asked_of, move, waits_by}
+use Rattle.sync_model.specs.Moves.{Move, Wait, Ending, fetching, acking, posting, over, asked_in, posting_of, move, waits_by}
 use Rattle.sync_model.specs.Courses.{Course, as_list, awaited, begun, read_one, course_from, course_of, made_requests}
 use Rattle.sync_model.specs.declared.limits.TheConstants.{ITEM_LIMIT}
 use Rattle.sync_model.specs.declared.more.More.{More}
@@ -33,7 +33,7 @@ waits_counted size [] which count few = omega (arith, few)
 waits_counted size (packet ∷ packets) which count few = few
 
 -- the oldest packet is asked to be kept, where there is one
-one_asked : (name : List ℕ) (packets : List (List ℕ)) → length (as_list (asked_of name packets)) + length (drop 1 packets) ≡ length packets
+one_asked : (name : List ℕ) (packets : List (List ℕ)) → length (as_list (posting_of name packets)) + length (drop 1 packets) ≡ length packets
 one_asked name [] = refl
 one_asked name (packet ∷ packets) = omega arith
 
@@ -82,7 +82,7 @@ module _ {S : Type 0} (p : Party S) (drops : (t : S) → p.outbox (p.sent t) ≡
       (λ another. record { packets = is.packets; counted = (omega (arith, under, another), omega (arith, few), left) })) reply
   orderly size count s (posting which) reply lawful is =
       let one = one_asked p.peers (p.outbox s) in
-      let asked = length (as_list (asked_of p.peers (p.outbox s))) in
+      let asked = length (as_list (posting_of p.peers (p.outbox s))) in
       let few : count + asked ≤ most_of size = omega (arith, is.counted, one) in
       posted_by p s (λ m. IsOrderly size (count + asked) m.state m.wait) (λ ending. ends_orderly size (count + asked) s ending is.packets few)
       which (λ number. second_orderly size (count + asked) (p.sent s) which
@@ -91,7 +91,7 @@ module _ {S : Type 0} (p : Party S) (drops : (t : S) → p.outbox (p.sent t) ≡
 
   -- what is asked is lawful
   module _ (own : is_name p.own ≡ true) (peers : is_name p.peers ≡ true) where
-    posts_lawful : (packets : List (List ℕ)) → ArePackets packets → AllByRecursion IsLawfulAsked (as_list (asked_of p.peers packets))
+    posts_lawful : (packets : List (List ℕ)) → ArePackets packets → AllByRecursion IsLawfulAsked (as_list (posting_of p.peers packets))
     posts_lawful [] are = tt
     posts_lawful (packet ∷ packets) are = ((peers, are.0), tt)
 

@@ -3,7 +3,7 @@ use Rattle.std.proofs.Common.{◌≡◌, ◌≢◌, ℕ, ◌+◌, Bool, true, fa
 use Rattle.std.specs.Prelude.{◌==◌, if◌then◌else◌}
 use Rattle.std.proofs.lemmas.Bool.Decides.{nat_tests}
 use Rattle.relay_wire.specs.Replies.{Replied, stored, item, empty, acked, box_full, unknown, absent, bad, IsLawfulReplied}
-use Rattle.sync_model.specs.Parties.{Party, Took, taking}
+use Rattle.sync_model.specs.Parties.{Party, TookPacket, taking}
 use Rattle.sync_model.specs.Moves.{Move, Ending, fetching, acking, posting, over, inbox_full, box_is_full, no_such_box, wrong, goes, took_by, acknowledged, stored_by, move, waits_by}
 use Rattle.sync_model.specs.declared.limits.TheConstants.{ITEM_LIMIT}
 use Rattle.sync_model.specs.declared.more.More.{More}
@@ -56,7 +56,7 @@ module _ {S : Type 0} (p : Party S) (s : S) (M : Move S → Type 0) (ends : (end
   posted_by which keeps (bad kind) = ends wrong
 
   -- a packet that was taken is acknowledged, or the sync ends
-  pub taken_by : (n number : ℕ) (packet : List ℕ) (took : Took S) → M (record { state = s; acts = taking packet ∷ []; lines = []; wait = over inbox_full })
+  pub taken_by : (n number : ℕ) (packet : List ℕ) (took : TookPacket S) → M (record { state = s; acts = taking packet ∷ []; lines = []; wait = over inbox_full })
       → M (record { state = took.next; acts = taking packet ∷ []; lines = took.line; wait = acking n number }) → M (took_by p s n number packet took)
   taken_by n number packet took full room = by_test M took.full _ _ (λ is. full) (λ is. room)
 

@@ -12,8 +12,8 @@ use Rattle.relay_core.specs.declared.limits.TheConstants.{BOX_LIMIT}
 use Rattle.relay_core.proofs.Apart.{reply_own, next_own, next_other}
 use Rattle.relay_core.proofs.Names.{same_name}
 use Rattle.sync_model.specs.Parties.{Party, taking}
-use Rattle.sync_model.specs.Moves.{Move, Wait, fetching, acking, posting, over, ended, move, asked_in, asked_of, waits_by, goes, stored_by}
-use Rattle.sync_model.specs.Transfers.{AreDistinct, posted, emptied, taken_all, HasRoom, sent_all, Meeting, answered, meets, meet_times, StandsAt, Comes, CanTransfer, Fits, begins}
+use Rattle.sync_model.specs.Moves.{Move, Wait, fetching, acking, posting, over, ended, move, asked_in, posting_of, waits_by, goes, stored_by}
+use Rattle.sync_model.specs.Transfers.{HaveOtherNumbers, with_posts, emptied, taken_all, HasRoom, sent_all, Meeting, answered, meets, meet_times, StandsAt, Comes, CanTransfer, HasRoomForAll, begins}
 use Rattle.sync_model.specs.declared.limits.TheConstants.{ITEM_LIMIT}
 use Rattle.sync_model.specs.declared.more.More.TheVariants.{End}
 use Rattle.sync_model.proofs.Acknowledging.{if_false, fetched, acknowledges, posts_one}
@@ -71,7 +71,7 @@ module _ {S : Type 0} (p : Party S) (apart : bytes_eq p.own p.peers ≡ false) w
   -- ---- the first part
 
   collect : (ks : List Kept) (m : Meeting S) (s : S) (n : ℕ) (own peers : Box) → StandsAt p m s (fetching n) own peers → own.packets ≡ ks
-      → n + length ks < ITEM_LIMIT → AreDistinct ks → HasRoom p s ks
+      → n + length ks < ITEM_LIMIT → HaveOtherNumbers ks → HasRoom p s ks
       → Comes p m (taken_all p s ks) (waits_by (p.outbox (taken_all p s ks)) End) (emptied own) peers
   collect [] m s n own peers at is few distinct room =
       let answer : answer_of own fetches ≡ stays empty own = fetched own ∙ ap (λ (ks : List Kept). stays (oldest ks) own) is in
@@ -101,13 +101,13 @@ module _ {S : Type 0} (p : Party S) (apart : bytes_eq p.own p.peers ≡ false) w
 
   deliver : ((t : S) → p.outbox (p.sent t) ≡ drop 1 (p.outbox t)) → (packets : List (List ℕ)) (m : Meeting S) (s : S) (own peers : Box)
       → StandsAt p m s (waits_by packets End) own peers → p.outbox s ≡ packets → length peers.packets + length packets ≤ BOX_LIMIT → peers.last + length packets < 2 ^ 64
-      → Comes p m (sent_all p (length packets) s) (over (ended End)) own (posted peers packets)
+      → Comes p m (sent_all p (length packets) s) (over (ended End)) own (with_posts peers packets)
   deliver drops [] m s own peers at is fits below = (zero, at)
   deliver drops (packet ∷ packets) m s own peers at is fits below =
       let next : Box = with_packet peers packet in
       let stores : answer_of peers (posts packet) ≡ becomes (stored (peers.last + 1)) next = posts_one peers packet (omega (arith, fits)) (omega (arith, below)) in
       let left : p.outbox (p.sent s) ≡ packets = drops s ∙ ap (drop 1) is in
-      let asks : asked_in p s (posting End) ≡ Some (record { name = p.peers; ask = posts packet }) = ap (asked_of p.peers) is in
+      let asks : asked_in p s (posting End) ≡ Some (record { name = p.peers; ask = posts packet }) = ap (posting_of p.peers) is in
       let after : Move S = stored_by p (p.sent s) (peers.last + 1) End in
       let went : StandsAt p (meets p m) (p.sent s) (waits_by packets End) own next =
       subst (λ (b : Box). StandsAt p (meets p m) (p.sent s) (waits_by packets End) own b) (ap (λ (a : Answer). a.next) stores)
@@ -139,9 +139,9 @@ collects p s boxes own peers can =
     let came = collect p can.apart own.packets (begins p s boxes) s 0 own peers (record { state = refl; waits = refl; own_box = can.own_box; peers_box = can.peers_box }) refl (omega (arith, can.few)) can.distinct can.room in
     (came.0, subst (λ (xs : List (List ℕ)). StandsAt p (meet_times p came.0 (begins p s boxes)) (taken_all p s own.packets) (waits_by xs End) (emptied own) peers) (outbox_kept p can.keeps own.packets s) came.1)
 
-pub delivers : {S : Type 0} (p : Party S) (s : S) (boxes : List Box) (own peers : Box) → CanTransfer p s boxes own peers → Fits (p.outbox s) peers
-    → Comes p (begins p s boxes) (sent_all p (length (p.outbox s)) (taken_all p s own.packets)) (over (ended End)) (emptied own) (posted peers (p.outbox s))
+pub delivers : {S : Type 0} (p : Party S) (s : S) (boxes : List Box) (own peers : Box) → CanTransfer p s boxes own peers → HasRoomForAll (p.outbox s) peers
+    → Comes p (begins p s boxes) (sent_all p (length (p.outbox s)) (taken_all p s own.packets)) (over (ended End)) (emptied own) (with_posts peers (p.outbox s))
 delivers {S = S} p s boxes own peers can fits =
     let one = collects p s boxes own peers can in
     let two = deliver p can.apart can.drops (p.outbox s) (meet_times p one.0 (begins p s boxes)) (taken_all p s own.packets) (emptied own) peers one.1 (outbox_kept p can.keeps own.packets s) fits.room fits.numbers in
-    (one.0 + two.0, subst (λ (m : Meeting S). StandsAt p m (sent_all p (length (p.outbox s)) (taken_all p s own.packets)) (over (ended End)) (emptied own) (posted peers (p.outbox s))) (sym (after_times p one.0 two.0 (begins p s boxes))) two.1)
+    (one.0 + two.0, subst (λ (m : Meeting S). StandsAt p m (sent_all p (length (p.outbox s)) (taken_all p s own.packets)) (over (ended End)) (emptied own) (with_posts peers (p.outbox s))) (sym (after_times p one.0 two.0 (begins p s boxes))) two.1)

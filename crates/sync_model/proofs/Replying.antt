@@ -18,7 +18,7 @@ use Rattle.relay_wire.proofs.Replied.{reply}
 use Rattle.relay_wire.proofs.Joining.{flat, frames_of_flat}
 use Rattle.relay_core.specs.Boxes.{Box, answers_of, answers_read}
 use Rattle.relay_core.specs.Lawful.{IsLawfulBox}
-use Rattle.relay_core.specs.Streams.{Exchange, Served, and_then, nothing_served, served, served_within, reply_frame, reply_bytes, is_last}
+use Rattle.relay_core.specs.Streams.{Exchange, Served, exchange_then, nothing_served, served, served_within, reply_frame, reply_bytes, is_last}
 use Rattle.relay_core.specs.declared.limits.TheConstants.{EXCHANGE_LIMIT}
 use Rattle.relay_core.proofs.Lawfully.{lawful_reply, lawful_next}
 use Rattle.sync_model.specs.Carried.{relay_replies, relay_after}
@@ -49,7 +49,7 @@ reply_back r lawful = ap read_reply (drop_at (to_be_bytes w16 (length (reply_bod
 
 abbrev pub served_one : ℕ → List Box → List (List ℕ) → Result Asked ℕ → Served
 served_one n boxes fs asked =
-    and_then (record { asked = asked; reply = (answers_read boxes asked).reply }) (if is_last asked then nothing_served (answers_read boxes asked).next else served_within n (answers_read boxes asked).next fs)
+    exchange_then (record { asked = asked; reply = (answers_read boxes asked).reply }) (if is_last asked then nothing_served (answers_read boxes asked).next else served_within n (answers_read boxes asked).next fs)
 
 served_requests : (n : ℕ) (boxes : List Box) (xs : List Asked) → length xs ≤ n → AllByRecursion IsLawfulAsked xs
     → map (λ (e : Exchange). e.reply) (served_within n boxes (map request_frame xs)).exchanges ≡ relay_replies boxes xs

@@ -6,7 +6,7 @@ use Rattle.relay_wire.specs.Replies.{Replied}
 use Rattle.relay_core.specs.Boxes.{Box, answers_of, box_of}
 use Rattle.relay_core.proofs.Apart.{next_other}
 use Rattle.sync_model.specs.Parties.{Party}
-use Rattle.sync_model.specs.Moves.{Move, Wait, Ending, fetching, acking, posting, over, asked_in, asked_of, move, waits_by}
+use Rattle.sync_model.specs.Moves.{Move, Wait, Ending, fetching, acking, posting, over, asked_in, posting_of, move, waits_by}
 use Rattle.sync_model.specs.Transfers.{Meeting, StandsAt, answered, meets, meet_times, sent_all}
 use Rattle.sync_model.specs.declared.more.More.{More}
 use Rattle.sync_model.proofs.Cases.{posted_by}
@@ -60,7 +60,7 @@ module _ {S : Type 0} (p : Party S) where
         posted_by p s (IsPosted s) (λ ending. stood refl tt) which (λ number. went refl (second_by (p.outbox (p.sent s)) which)) reply
 
     at_post : (m : Meeting S) (s : S) (which : More) (packets : List (List ℕ)) → m.course.wait ≡ posting which → IsAtSecond m s
-        → IsAtSecond (answered p m (asked_of p.peers packets)) s ⊎ IsAtSecond (answered p m (asked_of p.peers packets)) (p.sent s)
+        → IsAtSecond (answered p m (posting_of p.peers packets)) s ⊎ IsAtSecond (answered p m (posting_of p.peers packets)) (p.sent s)
     at_post m s which [] is at = inl at
     at_post m s which (packet ∷ packets) is at =
         let asked : Asked = record { name = p.peers; ask = posts packet } in
@@ -70,7 +70,7 @@ module _ {S : Type 0} (p : Party S) where
       where
         by_post : box_of p.own (answers_of m.boxes (record { name = p.peers; ask = posts packet })).next ≡ Some own
             → IsPosted m.course.state (move p m.course.state m.course.wait (answers_of m.boxes (record { name = p.peers; ask = posts packet })).reply)
-            → IsAtSecond (answered p m (asked_of p.peers (packet ∷ packets))) s ⊎ IsAtSecond (answered p m (asked_of p.peers (packet ∷ packets))) (p.sent s)
+            → IsAtSecond (answered p m (posting_of p.peers (packet ∷ packets))) s ⊎ IsAtSecond (answered p m (posting_of p.peers (packet ∷ packets))) (p.sent s)
         by_post still (stood same second) = inl (record { state = same ∙ at.state; own_box = still; second = second })
         by_post still (went gone second) = inr (record { state = gone ∙ ap p.sent at.state; own_box = still; second = second })
 

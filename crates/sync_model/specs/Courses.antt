@@ -2,13 +2,13 @@
 use Rattle.std.specs.Prelude.{ℕ, List, [], ◌∷◌, ◌++◌, Option, Some, None}
 use Rattle.relay_wire.specs.Requests.{Asked}
 use Rattle.relay_wire.specs.Replies.{Replied}
-use Rattle.sync_model.specs.Parties.{Act, Party}
+use Rattle.sync_model.specs.Parties.{SideAct, Party}
 use Rattle.sync_model.specs.Moves.{Move, Wait, fetching, over, ended, asked_in, move}
 
 -- what is kept, what was done and printed, the requests that were answered, and what is waited for
 pub record Course (S : Type 0) : Type 0 where
   pub state : S
-  pub acts : List Act
+  pub acts : List SideAct
   pub lines : List ℕ
   pub requests : List Asked
   pub wait : Wait

@@ -2,7 +2,7 @@
 use Rattle.std.specs.Prelude.{ℕ, ◌+◌, ◌==◌, List, [], ◌∷◌, Option, Some, None, if◌then◌else◌}
 use Rattle.relay_wire.specs.Requests.{Asked, posts, fetches, acks}
 use Rattle.relay_wire.specs.Replies.{Replied, stored, item, empty, acked, box_full, unknown, absent}
-use Rattle.sync_model.specs.Parties.{Act, Party, Took, taking, sending}
+use Rattle.sync_model.specs.Parties.{SideAct, Party, TookPacket, taking, sending}
 use Rattle.sync_model.specs.declared.limits.TheConstants.{ITEM_LIMIT}
 use Rattle.sync_model.specs.declared.more.More.{More}
 use Rattle.sync_model.specs.declared.more.More.TheVariants.{More as MoreStands, End}
@@ -32,7 +32,7 @@ pub data Wait : Type 0 where
 -- what comes of a reply: what is kept then, what was done and printed, and what is waited for
 pub record Move (S : Type 0) : Type 0 where
   pub state : S
-  pub acts : List Act
+  pub acts : List SideAct
   pub lines : List ℕ
   pub wait : Wait
 
@@ -42,9 +42,9 @@ waits_by [] which = over (ended which)
 waits_by (packet ∷ packets) which = posting which
 
 -- the oldest packet is posted
-abbrev pub asked_of : List ℕ → List (List ℕ) → Option Asked
-asked_of name [] = None
-asked_of name (packet ∷ packets) = Some (record { name = name; ask = posts packet })
+abbrev pub posting_of : List ℕ → List (List ℕ) → Option Asked
+posting_of name [] = None
+posting_of name (packet ∷ packets) = Some (record { name = name; ask = posts packet })
 
 module _ {S : Type 0} (p : Party S) where
   -- ---- what is asked
@@ -53,7 +53,7 @@ module _ {S : Type 0} (p : Party S) where
   abbrev pub asked_in : S → Wait → Option Asked
   asked_in s (fetching n) = Some (record { name = p.own; ask = fetches })
   asked_in s (acking n number) = Some (record { name = p.own; ask = acks number })
-  asked_in s (posting which) = asked_of p.peers (p.outbox s)
+  asked_in s (posting which) = posting_of p.peers (p.outbox s)
   asked_in s (over ending) = None
 
   -- ---- what comes of the reply
@@ -63,7 +63,7 @@ module _ {S : Type 0} (p : Party S) where
   goes s wait = record { state = s; acts = []; lines = []; wait = wait }
 
   -- a packet was taken: without room for its text the sync ends, else it is acknowledged
-  abbrev pub took_by : S → ℕ → ℕ → List ℕ → Took S → Move S
+  abbrev pub took_by : S → ℕ → ℕ → List ℕ → TookPacket S → Move S
   took_by s n number packet took =
       if took.full then record { state = s; acts = taking packet ∷ []; lines = []; wait = over inbox_full }
       else record { state = took.next; acts = taking packet ∷ []; lines = took.line; wait = acking n number }

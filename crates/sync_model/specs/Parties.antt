@@ -3,7 +3,7 @@ use Rattle.std.specs.Prelude.{ℕ, Bool, List}
 use Rattle.sync_model.specs.declared.more.More.{More}
 
 -- a packet was taken: the line that says so, whether there was no room for its text, and what is kept then
-pub record Took (S : Type 0) : Type 0 where
+pub record TookPacket (S : Type 0) : Type 0 where
   pub line : List ℕ
   pub full : Bool
   pub next : S
@@ -13,13 +13,13 @@ pub record Took (S : Type 0) : Type 0 where
 pub record Party (S : Type 0) : Type 0 where
   pub own : List ℕ
   pub peers : List ℕ
-  pub take : S → List ℕ → Took S
+  pub take : S → List ℕ → TookPacket S
   pub outbox : S → List (List ℕ)
   pub sent : S → S
   pub stored_line : ℕ → List ℕ
   pub end_line : More → List ℕ
 
 -- what a side does by itself
-pub data Act : Type 0 where
-  taking : List ℕ → Act
-  sending : ℕ → Act
+pub data SideAct : Type 0 where
+  taking : List ℕ → SideAct
+  sending : ℕ → SideAct

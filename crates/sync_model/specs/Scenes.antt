@@ -59,7 +59,7 @@ pub record IsSameScene {S T : Type 0} (Alike : S → T → Type 0) (m : Meeting 
   pub boxes : m.boxes ≡ n.boxes
 
 -- What a link gives of which this many replies come is the scene: its course is the sync's, and its boxes are the relay's.
-pub record IsStaged (S : Type 0) : Type 0 where
+pub record IsScene (S : Type 0) : Type 0 where
   pub staged : (p : Party S) (kept : ℕ) (s : S) (boxes : List Box) (replies : List Replied) → IsPlayed p kept s boxes replies
       → IsDone p kept s boxes replies
       → scene p kept s boxes

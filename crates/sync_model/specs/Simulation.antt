@@ -1,13 +1,13 @@
 -- Two sides that are alike, as a side of a world and the client that keeps it.
 use Rattle.std.specs.Prelude.{◌≡◌, ⊤, ℕ, Bool, true, List, [], ◌∷◌}
 use Rattle.relay_wire.specs.Replies.{Replied, item}
-use Rattle.sync_model.specs.Parties.{Party, Took}
+use Rattle.sync_model.specs.Parties.{Party, TookPacket}
 use Rattle.sync_model.specs.Moves.{Wait, fetching}
 use Rattle.sync_model.specs.Courses.{Course, read_one, course_of, begun}
 use Rattle.sync_model.specs.declared.more.More.{More}
 
 -- a packet was taken alike
-pub record TookAlike {S T : Type 0} (Alike : S → T → Type 0) (one : Took S) (other : Took T) : Type 0 where
+pub record TookAlike {S T : Type 0} (Alike : S → T → Type 0) (one : TookPacket S) (other : TookPacket T) : Type 0 where
   pub line : one.line ≡ other.line
   pub full : one.full ≡ other.full
   pub next : Alike one.next other.next

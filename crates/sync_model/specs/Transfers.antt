@@ -36,21 +36,21 @@ module _ {S : Type 0} (p : Party S) where
 -- ---- what it leads to
 
 -- numbers that differ
-abbrev pub AreDistinct : List Kept → Type 0
-AreDistinct [] = ⊤
-AreDistinct (kept ∷ more) = AllByRecursion (λ other. other.number ≢ kept.number) more × AreDistinct more
+abbrev pub HaveOtherNumbers : List Kept → Type 0
+HaveOtherNumbers [] = ⊤
+HaveOtherNumbers (kept ∷ more) = AllByRecursion (λ other. other.number ≢ kept.number) more × HaveOtherNumbers more
 
 -- the box without its packets
 abbrev pub emptied : Box → Box
 emptied box = record box { packets = [] }
 
 -- the box with these packets after its own, under the next numbers
-abbrev pub posted : Box → List (List ℕ) → Box
-posted box [] = box
-posted box (packet ∷ packets) = posted (with_packet box packet) packets
+abbrev pub with_posts : Box → List (List ℕ) → Box
+with_posts box [] = box
+with_posts box (packet ∷ packets) = with_posts (with_packet box packet) packets
 
 -- a box keeps these packets too
-pub record Fits (packets : List (List ℕ)) (box : Box) : Type 0 where
+pub record HasRoomForAll (packets : List (List ℕ)) (box : Box) : Type 0 where
   pub room : length box.packets + length packets ≤ BOX_LIMIT
   pub numbers : box.last + length packets < 2 ^ 64
 
@@ -87,7 +87,7 @@ module _ {S : Type 0} (p : Party S) where
     pub apart : bytes_eq p.own p.peers ≡ false
     pub own_box : box_of p.own boxes ≡ Some own
     pub peers_box : box_of p.peers boxes ≡ Some peers
-    pub distinct : AreDistinct own.packets
+    pub distinct : HaveOtherNumbers own.packets
     pub few : length own.packets < ITEM_LIMIT
     pub room : HasRoom s own.packets
     pub drops : (t : S) → p.outbox (p.sent t) ≡ drop 1 (p.outbox t)
@@ -99,7 +99,7 @@ pub record IsTransfer (S : Type 0) : Type 0 where
   pub collects : (p : Party S) (s : S) (boxes : List Box) (own peers : Box) → CanTransfer p s boxes own peers
       → Comes p (begins p s boxes) (taken_all p s own.packets) (waits_by (p.outbox s) End) (emptied own) peers
   pub delivers : (p : Party S) (s : S) (boxes : List Box) (own peers : Box) → CanTransfer p s boxes own peers
-      → Fits (p.outbox s) peers
-      → Comes p (begins p s boxes) (sent_all p (length (p.outbox s)) (taken_all p s own.packets)) (over (ended End)) (emptied own) (posted peers (p.outbox s))
+      → HasRoomForAll (p.outbox s) peers
+      → Comes p (begins p s boxes) (sent_all p (length (p.outbox s)) (taken_all p s own.packets)) (over (ended End)) (emptied own) (with_posts peers (p.outbox s))
   -- then no packet is left in the outbox
   pub outbox_leaves : (p : Party S) (s : S) → ((t : S) → p.outbox (p.sent t) ≡ drop 1 (p.outbox t)) → p.outbox (sent_all p (length (p.outbox s)) s) ≡ []

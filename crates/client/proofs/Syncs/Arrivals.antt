@@ -25,10 +25,10 @@ use Rattle.sync_model.specs.Parties.{Party}
 use Rattle.sync_model.specs.Transfers.{HasRoom, sent_all, taken_all}
 use Rattle.sync_model.proofs.Cases.{by_test}
 use Rattle.client.specs.Grounds.{Grounds}
-use Rattle.client.specs.Syncing.Arrivals.{AreExpected, IsExpected, Opens, opened_too}
+use Rattle.client.specs.Syncing.Arrivals.{AreExpected, IsExpected, OpensArrived, opened_too}
 use Rattle.client.specs.Syncing.InWorlds.{IsKeptIn}
 use Rattle.client.specs.Syncing.Lines.{own_box, peers_box}
-use Rattle.client.specs.Syncing.Parties.{client_party, is_full, party_of}
+use Rattle.client.specs.Syncing.Parties.{client_party, is_inbox_full, party_of}
 use Rattle.client.specs.Syncing.Transfers.{Transfers}
 use Rattle.relay_wire.specs.Replies.{Replied}
 use Rattle.client.proofs.Syncs.Worlds.{answers, next_kept}
@@ -58,7 +58,7 @@ record IsMet (k : Mechanism) (w : World) (side : Side) (p : Position) : Type 0 w
   conversation : (step_of k w (takes side p)).next.conversation ≡ w.conversation
   arrived : (view_of (step_of k w (takes side p)).next side).arrived
       ≡ (if has_opened (view_of w side) p then (view_of w side).arrived else (view_of w side).arrived ++ p ∷ [])
-  room : is_full (step_of k w (takes side p)).answer ≡ false
+  room : is_inbox_full (step_of k w (takes side p)).answer ≡ false
 
 meets_one : (k : Mechanism) (w : World) (side : Side) (p : Position) → IsExpected w side p → IsMet k w side p
 meets_one k w side p is = by_opened (has_opened (view_of w side) p) refl is.near
@@ -71,7 +71,7 @@ meets_one k w side p is = by_opened (has_opened (view_of w side) p) refl is.near
           conversation = same.0;
           arrived = ap (λ (v : View). v.arrived) (view_stays w (step_of k w (takes side p)).next side same.1 same.2)
               ∙ ap (λ (b : Bool). if b then (view_of w side).arrived else (view_of w side).arrived ++ p ∷ []) (sym before);
-          room = ap is_full spent;
+          room = ap is_inbox_full spent;
         }
     by_opened false new (inl before) = absurd (not_both (has_opened (view_of w side) p) before new)
     by_opened false new (inr within) =
@@ -81,7 +81,7 @@ meets_one k w side p is = by_opened (has_opened (view_of w side) p) refl is.near
           arrived = ap (λ (m : Step World). (view_of m.next side).arrived) made
               ∙ ap (λ (v : View). v.arrived) (with_view_is w side (after_opening (view_of w side) p))
               ∙ ap (λ (b : Bool). if b then (view_of w side).arrived else (view_of w side).arrived ++ p ∷ []) (sym new);
-          room = ap (λ (m : Step World). is_full m.answer) made;
+          room = ap (λ (m : Step World). is_inbox_full m.answer) made;
         }
 
 -- a packet that leaves the outbox
@@ -133,7 +133,7 @@ module _ (k : Mechanism) (grounds : Grounds k) (prefix own_name peers_name : Lis
           conversation = rest.0.conversation ∙ met.conversation;
           arrived = rest.0.arrived ∙ ap (λ (arrived : List Position). opened_too arrived ps) met.arrived;
         },
-        (ap is_full (answers k grounds prefix side kept w is (taking x.packet) fair) ∙ ap (λ (m : Step World). is_full m.answer) same ∙ met.room, rest.1),
+        (ap is_inbox_full (answers k grounds prefix side kept w is (taking x.packet) fair) ∙ ap (λ (m : Step World). is_inbox_full m.answer) same ∙ met.room, rest.1),
       )
 
   sent_behind : (n : ℕ) (w : World) (ps : List Position) (kept : Client) → Behind k side w ps kept → Behind k side w ps (sent_all p n kept)
@@ -148,7 +148,7 @@ module _ (k : Mechanism) (grounds : Grounds k) (prefix own_name peers_name : Lis
       })
 
 pub opens : (k : Mechanism) → Grounds k → (prefix : List ℕ) (first : Client) (replies : List Replied)
-    → Transfers (client_party k prefix first) first replies → Opens k prefix first replies
+    → Transfers (client_party k prefix first) first replies → OpensArrived k prefix first replies
 opens k grounds prefix first replies transfers = λ w side is boxes own peers has carried past ps holds expected.
     let taken = taken_behind k grounds prefix (own_box first) (peers_box first) side ps own.packets w first is holds expected in
     let collected = (transfers boxes own peers has taken.1 carried past).0 in

@@ -15,7 +15,7 @@ use Rattle.relay_wire.specs.Replies.{Replied}
 use Rattle.relay_wire.specs.Requests.{Asked}
 use Rattle.session_model.specs.Clients.{Client}
 use Rattle.session_record.specs.Record.{record_text}
-use Rattle.slot_store.specs.Records.{recovered}
+use Rattle.slot_store.specs.Records.{stored_record}
 use Rattle.slot_store.specs.Store.{IsOldOrNew, SlotStore}
 use Rattle.slot_store.specs.Areas.{Area}
 use Rattle.slot_store.proofs.Standing.{rests_recovered}
@@ -27,9 +27,9 @@ use Rattle.sync_model.specs.declared.more.More.{More}
 use Rattle.sync_model.proofs.Reading.{bytes_last, lawful_last}
 use Rattle.client.specs.Clients.{IsReady, client_area}
 use Rattle.client.specs.Syncing.Moments.{Moment, Moved, Wrote, WroteBeginning}
-use Rattle.client.specs.Syncing.Rounds.{IsRound, IsStill, Turn, Turns, came_to_end, fault_in, goes_on, heard, stops, was_broken, was_unheard, was_unstored, was_unwritten, went_on}
+use Rattle.client.specs.Syncing.Rounds.{IsRound, IsUnmoved, RoundEnd, MovesTo, came_to_end, sync_fault_of, goes_on, heard, stops, was_broken, was_unheard, was_unstored, was_unwritten, went_on}
 use Rattle.client.specs.Syncing.SoFar.{SoFar, Stands}
-use Rattle.client.specs.Syncing.Syncs.{Ends, HasRecord, IsCutOff, IsOver, IsUnheard, Syncs, is_cut, is_unread}
+use Rattle.client.specs.Syncing.Syncs.{EndsSync, HasRecord, IsRequestCut, IsSyncOver, IsUnheard, Syncs, is_cut, is_unread}
 use Rattle.client.specs.declared.syncing.faults.SyncFault.{SyncFault}
 use Rattle.client.specs.declared.syncing.faults.SyncFault.TheVariants.{Peer, Refused, Write}
 use Rattle.client.specs.declared.syncing.faults.SyncRefusal.TheVariants.{BoxFull, InboxFull, Unknown}
@@ -38,34 +38,34 @@ use Rattle.client.proofs.Syncs.Going.{lines_more, on, passed_more, passed_still,
 -- an image of a disk at rest has the record
 pub rested : (store : SlotStore) (kept : Client) (disk : DiskState) → IsReady kept store disk → (c : List ℕ) → disk.image c → HasRecord kept c
 rested store kept disk ready c left =
-    subst (λ (a : Area). recovered a c ≡ Some (record_text kept)) ready.area (rests_recovered store c (ready.rests c left) ∙ ready.holds)
+    subst (λ (a : Area). stored_record a c ≡ Some (record_text kept)) ready.area (rests_recovered store c (ready.rests c left) ∙ ready.holds)
 
 some_is : (a b : SyncFault) → Some a ≡ Some b → a ≡ b
 some_is a b h = cc
 
 module _ (p : Party Client) where
   -- only a sync that did its work has a last line
-  no_last : (ending : Ending) (fault : SyncFault) → fault_in ending ≡ Some fault → last_line p (over ending) ≡ []
+  no_last : (ending : Ending) (fault : SyncFault) → sync_fault_of ending ≡ Some fault → last_line p (over ending) ≡ []
   no_last (ended which) fault is = absurd (cc)
   no_last inbox_full fault is = refl
   no_last box_is_full fault is = refl
   no_last no_such_box fault is = refl
   no_last wrong fault is = refl
 
-  over_ends : (ending : Ending) (fault : SyncFault) (replies : List Replied) (a b : Moment) (start now : Port) → fault_in ending ≡ Some fault
-      → IsOver p replies ending a b start now → Ends p replies a b start now (Err fault)
+  over_ends : (ending : Ending) (fault : SyncFault) (replies : List Replied) (a b : Moment) (start now : Port) → sync_fault_of ending ≡ Some fault
+      → IsSyncOver p replies ending a b start now → EndsSync p replies a b start now (Err fault)
   over_ends (ended which) fault replies a b start now is ends = absurd (cc)
   over_ends inbox_full fault replies a b start now is ends =
-      subst (λ (f : SyncFault). Ends p replies a b start now (Err f)) (some_is (Refused InboxFull) fault is) (inbox_full, refl, ends)
+      subst (λ (f : SyncFault). EndsSync p replies a b start now (Err f)) (some_is (Refused InboxFull) fault is) (inbox_full, refl, ends)
   over_ends box_is_full fault replies a b start now is ends =
-      subst (λ (f : SyncFault). Ends p replies a b start now (Err f)) (some_is (Refused BoxFull) fault is) (box_is_full, refl, ends)
+      subst (λ (f : SyncFault). EndsSync p replies a b start now (Err f)) (some_is (Refused BoxFull) fault is) (box_is_full, refl, ends)
   over_ends no_such_box fault replies a b start now is ends =
-      subst (λ (f : SyncFault). Ends p replies a b start now (Err f)) (some_is (Refused Unknown) fault is) (no_such_box, refl, ends)
+      subst (λ (f : SyncFault). EndsSync p replies a b start now (Err f)) (some_is (Refused Unknown) fault is) (no_such_box, refl, ends)
   over_ends wrong fault replies a b start now is ends =
-      subst (λ (f : SyncFault). Ends p replies a b start now (Err f)) (some_is (Peer 2 Wrong) fault is) (inl (wrong, refl, ends))
+      subst (λ (f : SyncFault). EndsSync p replies a b start now (Err f)) (some_is (Peer 2 Wrong) fault is) (inl (wrong, refl, ends))
 
   -- where a round leaves a sync
-  abbrev pub After : Moment → Moment → Port → Port → Turn → Type 0
+  abbrev pub After : Moment → Moment → Port → Port → RoundEnd → Type 0
   After a b start now (goes_on wait) = SoFar p a b start now wait
   After a b start now (stops fault) = Syncs p a b start now (Err fault)
 
@@ -73,7 +73,7 @@ module _ (p : Party Client) where
       (asks : asked_in p b.client.kept wait ≡ Some asked) where
     -- ---- with a reply
 
-    turned : (reply : Replied) (turn : Turn) → IsReplied asked reply mid now → Turns (move p b.client.kept wait reply) b c turn → After a c start now turn
+    turned : (reply : Replied) (turn : RoundEnd) → IsReplied asked reply mid now → MovesTo (move p b.client.kept wait reply) b c turn → After a c start now turn
     turned reply turn replied (went_on next waits moved wrote) = on p a b start mid wait far c now asked asks reply next replied waits moved wrote
     turned reply turn replied (came_to_end ending fault waits is moved wrote) =
         let next = then p a b start mid wait far c now asked asks reply in
@@ -141,7 +141,7 @@ module _ (p : Party Client) where
 
     -- ---- without one
 
-    stands_still : IsStill b c → Stands p far.replies a c
+    stands_still : IsUnmoved b c → Stands p far.replies a c
     stands_still still = record {
       keeps = still.0.keeps ∙ far.stands.keeps;
       is_open = still.0.is_open;
@@ -150,13 +150,13 @@ module _ (p : Party Client) where
       fate = λ all. still.0.fate (far.stands.fate all);
     }
 
-    wrote_still : IsStill b c → Wrote (course_of p a.client.kept far.replies).lines a c
+    wrote_still : IsUnmoved b c → Wrote (course_of p a.client.kept far.replies).lines a c
     wrote_still still = wrote_as _ _ a c (append-nil (course_of p a.client.kept far.replies).lines) (wrote_more (course_of p a.client.kept far.replies).lines [] a b c far.wrote still.1)
 
     asks_so : asked_in p (course_of p a.client.kept far.replies).state (course_of p a.client.kept far.replies).wait ≡ Some asked
     asks_so = ap (λ (s : Client). asked_in p s (course_of p a.client.kept far.replies).wait) (sym far.stands.keeps) ∙ ap (asked_in p b.client.kept) far.waits ∙ asks
 
-    broke : IsBroken (request_frame asked) mid now → IsCutOff p a.client.kept far.replies start now
+    broke : IsBroken (request_frame asked) mid now → IsRequestCut p a.client.kept far.replies start now
     broke is = record {
       asked = asked;
       waits = asks_so;
@@ -198,7 +198,7 @@ module _ (p : Party Client) where
       quiet = quiet ∙ far.talked.quiet;
     }
 
-    pub goes_round : (turn : Turn) → IsRound p wait asked b c mid now turn → After a c start now turn
+    pub goes_round : (turn : RoundEnd) → IsRound p wait asked b c mid now turn → After a c start now turn
     goes_round turn (heard reply then replied turns) = turned reply turn replied turns
     goes_round turn (was_broken broken still) = record {
       replies = far.replies;

@@ -16,7 +16,7 @@ use Rattle.relay_wire.specs.Replies.{Replied}
 use Rattle.relay_wire.specs.Requests.{Asked}
 use Rattle.session_model.specs.Clients.{Client}
 use Rattle.session_record.specs.Record.{record_text}
-use Rattle.slot_store.specs.Store.{IsOldOrNew, KeepsOutside}
+use Rattle.slot_store.specs.Store.{IsOldOrNew, KeepsOutsideArea}
 use Rattle.slot_store.proofs.Outside.{twice_outside}
 use Rattle.sync_model.specs.Carried.{replied_bytes, request_bytes}
 use Rattle.sync_model.specs.Courses.{course_of}
@@ -72,7 +72,7 @@ module _ (p : Party Client) where
   -- ---- what the disk was meanwhile
 
   outside_since : (start mid : DiskState) (first : Client) (replies : List Replied) (c : List ℕ) → Span start mid (IsReached p first replies start)
-      → KeepsOutside client_area mid c → KeepsOutside client_area start c
+      → KeepsOutsideArea client_area mid c → KeepsOutsideArea client_area start c
   outside_since start mid first replies c passed keeps =
       ⊎_elim (λ was. (keeps.0, was, keeps.2))
       (λ (r : IsReached p first replies start keeps.0). (r.outside.0, r.outside.1, twice_outside client_area r.outside.0 keeps.0 c r.outside.2 keeps.2))

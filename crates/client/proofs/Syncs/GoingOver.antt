@@ -18,9 +18,9 @@ use Rattle.relay_core.specs.Boxes.{Box, Kept, box_of, with_packet}
 use Rattle.relay_core.specs.Lawful.{IsLawfulBox}
 use Rattle.session_model.specs.Clients.{Client}
 use Rattle.session_model.specs.Schedule.{session_of}
-use Rattle.sync_model.specs.Transfers.{emptied, posted}
-use Rattle.client.specs.Syncing.Arrivals.{Holds}
-use Rattle.client.specs.Syncing.GoingOver.{GoesOver, boxes_after, positions_of}
+use Rattle.sync_model.specs.Transfers.{emptied, with_posts}
+use Rattle.client.specs.Syncing.Arrivals.{HoldsPackets}
+use Rattle.client.specs.Syncing.GoingOver.{GoesOver, boxes_left, positions_of}
 use Rattle.client.specs.Syncing.Lines.{box_name, own_box, peers_box}
 use Rattle.client.specs.Syncing.Parties.{waiting}
 
@@ -61,7 +61,7 @@ peer_twice Second = refl
 -- ---- what stands in the peer's box
 
 posted_packets : (box : Box) (packets : List (List ℕ))
-    → map (λ (kept : Kept). kept.packet) (posted box packets).packets ≡ map (λ (kept : Kept). kept.packet) box.packets ++ packets
+    → map (λ (kept : Kept). kept.packet) (with_posts box packets).packets ≡ map (λ (kept : Kept). kept.packet) box.packets ++ packets
 posted_packets box [] = sym (append-nil (map (λ (kept : Kept). kept.packet) box.packets))
 posted_packets box (packet ∷ packets) =
     posted_packets (with_packet box packet) packets
@@ -73,7 +73,7 @@ goes_over k = λ prefix again w v side sender receiver boxes own peers replies o
     let out : waiting sender ≡ map (λ (p : Position). (post_at k w.conversation p).bytes) (positions_of sender) =
     subst (λ (kept : Client). waiting kept ≡ map (λ (p : Position). (post_at k w.conversation p).bytes) (positions_of kept)) (sym sends.keeps) (waiting_is k w side) in
     let delivered = (transfers boxes own peers has room first.carried first.past).1 fits in
-    let after = boxes_after k prefix sender boxes replies in
+    let after = boxes_left k prefix sender boxes replies in
     let own_is : own_box receiver ≡ peers_box sender =
     ap own_box receives.keeps ∙ own_name k v (peer_of side) receives.lawful
     ∙ ap (λ (c : Conversation). box_name (session_of c.key) (peer_of side)) same ∙ sym (peers_name k w side sends.lawful) ∙ ap peers_box (sym sends.keeps) in
@@ -81,11 +81,11 @@ goes_over k = λ prefix again w v side sender receiver boxes own peers replies o
     ap peers_box receives.keeps ∙ peers_name k v (peer_of side) receives.lawful
     ∙ ap₂ (λ (c : Conversation) (s : Side). box_name (session_of c.key) s) same (peer_twice side) ∙ sym (own_name k w side sends.lawful) ∙ ap own_box (sym sends.keeps) in
     let there = delivered.answered.boxes_are in
-    let whole : Holds k v (posted peers (waiting sender)) (ps ++ positions_of sender) =
+    let whole : HoldsPackets k v (with_posts peers (waiting sender)) (ps ++ positions_of sender) =
     posted_packets peers (waiting sender)
     ∙ ap₂ (λ (x y : List (List ℕ)). x ++ y) holds (out ∙ ap (λ (c : Conversation). map (λ (p : Position). (post_at k c p).bytes) (positions_of sender)) (sym same))
     ∙ sym (map-append (λ (p : Position). (post_at k v.conversation p).bytes) ps (positions_of sender)) in
-    (opens v (peer_of side) receives after (posted peers (waiting sender)) (emptied own) (record {
+    (opens v (peer_of side) receives after (with_posts peers (waiting sender)) (emptied own) (record {
       lawful = subst (λ (bs : List Box). All IsLawfulBox bs) there delivered.answered.lawful;
       own_box = ap (λ (n : List ℕ). box_of n after) own_is ∙ ap (box_of (peers_box sender)) (sym there) ∙ delivered.peers_box;
       peers_box = ap (λ (n : List ℕ). box_of n after) peers_is ∙ ap (box_of (own_box sender)) (sym there) ∙ delivered.own_box;

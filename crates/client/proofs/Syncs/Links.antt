@@ -11,7 +11,7 @@ use Rattle.sync_model.specs.Parties.{Party}
 use Rattle.sync_model.specs.declared.more.More.{More}
 use Rattle.sync_model.proofs.Reading.{read_last}
 use Rattle.client.specs.InWorlds.{IsIn, StandsFor}
-use Rattle.client.specs.Moments.{IsKnown, IsOneOf, Known, Link, reached_by, synced_in, was_cut_in_sync, was_synced, with_doubts}
+use Rattle.client.specs.Moments.{IsKnown, IsAmongKnown, Known, Link, reached_by, known_after_sync, was_cut_in_sync, was_synced, with_doubts}
 use Rattle.client.specs.Syncing.InWorlds.{AreLeft, AreUnforged, IsReachedIn, LeadsTo, SyncsIn, course_in}
 use Rattle.client.specs.Syncing.Moments.{Moment}
 use Rattle.client.specs.Syncing.Parties.{world_party}
@@ -33,24 +33,24 @@ module _ (k : Mechanism) (prefix : List ℕ) (side : Side) (w : World) where
       (λ (there : Any (λ (v : World). StandsFor k v side c) (reached_by p next (front ++ back))).
       inr (suc there.0, there.1, omega (arith, there.2), there.3, there.4)) (reaches front back next c stands)
 
-module _ (k : Mechanism) (prefix : List ℕ) (side : Side) (w : World) (known : Known) (which : IsOneOf known w) where
+module _ (k : Mechanism) (prefix : List ℕ) (side : Side) (w : World) (known : Known) (which : IsAmongKnown known w) where
   pub cut_links : (replies : List Replied) (a b : DiskState) → AreUnforged k prefix side w replies
       → ((c : List ℕ) → b.image c → a.image c ⊎ IsReachedIn k prefix side w replies a c)
       → Link k side a b known (with_doubts known (reached_by (world_party k prefix side w) (begun (world_party k prefix side w) w) replies))
   cut_links replies a b fair left_by =
       was_cut_in_sync known w which prefix replies fair (λ c left. ⊎_elim inl
-      (λ (r : IsReachedIn k prefix side w replies a c). inr (subst (λ (xs : List Replied). IsKnown k side (synced_in k prefix side w [] xs) c) (sym r.split)
+      (λ (r : IsReachedIn k prefix side w replies a c). inr (subst (λ (xs : List Replied). IsKnown k side (known_after_sync k prefix side w [] xs) c) (sym r.split)
       (reaches k prefix side w r.front r.back (begun (world_party k prefix side w) w) c r.stands))) (left_by c left))
 
   abbrev Ended : List Replied → Result More SyncFault → Moment → Moment → Type 0
   Ended replies result a b =
       (front back : List Replied) × (replies ≡ front ++ back) × AreLeft result back
       × IsIn k (course_in k prefix side w front).state side b.client
-      × Link k side a.disk b.disk known (synced_in k prefix side w front back)
+      × Link k side a.disk b.disk known (known_after_sync k prefix side w front back)
 
   whole : (replies : List Replied) (a b : Moment) → AreUnforged k prefix side w replies → IsIn k (course_in k prefix side w replies).state side b.client
       → Always (StandsFor k (course_in k prefix side w replies).state side) b.disk
-      → (replies ≡ replies ++ []) × Link k side a.disk b.disk known (synced_in k prefix side w replies [])
+      → (replies ≡ replies ++ []) × Link k side a.disk b.disk known (known_after_sync k prefix side w replies [])
   whole replies a b fair is stands = (
     sym (append-nil replies),
     was_synced known w which prefix replies [] (subst (AreUnforged k prefix side w) (sym (append-nil replies)) fair) (λ c left. inl (stands c left)),

@@ -5,14 +5,14 @@ use Rattle.std.proofs.lemmas.Bool.Decides.{nat_tests}
 use Rattle.dr_ports.specs.Wires.{Port}
 use Rattle.relay_wire.specs.Requests.{Asked, posts}
 use Rattle.session_model.specs.Clients.{Client}
-use Rattle.sync_model.specs.Moves.{Wait, acking, acknowledged, asked_of, fetching, goes, move, posting, waits_by}
+use Rattle.sync_model.specs.Moves.{Wait, acking, acknowledged, posting_of, fetching, goes, move, posting, waits_by}
 use Rattle.sync_model.specs.Parties.{Party}
 use Rattle.sync_model.specs.declared.limits.TheConstants.{ITEM_LIMIT}
 use Rattle.sync_model.specs.declared.more.More.{More}
 use Rattle.sync_model.specs.declared.more.More.TheVariants.{More as MoreStands}
 use Rattle.client.specs.Clients.{ClientNow, IsOpenOn, IsReady}
 use Rattle.client.specs.Syncing.Moments.{Moment}
-use Rattle.client.specs.Syncing.Rounds.{Hears, Idles, IsRound, Turn, goes_on, heard, was_broken, was_unheard, went_on}
+use Rattle.client.specs.Syncing.Rounds.{Hears, Idles, IsRound, RoundEnd, goes_on, heard, was_broken, was_unheard, went_on}
 use Rattle.client.specs.Syncing.SoFar.{collecting}
 use Rattle.client.proofs.Syncs.Turning.{idle_turns, still_again}
 
@@ -34,7 +34,7 @@ one_more p s n = by_test (n + 1 == ITEM_LIMIT)
     by_test false = refl
 
 -- an acknowledgement as a round
-pub acks_round : (p : Party Client) (b : Moment) (client : ClientNow) (n number : ℕ) (asked : Asked) (start now : Port) (turn : Turn) → client ≡ b.client
+pub acks_round : (p : Party Client) (b : Moment) (client : ClientNow) (n number : ℕ) (asked : Asked) (start now : Port) (turn : RoundEnd) → client ≡ b.client
     → b.client.closed ≡ None → IsReady b.client.kept b.client.store b.disk
     → Hears asked start now (λ reply turning. Idles p b.client.kept (move p b.client.kept (acking n number) reply) turning) (Unit {0}) turn
     → IsRound p (acking n number) asked b (record b { client = client }) start now turn
@@ -50,7 +50,7 @@ posts_now [] packet is which = absurd (let e : Some packet ≡ None = is in cc)
 posts_now (x ∷ xs) packet is which = refl
 
 pub asks_post : (packets : List (List ℕ)) (packet : List ℕ) → Some packet ≡ slice_get packets 0 → (name : List ℕ)
-    → asked_of name packets ≡ Some (record { name = name; ask = posts packet })
+    → posting_of name packets ≡ Some (record { name = name; ask = posts packet })
 asks_post [] packet is name = absurd (let e : Some packet ≡ None = is in cc)
 asks_post (x ∷ xs) packet is name = ap (λ (b : List ℕ). Some (record { name = name; ask = posts b })) (let e : Some packet ≡ Some x = is in let f : x ≡ packet = cc in f)
 

@@ -10,11 +10,11 @@ use Rattle.session_model.specs.declared.answer.Refusal.{Refusal}
 use Rattle.session_record.specs.Record.{record_text}
 use Rattle.slot_store.specs.Store.{IsOldOrNew}
 use Rattle.client.specs.Clients.{ClientNow, IsReady, client_area}
-use Rattle.client.specs.Syncing.Moments.{IsMoved, IsTaken, Moment, Wrote}
+use Rattle.client.specs.Syncing.Moments.{HasMovedOn, IsTaken, Moment, Wrote}
 
 -- nothing was done
 pub still : (client : ClientNow) (disk : DiskState) → client.closed ≡ None → IsReady client.kept client.store disk
-    → IsMoved client.kept client client disk disk
+    → HasMovedOn client.kept client client disk disk
 still client disk is_open ready = record {
   keeps = refl;
   is_open = is_open;

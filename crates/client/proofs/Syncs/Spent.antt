@@ -21,7 +21,7 @@ use Rattle.client.specs.Moments.{IsLater}
 use Rattle.client.specs.Spent.{IsErasedOn, IsUsed}
 use Rattle.client.specs.Syncing.InWorlds.{AreBehind, AreUnforged, LeadsTo, SyncSpends, SyncsIn, course_in}
 use Rattle.client.specs.Syncing.Moments.{Moment}
-use Rattle.client.specs.Syncing.Parties.{is_full, world_party}
+use Rattle.client.specs.Syncing.Parties.{is_inbox_full, world_party}
 use Rattle.client.specs.declared.syncing.faults.SyncFault.{SyncFault}
 use Rattle.client.specs.declared.syncing.faults.SyncFault.TheVariants.{Closed, Link, Peer, Refused, Store, Write}
 use Rattle.client.proofs.Later.{front_later, lawful_at, whole_later}
@@ -45,7 +45,7 @@ module _ (k : Mechanism) (prefix : List ℕ) (side : Side) (w : World) where
   opened_state : (s : World) (n number : ℕ) (packet : List ℕ) (position : Position) → (act_in k s side (taking packet)).answer ≡ Opened position
       → (move p s (fetching n) (item number packet)).state ≡ (act_in k s side (taking packet)).next
   opened_state s n number packet position opens =
-      other_state (is_full (act_in k s side (taking packet)).answer) _ _ (ap is_full opens)
+      other_state (is_inbox_full (act_in k s side (taking packet)).answer) _ _ (ap is_inbox_full opens)
 
   used_now : (front : List Replied) (n number : ℕ) (packet : List ℕ) (position : Position) → (at front).wait ≡ fetching n
       → (act_in k (at front).state side (taking packet)).answer ≡ Opened position

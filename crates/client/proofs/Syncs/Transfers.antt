@@ -20,7 +20,7 @@ use Rattle.sync_model.specs.Carried.{IsCarried, replied_bytes, request_bytes}
 use Rattle.sync_model.specs.Courses.{as_list, course_of, made_requests}
 use Rattle.sync_model.specs.Moves.{Ending, ended, over}
 use Rattle.sync_model.specs.Parties.{Party}
-use Rattle.sync_model.specs.Transfers.{CanTransfer, Fits, HasRoom, sent_all, taken_all}
+use Rattle.sync_model.specs.Transfers.{CanTransfer, HasRoomForAll, HasRoom, sent_all, taken_all}
 use Rattle.sync_model.specs.declared.more.More.{More}
 use Rattle.sync_model.proofs.Arriving.{can_transfer, ends_collected, ends_delivered, ends_lawful, no_more}
 use Rattle.sync_model.proofs.Asking.{ArePackets, are_made}
@@ -30,7 +30,7 @@ use Rattle.client.specs.Syncing.Lines.{own_box, peers_box}
 use Rattle.client.specs.Syncing.Moments.{Moment}
 use Rattle.client.specs.Syncing.Parties.{client_party, waiting}
 use Rattle.client.specs.Syncing.SoFar.{Talked}
-use Rattle.client.specs.Syncing.Syncs.{Ends, IsNoReply, IsOver, IsUnheard, SyncsBy, is_cut, is_unread}
+use Rattle.client.specs.Syncing.Syncs.{EndsSync, IsNoReply, IsSyncOver, IsUnheard, SyncsBy, is_cut, is_unread}
 use Rattle.client.specs.Syncing.Transfers.{Carries, CarriesReplies, Collected, Delivered, HasBoxes, HaveAnswered, IsPast, IsUnfailing, Transfers}
 use Rattle.client.specs.declared.syncing.faults.SyncFault.{SyncFault}
 use Rattle.client.specs.declared.syncing.faults.SyncFault.TheVariants.{Closed, Link, Peer, Refused, Store, Write}
@@ -66,7 +66,7 @@ module _ (k : Mechanism) (prefix : List ℕ) (first : Client) where
           let past = ends_collected mine first boxes own peers can replies is_carried ending is_over in
           record { after = after; answered = answered; own_box = past.own_box; count = past.count; keeps = past.state }
 
-      delivered : Fits (mine.outbox first) peers → Delivered mine first replies boxes own peers
+      delivered : HasRoomForAll (mine.outbox first) peers → Delivered mine first replies boxes own peers
       delivered fits =
           let at = ends_delivered mine first boxes own peers can replies is_carried ending is_over fits in
           let taken = taken_all mine first own.packets in
@@ -122,13 +122,13 @@ module _ (k : Mechanism) (prefix : List ℕ) (first : Client) where
                 let is = carried unheard.rest unheard.waited all in
                 not_cut unheard.rest (pending mine first boxes replies is unheard.asked (ap as_list unheard.waits)) partial
 
-        by_end : (ending : Ending) → IsOver mine replies ending a b start now → IsCarried mine first boxes replies × IsPast mine first replies
+        by_end : (ending : Ending) → IsSyncOver mine replies ending a b start now → IsCarried mine first boxes replies × IsPast mine first replies
         by_end ending ends =
             let is_over : (course_of mine first replies).wait ≡ over ending = ap (λ (x : Client). (course_of mine x replies).wait) (sym same) ∙ ends.is_over in
             let talked : Talked mine first replies start now = subst (λ (x : Client). Talked mine x replies start now) same ends.talked in
             (is_carried ending is_over talked, (ending, is_over))
 
-        pub carried_past : (result : Result More SyncFault) → Ends mine replies a b start now result → IsCarried mine first boxes replies × IsPast mine first replies
+        pub carried_past : (result : Result More SyncFault) → EndsSync mine replies a b start now result → IsCarried mine first boxes replies × IsPast mine first replies
         carried_past (Ok which) ends = by_end (ended which) ends
         carried_past (Err (Closed call)) ends = absurd ends
         carried_past (Err Link) ends = absurd (unfailing.link ends.1.rose)

@@ -19,7 +19,7 @@ use Rattle.sync_model.specs.declared.more.More.{More}
 use Rattle.sync_model.specs.declared.more.More.TheVariants.{More as MoreStands}
 use Rattle.client.specs.Clients.{ClientNow, IsReady}
 use Rattle.client.specs.Syncing.Moments.{BrokenOff, Moment, Moved, Wrote, WroteBeginning}
-use Rattle.client.specs.Syncing.Rounds.{Answers, Hears, Idles, IsStill, Turn, Turns, came_to_end, fault_in, goes_on, heard, idles_on, idles_to_end, stops, was_broken, was_unheard, was_unstored, was_unwritten, went_on}
+use Rattle.client.specs.Syncing.Rounds.{GetsReply, Hears, Idles, IsUnmoved, RoundEnd, MovesTo, came_to_end, sync_fault_of, goes_on, heard, idles_on, idles_to_end, stops, was_broken, was_unheard, was_unstored, was_unwritten, went_on}
 use Rattle.client.specs.declared.syncing.faults.SyncFault.{SyncFault}
 use Rattle.client.specs.declared.syncing.faults.SyncFault.TheVariants.{Closed, Link, Peer, Refused, Store, Write}
 use Rattle.client.proofs.Syncs.Moving.{still, wrote_nothing}
@@ -28,24 +28,24 @@ use Rattle.relay_pipe.specs.declared.faults.PeerKind.TheVariants.{Wrong}
 -- ---- a move, by its parts
 
 module _ (m : Move Client) (state : Client) (is : m.state ≡ state) (a b : Moment) where
-  pub turns_on : (lines : List ℕ) (next : Wait) → m.lines ≡ lines → m.wait ≡ next → Moved state a b → Wrote lines a b → Turns m a b (goes_on next)
+  pub turns_on : (lines : List ℕ) (next : Wait) → m.lines ≡ lines → m.wait ≡ next → Moved state a b → Wrote lines a b → MovesTo m a b (goes_on next)
   turns_on lines next lines_are waits moved wrote =
       went_on next waits (subst (λ (s : Client). Moved s a b) (sym is) moved) (subst (λ (l : List ℕ). Wrote l a b) (sym lines_are) wrote)
 
-  pub turns_to_end : (ending : Ending) (fault : SyncFault) → m.lines ≡ [] → m.wait ≡ over ending → fault_in ending ≡ Some fault → Moved state a b → Wrote [] a b
-      → Turns m a b (stops fault)
+  pub turns_to_end : (ending : Ending) (fault : SyncFault) → m.lines ≡ [] → m.wait ≡ over ending → sync_fault_of ending ≡ Some fault → Moved state a b → Wrote [] a b
+      → MovesTo m a b (stops fault)
   turns_to_end ending fault lines_are waits called moved wrote =
       came_to_end ending fault waits called (subst (λ (s : Client). Moved s a b) (sym is) moved) (subst (λ (l : List ℕ). Wrote l a b) (sym lines_are) wrote)
 
-  pub turns_unwritten : (lines : List ℕ) → m.lines ≡ lines → Moved state a b → WroteBeginning lines a b → Turns m a b (stops Write)
+  pub turns_unwritten : (lines : List ℕ) → m.lines ≡ lines → Moved state a b → WroteBeginning lines a b → MovesTo m a b (stops Write)
   turns_unwritten lines lines_are moved wrote =
       was_unwritten (subst (λ (s : Client). Moved s a b) (sym is) moved) (subst (λ (l : List ℕ). WroteBeginning l a b) (sym lines_are) wrote)
 
-  pub turns_unstored : (call : Call) → BrokenOff state call a b → Wrote [] a b → Turns m a b (stops (Store call))
+  pub turns_unstored : (call : Call) → BrokenOff state call a b → Wrote [] a b → MovesTo m a b (stops (Store call))
   turns_unstored call broken wrote = was_unstored call (subst (λ (s : Client). BrokenOff s call a b) (sym is) broken) wrote
 
 -- a move that asks for nothing, where nothing was done
-pub idle_turns : (p : Party Client) (a b : Moment) (m : Move Client) (turn : Turn) → Idles p a.client.kept m turn → IsStill a b → Turns m a b turn
+pub idle_turns : (p : Party Client) (a b : Moment) (m : Move Client) (turn : RoundEnd) → Idles p a.client.kept m turn → IsUnmoved a b → MovesTo m a b turn
 idle_turns p a b m turn (idles_on next is) still =
     turns_on m a.client.kept (ap (λ (x : Move Client). x.state) is) a b [] next (ap (λ (x : Move Client). x.lines) is) (ap (λ (x : Move Client). x.wait) is) still.0 still.1
 idle_turns p a b m turn (idles_to_end ending fault is called) still =
@@ -115,7 +115,7 @@ posted_wrong p s which (Bad kind) not_full not_unknown not_stored = idles_to_end
 
 -- ---- a request
 
-pub unanswered : (asked : Asked) (start now : Port) (Makes : Replied → Turn → Type 0) (Still : Type 0) (fault : SyncFault) → Answers asked start now (Err fault) → Still
+pub unanswered : (asked : Asked) (start now : Port) (Makes : Replied → RoundEnd → Type 0) (Still : Type 0) (fault : SyncFault) → GetsReply asked start now (Err fault) → Still
     → Hears asked start now Makes Still (stops fault)
 unanswered asked start now Makes Still (Closed call) is still = absurd is
 unanswered asked start now Makes Still Link is still = was_broken is still
@@ -124,23 +124,23 @@ unanswered asked start now Makes Still (Refused refusal) is still = absurd is
 unanswered asked start now Makes Still (Store call) is still = absurd is
 unanswered asked start now Makes Still Write is still = absurd is
 
-module _ (made asked : Asked) (is : made ≡ asked) (start now : Port) (Makes : Replied → Turn → Type 0) (Still : Type 0) where
-  pub hears_fault : (fault : SyncFault) → Answers made start now (Err fault) → Still → Hears asked start now Makes Still (stops fault)
+module _ (made asked : Asked) (is : made ≡ asked) (start now : Port) (Makes : Replied → RoundEnd → Type 0) (Still : Type 0) where
+  pub hears_fault : (fault : SyncFault) → GetsReply made start now (Err fault) → Still → Hears asked start now Makes Still (stops fault)
   hears_fault fault answers still =
-      unanswered asked start now Makes Still fault (subst (λ (x : Asked). Answers x start now (Err fault)) is answers) still
+      unanswered asked start now Makes Still fault (subst (λ (x : Asked). GetsReply x start now (Err fault)) is answers) still
 
-  pub hears_reply : (reply : Reply) (turn : Turn) → Answers made start now (Ok reply) → Makes (replied_of reply) turn → Hears asked start now Makes Still turn
-  hears_reply reply turn answers makes = heard (replied_of reply) turn (subst (λ (x : Asked). Answers x start now (Ok reply)) is answers) makes
+  pub hears_reply : (reply : Reply) (turn : RoundEnd) → GetsReply made start now (Ok reply) → Makes (replied_of reply) turn → Hears asked start now Makes Still turn
+  hears_reply reply turn answers makes = heard (replied_of reply) turn (subst (λ (x : Asked). GetsReply x start now (Ok reply)) is answers) makes
 
 -- ---- a client that didn't change
 
 -- nothing was done, nor written
 pub still_again : (a : Moment) (client : ClientNow) → client ≡ a.client → a.client.closed ≡ None → IsReady a.client.kept a.client.store a.disk
-    → IsStill a (record a { client = client })
+    → IsUnmoved a (record a { client = client })
 still_again a client same is_open ready =
-    subst (λ (x : ClientNow). IsStill a (record a { client = x })) (sym same) (still a.client a.disk is_open ready, wrote_nothing a a refl refl)
+    subst (λ (x : ClientNow). IsUnmoved a (record a { client = x })) (sym same) (still a.client a.disk is_open ready, wrote_nothing a a refl refl)
 
 -- a move that asks for nothing, over a reply
-pub idles_again : (p : Party Client) (a : Moment) (client : ClientNow) (m : Move Client) (turn : Turn) → Idles p a.client.kept m turn → client ≡ a.client
-    → a.client.closed ≡ None → IsReady a.client.kept a.client.store a.disk → Turns m a (record a { client = client }) turn
+pub idles_again : (p : Party Client) (a : Moment) (client : ClientNow) (m : Move Client) (turn : RoundEnd) → Idles p a.client.kept m turn → client ≡ a.client
+    → a.client.closed ≡ None → IsReady a.client.kept a.client.store a.disk → MovesTo m a (record a { client = client }) turn
 idles_again p a client m turn idles same is_open ready = idle_turns p a (record a { client = client }) m turn idles (still_again a client same is_open ready)

@@ -22,9 +22,9 @@ use Rattle.client.specs.InWorlds.{IsIn, StandsFor}
 use Rattle.client.specs.Syncing.InWorlds.{AreUnforged, IsKeptIn, IsReachedIn, LeadsTo, SyncsIn, course_in}
 use Rattle.client.specs.Syncing.Lines.{answer_line, own_box, peers_box}
 use Rattle.client.specs.Syncing.Moments.{Moment}
-use Rattle.client.specs.Syncing.Parties.{client_party, is_full, waiting, world_party}
+use Rattle.client.specs.Syncing.Parties.{client_party, is_inbox_full, waiting, world_party}
 use Rattle.client.specs.Syncing.SoFar.{IsReached, Stands}
-use Rattle.client.specs.Syncing.Syncs.{Ends, SyncsBy}
+use Rattle.client.specs.Syncing.Syncs.{EndsSync, SyncsBy}
 use Rattle.client.specs.declared.syncing.faults.SyncFault.{SyncFault}
 use Rattle.client.specs.declared.syncing.faults.SyncFault.TheVariants.{Closed, Link, Peer, Refused, Store, Write}
 use Rattle.client.proofs.Lifted.{ready_stands, record_stands}
@@ -64,7 +64,7 @@ module _ (k : Mechanism) (grounds : Grounds k) (prefix : List ℕ) (side : Side)
       sent = λ s t at. next_kept s t at (sending 1) tt;
       takes = λ s t packet at fair. record {
         line = ap (answer_line prefix) (answers s t at (taking packet) fair);
-        full = ap is_full (answers s t at (taking packet) fair);
+        full = ap is_inbox_full (answers s t at (taking packet) fair);
         next = next_kept s t at (taking packet) fair;
       };
     }
@@ -97,7 +97,7 @@ module _ (k : Mechanism) (grounds : Grounds k) (prefix : List ℕ) (side : Side)
       ready_stands k grounds (course_in k prefix side w replies).state side b.client.kept b.client.store b.disk there.lawful (stands.keeps ∙ there.keeps) stands.ready,
     )
 
-    leads : (start now : Port) (result : Result More SyncFault) → Ends (client_party k prefix first) replies a b start now result → LeadsTo k prefix side w replies b result
+    leads : (start now : Port) (result : Result More SyncFault) → EndsSync (client_party k prefix first) replies a b start now result → LeadsTo k prefix side w replies b result
     leads start now (Ok which) ends = stands_in ends.stands
     leads start now (Err (Closed call)) ends = absurd ends
     leads start now (Err Link) ends = stands_in ends.0

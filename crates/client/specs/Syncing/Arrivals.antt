@@ -32,8 +32,8 @@ AreExpected k w side [] = ⊤
 AreExpected k w side (p ∷ ps) = IsExpected w side p × AreExpected k (step_of k w (takes side p)).next side ps
 
 -- the packets of these positions stand in a box, in order
-abbrev pub Holds : Mechanism → World → Box → List Position → Type 0
-Holds k w box ps = map (λ (kept : Kept). kept.packet) box.packets ≡ map (λ (p : Position). (post_at k w.conversation p).bytes) ps
+abbrev pub HoldsPackets : Mechanism → World → Box → List Position → Type 0
+HoldsPackets k w box ps = map (λ (kept : Kept). kept.packet) box.packets ≡ map (λ (p : Position). (post_at k w.conversation p).bytes) ps
 
 -- after the positions that were opened, those of these that weren't yet: in order, each once
 abbrev pub opened_too : List Position → List Position → List Position
@@ -49,9 +49,9 @@ pub record HasOpened (k : Mechanism) (w : World) (side : Side) (ps : List Positi
 
 -- In each world that the client stands for: where the replies are those of a relay, the course has come to its end and the own box
 -- holds packets that are expected at their turns, the box is collected and they are opened.
-abbrev pub Opens : Mechanism → List ℕ → Client → List Replied → Type 0
-Opens k prefix first replies = (w : World) (side : Side) → IsKeptIn k side first w → (boxes : List Box) (own peers : Box)
+abbrev pub OpensArrived : Mechanism → List ℕ → Client → List Replied → Type 0
+OpensArrived k prefix first replies = (w : World) (side : Side) → IsKeptIn k side first w → (boxes : List Box) (own peers : Box)
     → HasBoxes (client_party k prefix first) boxes own peers → IsCarried (client_party k prefix first) first boxes replies
-    → IsPast (client_party k prefix first) first replies → (ps : List Position) → Holds k w own ps → AreExpected k w side ps
+    → IsPast (client_party k prefix first) first replies → (ps : List Position) → HoldsPackets k w own ps → AreExpected k w side ps
     → Collected (client_party k prefix first) first replies boxes own
     × HasOpened k w side ps (course_of (client_party k prefix first) first replies).state

@@ -12,20 +12,20 @@ use Rattle.relay_wire.specs.Replies.{Replied}
 use Rattle.session_model.specs.Clients.{Client}
 use Rattle.sync_model.specs.Carried.{IsCarried, request_bytes}
 use Rattle.sync_model.specs.Courses.{course_of}
-use Rattle.sync_model.specs.Transfers.{Fits, HasRoom}
-use Rattle.client.specs.Syncing.Arrivals.{AreExpected, HasOpened, Holds, Opens}
+use Rattle.sync_model.specs.Transfers.{HasRoomForAll, HasRoom}
+use Rattle.client.specs.Syncing.Arrivals.{AreExpected, HasOpened, HoldsPackets, OpensArrived}
 use Rattle.client.specs.Syncing.InWorlds.{IsKeptIn}
 use Rattle.client.specs.Syncing.Parties.{client_party}
 use Rattle.client.specs.Syncing.Transfers.{HasBoxes, IsPast, Transfers}
 
 -- a course that has come to its end, by the replies of a relay with these boxes
-pub record IsServed (k : Mechanism) (prefix : List ℕ) (first : Client) (boxes : List Box) (replies : List Replied) : Type 0 where
+pub record IsCourseServed (k : Mechanism) (prefix : List ℕ) (first : Client) (boxes : List Box) (replies : List Replied) : Type 0 where
   pub carried : IsCarried (client_party k prefix first) first boxes replies
   pub past : IsPast (client_party k prefix first) first replies
 
 -- the boxes once the requests of the course were answered
-abbrev pub boxes_after : Mechanism → List ℕ → Client → List Box → List Replied → List Box
-boxes_after k prefix first boxes replies =
+abbrev pub boxes_left : Mechanism → List ℕ → Client → List Box → List Replied → List Box
+boxes_left k prefix first boxes replies =
     (served boxes (request_bytes (course_of (client_party k prefix first) first replies).requests)).next
 
 -- the positions of the packets that wait
@@ -39,9 +39,9 @@ positions_of kept = map (λ (item : Item). item.position) kept.outbox
 abbrev pub GoesOver : Mechanism → Type 0
 GoesOver k = (prefix again : List ℕ) (w v : World) (side : Side) (sender receiver : Client) (boxes : List Box) (own peers : Box)
     (replies others : List Replied) (ps : List Position) → IsKeptIn k side sender w → IsKeptIn k (peer_of side) receiver v
-    → v.conversation ≡ w.conversation → Transfers (client_party k prefix sender) sender replies → Opens k again receiver others
+    → v.conversation ≡ w.conversation → Transfers (client_party k prefix sender) sender replies → OpensArrived k again receiver others
     → HasBoxes (client_party k prefix sender) boxes own peers → HasRoom (client_party k prefix sender) sender own.packets
-    → Fits (map (λ (item : Item). item.bytes) sender.outbox) peers → IsServed k prefix sender boxes replies
-    → IsServed k again receiver (boxes_after k prefix sender boxes replies) others → Holds k v peers ps
+    → HasRoomForAll (map (λ (item : Item). item.bytes) sender.outbox) peers → IsCourseServed k prefix sender boxes replies
+    → IsCourseServed k again receiver (boxes_left k prefix sender boxes replies) others → HoldsPackets k v peers ps
     → AreExpected k v (peer_of side) (ps ++ positions_of sender)
     → HasOpened k v (peer_of side) (ps ++ positions_of sender) (course_of (client_party k again receiver) receiver others).state

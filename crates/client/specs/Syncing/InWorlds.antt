@@ -14,7 +14,7 @@ use Rattle.relay_wire.specs.Replies.{Replied, item}
 use Rattle.session_model.specs.Clients.{Client}
 use Rattle.session_model.specs.declared.answer.Answer.TheVariants.{Opened}
 use Rattle.slot_store.specs.Reading.{IsUndamaged}
-use Rattle.slot_store.specs.Store.{KeepsOutside}
+use Rattle.slot_store.specs.Store.{KeepsOutsideArea}
 use Rattle.sync_model.specs.Courses.{Course, begun, course_of}
 use Rattle.sync_model.specs.Moves.{fetching}
 use Rattle.sync_model.specs.Simulation.{AreFairFrom, IsSameCourse}
@@ -50,7 +50,7 @@ pub record IsReachedIn (k : Mechanism) (prefix : List ℕ) (side : Side) (w : Wo
   pub split : replies ≡ front ++ back
   pub stands : StandsFor k (course_in k prefix side w front).state side c
   pub undamaged : IsUndamaged client_area c
-  pub outside : KeepsOutside client_area start c
+  pub outside : KeepsOutsideArea client_area start c
 
 -- The client is in the world that the course reaches, and each image stands for it; where a call on the disk failed, it is in
 -- the world before the last reply, and each image stands for that one or for the one after it.

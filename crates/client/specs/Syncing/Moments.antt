@@ -27,7 +27,7 @@ moment client disk sink = record { client = client; disk = disk; sink = sink }
 
 -- From one moment to another the client came to keep this, and its disk holds that at rest; meanwhile each crash left the
 -- record of before or this one. No call on the disk failed, and where all pass, all pass from then on.
-pub record IsMoved (next : Client) (old new : ClientNow) (start now : DiskState) : Type 0 where
+pub record HasMovedOn (next : Client) (old new : ClientNow) (start now : DiskState) : Type 0 where
   pub keeps : new.kept ≡ next
   pub is_open : new.closed ≡ None
   pub ready : IsReady new.kept new.store now
@@ -36,7 +36,7 @@ pub record IsMoved (next : Client) (old new : ClientNow) (start now : DiskState)
   pub fate : start.fate ≡ all_pass → now.fate ≡ all_pass
 
 abbrev pub Moved : Client → Moment → Moment → Type 0
-Moved next a b = IsMoved next a.client b.client a.disk b.disk
+Moved next a b = HasMovedOn next a.client b.client a.disk b.disk
 
 -- A call on the disk failed, of this kind, before it was known to hold this. The client is closed, and keeps what it kept.
 -- Where all calls pass this doesn't happen.
@@ -64,21 +64,21 @@ pub record WroteBeginning (bytes : List ℕ) (a b : Moment) : Type 0 where
 
 -- the step was made, with its answer; or a call on the disk failed in it, of this kind
 abbrev pub IsTaken : Step Client → ClientNow → ClientNow → DiskState → DiskState → Result Answer Call → Type 0
-IsTaken made old new start now (Ok answer) = (answer ≡ made.answer) × IsMoved made.next old new start now
+IsTaken made old new start now (Ok answer) = (answer ≡ made.answer) × HasMovedOn made.next old new start now
 IsTaken made old new start now (Err call) = IsBrokenOff made.next call old new start now
 
 abbrev pub HasGone : Step Client → ClientNow → ClientNow → DiskState → DiskState → Result Unit Call → Type 0
-HasGone made old new start now (Ok u) = IsMoved made.next old new start now
+HasGone made old new start now (Ok u) = HasMovedOn made.next old new start now
 HasGone made old new start now (Err call) = IsBrokenOff made.next call old new start now
 
 -- ---- a line
 
 -- the answer to a packet was written, where there was room for its text
-pub data IsAnswered (line : List ℕ) (full : Bool) (old new : SinkState)
+pub data IsAnswerWritten (line : List ℕ) (full : Bool) (old new : SinkState)
     : Result Unit SyncFault → Type 0 where
   was_written : (u : Unit {0}) → full ≡ false → new.taken ≡ appended old.taken line
-      → new.faults ≡ old.faults → IsAnswered line full old new (Ok u)
+      → new.faults ≡ old.faults → IsAnswerWritten line full old new (Ok u)
   was_cut : full ≡ false → TookBeginning old.taken new.taken line → Rose old.faults new.faults
-      → IsAnswered line full old new (Err Write)
+      → IsAnswerWritten line full old new (Err Write)
   had_no_room : full ≡ true → new.taken ≡ old.taken → new.faults ≡ old.faults
-      → IsAnswered line full old new (Err (Refused InboxFull))
+      → IsAnswerWritten line full old new (Err (Refused InboxFull))

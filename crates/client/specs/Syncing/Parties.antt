@@ -12,7 +12,7 @@ use Rattle.session_model.specs.declared.answer.Answer.{Answer}
 use Rattle.session_model.specs.declared.answer.Answer.TheVariants.{Refused}
 use Rattle.session_model.specs.declared.answer.Refusal.{Refusal}
 use Rattle.session_model.specs.declared.answer.Refusal.TheVariants.{InboxFull}
-use Rattle.sync_model.specs.Parties.{Party, Took}
+use Rattle.sync_model.specs.Parties.{Party, TookPacket}
 use Rattle.client.specs.Syncing.Lines.{answer_line, end_line, own_box, peers_box, stored_line}
 
 -- there is no room for the text of a packet
@@ -20,13 +20,13 @@ abbrev pub is_no_room : Refusal → Bool
 is_no_room InboxFull = true
 is_no_room _ = false
 
-abbrev pub is_full : Answer → Bool
-is_full (Refused refusal) = is_no_room refusal
-is_full _ = false
+abbrev pub is_inbox_full : Answer → Bool
+is_inbox_full (Refused refusal) = is_no_room refusal
+is_inbox_full _ = false
 
 -- a packet was taken, with this answer; a refusal has left all as it was
-abbrev pub took_by : {S : Type 0} → List ℕ → Step S → Took S
-took_by prefix made = record { line = answer_line prefix made.answer; full = is_full made.answer; next = made.next }
+abbrev pub took_by : {S : Type 0} → List ℕ → Step S → TookPacket S
+took_by prefix made = record { line = answer_line prefix made.answer; full = is_inbox_full made.answer; next = made.next }
 
 -- the packets that wait in an outbox, the oldest first
 abbrev pub waiting : Client → List (List ℕ)

@@ -20,67 +20,67 @@ use Rattle.client.specs.declared.syncing.faults.SyncRefusal.TheVariants.{BoxFull
 use Rattle.client.specs.Syncing.Moments.{BrokenOff, Moment, Moved, Wrote, WroteBeginning}
 
 -- how a round ends: the sync goes on and waits for another reply, or it stops
-pub data Turn : Type 0 where
-  goes_on : Wait → Turn
-  stops : SyncFault → Turn
+pub data RoundEnd : Type 0 where
+  goes_on : Wait → RoundEnd
+  stops : SyncFault → RoundEnd
 
-abbrev pub turn_of : Wait → Result Unit SyncFault → Turn
-turn_of next (Ok u) = goes_on next
-turn_of next (Err fault) = stops fault
+abbrev pub round_turn : Wait → Result Unit SyncFault → RoundEnd
+round_turn next (Ok u) = goes_on next
+round_turn next (Err fault) = stops fault
 
 -- a packet was fetched: its number, where one stood, or else the packets that wait are next
-abbrev pub fetched_as : List (List ℕ) → ℕ → Result (Option ℕ) SyncFault → Turn
+abbrev pub fetched_as : List (List ℕ) → ℕ → Result (Option ℕ) SyncFault → RoundEnd
 fetched_as packets n (Ok None) = goes_on (waits_by packets End)
 fetched_as packets n (Ok (Some number)) = goes_on (acking n number)
 fetched_as packets n (Err fault) = stops fault
 
 -- what the end of a course is called, where it isn't one without a fault
-abbrev pub fault_in : Ending → Option SyncFault
-fault_in (ended which) = None
-fault_in inbox_full = Some (Refused InboxFull)
-fault_in box_is_full = Some (Refused BoxFull)
-fault_in no_such_box = Some (Refused Unknown)
-fault_in wrong = Some (Peer 2 Wrong)
+abbrev pub sync_fault_of : Ending → Option SyncFault
+sync_fault_of (ended which) = None
+sync_fault_of inbox_full = Some (Refused InboxFull)
+sync_fault_of box_is_full = Some (Refused BoxFull)
+sync_fault_of no_such_box = Some (Refused Unknown)
+sync_fault_of wrong = Some (Peer 2 Wrong)
 
 -- ---- what is made of a reply
 
 -- what the move says is done, or cut off by a call that failed
-pub data Turns (m : Move Client) (a b : Moment) : Turn → Type 0 where
-  went_on : (next : Wait) → m.wait ≡ next → Moved m.state a b → Wrote m.lines a b → Turns m a b (goes_on next)
-  came_to_end : (ending : Ending) (fault : SyncFault) → m.wait ≡ over ending → fault_in ending ≡ Some fault → Moved m.state a b
-      → Wrote m.lines a b → Turns m a b (stops fault)
-  was_unwritten : Moved m.state a b → WroteBeginning m.lines a b → Turns m a b (stops Write)
-  was_unstored : (call : Call) → BrokenOff m.state call a b → Wrote [] a b → Turns m a b (stops (Store call))
+pub data MovesTo (m : Move Client) (a b : Moment) : RoundEnd → Type 0 where
+  went_on : (next : Wait) → m.wait ≡ next → Moved m.state a b → Wrote m.lines a b → MovesTo m a b (goes_on next)
+  came_to_end : (ending : Ending) (fault : SyncFault) → m.wait ≡ over ending → sync_fault_of ending ≡ Some fault → Moved m.state a b
+      → Wrote m.lines a b → MovesTo m a b (stops fault)
+  was_unwritten : Moved m.state a b → WroteBeginning m.lines a b → MovesTo m a b (stops Write)
+  was_unstored : (call : Call) → BrokenOff m.state call a b → Wrote [] a b → MovesTo m a b (stops (Store call))
 
 -- the move asks for nothing to be done
-pub data Idles (p : Party Client) (s : Client) (m : Move Client) : Turn → Type 0 where
+pub data Idles (p : Party Client) (s : Client) (m : Move Client) : RoundEnd → Type 0 where
   idles_on : (next : Wait) → m ≡ goes p s next → Idles p s m (goes_on next)
-  idles_to_end : (ending : Ending) (fault : SyncFault) → m ≡ goes p s (over ending) → fault_in ending ≡ Some fault
+  idles_to_end : (ending : Ending) (fault : SyncFault) → m ≡ goes p s (over ending) → sync_fault_of ending ≡ Some fault
       → Idles p s m (stops fault)
 
 -- ---- a request
 
-abbrev pub Answers : Asked → Port → Port → Result Reply SyncFault → Type 0
-Answers asked start now (Ok reply) = IsReplied asked (replied_of reply) start now
-Answers asked start now (Err Link) = IsBroken (request_frame asked) start now
-Answers asked start now (Err (Peer at kind)) = IsFaulty (request_frame asked) start now (fault_at at kind)
-Answers asked start now (Err (Closed call)) = ⊥
-Answers asked start now (Err (Refused refusal)) = ⊥
-Answers asked start now (Err (Store call)) = ⊥
-Answers asked start now (Err Write) = ⊥
+abbrev pub GetsReply : Asked → Port → Port → Result Reply SyncFault → Type 0
+GetsReply asked start now (Ok reply) = IsReplied asked (replied_of reply) start now
+GetsReply asked start now (Err Link) = IsBroken (request_frame asked) start now
+GetsReply asked start now (Err (Peer at kind)) = IsFaulty (request_frame asked) start now (fault_at at kind)
+GetsReply asked start now (Err (Closed call)) = ⊥
+GetsReply asked start now (Err (Refused refusal)) = ⊥
+GetsReply asked start now (Err (Store call)) = ⊥
+GetsReply asked start now (Err Write) = ⊥
 
 -- its reply was read, with what was made of it; or none was, and nothing was done
-pub data Hears (asked : Asked) (start now : Port) (Makes : Replied → Turn → Type 0) (Still : Type 0) : Turn → Type 0 where
-  heard : (reply : Replied) (turn : Turn) → IsReplied asked reply start now → Makes reply turn → Hears asked start now Makes Still turn
+pub data Hears (asked : Asked) (start now : Port) (Makes : Replied → RoundEnd → Type 0) (Still : Type 0) : RoundEnd → Type 0 where
+  heard : (reply : Replied) (turn : RoundEnd) → IsReplied asked reply start now → Makes reply turn → Hears asked start now Makes Still turn
   was_broken : IsBroken (request_frame asked) start now → Still → Hears asked start now Makes Still (stops Link)
   was_unheard : (at : ℕ) (kind : PeerKind) → IsFaulty (request_frame asked) start now (fault_at at kind) → Still
       → Hears asked start now Makes Still (stops (Peer at kind))
 
 -- nothing was done, nor written
-abbrev pub IsStill : Moment → Moment → Type 0
-IsStill a b = Moved a.client.kept a b × Wrote [] a b
+abbrev pub IsUnmoved : Moment → Moment → Type 0
+IsUnmoved a b = Moved a.client.kept a b × Wrote [] a b
 
 -- a round: the request, and what the party makes of its reply
-abbrev pub IsRound : Party Client → Wait → Asked → Moment → Moment → Port → Port → Turn → Type 0
+abbrev pub IsRound : Party Client → Wait → Asked → Moment → Moment → Port → Port → RoundEnd → Type 0
 IsRound p wait asked a b start now turn =
-    Hears asked start now (λ reply then. Turns (move p a.client.kept wait reply) a b then) (IsStill a b) turn
+    Hears asked start now (λ reply then. MovesTo (move p a.client.kept wait reply) a b then) (IsUnmoved a b) turn

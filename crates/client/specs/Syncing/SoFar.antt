@@ -10,8 +10,8 @@ use Rattle.relay_wire.specs.Replies.{IsLawfulReplied, Replied}
 use Rattle.session_model.specs.Clients.{Client}
 use Rattle.session_record.specs.Record.{record_text}
 use Rattle.slot_store.specs.Reading.{IsUndamaged}
-use Rattle.slot_store.specs.Records.{recovered}
-use Rattle.slot_store.specs.Store.{KeepsOutside}
+use Rattle.slot_store.specs.Records.{stored_record}
+use Rattle.slot_store.specs.Store.{KeepsOutsideArea}
 use Rattle.sync_model.specs.Carried.{replied_bytes, request_bytes}
 use Rattle.sync_model.specs.Courses.{course_of}
 use Rattle.sync_model.specs.Moves.{Wait, fetching, waits_by}
@@ -27,9 +27,9 @@ pub record IsReached (p : Party Client) (first : Client) (replies : List Replied
   pub front : List Replied
   pub back : List Replied
   pub split : replies ≡ front ++ back
-  pub holds : recovered client_area c ≡ Some (record_text (course_of p first front).state)
+  pub holds : stored_record client_area c ≡ Some (record_text (course_of p first front).state)
   pub undamaged : IsUndamaged client_area c
-  pub outside : KeepsOutside client_area start c
+  pub outside : KeepsOutsideArea client_area start c
 
 -- the client keeps what the course does after these replies, and its disk is at rest for it; no call on the disk failed
 pub record Stands (p : Party Client) (replies : List Replied) (a b : Moment) : Type 0 where

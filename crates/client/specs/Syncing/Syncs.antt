@@ -17,7 +17,7 @@ use Rattle.relay_wire.specs.Requests.{Asked}
 use Rattle.relay_wire.specs.declared.reply.BadReply.{BadReply}
 use Rattle.session_model.specs.Clients.{Client}
 use Rattle.session_record.specs.Record.{record_text}
-use Rattle.slot_store.specs.Records.{recovered}
+use Rattle.slot_store.specs.Records.{stored_record}
 use Rattle.sync_model.specs.Carried.{replied_bytes, request_bytes}
 use Rattle.sync_model.specs.Courses.{all_lines, course_of, made_requests}
 use Rattle.sync_model.specs.Moves.{Ending, asked_in, ended, over, waits_by}
@@ -27,13 +27,13 @@ use Rattle.client.specs.Clients.{client_area}
 use Rattle.client.specs.declared.syncing.faults.SyncFault.{SyncFault}
 use Rattle.client.specs.declared.syncing.faults.SyncFault.TheVariants.{Closed, Link, Peer, Refused, Store, Write}
 use Rattle.client.specs.Syncing.Moments.{Moment, Wrote, WroteBeginning}
-use Rattle.client.specs.Syncing.Rounds.{fault_in}
+use Rattle.client.specs.Syncing.Rounds.{sync_fault_of}
 use Rattle.client.specs.Syncing.SoFar.{Passed, SoFar, Stands, Talked}
 
 -- ---- on the link, where the last request has no reply
 
 -- the call that failed took a beginning of the request, and less than a frame came
-pub record IsCutOff (p : Party Client) (first : Client) (replies : List Replied) (start now : Port) : Type 0 where
+pub record IsRequestCut (p : Party Client) (first : Client) (replies : List Replied) (start now : Port) : Type 0 where
   pub asked : Asked
   pub waits : asked_in p (course_of p first replies).state (course_of p first replies).wait ≡ Some asked
   pub put : List ℕ
@@ -62,7 +62,7 @@ pub record IsUnheard (p : Party Client) (first : Client) (replies : List Replied
 -- ---- how it ends
 
 -- the course has this end
-pub record IsOver (p : Party Client) (replies : List Replied) (ending : Ending) (a b : Moment) (start now : Port) : Type 0 where
+pub record IsSyncOver (p : Party Client) (replies : List Replied) (ending : Ending) (a b : Moment) (start now : Port) : Type 0 where
   pub is_over : (course_of p a.client.kept replies).wait ≡ over ending
   pub stands : Stands p replies a b
   pub talked : Talked p a.client.kept replies start now
@@ -76,7 +76,7 @@ pub record IsUnwritten (p : Party Client) (replies : List Replied) (a b : Moment
 
 -- bytes with the record of a client
 abbrev pub HasRecord : Client → List ℕ → Type 0
-HasRecord kept c = recovered client_area c ≡ Some (record_text kept)
+HasRecord kept c = stored_record client_area c ≡ Some (record_text kept)
 
 -- a call on the disk failed, of this kind, in the step that the last reply asks for
 pub record IsUnstored (p : Party Client) (replies : List Replied) (call : Call) (a b : Moment) (start now : Port) : Type 0 where
@@ -92,25 +92,25 @@ pub record IsUnstored (p : Party Client) (replies : List Replied) (call : Call) 
   pub talked : Talked p a.client.kept replies start now
   pub wrote : Wrote (course_of p a.client.kept before).lines a b
 
-abbrev pub Ends : Party Client → List Replied → Moment → Moment → Port → Port → Result More SyncFault → Type 0
-Ends p replies a b start now (Ok more) = IsOver p replies (ended more) a b start now
-Ends p replies a b start now (Err (Refused refusal)) =
-    (ending : Ending) × (fault_in ending ≡ Some (Refused refusal)) × IsOver p replies ending a b start now
-Ends p replies a b start now (Err (Peer at kind)) =
-    ((ending : Ending) × (fault_in ending ≡ Some (Peer at kind)) × IsOver p replies ending a b start now)
+abbrev pub EndsSync : Party Client → List Replied → Moment → Moment → Port → Port → Result More SyncFault → Type 0
+EndsSync p replies a b start now (Ok more) = IsSyncOver p replies (ended more) a b start now
+EndsSync p replies a b start now (Err (Refused refusal)) =
+    (ending : Ending) × (sync_fault_of ending ≡ Some (Refused refusal)) × IsSyncOver p replies ending a b start now
+EndsSync p replies a b start now (Err (Peer at kind)) =
+    ((ending : Ending) × (sync_fault_of ending ≡ Some (Peer at kind)) × IsSyncOver p replies ending a b start now)
     ⊎ (Stands p replies a b × IsUnheard p a.client.kept replies start now (fault_at at kind)
     × Wrote (course_of p a.client.kept replies).lines a b)
-Ends p replies a b start now (Err Link) =
-    Stands p replies a b × IsCutOff p a.client.kept replies start now × Wrote (course_of p a.client.kept replies).lines a b
-Ends p replies a b start now (Err Write) = IsUnwritten p replies a b start now
-Ends p replies a b start now (Err (Store call)) = IsUnstored p replies call a b start now
-Ends p replies a b start now (Err (Closed call)) = ⊥
+EndsSync p replies a b start now (Err Link) =
+    Stands p replies a b × IsRequestCut p a.client.kept replies start now × Wrote (course_of p a.client.kept replies).lines a b
+EndsSync p replies a b start now (Err Write) = IsUnwritten p replies a b start now
+EndsSync p replies a b start now (Err (Store call)) = IsUnstored p replies call a b start now
+EndsSync p replies a b start now (Err (Closed call)) = ⊥
 
 -- An open client syncs, by these replies: how it ends, and what each crash meanwhile leaves.
 pub record SyncsBy (p : Party Client) (replies : List Replied) (a b : Moment) (start now : Port) (result : Result More SyncFault) : Type 0 where
   pub lawful : AllByRecursion IsLawfulReplied replies
   pub passed : Passed p replies a b
-  pub ends : Ends p replies a b start now result
+  pub ends : EndsSync p replies a b start now result
 
 -- by the replies that were read
 pub record Syncs (p : Party Client) (a b : Moment) (start now : Port) (result : Result More SyncFault) : Type 0 where

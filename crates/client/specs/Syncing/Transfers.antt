@@ -13,7 +13,7 @@ use Rattle.sync_model.specs.Carried.{IsCarried, request_bytes}
 use Rattle.sync_model.specs.Courses.{course_of}
 use Rattle.sync_model.specs.Moves.{Ending, ended, over}
 use Rattle.sync_model.specs.Parties.{Party}
-use Rattle.sync_model.specs.Transfers.{Fits, HasRoom, emptied, posted, sent_all, taken_all}
+use Rattle.sync_model.specs.Transfers.{HasRoomForAll, HasRoom, emptied, with_posts, sent_all, taken_all}
 use Rattle.sync_model.specs.declared.more.More.TheVariants.{End}
 use Rattle.client.specs.Syncing.Moments.{Moment}
 
@@ -59,7 +59,7 @@ pub record Delivered (p : Party Client) (first : Client) (replies : List Replied
   pub after : List Box
   pub answered : HaveAnswered p first replies boxes after
   pub own_box : box_of p.own after ≡ Some (emptied own)
-  pub peers_box : box_of p.peers after ≡ Some (posted peers (p.outbox first))
+  pub peers_box : box_of p.peers after ≡ Some (with_posts peers (p.outbox first))
   pub keeps : (course_of p first replies).state ≡ sent_all p (length (p.outbox first)) (taken_all p first own.packets)
   pub leaves : (course_of p first replies).state.outbox ≡ []
 
@@ -73,7 +73,7 @@ IsPast p first replies = (ending : Ending) × ((course_of p first replies).wait 
 abbrev pub Transfers : Party Client → Client → List Replied → Type 0
 Transfers p first replies = (boxes : List Box) (own peers : Box) → HasBoxes p boxes own peers → HasRoom p first own.packets
     → IsCarried p first boxes replies → IsPast p first replies
-    → Collected p first replies boxes own × (Fits (p.outbox first) peers → Delivered p first replies boxes own peers)
+    → Collected p first replies boxes own × (HasRoomForAll (p.outbox first) peers → Delivered p first replies boxes own peers)
 
 -- ---- over a link that tells
 

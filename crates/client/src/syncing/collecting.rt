@@ -10,9 +10,9 @@ ghost use Rattle.sync_model.specs.Moves.{acking, acknowledged, fetching, move};
 ghost use Rattle.sync_model.specs.Parties.{Party};
 ghost use Rattle.client.specs.Clients.{IsOpenOn};
 ghost use Rattle.client.specs.Drafting.{DraftsFor, IsDraftOf};
-ghost use Rattle.client.specs.Syncing.Moments.{IsAnswered, moment};
-ghost use Rattle.client.specs.Syncing.Parties.{is_full, is_no_room, party_of, waiting};
-ghost use Rattle.client.specs.Syncing.Rounds.{Hears, Idles, IsRound, Turns, fetched_as, turn_of};
+ghost use Rattle.client.specs.Syncing.Moments.{IsAnswerWritten, moment};
+ghost use Rattle.client.specs.Syncing.Parties.{is_inbox_full, is_no_room, party_of, waiting};
+ghost use Rattle.client.specs.Syncing.Rounds.{Hears, Idles, IsRound, MovesTo, fetched_as, round_turn};
 ghost use Rattle.client.specs.Syncing.Lines.{answer_line};
 ghost use Rattle.client.specs.Syncing.Syncs.{Collects};
 
@@ -35,7 +35,7 @@ use sync_model::{ITEM_LIMIT, More};
 fn acknowledged(reply: Reply<'_>, number: u64) -> Result<(), SyncFault>
     ensures { (p : Party Kept) (kept : Kept) (n : ℕ) →
         Idles p kept (move p kept (acking n number) (replied_of reply.entry))
-        (turn_of (acknowledged p kept n).wait result) }
+        (round_turn (acknowledged p kept n).wait result) }
 {
     match reply {
         Reply::Acked => Ok(()),
@@ -57,7 +57,7 @@ fn is_no_room(refusal: Refusal) -> bool
 
 /// Whether there was no room for the text of a packet.
 fn is_full(answer: Answer) -> bool
-    ensures { result ≡ is_full answer }
+    ensures { result ≡ is_inbox_full answer }
 {
     match answer {
         Answer::Refused(refusal) => is_no_room(refusal),
@@ -67,7 +67,7 @@ fn is_full(answer: Answer) -> bool
 
 /// Writes the answer to a packet, if there was room for its text.
 fn answered<O: Sink>(out: &mut O, prefix: &str, answer: Answer) -> Result<(), SyncFault>
-    ensures answers { IsAnswered (answer_line prefix.now answer) (is_full answer) (O.at out.old)
+    ensures answers { IsAnswerWritten (answer_line prefix.now answer) (is_inbox_full answer) (O.at out.old)
         (O.at out.new) result }
     ensures later { (O.at out.old).faults ≤ (O.at out.new).faults }
 {
@@ -96,7 +96,7 @@ impl<K: Kem> Client<K> {
         requires open { IsOpenOn self.old (D.state disk.old) }
         ensures turns { (own peers : List ℕ) (n : ℕ) (packet : List ℕ)
             → DraftsFor K.mechanism self.old.kept packet drafted.entry
-            → Turns (move (party_of K.mechanism prefix.now own peers) self.old.kept
+            → MovesTo (move (party_of K.mechanism prefix.now own peers) self.old.kept
             (fetching n) (item number packet))
             (moment self.old (D.state disk.old) (O.at out.old))
             (moment self.new (D.state disk.new) (O.at out.new))
@@ -160,7 +160,7 @@ impl<K: Kem> Client<K> {
             Hears (record { name = names.now.own; ask = acks number }) (L.port link.old)
             (L.port link.new)
             (λ reply turn. Idles p kept (move p kept (acking n number) reply) turn) (Unit {0})
-            (turn_of (acknowledged p kept n).wait result) }
+            (round_turn (acknowledged p kept n).wait result) }
         ensures same { self.new ≡ self.old }
         ensures link { LeavesLink L.port L.behind link.old link.new }
     {

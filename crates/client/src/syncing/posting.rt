@@ -9,7 +9,7 @@ ghost use Rattle.sync_model.specs.declared.more.More.{More};
 ghost use Rattle.client.specs.Clients.{ClientNow, IsOpenOn};
 ghost use Rattle.client.specs.Syncing.Moments.{moment};
 ghost use Rattle.client.specs.Syncing.Parties.{party_of, waiting};
-ghost use Rattle.client.specs.Syncing.Rounds.{IsRound, Turns, turn_of};
+ghost use Rattle.client.specs.Syncing.Rounds.{IsRound, MovesTo, round_turn};
 ghost use Rattle.client.specs.Syncing.SoFar.{SoFar};
 ghost use Rattle.client.specs.Syncing.Syncs.{Posts};
 
@@ -42,11 +42,11 @@ impl<K: Kem> Client<K> {
         requires some { 0 < length self.old.kept.outbox }
         requires open { IsOpenOn self.old (D.state disk.old) }
         ensures turns { (own peers : List ℕ) (more : More) →
-            Turns (move (party_of K.mechanism prefix.now own peers) self.old.kept (posting more)
+            MovesTo (move (party_of K.mechanism prefix.now own peers) self.old.kept (posting more)
             (stored number))
             (moment self.old (D.state disk.old) (O.at out.old))
             (moment self.new (D.state disk.new) (O.at out.new))
-            (turn_of (waits_by (waiting self.new.kept) more) result) }
+            (round_turn (waits_by (waiting self.new.kept) more) result) }
         ensures fewer { OnOk result (length self.new.kept.outbox < length self.old.kept.outbox) }
         ensures later { (O.at out.old).faults ≤ (O.at out.new).faults }
     {
@@ -77,7 +77,7 @@ impl<K: Kem> Client<K> {
             (moment self.old (D.state disk.old) (O.at out.old))
             (moment self.new (D.state disk.new) (O.at out.new))
             (L.port link.old) (L.port link.new)
-            (turn_of (waits_by (waiting self.new.kept) more) result) }
+            (round_turn (waits_by (waiting self.new.kept) more) result) }
         ensures fewer { OnOk result (length self.new.kept.outbox < length self.old.kept.outbox) }
         ensures later { (O.at out.old).faults ≤ (O.at out.new).faults }
         ensures link { LeavesLink L.port L.behind link.old link.new }

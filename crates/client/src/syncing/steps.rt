@@ -14,7 +14,7 @@ ghost use Rattle.session_model.specs.Clients.{accept_receive};
 ghost use Rattle.client.specs.Clients.{IsOpenOn};
 ghost use Rattle.client.specs.Drafting.{IsDraftOf, taken_of};
 ghost use Rattle.client.specs.Syncing.Parties.{sent_step, waiting};
-ghost use Rattle.client.specs.Syncing.Rounds.{Answers};
+ghost use Rattle.client.specs.Syncing.Rounds.{GetsReply};
 ghost use Rattle.client.specs.Syncing.Moments.{HasGone, IsTaken};
 
 use super::faults::SyncFault;
@@ -32,7 +32,7 @@ use session_model::{Answer, Refusal};
 /// What came of a request.
 fn heard<'a>(replied: Result<Reply<'a>, AskFault>) -> Result<Reply<'a>, SyncFault>
     ensures { (asked : Asked) (start now : Port) → Asks asked start now replied.entry
-        → Answers asked start now result }
+        → GetsReply asked start now result }
 {
     match replied {
         Ok(reply) => Ok(reply),
@@ -50,7 +50,7 @@ pub(crate) fn ask_for<'a, L: Pipe>(
     reader: &'a mut FrameReader,
     request: &Request<'_>,
 ) -> Result<Reply<'a>, SyncFault>
-    ensures answers { Answers (asked_of request.now) (L.port link.old) (L.port link.new) result }
+    ensures answers { GetsReply (asked_of request.now) (L.port link.old) (L.port link.new) result }
     ensures link { LeavesLink L.port L.behind link.old link.new }
 {
     heard(ask(link, reader, request))

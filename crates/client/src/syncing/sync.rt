@@ -9,7 +9,7 @@ ghost use Rattle.relay_pipe.specs.Asking.{LeavesLink};
 ghost use Rattle.relay_wire.specs.Replies.{Replied};
 ghost use Rattle.client.specs.Clients.{IsOpenOn, MayActOn};
 ghost use Rattle.client.specs.InWorlds.{IsIn};
-ghost use Rattle.client.specs.Syncing.Arrivals.{Opens};
+ghost use Rattle.client.specs.Syncing.Arrivals.{OpensArrived};
 ghost use Rattle.client.specs.Syncing.InWorlds.{AreUnforged, SyncSpends, SyncsIn};
 ghost use Rattle.client.specs.Syncing.Moments.{moment};
 ghost use Rattle.client.specs.Syncing.Parties.{client_party, party_of};
@@ -89,7 +89,7 @@ impl<K: Kem> Client<K> {
             (moment self.old (D.state disk.old) (O.at out.old))
             (moment self.new (D.state disk.new) (O.at out.new))
             (L.port link.old) (L.port link.new) result
-            → Opens K.mechanism prefix.now self.old.kept replies }
+            → OpensArrived K.mechanism prefix.now self.old.kept replies }
         // So they are over a link that tells that it carries a relay's replies, where no call
         // fails.
         ensures carries { self.old.closed ≡ None → (replies : List Replied)

@@ -24,9 +24,9 @@ use Rattle.session_record.specs.Lawful.{IsLawfulClient}
 use Rattle.session_record.specs.Record.{record_text}
 use Rattle.slot_store.proofs.Standing.{rests_undamaged}
 use Rattle.slot_store.specs.Reading.{IsUndamaged}
-use Rattle.slot_store.specs.Records.{recovered}
+use Rattle.slot_store.specs.Records.{stored_record}
 use Rattle.slot_store.specs.Stops.{took}
-use Rattle.slot_store.specs.Store.{IsWithin, SlotStore}
+use Rattle.slot_store.specs.Store.{HasArea, SlotStore}
 use Rattle.slot_store.specs.Areas.{Area}
 use Rattle.client.specs.Clients.{ClientNow, IsReady, client_area}
 use Rattle.client.specs.Outcomes.{Acts, IsCutOff, IsDone, IsEffected, Outcome, acknowledged, faulted, is_closed, refused, replacing_calls, undrawn}
@@ -35,7 +35,7 @@ use Rattle.client.specs.declared.refusals.OpenRefusal.{OpenRefusal}
 use Rattle.client.specs.declared.refusals.OpenRefusal.TheVariants.{Damaged, Memory, NoSession, StoreFault}
 use Rattle.client.proofs.Lawful.Acts.{done_lawful, say_lawful, sent_lawful, take_lawful}
 use Rattle.duet.specs.Acts.{IsChecked, IsEnded, made_by}
-use Rattle.duet.specs.Parties.{HasRecord, IsHeld, IsWantOfMemory}
+use Rattle.duet.specs.Parties.{DiskHasRecord, IsHeld, IsWantOfMemory}
 use Rattle.duet.specs.Stops.{cut_by, cut_of, is_replaced, stopped_client}
 use Rattle.duet.proofs.Stopped.Sides.{idle_stopped}
 use Rattle.duet.specs.declared.acts.Act.{Act}
@@ -184,12 +184,12 @@ module _ (n : ℕ) (mode : Mode) (made : Result (Step Client) Refusal) (old new 
 
   -- and that its record stands where the disk has crashed
   pub cut_record : (call : Call) (c : IsCutOff made old new (state_of (stopped_after n disk)) (state_of now) call) (left : MemoryDisk)
-      → IsLeftBy mode (state_of now) (state_of left) → HasRecord (Left call c) (state_of left)
+      → IsLeftBy mode (state_of now) (state_of left) → DiskHasRecord (Left call c) (state_of left)
   cut_record call c left by = λ s seen.
       let passed = (passed_all call c).0 in
       let same : by.bytes ≡ s = let e : Some by.bytes ≡ Some s = sym by.fresh.seen ∙ seen in cc in
       let off : n - 0 ≡ n = omega arith in
-      ap (recovered client_area) (sym same) ∙ c.disk.stopped.crash 0 n mode by.bytes refl passed by.left
+      ap (stored_record client_area) (sym same) ∙ c.disk.stopped.crash 0 n mode by.bytes refl passed by.left
       ∙ ap (λ j. if took (Some (record_text old.kept)) (Some (record_text c.next.next)) j mode then Some (record_text c.next.next)
       else Some (record_text old.kept)) off
       ∙ chosen (is_replaced n mode old.kept c.next.next) c.next.next old.kept
@@ -212,7 +212,7 @@ module _ (n : ℕ) (mode : Mode) (made : Result (Step Client) Refusal) (old new 
       ∙ cut n mode old.kept c.next c.effect (passed_all call c).1)
 
   pub cut_within : (call : Call) (c : IsCutOff made old new (state_of (stopped_after n disk)) (state_of now) call) (left : MemoryDisk)
-      → IsLeftBy mode (state_of now) (state_of left) → IsWithin client_area (state_of left)
+      → IsLeftBy mode (state_of now) (state_of left) → HasArea client_area (state_of left)
   cut_within call c left by =
       let lawful = lawful_disk now in
       let long = lawful.sized by.bytes (lawful.leaves_now mode by.bytes by.left) in

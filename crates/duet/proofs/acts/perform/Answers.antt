@@ -3,7 +3,7 @@ use Rattle.std.proofs.lemmas.Grind.{common_steps}
 use Rattle.dr_disk.specs.MemoryDisks.{state_of}
 use Rattle.dr_model.specs.Machines.Acts.{act_on, finishing, sending}
 use Rattle.session_model.specs.declared.answer.Answer.TheVariants.{Done, Sent}
-use Rattle.client.specs.Outcomes.{Acts, Outcome, Passes}
+use Rattle.client.specs.Outcomes.{Acts, Outcome, StaysPassing}
 use Rattle.duet.specs.Acts.{ended_as, made_by}
 use Rattle.duet.specs.declared.acts.Act.{Act}
 use Rattle.duet.proofs.acts.perform.Goals as goal
@@ -27,10 +27,10 @@ returns-in-Ok g c = grind (arith, common_steps)
 
 pub returns-in-Err-sent-clause-fate : goal.returns-in-Err-sent-clause-fate
 returns-in-Err-sent-clause-fate g c =
-    subst (λ (o : Outcome). Passes (state_of c.args.disk.now) (state_of c.sent.new.disk) o)
+    subst (λ (o : Outcome). StaysPassing (state_of c.args.disk.now) (state_of c.sent.new.disk) o)
     (sym (c.drop_ended.ensures (Sent c.in-Sent.n))) c.in-Err-sent.ensures.fate
 
 pub returns-in-Err-done-clause-fate : goal.returns-in-Err-done-clause-fate
 returns-in-Err-done-clause-fate g c =
-    subst (λ (o : Outcome). Passes (state_of c.args.disk.now) (state_of c.done.new.disk) o)
+    subst (λ (o : Outcome). StaysPassing (state_of c.args.disk.now) (state_of c.done.new.disk) o)
     (sym (c.drop_ended-in-Err-done.ensures (Done c.in-Done.n))) c.in-Err-done.ensures.fate

@@ -3,7 +3,7 @@ use Rattle.dr_disk.specs.MemoryDisks.{state_of}
 use Rattle.dr_model.specs.Machines.Acts.{said_by}
 use Rattle.ratchet.specs.Seen.{seed_bytes}
 use Rattle.session_model.specs.Clients.{say_on}
-use Rattle.client.specs.Outcomes.{Acts, Outcome, Passes, said_as}
+use Rattle.client.specs.Outcomes.{Acts, Outcome, StaysPassing, said_as}
 use Rattle.duet.proofs.SaidActs.{said_acts}
 use Rattle.duet.proofs.Stopped.Acts.{is_ended}
 use Rattle.duet.proofs.acts.say.Goals as goal
@@ -29,4 +29,4 @@ returns-in-Err-clause-acts g c =
 
 pub returns-in-Err-clause-fate : goal.returns-in-Err-clause-fate
 returns-in-Err-clause-fate g c =
-    subst (λ (o : Outcome). Passes (state_of c.args.disk.now) (state_of c.say.new.disk) o) (sym c.say_ended.ensures) c.in-Err.ensures.fate
+    subst (λ (o : Outcome). StaysPassing (state_of c.args.disk.now) (state_of c.say.new.disk) o) (sym c.say_ended.ensures) c.in-Err.ensures.fate

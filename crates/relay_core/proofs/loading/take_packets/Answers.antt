@@ -4,7 +4,7 @@ use Rattle.grammar.specs.Reader.{Read}
 use Rattle.grammar.proofs.Loops.{items-none, items-more, items-fault}
 use Rattle.relay_core.specs.Boxes.{Kept}
 use Rattle.relay_core.specs.Lawful.{last_number}
-use Rattle.relay_core.specs.Record.{kept_of, next_kept}
+use Rattle.relay_core.specs.Record.{kept_packet_of, next_kept}
 use Rattle.relay_core.proofs.TakenBoxes.{next_read, last_number-push}
 use Rattle.relay_core.proofs.loading.take_packets.Goals as goal
 
@@ -32,7 +32,7 @@ packets-preserved c =
     let start = c.args.cursor.now in
     let here = c.packets.cursor in
     let before : Read (List Kept) = record { value = c.packets.packets.items; at = here.at; rest = here.rest } in
-    let kept : Kept = kept_of (c.in_ok-kept.kept.0, c.in_ok-kept.kept.1.now) in
+    let kept : Kept = kept_packet_of (c.in_ok-kept.kept.0, c.in_ok-kept.kept.1.now) in
     let one : Read Kept = record { value = kept; at = c.read_kept.new.cursor.at; rest = c.read_kept.new.cursor.rest } in
     let next = next_read c.args.last c.packets.low before.value here.at here.rest _ c.packets.invariant.low c.in_ok-kept.ensures.reads in
     let pushed : c.push.new.self.items ≡ before.value ++ kept ∷ [] = search rules in

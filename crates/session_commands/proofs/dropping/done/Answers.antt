@@ -1,13 +1,13 @@
 use Rattle.dr_model.specs.Machines.Acts.{finishing}
 use Rattle.session_commands.specs.Asking.{asked_drop}
-use Rattle.session_commands.specs.Closing.{ending_by, lines_by}
+use Rattle.session_commands.specs.Closing.{ending_by, lines_of_ending}
 use Rattle.session_commands.proofs.Quiet.{act_quiet}
 use Rattle.session_commands.proofs.dropping.done.Goals as goal
 
 pub returns-clause-runs : goal.returns-clause-runs
 returns-clause-runs g c = record {
   ending = ending_by c.drop_texts-worked.result;
-  lines = lines_by c.drop_texts-worked.result;
+  lines = lines_of_ending c.drop_texts-worked.result;
   came = c.drop_texts-worked.ensures;
   ends = c.close.ensures.ends;
 }

@@ -3,7 +3,7 @@ use Rattle.dr_model.specs.Machines.Acts.{finishing}
 use Rattle.session_model.specs.declared.answer.Answer.TheVariants.{Done}
 use Rattle.client.specs.Outcomes.{dropped_as}
 use Rattle.session_commands.specs.Asking.{asked_drop}
-use Rattle.session_commands.specs.Closing.{ending_by, lines_by}
+use Rattle.session_commands.specs.Closing.{ending_by, lines_of_ending}
 use Rattle.session_commands.specs.InWorlds.{RunsAct}
 use Rattle.session_commands.proofs.Acts.{act_runs}
 use Rattle.session_commands.proofs.Unopened.{unopened_runs}
@@ -19,7 +19,7 @@ returns-in-Err g c =
 pub returns-in-Ok : goal.returns-in-Ok
 returns-in-Ok g c =
     let asked = asked_drop (finishing c.args.n) in
-    subst (λ r. RunsAct g.D.Disk.state g.K.Kem.mechanism asked c.args.disk.now c.done-acted.new.disk (ending_by r) (lines_by r))
+    subst (λ r. RunsAct g.D.Disk.state g.K.Kem.mechanism asked c.args.disk.now c.done-acted.new.disk (ending_by r) (lines_of_ending r))
     (sym c.dropped.ensures)
     (act_runs g.D.Disk.state g.K.Kem.mechanism c.args.disk.now c.open.new.disk c.done-acted.new.disk
     (g.met.D.Disk.lawful c.done-acted.new.disk) c.in-Ok.client c.done-acted.new.self c.in-Ok.ensures.opened

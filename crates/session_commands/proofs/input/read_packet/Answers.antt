@@ -1,5 +1,5 @@
 use Rattle.std.proofs.Common.{ap, arith, length, rules, sym, ◌∙◌, ◌≤◌}
-use Rattle.session_commands.specs.Inputs.{had_no_memory, is_bad, is_too_long, packet_of, read_failed}
+use Rattle.session_commands.specs.Inputs.{had_no_memory, is_bad, is_too_long, packet_in_hex, read_failed}
 use Rattle.session_commands.specs.declared.input.TheConstants.{PACKET_TEXT_LIMIT}
 use Rattle.session_commands.proofs.Texts.{text_as}
 use Rattle.session_commands.proofs.input.read_packet.Goals as goal
@@ -23,8 +23,8 @@ returns-in-Some-clause-input g c =
     omega (arith, ap length c.as_slice.ensures.value, c.as_slice.ensures.len, c.in-Ok.ensures.fits) in
     record {
       text =
-          text_as packet_of PACKET_TEXT_LIMIT _ c.in-Ok.text.items _ c.in-Ok.ensures.whole fits
-          (ap packet_of (sym c.as_slice.ensures.value) ∙ sym c.in-Some.ensures);
+          text_as packet_in_hex PACKET_TEXT_LIMIT _ c.in-Ok.text.items _ c.in-Ok.ensures.whole fits
+          (ap packet_in_hex (sym c.as_slice.ensures.value) ∙ sym c.in-Some.ensures);
       drained = c.in-Ok.ensures.drained;
       quiet = c.in-Ok.ensures.quiet (λ h. cc);
     }
@@ -34,6 +34,6 @@ returns-clause-input g c =
     let fits : length c.in-Ok.text.items ≤ PACKET_TEXT_LIMIT =
     omega (arith, ap length c.as_slice.ensures.value, c.as_slice.ensures.len, c.in-Ok.ensures.fits) in
     is_bad
-    (text_as packet_of PACKET_TEXT_LIMIT _ c.in-Ok.text.items _ c.in-Ok.ensures.whole fits
-    (ap packet_of (sym c.as_slice.ensures.value) ∙ sym c.in-None.ensures))
+    (text_as packet_in_hex PACKET_TEXT_LIMIT _ c.in-Ok.text.items _ c.in-Ok.ensures.whole fits
+    (ap packet_in_hex (sym c.as_slice.ensures.value) ∙ sym c.in-None.ensures))
     c.in-Ok.ensures.drained (c.in-Ok.ensures.quiet (λ h. cc))

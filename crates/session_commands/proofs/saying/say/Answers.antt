@@ -1,13 +1,13 @@
 use Rattle.std.proofs.Common.{◌≡◌}
 use Rattle.session_commands.specs.Asking.{asked_say}
-use Rattle.session_commands.specs.Closing.{ending_by, lines_by}
+use Rattle.session_commands.specs.Closing.{ending_by, lines_of_ending}
 use Rattle.session_commands.proofs.Quiet.{act_quiet, no_draw_failed}
 use Rattle.session_commands.proofs.saying.say.Goals as goal
 
 pub returns-clause-runs : goal.returns-clause-runs
 returns-clause-runs g c = record {
   ending = ending_by c.say_text-worked.result;
-  lines = lines_by c.say_text-worked.result;
+  lines = lines_of_ending c.say_text-worked.result;
   came = c.say_text-worked.ensures;
   ends = c.close.ensures.ends;
 }

@@ -1,6 +1,6 @@
 use Rattle.std.proofs.Common.{[], refl, subst, sym}
 use Rattle.session_commands.specs.Asking.{asked_say}
-use Rattle.session_commands.specs.Closing.{ending_by, lines_by}
+use Rattle.session_commands.specs.Closing.{ending_by, lines_of_ending}
 use Rattle.session_commands.specs.InWorlds.{RunsAct}
 use Rattle.session_commands.proofs.Says.{say_runs}
 use Rattle.session_commands.proofs.Unopened.{unopened_runs}
@@ -16,7 +16,7 @@ returns-in-Err g c =
 pub returns-in-Ok : goal.returns-in-Ok
 returns-in-Ok g c =
     let asked = asked_say g.W.Draws.at c.args.text.now c.args.draws.now c.say-acted.new.draws in
-    subst (λ r. RunsAct g.D.Disk.state g.K.Kem.mechanism asked c.args.disk.now c.say-acted.new.disk (ending_by r) (lines_by r))
+    subst (λ r. RunsAct g.D.Disk.state g.K.Kem.mechanism asked c.args.disk.now c.say-acted.new.disk (ending_by r) (lines_of_ending r))
     (sym c.said.ensures)
     (say_runs g.D.Disk.state g.W.Draws.at g.K.Kem.mechanism c.args.text.now c.args.draws.now
     c.say-acted.new.draws c.args.disk.now c.open.new.disk c.say-acted.new.disk (g.met.D.Disk.lawful c.say-acted.new.disk)

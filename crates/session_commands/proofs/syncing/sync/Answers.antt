@@ -4,8 +4,8 @@ use Rattle.endings.specs.declared.ending.Ending.{Ending}
 use Rattle.endings.specs.declared.ending.Ending.TheVariants.{LinkFault}
 use Rattle.client.specs.Syncing.Moments.{moment}
 use Rattle.client.specs.Syncing.Parties.{client_party}
-use Rattle.client.specs.Syncing.Syncs.{Ends}
-use Rattle.session_commands.specs.Syncing.{RunsSync, ending_of_sync, sync_lines, was_synced, wasnt_linked, wasnt_synced}
+use Rattle.client.specs.Syncing.Syncs.{EndsSync}
+use Rattle.session_commands.specs.Syncing.{RunsSync, ending_of_sync, lines_of_sync, was_synced, wasnt_linked, wasnt_synced}
 use Rattle.session_commands.proofs.Standing.{only_opened, stood}
 use Rattle.session_commands.proofs.SyncRuns.{leaves_course, sync_ends, sync_runs}
 use Rattle.session_commands.proofs.Syncs.{done_quiet, each_part, has_written, near_result}
@@ -48,13 +48,13 @@ close-requires g c =
 pub returns-clause-runs : goal.returns-clause-runs
 returns-clause-runs g c =
     let syncs = c.sync-synced.ensures.exact c.in-Ok.ensures.opened.is_open in
-    let ends : Ends (client_party g.K.Kem.mechanism [] c.in-Ok.client.kept) syncs.replies
+    let ends : EndsSync (client_party g.K.Kem.mechanism [] c.in-Ok.client.kept) syncs.replies
     (moment c.in-Ok.client (g.D.Disk.state c.open.new.disk) (g.O.Sink.at c.args.out.now))
     (moment c.sync-synced.new.self (g.D.Disk.state c.sync-synced.new.disk) (g.O.Sink.at c.sync-synced.new.out))
     (g.L.Pipe.port c.open-in-Ok.new.self) (g.L.Pipe.port c.sync-synced.new.link) c.sync-synced.result = syncs.syncs.ends in
     record {
       ending = ending_of_sync c.sync-synced.result;
-      lines = sync_lines (client_party g.K.Kem.mechanism [] c.in-Ok.client.kept) c.in-Ok.client.kept syncs.replies c.sync-synced.result;
+      lines = lines_of_sync (client_party g.K.Kem.mechanism [] c.in-Ok.client.kept) c.in-Ok.client.kept syncs.replies c.sync-synced.result;
       came =
           was_synced c.in-Ok.client.kept syncs.replies c.sync-synced.result c.in-Ok.ensures.opened.read syncs.syncs.lawful
           (c.sync-synced.ensures.transfer c.in-Ok.ensures.opened.is_open syncs.replies syncs.syncs)
@@ -81,7 +81,7 @@ returns-clause-runs g c =
           (client_party g.K.Kem.mechanism [] c.in-Ok.client.kept) (g.L.Pipe.port c.open-in-Ok.new.self) (g.L.Pipe.port c.sync-synced.new.link) c.sync-synced.result stands c.open.ensures.any_moment c.in-Ok.ensures.opened.alike ends
           (c.sync-synced.ensures.in_worlds w side syncs.replies opens.client.0 syncs.syncs fair));
       ends =
-          c.close.ensures.ends (sync_lines (client_party g.K.Kem.mechanism [] c.in-Ok.client.kept) c.in-Ok.client.kept syncs.replies c.sync-synced.result) (g.O.Sink.at c.args.out.now)
+          c.close.ensures.ends (lines_of_sync (client_party g.K.Kem.mechanism [] c.in-Ok.client.kept) c.in-Ok.client.kept syncs.replies c.sync-synced.result) (g.O.Sink.at c.args.out.now)
           (has_written (client_party g.K.Kem.mechanism [] c.in-Ok.client.kept) syncs.replies
           (moment c.in-Ok.client (g.D.Disk.state c.open.new.disk) (g.O.Sink.at c.args.out.now))
           (moment c.sync-synced.new.self (g.D.Disk.state c.sync-synced.new.disk) (g.O.Sink.at c.sync-synced.new.out))

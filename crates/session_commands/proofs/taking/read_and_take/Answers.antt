@@ -1,6 +1,6 @@
 use Rattle.std.proofs.Common.{refl, subst}
 use Rattle.session_commands.specs.Asking.{asked_take}
-use Rattle.session_commands.specs.Closing.{ending_by, lines_by}
+use Rattle.session_commands.specs.Closing.{ending_by, lines_of_ending}
 use Rattle.session_commands.specs.InWorlds.{RunsAct}
 use Rattle.session_commands.specs.Runs.{had_no_packet, had_packet}
 use Rattle.session_commands.proofs.taking.read_and_take.Goals as goal
@@ -10,7 +10,7 @@ returns-in-Err-clause-runs g c = had_no_packet c.in-Err.ending c.in-Err.ensures.
 
 pub returns-in-Ok-clause-runs : goal.returns-in-Ok-clause-runs
 returns-in-Ok-clause-runs g c =
-    had_packet c.in-Ok.packet.items (ending_by c.take_packet.result) (lines_by c.take_packet.result) c.in-Ok.ensures.input
+    had_packet c.in-Ok.packet.items (ending_by c.take_packet.result) (lines_of_ending c.take_packet.result) c.in-Ok.ensures.input
     (subst
-    (λ packet. RunsAct g.D.Disk.state g.K.Kem.mechanism (asked_take g.K.Kem.mechanism packet) c.args.disk.now c.take_packet.new.disk (ending_by c.take_packet.result) (lines_by c.take_packet.result))
+    (λ packet. RunsAct g.D.Disk.state g.K.Kem.mechanism (asked_take g.K.Kem.mechanism packet) c.args.disk.now c.take_packet.new.disk (ending_by c.take_packet.result) (lines_of_ending c.take_packet.result))
     c.as_slice.ensures.value c.take_packet.ensures)

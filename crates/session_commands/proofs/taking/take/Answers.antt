@@ -1,11 +1,11 @@
-use Rattle.session_commands.specs.Closing.{ending_by, lines_by}
+use Rattle.session_commands.specs.Closing.{ending_by, lines_of_ending}
 use Rattle.session_commands.proofs.Quiet.{take_quiet}
 use Rattle.session_commands.proofs.taking.take.Goals as goal
 
 pub returns-clause-runs : goal.returns-clause-runs
 returns-clause-runs g c = record {
   ending = ending_by c.read_and_take-worked.result;
-  lines = lines_by c.read_and_take-worked.result;
+  lines = lines_of_ending c.read_and_take-worked.result;
   came = c.read_and_take-worked.ensures.runs;
   ends = c.close.ensures.ends;
 }

@@ -2,7 +2,7 @@ use Rattle.std.proofs.Common.{[], refl, subst, sym}
 use Rattle.dr_model.specs.Machines.Acts.{taking}
 use Rattle.client.specs.Outcomes.{taken_as}
 use Rattle.session_commands.specs.Asking.{asked_take}
-use Rattle.session_commands.specs.Closing.{ending_by, lines_by}
+use Rattle.session_commands.specs.Closing.{ending_by, lines_of_ending}
 use Rattle.session_commands.specs.InWorlds.{RunsAct}
 use Rattle.session_commands.proofs.Acts.{act_runs}
 use Rattle.session_commands.proofs.Unopened.{unopened_runs}
@@ -18,7 +18,7 @@ returns-in-Err g c =
 pub returns-in-Ok : goal.returns-in-Ok
 returns-in-Ok g c =
     let asked = asked_take g.K.Kem.mechanism c.args.packet.now in
-    subst (λ r. RunsAct g.D.Disk.state g.K.Kem.mechanism asked c.args.disk.now c.take-acted.new.disk (ending_by r) (lines_by r))
+    subst (λ r. RunsAct g.D.Disk.state g.K.Kem.mechanism asked c.args.disk.now c.take-acted.new.disk (ending_by r) (lines_of_ending r))
     (sym c.taken.ensures)
     (act_runs g.D.Disk.state g.K.Kem.mechanism c.args.disk.now c.open.new.disk c.take-acted.new.disk
     (g.met.D.Disk.lawful c.take-acted.new.disk) c.in-Ok.client c.take-acted.new.self c.in-Ok.ensures.opened

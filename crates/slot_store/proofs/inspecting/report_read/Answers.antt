@@ -1,6 +1,6 @@
 use Rattle.std.proofs.Common.{sym, subst, ap, ◌∙◌}
 use Rattle.pages.proofs.Looking.{looks_as, looks_failed, looks_twice}
-use Rattle.slot_store.specs.Locating.{IsHeld, IsLocated}
+use Rattle.slot_store.specs.Locating.{HoldsWhatCounts, IsLocated}
 use Rattle.slot_store.specs.Reports.{finding_of}
 use Rattle.slot_store.proofs.Reported.{gate_told, rests_found}
 use Rattle.slot_store.proofs.TablesRead.{tables_of}
@@ -8,7 +8,7 @@ use Rattle.slot_store.proofs.inspecting.report_read.Goals as goal
 
 pub rests-requires-clause-tables : goal.rests-requires-clause-tables
 rests-requires-clause-tables g c =
-    let held : IsHeld g.G.Grammar.fault_at c.args.area (g.D.Disk.state c.args.disk.now) c.in-Ok-Held.pager =
+    let held : HoldsWhatCounts g.G.Grammar.fault_at c.args.area (g.D.Disk.state c.args.disk.now) c.in-Ok-Held.pager =
     subst (IsLocated g.G.Grammar.fault_at c.args.area (g.D.Disk.state c.args.disk.now)) c.in-Ok-Held.field-0-is c.in-Ok-Held.ensures.found in
     let looks = c.in-Ok-Held.ensures.looks in
     tables_of _ _ _ _ _ _ c.requires.tables _ held.area_is looks.during.size looks.untouched.unwritten.seen
@@ -16,7 +16,7 @@ rests-requires-clause-tables g c =
 pub returns-in-Ok : goal.returns-in-Ok
 returns-in-Ok g c =
     let start = g.D.Disk.state c.args.disk.now in
-    let held : IsHeld g.G.Grammar.fault_at c.args.area start c.in-Ok-Held.pager =
+    let held : HoldsWhatCounts g.G.Grammar.fault_at c.args.area start c.in-Ok-Held.pager =
     subst (IsLocated g.G.Grammar.fault_at c.args.area start) c.in-Ok-Held.field-0-is c.in-Ok-Held.ensures.found in
     record {
       found = λ s told. record {

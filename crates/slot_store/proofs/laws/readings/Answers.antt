@@ -1,11 +1,11 @@
 use Rattle.std.proofs.Common.{sym, subst}
-use Rattle.slot_store.specs.Reading.{OpensAs, reading}
-use Rattle.slot_store.specs.Records.{recovered, shot_in}
+use Rattle.slot_store.specs.Reading.{OpensAs, area_reading}
+use Rattle.slot_store.specs.Records.{stored_record, shot_in}
 use Rattle.slot_store.proofs.Shown.{holds_again, holds_shown, holds_text, none_shown}
 use Rattle.slot_store.proofs.laws.readings.Goals as goal
 
 pub returns : goal.returns
-unfolding recovered reading
+unfolding stored_record area_reading
 returns c = record {
   content = λ fault_at area c text is. holds_shown fault_at area text (shot_in area c) is;
   fits_grammar = λ fault_at area c text is. holds_text fault_at area text (shot_in area c) is;

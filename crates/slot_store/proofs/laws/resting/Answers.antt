@@ -1,5 +1,5 @@
 use Rattle.std.proofs.Common.{ap₂, sym, subst}
-use Rattle.pages.specs.Resting.{IsAtRest as AreAtRest}
+use Rattle.pages.specs.Resting.{IsShotAtRest as AreAtRest}
 use Rattle.record_pages.specs.Tables.{record_names}
 use Rattle.slot_store.specs.Areas.{layout_of}
 use Rattle.slot_store.specs.Layout.{laid}

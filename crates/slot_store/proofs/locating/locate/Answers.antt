@@ -1,7 +1,7 @@
 use Rattle.std.proofs.Common.{◌≡◌}
 use Rattle.dr_disk.specs.State.{OnSeen}
 use Rattle.pages.proofs.Looking.{looks_none}
-use Rattle.pages.specs.Tables.{alike, none_open, standing}
+use Rattle.pages.specs.Tables.{alike, none_open, tables_standing}
 use Rattle.slot_store.specs.Areas.{layout_of}
 use Rattle.slot_store.proofs.EmptyRead.{alike_reading, empty_reading, empty_shown, empty_text, judged_read}
 use Rattle.slot_store.proofs.JudgedRead.{first_counts, first_opened, second_counts, second_opened}
@@ -20,7 +20,7 @@ pub returns-in-NoneOpen : goal.returns-in-NoneOpen
 returns-in-NoneOpen g c =
     let pager = c.pager_of-pager.result in
     let is = c.pager_of-pager.ensures in
-    let closed : OnSeen (λ s. standing (layout_of c.args.area) s ≡ none_open) (g.D.Disk.state c.args.disk.now) =
+    let closed : OnSeen (λ s. tables_standing (layout_of c.args.area) s ≡ none_open) (g.D.Disk.state c.args.disk.now) =
     judged_read c.args.area (g.D.Disk.state c.args.disk.now) c.args.first_gate c.args.second_gate c.args.scratch.now.first.items
     c.args.scratch.now.second.items c.deref.result.now c.deref-2.result.now none_open
     c.deref.ensures.value c.deref-2.ensures.value c.in-NoneOpen.ensures c.requires.tables.read in

@@ -2,7 +2,7 @@ use Rattle.std.proofs.Common.{Result, ap, subst, sym, ◌∙◌}
 use Rattle.relay_wire.specs.Parts.{Lent}
 use Rattle.relay_wire.specs.Requests.{Asked, acks}
 use Rattle.relay_wire.specs.Seen.{asked_of}
-use Rattle.client.specs.Syncing.Rounds.{Hears, Idles, turn_of}
+use Rattle.client.specs.Syncing.Rounds.{Hears, Idles, round_turn}
 use Rattle.client.specs.declared.syncing.faults.SyncFault.{SyncFault}
 use Rattle.sync_model.specs.Moves.{acking, acknowledged, move}
 use Rattle.client.proofs.Syncs.Turning.{hears_fault, hears_reply}
@@ -16,13 +16,13 @@ returns-clause-round g c = λ p kept n.
     elim c.match-ask_for.branch [
       | in-Err w ↦
           subst (λ (r : Result Unit SyncFault). Hears own (g.L.Pipe.port c.args.link.now) (g.L.Pipe.port c.ask_for.new.link)
-          (λ reply turn. Idles p kept (move p kept (acking n c.args.number) reply) turn) (Unit {0}) (turn_of (acknowledged p kept n).wait r)) (sym w.result-is)
+          (λ reply turn. Idles p kept (move p kept (acking n c.args.number) reply) turn) (Unit {0}) (round_turn (acknowledged p kept n).wait r)) (sym w.result-is)
           (hears_fault (asked_of c.ack.result) own asked (g.L.Pipe.port c.args.link.now) (g.L.Pipe.port c.ask_for.new.link)
           (λ reply turn. Idles p kept (move p kept (acking n c.args.number) reply) turn) (Unit {0}) w.in-Err.fault w.in-Err.ensures.answers tt)
       | in-Ok w ↦
           subst (λ (r : Result Unit SyncFault). Hears own (g.L.Pipe.port c.args.link.now) (g.L.Pipe.port c.ask_for.new.link)
-          (λ reply turn. Idles p kept (move p kept (acking n c.args.number) reply) turn) (Unit {0}) (turn_of (acknowledged p kept n).wait r)) (sym w.result-is)
+          (λ reply turn. Idles p kept (move p kept (acking n c.args.number) reply) turn) (Unit {0}) (round_turn (acknowledged p kept n).wait r)) (sym w.result-is)
           (hears_reply (asked_of c.ack.result) own asked (g.L.Pipe.port c.args.link.now) (g.L.Pipe.port c.ask_for.new.link)
-          (λ reply turn. Idles p kept (move p kept (acking n c.args.number) reply) turn) (Unit {0}) w.in-Ok.reply (turn_of (acknowledged p kept n).wait w.acknowledged.result)
+          (λ reply turn. Idles p kept (move p kept (acking n c.args.number) reply) turn) (Unit {0}) w.in-Ok.reply (round_turn (acknowledged p kept n).wait w.acknowledged.result)
           w.in-Ok.ensures.answers (w.acknowledged.ensures p kept n))
     ]

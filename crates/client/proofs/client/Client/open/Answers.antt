@@ -1,7 +1,7 @@
 use Rattle.std.proofs.Common.{Err, Ok, ap, subst, sym, ◌∙◌}
 use Rattle.slot_store.specs.Found.{found_as}
 use Rattle.slot_store.specs.Store.{content}
-use Rattle.client.specs.Opening.{IsLeftAtRest, IsUnopened, record_fault}
+use Rattle.client.specs.Opening.{IsLeftAtRest, IsUnopened, client_record_fault}
 use Rattle.client.specs.declared.refusals.OpenRefusal.TheVariants.{NoSession}
 use Rattle.client.proofs.Openings.{left_unopened, opened, opens_in, unopened, unopened_in}
 use Rattle.client.proofs.client.Client.open.Goals as goal
@@ -32,7 +32,7 @@ returns-in-Err-clause-still g c = λ was.
     let start = g.D.Disk.state c.args.disk.now in
     let now = g.D.Disk.state c.open.new.disk in
     subst (λ e. IsLeftAtRest start now (Err e)) (sym c.refusal.ensures)
-    (left_unopened (record_fault g.K.Kem.mechanism) start now c.in-Err.error (c.in-Err.ensures.still was).unwritten c.in-Err.ensures.refused.damaged)
+    (left_unopened (client_record_fault g.K.Kem.mechanism) start now c.in-Err.error (c.in-Err.ensures.still was).unwritten c.in-Err.ensures.refused.damaged)
 
 pub returns-in-NoContent-clause-still : goal.returns-in-NoContent-clause-still
 returns-in-NoContent-clause-still g c = λ was.

@@ -1,7 +1,7 @@
 use Rattle.std.proofs.Common.{List, Option, length, ℕ}
 use Rattle.dr_model.specs.Machines.Acts.{act_in, saying}
 use Rattle.client.specs.InWorlds.{IsIn}
-use Rattle.client.specs.Saying.{IsDrawn}
+use Rattle.client.specs.Saying.{IsSeedDrawn}
 use Rattle.client.specs.Spent.{IsSpent}
 use Rattle.client.proofs.Drawing.{ready_after}
 use Rattle.client.proofs.Spends.{if_ok, say_spends, says_in}
@@ -18,7 +18,7 @@ returns-clause-spent g c =
     let k = g.K.Kem.mechanism in
     if_ok
     (λ w side p. (draw : Option (List ℕ))
-    × IsDrawn g.W.Draws.at c.args.self.now (length c.args.text.now) c.args.draws.now c.say_exact.new.draws draw
+    × IsSeedDrawn g.W.Draws.at c.args.self.now (length c.args.text.now) c.args.draws.now c.say_exact.new.draws draw
     × IsSpent k (act_in k w side (saying c.args.text.now draw)).next side p (g.D.Disk.state c.say_exact.new.disk))
     (λ w side. IsIn k w side c.args.self.now) c.say_exact.result
     (λ w side is.

@@ -3,7 +3,7 @@ use Rattle.std.proofs.lemmas.Grind.{common_steps}
 use Rattle.dr_base.specs.declared.failed.Failed.{Failed}
 use Rattle.dr_disk.specs.MemoryDisks.{state_of}
 use Rattle.dr_ports.specs.Writing.{Writes}
-use Rattle.relay_link.specs.Connections.{boxes_of, kept_before}
+use Rattle.relay_link.specs.Connections.{boxes_now, kept_before}
 use Rattle.session_model.specs.Clients.{Client}
 use Rattle.sync_model.specs.Scenes.{scene}
 use Rattle.client.specs.Syncing.Moments.{moment}
@@ -21,12 +21,12 @@ pub returns-clause-writes : goal.returns-clause-writes
 returns-clause-writes g c =
     let k = g.K.Kem.mechanism in
     let side = c.args.side in
-    let boxes = boxes_of c.args.relay.now in
+    let boxes = boxes_now c.args.relay.now in
     let before = moment c.self.inside.client (state_of c.self.inside.disk) (g.O.Sink.at c.args.out.now) in
     let after = moment c.meet.new.client (state_of c.meet.new.disk) (g.O.Sink.at c.meet.new.out) in
     let Met : List ℕ → Client → Result More SyncFault → Type 0 =
     λ prefix client result. let p = client_party k prefix client in
-    Plays p (scene p (kept_before c.args.lost) client boxes) before after (boxes_of c.meet.new.link) result in
+    Plays p (scene p (kept_before c.args.lost) client boxes) before after (boxes_now c.meet.new.link) result in
     let met : Met (side_text side) c.args.self.now c.meet.result =
     subst (λ (x : Client). Met (side_text side) x c.meet.result) c.self.view_is
     (subst (λ (b : List ℕ). Met b c.self.inside.client.kept c.meet.result) c.side_prefix.ensures.name c.meet.ensures) in
@@ -36,11 +36,11 @@ returns-clause-writes g c =
       | in-Ok w ↦
           subst (λ r. Writes (g.O.Sink.at c.args.out.now) (g.O.Sink.at c.match-meet.out) (sync_lines p side m) r) (sym w.result-is)
           (subst (λ o. Writes {T = Unit} {E = Failed} (g.O.Sink.at c.args.out.now) (g.O.Sink.at o) (sync_lines p side m) (Ok tt)) (sym w.out-is)
-          (ended_lines p side m before after (boxes_of c.meet.new.link) w.in-Ok.field-0 (subst (Met (side_text side) c.args.self.now) w.in-Ok.is met)))
+          (ended_lines p side m before after (boxes_now c.meet.new.link) w.in-Ok.field-0 (subst (Met (side_text side) c.args.self.now) w.in-Ok.is met)))
       | in-Err w ↦
           subst (λ r. Writes (g.O.Sink.at c.args.out.now) (g.O.Sink.at c.match-meet.out) (sync_lines p side m) r) (sym w.result-is)
           (subst (λ o. Writes {T = Unit} {E = Failed} (g.O.Sink.at c.args.out.now) (g.O.Sink.at o) (sync_lines p side m) w.tell.result) (sym w.out-is)
-          (broken_lines p side m before after (boxes_of c.meet.new.link) w.in-Err.fault (g.O.Sink.at w.tell.new.out) w.tell.result
+          (broken_lines p side m before after (boxes_now c.meet.new.link) w.in-Err.fault (g.O.Sink.at w.tell.new.out) w.tell.result
           (subst (Met (side_text side) c.args.self.now) w.in-Err.is met) w.tell.ensures))
     ]
 

@@ -1,7 +1,7 @@
 use Rattle.std.proofs.Common.{List, [], ◌∷◌, ap, ap₂, ◌∙◌, ◌≡◌, ℕ}
 use Rattle.dr_base.specs.declared.position.Side.TheVariants.{First}
 use Rattle.relay_core.specs.Boxes.{empty_box}
-use Rattle.relay_link.specs.Connections.{boxes_of}
+use Rattle.relay_link.specs.Connections.{boxes_now}
 use Rattle.relay_link.proofs.Bringing.{same_boxes}
 use Rattle.client.specs.Syncing.Lines.{own_box, peers_box}
 use Rattle.duet.specs.Outcomes.{opening_boxes}
@@ -12,8 +12,8 @@ pub returns-in-Ok-begin-2-clause-ok : goal.returns-in-Ok-begin-2-clause-ok
 returns-in-Ok-begin-2-clause-ok g c =
     let first = c.in-Ok-begin.ensures.ok in
     let names = c.names-names.result in
-    let boxes : boxes_of c.in-Ok-new.relay ≡ opening_boxes (opening_client g.K.Kem.mechanism c.args.key.now.bytes First) =
-    ap boxes_of c.in-Ok-new.ensures ∙ same_boxes (empty_box names.own ∷ empty_box names.peers ∷ [])
+    let boxes : boxes_now c.in-Ok-new.relay ≡ opening_boxes (opening_client g.K.Kem.mechanism c.args.key.now.bytes First) =
+    ap boxes_now c.in-Ok-new.ensures ∙ same_boxes (empty_box names.own ∷ empty_box names.peers ∷ [])
     ∙ ap₂ (λ (own peers : List ℕ). empty_box own ∷ empty_box peers ∷ []) (c.names-names.ensures.own ∙ ap own_box first) (c.names-names.ensures.peers ∙ ap peers_box first) in
     let second = c.in-Ok-begin-2.ensures.ok in
     let posts = c.in-Ok.ensures.items in

@@ -1,6 +1,6 @@
 use Rattle.std.proofs.Common.{refl, sym, ap, arith, length, ◌+◌, ◌∙◌}
 use Rattle.relay_wire.specs.Frames.{Held}
-use Rattle.relay_link.specs.Connections.{Connection, boxes_of}
+use Rattle.relay_link.specs.Connections.{LinkConnection, boxes_now}
 use Rattle.relay_link.specs.Desks.{DeskNow}
 use Rattle.relay_link.proofs.Connections.{boxes_are, connected_is, fresh_stands}
 use Rattle.relay_link.proofs.link.RelayLink.connect.Goals as goal
@@ -16,7 +16,7 @@ invariant_of-self c = (
 
 pub returns : goal.returns
 returns c =
-    let now : Connection = record { start = c.self.inside.start.value; kept = c.self.inside.desk.kept; sent = c.self.inside.sent.items; at = c.self.inside.at; faults = c.self.inside.faults } in
+    let now : LinkConnection = record { start = c.self.inside.start.value; kept = c.self.inside.desk.kept; sent = c.self.inside.sent.items; at = c.self.inside.at; faults = c.self.inside.faults } in
     connected_is c.of.result.value _ c.begin.new.self.kept _ c.clear-2.new.self.items _ refl
-    (c.of.ensures ∙ c.relay.ensures ∙ sym (boxes_are now c.self.inside.desk c.self.inside.reader.bytes c.self.invariant.0) ∙ ap boxes_of c.self.view_is)
+    (c.of.ensures ∙ c.relay.ensures ∙ sym (boxes_are now c.self.inside.desk c.self.inside.reader.bytes c.self.invariant.0) ∙ ap boxes_now c.self.view_is)
     (ap (λ (d : DeskNow). d.kept) c.begin.ensures ∙ c.kept_before.ensures.exact) c.clear-2.ensures.items

@@ -1,7 +1,7 @@
 use Rattle.std.proofs.Common.{refl, rules, ap, arith, subst, length, take, drop, List, ℕ, ◌∙◌, ◌+◌, ◌-◌, ◌≤◌, ◌≡◌}
 use Rattle.std.proofs.lemmas.Grind.{common_steps}
 use Rattle.dr_ports.specs.Wires.{Gave}
-use Rattle.relay_link.specs.Connections.{Connection, port_of}
+use Rattle.relay_link.specs.Connections.{LinkConnection, connection_port}
 use Rattle.relay_link.proofs.Connections.{gave, given_piece}
 use Rattle.relay_link.proofs.link.RelayLinkPipe.receive.Goals as goal
 
@@ -9,7 +9,7 @@ pub returns-clause-receives : goal.returns-clause-receives
 returns-clause-receives c =
     let count = c.min-count.result in
     let at = c.self.inside.at in
-    let old : Connection = record { start = c.self.inside.start.value; kept = c.self.inside.desk.kept; sent = c.self.inside.sent.items; at = at; faults = c.self.inside.faults } in
+    let old : LinkConnection = record { start = c.self.inside.start.value; kept = c.self.inside.desk.kept; sent = c.self.inside.sent.items; at = at; faults = c.self.inside.faults } in
     let within : at ≤ length c.self.inside.desk.replies = c.self.invariant.0.received in
     let fits : at + count ≤ length c.self.inside.desk.replies = omega (arith, within, c.min-count.ensures, ap length c.replies.ensures) in
     let piece : take count c.put.new.out ≡ take count (drop at c.self.inside.desk.replies) =
@@ -17,7 +17,7 @@ returns-clause-receives c =
     ∙ ap (λ (replies : List ℕ). take count (drop at replies)) c.replies-2.ensures in
     record {
       bound = search rules;
-      content = subst (λ (f : Connection). Gave (take count c.put.new.out) (port_of f) (port_of (record old { at = at + count }))) c.self.view_is
+      content = subst (λ (f : LinkConnection). Gave (take count c.put.new.out) (connection_port f) (connection_port (record old { at = at + count }))) c.self.view_is
           (gave old c.self.inside.desk c.self.inside.reader.bytes c.self.invariant.0 count fits (take count c.put.new.out) piece);
       end = grind (arith, common_steps);
       err = tt;

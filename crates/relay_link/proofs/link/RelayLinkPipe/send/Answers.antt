@@ -4,14 +4,14 @@ use Rattle.std.specs.Prelude.{if◌then◌else◌, is_ok, vec_len}
 use Rattle.std.proofs.lemmas.List.{length-append, length-take, take-take}
 use Rattle.dr_ports.specs.Wires.{Took}
 use Rattle.relay_wire.specs.Frames.{Held, IsPartial}
-use Rattle.relay_link.specs.Connections.{Connection, port_of}
+use Rattle.relay_link.specs.Connections.{LinkConnection, connection_port}
 use Rattle.relay_link.specs.Desks.{DeskNow, HasAnswered, answers, waits}
 use Rattle.relay_link.specs.Serving.{IsServing}
 use Rattle.relay_link.proofs.Sending.{frame_stands, part_stands, took}
 use Rattle.relay_link.proofs.link.RelayLinkPipe.send.Goals as goal
 
 -- what stands then, by what the desk did
-stands : (c : Connection) (desk : DeskNow) (reader : Held) (is : IsServing c desk reader.bytes) (piece items : List ℕ) (fed left : Held) (d : DeskNow)
+stands : (c : LinkConnection) (desk : DeskNow) (reader : Held) (is : IsServing c desk reader.bytes) (piece items : List ℕ) (fed left : Held) (d : DeskNow)
     → items ≡ c.sent ++ piece → fed.bytes ≡ reader.bytes ++ piece → HasAnswered desk d fed left → IsServing (record c { kept = d.kept; sent = items }) d left.bytes
 stands c desk reader is piece items fed left d one two (waits partial same still) =
     subst (λ (x : DeskNow). IsServing (record c { kept = x.kept; sent = items }) x left.bytes) (sym still)
@@ -27,7 +27,7 @@ all_there desk d fed left (answers whole none place next) = omega (arith, place,
 
 pub invariant_of-self-2 : goal.invariant_of-self-2
 invariant_of-self-2 c =
-    let old : Connection = record { start = c.self.inside.start.value; kept = c.self.inside.desk.kept; sent = c.self.inside.sent.items; at = c.self.inside.at; faults = c.self.inside.faults } in
+    let old : LinkConnection = record { start = c.self.inside.start.value; kept = c.self.inside.desk.kept; sent = c.self.inside.sent.items; at = c.self.inside.at; faults = c.self.inside.faults } in
     let piece = take c.feed-count.result c.args.bytes.now in
     let fits : c.feed-count.result ≤ c.min.result = omega (arith, c.feed-count.ensures.bound, length-take c.min.result c.args.bytes.now) in
     let items : c.extend_from_slice.new.self.items ≡ c.self.inside.sent.items ++ piece =
@@ -45,15 +45,15 @@ invariant_of-self-2 c =
 
 pub returns-clause-sends : goal.returns-clause-sends
 returns-clause-sends c =
-    let old : Connection = record { start = c.self.inside.start.value; kept = c.self.inside.desk.kept; sent = c.self.inside.sent.items; at = c.self.inside.at; faults = c.self.inside.faults } in
+    let old : LinkConnection = record { start = c.self.inside.start.value; kept = c.self.inside.desk.kept; sent = c.self.inside.sent.items; at = c.self.inside.at; faults = c.self.inside.faults } in
     let piece = take c.feed-count.result c.args.bytes.now in
     let items : c.extend_from_slice.new.self.items ≡ c.self.inside.sent.items ++ piece =
     c.extend_from_slice.ensures.items ∙ ap (λ (ok : Bool). if ok then c.self.inside.sent.items ++ piece else c.self.inside.sent.items) (ap is_ok c.unwrap.ensures) in
     record {
       bound = search rules;
       progress = search rules;
-      content = subst (λ (f : Connection). Took piece (port_of f) (port_of (record old { sent = c.extend_from_slice.new.self.items }))) c.self.view_is
-          (subst (λ (b : List ℕ). Took piece (port_of old) (port_of (record old { sent = b }))) (sym items) (took old c.self.inside.desk c.self.inside.reader.bytes c.self.invariant.0 piece));
+      content = subst (λ (f : LinkConnection). Took piece (connection_port f) (connection_port (record old { sent = c.extend_from_slice.new.self.items }))) c.self.view_is
+          (subst (λ (b : List ℕ). Took piece (connection_port old) (connection_port (record old { sent = b }))) (sym items) (took old c.self.inside.desk c.self.inside.reader.bytes c.self.invariant.0 piece));
       err = tt;
       goes = search rules;
       cause = search rules;

@@ -7,7 +7,7 @@ use Rattle.relay_wire.specs.Requests.{read_request}
 use Rattle.relay_core.specs.Boxes.{Box, answers_read}
 use Rattle.relay_core.specs.Record.{box_text}
 use Rattle.slot_store.specs.Store.{SlotStore}
-use Rattle.relay_server.specs.Durable.{IsReady, ServerNow, StandsForEither}
+use Rattle.relay_server.specs.Durable.{IsServerReady, ServerNow, StandsForEitherBoxes}
 use Rattle.relay_server.specs.Places.{IsSameBehind}
 use Rattle.relay_server.proofs.Replacing.{Known, known_moments, known_now, known_ready, ready_stands}
 use Rattle.relay_server.proofs.durable.DurableBoxes.answer.Goals as goal
@@ -68,7 +68,7 @@ returns-in_default-replace_at-clause-leaves g c =
           c.in-Some.place (take c.write_text-len.result (with_items c.self.inside.text c.write_text-len.new.out).items) (g.D.Disk.state c.args.disk.now) (g.D.Disk.state c.replace_at.new.disk) (is_ok c.replace_at.result) known;
       at_return = known_now box_text c.args.self.now boxes c.answer_frame-answered.new.relay (answers_read boxes frame) c.self.inside.stores.items c.deref_mut-in-Some.result.now c.replace_at.new.stores
           c.in-Some.place (take c.write_text-len.result (with_items c.self.inside.text c.write_text-len.new.out).items) (g.D.Disk.state c.args.disk.now) (g.D.Disk.state c.replace_at.new.disk) (is_ok c.replace_at.result) known;
-      ready = subst (λ (xs : List SlotStore). IsReady box_text (record { boxes = c.answer_frame-answered.new.relay; stores = xs }) (g.D.Disk.state c.replace_at.new.disk)) (sym (with_items_is c.self.inside.stores c.replace_at.new.stores same))
+      ready = subst (λ (xs : List SlotStore). IsServerReady box_text (record { boxes = c.answer_frame-answered.new.relay; stores = xs }) (g.D.Disk.state c.replace_at.new.disk)) (sym (with_items_is c.self.inside.stores c.replace_at.new.stores same))
           (known_ready box_text c.args.self.now boxes c.answer_frame-answered.new.relay (answers_read boxes frame) c.self.inside.stores.items c.deref_mut-in-Some.result.now c.replace_at.new.stores
           c.in-Some.place (take c.write_text-len.result (with_items c.self.inside.text c.write_text-len.new.out).items) (g.D.Disk.state c.args.disk.now) (g.D.Disk.state c.replace_at.new.disk) (is_ok c.replace_at.result) known (ap is_ok c.in_default-replace_at.is));
       fault = tt;
@@ -83,9 +83,9 @@ returns-in_default-clause-leaves g c =
     ap (λ (bs : List Box). record { boxes = bs; stores = c.self.inside.stores.items })
     (c.answer_frame-answered.ensures.next ∙ (c.changes.ensures c.self.inside.relay frame).none (sym c.answer_frame-answered.ensures.changed ∙ c.in_default.is)) ∙ c.self.view_is in
     record {
-      any_moment = stays disk (λ image. StandsForEither box_text c.args.self.now.boxes c.answer_frame-answered.new.relay image × IsSameBehind (length c.args.self.now.boxes) disk image);
+      any_moment = stays disk (λ image. StandsForEitherBoxes box_text c.args.self.now.boxes c.answer_frame-answered.new.relay image × IsSameBehind (length c.args.self.now.boxes) disk image);
       at_return = λ image left. inl (ready_stands box_text c.args.self.now disk c.requires.ready c.resting.ensures.record_of image left);
-      ready = subst (λ (s : ServerNow). IsReady box_text s disk) (sym same) c.requires.ready;
+      ready = subst (λ (s : ServerNow). IsServerReady box_text s disk) (sym same) c.requires.ready;
       fault = tt;
       quiet = λ call. refl;
     }

@@ -4,7 +4,7 @@ use Rattle.dr_disk.specs.Spans.{Span}
 use Rattle.dr_disk.specs.State.{Always}
 use Rattle.dr_disk.proofs.Calling.{failed_at_first, failed_later, passed_both}
 use Rattle.slot_store.specs.Areas.{HasRecordRoom, HasText}
-use Rattle.slot_store.specs.Pager.{content, seen}
+use Rattle.slot_store.specs.Pager.{content, store_seen}
 use Rattle.slot_store.specs.Putting.{HasReplaced, IsNext, call_of, retire_calls}
 use Rattle.slot_store.specs.Stops.{IsStopped, calls_of, putting}
 use Rattle.slot_store.specs.Store.{IsOldOrNew, ReadsOutsideArea, Rests, SlotStore}
@@ -38,7 +38,7 @@ returns-in-Err g c =
       };
       done = tt;
       holds = tt;
-      next = subst (λ (s : SlotStore). IsNext s (seen put) text) c.self.view_is c.put.ensures.staged.next;
+      next = subst (λ (s : SlotStore). IsNext s (store_seen put) text) c.self.view_is c.put.ensures.staged.next;
       calls = subst (λ (s : SlotStore). Called (calls_of s.content (Some text)) call_of start mid (Err c.in-Err.fault)) c.self.view_is
           (counted old put text c.put.ensures.staged start mid mid _ fits
           (failed_at_first {T = Unit} {U = Unit} (putting (content old) (Some text)) (retire_calls put) call_of call_of
@@ -70,8 +70,8 @@ returns-in-Err-retire g c =
       };
       done = tt;
       holds = tt;
-      next = subst (λ (s : SlotStore). IsNext s (seen c.retire.new.self) text) c.self.view_is
-          (subst (λ p. IsNext (seen old) (seen p) text) (sym c.retire.ensures.same) staged.next);
+      next = subst (λ (s : SlotStore). IsNext s (store_seen c.retire.new.self) text) c.self.view_is
+          (subst (λ p. IsNext (store_seen old) (store_seen p) text) (sym c.retire.ensures.same) staged.next);
       calls = subst (λ (s : SlotStore). Called (calls_of s.content (Some text)) call_of start end (Err c.in-Err-retire.fault)) c.self.view_is
           (counted old put text staged start mid end _ fits
           (failed_later {T = Unit} {U = Unit} {V = Unit} (putting (content old) (Some text)) (retire_calls put) call_of call_of call_of
@@ -100,11 +100,11 @@ returns g c =
             (reads_both old put text staged start mid end c.put.ensures.replaces.reads c.retire.ensures.reads);
         stopped = tt;
       };
-      done = subst (λ (s : SlotStore). Always (HasReplaced s (seen c.retire.new.self) text start) end) c.self.view_is
+      done = subst (λ (s : SlotStore). Always (HasReplaced s (store_seen c.retire.new.self) text start) end) c.self.view_is
           (replace_done old put text staged start mid done c.retire.new.self end c.retire.ensures.same c.in-Ok-retire.ensures.at_rest);
       holds = ap content c.retire.ensures.same ∙ staged.holds;
-      next = subst (λ (s : SlotStore). IsNext s (seen c.retire.new.self) text) c.self.view_is
-          (subst (λ p. IsNext (seen old) (seen p) text) (sym c.retire.ensures.same) staged.next);
+      next = subst (λ (s : SlotStore). IsNext s (store_seen c.retire.new.self) text) c.self.view_is
+          (subst (λ p. IsNext (store_seen old) (store_seen p) text) (sym c.retire.ensures.same) staged.next);
       calls = subst (λ (s : SlotStore). Called (calls_of s.content (Some text)) call_of start end (Ok tt)) c.self.view_is
           (counted old put text staged start mid end _ fits
           (passed_both (putting (content old) (Some text)) (retire_calls put) call_of call_of call_of _ _ _ _ _ _
