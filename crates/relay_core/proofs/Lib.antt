@@ -2,7 +2,9 @@ pub mod Names
 pub mod Placed
 pub mod Apart
 pub mod Changed
+pub mod InRooms
 pub mod Rising
+pub mod Numbered
 pub mod BoxGrammar
 pub mod TakenBoxes
 pub mod Lawfully

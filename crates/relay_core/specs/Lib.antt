@@ -6,3 +6,4 @@ pub mod Streams
 pub mod Changes
 pub mod Loading
 pub mod Limits
+pub mod Rooms

@@ -31,4 +31,5 @@ mod loading;
 mod mailbox;
 mod reading;
 mod relay;
+mod rooms;
 mod writing;

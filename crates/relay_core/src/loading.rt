@@ -1,15 +1,15 @@
 //! Taking a box from its record.
 
-ghost use Rattle.std.specs.Prelude.{◌≡◌, ◌<◌, ◌≤◌, [], length, vec_capacity, IfOk, IsOk};
+ghost use Rattle.std.specs.Prelude.{◌≡◌, ◌<◌, ◌≤◌, [], length, IfOk, IsOk};
 ghost use Rattle.grammar.specs.Reader.{items};
 ghost use Rattle.grammar.specs.Standing.{Reads};
 ghost use Rattle.relay_core.specs.declared.limits.TheConstants.{BOX_LIMIT};
 ghost use Rattle.relay_core.specs.Record.{box_read, next_kept};
 
-use crate::kept_packet::KeptPacket;
 use crate::mailbox::Mailbox;
 use crate::reading::{read_head, read_kept};
 use crate::relay::Relay;
+use crate::rooms::Rooms;
 use grammar::Cursor;
 
 /// What became of a record that was to be loaded.
@@ -23,23 +23,21 @@ pub enum Loaded {
 
 /// Takes this many packets, with numbers up to `last`.
 fn take_packets(
-    packets: &mut Vec<KeptPacket>,
+    packets: &mut Rooms,
     cursor: &mut Cursor<'_>,
     last: u64,
     count: u8,
 ) -> Result<(), usize>
-    requires empty { packets.old.items ≡ [] }
+    requires empty { packets.old ≡ [] }
     requires few { count ≤ BOX_LIMIT }
-    requires room { BOX_LIMIT ≤ vec_capacity packets.old }
-    ensures reads { Reads (λ _. packets.new.items)
+    ensures { Reads (λ _. packets.new)
         (items (next_kept last) count) cursor.old cursor.new result }
-    ensures room_stays { BOX_LIMIT ≤ vec_capacity packets.new }
 {
     let mut low = 0;
     'packets: for _ in 0..count {
         let kept = read_kept(cursor, low, last)?;
         low = kept.0;
-        packets.push(KeptPacket::new(low, kept.1)).unwrap();
+        packets.push(low, kept.1);
     }
     Ok(())
 }

@@ -1,29 +1,21 @@
 //! One box.
 
-ghost use Rattle.std.specs.Prelude.{◌≡◌, ◌≤◌, ◌==◌, not, filter, length, vec_capacity, IfOk};
+ghost use Rattle.std.specs.Prelude.{◌≡◌, ◌≤◌, length, IfOk};
 ghost use Rattle.dr_base.specs.Buffer.{Puts};
-ghost use Rattle.relay_core.specs.Boxes.{answer_of, empty_box, has_number, is_full, oldest, without_number};
+ghost use Rattle.relay_core.specs.Boxes.{answer_of, empty_box, is_full, oldest};
 ghost use Rattle.relay_core.specs.Lawful.{IsLawfulBox};
+ghost use Rattle.relay_core.specs.Rooms.{IsPlaceOf};
 ghost use Rattle.relay_wire.specs.Frames.{framed};
 ghost use Rattle.relay_wire.specs.Replies.{reply_body};
 ghost use Rattle.relay_wire.specs.Requests.{posts, acks};
 ghost use Rattle.relay_wire.specs.Seen.{asking_of, replied_of};
 ghost use Rattle.relay_wire.specs.declared.limits.TheConstants.{FRAME_LIMIT};
 
-use crate::kept_packet::KeptPacket;
 use crate::limits::BOX_LIMIT;
+use crate::rooms::Rooms;
 use relay_wire::{Ask, Name, Packet, Reply, write_reply};
 use std::alloc::{AllocError, Global};
 use std::marker::Model;
-
-/// Drops the packet of a number.
-fn drop_number(packets: &mut Vec<KeptPacket>, number: u64)
-    ensures left { packets.new.items ≡ filter
-        (λ kept. not (kept.number == number)) packets.old.items }
-    ensures room { vec_capacity packets.new ≡ vec_capacity packets.old }
-{
-    packets.retain(|kept| kept.number() != number);
-}
 
 /// A box: its name, the last number that it gave, and its packets, in memory that is taken when it
 /// is made.
@@ -31,20 +23,18 @@ fn drop_number(packets: &mut Vec<KeptPacket>, number: u64)
 pub(crate) struct Mailbox {
     pub(crate) name: Name,
     pub(crate) last: u64,
-    pub(crate) packets: Vec<KeptPacket>,
+    pub(crate) packets: Rooms,
 }
 
 impl Model for Mailbox {
-    ghost use Rattle.std.specs.Prelude.{◌≤◌, vec_capacity};
     ghost use Rattle.relay_core.specs.Boxes.{Box};
     ghost use Rattle.relay_core.specs.Lawful.{IsLawfulBox};
-    ghost use Rattle.relay_core.specs.declared.limits.TheConstants.{BOX_LIMIT};
 
     ghost Value = { Box };
 
-    ghost view = { λ m. record { name = m.name; last = m.last; packets = m.packets.items } };
+    ghost view = { λ m. record { name = m.name; last = m.last; packets = m.packets } };
 
-    ghost invariant = { λ m. IsLawfulBox (record { name = m.name; last = m.last; packets = m.packets.items }) × (BOX_LIMIT ≤ vec_capacity m.packets) };
+    ghost invariant = { λ m. IsLawfulBox (record { name = m.name; last = m.last; packets = m.packets }) };
 }
 
 impl Mailbox {
@@ -52,7 +42,7 @@ impl Mailbox {
     pub(crate) fn new(alloc: Global, name: Name) -> Result<Mailbox, AllocError>
         ensures { IfOk result (λ mailbox. mailbox ≡ empty_box name) }
     {
-        let packets = Vec::with_capacity(alloc, BOX_LIMIT)?;
+        let packets = Rooms::new(alloc)?;
         let _lawful = name.bytes();
         Ok(Mailbox {
             name,
@@ -82,26 +72,27 @@ impl Mailbox {
         self.packets.len() >= BOX_LIMIT || self.last == u64::MAX
     }
 
-    /// Whether a packet stands under a number.
-    fn has_number(&self, number: u64) -> bool
-        ensures { result ≡ has_number number self.now.packets }
+    /// The place of the packet of a number.
+    fn place_of(&self, number: u64) -> Option<usize>
+        ensures { IsPlaceOf number self.now.packets result }
     {
-        for kept in &self.packets {
-            if kept.number() == number {
-                return true;
+        for place in 0..self.packets.len() {
+            if self.packets.at(place).number() == number {
+                return Some(place);
             }
         }
-        false
+        None
     }
 
     /// The reply to a fetch.
     fn oldest(&self) -> Reply<'_>
         ensures { replied_of result ≡ oldest self.now.packets }
     {
-        match self.packets.first() {
-            Some(kept) => Reply::Item(kept.number(), kept.packet()),
-            None => Reply::Empty,
+        if self.packets.len() == 0 {
+            return Reply::Empty;
         }
+        let kept = self.packets.at(0);
+        Reply::Item(kept.number(), kept.packet())
     }
 
     /// Answers a post, and says whether the box changed.
@@ -114,18 +105,9 @@ impl Mailbox {
             return (Reply::BoxFull, false);
         }
         let number = self.last + 1;
-        self.packets
-            .push(KeptPacket::new(number, packet.bytes()))
-            .unwrap();
+        self.packets.push(number, packet.bytes());
         self.last = number;
         (Reply::Stored(number), true)
-    }
-
-    /// Drops the packet of a number.
-    fn drop_number(&mut self, number: u64)
-        ensures { self.new ≡ without_number self.old number }
-    {
-        drop_number(&mut self.packets, number);
     }
 
     /// Answers an acknowledgement, and says whether the box changed.
@@ -134,12 +116,11 @@ impl Mailbox {
         ensures { answer_of self.old (acks number)
             ≡ record { reply = replied_of result.0; next = self.new; changed = result.1 } }
     {
-        if self.has_number(number) {
-            self.drop_number(number);
-            (Reply::Acked, true)
-        } else {
-            (Reply::Absent(number), false)
-        }
+        let Some(place) = self.place_of(number) else {
+            return (Reply::Absent(number), false);
+        };
+        self.packets.remove(place);
+        (Reply::Acked, true)
     }
 
     /// Answers what is asked of the box: writes the reply's frame at the beginning of `out`, and

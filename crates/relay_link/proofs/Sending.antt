@@ -6,7 +6,6 @@ use Rattle.std.proofs.lemmas.Bool.Decides.{nat_tests}
 use Rattle.std.proofs.lemmas.List.{length-append, length_push, take-append-drop, take-append-le, take_all}
 use Rattle.dr_ports.specs.MemoryWires.{nothing_comes, plain}
 use Rattle.dr_ports.specs.Wires.{Took}
-use Rattle.relay_core.specs.Boxes.{Box, answers_read}
 use Rattle.relay_core.specs.Streams.{Exchange, Served, exchange_then, boxes_after, exchange_of, is_last, nothing_served, prepend, served, served_within, reply_bytes, reply_frame}
 use Rattle.relay_wire.specs.Frames.{IsFrame, IsPartial, frames_of}
 use Rattle.relay_wire.specs.Requests.{read_request}

@@ -1,10 +1,13 @@
 -- The boxes are loaded, and each area without a record gets an empty box's.
-use Rattle.std.specs.Prelude.{◌≡◌, ◌≢◌, ℕ, ◌<◌, ◌≤◌, List, length, slice_get, Option, Some, None, Ok}
+use Rattle.std.specs.Prelude.{◌≡◌, ◌≢◌, ℕ, ◌<◌, ◌≤◌, Bool, true, false, List, length, slice_get, Option, Some, None, Result, Ok, OnOk}
+use Rattle.dr_disk.specs.declared.call.Call.{Call}
+use Rattle.dr_disk.specs.Spans.{IsQuiet, Span}
 use Rattle.dr_disk.specs.State.{DiskState, Always}
 use Rattle.slot_store.specs.Records.{stored_record}
 use Rattle.slot_store.specs.Store.{Rests, SlotStore, content}
 use Rattle.relay_core.specs.Boxes.{Box, empty_box}
 use Rattle.relay_core.specs.Record.{box_read, box_text}
+use Rattle.relay_server.specs.Durable.{FailsByCall}
 use Rattle.relay_server.specs.Places.{area_of, HasRoomForAreas, SameBehind}
 use Rattle.relay_server.specs.Opening.{StaysOrBegins}
 
@@ -55,3 +58,20 @@ pub record IsFilling (boxes : List Box) (start : DiskState) (c : List ℕ) : Typ
   pub image : start.image entry
   pub each : (k : ℕ) (box : Box) → slice_get boxes k ≡ Some box → StaysOrBegins box.name (stored_record (area_of k) entry) (stored_record (area_of k) c)
   pub outside : SameBehind (length boxes) entry c
+
+-- ---- what a call left
+
+-- It says whether the box at a place was loaded from its store's record: else that is another box's.
+pub record LoadsAt (place : ℕ) (old new : List Box) (text : Option (List ℕ)) (result : Bool) : Type 0 where
+  pub loaded : result ≡ true → IsLoadedAt place old new text
+  pub other : result ≡ false → (was : Box) → slice_get old place ≡ Some was → IsOthers was text
+  pub count : length new ≡ length old
+
+-- The first n boxes have their records, and empty boxes' were put meanwhile. An error is a call that
+-- failed; without one no call failed.
+pub record Fills {T : Type 0} (n : ℕ) (boxes : List Box) (stores : List SlotStore)
+    (start now : DiskState) (result : Result T Call) : Type 0 where
+  pub filled : OnOk result (AreFilled n boxes stores now)
+  pub any_moment : Span start now (IsFilling boxes start)
+  pub fault : FailsByCall start now result
+  pub quiet : OnOk result (IsQuiet start now)

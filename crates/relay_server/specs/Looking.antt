@@ -1,11 +1,12 @@
 -- The areas of a relay are looked at, and settled later.
 use Rattle.std.specs.Prelude.{◌≡◌, ℕ, List, length, Result, IfErr, IfOk}
-use Rattle.dr_disk.specs.Spans.{IsQuiet}
+use Rattle.dr_disk.specs.declared.call.Call.{Call}
+use Rattle.dr_disk.specs.Spans.{IsQuiet, Span}
 use Rattle.dr_disk.specs.State.{DiskState}
 use Rattle.relay_core.specs.Record.{box_text}
 use Rattle.relay_server.specs.Areas.{HasLooked}
-use Rattle.relay_server.specs.Durable.{IsServerReady, ServerNow}
-use Rattle.relay_server.specs.Filling.{AreFilled}
+use Rattle.relay_server.specs.Durable.{FailsByCall, IsServerReady, ServerNow}
+use Rattle.relay_server.specs.Filling.{AreFilled, IsFilling}
 use Rattle.relay_server.specs.Opening.{AreBoxesRead, IsServerUnopened}
 use Rattle.relay_server.specs.declared.errors.ServerOpenError.{ServerOpenError}
 
@@ -31,3 +32,11 @@ pub record HasSettled (looked server : ServerNow) (start now : DiskState) : Type
   pub boxes : server.boxes ≡ looked.boxes
   pub ready : IsServerReady box_text server now
   pub quiet : IsQuiet start now
+
+-- A look was settled: what it gave is ready, empty boxes' records were put meanwhile, and an error is
+-- a call that failed.
+pub record Settles {T : Type 0} (looked : ServerNow) (server : T → ServerNow)
+    (start now : DiskState) (result : Result T Call) : Type 0 where
+  pub settled : IfOk result (λ done. HasSettled looked (server done) start now)
+  pub any_moment : Span start now (IsFilling looked.boxes start)
+  pub fault : FailsByCall start now result

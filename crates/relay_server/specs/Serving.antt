@@ -1,12 +1,14 @@
 -- A connection that is served.
 use Rattle.std.specs.Prelude.{◌≡◌, ◌-◌, ◌≤◌, ℕ, List, [], ◌∷◌, ◌++◌, length, take, drop, flat_map, Some, Result, Ok, Err, IfOk, OnOk}
 use Rattle.std.specs.List.{AllByRecursion}
+use Rattle.dr_disk.specs.declared.call.Call.{Call}
 use Rattle.dr_disk.specs.State.{DiskState, Always}
 use Rattle.dr_disk.specs.Spans.{IsQuiet, Span}
 use Rattle.dr_ports.specs.Ports.{Rose}
 use Rattle.dr_ports.specs.declared.pipe.Part.TheVariants.{Flow, Gate}
 use Rattle.dr_ports.specs.Wires.{Port, Told, EndsAt}
 pub use Rattle.relay_pipe.specs.Exchanging.{exchanged, Exchanges}
+use Rattle.relay_wire.specs.declared.limits.TheConstants.{FRAME_LIMIT}
 use Rattle.relay_wire.specs.Requests.{read_request}
 use Rattle.relay_wire.specs.Replies.{reply_body}
 use Rattle.relay_wire.specs.Frames.{IsFrame, IsPartial, framed, frames_of}
@@ -16,7 +18,7 @@ use Rattle.relay_core.specs.Boxes.{Box, answers_read, box_of}
 use Rattle.relay_core.specs.Streams.{Exchange, prepend, served, served_within, reply_frame, reply_bytes, is_last, IsIsolated, asks, told}
 use Rattle.relay_core.specs.Alone.{box_after}
 use Rattle.relay_core.specs.Record.{box_text}
-use Rattle.relay_server.specs.Durable.{ServerNow, IsServerReady, StandsForBoxes, StandsForEitherBoxes}
+use Rattle.relay_server.specs.Durable.{ServerNow, IsServerReady, LeavesBoxes, StandsForBoxes, StandsForEitherBoxes}
 use Rattle.relay_server.specs.Places.{IsSameBehind}
 use Rattle.relay_server.specs.declared.serving.Ended.{Ended}
 use Rattle.relay_server.specs.declared.serving.Round.{Round}
@@ -50,6 +52,21 @@ pub record HasReply {E : Type 0} (boxes : List Box) (frame before after : List �
   pub len : IfOk result (λ a. a.len ≤ length before)
   pub size : length after ≡ length before
   pub reply : IfOk result (λ a. take a.len after ≡ reply_to boxes frame)
+
+-- A frame can be answered: each image is at rest for the boxes, and there is room for any reply.
+pub record CanAnswer (text : Box → List ℕ) (server : ServerNow) (disk : DiskState)
+    (out : List ℕ) : Type 0 where
+  pub ready : IsServerReady text server disk
+  pub room : FRAME_LIMIT ≤ length out
+
+-- A frame was answered: the boxes are those after it, and so is the disk without an error. Then the
+-- reply stands in the room, which held `before` and holds `after`.
+pub record AnswersFrame (text : Box → List ℕ) (frame : List ℕ) (old new : ServerNow)
+    (start now : DiskState) (before after : List ℕ)
+    (result : Result AnsweredFrame Call) : Type 0 where
+  pub next : new.boxes ≡ (answers_read old.boxes (read_request (drop 2 frame))).next
+  pub leaves : LeavesBoxes text old new start now result
+  pub reply : HasReply old.boxes frame before after result
 
 -- No count of faults rose where it passed. Else the pipe's count of its flow may have risen, and
 -- that of its gate never.

@@ -1,19 +1,16 @@
 //! Boxes that stand on a disk.
 
-ghost use Rattle.std.specs.Prelude.{◌≡◌, ◌≢◌, ◌<◌, ◌≤◌, ◌+◌, ◌^◌, ℕ, List, length, take, drop, slice_get, Option, OnOk, IfOk, IfErr, is_ok, [], Bool};
-ghost use Rattle.dr_base.specs.Causes.{Rose};
+ghost use Rattle.std.specs.Prelude.{◌≡◌, ◌≢◌, ◌<◌, ◌≤◌, ◌+◌, ◌^◌, ℕ, length, take, slice_get, Option, OnOk, IfOk, is_ok, [], Bool};
 ghost use Rattle.dr_disk.specs.State.{Always};
 ghost use Rattle.dr_disk.specs.Spans.{IsQuiet, Span};
 ghost use Rattle.slot_store.specs.Areas.{HasText};
 ghost use Rattle.slot_store.specs.Store.{HasArea, Rests, SlotStore};
 ghost use Rattle.relay_wire.specs.Frames.{IsFrame};
-ghost use Rattle.relay_wire.specs.Requests.{read_request};
 ghost use Rattle.relay_wire.specs.declared.limits.TheConstants.{FRAME_LIMIT};
-ghost use Rattle.relay_core.specs.Boxes.{answers_read};
 ghost use Rattle.relay_core.specs.Record.{box_text};
-ghost use Rattle.relay_server.specs.Durable.{IsServerReady, IsReplaced, LeavesBoxes};
+ghost use Rattle.relay_server.specs.Durable.{FailsByCall, IsReplaced};
 ghost use Rattle.relay_server.specs.FrameByFrame.{IsServedInOrder};
-ghost use Rattle.relay_server.specs.Serving.{HasReply, LeavesCounts, Rounds};
+ghost use Rattle.relay_server.specs.Serving.{AnswersFrame, CanAnswer, LeavesCounts, Rounds};
 
 use crate::answering::write_text;
 use crate::serving::{Ended, Round, ServeFault};
@@ -64,8 +61,7 @@ pub(crate) fn replace_at<D: Disk>(
         (is_ok result) }
     ensures count { length stores.new ≡ length stores.old }
     ensures room { length text.new.items ≡ length text.old.items }
-    ensures fault { IfErr result
-        (λ call. Rose ((D.state disk.old).faults call) ((D.state disk.new).faults call)) }
+    ensures fault { FailsByCall (D.state disk.old) (D.state disk.new) result }
     ensures quiet { OnOk result (IsQuiet (D.state disk.old) (D.state disk.new)) }
 {
     match stores[place].replace(disk, text, len) {
@@ -82,13 +78,9 @@ impl DurableBoxes {
         frame: &Frame<'_>,
         out: &mut [u8],
     ) -> Result<Answered, Call>
-        requires ready { IsServerReady box_text self.old (D.state disk.old) }
-        requires room { FRAME_LIMIT ≤ length out.old }
-        ensures next { self.new.boxes
-            ≡ (answers_read self.old.boxes (read_request (drop 2 frame.now.bytes.now))).next }
-        ensures leaves { LeavesBoxes box_text self.old self.new (D.state disk.old)
-            (D.state disk.new) result }
-        ensures reply { HasReply self.old.boxes frame.now.bytes.now out.old out.new result }
+        requires { CanAnswer box_text self.old (D.state disk.old) out.old }
+        ensures { AnswersFrame box_text frame.now.bytes.now self.old self.new (D.state disk.old)
+            (D.state disk.new) out.old out.new result }
     {
         locality();
         resting();
@@ -110,14 +102,10 @@ impl DurableBoxes {
         reader: &mut FrameReader,
         out: &mut [u8],
     ) -> Result<Answered, Call>
-        requires ready { IsServerReady box_text self.old (D.state disk.old) }
+        requires can { CanAnswer box_text self.old (D.state disk.old) out.old }
         requires whole { IsFrame reader.old.bytes }
-        requires room { FRAME_LIMIT ≤ length out.old }
-        ensures next { self.new.boxes
-            ≡ (answers_read self.old.boxes (read_request (drop 2 reader.old.bytes))).next }
-        ensures leaves { LeavesBoxes box_text self.old self.new (D.state disk.old)
-            (D.state disk.new) result }
-        ensures reply { HasReply self.old.boxes reader.old.bytes out.old out.new result }
+        ensures answers { AnswersFrame box_text reader.old.bytes self.old self.new
+            (D.state disk.old) (D.state disk.new) out.old out.new result }
         ensures given { reader.new.bytes ≡ [] }
         ensures place { reader.new.place ≡ reader.old.place + length reader.old.bytes }
     {
@@ -135,10 +123,9 @@ impl DurableBoxes {
         reader: &mut FrameReader,
         out: &mut [u8],
     ) -> Result<Round, ServeFault>
-        requires ready { IsServerReady box_text self.old (D.state disk.old) }
+        requires can { CanAnswer box_text self.old (D.state disk.old) out.old }
         requires fresh { reader.old.bytes ≡ [] }
         requires ends { reader.old.place + FRAME_LIMIT < 2 ^ 64 }
-        requires room { FRAME_LIMIT ≤ length out.old }
         ensures rounds { Rounds box_text self.old self.new (P.port pipe.old) (P.port pipe.new)
             (D.state disk.old) (D.state disk.new) result }
         ensures counts { LeavesCounts D.state P.port disk.old disk.new pipe.old pipe.new result }
@@ -170,8 +157,7 @@ impl DurableBoxes {
         reader: &mut FrameReader,
         out: &mut [u8],
     ) -> Result<Ended, ServeFault>
-        requires ready { IsServerReady box_text self.old (D.state disk.old) }
-        requires room { FRAME_LIMIT ≤ length out.old }
+        requires { CanAnswer box_text self.old (D.state disk.old) out.old }
         ensures { IsServedInOrder D.state P.port box_text self.old self.new disk.old disk.new
             pipe.old pipe.new result }
     {

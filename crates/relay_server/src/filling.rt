@@ -1,12 +1,9 @@
 //! The boxes are loaded from their stores, and each area without a record gets an empty box's.
 
-ghost use Rattle.std.specs.Prelude.{◌≡◌, ◌<◌, ◌≤◌, ◌+◌, ℕ, true, false, List, Option, IfErr, OnOk, length, slice_get};
-ghost use Rattle.dr_base.specs.Causes.{Rose};
-ghost use Rattle.dr_disk.specs.Spans.{IsQuiet, Span};
+ghost use Rattle.std.specs.Prelude.{◌≡◌, ◌<◌, ◌≤◌, ◌+◌, ℕ, List, Option, IfErr, OnOk, length, slice_get};
 ghost use Rattle.slot_store.specs.Store.{SlotStore, content};
-ghost use Rattle.relay_core.specs.Boxes.{Box};
 ghost use Rattle.relay_core.specs.declared.limits.TheConstants.{RELAY_LIMIT};
-ghost use Rattle.relay_server.specs.Filling.{AreFilled, AreLoaded, IsFilling, IsFirstOthers, IsLoadedAt, IsOthers};
+ghost use Rattle.relay_server.specs.Filling.{AreFilled, AreLoaded, Fills, IsFirstOthers, LoadsAt};
 ghost use Rattle.relay_server.specs.Opening.{box_fault};
 ghost use Rattle.relay_server.specs.Places.{IsBoxRoom};
 
@@ -20,10 +17,7 @@ use slot_store::{SlotStore, locality, resting};
 fn load_record(relay: &mut Relay, place: usize, text: &[u8]) -> bool
     requires inside { place < length relay.old }
     requires clean { box_fault text.now ≡ Option.None }
-    ensures loaded { result ≡ true → IsLoadedAt place relay.old relay.new (Option.Some text.now) }
-    ensures other { result ≡ false → (was : Box) → slice_get relay.old place ≡ Option.Some was
-        → IsOthers was (Option.Some text.now) }
-    ensures count { length relay.new ≡ length relay.old }
+    ensures { LoadsAt place relay.old relay.new (Option.Some text.now) result }
 {
     records();
     match relay.load(place, text) {
@@ -38,10 +32,7 @@ fn load_box(relay: &mut Relay, place: usize, store: &SlotStore) -> bool
     requires inside { place < length relay.old }
     requires clean { (text : List ℕ) → content store.now ≡ Option.Some text
         → box_fault text ≡ Option.None }
-    ensures loaded { result ≡ true → IsLoadedAt place relay.old relay.new (content store.now) }
-    ensures other { result ≡ false → (was : Box) → slice_get relay.old place ≡ Option.Some was
-        → IsOthers was (content store.now) }
-    ensures count { length relay.new ≡ length relay.old }
+    ensures { LoadsAt place relay.old relay.new (content store.now) result }
 {
     let text = store.content();
     if text.is_empty() {
@@ -80,12 +71,8 @@ fn fill_area<D: Disk>(
     requires inside { place < length relay.now }
     requires filled { AreFilled place relay.now stores.old (D.state disk.old) }
     requires room { IsBoxRoom text.old.items }
-    ensures filled { OnOk result (AreFilled (place + 1) relay.now stores.new (D.state disk.new)) }
-    ensures any_moment { Span (D.state disk.old) (D.state disk.new)
-        (IsFilling relay.now (D.state disk.old)) }
-    ensures fault { IfErr result
-        (λ call. Rose ((D.state disk.old).faults call) ((D.state disk.new).faults call)) }
-    ensures quiet { OnOk result (IsQuiet (D.state disk.old) (D.state disk.new)) }
+    ensures fills { Fills (place + 1) relay.now stores.new (D.state disk.old) (D.state disk.new)
+        result }
     ensures room { IsBoxRoom text.new.items }
 {
     locality();
@@ -106,13 +93,8 @@ pub(crate) fn fill_areas<D: Disk>(
 ) -> Result<(), Call>
     requires filled { AreFilled 0 relay.now stores.old (D.state disk.old) }
     requires room { IsBoxRoom text.old.items }
-    ensures filled { OnOk result
-        (AreFilled (length relay.now) relay.now stores.new (D.state disk.new)) }
-    ensures any_moment { Span (D.state disk.old) (D.state disk.new)
-        (IsFilling relay.now (D.state disk.old)) }
-    ensures fault { IfErr result
-        (λ call. Rose ((D.state disk.old).faults call) ((D.state disk.new).faults call)) }
-    ensures quiet { OnOk result (IsQuiet (D.state disk.old) (D.state disk.new)) }
+    ensures fills { Fills (length relay.now) relay.now stores.new (D.state disk.old)
+        (D.state disk.new) result }
     ensures room { IsBoxRoom text.new.items }
 {
     'boxes: for place in 0..stores.len() {

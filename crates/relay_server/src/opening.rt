@@ -1,12 +1,9 @@
 //! A relay's boxes are opened from a disk: a look, and then a settling.
 
-ghost use Rattle.std.specs.Prelude.{◌≡◌, ◌≤◌, map, length, IfOk, OnOk};
-ghost use Rattle.dr_disk.specs.Spans.{Span};
+ghost use Rattle.std.specs.Prelude.{◌≡◌, ◌≤◌, map, length, IfOk};
 ghost use Rattle.relay_core.specs.Boxes.{empty_box};
 ghost use Rattle.relay_server.specs.Areas.{HasLooked};
-ghost use Rattle.relay_server.specs.Durable.{FailsByCall};
-ghost use Rattle.relay_server.specs.Filling.{IsFilling};
-ghost use Rattle.relay_server.specs.Looking.{HasSettled, IsUnsettled, LooksAt};
+ghost use Rattle.relay_server.specs.Looking.{IsUnsettled, LooksAt, Settles};
 ghost use Rattle.relay_server.specs.Places.{HasRoomFor};
 
 use crate::areas::{FIRST_AREA, open_areas};
@@ -61,11 +58,7 @@ impl DurableBoxes {
     /// Gives each area without a record an empty box's.
     pub fn settle<D: Disk>(&mut self, disk: &mut D) -> Result<(), Call>
         requires { IsUnsettled self.old (D.state disk.old) }
-        ensures settled { OnOk result
-            (HasSettled self.old self.new (D.state disk.old) (D.state disk.new)) }
-        ensures any_moment { Span (D.state disk.old) (D.state disk.new)
-            (IsFilling self.old.boxes (D.state disk.old)) }
-        ensures fault { FailsByCall (D.state disk.old) (D.state disk.new) result }
+        ensures { Settles self.old (λ _. self.new) (D.state disk.old) (D.state disk.new) result }
     {
         fill_areas(&self.relay, &mut self.stores, &mut self.text, disk)
     }

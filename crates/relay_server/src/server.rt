@@ -3,9 +3,8 @@
 ghost use Rattle.std.specs.Prelude.{◌≡◌, ◌≤◌, length, IfErr, IfOk};
 ghost use Rattle.dr_disk.specs.Spans.{Span};
 ghost use Rattle.relay_core.specs.Record.{box_text};
-ghost use Rattle.relay_server.specs.Durable.{FailsByCall, IsServerReady};
-ghost use Rattle.relay_server.specs.Filling.{IsFilling};
-ghost use Rattle.relay_server.specs.Looking.{HasSettled, IsUnsettled, LooksAt};
+ghost use Rattle.relay_server.specs.Durable.{IsServerReady};
+ghost use Rattle.relay_server.specs.Looking.{IsUnsettled, LooksAt, Settles};
 ghost use Rattle.relay_server.specs.Opening.{IsServerOpened, IsOpening, IsServerUnopened};
 ghost use Rattle.relay_server.specs.Places.{HasRoomFor};
 ghost use Rattle.relay_server.specs.FrameByFrame.{IsServedInOrder};
@@ -59,11 +58,7 @@ impl Looked {
     /// Gives each area without a record an empty box's. Then the server is ready.
     pub fn settle<D: Disk>(self, disk: &mut D) -> Result<Server, Call>
         requires { IsUnsettled self (D.state disk.old) }
-        ensures settled { IfOk result
-            (λ server. HasSettled self server (D.state disk.old) (D.state disk.new)) }
-        ensures any_moment { Span (D.state disk.old) (D.state disk.new)
-            (IsFilling self.boxes (D.state disk.old)) }
-        ensures fault { FailsByCall (D.state disk.old) (D.state disk.new) result }
+        ensures { Settles self (λ server. server) (D.state disk.old) (D.state disk.new) result }
     {
         let mut server = self.server;
         match server.boxes.settle(disk) {

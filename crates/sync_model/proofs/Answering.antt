@@ -6,7 +6,7 @@ use Rattle.relay_wire.specs.Requests.{Asking, posts, fetches, acks, Asked}
 use Rattle.relay_wire.specs.Replies.{Replied, stored, item, empty, acked, box_full, unknown, absent, bad}
 use Rattle.relay_core.specs.Boxes.{Kept, Box, answer_of, answers_of, becomes, after_box, has_number, is_full, is_named, of_first, oldest, stays, with_packet, without_number}
 use Rattle.sync_model.specs.Parties.{Party, TookPacket, taking}
-use Rattle.sync_model.specs.Moves.{Move, Wait, Ending, ended, inbox_full, box_is_full, no_such_box, wrong, fetching, acking, posting, over, acknowledged, asked_in, posting_of, goes, move, took_by, waits_by}
+use Rattle.sync_model.specs.Moves.{Move, Wait, inbox_full, wrong, fetching, acking, posting, over, acknowledged, asked_in, posting_of, goes, move, took_by, waits_by}
 use Rattle.sync_model.specs.Transfers.{Meeting, answered, begins, meets, meet_times}
 use Rattle.sync_model.specs.declared.limits.TheConstants.{ITEM_LIMIT}
 use Rattle.sync_model.specs.declared.more.More.{More}

@@ -3,8 +3,8 @@ use Rattle.std.proofs.Common.{◌≡◌, ℕ, zero, suc, List, [], ◌++◌, Opt
 use Rattle.relay_wire.specs.Requests.{Asked}
 use Rattle.relay_core.specs.Boxes.{answers_of}
 use Rattle.sync_model.specs.Parties.{Party}
-use Rattle.sync_model.specs.Moves.{Wait, Ending, ended, inbox_full, box_is_full, no_such_box, wrong, fetching, acking, posting, over, asked_in, move}
-use Rattle.sync_model.specs.Courses.{Course, all_lines, last_line}
+use Rattle.sync_model.specs.Moves.{Wait, fetching, acking, posting, over, asked_in, move}
+use Rattle.sync_model.specs.Courses.{all_lines, last_line}
 use Rattle.sync_model.specs.Transfers.{Meeting, answered, meets, meet_times}
 use Rattle.sync_model.proofs.Stopping.{stays_all}
 

@@ -1,11 +1,11 @@
 -- Two scenes that are alike.
-use Rattle.std.proofs.Common.{◌≡◌, ℕ, zero, suc, ◌+◌, Bool, true, List, [], ◌∷◌, ◌++◌, Option, Some, None, refl, sym, ◌∙◌, ap, ap₂, subst}
+use Rattle.std.proofs.Common.{◌≡◌, ℕ, zero, suc, ◌+◌, List, [], ◌∷◌, ◌++◌, Option, Some, None, refl, sym, ◌∙◌, ap, ap₂, subst}
 use Rattle.relay_wire.specs.Requests.{Asked}
 use Rattle.relay_wire.specs.Replies.{Replied}
 use Rattle.relay_core.specs.Boxes.{Box, answers_of}
 use Rattle.sync_model.specs.Parties.{Party}
-use Rattle.sync_model.specs.Moves.{Wait, asked_in}
-use Rattle.sync_model.specs.Courses.{Course, as_list, begun, read_one}
+use Rattle.sync_model.specs.Moves.{asked_in}
+use Rattle.sync_model.specs.Courses.{as_list, read_one}
 use Rattle.sync_model.specs.Simulation.{AreAlike, IsSameCourse}
 use Rattle.sync_model.specs.Transfers.{Meeting, answered, begins, meets, meet_times}
 use Rattle.sync_model.specs.Carried.{relay_after}

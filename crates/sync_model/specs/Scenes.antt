@@ -9,7 +9,7 @@ use Rattle.relay_core.specs.Streams.{served, reply_frame}
 use Rattle.relay_core.specs.declared.limits.TheConstants.{EXCHANGE_LIMIT}
 use Rattle.sync_model.specs.Parties.{Party}
 use Rattle.sync_model.specs.Moves.{Ending, asked_in, over, wrong}
-use Rattle.sync_model.specs.Courses.{Course, awaited, course_of, made_requests}
+use Rattle.sync_model.specs.Courses.{awaited, course_of, made_requests}
 use Rattle.sync_model.specs.Simulation.{AreAlike, IsFairReply, IsSameCourse}
 use Rattle.sync_model.specs.Transfers.{Meeting, begins, meets, meet_times}
 use Rattle.sync_model.specs.Carried.{relay_after, replied_bytes, request_bytes}

@@ -19,11 +19,9 @@ pub invariant_of-self : goal.invariant_of-self
 invariant_of-self c =
     let text = c.args.text.now in
     let head : Read HeadParts = record { value = head_seen c.in-Ok.head; at = c.read_head.new.cursor.at; rest = c.read_head.new.cursor.rest } in
-    let packets : Read (List Kept) = record { value = c.take_packets.new.packets.items; at = c.take_packets.new.cursor.at; rest = c.take_packets.new.cursor.rest } in
+    let packets : Read (List Kept) = record { value = c.take_packets.new.packets; at = c.take_packets.new.cursor.at; rest = c.take_packets.new.cursor.rest } in
     let was = subst (λ (s : Standing). head_fields s.at s.rest ≡ Ok head) c.new-cursor.ensures c.in-Ok.ensures.reads in
-    let is_box = whole_box text head was packets c.in-Ok-take_packets.ensures.reads c.requires in
+    let is_box = whole_box text head was packets c.in-Ok-take_packets.ensures c.requires in
     let lawful = (record_grammar.only text _ (are_bytes text (λ i. omega (arith, c.type_inv.text i))) is_box).1 in
-    let name = same_name _ _ (not_false _ (sym c.ne.ensures ∙ c.if-ne.false)) ∙ c.bytes.ensures.value in (
-      subst (λ (n : List ℕ). IsLawfulBox (record { name = n; last = c.in-Ok.head.last; packets = packets.value })) name lawful,
-      c.take_packets.ensures.room_stays,
-    )
+    let name = same_name _ _ (not_false _ (sym c.ne.ensures ∙ c.if-ne.false)) ∙ c.bytes.ensures.value in
+    subst (λ (n : List ℕ). IsLawfulBox (record { name = n; last = c.in-Ok.head.last; packets = packets.value })) name lawful

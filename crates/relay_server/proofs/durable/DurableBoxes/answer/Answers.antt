@@ -1,4 +1,4 @@
-use Rattle.std.proofs.Common.{inl, ◌≡◌, List, take, drop, length, refl, sym, ◌∙◌, ap, subst}
+use Rattle.std.proofs.Common.{inl, ◌≡◌, List, take, drop, length, refl, sym, ◌∙◌, ap, subst, rules}
 use Rattle.std.specs.Prelude.{is_ok}
 use Rattle.std.specs.Vec.{with_items}
 use Rattle.dr_disk.proofs.Steps.{stays}
@@ -12,8 +12,8 @@ use Rattle.relay_server.specs.Places.{IsSameBehind}
 use Rattle.relay_server.proofs.Replacing.{Known, known_moments, known_now, known_ready, ready_stands}
 use Rattle.relay_server.proofs.durable.DurableBoxes.answer.Goals as goal
 
-pub returns-in-Err-clause-leaves : goal.returns-in-Err-clause-leaves
-returns-in-Err-clause-leaves g c =
+pub returns-in-Err : goal.returns-in-Err
+returns-in-Err g c =
     let frame = read_request (drop 2 c.args.frame.now.bytes.now) in
     let boxes = c.self.inside.relay in
     let long : length c.write_text-len.new.out ≡ c.self.inside.text.len = c.write_text-len.auto.out ∙ c.deref_mut.ensures.len in
@@ -33,17 +33,21 @@ returns-in-Err-clause-leaves g c =
       resting = c.resting.ensures.record_of;
     } in
     record {
-      any_moment = known_moments box_text c.args.self.now boxes c.answer_frame-answered.new.relay (answers_read boxes frame) c.self.inside.stores.items c.deref_mut-in-Some.result.now c.replace_at.new.stores
-          c.in-Some.place (take c.write_text-len.result (with_items c.self.inside.text c.write_text-len.new.out).items) (g.D.Disk.state c.args.disk.now) (g.D.Disk.state c.replace_at.new.disk) (is_ok c.replace_at.result) known;
-      at_return = known_now box_text c.args.self.now boxes c.answer_frame-answered.new.relay (answers_read boxes frame) c.self.inside.stores.items c.deref_mut-in-Some.result.now c.replace_at.new.stores
-          c.in-Some.place (take c.write_text-len.result (with_items c.self.inside.text c.write_text-len.new.out).items) (g.D.Disk.state c.args.disk.now) (g.D.Disk.state c.replace_at.new.disk) (is_ok c.replace_at.result) known;
-      ready = tt;
-      fault = c.in-Err.ensures.fault;
-      quiet = tt;
+      next = c.answer_frame-answered.ensures.next ∙ ap (λ (server : ServerNow). (answers_read server.boxes frame).next) c.self.view_is;
+      leaves = record {
+        any_moment = known_moments box_text c.args.self.now boxes c.answer_frame-answered.new.relay (answers_read boxes frame) c.self.inside.stores.items c.deref_mut-in-Some.result.now c.replace_at.new.stores
+            c.in-Some.place (take c.write_text-len.result (with_items c.self.inside.text c.write_text-len.new.out).items) (g.D.Disk.state c.args.disk.now) (g.D.Disk.state c.replace_at.new.disk) (is_ok c.replace_at.result) known;
+        at_return = known_now box_text c.args.self.now boxes c.answer_frame-answered.new.relay (answers_read boxes frame) c.self.inside.stores.items c.deref_mut-in-Some.result.now c.replace_at.new.stores
+            c.in-Some.place (take c.write_text-len.result (with_items c.self.inside.text c.write_text-len.new.out).items) (g.D.Disk.state c.args.disk.now) (g.D.Disk.state c.replace_at.new.disk) (is_ok c.replace_at.result) known;
+        ready = tt;
+        fault = c.in-Err.ensures.fault;
+        quiet = tt;
+      };
+      reply = search rules;
     }
 
-pub returns-in_default-replace_at-clause-leaves : goal.returns-in_default-replace_at-clause-leaves
-returns-in_default-replace_at-clause-leaves g c =
+pub returns-in_default-replace_at : goal.returns-in_default-replace_at
+returns-in_default-replace_at g c =
     let frame = read_request (drop 2 c.args.frame.now.bytes.now) in
     let boxes = c.self.inside.relay in
     let long : length c.write_text-len.new.out ≡ c.self.inside.text.len = c.write_text-len.auto.out ∙ c.deref_mut.ensures.len in
@@ -64,28 +68,36 @@ returns-in_default-replace_at-clause-leaves g c =
     } in
     let same : length c.replace_at.new.stores ≡ c.self.inside.stores.len = c.replace_at.ensures.count ∙ c.deref_mut-in-Some.ensures.len in
     record {
-      any_moment = known_moments box_text c.args.self.now boxes c.answer_frame-answered.new.relay (answers_read boxes frame) c.self.inside.stores.items c.deref_mut-in-Some.result.now c.replace_at.new.stores
-          c.in-Some.place (take c.write_text-len.result (with_items c.self.inside.text c.write_text-len.new.out).items) (g.D.Disk.state c.args.disk.now) (g.D.Disk.state c.replace_at.new.disk) (is_ok c.replace_at.result) known;
-      at_return = known_now box_text c.args.self.now boxes c.answer_frame-answered.new.relay (answers_read boxes frame) c.self.inside.stores.items c.deref_mut-in-Some.result.now c.replace_at.new.stores
-          c.in-Some.place (take c.write_text-len.result (with_items c.self.inside.text c.write_text-len.new.out).items) (g.D.Disk.state c.args.disk.now) (g.D.Disk.state c.replace_at.new.disk) (is_ok c.replace_at.result) known;
-      ready = subst (λ (xs : List SlotStore). IsServerReady box_text (record { boxes = c.answer_frame-answered.new.relay; stores = xs }) (g.D.Disk.state c.replace_at.new.disk)) (sym (with_items_is c.self.inside.stores c.replace_at.new.stores same))
-          (known_ready box_text c.args.self.now boxes c.answer_frame-answered.new.relay (answers_read boxes frame) c.self.inside.stores.items c.deref_mut-in-Some.result.now c.replace_at.new.stores
-          c.in-Some.place (take c.write_text-len.result (with_items c.self.inside.text c.write_text-len.new.out).items) (g.D.Disk.state c.args.disk.now) (g.D.Disk.state c.replace_at.new.disk) (is_ok c.replace_at.result) known (ap is_ok c.in_default-replace_at.is));
-      fault = tt;
-      quiet = c.in_default-replace_at.ensures.quiet;
+      next = c.answer_frame-answered.ensures.next ∙ ap (λ (server : ServerNow). (answers_read server.boxes frame).next) c.self.view_is;
+      leaves = record {
+        any_moment = known_moments box_text c.args.self.now boxes c.answer_frame-answered.new.relay (answers_read boxes frame) c.self.inside.stores.items c.deref_mut-in-Some.result.now c.replace_at.new.stores
+            c.in-Some.place (take c.write_text-len.result (with_items c.self.inside.text c.write_text-len.new.out).items) (g.D.Disk.state c.args.disk.now) (g.D.Disk.state c.replace_at.new.disk) (is_ok c.replace_at.result) known;
+        at_return = known_now box_text c.args.self.now boxes c.answer_frame-answered.new.relay (answers_read boxes frame) c.self.inside.stores.items c.deref_mut-in-Some.result.now c.replace_at.new.stores
+            c.in-Some.place (take c.write_text-len.result (with_items c.self.inside.text c.write_text-len.new.out).items) (g.D.Disk.state c.args.disk.now) (g.D.Disk.state c.replace_at.new.disk) (is_ok c.replace_at.result) known;
+        ready = subst (λ (xs : List SlotStore). IsServerReady box_text (record { boxes = c.answer_frame-answered.new.relay; stores = xs }) (g.D.Disk.state c.replace_at.new.disk)) (sym (with_items_is c.self.inside.stores c.replace_at.new.stores same))
+            (known_ready box_text c.args.self.now boxes c.answer_frame-answered.new.relay (answers_read boxes frame) c.self.inside.stores.items c.deref_mut-in-Some.result.now c.replace_at.new.stores
+            c.in-Some.place (take c.write_text-len.result (with_items c.self.inside.text c.write_text-len.new.out).items) (g.D.Disk.state c.args.disk.now) (g.D.Disk.state c.replace_at.new.disk) (is_ok c.replace_at.result) known (ap is_ok c.in_default-replace_at.is));
+        fault = tt;
+        quiet = c.in_default-replace_at.ensures.quiet;
+      };
+      reply = search rules;
     }
 
-pub returns-in_default-clause-leaves : goal.returns-in_default-clause-leaves
-returns-in_default-clause-leaves g c =
+pub returns-in_default : goal.returns-in_default
+returns-in_default g c =
     let disk = g.D.Disk.state c.args.disk.now in
     let frame = read_request (drop 2 c.args.frame.now.bytes.now) in
     let same : record { boxes = c.answer_frame-answered.new.relay; stores = c.self.inside.stores.items } ≡ c.args.self.now =
     ap (λ (bs : List Box). record { boxes = bs; stores = c.self.inside.stores.items })
     (c.answer_frame-answered.ensures.next ∙ (c.changes.ensures c.self.inside.relay frame).none (sym c.answer_frame-answered.ensures.changed ∙ c.in_default.is)) ∙ c.self.view_is in
     record {
-      any_moment = stays disk (λ image. StandsForEitherBoxes box_text c.args.self.now.boxes c.answer_frame-answered.new.relay image × IsSameBehind (length c.args.self.now.boxes) disk image);
-      at_return = λ image left. inl (ready_stands box_text c.args.self.now disk c.requires.ready c.resting.ensures.record_of image left);
-      ready = subst (λ (s : ServerNow). IsServerReady box_text s disk) (sym same) c.requires.ready;
-      fault = tt;
-      quiet = λ call. refl;
+      next = c.answer_frame-answered.ensures.next ∙ ap (λ (server : ServerNow). (answers_read server.boxes frame).next) c.self.view_is;
+      leaves = record {
+        any_moment = stays disk (λ image. StandsForEitherBoxes box_text c.args.self.now.boxes c.answer_frame-answered.new.relay image × IsSameBehind (length c.args.self.now.boxes) disk image);
+        at_return = λ image left. inl (ready_stands box_text c.args.self.now disk c.requires.ready c.resting.ensures.record_of image left);
+        ready = subst (λ (s : ServerNow). IsServerReady box_text s disk) (sym same) c.requires.ready;
+        fault = tt;
+        quiet = λ call. refl;
+      };
+      reply = search rules;
     }

@@ -10,7 +10,7 @@ returns-in-Err-clause-rounds g c = (
   c.pull.new.reader.bytes,
   pulled_part c.args.reader.now c.pull.new.reader c.args.self.now.boxes (g.P.Pipe.port c.args.pipe.now) (g.P.Pipe.port c.pull.new.pipe) (g.D.Disk.state c.args.disk.now) c.requires.fresh c.in-Err.ensures.pulls.0 c.in-Err.ensures.pulls.1,
   c.in-Err.ensures.pulls.2,
-  c.requires.ready,
+  c.requires.can.ready,
   λ call. refl,
 )
 
@@ -24,9 +24,9 @@ returns-in-Err-send_all-clause-rounds g c =
       part.remainder,
       came_part box_text c.args.reader.now c.pull.new.reader part.beginning c.args.self.now.boxes c.answer_next.new.self.boxes
           (g.P.Pipe.port c.args.pipe.now) (g.P.Pipe.port c.pull.new.pipe) (g.P.Pipe.port c.send_all.new.pipe)
-          (g.D.Disk.state c.args.disk.now) (g.D.Disk.state c.answer_next.new.disk) c.requires.fresh pulls.0 pulls.1 part.took c.answer_next.ensures.next c.answer_next.ensures.leaves.any_moment,
-      sym c.in-Ok.ensures.reply.reply ∙ part.split,
+          (g.D.Disk.state c.args.disk.now) (g.D.Disk.state c.answer_next.new.disk) c.requires.fresh pulls.0 pulls.1 part.took c.answer_next.ensures.answers.next c.answer_next.ensures.answers.leaves.any_moment,
+      sym c.in-Ok.ensures.answers.reply.reply ∙ part.split,
       subst (λ (n : ℕ). Rose n ((g.P.Pipe.port c.send_all.new.pipe).faults Flow)) c.in-Ok-true.ensures.leaves.cause.passed rose,
-      c.in-Ok.ensures.leaves.ready,
-      c.in-Ok.ensures.leaves.quiet,
+      c.in-Ok.ensures.answers.leaves.ready,
+      c.in-Ok.ensures.answers.leaves.quiet,
     )
