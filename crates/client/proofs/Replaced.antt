@@ -1,5 +1,5 @@
 -- A record that replaced another, on the disk of a client.
-use Rattle.std.proofs.Common.{List, Some, ap, ap₂, arith, subst, ℕ, ◌+◌, ◌<◌, ◌∙◌, ◌≡◌}
+use Rattle.std.proofs.Common.{List, Some, ap, ap₂, arith, subst, ℕ, ◌+◌, ◌-◌, ◌<◌, ◌∙◌, ◌≡◌}
 use Rattle.dr_base.specs.Causes.{Rose}
 use Rattle.dr_disk.specs.Spans.{FailsLater, HasFailedAsTold, HavePassed, IsQuiet, Span}
 use Rattle.dr_disk.specs.State.{Always, DiskState}
@@ -7,7 +7,7 @@ use Rattle.dr_disk.specs.declared.call.Call.{Call}
 use Rattle.session_model.specs.Clients.{Client}
 use Rattle.session_record.specs.Record.{record_text}
 use Rattle.slot_store.specs.Records.{stored_record}
-use Rattle.slot_store.specs.Stops.{IsStopped, calls_of}
+use Rattle.slot_store.specs.Stops.{IsStopped, call_after, calls_of}
 use Rattle.slot_store.specs.Store.{IsOldOrNew, KeepsOutsideArea, ReadsOutsideArea, Rests, SlotStore, content}
 use Rattle.slot_store.specs.Areas.{Area}
 use Rattle.client.specs.Clients.{IsReady, client_area}
@@ -50,9 +50,11 @@ module _ (before after : Client) (old : SlotStore) (text : List ℕ) (start now 
   pub lost : (call : Call) → Span start now (IsOldOrNew start old.area (content old) (Some text))
       → ReadsOutsideArea old.area start now → IsStopped old.area (content old) (Some text) start now
       → ((l m : ℕ) → start.passed ≡ Some l → now.passed ≡ Some m → m < l + calls_of (content old) (Some text))
+      → ((l m : ℕ) → start.passed ≡ Some l → now.passed ≡ Some m
+      → call ≡ call_after (content old) (Some text) (m - l))
       → HasFailedAsTold start now → Rose (start.faults call) (now.faults call)
       → IsLost before after call start now
-  lost call span reads stopped few ended rose = record {
+  lost call span reads stopped few came ended rose = record {
     any_moment = replacing span;
     reads = reads_in reads;
     stopped =
@@ -60,6 +62,8 @@ module _ (before after : Client) (old : SlotStore) (text : List ℕ) (start now 
         (subst (λ o. IsStopped old.area o (Some (record_text after)) start now) ready.holds
         (subst (λ t. IsStopped old.area (content old) (Some t) start now) written stopped));
     few = λ l m was is. subst (λ n. m < l + n) calls_are (few l m was is);
+    kind = λ l m was is. came l m was is
+        ∙ ap₂ (λ o t. call_after o t (m - l)) ready.holds (ap Some written);
     ended = ended;
     rose = rose;
   }

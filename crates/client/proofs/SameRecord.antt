@@ -1,5 +1,5 @@
 -- Clients with one record: that of a text that was said has its packet alone, whose position is read from it.
-use Rattle.std.proofs.Common.{List, Some, [], refl, ap, ap₂, subst, sym, ℕ, ◌+◌, ◌++◌, ◌<◌, ◌∙◌, ◌∷◌, ◌≡◌}
+use Rattle.std.proofs.Common.{List, Some, [], refl, ap, ap₂, subst, sym, ℕ, ◌+◌, ◌-◌, ◌++◌, ◌<◌, ◌∙◌, ◌∷◌, ◌≡◌}
 use Rattle.std.specs.Int.{to_be_bytes, w8}
 use Rattle.std.specs.Prelude.{length}
 use Rattle.std.proofs.lemmas.List.{length-append}
@@ -17,7 +17,7 @@ use Rattle.session_model.specs.States.{State}
 use Rattle.session_record.specs.Lists.{post_of, post_text}
 use Rattle.session_record.specs.Record.{client_of, record_text, saved_text}
 use Rattle.slot_store.specs.Store.{IsOldOrNew, SlotStore}
-use Rattle.slot_store.specs.Stops.{IsStopped, calls_of}
+use Rattle.slot_store.specs.Stops.{IsStopped, call_after, calls_of}
 use Rattle.client.specs.Clients.{client_area}
 use Rattle.client.specs.Outcomes.{IsKept, IsLost}
 
@@ -85,6 +85,8 @@ lost_alike before after other call start now same lost = record {
   few = λ l m was is.
       subst (λ text. m < l + calls_of (Some (record_text before)) (Some text)) same
       (lost.few l m was is);
+  kind = λ l m was is. lost.kind l m was is
+      ∙ ap (λ text. call_after (Some (record_text before)) (Some text) (m - l)) same;
   ended = lost.ended;
   rose = lost.rose;
 }

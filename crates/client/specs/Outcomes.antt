@@ -1,5 +1,5 @@
 -- What a call on a client does, by how it ends.
-use Rattle.std.specs.Prelude.{Err, None, Ok, Result, Some, Bool, true, false, ℕ, ◌+◌, ◌<◌, ◌≡◌}
+use Rattle.std.specs.Prelude.{Err, None, Ok, Result, Some, Bool, true, false, ℕ, ◌+◌, ◌-◌, ◌<◌, ◌≡◌}
 use Rattle.dr_base.specs.Causes.{Rose}
 use Rattle.dr_base.specs.declared.position.Position.{Position}
 use Rattle.dr_disk.specs.Spans.{FailsLater, HasFailedAsTold, HavePassed, IsQuiet, Span}
@@ -12,7 +12,7 @@ use Rattle.session_model.specs.declared.answer.Answer.TheVariants.{Opened, Said}
 use Rattle.session_model.specs.declared.answer.Refusal.{Refusal}
 use Rattle.session_model.specs.declared.answer.Refusal.TheVariants.{Fewer, NoPair}
 use Rattle.session_record.specs.Record.{record_text}
-use Rattle.slot_store.specs.Stops.{IsStopped, calls_of}
+use Rattle.slot_store.specs.Stops.{IsStopped, call_after, calls_of}
 use Rattle.slot_store.specs.Store.{IsOldOrNew, ReadsOutsideArea, SlotStore}
 use Rattle.client.specs.Clients.{ClientNow, IsReady, client_area}
 use Rattle.client.specs.declared.refusals.DropRefusal.{DropRefusal}
@@ -64,6 +64,11 @@ IsReplacing before after start now =
 abbrev pub replacing_calls : Client → Client → ℕ
 replacing_calls before after = calls_of (Some (record_text before)) (Some (record_text after))
 
+-- which kind of call comes next of a replacement, once this many have passed
+abbrev pub replacing_call : Client → Client → ℕ → Call
+replacing_call before after n =
+    call_after (Some (record_text before)) (Some (record_text after)) n
+
 -- it was replaced, by so many writes and syncs, and the disk is at rest
 pub record IsKept (before after : Client) (store : SlotStore) (start now : DiskState) : Type 0 where
   pub ready : IsReady after store now
@@ -81,6 +86,9 @@ pub record IsLost (before after : Client) (call : Call) (start now : DiskState) 
   pub stopped : IsStopped client_area (Some (record_text before)) (Some (record_text after)) start now
   pub few : (l m : ℕ) → start.passed ≡ Some l → now.passed ≡ Some m
       → m < l + replacing_calls before after
+  -- the call that failed is the one that came next
+  pub kind : (l m : ℕ) → start.passed ≡ Some l → now.passed ≡ Some m
+      → call ≡ replacing_call before after (m - l)
   pub ended : HasFailedAsTold start now
   pub rose : Rose (start.faults call) (now.faults call)
 

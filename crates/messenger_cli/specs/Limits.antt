@@ -1,6 +1,8 @@
 -- The program's limits, as numbers: those of its own, and those of the crates below it.
 use Rattle.std.specs.Prelude.{◌≡◌}
 use Rattle.dr_base.specs.Limits.{HasLimits as HasConversations}
+use Rattle.pages.specs.Limits.{HasLimits as HasPages}
+use Rattle.record_pages.specs.Limits.{HasLimits as HasTables}
 use Rattle.session_record.specs.Limits.{HasLimits as HasRecords}
 use Rattle.client.specs.Limits.{HasLimits as HasPlaces}
 use Rattle.session_commands.specs.Limits.{HasLimits as HasInputs}
@@ -16,6 +18,8 @@ use Rattle.messenger_cli.specs.declared.program.TheConstants.{DISK_SIZE}
 pub record HasLimits : Type 0 where
   pub conversations : HasConversations
   pub records : HasRecords
+  pub pages : HasPages
+  pub tables : HasTables
   pub places : HasPlaces
   -- bytes of the state file
   pub disk : DISK_SIZE ≡ 393216

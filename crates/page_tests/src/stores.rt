@@ -4,7 +4,8 @@ ghost use Rattle.std.specs.Prelude.{◌≡◌, ◌==◌, ◌≤◌, length, Some
 
 use dr_disk::Disk;
 use slot_store::{
-    Area, Found, Grammar, InspectError, OpenError, Report, SlotStore, inspect, record_room,
+    Area, Found, Grammar, InspectError, NAMED_LIMIT, NUMBER_LIMIT, OpenError, Report, SlotStore,
+    inspect, record_room,
 };
 use std::alloc::{AllocError, Global};
 
@@ -78,7 +79,7 @@ pub(crate) fn finds<D: Disk>(
     content: Found,
     text: &[u8],
 ) -> Result<bool, OpenError> {
-    if most > 2045 || pages > 65536 || pages < 2 + 2 * most {
+    if most > NAMED_LIMIT || pages > NUMBER_LIMIT || pages < 2 + 2 * most {
         return Err(OpenError::Memory);
     }
     if disk.size() < 4096 * u64::from(pages) {

@@ -3,6 +3,7 @@ pub mod Shots
 pub mod Around
 pub mod Unnamed
 pub mod Calls
+pub mod NextCalls
 pub mod Looking
 pub mod Written
 pub mod Committed

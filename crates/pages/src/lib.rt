@@ -27,5 +27,6 @@ mod page;
 mod putting;
 mod retiring;
 mod steps;
+mod synced;
 mod tidying;
 mod writing;

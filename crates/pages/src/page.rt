@@ -1,13 +1,13 @@
 //! One page: it is written, wiped or read.
 
 ghost use Rattle.std.specs.Prelude.{◌≡◌, ◌≢◌, true, false, length, replicate, OnOk, OnErr};
+ghost use Rattle.dr_disk.specs.declared.call.Call.TheVariants.{Write};
 ghost use Rattle.dr_disk.specs.State.{OnSeen};
-ghost use Rattle.dr_disk.specs.Spans.{ReadsOutside, Span};
+ghost use Rattle.dr_disk.specs.Spans.{ReadsOutside};
 ghost use Rattle.dr_disk.specs.Bytes.{overwritten_told};
-ghost use Rattle.dr_disk.specs.Called.{Called, itself};
 ghost use Rattle.pages.specs.Layouts.{IsPage, IsSound, page_place};
-ghost use Rattle.pages.specs.Runs.{ReadsAlone};
-ghost use Rattle.pages.specs.Snapshots.{IsFree, IsSameShot, StaysUnnamed, page_of};
+ghost use Rattle.pages.specs.Runs.{ReadsAlone, Makes, only};
+ghost use Rattle.pages.specs.Snapshots.{IsFree, Touches, page_of};
 
 use crate::directory::Directory;
 use crate::layout::{Layout, page_at};
@@ -26,9 +26,7 @@ pub fn write_page<T: Directory, D: Disk>(
     requires long { length page.now ≡ PAGE }
 
     // Each image stands for what one at the beginning stands for.
-    ensures any_moment { Span (D.state disk.old) (D.state disk.new)
-        (IsSameShot T.names layout number (D.state disk.old)) }
-    ensures unnamed { StaysUnnamed T.names layout (D.state disk.old) (D.state disk.new) }
+    ensures touches { Touches T.names layout number (D.state disk.old) (D.state disk.new) }
 
     // What a read gives then.
     ensures reads { ReadsOutside (page_place layout number) PAGE
@@ -37,7 +35,7 @@ pub fn write_page<T: Directory, D: Disk>(
         ≡ overwritten_told (D.state disk.old).seen (page_place layout number) page.now) }
     ensures keeps { OnErr result ((D.state disk.old).keeps ≡ true
         → (D.state disk.new).seen ≡ (D.state disk.old).seen) }
-    ensures calls { Called 1 itself (D.state disk.old) (D.state disk.new) result }
+    ensures makes { Makes 1 (only Write) (D.state disk.old) (D.state disk.new) result }
 {
     let at = page_at(layout, number);
     let Ok(()) = disk.write_at(at, page) else {

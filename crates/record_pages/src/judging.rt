@@ -1,6 +1,7 @@
 //! The first place of a table that no record's has.
 
 ghost use Rattle.std.specs.Prelude.{◌≡◌, ◌+◌, ◌*◌, ◌≤◌, ◌<◌, ◌&&◌, nat_le, nat_lt, not, [], length, None, vec_capacity};
+ghost use Rattle.record_pages.specs.declared.limits.TheConstants.{NUMBER_LIMIT};
 ghost use Rattle.record_pages.specs.Plans.{is_among};
 ghost use Rattle.record_pages.specs.Pages.{page_count};
 ghost use Rattle.record_pages.specs.Tables.{entry_fault, length_in, nonzero_from, record_names, table_fault};
@@ -22,7 +23,7 @@ fn is_entry(number: u32, pages: u32, numbers: &[u32]) -> bool
 fn read_numbers(body: &[u8], count: usize, pages: u32, numbers: &mut Vec<u32>) -> Option<u32>
     requires count { count ≡ page_count (length_in body.now) }
     requires room { 5 + 2 * count ≤ length body.now }
-    requires short { length body.now < 65536 }
+    requires short { length body.now < NUMBER_LIMIT }
     requires kept { count ≤ vec_capacity numbers.old }
     ensures fault { result ≡ entry_fault pages [] 6 (record_names body.now) }
     ensures numbers { result ≡ None → numbers.new.items ≡ record_names body.now }
@@ -58,7 +59,7 @@ pub fn nonzero(bytes: &[u8], from: u32) -> Option<u32>
 #[tactic(auto, unfolding(crate::specs::Tables::table_fault))]
 pub fn table_fault(body: &[u8], pages: u32, most: u32, numbers: &mut Vec<u32>) -> Option<u32>
     requires room { 5 + 2 * most ≤ length body.now }
-    requires short { length body.now < 65536 }
+    requires short { length body.now < NUMBER_LIMIT }
     requires kept { most ≤ vec_capacity numbers.old }
     ensures fault { result ≡ table_fault pages most body.now }
     ensures numbers { result ≡ None → numbers.new.items ≡ record_names body.now }

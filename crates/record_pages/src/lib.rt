@@ -5,11 +5,13 @@
 pub use cutting::{holds_piece, page_count};
 pub use free::fill_free;
 pub use judging::{nonzero, table_fault};
+pub use limits::{NAMED_LIMIT, NUMBER_LIMIT, limits_in_numbers};
 pub use planning::{Plan, plan_pages};
 pub use table::{lay_out_table, number_at, record_length};
 
 mod cutting;
 mod free;
 mod judging;
+mod limits;
 mod planning;
 mod table;

@@ -2,6 +2,7 @@
 
 ghost use Rattle.std.specs.Prelude.{◌≡◌, ◌+◌, ◌*◌, ◌-◌, ◌≤◌, ◌<◌, All, length, take, drop};
 ghost use Rattle.std.specs.Int.{w16, from_be_bytes};
+ghost use Rattle.record_pages.specs.declared.limits.TheConstants.{NUMBER_LIMIT};
 ghost use Rattle.record_pages.specs.Tables.{length_in, table_body};
 
 use dr_base::{put_u16, put_u32, read_u16, read_u32};
@@ -9,7 +10,7 @@ use dr_base::{put_u16, put_u32, read_u16, read_u32};
 /// Lays out turn, length, numbers and zeros.
 pub fn lay_out_table(body: &mut [u8], turn: u8, len: u32, numbers: &[u32])
     requires room { 5 + 2 * length numbers.now ≤ length body.old }
-    requires small { All (λ n. n < 65536) numbers.now }
+    requires small { All (λ n. n < NUMBER_LIMIT) numbers.now }
     ensures { body.new ≡ table_body turn len numbers.now
         (length body.old - (5 + 2 * length numbers.now)) }
 {

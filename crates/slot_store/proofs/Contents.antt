@@ -5,6 +5,7 @@ use Rattle.std.proofs.lemmas.Bool.{eqb-true, ne_eqb}
 use Rattle.std.proofs.lemmas.List.Elements.{All-same, All-weaker}
 use Rattle.dr_base.specs.declared.limits.TheConstants.{PAGE}
 use Rattle.pages.specs.Tables.{turn_after}
+use Rattle.record_pages.specs.declared.limits.TheConstants.{NUMBER_LIMIT}
 use Rattle.record_pages.specs.Pages.{pages_in}
 use Rattle.record_pages.specs.Plans.{changed_places, dropped, numbered}
 use Rattle.record_pages.specs.Tables.{entry_fault, table_body}
@@ -58,10 +59,10 @@ module _ (pager : Pager) where
 
 -- each number has two bytes
 pub small_numbers : (area : Area) (numbers now : List ℕ) → IsArea area → now ≡ numbers → entry_fault area.pages [] 6 numbers ≡ None
-    → All (λ n. n < 65536) now
+    → All (λ n. n < NUMBER_LIMIT) now
 small_numbers area numbers now lawful is none =
-    All-same (λ n. n < 65536) now numbers is
-    (All-weaker (IsEntry area.pages) (λ n. n < 65536) (λ n entry. omega (arith, entry.1, lawful.short)) numbers
+    All-same (λ n. n < NUMBER_LIMIT) now numbers is
+    (All-weaker (IsEntry area.pages) (λ n. n < NUMBER_LIMIT) (λ n entry. omega (arith, entry.1, lawful.short)) numbers
     (entries_lawful area.pages numbers none).within)
 
 -- the zeros that end a table

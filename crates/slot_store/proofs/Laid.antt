@@ -10,6 +10,7 @@ use Rattle.dr_base.specs.declared.limits.TheConstants.{PAGE}
 use Rattle.pages.specs.Layouts.{IsPage}
 use Rattle.pages.specs.Snapshots.{kept_shot, no_shot, shot}
 use Rattle.pages.specs.Tables.{is_open, open_table}
+use Rattle.record_pages.specs.declared.limits.TheConstants.{NAMED_LIMIT}
 use Rattle.record_pages.specs.Pages.{joined, page_count, pages_in}
 use Rattle.record_pages.specs.Tables.{entry_fault, length_in, nonzero_from, or_else, printed, record_names, table_body, table_fault}
 use Rattle.record_pages.proofs.Filled.{count_covers}
@@ -51,7 +52,7 @@ module _ (area : Area) (mark : Mark) (text : List ℕ) (lawful : IsArea area) (m
   abbrev rest : ℕ
   rest = PAGE - (6 + 2 * length mark.numbers)
 
-  few : length mark.numbers ≤ 2045
+  few : length mark.numbers ≤ NAMED_LIMIT
   few = omega (arith, marked.each, marked.fits, lawful.named)
 
   filled : length text ≤ PAGE * page_count (length text)

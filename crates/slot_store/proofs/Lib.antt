@@ -9,6 +9,7 @@ mod PutCalls
 mod Retiring
 mod RetireCalls
 mod Replacing
+mod NextCalls
 mod Joined
 mod Entries
 pub mod Laid

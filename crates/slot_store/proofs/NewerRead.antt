@@ -6,6 +6,7 @@ use Rattle.dr_base.specs.declared.limits.TheConstants.{PAGE}
 use Rattle.pages.specs.Snapshots.{kept_shot, shot, shot_of, snapshot}
 use Rattle.pages.specs.Tables.{counts, is_open, open_table, tables_standing}
 use Rattle.pages.proofs.Newest.{open_low, open_high}
+use Rattle.record_pages.specs.declared.limits.TheConstants.{NAMED_LIMIT}
 use Rattle.record_pages.specs.Pages.{pages_in}
 use Rattle.record_pages.specs.Tables.{entry_fault, length_in, record_names, table_body}
 use Rattle.slot_store.specs.declared.kept.Kept.{Kept}
@@ -66,7 +67,7 @@ module _ (fault_at : List ℕ → Option ℕ) (area : Area) (second : Bool) (bod
   numbers : record_names body ≡ pager.kept.numbers.items
   numbers = sym (ap (λ (k : Kept). k.numbers.items) is_kept ∙ named.numbers)
 
-  few : area.most ≤ 2045
+  few : area.most ≤ NAMED_LIMIT
   few = omega (arith, pager.lawful.named, ap (λ (a : Area). a.most) is_area)
 
   turn : slice_index body 0 ≡ pager.turn

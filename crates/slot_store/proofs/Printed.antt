@@ -7,6 +7,7 @@ use Rattle.std.proofs.lemmas.Bool.Decides.{nat_tests}
 use Rattle.std.proofs.lemmas.Nat.{be_bytes_2, be_bytes_4}
 use Rattle.std.proofs.lemmas.List.{drop-drop, get_or-drop, get_or-take, get_or_past, length-take, length-take-le, take-append-drop}
 use Rattle.dr_base.specs.declared.limits.TheConstants.{PAGE}
+use Rattle.record_pages.specs.declared.limits.TheConstants.{NAMED_LIMIT}
 use Rattle.record_pages.specs.Pages.{page_count}
 use Rattle.record_pages.specs.Tables.{entry_fault, length_in, nonzero_from, numbers_in, or_else, printed, record_names, table_body, table_fault}
 use Rattle.slot_store.proofs.ReadPages.{take_both}
@@ -92,7 +93,7 @@ printed_names body fits are =
     printed_back (page_count (length_in body)) (drop 5 body) (omega (arith, length-drop 5 body)) (bytes_drop 5 body are)
 
 -- it is laid out
-pub table_of : (pages most : ℕ) (body : List ℕ) → most ≤ 2045 → length body + 1 ≡ PAGE → AreBytes body
+pub table_of : (pages most : ℕ) (body : List ℕ) → most ≤ NAMED_LIMIT → length body + 1 ≡ PAGE → AreBytes body
     → table_fault pages most body ≡ None
     → body ≡ table_body (slice_index body 0) (length_in body) (record_names body) (PAGE - (6 + 2 * length (record_names body)))
 table_of pages most body limit long are none =

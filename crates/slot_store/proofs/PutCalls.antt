@@ -8,9 +8,9 @@ use Rattle.dr_disk.proofs.Calling.{failed_as, passed_as}
 use Rattle.pages.specs.declared.layout.Layout.{Layout}
 use Rattle.pages.specs.Around.{ReadsAround}
 use Rattle.pages.specs.Commits.{IsPlan, TakesPlace, next_shot}
-use Rattle.pages.specs.Runs.{RunsCalls}
+use Rattle.pages.specs.Runs.{CameNext, RunsCalls}
 use Rattle.pages.specs.Snapshots.{Snapshot}
-use Rattle.pages.specs.Stops.{puts}
+use Rattle.pages.specs.Stops.{put_call, puts}
 use Rattle.pages.specs.Writing.{AreToWrite, piece_at}
 use Rattle.record_pages.specs.Pages.{pages_in}
 use Rattle.record_pages.specs.Tables.{record_names}
@@ -19,14 +19,14 @@ use Rattle.slot_store.specs.declared.pager.Pager.{Pager}
 use Rattle.slot_store.specs.Areas.{Fits, layout_of}
 use Rattle.slot_store.specs.Layout.{table_for}
 use Rattle.slot_store.specs.Putting.{HasPut, IsStaged, call_of}
-use Rattle.slot_store.specs.Stops.{IsStopped, putting}
+use Rattle.slot_store.specs.Stops.{IsStopped, putting, writes_of}
 use Rattle.slot_store.specs.Pager.{content, mark}
 use Rattle.slot_store.specs.Store.{IsOldOrNew, ReadsOutsideArea}
 use Rattle.slot_store.proofs.HasPlan.{fresh}
 use Rattle.slot_store.proofs.PlanFacts.{plans}
 use Rattle.slot_store.proofs.PutDone.{has_put, put_whole}
 use Rattle.slot_store.proofs.Putting.{Setting, next_is, plan, shot_new, shot_old, to_write}
-use Rattle.slot_store.proofs.Stopping.{put_counts, put_stopped}
+use Rattle.slot_store.proofs.Stopping.{put_stopped, put_writes}
 
 -- ---- how many calls
 
@@ -161,9 +161,16 @@ module _ {old new : Pager} {text : List ℕ} {start : DiskState} {lay : Layout} 
       → ReadsOutsideArea old.area start end
   reads_here end reads = subst (λ (x : Layout). ReadsAround x start end) same_layout reads
 
+  writes_here : length (take k free) ≡ writes_of (content old) (Some text)
+  writes_here = ap (λ (ns : List ℕ). length ns) numbers_are ∙ put_writes call.set
+
   counts_here : puts (length (take k free)) ≡ putting (content old) (Some text)
-  counts_here = ap (λ (ns : List ℕ). puts (length ns)) numbers_are
-      ∙ put_counts call.set
+  counts_here = ap puts writes_here
+
+  pub came_here : (end : DiskState) (failed : Call)
+      → CameNext (put_call (length (take k free))) start end failed
+      → CameNext (put_call (writes_of (content old) (Some text))) start end failed
+  came_here end failed = subst (λ n. CameNext (put_call n) start end failed) writes_here
 
   pub passed_here : {T U : Type 0} (end : DiskState) (x : U) (y : T)
       → RunsCalls lay (puts (length (take k free))) start end (Ok x)

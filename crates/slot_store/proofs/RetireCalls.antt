@@ -8,16 +8,16 @@ use Rattle.dr_disk.specs.Called.{Called}
 use Rattle.pages.specs.declared.layout.Layout.{Layout}
 use Rattle.pages.specs.Around.{KeepsOutside, ReadsAround}
 use Rattle.pages.specs.Snapshots.{Snapshot}
-use Rattle.pages.specs.Stops.{retires as page_retires}
+use Rattle.pages.specs.Stops.{retire_call, retires as page_retires}
 use Rattle.pages.specs.Tables.{AreZeros, Table}
 use Rattle.pages.specs.Retiring.{IsNewest, IsOver, Retires}
-use Rattle.pages.specs.Runs.{RunsCalls}
+use Rattle.pages.specs.Runs.{CameNext, RunsCalls}
 use Rattle.pages.specs.Writing.{AreFree}
 use Rattle.record_pages.specs.Tables.{record_names}
 use Rattle.slot_store.specs.declared.errors.StoreFault.{StoreFault}
 use Rattle.slot_store.specs.declared.pager.Pager.{Pager}
 use Rattle.slot_store.specs.Areas.{layout_of}
-use Rattle.slot_store.specs.Putting.{HasRested, KeepsRecord, call_of, retire_calls}
+use Rattle.slot_store.specs.Putting.{HasRested, KeepsRecord, call_of, retire_calls, retire_kind}
 use Rattle.slot_store.specs.Stops.{retiring}
 use Rattle.slot_store.specs.Pager.{Awaits}
 use Rattle.slot_store.specs.Store.{HasArea, ReadsOutsideArea}
@@ -39,6 +39,14 @@ module _ (pager : Pager) where
       → page_retires (length pager.draft.plan.dropped.items) ≡ retire_calls pager
   unfolding retire_calls
   all_calls is = sym (ap (λ r. retiring r (length pager.draft.plan.dropped.items)) is)
+
+  pub came_retired : (numbers : List ℕ) (start now : DiskState) (failed : Call)
+      → numbers ≡ pager.draft.plan.dropped.items
+      → CameNext (retire_call (length numbers)) start now failed
+      → CameNext (retire_kind pager) start now failed
+  unfolding retire_kind
+  came_retired numbers start now failed same =
+      subst (λ (ns : List ℕ). CameNext (retire_call (length ns)) start now failed) same
 
   -- a page of zeros, and zeros for all of a table after its gate
   pub zeros_here : (lay : Layout) (page rest : List ℕ) → lay ≡ layout_of pager.area

@@ -1,5 +1,6 @@
 -- What a shot is read as, and what it stands for.
 use Rattle.std.proofs.Common.{◌≡◌, ℕ, ◌+◌, Bool, List, [], drop, Option, Some, None, refl, sym, ◌∙◌, ap, ap₂}
+use Rattle.dr_base.specs.declared.limits.TheConstants.{PAGE}
 use Rattle.pages.specs.Snapshots.{Shot, Snapshot, no_shot, shot, unclear}
 use Rattle.record_pages.specs.Pages.{joined}
 use Rattle.record_pages.specs.Tables.{length_in, nonzero_from, or_else, table_fault}
@@ -18,8 +19,8 @@ module _ (second : Bool) (said text : List ℕ) where
   pub sound_by : (t r z : Option ℕ) → judged second (or_else t (behind_table (or_else r z))) said ≡ holds text
       → IsSound t r z said text
   sound_by (Some at) r z is = absurd (let e : damaged (table_number second) at ≡ holds text = is in cc)
-  sound_by None (Some at) z is = absurd (let e : damaged (table_number second) (4096 + at) ≡ holds text = is in cc)
-  sound_by None None (Some at) is = absurd (let e : damaged (table_number second) (4096 + at) ≡ holds text = is in cc)
+  sound_by None (Some at) z is = absurd (let e : damaged (table_number second) (PAGE + at) ≡ holds text = is in cc)
+  sound_by None None (Some at) is = absurd (let e : damaged (table_number second) (PAGE + at) ≡ holds text = is in cc)
   sound_by None None None is = record { table = refl; record_is = refl; zeros = refl; same = let e : holds said ≡ holds text = is in cc }
 
   pub never_none : (f : Option ℕ) → judged second f said ≡ no_content → ⊥

@@ -4,7 +4,7 @@ use Rattle.std.specs.Prelude.{if◌then◌else◌}
 use Rattle.dr_disk.specs.State.{Always, DiskState, IsLawful}
 use Rattle.dr_disk.specs.Spans.{HavePassed, Span}
 use Rattle.pages.specs.Snapshots.{kept_shot, shot}
-use Rattle.pages.specs.Stops.{IsPutStopped as IsHalted, puts, put_shows as page_shows, put_took as page_took}
+use Rattle.pages.specs.Stops.{IsPutStopped as IsHalted, put_shows as page_shows, put_took as page_took}
 use Rattle.record_pages.specs.Tables.{record_names}
 use Rattle.pages.proofs.Stopping.{shows_true, took_true}
 use Rattle.slot_store.specs.declared.pager.Pager.{Pager}
@@ -44,8 +44,8 @@ module _ {old new : Pager} {text : List ℕ} {start : DiskState}
         ∙ ap (λ n. if page_shows n (m - b) then Some text else content old) (planned set).writes;
   }
 
-  pub put_counts : puts (length (fresh new)) ≡ putting (content old) (Some text)
-  put_counts = ap puts (planned set).writes
+  pub put_writes : length (fresh new) ≡ writes_of (content old) (Some text)
+  put_writes = (planned set).writes
 
 -- ---- a call of the retire
 

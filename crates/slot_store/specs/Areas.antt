@@ -5,6 +5,7 @@ use Rattle.pages.specs.declared.layout.Layout.{Layout}
 use Rattle.pages.specs.declared.layout.TheConstants.{LOWER_PAGES}
 use Rattle.pages.specs.Areas.{row_layout}
 use Rattle.pages.specs.Around.{IsInside as IsInsideAll, IsOutside as IsOutsideAll, IsSameOutside as IsSameAround}
+use Rattle.record_pages.specs.declared.limits.TheConstants.{NAMED_LIMIT, NUMBER_LIMIT}
 use Rattle.record_pages.specs.Pages.{page_count}
 
 -- so many pages from `start` on, of which the first two are the tables; the most pages of a record
@@ -21,8 +22,8 @@ area_size area = PAGE * area.pages
 -- record, and no place is 2^64 or more.
 pub record IsArea (area : Area) : Type 0 where
   pub least : 2 + 2 * area.most ≤ area.pages
-  pub short : area.pages ≤ 65536
-  pub named : area.most ≤ 2045
+  pub short : area.pages ≤ NUMBER_LIMIT
+  pub named : area.most ≤ NAMED_LIMIT
   pub ends : area.start + area_size area < 2 ^ 64
   pub upper : area.start + PAGE * LOWER_PAGES < 2 ^ 64
 

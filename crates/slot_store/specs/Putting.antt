@@ -3,6 +3,7 @@ use Rattle.std.specs.Prelude.{◌≡◌, ℕ, List, length, Option, Some, Result
 use Rattle.dr_disk.specs.State.{DiskState}
 use Rattle.dr_disk.specs.Spans.{Span}
 use Rattle.dr_disk.specs.declared.call.Call.{Call}
+use Rattle.pages.specs.Stops.{retire_call}
 use Rattle.record_pages.specs.Pages.{pages_in}
 use Rattle.record_pages.specs.Plans.{changed_places, dropped}
 use Rattle.slot_store.specs.declared.errors.StoreFault.{StoreFault}
@@ -22,6 +23,10 @@ call_of fault = fault.call
 -- how many writes and syncs the next retire makes
 unfoldable pub retire_calls : Pager → ℕ
 retire_calls pager = retiring pager.replaced (length pager.draft.plan.dropped.items)
+
+-- which kind of call of that retire comes next, once this many have passed
+unfoldable pub retire_kind : Pager → ℕ → Call
+retire_kind pager passed = retire_call (length pager.draft.plan.dropped.items) passed
 
 -- While one record takes another's place each crash leaves the one or the other, and outside of
 -- the area a read gives what it gave. After a call that failed: which of the two there is.

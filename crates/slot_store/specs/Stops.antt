@@ -1,8 +1,9 @@
--- How many calls a record's change makes, and what stands where one of them failed.
-use Rattle.std.specs.Prelude.{◌≡◌, ℕ, ◌+◌, ◌-◌, Bool, true, false, List, length, Option, Some, is_some, if◌then◌else◌}
+-- How many calls a record's change makes, of which kind each is, and what stands where one of them failed.
+use Rattle.std.specs.Prelude.{◌≡◌, ℕ, ◌+◌, ◌-◌, Bool, true, false, nat_lt, List, length, Option, Some, is_some, if◌then◌else◌}
+use Rattle.dr_disk.specs.declared.call.Call.{Call}
 use Rattle.dr_disk.specs.declared.call.Mode.{Mode}
 use Rattle.dr_disk.specs.State.{DiskState}
-use Rattle.pages.specs.Stops.{puts, retires, put_shows as page_shows, put_took as page_took}
+use Rattle.pages.specs.Stops.{put_call, puts, retire_call, retires, put_shows as page_shows, put_took as page_took}
 use Rattle.record_pages.specs.Plans.{changed}
 use Rattle.slot_store.specs.Areas.{Area}
 use Rattle.slot_store.specs.Layout.{pages_held}
@@ -28,6 +29,12 @@ putting old new = puts (writes_of old new)
 -- how many writes and syncs it takes to replace a record by another
 unfoldable pub calls_of : Option (List ℕ) → Option (List ℕ) → ℕ
 calls_of old new = putting old new + retiring (is_some old) (wipes_of old new)
+
+-- which kind of call of a replacement comes next, once this many writes and syncs have passed
+unfoldable pub call_after : Option (List ℕ) → Option (List ℕ) → ℕ → Call
+call_after old new passed =
+    if nat_lt passed (putting old new) then put_call (writes_of old new) passed
+    else retire_call (wipes_of old new) (passed - putting old new)
 
 -- whether a crash of a kind leaves the new record, where this many writes and syncs passed and the next one failed
 unfoldable pub took : Option (List ℕ) → Option (List ℕ) → ℕ → Mode → Bool

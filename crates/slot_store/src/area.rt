@@ -7,9 +7,9 @@ use dr_base::PAGE;
 use pages::{LOWER_PAGES, Layout};
 use std::marker::Model;
 
-/// So many pages of 4,096 bytes, one after the other from `start` on, of which the first two are
+/// So many pages of `PAGE` bytes, one after the other from `start` on, of which the first two are
 /// the tables. A record has at most `most` pages: of these there is room for twice as many, and
-/// 2,045 are the limit. There are at most 65,536 pages, and they end before 2^64.
+/// `NAMED_LIMIT` is the limit. There are at most `NUMBER_LIMIT` pages, and they end before 2^64.
 #[derive(Clone, Copy)]
 pub struct Area {
     pub start: u64,

@@ -12,6 +12,7 @@ pub use inspecting::inspect;
 pub use kept::record_room;
 pub use laws::{locality, readings, resting};
 pub use opening::Found;
+pub use record_pages::{NAMED_LIMIT, NUMBER_LIMIT};
 pub use report::{Finding, Gate, Report};
 pub use store::SlotStore;
 

@@ -7,6 +7,7 @@ ghost use Rattle.pages.specs.Layouts.{IsSound};
 ghost use Rattle.pages.specs.Runs.{ReadsAlone};
 ghost use Rattle.pages.specs.Snapshots.{page_of};
 ghost use Rattle.pages.specs.Writing.{ArePages};
+ghost use Rattle.record_pages.specs.declared.limits.TheConstants.{NAMED_LIMIT};
 ghost use Rattle.record_pages.specs.Pages.{cut};
 ghost use Rattle.record_pages.specs.Tables.{nonzero_from, or_else};
 ghost use Rattle.slot_store.specs.Areas.{layout_of};
@@ -60,7 +61,7 @@ fn read_pages<D: Disk>(
 /// The first place in a record's pages that no record has, counted from its table, if there is one.
 fn record_fault<G: Grammar>(pages: &[u8], len: usize) -> Option<u64>
     requires fits { len ≤ length pages.now }
-    requires short { length pages.now ≤ PAGE * 2045 }
+    requires short { length pages.now ≤ PAGE * NAMED_LIMIT }
     ensures { result ≡ behind_table (or_else (G.fault_at (take len pages.now))
         (nonzero_from len (drop len pages.now))) }
 {

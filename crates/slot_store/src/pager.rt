@@ -10,7 +10,9 @@ ghost use Rattle.dr_disk.specs.Called.{Called};
 ghost use Rattle.record_pages.specs.Tables.{entry_fault};
 ghost use Rattle.slot_store.specs.Areas.{HasRecordRoom, HasText, IsArea};
 ghost use Rattle.slot_store.specs.Memory.{HasPlanRoom};
-ghost use Rattle.slot_store.specs.Stops.{putting};
+ghost use Rattle.pages.specs.Runs.{FailsBy};
+ghost use Rattle.pages.specs.Stops.{put_call};
+ghost use Rattle.slot_store.specs.Stops.{putting, writes_of};
 
 use crate::area::{Area, layout};
 use crate::draft::Draft;
@@ -48,7 +50,7 @@ pub(crate) struct Pager {
 impl Pager {
     ghost use Rattle.slot_store.specs.Pager.{content, IsLaidFor, Awaits};
     ghost use Rattle.slot_store.specs.Store.{HasArea, ReadsOutsideArea};
-    ghost use Rattle.slot_store.specs.Putting.{HasPut, HasRested, IsStaged, KeepsRecord, Replaces, call_of, retire_calls};
+    ghost use Rattle.slot_store.specs.Putting.{HasPut, HasRested, IsStaged, KeepsRecord, Replaces, call_of, retire_calls, retire_kind};
     ghost use Rattle.slot_store.specs.Kept.{content_or_empty};
 
     /// The record that was opened or put last; empty where there is none.
@@ -99,6 +101,9 @@ impl Pager {
         ensures calls { Called
             (putting (content self.old) (Option.Some (take len text.old.items))) call_of
             (D.state disk.old) (D.state disk.new) result }
+        ensures kind { FailsBy call_of
+            (put_call (writes_of (content self.old) (Option.Some (take len text.old.items))))
+            (D.state disk.old) (D.state disk.new) result }
     {
         let _size = disk.size();
         let was = self.second;
@@ -136,6 +141,8 @@ impl Pager {
 
         // No image has another record where a call failed.
         ensures calls { Called (retire_calls self.old) call_of
+            (D.state disk.old) (D.state disk.new) result }
+        ensures kind { FailsBy call_of (retire_kind self.old)
             (D.state disk.old) (D.state disk.new) result }
     {
         if !self.replaced {

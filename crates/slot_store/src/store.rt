@@ -4,7 +4,8 @@ ghost use Rattle.std.specs.Prelude.{◌≡◌, take, Option, OnOk};
 ghost use Rattle.dr_disk.specs.State.{Always};
 ghost use Rattle.dr_disk.specs.Called.{Called};
 ghost use Rattle.slot_store.specs.Areas.{HasRecordRoom, HasText};
-ghost use Rattle.slot_store.specs.Stops.{calls_of};
+ghost use Rattle.pages.specs.Runs.{FailsBy};
+ghost use Rattle.slot_store.specs.Stops.{call_after, calls_of};
 
 use crate::errors::StoreFault;
 use crate::pager::Pager;
@@ -66,6 +67,9 @@ impl SlotStore {
         // How the calls went.
         ensures calls { Called
             (calls_of (content self.old) (Option.Some (take len text.old.items))) call_of
+            (D.state disk.old) (D.state disk.new) result }
+        ensures kind { FailsBy call_of
+            (call_after (content self.old) (Option.Some (take len text.old.items)))
             (D.state disk.old) (D.state disk.new) result }
     {
         match self.pager.put(disk, text, len) {

@@ -23,7 +23,7 @@ returns-in-Err-clause-lost g c = λ before ready.
     lost before (changed g.K.Kem.mechanism (client_of c.args.part.now c.args.inbox.now c.args.outbox.now) c.args.change.now)
     c.args.store.now _ (g.D.Disk.state c.args.disk.now) (g.D.Disk.state c.replace.new.disk) ready written
     c.in-Err.fault.call c.replace.ensures.replaces.any_moment c.replace.ensures.replaces.reads c.in-Err.ensures.replaces.stopped c.in-Err.ensures.calls.few
-    c.in-Err.ensures.calls.went.ended c.in-Err.ensures.calls.went.fault
+    c.in-Err.ensures.kind c.in-Err.ensures.calls.went.ended c.in-Err.ensures.calls.went.fault
 
 pub returns-in-Ok-clause-room : goal.returns-in-Ok-clause-room
 returns-in-Ok-clause-room g c = grind (arith, common_steps)

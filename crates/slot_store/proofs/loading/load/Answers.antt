@@ -54,7 +54,7 @@ slice_bounds-record_fault-end g c =
     let size : length c.read_pages.new.bytes ≡ PAGE * c.args.area.most = omega (arith, c.read_pages.ensures.long, ap length c.deref_mut.ensures.value, c.requires.room.long) in
     let whole : c.deref-2.result.now ≡ c.read_pages.new.bytes = c.deref-2.ensures.value
     ∙ with_items_is c.args.kept.bytes c.read_pages.new.bytes (omega (arith, size, c.requires.room.long, c.args.kept.bytes.ok.0)) in
-    sym (length-take-le (4096 * c.len.result) c.deref-2.result.now (omega (arith, held, less, size, ap length whole)))
+    sym (length-take-le (PAGE * c.len.result) c.deref-2.result.now (omega (arith, held, less, size, ap length whole)))
 
 pub record_fault-requires-clause-fits : goal.record_fault-requires-clause-fits
 record_fault-requires-clause-fits g c =
@@ -69,7 +69,7 @@ record_fault-requires-clause-fits g c =
     let size : length c.read_pages.new.bytes ≡ PAGE * c.args.area.most = omega (arith, c.read_pages.ensures.long, ap length c.deref_mut.ensures.value, c.requires.room.long) in
     let whole : c.deref-2.result.now ≡ c.read_pages.new.bytes = c.deref-2.ensures.value
     ∙ with_items_is c.args.kept.bytes c.read_pages.new.bytes (omega (arith, size, c.requires.room.long, c.args.kept.bytes.ok.0)) in
-    let long = length-take-le (4096 * c.len.result) c.deref-2.result.now (omega (arith, held, less, size, ap length whole)) in
+    let long = length-take-le (PAGE * c.len.result) c.deref-2.result.now (omega (arith, held, less, size, ap length whole)) in
     omega (arith, held, inside, long)
 
 pub returns-in-Some-record_fault-clause-loaded : goal.returns-in-Some-record_fault-clause-loaded
@@ -87,7 +87,7 @@ returns-in-Some-record_fault-clause-loaded g c = record {
       let size : length c.read_pages.new.bytes ≡ PAGE * c.args.area.most = omega (arith, c.read_pages.ensures.long, ap length c.deref_mut.ensures.value, c.requires.room.long) in
       let whole : c.deref-2.result.now ≡ c.read_pages.new.bytes = c.deref-2.ensures.value
       ∙ with_items_is c.args.kept.bytes c.read_pages.new.bytes (omega (arith, size, c.requires.room.long, c.args.kept.bytes.ok.0)) in
-      let part : take (4096 * c.len.result) c.deref-2.result.now ≡ take (PAGE * length c.deref.result.now) c.read_pages.new.bytes =
+      let part : take (PAGE * c.len.result) c.deref-2.result.now ≡ take (PAGE * length c.deref.result.now) c.read_pages.new.bytes =
       ap₂ (λ k (l : List ℕ). take (PAGE * k) l) held whole in
       loaded_fault c.args.area c.args.body.now c.deref.result.now c.record_length-len.result lawful faultless names says
       c.read_pages.new.bytes s size (c.in-Ok.ensures.pages s told) g.G.Grammar.fault_at _
@@ -109,10 +109,10 @@ invariant_of-result g c =
     let size : length c.read_pages.new.bytes ≡ PAGE * c.args.area.most = omega (arith, c.read_pages.ensures.long, ap length c.deref_mut.ensures.value, c.requires.room.long) in
     let whole : c.deref-2.result.now ≡ c.read_pages.new.bytes = c.deref-2.ensures.value
     ∙ with_items_is c.args.kept.bytes c.read_pages.new.bytes (omega (arith, size, c.requires.room.long, c.args.kept.bytes.ok.0)) in
-    let part : take (4096 * c.len.result) c.deref-2.result.now ≡ take (PAGE * length c.deref.result.now) c.read_pages.new.bytes =
+    let part : take (PAGE * c.len.result) c.deref-2.result.now ≡ take (PAGE * length c.deref.result.now) c.read_pages.new.bytes =
     ap₂ (λ k (l : List ℕ). take (PAGE * k) l) held whole in
-    let none = behind_none (g.G.Grammar.fault_at (take c.record_length-len.result (take (4096 * c.len.result) c.deref-2.result.now)))
-    (nonzero_from c.record_length-len.result (drop c.record_length-len.result (take (4096 * c.len.result) c.deref-2.result.now)))
+    let none = behind_none (g.G.Grammar.fault_at (take c.record_length-len.result (take (PAGE * c.len.result) c.deref-2.result.now)))
+    (nonzero_from c.record_length-len.result (drop c.record_length-len.result (take (PAGE * c.len.result) c.deref-2.result.now)))
     (sym c.record_fault.ensures ∙ c.in_default-record_fault.is) in
     let zeros : nonzero_from c.record_length-len.result (drop c.record_length-len.result (take (PAGE * length c.deref.result.now) c.read_pages.new.bytes)) ≡ None =
     ap (λ (l : List ℕ). nonzero_from c.record_length-len.result (drop c.record_length-len.result l)) (sym part) ∙ none.1 in
@@ -144,10 +144,10 @@ returns-clause-named g c =
     let size : length c.read_pages.new.bytes ≡ PAGE * c.args.area.most = omega (arith, c.read_pages.ensures.long, ap length c.deref_mut.ensures.value, c.requires.room.long) in
     let whole : c.deref-2.result.now ≡ c.read_pages.new.bytes = c.deref-2.ensures.value
     ∙ with_items_is c.args.kept.bytes c.read_pages.new.bytes (omega (arith, size, c.requires.room.long, c.args.kept.bytes.ok.0)) in
-    let part : take (4096 * c.len.result) c.deref-2.result.now ≡ take (PAGE * length c.deref.result.now) c.read_pages.new.bytes =
+    let part : take (PAGE * c.len.result) c.deref-2.result.now ≡ take (PAGE * length c.deref.result.now) c.read_pages.new.bytes =
     ap₂ (λ k (l : List ℕ). take (PAGE * k) l) held whole in
-    let none = behind_none (g.G.Grammar.fault_at (take c.record_length-len.result (take (4096 * c.len.result) c.deref-2.result.now)))
-    (nonzero_from c.record_length-len.result (drop c.record_length-len.result (take (4096 * c.len.result) c.deref-2.result.now)))
+    let none = behind_none (g.G.Grammar.fault_at (take c.record_length-len.result (take (PAGE * c.len.result) c.deref-2.result.now)))
+    (nonzero_from c.record_length-len.result (drop c.record_length-len.result (take (PAGE * c.len.result) c.deref-2.result.now)))
     (sym c.record_fault.ensures ∙ c.in_default-record_fault.is) in
     let zeros : nonzero_from c.record_length-len.result (drop c.record_length-len.result (take (PAGE * length c.deref.result.now) c.read_pages.new.bytes)) ≡ None =
     ap (λ (l : List ℕ). nonzero_from c.record_length-len.result (drop c.record_length-len.result l)) (sym part) ∙ none.1 in
@@ -161,7 +161,7 @@ returns-clause-named g c =
       numbers = c.table_fault.ensures.numbers c.in_default.is;
       lawful = faultless;
       text = ap (λ (l : List ℕ). g.G.Grammar.fault_at (take c.record_length-len.result l)) (sym c.deref-2.ensures.value)
-          ∙ ap g.G.Grammar.fault_at (sym (take-take c.record_length-len.result (4096 * c.len.result) c.deref-2.result.now (omega (arith, held, inside))))
+          ∙ ap g.G.Grammar.fault_at (sym (take-take c.record_length-len.result (PAGE * c.len.result) c.deref-2.result.now (omega (arith, held, inside))))
           ∙ none.0;
     }
 
@@ -180,10 +180,10 @@ returns-clause-loaded g c = record {
       let size : length c.read_pages.new.bytes ≡ PAGE * c.args.area.most = omega (arith, c.read_pages.ensures.long, ap length c.deref_mut.ensures.value, c.requires.room.long) in
       let whole : c.deref-2.result.now ≡ c.read_pages.new.bytes = c.deref-2.ensures.value
       ∙ with_items_is c.args.kept.bytes c.read_pages.new.bytes (omega (arith, size, c.requires.room.long, c.args.kept.bytes.ok.0)) in
-      let part : take (4096 * c.len.result) c.deref-2.result.now ≡ take (PAGE * length c.deref.result.now) c.read_pages.new.bytes =
+      let part : take (PAGE * c.len.result) c.deref-2.result.now ≡ take (PAGE * length c.deref.result.now) c.read_pages.new.bytes =
       ap₂ (λ k (l : List ℕ). take (PAGE * k) l) held whole in
-      let none = behind_none (g.G.Grammar.fault_at (take c.record_length-len.result (take (4096 * c.len.result) c.deref-2.result.now)))
-      (nonzero_from c.record_length-len.result (drop c.record_length-len.result (take (4096 * c.len.result) c.deref-2.result.now)))
+      let none = behind_none (g.G.Grammar.fault_at (take c.record_length-len.result (take (PAGE * c.len.result) c.deref-2.result.now)))
+      (nonzero_from c.record_length-len.result (drop c.record_length-len.result (take (PAGE * c.len.result) c.deref-2.result.now)))
       (sym c.record_fault.ensures ∙ c.in_default-record_fault.is) in
       let zeros : nonzero_from c.record_length-len.result (drop c.record_length-len.result (take (PAGE * length c.deref.result.now) c.read_pages.new.bytes)) ≡ None =
       ap (λ (l : List ℕ). nonzero_from c.record_length-len.result (drop c.record_length-len.result l)) (sym part) ∙ none.1 in

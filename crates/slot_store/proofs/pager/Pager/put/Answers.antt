@@ -1,5 +1,5 @@
 use Rattle.std.proofs.Common.{arith, refl, take}
-use Rattle.slot_store.proofs.PutCalls.{IsCall, done_here, enough_free, failed_here, passed_here, reads_here, stopped_here, to_write_here, whole_here}
+use Rattle.slot_store.proofs.PutCalls.{IsCall, came_here, done_here, enough_free, failed_here, passed_here, reads_here, stopped_here, to_write_here, whole_here}
 use Rattle.slot_store.proofs.Standing.{held_fits}
 use Rattle.slot_store.proofs.pager.Pager.put.Goals as goal
 
@@ -150,3 +150,25 @@ returns-in-Err-clause-calls g c =
     } in
     failed_here call {T = Unit} {U = Unit} (g.D.Disk.state c.put.new.disk) c.in-Err.call _
     c.in-Err.ensures.runs refl
+
+pub returns-in-Err-clause-kind : goal.returns-in-Err-clause-kind
+returns-in-Err-clause-kind g c =
+    let call : IsCall c.args.self.now c.stage.new.self (take c.args.len c.args.text.now.items)
+    (g.D.Disk.state c.args.disk.now) c.layout.result c.len.result c.deref.result.now
+    c.deref-2.result.now c.deref-3.result.now c.deref-4.result.now = record {
+      set = record {
+        staged = c.stage.ensures.staged;
+        fits = held_fits c.args.self.now.area c.args.text.now.items c.args.len c.requires.text;
+        ends = omega (arith, c.size-size.ensures, c.size-size.type_inv);
+        within = c.requires.within;
+        lawful = g.met.D.Disk.lawful c.args.disk.now;
+        rests = c.requires.at_rest;
+      };
+      lay_is = c.layout.ensures.layout;
+      k_is = omega (arith, c.len.ensures, c.stage.new.self.draft.plan.places.ok.0);
+      free_are = c.deref.ensures.value;
+      places_are = c.deref-2.ensures.value;
+      bytes_are = c.deref-3.ensures.value;
+      body_is = c.deref-4.ensures.value;
+    } in
+    came_here call (g.D.Disk.state c.put.new.disk) c.in-Err.call c.in-Err.ensures.kind

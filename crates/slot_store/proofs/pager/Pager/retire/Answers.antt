@@ -1,8 +1,9 @@
-use Rattle.std.proofs.Common.{ℕ, List, ap, arith, refl, take}
+use Rattle.std.proofs.Common.{ℕ, ◌-◌, List, ap, arith, refl, take}
+use Rattle.dr_base.specs.declared.limits.TheConstants.{PAGE}
 use Rattle.dr_disk.proofs.Calling.{none_made}
 use Rattle.slot_store.specs.Putting.{call_of}
 use Rattle.slot_store.proofs.Retiring.{alone}
-use Rattle.slot_store.proofs.RetireCalls.{done_here, failed_here, free_here, newest_here, no_calls, passed_here, reads_here, whole_here, zeros_here}
+use Rattle.slot_store.proofs.RetireCalls.{came_retired, done_here, failed_here, free_here, newest_here, no_calls, passed_here, reads_here, whole_here, zeros_here}
 use Rattle.slot_store.proofs.pager.Pager.retire.Goals as goal
 
 pub returns-then-not-self-clause-at_rest : goal.returns-then-not-self-clause-at_rest
@@ -29,8 +30,8 @@ retire-requires-clause-newest g c = newest_here c.args.self.now (g.D.Disk.state 
 
 pub retire-requires-clause-zeros : goal.retire-requires-clause-zeros
 retire-requires-clause-zeros g c = zeros_here c.args.self.now c.layout.result
-    c.deref-2.result.now (take 4095 c.deref-3.result.now) c.layout.ensures.layout
-    c.deref-2.ensures.value (ap (λ (z : List ℕ). take 4095 z) c.deref-3.ensures.value)
+    c.deref-2.result.now (take (PAGE - 1) c.deref-3.result.now) c.layout.ensures.layout
+    c.deref-2.ensures.value (ap (λ (z : List ℕ). take (PAGE - 1) z) c.deref-3.ensures.value)
 
 pub returns-in-Ok-clause-any_moment : goal.returns-in-Ok-clause-any_moment
 returns-in-Ok-clause-any_moment g c = whole_here c.args.self.now (g.D.Disk.state c.args.disk.now)
@@ -73,3 +74,8 @@ returns-in-Err-clause-calls g c = failed_here c.args.self.now
     (g.D.Disk.state c.args.disk.now) c.requires.awaits c.layout.result c.deref.result.now
     c.layout.ensures.layout c.deref.ensures.value {T = Unit} {U = Unit}
     (g.D.Disk.state c.retire.new.disk) c.in-Err.call _ c.in-Err.ensures.runs refl c.if-not-self.false
+
+pub returns-in-Err-clause-kind : goal.returns-in-Err-clause-kind
+returns-in-Err-clause-kind g c = came_retired c.args.self.now c.deref.result.now
+    (g.D.Disk.state c.args.disk.now) (g.D.Disk.state c.retire.new.disk) c.in-Err.call
+    c.deref.ensures.value c.in-Err.ensures.kind

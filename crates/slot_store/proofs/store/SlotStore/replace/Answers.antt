@@ -6,8 +6,10 @@ use Rattle.dr_disk.proofs.Calling.{failed_at_first, failed_later, passed_both}
 use Rattle.slot_store.specs.Areas.{HasRecordRoom, HasText}
 use Rattle.slot_store.specs.Pager.{content, store_seen}
 use Rattle.slot_store.specs.Putting.{HasReplaced, IsNext, call_of, retire_calls}
-use Rattle.slot_store.specs.Stops.{IsStopped, calls_of, putting}
+use Rattle.pages.specs.Runs.{CameNext}
+use Rattle.slot_store.specs.Stops.{IsStopped, call_after, calls_of, putting}
 use Rattle.slot_store.specs.Store.{IsOldOrNew, ReadsOutsideArea, Rests, SlotStore}
+use Rattle.slot_store.proofs.NextCalls.{came_in_put, came_in_retire}
 use Rattle.slot_store.proofs.Replacing.{counted, reads_both, replace_done, replace_stopped, replace_whole}
 use Rattle.slot_store.proofs.Standing.{held_fits, laid_as_seen}
 use Rattle.slot_store.proofs.store.SlotStore.replace.Goals as goal
@@ -43,6 +45,9 @@ returns-in-Err g c =
           (counted old put text c.put.ensures.staged start mid mid _ fits
           (failed_at_first {T = Unit} {U = Unit} (putting (content old) (Some text)) (retire_calls put) call_of call_of
           _ _ _ _ refl c.in-Err.ensures.calls));
+      kind = subst (λ (s : SlotStore). CameNext (call_after s.content (Some text)) start mid c.in-Err.fault.call) c.self.view_is
+          (came_in_put old put text start mid c.in-Err.fault.call c.put.ensures.replaces.any_moment.passes
+          c.in-Err.ensures.calls.few c.in-Err.ensures.kind);
       room = subst (λ (s : SlotStore). HasRecordRoom s.area c.put.new.text.items) c.self.view_is c.put.ensures.room;
     }
 
@@ -77,6 +82,9 @@ returns-in-Err-retire g c =
           (failed_later {T = Unit} {U = Unit} {V = Unit} (putting (content old) (Some text)) (retire_calls put) call_of call_of call_of
           _ _ _ _ _ _ _ _ refl c.put.ensures.replaces.any_moment c.in-Ok.ensures.calls c.retire.ensures.any_moment
           c.in-Err-retire.ensures.calls));
+      kind = subst (λ (s : SlotStore). CameNext (call_after s.content (Some text)) start end c.in-Err-retire.fault.call) c.self.view_is
+          (came_in_retire old put text start mid c.in-Err-retire.fault.call end staged fits c.in-Ok.ensures.calls.passed
+          c.retire.ensures.any_moment.passes c.in-Err-retire.ensures.calls.few c.in-Err-retire.ensures.kind);
       room = subst (λ (s : SlotStore). HasRecordRoom s.area c.put.new.text.items) c.self.view_is c.put.ensures.room;
     }
 
@@ -109,5 +117,6 @@ returns g c =
           (counted old put text staged start mid end _ fits
           (passed_both (putting (content old) (Some text)) (retire_calls put) call_of call_of call_of _ _ _ _ _ _
           c.in-Ok.ensures.calls c.in-Ok-retire.ensures.calls));
+      kind = tt;
       room = subst (λ (s : SlotStore). HasRecordRoom s.area c.put.new.text.items) c.self.view_is c.put.ensures.room;
     }
