@@ -4,14 +4,13 @@ use Rattle.dr_disk.specs.Spans.{IsQuiet}
 use Rattle.dr_disk.specs.State.{DiskState}
 use Rattle.dr_ports.specs.declared.pipe.Part.{Part}
 use Rattle.dr_ports.specs.declared.pipe.Part.TheVariants.{Gate}
-use Rattle.slot_store.specs.Store.{HasArea}
-use Rattle.client.specs.Clients.{client_area}
+use Rattle.session_commands.specs.Disks.{HasClientRoom}
 use Rattle.relay_command.specs.declared.relaying.TheConstants.{RELAY_DISK_SIZE}
 use Rattle.messenger_cli.specs.Held.{PortsNow, Seen}
 
 -- the one disk has room for a session, the other for a relay's boxes
 pub record HaveRoom (disk relay_disk : DiskState) : Type 0 where
-  pub session : HasArea client_area disk
+  pub session : HasClientRoom disk
   pub boxes : RELAY_DISK_SIZE ≤ relay_disk.size
 
 -- no call on a disk, no read, no write, no draw and no call on the link failed, and no listening

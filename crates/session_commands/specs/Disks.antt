@@ -9,10 +9,14 @@ use Rattle.session_model.specs.Clients.{Client}
 use Rattle.session_record.specs.Record.{record_read, record_text}
 use Rattle.slot_store.specs.Reading.{IsEntryOrLike, IsLikeRead, IsUndamaged}
 use Rattle.slot_store.specs.Records.{stored_record}
-use Rattle.slot_store.specs.Store.{SlotStore}
+use Rattle.slot_store.specs.Store.{HasArea, SlotStore}
 use Rattle.slot_store.specs.Areas.{IsSameOutsideArea}
 use Rattle.client.specs.Clients.{IsReady, client_area}
 use Rattle.client.specs.InWorlds.{StandsFor}
+
+-- the disk has room for a client's area
+abbrev pub HasClientRoom : DiskState → Type 0
+HasClientRoom disk = HasArea client_area disk
 
 -- what a read gives is read as what a client keeps
 abbrev pub ReadsAsKept : Mechanism → DiskState → Client → Type 0

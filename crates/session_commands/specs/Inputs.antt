@@ -50,7 +50,14 @@ pub data IsNoInput (limit : ℕ) (parse : List ℕ → Option (List ℕ)) (bad :
       → IsNoInput limit parse bad from to bad
 
 -- the value, or how the command ends
-abbrev pub ReadsInput : {V : Type 0} → (V → List ℕ) → ℕ → (List ℕ → Option (List ℕ)) → Ending
+abbrev pub GivesInput : {V : Type 0} → (V → List ℕ) → ℕ → (List ℕ → Option (List ℕ)) → Ending
     → SourceState → SourceState → Result V Ending → Type 0
-ReadsInput bytes limit parse bad from to (Ok value) = IsInput limit parse from to (bytes value)
-ReadsInput bytes limit parse bad from to (Err ending) = IsNoInput limit parse bad from to ending
+GivesInput bytes limit parse bad from to (Ok value) = IsInput limit parse from to (bytes value)
+GivesInput bytes limit parse bad from to (Err ending) = IsNoInput limit parse bad from to ending
+
+-- with that, the count of the reads doesn't fall
+pub record ReadsInput {V : Type 0} (bytes : V → List ℕ) (limit : ℕ)
+    (parse : List ℕ → Option (List ℕ)) (bad : Ending) (from to : SourceState)
+    (result : Result V Ending) : Type 0 where
+  pub input : GivesInput bytes limit parse bad from to result
+  pub later : from.faults ≤ to.faults

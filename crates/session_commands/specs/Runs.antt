@@ -1,5 +1,6 @@
--- A command as a whole: how it ended, its lines, and what was written of them.
-use Rattle.std.specs.Prelude.{List, [], ℕ, ◌≡◌}
+-- A command as a whole: how it ended, its lines, what was written of them, and how it counts the
+-- calls that fail.
+use Rattle.std.specs.Prelude.{List, [], ℕ, ◌≡◌, ◌≤◌}
 use Rattle.dr_disk.specs.State.{DiskState}
 use Rattle.dr_ports.specs.States.{SinkState, SourceState}
 use Rattle.endings.specs.Ends.{Ends}
@@ -16,6 +17,14 @@ pub record Runs (comes : Ending → List ℕ → Type 0) (old new : SinkState) (
   pub lines : List ℕ
   pub came : comes ending lines
   pub ends : Ends ending lines old new code
+
+-- A command that comes to this, and counts what failed: status 0 says that no write failed and no
+-- other call, as `others` says, and the count of the writes doesn't fall.
+pub record RunsAndCounts (comes : Ending → List ℕ → Type 0) (others : Type 0) (old new : SinkState)
+    (code : ℕ) : Type 0 where
+  pub runs : Runs comes old new code
+  pub quiet : code ≡ 0 → others × (new.faults ≡ old.faults)
+  pub later : old.faults ≤ new.faults
 
 -- Taking: the source holds no packet, and the disk is left alone; or the client takes it.
 pub data RunsTake {X : Type 0} (state : X → DiskState) (k : Mechanism) (from to : SourceState)

@@ -2,11 +2,10 @@
 
 ghost use Rattle.std.specs.Prelude.{◌≡◌, ◌≤◌};
 ghost use Rattle.dr_disk.specs.Spans.{IsQuiet};
-ghost use Rattle.slot_store.specs.Store.{HasArea};
-ghost use Rattle.client.specs.Clients.{client_area};
 ghost use Rattle.session_commands.specs.Beginning.{Begins, RunsBegin};
 ghost use Rattle.session_commands.specs.Closing.{begun_ending, begun_lines};
-ghost use Rattle.session_commands.specs.Runs.{Runs};
+ghost use Rattle.session_commands.specs.Disks.{HasClientRoom};
+ghost use Rattle.session_commands.specs.Runs.{RunsAndCounts};
 
 use crate::closing::finish_with;
 use crate::endings_of::unbegun;
@@ -28,7 +27,7 @@ fn begin_on<K: Kem, D: Disk>(
     key: &Key32,
     disk: &mut D,
 ) -> Result<OutputLine, Ending>
-    requires { HasArea client_area (D.state disk.old) }
+    requires { HasClientRoom (D.state disk.old) }
     ensures { Begins D.state K.mechanism key.now.bytes side disk.old disk.new (begun_ending result)
         (begun_lines result) }
 {
@@ -46,7 +45,7 @@ fn read_and_begin<K: Kem, D: Disk, S: Source>(
     disk: &mut D,
     source: &mut S,
 ) -> Result<OutputLine, Ending>
-    requires { HasArea client_area (D.state disk.old) }
+    requires { HasClientRoom (D.state disk.old) }
     ensures runs { RunsBegin D.state K.mechanism side (S.at source.old) (S.at source.new)
         disk.old disk.new (begun_ending result) (begun_lines result) }
     ensures later { (S.at source.old).faults ≤ (S.at source.new).faults }
@@ -66,16 +65,14 @@ pub fn begin<K: Kem, D: Disk, S: Source, O: Sink>(
     source: &mut S,
     out: &mut O,
 ) -> Status
-    requires { HasArea client_area (D.state disk.old) }
-    ensures runs { Runs (RunsBegin D.state K.mechanism side (S.at source.old)
-        (S.at source.new) disk.old disk.new)
+    requires { HasClientRoom (D.state disk.old) }
+    ensures runs { RunsAndCounts
+        (RunsBegin D.state K.mechanism side (S.at source.old) (S.at source.new)
+        disk.old disk.new)
+        (IsQuiet (D.state disk.old) (D.state disk.new)
+        × ((S.at source.new).faults ≡ (S.at source.old).faults))
         (O.at out.old) (O.at out.new) result.code }
-    // Status 0 says that no call failed.
-    ensures quiet { result.code ≡ 0 → IsQuiet (D.state disk.old) (D.state disk.new)
-        × ((O.at out.new).faults ≡ (O.at out.old).faults)
-        × ((S.at source.new).faults ≡ (S.at source.old).faults) }
     ensures reads { (S.at source.old).faults ≤ (S.at source.new).faults }
-    ensures later { (O.at out.old).faults ≤ (O.at out.new).faults }
 {
     match read_and_begin::<K, D, S>(alloc, side, disk, source) {
         Err(ending) => finish(out, ending),

@@ -3,10 +3,9 @@
 ghost use Rattle.std.specs.Prelude.{◌≡◌, ◌+◌, ◌≤◌, ◌++◌, length};
 ghost use Rattle.dr_disk.specs.Spans.{IsQuiet};
 ghost use Rattle.dr_ports.specs.Writing.{Writes};
-ghost use Rattle.slot_store.specs.Store.{HasArea};
-ghost use Rattle.client.specs.Clients.{client_area};
 ghost use Rattle.session_commands.specs.Checking.{RunsCheck, ending_of_look, finding_line, found_lines, gate_line, gate_lines, report_lines, rest_line};
-ghost use Rattle.session_commands.specs.Runs.{Runs};
+ghost use Rattle.session_commands.specs.Disks.{HasClientRoom};
+ghost use Rattle.session_commands.specs.Runs.{RunsAndCounts};
 
 use crate::closing::finish_written;
 use crate::lines::put_count;
@@ -107,13 +106,10 @@ fn unread(error: InspectError) -> Ending
 /// `slot 0 closed`, the same of table 1, `record LENGTH`, `no record` or `damaged slot S at A`, and
 /// `rest yes` or `rest no`.
 pub fn check<K: Kem, D: Disk, O: Sink>(alloc: Global, disk: &mut D, out: &mut O) -> Status
-    requires { HasArea client_area (D.state disk.old) }
-    ensures runs { Runs (RunsCheck D.state K.mechanism disk.old disk.new)
+    requires { HasClientRoom (D.state disk.old) }
+    ensures { RunsAndCounts (RunsCheck D.state K.mechanism disk.old disk.new)
+        (IsQuiet (D.state disk.old) (D.state disk.new))
         (O.at out.old) (O.at out.new) result.code }
-    // Status 0 says that no call failed.
-    ensures quiet { result.code ≡ 0 → IsQuiet (D.state disk.old) (D.state disk.new)
-        × ((O.at out.new).faults ≡ (O.at out.old).faults) }
-    ensures later { (O.at out.old).faults ≤ (O.at out.new).faults }
 {
     match look::<K, D>(alloc, disk) {
         Err(error) => finish(out, unread(error)),

@@ -53,9 +53,8 @@ fn packet_in(text: &[u8]) -> Option<Packet>
 
 /// Reads the packet that the source holds.
 pub(crate) fn read_packet<S: Source>(alloc: Global, source: &mut S) -> Result<Packet, Ending>
-    ensures input { ReadsInput (λ packet. packet.items) PACKET_TEXT_LIMIT packet_in_hex NotHex
+    ensures { ReadsInput (λ packet. packet.items) PACKET_TEXT_LIMIT packet_in_hex NotHex
         (S.at source.old) (S.at source.new) result }
-    ensures later { (S.at source.old).faults ≤ (S.at source.new).faults }
 {
     let text = match read_whole(alloc, source, PACKET_TEXT_LIMIT) {
         Ok(text) => text,
@@ -83,9 +82,8 @@ fn key_in(text: &[u8]) -> Option<Key32>
 
 /// Reads the key that the source holds.
 pub(crate) fn read_key<S: Source>(alloc: Global, source: &mut S) -> Result<Key32, Ending>
-    ensures input { ReadsInput (λ (key : Key32). key.bytes) KEY_TEXT_LIMIT key_in_hex BadKey
+    ensures { ReadsInput (λ (key : Key32). key.bytes) KEY_TEXT_LIMIT key_in_hex BadKey
         (S.at source.old) (S.at source.new) result }
-    ensures later { (S.at source.old).faults ≤ (S.at source.new).faults }
 {
     let text = match read_whole(alloc, source, KEY_TEXT_LIMIT) {
         Ok(text) => text,

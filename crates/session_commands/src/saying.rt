@@ -1,13 +1,12 @@
 //! The command that says a text.
 
-ghost use Rattle.std.specs.Prelude.{◌≡◌, ◌≤◌};
+ghost use Rattle.std.specs.Prelude.{◌≡◌};
 ghost use Rattle.dr_disk.specs.Spans.{IsQuiet};
-ghost use Rattle.slot_store.specs.Store.{HasArea};
-ghost use Rattle.client.specs.Clients.{client_area};
 ghost use Rattle.session_commands.specs.Asking.{asked_say};
 ghost use Rattle.session_commands.specs.Closing.{ending_by, lines_of_ending};
+ghost use Rattle.session_commands.specs.Disks.{HasClientRoom};
 ghost use Rattle.session_commands.specs.InWorlds.{RunsAct};
-ghost use Rattle.session_commands.specs.Runs.{Runs};
+ghost use Rattle.session_commands.specs.Runs.{RunsAndCounts};
 
 use crate::closing::close;
 use crate::endings_of::{said, unopened};
@@ -26,7 +25,7 @@ fn say_text<K: Kem, D: Disk, W: Draws>(
     disk: &mut D,
     draws: &mut W,
 ) -> Result<Answer, Ending>
-    requires { HasArea client_area (D.state disk.old) }
+    requires { HasClientRoom (D.state disk.old) }
     ensures { RunsAct D.state K.mechanism
         (asked_say W.at text.now draws.old draws.new) disk.old disk.new
         (ending_by result) (lines_of_ending result) }
@@ -49,15 +48,13 @@ pub fn say<K: Kem, D: Disk, O: Sink, W: Draws>(
     out: &mut O,
     draws: &mut W,
 ) -> Status
-    requires { HasArea client_area (D.state disk.old) }
-    ensures runs { Runs (RunsAct D.state K.mechanism
-        (asked_say W.at text.now draws.old draws.new) disk.old disk.new)
+    requires { HasClientRoom (D.state disk.old) }
+    ensures { RunsAndCounts
+        (RunsAct D.state K.mechanism (asked_say W.at text.now draws.old draws.new)
+        disk.old disk.new)
+        (IsQuiet (D.state disk.old) (D.state disk.new)
+        × ((W.at draws.new).faults ≡ (W.at draws.old).faults))
         (O.at out.old) (O.at out.new) result.code }
-    // Status 0 says that no call failed.
-    ensures quiet { result.code ≡ 0 → IsQuiet (D.state disk.old) (D.state disk.new)
-        × ((O.at out.new).faults ≡ (O.at out.old).faults)
-        × ((W.at draws.new).faults ≡ (W.at draws.old).faults) }
-    ensures later { (O.at out.old).faults ≤ (O.at out.new).faults }
 {
     let worked = say_text::<K, D, W>(alloc, text, disk, draws);
     close(out, worked)

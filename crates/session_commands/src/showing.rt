@@ -1,14 +1,13 @@
 //! The commands that show what the client keeps.
 
-ghost use Rattle.std.specs.Prelude.{◌≡◌, ◌<◌, ◌≤◌, [], length, slice_index_or};
+ghost use Rattle.std.specs.Prelude.{◌<◌, [], length, slice_index_or};
 ghost use Rattle.boxes.specs.Items.{Item};
 ghost use Rattle.dr_disk.specs.Spans.{IsQuiet};
 ghost use Rattle.dr_ports.specs.Writing.{Writes};
 ghost use Rattle.answer_lines.specs.Texts.{text_line};
-ghost use Rattle.slot_store.specs.Store.{HasArea};
-ghost use Rattle.client.specs.Clients.{client_area};
+ghost use Rattle.session_commands.specs.Disks.{HasClientRoom};
 ghost use Rattle.session_commands.specs.Lines.{inbox_lines, outbox_lines, packet_line, state_lines};
-ghost use Rattle.session_commands.specs.Runs.{Runs};
+ghost use Rattle.session_commands.specs.Runs.{RunsAndCounts};
 ghost use Rattle.session_commands.specs.Showing.{RunsShow};
 
 use crate::closing::finish_written;
@@ -84,13 +83,10 @@ fn write_state<K: Kem, O: Sink>(client: &Client<K>, out: &mut O) -> Result<(), F
 
 /// Shows the texts of the inbox, a line `E.I "TEXT"` for each, the oldest first.
 pub fn inbox<K: Kem, D: Disk, O: Sink>(alloc: Global, disk: &mut D, out: &mut O) -> Status
-    requires { HasArea client_area (D.state disk.old) }
-    ensures runs { Runs (RunsShow D.state K.mechanism inbox_lines disk.old disk.new)
+    requires { HasClientRoom (D.state disk.old) }
+    ensures { RunsAndCounts (RunsShow D.state K.mechanism inbox_lines disk.old disk.new)
+        (IsQuiet (D.state disk.old) (D.state disk.new))
         (O.at out.old) (O.at out.new) result.code }
-    // Status 0 says that no call failed.
-    ensures quiet { result.code ≡ 0 → IsQuiet (D.state disk.old) (D.state disk.new)
-        × ((O.at out.new).faults ≡ (O.at out.old).faults) }
-    ensures later { (O.at out.old).faults ≤ (O.at out.new).faults }
 {
     match Client::<K>::open(alloc, disk) {
         Err(refusal) => finish(out, unopened(refusal)),
@@ -103,13 +99,10 @@ pub fn inbox<K: Kem, D: Disk, O: Sink>(alloc: Global, disk: &mut D, out: &mut O)
 
 /// Shows the packets of the outbox, a line `E.I HEX` for each, the oldest first.
 pub fn outbox<K: Kem, D: Disk, O: Sink>(alloc: Global, disk: &mut D, out: &mut O) -> Status
-    requires { HasArea client_area (D.state disk.old) }
-    ensures runs { Runs (RunsShow D.state K.mechanism outbox_lines disk.old disk.new)
+    requires { HasClientRoom (D.state disk.old) }
+    ensures { RunsAndCounts (RunsShow D.state K.mechanism outbox_lines disk.old disk.new)
+        (IsQuiet (D.state disk.old) (D.state disk.new))
         (O.at out.old) (O.at out.new) result.code }
-    // Status 0 says that no call failed.
-    ensures quiet { result.code ≡ 0 → IsQuiet (D.state disk.old) (D.state disk.new)
-        × ((O.at out.new).faults ≡ (O.at out.old).faults) }
-    ensures later { (O.at out.old).faults ≤ (O.at out.new).faults }
 {
     match Client::<K>::open(alloc, disk) {
         Err(refusal) => finish(out, unopened(refusal)),
@@ -123,13 +116,10 @@ pub fn outbox<K: Kem, D: Disk, O: Sink>(alloc: Global, disk: &mut D, out: &mut O
 /// Shows what the client is and holds: the lines `session S`, `side SIDE`, `epoch E`, `missing M`,
 /// `inbox I` and `outbox O`.
 pub fn state<K: Kem, D: Disk, O: Sink>(alloc: Global, disk: &mut D, out: &mut O) -> Status
-    requires { HasArea client_area (D.state disk.old) }
-    ensures runs { Runs (RunsShow D.state K.mechanism state_lines disk.old disk.new)
+    requires { HasClientRoom (D.state disk.old) }
+    ensures { RunsAndCounts (RunsShow D.state K.mechanism state_lines disk.old disk.new)
+        (IsQuiet (D.state disk.old) (D.state disk.new))
         (O.at out.old) (O.at out.new) result.code }
-    // Status 0 says that no call failed.
-    ensures quiet { result.code ≡ 0 → IsQuiet (D.state disk.old) (D.state disk.new)
-        × ((O.at out.new).faults ≡ (O.at out.old).faults) }
-    ensures later { (O.at out.old).faults ≤ (O.at out.new).faults }
 {
     match Client::<K>::open(alloc, disk) {
         Err(refusal) => finish(out, unopened(refusal)),

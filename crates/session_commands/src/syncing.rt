@@ -4,11 +4,10 @@ ghost use Rattle.std.specs.Prelude.{◌≡◌, ◌≢◌, ◌≤◌, ℕ, List, 
 ghost use Rattle.dr_disk.specs.Spans.{IsQuiet};
 ghost use Rattle.dr_ports.specs.States.{SinkState};
 ghost use Rattle.dr_ports.specs.declared.pipe.Part.{Part};
-ghost use Rattle.slot_store.specs.Store.{HasArea};
 ghost use Rattle.sync_model.specs.declared.more.More.{More};
 ghost use Rattle.endings.specs.Ends.{Ends};
-ghost use Rattle.client.specs.Clients.{client_area};
-ghost use Rattle.session_commands.specs.Runs.{Runs};
+ghost use Rattle.session_commands.specs.Disks.{HasClientRoom};
+ghost use Rattle.session_commands.specs.Runs.{RunsAndCounts};
 ghost use Rattle.session_commands.specs.Syncing.{HasWritten, HasPrintedPlace, RunsSync, ending_of_fault, ending_of_sync};
 
 use crate::endings_of::unopened;
@@ -80,15 +79,13 @@ pub fn sync<K: Kem, D: Disk, L: Link, O: Sink>(
     link: &mut L,
     out: &mut O,
 ) -> Status
-    requires { HasArea client_area (D.state disk.old) }
-    ensures runs { Runs (RunsSync D.state L.port K.mechanism address.now disk.old disk.new link.old
-        link.new (O.at out.old).faults (O.at out.new).faults)
+    requires { HasClientRoom (D.state disk.old) }
+    ensures { RunsAndCounts
+        (RunsSync D.state L.port K.mechanism address.now disk.old disk.new link.old link.new
+        (O.at out.old).faults (O.at out.new).faults)
+        (IsQuiet (D.state disk.old) (D.state disk.new)
+        × ((part : Part) → (L.port link.new).faults part ≡ (L.port link.old).faults part))
         (O.at out.old) (O.at out.new) result.code }
-    // Status 0 says that no call failed.
-    ensures quiet { result.code ≡ 0 → IsQuiet (D.state disk.old) (D.state disk.new)
-        × ((O.at out.new).faults ≡ (O.at out.old).faults)
-        × ((part : Part) → (L.port link.new).faults part ≡ (L.port link.old).faults part) }
-    ensures later { (O.at out.old).faults ≤ (O.at out.new).faults }
 {
     match Client::<K>::open(alloc, disk) {
         Err(refusal) => finish(out, unopened(refusal)),

@@ -2,12 +2,11 @@
 
 ghost use Rattle.std.specs.Prelude.{◌≡◌, ◌≤◌};
 ghost use Rattle.dr_disk.specs.Spans.{IsQuiet};
-ghost use Rattle.slot_store.specs.Store.{HasArea};
-ghost use Rattle.client.specs.Clients.{client_area};
 ghost use Rattle.session_commands.specs.Asking.{asked_take};
 ghost use Rattle.session_commands.specs.Closing.{ending_by, lines_of_ending};
+ghost use Rattle.session_commands.specs.Disks.{HasClientRoom};
 ghost use Rattle.session_commands.specs.InWorlds.{RunsAct};
-ghost use Rattle.session_commands.specs.Runs.{Runs, RunsTake};
+ghost use Rattle.session_commands.specs.Runs.{RunsAndCounts, RunsTake};
 
 use crate::closing::close;
 use crate::endings_of::{taken, unopened};
@@ -26,7 +25,7 @@ fn take_packet<K: Kem, D: Disk>(
     packet: &[u8],
     disk: &mut D,
 ) -> Result<Answer, Ending>
-    requires { HasArea client_area (D.state disk.old) }
+    requires { HasClientRoom (D.state disk.old) }
     ensures { RunsAct D.state K.mechanism (asked_take K.mechanism packet.now) disk.old disk.new
         (ending_by result) (lines_of_ending result) }
 {
@@ -45,7 +44,7 @@ fn read_and_take<K: Kem, D: Disk, S: Source>(
     disk: &mut D,
     source: &mut S,
 ) -> Result<Answer, Ending>
-    requires { HasArea client_area (D.state disk.old) }
+    requires { HasClientRoom (D.state disk.old) }
     ensures runs { RunsTake D.state K.mechanism (S.at source.old) (S.at source.new)
         disk.old disk.new (ending_by result) (lines_of_ending result) }
     ensures later { (S.at source.old).faults ≤ (S.at source.new).faults }
@@ -64,16 +63,13 @@ pub fn take<K: Kem, D: Disk, S: Source, O: Sink>(
     source: &mut S,
     out: &mut O,
 ) -> Status
-    requires { HasArea client_area (D.state disk.old) }
-    ensures runs { Runs (RunsTake D.state K.mechanism (S.at source.old)
-        (S.at source.new) disk.old disk.new)
+    requires { HasClientRoom (D.state disk.old) }
+    ensures runs { RunsAndCounts
+        (RunsTake D.state K.mechanism (S.at source.old) (S.at source.new) disk.old disk.new)
+        (IsQuiet (D.state disk.old) (D.state disk.new)
+        × ((S.at source.new).faults ≡ (S.at source.old).faults))
         (O.at out.old) (O.at out.new) result.code }
-    // Status 0 says that no call failed.
-    ensures quiet { result.code ≡ 0 → IsQuiet (D.state disk.old) (D.state disk.new)
-        × ((O.at out.new).faults ≡ (O.at out.old).faults)
-        × ((S.at source.new).faults ≡ (S.at source.old).faults) }
     ensures reads { (S.at source.old).faults ≤ (S.at source.new).faults }
-    ensures later { (O.at out.old).faults ≤ (O.at out.new).faults }
 {
     let worked = read_and_take::<K, D, S>(alloc, disk, source);
     close(out, worked)

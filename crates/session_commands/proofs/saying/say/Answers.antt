@@ -1,21 +1,23 @@
 use Rattle.std.proofs.Common.{◌≡◌}
+use Rattle.dr_disk.specs.Spans.{IsQuiet}
 use Rattle.session_commands.specs.Asking.{asked_say}
 use Rattle.session_commands.specs.Closing.{ending_by, lines_of_ending}
-use Rattle.session_commands.proofs.Quiet.{act_quiet, no_draw_failed}
+use Rattle.session_commands.proofs.Quiet.{act_counts, no_draw_failed}
 use Rattle.session_commands.proofs.saying.say.Goals as goal
 
-pub returns-clause-runs : goal.returns-clause-runs
-returns-clause-runs g c = record {
-  ending = ending_by c.say_text-worked.result;
-  lines = lines_of_ending c.say_text-worked.result;
-  came = c.say_text-worked.ensures;
-  ends = c.close.ensures.ends;
-}
-
-pub returns-clause-quiet : goal.returns-clause-quiet
-returns-clause-quiet g c = λ zero.
-    act_quiet g.D.Disk.state g.K.Kem.mechanism
+pub returns : goal.returns
+returns g c =
+    act_counts g.D.Disk.state g.K.Kem.mechanism
     (asked_say g.W.Draws.at c.args.text.now c.args.draws.now c.say_text-worked.new.draws) c.args.disk.now
-    c.say_text-worked.new.disk ((g.W.Draws.at c.say_text-worked.new.draws).faults ≡ (g.W.Draws.at c.args.draws.now).faults)
-    (no_draw_failed g.W.Draws.at c.args.text.now c.args.draws.now c.say_text-worked.new.draws) _ _ _
-    (returns-clause-runs g c) zero
+    c.say_text-worked.new.disk
+    (IsQuiet (g.D.Disk.state c.args.disk.now) (g.D.Disk.state c.say_text-worked.new.disk)
+    × ((g.W.Draws.at c.say_text-worked.new.draws).faults ≡ (g.W.Draws.at c.args.draws.now).faults))
+    (λ kept act asks quiet.
+    (quiet, no_draw_failed g.W.Draws.at c.args.text.now c.args.draws.now c.say_text-worked.new.draws kept act asks))
+    (g.O.Sink.at c.args.out.now) (g.O.Sink.at c.close.new.out) c.close.result.code
+    (record {
+      ending = ending_by c.say_text-worked.result;
+      lines = lines_of_ending c.say_text-worked.result;
+      came = c.say_text-worked.ensures;
+      ends = c.close.ensures.ends;
+    }) c.close.ensures.later

@@ -1,41 +1,53 @@
-use Rattle.std.proofs.Common.{[], refl, subst, sym, ◌∙◌}
+use Rattle.std.proofs.Common.{[], ap, arith, refl, subst, sym, ◌∙◌}
 use Rattle.dr_disk.proofs.Steps.{quiet_twice}
+use Rattle.endings.specs.Ending.{code_of}
 use Rattle.endings.specs.declared.ending.Ending.{Ending}
 use Rattle.endings.specs.declared.ending.Ending.TheVariants.{LinkFault}
 use Rattle.client.specs.Syncing.Moments.{moment}
 use Rattle.client.specs.Syncing.Parties.{client_party}
 use Rattle.client.specs.Syncing.Syncs.{EndsSync}
 use Rattle.session_commands.specs.Syncing.{RunsSync, ending_of_sync, lines_of_sync, was_synced, wasnt_linked, wasnt_synced}
+use Rattle.session_commands.proofs.Quiet.{ended, open_code}
 use Rattle.session_commands.proofs.Standing.{only_opened, stood}
 use Rattle.session_commands.proofs.SyncRuns.{leaves_course, sync_ends, sync_runs}
 use Rattle.session_commands.proofs.Syncs.{done_quiet, each_part, has_written, near_result}
 use Rattle.session_commands.proofs.syncing.sync.Goals as goal
 
-pub returns-in-Err-clause-runs : goal.returns-in-Err-clause-runs
-returns-in-Err-clause-runs g c = record {
-  ending = c.unopened.result;
-  lines = [];
-  came =
-      subst (λ (e : Ending). RunsSync g.D.Disk.state g.L.Pipe.port g.K.Kem.mechanism c.args.address.now c.args.disk.now c.open.new.disk c.args.link.now c.args.link.now
-      (g.O.Sink.at c.args.out.now).faults (g.O.Sink.at c.finish.new.out).faults e []) (sym c.unopened.ensures)
-      (wasnt_synced c.in-Err.refusal c.in-Err.ensures.unopened (record { any_moment = c.open.ensures.any_moment; reads = c.open.ensures.reads }) refl
-      (λ w side lawful stands.
-      only_opened g.K.Kem.mechanism side w (g.D.Disk.state c.args.disk.now) (g.D.Disk.state c.open.new.disk) stands c.open.ensures.any_moment c.open.ensures.reads));
-  ends = c.finish.ensures.ends;
+pub returns-in-Err : goal.returns-in-Err
+returns-in-Err g c = record {
+  runs = record {
+    ending = c.unopened.result;
+    lines = [];
+    came =
+        subst (λ (e : Ending). RunsSync g.D.Disk.state g.L.Pipe.port g.K.Kem.mechanism c.args.address.now c.args.disk.now c.open.new.disk c.args.link.now c.args.link.now
+        (g.O.Sink.at c.args.out.now).faults (g.O.Sink.at c.finish.new.out).faults e []) (sym c.unopened.ensures)
+        (wasnt_synced c.in-Err.refusal c.in-Err.ensures.unopened (record { any_moment = c.open.ensures.any_moment; reads = c.open.ensures.reads }) refl
+        (λ w side lawful stands.
+        only_opened g.K.Kem.mechanism side w (g.D.Disk.state c.args.disk.now) (g.D.Disk.state c.open.new.disk) stands c.open.ensures.any_moment c.open.ensures.reads));
+    ends = c.finish.ensures.ends;
+  };
+  quiet = λ zero.
+      absurd (open_code c.in-Err.refusal (ap code_of (sym c.unopened.ensures) ∙ (ended c.unopened.result [] (g.O.Sink.at c.args.out.now) (g.O.Sink.at c.finish.new.out) c.finish.result.code zero c.finish.ensures.ends).0));
+  later = c.finish.ensures.later;
 }
 
-pub returns-in-Err-open-clause-runs : goal.returns-in-Err-open-clause-runs
-returns-in-Err-open-clause-runs g c = record {
-  ending = LinkFault;
-  lines = [];
-  came =
-      wasnt_linked c.in-Ok.client.kept c.in-Ok.ensures.opened.read
-      (stood g.D.Disk.state g.K.Kem.mechanism c.args.disk.now c.open.new.disk c.open.new.disk (g.met.D.Disk.lawful c.open.new.disk) c.in-Ok.client
-      c.in-Ok.ensures.opened refl c.open.ensures.any_moment)
-      c.in-Err-open.ensures.err c.in-Err-open.ensures.flow c.in-Err-open.ensures.cause.failed
-      (λ w side lawful stands.
-      only_opened g.K.Kem.mechanism side w (g.D.Disk.state c.args.disk.now) (g.D.Disk.state c.open.new.disk) stands c.open.ensures.any_moment c.open.ensures.reads);
-  ends = c.finish-in-Err-open.ensures.ends;
+pub returns-in-Err-open : goal.returns-in-Err-open
+returns-in-Err-open g c = record {
+  runs = record {
+    ending = LinkFault;
+    lines = [];
+    came =
+        wasnt_linked c.in-Ok.client.kept c.in-Ok.ensures.opened.read
+        (stood g.D.Disk.state g.K.Kem.mechanism c.args.disk.now c.open.new.disk c.open.new.disk (g.met.D.Disk.lawful c.open.new.disk) c.in-Ok.client
+        c.in-Ok.ensures.opened refl c.open.ensures.any_moment)
+        c.in-Err-open.ensures.err c.in-Err-open.ensures.flow c.in-Err-open.ensures.cause.failed
+        (λ w side lawful stands.
+        only_opened g.K.Kem.mechanism side w (g.D.Disk.state c.args.disk.now) (g.D.Disk.state c.open.new.disk) stands c.open.ensures.any_moment c.open.ensures.reads);
+    ends = c.finish-in-Err-open.ensures.ends;
+  };
+  quiet = λ zero.
+      absurd (omega (arith, (ended LinkFault [] (g.O.Sink.at c.args.out.now) (g.O.Sink.at c.finish-in-Err-open.new.out) c.finish-in-Err-open.result.code zero c.finish-in-Err-open.ensures.ends).0));
+  later = c.finish-in-Err-open.ensures.later;
 }
 
 pub close-requires : goal.close-requires
@@ -45,61 +57,63 @@ close-requires g c =
     (moment c.sync-synced.new.self (g.D.Disk.state c.sync-synced.new.disk) (g.O.Sink.at c.sync-synced.new.out))
     (g.L.Pipe.port c.open-in-Ok.new.self) (g.L.Pipe.port c.sync-synced.new.link) c.sync-synced.result (c.sync-synced.ensures.exact c.in-Ok.ensures.opened.is_open)
 
-pub returns-clause-runs : goal.returns-clause-runs
-returns-clause-runs g c =
+pub returns : goal.returns
+returns g c =
     let syncs = c.sync-synced.ensures.exact c.in-Ok.ensures.opened.is_open in
     let ends : EndsSync (client_party g.K.Kem.mechanism [] c.in-Ok.client.kept) syncs.replies
     (moment c.in-Ok.client (g.D.Disk.state c.open.new.disk) (g.O.Sink.at c.args.out.now))
     (moment c.sync-synced.new.self (g.D.Disk.state c.sync-synced.new.disk) (g.O.Sink.at c.sync-synced.new.out))
     (g.L.Pipe.port c.open-in-Ok.new.self) (g.L.Pipe.port c.sync-synced.new.link) c.sync-synced.result = syncs.syncs.ends in
     record {
-      ending = ending_of_sync c.sync-synced.result;
-      lines = lines_of_sync (client_party g.K.Kem.mechanism [] c.in-Ok.client.kept) c.in-Ok.client.kept syncs.replies c.sync-synced.result;
-      came =
-          was_synced c.in-Ok.client.kept syncs.replies c.sync-synced.result c.in-Ok.ensures.opened.read syncs.syncs.lawful
-          (c.sync-synced.ensures.transfer c.in-Ok.ensures.opened.is_open syncs.replies syncs.syncs)
-          (c.sync-synced.ensures.opens c.in-Ok.ensures.opened.is_open syncs.replies syncs.syncs)
-          (leaves_course (g.D.Disk.state c.args.disk.now) (g.D.Disk.state c.open.new.disk) (g.D.Disk.state c.sync-synced.new.disk) (g.met.D.Disk.lawful c.sync-synced.new.disk)
-          (client_party g.K.Kem.mechanism [] c.in-Ok.client.kept) c.in-Ok.client.kept syncs.replies c.open.ensures.any_moment c.in-Ok.ensures.opened.alike syncs.syncs.passed)
-          (record {
-            opened = g.L.Pipe.port c.open-in-Ok.new.self;
-            last = g.L.Pipe.port c.sync-synced.new.link;
-            connects = c.in-Ok-open.ensures.to;
-            quiet = c.in-Ok-open.ensures.flow;
-            ends = c.shut.ensures.shuts.told;
-            counts = c.shut.ensures.shuts.flow;
-            talks = sync_ends (client_party g.K.Kem.mechanism [] c.in-Ok.client.kept) c.in-Ok.client.kept syncs.replies (g.L.Pipe.port c.open-in-Ok.new.self) (g.L.Pipe.port c.sync-synced.new.link)
-                (g.D.Disk.state c.args.disk.now) (g.D.Disk.state c.open.new.disk) (g.D.Disk.state c.sync-synced.new.disk) c.in-Ok.client c.sync-synced.new.self
-                (g.O.Sink.at c.args.out.now) (g.O.Sink.at c.sync-synced.new.out)
-                (g.O.Sink.at c.close.new.out).faults refl c.in-Ok.ensures.opened.quiet c.close.ensures.later c.sync-synced.result ends;
-          })
-          (c.shut.ensures.shuts.gate ∙ c.sync-synced.ensures.gate ∙ c.in-Ok-open.ensures.cause.passed)
-          (λ w side lawful stands fair. let opens = c.in-Ok.ensures.in_worlds w side lawful stands in
-          sync_runs (g.D.Disk.state c.args.disk.now) (g.D.Disk.state c.open.new.disk) (g.D.Disk.state c.sync-synced.new.disk) (g.met.D.Disk.lawful c.sync-synced.new.disk)
-          g.K.Kem.mechanism side w syncs.replies c.in-Ok.client c.sync-synced.new.self
-          (g.O.Sink.at c.args.out.now) (g.O.Sink.at c.sync-synced.new.out)
-          (client_party g.K.Kem.mechanism [] c.in-Ok.client.kept) (g.L.Pipe.port c.open-in-Ok.new.self) (g.L.Pipe.port c.sync-synced.new.link) c.sync-synced.result stands c.open.ensures.any_moment c.in-Ok.ensures.opened.alike ends
-          (c.sync-synced.ensures.in_worlds w side syncs.replies opens.client.0 syncs.syncs fair));
-      ends =
-          c.close.ensures.ends (lines_of_sync (client_party g.K.Kem.mechanism [] c.in-Ok.client.kept) c.in-Ok.client.kept syncs.replies c.sync-synced.result) (g.O.Sink.at c.args.out.now)
-          (has_written (client_party g.K.Kem.mechanism [] c.in-Ok.client.kept) syncs.replies
+      runs = record {
+        ending = ending_of_sync c.sync-synced.result;
+        lines = lines_of_sync (client_party g.K.Kem.mechanism [] c.in-Ok.client.kept) c.in-Ok.client.kept syncs.replies c.sync-synced.result;
+        came =
+            was_synced c.in-Ok.client.kept syncs.replies c.sync-synced.result c.in-Ok.ensures.opened.read syncs.syncs.lawful
+            (c.sync-synced.ensures.transfer c.in-Ok.ensures.opened.is_open syncs.replies syncs.syncs)
+            (c.sync-synced.ensures.opens c.in-Ok.ensures.opened.is_open syncs.replies syncs.syncs)
+            (leaves_course (g.D.Disk.state c.args.disk.now) (g.D.Disk.state c.open.new.disk) (g.D.Disk.state c.sync-synced.new.disk) (g.met.D.Disk.lawful c.sync-synced.new.disk)
+            (client_party g.K.Kem.mechanism [] c.in-Ok.client.kept) c.in-Ok.client.kept syncs.replies c.open.ensures.any_moment c.in-Ok.ensures.opened.alike syncs.syncs.passed)
+            (record {
+              opened = g.L.Pipe.port c.open-in-Ok.new.self;
+              last = g.L.Pipe.port c.sync-synced.new.link;
+              connects = c.in-Ok-open.ensures.to;
+              quiet = c.in-Ok-open.ensures.flow;
+              ends = c.shut.ensures.shuts.told;
+              counts = c.shut.ensures.shuts.flow;
+              talks = sync_ends (client_party g.K.Kem.mechanism [] c.in-Ok.client.kept) c.in-Ok.client.kept syncs.replies (g.L.Pipe.port c.open-in-Ok.new.self) (g.L.Pipe.port c.sync-synced.new.link)
+                  (g.D.Disk.state c.args.disk.now) (g.D.Disk.state c.open.new.disk) (g.D.Disk.state c.sync-synced.new.disk) c.in-Ok.client c.sync-synced.new.self
+                  (g.O.Sink.at c.args.out.now) (g.O.Sink.at c.sync-synced.new.out)
+                  (g.O.Sink.at c.close.new.out).faults refl c.in-Ok.ensures.opened.quiet c.close.ensures.later c.sync-synced.result ends;
+            })
+            (c.shut.ensures.shuts.gate ∙ c.sync-synced.ensures.gate ∙ c.in-Ok-open.ensures.cause.passed)
+            (λ w side lawful stands fair. let opens = c.in-Ok.ensures.in_worlds w side lawful stands in
+            sync_runs (g.D.Disk.state c.args.disk.now) (g.D.Disk.state c.open.new.disk) (g.D.Disk.state c.sync-synced.new.disk) (g.met.D.Disk.lawful c.sync-synced.new.disk)
+            g.K.Kem.mechanism side w syncs.replies c.in-Ok.client c.sync-synced.new.self
+            (g.O.Sink.at c.args.out.now) (g.O.Sink.at c.sync-synced.new.out)
+            (client_party g.K.Kem.mechanism [] c.in-Ok.client.kept) (g.L.Pipe.port c.open-in-Ok.new.self) (g.L.Pipe.port c.sync-synced.new.link) c.sync-synced.result stands c.open.ensures.any_moment c.in-Ok.ensures.opened.alike ends
+            (c.sync-synced.ensures.in_worlds w side syncs.replies opens.client.0 syncs.syncs fair));
+        ends =
+            c.close.ensures.ends (lines_of_sync (client_party g.K.Kem.mechanism [] c.in-Ok.client.kept) c.in-Ok.client.kept syncs.replies c.sync-synced.result) (g.O.Sink.at c.args.out.now)
+            (has_written (client_party g.K.Kem.mechanism [] c.in-Ok.client.kept) syncs.replies
+            (moment c.in-Ok.client (g.D.Disk.state c.open.new.disk) (g.O.Sink.at c.args.out.now))
+            (moment c.sync-synced.new.self (g.D.Disk.state c.sync-synced.new.disk) (g.O.Sink.at c.sync-synced.new.out))
+            (g.L.Pipe.port c.open-in-Ok.new.self) (g.L.Pipe.port c.sync-synced.new.link) c.sync-synced.result ends);
+      };
+      quiet = λ zero.
+          let done = c.close.ensures.done zero in
+          let quiet =
+          done_quiet (client_party g.K.Kem.mechanism [] c.in-Ok.client.kept)
           (moment c.in-Ok.client (g.D.Disk.state c.open.new.disk) (g.O.Sink.at c.args.out.now))
           (moment c.sync-synced.new.self (g.D.Disk.state c.sync-synced.new.disk) (g.O.Sink.at c.sync-synced.new.out))
-          (g.L.Pipe.port c.open-in-Ok.new.self) (g.L.Pipe.port c.sync-synced.new.link) c.sync-synced.result ends);
+          (g.L.Pipe.port c.open-in-Ok.new.self) (g.L.Pipe.port c.sync-synced.new.link) c.sync-synced.result done.0 syncs done.1 in (
+            (
+              quiet_twice (g.D.Disk.state c.args.disk.now) (g.D.Disk.state c.open.new.disk) (g.D.Disk.state c.sync-synced.new.disk) c.in-Ok.ensures.opened.quiet quiet.0,
+              each_part (g.L.Pipe.port c.args.link.now).faults (g.L.Pipe.port c.shut.new.self).faults
+                  (c.shut.ensures.shuts.flow ∙ quiet.2 ∙ c.in-Ok-open.ensures.flow)
+                  (c.shut.ensures.shuts.gate ∙ c.sync-synced.ensures.gate ∙ c.in-Ok-open.ensures.cause.passed),
+            ),
+            c.close.ensures.quiet zero ∙ quiet.1,
+          );
+      later = omega (arith, c.sync-synced.ensures.later, c.close.ensures.later);
     }
-
-pub returns-clause-quiet : goal.returns-clause-quiet
-returns-clause-quiet g c = λ zero.
-    let syncs = c.sync-synced.ensures.exact c.in-Ok.ensures.opened.is_open in
-    let done = c.close.ensures.done zero in
-    let quiet =
-    done_quiet (client_party g.K.Kem.mechanism [] c.in-Ok.client.kept)
-    (moment c.in-Ok.client (g.D.Disk.state c.open.new.disk) (g.O.Sink.at c.args.out.now))
-    (moment c.sync-synced.new.self (g.D.Disk.state c.sync-synced.new.disk) (g.O.Sink.at c.sync-synced.new.out))
-    (g.L.Pipe.port c.open-in-Ok.new.self) (g.L.Pipe.port c.sync-synced.new.link) c.sync-synced.result done.0 syncs done.1 in (
-      quiet_twice (g.D.Disk.state c.args.disk.now) (g.D.Disk.state c.open.new.disk) (g.D.Disk.state c.sync-synced.new.disk) c.in-Ok.ensures.opened.quiet quiet.0,
-      c.close.ensures.quiet zero ∙ quiet.1,
-      each_part (g.L.Pipe.port c.args.link.now).faults (g.L.Pipe.port c.shut.new.self).faults
-          (c.shut.ensures.shuts.flow ∙ quiet.2 ∙ c.in-Ok-open.ensures.flow)
-          (c.shut.ensures.shuts.gate ∙ c.sync-synced.ensures.gate ∙ c.in-Ok-open.ensures.cause.passed),
-    )
