@@ -219,7 +219,8 @@ CALL = rb"say(?: (?P<text>.*))?|take " + POSITION + rb"|take #" + NUMBER + rb"|(
 LINE = re.compile(
     rb"seed [0-9a-fA-F]{64}|(?:first|second) (?:" + CALL + rb"|flip " + POSITION + b" " + NUMBER
     + rb"|bytes(?: (?:[0-9a-fA-F]{2}){0,4000})?|(?:sent|done) all|inbox|state|sync|lose " + FROM_ONE
-    + rb"|stop " + NUMBER + rb" (?:old|new|[0-9a-fA-F]{2}) (?:" + CALL.replace(b"?P<text>", b"?P<stopped>") + rb"))",
+    + rb"|open|stop " + NUMBER + rb" (?:old|new|[0-9a-fA-F]{2}) (?:" + CALL.replace(b"?P<text>", b"?P<stopped>")
+    + rb")|fail " + FROM_ONE + rb" (?:" + CALL.replace(b"?P<text>", b"?P<failed>") + rb"))",
     re.S,
 )
 
@@ -237,9 +238,10 @@ def bad_line(script):
         elif at == 2:
             lawful = re.fullmatch(rb"key [0-9a-fA-F]{64}", line)
         elif lawful := LINE.fullmatch(line):
-            text = lawful["text"] or lawful["stopped"] or b""
+            said = [lawful[it] for it in ("text", "stopped", "failed") if lawful[it] is not None]
+            text = said[0] if said else b""
             texts.add(quoted(text))
-            numbers = line if lawful["text"] is None and lawful["stopped"] is None else line[: len(line) - len(text)]
+            numbers = line[: len(line) - len(text)] if said else line
             if not line.startswith(b"seed") and b" bytes" not in line[:13]:
                 lawful = all(int(number) < 2**32 for number in re.findall(rb"(?<![0-9a-zA-Z])[0-9]+", numbers))
         if not lawful:

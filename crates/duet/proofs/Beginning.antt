@@ -7,8 +7,9 @@ use Rattle.dr_model.specs.Conversations.Conversation.{positions_after}
 use Rattle.dr_model.specs.Machines.Worlds.{opening_world}
 use Rattle.kem_laws.specs.Mechanism.{Mechanism}
 use Rattle.dr_model.proofs.Worlds.OpeningWorlds.{opening_client}
-use Rattle.duet.specs.Outcomes.{Beside, opening_boxes}
+use Rattle.duet.specs.Outcomes.{SidesBeside, opening_boxes}
 use Rattle.duet.specs.Held.{beside, opening_duet}
+use Rattle.duet.specs.Shuts.{both_open}
 use Rattle.scripts.specs.Script.{Scripted}
 use Rattle.duet.specs.Trace.{beginning}
 
@@ -16,8 +17,9 @@ use Rattle.duet.specs.Trace.{beginning}
 pub opening_stands : (k : Mechanism) (script : Scripted) (room : ℕ) → beside (opening_duet k script.key room) ≡ beginning k script
 unfolding positions_after
 opening_stands k script room =
-    ap₂ (λ (first second : Client). let stands : Beside Sides = record {
+    ap₂ (λ (first second : Client). let stands : SidesBeside = record {
       ends = record { key = script.key; first = first; second = second; posts = []; draws = (opening_world script.key).draws };
       boxes = opening_boxes first;
+      shuts = both_open;
     } in stands)
     (sym (opening_client k script.key First)) (sym (opening_client k script.key Second))

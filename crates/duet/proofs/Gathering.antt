@@ -1,6 +1,7 @@
 -- What the network gets of a step of one side.
-use Rattle.std.proofs.Common.{Bool, Err, List, None, Ok, Option, Result, Some, [], ap, append-nil, arith, false, if◌then◌else◌, length, refl, suc, sym, true, zero, ℕ, ◌++◌, ◌+◌, ◌-◌, ◌∙◌, ◌∷◌, ◌≡◌, ◌≤◌}
-use Rattle.std.specs.Prelude.{drop, nat_le, slice_get}
+use Rattle.std.proofs.Common.{Bool, Err, List, None, Ok, Option, Result, Some, [], ap, append-nil, arith, false, if◌then◌else◌, length, refl, suc, sym, true, zero, ℕ, ◌++◌, ◌+◌, ◌-◌, ◌∙◌, ◌∷◌, ◌≡◌, ◌<◌, ◌≤◌}
+use Rattle.std.specs.Prelude.{drop, nat_le, nat_lt, slice_get}
+use Rattle.std.proofs.lemmas.Bool.Decides.{nat_tests}
 use Rattle.std.proofs.lemmas.List.{drop_all, length-append, length-drop, length-map}
 use Rattle.boxes.specs.Items.{Item}
 use Rattle.dr_base.specs.declared.position.Side.{Side}
@@ -18,7 +19,7 @@ use Rattle.session_model.specs.declared.answer.Refusal.{Refusal}
 use Rattle.session_model.specs.declared.answer.Refusal.TheVariants.{Fewer}
 use Rattle.client.proofs.Syncs.Parties.{keeps_outbox}
 use Rattle.duet.specs.Acts.{made_by}
-use Rattle.duet.specs.Held.{gathered, gathering}
+use Rattle.duet.specs.Gathering.{gathered, gathering, newest_from}
 use Rattle.duet.specs.Stops.{cut_by, cut_of, stopped_client, stopped_sides}
 use Rattle.duet.specs.declared.acts.Act.{Act}
 use Rattle.duet.specs.declared.acts.Act.TheVariants.{Done as ActDone, Say as ActSay, Sent as ActSent, Take as ActTake}
@@ -34,17 +35,34 @@ last_dropped (y ∷ z ∷ zs) (suc held) x long is =
     let e : length (y ∷ z ∷ zs) - 1 ≡ suc (length (z ∷ zs) - 1) = omega arith in
     last_dropped (z ∷ zs) held x (omega arith) (ap (slice_get (y ∷ z ∷ zs)) (sym e) ∙ is)
 
+-- nothing of an outbox that gained no packet
+pub none_newest : (held : ℕ) (outbox : List Item) → length outbox ≤ held → drop (newest_from held (length outbox)) outbox ≡ []
+none_newest held outbox few =
+    ap (λ (b : Bool). drop (if b then length outbox - 1 else length outbox) outbox) fewer ∙ drop_all (length outbox) outbox (omega arith)
+  where
+    fewer : nat_lt held (length outbox) ≡ false
+    fewer = grind (arith, nat_tests)
+
+-- the newest, where it gained one
+pub newest_dropped : (xs : List Item) (held : ℕ) (x : Item) → held < length xs → slice_get xs (length xs - 1) ≡ Some x
+    → drop (newest_from held (length xs)) xs ≡ x ∷ []
+newest_dropped xs held x more is =
+    ap (λ (b : Bool). drop (if b then length xs - 1 else length xs) xs) test ∙ last_dropped xs (length xs - 1) x (omega arith) is
+  where
+    test : nat_lt held (length xs) ≡ true
+    test = grind (arith, nat_tests)
+
 pub same_client : (s : Sides) (side : Side) → with_client s side (client_of s side) ≡ s
 same_client s First = refl
 same_client s Second = refl
 
 module _ (s : Sides) (side : Side) where
-  abbrev gathers : Client → Sides
-  gathers next = gathered (length (client_of s side).outbox) side (with_client s side next)
+  abbrev gains : Client → Sides
+  gains next = gathered (length (client_of s side).outbox) side (with_client s side next)
 
 -- an outbox that gained no packet
-gathers_less : (s : Sides) (side : Side) (next : Client) → length next.outbox ≤ length (client_of s side).outbox
-    → gathers s side next ≡ with_client s side next
+pub gathers_less : (s : Sides) (side : Side) (next : Client) → length next.outbox ≤ length (client_of s side).outbox
+    → gains s side next ≡ with_client s side next
 gathers_less s First next few =
     ap (λ (posts : List Item). let t : Sides = record s { first = next; posts = posts } in t)
     (ap (λ items. s.posts ++ items) (drop_all (length s.first.outbox) next.outbox few) ∙ append-nil s.posts)
@@ -52,7 +70,7 @@ gathers_less s Second next few =
     ap (λ (posts : List Item). let t : Sides = record s { second = next; posts = posts } in t)
     (ap (λ items. s.posts ++ items) (drop_all (length s.second.outbox) next.outbox few) ∙ append-nil s.posts)
 
-gathers_none : (s : Sides) (side : Side) → gathers s side (client_of s side) ≡ s
+pub gathers_none : (s : Sides) (side : Side) → gains s side (client_of s side) ≡ s
 gathers_none s side = gathers_less s side (client_of s side) (omega arith) ∙ same_client s side
 
 -- a step of one side makes no draw
@@ -62,7 +80,7 @@ same_draws s Second made = refl
 
 -- ---- how many packets an outbox has after an act
 
-taken_few : (k : Mechanism) (c : Client) (bytes : List ℕ)
+pub taken_few : (k : Mechanism) (c : Client) (bytes : List ℕ)
     → length (settled c (taken_by (take_on k c bytes))).next.outbox ≤ length c.outbox
 taken_few k c bytes =
     let next = (settled c (taken_by (take_on k c bytes))).next in
@@ -73,18 +91,18 @@ taken_few k c bytes =
       length-map c.outbox (λ (i : Item). i.bytes),
     )
 
-sent_few : (c : Client) (n : ℕ) (b : Bool)
+pub sent_few : (c : Client) (n : ℕ) (b : Bool)
     → length (settled c (sent_by c n (if b then Ok (drop n c.outbox) else Err (Fewer (length c.outbox))))).next.outbox
     ≤ length c.outbox
 sent_few c n true = omega (arith, length-drop n c.outbox)
 sent_few c n false = omega arith
 
-done_few : (c : Client) (n : ℕ) (r : Result (List Item) Refusal)
+pub done_few : (c : Client) (n : ℕ) (r : Result (List Item) Refusal)
     → length (settled c (finished_by c n r)).next.outbox ≤ length c.outbox
 done_few c n (Ok inbox) = omega arith
 done_few c n (Err refusal) = omega arith
 
-said_few : (c : Client) (d : Option SendDraft) → length (settled c (said_by (accept_send c d))).next.outbox ≤ length c.outbox + 1
+pub said_few : (c : Client) (d : Option SendDraft) → length (settled c (said_by (accept_send c d))).next.outbox ≤ length c.outbox + 1
 said_few c None = omega arith
 said_few c (Some draft) = omega (arith, length-append c.outbox (draft.post ∷ []))
 
@@ -126,7 +144,7 @@ takes_act k s side bytes = opened_gathers s side (take_on k (client_of s side) b
 
 -- ---- a step in which the side's disk stops
 
-own_next : (s : Sides) (side : Side) (made : Step Client) → client_of (gathering s side made).next side ≡ made.next
+pub own_next : (s : Sides) (side : Side) (made : Step Client) → client_of (gathering s side made).next side ≡ made.next
 own_next s First made = refl
 own_next s Second made = refl
 

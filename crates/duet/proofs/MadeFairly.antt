@@ -4,7 +4,7 @@ use Rattle.std.specs.Prelude.{All}
 use Rattle.std.proofs.lemmas.List.Elements.{All-append, All-cons, All-nil}
 use Rattle.dr_model.specs.Machines.Worlds.{World}
 use Rattle.kem_laws.specs.Mechanism.{Mechanism}
-use Rattle.duet.specs.Outcomes.{Beside}
+use Rattle.duet.specs.Outcomes.{WorldBeside}
 use Rattle.scripts.specs.Deeds.{Deed}
 use Rattle.scripts.specs.Make.{deeds_from, made_deeds, made_script, opening, round_of, turn_deeds}
 use Rattle.duet.specs.Trace.{IsUnforgedPlay, IsUnforgedScript, beginning_in}
@@ -37,15 +37,15 @@ made_whole rounds number = whole_from (opening number) 1 rounds
 
 -- ---- bytes
 
-turn_fair : (k : Mechanism) (s : Beside World) (round : ℕ) (turn : Turn) (more : List Deed)
-    → ((next : Beside World) → IsUnforgedPlay k next more)
+turn_fair : (k : Mechanism) (s : WorldBeside) (round : ℕ) (turn : Turn) (more : List Deed)
+    → ((next : WorldBeside) → IsUnforgedPlay k next more)
     → IsUnforgedPlay k s (turn_deeds round turn ++ more)
 unfolding turn_deeds
 turn_fair k s round (Says side) more later = (tt, (tt, later _))
 turn_fair k s round (Takes side nth) more later = (tt, (tt, later _))
 turn_fair k s round Rests more later = later s
 
-fair_from : (k : Mechanism) (s : Beside World) (m : Making) (round left : ℕ) → IsUnforgedPlay k s (deeds_from m round left)
+fair_from : (k : Mechanism) (s : WorldBeside) (m : Making) (round left : ℕ) → IsUnforgedPlay k s (deeds_from m round left)
 unfolding deeds_from
 fair_from k s m round zero = tt
 fair_from k s m round (suc left) =

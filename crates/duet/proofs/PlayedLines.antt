@@ -1,5 +1,5 @@
 -- A script that is played: what stands once some of its lines are answered.
-use Rattle.std.proofs.Common.{Option, ◌≡◌, ℕ, ◌+◌, ◌-◌, ◌^◌, ◌<◌, ◌≤◌, List, [], ◌∷◌, ◌++◌, length, refl, sym, ◌∙◌, ap, arith, subst, append_assoc, append-nil}
+use Rattle.std.proofs.Common.{None, Option, Some, ◌≡◌, ℕ, ◌+◌, ◌-◌, ◌^◌, ◌<◌, ◌≤◌, List, [], ◌∷◌, ◌++◌, length, refl, sym, ◌∙◌, ap, arith, subst, append_assoc, append-nil}
 use Rattle.std.proofs.lemmas.List.{length-append}
 use Rattle.dr_base.specs.declared.position.Side.{Side}
 use Rattle.dr_base.specs.declared.position.Side.TheVariants.{First, Second}
@@ -8,11 +8,18 @@ use Rattle.dr_ports.specs.States.{SinkState}
 use Rattle.dr_ports.specs.Writing.{TookBeginning}
 use Rattle.session_model.specs.declared.answer.Answer.{Answer}
 use Rattle.session_model.specs.declared.answer.Answer.TheVariants.{Said, Opened, Sent, Done, Inbox, State, Seeded, Stopped, Nothing, Refused}
-use Rattle.dr_model.specs.Machines.Sides.{Sides}
+use Rattle.dr_disk.specs.declared.call.Call.{Call}
+use Rattle.dr_model.specs.Machines.Events.{Event}
+use Rattle.dr_model.specs.Machines.Sides.{Sides, client_of, step_on}
+use Rattle.dr_model.specs.Machines.Steps.{Step}
+use Rattle.session_model.specs.Clients.{Client}
 use Rattle.kem_laws.specs.Mechanism.{Mechanism}
-use Rattle.duet.specs.Outcomes.{Beside, Played, deed_on}
-use Rattle.scripts.specs.Deeds.{Deed, acts, stops, syncs}
-use Rattle.scripts.specs.Sides.{deed_side}
+use Rattle.duet.specs.Outcomes.{Beside, Played, SidesBeside, SidesPlayed, barring, deed_on, failed, freely_on, opened}
+use Rattle.scripts.specs.Deeds.{Deed, acts, fails, reopens, stops, syncs}
+use Rattle.scripts.specs.Sides.{acting_side, deed_side}
+use Rattle.duet.specs.Gathering.{gathers}
+use Rattle.duet.specs.Shuts.{Shut, failing_call, left_of, shut_of}
+use Rattle.duet.proofs.Barred.{barred_or}
 use Rattle.duet.specs.Held.{DuetNow, after_deed, beside, opening_duet}
 use Rattle.scripts.specs.Script.{Scripted}
 use Rattle.duet.specs.Tally.{IsBelow, IsSideBelow, both_reached, with_answer, counted_all, counted_by, counted_of, no_tally, opening_tally, tally_of}
@@ -25,7 +32,7 @@ use Rattle.duet.proofs.Trace.{stands_more, wrote_first, wrote_more, wrote_part, 
 
 -- ---- what was counted
 
-counted_by-push : {S : Type 0} (act : Beside S → Deed → Played S) (s : Beside S) (t : Tally) (deeds : List Deed) (deed : Deed)
+counted_by-push : {S L : Type 0} (act : Beside S L → Deed → Played S L) (s : Beside S L) (t : Tally) (deeds : List Deed) (deed : Deed)
     → counted_by act s t (deeds ++ deed ∷ []) ≡ counted_all (deed_side deed) (act (after_by act s deeds) deed).answers (counted_by act s t deeds)
 unfolding after_by counted_by
 counted_by-push act s t [] deed = refl
@@ -58,11 +65,36 @@ one_more n First answer t b = record { first = side_more n answer t.first b.firs
 one_more n Second answer t b = record { first = side_wider n (n + 1) t.first (omega arith) b.first; second = side_more n answer t.second b.second }
 
 -- a deed counts one answer at most
-deed_more : (k : Mechanism) (s : Beside Sides) (deed : Deed) (n : ℕ) (t : Tally) → IsBelow n t
+failed_more : (event : Event) (s : SidesBeside) (made : Step Sides) (drawn : Sides) (left : Client) (fault : Option Call) (n : ℕ)
+    (t : Tally) → IsBelow n t
+    → IsBelow (n + 1) (counted_all (acting_side event) (failed event s made drawn left fault).answers t)
+failed_more event s made drawn left None n t b = one_more n (acting_side event) made.answer t b
+failed_more event s made drawn left (Some call) n t b = wider n (n + 1) t (omega arith) b
+
+opened_more : (side : Side) (s : SidesBeside) (by : Client → Sides) (shut : Option (Shut Client)) (n : ℕ) (t : Tally) → IsBelow n t
+    → IsBelow (n + 1) (counted_all side (opened side s by shut).answers t)
+opened_more side s by None n t b = wider n (n + 1) t (omega arith) b
+opened_more side s by (Some shut) n t b = wider n (n + 1) t (omega arith) b
+
+freely_more : (k : Mechanism) (s : SidesBeside) (deed : Deed) (n : ℕ) (t : Tally) → IsBelow n t
+    → IsBelow (n + 1) (counted_all (deed_side deed) (freely_on k s deed).answers t)
+freely_more k s (acts event) n t b = one_more n (acting_side event) _ t b
+freely_more k s (stops after mode call) n t b = one_more n (acting_side call) _ t b
+freely_more k s (fails at call) n t b =
+    let made = step_on k s.ends call in
+    let before = client_of s.ends (acting_side call) in
+    let after = client_of made.next (acting_side call) in
+    failed_more call s made (record s.ends { draws = made.next.draws }) (left_of at before after after before)
+    (failing_call at made.answer before after) n t b
+freely_more k s (reopens side) n t b = opened_more side s (gathers s.ends side) (shut_of s.shuts side) n t b
+freely_more k s (syncs side lost) n t b = wider n (n + 1) t (omega arith) b
+
+deed_more : (k : Mechanism) (s : SidesBeside) (deed : Deed) (n : ℕ) (t : Tally) → IsBelow n t
     → IsBelow (n + 1) (counted_all (deed_side deed) (deed_on k s deed).answers t)
-deed_more k s (acts event) n t b = one_more n (deed_side (acts event)) _ t b
-deed_more k s (stops after mode call) n t b = one_more n (deed_side (stops after mode call)) _ t b
-deed_more k s (syncs side lost) n t b = wider n (n + 1) t (omega arith) b
+unfolding deed_on
+deed_more k s deed n t b =
+    barred_or (λ (made : SidesPlayed). IsBelow (n + 1) (counted_all (deed_side deed) made.answers t)) (deed_side deed) s
+    (freely_on k s deed) (barring s.shuts deed) (freely_more k s deed n t b) (λ call. wider n (n + 1) t (omega arith) b)
 
 -- ---- a run
 
@@ -122,7 +154,7 @@ plays_on k script left rest deed duet next tally more told mid new p first steps
       posts = omega (arith, size, ap (λ (d : DuetNow). length d.sides.posts) steps, added.posts, p.posts);
       draws = omega (arith, size, ap (λ (d : DuetNow). d.sides.draws.made) steps, added.draws, p.draws);
       counts = counts
-          ∙ ap (λ (s : Beside Sides). counted_all (deed_side deed) (deed_on k s deed).answers tally) p.stands
+          ∙ ap (λ (s : SidesBeside). counted_all (deed_side deed) (deed_on k s deed).answers tally) p.stands
           ∙ ap (counted_all (deed_side deed) (deed_on k (after_by (deed_on k) start p.deeds) deed).answers) p.counts
           ∙ sym (counted_by-push (deed_on k) start (opening_tally script.rounds) p.deeds deed);
       below = subst (IsBelow _) (sym counts)
@@ -160,6 +192,6 @@ pub tallies_last : (k : Mechanism) (script : Scripted) (left : List Deed) (duet 
 unfolding tally_of
 tallies_last k script left duet tally told mid p none =
     let whole : script.deeds ≡ p.deeds = p.all ∙ ap (λ ds. p.deeds ++ ds) none ∙ append-nil p.deeds in
-    ap (λ (s : Beside Sides). both_reached s.ends tally) p.stands
+    ap (λ (s : SidesBeside). both_reached s.ends tally) p.stands
     ∙ ap (both_reached (after_by (deed_on k) (beginning k script) p.deeds).ends) p.counts
     ∙ ap (λ ds. both_reached (after_by (deed_on k) (beginning k script) ds).ends (counted_by (deed_on k) (beginning k script) (opening_tally script.rounds) ds)) (sym whole)

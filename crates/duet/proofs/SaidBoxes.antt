@@ -1,6 +1,6 @@
 -- The boxes of a script's relay hold packets that were said, and no others.
-use Rattle.std.proofs.Common.{Bool, List, [], ap, false, refl, subst, sym, true, ◌∙◌, ◌∷◌, ◌+◌, ◌≡◌}
-use Rattle.std.specs.Prelude.{All, filter, if◌then◌else◌, not, ⊤, ◌==◌, ℕ}
+use Rattle.std.proofs.Common.{Bool, List, None, Option, Some, [], ap, length, false, refl, subst, sym, true, ◌∙◌, ◌∷◌, ◌+◌, ◌≡◌}
+use Rattle.std.specs.Prelude.{All, IfSome, filter, if◌then◌else◌, is_some, not, ⊤, ◌==◌, ℕ}
 use Rattle.std.proofs.lemmas.List.Elements.{All-cons, All-drop, All-filter, All-head, All-map, All-push, All-tail, All-weaker}
 use Rattle.boxes.specs.Items.{Item}
 use Rattle.dr_base.specs.Position.{is_own}
@@ -8,6 +8,7 @@ use Rattle.dr_base.specs.declared.position.Position.{Position}
 use Rattle.dr_base.specs.declared.position.Side.{Side}
 use Rattle.dr_model.specs.Conversations.Conversation.{is_said, positions}
 use Rattle.dr_model.specs.Conversations.Posts.{post_at, posts_of}
+use Rattle.dr_model.specs.Machines.Acts.{Act, finishing, needs_seed, saying, sending, taking}
 use Rattle.dr_model.specs.Machines.Events.{Event}
 use Rattle.dr_model.specs.Machines.WorldSides.{kept_in}
 use Rattle.dr_model.specs.Machines.Worlds.{World, outbox_in, step_of, view_of}
@@ -21,8 +22,10 @@ use Rattle.kem_laws.specs.Mechanism.{Mechanism}
 use Rattle.relay_core.specs.Boxes.{Answer, Box, Kept, answer_of, answers_of, becomes, after_box, has_number, is_full, is_named, of_first, stays, with_packet, without_number}
 use Rattle.relay_wire.specs.Replies.{absent, acked, box_full, stored}
 use Rattle.relay_wire.specs.Requests.{Asked, Asking, acks, fetches, posts}
+use Rattle.session_model.specs.Clients.{Client, say_check}
 use Rattle.client.specs.Syncing.Parties.{waiting}
-use Rattle.duet.specs.Outcomes.{Beside}
+use Rattle.duet.specs.Outcomes.{WorldBeside}
+use Rattle.duet.specs.Shuts.{Shut, Shuts, shut_of}
 
 -- ---- packets that were said
 
@@ -38,7 +41,7 @@ pub unforged : (k : Mechanism) (w : World) (side : Side) (packet : List ℕ) →
 unforged k w side packet lawful is = subst (IsUnforged k w side) (sym is.same) (real k w side is.position lawful is.said)
 
 -- whatever happens, they stay so
-said_stays : (k : Mechanism) (w : World) (event : Event) (packet : List ℕ) → IsLawfulWorld k w → IsSaidPacket k w packet
+pub said_stays : (k : Mechanism) (w : World) (event : Event) (packet : List ℕ) → IsLawfulWorld k w → IsSaidPacket k w packet
     → IsSaidPacket k (step_of k w event).next packet
 said_stays k w event packet lawful is =
     let stay = packets_stay k w event is.position lawful is.said in
@@ -110,18 +113,55 @@ boxes_weaker Is Are follows =
     All-weaker (HoldsOnly Is) (HoldsOnly Are)
     (λ box. All-weaker (λ (kept : Kept). Is kept.packet) (λ (kept : Kept). Are kept.packet) (λ kept. follows kept.packet) box.packets)
 
--- ---- a world and the boxes beside it
+-- ---- a world, and what stands beside it
 
--- the world is lawful, and the boxes hold packets that were said in it
-pub record IsHonest (k : Mechanism) (s : Beside World) : Type 0 where
+-- what a closed side is to do when it opens is what it can do
+abbrev pub IsHeldBack : Mechanism → World → Side → Act → Type 0
+IsHeldBack k w side (saying text draw) =
+    (is_some draw ≡ needs_seed (say_check (kept_in k w side) (length text))) × IfSome draw (λ seed. length seed ≡ 32)
+IsHeldBack k w side (taking bytes) = IsSaidPacket k w bytes
+IsHeldBack k w side (finishing n) = ⊤
+IsHeldBack k w side (sending n) = ⊤
+
+abbrev pub IsLeft : Mechanism → World → Side → Shut (Option Act) → Type 0
+IsLeft k w side shut = IfSome shut.left (IsHeldBack k w side)
+
+-- the world is lawful, the boxes hold packets that were said in it, and so are those that are held back
+pub record IsHonest (k : Mechanism) (s : WorldBeside) : Type 0 where
   pub lawful : IsLawfulWorld k s.ends
   pub boxes : All (HoldsOnly (IsSaidPacket k s.ends)) s.boxes
+  pub shuts : (side : Side) → IfSome (shut_of s.shuts side) (IsLeft k s.ends side)
 
--- what happens to the world leaves it so
-pub honest_next : (k : Mechanism) (s : Beside World) (event : Event) → IsHonest k s → IsSeedWhole event
-    → IsHonest k (record { ends = (step_of k s.ends event).next; boxes = s.boxes })
-honest_next k s event honest whole = record {
-  lawful = lawful_next k s.ends event honest.lawful whole;
-  boxes = boxes_weaker (IsSaidPacket k s.ends) (IsSaidPacket k (step_of k s.ends event).next)
-      (λ packet. said_stays k s.ends event packet honest.lawful) s.boxes honest.boxes;
-}
+-- each closed side keeps what it kept
+abbrev pub KeepsShut : Mechanism → Shuts (Option Act) → World → World → Type 0
+KeepsShut k shuts w next = (side : Side) → IfSome (shut_of shuts side) (λ _. kept_in k next side ≡ kept_in k w side)
+
+module _ (k : Mechanism) (w next : World) (side : Side) (said : (packet : List ℕ) → IsSaidPacket k w packet → IsSaidPacket k next packet) where
+  held_stays : (act : Act) → kept_in k next side ≡ kept_in k w side → IsHeldBack k w side act → IsHeldBack k next side act
+  held_stays (saying text draw) same held =
+      (held.0 ∙ ap (λ (c : Client). needs_seed (say_check c (length text))) (sym same), held.1)
+  held_stays (taking bytes) same held = said bytes held
+  held_stays (finishing n) same held = tt
+  held_stays (sending n) same held = tt
+
+  act_stays : (o : Option Act) → kept_in k next side ≡ kept_in k w side → IfSome o (IsHeldBack k w side)
+      → IfSome o (IsHeldBack k next side)
+  act_stays None same held = tt
+  act_stays (Some act) same held = held_stays act same held
+
+  pub left_stays : (o : Option (Shut (Option Act))) → IfSome o (λ _. kept_in k next side ≡ kept_in k w side)
+      → IfSome o (IsLeft k w side) → IfSome o (IsLeft k next side)
+  left_stays None same left = tt
+  left_stays (Some shut) same left = act_stays shut.left same left
+
+-- what happens to the world leaves it so, where closed sides keep what they kept
+pub honest_next : (k : Mechanism) (s : WorldBeside) (event : Event) → IsHonest k s → IsSeedWhole event
+    → KeepsShut k s.shuts s.ends (step_of k s.ends event).next
+    → IsHonest k (record s { ends = (step_of k s.ends event).next })
+honest_next k s event honest whole keeps =
+    let next = (step_of k s.ends event).next in
+    let said : (packet : List ℕ) → IsSaidPacket k s.ends packet → IsSaidPacket k next packet = λ packet. said_stays k s.ends event packet honest.lawful in record {
+      lawful = lawful_next k s.ends event honest.lawful whole;
+      boxes = boxes_weaker (IsSaidPacket k s.ends) (IsSaidPacket k next) said s.boxes honest.boxes;
+      shuts = λ side. left_stays k s.ends next side said (shut_of s.shuts side) (keeps side) (honest.shuts side);
+    }

@@ -3,11 +3,15 @@ use Rattle.std.proofs.Common.{List, None, Option, Some, [], ap, false, refl, sub
 use Rattle.std.specs.Prelude.{All, IfSome, if◌then◌else◌}
 use Rattle.std.proofs.lemmas.List.Elements.{All-head, All-tail}
 use Rattle.dr_base.specs.declared.position.Side.{Side}
-use Rattle.dr_model.specs.Machines.Acts.{event_of, sending, taking}
+use Rattle.dr_base.specs.Position.{peer_of}
+use Rattle.dr_model.specs.Machines.Acts.{Act, act_in, event_of, sending, taking}
 use Rattle.dr_model.specs.Machines.WorldSides.{kept_in}
 use Rattle.dr_model.specs.Machines.Worlds.{World}
 use Rattle.dr_model.specs.Theorems.Fairness.{IsUnforged}
-use Rattle.kem_laws.specs.Mechanism.{Mechanism}
+use Rattle.dr_model.specs.Theorems.Acting.{IsFairAct}
+use Rattle.dr_model.specs.Theorems.LawfulWorlds.{IsLawfulWorld}
+use Rattle.dr_model.proofs.Acting.ActsFollowing.{act_leaves}
+use Rattle.kem_laws.specs.Mechanism.{IsLawfulMechanism, Mechanism}
 use Rattle.relay_core.specs.Boxes.{Box, Kept, answer_of, answers_of, after_box, is_named, of_first, oldest}
 use Rattle.relay_link.specs.Connections.{kept_before}
 use Rattle.relay_wire.specs.Requests.{Asked, fetches}
@@ -20,9 +24,11 @@ use Rattle.sync_model.specs.Simulation.{AreAlike, IsFairReply}
 use Rattle.sync_model.specs.Transfers.{Meeting, answered, begins, meet_times, meets}
 use Rattle.sync_model.proofs.Alike.{read_alike}
 use Rattle.client.specs.Syncing.Parties.{waiting, world_party}
-use Rattle.duet.specs.Outcomes.{Beside}
+use Rattle.duet.specs.Outcomes.{WorldBeside}
 use Rattle.scripts.specs.Sides.{side_text}
-use Rattle.duet.proofs.SaidBoxes.{AsksOnly, HoldsOnly, IsHonest, IsSaidPacket, boxes_weaker, honest_next, outbox_said, relay_holds, unforged}
+use Rattle.duet.specs.Shuts.{Shuts, shut_of}
+use Rattle.duet.proofs.Moving.{if_any, if_none, one_of}
+use Rattle.duet.proofs.SaidBoxes.{AsksOnly, HoldsOnly, IsHonest, IsSaidPacket, KeepsShut, boxes_weaker, honest_next, outbox_said, relay_holds, unforged}
 
 -- ---- one reply
 
@@ -52,7 +58,8 @@ oldest_posted : (Is : List ℕ → Type 0) (name : List ℕ) (packets : List (Li
 oldest_posted Is name [] are = tt
 oldest_posted Is name (packet ∷ packets) are = All-head Is packet packets are
 
-module _ (k : Mechanism) (side : Side) (start : World) where
+module _ (k : Mechanism) (law : IsLawfulMechanism k) (side : Side) (start : World) (shuts : Shuts (Option Act))
+    (unshut : shut_of shuts side ≡ None) where
   abbrev party : Party World
   party = world_party k (side_text side) side start
 
@@ -60,10 +67,10 @@ module _ (k : Mechanism) (side : Side) (start : World) where
   Fair turn packet = IsUnforged k turn side packet
 
   -- a world and the boxes where a sync stands
-  abbrev beside : World → List Box → Beside World
-  beside w boxes = record { ends = w; boxes = boxes }
+  abbrev beside : World → List Box → WorldBeside
+  beside w boxes = record { ends = w; boxes = boxes; shuts = shuts }
 
-  abbrev at : Meeting World → Beside World
+  abbrev at : Meeting World → WorldBeside
   at m = beside m.course.state m.boxes
 
   -- what a sync asks posts no other packets than these
@@ -77,6 +84,18 @@ module _ (k : Mechanism) (side : Side) (start : World) where
   abbrev AreOne : List Box → World → World → Type 0
   AreOne boxes v w = (v ≡ w) × IsHonest k (beside w boxes)
 
+  -- the other side keeps what it kept
+  abbrev Unmoved : World → World → Side → Type 0
+  Unmoved w next y = kept_in k next y ≡ kept_in k w y
+
+  other_keeps : (w : World) (act : Act) → IsLawfulWorld k w → IsFairAct k w side act
+      → KeepsShut k shuts w (act_in k w side act).next
+  other_keeps w act lawful fair = λ x.
+      let next = (act_in k w side act).next in
+      one_of (λ (y : Side). IfSome (shut_of shuts y) (λ _. Unmoved w next y)) side x
+      (if_none (λ _. Unmoved w next side) (shut_of shuts side) unshut)
+      (if_any (Unmoved w next (peer_of side)) (shut_of shuts (peer_of side)) (act_leaves k w side act law lawful fair))
+
   -- what a sync does to it keeps it so
   keeps : (boxes : List Box) → AreAlike party party (AreOne boxes) Fair
   keeps boxes = record {
@@ -85,11 +104,19 @@ module _ (k : Mechanism) (side : Side) (start : World) where
     stored_line = λ number. refl;
     end_line = λ which. refl;
     outbox = λ v w are. ap party.outbox are.0;
-    sent = λ v w are. (ap party.sent are.0, honest_next k (beside w boxes) (event_of side (sending 1)) are.1 tt);
+    sent = λ v w are. (
+      ap party.sent are.0,
+      honest_next k (beside w boxes) (event_of side (sending 1)) are.1 tt
+          (other_keeps w (sending 1) are.1.lawful tt),
+    );
     takes = λ v w packet are fair. record {
       line = ap (λ (x : World). (party.take x packet).line) are.0;
       full = ap (λ (x : World). (party.take x packet).full) are.0;
-      next = (ap (λ (x : World). (party.take x packet).next) are.0, honest_next k (beside w boxes) (event_of side (taking packet)) are.1 tt);
+      next = (
+        ap (λ (x : World). (party.take x packet).next) are.0,
+        honest_next k (beside w boxes) (event_of side (taking packet)) are.1 tt
+            (other_keeps w (taking packet) are.1.lawful fair),
+      );
     };
   }
 
@@ -124,7 +151,7 @@ module _ (k : Mechanism) (side : Side) (start : World) where
     answered_honest None is = honest
     answered_honest (Some asked) is =
         let boxes = (answers_of m.boxes asked).next in
-        let stands : IsHonest k (beside w boxes) = record { lawful = honest.lawful; boxes = asked_holds (Some asked) is } in
+        let stands : IsHonest k (beside w boxes) = record { lawful = honest.lawful; boxes = asked_holds (Some asked) is; shuts = honest.shuts } in
         (read_alike party party (AreOne boxes) Fair (keeps boxes) m.course m.course (answers_of m.boxes asked).reply
         (record { state = (refl, stands); acts = refl; lines = refl; requests = refl; wait = refl }) (reply_fair m.course.wait asked is)).state.1
 
@@ -132,7 +159,7 @@ module _ (k : Mechanism) (side : Side) (start : World) where
     meets_honest = answered_honest (asked_in party w m.course.wait) refl
 
     without_honest : IsHonest k (at (without_reply party m))
-    without_honest = record { lawful = honest.lawful; boxes = asked_holds (asked_in party w m.course.wait) refl }
+    without_honest = record { lawful = honest.lawful; boxes = asked_holds (asked_in party w m.course.wait) refl; shuts = honest.shuts }
 
   -- ---- a sync
 

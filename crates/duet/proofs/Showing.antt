@@ -1,6 +1,7 @@
 -- What an event shows, and what it adds to the network and to the draws.
 use Rattle.std.proofs.Common.{◌≡◌, ℕ, ◌+◌, ◌≤◌, Bool, true, false, List, [], ◌∷◌, ◌++◌, length, Option, Some, None, Result, Ok, Err, if◌then◌else◌, refl, sym, ◌∙◌, ap, ap₂, append-nil, arith, length-append}
-use Rattle.std.specs.Prelude.{flat_map}
+use Rattle.std.specs.Prelude.{drop, flat_map, nat_lt, ◌-◌}
+use Rattle.std.proofs.lemmas.List.{length-drop}
 use Rattle.dr_base.specs.declared.position.Side.{Side}
 use Rattle.dr_base.specs.declared.position.Side.TheVariants.{First, Second}
 use Rattle.boxes.specs.Items.{Item}
@@ -14,13 +15,17 @@ use Rattle.dr_model.specs.Machines.Events.{Event, seeds, says, takes, takes_nth,
 use Rattle.dr_model.specs.Machines.Network.{flipped_at, held_at, held_nth}
 use Rattle.kem_laws.specs.Mechanism.{Mechanism}
 use Rattle.session_model.specs.declared.answer.Answer.{Answer}
-use Rattle.duet.specs.Outcomes.{Beside, deed_on}
-use Rattle.scripts.specs.Deeds.{Deed, acts, stops, syncs}
+use Rattle.duet.specs.Outcomes.{SidesBeside, SidesPlayed, barring, deed_on, failed, freely_on, opened}
+use Rattle.scripts.specs.Deeds.{Deed, acts, fails, reopens, stops, syncs}
+use Rattle.dr_disk.specs.declared.call.Call.{Call as DiskCall}
+use Rattle.duet.specs.Gathering.{gathers, newest_from}
 use Rattle.duet.specs.Held.{shown}
+use Rattle.duet.specs.Shuts.{Shut, failing_call, left_of, shut_of}
+use Rattle.duet.proofs.Barred.{barred_or}
 use Rattle.scripts.proofs.Calls.{acting_call}
 use Rattle.scripts.specs.Seen.{call_event, take_event}
 use Rattle.duet.specs.Replies.{entry_line, reply_line, reply_of}
-use Rattle.scripts.specs.Sides.{acting_side}
+use Rattle.scripts.specs.Sides.{acting_side, deed_side}
 use Rattle.duet.specs.Stops.{cut_event, cut_of, stopped_on}
 use Rattle.scripts.specs.declared.lined.Stop.{Stop}
 use Rattle.scripts.specs.declared.call.Call.{Call}
@@ -73,7 +78,7 @@ done_quiet s side n (Err refusal) = still_quiet s _ refl refl refl
 
 -- ---- a step that was cut off
 
-uncut : (k : Mechanism) (s before : Sides) (took : Bool) (made : Step Sides) (effect : Bool) → has_effect made.answer ≡ effect
+pub uncut : (k : Mechanism) (s before : Sides) (took : Bool) (made : Step Sides) (effect : Bool) → has_effect made.answer ≡ effect
     → has_effect (if effect then step Stopped (if took then made.next else before) else made).answer ≡ true → ⊥
 uncut k s before took made true e h = cc
 uncut k s before took made false e h = cc
@@ -148,12 +153,54 @@ adds_none : (s : Sides) (side : Side) (kept : Client) → AddsFew s (with_client
 adds_none s First kept = record { posts = omega arith; draws = omega arith }
 adds_none s Second kept = record { posts = omega arith; draws = omega arith }
 
-pub adds_few : (k : Mechanism) (s : Beside Sides) (deed : Deed) → AddsFew s.ends (deed_on k s deed).next.ends
-adds_few k s (acts event) = let step = shows k s.ends event in record { posts = step.posts; draws = step.draws }
-adds_few k s (stops n mode call) =
-    let step = shows k s.ends (stopped_on k s.ends n mode call) in
-    record { posts = step.posts; draws = step.draws }
-adds_few k s (syncs side lost) = adds_none s.ends side _
+event_adds : (k : Mechanism) (s : Sides) (event : Event) → AddsFew s (step_on k s event).next
+event_adds k s event = let step = shows k s event in record { posts = step.posts; draws = step.draws }
+
+failed_adds : (k : Mechanism) (s : SidesBeside) (event : Event) (left : Client) (fault : Option DiskCall)
+    → let made = step_on k s.ends event in
+    AddsFew s.ends (failed event s made (record s.ends { draws = made.next.draws }) left fault).next.ends
+failed_adds k s event left None = event_adds k s.ends event
+failed_adds k s event left (Some call) = record { posts = omega arith; draws = (shows k s.ends event).draws }
+
+-- the newest packet is one at most
+one_newest : (held : ℕ) (outbox : List Item) → length (drop (newest_from held (length outbox)) outbox) ≤ 1
+one_newest held outbox = by_test (nat_lt held (length outbox))
+  where
+    by_test : (b : Bool) → length (drop (if b then length outbox - 1 else length outbox) outbox) ≤ 1
+    by_test true = omega (arith, length-drop (length outbox - 1) outbox)
+    by_test false = omega (arith, length-drop (length outbox) outbox)
+
+gathers_adds : (s : Sides) (side : Side) (next : Client) → AddsFew s (gathers s side next)
+gathers_adds s First next =
+    let held = length s.first.outbox in
+    let more = drop (newest_from held (length next.outbox)) next.outbox in
+    record { posts = omega (arith, length-append s.posts more, one_newest held next.outbox); draws = omega arith }
+gathers_adds s Second next =
+    let held = length s.second.outbox in
+    let more = drop (newest_from held (length next.outbox)) next.outbox in
+    record { posts = omega (arith, length-append s.posts more, one_newest held next.outbox); draws = omega arith }
+
+opened_adds : (s : SidesBeside) (side : Side) (shut : Option (Shut Client))
+    → AddsFew s.ends (opened side s (gathers s.ends side) shut).next.ends
+opened_adds s side None = record { posts = omega arith; draws = omega arith }
+opened_adds s side (Some shut) = gathers_adds s.ends side shut.left
+
+freely_adds : (k : Mechanism) (s : SidesBeside) (deed : Deed) → AddsFew s.ends (freely_on k s deed).next.ends
+freely_adds k s (acts event) = event_adds k s.ends event
+freely_adds k s (stops n mode call) = event_adds k s.ends (stopped_on k s.ends n mode call)
+freely_adds k s (fails n call) =
+    let made = step_on k s.ends call in
+    let before = client_of s.ends (acting_side call) in
+    let after = client_of made.next (acting_side call) in
+    failed_adds k s call (left_of n before after after before) (failing_call n made.answer before after)
+freely_adds k s (reopens side) = opened_adds s side (shut_of s.shuts side)
+freely_adds k s (syncs side lost) = adds_none s.ends side _
+
+pub adds_few : (k : Mechanism) (s : SidesBeside) (deed : Deed) → AddsFew s.ends (deed_on k s deed).next.ends
+unfolding deed_on
+adds_few k s deed =
+    barred_or (λ (made : SidesPlayed). AddsFew s.ends made.next.ends) (deed_side deed) s (freely_on k s deed)
+    (barring s.shuts deed) (freely_adds k s deed) (λ call. record { posts = omega arith; draws = omega arith })
 
 -- ---- a call in which a disk stops shows no text
 
@@ -174,10 +221,23 @@ cut_shows_none : (t : Sides) (cut : Option Bool) (side : Side) (call : Call)
 cut_shows_none t None side call = call_shows_none t side call
 cut_shows_none t (Some replaced) side call = call_shows_none t side call
 
-cut_acting : (cut : Option Bool) (event : Event)
+pub cut_acting : (cut : Option Bool) (event : Event)
     → acting_side (cut_event cut event) ≡ acting_side event
 cut_acting None event = refl
 cut_acting (Some replaced) event = refl
+
+-- the reply of a call is its line
+pub call_reply : (k : Mechanism) (s : Sides) (side : Side) (call : Call) (answer : Answer)
+    → answer ≡ (step_on k s (call_event side call)).answer
+    → reply_line side answer ≡ reply_of (call_event side call) (step_on k s (call_event side call))
+unfolding reply_of
+call_reply k s side call answer is =
+    let event = call_event side call in
+    let made = step_on k s event in
+    let none : made.entries ≡ [] = sym (shown-entries k s event) ∙ call_shows_none made.next side call in
+    let line = reply_line (acting_side event) made.answer in
+    ap₂ reply_line (sym (acting_call side call)) is ∙ sym (append-nil line)
+    ∙ ap (λ entries. line ++ flat_map (entry_line (acting_side event)) entries) (sym none)
 
 -- so its reply is its line
 pub stop_reply : (k : Mechanism) (s : Sides) (stop : Stop) (answer : Answer)

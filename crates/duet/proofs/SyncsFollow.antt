@@ -1,6 +1,7 @@
 -- A sync of a side, and the same in the world that both sides stand for.
 use Rattle.std.proofs.Common.{◌≡◌, ℕ, List, [], ◌++◌, Option, Result, Ok, Err, refl, sym, ◌∙◌, ap, ap₂}
 use Rattle.dr_model.proofs.Acting.Keeping.{own_client}
+use Rattle.dr_base.specs.Position.{peer_of}
 use Rattle.dr_base.specs.declared.position.Side.{Side}
 use Rattle.dr_base.specs.declared.position.Side.TheVariants.{First, Second}
 use Rattle.dr_model.specs.Machines.Acts.{Act, act_in, act_on, event_of, sending, sent_by, taken_by, taking}
@@ -27,9 +28,10 @@ use Rattle.sync_model.specs.Transfers.{Meeting, begins}
 use Rattle.sync_model.proofs.Scenes.{scenes_alike}
 use Rattle.client.specs.Syncing.Lines.{answer_line, own_box, peers_box}
 use Rattle.client.specs.Syncing.Parties.{client_party, is_inbox_full, waiting, world_party}
-use Rattle.duet.specs.Outcomes.{Played, ending_line, closing_line, sync_lines, synced_on}
-use Rattle.duet.specs.Held.{on_side}
+use Rattle.duet.specs.Outcomes.{SidesPlayed, ending_line, closing_line, sync_lines, synced_on}
+use Rattle.duet.specs.Gathering.{on_side}
 use Rattle.scripts.specs.Sides.{side_text}
+use Rattle.duet.specs.Shuts.{Shuts}
 use Rattle.duet.proofs.Gathering.{same_client}
 
 -- ---- one side among both
@@ -37,6 +39,10 @@ use Rattle.duet.proofs.Gathering.{same_client}
 given_twice : (s : Sides) (side : Side) (one other : Client) → with_client (with_client s side one) side other ≡ with_client s side other
 given_twice s First one other = refl
 given_twice s Second one other = refl
+
+other_client : (s : Sides) (side : Side) (kept : Client) → client_of (with_client s side kept) (peer_of side) ≡ client_of s (peer_of side)
+other_client s First kept = refl
+other_client s Second kept = refl
 
 -- what a side takes or sends is its own step
 abbrev IsOwn : Mechanism → Side → Act → Type 0
@@ -134,7 +140,7 @@ module _ (k : Mechanism) (law : IsLawfulMechanism k) (side : Side) (start : Worl
     };
   }
 
-  module _ (lawful : IsLawfulWorld k start) (lost : Option ℕ) (boxes : List Box) (fair : MeetsFairly theirs Fair (kept_before lost) (begins theirs start boxes)) where
+  module _ (lawful : IsLawfulWorld k start) (lost : Option ℕ) (boxes : List Box) (fair : MeetsFairly theirs Fair (kept_before lost) (begins theirs start boxes)) (shuts : Shuts Client) where
     same_scene : IsSameScene (IsOnWay k side start) (scene mine (kept_before lost) first boxes) (scene theirs (kept_before lost) start boxes)
     same_scene =
         scenes_alike mine theirs (IsOnWay k side start) Fair are first start
@@ -153,13 +159,22 @@ module _ (k : Mechanism) (law : IsLawfulMechanism k) (side : Side) (start : Worl
     same_last (acking n number) = refl
     same_last (posting which) = refl
 
-    abbrev played_by : List ℕ → Sides → List Box → Played Sides
-    played_by lines ends after = record { answers = []; lines = lines; next = record { ends = ends; boxes = after } }
+    -- the other side keeps what it kept
+    pub sync_leaves : kept_in k (scene theirs (kept_before lost) start boxes).course.state (peer_of side) ≡ kept_in k start (peer_of side)
+    sync_leaves =
+        let kept = (scene mine (kept_before lost) first boxes).course.state in
+        sym (client_of-kept k (scene theirs (kept_before lost) start boxes).course.state (peer_of side))
+        ∙ ap (λ (s : Sides). client_of s (peer_of side)) same_scene.course.state.stands
+        ∙ other_client (sides_of k start) side kept
+        ∙ client_of-kept k start (peer_of side)
+
+    abbrev played_by : List ℕ → Sides → List Box → SidesPlayed
+    played_by lines ends after = record { answers = []; lines = lines; next = record { ends = ends; boxes = after; shuts = shuts } }
 
     abbrev came : Meeting World
     came = scene theirs (kept_before lost) start boxes
 
-    pub sync_follows : synced_on k (record { ends = sides_of k start; boxes = boxes }) side lost ≡ played_by (sync_lines theirs side came) (sides_of k came.course.state) came.boxes
+    pub sync_follows : synced_on k (record { ends = sides_of k start; boxes = boxes; shuts = shuts }) side lost ≡ played_by (sync_lines theirs side came) (sides_of k came.course.state) came.boxes
     sync_follows =
         let same = same_scene in
         let lines : sync_lines mine side (scene mine (kept_before lost) first boxes) ≡ sync_lines theirs side came =

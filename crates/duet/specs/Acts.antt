@@ -17,7 +17,8 @@ use Rattle.client.specs.Outcomes.{Outcome, acknowledged, faulted, is_closed, ref
 use Rattle.scripts.specs.Seen.{bytes_of_hex}
 use Rattle.scripts.specs.declared.call.Source.{Source}
 use Rattle.scripts.specs.declared.call.Source.TheVariants.{At, Bytes, Flipped, Nth}
-use Rattle.duet.specs.Held.{DuetNow, gathering, on_side, with_draws}
+use Rattle.duet.specs.Gathering.{gathering, on_side}
+use Rattle.duet.specs.Held.{DuetNow, with_draws}
 use Rattle.duet.specs.declared.acts.Act.{Act}
 use Rattle.duet.specs.declared.acts.Act.TheVariants.{Done, Say, Sent, Take}
 use Rattle.duet.specs.declared.acts.Ended.{Ended}
@@ -48,11 +49,11 @@ acted_by k s side act = let c = client_of s side in gathering s side (settled c 
 -- ---- from a call to an act
 
 -- the packet that a side takes, if the network has it to give
-abbrev pub packet_in : List Item → Side → Source → Option (List ℕ)
-packet_in posts side (At p) = held_at posts p
-packet_in posts side (Nth nth) = held_nth posts side nth
-packet_in posts side (Flipped p bit) = flipped_at posts p bit
-packet_in posts side (Bytes hex) = Some (bytes_of_hex hex.now)
+abbrev pub packet_given : List Item → Side → Source → Option (List ℕ)
+packet_given posts side (At p) = held_at posts p
+packet_given posts side (Nth nth) = held_nth posts side nth
+packet_given posts side (Flipped p bit) = flipped_at posts p bit
+packet_given posts side (Bytes hex) = Some (bytes_of_hex hex.now)
 
 -- an event comes to an act of its side, or to an answer without one
 abbrev pub ComesTo : Mechanism → Sides → Sides → Side → Event → Result Act Answer → Type 0

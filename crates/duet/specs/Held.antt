@@ -1,31 +1,34 @@
 -- Both sides, as the code holds them.
-use Rattle.std.specs.Prelude.{ℕ, List, [], None, drop, length, ◌++◌}
+use Rattle.std.specs.Prelude.{ℕ, List, [], None}
 use Rattle.dr_base.specs.declared.position.Side.{Side}
 use Rattle.dr_base.specs.declared.position.Side.TheVariants.{First, Second}
 use Rattle.relay_core.specs.Boxes.{Box}
 use Rattle.boxes.specs.Items.{Item}
 use Rattle.session_model.specs.Clients.{Client}
-use Rattle.dr_model.specs.Machines.Sides.{Sides, client_of, step_on, with_client}
+use Rattle.dr_model.specs.Machines.Sides.{Sides, client_of, step_on}
 use Rattle.dr_model.specs.Machines.Steps.{Step}
 use Rattle.dr_model.specs.Machines.Draws.{Draws}
 use Rattle.dr_model.specs.Machines.Events.{Event, cuts, shows_inbox}
 use Rattle.session_model.specs.States.{opening_state}
 use Rattle.kem_laws.specs.Mechanism.{Mechanism}
-use Rattle.duet.specs.Outcomes.{Beside, Played, opening_boxes}
+use Rattle.duet.specs.Outcomes.{SidesBeside, SidesPlayed, opening_boxes}
+use Rattle.duet.specs.Shuts.{PartyNow, Shuts, open_party}
 
 -- a side at the beginning of a conversation
 abbrev pub opening_client : Mechanism → List ℕ → Side → Client
 opening_client k key side = record { state = opening_state k key side; inbox = []; outbox = [] }
 
--- the sides, the boxes of their relay, and how many packets the network has room for
+-- the sides, what was left of those that are closed, the boxes of their relay, and how many packets the network has room for
 pub record DuetNow : Type 0 where
   pub sides : Sides
+  pub shuts : Shuts Client
   pub boxes : List Box
   pub room : ℕ
 
-abbrev pub duet_now : List ℕ → Client → Client → List Item → Draws → List Box → ℕ → DuetNow
+abbrev pub duet_now : List ℕ → PartyNow → PartyNow → List Item → Draws → List Box → ℕ → DuetNow
 duet_now key first second posts draws boxes room = record {
-  sides = record { key = key; first = first; second = second; posts = posts; draws = draws };
+  sides = record { key = key; first = first.kept; second = second.kept; posts = posts; draws = draws };
+  shuts = record { first = first.shut; second = second.shut };
   boxes = boxes;
   room = room;
 }
@@ -34,42 +37,27 @@ duet_now key first second posts draws boxes room = record {
 abbrev pub opening_duet : Mechanism → List ℕ → ℕ → DuetNow
 opening_duet k key room =
     let first = opening_client k key First in
-    duet_now key first (opening_client k key Second) [] (record { made = 0; given = None }) (opening_boxes first) room
+    duet_now key (open_party first) (open_party (opening_client k key Second)) [] (record { made = 0; given = None })
+    (opening_boxes first) room
 
--- both sides and the boxes
-abbrev pub beside : DuetNow → Beside Sides
-beside duet = record { ends = duet.sides; boxes = duet.boxes }
+-- both sides, and what stands beside them
+abbrev pub beside : DuetNow → SidesBeside
+beside duet = record { ends = duet.sides; boxes = duet.boxes; shuts = duet.shuts }
 
 -- what is held after a deed
-abbrev pub after_deed : DuetNow → Played Sides → DuetNow
-after_deed duet played = record duet { sides = played.next.ends; boxes = played.next.boxes }
+abbrev pub after_deed : DuetNow → SidesPlayed → DuetNow
+after_deed duet played = record duet { sides = played.next.ends; boxes = played.next.boxes; shuts = played.next.shuts }
 
 -- what is held after a step
-abbrev pub after : DuetNow → Step Sides → DuetNow
-after duet made = record duet { sides = made.next }
-
--- a step of one side, among both
-abbrev pub on_side : Sides → Side → Step Client → Step Sides
-on_side s side made = record { answer = made.answer; entries = made.entries; next = with_client s side made.next }
-
--- the network gets what stands after this many packets of a side's outbox
-abbrev pub gathered : ℕ → Side → Sides → Sides
-gathered held side s = record s { posts = s.posts ++ drop held (client_of s side).outbox }
-
--- a step of one side where the network gets what it adds to the outbox
-abbrev pub gathering : Sides → Side → Step Client → Step Sides
-gathering s side made = record {
-  answer = made.answer;
-  entries = made.entries;
-  next = gathered (length (client_of s side).outbox) side (with_client s side made.next);
-}
+abbrev pub after_step : DuetNow → Step Sides → DuetNow
+after_step duet made = record duet { sides = made.next }
 
 -- other draws
 abbrev pub with_draws : DuetNow → Draws → DuetNow
 with_draws duet draws = record duet { sides = record duet.sides { draws = draws } }
 
 abbrev pub stepped : Mechanism → DuetNow → Event → DuetNow
-stepped k duet event = after duet (step_on k duet.sides event)
+stepped k duet event = after_step duet (step_on k duet.sides event)
 
 -- the texts that an event shows
 abbrev pub shown : Event → Sides → List Item

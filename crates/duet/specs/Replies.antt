@@ -1,6 +1,8 @@
 -- The lines of a trace: one for each event, and after an inbox one for each of its texts; and one of a sync that broke off.
-use Rattle.std.specs.Prelude.{ℕ, List, [], ◌++◌, flat_map, codes}
+use Rattle.std.specs.Prelude.{Bool, false, true, ℕ, List, [], ◌++◌, flat_map, codes}
 use Rattle.dr_base.specs.declared.position.Side.{Side}
+use Rattle.dr_disk.specs.declared.call.Call.{Call}
+use Rattle.dr_disk.specs.declared.call.Call.TheVariants.{Read, Sync, Write}
 use Rattle.boxes.specs.Items.{Item}
 use Rattle.client.specs.declared.syncing.faults.SyncFault.{SyncFault}
 use Rattle.client.specs.declared.syncing.faults.SyncFault.TheVariants.{Link, Refused}
@@ -25,6 +27,25 @@ entry_line side item = text_line (side_text side) item
 -- what an event is answered with, in lines
 unfoldable pub reply_of : {S : Type 0} → Event → Step S → List ℕ
 reply_of event step = reply_line (acting_side event) step.answer ++ flat_map (entry_line (acting_side event)) step.entries
+
+-- ---- a call on a side's disk that fails
+
+abbrev pub call_text : Call → List ℕ
+call_text Read = codes "read"
+call_text Write = codes "write"
+call_text Sync = codes "sync"
+
+-- one of this kind failed; before this line, and now
+unfoldable pub failed_line : Side → Call → List ℕ
+failed_line side call = side_text side ++ codes "fault " ++ call_text call ++ codes "\n"
+
+unfoldable pub closed_line : Side → Call → List ℕ
+closed_line side call = side_text side ++ codes "closed " ++ call_text call ++ codes "\n"
+
+-- what an opening is answered with: whether the client was closed
+unfoldable pub open_line : Side → Bool → List ℕ
+open_line side true = side_text side ++ codes "ready\n"
+open_line side false = side_text side ++ codes "nothing\n"
 
 -- what is said of a sync that broke off
 abbrev pub fault_text : SyncFault → List ℕ

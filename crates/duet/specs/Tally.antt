@@ -43,7 +43,7 @@ counted_all side [] t = t
 counted_all side (answer ∷ answers) t = counted_all side answers (counted_of side answer t)
 
 -- the answers to deeds, each done from what stands; a sync is told by its own lines, and counts none
-unfoldable pub counted_by : {S : Type 0} → (Beside S → Deed → Played S) → Beside S → Tally → List Deed → Tally
+unfoldable pub counted_by : {S L : Type 0} → (Beside S L → Deed → Played S L) → Beside S L → Tally → List Deed → Tally
 counted_by act s t [] = t
 counted_by act s t (deed ∷ deeds) =
     counted_by act (act s deed).next (counted_all (deed_side deed) (act s deed).answers t) deeds

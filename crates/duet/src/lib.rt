@@ -8,7 +8,10 @@ pub use tally::{SideTally, Tally};
 
 mod acts;
 mod amount;
+mod deeds;
 mod draws;
+mod failing;
+mod fails;
 mod given;
 mod laws;
 mod meeting;
@@ -24,3 +27,4 @@ mod stops;
 mod summary;
 mod syncing;
 mod tally;
+mod telling;

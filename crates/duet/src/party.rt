@@ -1,6 +1,6 @@
 //! One side: a client, and the disk that it is kept on.
 
-ghost use Rattle.std.specs.Prelude.{◌≡◌, ◌≤◌, ◌↔◌, ◌<◌, ◌-◌, length, Some, IfOk, IfSome, IsNone, IsSome, IsErrOf, option_map, slice_get};
+ghost use Rattle.std.specs.Prelude.{◌≡◌, ◌≤◌, ◌↔◌, ◌<◌, ◌-◌, length, None, Some, IfOk, IfSome, IsNone, IsSome, IsErrOf, option_map, slice_get};
 ghost use Rattle.boxes.specs.Seen.{entry_item};
 ghost use Rattle.session_model.specs.Clients.{say_check, summary_of};
 ghost use Rattle.dr_model.specs.Machines.Steps.{settled, step};
@@ -8,6 +8,7 @@ ghost use Rattle.session_model.specs.Schedule.{agreement_seed};
 ghost use Rattle.duet.specs.Acts.{IsChecked, made_by};
 ghost use Rattle.duet.specs.Held.{opening_client};
 ghost use Rattle.duet.specs.Parties.{IsFirstRefusal};
+ghost use Rattle.duet.specs.Shuts.{open_party};
 ghost use Rattle.client.specs.Syncing.Lines.{own_box, peers_box};
 ghost use Rattle.client.specs.declared.refusals.BeginRefusal.TheVariants.{NoPair as NoFirstPair};
 
@@ -16,7 +17,7 @@ use crate::post::Post;
 use boxes::Entry;
 use client::{AREA_SIZE, BeginRefusal, Client, Names};
 use dr_base::{Key32, Side, TEXT_LIMIT};
-use dr_disk::MemoryDisk;
+use dr_disk::{Call, MemoryDisk};
 use kem_laws::Kem;
 use session_model::{Answer, Refusal, Summary};
 use std::alloc::Global;
@@ -25,23 +26,28 @@ use std::marker::Model;
 /// The size of a side's disk, in bytes: the area of a client.
 const DISK_SIZE: u64 = AREA_SIZE;
 
-/// A side of a conversation: a client that is open, on a disk in memory whose calls all pass. A
-/// contract sees what the client keeps.
+/// A side of a conversation: a client on a disk in memory whose calls all pass. It is open, or was
+/// closed by a call that failed. A contract sees what the client keeps, and what that call left.
 #[derive(Drop)]
 pub struct Party<K: Kem> {
     pub(crate) client: Client<K>,
     pub(crate) disk: MemoryDisk,
+    /// The kind of the call that closed the client.
+    pub(crate) shut: Option<Call>,
 }
 
 impl<K: Kem> Model for Party<K> {
-    ghost use Rattle.session_model.specs.Clients.{Client as Keeping};
-    ghost use Rattle.duet.specs.Parties.{IsHeld};
+    ghost use Rattle.duet.specs.Parties.{IsParty, shut_by};
+    ghost use Rattle.duet.specs.Shuts.{PartyNow};
 
-    ghost Value = { Keeping };
+    ghost Value = { PartyNow };
 
-    ghost view = { λ p. p.client.kept };
+    ghost view = { λ p. record {
+      kept = p.client.kept;
+      shut = shut_by K.mechanism p.client.kept p.disk p.shut;
+    } };
 
-    ghost invariant = { λ p. IsHeld p.client p.disk };
+    ghost invariant = { λ p. IsParty K.mechanism p.client p.disk p.shut };
 }
 
 /// Why a side couldn't begin.
@@ -69,7 +75,7 @@ impl<K: Kem> Party<K> {
     /// A side at the beginning of a conversation, on a disk of its own. It takes all its memory
     /// here.
     pub fn begin(alloc: Global, side: Side, key: &Key32) -> Result<Self, BeginError>
-        ensures ok { IfOk result (λ p. p ≡ opening_client K.mechanism key.now.bytes side) }
+        ensures ok { IfOk result (λ p. p ≡ open_party (opening_client K.mechanism key.now.bytes side)) }
         ensures pair { IfOk result
             (λ _. IsSome (K.mechanism.meaning.pair_of (agreement_seed key.now.bytes))) }
         ensures none { IsErrOf result BeginError.NoPair
@@ -79,30 +85,34 @@ impl<K: Kem> Party<K> {
             return Err(BeginError::Memory);
         };
         match Client::begin(alloc, &mut disk, side, key) {
-            Ok(client) => Ok(Party { client, disk }),
+            Ok(client) => Ok(Party {
+                client,
+                disk,
+                shut: None,
+            }),
             Err(refusal) => Err(begin_error(refusal)),
         }
     }
 
     /// The names of its boxes at a relay.
     pub fn names(&self) -> Names
-        ensures own { result.own ≡ own_box self.now }
-        ensures peers { result.peers ≡ peers_box self.now }
+        ensures own { result.own ≡ own_box self.now.kept }
+        ensures peers { result.peers ≡ peers_box self.now.kept }
     {
         self.client.names()
     }
 
     /// How many texts stand.
     pub fn inbox_len(&self) -> u32
-        ensures { result ≡ length self.now.inbox }
+        ensures { result ≡ length self.now.kept.inbox }
     {
         self.client.state().inbox
     }
 
     /// The text at a place, from 0, the oldest first.
     pub fn inbox_at(&self, at: usize) -> Option<Entry<'_>>
-        ensures variant { IsSome result ↔ (at < length self.now.inbox) }
-        ensures entry { option_map entry_item result ≡ slice_get self.now.inbox at }
+        ensures variant { IsSome result ↔ (at < length self.now.kept.inbox) }
+        ensures entry { option_map entry_item result ≡ slice_get self.now.kept.inbox at }
         ensures fits { IfSome result (λ entry. length entry.text.now ≤ TEXT_LIMIT) }
     {
         self.client.inbox(at)
@@ -110,8 +120,8 @@ impl<K: Kem> Party<K> {
 
     /// The packet that was put into the outbox last.
     pub fn newest(&self) -> Post
-        requires { 0 < length self.now.outbox }
-        ensures { slice_get self.now.outbox (length self.now.outbox - 1) ≡ Some result }
+        requires { 0 < length self.now.kept.outbox }
+        ensures { slice_get self.now.kept.outbox (length self.now.kept.outbox - 1) ≡ Some result }
     {
         let last = self.client.state().outbox as usize - 1;
         match self.client.outbox(last) {
@@ -122,22 +132,33 @@ impl<K: Kem> Party<K> {
 
     /// What the side holds, in numbers.
     pub fn summary(&self) -> Summary
-        ensures { result ≡ summary_of self.now }
+        ensures { result ≡ summary_of self.now.kept }
     {
         self.client.state()
     }
 
     /// Whether a text of this length may be said, and then whether that needs a seed.
     pub fn say_check(&self, len: usize) -> Result<bool, Refusal>
-        ensures { result ≡ say_check self.now len }
+        ensures { result ≡ say_check self.now.kept len }
     {
         self.client.say_check(len)
     }
 
-    /// Does an act. A refusal leaves all as it was.
+    /// The kind of the call that closed its client, if it is closed.
+    #[tactic(auto, using(crate::proofs::Closed::call_left))]
+    pub fn closed_by(&self) -> Option<Call>
+        ensures { result ≡ option_map (λ shut. shut.call) self.now.shut }
+    {
+        self.shut
+    }
+
+    /// Does an act on its client, which is open. A refusal leaves all as it was.
     pub fn act(&mut self, act: Act<'_>) -> Answer
-        requires { IsChecked self.old act }
-        ensures { step result self.new ≡ settled self.old (made_by K.mechanism self.old act.entry) }
+        requires open { self.old.shut ≡ None }
+        requires checked { IsChecked self.old.kept act }
+        ensures made { step result self.new.kept
+            ≡ settled self.old.kept (made_by K.mechanism self.old.kept act.entry) }
+        ensures open { self.new.shut ≡ None }
     {
         match perform(&mut self.client, &mut self.disk, act) {
             Ended::Acknowledged(answer) => answer,

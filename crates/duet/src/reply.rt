@@ -1,10 +1,11 @@
 //! The lines of a trace.
 
-ghost use Rattle.std.specs.Prelude.{◌≡◌};
-ghost use Rattle.duet.specs.Replies.{reply_line};
+ghost use Rattle.std.specs.Prelude.{◌≡◌, ◌≤◌, length};
+ghost use Rattle.duet.specs.Replies.{call_text, closed_line, failed_line, open_line, reply_line};
 
 use answer_lines::put_answer;
 use dr_base::Side;
+use dr_disk::Call;
 use dr_ports::OutputLine;
 use scripts::side_name;
 use session_model::Answer;
@@ -21,5 +22,58 @@ pub fn reply(side: Side, answer: Answer) -> OutputLine
     line.text(side_name(side));
     put_answer(&mut line, answer);
     line.text(b"\n");
+    line
+}
+
+/// A kind of call.
+fn call_text(call: Call) -> &'static [u8]
+    ensures text { result.now ≡ call_text call }
+    ensures short { length result.now ≤ 5 }
+{
+    match call {
+        Call::Read => b"read",
+        Call::Write => b"write",
+        Call::Sync => b"sync",
+    }
+}
+
+/// The line that a call of this kind has failed.
+#[tactic(auto, unfolding(crate::specs::Replies::failed_line))]
+pub fn failed_line(side: Side, call: Call) -> OutputLine
+    ensures { result ≡ failed_line side call }
+{
+    let mut line = OutputLine::new();
+    line.text(side_name(side));
+    line.text(b"fault ");
+    line.text(call_text(call));
+    line.text(b"\n");
+    line
+}
+
+/// The line that one of this kind has closed the client.
+#[tactic(auto, unfolding(crate::specs::Replies::closed_line))]
+pub fn closed_line(side: Side, call: Call) -> OutputLine
+    ensures { result ≡ closed_line side call }
+{
+    let mut line = OutputLine::new();
+    line.text(side_name(side));
+    line.text(b"closed ");
+    line.text(call_text(call));
+    line.text(b"\n");
+    line
+}
+
+/// The line of an opening, by whether the client was closed.
+#[tactic(auto, unfolding(crate::specs::Replies::open_line))]
+pub fn open_line(side: Side, was_closed: bool) -> OutputLine
+    ensures { result ≡ open_line side was_closed }
+{
+    let mut line = OutputLine::new();
+    line.text(side_name(side));
+    if was_closed {
+        line.text(b"ready\n");
+    } else {
+        line.text(b"nothing\n");
+    }
     line
 }

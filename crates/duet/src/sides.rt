@@ -1,11 +1,14 @@
 //! Both sides of a conversation, with the network between them.
 
-ghost use Rattle.std.specs.Prelude.{◌≡◌, ◌+◌, ◌-◌, ◌^◌, ◌<◌, ◌≤◌, length, IfOk, IsErrOf, IsNone, IsSome};
+ghost use Rattle.std.specs.Prelude.{◌≡◌, ◌+◌, ◌-◌, ◌^◌, ◌<◌, ◌≤◌, length, None, true, IfOk, IsErrOf, IsNone, IsSome};
 ghost use Rattle.dr_model.specs.Machines.Sides.{client_of, step_on};
 ghost use Rattle.session_model.specs.Schedule.{agreement_seed};
 ghost use Rattle.duet.specs.Acts.{IsChecked, acted_by, alone_by};
-ghost use Rattle.duet.specs.Held.{after, gathered, opening_duet, stepped};
+ghost use Rattle.duet.specs.Gathering.{gathered};
+ghost use Rattle.duet.specs.Held.{after_step, opening_duet, stepped};
+ghost use Rattle.duet.specs.Shuts.{asks_open, shut_of};
 ghost use Rattle.duet.specs.Tally.{both_reached};
+ghost use Rattle.scripts.specs.Sides.{acting_side};
 
 use crate::acts::Act;
 use crate::draws::Draws;
@@ -85,7 +88,8 @@ impl<K: Kem> Duet<K> {
 
     /// A side.
     pub fn party(&self, side: Side) -> &Party<K>
-        ensures { result.now ≡ client_of self.now.sides side }
+        ensures kept { result.now.kept ≡ client_of self.now.sides side }
+        ensures shut { result.now.shut ≡ shut_of self.now.shuts side }
     {
         match side {
             Side::First => &self.first,
@@ -95,10 +99,11 @@ impl<K: Kem> Duet<K> {
 
     /// A side does an act.
     fn act_by(&mut self, side: Side, act: Act<'_>) -> Answer
-        requires { IsChecked (client_of self.old.sides side) act }
+        requires open { shut_of self.old.shuts side ≡ None }
+        requires checked { IsChecked (client_of self.old.sides side) act }
         ensures answer { result ≡ (alone_by K.mechanism self.old.sides side act.entry).answer }
         ensures next { let k = K.mechanism in
-            self.new ≡ after self.old (alone_by k self.old.sides side act.entry) }
+            self.new ≡ after_step self.old (alone_by k self.old.sides side act.entry) }
     {
         match side {
             Side::First => self.first.act(act),
@@ -122,10 +127,11 @@ impl<K: Kem> Duet<K> {
     /// A side does an act, and the network gets the packet that it adds to its outbox.
     fn act(&mut self, side: Side, act: Act<'_>) -> Answer
         requires room { length self.old.sides.posts < self.old.room }
+        requires open { shut_of self.old.shuts side ≡ None }
         requires checked { IsChecked (client_of self.old.sides side) act }
         ensures answer { result ≡ (acted_by K.mechanism self.old.sides side act.entry).answer }
         ensures next { let k = K.mechanism in
-            self.new ≡ after self.old (acted_by k self.old.sides side act.entry) }
+            self.new ≡ after_step self.old (acted_by k self.old.sides side act.entry) }
     {
         let held = self.party(side).summary().outbox;
         let answer = self.act_by(side, act);
@@ -137,6 +143,7 @@ impl<K: Kem> Duet<K> {
     fn call(&mut self, side: Side, call: Call<'_>) -> Answer
         requires room { length self.old.sides.posts < self.old.room }
         requires draws { self.old.sides.draws.made < 2 ^ 32 - 1 }
+        requires open { shut_of self.old.shuts side ≡ None }
         ensures answer { let k = K.mechanism in
             result ≡ (step_on k self.old.sides (call_event side call.entry)).answer }
         ensures next { let k = K.mechanism in
@@ -172,6 +179,8 @@ impl<K: Kem> Duet<K> {
     pub fn step(&mut self, line: &Line<'_>) -> Answer
         requires room { length self.old.sides.posts < self.old.room }
         requires draws { self.old.sides.draws.made < 2 ^ 32 - 1 }
+        requires open { asks_open (event_of line.now) ≡ true
+            → shut_of self.old.shuts (acting_side (event_of line.now)) ≡ None }
         ensures answer { let k = K.mechanism in
             result ≡ (step_on k self.old.sides (event_of line.now)).answer }
         ensures next { let k = K.mechanism in self.new ≡ stepped k self.old (event_of line.now) }

@@ -1,6 +1,6 @@
 //! A side whose disk stops in an act.
 
-ghost use Rattle.std.specs.Prelude.{◌≡◌, IfOk};
+ghost use Rattle.std.specs.Prelude.{◌≡◌, None, IfOk};
 ghost use Rattle.dr_disk.specs.MemoryDisks.{state_of};
 ghost use Rattle.dr_disk.specs.State.{Fate};
 ghost use Rattle.dr_model.specs.Machines.Steps.{settled, step};
@@ -11,6 +11,7 @@ ghost use Rattle.client.specs.Clients.{client_area};
 ghost use Rattle.duet.specs.Acts.{IsChecked, made_by};
 ghost use Rattle.client.specs.Opening.{ReadsClient};
 ghost use Rattle.duet.specs.Parties.{DiskHasRecord, IsWantOfMemory};
+ghost use Rattle.duet.specs.Shuts.{open_party};
 ghost use Rattle.duet.specs.Stops.{stopped_client};
 
 use crate::acts::{Act, Ended, perform};
@@ -34,17 +35,21 @@ fn want_of_memory(refusal: OpenRefusal) -> AllocError
 
 /// The side whose record a disk has, all of whose calls pass. It isn't refused: its only error is
 /// want of memory.
-fn reopened<K: Kem>(alloc: Global, disk: MemoryDisk) -> Result<Party<K>, AllocError>
+pub(crate) fn reopened<K: Kem>(alloc: Global, disk: MemoryDisk) -> Result<Party<K>, AllocError>
     requires within { HasArea client_area (state_of disk) }
     requires passes { (state_of disk).fate ≡ Fate.all_pass }
     requires holds { ReadsClient K.mechanism (state_of disk) }
     ensures { IfOk result (λ p. (kept : Keeping) → IsLawfulClient K.mechanism kept
-        → DiskHasRecord kept (state_of disk) → p ≡ kept) }
+        → DiskHasRecord kept (state_of disk) → p ≡ open_party kept) }
 {
     record_law();
     let mut disk = disk;
     match Client::open(alloc, &mut disk) {
-        Ok(client) => Ok(Party { client, disk }),
+        Ok(client) => Ok(Party {
+            client,
+            disk,
+            shut: None,
+        }),
         Err(refusal) => Err(want_of_memory(refusal)),
     }
 }
@@ -59,25 +64,43 @@ impl<K: Kem> Party<K> {
         mode: Mode,
         act: Act<'_>,
     ) -> Result<(Self, Answer), AllocError>
-        requires { IsChecked self act }
-        ensures { let made = settled self (made_by K.mechanism self act.entry) in
-            IfOk result (λ pair. step pair.1 pair.0 ≡ stopped_client after mode self made) }
+        requires open { self.shut ≡ None }
+        requires checked { IsChecked self.kept act }
+        ensures made { let made = settled self.kept (made_by K.mechanism self.kept act.entry) in
+            IfOk result (λ pair. step pair.1 pair.0.kept
+            ≡ stopped_client after mode self.kept made) }
+        ensures open { IfOk result (λ pair. pair.0.shut ≡ None) }
     {
         laws::<K>();
         let Party {
             mut client,
             mut disk,
+            ..
         } = self;
         client.lawful();
         disk.stop_after(after);
         match perform(&mut client, &mut disk, act) {
             Ended::Acknowledged(answer) => {
                 disk.go_on();
-                Ok((Party { client, disk }, answer))
+                Ok((
+                    Party {
+                        client,
+                        disk,
+                        shut: None,
+                    },
+                    answer,
+                ))
             }
             Ended::Refused(refusal) => {
                 disk.go_on();
-                Ok((Party { client, disk }, Answer::Refused(refusal)))
+                Ok((
+                    Party {
+                        client,
+                        disk,
+                        shut: None,
+                    },
+                    Answer::Refused(refusal),
+                ))
             }
             Ended::Faulted(_) => match reopened(alloc, disk.crash(mode)) {
                 Ok(party) => Ok((party, Answer::Stopped)),

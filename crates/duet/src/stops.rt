@@ -1,10 +1,12 @@
 //! Both sides, one of which has a disk that stops in a call.
 
-ghost use Rattle.std.specs.Prelude.{◌≡◌, ◌-◌, ◌^◌, ◌<◌, IfOk, length};
+ghost use Rattle.std.specs.Prelude.{◌≡◌, ◌-◌, ◌^◌, ◌<◌, None, IfOk, length};
 ghost use Rattle.dr_model.specs.Machines.Sides.{client_of, step_on};
 ghost use Rattle.dr_model.specs.Machines.Steps.{settled};
 ghost use Rattle.duet.specs.Acts.{IsChecked, made_by};
-ghost use Rattle.duet.specs.Held.{after, gathering, on_side, stepped};
+ghost use Rattle.duet.specs.Gathering.{gathering, on_side};
+ghost use Rattle.duet.specs.Held.{after_step, stepped};
+ghost use Rattle.duet.specs.Shuts.{shut_of};
 ghost use Rattle.duet.specs.Stops.{stopped_client, stopped_on};
 ghost use Rattle.scripts.specs.Seen.{call_event};
 
@@ -26,11 +28,12 @@ impl<K: Kem> Duet<K> {
         stops: (u32, Mode),
         act: Act<'_>,
     ) -> Result<(Self, Answer), AllocError>
-        requires { IsChecked (client_of self.sides side) act }
+        requires open { shut_of self.shuts side ≡ None }
+        requires checked { IsChecked (client_of self.sides side) act }
         ensures { let c = client_of self.sides side in
             let step = settled c (made_by K.mechanism c act.entry) in
             let made = on_side self.sides side (stopped_client stops.0 stops.1 c step) in
-            IfOk result (λ pair. (pair.1 ≡ made.answer) × (pair.0 ≡ after self made)) }
+            IfOk result (λ pair. (pair.1 ≡ made.answer) × (pair.0 ≡ after_step self made)) }
     {
         let Duet {
             key,
@@ -73,11 +76,12 @@ impl<K: Kem> Duet<K> {
         act: Act<'_>,
     ) -> Result<(Self, Answer), AllocError>
         requires room { length self.sides.posts < self.room }
+        requires open { shut_of self.shuts side ≡ None }
         requires checked { IsChecked (client_of self.sides side) act }
         ensures { let c = client_of self.sides side in
             let step = settled c (made_by K.mechanism c act.entry) in
             let made = gathering self.sides side (stopped_client stops.0 stops.1 c step) in
-            IfOk result (λ pair. (pair.1 ≡ made.answer) × (pair.0 ≡ after self made)) }
+            IfOk result (λ pair. (pair.1 ≡ made.answer) × (pair.0 ≡ after_step self made)) }
     {
         let held = self.party(side).summary().outbox;
         match self.stopped(alloc, side, stops, act) {
@@ -95,6 +99,7 @@ impl<K: Kem> Duet<K> {
     pub fn stop(self, alloc: Global, stop: &Stop<'_>) -> Result<(Self, Answer), AllocError>
         requires room { length self.sides.posts < self.room }
         requires draws { self.sides.draws.made < 2 ^ 32 - 1 }
+        requires open { shut_of self.shuts stop.now.side ≡ None }
         ensures { let k = K.mechanism in let call = call_event stop.now.side stop.now.call in
             let event = stopped_on k self.sides stop.now.after stop.now.mode call in
             IfOk result (λ pair. (pair.1 ≡ (step_on k self.sides event).answer)

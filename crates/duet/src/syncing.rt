@@ -1,12 +1,12 @@
 //! A side syncs with the relay that both sides have in memory.
 
-ghost use Rattle.std.specs.Prelude.{◌≡◌, OnOk};
+ghost use Rattle.std.specs.Prelude.{◌≡◌, None, OnOk};
 ghost use Rattle.dr_ports.specs.Writing.{Writes};
 ghost use Rattle.relay_link.specs.Connections.{boxes_now, kept_before};
 ghost use Rattle.sync_model.specs.Scenes.{scene};
 ghost use Rattle.client.specs.Syncing.Parties.{client_party};
-ghost use Rattle.duet.specs.Outcomes.{deed_on, sync_lines};
-ghost use Rattle.scripts.specs.Deeds.{syncs};
+ghost use Rattle.duet.specs.Outcomes.{sync_lines, synced_on};
+ghost use Rattle.duet.specs.Shuts.{shut_of};
 ghost use Rattle.duet.specs.Held.{after_deed, beside};
 ghost use Rattle.duet.specs.Meetings.{Tells};
 ghost use Rattle.duet.specs.Replies.{fault_text};
@@ -61,15 +61,18 @@ impl<K: Kem> Party<K> {
         side: Side,
         lost: Option<u32>,
     ) -> Result<(), Failed>
-        ensures writes { let p = client_party K.mechanism (side_text side) self.old in
+        requires open { self.old.shut ≡ None }
+        ensures writes { let p = client_party K.mechanism (side_text side) self.old.kept in
             Writes (O.at out.old) (O.at out.new)
-            (sync_lines p side (scene p (kept_before lost) self.old (boxes_now relay.old))) result }
-        ensures keeps { let p = client_party K.mechanism (side_text side) self.old in
-            OnOk result (self.new
-            ≡ (scene p (kept_before lost) self.old (boxes_now relay.old)).course.state) }
-        ensures boxes { let p = client_party K.mechanism (side_text side) self.old in
+            (sync_lines p side (scene p (kept_before lost) self.old.kept (boxes_now relay.old)))
+            result }
+        ensures keeps { let p = client_party K.mechanism (side_text side) self.old.kept in
+            OnOk result (self.new.kept
+            ≡ (scene p (kept_before lost) self.old.kept (boxes_now relay.old)).course.state) }
+        ensures open { self.new.shut ≡ None }
+        ensures boxes { let p = client_party K.mechanism (side_text side) self.old.kept in
             OnOk result (boxes_now relay.new
-            ≡ (scene p (kept_before lost) self.old (boxes_now relay.old)).boxes) }
+            ≡ (scene p (kept_before lost) self.old.kept (boxes_now relay.old)).boxes) }
     {
         match meet(
             &mut self.client,
@@ -94,11 +97,12 @@ impl<K: Kem> Duet<K> {
         side: Side,
         lost: Option<u32>,
     ) -> Result<(), Failed>
+        requires open { shut_of self.old.shuts side ≡ None }
         ensures writes { let k = K.mechanism in Writes (O.at out.old) (O.at out.new)
-            (deed_on k (beside self.old) (syncs side lost)).lines result }
+            (synced_on k (beside self.old) side lost).lines result }
         ensures next { let k = K.mechanism in
             OnOk result (self.new ≡ after_deed self.old
-            (deed_on k (beside self.old) (syncs side lost))) }
+            (synced_on k (beside self.old) side lost)) }
     {
         match side {
             Side::First => self.first.sync(&mut self.relay, out, side, lost),

@@ -4,6 +4,7 @@ pub mod FirstDraws
 pub mod Hex
 pub mod Making
 pub mod PrintedDeeds
+pub mod PrintedFails
 pub mod PrintedLines
 pub mod PrintedParts
 pub mod PrintedStops

@@ -1,15 +1,14 @@
 -- What any printed line is read as.
-use Rattle.std.proofs.Common.{◌≡◌, ℕ, ◌≤◌, List, ◌++◌, Option, Some, None, refl, ◌∙◌, ap, ap₂, arith}
-use Rattle.std.specs.Prelude.{nat_le, option_map}
+use Rattle.std.proofs.Common.{◌≡◌, ℕ, List, ◌++◌, Option, Some, None, refl, ◌∙◌, ap, ap₂}
+use Rattle.std.specs.Prelude.{option_map}
 use Rattle.std.specs.Option.{option_and_then, option_or}
-use Rattle.std.proofs.lemmas.Bool.Decides.{nat_tests}
-use Rattle.std.proofs.lemmas.Bool.{cond-true}
 use Rattle.dr_base.specs.declared.position.Side.{Side}
 use Rattle.dr_base.specs.declared.position.Side.TheVariants.{First, Second}
-use Rattle.scripts.specs.Deeds.{Deed, acts, stops, syncs}
+use Rattle.scripts.specs.Deeds.{Deed, acts, fails, reopens, stops, syncs}
 use Rattle.scripts.specs.Printed.{IsReply, IsSayable, event_text, line_text, sync_text}
 use Rattle.scripts.specs.Sides.{side_text}
-use Rattle.scripts.specs.Words.{after_prefix, bytes_words, done_words, flip_words, if_some_reply, line_read, look_words, lose_words, plain_read, say_words, seed_read, sent_words, side_words, stop_line_read, stop_words, sync_read, sync_words, take_words}
+use Rattle.scripts.specs.Words.{after_prefix, bytes_words, done_words, fail_line_read, fail_words, flip_words, if_counted, line_read, look_words, lose_words, open_line_read, open_words, plain_read, say_words, seed_read, sent_words, side_words, stop_line_read, stop_words, sync_read, sync_words, take_words}
+use Rattle.scripts.proofs.PrintedFails.{fail_line_back, open_line_back, some_counted}
 use Rattle.scripts.proofs.PrintedLines.{event_back}
 use Rattle.scripts.proofs.PrintedParts.{number_back}
 use Rattle.scripts.proofs.PrintedStops.{stop_line_back}
@@ -32,13 +31,25 @@ no_stop First (Some lost) = refl
 no_stop Second None = refl
 no_stop Second (Some lost) = refl
 
-some_reply : (n : ℕ) → 1 ≤ n → if_some_reply n ≡ Some n
-some_reply n some = cond-true (nat_le 1 n) (Some n) None (grind (arith, nat_tests))
+-- no failure's and no opening's
+no_fail : (side : Side) (lost : Option ℕ) → fail_line_read (side_text side ++ sync_text lost) ≡ None
+unfolding fail_line_read side_text sync_text after_prefix fail_words
+no_fail First None = refl
+no_fail First (Some lost) = refl
+no_fail Second None = refl
+no_fail Second (Some lost) = refl
+
+no_open : (side : Side) (lost : Option ℕ) → open_line_read (side_text side ++ sync_text lost) ≡ None
+unfolding open_line_read side_text sync_text after_prefix open_words
+no_open First None = refl
+no_open First (Some lost) = refl
+no_open Second None = refl
+no_open Second (Some lost) = refl
 
 words_synced : (lost : Option ℕ) → IsReply lost → sync_words (sync_text lost) ≡ Some lost
 unfolding sync_words sync_text lose_words after_prefix
 words_synced None h = refl
-words_synced (Some lost) h = ap (λ o. option_map Some (option_and_then if_some_reply o)) (number_back lost h.1) ∙ ap (option_map Some) (some_reply lost h.0)
+words_synced (Some lost) h = ap (λ o. option_map Some (option_and_then if_counted o)) (number_back lost h.1) ∙ ap (option_map Some) (some_counted lost h.0)
 
 of_sync : (side : Side) (words : List ℕ) (lost : Option ℕ) → sync_words words ≡ Some lost
     → sync_read (side_text side ++ words) ≡ Some (syncs side lost)
@@ -51,12 +62,19 @@ of_sync Second words lost h = ap (option_map (syncs Second)) h
 pub line_back : (deed : Deed) → IsSayable deed → line_read (line_text deed) ≡ Some deed
 unfolding line_read line_text
 line_back (acts event) h =
+    let line = event_text event in
     ap (λ o. option_or (option_map acts o)
-    (option_or (stop_line_read (event_text event)) (sync_read (event_text event))))
+    (option_or (stop_line_read line) (option_or (fail_line_read line) (option_or (open_line_read line) (sync_read line)))))
     (event_back event h)
 line_back (stops n mode call) h = stop_line_back n mode call h
+line_back (fails n call) h = fail_line_back n call h
+line_back (reopens side) h = open_line_back side
 line_back (syncs side lost) h =
-    ap₂ (λ a b. option_or (option_map acts a)
-    (option_or b (sync_read (side_text side ++ sync_text lost))))
+    let line = side_text side ++ sync_text lost in
+    let last : Option Deed → Option Deed = λ o. option_or o (sync_read line) in
+    let more : Option Deed → Option Deed = λ o. option_or o (last (open_line_read line)) in
+    ap₂ (λ a b. option_or (option_map acts a) (option_or b (more (fail_line_read line))))
     (no_event side lost) (no_stop side lost)
+    ∙ ap more (no_fail side lost)
+    ∙ ap last (no_open side lost)
     ∙ of_sync side (sync_text lost) lost (words_synced lost h)

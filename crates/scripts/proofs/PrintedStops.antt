@@ -14,7 +14,7 @@ use Rattle.dr_model.specs.Machines.Events.{Event, seeds, says, takes, takes_nth,
 use Rattle.scripts.specs.Deeds.{Deed, acts, stops}
 use Rattle.scripts.specs.Printed.{IsMode, IsSayable, line_text, mode_text, stop_text, words_text}
 use Rattle.scripts.specs.Sides.{acting_side, side_text}
-use Rattle.scripts.specs.Words.{after_prefix, bytes_words, call_words, crash_read, done_words, flip_words, halves_of, if_call, is_call, is_text, line_read, look_words, mode_read, plain_read, say_words, seed_read, sent_words, side_words, stop_line_read, stop_read, stop_words, sync_read, take_words}
+use Rattle.scripts.specs.Words.{after_prefix, bytes_words, call_words, crash_read, done_words, fail_line_read, flip_words, halves_of, if_call, is_call, is_text, line_read, look_words, mode_read, open_line_read, plain_read, say_words, seed_read, sent_words, side_words, stop_line_read, stop_read, stop_words, sync_read, take_words}
 use Rattle.scripts.proofs.PrintedLines.{IsOwn, spaced, words_back}
 use Rattle.scripts.proofs.PrintedParts.{Without, digits_of, digits_without, halves_back, number_back}
 
@@ -68,7 +68,7 @@ mode_back (Fill byte) h =
 
 -- ---- a stop
 
-call_back : (side : Side) (event : Event) (words : List ℕ) → is_call event ≡ true
+pub call_back : (side : Side) (event : Event) (words : List ℕ) → is_call event ≡ true
     → side_words side words ≡ Some event
     → call_words side words ≡ Some event
 unfolding call_words
@@ -124,7 +124,7 @@ of_stop First words deed h = ap (λ o. option_or o None) h
 of_stop Second words deed h = h
 
 -- a call is a side's
-call_own : (event : Event) → is_call event ≡ true → IsOwn event
+pub call_own : (event : Event) → is_call event ≡ true → IsOwn event
 call_own (seeds seed) h = cc
 call_own (says side text) h = tt
 call_own (takes side p) h = tt
@@ -143,9 +143,10 @@ unfolding line_read line_text
 stop_line_back n mode call h =
     let side = acting_side call in
     let words = words_text call in
+    let line = side_text side ++ stop_text n mode words in
     let said = call_back side call words h.2 (words_back call h.3 (call_own call h.2)) in
     let back = of_stop side (stop_text n mode words) (stops n mode call)
     (stop_back side n mode call words h.0 h.1 said) in
     ap₂ (λ a b. option_or (option_map acts a)
-    (option_or b (sync_read (side_text side ++ stop_text n mode words))))
+    (option_or b (option_or (fail_line_read line) (option_or (open_line_read line) (sync_read line)))))
     (no_event side n mode words) back

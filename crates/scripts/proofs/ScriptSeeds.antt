@@ -8,15 +8,19 @@ use Rattle.dr_base.specs.declared.position.Side.TheVariants.{First, Second}
 use Rattle.dr_disk.specs.declared.call.Mode.{Mode}
 use Rattle.dr_model.specs.Machines.Events.{Event}
 use Rattle.dr_model.specs.Theorems.Fairness.{IsSeedWhole}
-use Rattle.scripts.specs.Deeds.{Deed, acts, stops, syncs}
+use Rattle.scripts.specs.Deeds.{Deed, acts, fails, reopens, stops, syncs}
 use Rattle.scripts.specs.Script.{deeds_of, kem_read, key_read, keyed, after_kem, lines_of, or_bad, script_of, script_of_lines, scripted, Scripted, with_deed}
 use Rattle.scripts.specs.Deeds.{HasWholeSeed}
 use Rattle.scripts.specs.Number.{script_number_read}
-use Rattle.scripts.specs.Words.{after_prefix, call_words, crash_read, halves_of, if_call, is_call, line_read, mode_read, plain_read, side_words, stop_line_read, stop_read, stop_words, sync_read, sync_words}
+use Rattle.scripts.specs.Words.{after_prefix, call_words, crash_read, fail_line_read, fail_read, fail_words, halves_of, if_call, if_counted, is_call, is_text, line_read, mode_read, open_line_read, open_words, plain_read, sided, side_words, stop_line_read, stop_read, stop_words, sync_read, sync_words}
 use Rattle.scripts.specs.declared.script.KemName.{KemName}
 use Rattle.scripts.proofs.Seeds.{whole_plain, whole_words}
 
 -- ---- a stop
+
+whole_if : (b : Bool) (deed : Deed) → HasWholeSeed deed → IfSome (if b then Some deed else None) HasWholeSeed
+whole_if true deed h = h
+whole_if false deed h = tt
 
 whole_if_call : (b : Bool) (event : Event) → IsSeedWhole event
     → IfSome (if b then Some event else None) IsSeedWhole
@@ -52,6 +56,26 @@ whole_stop side words =
     (λ mode. whole_stops n mode (call_words side rest.1)
     (whole_call (side_words side rest.1) (whole_words side rest.1))))))
 
+-- ---- a failure, and an opening
+
+whole_fails : (n : ℕ) (o : Option Event) → IfSome o IsSeedWhole → IfSome (option_map (fails n) o) HasWholeSeed
+whole_fails n None h = tt
+whole_fails n (Some event) h = h
+
+whole_fail : (side : Side) (words : List ℕ) → IfSome (fail_words side words) HasWholeSeed
+unfolding fail_words call_words
+whole_fail side words =
+    whole_then (fail_read side)
+    (option_and_then (halves_of 32) (after_prefix (codes "fail ") words))
+    (λ halves. whole_then (λ n. option_map (fails n) (call_words side halves.1))
+    (option_and_then if_counted (script_number_read halves.0))
+    (λ n. whole_fails n (call_words side halves.1)
+    (whole_call (side_words side halves.1) (whole_words side halves.1))))
+
+whole_open : (side : Side) (words : List ℕ) → IfSome (open_words side words) HasWholeSeed
+unfolding open_words
+whole_open side words = whole_if (is_text (codes "open") words) (reopens side) tt
+
 -- ---- any line
 
 -- an event's, or another's
@@ -78,20 +102,37 @@ whole_sync line =
     (whole_syncs First (option_and_then sync_words (after_prefix (codes "first ") line)))
     (whole_syncs Second (option_and_then sync_words (after_prefix (codes "second ") line)))
 
+whole_sided : (words : Side → List ℕ → Option Deed)
+    → ((side : Side) (text : List ℕ) → IfSome (words side text) HasWholeSeed) → (line : List ℕ)
+    → IfSome (sided words line) HasWholeSeed
+whole_sided words whole line =
+    whole_or (option_and_then (words First) (after_prefix (codes "first ") line))
+    (option_and_then (words Second) (after_prefix (codes "second ") line))
+    (whole_then (words First) (after_prefix (codes "first ") line) (whole First))
+    (whole_then (words Second) (after_prefix (codes "second ") line) (whole Second))
+
 whole_stop_line : (line : List ℕ) → IfSome (stop_line_read line) HasWholeSeed
 unfolding stop_line_read
-whole_stop_line line =
-    whole_or (option_and_then (stop_words First) (after_prefix (codes "first ") line))
-    (option_and_then (stop_words Second) (after_prefix (codes "second ") line))
-    (whole_then (stop_words First) (after_prefix (codes "first ") line) (whole_stop First))
-    (whole_then (stop_words Second) (after_prefix (codes "second ") line) (whole_stop Second))
+whole_stop_line line = whole_sided stop_words whole_stop line
+
+whole_fail_line : (line : List ℕ) → IfSome (fail_line_read line) HasWholeSeed
+unfolding fail_line_read
+whole_fail_line line = whole_sided fail_words whole_fail line
+
+whole_open_line : (line : List ℕ) → IfSome (open_line_read line) HasWholeSeed
+unfolding open_line_read
+whole_open_line line = whole_sided open_words whole_open line
 
 whole_line : (line : List ℕ) → IfSome (line_read line) HasWholeSeed
 unfolding line_read
 whole_line line =
-    whole_deed (plain_read line) (option_or (stop_line_read line) (sync_read line))
+    let last = option_or (open_line_read line) (sync_read line) in
+    let more = option_or (fail_line_read line) last in
+    whole_deed (plain_read line) (option_or (stop_line_read line) more)
     (whole_plain line)
-    (whole_or (stop_line_read line) (sync_read line) (whole_stop_line line) (whole_sync line))
+    (whole_or (stop_line_read line) more (whole_stop_line line)
+    (whole_or (fail_line_read line) last (whole_fail_line line)
+    (whole_or (open_line_read line) (sync_read line) (whole_open_line line) (whole_sync line))))
 
 -- ---- a script
 

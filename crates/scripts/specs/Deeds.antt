@@ -1,5 +1,5 @@
--- What a line of a script says: an event of both sides, a call in which a disk stops, or a sync of a
--- side with the relay.
+-- What a line of a script says: an event of both sides, a call in which a disk stops or fails once, a client that opens again,
+-- or a sync of a side with the relay.
 use Rattle.std.specs.Prelude.{ℕ, Option, ⊤}
 use Rattle.dr_base.specs.declared.position.Side.{Side}
 use Rattle.dr_disk.specs.declared.call.Mode.{Mode}
@@ -10,6 +10,10 @@ pub data Deed : Type 0 where
   acts : Event → Deed
   -- the disk of a side stops once this many writes and syncs of its call have passed, and crashes so
   stops : ℕ → Mode → (call : Event) → Deed
+  -- the write or sync of this number, from 1, of a side's call fails
+  fails : ℕ → (call : Event) → Deed
+  -- the closed client of a side opens again
+  reopens : Side → Deed
   -- a side syncs with the relay; the reply to the request of this number, from 1, is lost, and the link fails there
   syncs : Side → Option ℕ → Deed
 
@@ -17,4 +21,6 @@ pub data Deed : Type 0 where
 abbrev pub HasWholeSeed : Deed → Type 0
 HasWholeSeed (acts event) = IsSeedWhole event
 HasWholeSeed (stops n mode call) = IsSeedWhole call
+HasWholeSeed (fails n call) = IsSeedWhole call
+HasWholeSeed (reopens side) = ⊤
 HasWholeSeed (syncs side lost) = ⊤

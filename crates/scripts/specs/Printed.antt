@@ -8,7 +8,7 @@ use Rattle.session_model.specs.declared.answer.Amount.{Amount}
 use Rattle.session_model.specs.declared.answer.Amount.TheVariants.{All, Exactly}
 use Rattle.dr_model.specs.Machines.Events.{Event, seeds, says, takes, takes_nth, flips, takes_bytes, drops_sent, drops_done, shows_inbox, shows_state, cuts}
 use Rattle.answer_lines.specs.Answers.{position_text}
-use Rattle.scripts.specs.Deeds.{Deed, acts, stops, syncs}
+use Rattle.scripts.specs.Deeds.{Deed, acts, fails, reopens, stops, syncs}
 use Rattle.scripts.specs.Sides.{acting_side, side_text}
 use Rattle.scripts.specs.Words.{is_call}
 use Rattle.scripts.specs.declared.hexed.TheConstants.{HEX_LIMIT}
@@ -48,6 +48,10 @@ unfoldable pub stop_text : ℕ → Mode → List ℕ → List ℕ
 stop_text n mode words =
     codes "stop " ++ (decimal n ++ codes " " ++ (mode_text mode ++ codes " " ++ words))
 
+-- a call in which the disk fails once
+unfoldable pub fail_text : ℕ → List ℕ → List ℕ
+fail_text n words = codes "fail " ++ (decimal n ++ codes " " ++ words)
+
 -- a sync, or one that loses a reply
 unfoldable pub sync_text : Option ℕ → List ℕ
 sync_text None = codes "sync"
@@ -57,6 +61,8 @@ sync_text (Some lost) = codes "lose " ++ decimal lost
 unfoldable pub line_text : Deed → List ℕ
 line_text (acts event) = event_text event
 line_text (stops n mode call) = side_text (acting_side call) ++ stop_text n mode (words_text call)
+line_text (fails n call) = side_text (acting_side call) ++ fail_text n (words_text call)
+line_text (reopens side) = side_text side ++ codes "open"
 line_text (syncs side lost) = side_text side ++ sync_text lost
 
 -- numbers below 2^32
@@ -87,16 +93,21 @@ abbrev pub IsMode : Mode → Type 0
 IsMode (Fill byte) = IsBytes (byte ∷ [])
 IsMode _ = ⊤
 
--- a lost reply has a number from 1, below 2^32 too
+-- what is counted has a number from 1, below 2^32 too
+abbrev pub CountsFromOne : ℕ → Type 0
+CountsFromOne n = (1 ≤ n) × (n < 2 ^ 32)
+
 abbrev pub IsReply : Option ℕ → Type 0
 IsReply None = ⊤
-IsReply (Some lost) = (1 ≤ lost) × (lost < 2 ^ 32)
+IsReply (Some lost) = CountsFromOne lost
 
--- a deed that a line can say: a disk stops in a call
+-- a deed that a line can say: a disk stops or fails in a call
 abbrev pub IsSayable : Deed → Type 0
 IsSayable (acts event) = IsSayableEvent event
 IsSayable (stops n mode call) =
     (n < 2 ^ 32) × IsMode mode × (is_call call ≡ true) × IsSayableEvent call
+IsSayable (fails n call) = CountsFromOne n × (is_call call ≡ true) × IsSayableEvent call
+IsSayable (reopens side) = ⊤
 IsSayable (syncs side lost) = IsReply lost
 
 -- deeds in lines

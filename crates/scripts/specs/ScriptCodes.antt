@@ -7,7 +7,7 @@ use Rattle.dr_disk.specs.declared.call.Mode.{Mode}
 use Rattle.dr_disk.specs.declared.call.Mode.TheVariants.{Fill, New, Old}
 use Rattle.dr_model.specs.Machines.EventCodes.{event_code, side_code}
 use Rattle.dr_model.specs.Machines.Events.{Event}
-use Rattle.scripts.specs.Deeds.{Deed, acts, stops, syncs}
+use Rattle.scripts.specs.Deeds.{Deed, acts, fails, reopens, stops, syncs}
 use Rattle.scripts.specs.Script.{Scripted}
 use Rattle.scripts.specs.declared.script.KemName.{KemName}
 use Rattle.scripts.specs.declared.script.KemName.TheVariants.{Open, Sntrup761}
@@ -34,21 +34,27 @@ abbrev pub mode_code : Coded Mode
 mode_code = code_by (Bool ⊎ ℕ) (coded⊎ coded_bool coded_ℕ) stored_mode mode_by same_mode
 
 abbrev StoredDeed : Type 0
-StoredDeed = Event ⊎ ((ℕ × (Mode × Event)) ⊎ (Side × Option ℕ))
+StoredDeed = Event ⊎ ((ℕ × (Mode × Event)) ⊎ ((ℕ × Event) ⊎ (Side ⊎ (Side × Option ℕ))))
 
 abbrev stored : Deed → StoredDeed
 stored (acts event) = inl event
 stored (stops n mode call) = inr (inl (n, (mode, call)))
-stored (syncs side lost) = inr (inr (side, lost))
+stored (fails n call) = inr (inr (inl (n, call)))
+stored (reopens side) = inr (inr (inr (inl side)))
+stored (syncs side lost) = inr (inr (inr (inr (side, lost))))
 
 abbrev deed_by : StoredDeed → Deed
 deed_by (inl event) = acts event
 deed_by (inr (inl stop)) = stops stop.0 stop.1.0 stop.1.1
-deed_by (inr (inr sync)) = syncs sync.0 sync.1
+deed_by (inr (inr (inl failure))) = fails failure.0 failure.1
+deed_by (inr (inr (inr (inl side)))) = reopens side
+deed_by (inr (inr (inr (inr sync)))) = syncs sync.0 sync.1
 
 pub same_deed : (deed : Deed) → deed_by (stored deed) ≡ deed
 same_deed (acts event) = refl
 same_deed (stops n mode call) = refl
+same_deed (fails n call) = refl
+same_deed (reopens side) = refl
 same_deed (syncs side lost) = refl
 
 abbrev pub deed_code : Coded Deed
@@ -56,7 +62,8 @@ deed_code =
     code_by StoredDeed
     (coded⊎ event_code
     (coded⊎ (coded× coded_ℕ (coded× mode_code event_code))
-    (coded× side_code (coded_option coded_ℕ))))
+    (coded⊎ (coded× coded_ℕ event_code)
+    (coded⊎ side_code (coded× side_code (coded_option coded_ℕ))))))
     stored deed_by same_deed
 
 -- ---- a script

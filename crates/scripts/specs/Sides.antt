@@ -3,7 +3,7 @@ use Rattle.std.specs.Prelude.{ℕ, List, codes}
 use Rattle.dr_base.specs.declared.position.Side.{Side}
 use Rattle.dr_base.specs.declared.position.Side.TheVariants.{First, Second}
 use Rattle.dr_model.specs.Machines.Events.{Event, seeds, says, takes, takes_nth, flips, takes_bytes, drops_sent, drops_done, shows_inbox, shows_state, cuts}
-use Rattle.scripts.specs.Deeds.{Deed, acts, stops, syncs}
+use Rattle.scripts.specs.Deeds.{Deed, acts, fails, reopens, stops, syncs}
 
 -- a side
 unfoldable pub side_text : Side → List ℕ
@@ -28,4 +28,6 @@ acting_side (cuts took event) = acting_side event
 abbrev pub deed_side : Deed → Side
 deed_side (acts event) = acting_side event
 deed_side (stops n mode call) = acting_side call
+deed_side (fails n call) = acting_side call
+deed_side (reopens side) = side
 deed_side (syncs side lost) = side

@@ -13,7 +13,7 @@ use Rattle.dr_base.specs.declared.position.Side.TheVariants.{First, Second}
 use Rattle.session_model.specs.declared.answer.Amount.{Amount}
 use Rattle.session_model.specs.declared.answer.Amount.TheVariants.{All, Exactly}
 use Rattle.dr_model.specs.Machines.Events.{Event, seeds, says, takes, takes_nth, flips, takes_bytes, drops_sent, drops_done, shows_inbox, shows_state}
-use Rattle.scripts.specs.Deeds.{Deed, acts, stops, syncs}
+use Rattle.scripts.specs.Deeds.{Deed, acts, fails, reopens, stops, syncs}
 use Rattle.scripts.specs.Number.{script_number_read}
 use Rattle.scripts.specs.declared.hexed.TheConstants.{DIGIT_LIMIT}
 
@@ -107,6 +107,12 @@ plain_read line =
 
 -- ---- a stop
 
+-- what these words of a side say, after its name
+abbrev pub sided : (Side → List ℕ → Option Deed) → List ℕ → Option Deed
+sided words line =
+    option_or (option_and_then (words First) (after_prefix (codes "first ") line))
+    (option_and_then (words Second) (after_prefix (codes "second ") line))
+
 -- `old`, `new`, or a byte in two hex digits
 unfoldable pub mode_read : List ℕ → Option Mode
 mode_read text =
@@ -114,7 +120,7 @@ mode_read text =
     else (if is_text (codes "new") text then Some New
     else option_map (λ bytes. Fill (slice_index bytes 0)) (result_ok (decode_sized text 1)))
 
--- in what a disk may stop: a text, a packet as the network holds it, or a number of items
+-- in what a disk may stop or fail: a text, a packet as the network holds it, or a number of items
 abbrev pub is_call : Event → Bool
 is_call (says side text) = true
 is_call (takes side p) = true
@@ -144,19 +150,40 @@ stop_words side words = option_and_then (stop_read side) (option_and_then (halve
 
 -- the stop that a line says
 unfoldable pub stop_line_read : List ℕ → Option Deed
-stop_line_read line =
-    option_or (option_and_then (stop_words First) (after_prefix (codes "first ") line))
-    (option_and_then (stop_words Second) (after_prefix (codes "second ") line))
+stop_line_read line = sided stop_words line
+
+-- ---- a failure, and an opening
+
+-- calls and replies are counted from 1
+abbrev pub if_counted : ℕ → Option ℕ
+if_counted n = if nat_le 1 n then Some n else None
+
+-- a number, a space and a call
+abbrev pub fail_read : Side → List ℕ × List ℕ → Option Deed
+fail_read side halves =
+    option_and_then (λ n. option_map (fails n) (call_words side halves.1)) (option_and_then if_counted (script_number_read halves.0))
+
+-- `fail`, the number of the write or sync that fails, and the call
+unfoldable pub fail_words : Side → List ℕ → Option Deed
+fail_words side words = option_and_then (fail_read side) (option_and_then (halves_of 32) (after_prefix (codes "fail ") words))
+
+-- the failure that a line says
+unfoldable pub fail_line_read : List ℕ → Option Deed
+fail_line_read line = sided fail_words line
+
+-- `open`
+unfoldable pub open_words : Side → List ℕ → Option Deed
+open_words side words = if is_text (codes "open") words then Some (reopens side) else None
+
+-- the opening that a line says
+unfoldable pub open_line_read : List ℕ → Option Deed
+open_line_read line = sided open_words line
 
 -- ---- a sync
 
--- replies are counted from 1
-abbrev pub if_some_reply : ℕ → Option ℕ
-if_some_reply n = if nat_le 1 n then Some n else None
-
 -- `lose`, and the number of the reply that is lost
 unfoldable pub lose_words : List ℕ → Option ℕ
-lose_words words = option_and_then if_some_reply (option_and_then script_number_read (after_prefix (codes "lose ") words))
+lose_words words = option_and_then if_counted (option_and_then script_number_read (after_prefix (codes "lose ") words))
 
 -- `sync`, or a sync that loses a reply
 unfoldable pub sync_words : List ℕ → Option (Option ℕ)
@@ -173,4 +200,5 @@ sync_read line =
 -- what a line says; every other line is bad
 unfoldable pub line_read : List ℕ → Option Deed
 line_read line =
-    option_or (option_map acts (plain_read line)) (option_or (stop_line_read line) (sync_read line))
+    option_or (option_map acts (plain_read line)) (option_or (stop_line_read line)
+    (option_or (fail_line_read line) (option_or (open_line_read line) (sync_read line))))

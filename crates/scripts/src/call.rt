@@ -1,6 +1,8 @@
 //! What a side does in a line, by itself: a client's calls.
 
-use dr_base::Position;
+ghost use Rattle.std.specs.Prelude.{◌≤◌};
+
+use dr_base::{Position, Side};
 use session_model::Amount;
 
 /// A call on a side's client.
@@ -27,4 +29,14 @@ pub enum Source<'a> {
     Flipped(Position, u32),
     /// The bytes that these hex digits say.
     Bytes(&'a [u8]),
+}
+
+/// A call in which one write or sync of its side's disk fails.
+#[derive(Clone, Copy)]
+pub struct Failure<'a> {
+    pub side: Side,
+    /// The write or sync of this number of the call, from 1, fails, if it makes so many.
+    pub at: u32,
+    pub call: Call<'a>,
+    pub ghost counted: { 1 ≤ at },
 }

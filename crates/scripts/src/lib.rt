@@ -1,7 +1,7 @@
 //! Scripts of a conversation: what their lines say, read from a text, or made from a number.
 #![tactic(auto)]
 
-pub use call::{Call, Source};
+pub use call::{Call, Failure, Source};
 pub use hexed::{HEX_LIMIT, hex_bytes, limits_in_numbers};
 pub use laws::lines_print_back;
 pub use line::Line;
@@ -11,6 +11,8 @@ pub use script::{KemName, Script, ScriptError};
 pub use sides::{side_name, side_prefix};
 
 mod call;
+mod called;
+mod failing;
 mod hexed;
 mod laws;
 mod line;

@@ -1,20 +1,21 @@
-//! Lines of a script, which may stop the disk of their side, or sync it.
+//! Lines of a script, which may stop the disk of their side or let it fail once, open its client
+//! again, or sync it.
 
 ghost use Rattle.std.specs.Prelude.{◌≡◌, option_map};
 ghost use Rattle.scripts.specs.Lined.{lined_deed, stop_deed};
 ghost use Rattle.scripts.specs.Sides.{deed_side};
-ghost use Rattle.scripts.specs.Seen.{call_event, event_of};
-ghost use Rattle.scripts.specs.Words.{call_words, if_call, line_read, mode_read, stop_line_read, stop_words};
+ghost use Rattle.scripts.specs.Words.{line_read, mode_read, stop_line_read, stop_words};
 
-use crate::call::{Call, Source};
-use crate::line::{Line, parse_words};
+use crate::call::{Call, Failure};
+use crate::called::parse_call;
+use crate::failing::parse_opening;
+use crate::line::Line;
 use crate::number::number;
 use crate::split::{after_prefix, cut_at};
 use crate::syncing::parse_sync;
 use dr_base::Side;
 use dr_disk::Mode;
 use hex::FromHex;
-use session_model::Amount;
 
 /// What one line says.
 #[derive(Clone, Copy)]
@@ -23,6 +24,10 @@ pub enum Lined<'a> {
     Plain(Line<'a>),
     /// The disk of the side stops in a call.
     Stopping(Stop<'a>),
+    /// A write or a sync of the side's disk fails in a call.
+    Failing(Failure<'a>),
+    /// The closed client of the side opens again.
+    Opening(Side),
     /// The side syncs with the relay. The reply to the request of this number, from 1, is lost, and
     /// the link fails there.
     Syncing(Side, Option<u32>),
@@ -51,6 +56,12 @@ impl<'a> Lined<'a> {
         if let Some(found) = Stop::parse(line) {
             return Some(Lined::Stopping(found));
         }
+        if let Some(found) = Failure::parse(line) {
+            return Some(Lined::Failing(found));
+        }
+        if let Some(side) = parse_opening(line) {
+            return Some(Lined::Opening(side));
+        }
         match parse_sync(line) {
             Some((side, lost)) => Some(Lined::Syncing(side, lost)),
             None => None,
@@ -65,6 +76,8 @@ impl<'a> Lined<'a> {
         match self {
             Lined::Plain(line) => line.side(),
             Lined::Stopping(stop) => stop.side,
+            Lined::Failing(failure) => failure.side,
+            Lined::Opening(side) => *side,
             Lined::Syncing(side, _) => *side,
         }
     }
@@ -102,33 +115,6 @@ fn parse_mode(text: &[u8]) -> Option<Mode>
     match <[u8; 1] as FromHex>::from_hex(text) {
         Ok(bytes) => Some(Mode::Fill(bytes[0])),
         Err(_) => None,
-    }
-}
-
-/// The call that a line says, if a disk may stop in it.
-fn call_in(line: Line<'_>) -> Option<(Side, Call<'_>)>
-    ensures { option_map (λ one. call_event one.0 one.1) result ≡ if_call (event_of line.entry) }
-{
-    match line {
-        Line::Does(side, call) => match call {
-            Call::Say(_) => Some((side, call)),
-            Call::Take(Source::At(_) | Source::Nth(_)) => Some((side, call)),
-            Call::Sent(Amount::Exactly(_)) => Some((side, call)),
-            Call::Done(Amount::Exactly(_)) => Some((side, call)),
-            _ => None,
-        },
-        _ => None,
-    }
-}
-
-/// Reads a call in which a disk may stop.
-#[tactic(auto, unfolding(crate::specs::Words::call_words))]
-fn parse_call(side: Side, words: &[u8]) -> Option<(Side, Call<'_>)>
-    ensures { option_map (λ one. call_event one.0 one.1) result ≡ call_words side words.entry.now }
-{
-    match parse_words(side, words) {
-        Some(line) => call_in(line),
-        None => None,
     }
 }
 

@@ -1,6 +1,8 @@
 //! Numbers as scripts write them: decimal digits without a sign or a leading zero, below 2^32.
 
-ghost use Rattle.std.specs.Prelude.{◌≡◌, ℕ};
+ghost use Rattle.std.specs.Prelude.{◌≡◌, ◌≤◌, ℕ, IfSome};
+ghost use Rattle.std.specs.Option.{option_and_then};
+ghost use Rattle.scripts.specs.Words.{if_counted};
 ghost use Rattle.scripts.specs.Number.{is_unpadded, script_number_read};
 
 /// Whether the text has at least one byte, and no zero before another.
@@ -35,4 +37,16 @@ pub fn number(text: &[u8]) -> Option<u32>
         return None;
     }
     Some(value as u32)
+}
+
+/// A number from 1.
+pub fn counted(text: &[u8]) -> Option<u32>
+    ensures value { result ≡ option_and_then if_counted (script_number_read text.now) }
+    ensures counted { IfSome result (λ n. 1 ≤ n) }
+{
+    let n = number(text)?;
+    if n < 1 {
+        return None;
+    }
+    Some(n)
 }

@@ -4,7 +4,7 @@ ghost use Rattle.std.specs.Prelude.{◌≡◌, option_map};
 ghost use Rattle.scripts.specs.Deeds.{syncs};
 ghost use Rattle.scripts.specs.Words.{lose_words, sync_read, sync_words};
 
-use crate::number::number;
+use crate::number::counted;
 use crate::split::after_prefix;
 use dr_base::Side;
 
@@ -14,11 +14,7 @@ fn parse_lose(words: &[u8]) -> Option<u32>
     ensures { result ≡ lose_words words.now }
 {
     let digits = after_prefix(words, b"lose ")?;
-    let lost = number(digits)?;
-    if lost < 1 {
-        return None;
-    }
-    Some(lost)
+    counted(digits)
 }
 
 /// Reads `sync`, or `lose` and the number of the reply that is lost.

@@ -90,7 +90,7 @@ only_memory NoSession says passes = says
 abbrev pub IsCounted : DiskState → Type 0
 IsCounted disk = (j : ℕ) → to_failure disk.fate ≡ Some j → (m : ℕ) × (disk.passed ≡ Some m)
 
-lawful_disk : (d : MemoryDisk) → IsLawful (state_of d)
+pub lawful_disk : (d : MemoryDisk) → IsLawful (state_of d)
 lawful_disk d =
     memory_lawful d.platter.bytes.items d.platter.durable.items d.platter.asked.items
     d.platter.marks.items d.meter.fate d.meter.passed
@@ -102,7 +102,7 @@ pub ready_stopped : (n : ℕ) (client : Client) (store : SlotStore) (disk : Memo
 ready_stopped n client store disk ready =
     record { area = ready.area; within = ready.within; holds = ready.holds; rests = ready.rests }
 
-held_going : (client : ClientNow) (disk : MemoryDisk) → client.closed ≡ None → IsReady client.kept client.store (state_of disk)
+pub held_going : (client : ClientNow) (disk : MemoryDisk) → client.closed ≡ None → IsReady client.kept client.store (state_of disk)
     → IsHeld client (going_on disk)
 held_going client disk unclosed ready = record {
   is_open = unclosed;
@@ -112,32 +112,32 @@ held_going client disk unclosed ready = record {
 
 -- ---- an act
 
-module _ (n : ℕ) (mode : Mode) (made : Result (Step Client) Refusal) (old new : ClientNow) (disk now : MemoryDisk)
-    (held : IsHeld old disk) where
+module _ (n : ℕ) (mode : Mode) (made : Result (Step Client) Refusal) (old new : ClientNow) (start now : MemoryDisk)
+    (unclosed : old.closed ≡ None) (ready : IsReady old.kept old.store (state_of start))
+    (fails : to_failure (state_of start).fate ≡ Some n) (anew : (state_of start).passed ≡ Some 0) where
   abbrev Comes : Answer → Type 0
   Comes answer =
       (step answer new.kept ≡ stopped_client n mode old.kept (settled old.kept made))
       × IsHeld new (going_on now)
 
-  stays : new ≡ old → now ≡ stopped_after n disk → IsHeld new (going_on now)
+  pub stays : new ≡ old → now ≡ start → IsHeld new (going_on now)
   stays same still =
       subst (λ (d : MemoryDisk). IsHeld new (going_on d)) (sym still)
-      (subst (λ (c : ClientNow). IsHeld c (going_on (stopped_after n disk))) (sym same)
-      (held_going old (stopped_after n disk) held.is_open (ready_stopped n old.kept old.store disk held.ready)))
+      (subst (λ (c : ClientNow). IsHeld c (going_on start)) (sym same) (held_going old start unclosed ready))
 
   -- enough calls passed where the record was replaced
-  many : (answer : Answer)
-      → IsDone made old new (state_of (stopped_after n disk)) (state_of now) answer
+  pub many : (answer : Answer)
+      → IsDone made old new (state_of start) (state_of now) answer
       → IsCounted (state_of now)
       → replacing_calls old.kept new.kept ≤ n
   many answer done told =
-      let left = done.disk.ahead n refl in
+      let left = done.disk.ahead n fails in
       let m = told left.0 left.1 in
-      enough_told (replacing_calls old.kept new.kept) n (state_of (stopped_after n disk))
-      (state_of now) refl done.disk.any_moment.fates done.disk.ahead done.disk.passed m.0 m.1
+      enough_told (replacing_calls old.kept new.kept) n (state_of start)
+      (state_of now) fails done.disk.any_moment.fates done.disk.ahead done.disk.passed m.0 m.1
 
   effected : (answer : Answer) (b : Bool) → has_effect answer ≡ b
-      → IsEffected state_of b made old new (stopped_after n disk) now answer → IsCounted (state_of now) → Comes answer
+      → IsEffected state_of b made old new start now answer → IsCounted (state_of now) → Comes answer
   effected answer true effect done told = (
     sym (ap (λ r. stopped_client n mode old.kept (settled old.kept r)) done.made_is
         ∙ enough n mode old.kept (step answer new.kept) (many answer done told)),
@@ -149,11 +149,11 @@ module _ (n : ℕ) (mode : Mode) (made : Result (Step Client) Refusal) (old new 
     stays idle.2 idle.3,
   )
 
-  pub acknowledged_comes : (answer : Answer) → Acts state_of made old new (stopped_after n disk) now (acknowledged answer)
+  pub acknowledged_comes : (answer : Answer) → Acts state_of made old new start now (acknowledged answer)
       → IsCounted (state_of now) → Comes answer
   acknowledged_comes answer acts told = effected answer (has_effect answer) refl acts told
 
-  pub refused_comes : (refusal : Refusal) → Acts state_of made old new (stopped_after n disk) now (refused refusal)
+  pub refused_comes : (refusal : Refusal) → Acts state_of made old new start now (refused refusal)
       → Comes (Refused refusal)
   refused_comes refusal acts = (
     ap (λ (c : ClientNow). step (Refused refusal) c.kept) acts.2
@@ -163,60 +163,59 @@ module _ (n : ℕ) (mode : Mode) (made : Result (Step Client) Refusal) (old new 
   )
 
   -- how many calls passed where one failed
-  passed_all : (call : Call) (c : IsCutOff made old new (state_of (stopped_after n disk)) (state_of now) call)
+  pub passed_all : (call : Call) (c : IsCutOff made old new (state_of start) (state_of now) call)
       → ((state_of now).passed ≡ Some n) × (n < replacing_calls old.kept c.next.next)
   passed_all call c =
-      let end = c.disk.ended n refl in
-      let none : end.1 ≡ 0 = let e : Some end.1 ≡ Some 0 = sym end.2 in cc in
+      let end = c.disk.ended n fails in
+      let none : end.1 ≡ 0 = let e : Some end.1 ≡ Some 0 = sym end.2 ∙ anew in cc in
       let all : end.1 + n ≡ n = omega (arith, none) in (
         end.3 ∙ ap Some all,
-        too_few (replacing_calls old.kept c.next.next) n (state_of (stopped_after n disk))
-            (state_of now) refl c.disk.ended c.disk.few,
+        too_few (replacing_calls old.kept c.next.next) n (state_of start)
+            (state_of now) fails c.disk.ended c.disk.few,
       )
 
   -- what the client kept, or what it would have kept
-  abbrev pub Left : (call : Call) → IsCutOff made old new (state_of (stopped_after n disk)) (state_of now) call → Client
+  abbrev pub Left : (call : Call) → IsCutOff made old new (state_of start) (state_of now) call → Client
   Left call c = if is_replaced n mode old.kept c.next.next then c.next.next else old.kept
 
-  chosen : (b : Bool) (a z : Client) → (if b then Some (record_text a) else Some (record_text z)) ≡ Some (record_text (if b then a else z))
+  pub chosen : (b : Bool) (a z : Client) → (if b then Some (record_text a) else Some (record_text z)) ≡ Some (record_text (if b then a else z))
   chosen true a z = refl
   chosen false a z = refl
 
   -- and that its record stands where the disk has crashed
-  pub cut_record : (call : Call) (c : IsCutOff made old new (state_of (stopped_after n disk)) (state_of now) call) (left : MemoryDisk)
+  pub cut_record : (call : Call) (c : IsCutOff made old new (state_of start) (state_of now) call) (left : MemoryDisk)
       → IsLeftBy mode (state_of now) (state_of left) → DiskHasRecord (Left call c) (state_of left)
   cut_record call c left by = λ s seen.
       let passed = (passed_all call c).0 in
       let same : by.bytes ≡ s = let e : Some by.bytes ≡ Some s = sym by.fresh.seen ∙ seen in cc in
       let off : n - 0 ≡ n = omega arith in
-      ap (stored_record client_area) (sym same) ∙ c.disk.stopped.crash 0 n mode by.bytes refl passed by.left
+      ap (stored_record client_area) (sym same) ∙ c.disk.stopped.crash 0 n mode by.bytes anew passed by.left
       ∙ ap (λ j. if took (Some (record_text old.kept)) (Some (record_text c.next.next)) j mode then Some (record_text c.next.next)
       else Some (record_text old.kept)) off
       ∙ chosen (is_replaced n mode old.kept c.next.next) c.next.next old.kept
 
   -- which is read without damage
-  pub cut_undamaged : (call : Call) (c : IsCutOff made old new (state_of (stopped_after n disk)) (state_of now) call) (left : MemoryDisk)
+  pub cut_undamaged : (call : Call) (c : IsCutOff made old new (state_of start) (state_of now) call) (left : MemoryDisk)
       → (by : IsLeftBy mode (state_of now) (state_of left)) → IsUndamaged client_area by.bytes
   cut_undamaged call c left by =
       let image = (lawful_disk now).leaves_now mode by.bytes by.left in
-      let ready = ready_stopped n old.kept old.store disk held.ready in
       elim (c.disk.any_moment.last by.bytes image) [
         | inl entry ↦ subst (λ (a : Area). IsUndamaged a by.bytes) ready.area (rests_undamaged old.store by.bytes (ready.rests by.bytes entry))
         | inr one ↦ one.undamaged
       ]
 
-  pub cut_comes : (call : Call) (c : IsCutOff made old new (state_of (stopped_after n disk)) (state_of now) call)
+  pub cut_comes : (call : Call) (c : IsCutOff made old new (state_of start) (state_of now) call)
       → step Stopped (Left call c) ≡ stopped_client n mode old.kept (settled old.kept made)
   cut_comes call c =
       sym (ap (λ r. stopped_client n mode old.kept (settled old.kept r)) c.made_is
       ∙ cut n mode old.kept c.next c.effect (passed_all call c).1)
 
-  pub cut_within : (call : Call) (c : IsCutOff made old new (state_of (stopped_after n disk)) (state_of now) call) (left : MemoryDisk)
+  pub cut_within : (call : Call) (c : IsCutOff made old new (state_of start) (state_of now) call) (left : MemoryDisk)
       → IsLeftBy mode (state_of now) (state_of left) → HasArea client_area (state_of left)
   cut_within call c left by =
       let lawful = lawful_disk now in
       let long = lawful.sized by.bytes (lawful.leaves_now mode by.bytes by.left) in
-      omega (arith, held.ready.within, by.fresh.size, long, c.disk.any_moment.size)
+      omega (arith, ready.within, by.fresh.size, long, c.disk.any_moment.size)
 
 -- ---- lawful clients
 

@@ -16,7 +16,8 @@ use Rattle.scripts.specs.Seen.{call_event}
 use Rattle.scripts.specs.Sides.{acting_side}
 use Rattle.scripts.specs.declared.call.Call.{Call}
 use Rattle.duet.specs.Acts.{acted_by, made_by}
-use Rattle.duet.specs.Held.{DuetNow, gathering, with_draws}
+use Rattle.duet.specs.Gathering.{gathering}
+use Rattle.duet.specs.Held.{DuetNow, with_draws}
 use Rattle.duet.specs.Stops.{cut_by, cut_event, cut_of, stopped_client, stopped_on, stopped_sides}
 use Rattle.duet.specs.declared.acts.Act.{Act}
 use Rattle.duet.proofs.Gathering.{gathers_stopped, same_draws}

@@ -4,6 +4,7 @@ use Rattle.std.specs.Prelude.{option_map}
 use Rattle.session_record.specs.Record.{record_read}
 use Rattle.dr_disk.specs.MemoryDisks.{state_of}
 use Rattle.client.proofs.Reopening.{not_refused}
+use Rattle.duet.specs.Shuts.{open_party}
 use Rattle.duet.proofs.Stopped.Acts.{only_memory}
 use Rattle.duet.proofs.stopping.reopened.Goals as goal
 
@@ -23,7 +24,8 @@ returns-in-Ok g c = λ kept lawful has.
     let back = (c.record_law.ensures k).reads kept lawful in
     let same : Some (Ok c.in-Ok.client.kept) ≡ Some (Ok kept) =
     sym read ∙ ap (option_map (record_read k)) (has bytes refl) ∙ ap Some back in
-    cc
+    let is : c.in-Ok.client.kept ≡ kept = cc in
+    ap open_party is
 
 pub invariant_of-result : goal.invariant_of-result
 invariant_of-result g c = grind (arith, common_steps)

@@ -1,4 +1,4 @@
-use Rattle.std.proofs.Common.{arith, List, Ok, Result, subst, sym, ℕ}
+use Rattle.std.proofs.Common.{ap, arith, List, Ok, Result, subst, sym, ℕ, ◌∙◌}
 use Rattle.std.proofs.lemmas.Grind.{common_steps}
 use Rattle.dr_base.specs.declared.failed.Failed.{Failed}
 use Rattle.dr_disk.specs.MemoryDisks.{state_of}
@@ -13,6 +13,8 @@ use Rattle.sync_model.specs.declared.more.More.{More}
 use Rattle.duet.specs.Outcomes.{sync_lines}
 use Rattle.duet.specs.Meetings.{Plays}
 use Rattle.scripts.specs.Sides.{side_text}
+use Rattle.duet.specs.Shuts.{PartyNow}
+use Rattle.duet.proofs.Closed.{held_open}
 use Rattle.duet.proofs.Synced.{broken_lines, ended_lines}
 use Rattle.duet.proofs.party.Party.sync.Goals as goal
 use Rattle.duet.proofs.party.Party.sync.Goals.{in-Ok, in-Err}
@@ -27,21 +29,21 @@ returns-clause-writes g c =
     let Met : List ℕ → Client → Result More SyncFault → Type 0 =
     λ prefix client result. let p = client_party k prefix client in
     Plays p (scene p (kept_before c.args.lost) client boxes) before after (boxes_now c.meet.new.link) result in
-    let met : Met (side_text side) c.args.self.now c.meet.result =
-    subst (λ (x : Client). Met (side_text side) x c.meet.result) c.self.view_is
+    let met : Met (side_text side) c.args.self.now.kept c.meet.result =
+    subst (λ (x : Client). Met (side_text side) x c.meet.result) (ap (λ (p : PartyNow). p.kept) c.self.view_is)
     (subst (λ (b : List ℕ). Met b c.self.inside.client.kept c.meet.result) c.side_prefix.ensures.name c.meet.ensures) in
-    let p = client_party k (side_text side) c.args.self.now in
-    let m = scene p (kept_before c.args.lost) c.args.self.now boxes in
+    let p = client_party k (side_text side) c.args.self.now.kept in
+    let m = scene p (kept_before c.args.lost) c.args.self.now.kept boxes in
     elim c.match-meet.branch [
       | in-Ok w ↦
           subst (λ r. Writes (g.O.Sink.at c.args.out.now) (g.O.Sink.at c.match-meet.out) (sync_lines p side m) r) (sym w.result-is)
           (subst (λ o. Writes {T = Unit} {E = Failed} (g.O.Sink.at c.args.out.now) (g.O.Sink.at o) (sync_lines p side m) (Ok tt)) (sym w.out-is)
-          (ended_lines p side m before after (boxes_now c.meet.new.link) w.in-Ok.field-0 (subst (Met (side_text side) c.args.self.now) w.in-Ok.is met)))
+          (ended_lines p side m before after (boxes_now c.meet.new.link) w.in-Ok.field-0 (subst (Met (side_text side) c.args.self.now.kept) w.in-Ok.is met)))
       | in-Err w ↦
           subst (λ r. Writes (g.O.Sink.at c.args.out.now) (g.O.Sink.at c.match-meet.out) (sync_lines p side m) r) (sym w.result-is)
           (subst (λ o. Writes {T = Unit} {E = Failed} (g.O.Sink.at c.args.out.now) (g.O.Sink.at o) (sync_lines p side m) w.tell.result) (sym w.out-is)
           (broken_lines p side m before after (boxes_now c.meet.new.link) w.in-Err.fault (g.O.Sink.at w.tell.new.out) w.tell.result
-          (subst (Met (side_text side) c.args.self.now) w.in-Err.is met) w.tell.ensures))
+          (subst (Met (side_text side) c.args.self.now.kept) w.in-Err.is met) w.tell.ensures))
     ]
 
 pub returns-clause-keeps : goal.returns-clause-keeps
@@ -49,3 +51,9 @@ returns-clause-keeps g c = grind (arith, common_steps)
 
 pub returns-clause-boxes : goal.returns-clause-boxes
 returns-clause-boxes g c = grind (arith, common_steps)
+
+pub meet-requires : goal.meet-requires
+meet-requires g c =
+    let inside = c.self.inside in
+    held_open g.K.Kem.mechanism inside.client inside.disk inside.shut inside.client.kept
+    (ap (λ (p : PartyNow). p.shut) c.self.view_is ∙ c.requires.open) c.self.invariant

@@ -5,7 +5,8 @@ use Rattle.dr_model.specs.Machines.Steps.{settled}
 use Rattle.session_model.specs.Clients.{Client}
 use Rattle.session_model.specs.declared.answer.Summary.{Summary}
 use Rattle.duet.specs.Acts.{made_by}
-use Rattle.duet.specs.Held.{DuetNow, gathered}
+use Rattle.duet.specs.Gathering.{gathered}
+use Rattle.duet.specs.Held.{DuetNow}
 use Rattle.duet.proofs.Gathering.{acted_few}
 use Rattle.duet.proofs.sides.Duet.act.Goals as goal
 
@@ -20,7 +21,7 @@ gather-requires-clause-one g c =
       ap (λ (x : DuetNow). length (client_of x.sides c.args.side).outbox) c.act_by-answer.ensures.next,
       ap (λ (x : Client). length x.outbox) (own_client s c.args.side (settled own (made_by k own c.args.act)).next),
       ap (λ (m : Summary). m.outbox) c.summary-held.ensures,
-      ap (λ (x : Client). length x.outbox) c.party.ensures,
+      ap (λ (x : Client). length x.outbox) c.party.ensures.kept,
     )
 
 pub returns-clause-next : goal.returns-clause-next
@@ -30,7 +31,7 @@ returns-clause-next g c =
     let side = c.args.side in
     let own = client_of s side in
     let made = settled own (made_by k own c.args.act) in
-    let held = ap (λ (m : Summary). m.outbox) c.summary-held.ensures ∙ ap (λ (x : Client). length x.outbox) c.party.ensures in
+    let held = ap (λ (m : Summary). m.outbox) c.summary-held.ensures ∙ ap (λ (x : Client). length x.outbox) c.party.ensures.kept in
     c.gather.ensures
     ∙ ap (λ (x : DuetNow). let y : DuetNow = record x { sides = gathered c.summary-held.result.outbox side x.sides } in y) c.act_by-answer.ensures.next
     ∙ ap (λ h. let y : DuetNow = record c.args.self.now { sides = gathered h side (with_client s side made.next) } in y) held

@@ -5,7 +5,8 @@ use Rattle.dr_model.specs.Machines.Steps.{settled}
 use Rattle.session_model.specs.Clients.{Client}
 use Rattle.session_model.specs.declared.answer.Summary.{Summary}
 use Rattle.duet.specs.Acts.{made_by}
-use Rattle.duet.specs.Held.{DuetNow, gathered}
+use Rattle.duet.specs.Gathering.{gathered}
+use Rattle.duet.specs.Held.{DuetNow}
 use Rattle.duet.specs.Stops.{stopped_client}
 use Rattle.duet.proofs.Gathering.{acted_few, stopped_few}
 use Rattle.duet.proofs.sides.Duet.act_stopped.Goals as goal
@@ -23,7 +24,7 @@ gather-requires-clause-one g c =
       ap (λ (x : DuetNow). length (client_of x.sides c.args.side).outbox) c.in-Ok.ensures.1,
       ap (λ (x : Client). length x.outbox) (own_client s c.args.side left.next),
       ap (λ (m : Summary). m.outbox) c.summary-held.ensures,
-      ap (λ (x : Client). length x.outbox) c.party.ensures,
+      ap (λ (x : Client). length x.outbox) c.party.ensures.kept,
     )
 
 pub returns-in-Ok : goal.returns-in-Ok
@@ -33,7 +34,7 @@ returns-in-Ok g c =
     let side = c.args.side in
     let own = client_of s side in
     let left = stopped_client c.args.stops.0 c.args.stops.1 own (settled own (made_by k own c.args.act)) in
-    let held = ap (λ (m : Summary). m.outbox) c.summary-held.ensures ∙ ap (λ (x : Client). length x.outbox) c.party.ensures in (
+    let held = ap (λ (m : Summary). m.outbox) c.summary-held.ensures ∙ ap (λ (x : Client). length x.outbox) c.party.ensures.kept in (
       c.in-Ok.ensures.0,
       c.gather.ensures
           ∙ ap (λ (x : DuetNow). let y : DuetNow = record x { sides = gathered c.summary-held.result.outbox side x.sides } in y) c.in-Ok.ensures.1

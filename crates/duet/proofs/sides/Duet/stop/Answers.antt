@@ -3,7 +3,8 @@ use Rattle.std.specs.Prelude.{IfOk}
 use Rattle.dr_model.specs.Machines.Sides.{Sides, client_of}
 use Rattle.dr_model.specs.Machines.Steps.{Step, settled}
 use Rattle.duet.specs.Acts.{made_by}
-use Rattle.duet.specs.Held.{DuetNow, after, gathering}
+use Rattle.duet.specs.Gathering.{gathering}
+use Rattle.duet.specs.Held.{DuetNow, after_step}
 use Rattle.duet.specs.Stops.{stopped_client}
 use Rattle.duet.proofs.Stopped.Sides.{act_stopped, answer_stopped}
 use Rattle.duet.proofs.Prepared.{left_after}
@@ -18,9 +19,9 @@ returns-in-Ok g c =
     let own = client_of new.sides stop.side in
     let made : Step Sides = gathering new.sides stop.side
     (stopped_client stop.after stop.mode own (settled own (made_by k own c.in-Ok.act))) in
-    subst (λ (m : Step Sides). IfOk c.act_stopped.result (λ pair. (pair.1 ≡ m.answer) × (pair.0 ≡ after old m)))
+    subst (λ (m : Step Sides). IfOk c.act_stopped.result (λ pair. (pair.1 ≡ m.answer) × (pair.0 ≡ after_step old m)))
     (act_stopped k old new stop.side stop.call stop.after stop.mode c.in-Ok.ensures.drawn c.in-Ok.act c.in-Ok.ensures.comes.0)
-    (subst (λ (d : DuetNow). IfOk c.act_stopped.result (λ pair. (pair.1 ≡ made.answer) × (pair.0 ≡ after d made)))
+    (subst (λ (d : DuetNow). IfOk c.act_stopped.result (λ pair. (pair.1 ≡ made.answer) × (pair.0 ≡ after_step d made)))
     c.in-Ok.ensures.drawn c.act_stopped.ensures)
 
 pub returns-in-Err : goal.returns-in-Err
@@ -31,4 +32,4 @@ returns-in-Err g c =
     let comes = c.in-Err.ensures.comes in
     let same = answer_stopped g.K.Kem.mechanism old new stop.side stop.call stop.after stop.mode c.in-Err.ensures.drawn
     c.in-Err.answer comes.0 comes.1 in
-    (ap (λ (m : Step Sides). m.answer) same, left_after old new c.in-Err.answer c.in-Err.ensures.drawn ∙ ap (after old) same)
+    (ap (λ (m : Step Sides). m.answer) same, left_after old new c.in-Err.answer c.in-Err.ensures.drawn ∙ ap (after_step old) same)

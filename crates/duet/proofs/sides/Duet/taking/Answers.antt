@@ -5,7 +5,7 @@ use Rattle.dr_base.specs.Bytes.{AreBytes}
 use Rattle.dr_model.specs.Machines.Sides.{taken_on}
 use Rattle.session_model.specs.declared.answer.Answer.{Answer}
 use Rattle.scripts.specs.Seen.{take_event}
-use Rattle.duet.specs.Acts.{IsPrepared, packet_in}
+use Rattle.duet.specs.Acts.{IsPrepared, packet_given}
 use Rattle.duet.specs.Held.{DuetNow}
 use Rattle.duet.specs.declared.acts.Act.{Act}
 use Rattle.duet.proofs.Prepared.{packet_here, source_step}
@@ -19,7 +19,7 @@ returns g c =
     let side = c.args.side in
     let source = c.args.source in
     let posts = c.as_slice.ensures.value ∙ ap (λ (d : DuetNow). d.sides.posts) c.self.view_is in
-    let given = sym (c.packet_of.ensures ∙ ap (λ (held : List Item). packet_in held side source) posts) in
+    let given = sym (c.packet_of.ensures ∙ ap (λ (held : List Item). packet_given held side source) posts) in
     elim c.match-packet_of.branch [
       | in-Some w ↦
           subst (λ (r : Result Act Answer). IsPrepared k now now side (take_event side source) r) (sym w.result-is)

@@ -4,7 +4,7 @@ use Rattle.scripts.proofs.Calls.{acting_call}
 use Rattle.duet.specs.Tally.{counted_of}
 use Rattle.duet.proofs.PlayedDeeds.{goes_written}
 use Rattle.duet.proofs.Showing.{stop_reply}
-use Rattle.duet.proofs.playing.play_stop.Goals as goal
+use Rattle.duet.proofs.deeds.play_stop.Goals as goal
 
 pub returns-in-Ok : goal.returns-in-Ok
 returns-in-Ok g c =

@@ -9,7 +9,7 @@ use Rattle.duet.specs.Replies.{entry_line, reply_line, reply_of}
 use Rattle.scripts.specs.Sides.{acting_side}
 use Rattle.scripts.specs.Seen.{event_of}
 use Rattle.duet.proofs.Showing.{shown-entries}
-use Rattle.duet.proofs.playing.play_line.Goals as goal
+use Rattle.duet.proofs.telling.play_line.Goals as goal
 
 pub returns-in-Ok-clause-writes : goal.returns-in-Ok-clause-writes
 unfolding reply_of

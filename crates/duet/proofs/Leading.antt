@@ -1,0 +1,176 @@
+-- The act that an event of a side is.
+use Rattle.std.proofs.Common.{Bool, Err, List, None, Ok, Option, Result, Some, [], ap, false, map, refl, subst, sym, true, ◌∙◌, ◌∷◌, ◌≡◌, ℕ}
+use Rattle.std.specs.Cmp.Lexicographic.{pointwise}
+use Rattle.std.specs.Prelude.{All, IfSome, find, if◌then◌else◌, is_some, length, nat_eq, option_map}
+use Rattle.std.proofs.lemmas.List.Elements.{All-head, All-tail}
+use Rattle.std.proofs.lemmas.Slice.Eq.{bytes_eq-Decides}
+use Rattle.boxes.specs.Items.{Item}
+use Rattle.dr_base.specs.declared.position.Position.{Position}
+use Rattle.dr_base.specs.declared.position.Side.{Side}
+use Rattle.dr_base.specs.declared.position.Side.TheVariants.{First, Second}
+use Rattle.dr_model.specs.Conversations.Conversation.{is_said, positions}
+use Rattle.dr_model.specs.Conversations.Posts.{post_at, posts}
+use Rattle.dr_model.specs.Machines.Acts.{Act, act_on, needs_seed, said_by, saying_by, taking}
+use Rattle.dr_model.specs.Machines.Draws.{Draws, after_draw, next_seed}
+use Rattle.dr_model.specs.Machines.Events.{Event, cuts, drops_done, drops_sent, flips, says, seeds, shows_inbox, shows_state, takes, takes_bytes, takes_nth}
+use Rattle.dr_model.specs.Machines.Network.{flipped_at, held_at, held_nth}
+use Rattle.dr_model.specs.Machines.Sides.{Sides, client_of, said_on, saying_on, step_on, taken_on}
+use Rattle.dr_model.specs.Machines.Steps.{Step, amount_of, has_effect, settled}
+use Rattle.dr_model.specs.Machines.Worlds.{World, made_at, nth_of_peer, said_at, step_of, taking_given, taking_made}
+use Rattle.dr_model.specs.Machines.WorldSides.{kept_in, sides_of}
+use Rattle.dr_model.specs.Theorems.LawfulWorlds.{IsLawfulWorld}
+use Rattle.dr_model.proofs.Acting.Keeping.{done_kept, sent_kept, taken_kept}
+use Rattle.dr_model.proofs.Growth.Growing.{positions-said}
+use Rattle.dr_model.proofs.Saying.SayingLawful.{length-next_seed}
+use Rattle.dr_model.proofs.Taking.NetworkPosts.{held_at-posts, held_nth-posts}
+use Rattle.dr_model.proofs.Worlds.Following.{nth_said}
+use Rattle.dr_model.proofs.Worlds.WorldViews.{client_of-kept}
+use Rattle.kem_laws.specs.Mechanism.{Mechanism}
+use Rattle.session_model.specs.Clients.{Client, SaidText, dropped_of, say_check, say_on, take_on}
+use Rattle.session_model.specs.declared.answer.Refusal.{Refusal}
+use Rattle.scripts.specs.Sides.{acting_side}
+use Rattle.duet.specs.Shuts.{act_of, draw_for}
+use Rattle.duet.proofs.Moving.{drawn_same}
+use Rattle.duet.proofs.SaidBoxes.{IsHeldBack, IsSaidPacket}
+use Rattle.duet.proofs.SeenBeside.{left_in}
+use Rattle.duet.proofs.Showing.{uncut}
+
+-- ---- where it leads
+
+abbrev left_on : Mechanism → Sides → Side → Option Act → Client
+left_on k s side None = client_of s side
+left_on k s side (Some act) = (settled (client_of s side) (act_on k (client_of s side) act)).next
+
+said_next : (s : Sides) (side : Side) (r : Result SaidText Refusal)
+    → (settled (client_of s side) (said_by r)).next ≡ client_of (said_on s side r).next side
+said_next s First (Ok said) = refl
+said_next s Second (Ok said) = refl
+said_next s side (Err refusal) = refl
+
+saying_leads : (k : Mechanism) (s : Sides) (side : Side) (text : List ℕ) (r : Result Bool Refusal)
+    → (settled (client_of s side) (saying_by k (client_of s side) text (draw_for s r) r)).next
+    ≡ client_of (saying_on k s side text r).next side
+saying_leads k s side text (Err refusal) = refl
+saying_leads k s side text (Ok false) = said_next s side (say_on k (client_of s side) text [])
+saying_leads k s side text (Ok true) =
+    let said = say_on k (client_of s side) text (next_seed s.key s.draws) in
+    ap (λ (c : Client). (settled c (said_by said)).next) (sym (drawn_same s side (after_draw s.draws)))
+    ∙ said_next (record s { draws = after_draw s.draws }) side said
+
+given_leads : (k : Mechanism) (s : Sides) (side : Side) (given : Option (List ℕ))
+    → left_on k s side (option_map taking given) ≡ client_of (taken_on k s side given).next side
+given_leads k s side None = refl
+given_leads k s side (Some bytes) =
+    sym (ap (λ (made : Step Client). made.next) (taken_kept s side (take_on k (client_of s side) bytes)))
+
+leads_on : (k : Mechanism) (s : Sides) (event : Event) → has_effect (step_on k s event).answer ≡ true
+    → left_on k s (acting_side event) (act_of s event) ≡ client_of (step_on k s event).next (acting_side event)
+leads_on k s (seeds seed) effect = refl
+leads_on k s (says side text) effect = saying_leads k s side text (say_check (client_of s side) (length text))
+leads_on k s (takes side p) effect = given_leads k s side (held_at s.posts p)
+leads_on k s (takes_nth side nth) effect = given_leads k s side (held_nth s.posts side nth)
+leads_on k s (flips side p bit) effect = given_leads k s side (flipped_at s.posts p bit)
+leads_on k s (takes_bytes side bytes) effect = given_leads k s side (Some bytes)
+leads_on k s (drops_sent side amount) effect =
+    let n = amount_of amount (length (client_of s side).outbox) in
+    sym (ap (λ (made : Step Client). made.next) (sent_kept s side n (dropped_of n (client_of s side).outbox)))
+leads_on k s (drops_done side amount) effect =
+    let n = amount_of amount (length (client_of s side).inbox) in
+    sym (ap (λ (made : Step Client). made.next) (done_kept s side n (dropped_of n (client_of s side).inbox)))
+leads_on k s (shows_inbox side) effect = refl
+leads_on k s (shows_state side) effect = refl
+leads_on k s (cuts took event) effect =
+    let made = step_on k s event in
+    absurd (uncut k s (record s { draws = made.next.draws }) took made (has_effect made.answer) refl effect)
+
+left_seen : (k : Mechanism) (w : World) (side : Side) (left : Option Act) → left_on k (sides_of k w) side left ≡ left_in k w side left
+left_seen k w side None = client_of-kept k w side
+left_seen k w side (Some act) = ap (λ (c : Client). (settled c (act_on k c act)).next) (client_of-kept k w side)
+
+-- in a world, by what both sides make of it
+pub leads : (k : Mechanism) (w : World) (event : Event) (next : Client) → has_effect (step_on k (sides_of k w) event).answer ≡ true
+    → client_of (step_on k (sides_of k w) event).next (acting_side event) ≡ next
+    → left_in k w (acting_side event) (act_of (sides_of k w) event) ≡ next
+leads k w event next effect is =
+    sym (left_seen k w (acting_side event) (act_of (sides_of k w) event)) ∙ leads_on k (sides_of k w) event effect ∙ is
+
+-- ---- what the side can do
+
+module _ (k : Mechanism) (w : World) (side : Side) where
+  needs_draw : (s : Sides) (r : Result Bool Refusal) → is_some (draw_for s r) ≡ needs_seed r
+  needs_draw s (Ok true) = refl
+  needs_draw s (Ok false) = refl
+  needs_draw s (Err refusal) = refl
+
+  draw_whole : (r : Result Bool Refusal) → IsLawfulWorld k w → IfSome (draw_for (sides_of k w) r) (λ seed. length seed ≡ 32)
+  draw_whole (Ok true) lawful = length-next_seed w.conversation.key w.draws lawful.given
+  draw_whole (Ok false) lawful = tt
+  draw_whole (Err refusal) lawful = tt
+
+  -- the packets that the network holds were said
+  at_held : (p : Position) (b : Bool) → is_said w.conversation p ≡ b
+      → IfSome (option_map taking (option_map (λ q. (post_at k w.conversation q).bytes) (if b then Some p else None))) (IsHeldBack k w side)
+  at_held p true said = record { position = p; said = said; same = refl }
+  at_held p false said = tt
+
+  nth_held : (o : Option Position) → IfSome o (λ p. is_said w.conversation p ≡ true)
+      → IfSome (option_map taking (option_map (λ q. (post_at k w.conversation q).bytes) o)) (IsHeldBack k w side)
+  nth_held None said = tt
+  nth_held (Some p) said = record { position = p; said = said; same = refl }
+
+  -- bytes that are found among them were said too
+  module _ (bytes : List ℕ) where
+    found_said : (ps : List Position) → All (λ p. is_said w.conversation p ≡ true) ps
+        → IfSome (find (λ post. pointwise nat_eq post.bytes bytes) (map (post_at k w.conversation) ps)) (λ _. IsSaidPacket k w bytes)
+    found_said [] said = tt
+    found_said (p ∷ ps) said =
+        let Said : Position → Type 0 = λ q. is_said w.conversation q ≡ true in
+        by_test (pointwise nat_eq (post_at k w.conversation p).bytes bytes) refl (All-head Said p ps said)
+        (found_said ps (All-tail Said p ps said))
+      where
+        by_test : (b : Bool) → pointwise nat_eq (post_at k w.conversation p).bytes bytes ≡ b → is_said w.conversation p ≡ true
+            → IfSome (find (λ post. pointwise nat_eq post.bytes bytes) (map (post_at k w.conversation) ps)) (λ _. IsSaidPacket k w bytes)
+            → IfSome (if b then Some (post_at k w.conversation p) else find (λ post. pointwise nat_eq post.bytes bytes) (map (post_at k w.conversation) ps)) (λ _. IsSaidPacket k w bytes)
+        by_test true same is later =
+            record { position = p; said = is; same = sym ((bytes_eq-Decides (post_at k w.conversation p).bytes bytes).0 same) }
+        by_test false same is later = later
+
+    by_place : (o : Option Item) (p : Position) → IfSome o (λ _. IsSaidPacket k w bytes)
+        → option_map (λ (post : Item). post.position) o ≡ Some p → IsSaidPacket k w bytes
+    by_place None p said is = absurd (let e : None ≡ Some p = is in cc)
+    by_place (Some post) p said is = said
+
+    made_held : (o : Option Position) → made_at k w bytes ≡ o → has_effect (settled w (taking_made k w side bytes o)).answer ≡ true
+        → IsSaidPacket k w bytes
+    made_held None made effect = absurd (let e : false ≡ true = effect in cc)
+    made_held (Some p) made effect =
+        by_place (find (λ post. pointwise nat_eq post.bytes bytes) (posts k w.conversation)) p
+        (found_said (positions w.conversation) (positions-said w.conversation)) made
+
+  given_held : (given : Option (List ℕ)) → has_effect (taking_given k w side given).answer ≡ true
+      → IfSome (option_map taking given) (IsHeldBack k w side)
+  given_held None effect = tt
+  given_held (Some bytes) effect = made_held bytes (made_at k w bytes) refl effect
+
+-- an event that took effect is an act that its side can do
+pub held_back : (k : Mechanism) (w : World) (event : Event) → IsLawfulWorld k w → has_effect (step_of k w event).answer ≡ true
+    → IfSome (act_of (sides_of k w) event) (IsHeldBack k w (acting_side event))
+held_back k w (seeds seed) lawful effect = tt
+held_back k w (says side text) lawful effect =
+    let check = say_check (client_of (sides_of k w) side) (length text) in (
+      needs_draw k w side (sides_of k w) check ∙ ap (λ (c : Client). needs_seed (say_check c (length text))) (client_of-kept k w side),
+      draw_whole k w side check lawful,
+    )
+held_back k w (takes side p) lawful effect =
+    subst (λ o. IfSome (option_map taking o) (IsHeldBack k w side)) (sym (held_at-posts k w.conversation p))
+    (at_held k w side p (is_said w.conversation p) refl)
+held_back k w (takes_nth side nth) lawful effect =
+    subst (λ o. IfSome (option_map taking o) (IsHeldBack k w side)) (sym (held_nth-posts k w.conversation side nth))
+    (nth_held k w side (nth_of_peer w.conversation side nth) (nth_said w.conversation side nth))
+held_back k w (flips side p bit) lawful effect = given_held k w side (flipped_at (posts k w.conversation) p bit) effect
+held_back k w (takes_bytes side bytes) lawful effect = given_held k w side (Some bytes) effect
+held_back k w (drops_sent side amount) lawful effect = tt
+held_back k w (drops_done side amount) lawful effect = tt
+held_back k w (shows_inbox side) lawful effect = tt
+held_back k w (shows_state side) lawful effect = tt
+held_back k w (cuts took event) lawful effect = tt

@@ -1,0 +1,100 @@
+-- What a call on a side's disk that failed left of the side, until its client opens again.
+use Rattle.std.specs.Prelude.{Bool, None, Option, Some, false, if◌then◌else◌, nat_le, true, ℕ, ◌&&◌, ◌-◌}
+use Rattle.dr_base.specs.declared.position.Side.{Side}
+use Rattle.dr_base.specs.declared.position.Side.TheVariants.{First, Second}
+use Rattle.dr_disk.specs.declared.call.Call.{Call}
+use Rattle.dr_model.specs.Machines.Acts.{Act, finishing, saying, sending, taking}
+use Rattle.dr_model.specs.Machines.Draws.{next_seed}
+use Rattle.dr_model.specs.Machines.Events.{Event, cuts, drops_done, drops_sent, flips, says, seeds, shows_inbox, shows_state, takes, takes_bytes, takes_nth}
+use Rattle.dr_model.specs.Machines.Network.{flipped_at, held_at, held_nth}
+use Rattle.dr_model.specs.Machines.Sides.{Sides, client_of}
+use Rattle.dr_model.specs.Machines.Steps.{amount_of, has_effect}
+use Rattle.session_model.specs.Clients.{Client, say_check}
+use Rattle.session_model.specs.declared.answer.Answer.{Answer}
+use Rattle.session_model.specs.declared.answer.Refusal.{Refusal}
+use Rattle.session_record.specs.Record.{record_text}
+use Rattle.slot_store.specs.Stops.{shows}
+use Rattle.client.specs.Outcomes.{replacing_call, replacing_calls}
+use Rattle.scripts.specs.Deeds.{Deed, acts, reopens}
+use Rattle.std.specs.Prelude.{Err, List, Ok, Result, length, option_map}
+
+-- the kind of the call that failed, and what the next opening finds
+pub record Shut (L : Type 0) : Type 0 where
+  pub call : Call
+  pub left : L
+
+-- of both sides; nothing of one whose client is open
+pub record Shuts (L : Type 0) : Type 0 where
+  pub first : Option (Shut L)
+  pub second : Option (Shut L)
+
+abbrev pub both_open : {L : Type 0} → Shuts L
+both_open = record { first = None; second = None }
+
+abbrev pub shut_of : {L : Type 0} → Shuts L → Side → Option (Shut L)
+shut_of shuts First = shuts.first
+shut_of shuts Second = shuts.second
+
+abbrev pub with_shut : {L : Type 0} → Shuts L → Side → Option (Shut L) → Shuts L
+with_shut shuts First shut = record shuts { first = shut }
+with_shut shuts Second shut = record shuts { second = shut }
+
+-- what a side keeps, and what was left of it where its client is closed
+pub record PartyNow : Type 0 where
+  pub kept : Client
+  pub shut : Option (Shut Client)
+
+abbrev pub open_party : Client → PartyNow
+open_party kept = record { kept = kept; shut = None }
+
+abbrev pub shut_party : Client → Call → Client → PartyNow
+shut_party kept call left = record { kept = kept; shut = Some (record { call = call; left = left }) }
+
+-- ---- deeds of a closed client
+
+-- a given seed is no side's, and what a side keeps is shown all the same
+abbrev pub asks_open : Event → Bool
+asks_open (seeds seed) = false
+asks_open (shows_inbox side) = false
+asks_open (shows_state side) = false
+asks_open _ = true
+
+-- whether a deed asks for an open client
+abbrev pub needs_open : Deed → Bool
+needs_open (acts event) = asks_open event
+needs_open (reopens side) = false
+needs_open _ = true
+
+-- ---- a call that fails
+
+-- the kind of the write or sync of this number, from 1, of an event with this answer, which leads from one client to the other;
+-- none where it makes fewer
+unfoldable pub failing_call : ℕ → Answer → Client → Client → Option Call
+failing_call n answer before after =
+    if has_effect answer && nat_le n (replacing_calls before after) then Some (replacing_call before after (n - 1)) else None
+
+-- whether a read gives the record after it then
+unfoldable pub is_shown : ℕ → Client → Client → Bool
+is_shown n before after = shows (Some (record_text before)) (Some (record_text after)) (n - 1)
+
+-- what the next opening finds: the one, where the record after it is read, or else the other
+abbrev pub left_of : {L : Type 0} → ℕ → Client → Client → L → L → L
+left_of n before after new old = if is_shown n before after then new else old
+
+-- ---- what an event comes to
+
+-- the seed that is drawn for a text that was checked, where it needs one
+abbrev pub draw_for : Sides → Result Bool Refusal → Option (List ℕ)
+draw_for s (Ok true) = Some (next_seed s.key s.draws)
+draw_for s _ = None
+
+-- the act of its side that an event is, where it is one
+abbrev pub act_of : Sides → Event → Option Act
+act_of s (says side text) = Some (saying text (draw_for s (say_check (client_of s side) (length text))))
+act_of s (takes side p) = option_map taking (held_at s.posts p)
+act_of s (takes_nth side nth) = option_map taking (held_nth s.posts side nth)
+act_of s (flips side p bit) = option_map taking (flipped_at s.posts p bit)
+act_of s (takes_bytes side bytes) = Some (taking bytes)
+act_of s (drops_sent side amount) = Some (sending (amount_of amount (length (client_of s side).outbox)))
+act_of s (drops_done side amount) = Some (finishing (amount_of amount (length (client_of s side).inbox)))
+act_of s _ = None

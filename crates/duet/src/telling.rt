@@ -1,0 +1,126 @@
+//! The lines of an event, written.
+
+ghost use Rattle.std.specs.Prelude.{◌≡◌, ◌-◌, ◌^◌, ◌<◌, length, flat_map, slice_index_or, None, true};
+ghost use Rattle.dr_ports.specs.Writing.{Writes};
+ghost use Rattle.boxes.specs.Items.{Item};
+ghost use Rattle.dr_model.specs.Machines.Sides.{step_on};
+ghost use Rattle.duet.specs.Held.{shown, stepped};
+ghost use Rattle.duet.specs.Shuts.{asks_open, shut_of};
+ghost use Rattle.duet.specs.Replies.{entry_line, reply_line, reply_of};
+ghost use Rattle.scripts.specs.Sides.{acting_side};
+ghost use Rattle.scripts.specs.Seen.{event_of};
+ghost use Rattle.duet.specs.Tally.{IsBelow, counted_of};
+
+use crate::party::Party;
+use crate::reply::reply;
+use crate::sides::Duet;
+use crate::tally::Tally;
+use answer_lines::text_line;
+use dr_base::Side;
+use dr_ports::{Failed, OutputLine, Sink, write_all};
+use kem_laws::Kem;
+use scripts::{Line, side_name};
+use session_model::Answer;
+
+/// Writes the line of the text at a place of a side's inbox.
+fn write_entry<K: Kem, O: Sink>(
+    out: &mut O,
+    side: Side,
+    party: &Party<K>,
+    at: u32,
+) -> Result<(), Failed>
+    requires { at < length party.now.kept.inbox }
+    ensures { (d : Item) → Writes (O.at out.old) (O.at out.new)
+        (entry_line side (slice_index_or party.now.kept.inbox at d)) result }
+{
+    match party.inbox_at(at as usize) {
+        Some(entry) => write_all(
+            out,
+            text_line(side_name(side), entry.position, entry.text).as_slice(),
+        ),
+        None => Ok(()),
+    }
+}
+
+/// Writes the lines of a side's inbox, the oldest text first.
+fn write_inbox<K: Kem, O: Sink>(out: &mut O, side: Side, party: &Party<K>) -> Result<(), Failed>
+    ensures { Writes (O.at out.old) (O.at out.new)
+        (flat_map (entry_line side) party.now.kept.inbox) result }
+{
+    'texts: for at in 0..party.inbox_len() {
+        match write_entry(out, side, party, at) {
+            Err(Failed) => return Err(Failed),
+            Ok(()) => {}
+        }
+    }
+    Ok(())
+}
+
+/// Writes the texts that an event shows.
+fn write_entries<K: Kem, O: Sink>(
+    out: &mut O,
+    duet: &Duet<K>,
+    line: &Line<'_>,
+) -> Result<(), Failed>
+    ensures { Writes (O.at out.old) (O.at out.new)
+        (flat_map (entry_line (acting_side (event_of line.now)))
+        (shown (event_of line.now) duet.now.sides)) result }
+{
+    match line {
+        Line::Inbox(side) => write_inbox(out, *side, duet.party(*side)),
+        _ => Ok(()),
+    }
+}
+
+/// Writes a line.
+pub fn write_line<O: Sink>(out: &mut O, line: &OutputLine) -> Result<(), Failed>
+    ensures { Writes (O.at out.old) (O.at out.new) line.now result }
+{
+    match write_all(out, line.as_bytes()) {
+        Err(Failed) => Err(Failed),
+        Ok(()) => Ok(()),
+    }
+}
+
+/// Counts a side's answer, and writes its line.
+pub fn tell<O: Sink>(
+    side: Side,
+    answer: Answer,
+    tally: &mut Tally,
+    out: &mut O,
+) -> Result<(), Failed>
+    requires few { IsBelow (2 ^ 32 - 1) tally.old }
+    ensures counts { tally.new ≡ counted_of side answer tally.old }
+    ensures writes { Writes (O.at out.old) (O.at out.new) (reply_line side answer) result }
+{
+    tally.count(side, answer);
+    write_line(out, &reply(side, answer))
+}
+
+/// Plays one event that no stop cuts off, counts its answer, and writes its lines.
+#[tactic(auto, unfolding(crate::specs::Replies::reply_of))]
+pub fn play_line<K: Kem, O: Sink>(
+    duet: &mut Duet<K>,
+    line: &Line<'_>,
+    tally: &mut Tally,
+    out: &mut O,
+) -> Result<(), Failed>
+    requires room { length duet.old.sides.posts < duet.old.room }
+    requires draws { duet.old.sides.draws.made < 2 ^ 32 - 1 }
+    requires few { IsBelow (2 ^ 32 - 1) tally.old }
+    requires open { asks_open (event_of line.now) ≡ true
+        → shut_of duet.old.shuts (acting_side (event_of line.now)) ≡ None }
+    ensures next { duet.new ≡ stepped K.mechanism duet.old (event_of line.now) }
+    ensures counts { let k = K.mechanism in
+        tally.new ≡ counted_of (acting_side (event_of line.now))
+        (step_on k duet.old.sides (event_of line.now)).answer tally.old }
+    ensures writes { let k = K.mechanism in
+        Writes (O.at out.old) (O.at out.new)
+        (reply_of (event_of line.now) (step_on k duet.old.sides (event_of line.now))) result }
+{
+    let answer = duet.step(line);
+    match tell(line.side(), answer, tally, out) {
+        Err(Failed) => Err(Failed),
+        Ok(()) => write_entries(out, duet, line),
+    }
+}
