@@ -1,5 +1,5 @@
 -- Deeds that are barred, and those that aren't.
-use Rattle.std.proofs.Common.{Bool, None, Option, Some, false, if◌then◌else◌, refl, subst, true, ◌≡◌}
+use Rattle.std.proofs.Common.{Bool, None, Option, Some, false, if◌then◌else◌, subst, true, ◌≡◌}
 use Rattle.dr_base.specs.declared.position.Side.{Side}
 use Rattle.dr_disk.specs.declared.call.Call.{Call}
 use Rattle.scripts.specs.Deeds.{Deed}

@@ -2,7 +2,6 @@
 use Rattle.std.proofs.Common.{◌≡◌, ℕ, [], sym, ap₂}
 use Rattle.dr_base.specs.declared.position.Side.TheVariants.{First, Second}
 use Rattle.session_model.specs.Clients.{Client}
-use Rattle.dr_model.specs.Machines.Sides.{Sides}
 use Rattle.dr_model.specs.Conversations.Conversation.{positions_after}
 use Rattle.dr_model.specs.Machines.Worlds.{opening_world}
 use Rattle.kem_laws.specs.Mechanism.{Mechanism}

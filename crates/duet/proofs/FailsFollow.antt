@@ -1,6 +1,6 @@
 -- A call in which a disk fails once, and the same in the world that both sides stand for.
 use Rattle.std.proofs.Common.{Bool, List, None, Option, Some, ap, ap₂, false, if◌then◌else◌, refl, subst, sym, true, ◌∙◌, ◌≡◌, ℕ}
-use Rattle.std.specs.Prelude.{All, IfSome, nat_le, ◌&&◌, ◌-◌}
+use Rattle.std.specs.Prelude.{IfSome, nat_le, ◌&&◌, ◌-◌}
 use Rattle.dr_base.specs.Position.{peer_of}
 use Rattle.dr_base.specs.declared.position.Side.{Side}
 use Rattle.dr_base.specs.declared.position.Side.TheVariants.{First, Second}
@@ -17,7 +17,6 @@ use Rattle.dr_model.specs.Machines.WorldSides.{kept_in, sides_of}
 use Rattle.dr_model.specs.Theorems.Fairness.{IsFair}
 use Rattle.dr_model.specs.Theorems.LawfulWorlds.{IsLawfulWorld}
 use Rattle.dr_model.proofs.Worlds.Following.{step_follows}
-use Rattle.dr_model.proofs.Worlds.LawfulWorlds.{lawful_next}
 use Rattle.dr_model.proofs.Worlds.SeenWorlds.{seen_world}
 use Rattle.dr_model.proofs.Worlds.WorldViews.{client_of-kept}
 use Rattle.kem_laws.specs.Mechanism.{IsLawfulMechanism, Mechanism}
@@ -25,7 +24,7 @@ use Rattle.session_model.specs.Clients.{Client}
 use Rattle.session_model.specs.declared.answer.Answer.{Answer}
 use Rattle.client.specs.Outcomes.{replacing_call, replacing_calls}
 use Rattle.scripts.specs.Sides.{acting_side}
-use Rattle.duet.specs.Outcomes.{SidesBeside, SidesPlayed, WorldBeside, WorldPlayed, acted, failed, failed_in, failed_on, lines_alone}
+use Rattle.duet.specs.Outcomes.{SidesPlayed, WorldBeside, acted, failed, failed_in, failed_on, lines_alone}
 use Rattle.duet.specs.Replies.{failed_line, reply_of}
 use Rattle.duet.specs.Shuts.{Shut, Shuts, act_of, failing_call, is_shown, left_of, shut_of, with_shut}
 use Rattle.duet.proofs.Leading.{held_back, leads}

@@ -1,9 +1,10 @@
 -- A call of both sides in which one side's disk fails once.
-use Rattle.std.proofs.Common.{Err, None, Ok, Option, Result, Some, ap, ap₂, arith, false, length, refl, subst, sym, ℕ, ◌+◌, ◌<◌, ◌∙◌, ◌≡◌, ◌≤◌}
+use Rattle.std.proofs.Common.{Err, None, Ok, Option, Result, Some, ap, ap₂, arith, false, length, subst, sym, ℕ, ◌+◌, ◌<◌, ◌∙◌, ◌≡◌, ◌≤◌}
 use Rattle.std.specs.Prelude.{IfSome, IsSome}
 use Rattle.dr_base.specs.declared.position.Side.{Side}
 use Rattle.dr_base.specs.declared.position.Side.TheVariants.{First, Second}
 use Rattle.dr_disk.specs.declared.call.Call.{Call}
+use Rattle.dr_model.specs.Machines.Acts.{Act, act_on}
 use Rattle.dr_model.specs.Machines.Draws.{Draws}
 use Rattle.dr_model.specs.Machines.Events.{Event}
 use Rattle.dr_model.specs.Machines.Sides.{Sides, client_of, step_on, with_client}
@@ -13,17 +14,15 @@ use Rattle.kem_laws.specs.Mechanism.{Mechanism}
 use Rattle.session_model.specs.Clients.{Client}
 use Rattle.session_model.specs.declared.answer.Answer.{Answer}
 use Rattle.scripts.proofs.Calls.{acting_call}
-use Rattle.scripts.specs.Seen.{call_event}
+use Rattle.scripts.specs.Seen.{CallOfLine, call_event}
 use Rattle.scripts.specs.Sides.{acting_side}
-use Rattle.scripts.specs.declared.call.Call.{Call as ScriptCall}
-use Rattle.duet.specs.Acts.{acted_by, made_by}
+use Rattle.duet.specs.Acts.{acted_by}
 use Rattle.duet.specs.Failing.{FailsGathering, FailsOn, FailsSides}
-use Rattle.duet.specs.Gathering.{gathered, gathering, gathers, newest_from}
+use Rattle.duet.specs.Gathering.{gathered, gathers, newest_from}
 use Rattle.duet.specs.Held.{DuetNow, after_step, after_deed, beside, with_draws}
 use Rattle.duet.specs.Outcomes.{SidesPlayed, failed, failed_on, opened}
 use Rattle.duet.specs.Replies.{failed_line, reply_line}
 use Rattle.duet.specs.Shuts.{Shut, failing_call, left_of, with_shut}
-use Rattle.duet.specs.declared.acts.Act.{Act}
 use Rattle.duet.specs.Tally.{counted_all, counted_of}
 use Rattle.duet.specs.declared.tally.Tally.{Tally}
 use Rattle.duet.proofs.Gathering.{acted_few, gathers_none, own_next, same_client, same_draws}
@@ -31,7 +30,7 @@ use Rattle.duet.proofs.Moving.{drawn_same}
 use Rattle.duet.proofs.Showing.{call_reply}
 use Rattle.duet.proofs.Stopped.Fails.{no_effect}
 
-module _ (k : Mechanism) (old mid : DuetNow) (side : Side) (call : ScriptCall) (n : ℕ)
+module _ (k : Mechanism) (old mid : DuetNow) (side : Side) (call : CallOfLine) (n : ℕ)
     (drawn : mid ≡ with_draws old mid.sides.draws) where
   abbrev event : Event
   event = call_event side call
@@ -75,7 +74,7 @@ module _ (k : Mechanism) (old mid : DuetNow) (side : Side) (call : ScriptCall) (
     c = client_of t side
 
     abbrev made : Step Client
-    made = settled c (made_by k c act)
+    made = settled c (act_on k c act)
 
     own_before : before ≡ c
     own_before = ap (client_of s) (acting_call side call) ∙ same_kept
@@ -155,7 +154,7 @@ module _ (k : Mechanism) (side : Side) (n : ℕ) (act : Act) (old mid : DuetNow)
       → length (client_of mid.sides side).outbox ≤ length (client_of old.sides side).outbox + 1
   outbox_few (Ok answer) goes =
       let c = client_of old.sides side in
-      let made = settled c (made_by k c act) in
+      let made = settled c (act_on k c act) in
       omega (
         arith,
         acted_few k c act,
@@ -175,7 +174,7 @@ module _ (k : Mechanism) (side : Side) (n : ℕ) (act : Act) (old mid : DuetNow)
       → FailsSides k side n act old mid result → FailsGathering k side n act old new result
   gathers_after held new (Ok answer) is goes by =
       let c = client_of old.sides side in
-      let made = settled c (made_by k c act) in (
+      let made = settled c (act_on k c act) in (
         by.0,
         by.1,
         goes
@@ -184,7 +183,7 @@ module _ (k : Mechanism) (side : Side) (n : ℕ) (act : Act) (old mid : DuetNow)
       )
   gathers_after held new (Err call) is goes by =
       let c = client_of old.sides side in
-      let made = settled c (made_by k c act) in
+      let made = settled c (act_on k c act) in
       let shuts = with_shut old.shuts side (Some (record { call = call; left = left_of n c made.next made.next c })) in (
         by.0,
         goes
@@ -219,7 +218,7 @@ opens_roomy old mid Second (Some shut) some by room = subst (λ (m : DuetNow). l
 
 -- ---- lines
 
-module _ (k : Mechanism) (duet : DuetNow) (side : Side) (call : ScriptCall) (n : ℕ) where
+module _ (k : Mechanism) (duet : DuetNow) (side : Side) (call : CallOfLine) (n : ℕ) where
   abbrev called : Event
   called = call_event side call
 

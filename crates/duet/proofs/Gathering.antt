@@ -7,22 +7,19 @@ use Rattle.boxes.specs.Items.{Item}
 use Rattle.dr_base.specs.declared.position.Side.{Side}
 use Rattle.dr_base.specs.declared.position.Side.TheVariants.{First, Second}
 use Rattle.dr_disk.specs.declared.call.Mode.{Mode}
-use Rattle.dr_model.specs.Machines.Acts.{finished_by, said_by, sent_by, taken_by}
+use Rattle.dr_model.specs.Machines.Acts.{Act, act_on, finished_by, finishing, said_by, saying, saying_by, sending, sent_by, taken_by, taking}
+use Rattle.dr_model.specs.Machines.Draws.{given_or}
 use Rattle.dr_model.specs.Machines.Sides.{Sides, client_of, opened_on, with_client}
 use Rattle.dr_model.specs.Machines.Steps.{Step, has_effect, settled, step}
 use Rattle.kem_laws.specs.Mechanism.{Mechanism}
-use Rattle.ratchet.specs.Seen.{seed_bytes}
-use Rattle.session_model.specs.Clients.{Client, TakenPacket, accept_send, dropped_of, take_on}
+use Rattle.session_model.specs.Clients.{Client, TakenPacket, accept_send, dropped_of, say_check, take_on}
 use Rattle.session_model.specs.Saying.{SendDraft, draft_send}
 use Rattle.session_model.specs.declared.answer.Answer.TheVariants.{Opened, Refused, Stopped}
 use Rattle.session_model.specs.declared.answer.Refusal.{Refusal}
 use Rattle.session_model.specs.declared.answer.Refusal.TheVariants.{Fewer}
 use Rattle.client.proofs.Syncs.Parties.{keeps_outbox}
-use Rattle.duet.specs.Acts.{made_by}
 use Rattle.duet.specs.Gathering.{gathered, gathering, newest_from}
 use Rattle.duet.specs.Stops.{cut_by, cut_of, stopped_client, stopped_sides}
-use Rattle.duet.specs.declared.acts.Act.{Act}
-use Rattle.duet.specs.declared.acts.Act.TheVariants.{Done as ActDone, Say as ActSay, Sent as ActSent, Take as ActTake}
 
 -- the last item
 pub last_dropped : {X : Type 0} (xs : List X) (held : ℕ) (x : X) → length xs ≡ held + 1
@@ -106,11 +103,16 @@ pub said_few : (c : Client) (d : Option SendDraft) → length (settled c (said_b
 said_few c None = omega arith
 said_few c (Some draft) = omega (arith, length-append c.outbox (draft.post ∷ []))
 
-pub acted_few : (k : Mechanism) (c : Client) (act : Act) → length (settled c (made_by k c act)).next.outbox ≤ length c.outbox + 1
-acted_few k c (ActSay text seed) = said_few c (draft_send k c.state text.now (seed_bytes seed))
-acted_few k c (ActTake bytes) = omega (arith, taken_few k c bytes.items)
-acted_few k c (ActSent n) = omega (arith, sent_few c n (nat_le n (length c.outbox)))
-acted_few k c (ActDone n) = omega (arith, done_few c n (dropped_of n c.inbox))
+saying_few : (k : Mechanism) (c : Client) (text : List ℕ) (draw : Option (List ℕ)) (r : Result Bool Refusal)
+    → length (settled c (saying_by k c text draw r)).next.outbox ≤ length c.outbox + 1
+saying_few k c text draw (Ok turns) = said_few c (draft_send k c.state text (given_or [] draw))
+saying_few k c text draw (Err refusal) = omega arith
+
+pub acted_few : (k : Mechanism) (c : Client) (act : Act) → length (settled c (act_on k c act)).next.outbox ≤ length c.outbox + 1
+acted_few k c (saying text draw) = saying_few k c text draw (say_check c (length text))
+acted_few k c (taking bytes) = omega (arith, taken_few k c bytes)
+acted_few k c (sending n) = omega (arith, sent_few c n (nat_le n (length c.outbox)))
+acted_few k c (finishing n) = omega (arith, done_few c n (dropped_of n c.inbox))
 
 -- also where it is cut off
 cut_few : (cut : Option Bool) (c : Client) (made : Step Client) → length made.next.outbox ≤ length c.outbox + 1

@@ -11,13 +11,13 @@ use Rattle.dr_base.specs.declared.position.Side.TheVariants.{First, Second}
 use Rattle.dr_model.specs.Conversations.Conversation.{is_said, positions}
 use Rattle.dr_model.specs.Conversations.Posts.{post_at, posts}
 use Rattle.dr_model.specs.Machines.Acts.{Act, act_on, needs_seed, said_by, saying_by, taking}
-use Rattle.dr_model.specs.Machines.Draws.{Draws, after_draw, next_seed}
+use Rattle.dr_model.specs.Machines.Draws.{after_draw, next_seed}
 use Rattle.dr_model.specs.Machines.Events.{Event, cuts, drops_done, drops_sent, flips, says, seeds, shows_inbox, shows_state, takes, takes_bytes, takes_nth}
 use Rattle.dr_model.specs.Machines.Network.{flipped_at, held_at, held_nth}
 use Rattle.dr_model.specs.Machines.Sides.{Sides, client_of, said_on, saying_on, step_on, taken_on}
 use Rattle.dr_model.specs.Machines.Steps.{Step, amount_of, has_effect, settled}
-use Rattle.dr_model.specs.Machines.Worlds.{World, made_at, nth_of_peer, said_at, step_of, taking_given, taking_made}
-use Rattle.dr_model.specs.Machines.WorldSides.{kept_in, sides_of}
+use Rattle.dr_model.specs.Machines.Worlds.{World, made_at, nth_of_peer, step_of, taking_given, taking_made}
+use Rattle.dr_model.specs.Machines.WorldSides.{sides_of}
 use Rattle.dr_model.specs.Theorems.LawfulWorlds.{IsLawfulWorld}
 use Rattle.dr_model.proofs.Acting.Keeping.{done_kept, sent_kept, taken_kept}
 use Rattle.dr_model.proofs.Growth.Growing.{positions-said}

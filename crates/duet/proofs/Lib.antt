@@ -7,6 +7,7 @@ pub mod FailsSides
 pub mod Finding
 pub mod Following
 pub mod Gathering
+pub mod HeldBack
 pub mod Leading
 pub mod MadeFairly
 pub mod Meets

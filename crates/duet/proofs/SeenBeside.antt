@@ -1,5 +1,5 @@
 -- What both sides keep in a world, and what stands beside them.
-use Rattle.std.proofs.Common.{Bool, List, None, Option, Some, ap, ap₂, false, if◌then◌else◌, refl, true, ◌∙◌, ◌≡◌}
+use Rattle.std.proofs.Common.{Bool, None, Option, Some, ap, ap₂, false, if◌then◌else◌, refl, true, ◌≡◌}
 use Rattle.std.specs.Prelude.{IfSome, option_map}
 use Rattle.dr_base.specs.declared.position.Side.{Side}
 use Rattle.dr_base.specs.declared.position.Side.TheVariants.{First, Second}

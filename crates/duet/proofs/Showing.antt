@@ -23,12 +23,11 @@ use Rattle.duet.specs.Held.{shown}
 use Rattle.duet.specs.Shuts.{Shut, failing_call, left_of, shut_of}
 use Rattle.duet.proofs.Barred.{barred_or}
 use Rattle.scripts.proofs.Calls.{acting_call}
-use Rattle.scripts.specs.Seen.{call_event, take_event}
+use Rattle.scripts.specs.Seen.{CallOfLine, call_event, take_event}
 use Rattle.duet.specs.Replies.{entry_line, reply_line, reply_of}
 use Rattle.scripts.specs.Sides.{acting_side, deed_side}
 use Rattle.duet.specs.Stops.{cut_event, cut_of, stopped_on}
 use Rattle.scripts.specs.declared.lined.Stop.{Stop}
-use Rattle.scripts.specs.declared.call.Call.{Call}
 use Rattle.scripts.specs.declared.call.Call.TheVariants.{Done, Say, Sent, Take}
 use Rattle.scripts.specs.declared.call.Source.{Source}
 use Rattle.scripts.specs.declared.call.Source.TheVariants.{At, Bytes, Flipped, Nth}
@@ -210,13 +209,13 @@ take_shows_none t side (Nth nth) = refl
 take_shows_none t side (Flipped p bit) = refl
 take_shows_none t side (Bytes hex) = refl
 
-call_shows_none : (t : Sides) (side : Side) (call : Call) → shown (call_event side call) t ≡ []
+call_shows_none : (t : Sides) (side : Side) (call : CallOfLine) → shown (call_event side call) t ≡ []
 call_shows_none t side (Say text) = refl
 call_shows_none t side (Take source) = take_shows_none t side source
 call_shows_none t side (Sent amount) = refl
 call_shows_none t side (Done amount) = refl
 
-cut_shows_none : (t : Sides) (cut : Option Bool) (side : Side) (call : Call)
+cut_shows_none : (t : Sides) (cut : Option Bool) (side : Side) (call : CallOfLine)
     → shown (cut_event cut (call_event side call)) t ≡ []
 cut_shows_none t None side call = call_shows_none t side call
 cut_shows_none t (Some replaced) side call = call_shows_none t side call
@@ -227,7 +226,7 @@ cut_acting None event = refl
 cut_acting (Some replaced) event = refl
 
 -- the reply of a call is its line
-pub call_reply : (k : Mechanism) (s : Sides) (side : Side) (call : Call) (answer : Answer)
+pub call_reply : (k : Mechanism) (s : Sides) (side : Side) (call : CallOfLine) (answer : Answer)
     → answer ≡ (step_on k s (call_event side call)).answer
     → reply_line side answer ≡ reply_of (call_event side call) (step_on k s (call_event side call))
 unfolding reply_of

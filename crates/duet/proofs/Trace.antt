@@ -4,7 +4,6 @@ use Rattle.dr_ports.specs.Ports.{appended}
 use Rattle.dr_ports.specs.Writing.{TookBeginning}
 use Rattle.dr_ports.proofs.Told.{appended-appended, appended-none}
 use Rattle.dr_ports.proofs.WritingLemmas.{took_of_first, took_of_second}
-use Rattle.dr_model.specs.Machines.Sides.{Sides}
 use Rattle.kem_laws.specs.Mechanism.{Mechanism}
 use Rattle.duet.specs.Outcomes.{Beside, Played, SidesBeside, deed_on}
 use Rattle.scripts.specs.Deeds.{Deed}

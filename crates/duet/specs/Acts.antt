@@ -1,50 +1,58 @@
 -- What a side does by a call on its client, and how that ends.
-use Rattle.std.specs.Prelude.{Err, IfSome, List, Ok, Option, Result, Some, false, is_some, length, ℕ, ⊤, ◌≡◌}
+use Rattle.std.specs.Prelude.{Err, IfSome, List, Ok, Option, Result, Some, false, is_some, length, option_map, ℕ, ⊤, ◌≡◌}
+use Rattle.arrayvec.specs.ArrayVec.{ArrayVec}
 use Rattle.boxes.specs.Items.{Item}
 use Rattle.kem_laws.specs.Mechanism.{Mechanism}
 use Rattle.dr_base.specs.Bytes.{AreBytes}
+use Rattle.dr_base.specs.declared.key.Key32.{Key32}
 use Rattle.dr_base.specs.declared.position.Side.{Side}
-use Rattle.dr_model.specs.Machines.Acts.{finished_by, said_by, sent_by, taken_by}
+use Rattle.dr_model.specs.Machines.Acts.{Act, act_on, finishing, saying, sending, taking}
 use Rattle.dr_model.specs.Machines.Events.{Event}
 use Rattle.dr_model.specs.Machines.Network.{flipped_at, held_at, held_nth}
 use Rattle.dr_model.specs.Machines.Sides.{Sides, client_of, step_on}
 use Rattle.dr_model.specs.Machines.Steps.{Step, has_effect, settled, step}
-use Rattle.ratchet.specs.Seen.{seed_bytes}
-use Rattle.session_model.specs.Clients.{Client, dropped_of, say_check, say_on, take_on}
+use Rattle.session_model.specs.Clients.{Client, say_check}
 use Rattle.session_model.specs.declared.answer.Answer.{Answer}
-use Rattle.session_model.specs.declared.answer.Refusal.{Refusal}
 use Rattle.client.specs.Outcomes.{Outcome, acknowledged, faulted, is_closed, refused, undrawn}
 use Rattle.scripts.specs.Seen.{bytes_of_hex}
+use Rattle.scripts.specs.declared.call.Call.{Call}
+use Rattle.scripts.specs.declared.call.Call.TheVariants.{Done, Say, Sent, Take}
 use Rattle.scripts.specs.declared.call.Source.{Source}
 use Rattle.scripts.specs.declared.call.Source.TheVariants.{At, Bytes, Flipped, Nth}
 use Rattle.duet.specs.Gathering.{gathering, on_side}
 use Rattle.duet.specs.Held.{DuetNow, with_draws}
-use Rattle.duet.specs.declared.acts.Act.{Act}
-use Rattle.duet.specs.declared.acts.Act.TheVariants.{Done, Say, Sent, Take}
 use Rattle.duet.specs.declared.acts.Ended.{Ended}
 use Rattle.duet.specs.declared.acts.Ended.TheVariants.{Acknowledged, Faulted, Refused}
+use Rattle.duet.specs.declared.acts.Seeded.{Seeded}
+
+-- a call with all that a side's client is called with
+abbrev pub CallOfClient : Type 0
+CallOfClient = Call Seeded (ArrayVec ℕ) ℕ
+
+-- the draw of a seed that may be there
+abbrev pub draw_given : Option Key32 → Option (List ℕ)
+draw_given seed = option_map (λ key. key.bytes) seed
+
+-- the act that a call is
+abbrev pub act_of_call : CallOfClient → Act
+act_of_call (Say said) = saying said.text.now (draw_given said.seed)
+act_of_call (Take packet) = taking packet.items
+act_of_call (Sent n) = sending n
+act_of_call (Done n) = finishing n
 
 -- a text passed the check, and has a seed of 32 bytes exactly where it needs one; bytes are bytes
 abbrev pub IsChecked : Client → Act → Type 0
-IsChecked c (Say text seed) =
-    (say_check c (length text.now) ≡ Ok (is_some seed))
-    × IfSome seed (λ key. length key.bytes ≡ 32)
-IsChecked c (Take bytes) = AreBytes bytes.items
+IsChecked c (saying text draw) =
+    (say_check c (length text) ≡ Ok (is_some draw)) × IfSome draw (λ seed. length seed ≡ 32)
+IsChecked c (taking bytes) = AreBytes bytes
 IsChecked c _ = ⊤
 
--- what the client makes of it
-abbrev pub made_by : Mechanism → Client → Act → Result (Step Client) Refusal
-made_by k c (Say text seed) = said_by (say_on k c text.now (seed_bytes seed))
-made_by k c (Take bytes) = taken_by (take_on k c bytes.items)
-made_by k c (Sent n) = sent_by c n (dropped_of n c.outbox)
-made_by k c (Done n) = finished_by c n (dropped_of n c.inbox)
-
--- what it makes of a side: by itself, and with what the network gets then
+-- what an act makes of a side: by itself, and with what the network gets then
 abbrev pub alone_by : Mechanism → Sides → Side → Act → Step Sides
-alone_by k s side act = let c = client_of s side in on_side s side (settled c (made_by k c act))
+alone_by k s side act = let c = client_of s side in on_side s side (settled c (act_on k c act))
 
 abbrev pub acted_by : Mechanism → Sides → Side → Act → Step Sides
-acted_by k s side act = let c = client_of s side in gathering s side (settled c (made_by k c act))
+acted_by k s side act = let c = client_of s side in gathering s side (settled c (act_on k c act))
 
 -- ---- from a call to an act
 
@@ -56,15 +64,16 @@ packet_given posts side (Flipped p bit) = flipped_at posts p bit
 packet_given posts side (Bytes hex) = Some (bytes_of_hex hex.now)
 
 -- an event comes to an act of its side, or to an answer without one
-abbrev pub ComesTo : Mechanism → Sides → Sides → Side → Event → Result Act Answer → Type 0
-ComesTo k s t side event (Ok act) =
+abbrev pub ComesTo : Mechanism → Sides → Sides → Side → Event → Result CallOfClient Answer → Type 0
+ComesTo k s t side event (Ok call) =
+    let act = act_of_call call in
     (step_on k s event ≡ acted_by k t side act) × IsChecked (client_of t side) act
 ComesTo k s t side event (Err answer) =
     (step_on k s event ≡ step answer t) × (has_effect answer ≡ false)
 
 -- it does once a draw was made, where one is needed
 pub record IsPrepared (k : Mechanism) (old new : DuetNow) (side : Side) (event : Event)
-    (result : Result Act Answer) : Type 0 where
+    (result : Result CallOfClient Answer) : Type 0 where
   pub drawn : new ≡ with_draws old new.sides.draws
   pub comes : ComesTo k old.sides new.sides side event result
 

@@ -2,6 +2,7 @@
 use Rattle.std.specs.Prelude.{Err, None, Ok, Result, Some, ℕ, ◌≡◌}
 use Rattle.dr_base.specs.declared.position.Side.{Side}
 use Rattle.dr_disk.specs.declared.call.Call.{Call}
+use Rattle.dr_model.specs.Machines.Acts.{Act, act_on}
 use Rattle.dr_model.specs.Machines.Events.{Event}
 use Rattle.dr_model.specs.Machines.Sides.{client_of, step_on}
 use Rattle.dr_model.specs.Machines.Steps.{settled, step}
@@ -9,18 +10,16 @@ use Rattle.kem_laws.specs.Mechanism.{Mechanism}
 use Rattle.scripts.specs.Sides.{acting_side}
 use Rattle.session_model.specs.Clients.{Client}
 use Rattle.session_model.specs.declared.answer.Answer.{Answer}
-use Rattle.duet.specs.Acts.{made_by}
 use Rattle.duet.specs.Gathering.{gathering, on_side}
 use Rattle.duet.specs.Held.{DuetNow, after_step, after_deed, beside}
 use Rattle.duet.specs.Outcomes.{failed_on}
 use Rattle.duet.specs.Shuts.{PartyNow, failing_call, left_of, shut_party, with_shut}
-use Rattle.duet.specs.declared.acts.Act.{Act}
 
 -- the side is closed by a call of this kind, and keeps what it kept
 abbrev pub IsShutBy : Mechanism → Side → ℕ → Act → DuetNow → DuetNow → Call → Type 0
 IsShutBy k side n act old new call =
     let c = client_of old.sides side in
-    let made = settled c (made_by k c act) in
+    let made = settled c (act_on k c act) in
     (failing_call n made.answer c made.next ≡ Some call)
     × (new ≡ record old {
       shuts = with_shut old.shuts side (Some (record { call = call; left = left_of n c made.next made.next c }));
@@ -29,10 +28,10 @@ IsShutBy k side n act old new call =
 -- An act of which the write or sync of a number, from 1, fails: it takes place where it makes fewer, else it closes the client.
 abbrev pub FailsAt : Mechanism → ℕ → Act → Client → PartyNow → Result Answer Call → Type 0
 FailsAt k n act kept new (Ok answer) =
-    let made = settled kept (made_by k kept act) in
+    let made = settled kept (act_on k kept act) in
     (failing_call n made.answer kept made.next ≡ None) × (step answer new.kept ≡ made) × (new.shut ≡ None)
 FailsAt k n act kept new (Err call) =
-    let made = settled kept (made_by k kept act) in
+    let made = settled kept (act_on k kept act) in
     (failing_call n made.answer kept made.next ≡ Some call)
     × (new ≡ shut_party kept call (left_of n kept made.next made.next kept))
 
@@ -40,14 +39,14 @@ FailsAt k n act kept new (Err call) =
 abbrev pub FailsSides : Mechanism → Side → ℕ → Act → DuetNow → DuetNow → Result Answer Call → Type 0
 FailsSides k side n act old new (Ok answer) =
     let c = client_of old.sides side in
-    let made = settled c (made_by k c act) in
+    let made = settled c (act_on k c act) in
     (failing_call n made.answer c made.next ≡ None) × (answer ≡ made.answer) × (new ≡ after_step old (on_side old.sides side made))
 FailsSides k side n act old new (Err call) = IsShutBy k side n act old new call
 
 abbrev pub FailsGathering : Mechanism → Side → ℕ → Act → DuetNow → DuetNow → Result Answer Call → Type 0
 FailsGathering k side n act old new (Ok answer) =
     let c = client_of old.sides side in
-    let made = settled c (made_by k c act) in
+    let made = settled c (act_on k c act) in
     (failing_call n made.answer c made.next ≡ None) × (answer ≡ made.answer) × (new ≡ after_step old (gathering old.sides side made))
 FailsGathering k side n act old new (Err call) = IsShutBy k side n act old new call
 

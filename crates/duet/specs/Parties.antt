@@ -1,5 +1,5 @@
 -- One side: a client on a disk in memory whose calls all pass, which is open, or was closed by a call that failed.
-use Rattle.std.specs.Prelude.{Err, List, None, Ok, Option, Result, Some, option_map, ℕ, ⊤, ◌≡◌}
+use Rattle.std.specs.Prelude.{List, None, Ok, Option, Result, Some, option_map, ℕ, ⊤, ◌≡◌}
 use Rattle.dr_disk.specs.MemoryDisks.{state_of}
 use Rattle.dr_disk.specs.State.{DiskState, all_pass}
 use Rattle.dr_disk.specs.declared.call.Call.{Call}

@@ -5,7 +5,7 @@ use Rattle.dr_base.specs.declared.position.Side.TheVariants.{First, Second}
 use Rattle.dr_disk.specs.declared.call.Call.{Call}
 use Rattle.dr_model.specs.Machines.Acts.{Act, finishing, saying, sending, taking}
 use Rattle.dr_model.specs.Machines.Draws.{next_seed}
-use Rattle.dr_model.specs.Machines.Events.{Event, cuts, drops_done, drops_sent, flips, says, seeds, shows_inbox, shows_state, takes, takes_bytes, takes_nth}
+use Rattle.dr_model.specs.Machines.Events.{Event, drops_done, drops_sent, flips, says, seeds, shows_inbox, shows_state, takes, takes_bytes, takes_nth}
 use Rattle.dr_model.specs.Machines.Network.{flipped_at, held_at, held_nth}
 use Rattle.dr_model.specs.Machines.Sides.{Sides, client_of}
 use Rattle.dr_model.specs.Machines.Steps.{amount_of, has_effect}
@@ -16,7 +16,7 @@ use Rattle.session_record.specs.Record.{record_text}
 use Rattle.slot_store.specs.Stops.{shows}
 use Rattle.client.specs.Outcomes.{replacing_call, replacing_calls}
 use Rattle.scripts.specs.Deeds.{Deed, acts, reopens}
-use Rattle.std.specs.Prelude.{Err, List, Ok, Result, length, option_map}
+use Rattle.std.specs.Prelude.{List, Ok, Result, length, option_map}
 
 -- the kind of the call that failed, and what the next opening finds
 pub record Shut (L : Type 0) : Type 0 where

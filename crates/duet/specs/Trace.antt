@@ -1,8 +1,7 @@
 -- The trace of a script.
 use Rattle.std.specs.Prelude.{List, ℕ, [], ◌∷◌, ◌++◌, ⊤}
 use Rattle.dr_base.specs.declared.position.Side.TheVariants.{First}
-use Rattle.dr_model.specs.Machines.Sides.{Sides}
-use Rattle.dr_model.specs.Machines.Worlds.{World, opening_world}
+use Rattle.dr_model.specs.Machines.Worlds.{opening_world}
 use Rattle.dr_model.specs.Theorems.Fairness.{IsUnforgedEvent}
 use Rattle.dr_model.specs.Machines.WorldSides.{kept_in, sides_of}
 use Rattle.kem_laws.specs.Mechanism.{Mechanism}

@@ -1,6 +1,6 @@
 //! The draws of a script.
 
-ghost use Rattle.std.specs.Prelude.{◌≡◌, ℕ, ◌^◌, ◌<◌, ◌-◌, Some, None};
+ghost use Rattle.std.specs.Prelude.{◌≡◌, ◌^◌, ◌<◌, ◌-◌, Some, None};
 ghost use Rattle.dr_model.specs.Machines.Draws.{after_draw, drawn, next_seed};
 
 use dr_base::Key32;
@@ -18,7 +18,6 @@ pub struct Draws {
 }
 
 impl Model for Draws {
-    ghost use Rattle.std.specs.Prelude.{option_map};
     ghost use Rattle.dr_model.specs.Machines.Draws.{Draws as DrawsNow};
 
     ghost Value = { DrawsNow };

@@ -1,11 +1,11 @@
 //! A side whose disk fails once in an act, and which then opens again.
 
 ghost use Rattle.std.specs.Prelude.{◌≡◌, ◌≤◌, None, IfOk, IfSome, IsSome};
-ghost use Rattle.duet.specs.Acts.{IsChecked};
+ghost use Rattle.duet.specs.Acts.{IsChecked, act_of_call};
 ghost use Rattle.duet.specs.Failing.{FailsAt};
 ghost use Rattle.duet.specs.Shuts.{open_party};
 
-use crate::acts::{Act, Ended, perform};
+use crate::acts::{ClientCall, Ended, perform};
 use crate::party::Party;
 use crate::stopping::reopened;
 use dr_disk::Call;
@@ -17,17 +17,17 @@ use std::alloc::{AllocError, Global};
 impl<K: Kem> Party<K> {
     /// Does an act in which the write or sync of this number, from 1, fails. Where the act makes so
     /// many, its client is closed by that one, whose kind is given.
-    pub fn failed(&mut self, at: u32, act: Act<'_>) -> Result<Answer, Call>
+    pub fn failed(&mut self, at: u32, call: ClientCall<'_>) -> Result<Answer, Call>
         requires open { self.old.shut ≡ None }
-        requires checked { IsChecked self.old.kept act }
+        requires checked { IsChecked self.old.kept (act_of_call call) }
         requires counted { 1 ≤ at }
-        ensures { FailsAt K.mechanism at act.entry self.old.kept self.new result }
+        ensures { FailsAt K.mechanism at (act_of_call call.entry) self.old.kept self.new result }
     {
         laws::<K>();
         record_law();
         self.client.lawful();
         self.disk.fail_at(at);
-        let ended = perform(&mut self.client, &mut self.disk, act);
+        let ended = perform(&mut self.client, &mut self.disk, call);
         self.disk.go_on();
         match ended {
             Ended::Acknowledged(answer) => Ok(answer),

@@ -2,17 +2,17 @@
 
 ghost use Rattle.std.specs.Prelude.{◌≡◌, ◌≤◌, ◌-◌, ◌^◌, ◌<◌, None, IfOk, IfSome, IsSome, length, option_map};
 ghost use Rattle.dr_model.specs.Machines.Sides.{client_of, with_client};
-ghost use Rattle.duet.specs.Acts.{IsChecked};
+ghost use Rattle.duet.specs.Acts.{IsChecked, act_of_call};
 ghost use Rattle.duet.specs.Failing.{FailsGathering, FailsOn, FailsSides};
 ghost use Rattle.duet.specs.Gathering.{gathered, newest_from};
-ghost use Rattle.duet.specs.Held.{DuetNow, after_deed, beside};
+ghost use Rattle.duet.specs.Held.{after_deed, beside};
 ghost use Rattle.duet.specs.Outcomes.{barring, freely_on};
 ghost use Rattle.duet.specs.Shuts.{needs_open, shut_of, with_shut};
 ghost use Rattle.scripts.specs.Deeds.{reopens};
 ghost use Rattle.scripts.specs.Lined.{lined_deed};
 ghost use Rattle.scripts.specs.Seen.{call_event};
 
-use crate::acts::Act;
+use crate::acts::ClientCall;
 use crate::sides::Duet;
 use dr_base::Side;
 use dr_disk::Call;
@@ -46,29 +46,31 @@ impl<K: Kem> Duet<K> {
     }
 
     /// A side does an act, in which its disk fails.
-    fn failed(&mut self, side: Side, at: u32, act: Act<'_>) -> Result<Answer, Call>
+    fn failed(&mut self, side: Side, at: u32, call: ClientCall<'_>) -> Result<Answer, Call>
         requires open { shut_of self.old.shuts side ≡ None }
-        requires checked { IsChecked (client_of self.old.sides side) act }
+        requires checked { IsChecked (client_of self.old.sides side) (act_of_call call) }
         requires counted { 1 ≤ at }
-        ensures { FailsSides K.mechanism side at act.entry self.old self.new result }
+        ensures { let act = act_of_call call.entry in
+            FailsSides K.mechanism side at act self.old self.new result }
     {
         match side {
-            Side::First => self.first.failed(at, act),
-            Side::Second => self.second.failed(at, act),
+            Side::First => self.first.failed(at, call),
+            Side::Second => self.second.failed(at, call),
         }
     }
 
     /// A side does an act, in which its disk fails, and the network gets the packet that it adds
     /// to its outbox.
-    fn act_failed(&mut self, side: Side, at: u32, act: Act<'_>) -> Result<Answer, Call>
+    fn act_failed(&mut self, side: Side, at: u32, call: ClientCall<'_>) -> Result<Answer, Call>
         requires room { length self.old.sides.posts < self.old.room }
         requires open { shut_of self.old.shuts side ≡ None }
-        requires checked { IsChecked (client_of self.old.sides side) act }
+        requires checked { IsChecked (client_of self.old.sides side) (act_of_call call) }
         requires counted { 1 ≤ at }
-        ensures { FailsGathering K.mechanism side at act.entry self.old self.new result }
+        ensures { let act = act_of_call call.entry in
+            FailsGathering K.mechanism side at act self.old self.new result }
     {
         let held = self.party(side).summary().outbox;
-        let ended = self.failed(side, at, act);
+        let ended = self.failed(side, at, call);
         self.gather(side, held);
         ended
     }
@@ -83,7 +85,7 @@ impl<K: Kem> Duet<K> {
             FailsOn K.mechanism failure.now.at event self.old self.new result }
     {
         match self.prepared(failure.side, failure.call) {
-            Ok(act) => self.act_failed(failure.side, failure.at, act),
+            Ok(call) => self.act_failed(failure.side, failure.at, call),
             Err(answer) => Ok(answer),
         }
     }

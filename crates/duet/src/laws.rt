@@ -1,9 +1,8 @@
 //! What a script comes to. These functions have no code: a caller that needs a fact calls one.
 
-ghost use Rattle.std.specs.Prelude.{◌≡◌, All, Some, true, is_some};
+ghost use Rattle.std.specs.Prelude.{◌≡◌, All, true, is_some};
 ghost use Rattle.kem_laws.specs.Mechanism.{IsLawfulMechanism, Mechanism};
 ghost use Rattle.session_model.specs.Schedule.{agreement_seed};
-ghost use Rattle.scripts.specs.Deeds.{Deed};
 ghost use Rattle.scripts.specs.Script.{Scripted};
 ghost use Rattle.duet.specs.Tally.{tally_in, tally_of};
 ghost use Rattle.duet.specs.Trace.{IsUnforgedScript, played, trace_of};

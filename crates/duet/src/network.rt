@@ -1,6 +1,6 @@
 //! The network: it holds every packet that it got, and may change a bit of one.
 
-ghost use Rattle.std.specs.Prelude.{◌≡◌, ℕ, ◌%◌, ◌^◌, ◌<◌, ◌≤◌, bit_xor, length, option_copied, option_map, slice_index, slice_set, IfSome};
+ghost use Rattle.std.specs.Prelude.{◌≡◌, ◌%◌, ◌^◌, ◌<◌, ◌≤◌, bit_xor, length, option_copied, option_map, slice_index, slice_set, IfSome};
 ghost use Rattle.dr_model.specs.Machines.Network.{flipped, flipped_at, held_at, held_nth};
 ghost use Rattle.duet.specs.Acts.{packet_given};
 

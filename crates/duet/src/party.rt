@@ -3,16 +3,17 @@
 ghost use Rattle.std.specs.Prelude.{◌≡◌, ◌≤◌, ◌↔◌, ◌<◌, ◌-◌, length, None, Some, IfOk, IfSome, IsNone, IsSome, IsErrOf, option_map, slice_get};
 ghost use Rattle.boxes.specs.Seen.{entry_item};
 ghost use Rattle.session_model.specs.Clients.{say_check, summary_of};
+ghost use Rattle.dr_model.specs.Machines.Acts.{act_on};
 ghost use Rattle.dr_model.specs.Machines.Steps.{settled, step};
 ghost use Rattle.session_model.specs.Schedule.{agreement_seed};
-ghost use Rattle.duet.specs.Acts.{IsChecked, made_by};
+ghost use Rattle.duet.specs.Acts.{IsChecked, act_of_call};
 ghost use Rattle.duet.specs.Held.{opening_client};
 ghost use Rattle.duet.specs.Parties.{IsFirstRefusal};
 ghost use Rattle.duet.specs.Shuts.{open_party};
 ghost use Rattle.client.specs.Syncing.Lines.{own_box, peers_box};
 ghost use Rattle.client.specs.declared.refusals.BeginRefusal.TheVariants.{NoPair as NoFirstPair};
 
-use crate::acts::{Act, Ended, perform};
+use crate::acts::{ClientCall, Ended, perform};
 use crate::post::Post;
 use boxes::Entry;
 use client::{AREA_SIZE, BeginRefusal, Client, Names};
@@ -153,14 +154,14 @@ impl<K: Kem> Party<K> {
     }
 
     /// Does an act on its client, which is open. A refusal leaves all as it was.
-    pub fn act(&mut self, act: Act<'_>) -> Answer
+    pub fn act(&mut self, call: ClientCall<'_>) -> Answer
         requires open { self.old.shut ≡ None }
-        requires checked { IsChecked self.old.kept act }
-        ensures made { step result self.new.kept
-            ≡ settled self.old.kept (made_by K.mechanism self.old.kept act.entry) }
+        requires checked { IsChecked self.old.kept (act_of_call call) }
+        ensures made { let act = act_of_call call.entry in step result self.new.kept
+            ≡ settled self.old.kept (act_on K.mechanism self.old.kept act) }
         ensures open { self.new.shut ≡ None }
     {
-        match perform(&mut self.client, &mut self.disk, act) {
+        match perform(&mut self.client, &mut self.disk, call) {
             Ended::Acknowledged(answer) => answer,
             Ended::Refused(refusal) => Answer::Refused(refusal),
             Ended::Faulted(_) => unreachable!(),

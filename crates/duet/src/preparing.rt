@@ -1,19 +1,19 @@
 //! What a call of a line is to a side's client: the packet that the network gives, the seed that
 //! is drawn, the amount.
 
-ghost use Rattle.std.specs.Prelude.{◌≡◌, ◌-◌, ◌^◌, ◌<◌};
+ghost use Rattle.std.specs.Prelude.{◌-◌, ◌^◌, ◌<◌};
 ghost use Rattle.dr_base.specs.Bytes.{AreBytes};
 ghost use Rattle.dr_model.specs.Machines.Events.{says};
 ghost use Rattle.duet.specs.Acts.{IsPrepared};
 ghost use Rattle.scripts.specs.Seen.{call_event, take_event};
 
-use crate::acts::Act;
+use crate::acts::{ClientCall, Seeded};
 use crate::amount::items_in;
 use crate::network::packet_of;
 use crate::sides::Duet;
 use dr_base::Side;
 use kem_laws::Kem;
-use scripts::{Call, Source};
+use scripts::{Call, LineCall, Source};
 use session_model::Answer;
 
 /// Bytes are below 256: a caller that needs this calls it.
@@ -26,38 +26,41 @@ fn are_bytes(bytes: &[u8])
 impl<K: Kem> Duet<K> {
     /// A side would say a text. A draw is made, and used up, only where the text may be said and
     /// needs a seed.
-    fn saying<'a>(&mut self, side: Side, text: &'a [u8]) -> Result<Act<'a>, Answer>
+    fn saying<'a>(&mut self, side: Side, text: &'a [u8]) -> Result<ClientCall<'a>, Answer>
         requires { self.old.sides.draws.made < 2 ^ 32 - 1 }
         ensures { IsPrepared K.mechanism self.old self.new side (says side text.entry.now) result }
     {
         match self.party(side).say_check(text.len()) {
             Err(refusal) => Err(Answer::Refused(refusal)),
-            Ok(false) => Ok(Act::Say(text, None)),
+            Ok(false) => Ok(Call::Say(Seeded { text, seed: None })),
             Ok(true) => {
                 let seed = self.draws.next(&self.key);
                 // The proof takes the length of the seed from this.
                 let _bytes = &seed.bytes;
-                Ok(Act::Say(text, Some(seed)))
+                Ok(Call::Say(Seeded {
+                    text,
+                    seed: Some(seed),
+                }))
             }
         }
     }
 
     /// A side would take a packet, if the network has it to give.
-    fn taking<'a>(&mut self, side: Side, source: Source<'_>) -> Result<Act<'a>, Answer>
+    fn taking<'a>(&mut self, side: Side, source: Source<'_>) -> Result<ClientCall<'a>, Answer>
         ensures { let event = take_event side source.entry in
             IsPrepared K.mechanism self.old self.new side event result }
     {
         match packet_of(self.posts.as_slice(), side, source) {
             Some(packet) => {
                 are_bytes(packet.as_slice());
-                Ok(Act::Take(packet))
+                Ok(Call::Take(packet))
             }
             None => Err(Answer::Nothing),
         }
     }
 
     /// What a call is to a side's client; else its answer, which changes nothing but the draws.
-    pub fn prepared<'a>(&mut self, side: Side, call: Call<'a>) -> Result<Act<'a>, Answer>
+    pub fn prepared<'a>(&mut self, side: Side, call: LineCall<'a>) -> Result<ClientCall<'a>, Answer>
         requires { self.old.sides.draws.made < 2 ^ 32 - 1 }
         ensures { let event = call_event side call.entry in
             IsPrepared K.mechanism self.old self.new side event result }
@@ -65,11 +68,14 @@ impl<K: Kem> Duet<K> {
         match call {
             Call::Say(text) => self.saying(side, text),
             Call::Take(source) => self.taking(side, source),
-            Call::Sent(amount) => Ok(Act::Sent(items_in(
+            Call::Sent(amount) => Ok(Call::Sent(items_in(
                 amount,
                 self.party(side).summary().outbox,
             ))),
-            Call::Done(amount) => Ok(Act::Done(items_in(amount, self.party(side).summary().inbox))),
+            Call::Done(amount) => Ok(Call::Done(items_in(
+                amount,
+                self.party(side).summary().inbox,
+            ))),
         }
     }
 }

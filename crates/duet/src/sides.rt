@@ -3,14 +3,14 @@
 ghost use Rattle.std.specs.Prelude.{◌≡◌, ◌+◌, ◌-◌, ◌^◌, ◌<◌, ◌≤◌, length, None, true, IfOk, IsErrOf, IsNone, IsSome};
 ghost use Rattle.dr_model.specs.Machines.Sides.{client_of, step_on};
 ghost use Rattle.session_model.specs.Schedule.{agreement_seed};
-ghost use Rattle.duet.specs.Acts.{IsChecked, acted_by, alone_by};
+ghost use Rattle.duet.specs.Acts.{IsChecked, act_of_call, acted_by, alone_by};
 ghost use Rattle.duet.specs.Gathering.{gathered};
 ghost use Rattle.duet.specs.Held.{after_step, opening_duet, stepped};
 ghost use Rattle.duet.specs.Shuts.{asks_open, shut_of};
 ghost use Rattle.duet.specs.Tally.{both_reached};
 ghost use Rattle.scripts.specs.Sides.{acting_side};
 
-use crate::acts::Act;
+use crate::acts::ClientCall;
 use crate::draws::Draws;
 use crate::party::{BeginError, Party};
 use crate::post::Post;
@@ -18,7 +18,7 @@ use crate::tally::{SideTally, Tally};
 use dr_base::{Key32, Side};
 use kem_laws::Kem;
 use relay_link::RelayLink;
-use scripts::{Call, Line};
+use scripts::{Line, LineCall};
 use session_model::Answer;
 use std::alloc::Global;
 use std::marker::Model;
@@ -98,16 +98,17 @@ impl<K: Kem> Duet<K> {
     }
 
     /// A side does an act.
-    fn act_by(&mut self, side: Side, act: Act<'_>) -> Answer
+    fn act_by(&mut self, side: Side, call: ClientCall<'_>) -> Answer
         requires open { shut_of self.old.shuts side ≡ None }
-        requires checked { IsChecked (client_of self.old.sides side) act }
-        ensures answer { result ≡ (alone_by K.mechanism self.old.sides side act.entry).answer }
-        ensures next { let k = K.mechanism in
-            self.new ≡ after_step self.old (alone_by k self.old.sides side act.entry) }
+        requires checked { IsChecked (client_of self.old.sides side) (act_of_call call) }
+        ensures answer { let act = act_of_call call.entry in
+            result ≡ (alone_by K.mechanism self.old.sides side act).answer }
+        ensures next { let act = act_of_call call.entry in
+            self.new ≡ after_step self.old (alone_by K.mechanism self.old.sides side act) }
     {
         match side {
-            Side::First => self.first.act(act),
-            Side::Second => self.second.act(act),
+            Side::First => self.first.act(call),
+            Side::Second => self.second.act(call),
         }
     }
 
@@ -125,22 +126,23 @@ impl<K: Kem> Duet<K> {
     }
 
     /// A side does an act, and the network gets the packet that it adds to its outbox.
-    fn act(&mut self, side: Side, act: Act<'_>) -> Answer
+    fn act(&mut self, side: Side, call: ClientCall<'_>) -> Answer
         requires room { length self.old.sides.posts < self.old.room }
         requires open { shut_of self.old.shuts side ≡ None }
-        requires checked { IsChecked (client_of self.old.sides side) act }
-        ensures answer { result ≡ (acted_by K.mechanism self.old.sides side act.entry).answer }
-        ensures next { let k = K.mechanism in
-            self.new ≡ after_step self.old (acted_by k self.old.sides side act.entry) }
+        requires checked { IsChecked (client_of self.old.sides side) (act_of_call call) }
+        ensures answer { let act = act_of_call call.entry in
+            result ≡ (acted_by K.mechanism self.old.sides side act).answer }
+        ensures next { let act = act_of_call call.entry in
+            self.new ≡ after_step self.old (acted_by K.mechanism self.old.sides side act) }
     {
         let held = self.party(side).summary().outbox;
-        let answer = self.act_by(side, act);
+        let answer = self.act_by(side, call);
         self.gather(side, held);
         answer
     }
 
     /// A side does a call.
-    fn call(&mut self, side: Side, call: Call<'_>) -> Answer
+    fn call(&mut self, side: Side, call: LineCall<'_>) -> Answer
         requires room { length self.old.sides.posts < self.old.room }
         requires draws { self.old.sides.draws.made < 2 ^ 32 - 1 }
         requires open { shut_of self.old.shuts side ≡ None }
@@ -150,7 +152,7 @@ impl<K: Kem> Duet<K> {
             self.new ≡ stepped k self.old (call_event side call.entry) }
     {
         match self.prepared(side, call) {
-            Ok(act) => self.act(side, act),
+            Ok(call) => self.act(side, call),
             Err(answer) => answer,
         }
     }

@@ -3,18 +3,19 @@
 ghost use Rattle.std.specs.Prelude.{◌≡◌, None, IfOk};
 ghost use Rattle.dr_disk.specs.MemoryDisks.{state_of};
 ghost use Rattle.dr_disk.specs.State.{Fate};
+ghost use Rattle.dr_model.specs.Machines.Acts.{act_on};
 ghost use Rattle.dr_model.specs.Machines.Steps.{settled, step};
 ghost use Rattle.session_model.specs.Clients.{Client as Keeping};
 ghost use Rattle.session_record.specs.Lawful.{IsLawfulClient};
 ghost use Rattle.slot_store.specs.Store.{HasArea};
 ghost use Rattle.client.specs.Clients.{client_area};
-ghost use Rattle.duet.specs.Acts.{IsChecked, made_by};
+ghost use Rattle.duet.specs.Acts.{IsChecked, act_of_call};
 ghost use Rattle.client.specs.Opening.{ReadsClient};
 ghost use Rattle.duet.specs.Parties.{DiskHasRecord, IsWantOfMemory};
 ghost use Rattle.duet.specs.Shuts.{open_party};
 ghost use Rattle.duet.specs.Stops.{stopped_client};
 
-use crate::acts::{Act, Ended, perform};
+use crate::acts::{ClientCall, Ended, perform};
 use crate::party::Party;
 use client::{Client, OpenRefusal};
 use dr_disk::{MemoryDisk, Mode};
@@ -62,11 +63,12 @@ impl<K: Kem> Party<K> {
         alloc: Global,
         after: u32,
         mode: Mode,
-        act: Act<'_>,
+        call: ClientCall<'_>,
     ) -> Result<(Self, Answer), AllocError>
         requires open { self.shut ≡ None }
-        requires checked { IsChecked self.kept act }
-        ensures made { let made = settled self.kept (made_by K.mechanism self.kept act.entry) in
+        requires checked { IsChecked self.kept (act_of_call call) }
+        ensures made { let act = act_of_call call.entry in
+            let made = settled self.kept (act_on K.mechanism self.kept act) in
             IfOk result (λ pair. step pair.1 pair.0.kept
             ≡ stopped_client after mode self.kept made) }
         ensures open { IfOk result (λ pair. pair.0.shut ≡ None) }
@@ -79,7 +81,7 @@ impl<K: Kem> Party<K> {
         } = self;
         client.lawful();
         disk.stop_after(after);
-        match perform(&mut client, &mut disk, act) {
+        match perform(&mut client, &mut disk, call) {
             Ended::Acknowledged(answer) => {
                 disk.go_on();
                 Ok((

@@ -1,16 +1,17 @@
 //! Both sides, one of which has a disk that stops in a call.
 
 ghost use Rattle.std.specs.Prelude.{◌≡◌, ◌-◌, ◌^◌, ◌<◌, None, IfOk, length};
+ghost use Rattle.dr_model.specs.Machines.Acts.{act_on};
 ghost use Rattle.dr_model.specs.Machines.Sides.{client_of, step_on};
 ghost use Rattle.dr_model.specs.Machines.Steps.{settled};
-ghost use Rattle.duet.specs.Acts.{IsChecked, made_by};
+ghost use Rattle.duet.specs.Acts.{IsChecked, act_of_call};
 ghost use Rattle.duet.specs.Gathering.{gathering, on_side};
 ghost use Rattle.duet.specs.Held.{after_step, stepped};
 ghost use Rattle.duet.specs.Shuts.{shut_of};
 ghost use Rattle.duet.specs.Stops.{stopped_client, stopped_on};
 ghost use Rattle.scripts.specs.Seen.{call_event};
 
-use crate::acts::Act;
+use crate::acts::ClientCall;
 use crate::sides::Duet;
 use dr_base::Side;
 use dr_disk::Mode;
@@ -26,12 +27,12 @@ impl<K: Kem> Duet<K> {
         alloc: Global,
         side: Side,
         stops: (u32, Mode),
-        act: Act<'_>,
+        call: ClientCall<'_>,
     ) -> Result<(Self, Answer), AllocError>
         requires open { shut_of self.shuts side ≡ None }
-        requires checked { IsChecked (client_of self.sides side) act }
+        requires checked { IsChecked (client_of self.sides side) (act_of_call call) }
         ensures { let c = client_of self.sides side in
-            let step = settled c (made_by K.mechanism c act.entry) in
+            let step = settled c (act_on K.mechanism c (act_of_call call.entry)) in
             let made = on_side self.sides side (stopped_client stops.0 stops.1 c step) in
             IfOk result (λ pair. (pair.1 ≡ made.answer) × (pair.0 ≡ after_step self made)) }
     {
@@ -47,7 +48,7 @@ impl<K: Kem> Duet<K> {
             Side::First => (first, second),
             Side::Second => (second, first),
         };
-        let (stopped, answer) = match stopping.stopped(alloc, stops.0, stops.1, act) {
+        let (stopped, answer) = match stopping.stopped(alloc, stops.0, stops.1, call) {
             Ok(pair) => pair,
             Err(AllocError) => return Err(AllocError),
         };
@@ -73,18 +74,18 @@ impl<K: Kem> Duet<K> {
         alloc: Global,
         side: Side,
         stops: (u32, Mode),
-        act: Act<'_>,
+        call: ClientCall<'_>,
     ) -> Result<(Self, Answer), AllocError>
         requires room { length self.sides.posts < self.room }
         requires open { shut_of self.shuts side ≡ None }
-        requires checked { IsChecked (client_of self.sides side) act }
+        requires checked { IsChecked (client_of self.sides side) (act_of_call call) }
         ensures { let c = client_of self.sides side in
-            let step = settled c (made_by K.mechanism c act.entry) in
+            let step = settled c (act_on K.mechanism c (act_of_call call.entry)) in
             let made = gathering self.sides side (stopped_client stops.0 stops.1 c step) in
             IfOk result (λ pair. (pair.1 ≡ made.answer) × (pair.0 ≡ after_step self made)) }
     {
         let held = self.party(side).summary().outbox;
-        match self.stopped(alloc, side, stops, act) {
+        match self.stopped(alloc, side, stops, call) {
             Ok((duet, answer)) => {
                 let mut duet = duet;
                 duet.gather(side, held);
@@ -107,7 +108,7 @@ impl<K: Kem> Duet<K> {
     {
         let mut duet = self;
         match duet.prepared(stop.side, stop.call) {
-            Ok(act) => duet.act_stopped(alloc, stop.side, (stop.after, stop.mode), act),
+            Ok(call) => duet.act_stopped(alloc, stop.side, (stop.after, stop.mode), call),
             Err(answer) => Ok((duet, answer)),
         }
     }

@@ -1,6 +1,6 @@
 //! A run in numbers, in lines.
 
-ghost use Rattle.std.specs.Prelude.{◌≡◌, ℕ, ◌+◌, ◌≤◌, List, ◌++◌, length, codes, decimal};
+ghost use Rattle.std.specs.Prelude.{◌≡◌, ◌+◌, ◌≤◌, ◌++◌, length, codes, decimal};
 ghost use Rattle.duet.specs.Summary.{sides_text, summary_lines};
 
 use crate::tally::Tally;

@@ -1,6 +1,6 @@
 //! A run in numbers.
 
-ghost use Rattle.std.specs.Prelude.{◌≡◌, ◌-◌, ◌^◌, ◌<◌};
+ghost use Rattle.std.specs.Prelude.{◌≡◌, ◌-◌, ◌^◌};
 ghost use Rattle.duet.specs.Tally.{IsBelow, IsSideBelow, with_answer, counted_of, opening_tally, no_tally};
 
 use dr_base::Side;

@@ -1,7 +1,6 @@
 pub mod Calls
 pub mod Digits
 pub mod FirstDraws
-pub mod Hex
 pub mod Making
 pub mod PrintedDeeds
 pub mod PrintedFails

@@ -17,7 +17,8 @@ use Rattle.scripts.specs.Number.{script_number_read}
 use Rattle.scripts.specs.Printed.{IsNumbered, IsSayableEvent, event_text, words_text}
 use Rattle.answer_lines.specs.Answers.{position_text}
 use Rattle.scripts.specs.Sides.{acting_side, side_text}
-use Rattle.scripts.specs.Words.{after_prefix, bytes_words, done_words, flip_read, flip_words, halves_of, look_words, packet_read, plain_read, position_read, say_words, seed_read, sent_words, side_words, take_words}
+use Rattle.scripts.specs.Deeds.{acts}
+use Rattle.scripts.specs.Words.{after_prefix, bytes_words, deed_words, flip_read, flip_words, halves_of, line_read, look_words, packet_read, plain_read, position_read, say_words, seed_read, side_named, side_words, sided, take_words}
 use Rattle.scripts.proofs.PrintedParts.{Without, amount_back, digit_from, both_without, digits_of, digits_without, halves_back, hex_back, number_back, point, position_back}
 
 -- ---- what a side does
@@ -62,12 +63,35 @@ flip_back side p bit h k =
 
 -- ---- lines
 
+-- a side is read back
+named_back : (side : Side) (words : List ℕ) → side_named (side_text side ++ words) ≡ Some (side, words)
+unfolding side_named side_text after_prefix
+named_back First words = refl
+named_back Second words = refl
+
+-- it begins no seed
+seedless : (side : Side) (words : List ℕ) → seed_read (side_text side ++ words) ≡ None
+unfolding seed_read side_text after_prefix
+seedless First words = refl
+seedless Second words = refl
+
 -- what a side does, after its name
+plain_back : (side : Side) (words : List ℕ) → plain_read (side_text side ++ words) ≡ side_words side words
+unfolding plain_read
+plain_back side words =
+    ap (λ o. option_or o (sided side_words (side_text side ++ words))) (seedless side words)
+    ∙ ap (option_and_then (λ (named : Side × List ℕ). side_words named.0 named.1)) (named_back side words)
+
 of_side : (side : Side) (words : List ℕ) (event : Event) → side_words side words ≡ Some event
     → plain_read (side_text side ++ words) ≡ Some event
-unfolding plain_read seed_read after_prefix side_text
-of_side First words event h = ap (λ o. option_or o None) h
-of_side Second words event h = h
+of_side side words event h = plain_back side words ∙ h
+
+-- and where that is no event
+pub deed_back : (side : Side) (words : List ℕ) → side_words side words ≡ None → line_read (side_text side ++ words) ≡ deed_words side words
+unfolding line_read
+deed_back side words none =
+    ap (λ o. option_or (option_map acts o) (sided deed_words (side_text side ++ words))) (plain_back side words ∙ none)
+    ∙ ap (option_and_then (λ (named : Side × List ℕ). deed_words named.0 named.1)) (named_back side words)
 
 -- an event that is a side's
 abbrev pub IsOwn : Event → Type 0
@@ -76,7 +100,7 @@ IsOwn _ = ⊤
 
 pub words_back : (event : Event) → IsSayableEvent event → IsOwn event
     → side_words (acting_side event) (words_text event) ≡ Some event
-unfolding after_prefix words_text side_words say_words take_words flip_words bytes_words sent_words done_words look_words
+unfolding after_prefix words_text side_words say_words take_words flip_words bytes_words look_words
 words_back (seeds seed) h own = absurd own
 words_back (says side text) h own = refl
 words_back (takes side p) h own = ap (λ o. option_or o None) (packet_back side p h)
@@ -85,8 +109,7 @@ words_back (takes_nth side nth) h own =
     ap (λ o. option_or (option_or (option_map (takes_nth side) o) other) None) (number_back nth h)
 words_back (flips side p bit) h own = ap (λ o. option_or o None) (flip_back side p bit h.0 h.1)
 words_back (takes_bytes side bytes) h own =
-    ap (λ o. option_or (option_or (option_map (takes_bytes side) o) None) None)
-    (hex_back bytes h.0 h.1)
+    ap (λ o. option_or (option_map (takes_bytes side) o) None) (hex_back bytes h.0 h.1)
 words_back (drops_sent side amount) h own =
     ap (λ o. option_or (option_map (drops_sent side) o) None) (amount_back amount h)
 words_back (drops_done side amount) h own =
@@ -96,7 +119,7 @@ words_back (shows_state side) h own = refl
 words_back (cuts took event) h own = absurd h
 
 pub event_back : (event : Event) → IsSayableEvent event → plain_read (event_text event) ≡ Some event
-unfolding event_text plain_read seed_read after_prefix
+unfolding event_text plain_read seed_read side_named after_prefix
 event_back (seeds seed) h =
     ap (λ o. option_or (option_map seeds o) None)
     (ap result_ok (decode_sized-encode_lower seed 32 h.0 h.1))

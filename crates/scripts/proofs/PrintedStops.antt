@@ -1,5 +1,5 @@
 -- What the printed line of a stop is read as.
-use Rattle.std.proofs.Common.{◌≡◌, ℕ, ◌/◌, ◌%◌, ◌^◌, ◌<◌, Bool, true, false, List, [], ◌∷◌, ◌++◌, Some, None, refl, sym, ◌∙◌, ap, ap₂, arith}
+use Rattle.std.proofs.Common.{◌≡◌, ℕ, ◌/◌, ◌%◌, ◌^◌, ◌<◌, Bool, true, false, List, [], ◌∷◌, ◌++◌, Some, None, refl, sym, ◌∙◌, ap, arith}
 use Rattle.std.specs.Prelude.{◌==◌, ◌&&◌, codes, decimal, option_map, slice_index}
 use Rattle.std.specs.Option.{option_and_then, option_or}
 use Rattle.std.specs.Result.{result_ok}
@@ -7,15 +7,14 @@ use Rattle.std.proofs.lemmas.Bool.{cond-true, cond-false, eqb-true}
 use Rattle.hex.specs.Hex.{encode_lower, encode_with, hex_digit_value, lower_digits}
 use Rattle.hex.proofs.HexLemmas.{IsDigits-lower_digits, decode_sized-encode_lower}
 use Rattle.dr_base.specs.declared.position.Side.{Side}
-use Rattle.dr_base.specs.declared.position.Side.TheVariants.{First, Second}
 use Rattle.dr_disk.specs.declared.call.Mode.{Mode}
 use Rattle.dr_disk.specs.declared.call.Mode.TheVariants.{Fill, New, Old}
 use Rattle.dr_model.specs.Machines.Events.{Event, seeds, says, takes, takes_nth, flips, takes_bytes, drops_sent, drops_done, shows_inbox, shows_state, cuts}
-use Rattle.scripts.specs.Deeds.{Deed, acts, stops}
+use Rattle.scripts.specs.Deeds.{stops, syncs}
 use Rattle.scripts.specs.Printed.{IsMode, IsSayable, line_text, mode_text, stop_text, words_text}
-use Rattle.scripts.specs.Sides.{acting_side, side_text}
-use Rattle.scripts.specs.Words.{after_prefix, bytes_words, call_words, crash_read, done_words, fail_line_read, flip_words, halves_of, if_call, is_call, is_text, line_read, look_words, mode_read, open_line_read, plain_read, say_words, seed_read, sent_words, side_words, stop_line_read, stop_read, stop_words, sync_read, take_words}
-use Rattle.scripts.proofs.PrintedLines.{IsOwn, spaced, words_back}
+use Rattle.scripts.specs.Sides.{acting_side}
+use Rattle.scripts.specs.Words.{after_prefix, bytes_words, call_words, crash_read, deed_words, fail_words, flip_words, halves_of, if_call, is_call, is_text, line_read, look_words, mode_read, open_words, say_words, side_words, stop_read, stop_words, sync_words, take_words}
+use Rattle.scripts.proofs.PrintedLines.{IsOwn, deed_back, spaced, words_back}
 use Rattle.scripts.proofs.PrintedParts.{Without, digits_of, digits_without, halves_back, number_back}
 
 -- ---- how a disk crashes
@@ -110,18 +109,10 @@ stop_back : (side : Side) (n : ℕ) (mode : Mode) (event : Event) (words : List 
 unfolding stop_words stop_text after_prefix
 stop_back side n mode event words small h call = counted_back side n mode event words small h call
 
--- no event's line begins so
-no_event : (side : Side) (n : ℕ) (mode : Mode) (words : List ℕ)
-    → plain_read (side_text side ++ stop_text n mode words) ≡ None
-unfolding plain_read seed_read side_text stop_text after_prefix side_words say_words take_words flip_words bytes_words sent_words done_words look_words
-no_event First n mode words = refl
-no_event Second n mode words = refl
-
-of_stop : (side : Side) (words : List ℕ) (deed : Deed) → stop_words side words ≡ Some deed
-    → stop_line_read (side_text side ++ words) ≡ Some deed
-unfolding stop_line_read after_prefix side_text
-of_stop First words deed h = ap (λ o. option_or o None) h
-of_stop Second words deed h = h
+-- no event begins so
+no_event : (side : Side) (n : ℕ) (mode : Mode) (words : List ℕ) → side_words side (stop_text n mode words) ≡ None
+unfolding stop_text after_prefix side_words say_words take_words flip_words bytes_words look_words
+no_event side n mode words = refl
 
 -- a call is a side's
 pub call_own : (event : Event) → is_call event ≡ true → IsOwn event
@@ -139,14 +130,11 @@ call_own (cuts took event) h = tt
 
 pub stop_line_back : (n : ℕ) (mode : Mode) (call : Event) → IsSayable (stops n mode call)
     → line_read (line_text (stops n mode call)) ≡ Some (stops n mode call)
-unfolding line_read line_text
+unfolding line_text deed_words
 stop_line_back n mode call h =
     let side = acting_side call in
-    let words = words_text call in
-    let line = side_text side ++ stop_text n mode words in
-    let said = call_back side call words h.2 (words_back call h.3 (call_own call h.2)) in
-    let back = of_stop side (stop_text n mode words) (stops n mode call)
-    (stop_back side n mode call words h.0 h.1 said) in
-    ap₂ (λ a b. option_or (option_map acts a)
-    (option_or b (option_or (fail_line_read line) (option_or (open_line_read line) (sync_read line)))))
-    (no_event side n mode words) back
+    let words = stop_text n mode (words_text call) in
+    let said = call_back side call (words_text call) h.2 (words_back call h.3 (call_own call h.2)) in
+    deed_back side words (no_event side n mode (words_text call))
+    ∙ ap (λ o. option_or o (option_or (fail_words side words) (option_or (open_words side words) (option_map (syncs side) (sync_words words)))))
+    (stop_back side n mode call (words_text call) h.0 h.1 said)

@@ -4,7 +4,6 @@ use Rattle.std.specs.Prelude.{All, IfSome, IfOk, option_map, codes, if◌then◌
 use Rattle.std.specs.Option.{option_and_then, option_or}
 use Rattle.std.proofs.lemmas.List.Elements.{All-cons, All-nil}
 use Rattle.dr_base.specs.declared.position.Side.{Side}
-use Rattle.dr_base.specs.declared.position.Side.TheVariants.{First, Second}
 use Rattle.dr_disk.specs.declared.call.Mode.{Mode}
 use Rattle.dr_model.specs.Machines.Events.{Event}
 use Rattle.dr_model.specs.Theorems.Fairness.{IsSeedWhole}
@@ -12,7 +11,7 @@ use Rattle.scripts.specs.Deeds.{Deed, acts, fails, reopens, stops, syncs}
 use Rattle.scripts.specs.Script.{deeds_of, kem_read, key_read, keyed, after_kem, lines_of, or_bad, script_of, script_of_lines, scripted, Scripted, with_deed}
 use Rattle.scripts.specs.Deeds.{HasWholeSeed}
 use Rattle.scripts.specs.Number.{script_number_read}
-use Rattle.scripts.specs.Words.{after_prefix, call_words, crash_read, fail_line_read, fail_read, fail_words, halves_of, if_call, if_counted, is_call, is_text, line_read, mode_read, open_line_read, open_words, plain_read, sided, side_words, stop_line_read, stop_read, stop_words, sync_read, sync_words}
+use Rattle.scripts.specs.Words.{after_prefix, call_words, crash_read, deed_words, fail_read, fail_words, halves_of, if_call, if_counted, is_call, is_text, line_read, mode_read, open_words, plain_read, side_named, side_words, sided, stop_read, stop_words, sync_words}
 use Rattle.scripts.specs.declared.script.KemName.{KemName}
 use Rattle.scripts.proofs.Seeds.{whole_plain, whole_words}
 
@@ -93,46 +92,21 @@ whole_or : (a b : Option Deed) → IfSome a HasWholeSeed → IfSome b HasWholeSe
 whole_or None b h i = i
 whole_or (Some deed) b h i = h
 
-whole_sync : (line : List ℕ) → IfSome (sync_read line) HasWholeSeed
-unfolding sync_read
-whole_sync line =
-    whole_or (option_map (syncs First)
-    (option_and_then sync_words (after_prefix (codes "first ") line)))
-    (option_map (syncs Second) (option_and_then sync_words (after_prefix (codes "second ") line)))
-    (whole_syncs First (option_and_then sync_words (after_prefix (codes "first ") line)))
-    (whole_syncs Second (option_and_then sync_words (after_prefix (codes "second ") line)))
-
-whole_sided : (words : Side → List ℕ → Option Deed)
-    → ((side : Side) (text : List ℕ) → IfSome (words side text) HasWholeSeed) → (line : List ℕ)
-    → IfSome (sided words line) HasWholeSeed
-whole_sided words whole line =
-    whole_or (option_and_then (words First) (after_prefix (codes "first ") line))
-    (option_and_then (words Second) (after_prefix (codes "second ") line))
-    (whole_then (words First) (after_prefix (codes "first ") line) (whole First))
-    (whole_then (words Second) (after_prefix (codes "second ") line) (whole Second))
-
-whole_stop_line : (line : List ℕ) → IfSome (stop_line_read line) HasWholeSeed
-unfolding stop_line_read
-whole_stop_line line = whole_sided stop_words whole_stop line
-
-whole_fail_line : (line : List ℕ) → IfSome (fail_line_read line) HasWholeSeed
-unfolding fail_line_read
-whole_fail_line line = whole_sided fail_words whole_fail line
-
-whole_open_line : (line : List ℕ) → IfSome (open_line_read line) HasWholeSeed
-unfolding open_line_read
-whole_open_line line = whole_sided open_words whole_open line
+whole_deed_words : (side : Side) (words : List ℕ) → IfSome (deed_words side words) HasWholeSeed
+unfolding deed_words
+whole_deed_words side words =
+    let sync = option_map (syncs side) (sync_words words) in
+    let open_or = option_or (open_words side words) sync in
+    let fail_or = option_or (fail_words side words) open_or in
+    whole_or (stop_words side words) fail_or (whole_stop side words)
+    (whole_or (fail_words side words) open_or (whole_fail side words)
+    (whole_or (open_words side words) sync (whole_open side words) (whole_syncs side (sync_words words))))
 
 whole_line : (line : List ℕ) → IfSome (line_read line) HasWholeSeed
 unfolding line_read
 whole_line line =
-    let last = option_or (open_line_read line) (sync_read line) in
-    let more = option_or (fail_line_read line) last in
-    whole_deed (plain_read line) (option_or (stop_line_read line) more)
-    (whole_plain line)
-    (whole_or (stop_line_read line) more (whole_stop_line line)
-    (whole_or (fail_line_read line) last (whole_fail_line line)
-    (whole_or (open_line_read line) (sync_read line) (whole_open_line line) (whole_sync line))))
+    whole_deed (plain_read line) (sided deed_words line) (whole_plain line)
+    (whole_then (λ (named : Side × List ℕ). deed_words named.0 named.1) (side_named line) (λ named. whole_deed_words named.0 named.1))
 
 -- ---- a script
 

@@ -1,14 +1,13 @@
 -- The seed that a line gives has 32 bytes.
-use Rattle.std.proofs.Common.{◌≡◌, ℕ, Bool, true, false, List, [], length, Option, Some, None, Result, Ok, Err, refl, ◌∙◌, sym, arith}
+use Rattle.std.proofs.Common.{◌≡◌, ℕ, Bool, true, false, List, length, Option, Some, None, Result, Ok, Err, refl, ◌∙◌, sym, arith}
 use Rattle.std.specs.Prelude.{IfSome, option_map, codes, if◌then◌else◌}
 use Rattle.std.specs.Option.{option_and_then, option_or}
 use Rattle.std.specs.Result.{result_ok}
 use Rattle.hex.specs.Hex.{decode_sized}
 use Rattle.hex.proofs.HexLemmas.{decode_of-ok, decode_sized-ok, decode_sized-twice}
 use Rattle.dr_base.specs.declared.position.Side.{Side}
-use Rattle.dr_base.specs.declared.position.Side.TheVariants.{First, Second}
 use Rattle.dr_model.specs.Machines.Events.{Event, seeds, says, takes, takes_nth, flips, takes_bytes, drops_sent, drops_done, shows_inbox, shows_state}
-use Rattle.scripts.specs.Words.{after_prefix, amount_words, bytes_words, done_words, flip_words, flip_read, halves_of, hex_read, is_text, look_words, packet_read, plain_read, position_read, say_words, seed_read, sent_words, take_words, side_words}
+use Rattle.scripts.specs.Words.{after_prefix, amount_after, bytes_words, flip_words, flip_read, halves_of, hex_read, is_text, look_words, packet_read, plain_read, position_read, say_words, seed_read, side_named, side_words, sided, take_words, text_after}
 use Rattle.scripts.specs.Number.{script_number_read}
 use Rattle.dr_model.specs.Theorems.Fairness.{IsSeedWhole}
 
@@ -52,10 +51,7 @@ found (Some digits) = decoded digits (decode_sized digits 32) refl
 
 whole_say : (side : Side) (words : List ℕ) → IfSome (say_words side words) IsSeedWhole
 unfolding say_words
-whole_say side words =
-    whole_or (option_map (says side) (after_prefix (codes "say ") words)) (if is_text (codes "say") words then Some (says side []) else None)
-    (whole_map (says side) (after_prefix (codes "say ") words) (λ _. tt))
-    (whole_if (is_text (codes "say") words) (Some (says side [])) None tt tt)
+whole_say side words = whole_map (says side) (text_after (codes "say") words) (λ _. tt)
 
 whole_packet : (side : Side) (text : List ℕ) → IfSome (packet_read side text) IsSeedWhole
 whole_packet side text =
@@ -76,19 +72,7 @@ whole_flip side words =
 
 whole_bytes : (side : Side) (words : List ℕ) → IfSome (bytes_words side words) IsSeedWhole
 unfolding bytes_words
-whole_bytes side words =
-    whole_or (option_map (takes_bytes side) (option_and_then hex_read (after_prefix (codes "bytes ") words)))
-    (if is_text (codes "bytes") words then Some (takes_bytes side []) else None)
-    (whole_map (takes_bytes side) (option_and_then hex_read (after_prefix (codes "bytes ") words)) (λ _. tt))
-    (whole_if (is_text (codes "bytes") words) (Some (takes_bytes side [])) None tt tt)
-
-whole_sent : (side : Side) (words : List ℕ) → IfSome (sent_words side words) IsSeedWhole
-unfolding sent_words
-whole_sent side words = whole_map (drops_sent side) (option_and_then amount_words (after_prefix (codes "sent ") words)) (λ _. tt)
-
-whole_done : (side : Side) (words : List ℕ) → IfSome (done_words side words) IsSeedWhole
-unfolding done_words
-whole_done side words = whole_map (drops_done side) (option_and_then amount_words (after_prefix (codes "done ") words)) (λ _. tt)
+whole_bytes side words = whole_map (takes_bytes side) (option_and_then hex_read (text_after (codes "bytes") words)) (λ _. tt)
 
 whole_look : (side : Side) (words : List ℕ) → IfSome (look_words side words) IsSeedWhole
 unfolding look_words
@@ -99,19 +83,24 @@ whole_look side words =
 pub whole_words : (side : Side) (words : List ℕ) → IfSome (side_words side words) IsSeedWhole
 unfolding side_words
 whole_words side words =
-    let look = whole_look side words in
-    let done = whole_or (done_words side words) (look_words side words) (whole_done side words) look in
-    let sent = whole_or (sent_words side words) (option_or (done_words side words) (look_words side words)) (whole_sent side words) done in
-    let bytes = whole_or (bytes_words side words) (option_or (sent_words side words) (option_or (done_words side words) (look_words side words))) (whole_bytes side words) sent in
-    let flip = whole_or (flip_words side words) (option_or (bytes_words side words) (option_or (sent_words side words) (option_or (done_words side words) (look_words side words)))) (whole_flip side words) bytes in
-    let packet = whole_or (take_words side words) (option_or (flip_words side words) (option_or (bytes_words side words) (option_or (sent_words side words) (option_or (done_words side words) (look_words side words))))) (whole_take side words) flip in
-    whole_or (say_words side words) (option_or (take_words side words) (option_or (flip_words side words) (option_or (bytes_words side words) (option_or (sent_words side words) (option_or (done_words side words) (look_words side words)))))) (whole_say side words) packet
+    let done_or = option_or (option_map (drops_done side) (amount_after (codes "done") words)) (look_words side words) in
+    let sent_or = option_or (option_map (drops_sent side) (amount_after (codes "sent") words)) done_or in
+    let bytes_or = option_or (bytes_words side words) sent_or in
+    let flip_or = option_or (flip_words side words) bytes_or in
+    let take_or = option_or (take_words side words) flip_or in
+    whole_or (say_words side words) take_or (whole_say side words)
+    (whole_or (take_words side words) flip_or (whole_take side words)
+    (whole_or (flip_words side words) bytes_or (whole_flip side words)
+    (whole_or (bytes_words side words) sent_or (whole_bytes side words)
+    (whole_or (option_map (drops_sent side) (amount_after (codes "sent") words)) done_or
+    (whole_map (drops_sent side) (amount_after (codes "sent") words) (λ _. tt))
+    (whole_or (option_map (drops_done side) (amount_after (codes "done") words)) (look_words side words)
+    (whole_map (drops_done side) (amount_after (codes "done") words) (λ _. tt))
+    (whole_look side words))))))
 
 pub whole_plain : (line : List ℕ) → IfSome (plain_read line) IsSeedWhole
 unfolding plain_read seed_read
 whole_plain line =
-    whole_or (seed_read line) (option_or (option_and_then (side_words First) (after_prefix (codes "first ") line)) (option_and_then (side_words Second) (after_prefix (codes "second ") line)))
+    whole_or (seed_read line) (sided side_words line)
     (whole_seed (option_and_then (λ digits. result_ok (decode_sized digits 32)) (after_prefix (codes "seed ") line)) (found (after_prefix (codes "seed ") line)))
-    (whole_or (option_and_then (side_words First) (after_prefix (codes "first ") line)) (option_and_then (side_words Second) (after_prefix (codes "second ") line))
-    (whole_then (side_words First) (after_prefix (codes "first ") line) (whole_words First))
-    (whole_then (side_words Second) (after_prefix (codes "second ") line) (whole_words Second)))
+    (whole_then (λ (named : Side × List ℕ). side_words named.0 named.1) (side_named line) (λ named. whole_words named.0 named.1))

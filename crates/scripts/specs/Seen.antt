@@ -1,6 +1,8 @@
 -- What the types of the code stand for.
 use Rattle.std.specs.Prelude.{ℕ, List, [], Option, Some, None}
+use Rattle.std.specs.Borrow.{Bor}
 use Rattle.dr_base.specs.declared.position.Side.{Side}
+use Rattle.session_model.specs.declared.answer.Amount.{Amount}
 use Rattle.dr_model.specs.Machines.Events.{Event, seeds, says, takes, takes_nth, flips, takes_bytes, drops_sent, drops_done, shows_inbox, shows_state}
 use Rattle.scripts.specs.Words.{hex_read}
 use Rattle.scripts.specs.declared.call.Call.{Call}
@@ -25,8 +27,12 @@ take_event side (Nth nth) = takes_nth side nth
 take_event side (Flipped p bit) = flips side p bit
 take_event side (Bytes hex) = takes_bytes side (bytes_of_hex hex.now)
 
+-- a call as a line says it
+abbrev pub CallOfLine : Type 0
+CallOfLine = Call (Bor (List ℕ)) Source Amount
+
 -- a call of a side, by itself
-abbrev pub call_event : Side → Call → Event
+abbrev pub call_event : Side → CallOfLine → Event
 call_event side (Say text) = says side text.now
 call_event side (Take source) = take_event side source
 call_event side (Sent amount) = drops_sent side amount

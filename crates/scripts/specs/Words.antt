@@ -49,11 +49,15 @@ hex_read text = if nat_le (length text) DIGIT_LIMIT then result_ok (decode_sized
 unfoldable pub seed_read : List ℕ → Option Event
 seed_read line = option_map seeds (option_and_then (λ digits. result_ok (decode_sized digits 32)) (after_prefix (codes "seed ") line))
 
--- `say`, a space and a text; an empty text may lack the space
+-- what stands after a word and a space; nothing where the word stands alone
+abbrev pub text_after : List ℕ → List ℕ → Option (List ℕ)
+text_after word words =
+    if is_text word words then Some []
+    else option_and_then (after_prefix (codes " ")) (after_prefix word words)
+
+-- `say` and a text
 unfoldable pub say_words : Side → List ℕ → Option Event
-say_words side words =
-    option_or (option_map (says side) (after_prefix (codes "say ") words))
-    (if is_text (codes "say") words then Some (says side []) else None)
+say_words side words = option_map (says side) (text_after (codes "say") words)
 
 -- `#` and a number, or a position
 abbrev pub packet_read : Side → List ℕ → Option Event
@@ -73,19 +77,14 @@ flip_read side halves = option_and_then (λ p. option_map (flips side p) (script
 unfoldable pub flip_words : Side → List ℕ → Option Event
 flip_words side words = option_and_then (flip_read side) (option_and_then (halves_of 32) (after_prefix (codes "flip ") words))
 
--- `bytes`, a space and bytes in hex; none may lack the space
+-- `bytes` and bytes in hex
 unfoldable pub bytes_words : Side → List ℕ → Option Event
 bytes_words side words =
-    option_or (option_map (takes_bytes side) (option_and_then hex_read (after_prefix (codes "bytes ") words)))
-    (if is_text (codes "bytes") words then Some (takes_bytes side []) else None)
+    option_map (takes_bytes side) (option_and_then hex_read (text_after (codes "bytes") words))
 
--- `sent` and an amount
-unfoldable pub sent_words : Side → List ℕ → Option Event
-sent_words side words = option_map (drops_sent side) (option_and_then amount_words (after_prefix (codes "sent ") words))
-
--- `done` and an amount
-unfoldable pub done_words : Side → List ℕ → Option Event
-done_words side words = option_map (drops_done side) (option_and_then amount_words (after_prefix (codes "done ") words))
+-- an amount after a word and a space
+abbrev pub amount_after : List ℕ → List ℕ → Option Amount
+amount_after word words = option_and_then amount_words (text_after word words)
 
 -- `inbox` or `state`
 unfoldable pub look_words : Side → List ℕ → Option Event
@@ -93,25 +92,33 @@ look_words side words =
     if is_text (codes "inbox") words then Some (shows_inbox side)
     else (if is_text (codes "state") words then Some (shows_state side) else None)
 
--- what stands after a side
+-- what stands after a side: a text, a packet, `sent` or `done` and an amount, or a look at it
 unfoldable pub side_words : Side → List ℕ → Option Event
 side_words side words =
-    option_or (say_words side words) (option_or (take_words side words) (option_or (flip_words side words) (option_or (bytes_words side words)
-    (option_or (sent_words side words) (option_or (done_words side words) (look_words side words))))))
+    option_or (say_words side words) (option_or (take_words side words)
+    (option_or (flip_words side words) (option_or (bytes_words side words)
+    (option_or (option_map (drops_sent side) (amount_after (codes "sent") words))
+    (option_or (option_map (drops_done side) (amount_after (codes "done") words))
+    (look_words side words))))))
+
+-- ---- a side's line
+
+-- the side that a line names, and what stands after it
+unfoldable pub side_named : List ℕ → Option (Side × List ℕ)
+side_named line =
+    option_or (option_map (λ words. (First, words)) (after_prefix (codes "first ") line))
+    (option_map (λ words. (Second, words)) (after_prefix (codes "second ") line))
+
+-- what these words of a side say, after its name
+abbrev pub sided : {D : Type 0} → (Side → List ℕ → Option D) → List ℕ → Option D
+sided words line =
+    option_and_then (λ (named : Side × List ℕ). words named.0 named.1) (side_named line)
 
 -- the event that a line says
 unfoldable pub plain_read : List ℕ → Option Event
-plain_read line =
-    option_or (seed_read line) (option_or (option_and_then (side_words First) (after_prefix (codes "first ") line))
-    (option_and_then (side_words Second) (after_prefix (codes "second ") line)))
+plain_read line = option_or (seed_read line) (sided side_words line)
 
 -- ---- a stop
-
--- what these words of a side say, after its name
-abbrev pub sided : (Side → List ℕ → Option Deed) → List ℕ → Option Deed
-sided words line =
-    option_or (option_and_then (words First) (after_prefix (codes "first ") line))
-    (option_and_then (words Second) (after_prefix (codes "second ") line))
 
 -- `old`, `new`, or a byte in two hex digits
 unfoldable pub mode_read : List ℕ → Option Mode
@@ -148,10 +155,6 @@ stop_read side halves = option_and_then (λ n. option_and_then (crash_read side 
 unfoldable pub stop_words : Side → List ℕ → Option Deed
 stop_words side words = option_and_then (stop_read side) (option_and_then (halves_of 32) (after_prefix (codes "stop ") words))
 
--- the stop that a line says
-unfoldable pub stop_line_read : List ℕ → Option Deed
-stop_line_read line = sided stop_words line
-
 -- ---- a failure, and an opening
 
 -- calls and replies are counted from 1
@@ -167,17 +170,9 @@ fail_read side halves =
 unfoldable pub fail_words : Side → List ℕ → Option Deed
 fail_words side words = option_and_then (fail_read side) (option_and_then (halves_of 32) (after_prefix (codes "fail ") words))
 
--- the failure that a line says
-unfoldable pub fail_line_read : List ℕ → Option Deed
-fail_line_read line = sided fail_words line
-
 -- `open`
 unfoldable pub open_words : Side → List ℕ → Option Deed
 open_words side words = if is_text (codes "open") words then Some (reopens side) else None
-
--- the opening that a line says
-unfoldable pub open_line_read : List ℕ → Option Deed
-open_line_read line = sided open_words line
 
 -- ---- a sync
 
@@ -189,16 +184,15 @@ lose_words words = option_and_then if_counted (option_and_then script_number_rea
 unfoldable pub sync_words : List ℕ → Option (Option ℕ)
 sync_words words = if is_text (codes "sync") words then Some None else option_map Some (lose_words words)
 
--- the sync that a line says
-unfoldable pub sync_read : List ℕ → Option Deed
-sync_read line =
-    option_or (option_map (syncs First) (option_and_then sync_words (after_prefix (codes "first ") line)))
-    (option_map (syncs Second) (option_and_then sync_words (after_prefix (codes "second ") line)))
-
 -- ---- any line
+
+-- what stands after a side and isn't an event alone: its disk stops or fails, its client opens again,
+-- or it syncs
+unfoldable pub deed_words : Side → List ℕ → Option Deed
+deed_words side words =
+    option_or (stop_words side words) (option_or (fail_words side words)
+    (option_or (open_words side words) (option_map (syncs side) (sync_words words))))
 
 -- what a line says; every other line is bad
 unfoldable pub line_read : List ℕ → Option Deed
-line_read line =
-    option_or (option_map acts (plain_read line)) (option_or (stop_line_read line)
-    (option_or (fail_line_read line) (option_or (open_line_read line) (sync_read line))))
+line_read line = option_or (option_map acts (plain_read line)) (sided deed_words line)

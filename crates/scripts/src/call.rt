@@ -1,22 +1,25 @@
-//! What a side does in a line, by itself: a client's calls.
+//! What a side does, by itself: a client's calls, and what a line says of one.
 
 ghost use Rattle.std.specs.Prelude.{◌≤◌};
 
 use dr_base::{Position, Side};
 use session_model::Amount;
 
-/// A call on a side's client.
-#[derive(Clone, Copy)]
-pub enum Call<'a> {
+/// A call on a side's client, by what stands for a text, a packet and a number of items.
+#[derive(Clone, Copy, Drop)]
+pub enum Call<T, P, N> {
     /// It says this text.
-    Say(&'a [u8]),
-    /// It takes a packet.
-    Take(Source<'a>),
+    Say(T),
+    /// It takes this packet.
+    Take(P),
     /// This many of the oldest packets leave its outbox.
-    Sent(Amount),
+    Sent(N),
     /// This many of the oldest texts leave its inbox.
-    Done(Amount),
+    Done(N),
 }
+
+/// A call as a line says it.
+pub type LineCall<'a> = Call<&'a [u8], Source<'a>, Amount>;
 
 /// What a packet is that a side takes.
 #[derive(Clone, Copy)]
@@ -37,6 +40,6 @@ pub struct Failure<'a> {
     pub side: Side,
     /// The write or sync of this number of the call, from 1, fails, if it makes so many.
     pub at: u32,
-    pub call: Call<'a>,
+    pub call: LineCall<'a>,
     pub ghost counted: { 1 ≤ at },
 }

@@ -1,16 +1,22 @@
-//! The calls in which a disk may stop or fail.
+//! The calls in which a disk stops, or fails once.
 
 ghost use Rattle.std.specs.Prelude.{◌≡◌, option_map};
+ghost use Rattle.scripts.specs.Lined.{failed_deed, stop_deed};
 ghost use Rattle.scripts.specs.Seen.{call_event, event_of};
-ghost use Rattle.scripts.specs.Words.{call_words, if_call};
+ghost use Rattle.scripts.specs.Words.{call_words, fail_words, if_call, mode_read, stop_words};
 
-use crate::call::{Call, Source};
+use crate::call::{Call, Failure, LineCall, Source};
 use crate::line::{Line, parse_words};
+use crate::lined::Stop;
+use crate::number::{counted, number};
+use crate::split::{after_prefix, cut_at};
 use dr_base::Side;
+use dr_disk::Mode;
+use hex::FromHex;
 use session_model::Amount;
 
 /// The call that a line says, if a disk may stop or fail in it.
-fn call_in(line: Line<'_>) -> Option<(Side, Call<'_>)>
+fn call_in(line: Line<'_>) -> Option<(Side, LineCall<'_>)>
     ensures { option_map (λ one. call_event one.0 one.1) result ≡ if_call (event_of line.entry) }
 {
     match line {
@@ -25,13 +31,61 @@ fn call_in(line: Line<'_>) -> Option<(Side, Call<'_>)>
     }
 }
 
-/// Reads a call in which a disk may stop or fail.
+/// Reads such a call.
 #[tactic(auto, unfolding(crate::specs::Words::call_words))]
-pub fn parse_call(side: Side, words: &[u8]) -> Option<(Side, Call<'_>)>
+fn parse_call(side: Side, words: &[u8]) -> Option<(Side, LineCall<'_>)>
     ensures { option_map (λ one. call_event one.0 one.1) result ≡ call_words side words.entry.now }
 {
     match parse_words(side, words) {
         Some(line) => call_in(line),
         None => None,
     }
+}
+
+/// Reads `old`, `new`, or a byte in two hex digits of either case.
+#[tactic(auto, unfolding(crate::specs::Words::mode_read))]
+fn parse_mode(text: &[u8]) -> Option<Mode>
+    ensures { result ≡ mode_read text.now }
+{
+    if text == b"old".as_slice() {
+        return Some(Mode::Old);
+    }
+    if text == b"new".as_slice() {
+        return Some(Mode::New);
+    }
+    match <[u8; 1] as FromHex>::from_hex(text) {
+        Ok(bytes) => Some(Mode::Fill(bytes[0])),
+        Err(_) => None,
+    }
+}
+
+/// Reads `stop`, how many writes and syncs pass, the mode of the crash, and the call.
+#[tactic(auto, unfolding(crate::specs::Words::stop_words))]
+pub fn parse_stop(side: Side, words: &[u8]) -> Option<Stop<'_>>
+    ensures { option_map stop_deed result ≡ stop_words side words.entry.now }
+{
+    let text = after_prefix(words, b"stop ")?;
+    let (after, rest) = cut_at(text, b' ')?;
+    let after = number(after)?;
+    let (mode, call) = cut_at(rest, b' ')?;
+    let mode = parse_mode(mode)?;
+    let (side, call) = parse_call(side, call)?;
+    Some(Stop {
+        side,
+        after,
+        mode,
+        call,
+    })
+}
+
+/// Reads `fail`, the number of the write or sync that fails, and the call.
+#[tactic(auto, unfolding(crate::specs::Words::fail_words))]
+pub fn parse_fail(side: Side, words: &[u8]) -> Option<Failure<'_>>
+    ensures { option_map failed_deed result ≡ fail_words side words.entry.now }
+{
+    let text = after_prefix(words, b"fail ")?;
+    let (at, call) = cut_at(text, b' ')?;
+    let at = counted(at)?;
+    let (side, call) = parse_call(side, call)?;
+    Some(Failure { side, at, call })
 }

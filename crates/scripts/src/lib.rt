@@ -1,7 +1,7 @@
 //! Scripts of a conversation: what their lines say, read from a text, or made from a number.
 #![tactic(auto)]
 
-pub use call::{Call, Failure, Source};
+pub use call::{Call, Failure, LineCall, Source};
 pub use hexed::{HEX_LIMIT, hex_bytes, limits_in_numbers};
 pub use laws::lines_print_back;
 pub use line::Line;
@@ -12,7 +12,6 @@ pub use sides::{side_name, side_prefix};
 
 mod call;
 mod called;
-mod failing;
 mod hexed;
 mod laws;
 mod line;

@@ -5,11 +5,10 @@ ghost use Rattle.scripts.specs.Sides.{acting_side};
 ghost use Rattle.scripts.specs.Words.{plain_read, seed_read, side_words};
 ghost use Rattle.scripts.specs.Seen.{event_of};
 
-use crate::call::Call;
+use crate::call::{Call, LineCall};
+use crate::sides::named_side;
 use crate::split::after_prefix;
-use crate::words::{
-    parse_bytes, parse_done, parse_flip, parse_look, parse_say, parse_sent, parse_take,
-};
+use crate::words::{amount_after, parse_bytes, parse_flip, parse_look, parse_say, parse_take};
 use dr_base::Side;
 use hex::FromHex;
 
@@ -19,7 +18,7 @@ pub enum Line<'a> {
     /// The next draw is this seed.
     Seed([u8; 32]),
     /// A side does this.
-    Does(Side, Call<'a>),
+    Does(Side, LineCall<'a>),
     /// A side shows its inbox.
     Inbox(Side),
     /// A side shows what it holds, in numbers.
@@ -35,13 +34,8 @@ impl<'a> Line<'a> {
         if let Some(found) = parse_seed(line) {
             return Some(found);
         }
-        if let Some(words) = after_prefix(line, b"first ") {
-            if let Some(found) = parse_words(Side::First, words) {
-                return Some(found);
-            }
-        }
-        match after_prefix(line, b"second ") {
-            Some(words) => parse_words(Side::Second, words),
+        match named_side(line) {
+            Some((side, words)) => parse_words(side, words),
             None => None,
         }
     }
@@ -91,11 +85,11 @@ pub fn parse_words(side: Side, words: &[u8]) -> Option<Line<'_>>
     if let Some(found) = parse_bytes(side, words) {
         return Some(found);
     }
-    if let Some(found) = parse_sent(side, words) {
-        return Some(found);
+    if let Some(amount) = amount_after(words, b"sent") {
+        return Some(Line::Does(side, Call::Sent(amount)));
     }
-    if let Some(found) = parse_done(side, words) {
-        return Some(found);
+    if let Some(amount) = amount_after(words, b"done") {
+        return Some(Line::Does(side, Call::Done(amount)));
     }
     parse_look(side, words)
 }

@@ -2,20 +2,17 @@
 //! again, or sync it.
 
 ghost use Rattle.std.specs.Prelude.{◌≡◌, option_map};
-ghost use Rattle.scripts.specs.Lined.{lined_deed, stop_deed};
+ghost use Rattle.scripts.specs.Lined.{lined_deed};
 ghost use Rattle.scripts.specs.Sides.{deed_side};
-ghost use Rattle.scripts.specs.Words.{line_read, mode_read, stop_line_read, stop_words};
+ghost use Rattle.scripts.specs.Words.{deed_words, line_read};
 
-use crate::call::{Call, Failure};
-use crate::called::parse_call;
-use crate::failing::parse_opening;
+use crate::call::{Failure, LineCall};
+use crate::called::{parse_fail, parse_stop};
 use crate::line::Line;
-use crate::number::number;
-use crate::split::{after_prefix, cut_at};
+use crate::sides::named_side;
 use crate::syncing::parse_sync;
 use dr_base::Side;
 use dr_disk::Mode;
-use hex::FromHex;
 
 /// What one line says.
 #[derive(Clone, Copy)]
@@ -41,7 +38,7 @@ pub struct Stop<'a> {
     pub after: u32,
     /// How the disk crashes then.
     pub mode: Mode,
-    pub call: Call<'a>,
+    pub call: LineCall<'a>,
 }
 
 impl<'a> Lined<'a> {
@@ -53,17 +50,8 @@ impl<'a> Lined<'a> {
         if let Some(found) = Line::parse(line) {
             return Some(Lined::Plain(found));
         }
-        if let Some(found) = Stop::parse(line) {
-            return Some(Lined::Stopping(found));
-        }
-        if let Some(found) = Failure::parse(line) {
-            return Some(Lined::Failing(found));
-        }
-        if let Some(side) = parse_opening(line) {
-            return Some(Lined::Opening(side));
-        }
-        match parse_sync(line) {
-            Some((side, lost)) => Some(Lined::Syncing(side, lost)),
+        match named_side(line) {
+            Some((side, words)) => parse_deed(side, words),
             None => None,
         }
     }
@@ -83,56 +71,22 @@ impl<'a> Lined<'a> {
     }
 }
 
-impl<'a> Stop<'a> {
-    /// Reads a line that stops a disk.
-    #[tactic(auto, unfolding(crate::specs::Words::stop_line_read))]
-    fn parse(line: &'a [u8]) -> Option<Self>
-        ensures { option_map stop_deed result ≡ stop_line_read line.entry.now }
-    {
-        if let Some(words) = after_prefix(line, b"first ") {
-            if let Some(found) = parse_stop(Side::First, words) {
-                return Some(found);
-            }
-        }
-        match after_prefix(line, b"second ") {
-            Some(words) => parse_stop(Side::Second, words),
-            None => None,
-        }
-    }
-}
-
-/// Reads `old`, `new`, or a byte in two hex digits of either case.
-#[tactic(auto, unfolding(crate::specs::Words::mode_read))]
-fn parse_mode(text: &[u8]) -> Option<Mode>
-    ensures { result ≡ mode_read text.now }
+/// Reads what stands after a side and isn't an event alone.
+#[tactic(auto, unfolding(crate::specs::Words::deed_words, crate::specs::Words::open_words))]
+fn parse_deed(side: Side, words: &[u8]) -> Option<Lined<'_>>
+    ensures { option_map lined_deed result ≡ deed_words side words.entry.now }
 {
-    if text == b"old".as_slice() {
-        return Some(Mode::Old);
+    if let Some(found) = parse_stop(side, words) {
+        return Some(Lined::Stopping(found));
     }
-    if text == b"new".as_slice() {
-        return Some(Mode::New);
+    if let Some(found) = parse_fail(side, words) {
+        return Some(Lined::Failing(found));
     }
-    match <[u8; 1] as FromHex>::from_hex(text) {
-        Ok(bytes) => Some(Mode::Fill(bytes[0])),
-        Err(_) => None,
+    if words == b"open".as_slice() {
+        return Some(Lined::Opening(side));
     }
-}
-
-/// Reads `stop`, how many writes and syncs pass, the mode of the crash, and the call.
-#[tactic(auto, unfolding(crate::specs::Words::stop_words))]
-fn parse_stop(side: Side, words: &[u8]) -> Option<Stop<'_>>
-    ensures { option_map stop_deed result ≡ stop_words side words.entry.now }
-{
-    let text = after_prefix(words, b"stop ")?;
-    let (after, rest) = cut_at(text, b' ')?;
-    let after = number(after)?;
-    let (mode, call) = cut_at(rest, b' ')?;
-    let mode = parse_mode(mode)?;
-    let (side, call) = parse_call(side, call)?;
-    Some(Stop {
-        side,
-        after,
-        mode,
-        call,
-    })
+    match parse_sync(words) {
+        Some(lost) => Some(Lined::Syncing(side, lost)),
+        None => None,
+    }
 }

@@ -1,6 +1,6 @@
 //! Numbers as scripts write them: decimal digits without a sign or a leading zero, below 2^32.
 
-ghost use Rattle.std.specs.Prelude.{◌≡◌, ◌≤◌, ℕ, IfSome};
+ghost use Rattle.std.specs.Prelude.{◌≡◌, ◌≤◌, IfSome};
 ghost use Rattle.std.specs.Option.{option_and_then};
 ghost use Rattle.scripts.specs.Words.{if_counted};
 ghost use Rattle.scripts.specs.Number.{is_unpadded, script_number_read};

@@ -1,8 +1,10 @@
 //! How a line names a side.
 
-ghost use Rattle.std.specs.Prelude.{◌≡◌, ◌≤◌, length};
+ghost use Rattle.std.specs.Prelude.{◌≡◌, ◌≤◌, length, option_map};
 ghost use Rattle.scripts.specs.Sides.{side_text};
+ghost use Rattle.scripts.specs.Words.{side_named};
 
+use crate::split::after_prefix;
 use dr_base::Side;
 
 /// A side, and a space.
@@ -23,4 +25,18 @@ pub fn side_name(side: Side) -> &'static [u8]
     ensures short { length result.now ≤ 7 }
 {
     side_prefix(side).as_bytes()
+}
+
+/// The side that a line names, and what stands after it.
+#[tactic(auto, unfolding(crate::specs::Words::side_named))]
+pub fn named_side(line: &[u8]) -> Option<(Side, &[u8])>
+    ensures { option_map (λ named. (named.0, named.1.now)) result ≡ side_named line.entry.now }
+{
+    if let Some(words) = after_prefix(line, b"first ") {
+        return Some((Side::First, words));
+    }
+    match after_prefix(line, b"second ") {
+        Some(words) => Some((Side::Second, words)),
+        None => None,
+    }
 }

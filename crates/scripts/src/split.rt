@@ -1,6 +1,6 @@
 //! A text taken apart: its first line, and what follows a prefix.
 
-ghost use Rattle.std.specs.Prelude.{◌≡◌, ◌≢◌, ℕ, ◌+◌, ◌<◌, ◌≤◌, List, [], ◌∷◌, length, slice_index, take, drop, option_copied, option_map, MatchOption, IfSome};
+ghost use Rattle.std.specs.Prelude.{◌≡◌, ◌≢◌, ℕ, ◌+◌, ◌<◌, ◌≤◌, [], ◌∷◌, length, slice_index, option_copied, option_map, MatchOption, IfSome};
 ghost use Rattle.scripts.specs.Words.{after_prefix, halves_of};
 ghost use Rattle.scripts.specs.Script.{lines_of};
 

@@ -1,8 +1,7 @@
 //! What a side does in a line.
 
-ghost use Rattle.std.specs.Prelude.{◌≡◌, [], Some, None, codes, option_map, if◌then◌else◌};
-ghost use Rattle.dr_model.specs.Machines.Events.{takes_bytes};
-ghost use Rattle.scripts.specs.Words.{amount_words, bytes_words, done_words, flip_words, hex_read, is_text, look_words, packet_read, position_read, say_words, sent_words, take_words};
+ghost use Rattle.std.specs.Prelude.{◌≡◌, Some, None, option_copied, option_map, if◌then◌else◌};
+ghost use Rattle.scripts.specs.Words.{amount_after, amount_words, bytes_words, flip_words, hex_read, look_words, packet_read, position_read, say_words, take_words, text_after};
 ghost use Rattle.scripts.specs.Seen.{bytes_of_hex, event_of};
 
 use crate::call::{Call, Source};
@@ -14,18 +13,24 @@ use dr_base::{Position, Side};
 use hex::decode_to_slice;
 use session_model::Amount;
 
-/// Reads `say` and a text after a space, which an empty text may lack.
+/// What stands after a word and a space; nothing where the word stands alone.
+fn text_after<'a>(words: &'a [u8], word: &[u8]) -> Option<&'a [u8]>
+    ensures { option_copied result ≡ text_after word.now words.entry.now }
+{
+    if words == word {
+        return Some(&words[..0]);
+    }
+    let rest = after_prefix(words, word)?;
+    after_prefix(rest, b" ")
+}
+
+/// Reads `say` and a text.
 #[tactic(auto, unfolding(crate::specs::Words::say_words))]
 pub fn parse_say(side: Side, words: &[u8]) -> Option<Line<'_>>
     ensures { option_map event_of result ≡ say_words side words.entry.now }
 {
-    if let Some(text) = after_prefix(words, b"say ") {
-        return Some(Line::Does(side, Call::Say(text)));
-    }
-    if words == b"say".as_slice() {
-        return Some(Line::Does(side, Call::Say(&words[..0])));
-    }
-    None
+    let text = text_after(words, b"say")?;
+    Some(Line::Does(side, Call::Say(text)))
 }
 
 /// Reads `take` and a packet.
@@ -89,56 +94,16 @@ fn is_hex(text: &[u8]) -> bool
     decode_to_slice(text, &mut bytes[..text.len() / 2]).is_ok()
 }
 
-/// Reads `bytes` and bytes in hex after a space, which no bytes may lack.
+/// Reads `bytes` and bytes in hex.
 #[tactic(auto, unfolding(crate::specs::Words::bytes_words))]
 pub fn parse_bytes(side: Side, words: &[u8]) -> Option<Line<'_>>
     ensures { option_map event_of result ≡ bytes_words side words.entry.now }
 {
-    if let Some(hex) = after_prefix(words, b"bytes ") {
-        if is_hex(hex) {
-            return Some(Line::Does(side, Call::Take(Source::Bytes(hex))));
-        }
-    }
-    parse_no_bytes(side, words)
-}
-
-/// Reads `bytes` alone.
-#[tactic(auto, using(crate::proofs::Hex::no_bytes))]
-fn parse_no_bytes(side: Side, words: &[u8]) -> Option<Line<'_>>
-    ensures { option_map event_of result ≡ (if is_text (codes "bytes") words.now then Some (takes_bytes side []) else None) }
-{
-    if words == b"bytes".as_slice() {
-        return Some(Line::Does(side, Call::Take(Source::Bytes(&words[..0]))));
+    let hex = text_after(words, b"bytes")?;
+    if is_hex(hex) {
+        return Some(Line::Does(side, Call::Take(Source::Bytes(hex))));
     }
     None
-}
-
-/// Reads `sent` and an amount.
-#[tactic(auto, unfolding(crate::specs::Words::sent_words))]
-pub fn parse_sent(side: Side, words: &[u8]) -> Option<Line<'_>>
-    ensures { option_map event_of result ≡ sent_words side words.entry.now }
-{
-    match after_prefix(words, b"sent ") {
-        Some(amount) => match parse_amount(amount) {
-            Some(amount) => Some(Line::Does(side, Call::Sent(amount))),
-            None => None,
-        },
-        None => None,
-    }
-}
-
-/// Reads `done` and an amount.
-#[tactic(auto, unfolding(crate::specs::Words::done_words))]
-pub fn parse_done(side: Side, words: &[u8]) -> Option<Line<'_>>
-    ensures { option_map event_of result ≡ done_words side words.entry.now }
-{
-    match after_prefix(words, b"done ") {
-        Some(amount) => match parse_amount(amount) {
-            Some(amount) => Some(Line::Does(side, Call::Done(amount))),
-            None => None,
-        },
-        None => None,
-    }
 }
 
 /// Reads `inbox` or `state`.
@@ -153,6 +118,14 @@ pub fn parse_look(side: Side, words: &[u8]) -> Option<Line<'_>>
         return Some(Line::State(side));
     }
     None
+}
+
+/// Reads a word, and an amount after a space.
+pub fn amount_after(words: &[u8], word: &[u8]) -> Option<Amount>
+    ensures { result ≡ amount_after word.now words.now }
+{
+    let text = text_after(words, word)?;
+    parse_amount(text)
 }
 
 /// Reads `all` or a number.

@@ -1,10 +1,9 @@
 -- What an act comes to on a disk that stops in it.
-use Rattle.std.proofs.Common.{Bool, Err, List, None, Ok, Option, Result, Some, ap, arith, false, if◌then◌else◌, inl, inr, length, refl, subst, sym, true, ℕ, ◌+◌, ◌-◌, ◌<◌, ◌∙◌, ◌≡◌, ◌≤◌}
+use Rattle.std.proofs.Common.{Bool, Err, List, None, Ok, Option, Result, Some, [], ap, arith, false, if◌then◌else◌, inl, inr, length, refl, subst, sym, true, ℕ, ◌+◌, ◌-◌, ◌<◌, ◌∙◌, ◌≡◌, ◌≤◌}
 use Rattle.std.specs.Prelude.{IfSome, is_some, nat_le}
 use Rattle.std.proofs.lemmas.Bool.{cond-false, cond-true, le-leb}
 use Rattle.std.proofs.lemmas.Bool.Decides.{nat_tests}
 use Rattle.boxes.specs.Items.{Item}
-use Rattle.dr_base.specs.declared.key.Key32.{Key32}
 use Rattle.dr_disk.specs.MemoryDisks.{IsLeftBy, going_on, state_of, stopped_after}
 use Rattle.dr_disk.specs.MemoryLaws.{memory_lawful}
 use Rattle.dr_disk.specs.State.{DiskState, IsLawful, to_failure}
@@ -12,10 +11,10 @@ use Rattle.dr_disk.specs.declared.call.Call.{Call}
 use Rattle.dr_disk.proofs.Exactly.{enough as enough_told, too_few}
 use Rattle.dr_disk.specs.declared.call.Mode.{Mode}
 use Rattle.dr_disk.specs.declared.memory.MemoryDisk.{MemoryDisk}
-use Rattle.dr_model.specs.Machines.Acts.{finished_by, said_by, sent_by, taken_by}
+use Rattle.dr_model.specs.Machines.Acts.{Act, act_on, finished_by, finishing, said_by, saying, saying_by, sending, sent_by, taken_by, taking}
+use Rattle.dr_model.specs.Machines.Draws.{given_or}
 use Rattle.dr_model.specs.Machines.Steps.{Step, has_effect, settled, step}
 use Rattle.kem_laws.specs.Mechanism.{IsLawfulMechanism, Mechanism}
-use Rattle.ratchet.specs.Seen.{seed_bytes}
 use Rattle.session_model.specs.Clients.{Client, SaidText, TakenPacket, dropped_of, say_on, take_on}
 use Rattle.session_model.specs.declared.answer.Answer.{Answer}
 use Rattle.session_model.specs.declared.answer.Answer.TheVariants.{Done as AnsweredDone, Opened, Refused, Said, Sent as AnsweredSent, Stopped}
@@ -34,12 +33,10 @@ use Rattle.client.specs.Opening.{SaysNothing}
 use Rattle.client.specs.declared.refusals.OpenRefusal.{OpenRefusal}
 use Rattle.client.specs.declared.refusals.OpenRefusal.TheVariants.{Damaged, Memory, NoSession, StoreFault}
 use Rattle.client.proofs.Lawful.Acts.{done_lawful, say_lawful, sent_lawful, take_lawful}
-use Rattle.duet.specs.Acts.{IsChecked, IsEnded, made_by}
+use Rattle.duet.specs.Acts.{IsChecked, IsEnded}
 use Rattle.duet.specs.Parties.{DiskHasRecord, IsHeld, IsWantOfMemory}
 use Rattle.duet.specs.Stops.{cut_by, cut_of, is_replaced, stopped_client}
 use Rattle.duet.proofs.Stopped.Sides.{idle_stopped}
-use Rattle.duet.specs.declared.acts.Act.{Act}
-use Rattle.duet.specs.declared.acts.Act.TheVariants.{Done, Say, Sent, Take}
 
 -- how a call ends on a client that was open
 pub is_ended : {X : Type 0} (state : X → DiskState) (made : Result (Step Client) Refusal) (old new : ClientNow) (start now : X)
@@ -249,22 +246,24 @@ done_keeps k c n (Ok inbox) next each is =
     let same : step (AnsweredDone n) (record c { inbox = inbox }) ≡ next = cc in
     subst (λ (made : Step Client). IsLawfulClient k made.next) same (each inbox refl)
 
-seed_whole : (seed : Option Key32) → IfSome seed (λ key. length key.bytes ≡ 32) → is_some seed ≡ true
-    → length (seed_bytes seed) ≡ 32
+seed_whole : (draw : Option (List ℕ)) → IfSome draw (λ seed. length seed ≡ 32) → is_some draw ≡ true
+    → length (given_or [] draw) ≡ 32
 seed_whole None long needs = absurd (let e : false ≡ true = needs in cc)
-seed_whole (Some key) long needs = long
+seed_whole (Some seed) long needs = long
 
 -- what an act makes of a lawful client is lawful
 pub made_lawful : (k : Mechanism) (c : Client) (act : Act) (next : Step Client) → IsLawfulMechanism k → IsLawfulClient k c
-    → IsChecked c act → made_by k c act ≡ Ok next → IsLawfulClient k next.next
-made_lawful k c (Say text seed) next law l checked is =
-    said_keeps k (say_on k c text.now (seed_bytes seed)) next
-    (λ said gives. say_lawful k c text.now (seed_bytes seed) (is_some seed) said law l checked.0 (seed_whole seed checked.1) gives) is
-made_lawful k c (Take bytes) next law l small is =
-    taken_keeps k (take_on k c bytes.items) next (λ taken gives. take_lawful k c bytes.items taken l small gives) is
-made_lawful k c (Sent n) next law l checked is =
+    → IsChecked c act → act_on k c act ≡ Ok next → IsLawfulClient k next.next
+made_lawful k c (saying text draw) next law l checked is =
+    let seed = given_or [] draw in
+    said_keeps k (say_on k c text seed) next
+    (λ said gives. say_lawful k c text seed (is_some draw) said law l checked.0 (seed_whole draw checked.1) gives)
+    (ap (saying_by k c text draw) (sym checked.0) ∙ is)
+made_lawful k c (taking bytes) next law l small is =
+    taken_keeps k (take_on k c bytes) next (λ taken gives. take_lawful k c bytes taken l small gives) is
+made_lawful k c (sending n) next law l checked is =
     sent_keeps k c n (dropped_of n c.outbox) next (λ outbox gives. sent_lawful k c n outbox l gives) is
-made_lawful k c (Done n) next law l checked is =
+made_lawful k c (finishing n) next law l checked is =
     done_keeps k c n (dropped_of n c.inbox) next (λ inbox gives. done_lawful k c n inbox l gives) is
 
 -- whichever is left

@@ -4,6 +4,7 @@ use Rattle.std.proofs.lemmas.Bool.{cond-false}
 use Rattle.dr_base.specs.declared.position.Side.{Side}
 use Rattle.dr_base.specs.declared.position.Side.TheVariants.{First, Second}
 use Rattle.dr_disk.specs.declared.call.Mode.{Mode}
+use Rattle.dr_model.specs.Machines.Acts.{Act, act_on}
 use Rattle.dr_model.specs.Machines.Draws.{Draws}
 use Rattle.dr_model.specs.Machines.Events.{Event}
 use Rattle.dr_model.specs.Machines.Sides.{Sides, client_of, step_on}
@@ -12,14 +13,12 @@ use Rattle.kem_laws.specs.Mechanism.{Mechanism}
 use Rattle.session_model.specs.Clients.{Client}
 use Rattle.session_model.specs.declared.answer.Answer.{Answer}
 use Rattle.scripts.proofs.Calls.{acting_call}
-use Rattle.scripts.specs.Seen.{call_event}
+use Rattle.scripts.specs.Seen.{CallOfLine, call_event}
 use Rattle.scripts.specs.Sides.{acting_side}
-use Rattle.scripts.specs.declared.call.Call.{Call}
-use Rattle.duet.specs.Acts.{acted_by, made_by}
+use Rattle.duet.specs.Acts.{acted_by}
 use Rattle.duet.specs.Gathering.{gathering}
 use Rattle.duet.specs.Held.{DuetNow, with_draws}
 use Rattle.duet.specs.Stops.{cut_by, cut_event, cut_of, stopped_client, stopped_on, stopped_sides}
-use Rattle.duet.specs.declared.acts.Act.{Act}
 use Rattle.duet.proofs.Gathering.{gathers_stopped, same_draws}
 
 -- an event is cut off as its step is
@@ -78,7 +77,7 @@ over_draws old new made drawn same =
     ap (λ (d : DuetNow). d.sides) drawn
     ∙ ap (λ (draws : Draws). let t : Sides = record old.sides { draws = draws } in t) (sym same)
 
-module _ (k : Mechanism) (old new : DuetNow) (side : Side) (call : Call) (n : ℕ) (mode : Mode)
+module _ (k : Mechanism) (old new : DuetNow) (side : Side) (call : CallOfLine) (n : ℕ) (mode : Mode)
     (drawn : new ≡ with_draws old new.sides.draws) where
   abbrev event : Event
   event = call_event side call
@@ -94,11 +93,11 @@ module _ (k : Mechanism) (old new : DuetNow) (side : Side) (call : Call) (n : �
   -- one that comes to an act
   pub act_stopped : (act : Act) → step_on k old.sides event ≡ acted_by k new.sides side act
       → let c = client_of new.sides side in
-      gathering new.sides side (stopped_client n mode c (settled c (made_by k c act)))
+      gathering new.sides side (stopped_client n mode c (settled c (act_on k c act)))
       ≡ step_on k old.sides (stopped_on k old.sides n mode event)
   act_stopped act does =
       let c = client_of new.sides side in
-      let made = settled c (made_by k c act) in
+      let made = settled c (act_on k c act) in
       sym (on_its_side (acted_by k new.sides side act) does (same_draws new.sides side made)
       ∙ gathers_stopped new.sides side n mode made)
 

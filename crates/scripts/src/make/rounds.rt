@@ -1,6 +1,6 @@
 //! The rounds of a script that is made from a number.
 
-ghost use Rattle.std.specs.Prelude.{◌≡◌, ℕ, ◌-◌, ◌<◌, ◌^◌};
+ghost use Rattle.std.specs.Prelude.{◌≡◌, ◌-◌, ◌<◌, ◌^◌};
 ghost use Rattle.scripts.specs.Make.{advanced, drawn, next_number, opening, round_of, said_to, saying, side_drawn, taking};
 
 use dr_base::Side;

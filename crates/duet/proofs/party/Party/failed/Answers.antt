@@ -1,10 +1,11 @@
 use Rattle.std.proofs.Common.{Err, Ok, ap, ap₂, subst, sym, ◌∙◌}
 use Rattle.dr_disk.specs.MemoryDisks.{state_of}
 use Rattle.dr_disk.specs.declared.memory.MemoryDisk.{MemoryDisk}
+use Rattle.dr_model.specs.Machines.Acts.{act_on}
 use Rattle.session_model.specs.Clients.{Client}
 use Rattle.session_model.specs.declared.answer.Answer.TheVariants.{Refused}
 use Rattle.client.specs.Outcomes.{Acts, acknowledged, faulted, refused}
-use Rattle.duet.specs.Acts.{IsChecked, ended_as, made_by}
+use Rattle.duet.specs.Acts.{IsChecked, act_of_call, ended_as}
 use Rattle.duet.specs.Failing.{FailsAt}
 use Rattle.duet.specs.Parties.{IsHeld, IsParty, IsClosedParty, found_on, shut_by}
 use Rattle.duet.specs.Shuts.{PartyNow, shut_party}
@@ -28,7 +29,7 @@ invariant_of-self g c =
     let unshut = ap (λ (p : PartyNow). p.shut) c.self.view_is ∙ c.requires.open in
     let held = held_open k client disk c.self.inside.shut client.kept unshut c.self.invariant in
     let now = c.perform-ended.new in
-    let made = made_by k client.kept c.args.act in
+    let made = act_on k client.kept (act_of_call c.args.call) in
     let acts = subst (λ (d : MemoryDisk). Acts state_of made client now.client d now.disk (acknowledged c.in-Acknowledged.answer))
     c.fail_at.ensures (subst (λ (e : Ended). Acts state_of made client now.client c.fail_at.new.self now.disk (ended_as e))
     c.in-Acknowledged.is c.perform-ended.ensures.acts) in
@@ -45,12 +46,12 @@ invariant_of-self-in-Faulted g c =
     let unshut = ap (λ (p : PartyNow). p.shut) c.self.view_is ∙ c.requires.open in
     let held = held_open k client disk c.self.inside.shut client.kept unshut c.self.invariant in
     let now = c.perform-ended.new in
-    let made = made_by k client.kept c.args.act in
+    let made = act_on k client.kept (act_of_call c.args.call) in
     let cut = subst (λ (d : MemoryDisk). Acts state_of made client now.client d now.disk (faulted c.in-Faulted.call))
     c.fail_at.ensures (subst (λ (e : Ended). Acts state_of made client now.client c.fail_at.new.self now.disk (ended_as e))
     c.in-Faulted.is c.perform-ended.ensures.acts) in
-    let checked = subst (λ (x : Client). IsChecked x c.args.act) (sym (ap (λ (p : PartyNow). p.kept) c.self.view_is)) c.requires.checked in
-    let next = made_lawful k client.kept c.args.act cut.next c.laws.ensures.law c.lawful.ensures checked cut.made_is in
+    let checked = subst (λ (x : Client). IsChecked x (act_of_call c.args.call)) (sym (ap (λ (p : PartyNow). p.kept) c.self.view_is)) c.requires.checked in
+    let next = made_lawful k client.kept (act_of_call c.args.call) cut.next c.laws.ensures.law c.lawful.ensures checked cut.made_is in
     let whole = left_whole c.args.at c.requires.counted made client now.client disk now.disk held c.in-Faulted.call cut k
     next c.lawful.ensures in
     subst (λ (d : MemoryDisk). IsClosedParty k d) (sym c.go_on.ensures.lifted)
@@ -64,13 +65,13 @@ returns-in-Acknowledged g c =
     let unshut = ap (λ (p : PartyNow). p.shut) c.self.view_is ∙ c.requires.open in
     let held = held_open k client disk c.self.inside.shut client.kept unshut c.self.invariant in
     let now = c.perform-ended.new in
-    let made = made_by k client.kept c.args.act in
+    let made = act_on k client.kept (act_of_call c.args.call) in
     let acts = subst (λ (d : MemoryDisk). Acts state_of made client now.client d now.disk (acknowledged c.in-Acknowledged.answer))
     c.fail_at.ensures (subst (λ (e : Ended). Acts state_of made client now.client c.fail_at.new.self now.disk (ended_as e))
     c.in-Acknowledged.is c.perform-ended.ensures.acts) in
     let passes = acknowledged_passes c.args.at c.requires.counted made client now.client disk now.disk held
     c.in-Acknowledged.answer acts c.go_on.ensures.told in
-    subst (λ (x : Client). FailsAt k c.args.at c.args.act x
+    subst (λ (x : Client). FailsAt k c.args.at (act_of_call c.args.call) x
     (record { kept = now.client.kept; shut = shut_by k now.client.kept c.go_on.new.self c.self.inside.shut }) (Ok c.in-Acknowledged.answer))
     (ap (λ (p : PartyNow). p.kept) c.self.view_is) (
       passes.0,
@@ -86,13 +87,13 @@ returns-in-Refused g c =
     let unshut = ap (λ (p : PartyNow). p.shut) c.self.view_is ∙ c.requires.open in
     let held = held_open k client disk c.self.inside.shut client.kept unshut c.self.invariant in
     let now = c.perform-ended.new in
-    let made = made_by k client.kept c.args.act in
+    let made = act_on k client.kept (act_of_call c.args.call) in
     let acts = subst (λ (d : MemoryDisk). Acts state_of made client now.client d now.disk (refused c.in-Refused.refusal))
     c.fail_at.ensures (subst (λ (e : Ended). Acts state_of made client now.client c.fail_at.new.self now.disk (ended_as e))
     c.in-Refused.is c.perform-ended.ensures.acts) in
     let passes = refused_passes c.args.at c.requires.counted made client now.client disk now.disk held
     c.in-Refused.refusal acts in
-    subst (λ (x : Client). FailsAt k c.args.at c.args.act x
+    subst (λ (x : Client). FailsAt k c.args.at (act_of_call c.args.call) x
     (record { kept = now.client.kept; shut = shut_by k now.client.kept c.go_on.new.self c.self.inside.shut }) (Ok (Refused c.in-Refused.refusal)))
     (ap (λ (p : PartyNow). p.kept) c.self.view_is) (
       passes.0,
@@ -108,17 +109,17 @@ returns-in-Faulted g c =
     let unshut = ap (λ (p : PartyNow). p.shut) c.self.view_is ∙ c.requires.open in
     let held = held_open k client disk c.self.inside.shut client.kept unshut c.self.invariant in
     let now = c.perform-ended.new in
-    let made = made_by k client.kept c.args.act in
+    let made = act_on k client.kept (act_of_call c.args.call) in
     let cut = subst (λ (d : MemoryDisk). Acts state_of made client now.client d now.disk (faulted c.in-Faulted.call))
     c.fail_at.ensures (subst (λ (e : Ended). Acts state_of made client now.client c.fail_at.new.self now.disk (ended_as e))
     c.in-Faulted.is c.perform-ended.ensures.acts) in
-    let checked = subst (λ (x : Client). IsChecked x c.args.act) (sym (ap (λ (p : PartyNow). p.kept) c.self.view_is)) c.requires.checked in
-    let next = made_lawful k client.kept c.args.act cut.next c.laws.ensures.law c.lawful.ensures checked cut.made_is in
+    let checked = subst (λ (x : Client). IsChecked x (act_of_call c.args.call)) (sym (ap (λ (p : PartyNow). p.kept) c.self.view_is)) c.requires.checked in
+    let next = made_lawful k client.kept (act_of_call c.args.call) cut.next c.laws.ensures.law c.lawful.ensures checked cut.made_is in
     let whole = left_whole c.args.at c.requires.counted made client now.client disk now.disk held c.in-Faulted.call cut k
     next c.lawful.ensures in
     let found = cut_found c.args.at c.requires.counted made client now.client disk now.disk held c.in-Faulted.call cut k
     ((c.record_law.ensures k).reads _ whole) in
-    subst (λ (x : Client). FailsAt k c.args.at c.args.act x
+    subst (λ (x : Client). FailsAt k c.args.at (act_of_call c.args.call) x
     (shut_party now.client.kept c.in-Faulted.call (found_on k now.client.kept c.go_on.new.self)) (Err c.in-Faulted.call))
     (ap (λ (p : PartyNow). p.kept) c.self.view_is) (
       cut_fault c.args.at c.requires.counted made client now.client disk now.disk held c.in-Faulted.call cut,

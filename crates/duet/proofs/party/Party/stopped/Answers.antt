@@ -1,11 +1,12 @@
 use Rattle.std.proofs.Common.{ap, if◌then◌else◌, refl, subst, sym, ◌∙◌}
 use Rattle.dr_disk.specs.MemoryDisks.{state_of, stopped_after}
 use Rattle.dr_disk.specs.declared.memory.MemoryDisk.{MemoryDisk}
+use Rattle.dr_model.specs.Machines.Acts.{act_on}
 use Rattle.dr_model.specs.Machines.Steps.{settled, step}
 use Rattle.session_model.specs.Clients.{Client}
 use Rattle.session_model.specs.declared.answer.Answer.TheVariants.{Stopped}
 use Rattle.client.specs.Outcomes.{Acts, acknowledged, faulted, refused}
-use Rattle.duet.specs.Acts.{IsChecked, ended_as, made_by}
+use Rattle.duet.specs.Acts.{IsChecked, act_of_call, ended_as}
 use Rattle.duet.specs.declared.acts.Ended.{Ended}
 use Rattle.duet.specs.Parties.{IsHeld}
 use Rattle.duet.specs.Stops.{is_replaced, stopped_client}
@@ -20,7 +21,7 @@ invariant_of-result g c =
     let client = c.self.inside.client in
     let disk = c.self.inside.disk in
     let held = held_open k client disk c.self.inside.shut client.kept (ap (λ (p : PartyNow). p.shut) c.self.view_is ∙ c.requires.open) c.self.invariant in
-    let made = made_by k client.kept c.args.act in
+    let made = act_on k client.kept (act_of_call c.args.call) in
     let acts = subst (λ (d : MemoryDisk). Acts state_of made client c.perform.new.client d c.perform.new.disk (acknowledged c.in-Acknowledged.answer))
     c.stop_after.ensures (subst (λ (e : Ended). Acts state_of made client c.perform.new.client c.stop_after.new.self c.perform.new.disk (ended_as e)) c.in-Acknowledged.is c.perform.ensures.acts) in
     let comes = acknowledged_comes c.args.after c.args.mode made client c.perform.new.client (stopped_after c.args.after disk) c.perform.new.disk held.is_open
@@ -34,14 +35,14 @@ returns-in-Acknowledged-clause-made g c =
     let client = c.self.inside.client in
     let disk = c.self.inside.disk in
     let held = held_open k client disk c.self.inside.shut client.kept (ap (λ (p : PartyNow). p.shut) c.self.view_is ∙ c.requires.open) c.self.invariant in
-    let made = made_by k client.kept c.args.act in
+    let made = act_on k client.kept (act_of_call c.args.call) in
     let acts = subst (λ (d : MemoryDisk). Acts state_of made client c.perform.new.client d c.perform.new.disk (acknowledged c.in-Acknowledged.answer))
     c.stop_after.ensures (subst (λ (e : Ended). Acts state_of made client c.perform.new.client c.stop_after.new.self c.perform.new.disk (ended_as e)) c.in-Acknowledged.is c.perform.ensures.acts) in
     let comes = acknowledged_comes c.args.after c.args.mode made client c.perform.new.client (stopped_after c.args.after disk) c.perform.new.disk held.is_open
     (ready_stopped c.args.after client.kept client.store disk held.ready) refl refl
     c.in-Acknowledged.answer acts c.go_on.ensures.told in
     comes.0 ∙ ap (λ (x : Client). stopped_client c.args.after c.args.mode x
-    (settled x (made_by k x c.args.act))) (ap (λ (p : PartyNow). p.kept) c.self.view_is)
+    (settled x (act_on k x (act_of_call c.args.call)))) (ap (λ (p : PartyNow). p.kept) c.self.view_is)
 
 pub returns-in-Refused-clause-made : goal.returns-in-Refused-clause-made
 returns-in-Refused-clause-made g c =
@@ -49,14 +50,14 @@ returns-in-Refused-clause-made g c =
     let client = c.self.inside.client in
     let disk = c.self.inside.disk in
     let held = held_open k client disk c.self.inside.shut client.kept (ap (λ (p : PartyNow). p.shut) c.self.view_is ∙ c.requires.open) c.self.invariant in
-    let made = made_by k client.kept c.args.act in
+    let made = act_on k client.kept (act_of_call c.args.call) in
     let acts = subst (λ (d : MemoryDisk). Acts state_of made client c.perform.new.client d c.perform.new.disk (refused c.in-Refused.refusal))
     c.stop_after.ensures (subst (λ (e : Ended). Acts state_of made client c.perform.new.client c.stop_after.new.self c.perform.new.disk (ended_as e)) c.in-Refused.is c.perform.ensures.acts) in
     let comes = refused_comes c.args.after c.args.mode made client c.perform.new.client (stopped_after c.args.after disk) c.perform.new.disk held.is_open
     (ready_stopped c.args.after client.kept client.store disk held.ready) refl refl
     c.in-Refused.refusal acts in
     comes.0 ∙ ap (λ (x : Client). stopped_client c.args.after c.args.mode x
-    (settled x (made_by k x c.args.act))) (ap (λ (p : PartyNow). p.kept) c.self.view_is)
+    (settled x (act_on k x (act_of_call c.args.call)))) (ap (λ (p : PartyNow). p.kept) c.self.view_is)
 
 pub invariant_of-result-in-Refused : goal.invariant_of-result-in-Refused
 invariant_of-result-in-Refused g c =
@@ -64,7 +65,7 @@ invariant_of-result-in-Refused g c =
     let client = c.self.inside.client in
     let disk = c.self.inside.disk in
     let held = held_open k client disk c.self.inside.shut client.kept (ap (λ (p : PartyNow). p.shut) c.self.view_is ∙ c.requires.open) c.self.invariant in
-    let made = made_by k client.kept c.args.act in
+    let made = act_on k client.kept (act_of_call c.args.call) in
     let acts = subst (λ (d : MemoryDisk). Acts state_of made client c.perform.new.client d c.perform.new.disk (refused c.in-Refused.refusal))
     c.stop_after.ensures (subst (λ (e : Ended). Acts state_of made client c.perform.new.client c.stop_after.new.self c.perform.new.disk (ended_as e)) c.in-Refused.is c.perform.ensures.acts) in
     let comes = refused_comes c.args.after c.args.mode made client c.perform.new.client (stopped_after c.args.after disk) c.perform.new.disk held.is_open
@@ -78,7 +79,7 @@ reopened-requires-clause-within g c =
     let client = c.self.inside.client in
     let disk = c.self.inside.disk in
     let held = held_open k client disk c.self.inside.shut client.kept (ap (λ (p : PartyNow). p.shut) c.self.view_is ∙ c.requires.open) c.self.invariant in
-    let made = made_by k client.kept c.args.act in
+    let made = act_on k client.kept (act_of_call c.args.call) in
     let cut = subst (λ (d : MemoryDisk). Acts state_of made client c.perform.new.client d c.perform.new.disk (faulted c.in-Faulted.field-0))
     c.stop_after.ensures (subst (λ (e : Ended). Acts state_of made client c.perform.new.client c.stop_after.new.self c.perform.new.disk (ended_as e)) c.in-Faulted.is c.perform.ensures.acts) in
     cut_within c.args.after c.args.mode made client c.perform.new.client (stopped_after c.args.after disk) c.perform.new.disk held.is_open
@@ -93,11 +94,11 @@ reopened-requires-clause-holds g c =
     let held = held_open k client disk c.self.inside.shut client.kept (ap (λ (p : PartyNow). p.shut) c.self.view_is ∙ c.requires.open) c.self.invariant in
     let n = c.args.after in
     let mode = c.args.mode in
-    let made = made_by k client.kept c.args.act in
+    let made = act_on k client.kept (act_of_call c.args.call) in
     let cut = subst (λ (d : MemoryDisk). Acts state_of made client c.perform.new.client d c.perform.new.disk (faulted c.in-Faulted.field-0))
     c.stop_after.ensures (subst (λ (e : Ended). Acts state_of made client c.perform.new.client c.stop_after.new.self c.perform.new.disk (ended_as e)) c.in-Faulted.is c.perform.ensures.acts) in
-    let checked = subst (λ (x : Client). IsChecked x c.args.act) (sym (ap (λ (p : PartyNow). p.kept) c.self.view_is)) c.requires.checked in
-    let next = made_lawful k client.kept c.args.act cut.next c.laws.ensures.law c.lawful.ensures checked cut.made_is in
+    let checked = subst (λ (x : Client). IsChecked x (act_of_call c.args.call)) (sym (ap (λ (p : PartyNow). p.kept) c.self.view_is)) c.requires.checked in
+    let next = made_lawful k client.kept (act_of_call c.args.call) cut.next c.laws.ensures.law c.lawful.ensures checked cut.made_is in
     record {
       kept = if is_replaced n mode client.kept cut.next.next then cut.next.next else client.kept;
       lawful = left_lawful k (is_replaced n mode client.kept cut.next.next) cut.next.next client.kept
@@ -121,11 +122,11 @@ returns-in-Ok g c =
     let held = held_open k client disk c.self.inside.shut client.kept (ap (λ (p : PartyNow). p.shut) c.self.view_is ∙ c.requires.open) c.self.invariant in
     let n = c.args.after in
     let mode = c.args.mode in
-    let made = made_by k client.kept c.args.act in
+    let made = act_on k client.kept (act_of_call c.args.call) in
     let cut = subst (λ (d : MemoryDisk). Acts state_of made client c.perform.new.client d c.perform.new.disk (faulted c.in-Faulted.field-0))
     c.stop_after.ensures (subst (λ (e : Ended). Acts state_of made client c.perform.new.client c.stop_after.new.self c.perform.new.disk (ended_as e)) c.in-Faulted.is c.perform.ensures.acts) in
-    let checked = subst (λ (x : Client). IsChecked x c.args.act) (sym (ap (λ (p : PartyNow). p.kept) c.self.view_is)) c.requires.checked in
-    let next = made_lawful k client.kept c.args.act cut.next c.laws.ensures.law c.lawful.ensures checked cut.made_is in
+    let checked = subst (λ (x : Client). IsChecked x (act_of_call c.args.call)) (sym (ap (λ (p : PartyNow). p.kept) c.self.view_is)) c.requires.checked in
+    let next = made_lawful k client.kept (act_of_call c.args.call) cut.next c.laws.ensures.law c.lawful.ensures checked cut.made_is in
     let lawful = left_lawful k (is_replaced n mode client.kept cut.next.next) cut.next.next
     client.kept next c.lawful.ensures in
     let has = cut_record n mode made client c.perform.new.client (stopped_after n disk) c.perform.new.disk held.is_open
@@ -137,6 +138,6 @@ returns-in-Ok g c =
     record {
       made = ap (λ (p : PartyNow). step Stopped p.kept) opens ∙ comes
           ∙ ap (λ (x : Client). stopped_client n mode x
-          (settled x (made_by k x c.args.act))) (ap (λ (p : PartyNow). p.kept) c.self.view_is);
+          (settled x (act_on k x (act_of_call c.args.call)))) (ap (λ (p : PartyNow). p.kept) c.self.view_is);
       «open» = ap (λ (p : PartyNow). p.shut) opens;
     }

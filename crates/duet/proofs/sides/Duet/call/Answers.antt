@@ -1,7 +1,7 @@
 use Rattle.std.proofs.Common.{ap, sym, ◌∙◌}
 use Rattle.dr_model.specs.Machines.Sides.{Sides}
 use Rattle.dr_model.specs.Machines.Steps.{Step}
-use Rattle.duet.specs.Acts.{acted_by}
+use Rattle.duet.specs.Acts.{act_of_call, acted_by}
 use Rattle.duet.specs.Held.{DuetNow, after_step}
 use Rattle.duet.proofs.Prepared.{left_after}
 use Rattle.duet.proofs.sides.Duet.call.Goals as goal
@@ -12,7 +12,7 @@ returns-in-Ok-clause-answer g c =
 
 pub returns-in-Ok-clause-next : goal.returns-in-Ok-clause-next
 returns-in-Ok-clause-next g c =
-    let made = acted_by g.K.Kem.mechanism c.prepared.new.self.sides c.args.side c.in-Ok.act in
+    let made = acted_by g.K.Kem.mechanism c.prepared.new.self.sides c.args.side (act_of_call c.in-Ok.call) in
     c.act.ensures.next ∙ ap (λ (d : DuetNow). after_step d made) c.in-Ok.ensures.drawn
     ∙ ap (after_step c.args.self.now) (sym c.in-Ok.ensures.comes.0)
 

@@ -1,5 +1,4 @@
 use Rattle.std.proofs.Common.{ap, length, ◌∙◌}
-use Rattle.dr_model.specs.Machines.Sides.{client_of}
 use Rattle.session_model.specs.Clients.{Client}
 use Rattle.session_model.specs.declared.answer.Summary.{Summary}
 use Rattle.duet.specs.Shuts.{shut_of}

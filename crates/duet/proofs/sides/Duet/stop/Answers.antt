@@ -1,8 +1,9 @@
 use Rattle.std.proofs.Common.{ap, subst, ◌∙◌, ◌≡◌}
 use Rattle.std.specs.Prelude.{IfOk}
+use Rattle.dr_model.specs.Machines.Acts.{act_on}
 use Rattle.dr_model.specs.Machines.Sides.{Sides, client_of}
 use Rattle.dr_model.specs.Machines.Steps.{Step, settled}
-use Rattle.duet.specs.Acts.{made_by}
+use Rattle.duet.specs.Acts.{act_of_call}
 use Rattle.duet.specs.Gathering.{gathering}
 use Rattle.duet.specs.Held.{DuetNow, after_step}
 use Rattle.duet.specs.Stops.{stopped_client}
@@ -18,9 +19,9 @@ returns-in-Ok g c =
     let new = c.prepared.new.self in
     let own = client_of new.sides stop.side in
     let made : Step Sides = gathering new.sides stop.side
-    (stopped_client stop.after stop.mode own (settled own (made_by k own c.in-Ok.act))) in
+    (stopped_client stop.after stop.mode own (settled own (act_on k own (act_of_call c.in-Ok.call)))) in
     subst (λ (m : Step Sides). IfOk c.act_stopped.result (λ pair. (pair.1 ≡ m.answer) × (pair.0 ≡ after_step old m)))
-    (act_stopped k old new stop.side stop.call stop.after stop.mode c.in-Ok.ensures.drawn c.in-Ok.act c.in-Ok.ensures.comes.0)
+    (act_stopped k old new stop.side stop.call stop.after stop.mode c.in-Ok.ensures.drawn (act_of_call c.in-Ok.call) c.in-Ok.ensures.comes.0)
     (subst (λ (d : DuetNow). IfOk c.act_stopped.result (λ pair. (pair.1 ≡ made.answer) × (pair.0 ≡ after_step d made)))
     c.in-Ok.ensures.drawn c.act_stopped.ensures)
 

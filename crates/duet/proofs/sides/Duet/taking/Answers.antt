@@ -5,9 +5,8 @@ use Rattle.dr_base.specs.Bytes.{AreBytes}
 use Rattle.dr_model.specs.Machines.Sides.{taken_on}
 use Rattle.session_model.specs.declared.answer.Answer.{Answer}
 use Rattle.scripts.specs.Seen.{take_event}
-use Rattle.duet.specs.Acts.{IsPrepared, packet_given}
+use Rattle.duet.specs.Acts.{CallOfClient, IsPrepared, packet_given}
 use Rattle.duet.specs.Held.{DuetNow}
-use Rattle.duet.specs.declared.acts.Act.{Act}
 use Rattle.duet.proofs.Prepared.{packet_here, source_step}
 use Rattle.duet.proofs.sides.Duet.taking.Goals as goal
 use Rattle.duet.proofs.sides.Duet.taking.Goals.{in-Some, in-None}
@@ -22,7 +21,7 @@ returns g c =
     let given = sym (c.packet_of.ensures ∙ ap (λ (held : List Item). packet_given held side source) posts) in
     elim c.match-packet_of.branch [
       | in-Some w ↦
-          subst (λ (r : Result Act Answer). IsPrepared k now now side (take_event side source) r) (sym w.result-is)
+          subst (λ (r : Result CallOfClient Answer). IsPrepared k now now side (take_event side source) r) (sym w.result-is)
           (record {
             drawn = refl;
             comes = (
@@ -31,7 +30,7 @@ returns g c =
             );
           })
       | in-None w ↦
-          subst (λ (r : Result Act Answer). IsPrepared k now now side (take_event side source) r) (sym w.result-is)
+          subst (λ (r : Result CallOfClient Answer). IsPrepared k now now side (take_event side source) r) (sym w.result-is)
           (record {
             drawn = refl;
             comes = (
