@@ -1,41 +1,66 @@
--- Clients from whose boxes something goes, or to whose inbox a text comes.
-use Rattle.std.proofs.Common.{◌≡◌, ℕ, List, [], ◌∷◌, ◌++◌, drop, sym, ◌∙◌, ap, ap₂, subst, arith, length-drop}
-use Rattle.std.proofs.lemmas.List.Elements.{All-drop}
-use Rattle.boxes.specs.Items.{Item, item_at}
-use Rattle.dr_base.specs.declared.position.Position.{Position}
+-- A step of a client whose record was put in the place of the one before it, or was not.
+use Rattle.std.proofs.Common.{Err, None, Ok, Result, Some, ap, arith, false, length, refl, subst, sym, true, ◌≡◌}
+use Rattle.std.specs.Prelude.{if◌then◌else◌, nat_le}
+use Rattle.std.proofs.lemmas.Bool.Decides.{nat_tests}
+use Rattle.dr_base.specs.declared.limits.TheConstants.{INBOX_LIMIT}
+use Rattle.dr_disk.specs.State.{DiskState, all_pass}
+use Rattle.dr_disk.specs.declared.call.Call.{Call}
+use Rattle.dr_model.specs.Machines.Acts.{taken_by}
+use Rattle.dr_model.specs.Machines.Steps.{Step, has_effect, step}
 use Rattle.kem_laws.specs.Mechanism.{Mechanism}
-use Rattle.session_model.specs.Clients.{Client}
-use Rattle.session_model.specs.States.{State}
-use Rattle.session_record.specs.Lawful.{IsLawfulClient, IsLawfulEntry, IsLawfulPost}
-use Rattle.session_record.specs.Record.{client_of}
+use Rattle.ratchet.specs.Seen.{Received, received_of}
+use Rattle.session_model.specs.Clients.{Client, accept_receive}
+use Rattle.session_model.specs.declared.answer.Answer.{Answer}
+use Rattle.session_model.specs.declared.answer.Answer.TheVariants.{Opened}
+use Rattle.session_model.specs.declared.answer.Refusal.{Refusal}
+use Rattle.session_model.specs.declared.answer.Refusal.TheVariants.{InboxFull}
+use Rattle.client.specs.Acting.{IsAct}
+use Rattle.client.specs.Clients.{ClientNow}
+use Rattle.client.specs.Drafting.{IsReceivedOf, received_client}
+use Rattle.client.specs.Outcomes.{IsEffected, IsKept, IsLost, Outcome, acknowledged, faulted}
 
-pub fewer_texts : (k : Mechanism) (c : Client) (n : ℕ) (left : List Item) → left ≡ drop n c.inbox → IsLawfulClient k c
-    → IsLawfulClient k (record c { inbox = left })
-fewer_texts k c n left is lawful = subst (λ l. IsLawfulClient k (record c { inbox = l })) (sym is) (record {
-  state = lawful.state;
-  keys_long = lawful.keys_long;
-  inbox = All-drop (IsLawfulEntry c.state) n c.inbox lawful.inbox;
-  few_entries = omega (arith, length-drop n c.inbox, lawful.few_entries);
-  outbox = lawful.outbox;
-  few_posts = lawful.few_posts;
-})
+module _ {X : Type 0} (state : X → DiskState) (answer : Answer) (next : Client) (old new : ClientNow) (start now : X)
+    (effect : has_effect answer ≡ true) (unclosed : old.closed ≡ None) where
+  pub kept_act : new.closed ≡ None → new.kept ≡ next → IsKept old.kept next new.store (state start) (state now)
+      → ((state start).fate ≡ all_pass → (state now).fate ≡ all_pass)
+      → IsAct state (Ok (step answer next)) old new start now (acknowledged answer)
+  kept_act stays keeps kept passes = record {
+    exact = subst (λ e. IsEffected state e (Ok (step answer next)) old new start now answer) (sym effect) (record {
+      made_is = ap (λ (c : Client). Ok (step answer c)) (sym keeps);
+      was_open = unclosed;
+      stays_open = stays;
+      disk = subst (λ (c : Client). IsKept old.kept c new.store (state start) (state now)) (sym keeps) kept;
+    });
+    fate = λ all. (tt, passes all);
+  }
 
-pub fewer_packets : (k : Mechanism) (c : Client) (n : ℕ) (left : List Item) → left ≡ drop n c.outbox → IsLawfulClient k c
-    → IsLawfulClient k (record c { outbox = left })
-fewer_packets k c n left is lawful = subst (λ l. IsLawfulClient k (record c { outbox = l })) (sym is) (record {
-  state = lawful.state;
-  keys_long = lawful.keys_long;
-  inbox = lawful.inbox;
-  few_entries = lawful.few_entries;
-  outbox = All-drop (IsLawfulPost k c.state) n c.outbox lawful.outbox;
-  few_posts = omega (arith, length-drop n c.outbox, lawful.few_posts);
-})
+  pub lost_act : (call : Call) → new.closed ≡ Some call → new.kept ≡ old.kept → IsLost old.kept next call (state start) (state now)
+      → ((state start).fate ≡ all_pass → ⊥) → IsAct state (Ok (step answer next)) old new start now (faulted call)
+  lost_act call closes keeps lost fails = record {
+    exact = record {
+      next = step answer next;
+      made_is = refl;
+      effect = effect;
+      was_open = unclosed;
+      closes = closes;
+      keeps = keeps;
+      disk = lost;
+    };
+    fate = λ all. absurd (fails all);
+  }
 
--- the client that a packet leads to, from the parts of which it is put together
-pub received_is : (state next : State) (inbox outbox : List Item) (kept : Client) (p q : Position) (text said : List ℕ)
-    → state ≡ next → inbox ≡ kept.inbox → outbox ≡ kept.outbox → p ≡ q → text ≡ said
-    → client_of state (inbox ++ item_at p text ∷ []) outbox ≡ client_of next (kept.inbox ++ item_at q said ∷ []) kept.outbox
-received_is state next inbox outbox kept p q text said is here there at says =
-    ap (λ s. client_of s (inbox ++ item_at p text ∷ []) outbox) is
-    ∙ ap₂ (λ i o. client_of next (i ++ item_at p text ∷ []) o) here there
-    ∙ ap₂ (λ a t. client_of next (kept.inbox ++ item_at a t ∷ []) kept.outbox) at says
+-- an act that is a step, from a client that is the same
+pub act_again : {X : Type 0} (state : X → DiskState) (made : Client → Result (Step Client) Refusal) (by : Result (Step Client) Refusal)
+    (was old new : ClientNow) (start now : X) (outcome : Outcome) → was ≡ old → made was.kept ≡ by
+    → IsAct state by was new start now outcome → IsAct state (made old.kept) old new start now outcome
+act_again state made by was old new start now outcome same is acts =
+    subst (λ (n : ClientNow). IsAct state (made n.kept) n new start now outcome) same
+    (subst (λ r. IsAct state r was new start now outcome) (sym is) acts)
+
+-- a packet that is taken where the inbox has room for its text
+pub received_step : (k : Mechanism) (kept : Client) (draft : Received) → IsReceivedOf k kept draft
+    → taken_by (accept_receive kept (Ok (received_of kept.state draft))) ≡ Ok (step (Opened draft.position) (received_client kept draft))
+received_step k kept draft is =
+    let room = is.room in
+    let test : nat_le INBOX_LIMIT (length kept.inbox) ≡ false = grind (arith, nat_tests) in
+    ap (λ t. taken_by (if t then Err InboxFull else Ok (record { position = draft.position; next = received_client kept draft }))) test

@@ -1,25 +1,21 @@
 -- Clients with one record: that of a text that was said has its packet alone, whose position is read from it.
-use Rattle.std.proofs.Common.{List, Some, [], refl, ap, ap₂, subst, sym, ℕ, ◌+◌, ◌-◌, ◌++◌, ◌<◌, ◌∙◌, ◌∷◌, ◌≡◌}
+use Rattle.std.proofs.Common.{List, [], refl, ap, ap₂, subst, sym, ℕ, ◌++◌, ◌∙◌, ◌∷◌, ◌≡◌}
 use Rattle.std.specs.Int.{to_be_bytes, w8}
 use Rattle.std.specs.Prelude.{length}
 use Rattle.std.proofs.lemmas.List.{length-append}
 use Rattle.boxes.specs.Items.{Item, item_at}
 use Rattle.dr_base.specs.declared.position.Position.{Position}
-use Rattle.dr_disk.specs.Spans.{HavePassed, Span}
-use Rattle.dr_disk.specs.State.{DiskState}
-use Rattle.dr_disk.specs.declared.call.Call.{Call}
-use Rattle.grammar.specs.Printer.{print_counted, print_items}
+use Rattle.grammar.specs.Printer.{HasRoom, print_counted, print_items}
 use Rattle.grammar.proofs.Printing.{print_items-push}
 use Rattle.kem_laws.specs.Mechanism.{Mechanism}
+use Rattle.ratchet.specs.Seen.{Received, Said, received_of, said_of}
 use Rattle.session_model.specs.Clients.{Client}
-use Rattle.session_model.specs.Saying.{SendDraft}
 use Rattle.session_model.specs.States.{State}
 use Rattle.session_record.specs.Lists.{post_of, post_text}
 use Rattle.session_record.specs.Record.{client_of, record_text, saved_text}
-use Rattle.slot_store.specs.Store.{IsOldOrNew, SlotStore}
-use Rattle.slot_store.specs.Stops.{IsStopped, call_after, calls_of}
-use Rattle.client.specs.Clients.{client_area}
-use Rattle.client.specs.Outcomes.{IsKept, IsLost}
+use Rattle.session_record.specs.declared.limits.TheConstants.{RECORD_LIMIT}
+use Rattle.client.specs.Cores.{HasRoomFor, PutsRecord}
+use Rattle.client.specs.Drafting.{received_client, said_client}
 
 -- the record of a packet in the outbox is that of its bytes
 same_posts : (k : Mechanism) (posts : List Item) (position : Position) (packet : List ℕ)
@@ -48,45 +44,31 @@ said_record k state inbox outbox post packet is =
     ap (λ bytes. record_text (client_of state inbox (outbox ++ post_of k bytes ∷ []))) is
     ∙ same_record k (client_of state inbox outbox) outbox post.position post.bytes
 
-pub drafted_record : (k : Mechanism) (state : State) (inbox outbox : List Item) (kept : Client) (draft : SendDraft)
-    (packet : List ℕ) → state ≡ draft.next → inbox ≡ kept.inbox → outbox ≡ kept.outbox → packet ≡ draft.post.bytes
-    → record_text (client_of state inbox (outbox ++ post_of k packet ∷ []))
-    ≡ record_text (client_of draft.next kept.inbox (kept.outbox ++ draft.post ∷ []))
-drafted_record k state inbox outbox kept draft packet next here there is =
-    said_record k state inbox outbox draft.post packet is
-    ∙ ap (λ s. record_text (client_of s inbox (outbox ++ draft.post ∷ []))) next
-    ∙ ap₂ (λ i o. record_text (client_of draft.next i (o ++ draft.post ∷ []))) here there
+pub drafted_record : (k : Mechanism) (kept : Client) (draft : Said) (state : State) (packet : List ℕ)
+    → state ≡ (said_of kept.state draft).next → packet ≡ draft.post.bytes
+    → record_text (client_of state kept.inbox (kept.outbox ++ post_of k packet ∷ [])) ≡ record_text (said_client kept draft)
+drafted_record k kept draft state packet next is =
+    said_record k state kept.inbox kept.outbox draft.post packet is
+    ∙ ap (λ s. record_text (client_of s kept.inbox (kept.outbox ++ draft.post ∷ []))) next
 
--- what was kept or lost is so of each client with that record
-pub kept_alike : (before after other : Client) (store : SlotStore) (start now : DiskState)
-    → record_text after ≡ record_text other → IsKept before after store start now → IsKept before other store start now
-kept_alike before after other store start now same kept = record {
-  ready = record {
-    area = kept.ready.area;
-    within = kept.ready.within;
-    holds = kept.ready.holds ∙ ap Some same;
-    rests = kept.ready.rests;
-  };
-  any_moment = subst (λ text. Span start now (IsOldOrNew start client_area (Some (record_text before)) (Some text))) same kept.any_moment;
-  reads = kept.reads;
-  passed =
-      subst (λ text. HavePassed (calls_of (Some (record_text before)) (Some text)) start now) same
-      kept.passed;
-  ahead = kept.ahead;
-  quiet = kept.quiet;
-}
+-- of a packet that was taken
+pub received_record : (kept : Client) (draft : Received) (state : State) (p : Position) (text : List ℕ)
+    → state ≡ (received_of kept.state draft).next → p ≡ draft.position → text ≡ draft.text
+    → record_text (client_of state (kept.inbox ++ item_at p text ∷ []) kept.outbox) ≡ record_text (received_client kept draft)
+received_record kept draft state p text next place same =
+    ap (λ s. record_text (client_of s (kept.inbox ++ item_at p text ∷ []) kept.outbox)) next
+    ∙ ap₂ (λ a t. record_text (client_of (received_of kept.state draft).next (kept.inbox ++ item_at a t ∷ []) kept.outbox)) place same
 
-pub lost_alike : (before after other : Client) (call : Call) (start now : DiskState)
-    → record_text after ≡ record_text other → IsLost before after call start now → IsLost before other call start now
-lost_alike before after other call start now same lost = record {
-  any_moment = subst (λ text. Span start now (IsOldOrNew start client_area (Some (record_text before)) (Some text))) same lost.any_moment;
-  reads = lost.reads;
-  stopped = subst (λ text. IsStopped client_area (Some (record_text before)) (Some text) start now) same lost.stopped;
-  few = λ l m was is.
-      subst (λ text. m < l + calls_of (Some (record_text before)) (Some text)) same
-      (lost.few l m was is);
-  kind = λ l m was is. lost.kind l m was is
-      ∙ ap (λ text. call_after (Some (record_text before)) (Some text) (m - l)) same;
-  ended = lost.ended;
-  rose = lost.rose;
+-- ---- where it is put
+
+pub room_alike : (a b : Client) (out : List ℕ) → record_text a ≡ record_text b → HasRoomFor a out → HasRoomFor b out
+room_alike a b out same room = subst (λ text. HasRoom RECORD_LIMIT text (length out)) same room
+
+pub puts_alike : (a b : Client) (old new : List ℕ) (len : ℕ) → record_text a ≡ record_text b → PutsRecord a old new len
+    → PutsRecord b old new len
+puts_alike a b old new len same puts = record {
+  long = puts.long ∙ ap length same;
+  written = puts.written ∙ same;
+  rest = puts.rest;
+  limit = puts.limit;
 }

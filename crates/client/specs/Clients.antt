@@ -1,13 +1,11 @@
 -- A client on a disk.
-use Rattle.std.specs.Prelude.{List, None, Option, Some, ℕ, ◌≡◌}
+use Rattle.std.specs.Prelude.{None, Option, Some, ◌≡◌}
 use Rattle.dr_disk.specs.State.{Always, DiskState}
 use Rattle.dr_disk.specs.declared.call.Call.{Call}
-use Rattle.kem_laws.specs.Mechanism.{Mechanism}
 use Rattle.session_model.specs.Clients.{Client}
-use Rattle.session_record.specs.Lawful.{IsLawfulClient}
 use Rattle.session_record.specs.Record.{record_text}
 use Rattle.slot_store.specs.Store.{HasArea, Rests, SlotStore, content}
-use Rattle.slot_store.specs.Areas.{Area, HasRecordRoom}
+use Rattle.slot_store.specs.Areas.{Area}
 use Rattle.client.specs.declared.client.TheConstants.{AREA_PAGES, RECORD_PAGES}
 
 -- where a client lies on its disk
@@ -35,8 +33,3 @@ IsOpenOn client disk = (client.closed ≡ None) × IsReady client.kept client.st
 -- where a client is open, this disk is at rest for what it keeps
 abbrev pub MayActOn : ClientNow → DiskState → Type 0
 MayActOn client disk = client.closed ≡ None → IsReady client.kept client.store disk
-
--- what is kept is lawful, beside the room in which its record is put together
-pub record IsWhole (k : Mechanism) (kept : Client) (room : List ℕ) : Type 0 where
-  pub lawful : IsLawfulClient k kept
-  pub long : HasRecordRoom client_area room

@@ -1,16 +1,59 @@
--- A packet is drafted before it is taken.
-use Rattle.std.specs.Prelude.{[], ◌++◌, ◌<◌, ◌∷◌, ◌≡◌, List, Result, Ok, Err, length, ℕ}
+-- What is drafted of what a client keeps, before it is accepted.
+use Rattle.std.specs.Prelude.{Err, List, None, Ok, Option, Result, Some, [], drop, length, ℕ, ◌++◌, ◌<◌, ◌≤◌, ◌∷◌, ◌≡◌}
 use Rattle.boxes.specs.Items.{item_at}
-use Rattle.dr_base.specs.declared.limits.TheConstants.{INBOX_LIMIT}
+use Rattle.boxes.specs.declared.errors.Fewer.{Fewer as TooFew}
+use Rattle.dr_base.specs.declared.limits.TheConstants.{INBOX_LIMIT, OUTBOX_LIMIT}
+use Rattle.dr_model.specs.Machines.Acts.{Act, finishing, sending}
+use Rattle.dr_model.specs.Machines.Steps.{Step, step}
 use Rattle.kem_laws.specs.Mechanism.{Mechanism}
-use Rattle.ratchet.specs.Seen.{Received, received_of}
+use Rattle.ratchet.specs.Seen.{Received, Said, received_of, said_of}
 use Rattle.session_model.specs.Clients.{Client, accept_receive, take_on}
-use Rattle.session_model.specs.Drafts.{IsReceiveDraft}
+use Rattle.session_model.specs.Drafts.{IsReceiveDraft, IsSendDraft}
+use Rattle.session_model.specs.Saying.{SendDraft}
 use Rattle.session_model.specs.States.{State}
 use Rattle.session_model.specs.Taking.{ReceiveDraft}
+use Rattle.session_model.specs.declared.answer.Answer.{Answer}
+use Rattle.session_model.specs.declared.answer.Answer.TheVariants.{Done, Opened, Said as AnswersSaid, Sent}
 use Rattle.session_model.specs.declared.answer.Refusal.{Refusal}
+use Rattle.session_model.specs.declared.answer.Refusal.TheVariants.{Fewer}
 use Rattle.session_record.specs.Lawful.{IsLawfulClient}
-use Rattle.session_record.specs.Record.{client_of}
+use Rattle.client.specs.declared.cores.drafts.Draft.{Draft}
+use Rattle.client.specs.declared.cores.drafts.Draft.TheVariants.{Dropped as ToDrop, Received as ToTake, Said as ToSay}
+use Rattle.client.specs.declared.cores.drafts.Drops.{Drops}
+use Rattle.client.specs.declared.cores.drafts.Drops.TheVariants.{Done as TextsDone, Sent as PacketsSent}
+
+-- ---- a text that is said
+
+-- what is kept once its draft is accepted
+abbrev pub said_client : Client → Said → Client
+said_client kept draft =
+    record kept { state = (said_of kept.state draft).next; outbox = kept.outbox ++ draft.post ∷ [] }
+
+-- a draft of this session, which has room for it and is lawful after it
+pub record IsSaidOf (k : Mechanism) (kept : Client) (draft : Said) : Type 0 where
+  pub drafts : IsSendDraft k kept.state (said_of kept.state draft)
+  pub room : length kept.outbox < OUTBOX_LIMIT
+  pub lawful : IsLawfulClient k (said_client kept draft)
+
+-- the draft of a text, for a session of this state, if its seed has a pair
+abbrev pub said_if : {E : Type 0} → State → Result Said E → Option SendDraft
+said_if s (Ok draft) = Some (said_of s draft)
+said_if s (Err e) = None
+
+-- ---- a packet that is taken
+
+-- what is kept once its draft is accepted
+abbrev pub received_client : Client → Received → Client
+received_client kept draft = record kept {
+  state = (received_of kept.state draft).next;
+  inbox = kept.inbox ++ item_at draft.position draft.text ∷ [];
+}
+
+-- a draft of this session, which has room for it and is lawful after it
+pub record IsReceivedOf (k : Mechanism) (kept : Client) (draft : Received) : Type 0 where
+  pub drafts : IsReceiveDraft k kept.state (received_of kept.state draft)
+  pub room : length kept.inbox < INBOX_LIMIT
+  pub lawful : IsLawfulClient k (received_client kept draft)
 
 -- the draft of a packet, for a session of this state, or why there is none
 abbrev pub taken_of : State → Result Received Refusal → Result ReceiveDraft Refusal
@@ -22,9 +65,52 @@ abbrev pub DraftsFor : Mechanism → Client → List ℕ → Result Received Ref
 DraftsFor k kept packet drafted =
     take_on k kept packet ≡ accept_receive kept (taken_of kept.state drafted)
 
--- a draft of the client's session, after which the client is lawful
-pub record IsDraftOf (k : Mechanism) (kept : Client) (draft : Received) : Type 0 where
-  pub drafts : IsReceiveDraft k kept.state (received_of kept.state draft)
-  pub lawful : length kept.inbox < INBOX_LIMIT
-      → IsLawfulClient k (client_of (received_of kept.state draft).next
-      (kept.inbox ++ item_at draft.position draft.text ∷ []) kept.outbox)
+-- ---- items that are dropped
+
+-- the act that it is, and its answer
+abbrev pub act_of : Drops → Act
+act_of (TextsDone n) = finishing n
+act_of (PacketsSent n) = sending n
+
+abbrev pub dropped_answer : Drops → Answer
+dropped_answer (TextsDone n) = Done n
+dropped_answer (PacketsSent n) = Sent n
+
+-- so many stand
+abbrev pub HasToDrop : Client → Drops → Type 0
+HasToDrop kept (TextsDone n) = n ≤ length kept.inbox
+HasToDrop kept (PacketsSent n) = n ≤ length kept.outbox
+
+-- what is kept then
+abbrev pub dropped_client : Client → Drops → Client
+dropped_client kept (TextsDone n) = record kept { inbox = drop n kept.inbox }
+dropped_client kept (PacketsSent n) = record kept { outbox = drop n kept.outbox }
+
+-- the step, or why it is refused
+abbrev pub dropped_by : Client → Drops → Result Unit TooFew → Result (Step Client) Refusal
+dropped_by kept drops (Ok u) = Ok (step (dropped_answer drops) (dropped_client kept drops))
+dropped_by kept drops (Err few) = Err (Fewer few.held)
+
+-- ---- a draft
+
+-- what it is answered with
+abbrev pub answer_of : {K Work : Type 0} → Draft K Work → Answer
+answer_of (ToSay draft) = AnswersSaid draft.post.position
+answer_of (ToTake draft) = Opened draft.position
+answer_of (ToDrop drops) = dropped_answer drops
+
+-- what is kept once it is accepted
+abbrev pub next_of : {K Work : Type 0} → Client → Draft K Work → Client
+next_of kept (ToSay draft) = said_client kept draft
+next_of kept (ToTake draft) = received_client kept draft
+next_of kept (ToDrop drops) = dropped_client kept drops
+
+-- a draft of what is kept
+abbrev pub IsDraftOf : {K Work : Type 0} → Mechanism → Client → Draft K Work → Type 0
+IsDraftOf k kept (ToSay draft) = IsSaidOf k kept draft
+IsDraftOf k kept (ToTake draft) = IsReceivedOf k kept draft
+IsDraftOf k kept (ToDrop drops) = HasToDrop kept drops
+
+-- the step that it makes
+abbrev pub drafted_step : {K Work : Type 0} → Client → Draft K Work → Step Client
+drafted_step kept draft = step (answer_of draft) (next_of kept draft)

@@ -1,5 +1,6 @@
 pub mod Clients
 pub mod Drafting
+pub mod Cores
 pub mod Outcomes
 pub mod Acting
 pub mod InWorlds

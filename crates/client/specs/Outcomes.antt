@@ -53,6 +53,11 @@ dropped_as answer (Err (DropClosed call)) = is_closed call
 dropped_as answer (Err (DropFewer held)) = refused (Fewer held)
 dropped_as answer (Err (DropFault call)) = faulted call
 
+-- of a step that has an effect, on an open client
+abbrev pub kept_as : Answer → Result Unit Call → Outcome
+kept_as answer (Ok done) = acknowledged answer
+kept_as answer (Err call) = faulted call
+
 -- ---- what happened to the disk while one record was replaced by another
 
 -- each crash leaves the one or the other, with all outside the area as it was
@@ -91,16 +96,6 @@ pub record IsLost (before after : Client) (call : Call) (start now : DiskState) 
       → call ≡ replacing_call before after (m - l)
   pub ended : HasFailedAsTold start now
   pub rose : Rose (start.faults call) (now.faults call)
-
--- one record replaced whatever client's the disk was ready with, by this client's
-abbrev pub Keeps : Client → SlotStore → SlotStore → DiskState → DiskState → Type 0
-Keeps after old new start now =
-    (before : Client) → IsReady before old start → IsKept before after new start now
-
--- or a call on the disk failed, of this kind
-abbrev pub Loses : Client → SlotStore → DiskState → DiskState → Call → Type 0
-Loses after old start now call =
-    (before : Client) → IsReady before old start → IsLost before after call start now
 
 -- ---- what a call does, over what its step makes of what the client keeps
 

@@ -14,7 +14,7 @@ use Rattle.kem_laws.specs.Mechanism.{Mechanism}
 use Rattle.session_model.specs.Clients.{say_check}
 use Rattle.client.specs.Clients.{ClientNow}
 use Rattle.client.specs.InWorlds.{ActsIn}
-use Rattle.client.specs.Outcomes.{Acts, Outcome, said_as, undrawn}
+use Rattle.client.specs.Outcomes.{Acts, Outcome, StaysPassing, said_as, undrawn}
 use Rattle.client.specs.declared.refusals.SayRefusal.{SayRefusal}
 use Rattle.client.specs.declared.refusals.SayRefusal.TheVariants.{DrawFault, NoPair}
 
@@ -44,6 +44,13 @@ pub data SaysWithDraw {X W : Type 0} (state : X → DiskState) (draws : W → Dr
       → (draws left).coming ≡ (draws source).coming
       → new ≡ old → now ≡ start
       → SaysWithDraw state draws k text old new start now source left (Err DrawFault)
+
+-- just that, and no call on the disk fails where all pass
+pub record IsSay {X W : Type 0} (state : X → DiskState) (draws : W → DrawsState) (k : Mechanism)
+    (text : List ℕ) (old new : ClientNow) (start now : X) (source left : W)
+    (result : Result Position SayRefusal) : Type 0 where
+  pub exact : SaysWithDraw state draws k text old new start now source left result
+  pub fate : StaysPassing (state start) (state now) (said_as result)
 
 -- Whether a seed was drawn for a text of this length, and which one: just where one is asked for, the next that the source gives.
 pub data IsSeedDrawn {W : Type 0} (draws : W → DrawsState) (client : ClientNow) (len : ℕ)

@@ -1,13 +1,13 @@
 //! A client is begun on a disk that holds none.
 
-ghost use Rattle.std.specs.Prelude.{◌≡◌, ◌≢◌, ◌⊎◌, ℕ, List, [], None, Some, IfOk, IfErr, OnOk, IsOk};
+ghost use Rattle.std.specs.Prelude.{◌≡◌, ◌≢◌, ◌⊎◌, ℕ, List, None, Some, IfOk, IfErr, OnOk, IsOk};
 ghost use Rattle.dr_base.specs.Causes.{Rose};
 ghost use Rattle.dr_disk.specs.Spans.{IsQuiet, Span};
 ghost use Rattle.dr_disk.specs.State.{Always, Fate};
 ghost use Rattle.dr_disk.specs.declared.call.Call.{Call};
 ghost use Rattle.dr_model.specs.Machines.Worlds.{opening_world};
-ghost use Rattle.session_record.specs.Lawful.{IsLawfulClient};
-ghost use Rattle.session_record.specs.Record.{client_of, record_text};
+ghost use Rattle.session_record.specs.Record.{record_text};
+ghost use Rattle.slot_store.specs.Areas.{HasRecordRoom};
 ghost use Rattle.slot_store.specs.Reading.{IsLikeRead};
 ghost use Rattle.slot_store.specs.Store.{IsOldOrNew, HasArea, Rests, content};
 ghost use Rattle.client.specs.Beginning.{IsClientBegun, IsEntryOrFirst, IsFirst, IsUnbegun, begin_refusal};
@@ -15,7 +15,7 @@ ghost use Rattle.client.specs.Clients.{IsReady, client_area};
 ghost use Rattle.client.specs.InWorlds.{IsIn};
 
 use crate::client::{AREA, Client};
-use crate::keeping::lawful_part;
+use crate::cores::Core;
 use crate::opening::Records;
 use crate::refusals::BeginRefusal;
 use crate::room::Room;
@@ -23,53 +23,40 @@ use dr_base::{Key32, Side};
 use dr_disk::{Call, Disk};
 use dr_model::both_sides_follow;
 use kem_laws::{Kem, NoPair, laws};
-use ratchet::Session;
-use session_record::{Change, encode};
+use relay_wire::FrameReader;
 use slot_store::{Found, OpenError, SlotStore, readings};
 use std::alloc::Global;
 
-/// Keeps the first record of a session, whose boxes are empty.
+/// Keeps the first record of a core.
 fn first<K: Kem, D: Disk>(
-    room: Room<K>,
-    session: Session<K>,
+    core: Core<K>,
+    mut text: Vec<u8>,
+    reader: FrameReader,
     mut store: SlotStore,
     disk: &mut D,
 ) -> Result<Client<K>, Call>
-    requires inbox { room.inbox ≡ [] }
-    requires outbox { room.outbox ≡ [] }
-    requires lawful { IsLawfulClient K.mechanism (client_of session [] []) }
+    requires room { HasRecordRoom client_area text.items }
     requires none { content store ≡ None }
     requires area { store.area ≡ client_area }
     requires within { HasArea client_area (D.state disk.old) }
     requires rests { Always (Rests store) (D.state disk.old) }
     ensures open { IfOk result (λ client. client.closed ≡ None) }
-    ensures keeps { IfOk result (λ client. client.kept ≡ client_of session [] []) }
+    ensures keeps { IfOk result (λ client. client.kept ≡ core) }
     ensures ready { IfOk result (λ client. IsReady client.kept client.store (D.state disk.new)) }
     ensures any_moment { Span (D.state disk.old) (D.state disk.new)
-        (IsOldOrNew (D.state disk.old) client_area None
-        (Some (record_text (client_of session [] [])))) }
+        (IsOldOrNew (D.state disk.old) client_area None (Some (record_text core))) }
     ensures fate { (D.state disk.old).fate ≡ Fate.all_pass → IsOk result
         × ((D.state disk.new).fate ≡ Fate.all_pass) }
     ensures quiet { OnOk result (IsQuiet (D.state disk.old) (D.state disk.new)) }
     ensures fault { IfErr result
         (λ call. Rose ((D.state disk.old).faults call) ((D.state disk.new).faults call)) }
 {
-    let Room {
-        inbox,
-        outbox,
-        work,
-        mut text,
-        reader,
-    } = room;
-    let len = encode(&session.part(), &inbox, &outbox, &Change::Same, &mut text);
+    let len = core.encode_now(&mut text);
     match store.replace(disk, &mut text, len) {
         Err(fault) => Err(fault.call),
         Ok(()) => Ok(Client {
-            session,
-            inbox,
-            outbox,
+            core,
             store,
-            work,
             text,
             reader,
             closed: None,
@@ -123,23 +110,23 @@ impl<K: Kem> Client<K> {
         laws::<K>();
         both_sides_follow();
         readings();
-        let Ok(mut room) = Room::<K>::new(alloc) else {
+        let Ok(room) = Room::<K>::new(alloc) else {
             return Err(BeginRefusal::Memory);
         };
         match SlotStore::open::<Records<K>, D>(alloc, disk, AREA) {
             Err(error) => Err(refusal(error)),
             Ok((store, found)) => match found {
                 Found::Content => Err(BeginRefusal::Exists),
-                Found::NoContent => match Session::<K>::begin(&mut room.work, side, key) {
-                    Err(NoPair) => Err(BeginRefusal::NoPair),
-                    Ok(session) => {
-                        lawful_part(&session.part());
-                        match first(room, session, store, disk) {
+                Found::NoContent => {
+                    let Room { core, text, reader } = room;
+                    match core.begin(side, key) {
+                        Err(NoPair) => Err(BeginRefusal::NoPair),
+                        Ok(core) => match first(core, text, reader, store, disk) {
                             Err(call) => Err(BeginRefusal::StoreFault { call }),
                             Ok(client) => Ok(client),
-                        }
+                        },
                     }
-                },
+                }
             },
         }
     }

@@ -4,11 +4,11 @@ ghost use Rattle.std.specs.Prelude.{◌≡◌, ◌↔◌, ◌<◌, ◌≤◌, le
 ghost use Rattle.dr_base.specs.declared.limits.TheConstants.{PACKET_LIMIT, TEXT_LIMIT};
 ghost use Rattle.client.specs.Limits.{HasLimits};
 
-use boxes::{Entry, Inbox, Outbox};
+use crate::cores::Core;
+use boxes::Entry;
 use dr_base::{PAGE, Position, Side};
 use dr_disk::Call;
 use kem_laws::Kem;
-use ratchet::Session;
 use relay_wire::FrameReader;
 use session_model::Summary;
 use slot_store::{Area, SlotStore};
@@ -30,16 +30,13 @@ pub(crate) const AREA: Area = Area {
 /// How many bytes the area has.
 pub const AREA_SIZE: u64 = PAGE as u64 * AREA_PAGES as u64;
 
-/// A side of a conversation on a disk, which each call is lent as the last one left it. A contract
-/// sees what it keeps, its store, and the call on the disk that closed it. It takes all its memory
-/// when it is begun or opened.
+/// A side of a conversation on a disk, which each call is lent as the last one left it: its core,
+/// and the store that keeps the core's record. A contract sees what it keeps, its store, and the
+/// call on the disk that closed it. It takes all its memory when it is begun or opened.
 #[derive(Drop)]
 pub struct Client<K: Kem> {
-    pub(crate) session: Session<K>,
-    pub(crate) inbox: Inbox,
-    pub(crate) outbox: Outbox,
+    pub(crate) core: Core<K>,
     pub(crate) store: SlotStore,
-    pub(crate) work: K::Work,
     /// The room in which a record is put together.
     pub(crate) text: Vec<u8>,
     /// What has come of a relay's reply.
@@ -48,17 +45,14 @@ pub struct Client<K: Kem> {
 }
 
 impl<K: Kem> Model for Client<K> {
-    ghost use Rattle.client.specs.Clients.{ClientNow, IsWhole};
+    ghost use Rattle.client.specs.Clients.{ClientNow, client_area};
+    ghost use Rattle.slot_store.specs.Areas.{HasRecordRoom};
 
     ghost Value = { ClientNow };
 
-    ghost view = { λ c. record {
-      kept = record { state = c.session; inbox = c.inbox; outbox = c.outbox };
-      store = c.store;
-      closed = c.closed;
-    } };
+    ghost view = { λ c. record { kept = c.core; store = c.store; closed = c.closed } };
 
-    ghost invariant = { λ c. IsWhole K.mechanism (record { state = c.session; inbox = c.inbox; outbox = c.outbox }) c.text.items };
+    ghost invariant = { λ c. HasRecordRoom client_area c.text.items };
 }
 
 impl<K: Kem> Client<K> {
@@ -71,16 +65,14 @@ impl<K: Kem> Client<K> {
     pub fn side(&self) -> Side
         ensures { result ≡ self.now.kept.state.side }
     {
-        let part = self.session.part();
-        part.head.side
+        self.core.side()
     }
 
     /// The name of the conversation's session.
     pub fn session(&self) -> &[u8; 16]
         ensures { result.now ≡ self.now.kept.state.session }
     {
-        let part = self.session.part();
-        &part.head.session
+        self.core.session()
     }
 
     /// The text of the inbox at a place, from 0, the oldest first.
@@ -89,7 +81,7 @@ impl<K: Kem> Client<K> {
         ensures entry { option_map entry_item result ≡ slice_get self.now.kept.inbox at }
         ensures fits { IfSome result (λ entry. length entry.text.now ≤ TEXT_LIMIT) }
     {
-        self.inbox.at(at)
+        self.core.inbox(at)
     }
 
     /// The packet of the outbox at a place, from 0, the oldest first. No other call hands a packet
@@ -101,7 +93,7 @@ impl<K: Kem> Client<K> {
         ensures fits { IfSome result (λ pair. length pair.1.now ≤ PACKET_LIMIT) }
         ensures some { IfSome result (λ pair. 1 ≤ length pair.1.now) }
     {
-        self.outbox.at(at)
+        self.core.outbox(at)
     }
 
     /// What the client keeps is lawful, so its record is read as just that. It has no code: a
@@ -109,20 +101,14 @@ impl<K: Kem> Client<K> {
     pub fn lawful(&self)
         ensures { IsLawfulClient K.mechanism self.now.kept }
     {
-        let _session = &self.session;
+        self.core.lawful();
     }
 
     /// What the client holds, in numbers.
     pub fn state(&self) -> Summary
         ensures { result ≡ summary_of self.now.kept }
     {
-        let part = self.session.part();
-        Summary {
-            epoch: part.head.epoch,
-            missing: part.kept.len() as u32,
-            inbox: self.inbox.len(),
-            outbox: self.outbox.len(),
-        }
+        self.core.state()
     }
 }
 

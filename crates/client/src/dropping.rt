@@ -1,22 +1,23 @@
 //! The oldest items of a box are dropped.
 
-ghost use Rattle.std.specs.Prelude.{◌≤◌, ◌<◌, OnOk, length};
+ghost use Rattle.std.specs.Prelude.{◌≡◌, Ok, OnOk, true};
 ghost use Rattle.dr_base.specs.declared.position.Side.{Side};
 ghost use Rattle.dr_model.specs.Machines.Acts.{act_on, finishing, sending};
+ghost use Rattle.dr_model.specs.Machines.Steps.{has_effect};
 ghost use Rattle.dr_model.specs.Machines.Worlds.{World};
 ghost use Rattle.session_model.specs.declared.answer.Answer.TheVariants.{Done, Sent};
 ghost use Rattle.client.specs.Acting.{IsAct};
 ghost use Rattle.client.specs.Clients.{IsOpenOn, MayActOn};
+ghost use Rattle.client.specs.Drafting.{HasToDrop, act_of, dropped_answer, dropped_by};
 ghost use Rattle.client.specs.InWorlds.{ActsIn, IsIn};
-ghost use Rattle.client.specs.Outcomes.{Acts, StaysPassing, dropped_as};
+ghost use Rattle.client.specs.Outcomes.{Acts, StaysPassing, dropped_as, kept_as};
 
 use crate::client::Client;
-use crate::keeping::keep;
+use crate::cores::{Draft, Drops};
 use crate::laws::grounds;
 use crate::refusals::DropRefusal;
-use dr_disk::Disk;
+use dr_disk::{Call, Disk};
 use kem_laws::Kem;
-use session_record::Change;
 
 impl<K: Kem> Client<K> {
     /// Drops the `n` oldest texts of the inbox. `Closed` exactly where a call on the disk failed
@@ -34,56 +35,11 @@ impl<K: Kem> Client<K> {
             → ActsIn K.mechanism w side (finishing n) self.old self.new (D.state disk.old)
             (D.state disk.new)
             (dropped_as (Done n) result) }
-        ensures fate { StaysPassing (D.state disk.old) (D.state disk.new) (dropped_as (Done n) result) }
+        ensures fate { StaysPassing (D.state disk.old) (D.state disk.new)
+            (dropped_as (Done n) result) }
     {
         grounds::<K>();
-        self.done_exact(disk, n)
-    }
-
-    fn done_exact<D: Disk>(&mut self, disk: &mut D, n: u32) -> Result<(), DropRefusal>
-        requires { MayActOn self.old (D.state disk.old) }
-        ensures { IsAct D.state (act_on K.mechanism self.old.kept (finishing n))
-            self.old self.new disk.old disk.new (dropped_as (Done n) result) }
-    {
-        if let Some(call) = self.closed {
-            return Err(DropRefusal::Closed { call });
-        }
-        let held = self.inbox.len();
-        if held < n {
-            return Err(DropRefusal::Fewer { held });
-        }
-        if n == 0 {
-            return Ok(());
-        }
-        self.drop_texts(disk, n)
-    }
-
-    /// Drops the oldest texts, of which this many stand.
-    fn drop_texts<D: Disk>(&mut self, disk: &mut D, n: u32) -> Result<(), DropRefusal>
-        requires some { 0 < n }
-        requires enough { n ≤ length self.old.kept.inbox }
-        requires open { IsOpenOn self.old (D.state disk.old) }
-        ensures { IsAct D.state (act_on K.mechanism self.old.kept (finishing n))
-            self.old self.new disk.old disk.new (dropped_as (Done n) result) }
-    {
-        match keep(
-            &mut self.store,
-            disk,
-            &mut self.text,
-            &self.session.part(),
-            &self.inbox,
-            &self.outbox,
-            &Change::Done { n },
-        ) {
-            Err(call) => {
-                self.closed = Some(call);
-                Err(DropRefusal::StoreFault { call })
-            }
-            Ok(()) => {
-                self.inbox.drop_first(n).unwrap();
-                Ok(())
-            }
-        }
+        self.drop_exact(disk, Drops::Done(n))
     }
 
     /// Drops the `n` oldest packets of the outbox, which were sent. Refuses as `done` does.
@@ -98,55 +54,50 @@ impl<K: Kem> Client<K> {
             → ActsIn K.mechanism w side (sending n) self.old self.new (D.state disk.old)
             (D.state disk.new)
             (dropped_as (Sent n) result) }
-        ensures fate { StaysPassing (D.state disk.old) (D.state disk.new) (dropped_as (Sent n) result) }
+        ensures fate { StaysPassing (D.state disk.old) (D.state disk.new)
+            (dropped_as (Sent n) result) }
     {
         grounds::<K>();
-        self.sent_exact(disk, n)
+        self.drop_exact(disk, Drops::Sent(n))
     }
 
-    pub(crate) fn sent_exact<D: Disk>(&mut self, disk: &mut D, n: u32) -> Result<(), DropRefusal>
+    /// Drops so many of the oldest items of a box.
+    pub(crate) fn drop_exact<D: Disk>(
+        &mut self,
+        disk: &mut D,
+        drops: Drops,
+    ) -> Result<(), DropRefusal>
         requires { MayActOn self.old (D.state disk.old) }
-        ensures { IsAct D.state (act_on K.mechanism self.old.kept (sending n))
-            self.old self.new disk.old disk.new (dropped_as (Sent n) result) }
+        ensures { IsAct D.state (act_on K.mechanism self.old.kept (act_of drops))
+            self.old self.new disk.old disk.new (dropped_as (dropped_answer drops) result) }
     {
         if let Some(call) = self.closed {
             return Err(DropRefusal::Closed { call });
         }
-        let held = self.outbox.len();
-        if held < n {
-            return Err(DropRefusal::Fewer { held });
+        match self.core.drop_check(drops) {
+            Err(fewer) => Err(DropRefusal::Fewer { held: fewer.held }),
+            Ok(()) => {
+                if !drops.has_effect() {
+                    return Ok(());
+                }
+                match self.keep_dropped(disk, drops) {
+                    Err(call) => Err(DropRefusal::StoreFault { call }),
+                    Ok(()) => Ok(()),
+                }
+            }
         }
-        if n == 0 {
-            return Ok(());
-        }
-        self.drop_packets(disk, n)
     }
 
-    /// Drops the oldest packets, of which this many stand.
-    fn drop_packets<D: Disk>(&mut self, disk: &mut D, n: u32) -> Result<(), DropRefusal>
-        requires some { 0 < n }
-        requires enough { n ≤ length self.old.kept.outbox }
+    /// Keeps what is left then. A function of its own, so that the room of a draft is set only
+    /// there.
+    #[inline(never)]
+    fn keep_dropped<D: Disk>(&mut self, disk: &mut D, drops: Drops) -> Result<(), Call>
+        requires fits { HasToDrop self.old.kept drops }
+        requires effect { has_effect (dropped_answer drops) ≡ true }
         requires open { IsOpenOn self.old (D.state disk.old) }
-        ensures { IsAct D.state (act_on K.mechanism self.old.kept (sending n))
-            self.old self.new disk.old disk.new (dropped_as (Sent n) result) }
+        ensures { IsAct D.state (dropped_by self.old.kept drops (Ok tt))
+            self.old self.new disk.old disk.new (kept_as (dropped_answer drops) result) }
     {
-        match keep(
-            &mut self.store,
-            disk,
-            &mut self.text,
-            &self.session.part(),
-            &self.inbox,
-            &self.outbox,
-            &Change::Sent { n },
-        ) {
-            Err(call) => {
-                self.closed = Some(call);
-                Err(DropRefusal::StoreFault { call })
-            }
-            Ok(()) => {
-                self.outbox.drop_first(n).unwrap();
-                Ok(())
-            }
-        }
+        self.keep(disk, Draft::Dropped(drops))
     }
 }

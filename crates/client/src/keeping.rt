@@ -1,95 +1,41 @@
-//! The one step of every call: a record replaces the one on the disk.
+//! The one step of every call that changes something: a record replaces the one on the disk, and
+//! then the client changes.
 
-ghost use Rattle.std.specs.Prelude.{◌≡◌, IsOk, OnOk, IfErr};
-ghost use Rattle.dr_disk.specs.State.{Always, Fate};
-ghost use Rattle.ratchet.specs.Seen.{received_of};
-ghost use Rattle.session_model.specs.Drafts.{IsReceiveDraft};
-ghost use Rattle.session_model.specs.LawfulStates.{IsLawfulState};
-ghost use Rattle.session_record.specs.Changes.{FitsInbox, FitsOutbox, changed};
-ghost use Rattle.session_record.specs.Record.{client_of};
-ghost use Rattle.slot_store.specs.Areas.{HasRecordRoom};
-ghost use Rattle.slot_store.specs.Store.{HasArea, Rests};
-ghost use Rattle.client.specs.Clients.{client_area};
-ghost use Rattle.client.specs.Outcomes.{Keeps, Loses};
+ghost use Rattle.std.specs.Prelude.{◌≡◌, Ok, true};
+ghost use Rattle.dr_model.specs.Machines.Steps.{has_effect};
+ghost use Rattle.client.specs.Acting.{IsAct};
+ghost use Rattle.client.specs.Clients.{IsOpenOn};
+ghost use Rattle.client.specs.Drafting.{IsDraftOf, answer_of, drafted_step};
+ghost use Rattle.client.specs.Outcomes.{kept_as};
 
-use boxes::{Inbox, Outbox};
+use crate::client::Client;
+use crate::cores::Draft;
 use dr_disk::{Call, Disk};
 use kem_laws::Kem;
-use ratchet::{ReceiveDraft, Session};
-use session_model::LentPart;
-use session_record::{Change, encode};
-use slot_store::SlotStore;
 
-/// Replaces the record on the disk by that of a part and of the boxes as a change leaves them.
-pub(crate) fn keep<K: Kem, D: Disk>(
-    store: &mut SlotStore,
-    disk: &mut D,
-    text: &mut Vec<u8>,
-    part: &LentPart<'_, K>,
-    inbox: &Inbox,
-    outbox: &Outbox,
-    change: &Change<'_>,
-) -> Result<(), Call>
-    requires fits_inbox { FitsInbox inbox.now change.now }
-    requires fits_outbox { FitsOutbox outbox.now change.now }
-    requires room { HasRecordRoom client_area text.old.items }
-    requires area { store.old.area ≡ client_area }
-    requires within { HasArea client_area (D.state disk.old) }
-    requires rests { Always (Rests store.old) (D.state disk.old) }
-    ensures kept { let before = client_of part.now inbox.now outbox.now in
-        OnOk result (Keeps (changed K.mechanism before change.now)
-        store.old store.new (D.state disk.old) (D.state disk.new)) }
-    ensures lost { let before = client_of part.now inbox.now outbox.now in
-        IfErr result (Loses (changed K.mechanism before change.now)
-        store.old (D.state disk.old) (D.state disk.new)) }
-    ensures fate { (D.state disk.old).fate ≡ Fate.all_pass → IsOk result
-        × ((D.state disk.new).fate ≡ Fate.all_pass) }
-    ensures room { HasRecordRoom client_area text.new.items }
-{
-    let len = encode(part, inbox, outbox, change, text);
-    match store.replace(disk, text, len) {
-        Ok(()) => Ok(()),
-        Err(fault) => Err(fault.call),
+impl<K: Kem> Client<K> {
+    /// Keeps what was drafted: the record that it leads to replaces the one on the disk, and then
+    /// it is accepted. A call on the disk that fails closes the client, which keeps what it kept.
+    // Inlined, so that the draft stays where it is.
+    #[inline(always)]
+    pub(crate) fn keep<D: Disk>(&mut self, disk: &mut D, draft: Draft<'_, K>) -> Result<(), Call>
+        requires draft { IsDraftOf K.mechanism self.old.kept draft }
+        requires effect { has_effect (answer_of draft) ≡ true }
+        requires open { IsOpenOn self.old (D.state disk.old) }
+        ensures { IsAct D.state (Ok (drafted_step self.old.kept draft.entry))
+            self.old self.new disk.old disk.new (kept_as (answer_of draft.entry) result) }
+    {
+        let len = self.core.encode(&draft, &mut self.text);
+        match self.store.replace(disk, &mut self.text, len) {
+            Ok(()) => {
+                self.core.accept(draft);
+                Ok(())
+            }
+            Err(fault) => {
+                draft.discard();
+                self.closed = Some(fault.call);
+                Err(fault.call)
+            }
+        }
     }
-}
-
-/// As `keep`, of what a session would keep once a packet is taken.
-// The room that the draft borrows and the session live for different times: the part is lent here,
-// for the call alone.
-pub(crate) fn keep_taken<K: Kem, D: Disk>(
-    store: &mut SlotStore,
-    disk: &mut D,
-    text: &mut Vec<u8>,
-    session: &Session<K>,
-    draft: &ReceiveDraft<'_, K>,
-    inbox: &Inbox,
-    outbox: &Outbox,
-    change: &Change<'_>,
-) -> Result<(), Call>
-    requires draft { IsReceiveDraft K.mechanism session.now (received_of session.now draft.now) }
-    requires fits_inbox { FitsInbox inbox.now change.now }
-    requires fits_outbox { FitsOutbox outbox.now change.now }
-    requires room { HasRecordRoom client_area text.old.items }
-    requires area { store.old.area ≡ client_area }
-    requires within { HasArea client_area (D.state disk.old) }
-    requires rests { Always (Rests store.old) (D.state disk.old) }
-    ensures kept { let part = (received_of session.now draft.now).next in
-        OnOk result (Keeps (changed K.mechanism (client_of part inbox.now outbox.now) change.now)
-        store.old store.new (D.state disk.old) (D.state disk.new)) }
-    ensures lost { let part = (received_of session.now draft.now).next in
-        IfErr result (Loses (changed K.mechanism (client_of part inbox.now outbox.now) change.now)
-        store.old (D.state disk.old) (D.state disk.new)) }
-    ensures fate { (D.state disk.old).fate ≡ Fate.all_pass
-        → IsOk result × ((D.state disk.new).fate ≡ Fate.all_pass) }
-    ensures room { HasRecordRoom client_area text.new.items }
-{
-    let part = draft.part(session);
-    keep(store, disk, text, &part, inbox, outbox, change)
-}
-
-/// A part is a lawful state: a caller that needs this calls it.
-pub(crate) fn lawful_part<K: Kem>(part: &LentPart<'_, K>)
-    ensures { IsLawfulState K.mechanism part.now }
-{
-    let _head = part.head;
 }

@@ -4,20 +4,27 @@
 //! Each call that changes something replaces the record before it answers, so a crash at any moment
 //! leaves the state before the call or the one after it. A call on the disk that fails closes the
 //! client, and the disk is opened again.
+//!
+//! A client is a `Core` with the store that keeps its record. A core is the same side in memory
+//! alone: a step of it is drafted, written as a record, and only then accepted.
 #![tactic(auto)]
 
 pub use client::{AREA_SIZE, Client, limits_in_numbers};
+pub use cores::{Core, Draft, Drops};
 pub use histories::{exchange, meanwhile, syncs_are_links};
 pub use laws::{
     areas_are_their_records, client_grounds, crash_safety, opens_again, single_use,
     stays_undamaged, used_keys_stay_erased,
 };
 pub use looking::look;
-pub use refusals::{BeginRefusal, DropRefusal, OpenRefusal, SayRefusal, TakeRefusal};
+pub use refusals::{
+    BeginRefusal, CoreBeginError, DropRefusal, OpenRefusal, SayRefusal, TakeRefusal,
+};
 pub use syncing::{Names, SyncFault, SyncRefusal, goes_over};
 
 mod beginning;
 mod client;
+mod cores;
 mod dropping;
 mod histories;
 mod keeping;

@@ -7,8 +7,7 @@ ghost use Rattle.dr_disk.specs.State.{Fate};
 ghost use Rattle.dr_disk.specs.declared.call.Call.{Call};
 ghost use Rattle.dr_model.specs.Machines.Worlds.{World};
 ghost use Rattle.dr_model.specs.Theorems.LawfulWorlds.{IsLawfulWorld};
-ghost use Rattle.session_record.specs.Lawful.{IsLawfulClient};
-ghost use Rattle.session_record.specs.Record.{client_of, record_read, record_text};
+ghost use Rattle.session_record.specs.Record.{record_read, record_text};
 ghost use Rattle.slot_store.specs.AtRest.{IsReadAtRest};
 ghost use Rattle.slot_store.specs.Reading.{IsEntryOrLike, IsLikeRead};
 ghost use Rattle.slot_store.specs.Store.{HasArea, content};
@@ -18,11 +17,9 @@ ghost use Rattle.client.specs.Opening.{IsLeftAtRest, IsClientOpened, IsUnopened,
 use crate::client::{AREA, Client};
 use crate::refusals::OpenRefusal;
 use crate::room::Room;
-use boxes::{Inbox, Outbox};
 use dr_disk::Disk;
 use kem_laws::Kem;
-use ratchet::Session;
-use session_record::{check, decode, record_law};
+use session_record::check;
 use slot_store::{Found, Grammar, OpenError, SlotStore, readings};
 use std::alloc::Global;
 use std::marker::PhantomData;
@@ -43,22 +40,6 @@ impl<K: Kem> Grammar for Records<K> {
     }
 }
 
-/// The session of a record, and its boxes, which are empty before.
-fn resumed<K: Kem>(text: &[u8], inbox: &mut Inbox, outbox: &mut Outbox) -> Session<K>
-    requires inbox { inbox.old ≡ [] }
-    requires outbox { outbox.old ≡ [] }
-    requires reads { client_record_fault K.mechanism text.now ≡ None }
-    ensures read { record_read K.mechanism text.now ≡ Ok (client_of result inbox.new outbox.new) }
-    ensures text { text.now ≡ record_text (client_of result inbox.new outbox.new) }
-    ensures lawful { IsLawfulClient K.mechanism (client_of result inbox.new outbox.new) }
-{
-    record_law();
-    match decode::<K>(text, inbox, outbox) {
-        Ok(part) => Session::resume(part),
-        Err(_) => unreachable!(),
-    }
-}
-
 /// Why a store's opening refuses a client.
 pub(crate) fn refusal(error: OpenError) -> OpenRefusal
     ensures { result ≡ open_refusal error }
@@ -72,8 +53,8 @@ pub(crate) fn refusal(error: OpenError) -> OpenRefusal
 
 /// The client of a store that holds a record.
 fn client_in<K: Kem>(room: Room<K>, store: SlotStore) -> Client<K>
-    requires inbox { room.inbox ≡ [] }
-    requires outbox { room.outbox ≡ [] }
+    requires inbox { room.core.inbox ≡ [] }
+    requires outbox { room.core.outbox ≡ [] }
     requires some { is_some (content store) ≡ true }
     requires reads { (text : List ℕ) → content store ≡ Some text
         → client_record_fault K.mechanism text ≡ None }
@@ -83,20 +64,11 @@ fn client_in<K: Kem>(room: Room<K>, store: SlotStore) -> Client<K>
         → record_read K.mechanism text ≡ Ok result.kept }
     ensures holds { content store ≡ Some (record_text result.kept) }
 {
-    let Room {
-        mut inbox,
-        mut outbox,
-        work,
-        text,
-        reader,
-    } = room;
-    let session = resumed::<K>(store.content(), &mut inbox, &mut outbox);
+    let Room { core, text, reader } = room;
+    let core = core.read(store.content());
     Client {
-        session,
-        inbox,
-        outbox,
+        core,
         store,
-        work,
         text,
         reader,
         closed: None,

@@ -99,3 +99,14 @@ pub enum BeginRefusal {
     #[error("the key gives no pair of keys")]
     NoPair,
 }
+
+/// Why no core is begun.
+#[derive(Clone, Copy, Debug, PartialEq, Eq, Error)]
+pub enum CoreBeginError {
+    /// There was no memory.
+    #[error("out of memory")]
+    Memory,
+    /// The agreement seed that follows from the key has no pair.
+    #[error("the key gives no pair of keys")]
+    NoPair,
+}

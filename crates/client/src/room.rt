@@ -5,7 +5,7 @@ ghost use Rattle.slot_store.specs.Areas.{HasRecordRoom};
 ghost use Rattle.client.specs.Clients.{client_area};
 
 use crate::client::AREA;
-use boxes::{Inbox, Outbox};
+use crate::cores::CoreRoom;
 use kem_laws::Kem;
 use relay_wire::FrameReader;
 use slot_store::record_room;
@@ -14,9 +14,7 @@ use std::alloc::{AllocError, Global};
 /// The memory of a client, but for its store's.
 #[derive(Drop)]
 pub(crate) struct Room<K: Kem> {
-    pub(crate) inbox: Inbox,
-    pub(crate) outbox: Outbox,
-    pub(crate) work: K::Work,
+    pub(crate) core: CoreRoom<K>,
     pub(crate) text: Vec<u8>,
     pub(crate) reader: FrameReader,
     ghost size: { HasRecordRoom client_area text.items },
@@ -25,20 +23,12 @@ pub(crate) struct Room<K: Kem> {
 impl<K: Kem> Room<K> {
     /// Takes it. The boxes are empty.
     pub(crate) fn new(alloc: Global) -> Result<Room<K>, AllocError>
-        ensures inbox { IfOk result (λ room. room.inbox ≡ []) }
-        ensures outbox { IfOk result (λ room. room.outbox ≡ []) }
+        ensures inbox { IfOk result (λ room. room.core.inbox ≡ []) }
+        ensures outbox { IfOk result (λ room. room.core.outbox ≡ []) }
     {
-        let inbox = Inbox::new(alloc)?;
-        let outbox = Outbox::new(alloc)?;
-        let work = K::work(alloc)?;
+        let core = CoreRoom::new(alloc)?;
         let text = record_room(alloc, AREA)?;
         let reader = FrameReader::new(alloc)?;
-        Ok(Room {
-            inbox,
-            outbox,
-            work,
-            text,
-            reader,
-        })
+        Ok(Room { core, text, reader })
     }
 }

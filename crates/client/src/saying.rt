@@ -1,57 +1,34 @@
 //! Texts are said.
 
-ghost use Rattle.std.specs.Prelude.{◌≡◌, ◌<◌, ◌++◌, ◌∷◌, ℕ, List, [], Option, Some, Ok, IfOk, OnOk, is_some, length};
+ghost use Rattle.std.specs.Prelude.{◌≡◌, ℕ, List, Option, Ok, IfOk, OnOk, is_some, length};
 ghost use Rattle.dr_base.specs.declared.position.Side.{Side};
 ghost use Rattle.dr_model.specs.Machines.Acts.{act_in, said_by, saying};
 ghost use Rattle.dr_model.specs.Machines.Worlds.{World};
-ghost use Rattle.ratchet.specs.Seen.{said_of, seed_bytes};
-ghost use Rattle.session_model.specs.Clients.{accept_send, say_check, say_on};
-ghost use Rattle.session_model.specs.Drafts.{IsSendDraft};
-ghost use Rattle.session_model.specs.LawfulStates.{IsLawfulState};
-ghost use Rattle.session_record.specs.Lawful.{IsLawfulClient};
-ghost use Rattle.session_record.specs.Record.{client_of};
+ghost use Rattle.ratchet.specs.Seen.{seed_bytes};
+ghost use Rattle.session_model.specs.Clients.{say_check, say_on};
 ghost use Rattle.client.specs.Acting.{IsAct};
 ghost use Rattle.client.specs.Clients.{IsOpenOn, MayActOn};
 ghost use Rattle.client.specs.InWorlds.{IsIn};
 ghost use Rattle.client.specs.Outcomes.{StaysPassing, said_as};
-ghost use Rattle.client.specs.Saying.{HandsBack, IsSeedDrawn, SaysWithDraw, SaysIn};
+ghost use Rattle.client.specs.Saying.{HandsBack, IsSay, IsSeedDrawn, SaysWithDraw, SaysIn};
 ghost use Rattle.client.specs.Spent.{IsSpent};
 
 use crate::client::Client;
-use crate::keeping::{keep, lawful_part};
+use crate::cores::Draft;
 use crate::laws::grounds;
 use crate::refusals::SayRefusal;
-use dr_base::{Key32, OUTBOX_LIMIT, Position, TEXT_LIMIT};
+use dr_base::{Key32, Position};
 use dr_disk::Disk;
 use dr_ports::Draws;
-use kem_laws::{Kem, laws};
-use ratchet::{SendDraft, Session};
+use kem_laws::Kem;
 use session_model::Refusal;
-use session_record::Change;
-
-/// What a session would keep once a text is said is lawful: a caller that needs this calls it.
-fn lawful_said<K: Kem>(draft: &SendDraft<K>, session: &Session<K>)
-    requires { IsSendDraft K.mechanism session.now (said_of session.now draft.now) }
-    ensures { IsLawfulState K.mechanism (said_of session.now draft.now).next }
-{
-    lawful_part(&draft.part(session));
-}
 
 impl<K: Kem> Client<K> {
     /// Whether a text of this length may be said, and then whether that needs a seed.
     pub fn say_check(&self, len: usize) -> Result<bool, Refusal>
         ensures { result ≡ say_check self.now.kept len }
     {
-        if len > TEXT_LIMIT {
-            return Err(Refusal::TextTooLong(len));
-        }
-        if self.outbox.len() as usize >= OUTBOX_LIMIT {
-            return Err(Refusal::OutboxFull);
-        }
-        match self.session.send_check(len) {
-            Ok(needs_seed) => Ok(needs_seed),
-            Err(refusal) => Err(refusal.into()),
-        }
+        self.core.say_check(len)
     }
 
     /// Says a text, with a draw exactly where it needs a seed, and puts its packet into the outbox.
@@ -96,9 +73,8 @@ impl<K: Kem> Client<K> {
         draws: &mut W,
     ) -> Result<Position, SayRefusal>
         requires { MayActOn self.old (D.state disk.old) }
-        ensures exact { SaysWithDraw D.state W.at K.mechanism text.now
+        ensures { IsSay D.state W.at K.mechanism text.now
             self.old self.new disk.old disk.new draws.old draws.new result }
-        ensures fate { StaysPassing (D.state disk.old) (D.state disk.new) (said_as result) }
     {
         if let Some(call) = self.closed {
             return Err(SayRefusal::Closed { call });
@@ -131,66 +107,15 @@ impl<K: Kem> Client<K> {
             self.old self.new disk.old disk.new (said_as result) }
         ensures seed { HandsBack seed result }
     {
-        laws::<K>();
-        match self.session.draft_send(&mut self.work, text, seed) {
+        match self.core.draft_say(text, seed) {
             Err(none) => Err(SayRefusal::NoPair { seed: none.seed }),
             Ok(draft) => {
-                lawful_said(&draft, &self.session);
-                self.send(disk, draft)
+                let position = draft.position();
+                match self.keep(disk, Draft::Said(draft)) {
+                    Err(call) => Err(SayRefusal::StoreFault { call }),
+                    Ok(()) => Ok(position),
+                }
             }
         }
-    }
-
-    /// Keeps a text that was drafted, and then puts its packet into the outbox.
-    fn send<D: Disk>(&mut self, disk: &mut D, draft: SendDraft<K>) -> Result<Position, SayRefusal>
-        requires draft { let state = self.old.kept.state in
-            IsSendDraft K.mechanism state (said_of state draft) }
-        requires lawful { let said = said_of self.old.kept.state draft in IsLawfulClient K.mechanism
-            (client_of said.next self.old.kept.inbox (self.old.kept.outbox ++ said.post ∷ [])) }
-        requires room { length self.old.kept.outbox < OUTBOX_LIMIT }
-        requires open { IsOpenOn self.old (D.state disk.old) }
-        ensures { let said = said_of self.old.kept.state draft in
-            IsAct D.state (said_by (accept_send self.old.kept (Some said)))
-            self.old self.new disk.old disk.new (said_as result) }
-    {
-        let position = draft.position();
-        match keep(
-            &mut self.store,
-            disk,
-            &mut self.text,
-            &draft.part(&self.session),
-            &self.inbox,
-            &self.outbox,
-            &Change::Said {
-                packet: draft.packet(),
-            },
-        ) {
-            Err(call) => {
-                draft.discard();
-                self.closed = Some(call);
-                Err(SayRefusal::StoreFault { call })
-            }
-            Ok(()) => {
-                self.accept_said(draft);
-                Ok(position)
-            }
-        }
-    }
-
-    /// Puts the packet of a draft into the outbox, and accepts the draft.
-    fn accept_said(&mut self, draft: SendDraft<K>)
-        requires draft { let state = self.old.kept.state in
-            IsSendDraft K.mechanism state (said_of state draft) }
-        requires lawful { let said = said_of self.old.kept.state draft in IsLawfulClient K.mechanism
-            (client_of said.next self.old.kept.inbox (self.old.kept.outbox ++ said.post ∷ [])) }
-        requires room { length self.old.kept.outbox < OUTBOX_LIMIT }
-        ensures kept { let said = said_of self.old.kept.state draft in
-            self.new.kept
-            ≡ client_of said.next self.old.kept.inbox (self.old.kept.outbox ++ said.post ∷ []) }
-        ensures store { self.new.store ≡ self.old.store }
-        ensures closed { self.new.closed ≡ self.old.closed }
-    {
-        self.outbox.push(draft.position(), draft.packet()).unwrap();
-        draft.accept(&mut self.session);
     }
 }

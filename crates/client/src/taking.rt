@@ -1,69 +1,28 @@
 //! Packets are taken.
 
-ghost use Rattle.std.specs.Prelude.{◌≡◌, Ok, IfOk, OnOk};
+ghost use Rattle.std.specs.Prelude.{◌≡◌, IfOk, Ok, OnOk};
 ghost use Rattle.dr_base.specs.declared.position.Side.{Side};
 ghost use Rattle.dr_model.specs.Machines.Acts.{act_in, act_on, taken_by, taking};
 ghost use Rattle.dr_model.specs.Machines.Worlds.{World};
 ghost use Rattle.dr_model.specs.Theorems.Fairness.{IsUnforged};
 ghost use Rattle.ratchet.specs.Seen.{received_of};
-ghost use Rattle.session_model.specs.Clients.{Client as Kept, accept_receive};
-ghost use Rattle.session_model.specs.Drafts.{IsReceiveDraft};
-ghost use Rattle.session_model.specs.LawfulStates.{IsLawfulState};
-ghost use Rattle.session_record.specs.Lawful.{IsLawfulClient};
+ghost use Rattle.session_model.specs.Clients.{accept_receive};
 ghost use Rattle.client.specs.Acting.{IsAct};
 ghost use Rattle.client.specs.Clients.{IsOpenOn, MayActOn};
-ghost use Rattle.client.specs.Drafting.{DraftsFor, IsDraftOf, taken_of};
+ghost use Rattle.client.specs.Drafting.{IsReceivedOf, taken_of};
 ghost use Rattle.client.specs.InWorlds.{ActsIn, IsIn};
 ghost use Rattle.client.specs.Outcomes.{Acts, StaysPassing, taken_as};
 ghost use Rattle.client.specs.Spent.{IsSpent};
 
 use crate::client::Client;
-use crate::keeping::{keep_taken, lawful_part};
+use crate::cores::Draft;
 use crate::laws::grounds;
 use crate::refusals::TakeRefusal;
-use dr_base::{INBOX_LIMIT, Position};
+use dr_base::Position;
 use dr_disk::Disk;
 use kem_laws::Kem;
-use packet::parse;
-use ratchet::{KeptRoom, ReceiveDraft, Session};
+use ratchet::{KeptRoom, ReceiveDraft};
 use session_model::Refusal;
-use session_record::Change;
-
-/// What a session would keep once a packet is taken is lawful: a caller that needs this calls it.
-fn lawful_taken<K: Kem>(draft: &ReceiveDraft<'_, K>, session: &Session<K>)
-    requires { IsReceiveDraft K.mechanism session.now (received_of session.now draft.now) }
-    ensures { IsLawfulState K.mechanism (received_of session.now draft.now).next }
-{
-    lawful_part(&draft.part(session));
-}
-
-/// What a session drafts for the packet that the bytes are, or why it refuses them. The room is for
-/// the kept keys, where the packet changes them.
-// Inlined, the draft is built where the caller keeps it.
-#[inline(always)]
-#[tactic(auto, unfolding(session_model::specs::Clients::take_on))]
-pub(crate) fn drafted<'a, K: Kem>(
-    session: &Session<K>,
-    work: &mut K::Work,
-    packet: &[u8],
-    room: &'a mut KeptRoom,
-) -> Result<ReceiveDraft<'a, K>, Refusal>
-    ensures drafts { (kept : Kept) → kept.state ≡ session.now
-        → DraftsFor K.mechanism kept packet.now result }
-    ensures lawful { (kept : Kept) → kept.state ≡ session.now → IsLawfulClient K.mechanism kept
-        → IfOk result (IsDraftOf K.mechanism kept) }
-{
-    match parse(packet, K::CIPHERTEXT + K::PUBLIC) {
-        Err(fault) => Err(Refusal::Malformed(fault)),
-        Ok(view) => match session.draft_receive(work, &view, room) {
-            Err(refusal) => Err(refusal.into()),
-            Ok(draft) => {
-                lawful_taken(&draft, session);
-                Ok(draft)
-            }
-        },
-    }
-}
 
 impl<K: Kem> Client<K> {
     /// Opens the packet that the bytes are, and puts its text into the inbox. `Closed` exactly
@@ -108,7 +67,7 @@ impl<K: Kem> Client<K> {
             return Err(TakeRefusal::Closed { call });
         }
         let mut room = KeptRoom::new();
-        let drafted = drafted(&self.session, &mut self.work, packet, &mut room);
+        let drafted = self.core.draft_take(packet, &mut room);
         self.take_drafted(disk, drafted)
     }
 
@@ -120,7 +79,7 @@ impl<K: Kem> Client<K> {
         disk: &mut D,
         drafted: Result<ReceiveDraft<'_, K>, Refusal>,
     ) -> Result<Position, TakeRefusal>
-        requires drafted { IfOk drafted (IsDraftOf K.mechanism self.old.kept) }
+        requires drafted { IfOk drafted (IsReceivedOf K.mechanism self.old.kept) }
         requires open { IsOpenOn self.old (D.state disk.old) }
         ensures { let taken = taken_of self.old.kept.state drafted.entry in
             IsAct D.state (taken_by (accept_receive self.old.kept taken))
@@ -132,46 +91,23 @@ impl<K: Kem> Client<K> {
         }
     }
 
-    /// Keeps a packet that opens, if the inbox has room for its text.
+    /// Keeps a packet that opens. A function of its own, so that its room is set only there.
+    #[inline(never)]
     fn receive<D: Disk>(
         &mut self,
         disk: &mut D,
         draft: ReceiveDraft<'_, K>,
     ) -> Result<Position, TakeRefusal>
-        requires draft { IsDraftOf K.mechanism self.old.kept draft }
+        requires draft { IsReceivedOf K.mechanism self.old.kept draft }
         requires open { IsOpenOn self.old (D.state disk.old) }
         ensures { let taken = received_of self.old.kept.state draft.entry in
             IsAct D.state (taken_by (accept_receive self.old.kept (Ok taken)))
             self.old self.new disk.old disk.new (taken_as result) }
     {
-        if self.inbox.len() as usize >= INBOX_LIMIT {
-            draft.discard();
-            return Err(TakeRefusal::Refused(Refusal::InboxFull));
-        }
         let position = draft.position();
-        match keep_taken(
-            &mut self.store,
-            disk,
-            &mut self.text,
-            &self.session,
-            &draft,
-            &self.inbox,
-            &self.outbox,
-            &Change::Received {
-                position,
-                text: draft.text(),
-            },
-        ) {
-            Err(call) => {
-                draft.discard();
-                self.closed = Some(call);
-                Err(TakeRefusal::StoreFault { call })
-            }
-            Ok(()) => {
-                self.inbox.push(position, draft.text()).unwrap();
-                draft.accept(&mut self.session);
-                Ok(position)
-            }
+        match self.keep(disk, Draft::Received(draft)) {
+            Err(call) => Err(TakeRefusal::StoreFault { call }),
+            Ok(()) => Ok(position),
         }
     }
 }

@@ -19,6 +19,9 @@ use Rattle.session_model.specs.Taking.{ReceiveDraft, draft_receive}
 use Rattle.session_model.specs.declared.answer.Refusal.{Refusal}
 use Rattle.session_model.specs.declared.answer.Refusal.TheVariants.{NoPair}
 use Rattle.session_record.specs.Lawful.{IsLawfulClient, IsLawfulEntry, IsLawfulPost}
+use Rattle.client.specs.Drafting.{dropped_client}
+use Rattle.client.specs.declared.cores.drafts.Drops.{Drops}
+use Rattle.client.specs.declared.cores.drafts.Drops.TheVariants.{Done as TextsDone, Sent as PacketsSent}
 use Rattle.client.proofs.Lawful.Drafts.{send_lawful}
 use Rattle.client.proofs.Lawful.Saying.{passed_check, said_lawful}
 use Rattle.client.proofs.Lawful.Taking.{taken_lawful}
@@ -86,28 +89,32 @@ pub dropped_are : (n : ℕ) (items rest : List Item) → dropped_of n items ≡ 
 dropped_are n items rest is =
     let through : Ok (drop n items) ≡ Ok rest = lets (nat_le n (length items)) _ (Ok (drop n items)) rest is in cc
 
+pub dropped_lawful : (k : Mechanism) (c : Client) (drops : Drops) → IsLawfulClient k c → IsLawfulClient k (dropped_client c drops)
+dropped_lawful k c (TextsDone n) l = record {
+  state = l.state;
+  keys_long = l.keys_long;
+  inbox = All-drop (IsLawfulEntry c.state) n c.inbox l.inbox;
+  few_entries = omega (arith, length-drop n c.inbox, l.few_entries);
+  outbox = l.outbox;
+  few_posts = l.few_posts;
+}
+dropped_lawful k c (PacketsSent n) l = record {
+  state = l.state;
+  keys_long = l.keys_long;
+  inbox = l.inbox;
+  few_entries = l.few_entries;
+  outbox = All-drop (IsLawfulPost k c.state) n c.outbox l.outbox;
+  few_posts = omega (arith, length-drop n c.outbox, l.few_posts);
+}
+
 pub sent_lawful : (k : Mechanism) (c : Client) (n : ℕ) (outbox : List Item) → IsLawfulClient k c
     → dropped_of n c.outbox ≡ Ok outbox → IsLawfulClient k (record c { outbox = outbox })
 sent_lawful k c n outbox l is =
     subst (λ (items : List Item). IsLawfulClient k (record c { outbox = items })) (dropped_are n c.outbox outbox is)
-    (record {
-      state = l.state;
-      keys_long = l.keys_long;
-      inbox = l.inbox;
-      few_entries = l.few_entries;
-      outbox = All-drop (IsLawfulPost k c.state) n c.outbox l.outbox;
-      few_posts = omega (arith, length-drop n c.outbox, l.few_posts);
-    })
+    (dropped_lawful k c (PacketsSent n) l)
 
 pub done_lawful : (k : Mechanism) (c : Client) (n : ℕ) (inbox : List Item) → IsLawfulClient k c
     → dropped_of n c.inbox ≡ Ok inbox → IsLawfulClient k (record c { inbox = inbox })
 done_lawful k c n inbox l is =
     subst (λ (items : List Item). IsLawfulClient k (record c { inbox = items })) (dropped_are n c.inbox inbox is)
-    (record {
-      state = l.state;
-      keys_long = l.keys_long;
-      inbox = All-drop (IsLawfulEntry c.state) n c.inbox l.inbox;
-      few_entries = omega (arith, length-drop n c.inbox, l.few_entries);
-      outbox = l.outbox;
-      few_posts = l.few_posts;
-    })
+    (dropped_lawful k c (TextsDone n) l)

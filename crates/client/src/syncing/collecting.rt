@@ -9,7 +9,7 @@ ghost use Rattle.session_model.specs.Clients.{Client as Kept};
 ghost use Rattle.sync_model.specs.Moves.{acking, acknowledged, fetching, move};
 ghost use Rattle.sync_model.specs.Parties.{Party};
 ghost use Rattle.client.specs.Clients.{IsOpenOn};
-ghost use Rattle.client.specs.Drafting.{DraftsFor, IsDraftOf};
+ghost use Rattle.client.specs.Drafting.{DraftsFor, IsReceivedOf};
 ghost use Rattle.client.specs.Syncing.Moments.{IsAnswerWritten, moment};
 ghost use Rattle.client.specs.Syncing.Parties.{is_inbox_full, is_no_room, party_of, waiting};
 ghost use Rattle.client.specs.Syncing.Rounds.{Hears, Idles, IsRound, MovesTo, fetched_as, round_turn};
@@ -21,7 +21,6 @@ use super::lines::write_answer;
 use super::naming::Names;
 use super::steps::ask_for;
 use crate::client::Client;
-use crate::taking::drafted;
 use dr_disk::Disk;
 use dr_ports::{Failed, Pipe, Sink};
 use kem_laws::Kem;
@@ -92,7 +91,7 @@ impl<K: Kem> Client<K> {
         number: u64,
         drafted: Result<ReceiveDraft<'_, K>, Refusal>,
     ) -> Result<Option<u64>, SyncFault>
-        requires drafted { IfOk drafted (IsDraftOf K.mechanism self.old.kept) }
+        requires drafted { IfOk drafted (IsReceivedOf K.mechanism self.old.kept) }
         requires open { IsOpenOn self.old (D.state disk.old) }
         ensures turns { (own peers : List ℕ) (n : ℕ) (packet : List ℕ)
             → DraftsFor K.mechanism self.old.kept packet drafted.entry
@@ -132,15 +131,13 @@ impl<K: Kem> Client<K> {
         ensures later { (O.at out.old).faults ≤ (O.at out.new).faults }
         ensures link { LeavesLink L.port L.behind link.old link.new }
     {
-        self.lawful();
         match ask_for(link, &mut self.reader, &Request::fetch(names.own.lent())) {
             Err(fault) => Err(fault),
             Ok(reply) => match reply {
                 Reply::Empty => Ok(None),
                 Reply::Item(number, packet) => {
                     let mut room = KeptRoom::new();
-                    let (session, work) = (&self.session, &mut self.work);
-                    let drafted = drafted(session, work, packet.bytes(), &mut room);
+                    let drafted = self.core.draft_take(packet.bytes(), &mut room);
                     self.collect(disk, out, prefix, number, drafted)
                 }
                 Reply::Unknown => Err(SyncFault::Refused(SyncRefusal::Unknown)),

@@ -28,7 +28,7 @@ impl<K: Kem> Client<K> {
     fn waits(&self) -> bool
         ensures { IsTrue result ↔ (0 < length self.now.kept.outbox) }
     {
-        self.outbox.len() > 0
+        self.core.state().outbox > 0
     }
 
     /// Drops the oldest packet, which the relay keeps under a number.
@@ -83,7 +83,7 @@ impl<K: Kem> Client<K> {
         ensures link { LeavesLink L.port L.behind link.old link.new }
     {
         self.may_post();
-        let request = Request::post(names.peers.lent(), oldest(&self.outbox));
+        let request = Request::post(names.peers.lent(), oldest(&self.core));
         match ask_for(link, &mut self.reader, &request) {
             Err(fault) => Err(fault),
             Ok(reply) => match reply {

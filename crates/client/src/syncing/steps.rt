@@ -1,6 +1,6 @@
 //! What a sync has a client do, and what it asks of the relay.
 
-ghost use Rattle.std.specs.Prelude.{◌≡◌, ◌<◌, ◌≤◌, IfOk, OnOk, Some, length, map, slice_get, true};
+ghost use Rattle.std.specs.Prelude.{◌≡◌, ◌<◌, ◌≤◌, IfOk, OnOk, Some, length, slice_get, true};
 ghost use Rattle.std.specs.List.{AllByRecursion};
 ghost use Rattle.dr_base.specs.declared.limits.TheConstants.{OUTBOX_LIMIT};
 ghost use Rattle.dr_model.specs.Machines.Acts.{taken_by};
@@ -12,15 +12,15 @@ ghost use Rattle.relay_wire.specs.Requests.{Asked};
 ghost use Rattle.relay_wire.specs.Seen.{asked_of};
 ghost use Rattle.session_model.specs.Clients.{accept_receive};
 ghost use Rattle.client.specs.Clients.{IsOpenOn};
-ghost use Rattle.client.specs.Drafting.{IsDraftOf, taken_of};
+ghost use Rattle.client.specs.Drafting.{IsReceivedOf, taken_of};
 ghost use Rattle.client.specs.Syncing.Parties.{sent_step, waiting};
 ghost use Rattle.client.specs.Syncing.Rounds.{GetsReply};
 ghost use Rattle.client.specs.Syncing.Moments.{HasGone, IsTaken};
 
 use super::faults::SyncFault;
 use crate::client::Client;
+use crate::cores::{Core, Drops};
 use crate::refusals::{DropRefusal, TakeRefusal};
-use boxes::Outbox;
 use dr_disk::{Call, Disk};
 use dr_ports::Pipe;
 use kem_laws::Kem;
@@ -56,14 +56,13 @@ pub(crate) fn ask_for<'a, L: Pipe>(
     heard(ask(link, reader, request))
 }
 
-/// The oldest packet of an outbox.
-pub(crate) fn oldest(outbox: &Outbox) -> Packet<'_>
-    requires some { 0 < length outbox.now }
-    requires lawful { AllByRecursion (λ packet. is_packet packet ≡ true)
-        (map (λ item. item.bytes) outbox.now) }
-    ensures { Some result.bytes ≡ slice_get (map (λ item. item.bytes) outbox.now) 0 }
+/// The oldest packet that waits.
+pub(crate) fn oldest<K: Kem>(core: &Core<K>) -> Packet<'_>
+    requires some { 0 < length core.now.outbox }
+    requires lawful { AllByRecursion (λ packet. is_packet packet ≡ true) (waiting core.now) }
+    ensures { Some result.bytes ≡ slice_get (waiting core.now) 0 }
 {
-    match outbox.at(0) {
+    match core.outbox(0) {
         None => unreachable!(),
         Some((_, bytes)) => Packet::new(bytes).unwrap(),
     }
@@ -76,7 +75,7 @@ impl<K: Kem> Client<K> {
             (waiting self.now.kept) }
         ensures few { length self.now.kept.outbox ≤ OUTBOX_LIMIT }
     {
-        let _count = self.outbox.len();
+        self.core.lawful();
     }
 
     /// Takes what was drafted for a packet: the answer, or the call on the disk that failed.
@@ -87,7 +86,7 @@ impl<K: Kem> Client<K> {
         disk: &mut D,
         drafted: Result<ReceiveDraft<'_, K>, Refusal>,
     ) -> Result<Answer, Call>
-        requires drafted { IfOk drafted (IsDraftOf K.mechanism self.old.kept) }
+        requires drafted { IfOk drafted (IsReceivedOf K.mechanism self.old.kept) }
         requires open { IsOpenOn self.old (D.state disk.old) }
         ensures { let taken = taken_of self.old.kept.state drafted.entry in
             IsTaken (settled self.old.kept (taken_by (accept_receive self.old.kept taken)))
@@ -109,7 +108,7 @@ impl<K: Kem> Client<K> {
             (D.state disk.old) (D.state disk.new) result }
         ensures fewer { OnOk result (length self.new.kept.outbox < length self.old.kept.outbox) }
     {
-        match self.sent_exact(disk, 1) {
+        match self.drop_exact(disk, Drops::Sent(1)) {
             Ok(()) => Ok(()),
             Err(DropRefusal::StoreFault { call }) => Err(call),
             Err(_) => unreachable!(),

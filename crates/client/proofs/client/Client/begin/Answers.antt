@@ -1,9 +1,9 @@
-use Rattle.std.proofs.Common.{inl, arith, None, Some, [], ap, refl, subst, sym, ◌∙◌}
+use Rattle.std.proofs.Common.{inl, arith, None, Some, ap, refl, subst, sym, ◌∙◌}
 use Rattle.std.proofs.lemmas.Grind.{common_steps}
 use Rattle.dr_disk.specs.Spans.{Span}
 use Rattle.dr_disk.proofs.Steps.{quiet_twice, widen}
-use Rattle.session_model.specs.States.{State}
-use Rattle.session_record.specs.Record.{client_of, record_text}
+use Rattle.session_model.specs.Clients.{Client}
+use Rattle.session_record.specs.Record.{record_text}
 use Rattle.slot_store.specs.Found.{found_as, has_content}
 use Rattle.slot_store.specs.Reading.{IsEntryOrLike, no_content}
 use Rattle.slot_store.specs.Store.{IsOldOrNew, content}
@@ -59,7 +59,7 @@ returns-in-Err-first-clause-any_moment g c =
     let none : IsReadAs k start no_content =
     λ s told. c.in-Ok-open.ensures.opened.read s told ∙ ap (λ f. found_as f (content c.in-Ok-open.store)) c.in-NoContent.is in
     let putting : Span mid now (IsOldOrNew mid client_area None (Some (record_text begun))) =
-    subst (λ (s : State). Span mid now (IsOldOrNew mid client_area None (Some (record_text (client_of s [] [])))))
+    subst (λ (kept : Client). Span mid now (IsOldOrNew mid client_area None (Some (record_text kept))))
     c.in-Ok-begin.ensures.ok c.first.ensures.any_moment in
     first_moments k c.readings.ensures c.args.key.now.bytes c.args.side start mid now (g.met.D.Disk.lawful c.args.disk.now) none
     (c.in-Ok-begin.ensures.variant.0 refl)
@@ -75,7 +75,7 @@ returns-in-Err-first-clause-reads g c = λ s seen.
     let none : IsReadAs k start no_content =
     λ s told. c.in-Ok-open.ensures.opened.read s told ∙ ap (λ f. found_as f (content c.in-Ok-open.store)) c.in-NoContent.is in
     let putting : Span mid now (IsOldOrNew mid client_area None (Some (record_text begun))) =
-    subst (λ (s : State). Span mid now (IsOldOrNew mid client_area None (Some (record_text (client_of s [] [])))))
+    subst (λ (kept : Client). Span mid now (IsOldOrNew mid client_area None (Some (record_text kept))))
     c.in-Ok-begin.ensures.ok c.first.ensures.any_moment in
     first_left k c.readings.ensures c.args.key.now.bytes c.args.side start mid now (g.met.D.Disk.lawful c.args.disk.now) none
     (c.in-Ok-begin.ensures.variant.0 refl)
@@ -92,7 +92,7 @@ returns-in-Ok-first-clause-any_moment g c =
     let none : IsReadAs k start no_content =
     λ s told. c.in-Ok-open.ensures.opened.read s told ∙ ap (λ f. found_as f (content c.in-Ok-open.store)) c.in-NoContent.is in
     let putting : Span mid now (IsOldOrNew mid client_area None (Some (record_text begun))) =
-    subst (λ (s : State). Span mid now (IsOldOrNew mid client_area None (Some (record_text (client_of s [] [])))))
+    subst (λ (kept : Client). Span mid now (IsOldOrNew mid client_area None (Some (record_text kept))))
     c.in-Ok-begin.ensures.ok c.first.ensures.any_moment in
     first_moments k c.readings.ensures c.args.key.now.bytes c.args.side start mid now (g.met.D.Disk.lawful c.args.disk.now) none
     (c.in-Ok-begin.ensures.variant.0 refl)
@@ -108,7 +108,7 @@ returns-in-Ok-first-clause-reads g c = λ s seen.
     let none : IsReadAs k start no_content =
     λ s told. c.in-Ok-open.ensures.opened.read s told ∙ ap (λ f. found_as f (content c.in-Ok-open.store)) c.in-NoContent.is in
     let putting : Span mid now (IsOldOrNew mid client_area None (Some (record_text begun))) =
-    subst (λ (s : State). Span mid now (IsOldOrNew mid client_area None (Some (record_text (client_of s [] [])))))
+    subst (λ (kept : Client). Span mid now (IsOldOrNew mid client_area None (Some (record_text kept))))
     c.in-Ok-begin.ensures.ok c.first.ensures.any_moment in
     first_left k c.readings.ensures c.args.key.now.bytes c.args.side start mid now (g.met.D.Disk.lawful c.args.disk.now) none
     (c.in-Ok-begin.ensures.variant.0 refl)
@@ -122,15 +122,12 @@ returns-in-Ok-first-clause-in_worlds g c =
     record {
       lawful = (c.both_sides_follow.ensures k c.laws.ensures.law).lawful_opening key (c.in-Ok-begin.ensures.variant.0 refl);
       keeps =
-          c.in-Ok-first.ensures.keeps ∙ ap (λ (s : State). client_of s [] []) c.in-Ok-begin.ensures.ok
+          c.in-Ok-first.ensures.keeps ∙ c.in-Ok-begin.ensures.ok
           ∙ kept_first k key c.args.side;
     }
 
 pub returns-in_default-clause-any_moment : goal.returns-in_default-clause-any_moment
 returns-in_default-clause-any_moment g c = grind (arith, common_steps)
-
-pub first-requires-clause-lawful : goal.first-requires-clause-lawful
-first-requires-clause-lawful g c = grind (arith, common_steps)
 
 pub first-requires-clause-none : goal.first-requires-clause-none
 first-requires-clause-none g c = grind (arith, common_steps)
@@ -144,7 +141,7 @@ returns-in-Err-first-clause-fate g c = grind (arith, common_steps)
 pub returns-in-Ok-first-clause-begun : goal.returns-in-Ok-first-clause-begun
 returns-in-Ok-first-clause-begun g c = record {
   is_open = c.in-Ok-first.ensures.open;
-  keeps = c.in-Ok-first.ensures.keeps ∙ ap (λ (s : State). client_of s [] []) c.in-Ok-begin.ensures.ok;
+  keeps = c.in-Ok-first.ensures.keeps ∙ c.in-Ok-begin.ensures.ok;
   ready = c.in-Ok-first.ensures.ready;
   read = λ s told. c.in-Ok-open.ensures.opened.read s told
       ∙ ap (λ f. found_as f (content c.in-Ok-open.store)) c.in-NoContent.is;

@@ -7,17 +7,17 @@ use Rattle.client.proofs.client.Client.done.Goals as goal
 
 pub returns-clause-in_worlds : goal.returns-clause-in_worlds
 returns-clause-in_worlds g c = λ w side is.
-    lift g.K.Kem.mechanism c.grounds.ensures w side (finishing c.args.n) c.args.self.now c.done_exact.new.self is
-    g.D.Disk.state c.args.disk.now c.done_exact.new.disk c.requires (λ _. tt) (dropped_as (Done c.args.n) c.done_exact.result)
-    c.done_exact.ensures.exact
+    lift g.K.Kem.mechanism c.grounds.ensures w side (finishing c.args.n) c.args.self.now c.drop_exact.new.self is
+    g.D.Disk.state c.args.disk.now c.drop_exact.new.disk c.requires (λ _. tt) (dropped_as (Done c.args.n) c.drop_exact.result)
+    c.drop_exact.ensures.exact
 
 pub returns-clause-ready : goal.returns-clause-ready
 returns-clause-ready g c =
     dropped_ready g.D.Disk.state (act_on g.K.Kem.mechanism c.args.self.now.kept (finishing c.args.n)) c.args.self.now
-    c.done_exact.new.self c.args.disk.now c.done_exact.new.disk c.requires (Done c.args.n) c.done_exact.result c.done_exact.ensures.exact
+    c.drop_exact.new.self c.args.disk.now c.drop_exact.new.disk c.requires (Done c.args.n) c.drop_exact.result c.drop_exact.ensures.exact
 
 pub returns-clause-exact : goal.returns-clause-exact
-returns-clause-exact g c = c.done_exact.ensures.exact
+returns-clause-exact g c = c.drop_exact.ensures.exact
 
 pub returns-clause-fate : goal.returns-clause-fate
-returns-clause-fate g c = c.done_exact.ensures.fate
+returns-clause-fate g c = c.drop_exact.ensures.fate

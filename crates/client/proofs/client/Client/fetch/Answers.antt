@@ -4,6 +4,7 @@ use Rattle.relay_wire.specs.Requests.{fetches}
 use Rattle.relay_wire.specs.Seen.{asked_of, replied_of}
 use Rattle.relay_wire.specs.declared.reply.Reply.{Reply}
 use Rattle.relay_pipe.specs.declared.faults.PeerKind.TheVariants.{Wrong}
+use Rattle.session_model.specs.Clients.{Client}
 use Rattle.sync_model.specs.Moves.{fetching, move, no_such_box, waits_by}
 use Rattle.sync_model.specs.declared.more.More.TheVariants.{End}
 use Rattle.client.specs.Clients.{ClientNow}
@@ -21,7 +22,7 @@ returns-in-Err-clause-round g c = λ n.
     let p = party_of g.K.Kem.mechanism c.args.prefix.now c.args.names.now.own c.args.names.now.peers in
     let before = moment c.args.self.now (g.D.Disk.state c.args.disk.now) (g.O.Sink.at c.args.out.now) in
     let client : ClientNow = record {
-      kept = record { state = c.self.inside.session; inbox = c.self.inside.inbox; outbox = c.self.inside.outbox };
+      kept = c.self.inside.core;
       store = c.self.inside.store;
       closed = c.self.inside.closed;
     } in
@@ -36,7 +37,7 @@ returns-in-Empty-clause-round g c = λ n.
     let p = party_of g.K.Kem.mechanism c.args.prefix.now c.args.names.now.own c.args.names.now.peers in
     let before = moment c.args.self.now (g.D.Disk.state c.args.disk.now) (g.O.Sink.at c.args.out.now) in
     let client : ClientNow = record {
-      kept = record { state = c.self.inside.session; inbox = c.self.inside.inbox; outbox = c.self.inside.outbox };
+      kept = c.self.inside.core;
       store = c.self.inside.store;
       closed = c.self.inside.closed;
     } in
@@ -53,18 +54,18 @@ pub returns-in-Item-clause-round : goal.returns-in-Item-clause-round
 returns-in-Item-clause-round g c = λ n.
     let p = party_of g.K.Kem.mechanism c.args.prefix.now c.args.names.now.own c.args.names.now.peers in
     let before = moment c.args.self.now (g.D.Disk.state c.args.disk.now) (g.O.Sink.at c.args.out.now) in
-    let client : ClientNow = record {
-      kept = record { state = c.self.inside.session; inbox = c.self.inside.inbox; outbox = c.self.inside.outbox };
-      store = c.self.inside.store;
-      closed = c.self.inside.closed;
-    } in
+    let with_core : Client → ClientNow = λ kept. record { kept = kept; store = c.self.inside.store; closed = c.self.inside.closed } in
+    let client = with_core c.draft_take-drafted.new.self in
+    let same = ap with_core c.draft_take-drafted.ensures.same ∙ c.self.view_is in
     let asked = c.fetch.ensures ∙ ap (λ (l : Lent). record { name = l.bytes; ask = fetches }) c.lent.ensures in
-    let drafts = subst (λ (packet : List ℕ). DraftsFor g.K.Kem.mechanism client.kept packet c.drafted-drafted.result) c.bytes.ensures.value (c.drafted-drafted.ensures.drafts client.kept refl) in
+    let drafts = subst (λ (packet : List ℕ). DraftsFor g.K.Kem.mechanism client.kept packet c.draft_take-drafted.result) c.bytes.ensures.value
+    (subst (λ (kept : Client). DraftsFor g.K.Kem.mechanism kept c.bytes.result.now c.draft_take-drafted.result) (sym c.draft_take-drafted.ensures.same)
+    c.draft_take-drafted.ensures.exact) in
     hears_reply (asked_of c.fetch.result) (record { name = c.args.names.now.own; ask = fetches }) asked
     (g.L.Pipe.port c.args.link.now) (g.L.Pipe.port c.ask_for.new.link)
     (λ reply then. MovesTo (move p c.args.self.now.kept (fetching n) reply) before (moment c.collect.new.self (g.D.Disk.state c.collect.new.disk) (g.O.Sink.at c.collect.new.out)) then) (IsUnmoved before (moment c.collect.new.self (g.D.Disk.state c.collect.new.disk) (g.O.Sink.at c.collect.new.out)))
     c.in-Ok.reply (fetched_as (waiting c.collect.new.self.kept) n c.collect.result) c.in-Ok.ensures.answers
-    (subst (λ (x : ClientNow). MovesTo (move p x.kept (fetching n) (replied_of c.in-Ok.reply)) (moment x (g.D.Disk.state c.args.disk.now) (g.O.Sink.at c.args.out.now)) (moment c.collect.new.self (g.D.Disk.state c.collect.new.disk) (g.O.Sink.at c.collect.new.out)) (fetched_as (waiting c.collect.new.self.kept) n c.collect.result)) c.self.view_is
+    (subst (λ (x : ClientNow). MovesTo (move p x.kept (fetching n) (replied_of c.in-Ok.reply)) (moment x (g.D.Disk.state c.args.disk.now) (g.O.Sink.at c.args.out.now)) (moment c.collect.new.self (g.D.Disk.state c.collect.new.disk) (g.O.Sink.at c.collect.new.out)) (fetched_as (waiting c.collect.new.self.kept) n c.collect.result)) same
     (subst (λ (r : Reply). MovesTo (move p client.kept (fetching n) (replied_of r)) (moment client (g.D.Disk.state c.args.disk.now) (g.O.Sink.at c.args.out.now)) (moment c.collect.new.self (g.D.Disk.state c.collect.new.disk) (g.O.Sink.at c.collect.new.out)) (fetched_as (waiting c.collect.new.self.kept) n c.collect.result)) (sym c.in-Item.is)
     (c.collect.ensures.turns c.args.names.now.own c.args.names.now.peers n c.in-Item.packet.bytes drafts)))
 
@@ -73,7 +74,7 @@ returns-in-Unknown-clause-round g c = λ n.
     let p = party_of g.K.Kem.mechanism c.args.prefix.now c.args.names.now.own c.args.names.now.peers in
     let before = moment c.args.self.now (g.D.Disk.state c.args.disk.now) (g.O.Sink.at c.args.out.now) in
     let client : ClientNow = record {
-      kept = record { state = c.self.inside.session; inbox = c.self.inside.inbox; outbox = c.self.inside.outbox };
+      kept = c.self.inside.core;
       store = c.self.inside.store;
       closed = c.self.inside.closed;
     } in
@@ -90,7 +91,7 @@ returns-in_default-clause-round g c = λ n.
     let p = party_of g.K.Kem.mechanism c.args.prefix.now c.args.names.now.own c.args.names.now.peers in
     let before = moment c.args.self.now (g.D.Disk.state c.args.disk.now) (g.O.Sink.at c.args.out.now) in
     let client : ClientNow = record {
-      kept = record { state = c.self.inside.session; inbox = c.self.inside.inbox; outbox = c.self.inside.outbox };
+      kept = c.self.inside.core;
       store = c.self.inside.store;
       closed = c.self.inside.closed;
     } in

@@ -8,4 +8,4 @@ use Rattle.client.proofs.client.Client.may_post.Goals as goal
 pub returns-clause-packets : goal.returns-clause-packets
 returns-clause-packets g c =
     subst ArePackets (ap (λ (n : ClientNow). waiting n.kept) c.self.view_is)
-    (are_packets g.K.Kem.mechanism c.self.inside.session c.self.inside.outbox c.self.invariant.lawful.outbox c.len-count.ensures.room)
+    (are_packets g.K.Kem.mechanism c.self.inside.core.state c.self.inside.core.outbox c.lawful.ensures.kept.outbox c.lawful.ensures.packets)

@@ -21,7 +21,7 @@ returns-in-Err-clause-round g c = λ which packet is.
     let p = party_of g.K.Kem.mechanism c.args.prefix.now c.args.names.now.own c.args.names.now.peers in
     let before = moment c.args.self.now (g.D.Disk.state c.args.disk.now) (g.O.Sink.at c.args.out.now) in
     let client : ClientNow = record {
-      kept = record { state = c.self.inside.session; inbox = c.self.inside.inbox; outbox = c.self.inside.outbox };
+      kept = c.self.inside.core;
       store = c.self.inside.store;
       closed = c.self.inside.closed;
     } in
@@ -39,7 +39,7 @@ returns-in-Stored-clause-round g c = λ which packet is.
     let p = party_of g.K.Kem.mechanism c.args.prefix.now c.args.names.now.own c.args.names.now.peers in
     let before = moment c.args.self.now (g.D.Disk.state c.args.disk.now) (g.O.Sink.at c.args.out.now) in
     let client : ClientNow = record {
-      kept = record { state = c.self.inside.session; inbox = c.self.inside.inbox; outbox = c.self.inside.outbox };
+      kept = c.self.inside.core;
       store = c.self.inside.store;
       closed = c.self.inside.closed;
     } in
@@ -60,7 +60,7 @@ returns-in-BoxFull-clause-round g c = λ which packet is.
     let p = party_of g.K.Kem.mechanism c.args.prefix.now c.args.names.now.own c.args.names.now.peers in
     let before = moment c.args.self.now (g.D.Disk.state c.args.disk.now) (g.O.Sink.at c.args.out.now) in
     let client : ClientNow = record {
-      kept = record { state = c.self.inside.session; inbox = c.self.inside.inbox; outbox = c.self.inside.outbox };
+      kept = c.self.inside.core;
       store = c.self.inside.store;
       closed = c.self.inside.closed;
     } in
@@ -80,7 +80,7 @@ returns-in-Unknown-clause-round g c = λ which packet is.
     let p = party_of g.K.Kem.mechanism c.args.prefix.now c.args.names.now.own c.args.names.now.peers in
     let before = moment c.args.self.now (g.D.Disk.state c.args.disk.now) (g.O.Sink.at c.args.out.now) in
     let client : ClientNow = record {
-      kept = record { state = c.self.inside.session; inbox = c.self.inside.inbox; outbox = c.self.inside.outbox };
+      kept = c.self.inside.core;
       store = c.self.inside.store;
       closed = c.self.inside.closed;
     } in
@@ -100,7 +100,7 @@ returns-in_default-clause-round g c = λ which packet is.
     let p = party_of g.K.Kem.mechanism c.args.prefix.now c.args.names.now.own c.args.names.now.peers in
     let before = moment c.args.self.now (g.D.Disk.state c.args.disk.now) (g.O.Sink.at c.args.out.now) in
     let client : ClientNow = record {
-      kept = record { state = c.self.inside.session; inbox = c.self.inside.inbox; outbox = c.self.inside.outbox };
+      kept = c.self.inside.core;
       store = c.self.inside.store;
       closed = c.self.inside.closed;
     } in

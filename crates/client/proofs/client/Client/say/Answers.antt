@@ -31,3 +31,9 @@ returns-clause-ready g c =
     ready_after g.D.Disk.state g.W.Draws.at g.K.Kem.mechanism c.args.text.now c.args.self.now
     c.say_exact.new.self c.args.disk.now c.say_exact.new.disk c.args.draws.now c.say_exact.new.draws c.say_exact.result
     c.say_exact.ensures.exact
+
+pub returns-clause-exact : goal.returns-clause-exact
+returns-clause-exact g c = c.say_exact.ensures.exact
+
+pub returns-clause-fate : goal.returns-clause-fate
+returns-clause-fate g c = c.say_exact.ensures.fate

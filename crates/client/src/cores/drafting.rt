@@ -1,0 +1,134 @@
+//! The steps of a core are drafted: a text that is said, a packet that is taken, and items that are
+//! dropped.
+
+ghost use Rattle.std.specs.Prelude.{◌≡◌, ◌≤◌, ◌<◌, Ok, IfOk, IfErr, OnOk, MatchResult, is_some, length};
+ghost use Rattle.dr_model.specs.Machines.Acts.{act_on};
+ghost use Rattle.ratchet.specs.Seen.{received_of, said_of, seed_bytes};
+ghost use Rattle.session_model.specs.Clients.{accept_send, say_check, say_on};
+ghost use Rattle.session_model.specs.Drafts.{IsReceiveDraft, IsSendDraft};
+ghost use Rattle.session_model.specs.LawfulStates.{IsLawfulState};
+ghost use Rattle.client.specs.Drafting.{DraftsFor, HasToDrop, IsReceivedOf, IsSaidOf, act_of, dropped_by, said_if};
+
+use super::drafts::Drops;
+use super::showing::Core;
+use boxes::Fewer;
+use dr_base::{INBOX_LIMIT, Key32, OUTBOX_LIMIT, TEXT_LIMIT};
+use kem_laws::{Kem, laws};
+use packet::parse;
+use ratchet::{KeptRoom, NoPairFor, ReceiveDraft, SendDraft, Session};
+use session_model::{LentPart, Refusal};
+
+/// A part is a lawful state: a caller that needs this calls it.
+pub(super) fn lawful_part<K: Kem>(part: &LentPart<'_, K>)
+    ensures { IsLawfulState K.mechanism part.now }
+{
+    let _head = part.head;
+}
+
+/// What a session would keep once a text is said is lawful: a caller that needs this calls it.
+fn lawful_said<K: Kem>(draft: &SendDraft<K>, session: &Session<K>)
+    requires { IsSendDraft K.mechanism session.now (said_of session.now draft.now) }
+    ensures { IsLawfulState K.mechanism (said_of session.now draft.now).next }
+{
+    lawful_part(&draft.part(session));
+}
+
+/// What a session would keep once a packet is taken is lawful: a caller that needs this calls it.
+fn lawful_taken<K: Kem>(draft: &ReceiveDraft<'_, K>, session: &Session<K>)
+    requires { IsReceiveDraft K.mechanism session.now (received_of session.now draft.now) }
+    ensures { IsLawfulState K.mechanism (received_of session.now draft.now).next }
+{
+    lawful_part(&draft.part(session));
+}
+
+/// Whether so many of the items that are held can be dropped.
+fn enough(held: u32, n: u32) -> Result<(), Fewer>
+    ensures { MatchResult result (λ _. n ≤ held) (λ fewer. (fewer.held ≡ held) × (held < n)) }
+{
+    if held < n {
+        return Err(Fewer { held });
+    }
+    Ok(())
+}
+
+impl<K: Kem> Core<K> {
+    /// Whether a text of this length may be said, and then whether that needs a seed.
+    pub fn say_check(&self, len: usize) -> Result<bool, Refusal>
+        ensures { result ≡ say_check self.now len }
+    {
+        if len > TEXT_LIMIT {
+            return Err(Refusal::TextTooLong(len));
+        }
+        if self.outbox.len() as usize >= OUTBOX_LIMIT {
+            return Err(Refusal::OutboxFull);
+        }
+        match self.session.send_check(len) {
+            Ok(needs_seed) => Ok(needs_seed),
+            Err(refusal) => Err(refusal.into()),
+        }
+    }
+
+    /// Drafts a text that `say_check` allows, with a seed exactly where it asks for one.
+    // Inlined, the draft is built where the caller keeps it.
+    #[inline(always)]
+    pub fn draft_say(&mut self, text: &[u8], seed: Option<Key32>) -> Result<SendDraft<K>, NoPairFor>
+        requires { say_check self.old (length text.now) ≡ Ok (is_some seed) }
+        ensures exact { say_on K.mechanism self.old text.now (seed_bytes seed)
+            ≡ accept_send self.old (said_if self.old.state result) }
+        ensures draft { IfOk result (IsSaidOf K.mechanism self.old) }
+        ensures seed { IfErr result (λ e. seed ≡ Some e.seed) }
+        ensures same { self.new ≡ self.old }
+    {
+        laws::<K>();
+        match self.session.draft_send(&mut self.work, text, seed) {
+            Err(none) => Err(none),
+            Ok(draft) => {
+                lawful_said(&draft, &self.session);
+                Ok(draft)
+            }
+        }
+    }
+
+    /// Drafts the taking of the packet that the bytes are, or answers the first reason against it,
+    /// of which a full inbox is the last. The room is for the kept keys, where the packet changes
+    /// them.
+    // Inlined, the draft is built where the caller keeps it.
+    #[inline(always)]
+    #[tactic(auto, unfolding(session_model::specs::Clients::take_on))]
+    pub fn draft_take<'a>(
+        &mut self,
+        packet: &[u8],
+        room: &'a mut KeptRoom,
+    ) -> Result<ReceiveDraft<'a, K>, Refusal>
+        ensures exact { DraftsFor K.mechanism self.old packet.now result }
+        ensures draft { IfOk result (IsReceivedOf K.mechanism self.old) }
+        ensures same { self.new ≡ self.old }
+    {
+        match parse(packet, K::CIPHERTEXT + K::PUBLIC) {
+            Err(fault) => Err(Refusal::Malformed(fault)),
+            Ok(view) => match self.session.draft_receive(&mut self.work, &view, room) {
+                Err(refusal) => Err(refusal.into()),
+                Ok(draft) => {
+                    if self.inbox.len() as usize >= INBOX_LIMIT {
+                        draft.discard();
+                        return Err(Refusal::InboxFull);
+                    }
+                    lawful_taken(&draft, &self.session);
+                    Ok(draft)
+                }
+            },
+        }
+    }
+
+    /// Whether so many items can be dropped from a box: `Fewer` exactly where fewer stand.
+    pub fn drop_check(&self, drops: Drops) -> Result<(), Fewer>
+        ensures exact { act_on K.mechanism self.now (act_of drops)
+            ≡ dropped_by self.now drops result }
+        ensures fits { OnOk result (HasToDrop self.now drops) }
+    {
+        match drops {
+            Drops::Done(n) => enough(self.inbox.len(), n),
+            Drops::Sent(n) => enough(self.outbox.len(), n),
+        }
+    }
+}

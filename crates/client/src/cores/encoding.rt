@@ -1,0 +1,74 @@
+//! The record of a core, as it stands and as a draft leaves it.
+
+ghost use Rattle.client.specs.Cores.{HasRoomFor, PutsRecord};
+ghost use Rattle.client.specs.Drafting.{HasToDrop, IsDraftOf, IsReceivedOf, IsSaidOf, dropped_client, next_of, received_client, said_client};
+
+use super::drafts::{Draft, Drops};
+use super::showing::Core;
+use kem_laws::Kem;
+use ratchet::{ReceiveDraft, SendDraft};
+use session_record::{Change, encode};
+
+impl<K: Kem> Core<K> {
+    /// Writes the record of what it keeps, and answers its length.
+    pub fn encode_now(&self, out: &mut [u8]) -> usize
+        requires room { HasRoomFor self.now out.old }
+        ensures { PutsRecord self.now out.old out.new result }
+    {
+        let part = self.session.part();
+        encode(&part, &self.inbox, &self.outbox, &Change::Same, out)
+    }
+
+    /// Writes the record of what it will keep once a draft is accepted, and answers its length.
+    pub fn encode(&self, draft: &Draft<'_, K>, out: &mut [u8]) -> usize
+        requires draft { IsDraftOf K.mechanism self.now draft.now }
+        requires room { HasRoomFor (next_of self.now draft.now) out.old }
+        ensures { PutsRecord (next_of self.now draft.now) out.old out.new result }
+    {
+        match draft {
+            Draft::Said(said) => self.encode_said(said, out),
+            Draft::Received(received) => self.encode_received(received, out),
+            Draft::Dropped(drops) => self.encode_dropped(*drops, out),
+        }
+    }
+
+    fn encode_said(&self, draft: &SendDraft<K>, out: &mut [u8]) -> usize
+        requires draft { IsSaidOf K.mechanism self.now draft.now }
+        requires room { HasRoomFor (said_client self.now draft.now) out.old }
+        ensures { PutsRecord (said_client self.now draft.now) out.old out.new result }
+    {
+        encode(
+            &draft.part(&self.session),
+            &self.inbox,
+            &self.outbox,
+            &Change::Said {
+                packet: draft.packet(),
+            },
+            out,
+        )
+    }
+
+    fn encode_received(&self, draft: &ReceiveDraft<'_, K>, out: &mut [u8]) -> usize
+        requires draft { IsReceivedOf K.mechanism self.now draft.now }
+        requires room { HasRoomFor (received_client self.now draft.now) out.old }
+        ensures { PutsRecord (received_client self.now draft.now) out.old out.new result }
+    {
+        let part = draft.part(&self.session);
+        let position = draft.position();
+        let text = draft.text();
+        let change = Change::Received { position, text };
+        encode(&part, &self.inbox, &self.outbox, &change, out)
+    }
+
+    fn encode_dropped(&self, drops: Drops, out: &mut [u8]) -> usize
+        requires draft { HasToDrop self.now drops }
+        requires room { HasRoomFor (dropped_client self.now drops) out.old }
+        ensures { PutsRecord (dropped_client self.now drops) out.old out.new result }
+    {
+        let part = self.session.part();
+        match drops {
+            Drops::Done(n) => encode(&part, &self.inbox, &self.outbox, &Change::Done { n }, out),
+            Drops::Sent(n) => encode(&part, &self.inbox, &self.outbox, &Change::Sent { n }, out),
+        }
+    }
+}

@@ -1,0 +1,102 @@
+//! The core, and what it shows.
+
+ghost use Rattle.std.specs.Prelude.{◌≡◌, ◌↔◌, ◌<◌, ◌≤◌, All, length, option_map, slice_get, IfSome, IsSome};
+ghost use Rattle.dr_base.specs.declared.limits.TheConstants.{PACKET_LIMIT, TEXT_LIMIT};
+
+use boxes::{Entry, Inbox, Outbox};
+use dr_base::{Position, Side};
+use kem_laws::Kem;
+use ratchet::Session;
+use session_model::Summary;
+use std::marker::Model;
+
+/// A side of a conversation in memory: its session and its boxes, without a store. A contract sees
+/// what it keeps, which is lawful.
+///
+/// A step is drafted first. The draft can be written as the record of what the core will keep, and
+/// changes nothing until it is accepted. All memory is taken when a core is begun or read.
+#[derive(Drop)]
+pub struct Core<K: Kem> {
+    pub(crate) session: Session<K>,
+    pub(crate) inbox: Inbox,
+    pub(crate) outbox: Outbox,
+    pub(crate) work: K::Work,
+}
+
+impl<K: Kem> Model for Core<K> {
+    ghost use Rattle.session_model.specs.Clients.{Client};
+
+    ghost Value = { Client };
+
+    ghost use Rattle.session_record.specs.Lawful.{IsLawfulClient};
+    ghost use Rattle.session_record.specs.Record.{client_of};
+
+    ghost view = { λ c. client_of c.session c.inbox c.outbox };
+
+    ghost invariant = { λ c. IsLawfulClient K.mechanism (client_of c.session c.inbox c.outbox) };
+}
+
+impl<K: Kem> Core<K> {
+    ghost use Rattle.boxes.specs.Items.{item_at};
+    ghost use Rattle.boxes.specs.Seen.{entry_item};
+    ghost use Rattle.session_model.specs.Clients.{summary_of};
+    ghost use Rattle.session_record.specs.Lawful.{IsLawfulClient};
+
+    /// Which side of the conversation it is.
+    pub fn side(&self) -> Side
+        ensures { result ≡ self.now.state.side }
+    {
+        let part = self.session.part();
+        part.head.side
+    }
+
+    /// The name of the conversation's session.
+    pub fn session(&self) -> &[u8; 16]
+        ensures { result.now ≡ self.now.state.session }
+    {
+        let part = self.session.part();
+        &part.head.session
+    }
+
+    /// The text of the inbox at a place, from 0, the oldest first.
+    pub fn inbox(&self, at: usize) -> Option<Entry<'_>>
+        ensures variant { IsSome result ↔ (at < length self.now.inbox) }
+        ensures entry { option_map entry_item result ≡ slice_get self.now.inbox at }
+        ensures fits { IfSome result (λ entry. length entry.text.now ≤ TEXT_LIMIT) }
+    {
+        self.inbox.at(at)
+    }
+
+    /// The packet of the outbox at a place, from 0, the oldest first.
+    pub fn outbox(&self, at: usize) -> Option<(Position, &[u8])>
+        ensures variant { IsSome result ↔ (at < length self.now.outbox) }
+        ensures packet { option_map (λ pair. item_at pair.0 pair.1.now) result
+            ≡ slice_get self.now.outbox at }
+        ensures fits { IfSome result (λ pair. length pair.1.now ≤ PACKET_LIMIT) }
+        ensures some { IfSome result (λ pair. 1 ≤ length pair.1.now) }
+    {
+        self.outbox.at(at)
+    }
+
+    /// What the core keeps is lawful, so its record is read as just that, and no packet of the
+    /// outbox is longer than one may be. It has no code: a caller that needs this calls it.
+    pub fn lawful(&self)
+        ensures kept { IsLawfulClient K.mechanism self.now }
+        ensures packets { All (λ item. length item.bytes ≤ PACKET_LIMIT) self.now.outbox }
+    {
+        let _count = self.outbox.len();
+    }
+
+    /// What the core holds, in numbers.
+    pub fn state(&self) -> Summary
+        ensures { result ≡ summary_of self.now }
+    {
+        let part = self.session.part();
+        Summary {
+            epoch: part.head.epoch,
+            missing: part.kept.len() as u32,
+            inbox: self.inbox.len(),
+            outbox: self.outbox.len(),
+        }
+    }
+}

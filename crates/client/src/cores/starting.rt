@@ -1,0 +1,136 @@
+//! A core is begun, or read from a record, in memory that was taken before.
+
+ghost use Rattle.std.specs.Prelude.{◌≡◌, ◌↔◌, [], None, Ok, IfOk, IsOk, IsSome};
+ghost use Rattle.session_model.specs.Schedule.{agreement_seed};
+ghost use Rattle.session_record.specs.Lawful.{IsLawfulClient};
+ghost use Rattle.session_record.specs.Record.{client_of, record_read, record_text};
+ghost use Rattle.client.specs.Beginning.{begun_client};
+ghost use Rattle.client.specs.Cores.{BeginsCore};
+ghost use Rattle.client.specs.Opening.{client_record_fault};
+
+use super::drafting::lawful_part;
+use super::showing::Core;
+use crate::refusals::CoreBeginError;
+use boxes::{Inbox, Outbox};
+use dr_base::{Key32, Side};
+use kem_laws::{Kem, NoPair, laws};
+use ratchet::Session;
+use session_record::{decode, record_law};
+use std::alloc::{AllocError, Global};
+
+/// The memory of a core: its boxes, which are empty, and its mechanism's room.
+#[derive(Drop)]
+pub(crate) struct CoreRoom<K: Kem> {
+    pub(crate) inbox: Inbox,
+    pub(crate) outbox: Outbox,
+    pub(crate) work: K::Work,
+}
+
+/// The session of a record, and its boxes, which are empty before.
+fn resumed<K: Kem>(text: &[u8], inbox: &mut Inbox, outbox: &mut Outbox) -> Session<K>
+    requires inbox { inbox.old ≡ [] }
+    requires outbox { outbox.old ≡ [] }
+    requires reads { client_record_fault K.mechanism text.now ≡ None }
+    ensures read { record_read K.mechanism text.now ≡ Ok (client_of result inbox.new outbox.new) }
+    ensures text { text.now ≡ record_text (client_of result inbox.new outbox.new) }
+    ensures lawful { IsLawfulClient K.mechanism (client_of result inbox.new outbox.new) }
+{
+    record_law();
+    match decode::<K>(text, inbox, outbox) {
+        Ok(part) => Session::resume(part),
+        Err(_) => unreachable!(),
+    }
+}
+
+impl<K: Kem> CoreRoom<K> {
+    /// Takes it.
+    pub(crate) fn new(alloc: Global) -> Result<CoreRoom<K>, AllocError>
+        ensures inbox { IfOk result (λ room. room.inbox ≡ []) }
+        ensures outbox { IfOk result (λ room. room.outbox ≡ []) }
+    {
+        let inbox = Inbox::new(alloc)?;
+        let outbox = Outbox::new(alloc)?;
+        let work = K::work(alloc)?;
+        Ok(CoreRoom {
+            inbox,
+            outbox,
+            work,
+        })
+    }
+
+    /// The core of a side at the beginning of a conversation.
+    pub(crate) fn begin(self, side: Side, key: &Key32) -> Result<Core<K>, NoPair>
+        requires inbox { self.inbox ≡ [] }
+        requires outbox { self.outbox ≡ [] }
+        ensures ok { IfOk result (λ core. core ≡ begun_client K.mechanism key.now.bytes side) }
+        ensures variant { IsOk result
+            ↔ IsSome (K.mechanism.meaning.pair_of (agreement_seed key.now.bytes)) }
+    {
+        let CoreRoom {
+            inbox,
+            outbox,
+            mut work,
+        } = self;
+        match Session::<K>::begin(&mut work, side, key) {
+            Err(NoPair) => Err(NoPair),
+            Ok(session) => {
+                lawful_part(&session.part());
+                Ok(Core {
+                    session,
+                    inbox,
+                    outbox,
+                    work,
+                })
+            }
+        }
+    }
+
+    /// The core that a text is the record of.
+    pub(crate) fn read(self, text: &[u8]) -> Core<K>
+        requires inbox { self.inbox ≡ [] }
+        requires outbox { self.outbox ≡ [] }
+        requires reads { client_record_fault K.mechanism text.now ≡ None }
+        ensures read { record_read K.mechanism text.now ≡ Ok result }
+        ensures text { text.now ≡ record_text result }
+    {
+        let CoreRoom {
+            mut inbox,
+            mut outbox,
+            work,
+        } = self;
+        let session = resumed::<K>(text, &mut inbox, &mut outbox);
+        Core {
+            session,
+            inbox,
+            outbox,
+            work,
+        }
+    }
+}
+
+impl<K: Kem> Core<K> {
+    /// Begins the session of a side. `NoPair` exactly where the agreement seed of the key has none,
+    /// unless memory was wanting.
+    pub fn begin(alloc: Global, side: Side, key: &Key32) -> Result<Core<K>, CoreBeginError>
+        ensures { BeginsCore K.mechanism key.now.bytes side result }
+    {
+        laws::<K>();
+        let Ok(room) = CoreRoom::<K>::new(alloc) else {
+            return Err(CoreBeginError::Memory);
+        };
+        match room.begin(side, key) {
+            Err(NoPair) => Err(CoreBeginError::NoPair),
+            Ok(core) => Ok(core),
+        }
+    }
+
+    /// Reads the core that a text is the record of.
+    pub fn read(alloc: Global, text: &[u8]) -> Result<Core<K>, AllocError>
+        requires { client_record_fault K.mechanism text.now ≡ None }
+        ensures read { IfOk result (λ core. record_read K.mechanism text.now ≡ Ok core) }
+        ensures text { IfOk result (λ core. text.now ≡ record_text core) }
+    {
+        let room = CoreRoom::<K>::new(alloc)?;
+        Ok(room.read(text))
+    }
+}
