@@ -1,7 +1,7 @@
 -- Texts of an inbox in lines.
 use Rattle.std.specs.Prelude.{ℕ, Bool, ◌==◌, ◌&&◌, ◌||◌, not, nat_le, List, [], ◌∷◌, ◌++◌, flat_map, codes, if◌then◌else◌}
 use Rattle.hex.specs.Hex.{encode_lower}
-use Rattle.boxes.specs.Items.{Item}
+use Rattle.boxes.specs.Entries.{Entry}
 use Rattle.answer_lines.specs.Answers.{position_text}
 
 -- a printable byte, but for the quote and the backslash
@@ -13,5 +13,6 @@ unfoldable pub escaped : ℕ → List ℕ
 escaped byte = if is_plain byte then byte ∷ [] else codes "\\x" ++ encode_lower (byte ∷ [])
 
 -- the line of a text with its position, after a head
-unfoldable pub text_line : List ℕ → Item → List ℕ
-text_line head item = head ++ position_text item.position ++ codes " \"" ++ flat_map escaped item.bytes ++ codes "\"\n"
+unfoldable pub text_line : List ℕ → Entry → List ℕ
+text_line head entry =
+    head ++ position_text entry.position ++ codes " \"" ++ flat_map escaped entry.text ++ codes "\"\n"

@@ -1,7 +1,7 @@
 //! The lines of an inbox.
 
 ghost use Rattle.std.specs.Prelude.{◌≡◌, ℕ, ◌+◌, ◌≤◌, List, ◌++◌, length};
-ghost use Rattle.boxes.specs.Items.{item_at};
+ghost use Rattle.boxes.specs.Entries.{entry_under};
 ghost use Rattle.answer_lines.specs.declared.texts.TheConstants.{HEAD_LIMIT, TEXT_LINE_LIMIT};
 ghost use Rattle.answer_lines.specs.Texts.{escaped, is_plain, text_line};
 ghost use Rattle.answer_lines.specs.Limits.{HasLimits};
@@ -51,7 +51,7 @@ fn put_escaped(line: &mut TextLine, byte: u8)
 pub fn text_line(head: &[u8], position: Position, text: &[u8]) -> TextLine
     requires head { length head.now ≤ HEAD_LIMIT }
     requires text { length text.now ≤ TEXT_LIMIT }
-    ensures { result.items ≡ text_line head.now (item_at position text.now) }
+    ensures { result.items ≡ text_line head.now (entry_under position text.now) }
 {
     let mut begin = OutputLine::new();
     begin.text(head);

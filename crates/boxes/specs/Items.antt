@@ -1,8 +1,8 @@
--- What a box holds: a list of items, the oldest first.
+-- What a room of a row holds.
 use Rattle.std.specs.Prelude.{ℕ, List}
 use Rattle.dr_base.specs.declared.position.Position.{Position}
 
--- the bytes of a text or of a packet, and the position under which they stand
+-- bytes, and the position under which they stand
 pub record Item : Type 0 where
   pub position : Position
   pub bytes : List ℕ

@@ -1,3 +1,6 @@
 pub mod Items
+pub mod Entries
+pub mod Posts
 pub mod Rooms
 pub mod Seen
+pub mod Changes

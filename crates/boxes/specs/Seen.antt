@@ -1,7 +1,7 @@
--- The items that the answers of the code stand for.
-use Rattle.boxes.specs.Items.{Item, item_at}
-use Rattle.boxes.specs.declared.inbox.Entry.{Entry}
+-- What the answers of the code stand for.
+use Rattle.boxes.specs.Entries.{Entry, entry_under}
+use Rattle.boxes.specs.declared.inbox.Entry.{Entry as EntryLent}
 
--- the item that an entry shows
-abbrev pub entry_item : Entry → Item
-entry_item entry = item_at entry.position entry.text.now
+-- the entry that is lent
+abbrev pub entry_seen : EntryLent → Entry
+entry_seen entry = entry_under entry.position entry.text.now

@@ -1,7 +1,8 @@
 //! The inbox: the texts that came in, each under its position.
 
-ghost use Rattle.std.specs.Prelude.{◌≡◌, ◌<◌, ◌≤◌, ◌↔◌, [], ◌∷◌, ◌++◌, length, drop, All, option_map, slice_get, IsSome, IsOk, IfOk, OnOk, OnErr, IfErr, IfSome};
-ghost use Rattle.boxes.specs.Items.{item_at};
+ghost use Rattle.std.specs.Prelude.{◌≡◌, ◌<◌, ◌≤◌, ◌↔◌, [], length, All, option_map, slice_get, IsSome, IfOk, IfSome};
+ghost use Rattle.boxes.specs.Changes.{Pushes, DropsFirst};
+ghost use Rattle.boxes.specs.Entries.{entry_under};
 
 use crate::errors::{Fewer, Full};
 use crate::row::Row;
@@ -25,16 +26,16 @@ pub struct Inbox {
 }
 
 impl Model for Inbox {
-    ghost use Rattle.std.specs.Prelude.{List};
-    ghost use Rattle.boxes.specs.Items.{Item};
+    ghost use Rattle.std.specs.Prelude.{List, map};
+    ghost use Rattle.boxes.specs.Entries.{Entry, as_entry};
 
-    ghost Value = { List Item };
+    ghost Value = { List Entry };
 
-    ghost view = { λ inbox. inbox.row };
+    ghost view = { λ inbox. map as_entry inbox.row };
 }
 
 impl Inbox {
-    ghost use Rattle.boxes.specs.Seen.{entry_item};
+    ghost use Rattle.boxes.specs.Seen.{entry_seen};
 
     /// An empty inbox, with all the memory that it will ever use.
     pub fn new(alloc: Global) -> Result<Inbox, AllocError>
@@ -47,10 +48,7 @@ impl Inbox {
     /// Appends a text under its position.
     pub fn push(&mut self, position: Position, text: &[u8]) -> Result<(), Full>
         requires { length text.now ≤ TEXT_LIMIT }
-        ensures variant { IsOk result ↔ (length self.old < INBOX_LIMIT) }
-        ensures ok { OnOk result (self.new ≡ self.old ++ item_at position text.now ∷ []) }
-        ensures full { OnErr result (length self.old ≡ INBOX_LIMIT) }
-        ensures err { OnErr result (self.new ≡ self.old) }
+        ensures { Pushes INBOX_LIMIT self.old self.new (entry_under position text.now) result }
     {
         self.row.push(position, text)
     }
@@ -58,7 +56,7 @@ impl Inbox {
     /// The text at a place, from 0, the oldest first.
     pub fn at(&self, at: usize) -> Option<Entry<'_>>
         ensures variant { IsSome result ↔ (at < length self.now) }
-        ensures entry { option_map entry_item result ≡ slice_get self.now at }
+        ensures entry { option_map entry_seen result ≡ slice_get self.now at }
         ensures fits { IfSome result (λ entry. length entry.text.now ≤ TEXT_LIMIT) }
     {
         match self.row.at(at) {
@@ -74,17 +72,14 @@ impl Inbox {
     pub fn len(&self) -> u32
         ensures value { result ≡ length self.now }
         ensures limit { result ≤ INBOX_LIMIT }
-        ensures room { All (λ item. length item.bytes ≤ TEXT_LIMIT) self.now }
+        ensures room { All (λ entry. length entry.text ≤ TEXT_LIMIT) self.now }
     {
         self.row.len() as u32
     }
 
     /// Drops the `n` oldest texts.
     pub fn drop_first(&mut self, n: u32) -> Result<(), Fewer>
-        ensures variant { IsOk result ↔ (n ≤ length self.old) }
-        ensures ok { OnOk result (self.new ≡ drop n self.old) }
-        ensures held { IfErr result (λ fewer. fewer.held ≡ length self.old) }
-        ensures err { OnErr result (self.new ≡ self.old) }
+        ensures { DropsFirst n self.old self.new result }
     {
         self.row.drop_first(n)
     }

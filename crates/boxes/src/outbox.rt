@@ -1,7 +1,8 @@
 //! The outbox: the packets that wait to go out, each under its position.
 
-ghost use Rattle.std.specs.Prelude.{◌≡◌, ◌<◌, ◌≤◌, ◌↔◌, [], ◌∷◌, ◌++◌, length, drop, All, option_map, slice_get, IsSome, IsOk, IfOk, OnOk, OnErr, IfErr, IfSome};
-ghost use Rattle.boxes.specs.Items.{item_at};
+ghost use Rattle.std.specs.Prelude.{◌≡◌, ◌<◌, ◌≤◌, ◌↔◌, [], length, All, option_map, slice_get, IsSome, IfOk, IfSome};
+ghost use Rattle.boxes.specs.Changes.{Pushes, DropsFirst};
+ghost use Rattle.boxes.specs.Posts.{post_under};
 
 use crate::errors::{Fewer, Full};
 use crate::row::Row;
@@ -18,12 +19,12 @@ pub struct Outbox {
 }
 
 impl Model for Outbox {
-    ghost use Rattle.std.specs.Prelude.{List};
-    ghost use Rattle.boxes.specs.Items.{Item};
+    ghost use Rattle.std.specs.Prelude.{List, map};
+    ghost use Rattle.boxes.specs.Posts.{Post, as_post};
 
-    ghost Value = { List Item };
+    ghost Value = { List Post };
 
-    ghost view = { λ outbox. outbox.row };
+    ghost view = { λ outbox. map as_post outbox.row };
 }
 
 impl Outbox {
@@ -38,10 +39,7 @@ impl Outbox {
     /// Appends a packet under its position.
     pub fn push(&mut self, position: Position, packet: &[u8]) -> Result<(), Full>
         requires { length packet.now ≤ PACKET_LIMIT }
-        ensures variant { IsOk result ↔ (length self.old < OUTBOX_LIMIT) }
-        ensures ok { OnOk result (self.new ≡ self.old ++ item_at position packet.now ∷ []) }
-        ensures full { OnErr result (length self.old ≡ OUTBOX_LIMIT) }
-        ensures err { OnErr result (self.new ≡ self.old) }
+        ensures { Pushes OUTBOX_LIMIT self.old self.new (post_under position packet.now) result }
     {
         self.row.push(position, packet)
     }
@@ -49,7 +47,7 @@ impl Outbox {
     /// The packet at a place, from 0, the oldest first, and its position.
     pub fn at(&self, at: usize) -> Option<(Position, &[u8])>
         ensures variant { IsSome result ↔ (at < length self.now) }
-        ensures packet { option_map (λ pair. item_at pair.0 pair.1.now) result
+        ensures packet { option_map (λ pair. post_under pair.0 pair.1.now) result
             ≡ slice_get self.now at }
         ensures fits { IfSome result (λ pair. length pair.1.now ≤ PACKET_LIMIT) }
     {
@@ -63,17 +61,14 @@ impl Outbox {
     pub fn len(&self) -> u32
         ensures value { result ≡ length self.now }
         ensures limit { result ≤ OUTBOX_LIMIT }
-        ensures room { All (λ item. length item.bytes ≤ PACKET_LIMIT) self.now }
+        ensures room { All (λ post. length post.packet ≤ PACKET_LIMIT) self.now }
     {
         self.row.len() as u32
     }
 
     /// Drops the `n` oldest packets.
     pub fn drop_first(&mut self, n: u32) -> Result<(), Fewer>
-        ensures variant { IsOk result ↔ (n ≤ length self.old) }
-        ensures ok { OnOk result (self.new ≡ drop n self.old) }
-        ensures held { IfErr result (λ fewer. fewer.held ≡ length self.old) }
-        ensures err { OnErr result (self.new ≡ self.old) }
+        ensures { DropsFirst n self.old self.new result }
     {
         self.row.drop_first(n)
     }

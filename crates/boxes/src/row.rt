@@ -1,7 +1,8 @@
 //! A row of at most `LIMIT` items, the oldest first, each of at most `ROOM` bytes, in memory that
 //! is taken once.
 
-ghost use Rattle.std.specs.Prelude.{◌≡◌, ◌^◌, ◌<◌, ◌≤◌, ◌↔◌, [], ◌∷◌, ◌++◌, length, drop, All, option_copied, slice_get, IsSome, IsOk, IfOk, OnOk, OnErr, IfErr};
+ghost use Rattle.std.specs.Prelude.{◌≡◌, ◌^◌, ◌<◌, ◌≤◌, ◌↔◌, [], length, All, option_copied, slice_get, IsSome, IfOk};
+ghost use Rattle.boxes.specs.Changes.{Pushes, DropsFirst};
 ghost use Rattle.boxes.specs.Items.{item_at};
 ghost use Rattle.boxes.specs.Rooms.{turned_front};
 
@@ -132,10 +133,7 @@ impl<const LIMIT: usize, const ROOM: usize> Row<LIMIT, ROOM> {
     /// Appends an item of these bytes under a position. A full row stays as it was.
     pub fn push(&mut self, position: Position, bytes: &[u8]) -> Result<(), Full>
         requires { length bytes.now ≤ ROOM }
-        ensures variant { IsOk result ↔ (length self.old < LIMIT) }
-        ensures ok { OnOk result (self.new ≡ self.old ++ item_at position bytes.now ∷ []) }
-        ensures full { OnErr result (length self.old ≡ LIMIT) }
-        ensures err { OnErr result (self.new ≡ self.old) }
+        ensures { Pushes LIMIT self.old self.new (item_at position bytes.now) result }
     {
         if self.held >= LIMIT {
             return Err(Full);
@@ -161,10 +159,7 @@ impl<const LIMIT: usize, const ROOM: usize> Row<LIMIT, ROOM> {
     /// how many stand.
     pub fn drop_first(&mut self, n: u32) -> Result<(), Fewer>
         requires { LIMIT < 2 ^ 32 }
-        ensures variant { IsOk result ↔ (n ≤ length self.old) }
-        ensures ok { OnOk result (self.new ≡ drop n self.old) }
-        ensures held { IfErr result (λ fewer. fewer.held ≡ length self.old) }
-        ensures err { OnErr result (self.new ≡ self.old) }
+        ensures { DropsFirst n self.old self.new result }
     {
         let held = self.len() as u32;
         if held < n {

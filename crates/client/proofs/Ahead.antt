@@ -4,7 +4,7 @@ use Rattle.std.specs.Option.{option_or}
 use Rattle.std.specs.Prelude.{All, Any, Bool, find, option_map, slice_index_or}
 use Rattle.std.proofs.lemmas.List.Elements.{All-cons, All-head, All-nil, All-tail}
 use Rattle.std.proofs.lemmas.List.Folds.{find-append}
-use Rattle.boxes.specs.Items.{Item}
+use Rattle.boxes.specs.Posts.{Post}
 use Rattle.dr_base.specs.Position.{peer_of}
 use Rattle.dr_base.specs.declared.position.Side.{Side}
 use Rattle.dr_base.specs.declared.position.Side.TheVariants.{First, Second}
@@ -31,7 +31,7 @@ pub record IsAhead (k : Mechanism) (side : Side) (ahead w : World) : Type 0 wher
   pub lawful : IsLawfulWorld k w
   pub ahead_lawful : IsLawfulWorld k ahead
   pub keeps : kept_in k ahead side ≡ kept_in k w side
-  pub unfound : (test : Item → Bool) → find test (posts k ahead.conversation) ≡ None → find test (posts k w.conversation) ≡ None
+  pub unfound : (test : Post → Bool) → find test (posts k ahead.conversation) ≡ None → find test (posts k w.conversation) ≡ None
 
 peer_twice : (side : Side) → peer_of (peer_of side) ≡ side
 peer_twice First = refl
@@ -47,15 +47,15 @@ none_of : {X Y : Type 0} (f : X → Y) (a : Option X) → option_map f a ≡ Non
 none_of f None is = refl
 none_of f (Some x) is = absurd (let e : Some (f x) ≡ None = is in cc)
 
-module _ (test : Item → Bool) (xs more : List Item) where
+module _ (test : Post → Bool) (xs more : List Post) where
   unfound_before : find test (xs ++ more) ≡ None → find test xs ≡ None
   unfound_before none = none_first (find test xs) (find test more) (sym (find-append test xs more) ∙ none)
 
   unfound_behind : find test xs ≡ None → find test (xs ++ more) ≡ find test more
-  unfound_behind none = find-append test xs more ∙ ap (λ (o : Option Item). option_or o (find test more)) none
+  unfound_behind none = find-append test xs more ∙ ap (λ (o : Option Post). option_or o (find test more)) none
 
 -- where one finds no more than another, it doesn't with the same packets behind
-unfound_more : (test : Item → Bool) (xs ys more : List Item) → (find test ys ≡ None → find test xs ≡ None)
+unfound_more : (test : Post → Bool) (xs ys more : List Post) → (find test ys ≡ None → find test xs ≡ None)
     → find test (ys ++ more) ≡ None → find test (xs ++ more) ≡ None
 unfound_more test xs ys more less none =
     let before = unfound_before test ys more none in
@@ -85,7 +85,7 @@ module _ (k : Mechanism) (law : IsLawfulMechanism k) (follow : ActsFollow k) (si
 
     unmade : (bytes : List ℕ) → made_at k ahead bytes ≡ None → made_at k w bytes ≡ None
     unmade bytes none =
-        ap (option_map (λ (post : Item). post.position)) (is.unfound _ (none_of (λ (post : Item). post.position) _ none))
+        ap (option_map (λ (post : Post). post.position)) (is.unfound _ (none_of (λ (post : Post). post.position) _ none))
 
     unforged_ahead : (bytes : List ℕ) → IsUnforged k w side bytes → IsUnforged k ahead side bytes
     unforged_ahead bytes unforged none f way read found =

@@ -2,7 +2,6 @@
 use Rattle.std.proofs.Common.{Err, List, Ok, Result, ap, arith, false, length, sym, true, ℕ, ◌<◌, ◌∙◌, ◌≡◌, ◌≤◌}
 use Rattle.std.specs.Prelude.{MatchResult, drop, if◌then◌else◌, nat_le}
 use Rattle.std.proofs.lemmas.Bool.Decides.{nat_tests}
-use Rattle.boxes.specs.Items.{Item}
 use Rattle.boxes.specs.declared.errors.Fewer.{Fewer as TooFew}
 use Rattle.dr_model.specs.Machines.Acts.{act_on, finished_by, finishing, sending, sent_by}
 use Rattle.kem_laws.specs.Mechanism.{Mechanism}
@@ -11,12 +10,12 @@ use Rattle.session_model.specs.declared.answer.Refusal.TheVariants.{Fewer}
 use Rattle.client.specs.Drafting.{dropped_by}
 use Rattle.client.specs.declared.cores.drafts.Drops.TheVariants.{Done as TextsDone, Sent as PacketsSent}
 
-stand : (n : ℕ) (items : List Item) → n ≤ length items → dropped_of n items ≡ Ok (drop n items)
+stand : {A : Type 0} (n : ℕ) (items : List A) → n ≤ length items → dropped_of n items ≡ Ok (drop n items)
 stand n items enough =
     let test : nat_le n (length items) ≡ true = grind (arith, nat_tests) in
     ap (λ t. if t then Ok (drop n items) else Err (Fewer (length items))) test
 
-lack : (n held : ℕ) (items : List Item) → held ≡ length items → length items < n → dropped_of n items ≡ Err (Fewer held)
+lack : {A : Type 0} (n held : ℕ) (items : List A) → held ≡ length items → length items < n → dropped_of n items ≡ Err (Fewer held)
 lack n held items is few =
     let test : nat_le n (length items) ≡ false = grind (arith, nat_tests) in
     ap (λ t. if t then Ok (drop n items) else Err (Fewer (length items))) test ∙ ap (λ h. Err (Fewer h)) (sym is)

@@ -1,7 +1,7 @@
 -- The moments of an exchange are linked, and what is taken in it is honest.
 use Rattle.std.proofs.Common.{List, None, Option, Some, [], ap, arith, inl, refl, subst, suc, sym, true, zero, ℕ, ◌+◌, ◌∙◌, ◌∷◌, ◌≡◌}
 use Rattle.std.specs.Prelude.{slice_get, slice_index_or}
-use Rattle.boxes.specs.Items.{Item}
+use Rattle.boxes.specs.Posts.{Post}
 use Rattle.dr_base.specs.declared.position.Side.{Side}
 use Rattle.dr_base.specs.declared.position.Side.TheVariants.{First, Second}
 use Rattle.dr_disk.specs.State.{Always, DiskState, IsLawful}
@@ -70,7 +70,7 @@ said_in draws k w side text old new start now source left answer outcome is uncl
 
 -- ---- a packet that stands in a client's outbox
 
-module _ (k : Mechanism) (w : World) (side : Side) (client : ClientNow) (is : IsIn k w side client) (at : ℕ) (post : Item)
+module _ (k : Mechanism) (w : World) (side : Side) (client : ClientNow) (is : IsIn k w side client) (at : ℕ) (post : Post)
     (stands : slice_get client.kept.outbox at ≡ Some post) where
   posted : IsPosted k w.conversation post
   posted =
@@ -78,14 +78,14 @@ module _ (k : Mechanism) (w : World) (side : Side) (client : ClientNow) (is : Is
       (ap (λ (c : Client). slice_get c.outbox at) (sym is.keeps) ∙ stands)
 
   -- nobody forged it
-  honest_for : (taker : Side) → IsUnforged k w taker post.bytes
+  honest_for : (taker : Side) → IsUnforged k w taker post.packet
   honest_for taker =
-      subst (λ (i : Item). IsUnforged k w taker i.bytes) (sym posted.is) (real k w taker posted.place is.lawful posted.said)
+      subst (λ (i : Post). IsUnforged k w taker i.packet) (sym posted.is) (real k w taker posted.place is.lawful posted.said)
 
-  made : made_at k w post.bytes ≡ Some post.position
+  made : made_at k w post.packet ≡ Some post.position
   made =
-      ap (λ (i : Item). made_at k w i.bytes) posted.is ∙ made_at-post k w posted.place is.lawful posted.said
-      ∙ ap Some (sym (position-post_at k w.conversation posted.place) ∙ ap (λ (i : Item). i.position) (sym posted.is))
+      ap (λ (i : Post). made_at k w i.packet) posted.is ∙ made_at-post k w posted.place is.lawful posted.said
+      ∙ ap Some (sym (position-post_at k w.conversation posted.place) ∙ ap (λ (i : Post). i.position) (sym posted.is))
 
 -- a side of a world is one of the world that the other side's act leads to
 module _ (k : Mechanism) (follow : ActsFollow k) where
@@ -100,7 +100,7 @@ module _ (k : Mechanism) (follow : ActsFollow k) where
 
 module _ {D E V : Type 0} (state : D → DiskState) (lawful : (d : D) → IsLawful (state d)) (peers : E → DiskState)
     (draws : V → DrawsState) (k : Mechanism) (law : IsLawfulMechanism k) (follow : ActsFollow k) (w : World)
-    (asks : Call D) (hears answers : Call E) (crashed : D) (reads : Call D) (question answer : Item)
+    (asks : Call D) (hears answers : Call E) (crashed : D) (reads : Call D) (question answer : Post)
     (happens : IsExchange state peers draws k asks hears answers crashed reads question answer)
     (first : IsIn k w First asks.old) (second : IsIn k w Second hears.old) (rests : Always (StandsFor k w First) (state asks.start)) where
   asked : IsSaid k w First happens.text asks.old asks.new (state asks.start) (state asks.now) (Said happens.asked.position)
@@ -113,14 +113,14 @@ module _ {D E V : Type 0} (state : D → DiskState) (lawful : (d : D) → IsLawf
   w1 = (act_in k w First (saying happens.text asked.draw)).next
 
   -- Second takes it
-  heard_fair : IsUnforged k w1 Second question.bytes
+  heard_fair : IsUnforged k w1 Second question.packet
   heard_fair = honest_for k w1 First asks.new asked.acts.1 happens.asked.at question happens.asked.stands Second
 
-  heard : ActsIn k w1 Second (taking question.bytes) hears.old hears.new (peers hears.start) (peers hears.now) (acknowledged (Opened happens.heard.position))
+  heard : ActsIn k w1 Second (taking question.packet) hears.old hears.new (peers hears.start) (peers hears.now) (acknowledged (Opened happens.heard.position))
   heard = happens.heard.takes w1 Second (second_ahead k follow w happens.text asked.draw hears.old second asked.fair) heard_fair
 
   abbrev w2 : World
-  w2 = (act_in k w1 Second (taking question.bytes)).next
+  w2 = (act_in k w1 Second (taking question.packet)).next
 
   -- and says a text
   answered : IsSaid k w2 Second happens.reply answers.old answers.new (peers answers.start) (peers answers.now) (Said happens.answered.position)
@@ -137,7 +137,7 @@ module _ {D E V : Type 0} (state : D → DiskState) (lawful : (d : D) → IsLawf
   kept_then : kept_in k w3 First ≡ kept_in k w1 First
   kept_then =
       follow.others w2 Second (saying happens.reply answered.draw) heard.1.lawful answered.fair
-      ∙ follow.others w1 Second (taking question.bytes) asked.acts.1.lawful heard_fair
+      ∙ follow.others w1 Second (taking question.packet) asked.acts.1.lawful heard_fair
 
   crash_stands : Always (StandsFor k w3 First) (state crashed)
   crash_stands c left = stands_ahead k law follow First w3 w1 c kept_then (asked.acts.3 c (happens.crashes c left))
@@ -152,14 +152,14 @@ module _ {D E V : Type 0} (state : D → DiskState) (lawful : (d : D) → IsLawf
       })).client
 
   -- and takes it
-  took_fair : IsUnforged k w3 First answer.bytes
+  took_fair : IsUnforged k w3 First answer.packet
   took_fair = honest_for k w3 Second answers.new answered.acts.1 happens.answered.at answer happens.answered.stands First
 
-  took : ActsIn k w3 First (taking answer.bytes) reads.old reads.new (state reads.start) (state reads.now) (acknowledged (Opened happens.took.position))
+  took : ActsIn k w3 First (taking answer.packet) reads.old reads.new (state reads.start) (state reads.now) (acknowledged (Opened happens.took.position))
   took = happens.took.takes w3 First opened.0 took_fair
 
   abbrev w4 : World
-  w4 = (act_in k w3 First (taking answer.bytes)).next
+  w4 = (act_in k w3 First (taking answer.packet)).next
 
   abbrev all_known : List Known
   all_known = settled_in w ∷ settled_in w1 ∷ settled_in w2 ∷ settled_in w3 ∷ settled_in w3 ∷ settled_in w3 ∷ settled_in w4 ∷ []
@@ -171,20 +171,20 @@ module _ {D E V : Type 0} (state : D → DiskState) (lawful : (d : D) → IsLawf
   chain =
       let says = was_acknowledged (settled_in w) w (inl refl) (saying happens.text asked.draw) asked.fair asked.acts.3 in
       let peer_takes = was_moved (settled_in w1) (settled_in w2)
-      (moves_settled k law follow First w1 (taking question.bytes) asked.acts.1.lawful heard_fair) (λ c left. inl left) in
+      (moves_settled k law follow First w1 (taking question.packet) asked.acts.1.lawful heard_fair) (λ c left. inl left) in
       let peer_says = was_moved (settled_in w2) (settled_in w3)
       (moves_settled k law follow First w2 (saying happens.reply answered.draw) heard.1.lawful answered.fair) (λ c left. inl left) in
       let crashes = was_left (settled_in w3) (λ c left. inl (happens.crashes c left)) in
       let opens = was_opened (settled_in w3) w3 (inl refl) opened.1 in
-      let takes = was_acknowledged (settled_in w3) w3 (inl refl) (taking answer.bytes) took_fair took.3 in
+      let takes = was_acknowledged (settled_in w3) w3 (inl refl) (taking answer.packet) took_fair took.3 in
       (says, (peer_takes, (peer_says, (crashes, (opens, (takes, tt))))))
 
-  made_there : made_at k w3 answer.bytes ≡ Some answer.position
+  made_there : made_at k w3 answer.packet ≡ Some answer.position
   made_there = made k w3 Second answers.new answered.acts.1 happens.answered.at answer happens.answered.stands
 
   same_position : happens.took.position ≡ answer.position
   same_position =
-      let e : Some happens.took.position ≡ Some answer.position = sym (taken_made k w3 First answer.bytes happens.took.position took.0) ∙ made_there in cc
+      let e : Some happens.took.position ≡ Some answer.position = sym (taken_made k w3 First answer.packet happens.took.position took.0) ∙ made_there in cc
 
   pub history : IsHistory state k w asks crashed reads answer
   history = record {
@@ -204,5 +204,5 @@ module _ {D E V : Type 0} (state : D → DiskState) (lawful : (d : D) → IsLawf
     last = w4;
     ends = refl;
     is_in = took.1;
-    has = subst (λ p. has_opened (view_of w4 First) p ≡ true) same_position (taken_used k w3 First answer.bytes happens.took.position took.0);
+    has = subst (λ p. has_opened (view_of w4 First) p ≡ true) same_position (taken_used k w3 First answer.packet happens.took.position took.0);
   }

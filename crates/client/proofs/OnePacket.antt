@@ -3,7 +3,7 @@ use Rattle.std.proofs.Common.{Bool, List, None, Some, ap, map, refl, subst, suc,
 use Rattle.std.specs.Prelude.{All, filter, slice_get, slice_index_or}
 use Rattle.std.proofs.lemmas.List.Elements.{All-drop, All-filter, All-head, All-map, All-tail}
 use Rattle.dr_model.proofs.Taking.MadePositions.{position-post_at}
-use Rattle.boxes.specs.Items.{Item}
+use Rattle.boxes.specs.Posts.{Post}
 use Rattle.dr_base.specs.Position.{is_own}
 use Rattle.dr_base.specs.declared.position.Position.{Position}
 use Rattle.dr_base.specs.declared.position.Side.{Side}
@@ -22,7 +22,7 @@ use Rattle.client.proofs.Later.{lawful_at}
 use Rattle.client.proofs.Standing.{first_later, later}
 
 -- an item of the outbox is the packet of a text that was said
-pub record IsPosted (k : Mechanism) (c : Conversation) (item : Item) : Type 0 where
+pub record IsPosted (k : Mechanism) (c : Conversation) (item : Post) : Type 0 where
   pub place : Position
   pub said : is_said c place ≡ true
   pub is : item ≡ post_at k c place
@@ -44,14 +44,14 @@ got P (y ∷ ys) zero x all is = subst P (let e : Some y ≡ Some x = is in cc) 
 got P (y ∷ ys) (suc n) x all is = got P ys n x (All-tail P y ys all) is
 
 -- in a world, and in a later one
-same_packet : (k : Mechanism) (w last : World) (side : Side) (post after : Item) → IsLawfulWorld k w → IsLater k w last
+same_packet : (k : Mechanism) (w last : World) (side : Side) (post after : Post) → IsLawfulWorld k w → IsLater k w last
     → IsPosted k w.conversation post → IsPosted k last.conversation after → post.position ≡ after.position → after ≡ post
 same_packet k w last side post after lawful later a b same =
     let c = w.conversation in
     let d = last.conversation in
     let one : a.place ≡ b.place =
-    sym (ap (λ (i : Item). i.position) a.is ∙ position-post_at k c a.place)
-    ∙ same ∙ (ap (λ (i : Item). i.position) b.is ∙ position-post_at k d b.place) in
+    sym (ap (λ (i : Post). i.position) a.is ∙ position-post_at k c a.place)
+    ∙ same ∙ (ap (λ (i : Post). i.position) b.is ∙ position-post_at k d b.place) in
     let stays : post_at k d a.place ≡ post_at k c a.place =
     ap (λ (v : World). post_at k v.conversation a.place) (sym later.leads)
     ∙ (packets_last k w later.events a.place lawful later.whole a.said).1 in
@@ -59,7 +59,7 @@ same_packet k w last side post after lawful later a b same =
 
 pub one_packet : {X : Type 0} (state : X → DiskState) (xs : List X) (k : Mechanism) (side : Side) (first : World)
     (known : ℕ → Known) → IsLawfulWorld k first → AreLinked state xs k side first known
-    → (n m : ℕ) (b : X) → n ≤ m → slice_get xs m ≡ Some b → (at again : ℕ) (post after : Item)
+    → (n m : ℕ) (b : X) → n ≤ m → slice_get xs m ≡ Some b → (at again : ℕ) (post after : Post)
     → slice_get (kept_in k (known n).last side).outbox at ≡ Some post
     → slice_get (kept_in k (known m).last side).outbox again ≡ Some after
     → post.position ≡ after.position → after ≡ post

@@ -3,7 +3,8 @@ use Rattle.std.proofs.Common.{List, [], refl, ap, ap₂, subst, sym, ℕ, ◌++�
 use Rattle.std.specs.Int.{to_be_bytes, w8}
 use Rattle.std.specs.Prelude.{length}
 use Rattle.std.proofs.lemmas.List.{length-append}
-use Rattle.boxes.specs.Items.{Item, item_at}
+use Rattle.boxes.specs.Entries.{Entry, entry_under}
+use Rattle.boxes.specs.Posts.{Post, post_under}
 use Rattle.dr_base.specs.declared.position.Position.{Position}
 use Rattle.grammar.specs.Printer.{HasRoom, print_counted, print_items}
 use Rattle.grammar.proofs.Printing.{print_items-push}
@@ -14,38 +15,38 @@ use Rattle.session_model.specs.States.{State}
 use Rattle.session_record.specs.Lists.{post_of, post_text}
 use Rattle.session_record.specs.Record.{client_of, record_text, saved_text}
 use Rattle.session_record.specs.declared.limits.TheConstants.{RECORD_LIMIT}
-use Rattle.client.specs.Cores.{HasRoomFor, PutsRecord}
+use Rattle.client.specs.Cores.{HasRoomToWrite, PutsRecord}
 use Rattle.client.specs.Drafting.{received_client, said_client}
 
 -- the record of a packet in the outbox is that of its bytes
-same_posts : (k : Mechanism) (posts : List Item) (position : Position) (packet : List ℕ)
-    → print_counted w8 post_text (posts ++ post_of k packet ∷ []) ≡ print_counted w8 post_text (posts ++ item_at position packet ∷ [])
+same_posts : (k : Mechanism) (posts : List Post) (position : Position) (packet : List ℕ)
+    → print_counted w8 post_text (posts ++ post_of k packet ∷ []) ≡ print_counted w8 post_text (posts ++ post_under position packet ∷ [])
 unfolding post_of
 same_posts k posts position packet =
     let a = post_of k packet in
-    let b = item_at position packet in
+    let b = post_under position packet in
     let long : length (posts ++ a ∷ []) ≡ length (posts ++ b ∷ []) =
     length-append posts (a ∷ []) ∙ sym (length-append posts (b ∷ [])) in
     ap (λ n. to_be_bytes w8 n ++ print_items post_text (posts ++ a ∷ [])) long
     ∙ ap (λ bytes. to_be_bytes w8 (length (posts ++ b ∷ [])) ++ bytes)
     (print_items-push post_text posts a ∙ sym (print_items-push post_text posts b))
 
-pub same_record : (k : Mechanism) (c : Client) (posts : List Item) (position : Position) (packet : List ℕ)
+pub same_record : (k : Mechanism) (c : Client) (posts : List Post) (position : Position) (packet : List ℕ)
     → record_text (record c { outbox = posts ++ post_of k packet ∷ [] })
-    ≡ record_text (record c { outbox = posts ++ item_at position packet ∷ [] })
+    ≡ record_text (record c { outbox = posts ++ post_under position packet ∷ [] })
 unfolding record_text saved_text
 same_record k c posts position packet = rw (same_posts k posts position packet) refl
 
 -- of a text that was said, under the position that its draft has
-pub said_record : (k : Mechanism) (state : State) (inbox outbox : List Item) (post : Item) (packet : List ℕ)
-    → packet ≡ post.bytes
+pub said_record : (k : Mechanism) (state : State) (inbox : List Entry) (outbox : List Post) (post : Post) (packet : List ℕ)
+    → packet ≡ post.packet
     → record_text (client_of state inbox (outbox ++ post_of k packet ∷ [])) ≡ record_text (client_of state inbox (outbox ++ post ∷ []))
 said_record k state inbox outbox post packet is =
     ap (λ bytes. record_text (client_of state inbox (outbox ++ post_of k bytes ∷ []))) is
-    ∙ same_record k (client_of state inbox outbox) outbox post.position post.bytes
+    ∙ same_record k (client_of state inbox outbox) outbox post.position post.packet
 
 pub drafted_record : (k : Mechanism) (kept : Client) (draft : Said) (state : State) (packet : List ℕ)
-    → state ≡ (said_of kept.state draft).next → packet ≡ draft.post.bytes
+    → state ≡ (said_of kept.state draft).next → packet ≡ draft.post.packet
     → record_text (client_of state kept.inbox (kept.outbox ++ post_of k packet ∷ [])) ≡ record_text (said_client kept draft)
 drafted_record k kept draft state packet next is =
     said_record k state kept.inbox kept.outbox draft.post packet is
@@ -54,14 +55,14 @@ drafted_record k kept draft state packet next is =
 -- of a packet that was taken
 pub received_record : (kept : Client) (draft : Received) (state : State) (p : Position) (text : List ℕ)
     → state ≡ (received_of kept.state draft).next → p ≡ draft.position → text ≡ draft.text
-    → record_text (client_of state (kept.inbox ++ item_at p text ∷ []) kept.outbox) ≡ record_text (received_client kept draft)
+    → record_text (client_of state (kept.inbox ++ entry_under p text ∷ []) kept.outbox) ≡ record_text (received_client kept draft)
 received_record kept draft state p text next place same =
-    ap (λ s. record_text (client_of s (kept.inbox ++ item_at p text ∷ []) kept.outbox)) next
-    ∙ ap₂ (λ a t. record_text (client_of (received_of kept.state draft).next (kept.inbox ++ item_at a t ∷ []) kept.outbox)) place same
+    ap (λ s. record_text (client_of s (kept.inbox ++ entry_under p text ∷ []) kept.outbox)) next
+    ∙ ap₂ (λ a t. record_text (client_of (received_of kept.state draft).next (kept.inbox ++ entry_under a t ∷ []) kept.outbox)) place same
 
 -- ---- where it is put
 
-pub room_alike : (a b : Client) (out : List ℕ) → record_text a ≡ record_text b → HasRoomFor a out → HasRoomFor b out
+pub room_alike : (a b : Client) (out : List ℕ) → record_text a ≡ record_text b → HasRoomToWrite a out → HasRoomToWrite b out
 room_alike a b out same room = subst (λ text. HasRoom RECORD_LIMIT text (length out)) same room
 
 pub puts_alike : (a b : Client) (old new : List ℕ) (len : ℕ) → record_text a ≡ record_text b → PutsRecord a old new len

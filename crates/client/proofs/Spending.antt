@@ -2,7 +2,7 @@
 use Rattle.std.proofs.Common.{Bool, Err, List, None, Ok, Option, Result, Some, [], ap, false, if◌then◌else◌, inl, inr, map, subst, sym, true, ℕ, ⊎_elim, ◌++◌, ◌∙◌, ◌∷◌, ◌≡◌, ◌≤◌}
 use Rattle.std.specs.Prelude.{All, Any, filter, nat_le, nat_lt, length, option_map, slice_get, slice_index_or}
 use Rattle.std.proofs.lemmas.List.Elements.{All-drop, All-filter, All-head, All-map, All-tail, filter_passes}
-use Rattle.boxes.specs.Items.{Item}
+use Rattle.boxes.specs.Posts.{Post}
 use Rattle.dr_base.specs.Position.{is_own}
 use Rattle.dr_base.specs.declared.limits.TheConstants.{INBOX_LIMIT, KEPT_LIMIT}
 use Rattle.dr_base.specs.declared.position.Position.{Position}
@@ -89,7 +89,7 @@ taken_made k w side bytes p h = (opens_made k w side bytes (made_at k w bytes) p
 -- ---- a text that was said
 
 -- an item whose position the side has said
-abbrev IsOwnPost : Conversation → Side → Item → Type 0
+abbrev IsOwnPost : Conversation → Side → Post → Type 0
 IsOwnPost c side item = (is_said c item.position ≡ true) × (is_own side item.position.epoch ≡ true)
 
 post_own : (k : Mechanism) (c : Conversation) (side : Side) (p : Position) → is_said c p ≡ true → is_own side p.epoch ≡ true
@@ -112,7 +112,7 @@ all_last P (y ∷ ys) x all = all_last P ys x (All-tail P y (ys ++ x ∷ []) all
 
 -- the packet of a text that was said comes last in the outbox
 record HasPosted (client next : Client) (p : Position) : Type 0 where
-  post : Item
+  post : Post
   place : post.position ≡ p
   last : next.outbox ≡ client.outbox ++ post ∷ []
 

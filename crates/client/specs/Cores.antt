@@ -19,8 +19,8 @@ BeginsCore k key side (Err NoPair) = IsNone (k.meaning.pair_of (agreement_seed k
 BeginsCore k key side (Err Memory) = ⊤
 
 -- a buffer has room for the record of a client, or for any
-abbrev pub HasRoomFor : Client → List ℕ → Type 0
-HasRoomFor kept out = HasRoom RECORD_LIMIT (record_text kept) (length out)
+abbrev pub HasRoomToWrite : Client → List ℕ → Type 0
+HasRoomToWrite kept out = HasRoom RECORD_LIMIT (record_text kept) (length out)
 
 -- the record of a client was put into the front of a buffer
 pub record PutsRecord (kept : Client) (old new : List ℕ) (len : ℕ) : Type 0 where

@@ -1,6 +1,6 @@
 -- What is drafted of what a client keeps, before it is accepted.
 use Rattle.std.specs.Prelude.{Err, List, None, Ok, Option, Result, Some, [], drop, length, ℕ, ◌++◌, ◌<◌, ◌≤◌, ◌∷◌, ◌≡◌}
-use Rattle.boxes.specs.Items.{item_at}
+use Rattle.boxes.specs.Entries.{entry_under}
 use Rattle.boxes.specs.declared.errors.Fewer.{Fewer as TooFew}
 use Rattle.dr_base.specs.declared.limits.TheConstants.{INBOX_LIMIT, OUTBOX_LIMIT}
 use Rattle.dr_model.specs.Machines.Acts.{Act, finishing, sending}
@@ -46,7 +46,7 @@ said_if s (Err e) = None
 abbrev pub received_client : Client → Received → Client
 received_client kept draft = record kept {
   state = (received_of kept.state draft).next;
-  inbox = kept.inbox ++ item_at draft.position draft.text ∷ [];
+  inbox = kept.inbox ++ entry_under draft.position draft.text ∷ [];
 }
 
 -- a draft of this session, which has room for it and is lawful after it
@@ -68,9 +68,9 @@ DraftsFor k kept packet drafted =
 -- ---- items that are dropped
 
 -- the act that it is, and its answer
-abbrev pub act_of : Drops → Act
-act_of (TextsDone n) = finishing n
-act_of (PacketsSent n) = sending n
+abbrev pub act_dropping : Drops → Act
+act_dropping (TextsDone n) = finishing n
+act_dropping (PacketsSent n) = sending n
 
 abbrev pub dropped_answer : Drops → Answer
 dropped_answer (TextsDone n) = Done n
@@ -94,16 +94,16 @@ dropped_by kept drops (Err few) = Err (Fewer few.held)
 -- ---- a draft
 
 -- what it is answered with
-abbrev pub answer_of : {K Work : Type 0} → Draft K Work → Answer
-answer_of (ToSay draft) = AnswersSaid draft.post.position
-answer_of (ToTake draft) = Opened draft.position
-answer_of (ToDrop drops) = dropped_answer drops
+abbrev pub drafted_answer : {K Work : Type 0} → Draft K Work → Answer
+drafted_answer (ToSay draft) = AnswersSaid draft.post.position
+drafted_answer (ToTake draft) = Opened draft.position
+drafted_answer (ToDrop drops) = dropped_answer drops
 
 -- what is kept once it is accepted
-abbrev pub next_of : {K Work : Type 0} → Client → Draft K Work → Client
-next_of kept (ToSay draft) = said_client kept draft
-next_of kept (ToTake draft) = received_client kept draft
-next_of kept (ToDrop drops) = dropped_client kept drops
+abbrev pub drafted_client : {K Work : Type 0} → Client → Draft K Work → Client
+drafted_client kept (ToSay draft) = said_client kept draft
+drafted_client kept (ToTake draft) = received_client kept draft
+drafted_client kept (ToDrop drops) = dropped_client kept drops
 
 -- a draft of what is kept
 abbrev pub IsDraftOf : {K Work : Type 0} → Mechanism → Client → Draft K Work → Type 0
@@ -113,4 +113,4 @@ IsDraftOf k kept (ToDrop drops) = HasToDrop kept drops
 
 -- the step that it makes
 abbrev pub drafted_step : {K Work : Type 0} → Client → Draft K Work → Step Client
-drafted_step kept draft = step (answer_of draft) (next_of kept draft)
+drafted_step kept draft = step (drafted_answer draft) (drafted_client kept draft)

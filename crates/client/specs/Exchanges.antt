@@ -1,6 +1,6 @@
 -- The smallest exchange between both sides, as the clauses of their calls tell it.
 use Rattle.std.specs.Prelude.{List, None, Ok, Some, [], slice_get, true, ℕ, ◌∷◌, ◌≡◌}
-use Rattle.boxes.specs.Items.{Item}
+use Rattle.boxes.specs.Posts.{Post}
 use Rattle.dr_base.specs.declared.position.Position.{Position}
 use Rattle.dr_base.specs.declared.position.Side.{Side}
 use Rattle.dr_base.specs.declared.position.Side.TheVariants.{First}
@@ -29,7 +29,7 @@ pub record Call (D : Type 0) : Type 0 where
 -- An open client said a text, and its packet stands in its outbox.
 pub record Spoke {D V : Type 0} (state : D → DiskState) (draws : V → DrawsState) (k : Mechanism)
     (call : Call D)
-    (text : List ℕ) (post : Item) : Type 0 where
+    (text : List ℕ) (post : Post) : Type 0 where
   pub source : V
   pub left : V
   pub position : Position
@@ -49,10 +49,10 @@ pub record HasTaken {D : Type 0} (state : D → DiskState) (k : Mechanism) (call
 -- what the crash left, and that takes Second's packet.
 pub record IsExchange {D E V : Type 0} (state : D → DiskState) (peers : E → DiskState)
     (draws : V → DrawsState)
-    (k : Mechanism) (asks : Call D) (hears answers : Call E) (crashed : D) (reads : Call D) (question answer : Item) : Type 0 where
+    (k : Mechanism) (asks : Call D) (hears answers : Call E) (crashed : D) (reads : Call D) (question answer : Post) : Type 0 where
   pub text : List ℕ
   pub asked : Spoke state draws k asks text question
-  pub heard : HasTaken peers k hears question.bytes
+  pub heard : HasTaken peers k hears question.packet
   pub again : answers.old ≡ hears.new
   pub reply : List ℕ
   pub answered : Spoke peers draws k answers reply answer
@@ -61,19 +61,19 @@ pub record IsExchange {D E V : Type 0} (state : D → DiskState) (peers : E → 
   pub told : (state crashed).seen ≡ Some read
   pub opens : (w : World) (side : Side) → IsLawfulWorld k w → ReadsAsSide k w side (state crashed)
       → OpensIn k w side (state crashed) (state reads.start) (Ok reads.old)
-  pub took : HasTaken state k reads answer.bytes
+  pub took : HasTaken state k reads answer.packet
 
 -- First's moments are linked. What it takes is, in the world that it was opened in, the packet of a text that Second said; and
 -- at the last moment it has opened it.
 pub record IsHistory {D : Type 0} (state : D → DiskState) (k : Mechanism) (w : World) (asks : Call D) (crashed : D) (reads : Call D)
-    (answer : Item) : Type 0 where
+    (answer : Post) : Type 0 where
   pub known : ℕ → Known
   pub linked : AreLinked state
       (asks.start ∷ asks.now ∷ asks.now ∷ asks.now ∷ crashed ∷ reads.start ∷ reads.now ∷ []) k First w known
   pub opened : World
   pub there : known 5 ≡ settled_in opened
-  pub honest : made_at k opened answer.bytes ≡ Some answer.position
-  pub unforged : IsUnforged k opened First answer.bytes
+  pub honest : made_at k opened answer.packet ≡ Some answer.position
+  pub unforged : IsUnforged k opened First answer.packet
   pub last : World
   pub ends : known 6 ≡ settled_in last
   pub is_in : IsIn k last First reads.new

@@ -56,8 +56,8 @@ impl<K: Kem> Model for Client<K> {
 }
 
 impl<K: Kem> Client<K> {
-    ghost use Rattle.boxes.specs.Items.{item_at};
-    ghost use Rattle.boxes.specs.Seen.{entry_item};
+    ghost use Rattle.boxes.specs.Posts.{post_under};
+    ghost use Rattle.boxes.specs.Seen.{entry_seen};
     ghost use Rattle.session_model.specs.Clients.{summary_of};
     ghost use Rattle.session_record.specs.Lawful.{IsLawfulClient};
 
@@ -78,7 +78,7 @@ impl<K: Kem> Client<K> {
     /// The text of the inbox at a place, from 0, the oldest first.
     pub fn inbox(&self, at: usize) -> Option<Entry<'_>>
         ensures variant { IsSome result ↔ (at < length self.now.kept.inbox) }
-        ensures entry { option_map entry_item result ≡ slice_get self.now.kept.inbox at }
+        ensures entry { option_map entry_seen result ≡ slice_get self.now.kept.inbox at }
         ensures fits { IfSome result (λ entry. length entry.text.now ≤ TEXT_LIMIT) }
     {
         self.core.inbox(at)
@@ -88,7 +88,7 @@ impl<K: Kem> Client<K> {
     /// out.
     pub fn outbox(&self, at: usize) -> Option<(Position, &[u8])>
         ensures variant { IsSome result ↔ (at < length self.now.kept.outbox) }
-        ensures packet { option_map (λ pair. item_at pair.0 pair.1.now) result
+        ensures packet { option_map (λ pair. post_under pair.0 pair.1.now) result
             ≡ slice_get self.now.kept.outbox at }
         ensures fits { IfSome result (λ pair. length pair.1.now ≤ PACKET_LIMIT) }
         ensures some { IfSome result (λ pair. 1 ≤ length pair.1.now) }

@@ -8,7 +8,7 @@ ghost use Rattle.dr_model.specs.Machines.Worlds.{World};
 ghost use Rattle.session_model.specs.declared.answer.Answer.TheVariants.{Done, Sent};
 ghost use Rattle.client.specs.Acting.{IsAct};
 ghost use Rattle.client.specs.Clients.{IsOpenOn, MayActOn};
-ghost use Rattle.client.specs.Drafting.{HasToDrop, act_of, dropped_answer, dropped_by};
+ghost use Rattle.client.specs.Drafting.{HasToDrop, act_dropping, dropped_answer, dropped_by};
 ghost use Rattle.client.specs.InWorlds.{ActsIn, IsIn};
 ghost use Rattle.client.specs.Outcomes.{Acts, StaysPassing, dropped_as, kept_as};
 
@@ -68,7 +68,7 @@ impl<K: Kem> Client<K> {
         drops: Drops,
     ) -> Result<(), DropRefusal>
         requires { MayActOn self.old (D.state disk.old) }
-        ensures { IsAct D.state (act_on K.mechanism self.old.kept (act_of drops))
+        ensures { IsAct D.state (act_on K.mechanism self.old.kept (act_dropping drops))
             self.old self.new disk.old disk.new (dropped_as (dropped_answer drops) result) }
     {
         if let Some(call) = self.closed {

@@ -2,7 +2,7 @@
 //! calls them.
 
 ghost use Rattle.std.specs.Prelude.{◌≡◌, ◌++◌, ◌⊎◌, ℕ, All, List, Result};
-ghost use Rattle.boxes.specs.Items.{Item};
+ghost use Rattle.boxes.specs.Posts.{Post};
 ghost use Rattle.dr_base.specs.Position.{peer_of};
 ghost use Rattle.dr_base.specs.declared.position.Side.{Side};
 ghost use Rattle.dr_base.specs.declared.position.Side.TheVariants.{First, Second};
@@ -75,7 +75,7 @@ pub fn syncs_are_links<D: Disk>(before: &D, after: &D)
 pub fn exchange<D: Disk, E: Disk, W: Draws>()
     ensures { (k : Mechanism) → IsLawfulMechanism k
         → (w : World) (asks : Call D) (hears answers : Call E) (crashed : D) (reads : Call D)
-        (question answer : Item)
+        (question answer : Post)
         → IsExchange D.state E.state W.at k asks hears answers crashed reads question answer
         → IsIn k w First asks.old → IsIn k w Second hears.old
         → Always (StandsFor k w First) (D.state asks.start)

@@ -5,7 +5,7 @@ ghost use Rattle.std.specs.Prelude.{◌≡◌, Ok, true};
 ghost use Rattle.dr_model.specs.Machines.Steps.{has_effect};
 ghost use Rattle.client.specs.Acting.{IsAct};
 ghost use Rattle.client.specs.Clients.{IsOpenOn};
-ghost use Rattle.client.specs.Drafting.{IsDraftOf, answer_of, drafted_step};
+ghost use Rattle.client.specs.Drafting.{IsDraftOf, drafted_answer, drafted_step};
 ghost use Rattle.client.specs.Outcomes.{kept_as};
 
 use crate::client::Client;
@@ -20,10 +20,10 @@ impl<K: Kem> Client<K> {
     #[inline(always)]
     pub(crate) fn keep<D: Disk>(&mut self, disk: &mut D, draft: Draft<'_, K>) -> Result<(), Call>
         requires draft { IsDraftOf K.mechanism self.old.kept draft }
-        requires effect { has_effect (answer_of draft) ≡ true }
+        requires effect { has_effect (drafted_answer draft) ≡ true }
         requires open { IsOpenOn self.old (D.state disk.old) }
         ensures { IsAct D.state (Ok (drafted_step self.old.kept draft.entry))
-            self.old self.new disk.old disk.new (kept_as (answer_of draft.entry) result) }
+            self.old self.new disk.old disk.new (kept_as (drafted_answer draft.entry) result) }
     {
         let len = self.core.encode(&draft, &mut self.text);
         match self.store.replace(disk, &mut self.text, len) {

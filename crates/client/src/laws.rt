@@ -1,7 +1,7 @@
 //! What holds over whole runs. The functions have no code: a caller that needs a fact calls them.
 
 ghost use Rattle.std.specs.Prelude.{◌≡◌, ◌≤◌, ◌+◌, ℕ, List, Some, slice_get};
-ghost use Rattle.boxes.specs.Items.{Item};
+ghost use Rattle.boxes.specs.Posts.{Post};
 ghost use Rattle.dr_base.specs.declared.position.Position.{Position};
 ghost use Rattle.dr_base.specs.declared.position.Side.{Side};
 ghost use Rattle.dr_disk.specs.State.{Always};
@@ -44,7 +44,7 @@ pub fn single_use<D: Disk>(moments: &[D])
     ensures { (k : Mechanism) (side : Side) (first : World) (known : ℕ → Known)
         → IsLawfulWorld k first → AreLinked D.state moments.now k side first known
         → (n m : ℕ) (b : D) → n ≤ m → slice_get moments.now m ≡ Some b
-        → (at again : ℕ) (post later : Item)
+        → (at again : ℕ) (post later : Post)
         → slice_get (kept_in k (known n).last side).outbox at ≡ Some post
         → slice_get (kept_in k (known m).last side).outbox again ≡ Some later
         → post.position ≡ later.position → later ≡ post }

@@ -58,7 +58,7 @@ pub said_over : (k : Mechanism) (w next : World) (packet : List ℕ) → w.conve
 said_over k w next packet over is = record {
   position = is.position;
   said = subst (λ (c : Conversation). is_said c is.position ≡ true) over is.said;
-  same = is.same ∙ ap (λ (c : Conversation). (post_at k c is.position).bytes) over;
+  same = is.same ∙ ap (λ (c : Conversation). (post_at k c is.position).packet) over;
 }
 
 -- a side that is closed, as both sides see it

@@ -6,7 +6,7 @@ use Rattle.std.proofs.lemmas.List.{take-append-drop, take_more, take_all}
 use Rattle.std.proofs.lemmas.List.Elements.{filter-append}
 use Rattle.std.proofs.lemmas.Option.{slice_get_past}
 use Rattle.dr_base.specs.declared.position.Side.{Side}
-use Rattle.boxes.specs.Items.{Item}
+use Rattle.boxes.specs.Posts.{Post}
 use Rattle.dr_model.specs.Machines.Network.{held_nth, is_from_peer}
 
 module _ {X : Type 0} (p : X → Bool) where
@@ -75,24 +75,24 @@ unguarded true x h = h refl
 unguarded false x h = refl
 
 -- the packet at which the count comes to one
-pub nth_here : (posts : List Item) (side : Side) (nth left i : ℕ) (d : Item) → i < length posts
+pub nth_here : (posts : List Post) (side : Side) (nth left i : ℕ) (d : Post) → i < length posts
     → left ≡ nth - length (filter (is_from_peer side) (take i posts)) → left ≡ 1
-    → is_from_peer side (get_or posts i d) ≡ true → held_nth posts side nth ≡ Some (get_or posts i d).bytes
+    → is_from_peer side (get_or posts i d) ≡ true → held_nth posts side nth ≡ Some (get_or posts i d).packet
 nth_here posts side nth left i d h counted one here =
     let before : length (filter (is_from_peer side) (take i posts)) ≡ nth - 1 = omega arith in
     let some : 1 ≤ nth = omega arith in
     let test : nat_le 1 nth ≡ true = grind (arith, nat_tests) in
     guarded (nat_le 1 nth) _ test
-    ∙ ap (λ n. option_map (λ (post : Item). post.bytes) (slice_get (filter (is_from_peer side) posts) n)) (sym before)
-    ∙ ap (λ xs. option_map (λ (post : Item). post.bytes) (slice_get xs (length (filter (is_from_peer side) (take i posts))))) (around (is_from_peer side) posts i d h here)
-    ∙ ap (option_map (λ (post : Item). post.bytes)) (get_behind (filter (is_from_peer side) (take i posts)) (filter (is_from_peer side) (drop (i + 1) posts)) (get_or posts i d))
+    ∙ ap (λ n. option_map (λ (post : Post). post.packet) (slice_get (filter (is_from_peer side) posts) n)) (sym before)
+    ∙ ap (λ xs. option_map (λ (post : Post). post.packet) (slice_get xs (length (filter (is_from_peer side) (take i posts))))) (around (is_from_peer side) posts i d h here)
+    ∙ ap (option_map (λ (post : Post). post.packet)) (get_behind (filter (is_from_peer side) (take i posts)) (filter (is_from_peer side) (drop (i + 1) posts)) (get_or posts i d))
 
 -- fewer packets than the count
-pub too_few : (posts : List Item) (side : Side) (nth left i : ℕ) → length posts ≤ i
+pub too_few : (posts : List Post) (side : Side) (nth left i : ℕ) → length posts ≤ i
     → left ≡ nth - length (filter (is_from_peer side) (take i posts)) → (1 ≤ nth → 1 ≤ left) → held_nth posts side nth ≡ None
 too_few posts side nth left i all counted more =
     let whole : length (filter (is_from_peer side) (take i posts)) ≡ length (filter (is_from_peer side) posts) = ap (λ xs. length (filter (is_from_peer side) xs)) (take_all i posts all) in
     unguarded (nat_le 1 nth) _ (λ test.
     let some : 1 ≤ nth = grind (arith, nat_tests) in
     let past : length (filter (is_from_peer side) posts) ≤ nth - 1 = omega (arith, more some) in
-    ap (option_map (λ (post : Item). post.bytes)) (slice_get_past (filter (is_from_peer side) posts) (nth - 1) past))
+    ap (option_map (λ (post : Post). post.packet)) (slice_get_past (filter (is_from_peer side) posts) (nth - 1) past))

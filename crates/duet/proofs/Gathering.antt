@@ -3,7 +3,8 @@ use Rattle.std.proofs.Common.{Bool, Err, List, None, Ok, Option, Result, Some, [
 use Rattle.std.specs.Prelude.{drop, nat_le, nat_lt, slice_get}
 use Rattle.std.proofs.lemmas.Bool.Decides.{nat_tests}
 use Rattle.std.proofs.lemmas.List.{drop_all, length-append, length-drop, length-map}
-use Rattle.boxes.specs.Items.{Item}
+use Rattle.boxes.specs.Entries.{Entry}
+use Rattle.boxes.specs.Posts.{Post}
 use Rattle.dr_base.specs.declared.position.Side.{Side}
 use Rattle.dr_base.specs.declared.position.Side.TheVariants.{First, Second}
 use Rattle.dr_disk.specs.declared.call.Mode.{Mode}
@@ -33,7 +34,7 @@ last_dropped (y ∷ z ∷ zs) (suc held) x long is =
     last_dropped (z ∷ zs) held x (omega arith) (ap (slice_get (y ∷ z ∷ zs)) (sym e) ∙ is)
 
 -- nothing of an outbox that gained no packet
-pub none_newest : (held : ℕ) (outbox : List Item) → length outbox ≤ held → drop (newest_from held (length outbox)) outbox ≡ []
+pub none_newest : (held : ℕ) (outbox : List Post) → length outbox ≤ held → drop (newest_from held (length outbox)) outbox ≡ []
 none_newest held outbox few =
     ap (λ (b : Bool). drop (if b then length outbox - 1 else length outbox) outbox) fewer ∙ drop_all (length outbox) outbox (omega arith)
   where
@@ -41,7 +42,7 @@ none_newest held outbox few =
     fewer = grind (arith, nat_tests)
 
 -- the newest, where it gained one
-pub newest_dropped : (xs : List Item) (held : ℕ) (x : Item) → held < length xs → slice_get xs (length xs - 1) ≡ Some x
+pub newest_dropped : (xs : List Post) (held : ℕ) (x : Post) → held < length xs → slice_get xs (length xs - 1) ≡ Some x
     → drop (newest_from held (length xs)) xs ≡ x ∷ []
 newest_dropped xs held x more is =
     ap (λ (b : Bool). drop (if b then length xs - 1 else length xs) xs) test ∙ last_dropped xs (length xs - 1) x (omega arith) is
@@ -61,10 +62,10 @@ module _ (s : Sides) (side : Side) where
 pub gathers_less : (s : Sides) (side : Side) (next : Client) → length next.outbox ≤ length (client_of s side).outbox
     → gains s side next ≡ with_client s side next
 gathers_less s First next few =
-    ap (λ (posts : List Item). let t : Sides = record s { first = next; posts = posts } in t)
+    ap (λ (posts : List Post). let t : Sides = record s { first = next; posts = posts } in t)
     (ap (λ items. s.posts ++ items) (drop_all (length s.first.outbox) next.outbox few) ∙ append-nil s.posts)
 gathers_less s Second next few =
-    ap (λ (posts : List Item). let t : Sides = record s { second = next; posts = posts } in t)
+    ap (λ (posts : List Post). let t : Sides = record s { second = next; posts = posts } in t)
     (ap (λ items. s.posts ++ items) (drop_all (length s.second.outbox) next.outbox few) ∙ append-nil s.posts)
 
 pub gathers_none : (s : Sides) (side : Side) → gains s side (client_of s side) ≡ s
@@ -84,8 +85,8 @@ taken_few k c bytes =
     omega (
       arith,
       ap length (keeps_outbox k c bytes),
-      length-map next.outbox (λ (i : Item). i.bytes),
-      length-map c.outbox (λ (i : Item). i.bytes),
+      length-map next.outbox (λ (i : Post). i.packet),
+      length-map c.outbox (λ (i : Post). i.packet),
     )
 
 pub sent_few : (c : Client) (n : ℕ) (b : Bool)
@@ -94,7 +95,7 @@ pub sent_few : (c : Client) (n : ℕ) (b : Bool)
 sent_few c n true = omega (arith, length-drop n c.outbox)
 sent_few c n false = omega arith
 
-pub done_few : (c : Client) (n : ℕ) (r : Result (List Item) Refusal)
+pub done_few : (c : Client) (n : ℕ) (r : Result (List Entry) Refusal)
     → length (settled c (finished_by c n r)).next.outbox ≤ length c.outbox
 done_few c n (Ok inbox) = omega arith
 done_few c n (Err refusal) = omega arith

@@ -3,7 +3,8 @@ use Rattle.std.proofs.Common.{Bool, Err, List, None, Ok, Option, Result, Some, [
 use Rattle.std.specs.Prelude.{nat_le, nat_lt}
 use Rattle.std.proofs.lemmas.Bool.Decides.{nat_tests}
 use Rattle.std.proofs.lemmas.List.{length-append}
-use Rattle.boxes.specs.Items.{Item}
+use Rattle.boxes.specs.Entries.{Entry}
+use Rattle.boxes.specs.Posts.{Post}
 use Rattle.dr_base.specs.Position.{peer_of}
 use Rattle.dr_base.specs.declared.position.Side.{Side}
 use Rattle.dr_base.specs.declared.position.Side.TheVariants.{First, Second}
@@ -34,12 +35,12 @@ use Rattle.duet.proofs.SeenBeside.{left_in}
 
 -- ---- what the network gets
 
-drop_before : (xs : List Item) (x : Item) → drop (length xs) (xs ++ x ∷ []) ≡ x ∷ []
+drop_before : (xs : List Post) (x : Post) → drop (length xs) (xs ++ x ∷ []) ≡ x ∷ []
 drop_before [] x = refl
 drop_before (y ∷ ys) x = drop_before ys x
 
 -- the one that it gained
-one_newest : (outbox : List Item) (post : Item)
+one_newest : (outbox : List Post) (post : Post)
     → drop (newest_from (length outbox) (length (outbox ++ post ∷ []))) (outbox ++ post ∷ []) ≡ post ∷ []
 one_newest outbox post =
     let many = length-append outbox (post ∷ []) in
@@ -49,10 +50,10 @@ one_newest outbox post =
     ∙ ap (λ (at : ℕ). drop at (outbox ++ post ∷ [])) place
     ∙ drop_before outbox post
 
-abbrev pub newest : Client → Client → List Item
+abbrev pub newest : Client → Client → List Post
 newest old new = drop (newest_from (length old.outbox) (length new.outbox)) new.outbox
 
-abbrev posts_by : Result SaidText Refusal → List Item
+abbrev posts_by : Result SaidText Refusal → List Post
 posts_by (Ok said) = said.post ∷ []
 posts_by (Err refusal) = []
 
@@ -61,7 +62,7 @@ draft_newest : (c : Client) (d : Option SendDraft)
 draft_newest c None = sym (none_newest (length c.outbox) c.outbox (omega arith))
 draft_newest c (Some draft) = sym (one_newest c.outbox draft.post)
 
-abbrev saying_posts : Mechanism → Client → List ℕ → Option (List ℕ) → Result Bool Refusal → List Item
+abbrev saying_posts : Mechanism → Client → List ℕ → Option (List ℕ) → Result Bool Refusal → List Post
 saying_posts k c text draw (Ok turns) = posts_by (say_on k c text (given_or [] draw))
 saying_posts k c text draw (Err refusal) = []
 
@@ -101,11 +102,11 @@ taken_key : (s : Sides) (side : Side) (r : Result TakenPacket Refusal) → (open
 taken_key s side (Ok taken) = with_key s side taken.next
 taken_key s side (Err refusal) = refl
 
-done_key : (s : Sides) (side : Side) (n : ℕ) (r : Result (List Item) Refusal) → (done_on s side n r).next.key ≡ s.key
+done_key : (s : Sides) (side : Side) (n : ℕ) (r : Result (List Entry) Refusal) → (done_on s side n r).next.key ≡ s.key
 done_key s side n (Ok inbox) = with_key s side (record (client_of s side) { inbox = inbox })
 done_key s side n (Err refusal) = refl
 
-sent_key : (s : Sides) (side : Side) (n : ℕ) (r : Result (List Item) Refusal) → (sent_on s side n r).next.key ≡ s.key
+sent_key : (s : Sides) (side : Side) (n : ℕ) (r : Result (List Post) Refusal) → (sent_on s side n r).next.key ≡ s.key
 sent_key s side n (Ok outbox) = with_key s side (record (client_of s side) { outbox = outbox })
 sent_key s side n (Err refusal) = refl
 
@@ -163,7 +164,7 @@ module _ (k : Mechanism) (w : World) (side : Side) (law : IsLawfulMechanism k) (
     pub posts_grow : posts k next.conversation ≡ posts k w.conversation ++ newest (kept_in k w side) (left_in k w side (Some act))
     posts_grow =
         act_grows k w side act law lawful fair
-        ∙ ap (λ (more : List Item). posts k w.conversation ++ more) (acts_newest k (kept_in k w side) act)
+        ∙ ap (λ (more : List Post). posts k w.conversation ++ more) (acts_newest k (kept_in k w side) act)
 
     pub said_on_way : (packet : List ℕ) → IsSaidPacket k w packet → IsSaidPacket k (redrawn next w.draws) packet
     said_on_way packet is =

@@ -4,7 +4,7 @@ use Rattle.std.specs.Cmp.Lexicographic.{pointwise}
 use Rattle.std.specs.Prelude.{All, IfSome, find, if◌then◌else◌, is_some, length, nat_eq, option_map}
 use Rattle.std.proofs.lemmas.List.Elements.{All-head, All-tail}
 use Rattle.std.proofs.lemmas.Slice.Eq.{bytes_eq-Decides}
-use Rattle.boxes.specs.Items.{Item}
+use Rattle.boxes.specs.Posts.{Post}
 use Rattle.dr_base.specs.declared.position.Position.{Position}
 use Rattle.dr_base.specs.declared.position.Side.{Side}
 use Rattle.dr_base.specs.declared.position.Side.TheVariants.{First, Second}
@@ -109,34 +109,34 @@ module _ (k : Mechanism) (w : World) (side : Side) where
 
   -- the packets that the network holds were said
   at_held : (p : Position) (b : Bool) → is_said w.conversation p ≡ b
-      → IfSome (option_map taking (option_map (λ q. (post_at k w.conversation q).bytes) (if b then Some p else None))) (IsHeldBack k w side)
+      → IfSome (option_map taking (option_map (λ q. (post_at k w.conversation q).packet) (if b then Some p else None))) (IsHeldBack k w side)
   at_held p true said = record { position = p; said = said; same = refl }
   at_held p false said = tt
 
   nth_held : (o : Option Position) → IfSome o (λ p. is_said w.conversation p ≡ true)
-      → IfSome (option_map taking (option_map (λ q. (post_at k w.conversation q).bytes) o)) (IsHeldBack k w side)
+      → IfSome (option_map taking (option_map (λ q. (post_at k w.conversation q).packet) o)) (IsHeldBack k w side)
   nth_held None said = tt
   nth_held (Some p) said = record { position = p; said = said; same = refl }
 
   -- bytes that are found among them were said too
   module _ (bytes : List ℕ) where
     found_said : (ps : List Position) → All (λ p. is_said w.conversation p ≡ true) ps
-        → IfSome (find (λ post. pointwise nat_eq post.bytes bytes) (map (post_at k w.conversation) ps)) (λ _. IsSaidPacket k w bytes)
+        → IfSome (find (λ post. pointwise nat_eq post.packet bytes) (map (post_at k w.conversation) ps)) (λ _. IsSaidPacket k w bytes)
     found_said [] said = tt
     found_said (p ∷ ps) said =
         let Said : Position → Type 0 = λ q. is_said w.conversation q ≡ true in
-        by_test (pointwise nat_eq (post_at k w.conversation p).bytes bytes) refl (All-head Said p ps said)
+        by_test (pointwise nat_eq (post_at k w.conversation p).packet bytes) refl (All-head Said p ps said)
         (found_said ps (All-tail Said p ps said))
       where
-        by_test : (b : Bool) → pointwise nat_eq (post_at k w.conversation p).bytes bytes ≡ b → is_said w.conversation p ≡ true
-            → IfSome (find (λ post. pointwise nat_eq post.bytes bytes) (map (post_at k w.conversation) ps)) (λ _. IsSaidPacket k w bytes)
-            → IfSome (if b then Some (post_at k w.conversation p) else find (λ post. pointwise nat_eq post.bytes bytes) (map (post_at k w.conversation) ps)) (λ _. IsSaidPacket k w bytes)
+        by_test : (b : Bool) → pointwise nat_eq (post_at k w.conversation p).packet bytes ≡ b → is_said w.conversation p ≡ true
+            → IfSome (find (λ post. pointwise nat_eq post.packet bytes) (map (post_at k w.conversation) ps)) (λ _. IsSaidPacket k w bytes)
+            → IfSome (if b then Some (post_at k w.conversation p) else find (λ post. pointwise nat_eq post.packet bytes) (map (post_at k w.conversation) ps)) (λ _. IsSaidPacket k w bytes)
         by_test true same is later =
-            record { position = p; said = is; same = sym ((bytes_eq-Decides (post_at k w.conversation p).bytes bytes).0 same) }
+            record { position = p; said = is; same = sym ((bytes_eq-Decides (post_at k w.conversation p).packet bytes).0 same) }
         by_test false same is later = later
 
-    by_place : (o : Option Item) (p : Position) → IfSome o (λ _. IsSaidPacket k w bytes)
-        → option_map (λ (post : Item). post.position) o ≡ Some p → IsSaidPacket k w bytes
+    by_place : (o : Option Post) (p : Position) → IfSome o (λ _. IsSaidPacket k w bytes)
+        → option_map (λ (post : Post). post.position) o ≡ Some p → IsSaidPacket k w bytes
     by_place None p said is = absurd (let e : None ≡ Some p = is in cc)
     by_place (Some post) p said is = said
 
@@ -144,7 +144,7 @@ module _ (k : Mechanism) (w : World) (side : Side) where
         → IsSaidPacket k w bytes
     made_held None made effect = absurd (let e : false ≡ true = effect in cc)
     made_held (Some p) made effect =
-        by_place (find (λ post. pointwise nat_eq post.bytes bytes) (posts k w.conversation)) p
+        by_place (find (λ post. pointwise nat_eq post.packet bytes) (posts k w.conversation)) p
         (found_said (positions w.conversation) (positions-said w.conversation)) made
 
   given_held : (given : Option (List ℕ)) → has_effect (taking_given k w side given).answer ≡ true

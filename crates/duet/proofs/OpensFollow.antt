@@ -1,7 +1,7 @@
 -- A client that opens again, and the same in the world that both sides stand for.
 use Rattle.std.proofs.Common.{List, None, Option, Some, ap, ap₂, append-nil, arith, length, refl, subst, sym, true, ◌++◌, ◌∙◌, ◌≡◌, ℕ}
 use Rattle.std.specs.Prelude.{IfSome, option_map}
-use Rattle.boxes.specs.Items.{Item}
+use Rattle.boxes.specs.Posts.{Post}
 use Rattle.dr_base.specs.Position.{peer_of}
 use Rattle.dr_base.specs.declared.position.Side.{Side}
 use Rattle.dr_base.specs.declared.position.Side.TheVariants.{First, Second}
@@ -32,20 +32,20 @@ sides_first : (k : Mechanism) (w next : World) (left : Client) → next.conversa
     → posts k next.conversation ≡ posts k w.conversation ++ newest (kept_in k w First) left
     → sides_of k (redrawn next w.draws) ≡ gathers (sides_of k w) First left
 sides_first k w next left key own other grows =
-    let make : List ℕ → Client → Client → List Item → Sides =
+    let make : List ℕ → Client → Client → List Post → Sides =
     λ key first second held. record { key = key; first = first; second = second; posts = held; draws = w.draws } in
     ap₂ (λ (a : List ℕ) (b : Client). make a b (kept_in k next Second) (posts k next.conversation)) key own
-    ∙ ap₂ (λ (c : Client) (d : List Item). make w.conversation.key left c d) other grows
+    ∙ ap₂ (λ (c : Client) (d : List Post). make w.conversation.key left c d) other grows
 
 sides_second : (k : Mechanism) (w next : World) (left : Client) → next.conversation.key ≡ w.conversation.key
     → kept_in k next Second ≡ left → kept_in k next First ≡ kept_in k w First
     → posts k next.conversation ≡ posts k w.conversation ++ newest (kept_in k w Second) left
     → sides_of k (redrawn next w.draws) ≡ gathers (sides_of k w) Second left
 sides_second k w next left key own other grows =
-    let make : List ℕ → Client → Client → List Item → Sides =
+    let make : List ℕ → Client → Client → List Post → Sides =
     λ key first second held. record { key = key; first = first; second = second; posts = held; draws = w.draws } in
     ap₂ (λ (a : List ℕ) (b : Client). make a (kept_in k next First) b (posts k next.conversation)) key own
-    ∙ ap₂ (λ (c : Client) (d : List Item). make w.conversation.key c left d) other grows
+    ∙ ap₂ (λ (c : Client) (d : List Post). make w.conversation.key c left d) other grows
 
 sides_by : (k : Mechanism) (w next : World) (side : Side) (left : Client) → next.conversation.key ≡ w.conversation.key
     → kept_in k next side ≡ left → kept_in k next (peer_of side) ≡ kept_in k w (peer_of side)
@@ -56,13 +56,13 @@ sides_by k w next Second left key own other grows = sides_second k w next left k
 
 gathers_idle : (s : Sides) (side : Side) → gathers s side (client_of s side) ≡ s
 gathers_idle s First =
-    ap (λ (more : List Item). let t : Sides = record s { posts = s.posts ++ more } in t)
+    ap (λ (more : List Post). let t : Sides = record s { posts = s.posts ++ more } in t)
     (none_newest (length s.first.outbox) s.first.outbox (omega arith))
-    ∙ ap (λ (held : List Item). let t : Sides = record s { posts = held } in t) (append-nil s.posts)
+    ∙ ap (λ (held : List Post). let t : Sides = record s { posts = held } in t) (append-nil s.posts)
 gathers_idle s Second =
-    ap (λ (more : List Item). let t : Sides = record s { posts = s.posts ++ more } in t)
+    ap (λ (more : List Post). let t : Sides = record s { posts = s.posts ++ more } in t)
     (none_newest (length s.second.outbox) s.second.outbox (omega arith))
-    ∙ ap (λ (held : List Item). let t : Sides = record s { posts = held } in t) (append-nil s.posts)
+    ∙ ap (λ (held : List Post). let t : Sides = record s { posts = held } in t) (append-nil s.posts)
 
 -- ---- an opening
 

@@ -2,7 +2,7 @@
 use Rattle.std.proofs.Common.{Bool, List, None, Option, Some, [], ap, length, false, refl, subst, sym, true, ◌∙◌, ◌∷◌, ◌+◌, ◌≡◌}
 use Rattle.std.specs.Prelude.{All, IfSome, filter, if◌then◌else◌, is_some, not, ⊤, ◌==◌, ℕ}
 use Rattle.std.proofs.lemmas.List.Elements.{All-cons, All-drop, All-filter, All-head, All-map, All-push, All-tail, All-weaker}
-use Rattle.boxes.specs.Items.{Item}
+use Rattle.boxes.specs.Posts.{Post}
 use Rattle.dr_base.specs.Position.{is_own}
 use Rattle.dr_base.specs.declared.position.Position.{Position}
 use Rattle.dr_base.specs.declared.position.Side.{Side}
@@ -33,7 +33,7 @@ use Rattle.duet.specs.Shuts.{Shut, Shuts, shut_of}
 pub record IsSaidPacket (k : Mechanism) (w : World) (packet : List ℕ) : Type 0 where
   pub position : Position
   pub said : is_said w.conversation position ≡ true
-  pub same : packet ≡ (post_at k w.conversation position).bytes
+  pub same : packet ≡ (post_at k w.conversation position).packet
 
 -- nobody forged their tag
 pub unforged : (k : Mechanism) (w : World) (side : Side) (packet : List ℕ) → IsLawfulWorld k w → IsSaidPacket k w packet
@@ -45,7 +45,7 @@ pub said_stays : (k : Mechanism) (w : World) (event : Event) (packet : List ℕ)
     → IsSaidPacket k (step_of k w event).next packet
 said_stays k w event packet lawful is =
     let stay = packets_stay k w event is.position lawful is.said in
-    record { position = is.position; said = stay.0; same = is.same ∙ ap (λ (post : Item). post.bytes) (sym stay.1) }
+    record { position = is.position; said = stay.0; same = is.same ∙ ap (λ (post : Post). post.packet) (sym stay.1) }
 
 -- and an outbox holds no others
 pub outbox_said : (k : Mechanism) (w : World) (side : Side) → All (IsSaidPacket k w) (waiting (kept_in k w side))
@@ -53,8 +53,8 @@ outbox_said k w side =
     let c = w.conversation in
     let v = view_of w side in
     let own : Position → Bool = λ p. is_own v.side p.epoch in
-    let Said : Item → Type 0 = λ post. IsSaidPacket k w post.bytes in
-    All-map (IsSaidPacket k w) (λ (post : Item). post.bytes) (outbox_in k w side)
+    let Said : Post → Type 0 = λ post. IsSaidPacket k w post.packet in
+    All-map (IsSaidPacket k w) (λ (post : Post). post.packet) (outbox_in k w side)
     (All-drop Said v.dropped (posts_of k c v.side)
     (All-map Said (post_at k c) (filter own (positions c))
     (All-filter own (λ p. Said (post_at k c p)) (positions c)

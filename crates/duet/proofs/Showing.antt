@@ -4,7 +4,8 @@ use Rattle.std.specs.Prelude.{drop, flat_map, nat_lt, ◌-◌}
 use Rattle.std.proofs.lemmas.List.{length-drop}
 use Rattle.dr_base.specs.declared.position.Side.{Side}
 use Rattle.dr_base.specs.declared.position.Side.TheVariants.{First, Second}
-use Rattle.boxes.specs.Items.{Item}
+use Rattle.boxes.specs.Entries.{Entry}
+use Rattle.boxes.specs.Posts.{Post}
 use Rattle.session_model.specs.declared.answer.Answer.TheVariants.{Stopped}
 use Rattle.session_model.specs.declared.answer.Refusal.{Refusal}
 use Rattle.session_model.specs.Clients.{Client, SaidText, TakenPacket, dropped_of, say_check, say_on, take_on}
@@ -65,12 +66,12 @@ taken_quiet : (k : Mechanism) (s : Sides) (side : Side) (given : Option (List �
 taken_quiet k s side None = still_quiet s _ refl refl refl
 taken_quiet k s side (Some bytes) = opened_quiet s side (take_on k (client_of s side) bytes)
 
-sent_quiet : (s : Sides) (side : Side) (n : ℕ) (r : Result (List Item) Refusal) → IsQuiet s (sent_on s side n r)
+sent_quiet : (s : Sides) (side : Side) (n : ℕ) (r : Result (List Post) Refusal) → IsQuiet s (sent_on s side n r)
 sent_quiet s First n (Ok outbox) = still_quiet s _ refl refl refl
 sent_quiet s Second n (Ok outbox) = still_quiet s _ refl refl refl
 sent_quiet s side n (Err refusal) = still_quiet s _ refl refl refl
 
-done_quiet : (s : Sides) (side : Side) (n : ℕ) (r : Result (List Item) Refusal) → IsQuiet s (done_on s side n r)
+done_quiet : (s : Sides) (side : Side) (n : ℕ) (r : Result (List Entry) Refusal) → IsQuiet s (done_on s side n r)
 done_quiet s First n (Ok inbox) = still_quiet s _ refl refl refl
 done_quiet s Second n (Ok inbox) = still_quiet s _ refl refl refl
 done_quiet s side n (Err refusal) = still_quiet s _ refl refl refl
@@ -162,7 +163,7 @@ failed_adds k s event left None = event_adds k s.ends event
 failed_adds k s event left (Some call) = record { posts = omega arith; draws = (shows k s.ends event).draws }
 
 -- the newest packet is one at most
-one_newest : (held : ℕ) (outbox : List Item) → length (drop (newest_from held (length outbox)) outbox) ≤ 1
+one_newest : (held : ℕ) (outbox : List Post) → length (drop (newest_from held (length outbox)) outbox) ≤ 1
 one_newest held outbox = by_test (nat_lt held (length outbox))
   where
     by_test : (b : Bool) → length (drop (if b then length outbox - 1 else length outbox) outbox) ≤ 1

@@ -1,7 +1,7 @@
 -- Both sides, of which one opens again.
 use Rattle.std.proofs.Common.{None, Option, Some, List, ap, subst, sym, ℕ, ◌≡◌}
 use Rattle.std.specs.Prelude.{IfSome}
-use Rattle.boxes.specs.Items.{Item}
+use Rattle.boxes.specs.Posts.{Post}
 use Rattle.dr_base.specs.declared.position.Side.{Side}
 use Rattle.dr_base.specs.declared.position.Side.TheVariants.{First, Second}
 use Rattle.dr_model.specs.Machines.Draws.{Draws}
@@ -20,7 +20,7 @@ OpensSide old side new =
       shuts = with_shut old.shuts side None;
     })
 
-module _ (key : List ℕ) (posts : List Item) (draws : Draws) (boxes : List Box) (room : ℕ) where
+module _ (key : List ℕ) (posts : List Post) (draws : Draws) (boxes : List Box) (room : ℕ) where
   abbrev Now : PartyNow → PartyNow → DuetNow
   Now first second = duet_now key first second posts draws boxes room
 

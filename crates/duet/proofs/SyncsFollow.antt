@@ -19,7 +19,7 @@ use Rattle.relay_core.specs.Boxes.{Box}
 use Rattle.relay_link.specs.Connections.{kept_before}
 use Rattle.session_model.specs.Clients.{Client, TakenPacket, dropped_of, take_on}
 use Rattle.session_model.specs.declared.answer.Refusal.{Refusal}
-use Rattle.boxes.specs.Items.{Item}
+use Rattle.boxes.specs.Posts.{Post}
 use Rattle.sync_model.specs.Moves.{Ending, Wait, acking, box_is_full, ended, fetching, inbox_full, no_such_box, over, posting, wrong}
 use Rattle.sync_model.specs.Parties.{Party}
 use Rattle.sync_model.specs.Scenes.{IsSameScene, MeetsFairly, scene}
@@ -53,7 +53,7 @@ opened_side : (s : Sides) (side : Side) (r : Result TakenPacket Refusal)
 opened_side s side (Ok taken) = refl
 opened_side s side (Err refusal) = ap (λ (x : Sides). step _ x) (sym (same_client s side))
 
-sent_side : (s : Sides) (side : Side) (n : ℕ) (r : Result (List Item) Refusal)
+sent_side : (s : Sides) (side : Side) (n : ℕ) (r : Result (List Post) Refusal)
     → sent_on s side n r ≡ on_side s side (settled (client_of s side) (sent_by (client_of s side) n r))
 sent_side s side n (Ok outbox) = refl
 sent_side s side n (Err refusal) = ap (λ (x : Sides). step _ x) (sym (same_client s side))

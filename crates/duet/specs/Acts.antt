@@ -1,7 +1,7 @@
 -- What a side does by a call on its client, and how that ends.
 use Rattle.std.specs.Prelude.{Err, IfSome, List, Ok, Option, Result, Some, false, is_some, length, option_map, ℕ, ⊤, ◌≡◌}
 use Rattle.arrayvec.specs.ArrayVec.{ArrayVec}
-use Rattle.boxes.specs.Items.{Item}
+use Rattle.boxes.specs.Posts.{Post}
 use Rattle.kem_laws.specs.Mechanism.{Mechanism}
 use Rattle.dr_base.specs.Bytes.{AreBytes}
 use Rattle.dr_base.specs.declared.key.Key32.{Key32}
@@ -57,7 +57,7 @@ acted_by k s side act = let c = client_of s side in gathering s side (settled c 
 -- ---- from a call to an act
 
 -- the packet that a side takes, if the network has it to give
-abbrev pub packet_given : List Item → Side → Source → Option (List ℕ)
+abbrev pub packet_given : List Post → Side → Source → Option (List ℕ)
 packet_given posts side (At p) = held_at posts p
 packet_given posts side (Nth nth) = held_nth posts side nth
 packet_given posts side (Flipped p bit) = flipped_at posts p bit

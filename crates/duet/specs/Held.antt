@@ -1,9 +1,10 @@
 -- Both sides, as the code holds them.
-use Rattle.std.specs.Prelude.{ℕ, List, [], None}
+use Rattle.std.specs.Prelude.{◌<◌, ℕ, List, [], None, length}
 use Rattle.dr_base.specs.declared.position.Side.{Side}
 use Rattle.dr_base.specs.declared.position.Side.TheVariants.{First, Second}
 use Rattle.relay_core.specs.Boxes.{Box}
-use Rattle.boxes.specs.Items.{Item}
+use Rattle.boxes.specs.Entries.{Entry}
+use Rattle.boxes.specs.Posts.{Post}
 use Rattle.session_model.specs.Clients.{Client}
 use Rattle.dr_model.specs.Machines.Sides.{Sides, client_of, step_on}
 use Rattle.dr_model.specs.Machines.Steps.{Step}
@@ -25,7 +26,7 @@ pub record DuetNow : Type 0 where
   pub boxes : List Box
   pub room : ℕ
 
-abbrev pub duet_now : List ℕ → PartyNow → PartyNow → List Item → Draws → List Box → ℕ → DuetNow
+abbrev pub duet_now : List ℕ → PartyNow → PartyNow → List Post → Draws → List Box → ℕ → DuetNow
 duet_now key first second posts draws boxes room = record {
   sides = record { key = key; first = first.kept; second = second.kept; posts = posts; draws = draws };
   shuts = record { first = first.shut; second = second.shut };
@@ -39,6 +40,10 @@ opening_duet k key room =
     let first = opening_client k key First in
     duet_now key (open_party first) (open_party (opening_client k key Second)) [] (record { made = 0; given = None })
     (opening_boxes first) room
+
+-- the network has room for a packet more
+abbrev pub HasPostRoom : DuetNow → Type 0
+HasPostRoom duet = length duet.sides.posts < duet.room
 
 -- both sides, and what stands beside them
 abbrev pub beside : DuetNow → SidesBeside
@@ -60,7 +65,7 @@ abbrev pub stepped : Mechanism → DuetNow → Event → DuetNow
 stepped k duet event = after_step duet (step_on k duet.sides event)
 
 -- the texts that an event shows
-abbrev pub shown : Event → Sides → List Item
+abbrev pub shown : Event → Sides → List Entry
 shown (shows_inbox side) s = (client_of s side).inbox
 shown (cuts took event) s = shown event s
 shown _ s = []

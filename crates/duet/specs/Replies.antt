@@ -3,7 +3,7 @@ use Rattle.std.specs.Prelude.{Bool, false, true, ℕ, List, [], ◌++◌, flat_m
 use Rattle.dr_base.specs.declared.position.Side.{Side}
 use Rattle.dr_disk.specs.declared.call.Call.{Call}
 use Rattle.dr_disk.specs.declared.call.Call.TheVariants.{Read, Sync, Write}
-use Rattle.boxes.specs.Items.{Item}
+use Rattle.boxes.specs.Entries.{Entry}
 use Rattle.client.specs.declared.syncing.faults.SyncFault.{SyncFault}
 use Rattle.client.specs.declared.syncing.faults.SyncFault.TheVariants.{Link, Refused}
 use Rattle.client.specs.declared.syncing.faults.SyncRefusal.TheVariants.{BoxFull, InboxFull, Unknown}
@@ -21,7 +21,7 @@ reply_line side Seeded = []
 reply_line side answer = side_text side ++ answer_text answer ++ codes "\n"
 
 -- the line of a text in a side's inbox
-abbrev pub entry_line : Side → Item → List ℕ
+abbrev pub entry_line : Side → Entry → List ℕ
 entry_line side item = text_line (side_text side) item
 
 -- what an event is answered with, in lines

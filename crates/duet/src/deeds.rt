@@ -1,8 +1,8 @@
 //! One deed of a script, played: it is done, and its lines are written.
 
-ghost use Rattle.std.specs.Prelude.{◌≡◌, ◌-◌, ◌^◌, ◌<◌, length, None, Ok, Err, MatchResult};
+ghost use Rattle.std.specs.Prelude.{◌≡◌, ◌-◌, ◌^◌, ◌<◌, None, Ok, Err, MatchResult};
 ghost use Rattle.dr_ports.specs.Writing.{Writes};
-ghost use Rattle.duet.specs.Held.{after_deed, beside};
+ghost use Rattle.duet.specs.Held.{HasPostRoom, after_deed, beside};
 ghost use Rattle.duet.specs.Outcomes.{barring, failed_on};
 ghost use Rattle.duet.specs.Shuts.{shut_of};
 ghost use Rattle.scripts.specs.Sides.{acting_side};
@@ -50,7 +50,7 @@ fn play_stop<K: Kem, O: Sink>(
     tally: &mut Tally,
     out: &mut O,
 ) -> Result<Duet<K>, Cut>
-    requires room { length duet.sides.posts < duet.room }
+    requires room { HasPostRoom duet }
     requires draws { duet.sides.draws.made < 2 ^ 32 - 1 }
     requires few { IsBelow (2 ^ 32 - 1) tally.old }
     requires open { shut_of duet.shuts stop.now.side ≡ None }
@@ -74,7 +74,7 @@ fn play_fail<K: Kem, O: Sink>(
     tally: &mut Tally,
     out: &mut O,
 ) -> Result<(), Failed>
-    requires room { length duet.old.sides.posts < duet.old.room }
+    requires room { HasPostRoom duet.old }
     requires draws { duet.old.sides.draws.made < 2 ^ 32 - 1 }
     requires few { IsBelow (2 ^ 32 - 1) tally.old }
     requires open { shut_of duet.old.shuts failure.now.side ≡ None }
@@ -101,7 +101,7 @@ fn play_opening<K: Kem, O: Sink>(
     side: Side,
     out: &mut O,
 ) -> Result<Duet<K>, Cut>
-    requires room { length duet.sides.posts < duet.room }
+    requires room { HasPostRoom duet }
     ensures { (tally : Counted) → PlaysFreely K.mechanism (reopens side) duet tally tally
         (O.at out.old) (O.at out.new) result }
 {
@@ -127,7 +127,7 @@ fn play_freely<K: Kem, O: Sink>(
     tally: &mut Tally,
     out: &mut O,
 ) -> Result<Duet<K>, Cut>
-    requires room { length duet.sides.posts < duet.room }
+    requires room { HasPostRoom duet }
     requires draws { duet.sides.draws.made < 2 ^ 32 - 1 }
     requires few { IsBelow (2 ^ 32 - 1) tally.old }
     requires open { barring duet.shuts (lined_deed line.now) ≡ None }
@@ -162,7 +162,7 @@ pub fn play_deed<K: Kem, O: Sink>(
     tally: &mut Tally,
     out: &mut O,
 ) -> Result<Duet<K>, Cut>
-    requires room { length duet.sides.posts < duet.room }
+    requires room { HasPostRoom duet }
     requires draws { duet.sides.draws.made < 2 ^ 32 - 1 }
     requires few { IsBelow (2 ^ 32 - 1) tally.old }
     ensures { PlaysDeed K.mechanism (lined_deed line.now) duet tally.old tally.new (O.at out.old)

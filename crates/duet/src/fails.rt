@@ -5,7 +5,7 @@ ghost use Rattle.dr_model.specs.Machines.Sides.{client_of, with_client};
 ghost use Rattle.duet.specs.Acts.{IsChecked, act_of_call};
 ghost use Rattle.duet.specs.Failing.{FailsGathering, FailsOn, FailsSides};
 ghost use Rattle.duet.specs.Gathering.{gathered, newest_from};
-ghost use Rattle.duet.specs.Held.{after_deed, beside};
+ghost use Rattle.duet.specs.Held.{HasPostRoom, after_deed, beside};
 ghost use Rattle.duet.specs.Outcomes.{barring, freely_on};
 ghost use Rattle.duet.specs.Shuts.{needs_open, shut_of, with_shut};
 ghost use Rattle.scripts.specs.Deeds.{reopens};
@@ -62,7 +62,7 @@ impl<K: Kem> Duet<K> {
     /// A side does an act, in which its disk fails, and the network gets the packet that it adds
     /// to its outbox.
     fn act_failed(&mut self, side: Side, at: u32, call: ClientCall<'_>) -> Result<Answer, Call>
-        requires room { length self.old.sides.posts < self.old.room }
+        requires room { HasPostRoom self.old }
         requires open { shut_of self.old.shuts side ≡ None }
         requires checked { IsChecked (client_of self.old.sides side) (act_of_call call) }
         requires counted { 1 ≤ at }
@@ -78,7 +78,7 @@ impl<K: Kem> Duet<K> {
     /// One call, in which the disk of its side fails. Where the call makes so many writes and syncs,
     /// the side is closed by the one that fails, whose kind is given.
     pub fn fail(&mut self, failure: &Failure<'_>) -> Result<Answer, Call>
-        requires room { length self.old.sides.posts < self.old.room }
+        requires room { HasPostRoom self.old }
         requires draws { self.old.sides.draws.made < 2 ^ 32 - 1 }
         requires open { shut_of self.old.shuts failure.now.side ≡ None }
         ensures { let event = call_event failure.now.side failure.now.call in
@@ -132,7 +132,7 @@ impl<K: Kem> Duet<K> {
     /// The network gets the newest packet of a side's outbox, if it has more than this many.
     #[tactic(auto, using(crate::proofs::Gathering::newest_dropped))]
     fn gather_newest(&mut self, side: Side, held: u32)
-        requires room { length self.old.sides.posts < self.old.room }
+        requires room { HasPostRoom self.old }
         ensures { let outbox = (client_of self.old.sides side).outbox in
             self.new ≡ record self.old {
               sides = gathered (newest_from held (length outbox)) side self.old.sides;
@@ -146,7 +146,7 @@ impl<K: Kem> Duet<K> {
 
     /// A side's closed client opens again, and the network gets the packet that its outbox has more.
     pub fn reopen(self, alloc: Global, side: Side) -> Result<Self, AllocError>
-        requires room { length self.sides.posts < self.room }
+        requires room { HasPostRoom self }
         requires closed { IsSome (shut_of self.shuts side) }
         ensures { IfOk result (λ duet. duet
             ≡ after_deed self (freely_on K.mechanism (beside self) (reopens side))) }

@@ -18,7 +18,7 @@ fn held_at(posts: &[Post], position: Position) -> Option<&[u8]>
 {
     'posts: for post in posts {
         if is_at(post, position) {
-            return Some(post.bytes());
+            return Some(post.packet());
         }
     }
     None
@@ -33,7 +33,7 @@ fn held_nth(posts: &[Post], side: Side, nth: u32) -> Option<&[u8]>
     'posts: for post in posts {
         if is_from_peer(post, side) {
             if left == 1 {
-                return Some(post.bytes());
+                return Some(post.packet());
             }
             left = left.saturating_sub(1);
         }

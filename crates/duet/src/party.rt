@@ -1,7 +1,7 @@
 //! One side: a client, and the disk that it is kept on.
 
 ghost use Rattle.std.specs.Prelude.{◌≡◌, ◌≤◌, ◌↔◌, ◌<◌, ◌-◌, length, None, Some, IfOk, IfSome, IsNone, IsSome, IsErrOf, option_map, slice_get};
-ghost use Rattle.boxes.specs.Seen.{entry_item};
+ghost use Rattle.boxes.specs.Seen.{entry_seen};
 ghost use Rattle.session_model.specs.Clients.{say_check, summary_of};
 ghost use Rattle.dr_model.specs.Machines.Acts.{act_on};
 ghost use Rattle.dr_model.specs.Machines.Steps.{settled, step};
@@ -113,7 +113,7 @@ impl<K: Kem> Party<K> {
     /// The text at a place, from 0, the oldest first.
     pub fn inbox_at(&self, at: usize) -> Option<Entry<'_>>
         ensures variant { IsSome result ↔ (at < length self.now.kept.inbox) }
-        ensures entry { option_map entry_item result ≡ slice_get self.now.kept.inbox at }
+        ensures entry { option_map entry_seen result ≡ slice_get self.now.kept.inbox at }
         ensures fits { IfSome result (λ entry. length entry.text.now ≤ TEXT_LIMIT) }
     {
         self.client.inbox(at)

@@ -5,7 +5,7 @@ ghost use Rattle.dr_model.specs.Machines.Sides.{client_of, step_on};
 ghost use Rattle.session_model.specs.Schedule.{agreement_seed};
 ghost use Rattle.duet.specs.Acts.{IsChecked, act_of_call, acted_by, alone_by};
 ghost use Rattle.duet.specs.Gathering.{gathered};
-ghost use Rattle.duet.specs.Held.{after_step, opening_duet, stepped};
+ghost use Rattle.duet.specs.Held.{HasPostRoom, after_step, opening_duet, stepped};
 ghost use Rattle.duet.specs.Shuts.{asks_open, shut_of};
 ghost use Rattle.duet.specs.Tally.{both_reached};
 ghost use Rattle.scripts.specs.Sides.{acting_side};
@@ -115,7 +115,7 @@ impl<K: Kem> Duet<K> {
     /// The network gets the packet that stands after this many in a side's outbox, if there is one.
     #[tactic(auto, using(crate::proofs::Gathering::last_dropped))]
     pub(crate) fn gather(&mut self, side: Side, held: u32)
-        requires room { length self.old.sides.posts < self.old.room }
+        requires room { HasPostRoom self.old }
         requires one { length (client_of self.old.sides side).outbox ≤ held + 1 }
         ensures { self.new ≡ record self.old { sides = gathered held side self.old.sides } }
     {
@@ -127,7 +127,7 @@ impl<K: Kem> Duet<K> {
 
     /// A side does an act, and the network gets the packet that it adds to its outbox.
     fn act(&mut self, side: Side, call: ClientCall<'_>) -> Answer
-        requires room { length self.old.sides.posts < self.old.room }
+        requires room { HasPostRoom self.old }
         requires open { shut_of self.old.shuts side ≡ None }
         requires checked { IsChecked (client_of self.old.sides side) (act_of_call call) }
         ensures answer { let act = act_of_call call.entry in
@@ -143,7 +143,7 @@ impl<K: Kem> Duet<K> {
 
     /// A side does a call.
     fn call(&mut self, side: Side, call: LineCall<'_>) -> Answer
-        requires room { length self.old.sides.posts < self.old.room }
+        requires room { HasPostRoom self.old }
         requires draws { self.old.sides.draws.made < 2 ^ 32 - 1 }
         requires open { shut_of self.old.shuts side ≡ None }
         ensures answer { let k = K.mechanism in
@@ -179,7 +179,7 @@ impl<K: Kem> Duet<K> {
 
     /// One event that no stop cuts off. An inbox is answered with how many texts stand in it.
     pub fn step(&mut self, line: &Line<'_>) -> Answer
-        requires room { length self.old.sides.posts < self.old.room }
+        requires room { HasPostRoom self.old }
         requires draws { self.old.sides.draws.made < 2 ^ 32 - 1 }
         requires open { asks_open (event_of line.now) ≡ true
             → shut_of self.old.shuts (acting_side (event_of line.now)) ≡ None }

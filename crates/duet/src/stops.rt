@@ -1,12 +1,12 @@
 //! Both sides, one of which has a disk that stops in a call.
 
-ghost use Rattle.std.specs.Prelude.{◌≡◌, ◌-◌, ◌^◌, ◌<◌, None, IfOk, length};
+ghost use Rattle.std.specs.Prelude.{◌≡◌, ◌-◌, ◌^◌, ◌<◌, None, IfOk};
 ghost use Rattle.dr_model.specs.Machines.Acts.{act_on};
 ghost use Rattle.dr_model.specs.Machines.Sides.{client_of, step_on};
 ghost use Rattle.dr_model.specs.Machines.Steps.{settled};
 ghost use Rattle.duet.specs.Acts.{IsChecked, act_of_call};
 ghost use Rattle.duet.specs.Gathering.{gathering, on_side};
-ghost use Rattle.duet.specs.Held.{after_step, stepped};
+ghost use Rattle.duet.specs.Held.{HasPostRoom, after_step, stepped};
 ghost use Rattle.duet.specs.Shuts.{shut_of};
 ghost use Rattle.duet.specs.Stops.{stopped_client, stopped_on};
 ghost use Rattle.scripts.specs.Seen.{call_event};
@@ -76,7 +76,7 @@ impl<K: Kem> Duet<K> {
         stops: (u32, Mode),
         call: ClientCall<'_>,
     ) -> Result<(Self, Answer), AllocError>
-        requires room { length self.sides.posts < self.room }
+        requires room { HasPostRoom self }
         requires open { shut_of self.shuts side ≡ None }
         requires checked { IsChecked (client_of self.sides side) (act_of_call call) }
         ensures { let c = client_of self.sides side in
@@ -98,7 +98,7 @@ impl<K: Kem> Duet<K> {
     /// One call, on a disk that stops. After the stop the disk crashes, and the side is opened
     /// again.
     pub fn stop(self, alloc: Global, stop: &Stop<'_>) -> Result<(Self, Answer), AllocError>
-        requires room { length self.sides.posts < self.room }
+        requires room { HasPostRoom self }
         requires draws { self.sides.draws.made < 2 ^ 32 - 1 }
         requires open { shut_of self.shuts stop.now.side ≡ None }
         ensures { let k = K.mechanism in let call = call_event stop.now.side stop.now.call in

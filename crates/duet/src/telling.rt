@@ -2,9 +2,9 @@
 
 ghost use Rattle.std.specs.Prelude.{◌≡◌, ◌-◌, ◌^◌, ◌<◌, length, flat_map, slice_index_or, None, true};
 ghost use Rattle.dr_ports.specs.Writing.{Writes};
-ghost use Rattle.boxes.specs.Items.{Item};
+ghost use Rattle.boxes.specs.Entries.{Entry};
 ghost use Rattle.dr_model.specs.Machines.Sides.{step_on};
-ghost use Rattle.duet.specs.Held.{shown, stepped};
+ghost use Rattle.duet.specs.Held.{HasPostRoom, shown, stepped};
 ghost use Rattle.duet.specs.Shuts.{asks_open, shut_of};
 ghost use Rattle.duet.specs.Replies.{entry_line, reply_line, reply_of};
 ghost use Rattle.scripts.specs.Sides.{acting_side};
@@ -30,7 +30,7 @@ fn write_entry<K: Kem, O: Sink>(
     at: u32,
 ) -> Result<(), Failed>
     requires { at < length party.now.kept.inbox }
-    ensures { (d : Item) → Writes (O.at out.old) (O.at out.new)
+    ensures { (d : Entry) → Writes (O.at out.old) (O.at out.new)
         (entry_line side (slice_index_or party.now.kept.inbox at d)) result }
 {
     match party.inbox_at(at as usize) {
@@ -105,7 +105,7 @@ pub fn play_line<K: Kem, O: Sink>(
     tally: &mut Tally,
     out: &mut O,
 ) -> Result<(), Failed>
-    requires room { length duet.old.sides.posts < duet.old.room }
+    requires room { HasPostRoom duet.old }
     requires draws { duet.old.sides.draws.made < 2 ^ 32 - 1 }
     requires few { IsBelow (2 ^ 32 - 1) tally.old }
     requires open { asks_open (event_of line.now) ≡ true

@@ -2,7 +2,7 @@
 use Rattle.std.proofs.Common.{List, None, Option, Some, [], arith, false, refl, subst, sym, ℕ, ◌≡◌}
 use Rattle.std.specs.Prelude.{All, option_map}
 use Rattle.std.proofs.lemmas.List.Elements.{All-nil}
-use Rattle.boxes.specs.Items.{Item}
+use Rattle.boxes.specs.Posts.{Post}
 use Rattle.cka.specs.Agreement.{turn_of}
 use Rattle.dr_base.specs.Position.{is_own}
 use Rattle.dr_base.specs.declared.key.Kept.{Kept}
@@ -87,7 +87,7 @@ said_follows k s text seed (in_peers public) draft l held is =
     turn_follows s text (turn_of k public seed) draft l.receiving (in_peers_phase k s public l held).0 is
 
 -- the draft of a text
-pub lawful_said : (k : Mechanism) (s : State) (post : Item) (head : State) → IsLawfulState k s
+pub lawful_said : (k : Mechanism) (s : State) (post : Post) (head : State) → IsLawfulState k s
     → IsLawfulState k (record head { kept = [] })
     → (let d : Said = record { post = post; head = head } in
     IsSendDraft k s (said_of s d) → IsLawfulState k (said_of s d).next)

@@ -4,7 +4,7 @@ use Rattle.dr_base.specs.declared.key.Kept.{Kept}
 use Rattle.dr_base.specs.declared.key.Key32.{Key32}
 use Rattle.dr_base.specs.declared.position.Position.{Position}
 use Rattle.packet.specs.Packet.{Fields}
-use Rattle.boxes.specs.Items.{Item}
+use Rattle.boxes.specs.Posts.{Post}
 use Rattle.session_model.specs.Taking.{ReceiveDraft}
 use Rattle.session_model.specs.Saying.{SendDraft}
 use Rattle.session_model.specs.Ways.{Way, position_of}
@@ -23,7 +23,7 @@ seed_bytes (Some seed) = seed.bytes
 -- a draft of a text: its packet under its position, and the head that the session would keep, as a
 -- state without kept keys
 pub record Said : Type 0 where
-  pub post : Item
+  pub post : Post
   pub head : State
 
 -- a draft of a packet: its position, its text, and the head that the session would keep; the kept
@@ -61,7 +61,7 @@ abbrev pub received_as : State → Result Received ReceiveRefusal → Result Rec
 received_as s (Ok d) = Ok (received_of s d)
 received_as s (Err e) = Err (receive_refusal e)
 
-abbrev pub drafted : Item → State → SendDraft
+abbrev pub drafted : Post → State → SendDraft
 drafted post next = record { post = post; next = next }
 
 abbrev pub received : Position → List ℕ → State → ReceiveDraft

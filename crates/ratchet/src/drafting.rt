@@ -2,7 +2,7 @@
 
 ghost use Rattle.std.specs.Prelude.{◌≡◌, ◌+◌, ◌-◌, ◌^◌, ◌<◌, ◌≤◌, length, take, [], Some, None, Ok, is_some, option_map, IfOk, IfErr, OnErr, OnOk};
 ghost use Rattle.cka.specs.Agreement.{turn_of};
-ghost use Rattle.boxes.specs.Items.{item_at};
+ghost use Rattle.boxes.specs.Posts.{post_under};
 ghost use Rattle.session_model.specs.Drafts.{IsSendDraft};
 ghost use Rattle.session_model.specs.Saying.{draft_own, draft_send, draft_turn, send_check};
 ghost use Rattle.session_model.specs.LawfulStates.{IsLawfulState};
@@ -97,7 +97,7 @@ fn say_on<K: Kem>(
     requires lawful { IsLawfulState K.mechanism (seen next.old []) }
     requires few { own.now.sent < INDEX_LIMIT }
     requires short { length text.now ≤ TEXT_LIMIT }
-    ensures draft { drafted (item_at result.0 (take result.1 room.new)) (seen next.new [])
+    ensures draft { drafted (post_under result.0 (take result.1 room.new)) (seen next.new [])
         ≡ draft_own (seen next.old []) (own_seen own.now) text.now }
     ensures lawful { IsLawfulState K.mechanism (seen next.new []) }
     ensures fits { result.1 ≤ PACKET_LIMIT }
@@ -140,7 +140,7 @@ fn say_first<K: Kem>(
     ensures ok { IfOk result (λ said.
         option_map (draft_turn (seen next.old []) text.now)
         (turn_of K.mechanism public.now.items seed.bytes)
-        ≡ Some (drafted (item_at said.0 (take said.1 room.new)) (seen next.new []))) }
+        ≡ Some (drafted (post_under said.0 (take said.1 room.new)) (seen next.new []))) }
     ensures fits { IfOk result (λ said. said.1 ≤ PACKET_LIMIT) }
     ensures lawful { OnOk result (IsLawfulState K.mechanism (seen next.new [])) }
     ensures same { OnErr result (seen next.new [] ≡ seen next.old []) }

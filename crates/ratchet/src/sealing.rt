@@ -1,7 +1,7 @@
 //! A text, sealed into its packet.
 
 ghost use Rattle.std.specs.Prelude.{◌≡◌, ◌+◌, ◌^◌, ◌<◌, ◌≤◌, ◌++◌, length, take, drop};
-ghost use Rattle.boxes.specs.Items.{item_at};
+ghost use Rattle.boxes.specs.Posts.{post_under};
 ghost use Rattle.etm_aead.specs.Seal.{ciphertext_of, tag_of};
 ghost use Rattle.packet.specs.Packet.{IsLawful};
 ghost use Rattle.session_model.specs.Sealing.{posted, sealing};
@@ -39,7 +39,7 @@ pub fn seal_packet(
     requires short { length text.now ≤ TEXT_LIMIT }
     requires lawful { IsLawful (length agreement.now)
         (sealing session.now position previous agreement.now key text.now) }
-    ensures packet { item_at position (take result room.new)
+    ensures packet { post_under position (take result room.new)
         ≡ posted session.now position previous agreement.now key text.now }
     ensures fits { result ≤ PACKET_LIMIT }
 {

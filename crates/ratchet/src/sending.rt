@@ -31,7 +31,7 @@ pub struct SendDraft<K: Kem> {
 
 impl<K: Kem> Model for SendDraft<K> {
     ghost use Rattle.std.specs.Prelude.{◌≤◌, [], take};
-    ghost use Rattle.boxes.specs.Items.{item_at};
+    ghost use Rattle.boxes.specs.Posts.{post_under};
     ghost use Rattle.dr_base.specs.declared.limits.TheConstants.{PACKET_LIMIT};
     ghost use Rattle.session_model.specs.LawfulStates.{IsLawfulState};
     ghost use Rattle.session_model.specs.Seen.{seen};
@@ -40,7 +40,7 @@ impl<K: Kem> Model for SendDraft<K> {
     ghost Value = { Said };
 
     ghost view = { λ d. record {
-      post = item_at d.position (take d.len d.room);
+      post = post_under d.position (take d.len d.room);
       head = seen d.head [];
     } };
 
@@ -57,7 +57,7 @@ impl<K: Kem> SendDraft<K> {
 
     /// The bytes of its packet.
     pub fn packet(&self) -> &[u8]
-        ensures value { result.now ≡ self.now.post.bytes }
+        ensures value { result.now ≡ self.now.post.packet }
         ensures fits { length result.now ≤ PACKET_LIMIT }
     {
         &self.room[..self.len]

@@ -1,7 +1,7 @@
 -- First and Second talk, with a crash in a take of First's: First's moments are a run.
 use Rattle.std.proofs.Common.{List, Some, [], ap, arith, inl, refl, subst, suc, sym, ℕ, ◌+◌, ◌∙◌, ◌∷◌, ◌≡◌}
 use Rattle.std.specs.Prelude.{slice_get, slice_index_or}
-use Rattle.boxes.specs.Items.{Item}
+use Rattle.boxes.specs.Posts.{Post}
 use Rattle.dr_base.specs.declared.position.Side.TheVariants.{First, Second}
 use Rattle.dr_disk.specs.State.{Always, DiskState, IsLawful}
 use Rattle.dr_model.specs.Machines.Acts.{act_in}
@@ -31,7 +31,7 @@ use Rattle.session_commands.proofs.WholeRuns.{all_linked}
 module _ {D E V : Type 0} (state : D → DiskState) (sound : (d : D) → IsLawful (state d))
     (peers : E → DiskState) (sound_peers : (e : E) → IsLawful (peers e))
     (draws : V → DrawsState) (k : Mechanism) (grounds : Grounds k) (w : World)
-    (start said cut crashed took : D) (hears heard answers : E) (question answer : Item)
+    (start said cut crashed took : D) (hears heard answers : E) (question answer : Post)
     (talk : IsTalk state peers draws k start said cut crashed took hears heard answers
     question answer)
     (lawful : IsLawfulWorld k w) (first : ReadsAsSide k w First (state start))
@@ -63,7 +63,7 @@ module _ {D E V : Type 0} (state : D → DiskState) (sound : (d : D) → IsLawfu
       reads_ahead k grounds Second w w1 (peers hears)
       (grounds.follow.others w First asked.act lawful asked.fair) second
 
-  hears_runs : RunsIn k w1 Second (asked_take k question.bytes) (peers hears) (peers heard) Done
+  hears_runs : RunsIn k w1 Second (asked_take k question.packet) (peers hears) (peers heard) Done
       talk.lines
   hears_runs =
       talk.hearing.in_worlds w1 Second asked.lawful second_then
@@ -73,7 +73,7 @@ module _ {D E V : Type 0} (state : D → DiskState) (sound : (d : D) → IsLawfu
 
   hearing : IsDone k w1 Second (peers hears) (peers heard) (acted_known hears_runs)
   hearing =
-      done_in k grounds w1 Second (asked_take k question.bytes) (peers hears) (peers heard)
+      done_in k grounds w1 Second (asked_take k question.packet) (peers hears) (peers heard)
       (sound_peers heard) Done talk.lines asked.lawful hears_runs refl
 
   abbrev w2 : World
@@ -102,14 +102,14 @@ module _ {D E V : Type 0} (state : D → DiskState) (sound : (d : D) → IsLawfu
       kept_there k grounds w3 Second (peers answers) (sound_peers answers) answer answered.stands
       talk.answering.posted
 
-  unforged3 : IsUnforged k w3 First answer.bytes
+  unforged3 : IsUnforged k w3 First answer.packet
   unforged3 =
       honest k grounds w3 Second First (peers answers) answer answered.lawful talk.answering.posted
       posts3
 
   -- ---- First takes that, and a crash cuts it off
 
-  takes_runs : RunsIn k w3 First (asked_take k answer.bytes) (state said) (state cut) talk.ending
+  takes_runs : RunsIn k w3 First (asked_take k answer.packet) (state said) (state cut) talk.ending
       talk.shown
   takes_runs =
       talk.takes.in_worlds w3 First answered.lawful
@@ -140,7 +140,7 @@ module _ {D E V : Type 0} (state : D → DiskState) (sound : (d : D) → IsLawfu
 
   cut_ran : Runs said crashed (settled_in w3) known4
   cut_ran =
-      was_cut_acting (settled_in w3) w3 (inl refl) (takes answer.bytes) cut talk.ending talk.shown
+      was_cut_acting (settled_in w3) w3 (inl refl) (takes answer.packet) cut talk.ending talk.shown
       takes_runs talk.crashes
 
   -- moments that run from the first on
@@ -174,17 +174,17 @@ module _ {D E V : Type 0} (state : D → DiskState) (sound : (d : D) → IsLawfu
 
   -- ---- and takes it again
 
-  again_runs : RunsIn k found.0 First (asked_take k answer.bytes) (state crashed) (state took)
+  again_runs : RunsIn k found.0 First (asked_take k answer.packet) (state crashed) (state took)
       talk.last talk.last_shown
   again_runs =
       talk.takes_again.in_worlds found.0 First found.2 found.3
       (honest k grounds found.0 Second First (peers answers) answer found.2 talk.answering.posted
       (posts3 ∙ sym
-      (cut_keeps k grounds w3 (asked_take k answer.bytes) (state said) (state cut) talk.ending
+      (cut_keeps k grounds w3 (asked_take k answer.packet) (state said) (state cut) talk.ending
       talk.shown answered.lawful takes_runs found.0 found.1)))
 
   again_ran : Runs crashed took known4 (acted_known again_runs known4)
-  again_ran = acted known4 found.0 found.1 (takes answer.bytes) talk.last talk.last_shown again_runs
+  again_ran = acted known4 found.0 found.1 (takes answer.packet) talk.last talk.last_shown again_runs
 
   pub have_talked : HaveTalked state draws k w start said crashed took answer
   have_talked =

@@ -3,7 +3,7 @@
 use Rattle.std.proofs.Common.{List, None, Ok, Some, [], ap, arith, inl, map, refl, subst, suc, sym, true, zero, ℕ, ⊎_elim, ◌∙◌, ◌∷◌, ◌≡◌}
 use Rattle.std.specs.Prelude.{All, Any, Bool, Contains, filter, slice_get, slice_index_or}
 use Rattle.std.proofs.lemmas.List.Elements.{All-drop, All-filter, All-map, All-nil, All-weaker}
-use Rattle.boxes.specs.Items.{Item}
+use Rattle.boxes.specs.Posts.{Post}
 use Rattle.dr_base.specs.Position.{is_own}
 use Rattle.dr_base.specs.declared.position.Position.{Position}
 use Rattle.dr_base.specs.declared.position.Side.{Side}
@@ -151,7 +151,7 @@ module _ (k : Mechanism) (grounds : Grounds k) where
 
   -- what is kept, as the disk that stands for a world tells it
   pub kept_there : (w : World) (side : Side) (disk : DiskState) (sound : IsLawful disk)
-      (post : Item) → Always (StandsFor k w side) disk
+      (post : Post) → Always (StandsFor k w side) disk
       → (posted : IsPostedOn k disk post) → posted.kept ≡ kept_in k w side
   kept_there w side disk sound post rests posted =
       let e : Some (Ok posted.kept) ≡ Some (Ok (kept_in k w side)) =
@@ -159,22 +159,22 @@ module _ (k : Mechanism) (grounds : Grounds k) where
       (sound.seen_now posted.bytes posted.told) in cc
 
   outbox_unforged : (w : World) (side taker : Side) → IsLawfulWorld k w
-      → All (λ (i : Item). IsUnforged k w taker i.bytes) (kept_in k w side).outbox
+      → All (λ (i : Post). IsUnforged k w taker i.packet) (kept_in k w side).outbox
   outbox_unforged w side taker lawful =
       let c = w.conversation in
       let v = view_of w side in
       let own : Position → Bool = λ p. is_own v.side p.epoch in
-      let IsHonest : Item → Type 0 = λ i. IsUnforged k w taker i.bytes in
+      let IsHonest : Post → Type 0 = λ i. IsUnforged k w taker i.packet in
       All-drop IsHonest v.dropped (map (post_at k c) (filter own (positions c)))
       (All-map IsHonest (post_at k c) (filter own (positions c))
-      (All-weaker (λ p. is_said c p ≡ true) (λ p. IsUnforged k w taker (post_at k c p).bytes)
+      (All-weaker (λ p. is_said c p ≡ true) (λ p. IsUnforged k w taker (post_at k c p).packet)
       (λ p. real k w taker p lawful) (filter own (positions c))
       (All-filter own (λ p. is_said c p ≡ true) (positions c) (positions-said c))))
 
-  pub honest : (w : World) (side taker : Side) (disk : DiskState) (post : Item) → IsLawfulWorld k w
+  pub honest : (w : World) (side taker : Side) (disk : DiskState) (post : Post) → IsLawfulWorld k w
       → (posted : IsPostedOn k disk post)
-      → posted.kept ≡ kept_in k w side → IsUnforged k w taker post.bytes
+      → posted.kept ≡ kept_in k w side → IsUnforged k w taker post.packet
   honest w side taker disk post lawful posted keeps =
-      among (λ (i : Item). IsUnforged k w taker i.bytes) (kept_in k w side).outbox post
+      among (λ (i : Post). IsUnforged k w taker i.packet) (kept_in k w side).outbox post
       (outbox_unforged w side taker lawful)
       (subst (λ (c : Client). Contains c.outbox post) keeps posted.stands)

@@ -2,7 +2,7 @@
 use Rattle.std.specs.Prelude.{List, [], codes, decimal, flat_map, length, ℕ, ◌++◌}
 use Rattle.answer_lines.specs.Answers.{position_text}
 use Rattle.answer_lines.specs.Texts.{text_line}
-use Rattle.boxes.specs.Items.{Item}
+use Rattle.boxes.specs.Posts.{Post}
 use Rattle.dr_base.specs.declared.position.Side.{Side}
 use Rattle.dr_base.specs.declared.position.Side.TheVariants.{First, Second}
 use Rattle.hex.specs.Hex.{encode_lower}
@@ -24,7 +24,7 @@ count_line name n = name ++ decimal n ++ codes "\n"
 unfoldable pub name_lines : Client → List ℕ
 name_lines kept = session_line kept.state.session ++ side_line kept.state.side
 
--- how far it has come: its epoch, and how many texts are missing and how many items its boxes hold
+-- how far it has come: its epoch, and how many texts are missing and how many its boxes hold
 unfoldable pub count_lines : Client → List ℕ
 count_lines kept =
     count_line (codes "epoch ") kept.state.epoch ++ count_line (codes "missing ") (length kept.state.kept)
@@ -34,8 +34,9 @@ abbrev pub state_lines : Client → List ℕ
 state_lines kept = name_lines kept ++ count_lines kept
 
 -- a packet with its position
-unfoldable pub packet_line : Item → List ℕ
-packet_line item = position_text item.position ++ codes " " ++ encode_lower item.bytes ++ codes "\n"
+unfoldable pub packet_line : Post → List ℕ
+packet_line post =
+    position_text post.position ++ codes " " ++ encode_lower post.packet ++ codes "\n"
 
 -- the texts of an inbox, and the packets of an outbox, the oldest first
 abbrev pub inbox_lines : Client → List ℕ

@@ -1,7 +1,7 @@
 //! The lines that commands show.
 
 ghost use Rattle.std.specs.Prelude.{◌≡◌, ◌+◌, ◌≤◌, ◌++◌, length};
-ghost use Rattle.boxes.specs.Items.{item_at};
+ghost use Rattle.boxes.specs.Posts.{post_under};
 ghost use Rattle.session_commands.specs.Lines.{count_line, count_lines, name_lines, packet_line, session_line, side_line};
 
 use answer_lines::{put_named, put_position};
@@ -25,7 +25,7 @@ pub(crate) type PacketLine = ArrayVec<u8, PACKET_LINE_LIMIT>;
 #[tactic(auto, unfolding(crate::specs::Lines::packet_line))]
 pub(crate) fn packet_line(position: Position, packet: &[u8]) -> PacketLine
     requires { length packet.now ≤ PACKET_LIMIT }
-    ensures { result.items ≡ packet_line (item_at position packet.now) }
+    ensures { result.items ≡ packet_line (post_under position packet.now) }
 {
     let mut head = OutputLine::new();
     put_position(&mut head, position);

@@ -1,7 +1,8 @@
 //! The commands that show what the client keeps.
 
 ghost use Rattle.std.specs.Prelude.{◌<◌, [], length, slice_index_or};
-ghost use Rattle.boxes.specs.Items.{Item};
+ghost use Rattle.boxes.specs.Entries.{Entry};
+ghost use Rattle.boxes.specs.Posts.{Post};
 ghost use Rattle.dr_disk.specs.Spans.{IsQuiet};
 ghost use Rattle.dr_ports.specs.Writing.{Writes};
 ghost use Rattle.answer_lines.specs.Texts.{text_line};
@@ -24,7 +25,7 @@ use std::alloc::Global;
 /// Writes the line of a text.
 fn write_text<K: Kem, O: Sink>(client: &Client<K>, out: &mut O, at: usize) -> Result<(), Failed>
     requires { at < length client.now.kept.inbox }
-    ensures { (d : Item) → Writes (O.at out.old) (O.at out.new)
+    ensures { (d : Entry) → Writes (O.at out.old) (O.at out.new)
         (text_line [] (slice_index_or client.now.kept.inbox at d)) result }
 {
     match client.inbox(at) {
@@ -36,7 +37,7 @@ fn write_text<K: Kem, O: Sink>(client: &Client<K>, out: &mut O, at: usize) -> Re
 /// Writes the line of a packet.
 fn write_packet<K: Kem, O: Sink>(client: &Client<K>, out: &mut O, at: usize) -> Result<(), Failed>
     requires { at < length client.now.kept.outbox }
-    ensures { (d : Item) → Writes (O.at out.old) (O.at out.new)
+    ensures { (d : Post) → Writes (O.at out.old) (O.at out.new)
         (packet_line (slice_index_or client.now.kept.outbox at d)) result }
 {
     match client.outbox(at) {

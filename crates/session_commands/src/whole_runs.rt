@@ -2,7 +2,7 @@
 //! them.
 
 ghost use Rattle.std.specs.Prelude.{◌≡◌, ℕ, List, Some, slice_get};
-ghost use Rattle.boxes.specs.Items.{Item};
+ghost use Rattle.boxes.specs.Posts.{Post};
 ghost use Rattle.dr_base.specs.declared.position.Side.{Side};
 ghost use Rattle.dr_base.specs.declared.position.Side.TheVariants.{First, Second};
 ghost use Rattle.dr_disk.specs.State.{Always};
@@ -62,7 +62,7 @@ pub fn runs_are_linked<D: Disk, W: Draws>(moments: &[D])
 pub fn talk<D: Disk, E: Disk, W: Draws>()
     ensures { (k : Mechanism) → IsLawfulMechanism k
         → (w : World) (start said cut crashed took : D) (hears heard answers : E)
-        (question answer : Item)
+        (question answer : Post)
         → IsTalk D.state E.state W.at k start said cut crashed took hears heard answers
         question answer
         → IsLawfulWorld k w → ReadsAsSide k w First (D.state start) → ReadsAsSide k w Second (E.state hears)

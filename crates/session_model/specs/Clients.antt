@@ -1,7 +1,8 @@
 -- One side with its boxes.
 use Rattle.std.specs.Prelude.{Bool, Err, List, None, Ok, Option, Result, Some, [], drop, if◌then◌else◌, length, nat_le, nat_lt, ℕ, ◌++◌, ◌∷◌}
 use Rattle.dr_base.specs.declared.limits.TheConstants.{TEXT_LIMIT, INBOX_LIMIT, OUTBOX_LIMIT}
-use Rattle.boxes.specs.Items.{Item, item_at}
+use Rattle.boxes.specs.Entries.{Entry, entry_under}
+use Rattle.boxes.specs.Posts.{Post}
 use Rattle.cka.specs.Agreement.{agreement_size}
 use Rattle.dr_base.specs.declared.position.Position.{Position}
 use Rattle.kem_laws.specs.Mechanism.{Mechanism}
@@ -17,8 +18,8 @@ use Rattle.session_model.specs.declared.answer.Summary.{Summary}
 
 pub record Client : Type 0 where
   pub state : State
-  pub inbox : List Item
-  pub outbox : List Item
+  pub inbox : List Entry
+  pub outbox : List Post
 
 -- whether a text of this length may be said, and then whether that needs a seed
 abbrev pub say_check : Client → ℕ → Result Bool Refusal
@@ -28,7 +29,7 @@ say_check client len =
 
 -- a text that was said: its packet stands in the outbox
 pub record SaidText : Type 0 where
-  pub post : Item
+  pub post : Post
   pub next : Client
 
 abbrev pub accept_send : Client → Option SendDraft → Result SaidText Refusal
@@ -51,7 +52,10 @@ accept_receive client (Ok draft) =
     if nat_le INBOX_LIMIT (length client.inbox) then Err InboxFull
     else Ok (record {
       position = draft.position;
-      next = record client { state = draft.next; inbox = client.inbox ++ item_at draft.position draft.text ∷ [] };
+      next = record client {
+        state = draft.next;
+        inbox = client.inbox ++ entry_under draft.position draft.text ∷ [];
+      };
     })
 
 abbrev pub take_read : Mechanism → Client → Result Fields Malformed → Result TakenPacket Refusal
@@ -62,9 +66,9 @@ take_read k client (Ok f) = accept_receive client (draft_receive k client.state 
 unfoldable pub take_on : Mechanism → Client → List ℕ → Result TakenPacket Refusal
 take_on k client bytes = take_read k client (read_packet (agreement_size k) bytes)
 
--- the oldest items of a box are dropped
-abbrev pub dropped_of : ℕ → List Item → Result (List Item) Refusal
-dropped_of n items = if nat_le n (length items) then Ok (drop n items) else Err (Fewer (length items))
+-- the oldest of a box are dropped
+abbrev pub dropped_of : {T : Type 0} → ℕ → List T → Result (List T) Refusal
+dropped_of n box = if nat_le n (length box) then Ok (drop n box) else Err (Fewer (length box))
 
 abbrev pub summary_of : Client → Summary
 summary_of client = record {

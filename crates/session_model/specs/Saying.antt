@@ -1,7 +1,7 @@
 -- What a session answers to a text, and what it keeps once the text is said.
 use Rattle.std.specs.Prelude.{Bool, Err, List, Ok, Option, Result, Some, false, if◌then◌else◌, nat_le, nat_lt, option_map, true, ℕ, ◌+◌}
 use Rattle.dr_base.specs.declared.limits.TheConstants.{TEXT_LIMIT, INDEX_LIMIT, LAST_EPOCH}
-use Rattle.boxes.specs.Items.{Item}
+use Rattle.boxes.specs.Posts.{Post}
 use Rattle.cka.specs.Agreement.{turn_of}
 use Rattle.fs_aead.specs.Chain.{chain_message_key, next_chain}
 use Rattle.kem_laws.specs.Mechanism.{Mechanism}
@@ -21,7 +21,7 @@ send_check s len = if nat_lt TEXT_LIMIT len then Err (TextTooLong len) else phas
 
 -- a text's packet under its position, and what the session keeps once it is said
 pub record SendDraft : Type 0 where
-  pub post : Item
+  pub post : Post
   pub next : State
 
 -- in an own epoch: the next key of the stream, and the epoch's agreement message again

@@ -1,6 +1,6 @@
 -- The packet of a text.
 use Rattle.std.specs.Prelude.{List, length, ℕ}
-use Rattle.boxes.specs.Items.{Item, item_at}
+use Rattle.boxes.specs.Posts.{Post, post_under}
 use Rattle.dr_base.specs.declared.position.Position.{Position}
 use Rattle.etm_aead.specs.Seal.{ciphertext_of, tag_of}
 use Rattle.packet.specs.Packet.{Fields, header_of, packet_of}
@@ -14,5 +14,6 @@ sealing session p previous agreement key text =
     fields_at session p previous agreement ciphertext (tag_of key header ciphertext)
 
 -- the text's packet under its position
-unfoldable pub posted : List ℕ → Position → ℕ → List ℕ → List ℕ → List ℕ → Item
-posted session p previous agreement key text = item_at p (packet_of (sealing session p previous agreement key text))
+unfoldable pub posted : List ℕ → Position → ℕ → List ℕ → List ℕ → List ℕ → Post
+posted session p previous agreement key text =
+    post_under p (packet_of (sealing session p previous agreement key text))

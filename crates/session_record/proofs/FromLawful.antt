@@ -5,7 +5,8 @@ use Rattle.std.proofs.lemmas.Bool.{le-leb, and_from, not_from_false}
 use Rattle.std.proofs.lemmas.Bool.Decides.{nat_tests}
 use Rattle.std.proofs.lemmas.Slice.Eq.{bytes_eq-Decides}
 use Rattle.dr_base.specs.declared.position.Side.{Side}
-use Rattle.boxes.specs.Items.{Item, item_at}
+use Rattle.boxes.specs.Entries.{Entry, entry_under}
+use Rattle.boxes.specs.Posts.{Post, post_under}
 use Rattle.kem_laws.specs.Mechanism.{IsLawful}
 use Rattle.dr_base.specs.Position.{is_own, position_at}
 use Rattle.session_model.specs.LawfulStates.{IsLawfulPhase, IsLawfulPrevious}
@@ -60,27 +61,30 @@ epoch_part epoch fits = grind (arith, nat_tests)
 
 -- ---- the boxes
 
-entry_passes : (version : Version) (s : State) (before : List Item) (item : Item) → s.epoch ≤ LAST_EPOCH
-    → length item.bytes ≤ text_most version → IsLawfulEntry s item → PassesEntry version s.side s.epoch before item
-entry_passes version s before item fits short l = record {
+entry_passes : (version : Version) (s : State) (before : List Entry) (entry : Entry) → s.epoch ≤ LAST_EPOCH
+    → length entry.text ≤ text_most version → IsLawfulEntry s entry → PassesEntry version s.side s.epoch before entry
+entry_passes version s before entry fits short l = record {
   epoch_is = and_from _ _ (not_from_false _ l.peers) (le-leb _ _ l.reached);
   epoch_fits = omega (arith, l.reached);
-  index_is = and_from _ _ (le-leb 1 item.position.index l.from_one) (le-leb item.position.index INDEX_LIMIT l.most);
-  short = le-leb (length item.bytes) (text_most version) short;
+  index_is = and_from _ _ (le-leb 1 entry.position.index l.from_one) (le-leb entry.position.index INDEX_LIMIT l.most);
+  short = le-leb (length entry.text) (text_most version) short;
 }
 
-post_passes : (k : Mechanism) (s : State) (before : List Item) (item : Item) → IsLawfulPost k s item → PassesPost k s.session s.side s.epoch before item
+post_passes : (k : Mechanism) (s : State) (before : List Post) (one : Post) → IsLawfulPost k s one → PassesPost k s.session s.side s.epoch before one
 unfolding is_post post_of
-post_passes k s before item l =
+post_passes k s before one l =
     let same = (bytes_eq-Decides l.fields.session s.session).1 l.session in
     record {
       post = ap (is_posted s.session s.side s.epoch) l.reads ∙ and_from _ _ same (and_from _ _ l.own (le-leb _ _ l.reached));
       fits = l.fits;
-      own_place = ap (λ r. item_at (place_of r) item.bytes) l.reads ∙ ap (λ p. item_at p item.bytes) (sym l.place);
+      own_place = ap (λ r. post_under (place_of r) one.packet) l.reads ∙ ap (λ p. post_under p one.packet) (sym l.place);
     }
 
-no_item : Item
-no_item = record { position = position_at 0 0; bytes = [] }
+no_entry : Entry
+no_entry = entry_under (position_at 0 0) []
+
+no_post : Post
+no_post = post_under (position_at 0 0) []
 
 pub passes : (k : Mechanism) (saved : Saved) → IsLawfulSaved k saved → Passes k saved
 passes k saved l =
@@ -104,10 +108,10 @@ passes k saved l =
       };
       boxes = record {
         few_entries = le-leb (length c.inbox) (inbox_most version) l.fits.few_entries;
-        inbox = items-from (PassesEntry version c.state.side c.state.epoch) c.inbox no_item (λ i d inside.
+        inbox = items-from (PassesEntry version c.state.side c.state.epoch) c.inbox no_entry (λ i d inside.
             entry_passes version c.state (take i c.inbox) (get_or c.inbox i d) s.epoch_fits (l.fits.short_texts i d inside) (l.client.inbox i d inside));
         few_posts = le-leb (length c.outbox) (outbox_most version) l.fits.few_posts;
-        outbox = items-from (PassesPost k c.state.session c.state.side c.state.epoch) c.outbox no_item (λ i d inside.
+        outbox = items-from (PassesPost k c.state.session c.state.side c.state.epoch) c.outbox no_post (λ i d inside.
             post_passes k c.state (take i c.outbox) (get_or c.outbox i d) (l.client.outbox i d inside));
       };
     }

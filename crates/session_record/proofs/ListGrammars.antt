@@ -5,7 +5,8 @@ use Rattle.std.proofs.lemmas.Bool.{leb-true}
 use Rattle.std.proofs.lemmas.Bool.Decides.{nat_tests}
 use Rattle.dr_base.specs.declared.key.Kept.{Kept}
 use Rattle.dr_base.specs.declared.position.Side.{Side}
-use Rattle.boxes.specs.Items.{Item}
+use Rattle.boxes.specs.Entries.{Entry}
+use Rattle.boxes.specs.Posts.{Post}
 use Rattle.kem_laws.specs.Mechanism.{Mechanism}
 use Rattle.grammar.specs.Grammar.{IsGrammar}
 use Rattle.grammar.specs.Printer.{print_counted, AreItems}
@@ -41,7 +42,7 @@ kept_list version side epoch reach =
     counted_grammar kept_text (PassesKept side epoch reach) (kept_item side epoch reach) (kept_grammar side epoch reach) w16 (2 ^ 16) exact16
     (up_to (kept_most version))
 
-entry_grammar : (version : Version) (side : Side) (epoch : ℕ) (before : List Item)
+entry_grammar : (version : Version) (side : Side) (epoch : ℕ) (before : List Entry)
     → IsGrammar entry_text (PassesEntry version side epoch before) (entry_field version side epoch)
 unfolding entry_field
 entry_grammar version side epoch before =
@@ -51,7 +52,7 @@ entry_grammar version side epoch before =
     sized_grammar w16 (2 ^ 16) exact16 (up_to (text_most version)) any)))
     (PassesEntry version side epoch before) entry_of of_entry
     (λ e l. (record { epoch_is = l.0.1; epoch_fits = l.0.0; index_is = l.1.0; short = l.1.1.0.1 }, refl))
-    (λ item l. (((l.epoch_fits, l.epoch_is), (l.index_is, ((below _ l.short, l.short), refl))), refl))
+    (λ entry l. (((l.epoch_fits, l.epoch_is), (l.index_is, ((below _ l.short, l.short), refl))), refl))
   where
     below : (n : ℕ) → up_to (text_most version) n ≡ true → n < 2 ^ 16
     below n passes = omega (arith, leb-true n (text_most version) passes, text-limit version)
@@ -64,14 +65,14 @@ inbox_list version side epoch =
     counted_grammar entry_text (PassesEntry version side epoch) (λ _. entry_field version side epoch) (entry_grammar version side epoch) w8 (2 ^ 8) exact8
     (up_to (inbox_most version))
 
-post_grammar : (k : Mechanism) (session : List ℕ) (side : Side) (epoch : ℕ) (before : List Item)
+post_grammar : (k : Mechanism) (session : List ℕ) (side : Side) (epoch : ℕ) (before : List Post)
     → IsGrammar post_text (PassesPost k session side epoch before) (post_field k session side epoch)
 unfolding post_field post_of
 post_grammar k session side epoch before =
     mapped_grammar _ _ _ (sized_grammar w16 (2 ^ 16) exact16 any_length (is_post k session side epoch))
-    (PassesPost k session side epoch before) (post_of k) (λ item. item.bytes)
+    (PassesPost k session side epoch before) (post_of k) (λ post. post.packet)
     (λ e l. (record { post = l.1; fits = l.0.0; own_place = refl }, refl))
-    (λ item l. (((l.fits, refl), l.post), l.own_place))
+    (λ post l. (((l.fits, refl), l.post), l.own_place))
 
 pub outbox_list : (k : Mechanism) (version : Version) (session : List ℕ) (side : Side) (epoch : ℕ) → IsGrammar (print_counted w8 post_text)
     (λ list. ((length list < 2 ^ 8) × (up_to (outbox_most version) (length list) ≡ true)) × AreItems (PassesPost k session side epoch) (length list) list)

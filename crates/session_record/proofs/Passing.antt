@@ -1,6 +1,7 @@
 -- The values that pass the tests of the record's reader, field by field.
 use Rattle.std.specs.Prelude.{◌≡◌, ℕ, ◌^◌, ◌<◌, true, List, length}
-use Rattle.boxes.specs.Items.{Item}
+use Rattle.boxes.specs.Entries.{Entry}
+use Rattle.boxes.specs.Posts.{Post}
 use Rattle.cka.specs.Agreement.{agreement_size}
 use Rattle.dr_base.specs.Position.{is_own}
 use Rattle.dr_base.specs.declared.key.Kept.{Kept}
@@ -40,16 +41,16 @@ pub record PassesKept (side : Side) (epoch reach : ℕ) (before : List Kept) (ke
   pub index_fits : kept.position.index < 2 ^ 32
   pub key_long : length kept.key.bytes ≡ 32
 
-pub record PassesEntry (version : Version) (side : Side) (epoch : ℕ) (before : List Item) (item : Item) : Type 0 where
-  pub epoch_is : is_peers side epoch item.position.epoch ≡ true
-  pub epoch_fits : item.position.epoch < 2 ^ 32
-  pub index_is : is_index item.position.index ≡ true
-  pub short : up_to (text_most version) (length item.bytes) ≡ true
+pub record PassesEntry (version : Version) (side : Side) (epoch : ℕ) (before : List Entry) (entry : Entry) : Type 0 where
+  pub epoch_is : is_peers side epoch entry.position.epoch ≡ true
+  pub epoch_fits : entry.position.epoch < 2 ^ 32
+  pub index_is : is_index entry.position.index ≡ true
+  pub short : up_to (text_most version) (length entry.text) ≡ true
 
-pub record PassesPost (k : Mechanism) (session : List ℕ) (side : Side) (epoch : ℕ) (before : List Item) (item : Item) : Type 0 where
-  pub post : is_post k session side epoch item.bytes ≡ true
-  pub fits : length item.bytes < 2 ^ 16
-  pub own_place : post_of k item.bytes ≡ item
+pub record PassesPost (k : Mechanism) (session : List ℕ) (side : Side) (epoch : ℕ) (before : List Post) (one : Post) : Type 0 where
+  pub post : is_post k session side epoch one.packet ≡ true
+  pub fits : length one.packet < 2 ^ 16
+  pub own_place : post_of k one.packet ≡ one
 
 -- ---- the groups
 

@@ -4,7 +4,8 @@ use Rattle.std.specs.Prelude.{All}
 use Rattle.std.specs.Int.{w8, w16, w32, to_be_bytes}
 use Rattle.std.proofs.lemmas.List.{length-drop, length_push}
 use Rattle.std.proofs.lemmas.List.Elements.{All-drop, All-push}
-use Rattle.boxes.specs.Items.{Item, item_at}
+use Rattle.boxes.specs.Entries.{Entry, entry_under}
+use Rattle.boxes.specs.Posts.{Post}
 use Rattle.cka.specs.Agreement.{agreement_size}
 use Rattle.dr_base.specs.declared.key.Kept.{Kept}
 use Rattle.dr_base.specs.declared.limits.TheConstants.{INBOX_LIMIT, KEPT_LIMIT, OUTBOX_LIMIT, PACKET_LIMIT, TEXT_LIMIT}
@@ -89,18 +90,24 @@ size-kept kept long few =
     let items = size-items kept_text KEPT_SIZE kept (λ i d inside. omega (arith, long i d inside)) in
     omega (arith, items, few)
 
--- a box with no more items than it may hold, each no longer than it may be
-pub record IsRoomy (limit room : ℕ) (box : List Item) : Type 0 where
+-- a box that holds no more than it may, each with no more bytes than it may have
+pub record IsRoomy {T : Type 0} (bytes_of : T → List ℕ) (limit room : ℕ) (box : List T) : Type 0 where
   pub few : length box ≤ limit
-  pub short : All (λ (item : Item). length item.bytes ≤ room) box
+  pub short : All (λ (one : T). length (bytes_of one) ≤ room) box
 
-size-inbox : (inbox : List Item) → IsRoomy INBOX_LIMIT TEXT_LIMIT inbox
+abbrev pub IsRoomyInbox : List Entry → Type 0
+IsRoomyInbox inbox = IsRoomy (λ (entry : Entry). entry.text) INBOX_LIMIT TEXT_LIMIT inbox
+
+abbrev pub IsRoomyOutbox : List Post → Type 0
+IsRoomyOutbox outbox = IsRoomy (λ (post : Post). post.packet) OUTBOX_LIMIT PACKET_LIMIT outbox
+
+size-inbox : (inbox : List Entry) → IsRoomyInbox inbox
     → length (print_counted w8 entry_text inbox) ≤ ENTRIES_LIMIT
 size-inbox inbox box =
     let items = size-items entry_text ENTRY_LIMIT inbox (λ i d inside. omega (arith, box.short i d inside)) in
     omega (arith, items, box.few)
 
-size-outbox : (outbox : List Item) → IsRoomy OUTBOX_LIMIT PACKET_LIMIT outbox
+size-outbox : (outbox : List Post) → IsRoomyOutbox outbox
     → length (print_counted w8 post_text outbox) ≤ POSTS_LIMIT
 size-outbox outbox box =
     let items = size-items post_text POST_LIMIT outbox (λ i d inside. omega (arith, box.short i d inside)) in
@@ -108,37 +115,40 @@ size-outbox outbox box =
 
 -- a client of which this is known has a text of at most RECORD_LIMIT bytes
 pub text-fits : (k : Mechanism) (c : Client) → IsLawfulMechanism k → IsLawfulState k c.state → All (λ (one : Kept). length one.key.bytes ≡ 32) c.state.kept
-    → IsRoomy INBOX_LIMIT TEXT_LIMIT c.inbox → IsRoomy OUTBOX_LIMIT PACKET_LIMIT c.outbox → length (record_text c) ≤ RECORD_LIMIT
+    → IsRoomyInbox c.inbox → IsRoomyOutbox c.outbox → length (record_text c) ≤ RECORD_LIMIT
 text-fits k c law l long inbox outbox =
     let s = c.state in
     omega (arith, text_size c, keys_size (keys_in s), size-heading newest s l.session_long l.root_long, size-phase k s.side s.epoch s.phase law l.phase, size-receiving s.kept s.receiving (receiving_epoch s.side s.epoch) l.receiving, size-kept s.kept long l.few, size-inbox c.inbox inbox, size-outbox c.outbox outbox)
 
 -- ---- after a change
 
-roomy-push : (limit room : ℕ) (box : List Item) (item : Item) → IsRoomy limit room box → length box < limit → length item.bytes ≤ room → IsRoomy limit room (box ++ item ∷ [])
-roomy-push limit room box item before space short = record {
-  few = omega (arith, length_push box item, space);
-  short = All-push (λ (i : Item). length i.bytes ≤ room) box item before.short short;
-}
+module _ {T : Type 0} (bytes_of : T → List ℕ) (limit room : ℕ) (box : List T) (before : IsRoomy bytes_of limit room box) where
+  roomy-push : (one : T) → length box < limit → length (bytes_of one) ≤ room → IsRoomy bytes_of limit room (box ++ one ∷ [])
+  roomy-push one space short = record {
+    few = omega (arith, length_push box one, space);
+    short = All-push (λ (one : T). length (bytes_of one) ≤ room) box one before.short short;
+  }
 
-roomy-drop : (limit room n : ℕ) (box : List Item) → IsRoomy limit room box → IsRoomy limit room (drop n box)
-roomy-drop limit room n box before = record {
-  few = omega (arith, length-drop n box, before.few);
-  short = All-drop (λ (i : Item). length i.bytes ≤ room) n box before.short;
-}
+  roomy-drop : (n : ℕ) → IsRoomy bytes_of limit room (drop n box)
+  roomy-drop n = record {
+    few = omega (arith, length-drop n box, before.few);
+    short = All-drop (λ (one : T). length (bytes_of one) ≤ room) n box before.short;
+  }
 
-pub roomy-inbox : (inbox : List Item) (change : Change) → IsRoomy INBOX_LIMIT TEXT_LIMIT inbox → FitsInbox inbox change → IsRoomy INBOX_LIMIT TEXT_LIMIT (inbox_after inbox change)
-roomy-inbox inbox (Received position text) before fits = roomy-push INBOX_LIMIT TEXT_LIMIT inbox (item_at position text.now) before fits.0 fits.1
-roomy-inbox inbox (Done n) before fits = roomy-drop INBOX_LIMIT TEXT_LIMIT n inbox before
+pub roomy-inbox : (inbox : List Entry) (change : Change) → IsRoomyInbox inbox → FitsInbox inbox change → IsRoomyInbox (inbox_after inbox change)
+roomy-inbox inbox (Received position text) before fits =
+    roomy-push (λ (entry : Entry). entry.text) INBOX_LIMIT TEXT_LIMIT inbox before (entry_under position text.now) fits.0 fits.1
+roomy-inbox inbox (Done n) before fits = roomy-drop (λ (entry : Entry). entry.text) INBOX_LIMIT TEXT_LIMIT inbox before n
 roomy-inbox inbox Same before fits = before
 roomy-inbox inbox (Said packet) before fits = before
 roomy-inbox inbox (Sent n) before fits = before
 
-pub roomy-outbox : (k : Mechanism) (outbox : List Item) (change : Change) → IsRoomy OUTBOX_LIMIT PACKET_LIMIT outbox → FitsOutbox outbox change
-    → IsRoomy OUTBOX_LIMIT PACKET_LIMIT (outbox_after k outbox change)
+pub roomy-outbox : (k : Mechanism) (outbox : List Post) (change : Change) → IsRoomyOutbox outbox → FitsOutbox outbox change
+    → IsRoomyOutbox (outbox_after k outbox change)
 unfolding post_of
-roomy-outbox k outbox (Said packet) before fits = roomy-push OUTBOX_LIMIT PACKET_LIMIT outbox (post_of k packet.now) before fits.0 fits.1
-roomy-outbox k outbox (Sent n) before fits = roomy-drop OUTBOX_LIMIT PACKET_LIMIT n outbox before
+roomy-outbox k outbox (Said packet) before fits =
+    roomy-push (λ (post : Post). post.packet) OUTBOX_LIMIT PACKET_LIMIT outbox before (post_of k packet.now) fits.0 fits.1
+roomy-outbox k outbox (Sent n) before fits = roomy-drop (λ (post : Post). post.packet) OUTBOX_LIMIT PACKET_LIMIT outbox before n
 roomy-outbox k outbox Same before fits = before
 roomy-outbox k outbox (Received position text) before fits = before
 roomy-outbox k outbox (Done n) before fits = before

@@ -6,7 +6,8 @@ use Rattle.std.proofs.lemmas.Bool.Decides.{nat_tests}
 use Rattle.std.proofs.lemmas.List.Elements.{All-push}
 use Rattle.std.proofs.lemmas.Slice.Eq.{bytes_eq-Decides}
 use Rattle.std.specs.Str.{bytes_eq}
-use Rattle.boxes.specs.Items.{Item, item_at}
+use Rattle.boxes.specs.Entries.{Entry}
+use Rattle.boxes.specs.Posts.{Post, post_under}
 use Rattle.cka.specs.Agreement.{agreement_size}
 use Rattle.packet.specs.Packet.{Fields}
 use Rattle.packet.specs.Reading.{read_packet}
@@ -76,25 +77,25 @@ lawful_kept side epoch reach before kept few l =
     let index = l.index_is in
     record { peers = not-true (is_own side t) (and_parts (not (is_own side t)) (nat_le t epoch) parts.0).0; one = grind (arith, nat_tests); most = grind (arith, nat_tests) }
 
-lawful_entry : (version : Version) (s : State) (before : List Item) (item : Item)
-    → PassesEntry version s.side s.epoch before item → IsLawfulEntry s item
-lawful_entry version s before item l =
-    let t = item.position.epoch in
+lawful_entry : (version : Version) (s : State) (before : List Entry) (entry : Entry)
+    → PassesEntry version s.side s.epoch before entry → IsLawfulEntry s entry
+lawful_entry version s before entry l =
+    let t = entry.position.epoch in
     let peers = and_parts (not (is_own s.side t)) (nat_le t s.epoch) l.epoch_is in
-    let index = and_parts (nat_le 1 item.position.index) (nat_le item.position.index INDEX_LIMIT) l.index_is in
+    let index = and_parts (nat_le 1 entry.position.index) (nat_le entry.position.index INDEX_LIMIT) l.index_is in
     record {
       peers = not-true (is_own s.side t) peers.0;
       reached = leb-true t s.epoch peers.1;
-      from_one = leb-true 1 item.position.index index.0;
-      most = leb-true item.position.index INDEX_LIMIT index.1;
-      short = omega (arith, leb-true (length item.bytes) (text_most version) l.short, text-limit version);
+      from_one = leb-true 1 entry.position.index index.0;
+      most = leb-true entry.position.index INDEX_LIMIT index.1;
+      short = omega (arith, leb-true (length entry.text) (text_most version) l.short, text-limit version);
     }
 
-lawful_post : (k : Mechanism) (s : State) (before : List Item) (item : Item) → PassesPost k s.session s.side s.epoch before item → IsLawfulPost k s item
+lawful_post : (k : Mechanism) (s : State) (before : List Post) (post : Post) → PassesPost k s.session s.side s.epoch before post → IsLawfulPost k s post
 unfolding is_post post_of
-lawful_post k s before item l = read (read_packet (agreement_size k) item.bytes) refl l.post l.own_place
+lawful_post k s before post l = read (read_packet (agreement_size k) post.packet) refl l.post l.own_place
   where
-    read : (r : Result Fields Malformed) → read_packet (agreement_size k) item.bytes ≡ r → is_posted s.session s.side s.epoch r ≡ true → item_at (place_of r) item.bytes ≡ item → IsLawfulPost k s item
+    read : (r : Result Fields Malformed) → read_packet (agreement_size k) post.packet ≡ r → is_posted s.session s.side s.epoch r ≡ true → post_under (place_of r) post.packet ≡ post → IsLawfulPost k s post
     read (Err fault) is passes place = absurd (let e : false ≡ true = passes in cc)
     read (Ok f) is passes place =
         let parts = and_parts (bytes_eq f.session s.session) (is_own s.side f.epoch && nat_le f.epoch s.epoch) passes in
@@ -105,7 +106,7 @@ lawful_post k s before item l = read (read_packet (agreement_size k) item.bytes)
           session = (bytes_eq-Decides f.session s.session).0 parts.0;
           own = own.0;
           reached = leb-true f.epoch s.epoch own.1;
-          place = ap (λ (i : Item). i.position) (sym place);
+          place = ap (λ (own : Post). own.position) (sym place);
           fits = l.fits;
         }
 
@@ -130,8 +131,8 @@ fits_version k saved l =
     record {
       few_kept = leb-true (length c.state.kept) (kept_most version) l.keys.few_kept;
       few_entries = leb-true (length c.inbox) (inbox_most version) l.boxes.few_entries;
-      short_texts = each_of (PassesEntry version c.state.side c.state.epoch) (λ item. length item.bytes ≤ text_most version)
-          (λ before item passes. leb-true (length item.bytes) (text_most version) passes.short) (length c.inbox) c.inbox l.boxes.inbox;
+      short_texts = each_of (PassesEntry version c.state.side c.state.epoch) (λ entry. length entry.text ≤ text_most version)
+          (λ before entry passes. leb-true (length entry.text) (text_most version) passes.short) (length c.inbox) c.inbox l.boxes.inbox;
       few_posts = leb-true (length c.outbox) (outbox_most version) l.boxes.few_posts;
     }
 

@@ -1,6 +1,7 @@
 -- What a call changes of the boxes.
 use Rattle.std.specs.Prelude.{⊤, ◌<◌, ◌≤◌, List, [], ◌∷◌, ◌++◌, length, drop}
-use Rattle.boxes.specs.Items.{Item, item_at}
+use Rattle.boxes.specs.Entries.{Entry, entry_under}
+use Rattle.boxes.specs.Posts.{Post}
 use Rattle.dr_base.specs.declared.limits.TheConstants.{INBOX_LIMIT, OUTBOX_LIMIT, PACKET_LIMIT, TEXT_LIMIT}
 use Rattle.kem_laws.specs.Mechanism.{Mechanism}
 use Rattle.session_model.specs.Clients.{Client}
@@ -8,12 +9,12 @@ use Rattle.session_record.specs.declared.change.Change.{Change}
 use Rattle.session_record.specs.declared.change.Change.TheVariants.{Received, Said, Done, Sent}
 use Rattle.session_record.specs.Lists.{post_of}
 
-abbrev pub inbox_after : List Item → Change → List Item
-inbox_after inbox (Received position text) = inbox ++ item_at position text.now ∷ []
+abbrev pub inbox_after : List Entry → Change → List Entry
+inbox_after inbox (Received position text) = inbox ++ entry_under position text.now ∷ []
 inbox_after inbox (Done n) = drop n inbox
 inbox_after inbox _ = inbox
 
-abbrev pub outbox_after : Mechanism → List Item → Change → List Item
+abbrev pub outbox_after : Mechanism → List Post → Change → List Post
 outbox_after k outbox (Said packet) = outbox ++ post_of k packet.now ∷ []
 outbox_after k outbox (Sent n) = drop n outbox
 outbox_after k outbox _ = outbox
@@ -24,13 +25,13 @@ changed k c change =
     record c { inbox = inbox_after c.inbox change; outbox = outbox_after k c.outbox change }
 
 -- the boxes have room for what comes, and hold what goes
-abbrev pub FitsInbox : List Item → Change → Type 0
+abbrev pub FitsInbox : List Entry → Change → Type 0
 FitsInbox inbox (Received position text) =
     (length inbox < INBOX_LIMIT) × (length text.now ≤ TEXT_LIMIT)
 FitsInbox inbox (Done n) = n ≤ length inbox
 FitsInbox inbox _ = ⊤
 
-abbrev pub FitsOutbox : List Item → Change → Type 0
+abbrev pub FitsOutbox : List Post → Change → Type 0
 FitsOutbox outbox (Said packet) =
     (length outbox < OUTBOX_LIMIT) × (length packet.now ≤ PACKET_LIMIT)
 FitsOutbox outbox (Sent n) = n ≤ length outbox

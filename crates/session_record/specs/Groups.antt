@@ -2,7 +2,8 @@
 -- the heading, the keys, the boxes. What the heading says is handed to the others, the version too.
 use Rattle.std.specs.Prelude.{ℕ, List, ◌++◌, Option}
 use Rattle.std.specs.Int.{w8, w16, w32, to_be_bytes}
-use Rattle.boxes.specs.Items.{Item}
+use Rattle.boxes.specs.Entries.{Entry}
+use Rattle.boxes.specs.Posts.{Post}
 use Rattle.dr_base.specs.declared.key.Kept.{Kept}
 use Rattle.dr_base.specs.declared.position.Side.{Side}
 use Rattle.grammar.specs.Printer.{print_maybe, print_counted}
@@ -78,13 +79,13 @@ keys_text keys =
 -- ---- the boxes
 
 pub record Boxes : Type 0 where
-  pub inbox : List Item
-  pub outbox : List Item
+  pub inbox : List Entry
+  pub outbox : List Post
 
-abbrev pub boxes_of : List Item × List Item → Boxes
+abbrev pub boxes_of : List Entry × List Post → Boxes
 boxes_of e = record { inbox = e.0; outbox = e.1 }
 
-abbrev pub of_boxes : Boxes → List Item × List Item
+abbrev pub of_boxes : Boxes → List Entry × List Post
 of_boxes boxes = (boxes.inbox, boxes.outbox)
 
 unfoldable pub boxes_fields : Mechanism → Heading → Reader Boxes

@@ -1,6 +1,7 @@
 -- The clients that have a record.
 use Rattle.std.specs.Prelude.{◌≡◌, ◌^◌, ◌<◌, ◌≤◌, true, false, All, length, Ok}
-use Rattle.boxes.specs.Items.{Item}
+use Rattle.boxes.specs.Entries.{Entry}
+use Rattle.boxes.specs.Posts.{Post}
 use Rattle.cka.specs.Agreement.{agreement_size}
 use Rattle.dr_base.specs.Position.{is_own}
 use Rattle.dr_base.specs.declared.limits.TheConstants.{INBOX_LIMIT, INDEX_LIMIT, OUTBOX_LIMIT, TEXT_LIMIT}
@@ -16,23 +17,23 @@ use Rattle.session_record.specs.Versions.{inbox_most, kept_most, outbox_most, te
 use Rattle.session_record.specs.declared.versions.Version.{Version}
 
 -- a text of the peer's, of an epoch that was reached
-pub record IsLawfulEntry (s : State) (item : Item) : Type 0 where
-  pub peers : is_own s.side item.position.epoch ≡ false
-  pub reached : item.position.epoch ≤ s.epoch
-  pub from_one : 1 ≤ item.position.index
-  pub most : item.position.index ≤ INDEX_LIMIT
-  pub short : length item.bytes ≤ TEXT_LIMIT
+pub record IsLawfulEntry (s : State) (entry : Entry) : Type 0 where
+  pub peers : is_own s.side entry.position.epoch ≡ false
+  pub reached : entry.position.epoch ≤ s.epoch
+  pub from_one : 1 ≤ entry.position.index
+  pub most : entry.position.index ≤ INDEX_LIMIT
+  pub short : length entry.text ≤ TEXT_LIMIT
 
 -- a packet of the session, of an own epoch that was reached, under the position that it names
-pub record IsLawfulPost (k : Mechanism) (s : State) (item : Item) : Type 0 where
+pub record IsLawfulPost (k : Mechanism) (s : State) (post : Post) : Type 0 where
   pub fields : Fields
-  pub reads : read_packet (agreement_size k) item.bytes ≡ Ok fields
+  pub reads : read_packet (agreement_size k) post.packet ≡ Ok fields
   pub session : fields.session ≡ s.session
   pub own : is_own s.side fields.epoch ≡ true
   pub reached : fields.epoch ≤ s.epoch
-  pub place : item.position ≡ position_of fields
+  pub place : post.position ≡ position_of fields
   -- its length stands in two bytes
-  pub fits : length item.bytes < 2 ^ 16
+  pub fits : length post.packet < 2 ^ 16
 
 -- a lawful state, and boxes that hold what they may
 pub record IsLawfulClient (k : Mechanism) (c : Client) : Type 0 where
@@ -47,7 +48,7 @@ pub record IsLawfulClient (k : Mechanism) (c : Client) : Type 0 where
 pub record FitsVersion (version : Version) (c : Client) : Type 0 where
   pub few_kept : length c.state.kept ≤ kept_most version
   pub few_entries : length c.inbox ≤ inbox_most version
-  pub short_texts : All (λ item. length item.bytes ≤ text_most version) c.inbox
+  pub short_texts : All (λ entry. length entry.text ≤ text_most version) c.inbox
   pub few_posts : length c.outbox ≤ outbox_most version
 
 -- a client that has a record in a version

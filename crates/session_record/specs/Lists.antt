@@ -2,7 +2,8 @@
 use Rattle.std.specs.Prelude.{ℕ, ◌+◌, ◌&&◌, ◌||◌, Bool, true, false, not, nat_le, nat_lt, List, [], ◌∷◌, ◌++◌, Option, Some, None, Result, Ok, Err, if◌then◌else◌}
 use Rattle.std.specs.Int.{w8, w16, w32, to_be_bytes}
 use Rattle.std.specs.Str.{bytes_eq}
-use Rattle.boxes.specs.Items.{Item, item_at}
+use Rattle.boxes.specs.Entries.{Entry, entry_under}
+use Rattle.boxes.specs.Posts.{Post, post_under}
 use Rattle.cka.specs.Agreement.{agreement_size}
 use Rattle.dr_base.specs.Position.{is_own, position_at}
 use Rattle.dr_base.specs.declared.key.Kept.{Kept}
@@ -82,27 +83,27 @@ kept_text kept =
 abbrev pub any : List ℕ → Bool
 any bytes = true
 
-abbrev pub entry_of : ℕ × (ℕ × List ℕ) → Item
-entry_of e = item_at (position_at e.0 e.1.0) e.1.1
+abbrev pub entry_of : ℕ × (ℕ × List ℕ) → Entry
+entry_of e = entry_under (position_at e.0 e.1.0) e.1.1
 
-abbrev pub of_entry : Item → ℕ × (ℕ × List ℕ)
-of_entry item = (item.position.epoch, (item.position.index, item.bytes))
+abbrev pub of_entry : Entry → ℕ × (ℕ × List ℕ)
+of_entry entry = (entry.position.epoch, (entry.position.index, entry.text))
 
-unfoldable pub entry_field : Version → Side → ℕ → Reader Item
+unfoldable pub entry_field : Version → Side → ℕ → Reader Entry
 entry_field version side epoch =
     mapped entry_of
     (both (checked (is_peers side epoch) (number w32)) (λ _.
     both (checked is_index (number w32)) (λ _.
     sized w16 (up_to (text_most version)) any)))
 
-unfoldable pub inbox_field : Version → Side → ℕ → Reader (List Item)
+unfoldable pub inbox_field : Version → Side → ℕ → Reader (List Entry)
 inbox_field version side epoch =
     counted w8 (up_to (inbox_most version)) (λ _. entry_field version side epoch)
 
-abbrev pub entry_text : Item → List ℕ
-entry_text item =
-    to_be_bytes w32 item.position.epoch
-    ++ (to_be_bytes w32 item.position.index ++ print_sized w16 item.bytes)
+abbrev pub entry_text : Entry → List ℕ
+entry_text entry =
+    to_be_bytes w32 entry.position.epoch
+    ++ (to_be_bytes w32 entry.position.index ++ print_sized w16 entry.text)
 
 -- ---- the outbox: packets, each after its length
 
@@ -121,20 +122,20 @@ place_of (Ok f) = position_at f.epoch f.index
 place_of (Err fault) = position_at 0 0
 
 -- a packet stands under its own position
-unfoldable pub post_of : Mechanism → List ℕ → Item
-post_of k bytes = item_at (place_of (read_packet (agreement_size k) bytes)) bytes
+unfoldable pub post_of : Mechanism → List ℕ → Post
+post_of k bytes = post_under (place_of (read_packet (agreement_size k) bytes)) bytes
 
 -- any length will do: a packet of another one is a fault of the packet
 abbrev pub any_length : ℕ → Bool
 any_length n = true
 
-unfoldable pub post_field : Mechanism → List ℕ → Side → ℕ → Reader Item
+unfoldable pub post_field : Mechanism → List ℕ → Side → ℕ → Reader Post
 post_field k session side epoch =
     mapped (post_of k) (sized w16 any_length (is_post k session side epoch))
 
-unfoldable pub outbox_field : Mechanism → Version → List ℕ → Side → ℕ → Reader (List Item)
+unfoldable pub outbox_field : Mechanism → Version → List ℕ → Side → ℕ → Reader (List Post)
 outbox_field k version session side epoch =
     counted w8 (up_to (outbox_most version)) (λ _. post_field k session side epoch)
 
-abbrev pub post_text : Item → List ℕ
-post_text item = print_sized w16 item.bytes
+abbrev pub post_text : Post → List ℕ
+post_text post = print_sized w16 post.packet

@@ -1,7 +1,8 @@
 -- The record of a client: what its session keeps, its inbox and its outbox, as one text. Numbers
 -- are big-endian, and no field has a choice: in each version a client has one text.
 use Rattle.std.specs.Prelude.{ℕ, List, ◌++◌, Result, Ok, Err}
-use Rattle.boxes.specs.Items.{Item}
+use Rattle.boxes.specs.Entries.{Entry}
+use Rattle.boxes.specs.Posts.{Post}
 use Rattle.grammar.specs.Reader.{Reader, mapped, both, whole}
 use Rattle.kem_laws.specs.Mechanism.{Mechanism}
 use Rattle.session_model.specs.Clients.{Client}
@@ -12,7 +13,7 @@ use Rattle.session_record.specs.declared.groups.Heading.{Heading}
 use Rattle.session_record.specs.declared.versions.Version.{Version}
 
 -- a client from its parts in code
-abbrev pub client_of : State → List Item → List Item → Client
+abbrev pub client_of : State → List Entry → List Post → Client
 client_of state inbox outbox = record { state = state; inbox = inbox; outbox = outbox }
 
 -- a client in a version

@@ -1,6 +1,7 @@
 -- What the keys that code read stand for.
 use Rattle.std.specs.Prelude.{List, option_map}
-use Rattle.boxes.specs.Items.{Item}
+use Rattle.boxes.specs.Entries.{Entry}
+use Rattle.boxes.specs.Posts.{Post}
 use Rattle.session_model.specs.Seen.{phase_seen, reception_seen}
 use Rattle.session_record.specs.Groups.{Keys, boxes_of}
 use Rattle.session_record.specs.Record.{Groups}
@@ -16,5 +17,5 @@ keys_seen keys = record {
 }
 
 -- with what the boxes hold
-abbrev pub groups_read : Heading → KeysRead → List Item → List Item → Groups
+abbrev pub groups_read : Heading → KeysRead → List Entry → List Post → Groups
 groups_read h keys inbox outbox = (h, (keys_seen keys, boxes_of (inbox, outbox)))

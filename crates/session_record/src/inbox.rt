@@ -2,8 +2,8 @@
 
 ghost use Rattle.std.specs.Prelude.{◌≡◌, ◌+◌, ◌<◌, ◌≤◌, [], ◌∷◌, ◌++◌, length, drop, IfOk};
 ghost use Rattle.std.specs.Int.{w8, w16};
-ghost use Rattle.boxes.specs.Items.{item_at};
-ghost use Rattle.boxes.specs.Seen.{entry_item};
+ghost use Rattle.boxes.specs.Entries.{entry_under};
+ghost use Rattle.boxes.specs.Seen.{entry_seen};
 ghost use Rattle.dr_base.specs.Buffer.{Puts};
 ghost use Rattle.grammar.specs.Printer.{print_counted, print_items};
 ghost use Rattle.grammar.specs.Reader.{items, sized};
@@ -36,7 +36,7 @@ fn read_text<'a>(cursor: &mut Cursor<'a>, limit: usize) -> Result<&'a [u8], usiz
 #[tactic(auto, unfolding(crate::specs::Lists::entry_field))]
 fn read_entry<'a>(cursor: &mut Cursor<'a>, heading: &Heading) -> Result<Entry<'a>, usize>
     ensures reads { let h = heading.now in
-        Reads entry_item (entry_field h.version h.side h.epoch) cursor.old cursor.new result }
+        Reads entry_seen (entry_field h.version h.side h.epoch) cursor.old cursor.new result }
     ensures short { IfOk result (λ e. length e.text.now ≤ TEXT_LIMIT) }
 {
     let at_epoch = cursor.at();
@@ -114,8 +114,8 @@ pub(crate) fn skim_inbox(cursor: &mut Cursor<'_>, heading: &Heading) -> Result<(
 /// Puts a text and its position.
 fn put_entry(out: &mut [u8], at: usize, position: Position, text: &[u8]) -> usize
     requires short { length text.now ≤ TEXT_LIMIT }
-    requires room { at + length (entry_text (item_at position text.now)) ≤ length out.old }
-    ensures { Puts out.old out.new at (entry_text (item_at position text.now)) result }
+    requires room { at + length (entry_text (entry_under position text.now)) ≤ length out.old }
+    ensures { Puts out.old out.new at (entry_text (entry_under position text.now)) result }
 {
     let at_index = put_u32(out, at, position.epoch);
     let at_size = put_u32(out, at_index, position.index);
@@ -154,9 +154,9 @@ fn put_later(out: &mut [u8], at: usize, inbox: &Inbox, from: u32) -> usize
 fn put_more(out: &mut [u8], at: usize, inbox: &Inbox, position: Position, text: &[u8]) -> usize
     requires space { length inbox.now < INBOX_LIMIT }
     requires short { length text.now ≤ TEXT_LIMIT }
-    requires room { let more = inbox.now ++ item_at position text.now ∷ [] in
+    requires room { let more = inbox.now ++ entry_under position text.now ∷ [] in
         at + length (print_counted w8 entry_text more) ≤ length out.old }
-    ensures { let more = inbox.now ++ item_at position text.now ∷ [] in
+    ensures { let more = inbox.now ++ entry_under position text.now ∷ [] in
         Puts out.old out.new at (print_counted w8 entry_text more) result }
 {
     let at_first = put_u8(out, at, inbox.len() as u8 + 1);

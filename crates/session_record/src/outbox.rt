@@ -2,7 +2,7 @@
 
 ghost use Rattle.std.specs.Prelude.{◌≡◌, ℕ, ◌+◌, ◌<◌, ◌≤◌, [], ◌∷◌, ◌++◌, length, drop, IfOk};
 ghost use Rattle.std.specs.Int.{w8};
-ghost use Rattle.boxes.specs.Items.{item_at};
+ghost use Rattle.boxes.specs.Posts.{post_under};
 ghost use Rattle.dr_base.specs.Buffer.{Puts};
 ghost use Rattle.dr_base.specs.declared.position.Position.{Position};
 ghost use Rattle.grammar.specs.Printer.{print_counted, print_items};
@@ -29,7 +29,7 @@ fn read_post<'a, K: Kem>(
 ) -> Result<(Position, &'a [u8]), usize>
     ensures reads { let h = heading.now in
         let post = post_field K.mechanism h.session h.side h.epoch in
-        Reads (λ p. item_at p.0 p.1.now) post cursor.old cursor.new result }
+        Reads (λ p. post_under p.0 p.1.now) post cursor.old cursor.new result }
     ensures fits { IfOk result (λ p. length p.1.now ≤ PACKET_LIMIT) }
 {
     laws::<K>();
@@ -116,7 +116,7 @@ pub(crate) fn skim_outbox<K: Kem>(cursor: &mut Cursor<'_>, heading: &Heading) ->
 fn put_post(out: &mut [u8], at: usize, packet: &[u8]) -> usize
     requires short { length packet.now ≤ PACKET_LIMIT }
     requires room { at + 2 + length packet.now ≤ length out.old }
-    ensures { (position : Position) → let post = item_at position packet.now in
+    ensures { (position : Position) → let post = post_under position packet.now in
         Puts out.old out.new at (post_text post) result }
 {
     let at_packet = put_u16(out, at, packet.len() as u16);

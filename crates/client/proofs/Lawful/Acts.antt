@@ -4,7 +4,8 @@ use Rattle.std.specs.Prelude.{drop, nat_le, nat_lt}
 use Rattle.std.proofs.lemmas.Bool.Decides.{nat_tests}
 use Rattle.std.proofs.lemmas.List.{length-drop}
 use Rattle.std.proofs.lemmas.List.Elements.{All-drop}
-use Rattle.boxes.specs.Items.{Item, item_at}
+use Rattle.boxes.specs.Entries.{Entry, entry_under}
+use Rattle.boxes.specs.Posts.{Post}
 use Rattle.cka.specs.Agreement.{agreement_size}
 use Rattle.dr_base.specs.declared.limits.TheConstants.{INBOX_LIMIT, OUTBOX_LIMIT, TEXT_LIMIT}
 use Rattle.kem_laws.specs.Mechanism.{IsLawfulMechanism, Mechanism}
@@ -63,7 +64,7 @@ drafted_lawful k c f (Err refusal) taken l packet gives is = absurd (let no : Er
 drafted_lawful k c f (Ok draft) taken l packet gives is =
     let one : TakenPacket = record {
       position = draft.position;
-      next = record c { state = draft.next; inbox = c.inbox ++ item_at draft.position draft.text ∷ [] };
+      next = record c { state = draft.next; inbox = c.inbox ++ entry_under draft.position draft.text ∷ [] };
     } in
     let under = passes (nat_le INBOX_LIMIT (length c.inbox)) _ (Ok one) taken is in
     let room : length c.inbox < INBOX_LIMIT = let no = under.0 in grind (arith, nat_tests) in
@@ -85,7 +86,7 @@ take_lawful k c bytes taken l small is = by_fields (read_packet (agreement_size 
 
 -- ---- items are dropped
 
-pub dropped_are : (n : ℕ) (items rest : List Item) → dropped_of n items ≡ Ok rest → drop n items ≡ rest
+pub dropped_are : {A : Type 0} (n : ℕ) (items rest : List A) → dropped_of n items ≡ Ok rest → drop n items ≡ rest
 dropped_are n items rest is =
     let through : Ok (drop n items) ≡ Ok rest = lets (nat_le n (length items)) _ (Ok (drop n items)) rest is in cc
 
@@ -107,14 +108,14 @@ dropped_lawful k c (PacketsSent n) l = record {
   few_posts = omega (arith, length-drop n c.outbox, l.few_posts);
 }
 
-pub sent_lawful : (k : Mechanism) (c : Client) (n : ℕ) (outbox : List Item) → IsLawfulClient k c
+pub sent_lawful : (k : Mechanism) (c : Client) (n : ℕ) (outbox : List Post) → IsLawfulClient k c
     → dropped_of n c.outbox ≡ Ok outbox → IsLawfulClient k (record c { outbox = outbox })
 sent_lawful k c n outbox l is =
-    subst (λ (items : List Item). IsLawfulClient k (record c { outbox = items })) (dropped_are n c.outbox outbox is)
+    subst (λ (items : List Post). IsLawfulClient k (record c { outbox = items })) (dropped_are n c.outbox outbox is)
     (dropped_lawful k c (PacketsSent n) l)
 
-pub done_lawful : (k : Mechanism) (c : Client) (n : ℕ) (inbox : List Item) → IsLawfulClient k c
+pub done_lawful : (k : Mechanism) (c : Client) (n : ℕ) (inbox : List Entry) → IsLawfulClient k c
     → dropped_of n c.inbox ≡ Ok inbox → IsLawfulClient k (record c { inbox = inbox })
 done_lawful k c n inbox l is =
-    subst (λ (items : List Item). IsLawfulClient k (record c { inbox = items })) (dropped_are n c.inbox inbox is)
+    subst (λ (items : List Entry). IsLawfulClient k (record c { inbox = items })) (dropped_are n c.inbox inbox is)
     (dropped_lawful k c (TextsDone n) l)

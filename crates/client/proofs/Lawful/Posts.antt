@@ -2,7 +2,7 @@
 use Rattle.std.proofs.Common.{List, None, Ok, Option, Some, [], arith, length, subst, sym, ℕ, ◌<◌, ◌∷◌, ◌≡◌, ◌≤◌}
 use Rattle.std.specs.Prelude.{All, IfSome, option_map, slice_get, slice_index_or}
 use Rattle.std.proofs.lemmas.Option.{get_or_from_slice_get, slice_get_within}
-use Rattle.boxes.specs.Items.{Item}
+use Rattle.boxes.specs.Posts.{Post}
 use Rattle.kem_laws.specs.Mechanism.{Mechanism}
 use Rattle.packet.specs.Packet.{Fields}
 use Rattle.packet.specs.Reading.{field, lawful, number, read_packet}
@@ -14,9 +14,9 @@ unfolding read_packet lawful number field
 packet_some agreement [] f is = absurd (cc is)
 packet_some agreement (b ∷ bytes) f is = omega arith
 
-pub posts_some : {A : Type 0} (k : Mechanism) (s : State) (item_of : A → Item) (outbox : List Item) (at : ℕ) (shown : Option A)
+pub posts_some : {A : Type 0} (k : Mechanism) (s : State) (item_of : A → Post) (outbox : List Post) (at : ℕ) (shown : Option A)
     → All (IsLawfulPost k s) outbox → option_map item_of shown ≡ slice_get outbox at
-    → IfSome shown (λ a. 1 ≤ length (item_of a).bytes)
+    → IfSome shown (λ a. 1 ≤ length (item_of a).packet)
 posts_some k s item_of outbox at None each is = tt
 posts_some k s item_of outbox at (Some a) each is =
     let inside : at < length outbox = slice_get_within outbox at (item_of a) (sym is) in

@@ -4,7 +4,8 @@ use Rattle.std.specs.Prelude.{All, if◌then◌else◌, nat_le, nat_lt, option_m
 use Rattle.std.proofs.lemmas.Bool.Decides.{nat_tests}
 use Rattle.std.proofs.lemmas.List.{length_push}
 use Rattle.std.proofs.lemmas.List.Elements.{All-push, All-weaker}
-use Rattle.boxes.specs.Items.{Item}
+use Rattle.boxes.specs.Entries.{Entry}
+use Rattle.boxes.specs.Posts.{Post}
 use Rattle.cka.specs.Agreement.{agreement_size, turn_of}
 use Rattle.dr_base.specs.Position.{is_own}
 use Rattle.dr_base.specs.declared.limits.TheConstants.{AGREEMENT_LIMIT, INDEX_LIMIT, OUTBOX_LIMIT, TEXT_LIMIT}
@@ -32,7 +33,7 @@ pub record GoesOn (s next : State) : Type 0 where
   pub session : next.session ≡ s.session
   pub grows : s.epoch ≤ next.epoch
 
-pub entries_stay : (s next : State) (inbox : List Item) → GoesOn s next → All (IsLawfulEntry s) inbox
+pub entries_stay : (s next : State) (inbox : List Entry) → GoesOn s next → All (IsLawfulEntry s) inbox
     → All (IsLawfulEntry next) inbox
 entries_stay s next inbox on each =
     All-weaker (IsLawfulEntry s) (IsLawfulEntry next)
@@ -44,7 +45,7 @@ entries_stay s next inbox on each =
       short = l.short;
     }) inbox each
 
-pub posts_stay : (k : Mechanism) (s next : State) (outbox : List Item) → GoesOn s next → All (IsLawfulPost k s) outbox
+pub posts_stay : (k : Mechanism) (s next : State) (outbox : List Post) → GoesOn s next → All (IsLawfulPost k s) outbox
     → All (IsLawfulPost k next) outbox
 posts_stay k s next outbox on each =
     All-weaker (IsLawfulPost k s) (IsLawfulPost k next)

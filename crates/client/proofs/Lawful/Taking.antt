@@ -5,7 +5,7 @@ use Rattle.std.specs.Prelude.{All, if◌then◌else◌, nat_eq, nat_le, nat_lt, 
 use Rattle.std.proofs.lemmas.Bool.Decides.{nat_tests}
 use Rattle.std.proofs.lemmas.List.{length_push}
 use Rattle.std.proofs.lemmas.List.Elements.{All-append, All-filter, All-nil, All-push}
-use Rattle.boxes.specs.Items.{item_at}
+use Rattle.boxes.specs.Entries.{entry_under}
 use Rattle.cka.specs.Agreement.{agreement_size}
 use Rattle.dr_base.specs.Position.{is_own}
 use Rattle.dr_base.specs.declared.key.Kept.{Kept}
@@ -181,7 +181,7 @@ opened_way k s f (Ok way) draft long found is = opened_on s f way draft (taken_w
 -- ---- the client
 
 entry_lawful : (k : Mechanism) (s : State) (f : Fields) (draft : ReceiveDraft) → IsLawful (agreement_size k) f
-    → IsOpened s f draft → IsLawfulEntry draft.next (item_at draft.position draft.text)
+    → IsOpened s f draft → IsLawfulEntry draft.next (entry_under draft.position draft.text)
 entry_lawful k s f draft packet o =
     let epoch : draft.position.epoch ≡ f.epoch = ap (λ (p : Position). p.epoch) o.place in
     let index : draft.position.index ≡ f.index = ap (λ (p : Position). p.index) o.place in
@@ -198,11 +198,11 @@ entry_lawful k s f draft packet o =
 pub taken_lawful : (k : Mechanism) (c : Client) (f : Fields) (draft : ReceiveDraft) → IsLawful (agreement_size k) f
     → IsLawfulClient k c → IsLawfulState k draft.next → length c.inbox < INBOX_LIMIT
     → draft_receive k c.state f ≡ Ok draft
-    → IsLawfulClient k (client_of draft.next (c.inbox ++ item_at draft.position draft.text ∷ []) c.outbox)
+    → IsLawfulClient k (client_of draft.next (c.inbox ++ entry_under draft.position draft.text ∷ []) c.outbox)
 unfolding draft_receive
 taken_lawful k c f draft packet l after room gives =
     let o = opened_way k c.state f (way_of k c.state f) draft l.keys_long refl gives in
-    let item = item_at draft.position draft.text in
+    let item = entry_under draft.position draft.text in
     record {
       state = after;
       keys_long = o.peers.taken.long;

@@ -110,23 +110,23 @@ module _ (k : Mechanism) (grounds : Grounds k) (prefix own_name peers_name : Lis
   p = party_of k prefix own_name peers_name
 
   taken_behind : (ps : List Position) (ks : List Kept) (w : World) (kept : Client) → IsKeptIn k side kept w
-      → map (λ (x : Kept). x.packet) ks ≡ map (λ (q : Position). (post_at k w.conversation q).bytes) ps → AreExpected k w side ps
+      → map (λ (x : Kept). x.packet) ks ≡ map (λ (q : Position). (post_at k w.conversation q).packet) ps → AreExpected k w side ps
       → Behind k side w ps (taken_all p kept ks) × HasRoom p kept ks
   taken_behind [] [] w kept is holds expected = (record { later = w; is_kept = is; conversation = refl; arrived = refl }, tt)
   taken_behind [] (x ∷ ks) w kept is holds expected = absurd (let e : x.packet ∷ map (λ (x : Kept). x.packet) ks ≡ [] = holds in cc)
   taken_behind (q ∷ ps) [] w kept is holds expected =
-      absurd (let e : [] ≡ (post_at k w.conversation q).bytes ∷ map (λ (q : Position). (post_at k w.conversation q).bytes) ps = holds in cc)
+      absurd (let e : [] ≡ (post_at k w.conversation q).packet ∷ map (λ (q : Position). (post_at k w.conversation q).packet) ps = holds in cc)
   taken_behind (q ∷ ps) (x ∷ ks) w kept is holds expected =
       let said = expected.0.said in
       let made = step_of k w (takes side q) in
-      let head : x.packet ≡ (post_at k w.conversation q).bytes = head_is _ _ _ _ holds in
+      let head : x.packet ≡ (post_at k w.conversation q).packet = head_is _ _ _ _ holds in
       let fair : IsUnforged k w side x.packet = subst (IsUnforged k w side) (sym head) (real k w side q is.lawful said) in
       let same : act_in k w side (taking x.packet) ≡ made = ap (λ (b : List ℕ). step_of k w (takes_bytes side b)) head ∙ by_bytes k w side q is.lawful said in
       let met = meets_one k w side q expected.0 in
       let step = settled kept (act_on k kept (taking x.packet)) in
       let next : IsKeptIn k side step.next made.next = subst (λ (m : Step World). IsKeptIn k side step.next m.next) same (next_kept k grounds prefix side kept w is (taking x.packet) fair) in
       let rest = taken_behind ps ks made.next step.next next
-      (tail_is _ _ _ _ holds ∙ ap (λ (c : Conversation). map (λ (q : Position). (post_at k c q).bytes) ps) (sym met.conversation)) expected.1 in (
+      (tail_is _ _ _ _ holds ∙ ap (λ (c : Conversation). map (λ (q : Position). (post_at k c q).packet) ps) (sym met.conversation)) expected.1 in (
         record {
           later = rest.0.later;
           is_kept = rest.0.is_kept;

@@ -2,7 +2,7 @@
 use Rattle.std.proofs.Common.{List, [], ap, ap₂, drop, refl, subst, sym, zero, suc, ℕ, ◌++◌, ◌+◌, ◌∙◌, ◌∷◌, ◌≡◌, append_assoc, append-nil}
 use Rattle.std.specs.Prelude.{All, filter, map}
 use Rattle.std.proofs.lemmas.List.{map-append}
-use Rattle.boxes.specs.Items.{Item}
+use Rattle.boxes.specs.Posts.{Post}
 use Rattle.dr_base.specs.Position.{is_own, peer_of}
 use Rattle.dr_base.specs.declared.position.Position.{Position}
 use Rattle.dr_base.specs.declared.position.Side.{Side}
@@ -27,16 +27,16 @@ use Rattle.client.specs.Syncing.Parties.{waiting}
 -- ---- what waits are packets of the conversation
 
 bytes_by : (k : Mechanism) (c : Conversation) (ps : List Position) (n : ℕ)
-    → map (λ (item : Item). item.bytes) (drop n (map (post_at k c) ps))
-    ≡ map (λ (p : Position). (post_at k c p).bytes) (map (λ (item : Item). item.position) (drop n (map (post_at k c) ps)))
+    → map (λ (item : Post). item.packet) (drop n (map (post_at k c) ps))
+    ≡ map (λ (p : Position). (post_at k c p).packet) (map (λ (item : Post). item.position) (drop n (map (post_at k c) ps)))
 bytes_by k c [] zero = refl
 bytes_by k c [] (suc n) = refl
 bytes_by k c (p ∷ ps) zero =
-    ap₂ (λ (b : List ℕ) (l : List (List ℕ)). b ∷ l) (ap (λ (q : Position). (post_at k c q).bytes) (sym (position-post_at k c p))) (bytes_by k c ps zero)
+    ap₂ (λ (b : List ℕ) (l : List (List ℕ)). b ∷ l) (ap (λ (q : Position). (post_at k c q).packet) (sym (position-post_at k c p))) (bytes_by k c ps zero)
 bytes_by k c (p ∷ ps) (suc n) = bytes_by k c ps n
 
 waiting_is : (k : Mechanism) (w : World) (side : Side)
-    → waiting (kept_in k w side) ≡ map (λ (p : Position). (post_at k w.conversation p).bytes) (positions_of (kept_in k w side))
+    → waiting (kept_in k w side) ≡ map (λ (p : Position). (post_at k w.conversation p).packet) (positions_of (kept_in k w side))
 waiting_is k w side =
     let v = view_of w side in
     bytes_by k w.conversation (filter (λ (p : Position). is_own v.side p.epoch) (positions w.conversation)) v.dropped
@@ -70,8 +70,8 @@ posted_packets box (packet ∷ packets) =
 
 pub goes_over : (k : Mechanism) → GoesOver k
 goes_over k = λ prefix again w v side sender receiver boxes own peers replies others ps sends receives same transfers opens has room fits first next holds expected.
-    let out : waiting sender ≡ map (λ (p : Position). (post_at k w.conversation p).bytes) (positions_of sender) =
-    subst (λ (kept : Client). waiting kept ≡ map (λ (p : Position). (post_at k w.conversation p).bytes) (positions_of kept)) (sym sends.keeps) (waiting_is k w side) in
+    let out : waiting sender ≡ map (λ (p : Position). (post_at k w.conversation p).packet) (positions_of sender) =
+    subst (λ (kept : Client). waiting kept ≡ map (λ (p : Position). (post_at k w.conversation p).packet) (positions_of kept)) (sym sends.keeps) (waiting_is k w side) in
     let delivered = (transfers boxes own peers has room first.carried first.past).1 fits in
     let after = boxes_left k prefix sender boxes replies in
     let own_is : own_box receiver ≡ peers_box sender =
@@ -83,8 +83,8 @@ goes_over k = λ prefix again w v side sender receiver boxes own peers replies o
     let there = delivered.answered.boxes_are in
     let whole : HoldsPackets k v (with_posts peers (waiting sender)) (ps ++ positions_of sender) =
     posted_packets peers (waiting sender)
-    ∙ ap₂ (λ (x y : List (List ℕ)). x ++ y) holds (out ∙ ap (λ (c : Conversation). map (λ (p : Position). (post_at k c p).bytes) (positions_of sender)) (sym same))
-    ∙ sym (map-append (λ (p : Position). (post_at k v.conversation p).bytes) ps (positions_of sender)) in
+    ∙ ap₂ (λ (x y : List (List ℕ)). x ++ y) holds (out ∙ ap (λ (c : Conversation). map (λ (p : Position). (post_at k c p).packet) (positions_of sender)) (sym same))
+    ∙ sym (map-append (λ (p : Position). (post_at k v.conversation p).packet) ps (positions_of sender)) in
     (opens v (peer_of side) receives after (with_posts peers (waiting sender)) (emptied own) (record {
       lawful = subst (λ (bs : List Box). All IsLawfulBox bs) there delivered.answered.lawful;
       own_box = ap (λ (n : List ℕ). box_of n after) own_is ∙ ap (box_of (peers_box sender)) (sym there) ∙ delivered.peers_box;

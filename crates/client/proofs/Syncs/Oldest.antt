@@ -3,7 +3,7 @@ use Rattle.std.proofs.Common.{List, None, Some, [], ap, arith, length, subst, sy
 use Rattle.std.specs.List.{AllByRecursion}
 use Rattle.std.specs.Prelude.{map, slice_get}
 use Rattle.std.proofs.lemmas.Bool.{and_from, le-leb}
-use Rattle.boxes.specs.Items.{Item}
+use Rattle.boxes.specs.Posts.{Post}
 use Rattle.dr_base.specs.declared.limits.TheConstants.{PACKET_LIMIT}
 use Rattle.relay_wire.specs.Names.{is_packet}
 use Rattle.relay_wire.specs.declared.limits.TheConstants.{PACKET_LIMIT as MOST}
@@ -13,21 +13,21 @@ unfolding is_packet
 packet_lawful packet from to = and_from _ _ (le-leb 1 (length packet) from) (le-leb (length packet) MOST (omega (arith, to)))
 
 -- one waits, where the outbox has any
-pub one_waits : (items : List Item) → 0 < length items → (packet : List ℕ) × (Some packet ≡ slice_get (map (λ (i : Item). i.bytes) items) 0)
+pub one_waits : (items : List Post) → 0 < length items → (packet : List ℕ) × (Some packet ≡ slice_get (map (λ (i : Post). i.packet) items) 0)
 one_waits [] some = absurd (omega (arith, some))
-one_waits (x ∷ xs) some = (x.bytes, refl)
+one_waits (x ∷ xs) some = (x.packet, refl)
 
-pub oldest_is : (items : List Item) (item : Item) → Some item ≡ slice_get items 0 → Some item.bytes ≡ slice_get (map (λ (i : Item). i.bytes) items) 0
+pub oldest_is : (items : List Post) (item : Post) → Some item ≡ slice_get items 0 → Some item.packet ≡ slice_get (map (λ (i : Post). i.packet) items) 0
 oldest_is [] item is = absurd (let e : Some item ≡ None = is in cc)
-oldest_is (x ∷ xs) item is = let e : Some item ≡ Some x = is in ap (λ (i : Item). Some i.bytes) (let f : item ≡ x = cc in f)
+oldest_is (x ∷ xs) item is = let e : Some item ≡ Some x = is in ap (λ (i : Post). Some i.packet) (let f : item ≡ x = cc in f)
 
-pub oldest_lawful : (items : List Item) (item : Item) → Some item ≡ slice_get items 0
-    → AllByRecursion (λ (packet : List ℕ). is_packet packet ≡ true) (map (λ (i : Item). i.bytes) items) → is_packet item.bytes ≡ true
+pub oldest_lawful : (items : List Post) (item : Post) → Some item ≡ slice_get items 0
+    → AllByRecursion (λ (packet : List ℕ). is_packet packet ≡ true) (map (λ (i : Post). i.packet) items) → is_packet item.packet ≡ true
 oldest_lawful [] item is lawful = absurd (let e : Some item ≡ None = is in cc)
 oldest_lawful (x ∷ xs) item is lawful =
     let e : Some item ≡ Some x = is in
     let same : item ≡ x = cc in
-    subst (λ (i : Item). is_packet i.bytes ≡ true) (sym same) lawful.0
+    subst (λ (i : Post). is_packet i.packet ≡ true) (sym same) lawful.0
 
 -- there is only one
 pub same_oldest : (items : List (List ℕ)) (a b : List ℕ) → Some a ≡ slice_get items 0 → Some b ≡ slice_get items 0 → a ≡ b

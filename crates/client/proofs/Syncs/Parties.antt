@@ -3,7 +3,7 @@ use Rattle.std.proofs.Common.{Bool, Err, List, Ok, Result, [], ap, arith, false,
 use Rattle.std.specs.Prelude.{All, codes, drop, if◌then◌else◌, map, nat_eq, nat_le, ◌&&◌}
 use Rattle.std.specs.Str.{bytes_eq}
 use Rattle.std.proofs.lemmas.Bool.Decides.{nat_tests}
-use Rattle.boxes.specs.Items.{Item}
+use Rattle.boxes.specs.Posts.{Post}
 use Rattle.cka.specs.Agreement.{agreement_size}
 use Rattle.dr_base.specs.Position.{peer_of}
 use Rattle.dr_base.specs.declared.limits.TheConstants.{INBOX_LIMIT, OUTBOX_LIMIT, PACKET_LIMIT}
@@ -47,13 +47,13 @@ boxes_apart kept = names_apart kept.state.session kept.state.side
 
 -- ---- the outbox
 
-one_gone : (t : Client) (items : List Item) → t.outbox ≡ items
-    → map (λ (i : Item). i.bytes) (settled t (sent_by t 1 (dropped_of 1 items))).next.outbox ≡ drop 1 (map (λ (i : Item). i.bytes) items)
-one_gone t [] is = ap (map (λ (i : Item). i.bytes)) is
+one_gone : (t : Client) (items : List Post) → t.outbox ≡ items
+    → map (λ (i : Post). i.packet) (settled t (sent_by t 1 (dropped_of 1 items))).next.outbox ≡ drop 1 (map (λ (i : Post). i.packet) items)
+one_gone t [] is = ap (map (λ (i : Post). i.packet)) is
 one_gone t (item ∷ items) is = by_room (nat_le 1 (length (item ∷ items))) (grind (arith, nat_tests))
   where
     by_room : (room : Bool) → room ≡ true
-        → map (λ (i : Item). i.bytes) (settled t (sent_by t 1 (if room then Ok items else Err (Fewer (length (item ∷ items)))))).next.outbox ≡ map (λ (i : Item). i.bytes) items
+        → map (λ (i : Post). i.packet) (settled t (sent_by t 1 (if room then Ok items else Err (Fewer (length (item ∷ items)))))).next.outbox ≡ map (λ (i : Post). i.packet) items
     by_room true room = refl
     by_room false room = absurd (let e : false ≡ true = room in cc)
 
@@ -67,7 +67,7 @@ received_keeps t (Ok draft) =
 
 pub keeps_outbox : (k : Mechanism) (t : Client) (packet : List ℕ) → waiting (taken_step k t packet).next ≡ waiting t
 unfolding take_on
-keeps_outbox k t packet = ap (map (λ (i : Item). i.bytes)) (by_read (read_packet (agreement_size k) packet))
+keeps_outbox k t packet = ap (map (λ (i : Post). i.packet)) (by_read (read_packet (agreement_size k) packet))
   where
     by_read : (read : Result Fields Malformed) → (settled t (taken_by (take_read k t read))).next.outbox ≡ t.outbox
     by_read (Err fault) = refl
@@ -75,12 +75,12 @@ keeps_outbox k t packet = ap (map (λ (i : Item). i.bytes)) (by_read (read_packe
 
 -- ---- its packets may be posted
 
-pub are_packets : (k : Mechanism) (s : State) (items : List Item) → All (IsLawfulPost k s) items → All (λ (item : Item). length item.bytes ≤ PACKET_LIMIT) items
-    → ArePackets (map (λ (i : Item). i.bytes) items)
+pub are_packets : (k : Mechanism) (s : State) (items : List Post) → All (IsLawfulPost k s) items → All (λ (item : Post). length item.packet ≤ PACKET_LIMIT) items
+    → ArePackets (map (λ (i : Post). i.packet) items)
 are_packets k s [] posts short = tt
 are_packets k s (item ∷ items) posts short =
     let post = posts 0 item (omega arith) in (
-      packet_lawful item.bytes (packet_some (agreement_size k) item.bytes post.fields post.reads) (short 0 item (omega arith)),
+      packet_lawful item.packet (packet_some (agreement_size k) item.packet post.fields post.reads) (short 0 item (omega arith)),
       are_packets k s items (λ i d inside. posts (suc i) d (omega (arith, inside))) (λ i d inside. short (suc i) d (omega (arith, inside))),
     )
 

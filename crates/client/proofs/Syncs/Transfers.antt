@@ -3,7 +3,7 @@ use Rattle.std.proofs.Common.{Err, List, Ok, Result, [], ap, arith, inl, inr, le
 use Rattle.std.specs.Prelude.{All, IfSome, map}
 use Rattle.std.specs.List.{AllByRecursion}
 use Rattle.std.proofs.lemmas.List.{length-map}
-use Rattle.boxes.specs.Items.{Item}
+use Rattle.boxes.specs.Posts.{Post}
 use Rattle.dr_base.specs.declared.limits.TheConstants.{OUTBOX_LIMIT}
 use Rattle.dr_ports.specs.Wires.{IsAhead, Port, Told}
 use Rattle.kem_laws.specs.Mechanism.{Mechanism}
@@ -37,9 +37,9 @@ use Rattle.client.specs.declared.syncing.faults.SyncFault.TheVariants.{Closed, L
 use Rattle.client.proofs.Syncs.Parties.{MayPost, boxes_apart, drops_one, keeps_outbox}
 use Rattle.client.proofs.Syncs.Carrying.{came, came_all}
 
-no_items : (items : List Item) → map (λ (i : Item). i.bytes) items ≡ [] → items ≡ []
+no_items : (items : List Post) → map (λ (i : Post). i.packet) items ≡ [] → items ≡ []
 no_items [] is = refl
-no_items (item ∷ items) is = absurd (let e : item.bytes ∷ map (λ (i : Item). i.bytes) items ≡ [] = is in cc)
+no_items (item ∷ items) is = absurd (let e : item.packet ∷ map (λ (i : Post). i.packet) items ≡ [] = is in cc)
 
 -- ---- a client that may post what stands in its outbox
 
@@ -93,7 +93,7 @@ module _ (k : Mechanism) (prefix : List ℕ) (first : Client) where
             lawful_boxes = lawful_boxes;
             lawful_requests = made.lawful;
             lawful_replies = lawful;
-            few = (let few = made.few in let size = posts.few in omega (arith, few, size, length-map first.outbox (λ (i : Item). i.bytes)));
+            few = (let few = made.few in let size = posts.few in omega (arith, few, size, length-map first.outbox (λ (i : Post). i.packet)));
             waited = waited;
             more = more;
             carried = bytes;

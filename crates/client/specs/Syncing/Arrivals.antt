@@ -33,7 +33,7 @@ AreExpected k w side (p ∷ ps) = IsExpected w side p × AreExpected k (step_of 
 
 -- the packets of these positions stand in a box, in order
 abbrev pub HoldsPackets : Mechanism → World → Box → List Position → Type 0
-HoldsPackets k w box ps = map (λ (kept : Kept). kept.packet) box.packets ≡ map (λ (p : Position). (post_at k w.conversation p).bytes) ps
+HoldsPackets k w box ps = map (λ (kept : Kept). kept.packet) box.packets ≡ map (λ (p : Position). (post_at k w.conversation p).packet) ps
 
 -- after the positions that were opened, those of these that weren't yet: in order, each once
 abbrev pub opened_too : List Position → List Position → List Position

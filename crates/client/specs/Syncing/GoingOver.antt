@@ -1,6 +1,6 @@
 -- A sender's sync, and then its peer's: the texts that waited go over.
 use Rattle.std.specs.Prelude.{List, map, ◌++◌, ◌≡◌, ℕ}
-use Rattle.boxes.specs.Items.{Item}
+use Rattle.boxes.specs.Posts.{Post}
 use Rattle.dr_base.specs.Position.{peer_of}
 use Rattle.dr_base.specs.declared.position.Position.{Position}
 use Rattle.dr_base.specs.declared.position.Side.{Side}
@@ -30,7 +30,7 @@ boxes_left k prefix first boxes replies =
 
 -- the positions of the packets that wait
 abbrev pub positions_of : Client → List Position
-positions_of kept = map (λ (item : Item). item.position) kept.outbox
+positions_of kept = map (λ (item : Post). item.position) kept.outbox
 
 -- Two sides of one conversation: the sender syncs by a relay's replies, and then the receiver by those of the same relay. The
 -- peer's box held packets of these positions, the packets that wait fit into it, each text of the sender's own box finds room at
@@ -41,7 +41,7 @@ GoesOver k = (prefix again : List ℕ) (w v : World) (side : Side) (sender recei
     (replies others : List Replied) (ps : List Position) → IsKeptIn k side sender w → IsKeptIn k (peer_of side) receiver v
     → v.conversation ≡ w.conversation → Transfers (client_party k prefix sender) sender replies → OpensArrived k again receiver others
     → HasBoxes (client_party k prefix sender) boxes own peers → HasRoom (client_party k prefix sender) sender own.packets
-    → HasRoomForAll (map (λ (item : Item). item.bytes) sender.outbox) peers → IsCourseServed k prefix sender boxes replies
+    → HasRoomForAll (map (λ (item : Post). item.packet) sender.outbox) peers → IsCourseServed k prefix sender boxes replies
     → IsCourseServed k again receiver (boxes_left k prefix sender boxes replies) others → HoldsPackets k v peers ps
     → AreExpected k v (peer_of side) (ps ++ positions_of sender)
     → HasOpened k v (peer_of side) (ps ++ positions_of sender) (course_of (client_party k again receiver) receiver others).state

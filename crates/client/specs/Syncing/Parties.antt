@@ -1,6 +1,6 @@
 -- A client as a party of a sync, and a side of a world as one.
 use Rattle.std.specs.Prelude.{Bool, List, false, map, true, ℕ}
-use Rattle.boxes.specs.Items.{Item}
+use Rattle.boxes.specs.Posts.{Post}
 use Rattle.dr_base.specs.declared.position.Side.{Side}
 use Rattle.dr_model.specs.Machines.Acts.{act_in, act_on, sending, taking}
 use Rattle.dr_model.specs.Machines.Steps.{Step, settled}
@@ -30,7 +30,7 @@ took_by prefix made = record { line = answer_line prefix made.answer; full = is_
 
 -- the packets that wait in an outbox, the oldest first
 abbrev pub waiting : Client → List (List ℕ)
-waiting kept = map (λ (item : Item). item.bytes) kept.outbox
+waiting kept = map (λ (item : Post). item.packet) kept.outbox
 
 -- ---- on what the client keeps
 

@@ -1,7 +1,7 @@
 //! A draft is accepted: the core changes as it says.
 
 ghost use Rattle.std.specs.Prelude.{◌≡◌};
-ghost use Rattle.client.specs.Drafting.{HasToDrop, IsDraftOf, IsReceivedOf, IsSaidOf, dropped_client, next_of, received_client, said_client};
+ghost use Rattle.client.specs.Drafting.{HasToDrop, IsDraftOf, IsReceivedOf, IsSaidOf, dropped_client, drafted_client, received_client, said_client};
 
 use super::drafts::{Draft, Drops};
 use super::showing::Core;
@@ -14,7 +14,7 @@ impl<K: Kem> Core<K> {
     #[inline(always)]
     pub fn accept(&mut self, draft: Draft<'_, K>)
         requires { IsDraftOf K.mechanism self.old draft }
-        ensures { self.new ≡ next_of self.old draft.entry }
+        ensures { self.new ≡ drafted_client self.old draft.entry }
     {
         match draft {
             Draft::Said(said) => self.accept_said(said),

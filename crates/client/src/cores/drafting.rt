@@ -7,7 +7,7 @@ ghost use Rattle.ratchet.specs.Seen.{received_of, said_of, seed_bytes};
 ghost use Rattle.session_model.specs.Clients.{accept_send, say_check, say_on};
 ghost use Rattle.session_model.specs.Drafts.{IsReceiveDraft, IsSendDraft};
 ghost use Rattle.session_model.specs.LawfulStates.{IsLawfulState};
-ghost use Rattle.client.specs.Drafting.{DraftsFor, HasToDrop, IsReceivedOf, IsSaidOf, act_of, dropped_by, said_if};
+ghost use Rattle.client.specs.Drafting.{DraftsFor, HasToDrop, IsReceivedOf, IsSaidOf, act_dropping, dropped_by, said_if};
 
 use super::drafts::Drops;
 use super::showing::Core;
@@ -122,7 +122,7 @@ impl<K: Kem> Core<K> {
 
     /// Whether so many items can be dropped from a box: `Fewer` exactly where fewer stand.
     pub fn drop_check(&self, drops: Drops) -> Result<(), Fewer>
-        ensures exact { act_on K.mechanism self.now (act_of drops)
+        ensures exact { act_on K.mechanism self.now (act_dropping drops)
             ≡ dropped_by self.now drops result }
         ensures fits { OnOk result (HasToDrop self.now drops) }
     {

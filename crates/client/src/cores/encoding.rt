@@ -1,7 +1,7 @@
 //! The record of a core, as it stands and as a draft leaves it.
 
-ghost use Rattle.client.specs.Cores.{HasRoomFor, PutsRecord};
-ghost use Rattle.client.specs.Drafting.{HasToDrop, IsDraftOf, IsReceivedOf, IsSaidOf, dropped_client, next_of, received_client, said_client};
+ghost use Rattle.client.specs.Cores.{HasRoomToWrite, PutsRecord};
+ghost use Rattle.client.specs.Drafting.{HasToDrop, IsDraftOf, IsReceivedOf, IsSaidOf, dropped_client, drafted_client, received_client, said_client};
 
 use super::drafts::{Draft, Drops};
 use super::showing::Core;
@@ -12,7 +12,7 @@ use session_record::{Change, encode};
 impl<K: Kem> Core<K> {
     /// Writes the record of what it keeps, and answers its length.
     pub fn encode_now(&self, out: &mut [u8]) -> usize
-        requires room { HasRoomFor self.now out.old }
+        requires room { HasRoomToWrite self.now out.old }
         ensures { PutsRecord self.now out.old out.new result }
     {
         let part = self.session.part();
@@ -22,8 +22,8 @@ impl<K: Kem> Core<K> {
     /// Writes the record of what it will keep once a draft is accepted, and answers its length.
     pub fn encode(&self, draft: &Draft<'_, K>, out: &mut [u8]) -> usize
         requires draft { IsDraftOf K.mechanism self.now draft.now }
-        requires room { HasRoomFor (next_of self.now draft.now) out.old }
-        ensures { PutsRecord (next_of self.now draft.now) out.old out.new result }
+        requires room { HasRoomToWrite (drafted_client self.now draft.now) out.old }
+        ensures { PutsRecord (drafted_client self.now draft.now) out.old out.new result }
     {
         match draft {
             Draft::Said(said) => self.encode_said(said, out),
@@ -34,7 +34,7 @@ impl<K: Kem> Core<K> {
 
     fn encode_said(&self, draft: &SendDraft<K>, out: &mut [u8]) -> usize
         requires draft { IsSaidOf K.mechanism self.now draft.now }
-        requires room { HasRoomFor (said_client self.now draft.now) out.old }
+        requires room { HasRoomToWrite (said_client self.now draft.now) out.old }
         ensures { PutsRecord (said_client self.now draft.now) out.old out.new result }
     {
         encode(
@@ -50,7 +50,7 @@ impl<K: Kem> Core<K> {
 
     fn encode_received(&self, draft: &ReceiveDraft<'_, K>, out: &mut [u8]) -> usize
         requires draft { IsReceivedOf K.mechanism self.now draft.now }
-        requires room { HasRoomFor (received_client self.now draft.now) out.old }
+        requires room { HasRoomToWrite (received_client self.now draft.now) out.old }
         ensures { PutsRecord (received_client self.now draft.now) out.old out.new result }
     {
         let part = draft.part(&self.session);
@@ -62,7 +62,7 @@ impl<K: Kem> Core<K> {
 
     fn encode_dropped(&self, drops: Drops, out: &mut [u8]) -> usize
         requires draft { HasToDrop self.now drops }
-        requires room { HasRoomFor (dropped_client self.now drops) out.old }
+        requires room { HasRoomToWrite (dropped_client self.now drops) out.old }
         ensures { PutsRecord (dropped_client self.now drops) out.old out.new result }
     {
         let part = self.session.part();

@@ -37,8 +37,8 @@ impl<K: Kem> Model for Core<K> {
 }
 
 impl<K: Kem> Core<K> {
-    ghost use Rattle.boxes.specs.Items.{item_at};
-    ghost use Rattle.boxes.specs.Seen.{entry_item};
+    ghost use Rattle.boxes.specs.Posts.{post_under};
+    ghost use Rattle.boxes.specs.Seen.{entry_seen};
     ghost use Rattle.session_model.specs.Clients.{summary_of};
     ghost use Rattle.session_record.specs.Lawful.{IsLawfulClient};
 
@@ -61,7 +61,7 @@ impl<K: Kem> Core<K> {
     /// The text of the inbox at a place, from 0, the oldest first.
     pub fn inbox(&self, at: usize) -> Option<Entry<'_>>
         ensures variant { IsSome result ↔ (at < length self.now.inbox) }
-        ensures entry { option_map entry_item result ≡ slice_get self.now.inbox at }
+        ensures entry { option_map entry_seen result ≡ slice_get self.now.inbox at }
         ensures fits { IfSome result (λ entry. length entry.text.now ≤ TEXT_LIMIT) }
     {
         self.inbox.at(at)
@@ -70,7 +70,7 @@ impl<K: Kem> Core<K> {
     /// The packet of the outbox at a place, from 0, the oldest first.
     pub fn outbox(&self, at: usize) -> Option<(Position, &[u8])>
         ensures variant { IsSome result ↔ (at < length self.now.outbox) }
-        ensures packet { option_map (λ pair. item_at pair.0 pair.1.now) result
+        ensures packet { option_map (λ pair. post_under pair.0 pair.1.now) result
             ≡ slice_get self.now.outbox at }
         ensures fits { IfSome result (λ pair. length pair.1.now ≤ PACKET_LIMIT) }
         ensures some { IfSome result (λ pair. 1 ≤ length pair.1.now) }
@@ -82,7 +82,7 @@ impl<K: Kem> Core<K> {
     /// outbox is longer than one may be. It has no code: a caller that needs this calls it.
     pub fn lawful(&self)
         ensures kept { IsLawfulClient K.mechanism self.now }
-        ensures packets { All (λ item. length item.bytes ≤ PACKET_LIMIT) self.now.outbox }
+        ensures packets { All (λ item. length item.packet ≤ PACKET_LIMIT) self.now.outbox }
     {
         let _count = self.outbox.len();
     }

@@ -1,7 +1,8 @@
 -- A step on both sides, as one side keeps it.
 use Rattle.std.proofs.Common.{◌≡◌, ℕ, Bool, true, false, List, [], Option, Some, None, Result, Ok, Err, refl, ◌∙◌, ap, ap₂}
 use Rattle.std.specs.Prelude.{is_some}
-use Rattle.boxes.specs.Items.{Item}
+use Rattle.boxes.specs.Entries.{Entry}
+use Rattle.boxes.specs.Posts.{Post}
 use Rattle.dr_base.specs.Position.{peer_of}
 use Rattle.dr_base.specs.declared.position.Side.{Side}
 use Rattle.dr_base.specs.declared.position.Side.TheVariants.{First, Second}
@@ -40,24 +41,24 @@ pub taken_leaves : (s : Sides) (side : Side) (r : Result TakenPacket Refusal) �
 taken_leaves s side (Ok taken) = others s side taken.next
 taken_leaves s side (Err refusal) = refl
 
--- items leave a box
-pub done_kept : (s : Sides) (side : Side) (n : ℕ) (r : Result (List Item) Refusal)
+-- texts leave an inbox, and packets an outbox
+pub done_kept : (s : Sides) (side : Side) (n : ℕ) (r : Result (List Entry) Refusal)
     → kept_on side (done_on s side n r) ≡ settled (client_of s side) (finished_by (client_of s side) n r)
 done_kept s side n (Ok inbox) =
     ap (λ (c : Client). step (Done n) c) (own_client s side (record (client_of s side) { inbox = inbox }))
 done_kept s side n (Err refusal) = refl
 
-pub done_leaves : (s : Sides) (side : Side) (n : ℕ) (r : Result (List Item) Refusal) → Leaves side s (done_on s side n r)
+pub done_leaves : (s : Sides) (side : Side) (n : ℕ) (r : Result (List Entry) Refusal) → Leaves side s (done_on s side n r)
 done_leaves s side n (Ok inbox) = others s side (record (client_of s side) { inbox = inbox })
 done_leaves s side n (Err refusal) = refl
 
-pub sent_kept : (s : Sides) (side : Side) (n : ℕ) (r : Result (List Item) Refusal)
+pub sent_kept : (s : Sides) (side : Side) (n : ℕ) (r : Result (List Post) Refusal)
     → kept_on side (sent_on s side n r) ≡ settled (client_of s side) (sent_by (client_of s side) n r)
 sent_kept s side n (Ok outbox) =
     ap (λ (c : Client). step (Sent n) c) (own_client s side (record (client_of s side) { outbox = outbox }))
 sent_kept s side n (Err refusal) = refl
 
-pub sent_leaves : (s : Sides) (side : Side) (n : ℕ) (r : Result (List Item) Refusal) → Leaves side s (sent_on s side n r)
+pub sent_leaves : (s : Sides) (side : Side) (n : ℕ) (r : Result (List Post) Refusal) → Leaves side s (sent_on s side n r)
 sent_leaves s side n (Ok outbox) = others s side (record (client_of s side) { outbox = outbox })
 sent_leaves s side n (Err refusal) = refl
 

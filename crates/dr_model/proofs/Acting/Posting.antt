@@ -1,7 +1,8 @@
 -- An act adds to the network's packets what depends on what the side keeps alone.
 use Rattle.std.proofs.Common.{◌≡◌, ℕ, Bool, true, false, List, [], ◌∷◌, ◌++◌, length, Option, Some, None, Result, Ok, Err, refl, sym, ◌∙◌, ap, ap₂, append-nil}
 use Rattle.std.specs.Prelude.{is_some}
-use Rattle.boxes.specs.Items.{Item}
+use Rattle.boxes.specs.Entries.{Entry}
+use Rattle.boxes.specs.Posts.{Post}
 use Rattle.dr_base.specs.declared.position.Side.{Side}
 use Rattle.dr_base.specs.declared.position.Side.TheVariants.{First, Second}
 use Rattle.kem_laws.specs.Mechanism.{IsLawfulMechanism, Mechanism}
@@ -20,15 +21,15 @@ use Rattle.dr_model.proofs.Acting.ActsFollowing.{act_keeps, draw_given, fair_eve
 use Rattle.dr_model.proofs.Worlds.Following.{step_follows}
 
 -- the packet of a text that was said, by what the side keeps
-abbrev said_posts : Result SaidText Refusal → List Item
+abbrev said_posts : Result SaidText Refusal → List Post
 said_posts (Ok said) = said.post ∷ []
 said_posts (Err refusal) = []
 
-abbrev saying_posts : Mechanism → Client → List ℕ → Option (List ℕ) → Result Bool Refusal → List Item
+abbrev saying_posts : Mechanism → Client → List ℕ → Option (List ℕ) → Result Bool Refusal → List Post
 saying_posts k client text draw (Ok turns) = said_posts (say_on k client text (given_or [] draw))
 saying_posts k client text draw (Err refusal) = []
 
-abbrev pub act_posts : Mechanism → Client → Act → List Item
+abbrev pub act_posts : Mechanism → Client → Act → List Post
 act_posts k client (saying text draw) = saying_posts k client text draw (say_check client (length text))
 act_posts k client _ = []
 
@@ -58,11 +59,11 @@ taken_grows : (s : Sides) (side : Side) (r : Result TakenPacket Refusal) → (op
 taken_grows s side (Ok taken) = client_leaves s side taken.next
 taken_grows s side (Err refusal) = sym (append-nil s.posts)
 
-done_grows : (s : Sides) (side : Side) (n : ℕ) (r : Result (List Item) Refusal) → (done_on s side n r).next.posts ≡ s.posts ++ []
+done_grows : (s : Sides) (side : Side) (n : ℕ) (r : Result (List Entry) Refusal) → (done_on s side n r).next.posts ≡ s.posts ++ []
 done_grows s side n (Ok inbox) = client_leaves s side (record (client_of s side) { inbox = inbox })
 done_grows s side n (Err refusal) = sym (append-nil s.posts)
 
-sent_grows : (s : Sides) (side : Side) (n : ℕ) (r : Result (List Item) Refusal) → (sent_on s side n r).next.posts ≡ s.posts ++ []
+sent_grows : (s : Sides) (side : Side) (n : ℕ) (r : Result (List Post) Refusal) → (sent_on s side n r).next.posts ≡ s.posts ++ []
 sent_grows s side n (Ok outbox) = client_leaves s side (record (client_of s side) { outbox = outbox })
 sent_grows s side n (Err refusal) = sym (append-nil s.posts)
 
@@ -97,4 +98,4 @@ act_grows k w side act law lawful fair =
     sym (ap (λ (made : Step Sides). made.next.posts)
     (step_follows k (world_for w act) (event_of side act) law (lawful_for k w side act lawful fair) (fair_event k w side act fair)))
     ∙ acted_grows k w side act lawful fair
-    ∙ ap₂ (λ (before : List Item) (client : Client). before ++ act_posts k client act) (posts_for k w act) (act_keeps k w side act)
+    ∙ ap₂ (λ (before : List Post) (client : Client). before ++ act_posts k client act) (posts_for k w act) (act_keeps k w side act)

@@ -1,7 +1,6 @@
--- How many items stand in the boxes of a view.
+-- How many stand in the boxes of a view.
 use Rattle.std.proofs.Common.{◌≡◌, ℕ, ◌+◌, ◌-◌, ◌<◌, ◌≤◌, Bool, true, false, [], ◌∷◌, length, refl, ◌∙◌, ap, arith, if◌then◌else◌}
 use Rattle.std.proofs.lemmas.List.{length-drop, length-map}
-use Rattle.boxes.specs.Items.{Item}
 use Rattle.kem_laws.specs.Mechanism.{Mechanism}
 use Rattle.dr_model.specs.Conversations.Conversation.{Conversation}
 use Rattle.dr_model.specs.Conversations.Posts.{posts_of}
@@ -16,9 +15,9 @@ pub length-outbox_of : (k : Mechanism) (c : Conversation) (v : View)
     → length (outbox_of k c v) ≡ length (posts_of k c v.side) - v.dropped
 length-outbox_of k c v = length-drop v.dropped (posts_of k c v.side)
 
--- a box within its limit stays so with one item more, where it had room
-pub one_more_fits : (items more gone most : ℕ) (x : Item) (new : Bool) → more ≡ items + length (if new then x ∷ [] else [])
-    → items - gone ≤ most
-    → (new ≡ true → items - gone < most) → more - gone ≤ most
-one_more_fits items more gone most x true e few room = let h = room refl in omega arith
-one_more_fits items more gone most x false e few room = omega arith
+-- a box within its limit stays so with one more, where it had room
+pub one_more_fits : {T : Type 0} (held more gone most : ℕ) (x : T) (new : Bool) → more ≡ held + length (if new then x ∷ [] else [])
+    → held - gone ≤ most
+    → (new ≡ true → held - gone < most) → more - gone ≤ most
+one_more_fits held more gone most x true e few room = let h = room refl in omega arith
+one_more_fits held more gone most x false e few room = omega arith

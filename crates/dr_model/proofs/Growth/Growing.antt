@@ -4,7 +4,7 @@ use Rattle.std.specs.Prelude.{All, slice_index_or}
 use Rattle.std.proofs.lemmas.Bool.Decides.{nat_tests}
 use Rattle.std.proofs.lemmas.List.Elements.{All-nil, All-cons, filter-append}
 use Rattle.std.proofs.lemmas.Bool.{and_from, le-leb}
-use Rattle.boxes.specs.Items.{item_at}
+use Rattle.boxes.specs.Entries.{entry_under}
 use Rattle.dr_base.specs.Position.{is_own}
 use Rattle.dr_base.specs.declared.position.Position.{Position}
 use Rattle.dr_base.specs.declared.position.Side.{Side}
@@ -48,7 +48,7 @@ text_at-grown c seeds epoch text p said =
 pub entry_at-grown : (c : Conversation) (seeds : List (List ℕ)) (epoch : ℕ) (text : List ℕ) (p : Position)
     → is_said c p ≡ true
     → entry_at (grown c seeds epoch text) p ≡ entry_at c p
-entry_at-grown c seeds epoch text p said = ap (item_at p) (text_at-grown c seeds epoch text p said)
+entry_at-grown c seeds epoch text p said = ap (entry_under p) (text_at-grown c seeds epoch text p said)
 
 -- the text that is new
 pub text_at-new : (c : Conversation) (seeds : List (List ℕ)) (epoch : ℕ) (text : List ℕ)

@@ -3,7 +3,8 @@ use Rattle.std.proofs.Common.{◌≡◌, ℕ, ◌+◌, ◌-◌, ◌≤◌, true,
 use Rattle.std.specs.Prelude.{All}
 use Rattle.std.proofs.lemmas.Bool.{cond-false}
 use Rattle.std.proofs.lemmas.Bool.Decides.{nat_tests}
-use Rattle.boxes.specs.Items.{Item}
+use Rattle.boxes.specs.Entries.{Entry}
+use Rattle.boxes.specs.Posts.{Post}
 use Rattle.dr_base.specs.Position.{is_own}
 use Rattle.dr_base.specs.declared.key.Kept.{Kept}
 use Rattle.dr_base.specs.declared.position.Side.{Side}
@@ -132,7 +133,7 @@ pub client-grown : (k : Mechanism) (c : Conversation) (seeds : List (List ℕ)) 
     → All (λ s. s.epoch ≤ length c.seeds) c.said → All (HasArrived c v) v.arrived
     → client_at k (grown c seeds epoch text) v ≡ client_at k c v
 client-grown k c seeds epoch text v same near within late peers begun arrivals =
-    let make : State → List Item → List Item → Client = λ state inbox outbox. record { state = state; inbox = inbox; outbox = outbox } in
+    let make : State → List Entry → List Post → Client = λ state inbox outbox. record { state = state; inbox = inbox; outbox = outbox } in
     ap₂ (λ state inbox. make state inbox (outbox_of k (grown c seeds epoch text) v))
     (state-grown k c seeds epoch text v same near within peers) (inbox-grown c seeds epoch text v arrivals)
     ∙ ap (λ posts. make (state_of k c v) (inbox_of c v) (drop v.dropped posts))

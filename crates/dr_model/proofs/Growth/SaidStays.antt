@@ -72,7 +72,7 @@ given_leaves : (k : Mechanism) (w : World) (side : Side) (bytes : Option (List �
 given_leaves k w side (Some bytes) = made_leaves k w side bytes (made_at k w bytes)
 given_leaves k w side None = refl
 
--- items leave a box
+-- texts or packets leave a box
 sent_leaves : (k : Mechanism) (w : World) (side : Side) (n : ℕ) → Leaves w (settled w (sent_in k w side n))
 sent_leaves k w side n =
     let v = view_of w side in

@@ -3,7 +3,7 @@ use Rattle.std.proofs.Common.{◌≡◌, ℕ, zero, suc, ◌+◌, ◌≤◌, tru
 use Rattle.std.specs.Prelude.{All}
 use Rattle.std.proofs.lemmas.List.{get_or_append_left, map-append}
 use Rattle.std.proofs.lemmas.List.Elements.{All-filter, All-head, All-tail, All-weaker}
-use Rattle.boxes.specs.Items.{Item}
+use Rattle.boxes.specs.Posts.{Post}
 use Rattle.dr_base.specs.Position.{is_own}
 use Rattle.dr_base.specs.declared.position.Position.{Position}
 use Rattle.dr_base.specs.declared.position.Side.{Side}
@@ -46,7 +46,7 @@ pub post_at-grown : (k : Mechanism) (c : Conversation) (seeds : List (List ℕ))
     → length c.seeds ≤ epoch + 1 → p.epoch ≤ length c.seeds → is_said c p ≡ true
     → post_at k (grown c seeds epoch text) p ≡ post_at k c p
 post_at-grown k c seeds epoch text p same late within said =
-    let make : ℕ → Turn → List ℕ → Item = λ previous turn said. posted (session_of c.key) p previous turn.agreement
+    let make : ℕ → Turn → List ℕ → Post = λ previous turn said. posted (session_of c.key) p previous turn.agreement
     (message_key turn.stream p.index) said in
     ap₂ (λ previous turn. make previous turn (text_at (grown c seeds epoch text) p))
     (previous-grown c seeds epoch text p.epoch (omega arith)) (same p.epoch within)

@@ -4,7 +4,7 @@ use Rattle.std.specs.List.{list_any}
 use Rattle.std.specs.Prelude.{if◌then◌else◌, nat_le, nat_lt, is_none}
 use Rattle.std.proofs.lemmas.Bool.{cond_both}
 use Rattle.dr_base.specs.declared.limits.TheConstants.{KEPT_LIMIT, INBOX_LIMIT}
-use Rattle.boxes.specs.Items.{Item}
+use Rattle.boxes.specs.Entries.{Entry}
 use Rattle.dr_base.specs.Position.{is_own, is_at}
 use Rattle.dr_base.specs.declared.position.Position.{Position}
 use Rattle.dr_base.specs.declared.position.Side.{Side}
@@ -45,7 +45,7 @@ abbrev IsSettled : World → Result (Step World) Refusal → Type 0
 IsSettled w r = IsSound w (settled w r)
 
 -- a step that leaves the world is sound
-still_sound : (w : World) (answer : Answer) (entries : List Item)
+still_sound : (w : World) (answer : Answer) (entries : List Entry)
     → IsSound w (record { answer = answer; entries = entries; next = w })
 still_sound w answer entries = record { gains = λ side. same refl; refused = λ _ _. (refl, refl, refl) }
 

@@ -1,7 +1,7 @@
 -- Where a side says a text, both sides keep what the world says.
 use Rattle.std.proofs.Common.{◌≡◌, ℕ, ◌+◌, true, false, Bool, not, List, [], ◌∷◌, ◌++◌, length, Option, Some, None, Result, Ok, Err, refl, sym, ◌∙◌, ap, ap₂, if◌then◌else◌, arith}
 use Rattle.std.specs.Prelude.{is_none, is_some}
-use Rattle.boxes.specs.Items.{Item}
+use Rattle.boxes.specs.Posts.{Post}
 use Rattle.dr_base.specs.Position.{is_own, peer_of}
 use Rattle.dr_base.specs.declared.position.Side.{Side}
 use Rattle.dr_base.specs.declared.position.Side.TheVariants.{First, Second}
@@ -35,10 +35,10 @@ use Rattle.dr_model.proofs.Worlds.WorldViews.{own_in, dropped_in, at_last}
 -- ---- what both keep
 
 -- both sides by their parts
-abbrev sides_with : List ℕ → Draws → Client → Client → List Item → Sides
+abbrev sides_with : List ℕ → Draws → Client → Client → List Post → Sides
 sides_with key draws first second sent = record { key = key; first = first; second = second; posts = sent; draws = draws }
 
-same_sides : (key : List ℕ) (draws : Draws) (first other_first second other_second : Client) (sent other_sent : List Item)
+same_sides : (key : List ℕ) (draws : Draws) (first other_first second other_second : Client) (sent other_sent : List Post)
     → first ≡ other_first → second ≡ other_second → sent ≡ other_sent
     → sides_with key draws first second sent ≡ sides_with key draws other_first other_second other_sent
 same_sides key draws first other_first second other_second sent other_sent f s p =

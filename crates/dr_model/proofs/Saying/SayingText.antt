@@ -3,7 +3,8 @@ use Rattle.std.proofs.Common.{◌≡◌, ℕ, ◌+◌, ◌-◌, ◌≤◌, true,
 use Rattle.std.specs.Prelude.{All}
 use Rattle.std.proofs.lemmas.Bool.{cond-true, cond-false}
 use Rattle.std.proofs.lemmas.List.{drop-append-le}
-use Rattle.boxes.specs.Items.{Item}
+use Rattle.boxes.specs.Entries.{Entry}
+use Rattle.boxes.specs.Posts.{Post}
 use Rattle.dr_base.specs.Position.{is_own}
 use Rattle.fs_aead.specs.Chain.{chain_of, next_chain, message_key}
 use Rattle.fs_aead.proofs.Streams.{chain_of-suc, message_key-suc}
@@ -80,7 +81,7 @@ post_own : (k : Mechanism) (c : Conversation) (v : View) (text : List ℕ) → i
 post_own k c v text own =
     let d = with_text c v.epoch text in
     let turn = turn_of_epoch k c v.epoch in
-    let make : ℕ → List ℕ → List ℕ → Item = λ previous key said. posted (session_of c.key)
+    let make : ℕ → List ℕ → List ℕ → Post = λ previous key said. posted (session_of c.key)
     (next_position c.said v.epoch) previous turn.agreement key said in
     ap₂ (λ previous key. make previous key text)
     (previous_own c v own ∙ sym (previous-grown c c.seeds v.epoch text v.epoch (omega arith)))
@@ -115,11 +116,11 @@ pub draft_send-own : (k : Mechanism) (c : Conversation) (v : View) (text seed : 
 unfolding draft_send
 draft_send-own k c v text seed own within =
     ap (draft_phase k (state_of k c v) text seed) (phase_own k c v own)
-    ∙ ap₂ (λ (post : Item) (next : State). Some (record { post = post; next = next })) (post_own k c v text own)
+    ∙ ap₂ (λ (post : Post) (next : State). Some (record { post = post; next = next })) (post_own k c v text own)
     (state_own k c v text own within)
 
 -- a draft that is accepted
-pub accepted : (client : Client) (post : Item) (state : State) (inbox outbox : List Item) → client.inbox ≡ inbox
+pub accepted : (client : Client) (post : Post) (state : State) (inbox : List Entry) (outbox : List Post) → client.inbox ≡ inbox
     → outbox ≡ client.outbox ++ post ∷ []
     → accept_send client (Some (record { post = post; next = state }))
     ≡ Ok (record { post = post; next = record { state = state; inbox = inbox; outbox = outbox } })

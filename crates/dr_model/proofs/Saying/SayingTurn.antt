@@ -2,7 +2,7 @@
 use Rattle.std.proofs.Common.{◌≡◌, ℕ, ◌+◌, ◌≤◌, true, false, List, [], ◌∷◌, ◌++◌, length, Option, Some, None, Ok, Err, sym, ◌∙◌, ap, ap₂, add-one, arith}
 use Rattle.std.specs.Prelude.{All, is_some, option_map, slice_index_or}
 use Rattle.std.proofs.Math.Seq.{get_or-append_seam}
-use Rattle.boxes.specs.Items.{Item}
+use Rattle.boxes.specs.Posts.{Post}
 use Rattle.dr_base.specs.Position.{is_own}
 use Rattle.dr_base.specs.declared.position.Position.{Position}
 use Rattle.dr_base.proofs.Parity.{own_after}
@@ -110,7 +110,7 @@ post_turn k c v text seed peers last begun =
     let turn = next_turn k (turn_of_epoch k c v.epoch) seed in
     let first : Position = record { epoch = v.epoch + 1; index = 1 } in
     let place = first_place c v.epoch begun last in
-    let make : ℕ → List ℕ → List ℕ → List ℕ → Item = λ previous agreement key said. posted
+    let make : ℕ → List ℕ → List ℕ → List ℕ → Post = λ previous agreement key said. posted
     (session_of c.key) first previous agreement key said in
     ap₂ (λ previous key. make previous turn.agreement key text)
     (previous_peers c v peers ∙ sym (previous-turned c (c.seeds ++ seed ∷ []) text v))
@@ -145,7 +145,7 @@ pub draft_send-turn : (k : Mechanism) (c : Conversation) (v : View) (text seed :
     })
 draft_send-turn k c v text seed pairs peers last begun =
     draft_by k c v text seed (Some (pair_at k seed)) (some_pair (k.meaning.pair_of seed) pairs) peers
-    ∙ ap₂ (λ (post : Item) (next : State). Some (record { post = post; next = next }))
+    ∙ ap₂ (λ (post : Post) (next : State). Some (record { post = post; next = next }))
     (post_turn k c v text seed peers last begun) (state_turn k c v text seed peers last begun)
 
 pub draft_send-none : (k : Mechanism) (c : Conversation) (v : View) (text seed : List ℕ) → k.meaning.pair_of seed ≡ None

@@ -2,7 +2,7 @@
 use Rattle.std.proofs.Common.{◌≡◌, Bool, true, false, nat_le, nat_lt, List, [], ◌∷◌, ◌++◌, length, drop, Result, Ok, Err, refl, sym, ap, ap₂, ◌∙◌, arith, if◌then◌else◌}
 use Rattle.std.proofs.lemmas.List.{drop-append-le, length-map, map_push}
 use Rattle.dr_base.specs.declared.limits.TheConstants.{KEPT_LIMIT, INBOX_LIMIT}
-use Rattle.boxes.specs.Items.{Item}
+use Rattle.boxes.specs.Entries.{Entry}
 use Rattle.dr_base.specs.Position.{is_own}
 use Rattle.dr_base.specs.declared.position.Position.{Position}
 use Rattle.dr_base.specs.declared.position.Side.{Side}
@@ -64,12 +64,12 @@ taken_at k c v p =
 taken_after : (k : Mechanism) (c : Conversation) (side : Side) (v : View) (p : Position) → IsLawfulView k c side v
     → taken_at k c v p ≡ record { position = p; next = client_at k c (after_opening v p) }
 taken_after k c side v p view =
-    ap (λ (inbox : List Item). record { position = p; next = record { state = state_of k c (after_opening v p); inbox = inbox; outbox = outbox_of k c v } }) (inbox_after k c side v p view)
+    ap (λ (inbox : List Entry). record { position = p; next = record { state = state_of k c (after_opening v p); inbox = inbox; outbox = outbox_of k c v } }) (inbox_after k c side v p view)
 
 -- what the side answers to the packet
 answered : (k : Mechanism) (c : Conversation) (side : Side) (v : View) (p : Position) → IsLawfulMechanism k
     → IsLawfulConversation k c → IsLawfulView k c side v → is_said c p ≡ true
-    → take_on k (client_at k c v) (post_at k c p).bytes
+    → take_on k (client_at k c v) (post_at k c p).packet
     ≡ (let missing = length (missing_of c (after_opening v p)) in
     if is_own v.side p.epoch then Err (OwnPacket p.epoch) else (if has_opened v p then Err (Spent p)
     else (if nat_lt KEPT_LIMIT missing then Err (SkipLimit missing) else
@@ -106,14 +106,14 @@ with_client-view k w Second p v = refl
 -- a side makes of the packet of a text what the machine does
 pub arrival : (k : Mechanism) (w : World) (side : Side) (p : Position) → IsLawfulMechanism k → IsLawfulWorld k w
     → is_said w.conversation p ≡ true
-    → opened_on (sides_of k w) side (take_on k (client_of (sides_of k w) side) (post_at k w.conversation p).bytes)
+    → opened_on (sides_of k w) side (take_on k (client_of (sides_of k w) side) (post_at k w.conversation p).packet)
     ≡ seen_world k (settled w (taking_in w side p))
 arrival k w side p law lawful said =
     let c = w.conversation in
     let v = view_of w side in
     let view = view_lawful k w side lawful in
     let missing = length (missing_of c (after_opening v p)) in
-    ap (λ client. opened_on (sides_of k w) side (take_on k client (post_at k c p).bytes)) (client_of-kept k w side)
+    ap (λ client. opened_on (sides_of k w) side (take_on k client (post_at k c p).packet)) (client_of-kept k w side)
     ∙ ap (opened_on (sides_of k w) side) (answered k c side v p law lawful.conversation view said)
     ∙ ap₂ (λ s (taken : TakenPacket). opened_on (sides_of k w) side
     (if is_own s p.epoch then Err (OwnPacket p.epoch) else (if has_opened v p then Err (Spent p)

@@ -1,7 +1,7 @@
 -- What the network holds: the packet of each position that was said, and no other.
 use Rattle.std.proofs.Common.{Bool, List, None, Option, Some, [], ap, false, filter, if◌then◌else◌, map, nat_le, not, refl, suc, true, zero, ℕ, ◌-◌, ◌∙◌, ◌∷◌, ◌≡◌}
 use Rattle.std.specs.Prelude.{find, slice_get, option_map}
-use Rattle.boxes.specs.Items.{Item}
+use Rattle.boxes.specs.Posts.{Post}
 use Rattle.dr_base.specs.Position.{is_own, is_at}
 use Rattle.dr_base.specs.declared.position.Position.{Position}
 use Rattle.dr_base.specs.declared.position.Side.{Side}
@@ -13,7 +13,7 @@ use Rattle.dr_model.specs.Machines.Worlds.{nth_of_peer, said_at}
 use Rattle.dr_model.proofs.Taking.AllPositions.{find-position}
 use Rattle.dr_model.proofs.Taking.MadePositions.{position-post_at}
 
-found : (k : Mechanism) (c : Conversation) (p q : Position) (b : Bool) (x : Option Item) (y : Option Position)
+found : (k : Mechanism) (c : Conversation) (p q : Position) (b : Bool) (x : Option Post) (y : Option Position)
     → x ≡ option_map (post_at k c) y
     → (if b then Some (post_at k c q) else x) ≡ option_map (post_at k c) (if b then Some q else y)
 found k c p q true x y e = refl
@@ -29,7 +29,7 @@ find-posts k c p (q ∷ ps) =
     ∙ found k c p q (is_at p q) _ (find (is_at p) ps) (find-posts k c p ps)
 
 bytes_of : (o : Option Position) (k : Mechanism) (c : Conversation)
-    → option_map (λ (post : Item). post.bytes) (option_map (post_at k c) o) ≡ option_map (λ q. (post_at k c q).bytes) o
+    → option_map (λ (post : Post). post.packet) (option_map (post_at k c) o) ≡ option_map (λ q. (post_at k c q).packet) o
 bytes_of None k c = refl
 bytes_of (Some q) k c = refl
 
@@ -40,8 +40,8 @@ find-said k c p = find-posts k c p (positions c) ∙ ap (option_map (post_at k c
 
 -- the network holds the packet of each position that was said
 pub held_at-posts : (k : Mechanism) (c : Conversation) (p : Position)
-    → held_at (posts k c) p ≡ option_map (λ q. (post_at k c q).bytes) (said_at c p)
-held_at-posts k c p = ap (option_map (λ (post : Item). post.bytes)) (find-said k c p) ∙ bytes_of (said_at c p) k c
+    → held_at (posts k c) p ≡ option_map (λ q. (post_at k c q).packet) (said_at c p)
+held_at-posts k c p = ap (option_map (λ (post : Post). post.packet)) (find-said k c p) ∙ bytes_of (said_at c p) k c
 
 filter-step : {X Y : Type 0} (f : X → Y) (x : X) (xs : List X) (ys : List Y) (b : Bool) → ys ≡ map f xs
     → (if b then f x ∷ ys else ys) ≡ map f (if b then x ∷ xs else xs)
@@ -63,16 +63,16 @@ get-map f (x ∷ xs) zero = refl
 get-map f (x ∷ xs) (suc n) = get-map f xs n
 
 guarded : (k : Mechanism) (c : Conversation) (b : Bool) (x : Option Position)
-    → (if b then option_map (λ q. (post_at k c q).bytes) x else None)
-    ≡ option_map (λ q. (post_at k c q).bytes) (if b then x else None)
+    → (if b then option_map (λ q. (post_at k c q).packet) x else None)
+    ≡ option_map (λ q. (post_at k c q).packet) (if b then x else None)
 guarded k c true x = refl
 guarded k c false x = refl
 
 -- and counts the peer's packets as the positions are counted
 pub held_nth-posts : (k : Mechanism) (c : Conversation) (side : Side) (n : ℕ)
-    → held_nth (posts k c) side n ≡ option_map (λ q. (post_at k c q).bytes) (nth_of_peer c side n)
+    → held_nth (posts k c) side n ≡ option_map (λ q. (post_at k c q).packet) (nth_of_peer c side n)
 held_nth-posts k c side n =
-    ap (λ x. if nat_le 1 n then option_map (λ (post : Item). post.bytes) x else None)
+    ap (λ x. if nat_le 1 n then option_map (λ (post : Post). post.packet) x else None)
     (ap (λ xs. slice_get xs (n - 1)) (filter-posts k c side (positions c))
     ∙ get-map (post_at k c) (filter (λ p. not (is_own side p.epoch)) (positions c)) (n - 1))
     ∙ ap (λ x. if nat_le 1 n then x else None)

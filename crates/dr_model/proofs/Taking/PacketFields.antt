@@ -1,5 +1,5 @@
 -- The packet of a position as a session reads it.
-use Rattle.std.proofs.Common.{◌≡◌, ℕ, ◌+◌, ◌-◌, ◌^◌, ◌<◌, ◌≤◌, Bool, true, false, not, nat_eq, nat_le, nat_lt, List, [], ◌∷◌, length, map, slice_index_or, Ok, Err, refl, sym, ◌∙◌, ap, arith, if◌then◌else◌}
+use Rattle.std.proofs.Common.{◌≡◌, ℕ, ◌+◌, ◌-◌, ◌<◌, ◌≤◌, Bool, true, false, not, nat_eq, nat_le, nat_lt, List, [], ◌∷◌, length, map, slice_index_or, Ok, Err, refl, sym, ◌∙◌, ap, arith, if◌then◌else◌}
 use Rattle.std.specs.Cmp.Lexicographic.{pointwise}
 use Rattle.std.specs.Prelude.{All, filter}
 use Rattle.std.proofs.lemmas.Bool.{cond-true, cond-false, lt-leb, le-ltb}
@@ -111,7 +111,7 @@ IsLawful-fields k c p law lawful place = record {
 -- its bytes are read to them
 pub read-post : (k : Mechanism) (c : Conversation) (p : Position) → IsLawfulMechanism k → IsLawfulConversation k c
     → IsPlace c p
-    → read_packet (agreement_size k) (post_at k c p).bytes ≡ Ok (fields_at k c p)
+    → read_packet (agreement_size k) (post_at k c p).packet ≡ Ok (fields_at k c p)
 unfolding posted
 read-post k c p law lawful place =
     printed_is_read (agreement_size k) (fields_at k c p) (omega (arith, law.public_fits, law.ciphertext_fits))

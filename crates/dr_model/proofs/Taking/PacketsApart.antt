@@ -8,7 +8,7 @@ use Rattle.std.proofs.lemmas.Bool.{cond-true}
 use Rattle.std.proofs.lemmas.List.{append_cancel_left}
 use Rattle.std.proofs.lemmas.List.Elements.{All-head, All-map, All-tail, All-weaker}
 use Rattle.std.proofs.lemmas.Nat.{from_be_bytes-to_be_bytes_4}
-use Rattle.boxes.specs.Items.{Item}
+use Rattle.boxes.specs.Posts.{Post}
 use Rattle.dr_base.specs.Position.{is_at}
 use Rattle.dr_base.specs.declared.position.Position.{Position}
 use Rattle.dr_base.specs.declared.position.Side.{Side}
@@ -73,7 +73,7 @@ same_position f g session e1 e2 i1 i2 same =
 -- and so two packets of a conversation
 pub apart : (k : Mechanism) (c : Conversation) (p q : Position) → IsLawfulConversation k c → is_said c p ≡ true
     → is_said c q ≡ true
-    → (post_at k c q).bytes ≡ (post_at k c p).bytes → q ≡ p
+    → (post_at k c q).packet ≡ (post_at k c p).packet → q ≡ p
 unfolding posted
 apart k c p q lawful said_p said_q same =
     let place_p = is_place k c p lawful said_p in
@@ -96,26 +96,26 @@ found_alike f g (x ∷ xs) same =
 -- the packet of a position has these bytes where the position is this one
 same_tests : (k : Mechanism) (c : Conversation) (p q : Position) → IsLawfulConversation k c → is_said c p ≡ true
     → is_said c q ≡ true
-    → pointwise nat_eq (post_at k c q).bytes (post_at k c p).bytes ≡ is_at p (post_at k c q).position
+    → pointwise nat_eq (post_at k c q).packet (post_at k c p).packet ≡ is_at p (post_at k c q).position
 same_tests k c p q lawful said_p said_q =
-    same_test (pointwise nat_eq (post_at k c q).bytes (post_at k c p).bytes) (is_at p q)
+    same_test (pointwise nat_eq (post_at k c q).packet (post_at k c p).packet) (is_at p q)
     (λ same. ap (is_at p)
-    (apart k c p q lawful said_p said_q (same_text (post_at k c q).bytes (post_at k c p).bytes (sym same))) ∙ is_at-itself p)
-    (λ at. ap (λ r. pointwise nat_eq (post_at k c r).bytes (post_at k c p).bytes) (is_at-same p q at)
-    ∙ same_bytes (post_at k c p).bytes)
+    (apart k c p q lawful said_p said_q (same_text (post_at k c q).packet (post_at k c p).packet (sym same))) ∙ is_at-itself p)
+    (λ at. ap (λ r. pointwise nat_eq (post_at k c r).packet (post_at k c p).packet) (is_at-same p q at)
+    ∙ same_bytes (post_at k c p).packet)
     ∙ ap (is_at p) (sym (position-post_at k c q))
 
 -- the bytes of a packet are found to be those of its position
 pub made_at-post : (k : Mechanism) (w : World) (p : Position) → IsLawfulWorld k w → is_said w.conversation p ≡ true
-    → made_at k w (post_at k w.conversation p).bytes ≡ Some p
+    → made_at k w (post_at k w.conversation p).packet ≡ Some p
 made_at-post k w p lawful said =
     let c = w.conversation in
-    let bytes = (post_at k c p).bytes in
-    ap (option_map (λ (post : Item). post.position))
-    (found_alike (λ post. pointwise nat_eq post.bytes bytes) (λ post. is_at p post.position) (posts k c)
-    (All-map (λ (post : Item). pointwise nat_eq post.bytes bytes ≡ is_at p post.position) (post_at k c) (positions c)
+    let bytes = (post_at k c p).packet in
+    ap (option_map (λ (post : Post). post.position))
+    (found_alike (λ post. pointwise nat_eq post.packet bytes) (λ post. is_at p post.position) (posts k c)
+    (All-map (λ (post : Post). pointwise nat_eq post.packet bytes ≡ is_at p post.position) (post_at k c) (positions c)
     (All-weaker (λ q. is_said c q ≡ true)
-    (λ q. pointwise nat_eq (post_at k c q).bytes bytes ≡ is_at p (post_at k c q).position)
+    (λ q. pointwise nat_eq (post_at k c q).packet bytes ≡ is_at p (post_at k c q).position)
     (λ q said_q. same_tests k c p q lawful.conversation said said_q) (positions c) (positions-said c)))
     ∙ find-said k c p
     ∙ ap (option_map (post_at k c)) (cond-true (is_said c p) (Some p) None said))
@@ -130,14 +130,14 @@ taken_at w side p said = ap (taking_at w side) (cond-true (is_said w.conversatio
 
 -- taking a packet's bytes is taking its position
 pub by_bytes : (k : Mechanism) (w : World) (side : Side) (p : Position) → IsLawfulWorld k w → is_said w.conversation p ≡ true
-    → step_of k w (takes_bytes side (post_at k w.conversation p).bytes) ≡ step_of k w (takes side p)
+    → step_of k w (takes_bytes side (post_at k w.conversation p).packet) ≡ step_of k w (takes side p)
 by_bytes k w side p lawful said =
-    ap (λ made. settled w (taking_made k w side (post_at k w.conversation p).bytes made)) (made_at-post k w p lawful said)
+    ap (λ made. settled w (taking_made k w side (post_at k w.conversation p).packet made)) (made_at-post k w p lawful said)
     ∙ sym (taken_at w side p said)
 
 -- nobody forged its tag
 pub real : (k : Mechanism) (w : World) (side : Side) (p : Position) → IsLawfulWorld k w → is_said w.conversation p ≡ true
-    → IsUnforged k w side (post_at k w.conversation p).bytes
+    → IsUnforged k w side (post_at k w.conversation p).packet
 real k w side p lawful said none f way read found =
     absurd (let e : Some p ≡ None = sym (made_at-post k w p lawful said) ∙ none in cc)
 

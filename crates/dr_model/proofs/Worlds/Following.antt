@@ -3,7 +3,8 @@ use Rattle.std.proofs.Common.{◌≡◌, ℕ, ◌+◌, ◌-◌, Bool, true, fals
 use Rattle.std.specs.Prelude.{All, option_map, filter, slice_get, IfSome}
 use Rattle.std.proofs.lemmas.List.{drop-drop, length-map}
 use Rattle.std.proofs.lemmas.List.Elements.{All-filter, All-head, All-tail}
-use Rattle.boxes.specs.Items.{Item}
+use Rattle.boxes.specs.Entries.{Entry}
+use Rattle.boxes.specs.Posts.{Post}
 use Rattle.dr_base.specs.Position.{is_own}
 use Rattle.dr_base.specs.declared.position.Position.{Position}
 use Rattle.dr_base.specs.declared.position.Side.{Side}
@@ -36,7 +37,7 @@ use Rattle.dr_model.proofs.Worlds.SeenWorlds.{seen_world}
 -- the packet of a position that was said, or none
 position_follows : (k : Mechanism) (w : World) (side : Side) (at : Option Position) → IsLawfulMechanism k
     → IsLawfulWorld k w → IfSome at (λ p. is_said w.conversation p ≡ true)
-    → taken_on k (sides_of k w) side (option_map (λ p. (post_at k w.conversation p).bytes) at)
+    → taken_on k (sides_of k w) side (option_map (λ p. (post_at k w.conversation p).packet) at)
     ≡ seen_world k (taking_at w side at)
 position_follows k w side None law lawful said = refl
 position_follows k w side (Some p) law lawful said = arrival k w side p law lawful said
@@ -92,13 +93,13 @@ sent_enough : (k : Mechanism) (w : World) (side : Side) (n : ℕ) (enough : Bool
     (with_view w side (record (view_of w side) { dropped = (view_of w side).dropped + n }))) else Err (Fewer
     (length (outbox_in k w side)))))
 sent_enough k w First n true =
-    ap₂ (λ (state : State) (items : List Item). step (Sent n)
-    (with_client (sides_of k w) First (record (client_of (sides_of k w) First) { state = state; outbox = items })))
+    ap₂ (λ (state : State) (outbox : List Post). step (Sent n)
+    (with_client (sides_of k w) First (record (client_of (sides_of k w) First) { state = state; outbox = outbox })))
     (sym (state_of-boxes k w.conversation w.first w.first.done (w.first.dropped + n)))
     (drop-drop n w.first.dropped (posts_of k w.conversation w.first.side))
 sent_enough k w Second n true =
-    ap₂ (λ (state : State) (items : List Item). step (Sent n)
-    (with_client (sides_of k w) Second (record (client_of (sides_of k w) Second) { state = state; outbox = items })))
+    ap₂ (λ (state : State) (outbox : List Post). step (Sent n)
+    (with_client (sides_of k w) Second (record (client_of (sides_of k w) Second) { state = state; outbox = outbox })))
     (sym (state_of-boxes k w.conversation w.second w.second.done (w.second.dropped + n)))
     (drop-drop n w.second.dropped (posts_of k w.conversation w.second.side))
 sent_enough k w First n false = refl
@@ -112,13 +113,13 @@ done_enough : (k : Mechanism) (w : World) (side : Side) (n : ℕ) (enough : Bool
     (with_view w side (record (view_of w side) { done = (view_of w side).done + n }))) else Err (Fewer
     (length (inbox_in w side)))))
 done_enough k w First n true =
-    ap₂ (λ (state : State) (items : List Item). step (Done n)
-    (with_client (sides_of k w) First (record (client_of (sides_of k w) First) { state = state; inbox = items })))
+    ap₂ (λ (state : State) (inbox : List Entry). step (Done n)
+    (with_client (sides_of k w) First (record (client_of (sides_of k w) First) { state = state; inbox = inbox })))
     (sym (state_of-boxes k w.conversation w.first (w.first.done + n) w.first.dropped))
     (drop-drop n w.first.done (history_of w.conversation w.first))
 done_enough k w Second n true =
-    ap₂ (λ (state : State) (items : List Item). step (Done n)
-    (with_client (sides_of k w) Second (record (client_of (sides_of k w) Second) { state = state; inbox = items })))
+    ap₂ (λ (state : State) (inbox : List Entry). step (Done n)
+    (with_client (sides_of k w) Second (record (client_of (sides_of k w) Second) { state = state; inbox = inbox })))
     (sym (state_of-boxes k w.conversation w.second (w.second.done + n) w.second.dropped))
     (drop-drop n w.second.done (history_of w.conversation w.second))
 done_enough k w First n false = refl

@@ -1,6 +1,6 @@
 -- The packets of a conversation.
 use Rattle.std.specs.Prelude.{List, [], filter, map, slice_index_or, suc, zero, ℕ}
-use Rattle.boxes.specs.Items.{Item}
+use Rattle.boxes.specs.Posts.{Post}
 use Rattle.dr_base.specs.Position.{is_own}
 use Rattle.dr_base.specs.declared.key.Kept.{Kept}
 use Rattle.dr_base.specs.declared.position.Position.{Position}
@@ -33,15 +33,15 @@ fields_at k c p =
     (message_key (turn_of_epoch k c p.epoch).stream p.index) (text_at c p)
 
 -- the packet of a position
-abbrev pub post_at : Mechanism → Conversation → Position → Item
+abbrev pub post_at : Mechanism → Conversation → Position → Post
 post_at k c p =
     posted (session_of c.key) p (previous_of c p.epoch) (turn_of_epoch k c p.epoch).agreement
     (message_key (turn_of_epoch k c p.epoch).stream p.index) (text_at c p)
 
 -- all packets, in the order that the texts were said; the network holds them all
-abbrev pub posts : Mechanism → Conversation → List Item
+abbrev pub posts : Mechanism → Conversation → List Post
 posts k c = map (post_at k c) (positions c)
 
 -- the packets of a side
-abbrev pub posts_of : Mechanism → Conversation → Side → List Item
+abbrev pub posts_of : Mechanism → Conversation → Side → List Post
 posts_of k c side = map (post_at k c) (filter (λ p. is_own side p.epoch) (positions c))

@@ -1,7 +1,8 @@
 -- How far a side has come in a conversation.
 use Rattle.std.specs.List.{list_any}
 use Rattle.std.specs.Prelude.{Bool, List, [], count_by, drop, filter, if◌then◌else◌, map, max, nat_le, suc, zero, ℕ, ◌++◌, ◌+◌, ◌==◌, ◌∷◌}
-use Rattle.boxes.specs.Items.{Item, item_at}
+use Rattle.boxes.specs.Entries.{Entry, entry_under}
+use Rattle.boxes.specs.Posts.{Post}
 use Rattle.dr_base.specs.Position.{is_at, is_own}
 use Rattle.dr_base.specs.declared.position.Position.{Position}
 use Rattle.dr_base.specs.declared.position.Side.{Side}
@@ -65,17 +66,17 @@ abbrev pub missing_of : Conversation → View → List Position
 missing_of c v = missing_below c v (v.epoch + 1)
 
 -- the text of a position, under it
-abbrev pub entry_at : Conversation → Position → Item
-entry_at c p = item_at p (text_at c p)
+abbrev pub entry_at : Conversation → Position → Entry
+entry_at c p = entry_under p (text_at c p)
 
 -- all texts that the side has opened, in the order of their arrival
-abbrev pub history_of : Conversation → View → List Item
+abbrev pub history_of : Conversation → View → List Entry
 history_of c v = map (entry_at c) v.arrived
 
 -- the texts that stand in its inbox, the oldest first
-abbrev pub inbox_of : Conversation → View → List Item
+abbrev pub inbox_of : Conversation → View → List Entry
 inbox_of c v = drop v.done (history_of c v)
 
 -- the packets that stand in its outbox, the oldest first
-abbrev pub outbox_of : Mechanism → Conversation → View → List Item
+abbrev pub outbox_of : Mechanism → Conversation → View → List Post
 outbox_of k c v = drop v.dropped (posts_of k c v.side)

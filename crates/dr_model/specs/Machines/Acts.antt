@@ -1,6 +1,7 @@
 -- What one side does by itself, apart from the network: on what it keeps, and in a world.
 use Rattle.std.specs.Prelude.{Bool, Err, List, None, Ok, Option, Result, Some, [], false, length, ℕ}
-use Rattle.boxes.specs.Items.{Item}
+use Rattle.boxes.specs.Entries.{Entry}
+use Rattle.boxes.specs.Posts.{Post}
 use Rattle.dr_base.specs.declared.position.Side.{Side}
 use Rattle.kem_laws.specs.Mechanism.{Mechanism}
 use Rattle.session_model.specs.Clients.{Client, SaidText, TakenPacket, dropped_of, say_check, say_on, take_on}
@@ -36,11 +37,11 @@ abbrev pub taken_by : Result TakenPacket Refusal → Result (Step Client) Refusa
 taken_by (Ok taken) = Ok (step (Opened taken.position) taken.next)
 taken_by (Err refusal) = Err refusal
 
-abbrev pub finished_by : Client → ℕ → Result (List Item) Refusal → Result (Step Client) Refusal
+abbrev pub finished_by : Client → ℕ → Result (List Entry) Refusal → Result (Step Client) Refusal
 finished_by client n (Ok inbox) = Ok (step (Done n) (record client { inbox = inbox }))
 finished_by client n (Err refusal) = Err refusal
 
-abbrev pub sent_by : Client → ℕ → Result (List Item) Refusal → Result (Step Client) Refusal
+abbrev pub sent_by : Client → ℕ → Result (List Post) Refusal → Result (Step Client) Refusal
 sent_by client n (Ok outbox) = Ok (step (Sent n) (record client { outbox = outbox }))
 sent_by client n (Err refusal) = Err refusal
 

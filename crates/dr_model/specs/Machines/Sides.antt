@@ -1,6 +1,7 @@
 -- Both sides, the network between them, and their steps.
 use Rattle.std.specs.Prelude.{Bool, Err, List, None, Ok, Option, Result, Some, [], false, length, true, ℕ, ◌++◌, ◌∷◌}
-use Rattle.boxes.specs.Items.{Item}
+use Rattle.boxes.specs.Entries.{Entry}
+use Rattle.boxes.specs.Posts.{Post}
 use Rattle.dr_base.specs.declared.position.Side.{Side}
 use Rattle.dr_base.specs.declared.position.Side.TheVariants.{First, Second}
 use Rattle.kem_laws.specs.Mechanism.{Mechanism}
@@ -18,7 +19,7 @@ pub record Sides : Type 0 where
   pub first : Client
   pub second : Client
   -- the packets that the network got, in order
-  pub posts : List Item
+  pub posts : List Post
   pub draws : Draws
 
 abbrev pub client_of : Sides → Side → Client
@@ -49,11 +50,11 @@ abbrev pub taken_on : Mechanism → Sides → Side → Option (List ℕ) → Ste
 taken_on k s side None = nothing s
 taken_on k s side (Some bytes) = opened_on s side (take_on k (client_of s side) bytes)
 
-abbrev pub sent_on : Sides → Side → ℕ → Result (List Item) Refusal → Step Sides
+abbrev pub sent_on : Sides → Side → ℕ → Result (List Post) Refusal → Step Sides
 sent_on s side n (Ok outbox) = step (Sent n) (with_client s side (record (client_of s side) { outbox = outbox }))
 sent_on s side n (Err refusal) = settled s (Err refusal)
 
-abbrev pub done_on : Sides → Side → ℕ → Result (List Item) Refusal → Step Sides
+abbrev pub done_on : Sides → Side → ℕ → Result (List Entry) Refusal → Step Sides
 done_on s side n (Ok inbox) = step (Done n) (with_client s side (record (client_of s side) { inbox = inbox }))
 done_on s side n (Err refusal) = settled s (Err refusal)
 

@@ -1,6 +1,6 @@
 -- What comes of an event.
 use Rattle.std.specs.Prelude.{Bool, Err, List, Ok, Result, [], false, if◌then◌else◌, nat_lt, true, ℕ}
-use Rattle.boxes.specs.Items.{Item}
+use Rattle.boxes.specs.Entries.{Entry}
 use Rattle.session_model.specs.declared.answer.Amount.{Amount}
 use Rattle.session_model.specs.declared.answer.Amount.TheVariants.{All, Exactly}
 use Rattle.session_model.specs.declared.answer.Answer.{Answer}
@@ -10,7 +10,7 @@ use Rattle.session_model.specs.declared.answer.Refusal.{Refusal}
 -- an event's answer, the texts that it shows, and what stands after it
 pub record Step (S : Type 0) : Type 0 where
   pub answer : Answer
-  pub entries : List Item
+  pub entries : List Entry
   pub next : S
 
 -- a step that shows no text
@@ -26,7 +26,7 @@ settled s (Err refusal) = step (Refused refusal) s
 abbrev pub nothing : {S : Type 0} → S → Step S
 nothing s = step Nothing s
 
--- how many items an amount is, where this many stand
+-- how many an amount is, where this many stand
 abbrev pub amount_of : Amount → ℕ → ℕ
 amount_of All standing = standing
 amount_of (Exactly n) standing = n

@@ -1,8 +1,9 @@
 -- The machine: what becomes of a conversation and of both sides' views, event by event.
 use Rattle.std.specs.Cmp.Lexicographic.{pointwise}
-use Rattle.std.specs.Prelude.{Bool, Err, List, None, Ok, Option, Result, Some, [], false, filter, find, if◌then◌else◌, is_none, length, nat_eq, nat_le, nat_lt, not, option_map, slice_get, true, ℕ, ◌+◌, ◌-◌, ◌^◌, ◌∷◌}
+use Rattle.std.specs.Prelude.{Bool, Err, List, None, Ok, Option, Result, Some, [], false, filter, find, if◌then◌else◌, is_none, length, nat_eq, nat_le, nat_lt, not, option_map, slice_get, true, ℕ, ◌+◌, ◌-◌, ◌∷◌}
 use Rattle.dr_base.specs.declared.limits.TheConstants.{TEXT_LIMIT, INDEX_LIMIT, LAST_EPOCH, KEPT_LIMIT, INBOX_LIMIT, OUTBOX_LIMIT}
-use Rattle.boxes.specs.Items.{Item}
+use Rattle.boxes.specs.Entries.{Entry}
+use Rattle.boxes.specs.Posts.{Post}
 use Rattle.cka.specs.Agreement.{agreement_size}
 use Rattle.dr_base.specs.Position.{is_own}
 use Rattle.dr_base.specs.declared.position.Position.{Position}
@@ -50,10 +51,10 @@ with_view w First v = record w { first = v }
 with_view w Second v = record w { second = v }
 
 -- the texts and packets that stand in a side's boxes
-abbrev pub inbox_in : World → Side → List Item
+abbrev pub inbox_in : World → Side → List Entry
 inbox_in w side = inbox_of w.conversation (view_of w side)
 
-abbrev pub outbox_in : Mechanism → World → Side → List Item
+abbrev pub outbox_in : Mechanism → World → Side → List Post
 outbox_in k w side = outbox_of k w.conversation (view_of w side)
 
 -- whether a side may say a text of this length, and then whether that needs a seed
@@ -131,7 +132,7 @@ refusal_of k s bytes = read_refusal k s (read_packet (agreement_size k) bytes)
 -- the position of the text whose packet the bytes are
 abbrev pub made_at : Mechanism → World → List ℕ → Option Position
 made_at k w bytes =
-    option_map (λ post. post.position) (find (λ post. pointwise nat_eq post.bytes bytes) (posts k w.conversation))
+    option_map (λ post. post.position) (find (λ post. pointwise nat_eq post.packet bytes) (posts k w.conversation))
 
 abbrev pub taking_made : Mechanism → World → Side → List ℕ → Option Position → Result (Step World) Refusal
 taking_made k w side bytes (Some p) = taking_in w side p

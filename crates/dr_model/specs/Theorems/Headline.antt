@@ -70,14 +70,14 @@ pub record Headline (k : Mechanism) : Type 0 where
       (next.conversation ≡ w.conversation) × (next.first ≡ w.first) × (next.second ≡ w.second)
   -- a packet that arrives as bytes: taking them is taking its position, and no tag of theirs is forged
   pub by_bytes : (w : World) (side : Side) (p : Position) → IsLawfulWorld k w → is_said w.conversation p ≡ true
-      → step_of k w (takes_bytes side (post_at k w.conversation p).bytes) ≡ step_of k w (takes side p)
+      → step_of k w (takes_bytes side (post_at k w.conversation p).packet) ≡ step_of k w (takes side p)
   pub real : (w : World) (side : Side) (p : Position) → IsLawfulWorld k w → is_said w.conversation p ≡ true
-      → IsUnforged k w side (post_at k w.conversation p).bytes
+      → IsUnforged k w side (post_at k w.conversation p).packet
   -- a packet that arrives by its number: it is the packet of the peer's position of that number, and taking it is taking
   -- that position
   pub counted : (w : World) (side : Side) (nth : ℕ)
       → held_nth (posts k w.conversation) side nth
-      ≡ option_map (λ p. (post_at k w.conversation p).bytes) (nth_of_peer w.conversation side nth)
+      ≡ option_map (λ p. (post_at k w.conversation p).packet) (nth_of_peer w.conversation side nth)
   pub by_number : (w : World) (side : Side) (nth : ℕ) (p : Position) → nth_of_peer w.conversation side nth ≡ Some p
       → step_of k w (takes_nth side nth) ≡ step_of k w (takes side p)
   -- growth: a packet and its text stay, whatever happens

@@ -1,5 +1,5 @@
 -- The ratchet end to end: what a session that stands in a view of a conversation answers, and what it keeps then.
-use Rattle.std.specs.Prelude.{Bool, Err, List, None, Ok, Result, Some, false, if◌then◌else◌, is_some, length, nat_le, nat_lt, true, ℕ, ◌+◌, ◌-◌, ◌^◌, ◌≡◌}
+use Rattle.std.specs.Prelude.{Bool, Err, List, None, Ok, Result, Some, false, if◌then◌else◌, is_some, length, nat_le, nat_lt, true, ℕ, ◌+◌, ◌≡◌}
 use Rattle.dr_base.specs.declared.limits.TheConstants.{TEXT_LIMIT, INDEX_LIMIT, LAST_EPOCH, KEPT_LIMIT}
 use Rattle.cka.specs.Agreement.{agreement_size}
 use Rattle.dr_base.specs.Position.{is_own, peer_of}
@@ -53,7 +53,7 @@ pub record SessionsAgree (k : Mechanism) : Type 0 where
       → opening_state k key side ≡ state_of k (opening_conversation key) (opening_view side)
   -- the packet of a position is read, and answered
   pub reads : (c : Conversation) (p : Position) → IsLawfulConversation k c → is_said c p ≡ true
-      → read_packet (agreement_size k) (post_at k c p).bytes ≡ Ok (fields_at k c p)
+      → read_packet (agreement_size k) (post_at k c p).packet ≡ Ok (fields_at k c p)
   pub receives : (c : Conversation) (side : Side) (v : View) (p : Position) → StandsIn k c side v → is_said c p ≡ true
       → draft_receive k (state_of k c v) (fields_at k c p) ≡ received_in k c v p
   -- a text is checked, and drafted: in an epoch of the side's own, or with a seed that has a pair in the next epoch

@@ -3,7 +3,8 @@ use Rattle.std.proofs.Common.{Bool, Err, List, None, Ok, Option, Result, Some, [
 use Rattle.std.specs.Prelude.{IfSome, is_some, nat_le}
 use Rattle.std.proofs.lemmas.Bool.{cond-false, cond-true, le-leb}
 use Rattle.std.proofs.lemmas.Bool.Decides.{nat_tests}
-use Rattle.boxes.specs.Items.{Item}
+use Rattle.boxes.specs.Entries.{Entry}
+use Rattle.boxes.specs.Posts.{Post}
 use Rattle.dr_disk.specs.MemoryDisks.{IsLeftBy, going_on, state_of, stopped_after}
 use Rattle.dr_disk.specs.MemoryLaws.{memory_lawful}
 use Rattle.dr_disk.specs.State.{DiskState, IsLawful, to_failure}
@@ -230,16 +231,16 @@ taken_keeps k (Ok taken) next each is =
     let same : step (Opened taken.position) taken.next ≡ next = cc in
     subst (λ (made : Step Client). IsLawfulClient k made.next) same (each taken refl)
 
-sent_keeps : (k : Mechanism) (c : Client) (n : ℕ) (r : Result (List Item) Refusal) (next : Step Client)
-    → ((outbox : List Item) → r ≡ Ok outbox → IsLawfulClient k (record c { outbox = outbox })) → sent_by c n r ≡ Ok next
+sent_keeps : (k : Mechanism) (c : Client) (n : ℕ) (r : Result (List Post) Refusal) (next : Step Client)
+    → ((outbox : List Post) → r ≡ Ok outbox → IsLawfulClient k (record c { outbox = outbox })) → sent_by c n r ≡ Ok next
     → IsLawfulClient k next.next
 sent_keeps k c n (Err refusal) next each is = absurd (cc is)
 sent_keeps k c n (Ok outbox) next each is =
     let same : step (AnsweredSent n) (record c { outbox = outbox }) ≡ next = cc in
     subst (λ (made : Step Client). IsLawfulClient k made.next) same (each outbox refl)
 
-done_keeps : (k : Mechanism) (c : Client) (n : ℕ) (r : Result (List Item) Refusal) (next : Step Client)
-    → ((inbox : List Item) → r ≡ Ok inbox → IsLawfulClient k (record c { inbox = inbox })) → finished_by c n r ≡ Ok next
+done_keeps : (k : Mechanism) (c : Client) (n : ℕ) (r : Result (List Entry) Refusal) (next : Step Client)
+    → ((inbox : List Entry) → r ≡ Ok inbox → IsLawfulClient k (record c { inbox = inbox })) → finished_by c n r ≡ Ok next
     → IsLawfulClient k next.next
 done_keeps k c n (Err refusal) next each is = absurd (cc is)
 done_keeps k c n (Ok inbox) next each is =

@@ -1,14 +1,14 @@
 use Rattle.std.proofs.Common.{◌<◌, ◌≤◌, [], length, take_all, arith, ◌∙◌, ap}
 use Rattle.std.specs.Prelude.{flat_map}
-use Rattle.boxes.specs.Items.{Item, item_at}
+use Rattle.boxes.specs.Entries.{Entry, entry_under}
 use Rattle.dr_ports.specs.Ports.{appended}
 use Rattle.answer_lines.proofs.Items.{took_line, cut_in_lines}
 use Rattle.duet.specs.Replies.{entry_line}
 use Rattle.duet.proofs.telling.write_inbox.Goals as goal
 
 -- what a place past the end gives
-abbrev some : Item
-some = item_at (record { epoch = 0; index = 0 }) []
+abbrev some : Entry
+some = entry_under (record { epoch = 0; index = 0 }) []
 
 pub returns-in-Err : goal.returns-in-Err
 returns-in-Err g c =

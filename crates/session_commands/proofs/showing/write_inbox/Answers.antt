@@ -1,6 +1,6 @@
 use Rattle.std.proofs.Common.{[], ap, arith, length, take_all, ◌<◌, ◌≤◌, ◌∙◌}
 use Rattle.std.specs.Prelude.{flat_map}
-use Rattle.boxes.specs.Items.{Item, item_at}
+use Rattle.boxes.specs.Entries.{Entry, entry_under}
 use Rattle.dr_ports.specs.Ports.{appended}
 use Rattle.session_model.specs.declared.answer.Summary.{Summary}
 use Rattle.answer_lines.specs.Texts.{text_line}
@@ -8,8 +8,8 @@ use Rattle.answer_lines.proofs.Items.{cut_in_lines, took_line}
 use Rattle.session_commands.proofs.showing.write_inbox.Goals as goal
 
 -- what a place past the end gives
-abbrev some : Item
-some = item_at (record { epoch = 0; index = 0 }) []
+abbrev some : Entry
+some = entry_under (record { epoch = 0; index = 0 }) []
 
 pub write_text-requires : goal.write_text-requires
 write_text-requires g c = omega (arith, ap (λ (s : Summary). s.inbox) c.state-at-end.ensures)
@@ -38,7 +38,7 @@ returns g c =
     record {
       whole =
           c.texts.invariant.written
-          ∙ ap (λ items. appended (g.O.Sink.at c.args.out.now).taken (flat_map (text_line []) items)) (take_all c.texts.at c.args.client.now.kept.inbox all);
+          ∙ ap (λ entries. appended (g.O.Sink.at c.args.out.now).taken (flat_map (text_line []) entries)) (take_all c.texts.at c.args.client.now.kept.inbox all);
       part = tt;
       cause = record { later = omega (arith, c.texts.invariant.quiet); failed = tt; passed = c.texts.invariant.quiet };
     }

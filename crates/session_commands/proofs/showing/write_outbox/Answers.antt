@@ -1,6 +1,6 @@
 use Rattle.std.proofs.Common.{[], ap, arith, length, take_all, ◌<◌, ◌≤◌, ◌∙◌}
 use Rattle.std.specs.Prelude.{flat_map}
-use Rattle.boxes.specs.Items.{Item, item_at}
+use Rattle.boxes.specs.Posts.{Post, post_under}
 use Rattle.dr_ports.specs.Ports.{appended}
 use Rattle.session_model.specs.declared.answer.Summary.{Summary}
 use Rattle.session_commands.specs.Lines.{packet_line}
@@ -8,8 +8,8 @@ use Rattle.answer_lines.proofs.Items.{cut_in_lines, took_line}
 use Rattle.session_commands.proofs.showing.write_outbox.Goals as goal
 
 -- what a place past the end gives
-abbrev some : Item
-some = item_at (record { epoch = 0; index = 0 }) []
+abbrev some : Post
+some = post_under (record { epoch = 0; index = 0 }) []
 
 pub write_packet-requires : goal.write_packet-requires
 write_packet-requires g c = omega (arith, ap (λ (s : Summary). s.outbox) c.state-at-end.ensures)
@@ -38,7 +38,7 @@ returns g c =
     record {
       whole =
           c.packets.invariant.written
-          ∙ ap (λ items. appended (g.O.Sink.at c.args.out.now).taken (flat_map packet_line items)) (take_all c.packets.at c.args.client.now.kept.outbox all);
+          ∙ ap (λ posts. appended (g.O.Sink.at c.args.out.now).taken (flat_map packet_line posts)) (take_all c.packets.at c.args.client.now.kept.outbox all);
       part = tt;
       cause = record { later = omega (arith, c.packets.invariant.quiet); failed = tt; passed = c.packets.invariant.quiet };
     }

@@ -1,6 +1,6 @@
 use Rattle.std.proofs.Common.{◌≡◌, ◌+◌, ◌∷◌, ◌++◌, [], List, length, ap, arith, length-append, ℕ, sym, ◌∙◌}
 use Rattle.std.proofs.lemmas.List.{length_push}
-use Rattle.boxes.specs.Items.{item_at}
+use Rattle.boxes.specs.Entries.{entry_under}
 use Rattle.grammar.specs.Printer.{print_items}
 use Rattle.grammar.proofs.Printing.{print_items-push}
 use Rattle.dr_base.proofs.Putting.{then_puts}
@@ -9,20 +9,20 @@ use Rattle.session_record.proofs.inbox.put_more.Goals as goal
 
 pub put_entries-at_last-requires-clause-room : goal.put_entries-at_last-requires-clause-room
 put_entries-at_last-requires-clause-room c =
-    let item = item_at c.args.position c.args.text.now in
-    let size = ap (λ (l : List ℕ). length l) (print_items-push entry_text c.args.inbox.now item) in
-    omega (arith, size, length-append (print_items entry_text c.args.inbox.now) (entry_text item), c.requires.room, c.put_u8-at_first.ensures.next_is)
+    let entry = entry_under c.args.position c.args.text.now in
+    let size = ap (λ (l : List ℕ). length l) (print_items-push entry_text c.args.inbox.now entry) in
+    omega (arith, size, length-append (print_items entry_text c.args.inbox.now) (entry_text entry), c.requires.room, c.put_u8-at_first.ensures.next_is)
 
 pub put_entry-requires-clause-room : goal.put_entry-requires-clause-room
 put_entry-requires-clause-room c =
-    let item = item_at c.args.position c.args.text.now in
-    let size = ap (λ (l : List ℕ). length l) (print_items-push entry_text c.args.inbox.now item) in
-    omega (arith, size, length-append (print_items entry_text c.args.inbox.now) (entry_text item), c.requires.room, c.put_u8-at_first.ensures.next_is, c.put_entries-at_last.ensures.next_is)
+    let entry = entry_under c.args.position c.args.text.now in
+    let size = ap (λ (l : List ℕ). length l) (print_items-push entry_text c.args.inbox.now entry) in
+    omega (arith, size, length-append (print_items entry_text c.args.inbox.now) (entry_text entry), c.requires.room, c.put_u8-at_first.ensures.next_is, c.put_entries-at_last.ensures.next_is)
 
 pub returns : goal.returns
 returns c =
-    let item = item_at c.args.position c.args.text.now in
-    let count : c.len.result + 1 ≡ length (c.args.inbox.now ++ item_at c.args.position c.args.text.now ∷ []) =
-    ap (λ n. n + 1) c.len.ensures.value ∙ sym (length_push c.args.inbox.now item) in
-    rw (print_items-push entry_text c.args.inbox.now item)
+    let entry = entry_under c.args.position c.args.text.now in
+    let count : c.len.result + 1 ≡ length (c.args.inbox.now ++ entry_under c.args.position c.args.text.now ∷ []) =
+    ap (λ n. n + 1) c.len.ensures.value ∙ sym (length_push c.args.inbox.now entry) in
+    rw (print_items-push entry_text c.args.inbox.now entry)
     (then_puts (rw count at c.put_u8-at_first.ensures) (then_puts c.put_entries-at_last.ensures c.put_entry.ensures))

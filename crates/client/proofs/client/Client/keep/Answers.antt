@@ -3,7 +3,7 @@ use Rattle.std.proofs.lemmas.Grind.{common_steps}
 use Rattle.std.proofs.lemmas.List.{with_items_is}
 use Rattle.client.specs.Acting.{IsAct}
 use Rattle.client.specs.Clients.{ClientNow, IsOpenOn}
-use Rattle.client.specs.Drafting.{answer_of, drafted_step, next_of}
+use Rattle.client.specs.Drafting.{drafted_answer, drafted_step, drafted_client}
 use Rattle.client.specs.Outcomes.{kept_as}
 use Rattle.client.proofs.Kept.{kept_act, lost_act}
 use Rattle.client.proofs.Replaced.{kept, lost}
@@ -19,10 +19,10 @@ returns-in-Ok g c =
     let written = ap (λ l. take c.encode-len.result l) (with_items_is c.self.inside.text c.encode-len.new.out
     (c.encode-len.auto.out ∙ c.deref_mut.ensures.len)) ∙ c.encode-len.ensures.written in
     subst (λ (n : ClientNow). IsAct state (Ok (drafted_step n.kept c.args.draft)) n new c.args.disk.now c.replace.new.disk
-    (kept_as (answer_of c.args.draft) (Ok tt))) c.self.view_is
-    (kept_act state (answer_of c.args.draft) (next_of client.kept c.args.draft) client new c.args.disk.now c.replace.new.disk
+    (kept_as (drafted_answer c.args.draft) (Ok tt))) c.self.view_is
+    (kept_act state (drafted_answer c.args.draft) (drafted_client client.kept c.args.draft) client new c.args.disk.now c.replace.new.disk
     c.requires.effect opened.0 opened.0 c.accept.ensures
-    (kept client.kept (next_of client.kept c.args.draft) client.store _ start (state c.replace.new.disk) opened.1 written
+    (kept client.kept (drafted_client client.kept c.args.draft) client.store _ start (state c.replace.new.disk) opened.1 written
     c.replace.new.self c.replace.ensures.replaces.any_moment c.in-Ok.ensures.done c.replace.ensures.replaces.reads c.in-Ok.ensures.holds
     c.replace.ensures.next.area c.in-Ok.ensures.calls.passed c.in-Ok.ensures.calls.went.ahead c.in-Ok.ensures.calls.went.quiet)
     (λ all. (c.in-Ok.ensures.calls.went.fate all).1))
@@ -37,10 +37,10 @@ returns-in-Err g c =
     let written = ap (λ l. take c.encode-len.result l) (with_items_is c.self.inside.text c.encode-len.new.out
     (c.encode-len.auto.out ∙ c.deref_mut.ensures.len)) ∙ c.encode-len.ensures.written in
     subst (λ (n : ClientNow). IsAct state (Ok (drafted_step n.kept c.args.draft)) n new c.args.disk.now c.replace.new.disk
-    (kept_as (answer_of c.args.draft) (Err c.in-Err.fault.call))) c.self.view_is
-    (lost_act state (answer_of c.args.draft) (next_of client.kept c.args.draft) client new c.args.disk.now c.replace.new.disk
+    (kept_as (drafted_answer c.args.draft) (Err c.in-Err.fault.call))) c.self.view_is
+    (lost_act state (drafted_answer c.args.draft) (drafted_client client.kept c.args.draft) client new c.args.disk.now c.replace.new.disk
     c.requires.effect opened.0 c.in-Err.fault.call refl refl
-    (lost client.kept (next_of client.kept c.args.draft) client.store _ start (state c.replace.new.disk) opened.1 written
+    (lost client.kept (drafted_client client.kept c.args.draft) client.store _ start (state c.replace.new.disk) opened.1 written
     c.in-Err.fault.call c.replace.ensures.replaces.any_moment c.replace.ensures.replaces.reads c.in-Err.ensures.replaces.stopped
     c.in-Err.ensures.calls.few c.in-Err.ensures.kind c.in-Err.ensures.calls.went.ended c.in-Err.ensures.calls.went.fault)
     (λ all. let e : false ≡ true = (c.in-Err.ensures.calls.went.fate all).0 in cc))

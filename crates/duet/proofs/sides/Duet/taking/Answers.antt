@@ -1,6 +1,6 @@
 use Rattle.std.proofs.Common.{List, Result, ap, refl, subst, sym, ◌∙◌}
 use Rattle.std.specs.Prelude.{option_map}
-use Rattle.boxes.specs.Items.{Item}
+use Rattle.boxes.specs.Posts.{Post}
 use Rattle.dr_base.specs.Bytes.{AreBytes}
 use Rattle.dr_model.specs.Machines.Sides.{taken_on}
 use Rattle.session_model.specs.declared.answer.Answer.{Answer}
@@ -18,7 +18,7 @@ returns g c =
     let side = c.args.side in
     let source = c.args.source in
     let posts = c.as_slice.ensures.value ∙ ap (λ (d : DuetNow). d.sides.posts) c.self.view_is in
-    let given = sym (c.packet_of.ensures ∙ ap (λ (held : List Item). packet_given held side source) posts) in
+    let given = sym (c.packet_of.ensures ∙ ap (λ (held : List Post). packet_given held side source) posts) in
     elim c.match-packet_of.branch [
       | in-Some w ↦
           subst (λ (r : Result CallOfClient Answer). IsPrepared k now now side (take_event side source) r) (sym w.result-is)

@@ -1,7 +1,7 @@
 use Rattle.std.proofs.Common.{subst, sym}
 use Rattle.session_model.specs.Clients.{Client}
 use Rattle.session_record.specs.Record.{client_of}
-use Rattle.client.specs.Cores.{HasRoomFor, PutsRecord}
+use Rattle.client.specs.Cores.{HasRoomToWrite, PutsRecord}
 use Rattle.client.specs.Drafting.{received_client}
 use Rattle.client.proofs.SameRecord.{puts_alike, received_record, room_alike}
 use Rattle.client.proofs.cores.showing.Core.encode_received.Goals as goal
@@ -12,7 +12,7 @@ encode-requires-clause-room g c =
     let same = received_record kept c.args.draft.now c.part-part.result c.position-position.result c.text-text.result.now
     c.part-part.ensures c.position-position.ensures c.text-text.ensures.value in
     room_alike (received_client kept c.args.draft.now) _ c.args.out.now (sym same)
-    (subst (λ (n : Client). HasRoomFor (received_client n c.args.draft.now) c.args.out.now) (sym c.self.view_is) c.requires.room)
+    (subst (λ (n : Client). HasRoomToWrite (received_client n c.args.draft.now) c.args.out.now) (sym c.self.view_is) c.requires.room)
 
 pub returns : goal.returns
 returns g c =

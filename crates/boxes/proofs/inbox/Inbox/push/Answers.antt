@@ -1,0 +1,9 @@
+use Rattle.boxes.specs.Items.{item_at}
+use Rattle.boxes.specs.Entries.{as_entry}
+use Rattle.boxes.proofs.Shown.{shown-pushes}
+use Rattle.boxes.proofs.inbox.Inbox.push.Goals as goal
+
+pub returns : goal.returns
+returns c =
+    shown-pushes as_entry _ c.self.inside.row c.push.new.self c.args.self.now (item_at c.args.position c.args.text.now) c.push.result
+    c.self.view_is c.push.ensures
