@@ -7,6 +7,8 @@ mod acts;
 #[cfg(test)]
 mod changes;
 #[cfg(test)]
+mod cores;
+#[cfg(test)]
 mod damaged;
 #[cfg(test)]
 mod faults;
