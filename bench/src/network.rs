@@ -9,7 +9,7 @@ use crate::store::time_bare;
 use dr_disk::{Disk, FileDisk, Sharing};
 use dr_ports::{Door, Link};
 use relay_pipe::send_all;
-use relay_server::{AREA_SIZE, Server};
+use relay_server::{HALF_SIZE, Server, UPPER_START};
 use relay_wire::Name;
 use std::alloc::Global;
 use std::fs::File;
@@ -28,8 +28,10 @@ const PORT: u16 = 47614;
 
 const ADDRESS: &str = "127.0.0.1:47614";
 
-/// The file of the relay, with the area of one box.
+/// The file of the relay, and the size of a disk with the area of one box.
 const RELAY: &str = "bench-relay";
+
+const DISK_SIZE: u64 = UPPER_START + HALF_SIZE;
 
 /// How many bytes the replies have: a number, the packet, that it was dropped, and that a frame has no lawful length.
 const REPLIES: usize = 1053;
@@ -99,7 +101,7 @@ fn exchange<R: Clock + AllocGlobal, D: Disk, L: Link, A: Door>(
     let Some(name) = Name::new(b"a") else {
         return Err(Error::from(ErrorKind::InvalidInput));
     };
-    if disk.size() < AREA_SIZE {
+    if disk.size() < DISK_SIZE {
         return Err(Error::from(ErrorKind::InvalidInput));
     }
     let bytes = requests(rt.alloc(), number)?;
@@ -111,7 +113,7 @@ fn exchange<R: Clock + AllocGlobal, D: Disk, L: Link, A: Door>(
 
 /// The median time of an exchange, in microseconds.
 fn time_exchange<R: Clock + AllocGlobal + Files<File = File> + Net>(rt: &R) -> io::Result<u64> {
-    let mut disk = FileDisk::new(rt, RELAY, AREA_SIZE, 0, Sharing::Alone);
+    let mut disk = FileDisk::new(rt, RELAY, DISK_SIZE, HALF_SIZE, Sharing::Alone);
     let mut link = TcpLink::new(rt);
     let mut door = TcpDoor::new(rt);
     if door.listen(PORT).is_err() {

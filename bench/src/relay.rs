@@ -4,7 +4,7 @@ ghost use Rattle.std.specs.Prelude.{◌<◌};
 
 use crate::clock::Times;
 use relay_core::Relay;
-use relay_wire::{FrameReader, Name, Packet, Request, parse_request, write_request};
+use relay_wire::{FRAME_LIMIT, FrameReader, Name, Packet, Request, parse_request, write_request};
 use std::alloc::Global;
 use std::io;
 use std::rt::Clock;
@@ -21,7 +21,7 @@ const FRAMES: u64 = 1000;
 
 /// The frame that posts a packet of 1,000 bytes to the box `a`; nothing could be wrong with it.
 fn post(alloc: Global) -> io::Result<Vec<u8>> {
-    let mut frame = vec![in alloc; 0; 4098]?;
+    let mut frame = vec![in alloc; 0; FRAME_LIMIT]?;
     let mut len = 0;
     let bytes = [7; 1000];
     if let (Some(name), Some(packet)) = (Name::new(b"a"), Packet::new(&bytes)) {
@@ -36,7 +36,7 @@ fn answer(
     relay: &mut Relay,
     reader: &mut FrameReader,
     bytes: &[u8],
-    out: &mut [u8; 4098],
+    out: &mut [u8; FRAME_LIMIT],
 ) -> usize {
     reader.clear();
     let _taken = reader.feed(bytes);
@@ -58,7 +58,7 @@ fn time_posts<R: Clock + AllocGlobal>(rt: &R, frame: &[u8]) -> io::Result<u64> {
     };
     let mut relay = Relay::new(alloc, &[name.copied()])?;
     let mut reader = FrameReader::new(alloc)?;
-    let mut out = [0; 4098];
+    let mut out = [0; FRAME_LIMIT];
     let mut number: u64 = 0;
     for _ in 0..RUNS {
         let start = Instant::now(rt)?;

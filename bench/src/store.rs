@@ -1,6 +1,6 @@
 //! A record that is replaced on a real file, beside a bare loop of the same writes and syncs.
 
-ghost use Rattle.std.specs.Prelude.{ℕ, List, None};
+ghost use Rattle.std.specs.Prelude.{⊤, ℕ, List, None};
 
 use crate::clock::Times;
 use dr_base::PAGE;
@@ -17,23 +17,28 @@ use std::{fs, io};
 const RUNS: usize = 41;
 
 /// A client's area, its longest record and that one's pages, and the files that are written.
-const AREA: u64 = 393_216;
+const AREA: u64 = 1_572_864;
 
-const RECORD: usize = 185_726;
+const RECORD: usize = 753_662;
 
-const RECORD_PAGES: u8 = 46;
+const RECORD_PAGES: u8 = 184;
 
 const STORE: &str = "bench-store";
 
 const BARE: &str = "bench-bare";
 
 /// Any bytes.
+#[derive(Drop)]
 struct AnyText;
 
 impl Grammar for AnyText {
     ghost fault_at = { λ _. None };
 
-    fn check(_text: &[u8]) -> Result<(), u32> {
+    ghost is_new = { λ _. ⊤ };
+
+    ghost has_read = { λ _ _. ⊤ };
+
+    fn read(&mut self, _text: &[u8]) -> Result<(), u32> {
         Ok(())
     }
 }
@@ -50,10 +55,11 @@ fn replace<R: Clock + AllocGlobal + Files<File = File>>(
     }
     let area = Area {
         start: 0,
-        pages: 96,
-        most: 46,
+        upper: 524_288,
+        pages: 384,
+        most: 190,
     };
-    let Ok((mut store, _found)) = SlotStore::open::<AnyText, FileDisk<R>>(rt.alloc(), disk, area)
+    let Ok((mut store, _found)) = SlotStore::open(rt.alloc(), disk, area, &mut AnyText)
     else {
         return Err(Error::from(ErrorKind::InvalidData));
     };
@@ -154,7 +160,7 @@ pub fn report<R: Clock + Print + AllocGlobal + Files<File = File>>(rt: &R) -> io
     let bare_one = time_bare(rt, 1)?;
     fs::remove_file(rt, STORE)?;
     println!(rt;
-        "a record of 185,726 bytes replaced on a file: {all} us; its writes and syncs alone: {bare_all} us"
+        "a record of 753,662 bytes replaced on a file: {all} us; its writes and syncs alone: {bare_all} us"
     )?;
     println!(rt;
         "the same where one page changes: {one} us; its writes and syncs alone: {bare_one} us"

@@ -28,6 +28,7 @@ use Rattle.slot_store.specs.declared.opening.Found.TheVariants.{Content}
 use Rattle.client.specs.Beginning.{IsEntryOrFirst, IsFirst, IsUnbegun, begin_refusal, begun_client}
 use Rattle.client.specs.Clients.{client_area}
 use Rattle.client.specs.Opening.{IsReadAs, RestsAsOpened, client_record_fault}
+use Rattle.client.proofs.Renewing.{read_content}
 
 -- the store refused
 pub unbegun : {X : Type 0} (state : X → DiskState) (k : Mechanism) (key : List ℕ) (start now : X) (error : OpenError)
@@ -47,25 +48,17 @@ pub held : (o : Option (List ℕ)) → is_some o ≡ true
 held None some = absurd (cc some)
 held (Some text) some = (text, refl)
 
-has_some : (o : Option (List ℕ)) → is_some o ≡ true → (text : List ℕ) × (o ≡ Some text)
-has_some None some = absurd (cc some)
-has_some (Some text) some = (text, refl)
-
 -- and the area is at rest for it
 pub rests_as_read : (k : Mechanism) → IsRead → (found : Found) (store : SlotStore) (start now : DiskState) → found ≡ Content
     → is_some (content store) ≡ true → store.area ≡ client_area
     → ((s : List ℕ) → start.seen ≡ Some s → area_reading (client_record_fault k) client_area s ≡ found_as found (content store))
     → Always (λ c. Rests store c × IsLikeRead client_area start c) now → RestsAsOpened start now
 rests_as_read k readings found store start now is some area verdict rest =
-    let text = has_some (content store) some in
     record {
       store = store;
       area = area;
       rests = λ c left. (rest c left).0;
-      read = λ s told.
-          readings.content (client_record_fault k) client_area s text.0
-          (verdict s told ∙ ap (λ f. found_as f (content store)) is ∙ ap (found_as Content) text.1)
-          ∙ sym text.1;
+      read = read_content k readings found store start is some verdict;
     }
 
 module _ (k : Mechanism) (readings : IsRead) (key : List ℕ) (side : Side) (start mid now : DiskState) (lawful : IsLawful start)

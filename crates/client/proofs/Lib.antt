@@ -10,9 +10,11 @@ pub mod Lifted
 mod OnePacket
 pub mod Openings
 mod Readiness
+pub mod Renewing
 pub mod Reopening
 mod Replaced
 mod SameRecord
+mod Settled
 mod Kept
 mod Spending
 mod Spends

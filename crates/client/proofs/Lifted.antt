@@ -29,7 +29,7 @@ pub record_stands : (k : Mechanism) → Grounds k → (w : World) (side : Side) 
     → kept ≡ kept_in k w side → stored_record client_area c ≡ Some (record_text kept) → StandsFor k w side c
 record_stands k grounds w side kept c lawful is has =
     ap (option_map (record_read k)) (has ∙ ap (λ (x : Client). Some (record_text x)) is)
-    ∙ ap Some (grounds.records.reads (kept_in k w side) (lawful_kept k w side grounds.mechanism lawful))
+    ∙ ap Some (grounds.records (kept_in k w side) (lawful_kept k w side grounds.mechanism lawful))
 
 -- a disk that is at rest for it stands for the world
 pub ready_stands : (k : Mechanism) → Grounds k → (w : World) (side : Side) (kept : Client) (store : SlotStore) (disk : DiskState)

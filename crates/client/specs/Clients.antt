@@ -6,11 +6,11 @@ use Rattle.session_model.specs.Clients.{Client}
 use Rattle.session_record.specs.Record.{record_text}
 use Rattle.slot_store.specs.Store.{HasArea, Rests, SlotStore, content}
 use Rattle.slot_store.specs.Areas.{Area}
-use Rattle.client.specs.declared.client.TheConstants.{AREA_PAGES, RECORD_PAGES}
+use Rattle.client.specs.declared.client.TheConstants.{AREA_PAGES, AREA_UPPER, RECORD_PAGES}
 
 -- where a client lies on its disk
 abbrev pub client_area : Area
-client_area = record { start = 0; pages = AREA_PAGES; most = RECORD_PAGES }
+client_area = record { start = 0; upper = AREA_UPPER; pages = AREA_PAGES; most = RECORD_PAGES }
 
 pub record ClientNow : Type 0 where
   -- what it keeps

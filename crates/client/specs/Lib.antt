@@ -7,6 +7,7 @@ pub mod InWorlds
 pub mod Saying
 pub mod Spent
 pub mod Opening
+pub mod Reading
 pub mod Beginning
 pub mod Grounds
 pub mod Moments

@@ -10,7 +10,7 @@ use Rattle.dr_model.specs.Theorems.Acting.{IsFairAct}
 use Rattle.dr_model.specs.Theorems.Fairness.{IsSeedWhole}
 use Rattle.kem_laws.specs.Mechanism.{Mechanism}
 use Rattle.relay_wire.specs.Replies.{Replied}
-use Rattle.slot_store.specs.Reading.{IsLikeRead, IsUndamaged}
+use Rattle.slot_store.specs.Reading.{IsUndamaged}
 use Rattle.sync_model.specs.Courses.{Course, begun, read_one}
 use Rattle.sync_model.specs.Parties.{Party}
 use Rattle.client.specs.Clients.{client_area}
@@ -112,9 +112,17 @@ pub data Link (k : Mechanism) (side : Side) (a b : DiskState) : Known → Known 
   was_moved : (known moved : Known) → HaveMoved k side known moved
       → ((c : List ℕ) → b.image c → a.image c ⊎ IsKnown k side moved c) → Link k side a b known moved
 
--- between two moments no image came but one that stood, one that is like what was read, or one that is read without damage
+-- bytes that are read without damage where what was read at that moment was
+pub record IsWholeAsRead (start : DiskState) (c : List ℕ) : Type 0 where
+  pub read : List ℕ
+  pub told : start.seen ≡ Some read
+  pub undamaged : IsUndamaged client_area read → IsUndamaged client_area c
+
+-- between two moments no image came but one that stood, one that is read without damage where what
+-- was read was, or one that is read without damage
 abbrev pub LeavesWhole : DiskState → DiskState → Type 0
-LeavesWhole a b = (c : List ℕ) → b.image c → a.image c ⊎ (IsLikeRead client_area a c ⊎ IsUndamaged client_area c)
+LeavesWhole a b =
+    (c : List ℕ) → b.image c → a.image c ⊎ (IsWholeAsRead a c ⊎ IsUndamaged client_area c)
 
 -- Each image stands for the world that was acknowledged or opened last or for one in doubt; the first leads to the one, and
 -- that to those, by acts of this side alone.

@@ -1,5 +1,5 @@
 -- What opening a client, or beginning one, does.
-use Rattle.std.specs.Prelude.{Err, IfOk, List, None, Ok, Option, Result, Some, option_map, ℕ, ⊤, ◌≡◌, ◌⊎◌}
+use Rattle.std.specs.Prelude.{Err, IfOk, List, None, Ok, Option, Result, Some, option_map, true, ℕ, ⊤, ◌≡◌, ◌⊎◌}
 use Rattle.dr_base.specs.Causes.{Rose}
 use Rattle.dr_base.specs.declared.position.Side.{Side}
 use Rattle.dr_disk.specs.Calls.{Unwritten}
@@ -10,7 +10,9 @@ use Rattle.kem_laws.specs.Mechanism.{Mechanism}
 use Rattle.session_model.specs.Clients.{Client}
 use Rattle.session_record.specs.Lawful.{IsLawfulClient}
 use Rattle.session_record.specs.Record.{record_read, record_text}
-use Rattle.slot_store.specs.Reading.{IsLikeRead, IsUndamaged, AreaReading, damaged, no_content, area_reading}
+use Rattle.session_record.specs.Versions.{is_newest}
+use Rattle.slot_store.specs.Areas.{IsSameOutsideArea}
+use Rattle.slot_store.specs.Reading.{IsUndamaged, AreaReading, damaged, no_content, area_reading}
 use Rattle.slot_store.specs.Records.{stored_record}
 use Rattle.slot_store.specs.Store.{Rests, SlotStore, content}
 use Rattle.slot_store.specs.declared.errors.OpenError.{OpenError}
@@ -38,13 +40,39 @@ open_refusal StoreMemory = Memory
 open_refusal (DiskFault call) = StoreFault call
 open_refusal (StoreDamaged slot at) = Damaged slot at
 
--- A client that was opened keeps what was read. Each image is like what was read, and at rest.
+-- ---- records in the newest version
+
+-- a record, or none, that is this one or the same client's in the newest version
+abbrev pub IsSameOrNewest : Mechanism → Option (List ℕ) → Option (List ℕ) → Type 0
+IsSameOrNewest k was now = (now ≡ was)
+    ⊎ ((kept : Client) × (option_map (record_read k) was ≡ Some (Ok kept)) × IsLawfulClient k kept × (now ≡ Some (record_text kept)))
+
+-- Bytes with the record that was read, or with the same client's in the newest version, and read without damage where those
+-- were. Outside the client's area they are the same.
+pub record IsAsRead (k : Mechanism) (start : DiskState) (c : List ℕ) : Type 0 where
+  pub read : List ℕ
+  pub told : start.seen ≡ Some read
+  pub same : IsSameOrNewest k (stored_record client_area read) (stored_record client_area c)
+  pub undamaged : IsUndamaged client_area read → IsUndamaged client_area c
+  pub outside : IsSameOutsideArea client_area read c
+
+-- an image of that moment, or one as what was read then
+abbrev pub IsEntryOrAsRead : Mechanism → DiskState → List ℕ → Type 0
+IsEntryOrAsRead k start c = start.image c ⊎ IsAsRead k start c
+
+-- where what a read gives has a record, it is in the newest version
+abbrev pub IsReadNewest : DiskState → Type 0
+IsReadNewest disk = (s text : List ℕ) → disk.seen ≡ Some s → stored_record client_area s ≡ Some text → is_newest text ≡ true
+
+-- ---- how an opening ends
+
+-- A client that was opened keeps what was read. Each image is as what was read, and at rest for the record in the newest version.
 pub record IsClientOpened (k : Mechanism) (client : ClientNow) (start now : DiskState) : Type 0 where
   pub is_open : client.closed ≡ None
   pub ready : IsReady client.kept client.store now
   pub read : (s : List ℕ) → start.seen ≡ Some s
       → option_map (record_read k) (stored_record client_area s) ≡ Some (Ok client.kept)
-  pub alike : Always (IsLikeRead client_area start) now
+  pub alike : Always (IsAsRead k start) now
   pub settled : IsSettled now
   pub quiet : IsQuiet start now
 
@@ -63,13 +91,12 @@ IsUnopened state k start now (Damaged slot at) =
     IsReadAs k (state start) (damaged slot at) × IsQuiet (state start) (state now) × Unwritten (state start) (state now)
 IsUnopened state k start now NoSession = IsReadAs k (state start) no_content × IsQuiet (state start) (state now)
 
--- what a read gives has a lawful client's record, and is read without damage
+-- what a read gives has a client's record, in whatever version, and is read without damage
 pub record ReadsClient (k : Mechanism) (disk : DiskState) : Type 0 where
   pub kept : Client
-  pub lawful : IsLawfulClient k kept
   pub bytes : List ℕ
   pub told : disk.seen ≡ Some bytes
-  pub has : stored_record client_area bytes ≡ Some (record_text kept)
+  pub has : option_map (record_read k) (stored_record client_area bytes) ≡ Some (Ok kept)
   pub undamaged : IsUndamaged client_area bytes
 
 -- a refusal that says nothing of what was read: memory was wanting, or a call on the disk failed
@@ -84,7 +111,7 @@ HasOneSync start now (Err Memory) = ⊤
 HasOneSync start now (Err (StoreFault call)) = ⊤
 HasOneSync start now _ = HavePassed 1 start now
 
--- what an opening does where the client's area was read at rest: no byte is written
+-- what an opening does where the client's area was read at rest for a record in the newest version: no byte is written
 pub record IsLeftAtRest (start now : DiskState) (result : Result ClientNow OpenRefusal) : Type 0 where
   pub unwritten : Unwritten start now
   pub one_sync : HasOneSync start now result

@@ -16,7 +16,6 @@ ghost use Rattle.client.specs.InWorlds.{IsIn};
 
 use crate::client::{AREA, Client};
 use crate::cores::Core;
-use crate::opening::Records;
 use crate::refusals::BeginRefusal;
 use crate::room::Room;
 use dr_base::{Key32, Side};
@@ -110,16 +109,20 @@ impl<K: Kem> Client<K> {
         laws::<K>();
         both_sides_follow();
         readings();
-        let Ok(room) = Room::<K>::new(alloc) else {
+        let Ok(mut room) = Room::<K>::new(alloc) else {
             return Err(BeginRefusal::Memory);
         };
-        match SlotStore::open::<Records<K>, D>(alloc, disk, AREA) {
+        match SlotStore::open(alloc, disk, AREA, &mut room.record) {
             Err(error) => Err(refusal(error)),
             Ok((store, found)) => match found {
                 Found::Content => Err(BeginRefusal::Exists),
                 Found::NoContent => {
-                    let Room { core, text, reader } = room;
-                    match core.begin(side, key) {
+                    let Room {
+                        record,
+                        text,
+                        reader,
+                    } = room;
+                    match record.room.begin(side, key) {
                         Err(NoPair) => Err(BeginRefusal::NoPair),
                         Ok(core) => match first(core, text, reader, store, disk) {
                             Err(call) => Err(BeginRefusal::StoreFault { call }),

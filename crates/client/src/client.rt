@@ -11,18 +11,22 @@ use dr_disk::Call;
 use kem_laws::Kem;
 use relay_wire::FrameReader;
 use session_model::Summary;
-use slot_store::{Area, SlotStore};
+use slot_store::{Area, LOWER_PAGES, SlotStore};
 use std::marker::Model;
 
 /// How many pages the area of a client has, which begins at 0.
-pub(crate) const AREA_PAGES: u32 = 96;
+pub(crate) const AREA_PAGES: u32 = 384;
 
 /// The most pages of a client's record.
-pub(crate) const RECORD_PAGES: u32 = 46;
+pub(crate) const RECORD_PAGES: u32 = 190;
+
+/// Where its upper pages begin: they follow the lower ones.
+pub(crate) const AREA_UPPER: u64 = PAGE as u64 * LOWER_PAGES as u64;
 
 /// The area, as a store is told.
 pub(crate) const AREA: Area = Area {
     start: 0,
+    upper: AREA_UPPER,
     pages: AREA_PAGES,
     most: RECORD_PAGES,
 };

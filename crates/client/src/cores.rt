@@ -1,12 +1,13 @@
 //! A side of a conversation in memory, and the drafts of its steps.
 
 pub use drafts::{Draft, Drops};
+pub(crate) use reading::RecordReader;
 pub use showing::Core;
-pub(crate) use starting::CoreRoom;
 
 mod accepting;
 mod drafting;
 mod drafts;
 mod encoding;
+mod reading;
 mod showing;
 mod starting;

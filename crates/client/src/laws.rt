@@ -90,17 +90,15 @@ pub fn stays_undamaged<D: Disk>(moments: &[D])
         → Always (IsUndamaged client_area) (D.state a) }
 {}
 
-/// A disk that is read without damage is opened: where a read gives a lawful client's record so, it
-/// holds that record, and an opening is refused only for want of memory, or where a call on the
-/// disk failed.
+/// A disk that is read without damage is opened: where a read gives a client's record so, in
+/// whatever version, it holds that record, and an opening is refused only for want of memory, or
+/// where a call on the disk failed.
 pub fn opens_again<D: Disk>(before: &D, after: &D)
     ensures holds { (k : Mechanism) → ReadsClient k (D.state before.now)
         → HoldsRecord k (D.state before.now) }
     ensures refused { (k : Mechanism) (refusal : OpenRefusal) → ReadsClient k (D.state before.now)
         → IsUnopened D.state k before.now after.now refusal → SaysNothing refusal }
-{
-    record_law();
-}
+{}
 
 /// The laws on which a client's claims rest, over any mechanism that keeps its law.
 pub fn client_grounds()

@@ -12,7 +12,7 @@ ghost use Rattle.client.specs.Clients.{client_area};
 ghost use Rattle.client.specs.Opening.{client_record_fault};
 
 use crate::client::AREA;
-use crate::opening::Records;
+use crate::cores::RecordReader;
 use dr_disk::Disk;
 use kem_laws::Kem;
 use slot_store::{InspectError, Report, inspect};
@@ -39,5 +39,8 @@ pub fn look<K: Kem, D: Disk>(alloc: Global, disk: &mut D) -> Result<Report, Insp
     ensures memory { IfErr result (λ e. e ≡ InspectError.Memory → disk.new ≡ disk.old) }
     ensures quiet { OnOk result (IsQuiet (D.state disk.old) (D.state disk.new)) }
 {
-    inspect::<Records<K>, D>(alloc, disk, AREA)
+    let Ok(mut reader) = RecordReader::<K>::new(alloc) else {
+        return Err(InspectError::Memory);
+    };
+    inspect(alloc, disk, AREA, &mut reader)
 }

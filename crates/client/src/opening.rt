@@ -1,44 +1,30 @@
 //! A client is opened from its disk.
 
-ghost use Rattle.std.specs.Prelude.{◌≡◌, ◌≢◌, ℕ, List, [], None, Some, Ok, IfOk, IfErr, is_some, true};
+ghost use Rattle.std.specs.Prelude.{◌≡◌, ◌≢◌, ℕ, List, [], None, Some, Ok, IfOk, IfErr, IsOk, OnOk, is_some, true};
+ghost use Rattle.dr_base.specs.Bytes.{AreBytes};
+ghost use Rattle.dr_base.specs.Causes.{Rose};
 ghost use Rattle.dr_base.specs.declared.position.Side.{Side};
-ghost use Rattle.dr_disk.specs.Spans.{Span};
-ghost use Rattle.dr_disk.specs.State.{Fate};
-ghost use Rattle.dr_disk.specs.declared.call.Call.{Call};
+ghost use Rattle.dr_disk.specs.Spans.{IsQuiet, Span};
+ghost use Rattle.dr_disk.specs.State.{Always, Fate};
 ghost use Rattle.dr_model.specs.Machines.Worlds.{World};
 ghost use Rattle.dr_model.specs.Theorems.LawfulWorlds.{IsLawfulWorld};
+ghost use Rattle.session_record.specs.Lawful.{IsLawfulClient};
 ghost use Rattle.session_record.specs.Record.{record_read, record_text};
+ghost use Rattle.session_record.specs.Versions.{is_newest};
 ghost use Rattle.slot_store.specs.AtRest.{IsReadAtRest};
-ghost use Rattle.slot_store.specs.Reading.{IsEntryOrLike, IsLikeRead};
-ghost use Rattle.slot_store.specs.Store.{HasArea, content};
-ghost use Rattle.client.specs.Clients.{client_area};
-ghost use Rattle.client.specs.Opening.{IsLeftAtRest, IsClientOpened, IsUnopened, OpensIn, ReadsAsSide, open_refusal, client_record_fault};
+ghost use Rattle.slot_store.specs.Store.{HasArea, IsOldOrNew, Rests, content};
+ghost use Rattle.client.specs.Clients.{IsReady, client_area};
+ghost use Rattle.client.specs.Opening.{IsAsRead, IsEntryOrAsRead, IsLeftAtRest, IsReadNewest, IsClientOpened, IsUnopened, OpensIn, ReadsAsSide, open_refusal};
+ghost use Rattle.client.specs.Reading.{HasReadClient};
 
 use crate::client::{AREA, Client};
 use crate::refusals::OpenRefusal;
 use crate::room::Room;
-use dr_disk::Disk;
+use dr_disk::{Call, Disk};
 use kem_laws::Kem;
-use session_record::check;
-use slot_store::{Found, Grammar, OpenError, SlotStore, readings};
+use session_record::{is_newest, record_law};
+use slot_store::{Found, OpenError, SlotStore, readings, resting};
 use std::alloc::Global;
-use std::marker::PhantomData;
-
-/// The records of clients, as a store's grammar.
-pub(crate) struct Records<K: Kem> {
-    mechanism: PhantomData<K>,
-}
-
-impl<K: Kem> Grammar for Records<K> {
-    ghost fault_at = { λ text. client_record_fault K.mechanism text };
-
-    fn check(text: &[u8]) -> Result<(), u32> {
-        match check::<K>(text) {
-            Ok(()) => Ok(()),
-            Err(damaged) => Err(damaged.at as u32),
-        }
-    }
-}
 
 /// Why a store's opening refuses a client.
 pub(crate) fn refusal(error: OpenError) -> OpenRefusal
@@ -51,23 +37,24 @@ pub(crate) fn refusal(error: OpenError) -> OpenRefusal
     }
 }
 
-/// The client of a store that holds a record.
+/// The client of a store that holds a record, in whatever version, which was read.
 fn client_in<K: Kem>(room: Room<K>, store: SlotStore) -> Client<K>
-    requires inbox { room.core.inbox ≡ [] }
-    requires outbox { room.core.outbox ≡ [] }
     requires some { is_some (content store) ≡ true }
-    requires reads { (text : List ℕ) → content store ≡ Some text
-        → client_record_fault K.mechanism text ≡ None }
+    requires read { (text : List ℕ) → content store ≡ Some text → let core = room.record.room in
+        HasReadClient K.mechanism room.record.session core.inbox core.outbox text }
     ensures open { result.closed ≡ None }
     ensures store { result.store ≡ store }
     ensures read { (text : List ℕ) → content store ≡ Some text
         → record_read K.mechanism text ≡ Ok result.kept }
-    ensures holds { content store ≡ Some (record_text result.kept) }
+    ensures lawful { IsLawfulClient K.mechanism result.kept }
 {
-    let Room { core, text, reader } = room;
-    let core = core.read(store.content());
+    let Room {
+        record,
+        text,
+        reader,
+    } = room;
     Client {
-        core,
+        core: record.into_core(),
         store,
         text,
         reader,
@@ -75,24 +62,70 @@ fn client_in<K: Kem>(room: Room<K>, store: SlotStore) -> Client<K>
     }
 }
 
+/// Bytes are below 256: a caller that needs this calls it.
+fn are_bytes(bytes: &[u8])
+    ensures { AreBytes bytes.now }
+{
+    let _bytes = bytes;
+}
+
 impl<K: Kem> Client<K> {
+    /// Replaces the record of a client that was opened by the same in the newest version, where it
+    /// is in an earlier one.
+    fn renew<D: Disk>(&mut self, disk: &mut D) -> Result<(), Call>
+        requires open { self.old.closed ≡ None }
+        requires area { self.old.store.area ≡ client_area }
+        requires within { HasArea client_area (D.state disk.old) }
+        requires some { is_some (content self.old.store) ≡ true }
+        requires reads { (text : List ℕ) → content self.old.store ≡ Some text
+            → record_read K.mechanism text ≡ Ok self.old.kept }
+        requires rests { Always (Rests self.old.store) (D.state disk.old) }
+        ensures open { OnOk result (self.new.closed ≡ None) }
+        ensures keeps { self.new.kept ≡ self.old.kept }
+        ensures ready { OnOk result (IsReady self.new.kept self.new.store (D.state disk.new)) }
+        ensures any_moment { Span (D.state disk.old) (D.state disk.new)
+            (IsOldOrNew (D.state disk.old) client_area (content self.old.store)
+            (Some (record_text self.old.kept))) }
+        ensures still { (text : List ℕ) → content self.old.store ≡ Some text
+            → is_newest text ≡ true → disk.new ≡ disk.old }
+        ensures fate { (D.state disk.old).fate ≡ Fate.all_pass → IsOk result
+            × ((D.state disk.new).fate ≡ Fate.all_pass) }
+        ensures quiet { OnOk result (IsQuiet (D.state disk.old) (D.state disk.new)) }
+        ensures fault { IfErr result
+            (λ call. Rose ((D.state disk.old).faults call) ((D.state disk.new).faults call)) }
+    {
+        record_law();
+        let text = self.store.content();
+        are_bytes(text);
+        if is_newest(text) {
+            return Ok(());
+        }
+        let len = self.core.encode_now(&mut self.text);
+        match self.store.replace(disk, &mut self.text, len) {
+            Ok(()) => Ok(()),
+            Err(fault) => Err(fault.call),
+        }
+    }
+
     /// Opens the client that the disk holds: a sync, the reading of its record, and the wiping of
-    /// all else. `NoSession` exactly where no table is open, `Damaged` exactly where what was read
-    /// is no record; then nothing was written. `StoreFault` only where a call on the disk failed,
-    /// and with `Memory` none was made.
+    /// all else; then a record of an earlier version is replaced by the same in the newest one.
+    /// `NoSession` exactly where no table is open, `Damaged` exactly where what was read is no
+    /// record; then nothing was written. `StoreFault` only where a call on the disk failed, and
+    /// with `Memory` none was made.
     pub fn open<D: Disk>(alloc: Global, disk: &mut D) -> Result<Client<K>, OpenRefusal>
         requires { HasArea client_area (D.state disk.old) }
         ensures opened { IfOk result
             (λ client. IsClientOpened K.mechanism client (D.state disk.old) (D.state disk.new)) }
         ensures unopened { IfErr result (IsUnopened D.state K.mechanism disk.old disk.new) }
         // Meanwhile, and in each ending, crashes and reads give what they gave, but for what was
-        // tidied.
+        // tidied, and for the record in the newest version.
         ensures any_moment { Span (D.state disk.old) (D.state disk.new)
-            (IsEntryOrLike client_area (D.state disk.old)) }
+            (IsEntryOrAsRead K.mechanism (D.state disk.old)) }
         ensures reads { (s : List ℕ) → (D.state disk.new).seen ≡ Some s
-            → IsLikeRead client_area (D.state disk.old) s }
-        // Where all was read at rest, no byte is written.
+            → IsAsRead K.mechanism (D.state disk.old) s }
+        // Where all was read at rest, for a record in the newest version, no byte is written.
         ensures still { IsReadAtRest client_area (D.state disk.old)
+            → IsReadNewest (D.state disk.old)
             → IsLeftAtRest (D.state disk.old) (D.state disk.new) result }
         // In each world that a read stands for.
         ensures in_worlds { (w : World) (side : Side) → IsLawfulWorld K.mechanism w
@@ -103,14 +136,22 @@ impl<K: Kem> Client<K> {
             × ((D.state disk.new).fate ≡ Fate.all_pass) }
     {
         readings();
-        let Ok(room) = Room::<K>::new(alloc) else {
+        resting();
+        record_law();
+        let Ok(mut room) = Room::<K>::new(alloc) else {
             return Err(OpenRefusal::Memory);
         };
-        match SlotStore::open::<Records<K>, D>(alloc, disk, AREA) {
+        match SlotStore::open(alloc, disk, AREA, &mut room.record) {
             Err(error) => Err(refusal(error)),
             Ok((store, found)) => match found {
                 Found::NoContent => Err(OpenRefusal::NoSession),
-                Found::Content => Ok(client_in(room, store)),
+                Found::Content => {
+                    let mut client = client_in(room, store);
+                    match client.renew(disk) {
+                        Ok(()) => Ok(client),
+                        Err(call) => Err(OpenRefusal::StoreFault { call }),
+                    }
+                }
             },
         }
     }

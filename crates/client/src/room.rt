@@ -1,11 +1,12 @@
 //! The memory of a client, all of which is taken before its disk is called.
 
-ghost use Rattle.std.specs.Prelude.{◌≡◌, [], IfOk};
+ghost use Rattle.std.specs.Prelude.{IfOk};
 ghost use Rattle.slot_store.specs.Areas.{HasRecordRoom};
 ghost use Rattle.client.specs.Clients.{client_area};
+ghost use Rattle.client.specs.Reading.{HasReadNothing};
 
 use crate::client::AREA;
-use crate::cores::CoreRoom;
+use crate::cores::RecordReader;
 use kem_laws::Kem;
 use relay_wire::FrameReader;
 use slot_store::record_room;
@@ -14,21 +15,25 @@ use std::alloc::{AllocError, Global};
 /// The memory of a client, but for its store's.
 #[derive(Drop)]
 pub(crate) struct Room<K: Kem> {
-    pub(crate) core: CoreRoom<K>,
+    pub(crate) record: RecordReader<K>,
     pub(crate) text: Vec<u8>,
     pub(crate) reader: FrameReader,
     ghost size: { HasRecordRoom client_area text.items },
 }
 
 impl<K: Kem> Room<K> {
-    /// Takes it. The boxes are empty.
+    /// Takes it. No record was read.
     pub(crate) fn new(alloc: Global) -> Result<Room<K>, AllocError>
-        ensures inbox { IfOk result (λ room. room.core.inbox ≡ []) }
-        ensures outbox { IfOk result (λ room. room.core.outbox ≡ []) }
+        ensures { IfOk result (λ room. let core = room.record.room in
+            HasReadNothing room.record.session core.inbox core.outbox) }
     {
-        let core = CoreRoom::new(alloc)?;
+        let record = RecordReader::new(alloc)?;
         let text = record_room(alloc, AREA)?;
         let reader = FrameReader::new(alloc)?;
-        Ok(Room { core, text, reader })
+        Ok(Room {
+            record,
+            text,
+            reader,
+        })
     }
 }

@@ -5,16 +5,16 @@ use Rattle.dr_base.specs.declared.limits.TheConstants.{AGREEMENT_LIMIT, CARRIED_
 -- bytes of a text, of what a mechanism makes, of a packet and of one that a relay carries; the numbers of
 -- texts in an epoch, and of epochs; kept keys, texts and packets; bytes of a page
 pub record HasLimits : Type 0 where
-  pub text : TEXT_LIMIT ≡ 1024
+  pub text : TEXT_LIMIT ≡ 4096
   pub public : PUBLIC_LIMIT ≡ 1158
   pub secret : SECRET_LIMIT ≡ 1763
   pub ciphertext : CIPHERTEXT_LIMIT ≡ 1039
   pub agreement : AGREEMENT_LIMIT ≡ 2197
-  pub packet : PACKET_LIMIT ≡ 3286
-  pub carried : CARRIED_LIMIT ≡ 4000
+  pub packet : PACKET_LIMIT ≡ 6358
+  pub carried : CARRIED_LIMIT ≡ 8000
   pub index : INDEX_LIMIT ≡ 65535
   pub epoch : LAST_EPOCH ≡ 4294967294
-  pub kept : KEPT_LIMIT ≡ 256
-  pub inbox : INBOX_LIMIT ≡ 64
+  pub kept : KEPT_LIMIT ≡ 512
+  pub inbox : INBOX_LIMIT ≡ 128
   pub outbox : OUTBOX_LIMIT ≡ 32
   pub page : PAGE ≡ 4096

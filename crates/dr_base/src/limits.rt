@@ -3,7 +3,7 @@
 ghost use Rattle.dr_base.specs.Limits.{HasLimits};
 
 /// The longest text, in bytes.
-pub const TEXT_LIMIT: usize = 1024;
+pub const TEXT_LIMIT: usize = 4096;
 
 /// The greatest index in an epoch, and so the most texts that one has.
 pub const INDEX_LIMIT: u32 = 65535;
@@ -12,10 +12,10 @@ pub const INDEX_LIMIT: u32 = 65535;
 pub const LAST_EPOCH: u32 = 4294967294;
 
 /// The most message keys that are kept for texts which are still to come.
-pub const KEPT_LIMIT: usize = 256;
+pub const KEPT_LIMIT: usize = 512;
 
 /// The most texts in an inbox.
-pub const INBOX_LIMIT: usize = 64;
+pub const INBOX_LIMIT: usize = 128;
 
 /// The most packets in an outbox.
 pub const OUTBOX_LIMIT: usize = 32;
@@ -40,7 +40,7 @@ pub const PACKET_FRAME: usize = 33 + 32;
 pub const PACKET_LIMIT: usize = PACKET_FRAME + AGREEMENT_LIMIT + TEXT_LIMIT;
 
 /// The longest packet that a relay carries, in bytes.
-pub const CARRIED_LIMIT: usize = 4000;
+pub const CARRIED_LIMIT: usize = 8000;
 
 /// How many bytes a page of a disk's area has.
 pub const PAGE: usize = 4096;

@@ -1,17 +1,17 @@
 -- A side whose client is closed, and one whose client is open.
-use Rattle.std.proofs.Common.{Err, None, Ok, Option, Result, Some, ap, false, refl, sym, true, ◌∙◌, ◌≡◌}
+use Rattle.std.proofs.Common.{Err, List, None, Ok, Option, Result, Some, ap, false, refl, sym, true, ℕ, ◌∙◌, ◌≡◌}
 use Rattle.std.specs.Prelude.{IfOk, IfSome, IsSome, option_map}
 use Rattle.dr_disk.specs.declared.call.Call.{Call}
 use Rattle.dr_disk.specs.MemoryDisks.{state_of}
+use Rattle.dr_disk.specs.State.{DiskState}
 use Rattle.dr_disk.specs.declared.memory.MemoryDisk.{MemoryDisk}
 use Rattle.kem_laws.specs.Mechanism.{Mechanism}
 use Rattle.session_model.specs.Clients.{Client}
-use Rattle.session_record.specs.Lawful.{IsLawfulClient}
 use Rattle.session_record.specs.Record.{record_read, record_text}
 use Rattle.slot_store.specs.Records.{stored_record}
 use Rattle.client.specs.Clients.{ClientNow, client_area}
 use Rattle.client.specs.Opening.{ReadsClient}
-use Rattle.duet.specs.Parties.{DiskHasRecord, IsHeld, IsParty, IsClosedParty, found_on, read_or, shut_by}
+use Rattle.duet.specs.Parties.{DiskHasRecord, DiskReads, IsHeld, IsParty, IsClosedParty, found_on, read_or, shut_by}
 use Rattle.duet.specs.Shuts.{PartyNow, Shut, open_party}
 
 -- the kind of the call
@@ -36,40 +36,34 @@ pub shut_reads : (k : Mechanism) (client : ClientNow) (disk : MemoryDisk) (shut 
 shut_reads k client disk None kept is held = absurd (let e : false ≡ true = is in cc)
 shut_reads k client disk (Some call) kept is held = held
 
--- what is found is the client that is read
-pub found_is : (k : Mechanism) (kept found : Client) (disk : MemoryDisk)
-    → stored_record client_area disk.platter.bytes.items ≡ Some (record_text found) → record_read k (record_text found) ≡ Ok found
+-- a disk that has a lawful client's record reads that client
+pub record_reads : (k : Mechanism) (kept : Client) (disk : DiskState) → DiskHasRecord kept disk
+    → record_read k (record_text kept) ≡ Ok kept → DiskReads k kept disk
+record_reads k kept disk has back s seen = ap (option_map (record_read k)) (has s seen) ∙ ap Some back
+
+-- what is found is the client that is read: a disk in memory gives its bytes
+pub found_is : (k : Mechanism) (kept found : Client) (disk : MemoryDisk) → DiskReads k found (state_of disk)
     → found_on k kept disk ≡ found
 unfolding found_on
-found_is k kept found disk has back =
-    ap (λ o. read_or kept (option_map (record_read k) o)) has ∙ ap (λ r. read_or kept (Some r)) back
+found_is k kept found disk reads = ap (read_or kept) (reads disk.platter.bytes.items refl)
 
--- a disk in memory gives its bytes
-pub has_read : (k : Mechanism) (disk : MemoryDisk) (reads : ReadsClient k (state_of disk))
-    → stored_record client_area disk.platter.bytes.items ≡ Some (record_text reads.kept)
-has_read k disk reads =
-    let same : disk.platter.bytes.items ≡ reads.bytes =
-    let e : Some disk.platter.bytes.items ≡ Some reads.bytes = reads.told in cc in
-    ap (stored_record client_area) same ∙ reads.has
-
-pub record_of : (k : Mechanism) (disk : MemoryDisk) (reads : ReadsClient k (state_of disk)) → DiskHasRecord reads.kept (state_of disk)
-record_of k disk reads = λ s seen.
-    let same : s ≡ disk.platter.bytes.items = let e : Some s ≡ Some disk.platter.bytes.items = sym seen in cc in
-    ap (stored_record client_area) same ∙ has_read k disk reads
+reads_kept : (k : Mechanism) (disk : MemoryDisk) (reads : ReadsClient k (state_of disk)) → DiskReads k reads.kept (state_of disk)
+reads_kept k disk reads s seen =
+    let same : s ≡ reads.bytes = let e : Some s ≡ Some reads.bytes = sym seen ∙ reads.told in cc in
+    ap (λ (c : List ℕ). option_map (record_read k) (stored_record client_area c)) same ∙ reads.has
 
 -- so the opening gives what was left
 left_found : (k : Mechanism) (kept : Client) (disk : MemoryDisk) (shut : Option Call) (reads : ReadsClient k (state_of disk))
-    → record_read k (record_text reads.kept) ≡ Ok reads.kept → (p : PartyNow) → p ≡ open_party reads.kept
+    → (p : PartyNow) → p ≡ open_party reads.kept
     → IfSome (shut_by k kept disk shut) (λ (left : Shut Client). p ≡ open_party left.left)
-left_found k kept disk None reads back p is = tt
-left_found k kept disk (Some call) reads back p is =
-    is ∙ ap open_party (sym (found_is k kept reads.kept disk (has_read k disk reads) back))
+left_found k kept disk None reads p is = tt
+left_found k kept disk (Some call) reads p is =
+    is ∙ ap open_party (sym (found_is k kept reads.kept disk (reads_kept k disk reads)))
 
 pub opens_left : {E : Type 0} (k : Mechanism) (kept : Client) (disk : MemoryDisk) (shut : Option Call)
     (reads : ReadsClient k (state_of disk)) (result : Result PartyNow E)
-    → record_read k (record_text reads.kept) ≡ Ok reads.kept
-    → IfOk result (λ (p : PartyNow). (found : Client) → IsLawfulClient k found → DiskHasRecord found (state_of disk) → p ≡ open_party found)
+    → IfOk result (λ (p : PartyNow). (found : Client) → DiskReads k found (state_of disk) → p ≡ open_party found)
     → IfOk result (λ (p : PartyNow). IfSome (shut_by k kept disk shut) (λ (left : Shut Client). p ≡ open_party left.left))
-opens_left k kept disk shut reads (Err error) back each = tt
-opens_left k kept disk shut reads (Ok p) back each =
-    left_found k kept disk shut reads back p (each reads.kept reads.lawful (record_of k disk reads))
+opens_left k kept disk shut reads (Err error) each = tt
+opens_left k kept disk shut reads (Ok p) each =
+    left_found k kept disk shut reads p (each reads.kept (reads_kept k disk reads))

@@ -56,6 +56,12 @@ IsFirstRefusal _ = ⊥
 abbrev pub DiskHasRecord : Client → DiskState → Type 0
 DiskHasRecord kept disk = (s : List ℕ) → disk.seen ≡ Some s → stored_record client_area s ≡ Some (record_text kept)
 
+-- what its reads give is read as what a client keeps
+abbrev pub DiskReads : Mechanism → Client → DiskState → Type 0
+DiskReads k kept disk =
+    (s : List ℕ) → disk.seen ≡ Some s
+    → option_map (record_read k) (stored_record client_area s) ≡ Some (Ok kept)
+
 -- memory was wanting
 abbrev pub IsWantOfMemory : OpenRefusal → Type 0
 IsWantOfMemory Memory = ⊤

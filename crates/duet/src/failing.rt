@@ -44,7 +44,6 @@ impl<K: Kem> Party<K> {
         requires { IsSome self.shut }
         ensures { IfOk result (λ p. IfSome self.shut (λ shut. p ≡ open_party shut.left)) }
     {
-        record_law();
         reopened(alloc, self.disk)
     }
 }

@@ -6,12 +6,11 @@ ghost use Rattle.dr_disk.specs.State.{Fate};
 ghost use Rattle.dr_model.specs.Machines.Acts.{act_on};
 ghost use Rattle.dr_model.specs.Machines.Steps.{settled, step};
 ghost use Rattle.session_model.specs.Clients.{Client as Keeping};
-ghost use Rattle.session_record.specs.Lawful.{IsLawfulClient};
 ghost use Rattle.slot_store.specs.Store.{HasArea};
 ghost use Rattle.client.specs.Clients.{client_area};
 ghost use Rattle.duet.specs.Acts.{IsChecked, act_of_call};
 ghost use Rattle.client.specs.Opening.{ReadsClient};
-ghost use Rattle.duet.specs.Parties.{DiskHasRecord, IsWantOfMemory};
+ghost use Rattle.duet.specs.Parties.{DiskReads, IsWantOfMemory};
 ghost use Rattle.duet.specs.Shuts.{open_party};
 ghost use Rattle.duet.specs.Stops.{stopped_client};
 
@@ -34,16 +33,15 @@ fn want_of_memory(refusal: OpenRefusal) -> AllocError
     }
 }
 
-/// The side whose record a disk has, all of whose calls pass. It isn't refused: its only error is
+/// The side that a disk reads, all of whose calls pass. It isn't refused: its only error is
 /// want of memory.
 pub(crate) fn reopened<K: Kem>(alloc: Global, disk: MemoryDisk) -> Result<Party<K>, AllocError>
     requires within { HasArea client_area (state_of disk) }
     requires passes { (state_of disk).fate ≡ Fate.all_pass }
     requires holds { ReadsClient K.mechanism (state_of disk) }
-    ensures { IfOk result (λ p. (kept : Keeping) → IsLawfulClient K.mechanism kept
-        → DiskHasRecord kept (state_of disk) → p ≡ open_party kept) }
+    ensures { IfOk result (λ p. (kept : Keeping)
+        → DiskReads K.mechanism kept (state_of disk) → p ≡ open_party kept) }
 {
-    record_law();
     let mut disk = disk;
     match Client::open(alloc, &mut disk) {
         Ok(client) => Ok(Party {
@@ -74,6 +72,7 @@ impl<K: Kem> Party<K> {
         ensures open { IfOk result (λ pair. pair.0.shut ≡ None) }
     {
         laws::<K>();
+        record_law();
         let Party {
             mut client,
             mut disk,

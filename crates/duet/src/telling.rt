@@ -22,7 +22,8 @@ use kem_laws::Kem;
 use scripts::{Line, side_name};
 use session_model::Answer;
 
-/// Writes the line of the text at a place of a side's inbox.
+/// Writes the line of the text at a place of a side's inbox. The room of the line stands only here.
+#[inline(never)]
 fn write_entry<K: Kem, O: Sink>(
     out: &mut O,
     side: Side,

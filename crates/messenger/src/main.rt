@@ -4,7 +4,7 @@
 
 use dr_disk::{FileDisk, Sharing};
 use dr_ports::{RandomDraws, ReaderSource, WriterSink};
-use messenger_cli::{AREA_SIZE, DISK_SIZE, RELAY_DISK_SIZE, run_arguments};
+use messenger_cli::{DISK_SIZE, HALF_SIZE, RELAY_DISK_SIZE, run_arguments};
 use rand::rngs::SysRng;
 use standard::take_closed;
 use std::env;
@@ -15,8 +15,8 @@ mod standard;
 
 fn main(rt: HostRuntime) -> ExitCode {
     let _placeholders = take_closed(&rt);
-    // A session's file has its whole size from its first write on, a relay's the areas up to its
-    // last box.
+    // A session's file has its whole size from its first write on, a relay's the halves of areas up
+    // to the last one that was written to.
     let mut disk = FileDisk::new(
         &rt,
         "messenger.state",
@@ -28,7 +28,7 @@ fn main(rt: HostRuntime) -> ExitCode {
         &rt,
         "relay.state",
         RELAY_DISK_SIZE,
-        AREA_SIZE,
+        HALF_SIZE,
         Sharing::Alone,
     );
     let mut source = ReaderSource::new(rt.stdin());

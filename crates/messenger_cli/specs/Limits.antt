@@ -22,7 +22,7 @@ pub record HasLimits : Type 0 where
   pub tables : HasTables
   pub places : HasPlaces
   -- bytes of the state file
-  pub disk : DISK_SIZE ≡ 393216
+  pub disk : DISK_SIZE ≡ 1572864
   pub inputs : HasInputs
   -- bytes of a script
   pub script : SCRIPT_LIMIT ≡ 65536

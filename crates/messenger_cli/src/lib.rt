@@ -6,7 +6,7 @@ pub use arguments::run_arguments;
 pub use endings::Status;
 pub use law::limits;
 pub use program::{DISK_SIZE, run};
-pub use relay_command::{AREA_SIZE, RELAY_DISK_SIZE};
+pub use relay_command::{HALF_SIZE, RELAY_DISK_SIZE};
 
 mod arguments;
 mod law;

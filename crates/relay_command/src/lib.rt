@@ -3,7 +3,7 @@
 #![tactic(auto)]
 
 pub use law::{crashes, limits_in_numbers};
-pub use relay_server::AREA_SIZE;
+pub use relay_server::HALF_SIZE;
 pub use relaying::{RELAY_DISK_SIZE, relay};
 
 mod connecting;

@@ -16,11 +16,11 @@ use dr_disk::Disk;
 use dr_ports::{Door, Failed, Sink};
 use endings::{Ending, Status, finish};
 use relay_core::RELAY_LIMIT;
-use relay_server::{AREA_SIZE, Looked, Server, ServerOpenError};
+use relay_server::{HALF_SIZE, Looked, Server, ServerOpenError, UPPER_START};
 use std::alloc::Global;
 
 /// The size of the disk of a relay, in bytes: the areas of 16 boxes.
-pub const RELAY_DISK_SIZE: u64 = AREA_SIZE * RELAY_LIMIT as u64;
+pub const RELAY_DISK_SIZE: u64 = UPPER_START + HALF_SIZE * RELAY_LIMIT as u64;
 
 /// How the command ends where the look is refused. Boxes are counted from 1 here.
 fn unopened(error: ServerOpenError) -> Ending

@@ -5,4 +5,4 @@ use Rattle.relay_link.specs.declared.limits.TheConstants.{REPLY_LIMIT, SENT_LIMI
 -- replies, and bytes sent
 pub record HasLimits : Type 0 where
   pub replies : REPLY_LIMIT ≡ 545
-  pub sent : SENT_LIMIT ≡ 2241606
+  pub sent : SENT_LIMIT ≡ 4482118

@@ -1,18 +1,35 @@
 -- What lies in none of a relay's areas, over two moments.
-use Rattle.std.proofs.Common.{◌≢◌, inl, inr, ℕ, ◌<◌, ◌≤◌, List, refl, ◌∙◌, arith}
+use Rattle.std.proofs.Common.{◌≢◌, ◌⊎◌, inl, inr, ⊎_elim, ℕ, ◌<◌, ◌≤◌, List, refl, ◌∙◌, arith}
 use Rattle.std.proofs.lemmas.Bool.{cases_lt}
 use Rattle.slot_store.specs.Areas.{IsInArea, IsOutsideArea, IsSameOutsideArea}
-use Rattle.slot_store.proofs.Rows.{is_outside, is_within}
+use Rattle.slot_store.proofs.Rows.{IsBesideLower, IsBesideUpper, IsInLower, IsInUpper, is_outside, is_within}
+use Rattle.relay_core.specs.declared.limits.TheConstants.{RELAY_LIMIT}
 use Rattle.relay_server.specs.Places.{SameBehind, area_of}
 
--- two areas have no place in common
-pub area_apart : (j k i : ℕ) → j ≢ k → IsInArea (area_of j) i → IsOutsideArea (area_of k) i
-area_apart j k i other inside =
-    let here = is_within (area_of j) (omega arith) i inside in
-    is_outside (area_of k) (omega arith) i (elim (cases_lt j k) [
+-- two areas have no place in common: the lower half of the one lies beside both halves of the other, and so does the upper one
+module _ (j k i : ℕ) (few_j : j < RELAY_LIMIT) (few_k : k < RELAY_LIMIT) (other : j ≢ k) where
+  lower_beside : IsInLower (area_of j) i → IsBesideLower (area_of k) i × IsBesideUpper (area_of k) i
+  lower_beside here = (
+    elim (cases_lt j k) [
+      | inl below ↦ inl (omega (arith, below, here.2))
+      | inr above ↦ inr (inr (omega (arith, above, other, here.0)))
+    ],
+    inl (omega (arith, few_j, here.2)),
+  )
+
+  upper_beside : IsInUpper (area_of j) i → IsBesideLower (area_of k) i × IsBesideUpper (area_of k) i
+  upper_beside here = (
+    inr (inr (omega (arith, few_k, here.0))),
+    elim (cases_lt j k) [
       | inl below ↦ inl (omega (arith, below, here.1))
       | inr above ↦ inr (omega (arith, above, other, here.0))
-    ])
+    ],
+  )
+
+  pub area_apart : IsInArea (area_of j) i → IsOutsideArea (area_of k) i
+  area_apart inside =
+      let beside = ⊎_elim lower_beside upper_beside (is_within (area_of j) (omega arith) i inside) in
+      is_outside (area_of k) (omega arith) i beside.0 beside.1
 
 pub behind_self : (n : ℕ) (d : List ℕ) → SameBehind n d d
 behind_self n d = record { size = refl; outside = λ i out. refl }

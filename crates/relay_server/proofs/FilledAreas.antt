@@ -5,6 +5,7 @@ use Rattle.std.specs.Int.{w8, w64, to_be_bytes}
 use Rattle.grammar.specs.Printer.{print_items, print_sized}
 use Rattle.slot_store.specs.Kept.{content_or_empty}
 use Rattle.std.proofs.lemmas.Bool.{cases_eq}
+use Rattle.std.proofs.lemmas.Option.{slice_get_within}
 use Rattle.dr_disk.specs.Spans.{Span}
 use Rattle.dr_disk.specs.State.{Always, DiskState}
 use Rattle.dr_disk.proofs.Steps.{spans, widen}
@@ -13,6 +14,7 @@ use Rattle.slot_store.specs.Laws.{DependsOnAreaAlone}
 use Rattle.slot_store.specs.Records.{stored_record}
 use Rattle.slot_store.specs.Store.{IsOldOrNew, HasArea, KeepsOutsideArea, Rests, SlotStore, content}
 use Rattle.relay_core.specs.Boxes.{Box, empty_box}
+use Rattle.relay_core.specs.declared.limits.TheConstants.{RELAY_LIMIT}
 use Rattle.relay_core.specs.Record.{box_text, head_text, kept_packet_text}
 use Rattle.relay_server.specs.Durable.{IsReplaced}
 use Rattle.relay_server.specs.Places.{IsBoxRoom, area_of}
@@ -78,6 +80,7 @@ place_ready n boxes stores d bytes len filled inside room few store there =
 
 pub stands_on : (n : ℕ) (boxes : List Box) (stores : List SlotStore) (d : DiskState) (store : SlotStore) (t : List ℕ) → AreFilled n boxes stores d → slice_get stores n ≡ Some store → content store ≡ Some t → AreFilled (n + 1) boxes stores d
 stands_on n boxes stores d store t filled here has = record {
+  few = filled.few;
   count = filled.count;
   within = filled.within;
   areas = filled.areas;
@@ -113,6 +116,7 @@ module _ (n : ℕ) (boxes : List Box) (stores news : List SlotStore) (t : List �
   one_store = record {
     areas = r.filled.areas;
     rests = r.filled.rests;
+    few = omega (arith, r.filled.few, r.filled.count);
     inside = omega (arith, r.inside, r.filled.count);
     count = r.stores_count;
     others = r.others;
@@ -152,6 +156,9 @@ module _ (n : ℕ) (boxes : List Box) (stores news : List SlotStore) (t : List �
       ⊎_elim (λ old. inl (at ∙ old ∙ r.none the_old.0 the_old.1 ∙ sym (was_none d left)))
       (λ new. inr (was_none d left, at ∙ new ∙ ap (λ (x : List ℕ). Some x) (empty_text ∙ ap (λ (b : Box). box_text (empty_box b.name)) (named box there)))) o.either
 
+  few_box : (k : ℕ) (box : Box) → slice_get boxes k ≡ Some box → k < RELAY_LIMIT
+  few_box k box there = let inside = slice_get_within boxes k box there in omega (arith, inside, r.filled.few)
+
   each : (c : List ℕ) → IsOldOrNew start the_old.0.area (content the_old.0) (Some t) c → IsFilling boxes start c
   each c o =
       let frame = framed c o.frame in
@@ -162,7 +169,7 @@ module _ (n : ℕ) (boxes : List Box) (stores news : List SlotStore) (t : List �
           | inl same ↦
               let here : slice_get boxes n ≡ Some box = subst (λ (m : ℕ). slice_get boxes m ≡ Some box) same there in
               subst (λ (m : ℕ). StaysOrBegins box.name (stored_record (area_of m) frame.0) (stored_record (area_of m) c)) (sym same) (either c box here o frame.0 frame.1)
-          | inr other ↦ inl (other_same r.local k n frame.0 c other frame.2)
+          | inr other ↦ inl (other_same r.local k n frame.0 c (few_box k box there) (omega (arith, r.inside, r.filled.few)) other frame.2)
         ];
         outside = behind_one (length boxes) n frame.0 c r.inside frame.2;
       }
@@ -172,6 +179,7 @@ module _ (n : ℕ) (boxes : List Box) (stores news : List SlotStore) (t : List �
 
   pub put_filled : done ≡ true → AreFilled (n + 1) boxes news now
   put_filled passed = record {
+    few = r.filled.few;
     count = r.stores_count ∙ r.filled.count;
     within = let w = r.filled.within in omega (arith, w, is.any_moment.size);
     areas = new_areas n stores news t start now done one_store;

@@ -3,6 +3,7 @@ pub mod Exits
 pub mod FrameByFrame
 pub mod FilledAreas
 pub mod LoadedBoxes
+mod LowerHalves
 pub mod OneStore
 pub mod OpenedAreas
 pub mod OpenedBoxes

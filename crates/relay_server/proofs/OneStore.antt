@@ -1,11 +1,13 @@
 -- One store of many has another record: the others are as they were.
-use Rattle.std.proofs.Common.{◌≡◌, ◌≢◌, inl, inr, ℕ, zero, suc, ◌<◌, Bool, true, List, [], ◌∷◌, length, Some, refl, sym, ◌∙◌, ap, subst, arith}
+use Rattle.std.proofs.Common.{◌≡◌, ◌≢◌, inl, inr, ℕ, zero, suc, ◌<◌, ◌≤◌, Bool, true, List, [], ◌∷◌, length, Some, refl, sym, ◌∙◌, ap, subst, arith}
 use Rattle.std.specs.Prelude.{slice_get}
 use Rattle.std.proofs.lemmas.Bool.{cases_eq}
+use Rattle.std.proofs.lemmas.Option.{slice_get_within}
 use Rattle.dr_disk.specs.State.{Always, DiskState}
 use Rattle.slot_store.specs.Areas.{Area, IsSameOutsideArea}
 use Rattle.slot_store.specs.Laws.{DependsOnAreaAlone, SameWithin}
 use Rattle.slot_store.specs.Store.{KeepsOutsideArea, Rests, SlotStore}
+use Rattle.relay_core.specs.declared.limits.TheConstants.{RELAY_LIMIT}
 use Rattle.relay_server.specs.Durable.{IsReplaced}
 use Rattle.relay_server.specs.Places.{area_of}
 use Rattle.relay_server.proofs.Behind.{area_apart}
@@ -16,16 +18,17 @@ there_is (x ∷ xs) zero inside = (x, refl)
 there_is (x ∷ xs) (suc k) inside = there_is xs k (omega (arith, inside))
 
 -- what changes in one area alone is the same in each other
-pub apart : (j k : ℕ) (c d : List ℕ) → j ≢ k → IsSameOutsideArea (area_of k) d c → SameWithin (area_of j) c d
-apart j k c d other same = record {
+pub apart : (j k : ℕ) (c d : List ℕ) → j < RELAY_LIMIT → k < RELAY_LIMIT → j ≢ k → IsSameOutsideArea (area_of k) d c → SameWithin (area_of j) c d
+apart j k c d few_j few_k other same = record {
   size = same.size;
-  bytes = λ i inside. same.outside i (area_apart j k i other inside);
+  bytes = λ i inside. same.outside i (area_apart j k i few_j few_k other inside);
 }
 
 -- the store at a place was replaced
 pub record OneReplaced (n : ℕ) (stores news : List SlotStore) (t : List ℕ) (start now : DiskState) (done : Bool) : Type 0 where
   pub areas : (k : ℕ) (store : SlotStore) → slice_get stores k ≡ Some store → store.area ≡ area_of k
   pub rests : (k : ℕ) (store : SlotStore) → slice_get stores k ≡ Some store → Always (Rests store) start
+  pub few : length stores ≤ RELAY_LIMIT
   pub inside : n < length stores
   pub count : length news ≡ length stores
   pub others : (j : ℕ) → j ≢ n → slice_get news j ≡ slice_get stores j
@@ -51,6 +54,12 @@ module _ (n : ℕ) (stores news : List SlotStore) (t : List ℕ) (start now : Di
       → KeepsOutsideArea (area_of n) start c
   around_area c f = subst (λ (a : Area). KeepsOutsideArea a start c) (r.areas n old_store.0 old_store.1) f
 
+  few_at : (j : ℕ) (store : SlotStore) → slice_get stores j ≡ Some store → j < RELAY_LIMIT
+  few_at j store there = let inside = slice_get_within stores j store there in omega (arith, inside, r.few)
+
+  few_here : n < RELAY_LIMIT
+  few_here = omega (arith, r.inside, r.few)
+
   pub new_areas : (j : ℕ) (store : SlotStore) → slice_get news j ≡ Some store → store.area ≡ area_of j
   new_areas j store there = elim (cases_eq j n) [
     | inl same ↦
@@ -67,5 +76,6 @@ module _ (n : ℕ) (stores news : List SlotStore) (t : List ℕ) (start now : Di
         let frame = around_area c (is_replaced.outside passed c left) in
         let area = r.areas j store was in
         r.local.rests store c frame.0
-        (subst (λ (a : Area). SameWithin a c frame.0) (sym area) (apart j n c frame.0 other frame.2)) (r.rests j store was frame.0 frame.1)
+        (subst (λ (a : Area). SameWithin a c frame.0) (sym area) (apart j n c frame.0 (few_at j store was) few_here other frame.2))
+        (r.rests j store was frame.0 frame.1)
   ]

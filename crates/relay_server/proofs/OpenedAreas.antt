@@ -1,5 +1,5 @@
 -- Areas that are opened one after the other.
-use Rattle.std.proofs.Common.{◌≡◌, ◌≢◌, ◌⊎◌, inl, inr, ⊎_elim, ℕ, zero, suc, ◌+◌, ◌<◌, true, false, List, [], ◌∷◌, ◌++◌, length, Option, Some, None, refl, sym, ◌∙◌, ap, subst, arith, length-append}
+use Rattle.std.proofs.Common.{◌≡◌, ◌≢◌, ◌⊎◌, inl, inr, ⊎_elim, ℕ, zero, suc, ◌+◌, ◌<◌, ◌≤◌, true, false, List, [], ◌∷◌, ◌++◌, length, Option, Some, None, refl, sym, ◌∙◌, ap, subst, arith, length-append}
 use Rattle.std.specs.Prelude.{slice_get, is_some}
 use Rattle.std.proofs.lemmas.Bool.{cases_eq}
 use Rattle.std.proofs.lemmas.Option.{slice_get_within}
@@ -16,6 +16,7 @@ use Rattle.slot_store.specs.Laws.{DependsOnAreaAlone, SameWithin}
 use Rattle.slot_store.specs.Reading.{IsEntryOrLike, IsLikeRead, damaged}
 use Rattle.slot_store.specs.Records.{stored_record}
 use Rattle.slot_store.specs.Store.{Rests, SlotStore, content}
+use Rattle.relay_core.specs.declared.limits.TheConstants.{RELAY_LIMIT}
 use Rattle.relay_server.specs.Areas.{AreAtRest, AreOpened, AreRefused, HasLooked, IsAreaOpened, IsAreaRefused, IsLikeEntry, store_reading}
 use Rattle.relay_server.specs.Places.{SameBehind, area_of}
 use Rattle.relay_server.specs.Opening.{IsFirstDamaged, IsServerUnopened, IsUndamagedReading, OfRead, area_read, box_fault}
@@ -80,15 +81,19 @@ none_opened count start stores is = subst (λ (xs : List SlotStore). AreOpened 0
 })
 
 pub entry_self : (count : ℕ) (start : DiskState) (c : List ℕ) → start.image c → IsLikeEntry count start c
-entry_self count start c left = record { entry = c; image = left; same = λ k. refl; outside = behind_self count c }
+entry_self count start c left = record { entry = c; image = left; same = λ k less. refl; outside = behind_self count c }
 
 -- where one area alone changes, each other is read as it was
-pub other_same : DependsOnAreaAlone → (j k : ℕ) (d c : List ℕ) → j ≢ k → IsSameOutsideArea (area_of k) d c → stored_record (area_of j) c ≡ stored_record (area_of j) d
-other_same local j k d c other same = local.record_of (area_of j) c d (apart j k c d other same)
+pub other_same : DependsOnAreaAlone → (j k : ℕ) (d c : List ℕ) → j < RELAY_LIMIT → k < RELAY_LIMIT → j ≢ k
+    → IsSameOutsideArea (area_of k) d c → stored_record (area_of j) c ≡ stored_record (area_of j) d
+other_same local j k d c few_j few_k other same = local.record_of (area_of j) c d (apart j k c d few_j few_k other same)
 
-module _ (local : DependsOnAreaAlone) (n count : ℕ) (start d now : DiskState) (stores : List SlotStore) (lawful : IsLawful d) (less : n < count)
+module _ (local : DependsOnAreaAlone) (n count : ℕ) (start d now : DiskState) (stores : List SlotStore) (lawful : IsLawful d) (few : count ≤ RELAY_LIMIT) (less : n < count)
     (so_far : AreOpened n count stores start d) (span : Span d now (IsEntryOrLike (area_of n) d))
     (still : IsReadAtRest (area_of n) d → Unwritten d now) where
+  few_n : n < RELAY_LIMIT
+  few_n = omega (arith, less, few)
+
   entry_of : (c : List ℕ) → d.image c → IsLikeEntry count start c
   entry_of c left = ⊎_elim (λ was. entry_self count start c was) (λ is. is) (so_far.looked.during.last c left)
 
@@ -98,9 +103,9 @@ module _ (local : DependsOnAreaAlone) (n count : ℕ) (start d now : DiskState) 
       record {
         entry = before.entry;
         image = before.image;
-        same = λ k. elim (cases_eq k n) [
-          | inl here ↦ subst (λ (m : ℕ). stored_record (area_of m) c ≡ stored_record (area_of m) like.read) (sym here) like.same ∙ before.same k
-          | inr other ↦ other_same local k n like.read c other like.outside ∙ before.same k
+        same = λ k under. elim (cases_eq k n) [
+          | inl here ↦ subst (λ (m : ℕ). stored_record (area_of m) c ≡ stored_record (area_of m) like.read) (sym here) like.same ∙ before.same k under
+          | inr other ↦ other_same local k n like.read c (omega (arith, under, few)) few_n other like.outside ∙ before.same k under
         ];
         outside = behind_twice count before.entry like.read c before.outside (behind_one count n like.read c less like.outside);
       }) is
@@ -124,7 +129,7 @@ module _ (local : DependsOnAreaAlone) (n count : ℕ) (start d now : DiskState) 
   unread s r was is =
       let same = so_far.untouched s r was is in
       local.reads box_fault (area_of n) s r
-      (record { size = sym same.size; bytes = λ i inside. sym (same.outside i (λ k lt. area_apart n k i (λ is. omega (arith, is, lt)) inside)) })
+      (record { size = sym same.size; bytes = λ i inside. sym (same.outside i (λ k lt. area_apart n k i few_n (omega (arith, lt, few_n)) (λ is. omega (arith, is, lt)) inside)) })
 
   -- ---- it is refused
 
@@ -147,13 +152,16 @@ module _ (local : DependsOnAreaAlone) (n count : ℕ) (start d now : DiskState) 
   -- ---- it is opened
 
   module _ (store : SlotStore) (one : IsAreaOpened n store d now) (reads : (s : List ℕ) → now.seen ≡ Some s → IsLikeRead (area_of n) d s) where
+    few_at : (k : ℕ) (other : SlotStore) → slice_get stores k ≡ Some other → k < RELAY_LIMIT
+    few_at k other there = let inside = slice_get_within stores k other there in omega (arith, inside, so_far.count_is, few_n)
+
     -- each earlier store rests on what it rested on
     old_rests : (k : ℕ) (other : SlotStore) → k ≢ n → slice_get stores k ≡ Some other → Always (Rests other) now
     old_rests k other apart_from there c left =
         let like = one.alike c left in
         let area = so_far.areas k other there in
         local.rests other c like.read
-        (subst (λ (a : Area). SameWithin a c like.read) (sym area) (apart k n c like.read apart_from like.outside))
+        (subst (λ (a : Area). SameWithin a c like.read) (sym area) (apart k n c like.read (few_at k other there) few_n apart_from like.outside))
         (so_far.rests k other there like.read (lawful.seen_now like.read like.told))
 
     below_n : (k : ℕ) (other : SlotStore) → slice_get stores k ≡ Some other → k ≢ n

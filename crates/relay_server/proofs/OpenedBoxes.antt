@@ -12,7 +12,7 @@ use Rattle.slot_store.specs.Records.{stored_record}
 use Rattle.slot_store.specs.Store.{SlotStore, content}
 use Rattle.relay_core.specs.Boxes.{Box, empty_box}
 use Rattle.relay_server.specs.Areas.{AreOpened, HasLooked, IsLikeEntry, store_reading}
-use Rattle.relay_server.specs.Places.{HasRoomForAreas, SameBehind, area_of}
+use Rattle.relay_server.specs.Places.{HasRoomFor, SameBehind, area_of}
 use Rattle.relay_server.specs.Durable.{ServerNow}
 use Rattle.relay_server.specs.Looking.{HasSettled, IsLooked}
 use Rattle.relay_server.specs.Filling.{AreFilled, AreLoaded, HasBox, IsFilling, IsFirstOthers, IsBoxKept, IsOthers}
@@ -51,7 +51,7 @@ other_of name (Some text) is = is
 -- ---- what a crash leaves
 
 opening_like : (names : List (List ℕ)) (start : DiskState) (c : List ℕ) → IsLikeEntry (length names) start c → IsOpening names start c
-opening_like names start c like = record { entry = like.entry; image = like.image; each = λ k name there. inl (like.same k); outside = like.outside }
+opening_like names start c like = record { entry = like.entry; image = like.image; each = λ k name there. inl (like.same k (slice_get_within names k name there)); outside = like.outside }
 
 pub look_moments : (names : List (List ℕ)) (start now : DiskState) → HasLooked (length names) start now → Span start now (IsOpening names start)
 look_moments names start now looks = widen start now _ _ (opening_like names start) looks.during
@@ -94,10 +94,11 @@ module _ (names : List (List ℕ)) (start mid : DiskState) (stores : List SlotSt
         let at = store_at k (slice_get_within names k name named) in
         name_of name box (content at.0) (kept_at k name box at.0 named boxed at.1)
 
-    to_fill : HasRoomForAreas (length names) start → AreFilled 0 boxes stores mid
+    to_fill : HasRoomFor names start → AreFilled 0 boxes stores mid
     to_fill fits = record {
       count = opened.count_is ∙ sym count_is;
-      within = omega (arith, fits, count_is, opened.looked.during.size);
+      few = omega (arith, fits.few, count_is);
+      within = omega (arith, fits.within, count_is, opened.looked.during.size);
       areas = opened.areas;
       rests = opened.rests;
       each = λ k store box there boxed.
@@ -105,7 +106,7 @@ module _ (names : List (List ℕ)) (start mid : DiskState) (stores : List SlotSt
           has_of k name.0 box (content store) (kept_at k name.0 box store name.1 boxed there);
     }
 
-    pub looked_then : HasRoomForAreas (length names) start → IsLooked names (with_stores boxes stores) start mid
+    pub looked_then : HasRoomFor names start → IsLooked names (with_stores boxes stores) start mid
     looked_then fits = record {
       unsettled = to_fill fits;
       boxes = record {
@@ -130,7 +131,8 @@ module _ (names : List (List ℕ)) (start mid now : DiskState) (looked : ServerN
         image = like.image;
         each = λ k name named.
             let box = there_is looked.boxes k (omega (arith, slice_get_within names k name named, is_looked.boxes.count)) in
-            subst (λ (o : Option (List ℕ)). StaysOrBegins name o (stored_record (area_of k) c)) (like.same k)
+            subst (λ (o : Option (List ℕ)). StaysOrBegins name o (stored_record (area_of k) c))
+            (like.same k (slice_get_within names k name named))
             (subst (λ (n : List ℕ). StaysOrBegins n (stored_record (area_of k) is.entry) (stored_record (area_of k) c)) (is_looked.boxes.named k name box.0 named box.1) (is.each k box.0 box.1));
         outside = behind_twice (length names) like.entry is.entry c like.outside (subst (λ (n : ℕ). SameBehind n is.entry c) is_looked.boxes.count is.outside);
       }

@@ -43,6 +43,7 @@ module _ (text : Box → List ℕ) (boxes next : List Box) (stores news : List S
   one_store = record {
     areas = r.ready.areas;
     rests = r.ready.rests;
+    few = omega (arith, r.ready.few, r.ready.count);
     inside = omega (arith, r.one.inside, r.ready.count);
     count = r.stores_count;
     others = r.others;
@@ -72,7 +73,10 @@ module _ (text : Box → List ℕ) (boxes next : List Box) (stores news : List S
   -- each other box is as it was
   other_stands : (j : ℕ) (box : Box) (c : List ℕ) → j ≢ k → slice_get boxes j ≡ Some box → KeepsOutsideArea (area_of k) start c → stored_record (area_of j) c ≡ Some (text box)
   other_stands j box c other there frame =
-      r.local.record_of (area_of j) c frame.0 (apart j k c frame.0 other frame.2) ∙ stands_at j box frame.0 there frame.1
+      let inside = slice_get_within boxes j box there in
+      r.local.record_of (area_of j) c frame.0
+      (apart j k c frame.0 (omega (arith, inside, r.ready.few)) (omega (arith, r.one.inside, r.ready.few)) other frame.2)
+      ∙ stands_at j box frame.0 there frame.1
 
   each : (c : List ℕ) → IsOldOrNew start the_old.0.area (content the_old.0) (Some t) c → StandsForEitherBoxes text boxes next c
   each c o = ⊎_elim
@@ -104,6 +108,7 @@ module _ (text : Box → List ℕ) (boxes next : List Box) (stores news : List S
 
   pub ready_then : done ≡ true → IsServerReady text (with_stores next news) now
   ready_then passed = record {
+    few = omega (arith, r.ready.few, r.count);
     count = r.stores_count ∙ r.ready.count ∙ sym r.count;
     within = λ j inside. let w = r.ready.within j (omega (arith, inside, r.count)) in omega (arith, w, is.any_moment.size);
     areas = new_areas k stores news t start now done one_store;

@@ -18,6 +18,7 @@ has_text n k box (Some t) less has = ap (λ (x : List ℕ). Some x) has
 
 pub filled_ready : (boxes : List Box) (stores : List SlotStore) (disk : DiskState) → AreFilled (length boxes) boxes stores disk → IsServerReady box_text (with_stores boxes stores) disk
 filled_ready boxes stores disk filled = record {
+  few = filled.few;
   count = filled.count;
   within = λ k inside. omega (arith, inside, filled.within);
   areas = filled.areas;

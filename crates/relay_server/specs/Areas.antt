@@ -35,11 +35,12 @@ IsAreaRefused k start now (Damaged area slot at) =
     (area ≡ k) × IsQuiet start now × ((s : List ℕ) → start.seen ≡ Some s → area_read k s ≡ damaged slot at)
 IsAreaRefused k start now (BoxName j) = ⊥
 
--- Each area has the record that one image of that moment has there. What lies after this many areas is the same.
+-- Each of this many areas has the record that one image of that moment has there. What lies in none
+-- of them is the same.
 pub record IsLikeEntry (count : ℕ) (start : DiskState) (c : List ℕ) : Type 0 where
   pub entry : List ℕ
   pub image : start.image entry
-  pub same : (k : ℕ) → stored_record (area_of k) c ≡ stored_record (area_of k) entry
+  pub same : (k : ℕ) → k < count → stored_record (area_of k) c ≡ stored_record (area_of k) entry
   pub outside : SameBehind count entry c
 
 -- what a read gives has each of this many areas at rest

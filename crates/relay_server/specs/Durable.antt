@@ -1,5 +1,5 @@
 -- A relay on a disk: its boxes, each a record in an area of its own.
-use Rattle.std.specs.Prelude.{◌≡◌, ◌⊎◌, ℕ, ◌<◌, Bool, true, List, length, slice_get, Some, Result, IfErr, OnOk}
+use Rattle.std.specs.Prelude.{◌≡◌, ◌⊎◌, ℕ, ◌<◌, ◌≤◌, Bool, true, List, length, slice_get, Some, Result, IfErr, OnOk}
 use Rattle.dr_base.specs.Causes.{Rose}
 use Rattle.dr_disk.specs.declared.call.Call.{Call}
 use Rattle.dr_disk.specs.State.{DiskState, Always}
@@ -7,6 +7,7 @@ use Rattle.dr_disk.specs.Spans.{IsQuiet, Span}
 use Rattle.slot_store.specs.Records.{stored_record}
 use Rattle.slot_store.specs.Store.{IsOldOrNew, HasArea, KeepsOutsideArea, Rests, SlotStore, content}
 use Rattle.relay_core.specs.Boxes.{Box}
+use Rattle.relay_core.specs.declared.limits.TheConstants.{RELAY_LIMIT}
 use Rattle.relay_server.specs.Places.{IsSameBehind, area_of}
 
 -- a server: its boxes, and a store for each
@@ -20,6 +21,7 @@ StandsForBoxes text boxes c = (k : ℕ) (box : Box) → slice_get boxes k ≡ So
 
 -- Each image is at rest for the boxes.
 pub record IsServerReady (text : Box → List ℕ) (server : ServerNow) (disk : DiskState) : Type 0 where
+  pub few : length server.boxes ≤ RELAY_LIMIT
   pub count : length server.stores ≡ length server.boxes
   pub within : (k : ℕ) → k < length server.boxes → HasArea (area_of k) disk
   pub areas : (k : ℕ) (store : SlotStore) → slice_get server.stores k ≡ Some store → store.area ≡ area_of k

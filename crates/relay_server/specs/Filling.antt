@@ -7,6 +7,7 @@ use Rattle.slot_store.specs.Records.{stored_record}
 use Rattle.slot_store.specs.Store.{Rests, SlotStore, content}
 use Rattle.relay_core.specs.Boxes.{Box, empty_box}
 use Rattle.relay_core.specs.Record.{box_read, box_text}
+use Rattle.relay_core.specs.declared.limits.TheConstants.{RELAY_LIMIT}
 use Rattle.relay_server.specs.Durable.{FailsByCall}
 use Rattle.relay_server.specs.Places.{area_of, HasRoomForAreas, SameBehind}
 use Rattle.relay_server.specs.Opening.{StaysOrBegins}
@@ -47,6 +48,7 @@ HasBox n k box None = (n ≤ k) × (box ≡ empty_box box.name)
 HasBox n k box (Some text) = text ≡ box_text box
 
 pub record AreFilled (n : ℕ) (boxes : List Box) (stores : List SlotStore) (disk : DiskState) : Type 0 where
+  pub few : length boxes ≤ RELAY_LIMIT
   pub count : length stores ≡ length boxes
   pub within : HasRoomForAreas (length boxes) disk
   pub areas : (k : ℕ) (store : SlotStore) → slice_get stores k ≡ Some store → store.area ≡ area_of k

@@ -7,3 +7,4 @@ pub mod Looking
 pub mod Serving
 pub mod FrameByFrame
 pub mod Limits
+pub mod LowerHalves

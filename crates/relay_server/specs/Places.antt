@@ -1,17 +1,22 @@
--- Where the boxes of a relay lie on its disk: area after area.
-use Rattle.std.specs.Prelude.{◌≡◌, ◌<◌, ◌≤◌, ◌*◌, ℕ, List, length, slice_index}
+-- Where the boxes of a relay lie on its disk: each has an area of two halves.
+use Rattle.std.specs.Prelude.{◌≡◌, ◌<◌, ◌≤◌, ◌+◌, ◌*◌, ℕ, List, length, slice_index}
 use Rattle.dr_disk.specs.State.{DiskState}
 use Rattle.slot_store.specs.Areas.{Area, HasRecordRoom, IsOutsideArea}
 use Rattle.relay_core.specs.declared.limits.TheConstants.{RELAY_LIMIT}
-use Rattle.relay_server.specs.declared.limits.TheConstants.{AREA_SIZE, BOX_PAGES, RECORD_PAGES}
+use Rattle.relay_server.specs.declared.limits.TheConstants.{BOX_PAGES, HALF_SIZE, RECORD_PAGES, UPPER_START}
 
--- how many bytes this many areas have
-abbrev pub areas_size : ℕ → ℕ
-areas_size n = AREA_SIZE * n
+-- how many bytes the halves of this many areas have
+abbrev pub halves_size : ℕ → ℕ
+halves_size n = HALF_SIZE * n
 
--- the area of a box
+-- the area of a box: the lower halves follow one another, and the upper ones do so from `UPPER_START` on
 abbrev pub area_of : ℕ → Area
-area_of k = record { start = areas_size k; pages = BOX_PAGES; most = RECORD_PAGES }
+area_of k = record {
+  start = halves_size k;
+  upper = UPPER_START + halves_size k;
+  pages = BOX_PAGES;
+  most = RECORD_PAGES;
+}
 
 -- bytes that have room for any record of a box, wherever its area lies
 abbrev pub IsBoxRoom : List ℕ → Type 0
@@ -19,7 +24,7 @@ IsBoxRoom bytes = HasRecordRoom (area_of 0) bytes
 
 -- a disk has room for this many areas
 abbrev pub HasRoomForAreas : ℕ → DiskState → Type 0
-HasRoomForAreas n disk = areas_size n ≤ disk.size
+HasRoomForAreas n disk = UPPER_START + halves_size n ≤ disk.size
 
 -- a relay has room for boxes of these names, and a disk for their areas
 pub record HasRoomFor (names : List (List ℕ)) (disk : DiskState) : Type 0 where

@@ -1,6 +1,6 @@
 //! The stores of a relay's areas are opened, one after the other.
 
-ghost use Rattle.std.specs.Prelude.{◌≡◌, ◌<◌, ◌≤◌, ◌*◌, ℕ, List, Option, IfErr, IfOk, length};
+ghost use Rattle.std.specs.Prelude.{◌≡◌, ◌<◌, ◌≤◌, ◌*◌, ⊤, ℕ, List, Option, IfErr, IfOk, length};
 ghost use Rattle.dr_disk.specs.Calls.{Unwritten};
 ghost use Rattle.dr_disk.specs.Spans.{Span};
 ghost use Rattle.slot_store.specs.AtRest.{IsReadAtRest};
@@ -12,7 +12,7 @@ ghost use Rattle.relay_server.specs.Places.{HasRoomForAreas, area_of};
 ghost use Rattle.relay_server.specs.Opening.{box_fault};
 
 use crate::errors::ServerOpenError;
-use crate::limits::{AREA_SIZE, BOX_PAGES, RECORD_PAGES};
+use crate::limits::{BOX_PAGES, HALF_SIZE, RECORD_PAGES, UPPER_START};
 use dr_disk::Disk;
 use relay_core::check_box;
 use slot_store::{Area, Grammar, OpenError, SlotStore, locality};
@@ -21,17 +21,23 @@ use std::alloc::Global;
 /// The area of the first box.
 pub(crate) const FIRST_AREA: Area = Area {
     start: 0,
+    upper: UPPER_START,
     pages: BOX_PAGES,
     most: RECORD_PAGES,
 };
 
-/// The records of boxes, as a store's grammar.
-struct BoxRecords {}
+/// The records of boxes, as a store's grammar. It keeps nothing of what it reads.
+#[derive(Drop)]
+struct BoxRecords;
 
 impl Grammar for BoxRecords {
     ghost fault_at = { λ text. box_fault text };
 
-    fn check(text: &[u8]) -> Result<(), u32> {
+    ghost is_new = { λ _. ⊤ };
+
+    ghost has_read = { λ _ _. ⊤ };
+
+    fn read(&mut self, text: &[u8]) -> Result<(), u32> {
         check_box(text)
     }
 }
@@ -51,10 +57,11 @@ fn open_area<D: Disk>(alloc: Global, disk: &mut D, k: usize) -> Result<SlotStore
         → IsLikeRead (area_of k) (D.state disk.old) s }
 {
     let area = Area {
-        start: AREA_SIZE * k as u64,
+        start: HALF_SIZE * k as u64,
+        upper: UPPER_START + HALF_SIZE * k as u64,
         ..FIRST_AREA
     };
-    match SlotStore::open::<BoxRecords, D>(alloc, disk, area) {
+    match SlotStore::open(alloc, disk, area, &mut BoxRecords) {
         Ok((store, _found)) => Ok(store),
         Err(OpenError::Memory) => Err(ServerOpenError::Memory),
         Err(OpenError::StoreFault { call }) => Err(ServerOpenError::StoreFault { call }),

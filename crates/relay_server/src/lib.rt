@@ -13,8 +13,8 @@
 
 pub use durable::DurableBoxes;
 pub use errors::ServerOpenError;
-pub use law::crashes;
-pub use limits::{AREA_SIZE, limits_in_numbers};
+pub use law::{crashes, lower_halves};
+pub use limits::{HALF_SIZE, UPPER_START, limits_in_numbers};
 pub use relay_core::Answered;
 pub use server::{Looked, Server};
 pub use serving::{Ended, Round, ServeFault};

@@ -77,9 +77,9 @@ fn frame_room(alloc: Global) -> Result<Vec<u8>, AllocError>
 
 impl Server {
     /// Looks at the boxes of these names, 1 to 16 and no two alike: each lives in the area of its
-    /// place, 128 pages of 4,096 bytes. The areas are opened in order, and then their records are
-    /// loaded. No record is put, and where all areas are read at rest, or as zeros, no byte is
-    /// written.
+    /// place, which has a lower and an upper half. The areas are opened in order, and then their
+    /// records are loaded. No record is put, and where all areas are read at rest, or as zeros, no
+    /// byte is written.
     ///
     /// `Damaged` exactly where an area that was read is damaged, and `BoxName` exactly where none
     /// is and one has a record of another name: the first one, by what was read. `StoreFault` only

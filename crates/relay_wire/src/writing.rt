@@ -31,7 +31,7 @@ fn put_frame(out: &mut [u8], first: u8, one: &[u8], two: &[u8], three: &[u8]) ->
 }
 
 /// Writes the frame of a request at the beginning, and answers how many bytes it has. A buffer of
-/// 4,098 bytes holds any.
+/// `FRAME_LIMIT` bytes holds any.
 #[tactic(auto, unfolding(crate::specs::Requests::request_body))]
 pub fn write_request(request: &Request<'_>, out: &mut [u8]) -> usize
     requires { HasRoom FRAME_LIMIT (framed (request_body (asked_of request.now))) (length out.old) }
@@ -47,7 +47,7 @@ pub fn write_request(request: &Request<'_>, out: &mut [u8]) -> usize
 }
 
 /// Writes the frame of a reply at the beginning, and answers how many bytes it has. A buffer of
-/// 4,098 bytes holds any.
+/// `FRAME_LIMIT` bytes holds any.
 #[tactic(auto, unfolding(crate::specs::Replies::reply_body))]
 pub fn write_reply(reply: &Reply<'_>, out: &mut [u8]) -> usize
     requires { HasRoom FRAME_LIMIT (framed (reply_body (replied_of reply.now))) (length out.old) }

@@ -15,6 +15,7 @@ pub const HEX_LIMIT: usize = CARRIED_LIMIT;
 pub const DIGIT_LIMIT: usize = 2 * HEX_LIMIT;
 
 /// The bytes of these digits, none where they aren't at most `HEX_LIMIT` bytes in hex.
+#[inline(never)]
 #[tactic(auto, unfolding(crate::specs::Words::hex_read))]
 pub fn hex_bytes(digits: &[u8]) -> ArrayVec<u8, HEX_LIMIT>
     ensures { result.items ≡ bytes_of_hex digits.now }

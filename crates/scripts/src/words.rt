@@ -82,7 +82,8 @@ pub fn parse_flip(side: Side, words: &[u8]) -> Option<Line<'_>>
     Some(Line::Does(side, Call::Take(Source::Flipped(position, bit))))
 }
 
-/// Whether a text is at most `HEX_LIMIT` bytes in hex.
+/// Whether a text is at most `HEX_LIMIT` bytes in hex. Their room stands only where a line asks it.
+#[inline(never)]
 #[tactic(auto, unfolding(crate::specs::Words::hex_read))]
 fn is_hex(text: &[u8]) -> bool
     ensures { hex_read text.now ≡ (if result then Some (bytes_of_hex text.now) else None) }

@@ -14,10 +14,9 @@ use Rattle.endings.specs.declared.ending.Ending.TheVariants.{Done}
 use Rattle.kem_laws.specs.Mechanism.{Mechanism}
 use Rattle.session_model.specs.Clients.{Client}
 use Rattle.session_model.specs.declared.answer.Answer.{Answer}
-use Rattle.slot_store.specs.Reading.{IsEntryOrLike}
-use Rattle.client.specs.Clients.{ClientNow, IsReady, client_area}
+use Rattle.client.specs.Clients.{ClientNow, IsReady}
 use Rattle.client.specs.InWorlds.{ActsIn, IsIn}
-use Rattle.client.specs.Opening.{IsClientOpened, OpensIn, ReadsAsSide}
+use Rattle.client.specs.Opening.{IsClientOpened, IsEntryOrAsRead, OpensIn, ReadsAsSide}
 use Rattle.client.specs.Outcomes.{Acts, IsEffected, Outcome, acknowledged, faulted, is_closed, refused, undrawn}
 use Rattle.session_commands.specs.Acting.{Acted, ClientAsk, was_cut, was_done, was_refused}
 use Rattle.session_commands.specs.Closing.{printed_answer, ending_by, lines_of_ending, worked_as}
@@ -33,21 +32,21 @@ at_rest_in k w side client disk keeps ready =
 
 module _ {X : Type 0} (state : X → DiskState) (k : Mechanism) (start mid now : X) (lawful : IsLawful (state now))
     (client after : ClientNow) (opened : IsClientOpened k client (state start) (state mid))
-    (opening : Span (state start) (state mid) (IsEntryOrLike client_area (state start))) where
+    (opening : Span (state start) (state mid) (IsEntryOrAsRead k (state start))) where
   module _ (asked : ClientAsk) (act : Act) (asks : asked.acts client.kept act) where
     done_by : (effect : Bool) (answer : Answer) → IsEffected state effect (act_on k client.kept act) client after mid now answer
         → Acted state k asked start now Done (printed_answer answer)
     done_by true answer acts =
         was_done client.kept act (step answer after.kept) opened.read asks acts.made_is (record {
           either =
-              leaves_either (state start) (state mid) (state now) lawful client.kept after.kept opening opened.alike
+              leaves_either k (state start) (state mid) (state now) lawful client.kept after.kept opening opened.alike
               acts.disk.any_moment;
           rests = record { store = after.store; ready = acts.disk.ready };
           quiet = quiet_twice (state start) (state mid) (state now) opened.quiet acts.disk.quiet;
         })
     done_by false answer acts =
         was_done client.kept act (step answer after.kept) opened.read asks acts.0
-        (subst (λ (n : ClientNow). LeavesAtRest client.kept n.kept (state start) (state now)) (sym acts.2)
+        (subst (λ (n : ClientNow). LeavesAtRest k client.kept n.kept (state start) (state now)) (sym acts.2)
         (stood state k start mid now lawful client opened acts.3 opening))
 
     pub acted_as : (outcome : Outcome) → Acts state (act_on k client.kept act) client after mid now outcome
@@ -60,7 +59,7 @@ module _ {X : Type 0} (state : X → DiskState) (k : Mechanism) (start mid now :
     acted_as (acknowledged answer) acts = done_by (has_effect answer) answer acts
     acted_as (faulted call) acts =
         was_cut client.kept act acts.next call opened.read asks acts.made_is
-        (leaves_either (state start) (state mid) (state now) lawful client.kept acts.next.next opening opened.alike
+        (leaves_either k (state start) (state mid) (state now) lawful client.kept acts.next.next opening opened.alike
         acts.disk.any_moment)
         (omega (arith, acts.disk.rose, opened.quiet call))
 
@@ -88,13 +87,12 @@ module _ {X : Type 0} (state : X → DiskState) (k : Mechanism) (start mid now :
   settles act (acknowledged answer) acts = ready_by (has_effect answer) act answer acts
   settles act (faulted call) acts = tt
 
-  module _ (w : World) (side : Side) (stands : ReadsAsSide k w side (state start)) (opens : OpensIn k w side (state start) (state mid) (Ok client))
-      (asked : ClientAsk) where
+  module _ (w : World) (side : Side) (opens : OpensIn k w side (state start) (state mid) (Ok client)) (asked : ClientAsk) where
     pub undrawn_in : asked.undrawn client.kept → now ≡ mid
         → RunsIn k w side asked (state start) (state now) (ending_by (worked_as undrawn)) []
     undrawn_in lacks same =
         stays_undrawn (subst asked.undrawn opens.client.0.keeps lacks)
-        (stays_on state k start mid now lawful client opened same side w stands opening)
+        (stays_on state k start mid now lawful client opened same side w opens opening)
         (at_rest_in k w side client (state now) opens.client.0.keeps (still_ready state k start mid now lawful client opened same))
 
     -- what is asked of the client is asked of the side
@@ -108,19 +106,19 @@ module _ {X : Type 0} (state : X → DiskState) (k : Mechanism) (start mid now :
         absurd (let e : None ≡ Some call = sym opened.is_open ∙ settled in cc)
     runs_in act asks fair (refused refusal) settled acts =
         stays_refused act refusal (asked_in act asks) fair acts.0
-        (stays_on state k start mid now lawful client opened settled side w stands opening)
+        (stays_on state k start mid now lawful client opened settled side w opens opening)
         (at_rest_in k w side client (state now) opens.client.0.keeps
         (still_ready state k start mid now lawful client opened settled))
     runs_in act asks fair undrawn settled acts = absurd acts
     runs_in act asks fair (acknowledged answer) settled acts =
         subst (λ a. RunsIn k w side asked (state start) (state now) Done (printed_answer a)) acts.0
         (goes_on act (asked_in act asks) fair
-        (runs_on (state start) (state mid) (state now) lawful k side w (act_in k w side act).next stands opening opened.alike
+        (runs_on k (state start) (state mid) (state now) lawful side w (act_in k w side act).next client opens opening opened.alike
         acts.2)
         (at_rest_in k (act_in k w side act).next side after (state now) acts.1.keeps settled))
     runs_in act asks fair (faulted call) settled acts =
         is_in_doubt act (asked_in act asks) fair
-        (runs_on (state start) (state mid) (state now) lawful k side w (act_in k w side act).next stands opening opened.alike
+        (runs_on k (state start) (state mid) (state now) lawful side w (act_in k w side act).next client opens opening opened.alike
         acts.1)
 
   -- the whole of a command whose act is what it asks
@@ -136,6 +134,6 @@ module _ {X : Type 0} (state : X → DiskState) (k : Mechanism) (start mid now :
     acted = acted_as asked act asks outcome acts;
     in_worlds = λ w side lawful_world stands fair.
         let open_in = opens w side lawful_world stands in
-        runs_in w side stands open_in asked act asks (fairly w side fair) outcome (settles act outcome acts)
+        runs_in w side open_in asked act asks (fairly w side fair) outcome (settles act outcome acts)
         (acts_in w side open_in.client.0 fair);
   }

@@ -19,11 +19,19 @@ use Rattle.client.specs.Clients.{ClientNow, client_area}
 use Rattle.client.specs.InWorlds.{IsIn}
 use Rattle.client.specs.Opening.{ReadsAsSide, client_record_fault}
 use Rattle.client.specs.declared.refusals.BeginRefusal.{BeginRefusal}
+use Rattle.client.proofs.Openings.{like_stands}
 use Rattle.session_commands.specs.Beginning.{Began, Begins, was_begun, wasnt_begun}
 use Rattle.session_commands.specs.Disks.{IsClientAtRest, RunsOn, StandsForOne}
 use Rattle.session_commands.specs.Lines.{session_line}
 use Rattle.session_commands.specs.Opening.{ending_of_begin}
-use Rattle.session_commands.proofs.Standing.{like_stands_for}
+
+-- what is like what was read stands for it, and is sound
+like_stands_for : (k : Mechanism) (side : Side) (before after : World) (start : DiskState) (c : List ℕ) → ReadsAsSide k before side start
+    → IsLikeRead client_area start c → StandsForOne k side before after start c
+like_stands_for k side before after start c reads like = record {
+  either = inl (like_stands k before side start c reads like);
+  sound = record { read = like.read; told = like.told; undamaged = like.undamaged; outside = like.outside };
+}
 
 -- where a world was read, no first record was put
 never_first : (k : Mechanism) → IsRead → (key : List ℕ) (side : Side) (w : World) (whose : Side) (start : DiskState) (c : List ℕ)

@@ -11,10 +11,9 @@ use Rattle.dr_model.specs.Theorems.LawfulWorlds.{IsLawfulWorld}
 use Rattle.dr_ports.specs.States.{DrawsState}
 use Rattle.kem_laws.specs.Mechanism.{Mechanism}
 use Rattle.session_model.specs.Clients.{say_check}
-use Rattle.slot_store.specs.Reading.{IsEntryOrLike}
-use Rattle.client.specs.Clients.{ClientNow, client_area}
+use Rattle.client.specs.Clients.{ClientNow}
 use Rattle.client.specs.InWorlds.{IsIn}
-use Rattle.client.specs.Opening.{IsClientOpened, OpensIn, ReadsAsSide}
+use Rattle.client.specs.Opening.{IsClientOpened, IsEntryOrAsRead, OpensIn, ReadsAsSide}
 use Rattle.client.specs.Outcomes.{Outcome, said_as}
 use Rattle.client.specs.Saying.{IsSeedDrawn, SaysWithDraw, SaysIn, acted, asks_seed, draw_failed, stayed, was_drawn, was_unasked, with_draw, without_draw}
 use Rattle.client.specs.declared.refusals.SayRefusal.{SayRefusal}
@@ -28,7 +27,7 @@ use Rattle.session_commands.proofs.Standing.{stood}
 module _ {X W : Type 0} (state : X → DiskState) (draws : W → DrawsState) (k : Mechanism) (text : List ℕ)
     (source left : W) (start mid now : X) (lawful : IsLawful (state now)) (client after : ClientNow)
     (opened : IsClientOpened k client (state start) (state mid))
-    (opening : Span (state start) (state mid) (IsEntryOrLike client_area (state start))) where
+    (opening : Span (state start) (state mid) (IsEntryOrAsRead k (state start))) where
   abbrev asked : ClientAsk
   asked = asked_say draws text source left
 
@@ -62,15 +61,15 @@ module _ {X W : Type 0} (state : X → DiskState) (draws : W → DrawsState) (k 
       settles state k start mid now lawful client after opened opening (saying text (Some seed.bytes)) (said_as r) acts
   said_settles result (draw_failed asks rose same stays leaves) = leaves
 
-  says_runs_in : (w : World) (side : Side) → ReadsAsSide k w side (state start) → OpensIn k w side (state start) (state mid) (Ok client) → (outcome : Outcome)
+  says_runs_in : (w : World) (side : Side) → OpensIn k w side (state start) (state mid) (Ok client) → (outcome : Outcome)
       → Settles state k start mid now lawful client after opened opening outcome
       → SaysIn draws k w side text client after (state mid) (state now) source left outcome
       → RunsIn k w side asked (state start) (state now) (ending_by (worked_as outcome)) (lines_of_ending (worked_as outcome))
-  says_runs_in w side stands opens outcome settled (acted o draw drew fair acts) =
-      runs_in state k start mid now lawful client after opened opening w side stands opens asked (saying text draw) (asked_by draw drew)
+  says_runs_in w side opens outcome settled (acted o draw drew fair acts) =
+      runs_in state k start mid now lawful client after opened opening w side opens asked (saying text draw) (asked_by draw drew)
       (fair opened.is_open) o settled acts
-  says_runs_in w side stands opens outcome settled (stayed asks rose same keeps) =
-      undrawn_in state k start mid now lawful client after opened opening w side stands opens asked
+  says_runs_in w side opens outcome settled (stayed asks rose same keeps) =
+      undrawn_in state k start mid now lawful client after opened opening w side opens asked
       (record { needed = needs _ asks; rose = rose; none = same }) settled
 
   pub say_runs : (result : Result Position SayRefusal) → SaysWithDraw state draws k text client after mid now source left result
@@ -82,5 +81,5 @@ module _ {X W : Type 0} (state : X → DiskState) (draws : W → DrawsState) (k 
     acted = said result says;
     in_worlds = λ w side lawful_world stands fair.
         let open_in = opens w side lawful_world stands in
-        says_runs_in w side stands open_in (said_as result) (said_settles result says) (says_in w side open_in.client.0);
+        says_runs_in w side open_in (said_as result) (said_settles result says) (says_in w side open_in.client.0);
   }

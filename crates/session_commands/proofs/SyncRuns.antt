@@ -13,15 +13,13 @@ use Rattle.kem_laws.specs.Mechanism.{Mechanism}
 use Rattle.relay_pipe.specs.Asking.{fault_at}
 use Rattle.relay_wire.specs.Replies.{Replied}
 use Rattle.session_model.specs.Clients.{Client}
-use Rattle.slot_store.specs.Reading.{IsEntryOrLike, IsLikeRead}
 use Rattle.sync_model.specs.Courses.{course_of}
 use Rattle.sync_model.specs.Moves.{Ending}
 use Rattle.sync_model.specs.Parties.{Party}
 use Rattle.sync_model.specs.declared.more.More.{More}
-use Rattle.client.specs.Clients.{ClientNow, IsReady, client_area}
-use Rattle.client.specs.InWorlds.{IsIn}
-use Rattle.client.specs.Opening.{ReadsAsSide}
-use Rattle.client.proofs.Openings.{like_stands}
+use Rattle.client.specs.Clients.{ClientNow, IsReady}
+use Rattle.client.specs.InWorlds.{IsIn, StandsFor}
+use Rattle.client.specs.Opening.{IsAsRead, IsEntryOrAsRead, OpensIn}
 use Rattle.client.specs.Syncing.InWorlds.{IsReachedIn, LeadsTo, SyncsIn}
 use Rattle.client.specs.Syncing.Moments.{Moment, moment}
 use Rattle.client.specs.Syncing.SoFar.{IsReached, Stands, Talked}
@@ -30,7 +28,7 @@ use Rattle.client.specs.declared.syncing.faults.SyncFault.{SyncFault}
 use Rattle.client.specs.declared.syncing.faults.SyncFault.TheVariants.{Closed, Link, Peer, Refused, Store, Write}
 use Rattle.session_commands.specs.Disks.{IsClientAtRest}
 use Rattle.session_commands.specs.Syncing.{CameToEnd, IsStored, IsSyncLeft, LeavesCourse, RestsIn, StandsForCourse, SyncEnds, SyncRunsIn, is_as_read, is_of_course}
-use Rattle.session_commands.proofs.Standing.{left_sound, like_sound}
+use Rattle.session_commands.proofs.Standing.{as_read_sound, both_left, left_sound}
 
 -- ---- after an opening of the client
 
@@ -75,45 +73,45 @@ module _ (p : Party Client) (kept : Client) (replies : List Replied) (opened now
 
 -- ---- what the disk holds
 
-module _ (start mid now : DiskState) (lawful : IsLawful now) where
-  module _ (alike : Always (IsLikeRead client_area start) mid) where
+module _ (k : Mechanism) (start mid now : DiskState) (lawful : IsLawful now) where
+  module _ (alike : Always (IsAsRead k start) mid) where
     of_course : (p : Party Client) (kept : Client) (replies : List Replied) (c : List ℕ) → IsReached p kept replies mid c
-        → IsSyncLeft p kept replies start c
+        → IsSyncLeft k p kept replies start c
     of_course p kept replies c r =
         is_of_course r.front r.back r.split
-        (record { has = r.holds; undamaged = r.undamaged; sound = left_sound start mid c alike r.undamaged r.outside })
+        (record { has = r.holds; undamaged = r.undamaged; sound = left_sound k start mid c alike r.undamaged r.outside })
 
-    in_course : (k : Mechanism) (side : Side) (w : World) (replies : List Replied) (c : List ℕ) → IsReachedIn k [] side w replies mid c
+    in_course : (side : Side) (w : World) (replies : List Replied) (c : List ℕ) → IsReachedIn k [] side w replies mid c
         → StandsForCourse k side w replies start c
-    in_course k side w replies c r = record {
+    in_course side w replies c r = record {
       front = r.front;
       back = r.back;
       split = r.split;
       stands = r.stands;
-      sound = left_sound start mid c alike r.undamaged r.outside;
+      sound = left_sound k start mid c alike r.undamaged r.outside;
     }
 
-  pub leaves_course : (p : Party Client) (kept : Client) (replies : List Replied) → Span start mid (IsEntryOrLike client_area start)
-      → Always (IsLikeRead client_area start) mid → Span mid now (IsReached p kept replies mid) → LeavesCourse p kept replies start now
+  pub leaves_course : (p : Party Client) (kept : Client) (replies : List Replied) → Span start mid (IsEntryOrAsRead k start)
+      → Always (IsAsRead k start) mid → Span mid now (IsReached p kept replies mid) → LeavesCourse k p kept replies start now
   leaves_course p kept replies opening alike passed = record {
     any_moment =
-        spans start mid now (λ c. start.image c ⊎ IsSyncLeft p kept replies start c)
-        (widen start mid (IsEntryOrLike client_area start) (λ c. start.image c ⊎ IsSyncLeft p kept replies start c)
-        (λ c s. ⊎_elim (λ was. inl was) (λ like. inr (is_as_read like)) s) opening)
-        (widen mid now (IsReached p kept replies mid) (λ c. start.image c ⊎ IsSyncLeft p kept replies start c)
+        spans start mid now (λ c. start.image c ⊎ IsSyncLeft k p kept replies start c)
+        (widen start mid (IsEntryOrAsRead k start) (λ c. start.image c ⊎ IsSyncLeft k p kept replies start c)
+        (λ c s. ⊎_elim (λ was. inl was) (λ as_read. inr (is_as_read as_read)) s) opening)
+        (widen mid now (IsReached p kept replies mid) (λ c. start.image c ⊎ IsSyncLeft k p kept replies start c)
         (λ c r. inr (of_course alike p kept replies c r)) passed);
     reads = λ s told.
         ⊎_elim (λ was. is_as_read (alike s was)) (λ r. of_course alike p kept replies s r) (passed.last s (lawful.seen_now s told));
   }
 
-  module _ (k : Mechanism) (side : Side) (w : World) (replies : List Replied) where
-    stands_first : (c : List ℕ) → ReadsAsSide k w side start → IsLikeRead client_area start c → StandsForCourse k side w replies start c
-    stands_first c reads like = record {
+  module _ (side : Side) (w : World) (replies : List Replied) where
+    stands_first : (c : List ℕ) → IsAsRead k start c → StandsFor k w side c → StandsForCourse k side w replies start c
+    stands_first c as_read stands = record {
       front = [];
       back = replies;
       split = refl;
-      stands = like_stands k w side start c reads like;
-      sound = like_sound start c like;
+      stands = stands;
+      sound = as_read_sound k start c as_read;
     }
 
     module _ (client after : ClientNow) (before wrote : SinkState) (p : Party Client) (from to : Port) where
@@ -137,19 +135,19 @@ module _ (start mid now : DiskState) (lawful : IsLawful now) where
       rests_in (Err (Store call)) ends leads = tt
       rests_in (Err Write) ends leads = at_rest ends.stands _ leads.0
 
-      pub sync_runs : (result : Result More SyncFault) → ReadsAsSide k w side start → Span start mid (IsEntryOrLike client_area start)
-          → Always (IsLikeRead client_area start) mid → EndsSync p replies ahead behind from to result
+      pub sync_runs : (result : Result More SyncFault) → OpensIn k w side start mid (Ok client) → Span start mid (IsEntryOrAsRead k start)
+          → Always (IsAsRead k start) mid → EndsSync p replies ahead behind from to result
           → SyncsIn k [] side w replies ahead behind result → SyncRunsIn k side w client.kept replies start now result
-      sync_runs result stands opening alike ends syncs = record {
+      sync_runs result opens opening alike ends syncs = record {
         same = syncs.same;
         any_moment =
             spans start mid now (λ c. start.image c ⊎ StandsForCourse k side w replies start c)
-            (widen start mid (IsEntryOrLike client_area start) (λ c. start.image c ⊎ StandsForCourse k side w replies start c)
-            (λ c s. ⊎_elim (λ was. inl was) (λ like. inr (stands_first c stands like)) s) opening)
+            (both_left start mid (IsAsRead k start) (StandsFor k w side) (StandsForCourse k side w replies start) stands_first
+            opening opens.any_moment)
             (widen mid now (IsReachedIn k [] side w replies mid) (λ c. start.image c ⊎ StandsForCourse k side w replies start c)
-            (λ c r. inr (in_course alike k side w replies c r)) syncs.passed);
+            (λ c r. inr (in_course alike side w replies c r)) syncs.passed);
         reads = λ s told.
-            ⊎_elim (λ was. stands_first s stands (alike s was)) (λ r. in_course alike k side w replies s r)
+            ⊎_elim (λ was. stands_first s (alike s was) (opens.client.1 s was)) (λ r. in_course alike side w replies s r)
             (syncs.passed.last s (lawful.seen_now s told));
         rests = rests_in result ends syncs.leads;
       }

@@ -1,5 +1,5 @@
 -- What a client's disk holds, before a command and after it.
-use Rattle.std.specs.Prelude.{List, Ok, Some, option_map, ℕ, ◌+◌, ◌⊎◌, ◌≡◌}
+use Rattle.std.specs.Prelude.{List, Ok, Some, option_map, ℕ, ◌⊎◌, ◌≡◌}
 use Rattle.dr_base.specs.declared.position.Side.{Side}
 use Rattle.dr_disk.specs.Spans.{IsQuiet, Span}
 use Rattle.dr_disk.specs.State.{DiskState}
@@ -7,12 +7,13 @@ use Rattle.dr_model.specs.Machines.Worlds.{World}
 use Rattle.kem_laws.specs.Mechanism.{Mechanism}
 use Rattle.session_model.specs.Clients.{Client}
 use Rattle.session_record.specs.Record.{record_read, record_text}
-use Rattle.slot_store.specs.Reading.{IsEntryOrLike, IsLikeRead, IsUndamaged}
+use Rattle.slot_store.specs.Reading.{IsUndamaged}
 use Rattle.slot_store.specs.Records.{stored_record}
 use Rattle.slot_store.specs.Store.{HasArea, SlotStore}
 use Rattle.slot_store.specs.Areas.{IsSameOutsideArea}
 use Rattle.client.specs.Clients.{IsReady, client_area}
 use Rattle.client.specs.InWorlds.{StandsFor}
+use Rattle.client.specs.Opening.{IsAsRead, IsEntryOrAsRead}
 
 -- the disk has room for a client's area
 abbrev pub HasClientRoom : DiskState → Type 0
@@ -40,25 +41,29 @@ pub record HasRecordUnharmed (kept : Client) (start : DiskState) (c : List ℕ) 
   pub undamaged : IsUndamaged client_area c
   pub sound : StaysSound start c
 
--- bytes like those that were read, or with the record of one of two clients
-pub data IsReadOrEither (before after : Client) (start : DiskState) (c : List ℕ) : Type 0 where
-  is_like : IsLikeRead client_area start c → IsReadOrEither before after start c
-  is_before : HasRecordUnharmed before start c → IsReadOrEither before after start c
-  is_after : HasRecordUnharmed after start c → IsReadOrEither before after start c
+-- bytes as those that were read, or with the record of one of two clients
+pub data IsReadOrEither (k : Mechanism) (before after : Client) (start : DiskState) (c : List ℕ)
+    : Type 0 where
+  is_read : IsAsRead k start c → IsReadOrEither k before after start c
+  is_before : HasRecordUnharmed before start c → IsReadOrEither k before after start c
+  is_after : HasRecordUnharmed after start c → IsReadOrEither k before after start c
 
--- Each crash meanwhile leaves what one might have left at entry, or what is like what was read; a read gives such.
-pub record LeavesLike (start now : DiskState) : Type 0 where
-  pub any_moment : Span start now (IsEntryOrLike client_area start)
-  pub reads : (s : List ℕ) → now.seen ≡ Some s → IsLikeRead client_area start s
+-- Each crash meanwhile leaves what one might have left at entry, or what is as what was read; a
+-- read gives such.
+pub record LeavesAsRead (k : Mechanism) (start now : DiskState) : Type 0 where
+  pub any_moment : Span start now (IsEntryOrAsRead k start)
+  pub reads : (s : List ℕ) → now.seen ≡ Some s → IsAsRead k start s
 
 -- or what has one of two clients' records
-pub record LeavesEither (before after : Client) (start now : DiskState) : Type 0 where
-  pub any_moment : Span start now (λ c. start.image c ⊎ IsReadOrEither before after start c)
-  pub reads : (s : List ℕ) → now.seen ≡ Some s → IsReadOrEither before after start s
+pub record LeavesEither (k : Mechanism) (before after : Client) (start now : DiskState)
+    : Type 0 where
+  pub any_moment : Span start now (λ c. start.image c ⊎ IsReadOrEither k before after start c)
+  pub reads : (s : List ℕ) → now.seen ≡ Some s → IsReadOrEither k before after start s
 
 -- and then all is at rest for the latter, and no call failed
-pub record LeavesAtRest (before after : Client) (start now : DiskState) : Type 0 where
-  pub either : LeavesEither before after start now
+pub record LeavesAtRest (k : Mechanism) (before after : Client) (start now : DiskState)
+    : Type 0 where
+  pub either : LeavesEither k before after start now
   pub rests : IsClientAtRest after now
   pub quiet : IsQuiet start now
 

@@ -11,14 +11,16 @@ use Rattle.kem_laws.specs.Mechanism.{Mechanism}
 use Rattle.session_model.specs.Clients.{Client}
 use Rattle.client.specs.Opening.{IsUnopened, ReadsAsSide}
 use Rattle.client.specs.declared.refusals.OpenRefusal.{OpenRefusal}
-use Rattle.session_commands.specs.Disks.{IsClientAtRest, ReadsAsKept, LeavesAtRest, LeavesLike, RunsOn}
+use Rattle.session_commands.specs.Disks.{IsClientAtRest, ReadsAsKept, LeavesAtRest, LeavesAsRead, RunsOn}
 use Rattle.session_commands.specs.Opening.{ending_of_open}
 
 -- The client wasn't opened, or what was read is shown.
 pub data Shown {X : Type 0} (state : X → DiskState) (k : Mechanism) (shows : Client → List ℕ) (start now : X) : Ending → List ℕ → Type 0 where
-  wasnt_opened : (refusal : OpenRefusal) → IsUnopened state k start now refusal → LeavesLike (state start) (state now)
+  wasnt_opened : (refusal : OpenRefusal) → IsUnopened state k start now refusal
+      → LeavesAsRead k (state start) (state now)
       → Shown state k shows start now (ending_of_open refusal) []
-  was_shown : (kept : Client) → ReadsAsKept k (state start) kept → LeavesAtRest kept kept (state start) (state now)
+  was_shown : (kept : Client) → ReadsAsKept k (state start) kept
+      → LeavesAtRest k kept kept (state start) (state now)
       → Shown state k shows start now Done (shows kept)
 
 -- The same in a world: what the side keeps there.

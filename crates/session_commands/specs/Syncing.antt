@@ -20,15 +20,13 @@ use Rattle.relay_pipe.specs.Asking.{fault_at}
 use Rattle.relay_wire.specs.Replies.{IsLawfulReplied, Replied}
 use Rattle.session_model.specs.Clients.{Client}
 use Rattle.session_model.specs.declared.answer.Refusal.TheVariants.{InboxFull}
-use Rattle.slot_store.specs.Reading.{IsLikeRead}
 use Rattle.sync_model.specs.Courses.{all_lines, course_of}
 use Rattle.sync_model.specs.Moves.{Ending as CourseEnding, ended, over}
 use Rattle.sync_model.specs.Parties.{Party}
 use Rattle.sync_model.specs.Simulation.{IsSameCourse}
 use Rattle.sync_model.specs.declared.more.More.{More}
-use Rattle.client.specs.Clients.{client_area}
 use Rattle.client.specs.InWorlds.{StandsFor}
-use Rattle.client.specs.Opening.{IsUnopened, ReadsAsSide}
+use Rattle.client.specs.Opening.{IsAsRead, IsUnopened, ReadsAsSide}
 use Rattle.client.specs.Syncing.Arrivals.{OpensArrived}
 use Rattle.client.specs.Syncing.InWorlds.{AreUnforged, IsKeptIn, course_in}
 use Rattle.client.specs.Syncing.Parties.{client_party}
@@ -40,7 +38,7 @@ use Rattle.client.specs.declared.refusals.OpenRefusal.{OpenRefusal}
 use Rattle.client.specs.declared.syncing.faults.SyncFault.{SyncFault}
 use Rattle.client.specs.declared.syncing.faults.SyncFault.TheVariants.{Closed as SyncClosed, Link as SyncLink, Peer as SyncPeer, Refused as SyncRefused, Store as SyncStore, Write as SyncWrite}
 use Rattle.client.specs.declared.syncing.faults.SyncRefusal.TheVariants.{BoxFull as SyncBoxFull, InboxFull as SyncInboxFull, Unknown as SyncUnknown}
-use Rattle.session_commands.specs.Disks.{HasRecordUnharmed, IsClientAtRest, ReadsAsKept, StaysSound, LeavesAtRest, LeavesLike, RunsOn}
+use Rattle.session_commands.specs.Disks.{HasRecordUnharmed, IsClientAtRest, ReadsAsKept, StaysSound, LeavesAtRest, LeavesAsRead, RunsOn}
 use Rattle.session_commands.specs.Opening.{ending_of_open}
 
 -- ---- how the command ends
@@ -78,16 +76,20 @@ HasWritten lines old new _ = (new.taken ≡ appended old.taken lines) × (new.fa
 
 -- ---- what the disk holds
 
--- bytes like those that were read, or with the record of what the course keeps after a beginning of the replies
-pub data IsSyncLeft (p : Party Client) (kept : Client) (replies : List Replied) (start : DiskState) (c : List ℕ) : Type 0 where
-  is_as_read : IsLikeRead client_area start c → IsSyncLeft p kept replies start c
-  is_of_course : (front back : List Replied) → replies ≡ front ++ back → HasRecordUnharmed (course_of p kept front).state start c
-      → IsSyncLeft p kept replies start c
+-- bytes as those that were read, or with the record of what the course keeps after a beginning of
+-- the replies
+pub data IsSyncLeft (k : Mechanism) (p : Party Client) (kept : Client) (replies : List Replied)
+    (start : DiskState) (c : List ℕ) : Type 0 where
+  is_as_read : IsAsRead k start c → IsSyncLeft k p kept replies start c
+  is_of_course : (front back : List Replied) → replies ≡ front ++ back
+      → HasRecordUnharmed (course_of p kept front).state start c
+      → IsSyncLeft k p kept replies start c
 
 -- Each crash meanwhile leaves such, or what one might have left at entry; a read gives such.
-pub record LeavesCourse (p : Party Client) (kept : Client) (replies : List Replied) (start now : DiskState) : Type 0 where
-  pub any_moment : Span start now (λ c. start.image c ⊎ IsSyncLeft p kept replies start c)
-  pub reads : (s : List ℕ) → now.seen ≡ Some s → IsSyncLeft p kept replies start s
+pub record LeavesCourse (k : Mechanism) (p : Party Client) (kept : Client) (replies : List Replied)
+    (start now : DiskState) : Type 0 where
+  pub any_moment : Span start now (λ c. start.image c ⊎ IsSyncLeft k p kept replies start c)
+  pub reads : (s : List ℕ) → now.seen ≡ Some s → IsSyncLeft k p kept replies start s
 
 -- ---- how the sync ends
 
@@ -158,17 +160,19 @@ pub record HasTalkedTo (address : List ℕ) (link left : Port) (talk : Port → 
 -- is in a world that the disk reads at entry.
 pub data RunsSync {X L : Type 0} (state : X → DiskState) (port : L → Port) (k : Mechanism) (address : List ℕ) (start now : X) (link left : L)
     (before after : ℕ) : Ending → List ℕ → Type 0 where
-  wasnt_synced : (refusal : OpenRefusal) → IsUnopened state k start now refusal → LeavesLike (state start) (state now) → left ≡ link
+  wasnt_synced : (refusal : OpenRefusal) → IsUnopened state k start now refusal
+      → LeavesAsRead k (state start) (state now) → left ≡ link
       → ((w : World) (side : Side) → IsLawfulWorld k w → ReadsAsSide k w side (state start) → RunsOn k side w w (state start) (state now))
       → RunsSync state port k address start now link left before after (ending_of_open refusal) []
-  wasnt_linked : (kept : Client) → ReadsAsKept k (state start) kept → LeavesAtRest kept kept (state start) (state now)
+  wasnt_linked : (kept : Client) → ReadsAsKept k (state start) kept
+      → LeavesAtRest k kept kept (state start) (state now)
       → (port left).told ≡ (port link).told → (port left).faults Flow ≡ (port link).faults Flow
       → Rose ((port link).faults Gate) ((port left).faults Gate)
       → ((w : World) (side : Side) → IsLawfulWorld k w → ReadsAsSide k w side (state start) → RunsOn k side w w (state start) (state now))
       → RunsSync state port k address start now link left before after LinkFault []
   was_synced : (kept : Client) (replies : List Replied) (result : Result More SyncFault) → ReadsAsKept k (state start) kept
       → AllByRecursion IsLawfulReplied replies → Transfers (client_party k [] kept) kept replies → OpensArrived k [] kept replies
-      → LeavesCourse (client_party k [] kept) kept replies (state start) (state now)
+      → LeavesCourse k (client_party k [] kept) kept replies (state start) (state now)
       → HasTalkedTo address (port link) (port left) (λ opened last.
       SyncEnds (client_party k [] kept) kept replies (state start) (state now) opened last before after result)
       → (port left).faults Gate ≡ (port link).faults Gate

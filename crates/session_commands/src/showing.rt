@@ -22,7 +22,8 @@ use endings::{Status, finish};
 use kem_laws::Kem;
 use std::alloc::Global;
 
-/// Writes the line of a text.
+/// Writes the line of a text. The room of the line stands only here.
+#[inline(never)]
 fn write_text<K: Kem, O: Sink>(client: &Client<K>, out: &mut O, at: usize) -> Result<(), Failed>
     requires { at < length client.now.kept.inbox }
     ensures { (d : Entry) → Writes (O.at out.old) (O.at out.new)
@@ -34,7 +35,8 @@ fn write_text<K: Kem, O: Sink>(client: &Client<K>, out: &mut O, at: usize) -> Re
     }
 }
 
-/// Writes the line of a packet.
+/// Writes the line of a packet. The room of the line stands only here.
+#[inline(never)]
 fn write_packet<K: Kem, O: Sink>(client: &Client<K>, out: &mut O, at: usize) -> Result<(), Failed>
     requires { at < length client.now.kept.outbox }
     ensures { (d : Post) → Writes (O.at out.old) (O.at out.new)

@@ -17,7 +17,7 @@ use Rattle.grammar.proofs.Lists.{items-from}
 use Rattle.session_record.specs.Fields.{is_good, is_previous, up_to}
 use Rattle.session_record.specs.Lists.{is_post, is_posted, place_of, post_of}
 use Rattle.session_record.proofs.Passing.{Passes, PassesEntry, PassesPhase, PassesPost}
-use Rattle.session_record.specs.Lawful.{IsLawfulEntry, IsLawfulPost, IsLawfulSaved}
+use Rattle.session_record.specs.Lawful.{IsLawfulEntry, IsLawfulPost, IsLawfulSaved, IsPostOf}
 use Rattle.session_record.specs.Record.{Saved}
 use Rattle.session_record.specs.Versions.{inbox_most, kept_most, outbox_most, text_most}
 use Rattle.session_record.specs.declared.versions.Version.{Version}
@@ -70,12 +70,14 @@ entry_passes version s before entry fits short l = record {
   short = le-leb (length entry.text) (text_most version) short;
 }
 
-post_passes : (k : Mechanism) (s : State) (before : List Post) (one : Post) → IsLawfulPost k s one → PassesPost k s.session s.side s.epoch before one
+post_passes : (k : Mechanism) (version : Version) (s : State) (before : List Post) (one : Post) → IsLawfulPost k s one
+    → IsPostOf k version one → PassesPost k version s.session s.side s.epoch before one
 unfolding is_post post_of
-post_passes k s before one l =
+post_passes k version s before one l of =
     let same = (bytes_eq-Decides l.fields.session s.session).1 l.session in
     record {
-      post = ap (is_posted s.session s.side s.epoch) l.reads ∙ and_from _ _ same (and_from _ _ l.own (le-leb _ _ l.reached));
+      post = ap (is_posted version s.session s.side s.epoch) l.reads
+          ∙ and_from _ _ same (and_from _ _ l.own (and_from _ _ (le-leb _ _ l.reached) (of l.fields l.reads)));
       fits = l.fits;
       own_place = ap (λ r. post_under (place_of r) one.packet) l.reads ∙ ap (λ p. post_under p one.packet) (sym l.place);
     }
@@ -111,7 +113,7 @@ passes k saved l =
         inbox = items-from (PassesEntry version c.state.side c.state.epoch) c.inbox no_entry (λ i d inside.
             entry_passes version c.state (take i c.inbox) (get_or c.inbox i d) s.epoch_fits (l.fits.short_texts i d inside) (l.client.inbox i d inside));
         few_posts = le-leb (length c.outbox) (outbox_most version) l.fits.few_posts;
-        outbox = items-from (PassesPost k c.state.session c.state.side c.state.epoch) c.outbox no_post (λ i d inside.
-            post_passes k c.state (take i c.outbox) (get_or c.outbox i d) (l.client.outbox i d inside));
+        outbox = items-from (PassesPost k version c.state.session c.state.side c.state.epoch) c.outbox no_post (λ i d inside.
+            post_passes k version c.state (take i c.outbox) (get_or c.outbox i d) (l.client.outbox i d inside) (l.fits.posts i d inside));
       };
     }

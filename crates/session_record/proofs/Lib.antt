@@ -10,6 +10,5 @@ mod FromLawful
 mod KeptToLawful
 mod ToLawful
 mod RecordLaw
-mod Reading
 mod Places
 mod Sizes

@@ -65,19 +65,19 @@ inbox_list version side epoch =
     counted_grammar entry_text (PassesEntry version side epoch) (λ _. entry_field version side epoch) (entry_grammar version side epoch) w8 (2 ^ 8) exact8
     (up_to (inbox_most version))
 
-post_grammar : (k : Mechanism) (session : List ℕ) (side : Side) (epoch : ℕ) (before : List Post)
-    → IsGrammar post_text (PassesPost k session side epoch before) (post_field k session side epoch)
+post_grammar : (k : Mechanism) (version : Version) (session : List ℕ) (side : Side) (epoch : ℕ) (before : List Post)
+    → IsGrammar post_text (PassesPost k version session side epoch before) (post_field k version session side epoch)
 unfolding post_field post_of
-post_grammar k session side epoch before =
-    mapped_grammar _ _ _ (sized_grammar w16 (2 ^ 16) exact16 any_length (is_post k session side epoch))
-    (PassesPost k session side epoch before) (post_of k) (λ post. post.packet)
+post_grammar k version session side epoch before =
+    mapped_grammar _ _ _ (sized_grammar w16 (2 ^ 16) exact16 any_length (is_post k version session side epoch))
+    (PassesPost k version session side epoch before) (post_of k) (λ post. post.packet)
     (λ e l. (record { post = l.1; fits = l.0.0; own_place = refl }, refl))
     (λ post l. (((l.fits, refl), l.post), l.own_place))
 
 pub outbox_list : (k : Mechanism) (version : Version) (session : List ℕ) (side : Side) (epoch : ℕ) → IsGrammar (print_counted w8 post_text)
-    (λ list. ((length list < 2 ^ 8) × (up_to (outbox_most version) (length list) ≡ true)) × AreItems (PassesPost k session side epoch) (length list) list)
+    (λ list. ((length list < 2 ^ 8) × (up_to (outbox_most version) (length list) ≡ true)) × AreItems (PassesPost k version session side epoch) (length list) list)
     (outbox_field k version session side epoch)
 unfolding outbox_field
 outbox_list k version session side epoch =
-    counted_grammar post_text (PassesPost k session side epoch) (λ _. post_field k session side epoch) (post_grammar k session side epoch) w8 (2 ^ 8) exact8
+    counted_grammar post_text (PassesPost k version session side epoch) (λ _. post_field k version session side epoch) (post_grammar k version session side epoch) w8 (2 ^ 8) exact8
     (up_to (outbox_most version))

@@ -47,8 +47,8 @@ pub record PassesEntry (version : Version) (side : Side) (epoch : ℕ) (before :
   pub index_is : is_index entry.position.index ≡ true
   pub short : up_to (text_most version) (length entry.text) ≡ true
 
-pub record PassesPost (k : Mechanism) (session : List ℕ) (side : Side) (epoch : ℕ) (before : List Post) (one : Post) : Type 0 where
-  pub post : is_post k session side epoch one.packet ≡ true
+pub record PassesPost (k : Mechanism) (version : Version) (session : List ℕ) (side : Side) (epoch : ℕ) (before : List Post) (one : Post) : Type 0 where
+  pub post : is_post k version session side epoch one.packet ≡ true
   pub fits : length one.packet < 2 ^ 16
   pub own_place : post_of k one.packet ≡ one
 
@@ -70,7 +70,7 @@ pub record PassesBoxes (k : Mechanism) (h : Heading) (boxes : Boxes) : Type 0 wh
   pub few_entries : up_to (inbox_most h.version) (length boxes.inbox) ≡ true
   pub inbox : AreItems (PassesEntry h.version h.side h.epoch) (length boxes.inbox) boxes.inbox
   pub few_posts : up_to (outbox_most h.version) (length boxes.outbox) ≡ true
-  pub outbox : AreItems (PassesPost k h.session h.side h.epoch) (length boxes.outbox) boxes.outbox
+  pub outbox : AreItems (PassesPost k h.version h.session h.side h.epoch) (length boxes.outbox) boxes.outbox
 
 pub record Passes (k : Mechanism) (s : Saved) : Type 0 where
   pub heading : PassesHeading (heading_in s.version s.client.state)

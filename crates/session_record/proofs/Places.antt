@@ -83,13 +83,13 @@ within-inbox version side epoch =
     (within-more n TEXT_LIMIT (piece n) (omega (arith, leb-true n (text_most version) short, text-limit version)) (within-piece n))))))))
 
 -- a packet that was read is short
-short_post : (k : Mechanism) (session : List ℕ) (side : Side) (epoch : ℕ) → IsLawfulMechanism k → (bytes : List ℕ) → AreBytes bytes
-    → is_post k session side epoch bytes ≡ true → length bytes ≤ PACKET_LIMIT
+short_post : (k : Mechanism) (version : Version) (session : List ℕ) (side : Side) (epoch : ℕ) → IsLawfulMechanism k → (bytes : List ℕ) → AreBytes bytes
+    → is_post k version session side epoch bytes ≡ true → length bytes ≤ PACKET_LIMIT
 unfolding is_post
-short_post k session side epoch law bytes are passes = by_read (read_packet (agreement_size k) bytes) refl passes
+short_post k version session side epoch law bytes are passes = by_read (read_packet (agreement_size k) bytes) refl passes
   where
     by_read : (r : Result Fields Malformed) → read_packet (agreement_size k) bytes ≡ r
-        → is_posted session side epoch r ≡ true → length bytes ≤ PACKET_LIMIT
+        → is_posted version session side epoch r ≡ true → length bytes ≤ PACKET_LIMIT
     by_read (Err fault) is passes = absurd (let e : false ≡ true = passes in cc)
     by_read (Ok f) is passes =
         let was = read_was_printed (agreement_size k) bytes f are is in
@@ -100,12 +100,12 @@ within-outbox : (k : Mechanism) (version : Version) (session : List ℕ) (side :
     → IsWithin POSTS_LIMIT (outbox_field k version session side epoch)
 unfolding outbox_field post_field
 within-outbox k version session side epoch law =
-    within-counted w8 (up_to (outbox_most version)) POST_LIMIT OUTBOX_LIMIT (λ _. post_field k session side epoch)
+    within-counted w8 (up_to (outbox_most version)) POST_LIMIT OUTBOX_LIMIT (λ _. post_field k version session side epoch)
     (λ n few. omega (arith, leb-true n (outbox_most version) few, outbox-limit version)) (λ before.
     within-mapped POST_LIMIT (post_of k) _
     (within-mapped POST_LIMIT (λ e. e.1) _
-    (within-numbered w16 any_length PACKET_LIMIT (λ n. checked (is_post k session side epoch) (piece n)) (λ n any.
-    within-short n PACKET_LIMIT (is_post k session side epoch) (short_post k session side epoch law)))))
+    (within-numbered w16 any_length PACKET_LIMIT (λ n. checked (is_post k version session side epoch) (piece n)) (λ n any.
+    within-short n PACKET_LIMIT (is_post k version session side epoch) (short_post k version session side epoch law)))))
 
 -- ---- the groups
 

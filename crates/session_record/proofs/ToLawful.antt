@@ -1,5 +1,5 @@
 -- What passes the tests is a lawful client.
-use Rattle.std.proofs.Common.{◌≡◌, Result, Ok, Err, ℕ, ◌≤◌, ◌==◌, Bool, true, false, List, length, Option, Some, None, refl, sym, ap, arith, if◌then◌else◌}
+use Rattle.std.proofs.Common.{◌≡◌, Result, Ok, Err, ℕ, ◌≤◌, ◌==◌, Bool, true, false, List, length, Option, Some, None, refl, sym, ◌∙◌, ap, arith, if◌then◌else◌}
 use Rattle.std.specs.Prelude.{not, nat_le, ◌&&◌, ◌||◌, All}
 use Rattle.std.proofs.lemmas.Bool.{leb-true, not-true, and_parts}
 use Rattle.std.proofs.lemmas.Bool.Decides.{nat_tests}
@@ -23,9 +23,9 @@ use Rattle.grammar.specs.Printer.{AreItems, no_items, and_item, IsMaybe}
 use Rattle.session_record.specs.Fields.{has_receiving, is_good, is_previous}
 use Rattle.session_record.specs.Lists.{is_peers, is_post, is_posted, last_position, place_of, post_of, reach_of}
 use Rattle.session_record.proofs.Passing.{Passes, PassesEntry, PassesKept, PassesPhase, PassesPost, PassesReception}
-use Rattle.session_record.specs.Lawful.{FitsVersion, IsLawfulEntry, IsLawfulPost, IsLawfulSaved}
+use Rattle.session_record.specs.Lawful.{FitsVersion, IsLawfulEntry, IsLawfulPost, IsLawfulSaved, IsPostOf}
 use Rattle.session_record.specs.Record.{Saved}
-use Rattle.session_record.specs.Versions.{inbox_most, kept_most, outbox_most, text_most}
+use Rattle.session_record.specs.Versions.{inbox_most, is_packet_of, kept_most, outbox_most, text_most}
 use Rattle.session_record.specs.declared.versions.Version.{Version}
 use Rattle.session_record.proofs.VersionLimits.{inbox-limit, kept-limit, outbox-limit, text-limit}
 use Rattle.session_record.proofs.KeptToLawful.{lawful_receiving, ups}
@@ -91,24 +91,36 @@ lawful_entry version s before entry l =
       short = omega (arith, leb-true (length entry.text) (text_most version) l.short, text-limit version);
     }
 
-lawful_post : (k : Mechanism) (s : State) (before : List Post) (post : Post) → PassesPost k s.session s.side s.epoch before post → IsLawfulPost k s post
+lawful_post : (k : Mechanism) (version : Version) (s : State) (before : List Post) (post : Post)
+    → PassesPost k version s.session s.side s.epoch before post → IsLawfulPost k s post
 unfolding is_post post_of
-lawful_post k s before post l = read (read_packet (agreement_size k) post.packet) refl l.post l.own_place
+lawful_post k version s before post l = read (read_packet (agreement_size k) post.packet) refl l.post l.own_place
   where
-    read : (r : Result Fields Malformed) → read_packet (agreement_size k) post.packet ≡ r → is_posted s.session s.side s.epoch r ≡ true → post_under (place_of r) post.packet ≡ post → IsLawfulPost k s post
+    read : (r : Result Fields Malformed) → read_packet (agreement_size k) post.packet ≡ r → is_posted version s.session s.side s.epoch r ≡ true → post_under (place_of r) post.packet ≡ post → IsLawfulPost k s post
     read (Err fault) is passes place = absurd (let e : false ≡ true = passes in cc)
     read (Ok f) is passes place =
-        let parts = and_parts (bytes_eq f.session s.session) (is_own s.side f.epoch && nat_le f.epoch s.epoch) passes in
-        let own = and_parts (is_own s.side f.epoch) (nat_le f.epoch s.epoch) parts.1 in
+        let parts = and_parts (bytes_eq f.session s.session) (is_own s.side f.epoch && (nat_le f.epoch s.epoch && is_packet_of version f)) passes in
+        let own = and_parts (is_own s.side f.epoch) (nat_le f.epoch s.epoch && is_packet_of version f) parts.1 in
+        let near = and_parts (nat_le f.epoch s.epoch) (is_packet_of version f) own.1 in
         record {
           fields = f;
           reads = is;
           session = (bytes_eq-Decides f.session s.session).0 parts.0;
           own = own.0;
-          reached = leb-true f.epoch s.epoch own.1;
+          reached = leb-true f.epoch s.epoch near.0;
           place = ap (λ (own : Post). own.position) (sym place);
           fits = l.fits;
         }
+
+-- and one that a record of the version may hold
+post_of_version : (k : Mechanism) (version : Version) (s : State) (before : List Post) (post : Post)
+    → PassesPost k version s.session s.side s.epoch before post → IsPostOf k version post
+unfolding is_post
+post_of_version k version s before post l f reads =
+    let passes : is_posted version s.session s.side s.epoch (Ok f) ≡ true = ap (is_posted version s.session s.side s.epoch) (sym reads) ∙ l.post in
+    let parts = and_parts (bytes_eq f.session s.session) (is_own s.side f.epoch && (nat_le f.epoch s.epoch && is_packet_of version f)) passes in
+    let own = and_parts (is_own s.side f.epoch) (nat_le f.epoch s.epoch && is_packet_of version f) parts.1 in
+    (and_parts (nat_le f.epoch s.epoch) (is_packet_of version f) own.1).1
 
 -- what each item of a list is, whatever stands before it
 each_of : {A : Type 0} (Passing : List A → A → Type 0) (Lawful : A → Type 0) → ((before : List A) (a : A) → Passing before a → Lawful a)
@@ -124,7 +136,7 @@ few_reach there (Some r) l = leb-true r.reach INDEX_LIMIT l.1.few
 
 -- ---- the client
 
-fits_version : (k : Mechanism) (saved : Saved) → Passes k saved → FitsVersion saved.version saved.client
+fits_version : (k : Mechanism) (saved : Saved) → Passes k saved → FitsVersion k saved.version saved.client
 fits_version k saved l =
     let version = saved.version in
     let c = saved.client in
@@ -134,6 +146,8 @@ fits_version k saved l =
       short_texts = each_of (PassesEntry version c.state.side c.state.epoch) (λ entry. length entry.text ≤ text_most version)
           (λ before entry passes. leb-true (length entry.text) (text_most version) passes.short) (length c.inbox) c.inbox l.boxes.inbox;
       few_posts = leb-true (length c.outbox) (outbox_most version) l.boxes.few_posts;
+      posts = each_of (PassesPost k version c.state.session c.state.side c.state.epoch) (IsPostOf k version) (post_of_version k version c.state)
+          (length c.outbox) c.outbox l.boxes.outbox;
     }
 
 lawful_state : (k : Mechanism) (saved : Saved) → Passes k saved → IsLawfulState k saved.client.state
@@ -167,7 +181,7 @@ lawful k saved l =
         keys_long = each_of (PassesKept s.side s.epoch reach) (λ kept. length kept.key.bytes ≡ 32) (λ before kept passes. passes.key_long) (length s.kept) s.kept l.keys.kept;
         inbox = each_of (PassesEntry version s.side s.epoch) (IsLawfulEntry s) (lawful_entry version s) (length c.inbox) c.inbox l.boxes.inbox;
         few_entries = omega (arith, fits.few_entries, inbox-limit version);
-        outbox = each_of (PassesPost k s.session s.side s.epoch) (IsLawfulPost k s) (lawful_post k s) (length c.outbox) c.outbox l.boxes.outbox;
+        outbox = each_of (PassesPost k version s.session s.side s.epoch) (IsLawfulPost k s) (lawful_post k version s) (length c.outbox) c.outbox l.boxes.outbox;
         few_posts = omega (arith, fits.few_posts, outbox-limit version);
       };
       fits = fits;

@@ -13,7 +13,7 @@ use Rattle.session_model.specs.LawfulStates.{IsLawfulState}
 use Rattle.session_model.specs.States.{State}
 use Rattle.session_model.specs.Ways.{position_of}
 use Rattle.session_record.specs.Record.{Saved}
-use Rattle.session_record.specs.Versions.{inbox_most, kept_most, outbox_most, text_most}
+use Rattle.session_record.specs.Versions.{inbox_most, is_packet_of, kept_most, outbox_most, text_most}
 use Rattle.session_record.specs.declared.versions.Version.{Version}
 
 -- a text of the peer's, of an epoch that was reached
@@ -44,14 +44,20 @@ pub record IsLawfulClient (k : Mechanism) (c : Client) : Type 0 where
   pub outbox : All (IsLawfulPost k c.state) c.outbox
   pub few_posts : length c.outbox ≤ OUTBOX_LIMIT
 
+-- a packet that stands in a record of the version
+abbrev pub IsPostOf : Mechanism → Version → Post → Type 0
+IsPostOf k version post =
+    (f : Fields) → read_packet (agreement_size k) post.packet ≡ Ok f → is_packet_of version f ≡ true
+
 -- what a version allows
-pub record FitsVersion (version : Version) (c : Client) : Type 0 where
+pub record FitsVersion (k : Mechanism) (version : Version) (c : Client) : Type 0 where
   pub few_kept : length c.state.kept ≤ kept_most version
   pub few_entries : length c.inbox ≤ inbox_most version
   pub short_texts : All (λ entry. length entry.text ≤ text_most version) c.inbox
   pub few_posts : length c.outbox ≤ outbox_most version
+  pub posts : All (IsPostOf k version) c.outbox
 
 -- a client that has a record in a version
 pub record IsLawfulSaved (k : Mechanism) (s : Saved) : Type 0 where
   pub client : IsLawfulClient k s.client
-  pub fits : FitsVersion s.version s.client
+  pub fits : FitsVersion k s.version s.client

@@ -18,7 +18,7 @@ use Rattle.packet.specs.Packet.{Fields}
 use Rattle.packet.specs.Reading.{read_packet, is_index}
 use Rattle.session_model.specs.States.{Reception}
 use Rattle.session_record.specs.Fields.{up_to}
-use Rattle.session_record.specs.Versions.{inbox_most, kept_most, outbox_most, text_most}
+use Rattle.session_record.specs.Versions.{inbox_most, is_packet_of, kept_most, outbox_most, text_most}
 use Rattle.session_record.specs.declared.versions.Version.{Version}
 
 -- ---- kept keys, each above the one before
@@ -107,15 +107,16 @@ entry_text entry =
 
 -- ---- the outbox: packets, each after its length
 
--- a packet of this session, in an own epoch that was reached
-abbrev pub is_posted : List ℕ → Side → ℕ → Result Fields Malformed → Bool
-is_posted session side epoch (Ok f) =
-    bytes_eq f.session session && (is_own side f.epoch && nat_le f.epoch epoch)
-is_posted session side epoch (Err fault) = false
+-- a packet of this session, in an own epoch that was reached, as the version has them
+abbrev pub is_posted : Version → List ℕ → Side → ℕ → Result Fields Malformed → Bool
+is_posted version session side epoch (Ok f) =
+    bytes_eq f.session session
+    && (is_own side f.epoch && (nat_le f.epoch epoch && is_packet_of version f))
+is_posted version session side epoch (Err fault) = false
 
-unfoldable pub is_post : Mechanism → List ℕ → Side → ℕ → List ℕ → Bool
-is_post k session side epoch bytes =
-    is_posted session side epoch (read_packet (agreement_size k) bytes)
+unfoldable pub is_post : Mechanism → Version → List ℕ → Side → ℕ → List ℕ → Bool
+is_post k version session side epoch bytes =
+    is_posted version session side epoch (read_packet (agreement_size k) bytes)
 
 abbrev pub place_of : Result Fields Malformed → Position
 place_of (Ok f) = position_at f.epoch f.index
@@ -129,13 +130,13 @@ post_of k bytes = post_under (place_of (read_packet (agreement_size k) bytes)) b
 abbrev pub any_length : ℕ → Bool
 any_length n = true
 
-unfoldable pub post_field : Mechanism → List ℕ → Side → ℕ → Reader Post
-post_field k session side epoch =
-    mapped (post_of k) (sized w16 any_length (is_post k session side epoch))
+unfoldable pub post_field : Mechanism → Version → List ℕ → Side → ℕ → Reader Post
+post_field k version session side epoch =
+    mapped (post_of k) (sized w16 any_length (is_post k version session side epoch))
 
 unfoldable pub outbox_field : Mechanism → Version → List ℕ → Side → ℕ → Reader (List Post)
 outbox_field k version session side epoch =
-    counted w8 (up_to (outbox_most version)) (λ _. post_field k session side epoch)
+    counted w8 (up_to (outbox_most version)) (λ _. post_field k version session side epoch)
 
 abbrev pub post_text : Post → List ℕ
 post_text post = print_sized w16 post.packet

@@ -1,40 +1,56 @@
 -- The versions of a record, and what each of them allows. A later one is a case more of each
 -- definition. A field that stands since a version is a `maybe` over a test of the version, which
 -- stands here too.
-use Rattle.std.specs.Prelude.{ℕ, ◌==◌, Bool}
+use Rattle.std.specs.Prelude.{ℕ, ◌==◌, ◌||◌, Bool, true, nat_le, List, length, get_or, if◌then◌else◌}
+use Rattle.dr_base.specs.declared.limits.TheConstants.{INBOX_LIMIT, KEPT_LIMIT, OUTBOX_LIMIT, TEXT_LIMIT}
+use Rattle.packet.specs.Packet.{Fields}
 use Rattle.session_record.specs.declared.versions.TheConstants.{FIRST_INBOX_LIMIT, FIRST_KEPT_LIMIT, FIRST_OUTBOX_LIMIT, FIRST_TEXT_LIMIT}
 use Rattle.session_record.specs.declared.versions.Version.{Version}
-use Rattle.session_record.specs.declared.versions.Version.TheVariants.{One}
+use Rattle.session_record.specs.declared.versions.Version.TheVariants.{One, Two}
 
 -- the version that is written
 abbrev pub newest : Version
-newest = One
+newest = Two
 
 -- ---- the byte of a version
 
 abbrev pub is_version : ℕ → Bool
-is_version n = n == 1
+is_version n = (n == 1) || (n == 2)
 
 abbrev pub version_at : ℕ → Version
-version_at n = One
+version_at n = if n == 1 then One else Two
 
 abbrev pub version_code : Version → ℕ
 version_code One = 1
+version_code Two = 2
+
+-- a text begins as the newest version does
+abbrev pub is_newest : List ℕ → Bool
+is_newest text = get_or text 0 0 == version_code newest
 
 -- ---- the limits of a version
 
 -- the bytes of a text
 abbrev pub text_most : Version → ℕ
 text_most One = FIRST_TEXT_LIMIT
+text_most Two = TEXT_LIMIT
 
 -- the kept keys
 abbrev pub kept_most : Version → ℕ
 kept_most One = FIRST_KEPT_LIMIT
+kept_most Two = KEPT_LIMIT
 
 -- the texts of an inbox
 abbrev pub inbox_most : Version → ℕ
 inbox_most One = FIRST_INBOX_LIMIT
+inbox_most Two = INBOX_LIMIT
 
 -- the packets of an outbox
 abbrev pub outbox_most : Version → ℕ
 outbox_most One = FIRST_OUTBOX_LIMIT
+outbox_most Two = OUTBOX_LIMIT
+
+-- the packets: those of version 1 have the texts of their time
+abbrev pub is_packet_of : Version → Fields → Bool
+is_packet_of One f = nat_le (length f.ciphertext) FIRST_TEXT_LIMIT
+is_packet_of Two f = true

@@ -3,6 +3,7 @@
 ghost use Rattle.std.specs.Prelude.{◌≡◌, ◌≤◌, [], Ok, Err, IfOk, IfErr, OnErr, MatchResult};
 ghost use Rattle.grammar.specs.Standing.{Reads};
 ghost use Rattle.session_model.specs.LawfulStates.{IsLawfulState};
+ghost use Rattle.session_record.specs.declared.limits.TheConstants.{RECORD_LIMIT};
 ghost use Rattle.session_record.specs.Lawful.{IsLawfulClient};
 ghost use Rattle.session_record.specs.Groups.{boxes_fields, boxes_of};
 ghost use Rattle.session_record.specs.Record.{client_of, record_fields, record_read, saved_of, saved_read, state_of_groups};
@@ -16,7 +17,7 @@ use crate::outbox::read_outbox;
 use boxes::{Inbox, Outbox};
 use fs_aead::Skipped;
 use grammar::Cursor;
-use kem_laws::Kem;
+use kem_laws::{Kem, laws};
 use session_model::{Head, SessionPart};
 use std::marker::PhantomData;
 
@@ -112,9 +113,11 @@ pub fn decode<K: Kem>(
         (λ damaged. record_read K.mechanism text.now ≡ Err damaged.at) }
     ensures lawful { IfOk result (λ part.
         IsLawfulClient K.mechanism (client_of part inbox.new outbox.new)) }
+    ensures within { IfErr result (λ damaged. damaged.at ≤ RECORD_LIMIT) }
     ensures empty_inbox { OnErr result (inbox.new ≡ []) }
     ensures empty_outbox { OnErr result (outbox.new ≡ []) }
 {
+    laws::<K>();
     version_law();
     match read_whole::<K>(text, inbox, outbox) {
         Ok((heading, keys)) => Ok(part_of(heading, keys)),

@@ -7,7 +7,7 @@ ghost use Rattle.boxes.specs.Seen.{entry_seen};
 ghost use Rattle.dr_base.specs.Buffer.{Puts};
 ghost use Rattle.grammar.specs.Printer.{print_counted, print_items};
 ghost use Rattle.grammar.specs.Reader.{items, sized};
-ghost use Rattle.grammar.specs.Standing.{Reads, Skims};
+ghost use Rattle.grammar.specs.Standing.{Reads};
 ghost use Rattle.session_record.specs.Changes.{FitsInbox, inbox_after};
 ghost use Rattle.session_record.specs.Fields.{up_to};
 ghost use Rattle.session_record.specs.Lists.{any, entry_field, entry_text, inbox_field};
@@ -88,27 +88,6 @@ pub(crate) fn read_inbox(
 {
     let count = read_len(cursor, heading.version.inbox_most())?;
     read_entries(cursor, heading, count, inbox)
-}
-
-/// This many texts, which are kept nowhere.
-fn skim_entries(cursor: &mut Cursor<'_>, heading: &Heading, count: u8) -> Result<(), usize>
-    ensures { let h = heading.now in let entry = entry_field h.version h.side h.epoch in
-        Skims (items (λ _. entry) count) cursor.old cursor.new result }
-{
-    'entries: for _ in 0..count {
-        let _one = read_entry(cursor, heading)?;
-    }
-    Ok(())
-}
-
-/// The texts after their count, which are kept nowhere.
-#[tactic(auto, unfolding(crate::specs::Lists::inbox_field))]
-pub(crate) fn skim_inbox(cursor: &mut Cursor<'_>, heading: &Heading) -> Result<(), usize>
-    ensures { let h = heading.now in
-        Skims (inbox_field h.version h.side h.epoch) cursor.old cursor.new result }
-{
-    let count = read_len(cursor, heading.version.inbox_most())?;
-    skim_entries(cursor, heading, count)
 }
 
 /// Puts a text and its position.

@@ -7,7 +7,7 @@ ghost use Rattle.dr_base.specs.Buffer.{Puts};
 ghost use Rattle.dr_base.specs.declared.position.Position.{Position};
 ghost use Rattle.grammar.specs.Printer.{print_counted, print_items};
 ghost use Rattle.grammar.specs.Reader.{items};
-ghost use Rattle.grammar.specs.Standing.{Reads, Skims};
+ghost use Rattle.grammar.specs.Standing.{Reads};
 ghost use Rattle.session_record.specs.Changes.{FitsOutbox, outbox_after};
 ghost use Rattle.session_record.specs.Lists.{outbox_field, post_field, post_of, post_text};
 
@@ -28,7 +28,7 @@ fn read_post<'a, K: Kem>(
     heading: &Heading,
 ) -> Result<(Position, &'a [u8]), usize>
     ensures reads { let h = heading.now in
-        let post = post_field K.mechanism h.session h.side h.epoch in
+        let post = post_field K.mechanism h.version h.session h.side h.epoch in
         Reads (λ p. post_under p.0 p.1.now) post cursor.old cursor.new result }
     ensures fits { IfOk result (λ p. length p.1.now ≤ PACKET_LIMIT) }
 {
@@ -42,6 +42,9 @@ fn read_post<'a, K: Kem>(
         Ok(view) => {
             let of = view.epoch();
             if *view.session() != heading.session || !heading.side.owns(of) || of > heading.epoch {
+                return Err(at);
+            }
+            if view.ciphertext().len() > heading.version.sealed_most() {
                 return Err(at);
             }
             let position = Position {
@@ -63,7 +66,7 @@ fn read_posts<K: Kem>(
     requires few { count ≤ OUTBOX_LIMIT }
     requires empty { outbox.old ≡ [] }
     ensures { let h = heading.now in
-        let post = post_field K.mechanism h.session h.side h.epoch in
+        let post = post_field K.mechanism h.version h.session h.side h.epoch in
         Reads (λ _. outbox.new) (items (λ _. post) count) cursor.old cursor.new result }
 {
     'posts: for _ in 0..count {
@@ -87,29 +90,6 @@ pub(crate) fn read_outbox<K: Kem>(
 {
     let count = read_len(cursor, heading.version.outbox_most())?;
     read_posts::<K>(cursor, heading, count, outbox)
-}
-
-/// This many packets, which are kept nowhere.
-fn skim_posts<K: Kem>(cursor: &mut Cursor<'_>, heading: &Heading, count: u8) -> Result<(), usize>
-    ensures { let h = heading.now in
-        let post = post_field K.mechanism h.session h.side h.epoch in
-        Skims (items (λ _. post) count) cursor.old cursor.new result }
-{
-    'posts: for _ in 0..count {
-        let _one = read_post::<K>(cursor, heading)?;
-    }
-    Ok(())
-}
-
-/// The packets after their count, which are kept nowhere.
-#[tactic(auto, unfolding(crate::specs::Lists::outbox_field))]
-pub(crate) fn skim_outbox<K: Kem>(cursor: &mut Cursor<'_>, heading: &Heading) -> Result<(), usize>
-    ensures { let h = heading.now in
-        let posts = outbox_field K.mechanism h.version h.session h.side h.epoch in
-        Skims posts cursor.old cursor.new result }
-{
-    let count = read_len(cursor, heading.version.outbox_most())?;
-    skim_posts::<K>(cursor, heading, count)
 }
 
 /// Puts a packet after its length, whatever its position.

@@ -1,9 +1,11 @@
 //! The versions of a record, and what each of them allows.
 
-ghost use Rattle.std.specs.Prelude.{◌≡◌, ◌≤◌};
+ghost use Rattle.std.specs.Prelude.{◌≡◌, ◌≤◌, length, nat_le};
+ghost use Rattle.dr_base.specs.declared.limits.TheConstants.{TEXT_LIMIT};
 ghost use Rattle.grammar.specs.Standing.{Reads};
+ghost use Rattle.packet.specs.Packet.{Fields};
 ghost use Rattle.session_record.specs.Fields.{version_field};
-ghost use Rattle.session_record.specs.Versions.{inbox_most, kept_most, outbox_most, text_most, version_code};
+ghost use Rattle.session_record.specs.Versions.{inbox_most, is_newest, is_packet_of, kept_most, outbox_most, text_most, version_code};
 
 use dr_base::{INBOX_LIMIT, KEPT_LIMIT, OUTBOX_LIMIT, TEXT_LIMIT};
 use grammar::Cursor;
@@ -25,10 +27,11 @@ pub(crate) const FIRST_OUTBOX_LIMIT: usize = 32;
 #[derive(Clone, Copy)]
 pub(crate) enum Version {
     One,
+    Two,
 }
 
 /// The version that is written.
-pub(crate) const NEWEST: Version = Version::One;
+pub(crate) const NEWEST: Version = Version::Two;
 
 impl Version {
     /// Its byte.
@@ -37,6 +40,7 @@ impl Version {
     {
         match self {
             Version::One => 1,
+            Version::Two => 2,
         }
     }
 
@@ -47,7 +51,16 @@ impl Version {
     {
         match self {
             Version::One => FIRST_TEXT_LIMIT,
+            Version::Two => TEXT_LIMIT,
         }
+    }
+
+    /// The longest text of a packet in its outbox, in bytes.
+    pub(crate) fn sealed_most(self) -> usize
+        ensures { (f : Fields) → length f.ciphertext ≤ TEXT_LIMIT
+            → is_packet_of self f ≡ nat_le (length f.ciphertext) result }
+    {
+        self.text_most()
     }
 
     /// The most kept keys.
@@ -57,6 +70,7 @@ impl Version {
     {
         match self {
             Version::One => FIRST_KEPT_LIMIT,
+            Version::Two => KEPT_LIMIT,
         }
     }
 
@@ -67,6 +81,7 @@ impl Version {
     {
         match self {
             Version::One => FIRST_INBOX_LIMIT,
+            Version::Two => INBOX_LIMIT,
         }
     }
 
@@ -77,6 +92,7 @@ impl Version {
     {
         match self {
             Version::One => FIRST_OUTBOX_LIMIT,
+            Version::Two => OUTBOX_LIMIT,
         }
     }
 }
@@ -89,6 +105,18 @@ pub(crate) fn read_version(cursor: &mut Cursor<'_>) -> Result<Version, usize>
     let at = cursor.at();
     match cursor.number8()? {
         1 => Ok(Version::One),
+        2 => Ok(Version::Two),
         _ => Err(at),
+    }
+}
+
+/// Whether a record's text is in the version that is written. Another text is written anew where it
+/// is opened.
+pub fn is_newest(text: &[u8]) -> bool
+    ensures { result ≡ is_newest text.now }
+{
+    match text.first() {
+        Some(code) => *code == NEWEST.code(),
+        None => false,
     }
 }

@@ -16,8 +16,10 @@ use Rattle.slot_store.specs.declared.outcome.Outcome.{Outcome}
 use Rattle.slot_store.specs.declared.outcome.Outcome.TheVariants.{Refused, Stored}
 use Rattle.slot_store.specs.Areas.{Area}
 use Rattle.slot_store.specs.AtRest.{IsLeft, IsReadAtRest}
+use Rattle.slot_store.specs.Found.{HasReadContent}
 use Rattle.slot_store.specs.Opened.{IsOpened, IsRefused}
-use Rattle.slot_store.specs.Outcome.{IsOutcome, OpensStore, opening_answer}
+use Rattle.slot_store.specs.Outcome.{IsOutcome, IsOutcomeBy, OpensStore, opening_answer}
+use Rattle.slot_store.specs.Store.{content}
 use Rattle.slot_store.specs.Reading.{IsEntryOrLike, IsLikeRead, damaged}
 use Rattle.slot_store.proofs.Alike.{as_read, like_before}
 
@@ -29,6 +31,13 @@ refused_by fault_at area start now call went = record {
   fault = λ other is. let e : call ≡ other = cc in subst (λ x. Rose (start.faults x) (now.faults x)) e went.fault;
   ended = λ other is. went.ended;
 }
+
+-- who read the record has read the store's
+pub answered_read : {R : Type 0} (has_read : R → List ℕ → Type 0) (old new : R) (r : Result Outcome Call)
+    → IfOk r (IsOutcomeBy has_read old new) → IfOk (opening_answer r) (λ both. HasReadContent has_read old new (content both.0))
+answered_read has_read old new (Ok (Stored pager what)) is = is
+answered_read has_read old new (Ok (Refused slot at)) is = tt
+answered_read has_read old new (Err call) is = tt
 
 module _ {U : Type 0} (fault_at : List ℕ → Option ℕ) (area : Area) (start a b : DiskState) (x : U) (r : Result Outcome Call)
     (read : Span start a start.image) (same : Unwritten start a) (settled : IsSettled a) (passed : HavePassed 1 start a)

@@ -19,6 +19,7 @@ mod Local
 pub mod Rows
 pub mod Outside
 mod WithinArea
+mod Wider
 mod Shown
 pub mod Blank
 mod RestBytes

@@ -30,7 +30,7 @@ range_byte c d at end i same from to =
     ap (λ j. slice_index c j) (sym is) ∙ sym (get_or-range c at end k lt) ∙ ap (λ (l : List ℕ). get_or l k 0) same
     ∙ get_or-range d at end k lt ∙ ap (λ j. slice_index d j) is
 
-abbrev as_table : ℕ → List ℕ → Table
+abbrev pub as_table : ℕ → List ℕ → Table
 as_table gate body = record { gate = gate; body = body }
 
 module _ (area : Area) (c d : List ℕ) where

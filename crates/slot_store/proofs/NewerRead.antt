@@ -1,5 +1,5 @@
 -- The newer table was read, with the pages that it names.
-use Rattle.std.proofs.Common.{◌≡◌, ◌≢◌, ℕ, ◌+◌, ◌-◌, ◌*◌, ◌≤◌, Bool, true, List, [], length, take, Option, Some, None, sym, ◌∙◌, ap, arith}
+use Rattle.std.proofs.Common.{◌≡◌, ◌≢◌, ℕ, ◌+◌, ◌-◌, ◌*◌, ◌≤◌, Bool, true, List, [], length, take, Option, Some, None, sym, subst, ◌∙◌, ap, arith}
 use Rattle.std.specs.Prelude.{slice_index}
 use Rattle.std.proofs.lemmas.List.{length-take-le}
 use Rattle.dr_base.specs.declared.limits.TheConstants.{PAGE}
@@ -12,6 +12,7 @@ use Rattle.record_pages.specs.Tables.{entry_fault, length_in, record_names, tabl
 use Rattle.slot_store.specs.declared.kept.Kept.{Kept}
 use Rattle.slot_store.specs.declared.pager.Pager.{Pager}
 use Rattle.slot_store.specs.Areas.{Area, layout_of}
+use Rattle.slot_store.specs.Found.{HasReadContent}
 use Rattle.slot_store.specs.Layout.{IsMarked, laid, table_for}
 use Rattle.slot_store.specs.Loading.{IsNamed, pages_named}
 use Rattle.slot_store.specs.Reading.{damaged, fault_in, judged, table_number, read_as, area_reading, reading_of}
@@ -41,6 +42,15 @@ newer_entries fault_at area body kept named =
 
 pub newer_turn : (body : List ℕ) → is_open (open_table body) ≡ true → (1 ≤ slice_index body 0) × (slice_index body 0 ≤ 3)
 newer_turn body opened = (open_low (open_table body) opened, open_high (open_table body) opened)
+
+-- who has read the record has read the pager's
+pub newer_read : {R : Type 0} (has_read : R → List ℕ → Type 0) (old new : R) (body : List ℕ) (kept : Kept) (pager : Pager)
+    → pager.turn ≡ slice_index body 0 → pager.kept ≡ kept → is_open (open_table body) ≡ true
+    → has_read new (take kept.len kept.bytes.items) → HasReadContent has_read old new (content pager)
+newer_read has_read old new body kept pager is_turn is_kept opened read =
+    subst (HasReadContent has_read old new)
+    (sym (has_text pager (λ zero. absurd (omega (arith, (newer_turn body opened).0, is_turn, zero)))))
+    (subst (λ (k : Kept). has_read new (take k.len k.bytes.items)) (sym is_kept) read)
 
 module _ (fault_at : List ℕ → Option ℕ) (area : Area) (second : Bool) (body : List ℕ) (kept : Kept) (pager : Pager)
     (is_area : pager.area ≡ area) (is_second : pager.second ≡ second) (is_turn : pager.turn ≡ slice_index body 0)

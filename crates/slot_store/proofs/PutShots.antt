@@ -16,7 +16,7 @@ use Rattle.record_pages.specs.Pages.{page_count}
 use Rattle.record_pages.specs.Tables.{record_names}
 use Rattle.slot_store.proofs.Paging.{each_of}
 use Rattle.slot_store.specs.declared.pager.Pager.{Pager}
-use Rattle.slot_store.specs.Areas.{Area, IsArea, layout_of, area_size}
+use Rattle.slot_store.specs.Areas.{Area, IsArea, layout_of, area_end}
 use Rattle.slot_store.specs.Layout.{Mark, laid, table_for}
 use Rattle.slot_store.specs.Pager.{content, mark}
 use Rattle.slot_store.proofs.Laid.{laid_names}
@@ -68,10 +68,10 @@ laid_second mark (Some text) = refl
 -- ---- an area
 
 module _ (area : Area) (lawful : IsArea area) where
-  pub layout_sound : (size : ℕ) → size < 2 ^ 64 → area.start + area_size area ≤ size
+  pub layout_sound : (size : ℕ) → size < 2 ^ 64 → area_end area ≤ size
       → IsSound (layout_of area) size
-  layout_sound size ends within = area_sound area.start area.pages size ends
-      (omega (arith, lawful.least)) within
+  layout_sound size ends within = area_sound area.start area.upper area.pages size ends
+      (omega (arith, lawful.least)) lawful.behind within
 
 -- ---- a pager's table
 

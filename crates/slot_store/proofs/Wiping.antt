@@ -11,7 +11,7 @@ use Rattle.pages.specs.Tables.{AreZeros, table_at}
 use Rattle.pages.specs.Tidying.{AreNamed, IsMute, IsToTidy}
 use Rattle.pages.proofs.SoundLayouts.{area_sound}
 use Rattle.record_pages.specs.Tables.{record_names}
-use Rattle.slot_store.specs.Areas.{Area, IsArea, layout_of}
+use Rattle.slot_store.specs.Areas.{Area, IsArea, area_end, layout_of}
 use Rattle.slot_store.specs.Judged.{table_with}
 use Rattle.slot_store.specs.Settling.{IsSettledArea}
 
@@ -19,9 +19,10 @@ pub on_ok : {T E : Type 0} {A B : Type 0} (r : Result T E) → (A → B) → OnO
 on_ok (Ok x) to a = to a
 on_ok (Err e) to a = a
 
-pub sound_area : (area : Area) (size : ℕ) → IsArea area → size < 2 ^ 64 → area.start + PAGE * area.pages ≤ size
+pub sound_area : (area : Area) (size : ℕ) → IsArea area → size < 2 ^ 64 → area_end area ≤ size
     → IsSound (layout_of area) size
-sound_area area size lawful ends within = area_sound area.start area.pages size ends (omega (arith, lawful.least)) within
+sound_area area size lawful ends within =
+    area_sound area.start area.upper area.pages size ends (omega (arith, lawful.least)) lawful.behind within
 
 -- with zeros
 pub zeros_for : (area : Area) (zeros rest : List ℕ) → zeros ≡ replicate PAGE 0 → rest ≡ take (PAGE - 1) zeros

@@ -31,7 +31,7 @@ lawful_table pages most body is = by (nat_le (page_count (length_in body)) most)
     by true e is = none_first e z is
     by false e is = absurd (let e : Some 2 ≡ None = is in cc)
 
-map_same : {X : Type 0} (P : ℕ → Type 0) (f g : ℕ → X) (ns : List ℕ) → All P ns → ((n : ℕ) → P n → f n ≡ g n) → map f ns ≡ map g ns
+pub map_same : {X : Type 0} (P : ℕ → Type 0) (f g : ℕ → X) (ns : List ℕ) → All P ns → ((n : ℕ) → P n → f n ≡ g n) → map f ns ≡ map g ns
 map_same P f g [] all same = refl
 map_same P f g (n ∷ ns) all same =
     ap₂ (λ x xs. x ∷ xs) (same n (All-head P n ns all)) (map_same P f g ns (All-tail P n ns all) same)

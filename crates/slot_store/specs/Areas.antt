@@ -3,33 +3,36 @@ use Rattle.std.specs.Prelude.{◌≡◌, ℕ, ◌+◌, ◌*◌, ◌^◌, ◌<◌
 use Rattle.dr_base.specs.declared.limits.TheConstants.{PAGE}
 use Rattle.pages.specs.declared.layout.Layout.{Layout}
 use Rattle.pages.specs.declared.layout.TheConstants.{LOWER_PAGES}
-use Rattle.pages.specs.Areas.{row_layout}
+use Rattle.pages.specs.Areas.{area_end as end_of, area_layout}
 use Rattle.pages.specs.Around.{IsInside as IsInsideAll, IsOutside as IsOutsideAll, IsSameOutside as IsSameAround}
 use Rattle.record_pages.specs.declared.limits.TheConstants.{NAMED_LIMIT, NUMBER_LIMIT}
 use Rattle.record_pages.specs.Pages.{page_count}
 
--- so many pages from `start` on, of which the first two are the tables; the most pages of a record
+-- So many pages, of which the first two are the tables: the first `LOWER_PAGES` lie from `start` on, the others from `upper` on.
+-- The most pages of a record.
 pub record Area : Type 0 where
   pub start : ℕ
+  pub upper : ℕ
   pub pages : ℕ
   pub most : ℕ
 
--- how many bytes it has
-abbrev pub area_size : Area → ℕ
-area_size area = PAGE * area.pages
+-- where its last page ends
+abbrev pub area_end : Area → ℕ
+area_end area = end_of area.start area.upper area.pages
 
 -- What holds of every area: there is room for the pages of two records, each number has two bytes, one table names all pages of a
--- record, and no place is 2^64 or more.
+-- record, the upper pages lie behind the lower ones, and no place is 2^64 or more.
 pub record IsArea (area : Area) : Type 0 where
   pub least : 2 + 2 * area.most ≤ area.pages
   pub short : area.pages ≤ NUMBER_LIMIT
   pub named : area.most ≤ NAMED_LIMIT
-  pub ends : area.start + area_size area < 2 ^ 64
-  pub upper : area.start + PAGE * LOWER_PAGES < 2 ^ 64
+  pub behind : area.start + PAGE * LOWER_PAGES ≤ area.upper
+  pub upper : area.upper < 2 ^ 64
+  pub ends : area_end area < 2 ^ 64
 
 -- its tables and pages
 abbrev pub layout_of : Area → Layout
-layout_of area = row_layout area.start area.pages
+layout_of area = area_layout area.start area.upper area.pages
 
 -- a place in one of its tables and pages, and one in none of them
 abbrev pub IsInArea : Area → ℕ → Type 0

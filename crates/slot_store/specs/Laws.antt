@@ -1,6 +1,7 @@
 -- What holds of the words that callers see.
-use Rattle.std.specs.Prelude.{◌≡◌, ℕ, List, length, slice_index, Option, Some, None}
-use Rattle.slot_store.specs.Areas.{Area, IsInArea}
+use Rattle.std.specs.Prelude.{◌≡◌, ℕ, ◌≤◌, List, ◌++◌, length, slice_index, Option, Some, None}
+use Rattle.pages.specs.declared.layout.TheConstants.{LOWER_PAGES}
+use Rattle.slot_store.specs.Areas.{Area, IsInArea, area_end}
 use Rattle.slot_store.specs.AtRest.{IsAtRest}
 use Rattle.slot_store.specs.Records.{stored_record}
 use Rattle.slot_store.specs.Store.{Rests, SlotStore, content, mark}
@@ -32,3 +33,27 @@ pub record IsRead : Type 0 where
   pub fits_grammar : (fault_at : List ℕ → Option ℕ) (area : Area) (c text : List ℕ) → area_reading fault_at area c ≡ holds text → fault_at text ≡ None
   pub none : (fault_at : List ℕ → Option ℕ) (area : Area) (c : List ℕ) → area_reading fault_at area c ≡ no_content → stored_record area c ≡ None
   pub undamaged : (fault_at : List ℕ → Option ℕ) (area : Area) (c text : List ℕ) → area_reading fault_at area c ≡ holds text → IsUndamaged area c
+
+-- an area that begins where the other does and has no fewer pages, and all pages of the other are
+-- lower ones
+pub record IsWider (area wider : Area) : Type 0 where
+  pub start : wider.start ≡ area.start
+  pub least : 2 ≤ area.pages
+  pub lower : area.pages ≤ LOWER_PAGES
+  pub pages : area.pages ≤ wider.pages
+  pub most : area.most ≤ wider.most
+
+-- What stands in an area stays there where more pages belong to it, wherever they lie, and more
+-- bytes follow on the disk.
+pub record StandsInWider : Type 0 where
+  pub record_of : (area wider : Area) (c more text : List ℕ)
+      → IsWider area wider → area_end area ≤ length c
+      → stored_record area c ≡ Some text → stored_record wider (c ++ more) ≡ Some text
+  pub content : (fault_at : List ℕ → Option ℕ) (area wider : Area) (c more text : List ℕ)
+      → IsWider area wider → area_end area ≤ length c
+      → area_reading fault_at area c ≡ holds text
+      → area_reading fault_at wider (c ++ more) ≡ holds text
+  pub none : (fault_at : List ℕ → Option ℕ) (area wider : Area) (c more : List ℕ)
+      → IsWider area wider → area_end area ≤ length c
+      → area_reading fault_at area c ≡ no_content
+      → area_reading fault_at wider (c ++ more) ≡ no_content

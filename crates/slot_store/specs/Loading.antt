@@ -31,6 +31,11 @@ abbrev pub IsNamedRecord : (List ℕ → Option ℕ) → Area → List ℕ → L
 IsNamedRecord fault_at area body (Faulty at) = ⊤
 IsNamedRecord fault_at area body (Whole kept) = IsNamed fault_at area body kept
 
+-- a record that was read
+abbrev pub IsReadRecord : (List ℕ → Type 0) → Loaded → Type 0
+IsReadRecord has_read (Faulty at) = ⊤
+IsReadRecord has_read (Whole kept) = has_read (take kept.len kept.bytes.items)
+
 -- what stood in these bytes: a fault, or the record's pages
 abbrev pub IsLoaded : (List ℕ → Option ℕ) → Area → List ℕ → Loaded → List ℕ → Type 0
 IsLoaded fault_at area body (Faulty at) s =

@@ -1,5 +1,5 @@
 -- What opening an area comes to, once its tables were read.
-use Rattle.std.specs.Prelude.{◌≡◌, ℕ, List, [], Option, Result, Ok, Err, IfOk}
+use Rattle.std.specs.Prelude.{◌≡◌, ⊤, ℕ, List, [], Option, Result, Ok, Err, IfOk}
 use Rattle.dr_disk.specs.declared.call.Call.{Call}
 use Rattle.dr_disk.specs.State.{DiskState, OnSeen}
 use Rattle.dr_disk.specs.Spans.{Span}
@@ -17,7 +17,8 @@ use Rattle.slot_store.specs.AtRest.{IsReadAtRest}
 use Rattle.slot_store.specs.Loading.{HasRoomToLoad}
 use Rattle.slot_store.specs.Memory.{HasPlanRoom}
 use Rattle.slot_store.specs.Opened.{IsOpened}
-use Rattle.slot_store.specs.Pager.{store_seen}
+use Rattle.slot_store.specs.Found.{HasReadContent}
+use Rattle.slot_store.specs.Pager.{content, store_seen}
 use Rattle.slot_store.specs.Reading.{IsLikeRead, damaged, area_reading}
 use Rattle.slot_store.specs.Store.{SlotStore}
 
@@ -34,6 +35,11 @@ IsOutcome fault_at area start now (Stored pager found) =
     IsOpened fault_at area start now (store_seen pager) found
 IsOutcome fault_at area start now (Refused slot at) =
     IsUntouched start now × OnSeen (λ s. area_reading fault_at area s ≡ damaged slot at) start
+
+-- what it comes to was read by a reader
+abbrev pub IsOutcomeBy : {R : Type 0} → (R → List ℕ → Type 0) → R → R → Outcome → Type 0
+IsOutcomeBy has_read old new (Stored pager found) = HasReadContent has_read old new (content pager)
+IsOutcomeBy has_read old new (Refused slot at) = ⊤
 
 -- Each crash meanwhile leaves what was read. What was read at rest stays as it is.
 pub record OpensStore (fault_at : List ℕ → Option ℕ) (area : Area) (start now : DiskState)

@@ -1,8 +1,8 @@
 -- What callers see of a store: its record, and the bytes that it rests on.
-use Rattle.std.specs.Prelude.{◌≡◌, ◌⊎◌, ℕ, ◌+◌, ◌≤◌, List, Option}
+use Rattle.std.specs.Prelude.{◌≡◌, ◌⊎◌, ℕ, ◌≤◌, List, Option}
 use Rattle.dr_disk.specs.State.{DiskState}
 use Rattle.pages.specs.Around.{KeepsOutside as KeepsAround, ReadsAround}
-use Rattle.slot_store.specs.Areas.{Area, IsArea, layout_of, area_size}
+use Rattle.slot_store.specs.Areas.{Area, IsArea, layout_of, area_end}
 use Rattle.slot_store.specs.AtRest.{IsAtRest}
 use Rattle.slot_store.specs.Layout.{Mark}
 use Rattle.slot_store.specs.Reading.{IsUndamaged}
@@ -25,7 +25,7 @@ unfoldable pub Rests : SlotStore → List ℕ → Type 0
 Rests store c = IsArea store.area × IsAtRest store.area store.mark store.content c
 
 abbrev pub HasArea : Area → DiskState → Type 0
-HasArea area disk = area.start + area_size area ≤ disk.size
+HasArea area disk = area_end area ≤ disk.size
 
 -- outside of the area's tables and pages these bytes are those of an image of that moment
 abbrev pub KeepsOutsideArea : Area → DiskState → List ℕ → Type 0

@@ -4,15 +4,17 @@ ghost use Rattle.std.specs.Prelude.{◌≡◌};
 ghost use Rattle.slot_store.specs.Areas.{IsArea, layout_of};
 
 use dr_base::PAGE;
-use pages::{LOWER_PAGES, Layout};
+use pages::Layout;
 use std::marker::Model;
 
-/// So many pages of `PAGE` bytes, one after the other from `start` on, of which the first two are
-/// the tables. A record has at most `most` pages: of these there is room for twice as many, and
-/// `NAMED_LIMIT` is the limit. There are at most `NUMBER_LIMIT` pages, and they end before 2^64.
+/// So many pages of `PAGE` bytes, of which the first two are the tables. The first `LOWER_PAGES` lie
+/// one after the other from `start` on, the others from `upper` on, which is behind them. A record
+/// has at most `most` pages: of these there is room for twice as many, and `NAMED_LIMIT` is the
+/// limit. There are at most `NUMBER_LIMIT` pages, and they end before 2^64.
 #[derive(Clone, Copy)]
 pub struct Area {
     pub start: u64,
+    pub upper: u64,
     pub pages: u32,
     pub most: u32,
 }
@@ -22,11 +24,11 @@ impl Model for Area {
 
     ghost Value = { Laid };
 
-    ghost view = { λ a. record { start = a.start; pages = a.pages; most = a.most } };
+    ghost view = { λ a. record { start = a.start; upper = a.upper; pages = a.pages; most = a.most } };
 
-    ghost inverse = { λ a. record { start = a.start; pages = a.pages; most = a.most } };
+    ghost inverse = { λ a. record { start = a.start; upper = a.upper; pages = a.pages; most = a.most } };
 
-    ghost invariant = { λ a. IsArea (record { start = a.start; pages = a.pages; most = a.most }) };
+    ghost invariant = { λ a. IsArea (record { start = a.start; upper = a.upper; pages = a.pages; most = a.most }) };
 }
 
 /// Its tables and pages.
@@ -39,7 +41,7 @@ pub(crate) fn layout(area: Area) -> Layout
         second: area.start + PAGE as u64,
         table: PAGE as u32,
         lower: area.start,
-        upper: area.start + PAGE as u64 * LOWER_PAGES as u64,
+        upper: area.upper,
         least: 2,
         count: area.pages,
     }

@@ -64,7 +64,9 @@ fn report_read<G: Grammar, D: Disk>(
     first_gate: u8,
     second_gate: u8,
     scratch: &mut Scratch,
+    reader: &mut G,
 ) -> Result<Report, Call>
+    requires new { G.is_new reader.old }
     requires memory { IsForStore area kept draft }
     requires tables { HasTables area first_gate second_gate scratch.old (D.state disk.old) }
     ensures { Finds (λ disk report. OnSeen (IsReport G.fault_at area report) disk)
@@ -72,7 +74,16 @@ fn report_read<G: Grammar, D: Disk>(
 {
     let first = gate_seen(first_gate, &scratch.first);
     let second = gate_seen(second_gate, &scratch.second);
-    let pager = match locate::<G, D>(disk, area, kept, draft, first_gate, second_gate, scratch) {
+    let pager = match locate(
+        disk,
+        area,
+        kept,
+        draft,
+        first_gate,
+        second_gate,
+        scratch,
+        reader,
+    ) {
         Ok(Located::Held { pager }) => pager,
         Ok(Located::Faulty { slot, at }) => {
             return Ok(Report {
@@ -97,13 +108,16 @@ fn report_read<G: Grammar, D: Disk>(
 }
 
 /// Reads an area as opening does, and all its other pages: which tables are open, what opening
-/// would find, and whether it would leave all bytes as they are. It makes reads alone.
+/// would find, and whether it would leave all bytes as they are. It makes reads alone. The record
+/// is read by the reader that is lent.
 pub fn inspect<G: Grammar, D: Disk>(
     alloc: Global,
     disk: &mut D,
     area: Area,
+    reader: &mut G,
 ) -> Result<Report, InspectError>
-    requires { HasArea area (D.state disk.old) }
+    requires within { HasArea area (D.state disk.old) }
+    requires new { G.is_new reader.old }
 
     // The report is a function of the bytes that a read gives.
     ensures report { IfOk result (λ report. OnSeen (IsReport G.fault_at area report)
@@ -129,7 +143,7 @@ pub fn inspect<G: Grammar, D: Disk>(
         Ok(gates) => gates,
         Err(call) => return Err(InspectError::StoreFault { call }),
     };
-    match report_read::<G, D>(
+    match report_read(
         disk,
         area,
         kept,
@@ -137,6 +151,7 @@ pub fn inspect<G: Grammar, D: Disk>(
         first_gate,
         second_gate,
         &mut scratch,
+        reader,
     ) {
         Ok(report) => Ok(report),
         Err(call) => Err(InspectError::StoreFault { call }),

@@ -1,6 +1,6 @@
 //! The record that a table names is read into memory, and judged.
 
-ghost use Rattle.std.specs.Prelude.{◌≡◌, ◌≤◌, ◌+◌, ◌*◌, length, map, take, drop, IfOk, OnOk};
+ghost use Rattle.std.specs.Prelude.{◌≡◌, ◌≤◌, ◌+◌, ◌*◌, length, map, take, drop, IfOk, IsNone, OnOk};
 ghost use Rattle.dr_base.specs.declared.limits.TheConstants.{PAGE};
 ghost use Rattle.dr_disk.specs.State.{OnSeen};
 ghost use Rattle.pages.specs.Layouts.{IsSound};
@@ -12,7 +12,7 @@ ghost use Rattle.record_pages.specs.Pages.{cut};
 ghost use Rattle.record_pages.specs.Tables.{nonzero_from, or_else};
 ghost use Rattle.slot_store.specs.Areas.{layout_of};
 ghost use Rattle.slot_store.specs.Finds.{Finds};
-ghost use Rattle.slot_store.specs.Loading.{HasRoomToLoad, IsLoaded, IsNamedRecord};
+ghost use Rattle.slot_store.specs.Loading.{HasRoomToLoad, IsLoaded, IsNamedRecord, IsReadRecord};
 ghost use Rattle.slot_store.specs.Reading.{behind_table};
 ghost use Rattle.slot_store.specs.Store.{HasArea};
 
@@ -59,13 +59,15 @@ fn read_pages<D: Disk>(
 }
 
 /// The first place in a record's pages that no record has, counted from its table, if there is one.
-fn record_fault<G: Grammar>(pages: &[u8], len: usize) -> Option<u64>
+fn record_fault<G: Grammar>(pages: &[u8], len: usize, reader: &mut G) -> Option<u64>
     requires fits { len ≤ length pages.now }
     requires short { length pages.now ≤ PAGE * NAMED_LIMIT }
-    ensures { result ≡ behind_table (or_else (G.fault_at (take len pages.now))
+    requires new { G.is_new reader.old }
+    ensures fault { result ≡ behind_table (or_else (G.fault_at (take len pages.now))
         (nonzero_from len (drop len pages.now))) }
+    ensures read { IsNone result → G.has_read reader.new (take len pages.now) }
 {
-    if let Err(at) = G::check(&pages[..len]) {
+    if let Err(at) = reader.read(&pages[..len]) {
         return Some(PAGE as u64 + at as u64);
     }
     match nonzero(&pages[len..], len as u32) {
@@ -81,12 +83,15 @@ pub(crate) fn load<G: Grammar, D: Disk>(
     area: Area,
     kept: Kept,
     body: &[u8],
+    reader: &mut G,
 ) -> Result<Loaded, Call>
     requires within { HasArea area (D.state disk.old) }
     requires none { kept.len ≡ 0 }
     requires room { HasRoomToLoad area kept }
     requires long { length body.now + 1 ≡ PAGE }
+    requires new { G.is_new reader.old }
     ensures named { IfOk result (IsNamedRecord G.fault_at area body.now) }
+    ensures read { IfOk result (IsReadRecord (G.has_read reader.new)) }
     ensures loaded { Finds
         (λ disk loaded. OnSeen (IsLoaded G.fault_at area body.now loaded) disk)
         (D.state disk.old) (D.state disk.new) result }
@@ -106,7 +111,7 @@ pub(crate) fn load<G: Grammar, D: Disk>(
         Err(call) => return Err(call),
     }
     let len = record_length(body) as usize;
-    if let Some(at) = record_fault::<G>(&bytes[..PAGE * numbers.len()], len) {
+    if let Some(at) = record_fault(&bytes[..PAGE * numbers.len()], len, reader) {
         return Ok(Loaded::Faulty { at });
     }
     Ok(Loaded::Whole {

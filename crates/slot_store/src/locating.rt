@@ -1,6 +1,6 @@
 //! What counts in an area whose tables were read: a record, none, or damage.
 
-ghost use Rattle.std.specs.Prelude.{◌≡◌, ◌≤◌, ◌+◌, [], None, true, length};
+ghost use Rattle.std.specs.Prelude.{◌≡◌, ◌≤◌, ◌+◌, [], None, true, length, IfOk};
 ghost use Rattle.dr_base.specs.declared.limits.TheConstants.{PAGE};
 ghost use Rattle.dr_disk.specs.State.{OnSeen};
 ghost use Rattle.pages.specs.Tables.{counts, is_open, open_table, tables_standing};
@@ -8,7 +8,7 @@ ghost use Rattle.record_pages.specs.Tables.{entry_fault};
 ghost use Rattle.slot_store.specs.Areas.{layout_of};
 ghost use Rattle.slot_store.specs.Finds.{Finds};
 ghost use Rattle.slot_store.specs.Loading.{HasRoomToLoad};
-ghost use Rattle.slot_store.specs.Locating.{IsLocated};
+ghost use Rattle.slot_store.specs.Locating.{IsLocated, IsLocatedBy};
 ghost use Rattle.slot_store.specs.Memory.{HasPlanRoom};
 ghost use Rattle.slot_store.specs.Outcome.{IsForStore};
 ghost use Rattle.slot_store.specs.Scratch.{HasTables};
@@ -64,6 +64,7 @@ fn locate_newer<G: Grammar, D: Disk>(
     draft: Draft,
     second: bool,
     body: &[u8],
+    reader: &mut G,
 ) -> Result<Located, Call>
     requires within { HasArea area (D.state disk.old) }
     requires memory { IsForStore area kept draft }
@@ -71,9 +72,12 @@ fn locate_newer<G: Grammar, D: Disk>(
     requires opened { is_open (open_table body.now) ≡ true }
     requires counts { OnSeen (λ s. tables_standing (layout_of area) s
         ≡ counts second (open_table body.now)) (D.state disk.old) }
-    ensures { Finds (IsLocated G.fault_at area) (D.state disk.old) (D.state disk.new) result }
+    requires new { G.is_new reader.old }
+    ensures located { Finds (IsLocated G.fault_at area)
+        (D.state disk.old) (D.state disk.new) result }
+    ensures read { IfOk result (IsLocatedBy G.has_read reader.old reader.new) }
 {
-    let kept = match load::<G, D>(disk, area, kept, body) {
+    let kept = match load(disk, area, kept, body, reader) {
         Ok(Loaded::Whole { kept }) => kept,
         Ok(Loaded::Faulty { at }) => {
             return Ok(Located::Faulty {
@@ -96,10 +100,14 @@ pub(crate) fn locate<G: Grammar, D: Disk>(
     first_gate: u8,
     second_gate: u8,
     scratch: &Scratch,
+    reader: &mut G,
 ) -> Result<Located, Call>
     requires memory { IsForStore area kept draft }
     requires tables { HasTables area first_gate second_gate scratch.now (D.state disk.old) }
-    ensures { Finds (IsLocated G.fault_at area) (D.state disk.old) (D.state disk.new) result }
+    requires new { G.is_new reader.old }
+    ensures located { Finds (IsLocated G.fault_at area)
+        (D.state disk.old) (D.state disk.new) result }
+    ensures read { IfOk result (IsLocatedBy G.has_read reader.old reader.new) }
 {
     match judge(first_gate, &scratch.first, second_gate, &scratch.second) {
         Judged::Alike => Ok(Located::Faulty { slot: 1, at: 1 }),
@@ -108,10 +116,10 @@ pub(crate) fn locate<G: Grammar, D: Disk>(
             Ok(Located::Held { pager })
         }
         Judged::Newer { second: false } => {
-            locate_newer::<G, D>(disk, area, kept, draft, false, &scratch.first)
+            locate_newer(disk, area, kept, draft, false, &scratch.first, reader)
         }
         Judged::Newer { second: true } => {
-            locate_newer::<G, D>(disk, area, kept, draft, true, &scratch.second)
+            locate_newer(disk, area, kept, draft, true, &scratch.second, reader)
         }
     }
 }

@@ -7,9 +7,10 @@ ghost use Rattle.dr_disk.specs.State.{Fate, OnSeen};
 ghost use Rattle.dr_disk.specs.Spans.{FailsLater, IsQuiet, Span};
 ghost use Rattle.slot_store.specs.Reading.{IsEntryOrLike, IsLikeRead};
 ghost use Rattle.slot_store.specs.AtRest.{IsLeft, IsReadAtRest};
+ghost use Rattle.slot_store.specs.Found.{HasReadContent};
 ghost use Rattle.slot_store.specs.Outcome.{IsForStore, opening_answer};
 ghost use Rattle.slot_store.specs.Scratch.{IsScratch};
-ghost use Rattle.slot_store.specs.Store.{HasArea};
+ghost use Rattle.slot_store.specs.Store.{HasArea, content};
 
 use crate::area::Area;
 use crate::draft::Draft;
@@ -59,19 +60,23 @@ impl SlotStore {
     ghost use Rattle.slot_store.specs.Opened.{IsOpened, IsRefused};
 
     /// Opens the store of an area: a sync, the reading of both tables and of the record's pages,
-    /// and the wiping of all that doesn't count. Without a record the first put will use table 0
-    /// and turn 1.
+    /// and the wiping of all that doesn't count. The record is read once, by the reader that is
+    /// lent. Without a record the first put will use table 0 and turn 1.
     pub fn open<G: Grammar, D: Disk>(
         alloc: Global,
         disk: &mut D,
         area: Area,
+        reader: &mut G,
     ) -> Result<(SlotStore, Found), OpenError>
-        requires { HasArea area (D.state disk.old) }
+        requires within { HasArea area (D.state disk.old) }
+        requires new { G.is_new reader.old }
 
         // What was read. Meanwhile, and in each ending, crashes and reads give what they gave, but
         // for what was tidied.
         ensures opened { IfOk result (λ both. IsOpened G.fault_at area
             (D.state disk.old) (D.state disk.new) both.0 both.1) }
+        ensures read { IfOk result (λ both. HasReadContent G.has_read
+            reader.old reader.new (content both.0)) }
         ensures any_moment { Span (D.state disk.old) (D.state disk.new)
             (IsEntryOrLike area (D.state disk.old)) }
         ensures reads { OnSeen (IsLikeRead area (D.state disk.old)) (D.state disk.new) }
@@ -98,7 +103,7 @@ impl SlotStore {
             Ok(gates) => gates,
             Err(call) => return Err(OpenError::StoreFault { call }),
         };
-        answer(open_read::<G, D>(
+        answer(open_read(
             disk,
             area,
             kept,
@@ -106,6 +111,7 @@ impl SlotStore {
             first_gate,
             second_gate,
             &mut scratch,
+            reader,
         ))
     }
 }

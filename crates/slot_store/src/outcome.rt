@@ -1,9 +1,9 @@
 //! What an area is opened as, once its tables were read.
 
-ghost use Rattle.std.specs.Prelude.{◌≡◌, is_some};
+ghost use Rattle.std.specs.Prelude.{◌≡◌, is_some, IfOk};
 ghost use Rattle.dr_disk.specs.State.{IsSettled};
 ghost use Rattle.slot_store.specs.Found.{has_content};
-ghost use Rattle.slot_store.specs.Outcome.{IsForStore, OpensStore};
+ghost use Rattle.slot_store.specs.Outcome.{IsForStore, IsOutcomeBy, OpensStore};
 ghost use Rattle.slot_store.specs.Pager.{content};
 ghost use Rattle.slot_store.specs.Scratch.{HasTables};
 ghost use Rattle.slot_store.specs.Settling.{MaySettle, Settles};
@@ -85,13 +85,25 @@ pub(crate) fn open_read<G: Grammar, D: Disk>(
     first_gate: u8,
     second_gate: u8,
     scratch: &mut Scratch,
+    reader: &mut G,
 ) -> Result<Outcome, Call>
     requires settled { IsSettled (D.state disk.old) }
     requires memory { IsForStore area kept draft }
     requires tables { HasTables area first_gate second_gate scratch.old (D.state disk.old) }
-    ensures { OpensStore G.fault_at area (D.state disk.old) (D.state disk.new) result }
+    requires new { G.is_new reader.old }
+    ensures opens { OpensStore G.fault_at area (D.state disk.old) (D.state disk.new) result }
+    ensures read { IfOk result (IsOutcomeBy G.has_read reader.old reader.new) }
 {
-    let pager = match locate::<G, D>(disk, area, kept, draft, first_gate, second_gate, scratch) {
+    let pager = match locate(
+        disk,
+        area,
+        kept,
+        draft,
+        first_gate,
+        second_gate,
+        scratch,
+        reader,
+    ) {
         Ok(Located::Held { pager }) => pager,
         Ok(Located::Faulty { slot, at }) => return Ok(Outcome::Refused { slot, at }),
         Err(call) => return Err(call),

@@ -1,12 +1,9 @@
-//! A core is begun, or read from a record, in memory that was taken before.
+//! A core is begun, in memory that was taken before.
 
-ghost use Rattle.std.specs.Prelude.{◌≡◌, ◌↔◌, [], None, Ok, IfOk, IsOk, IsSome};
+ghost use Rattle.std.specs.Prelude.{◌≡◌, ◌↔◌, [], IfOk, IsOk, IsSome};
 ghost use Rattle.session_model.specs.Schedule.{agreement_seed};
-ghost use Rattle.session_record.specs.Lawful.{IsLawfulClient};
-ghost use Rattle.session_record.specs.Record.{client_of, record_read, record_text};
 ghost use Rattle.client.specs.Beginning.{begun_client};
 ghost use Rattle.client.specs.Cores.{BeginsCore};
-ghost use Rattle.client.specs.Opening.{client_record_fault};
 
 use super::drafting::lawful_part;
 use super::showing::Core;
@@ -15,7 +12,6 @@ use boxes::{Inbox, Outbox};
 use dr_base::{Key32, Side};
 use kem_laws::{Kem, NoPair, laws};
 use ratchet::Session;
-use session_record::{decode, record_law};
 use std::alloc::{AllocError, Global};
 
 /// The memory of a core: its boxes, which are empty, and its mechanism's room.
@@ -24,22 +20,6 @@ pub(crate) struct CoreRoom<K: Kem> {
     pub(crate) inbox: Inbox,
     pub(crate) outbox: Outbox,
     pub(crate) work: K::Work,
-}
-
-/// The session of a record, and its boxes, which are empty before.
-fn resumed<K: Kem>(text: &[u8], inbox: &mut Inbox, outbox: &mut Outbox) -> Session<K>
-    requires inbox { inbox.old ≡ [] }
-    requires outbox { outbox.old ≡ [] }
-    requires reads { client_record_fault K.mechanism text.now ≡ None }
-    ensures read { record_read K.mechanism text.now ≡ Ok (client_of result inbox.new outbox.new) }
-    ensures text { text.now ≡ record_text (client_of result inbox.new outbox.new) }
-    ensures lawful { IsLawfulClient K.mechanism (client_of result inbox.new outbox.new) }
-{
-    record_law();
-    match decode::<K>(text, inbox, outbox) {
-        Ok(part) => Session::resume(part),
-        Err(_) => unreachable!(),
-    }
 }
 
 impl<K: Kem> CoreRoom<K> {
@@ -84,28 +64,6 @@ impl<K: Kem> CoreRoom<K> {
             }
         }
     }
-
-    /// The core that a text is the record of.
-    pub(crate) fn read(self, text: &[u8]) -> Core<K>
-        requires inbox { self.inbox ≡ [] }
-        requires outbox { self.outbox ≡ [] }
-        requires reads { client_record_fault K.mechanism text.now ≡ None }
-        ensures read { record_read K.mechanism text.now ≡ Ok result }
-        ensures text { text.now ≡ record_text result }
-    {
-        let CoreRoom {
-            mut inbox,
-            mut outbox,
-            work,
-        } = self;
-        let session = resumed::<K>(text, &mut inbox, &mut outbox);
-        Core {
-            session,
-            inbox,
-            outbox,
-            work,
-        }
-    }
 }
 
 impl<K: Kem> Core<K> {
@@ -122,15 +80,5 @@ impl<K: Kem> Core<K> {
             Err(NoPair) => Err(CoreBeginError::NoPair),
             Ok(core) => Ok(core),
         }
-    }
-
-    /// Reads the core that a text is the record of.
-    pub fn read(alloc: Global, text: &[u8]) -> Result<Core<K>, AllocError>
-        requires { client_record_fault K.mechanism text.now ≡ None }
-        ensures read { IfOk result (λ core. record_read K.mechanism text.now ≡ Ok core) }
-        ensures text { IfOk result (λ core. text.now ≡ record_text core) }
-    {
-        let room = CoreRoom::<K>::new(alloc)?;
-        Ok(room.read(text))
     }
 }

@@ -1,6 +1,6 @@
 -- What an act comes to on a disk that fails once in it.
 use Rattle.std.proofs.Common.{Bool, None, Ok, Result, Some, ap, arith, false, if◌then◌else◌, inl, inr, refl, subst, sym, true, ℕ, ◌-◌, ◌<◌, ◌∙◌, ◌≡◌, ◌≤◌}
-use Rattle.std.specs.Prelude.{nat_le, ◌&&◌}
+use Rattle.std.specs.Prelude.{nat_le, option_map, ◌&&◌}
 use Rattle.std.proofs.lemmas.Bool.Decides.{nat_tests}
 use Rattle.dr_disk.specs.MemoryDisks.{failing_at, going_on, state_of}
 use Rattle.dr_disk.specs.declared.call.Call.{Call}
@@ -21,9 +21,9 @@ use Rattle.slot_store.specs.Records.{stored_record}
 use Rattle.slot_store.specs.Stops.{shows}
 use Rattle.client.specs.Clients.{ClientNow, IsReady, client_area}
 use Rattle.client.specs.Outcomes.{Acts, IsCutOff, IsEffected, acknowledged, refused, replacing_call, replacing_calls}
-use Rattle.duet.specs.Parties.{IsHeld, IsClosedParty, found_on}
+use Rattle.duet.specs.Parties.{DiskHasRecord, IsHeld, IsClosedParty, found_on}
 use Rattle.duet.specs.Shuts.{failing_call, is_shown, left_of}
-use Rattle.duet.proofs.Closed.{found_is}
+use Rattle.duet.proofs.Closed.{found_is, record_reads}
 use Rattle.duet.proofs.Stopped.Acts.{IsCounted, chosen, held_going, lawful_disk, left_lawful, many, passed_all, stays}
 
 -- ---- which call fails
@@ -134,6 +134,11 @@ module _ (n : ℕ) (some : 1 ≤ n) (made : Result (Step Client) Refusal) (old n
         else Some (record_text old.kept)) off
         ∙ chosen (n - 1) Old made old new start now held.is_open ready refl refl (is_shown n old.kept next) next old.kept
 
+    has_left : DiskHasRecord left (state_of (going_on now))
+    has_left s seen =
+        let same : s ≡ now.platter.bytes.items = let e : Some s ≡ Some now.platter.bytes.items = sym seen in cc in
+        ap (stored_record client_area) same ∙ left_record
+
     undamaged : IsUndamaged client_area now.platter.bytes.items
     undamaged =
         let bytes = now.platter.bytes.items in
@@ -145,18 +150,17 @@ module _ (n : ℕ) (some : 1 ≤ n) (made : Result (Step Client) Refusal) (old n
     pub cut_found : (k : Mechanism) → record_read k (record_text left) ≡ Ok left
         → found_on k new.kept (going_on now) ≡ left_of n old.kept result.next result.next old.kept
     cut_found k back =
-        found_is k new.kept left (going_on now) left_record back
+        found_is k new.kept left (going_on now) (record_reads k left (state_of (going_on now)) has_left back)
         ∙ sym (ap (λ (m : Step Client). left_of n old.kept m.next m.next old.kept) same)
 
-    pub cut_shut : (k : Mechanism) → IsLawfulClient k left → IsClosedParty k (going_on now)
-    cut_shut k lawful = record {
+    pub cut_shut : (k : Mechanism) → record_read k (record_text left) ≡ Ok left → IsClosedParty k (going_on now)
+    cut_shut k back = record {
       within = omega (arith, ready.within, c.disk.any_moment.size);
       reads = record {
         kept = left;
-        lawful = lawful;
         bytes = now.platter.bytes.items;
         told = refl;
-        has = left_record;
+        has = ap (option_map (record_read k)) left_record ∙ ap Some back;
         undamaged = undamaged;
       };
       passes = refl;

@@ -1,7 +1,5 @@
 use Rattle.std.proofs.Common.{arith, Ok, Some, ap, refl, sym, ◌∙◌, ◌≡◌}
 use Rattle.std.proofs.lemmas.Grind.{common_steps}
-use Rattle.std.specs.Prelude.{option_map}
-use Rattle.session_record.specs.Record.{record_read}
 use Rattle.dr_disk.specs.MemoryDisks.{state_of}
 use Rattle.client.proofs.Reopening.{not_refused}
 use Rattle.duet.specs.Shuts.{open_party}
@@ -10,20 +8,14 @@ use Rattle.duet.proofs.stopping.reopened.Goals as goal
 
 pub want_of_memory-requires : goal.want_of_memory-requires
 want_of_memory-requires g c =
-    let k = g.K.Kem.mechanism in
-    let held = c.requires.holds in
-    let says = not_refused state_of k c.args.disk c.open.new.disk held ((c.record_law.ensures k).reads held.kept held.lawful)
-    c.in-Err.refusal c.in-Err.ensures.unopened in
+    let says = not_refused state_of g.K.Kem.mechanism c.args.disk c.open.new.disk c.requires.holds c.in-Err.refusal
+    c.in-Err.ensures.unopened in
     only_memory c.in-Err.refusal says (c.in-Err.ensures.fate c.requires.passes).0
 
 pub returns-in-Ok : goal.returns-in-Ok
-returns-in-Ok g c = λ kept lawful has.
-    let k = g.K.Kem.mechanism in
+returns-in-Ok g c = λ kept reads.
     let bytes = c.args.disk.platter.bytes.items in
-    let read = c.in-Ok.ensures.opened.read bytes refl in
-    let back = (c.record_law.ensures k).reads kept lawful in
-    let same : Some (Ok c.in-Ok.client.kept) ≡ Some (Ok kept) =
-    sym read ∙ ap (option_map (record_read k)) (has bytes refl) ∙ ap Some back in
+    let same : Some (Ok c.in-Ok.client.kept) ≡ Some (Ok kept) = sym (c.in-Ok.ensures.opened.read bytes refl) ∙ reads bytes refl in
     let is : c.in-Ok.client.kept ≡ kept = cc in
     ap open_party is
 

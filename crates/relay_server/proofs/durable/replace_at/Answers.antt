@@ -1,4 +1,4 @@
-use Rattle.std.proofs.Common.{false, get_or, subst, take, true}
+use Rattle.std.proofs.Common.{false, get_or, subst, sym, take, true, ◌∙◌}
 use Rattle.std.proofs.lemmas.Option.{get_or_from_slice_get, slice_get-get_or}
 use Rattle.relay_server.specs.Durable.{IsReplaced}
 use Rattle.relay_server.proofs.StorePlaces.{others_stay, put_there}
@@ -52,3 +52,13 @@ returns-in-Err-clause-there g c = λ old new was now.
       rests = λ e. absurd cc;
       outside = λ e. absurd cc;
     }))
+
+pub returns-in-Ok-clause-room : goal.returns-in-Ok-clause-room
+returns-in-Ok-clause-room g c = c.replace.ensures.room
+    ∙ sym (c.requires.ready (get_or c.args.stores.now c.args.place c.index-stores-place.result)
+    (slice_get-get_or c.args.stores.now c.args.place c.index-stores-place.result c.requires.inside)).0.room
+
+pub returns-in-Err-clause-room : goal.returns-in-Err-clause-room
+returns-in-Err-clause-room g c = c.replace.ensures.room
+    ∙ sym (c.requires.ready (get_or c.args.stores.now c.args.place c.index-stores-place.result)
+    (slice_get-get_or c.args.stores.now c.args.place c.index-stores-place.result c.requires.inside)).0.room

@@ -1,4 +1,4 @@
-use Rattle.std.proofs.Common.{[], ap, arith, refl, subst, sym, ◌∙◌}
+use Rattle.std.proofs.Common.{Err, Ok, [], ap, arith, refl, subst, sym, ◌∙◌}
 use Rattle.dr_disk.proofs.Steps.{quiet_twice}
 use Rattle.endings.specs.Ending.{code_of}
 use Rattle.endings.specs.declared.ending.Ending.{Ending}
@@ -23,7 +23,8 @@ returns-in-Err g c = record {
         (g.O.Sink.at c.args.out.now).faults (g.O.Sink.at c.finish.new.out).faults e []) (sym c.unopened.ensures)
         (wasnt_synced c.in-Err.refusal c.in-Err.ensures.unopened (record { any_moment = c.open.ensures.any_moment; reads = c.open.ensures.reads }) refl
         (λ w side lawful stands.
-        only_opened g.K.Kem.mechanism side w (g.D.Disk.state c.args.disk.now) (g.D.Disk.state c.open.new.disk) stands c.open.ensures.any_moment c.open.ensures.reads));
+        only_opened g.K.Kem.mechanism side w (g.D.Disk.state c.args.disk.now) (g.D.Disk.state c.open.new.disk) (Err c.in-Err.refusal)
+        (c.in-Err.ensures.in_worlds w side lawful stands) c.open.ensures.any_moment c.open.ensures.reads));
     ends = c.finish.ensures.ends;
   };
   quiet = λ zero.
@@ -42,7 +43,8 @@ returns-in-Err-open g c = record {
         c.in-Ok.ensures.opened refl c.open.ensures.any_moment)
         c.in-Err-open.ensures.err c.in-Err-open.ensures.flow c.in-Err-open.ensures.cause.failed
         (λ w side lawful stands.
-        only_opened g.K.Kem.mechanism side w (g.D.Disk.state c.args.disk.now) (g.D.Disk.state c.open.new.disk) stands c.open.ensures.any_moment c.open.ensures.reads);
+        only_opened g.K.Kem.mechanism side w (g.D.Disk.state c.args.disk.now) (g.D.Disk.state c.open.new.disk) (Ok c.in-Ok.client)
+        (c.in-Ok.ensures.in_worlds w side lawful stands) c.open.ensures.any_moment c.open.ensures.reads);
     ends = c.finish-in-Err-open.ensures.ends;
   };
   quiet = λ zero.
@@ -72,7 +74,7 @@ returns g c =
             was_synced c.in-Ok.client.kept syncs.replies c.sync-synced.result c.in-Ok.ensures.opened.read syncs.syncs.lawful
             (c.sync-synced.ensures.transfer c.in-Ok.ensures.opened.is_open syncs.replies syncs.syncs)
             (c.sync-synced.ensures.opens c.in-Ok.ensures.opened.is_open syncs.replies syncs.syncs)
-            (leaves_course (g.D.Disk.state c.args.disk.now) (g.D.Disk.state c.open.new.disk) (g.D.Disk.state c.sync-synced.new.disk) (g.met.D.Disk.lawful c.sync-synced.new.disk)
+            (leaves_course g.K.Kem.mechanism (g.D.Disk.state c.args.disk.now) (g.D.Disk.state c.open.new.disk) (g.D.Disk.state c.sync-synced.new.disk) (g.met.D.Disk.lawful c.sync-synced.new.disk)
             (client_party g.K.Kem.mechanism [] c.in-Ok.client.kept) c.in-Ok.client.kept syncs.replies c.open.ensures.any_moment c.in-Ok.ensures.opened.alike syncs.syncs.passed)
             (record {
               opened = g.L.Pipe.port c.open-in-Ok.new.self;
@@ -88,10 +90,10 @@ returns g c =
             })
             (c.shut.ensures.shuts.gate ∙ c.sync-synced.ensures.gate ∙ c.in-Ok-open.ensures.cause.passed)
             (λ w side lawful stands fair. let opens = c.in-Ok.ensures.in_worlds w side lawful stands in
-            sync_runs (g.D.Disk.state c.args.disk.now) (g.D.Disk.state c.open.new.disk) (g.D.Disk.state c.sync-synced.new.disk) (g.met.D.Disk.lawful c.sync-synced.new.disk)
-            g.K.Kem.mechanism side w syncs.replies c.in-Ok.client c.sync-synced.new.self
+            sync_runs g.K.Kem.mechanism (g.D.Disk.state c.args.disk.now) (g.D.Disk.state c.open.new.disk) (g.D.Disk.state c.sync-synced.new.disk) (g.met.D.Disk.lawful c.sync-synced.new.disk)
+            side w syncs.replies c.in-Ok.client c.sync-synced.new.self
             (g.O.Sink.at c.args.out.now) (g.O.Sink.at c.sync-synced.new.out)
-            (client_party g.K.Kem.mechanism [] c.in-Ok.client.kept) (g.L.Pipe.port c.open-in-Ok.new.self) (g.L.Pipe.port c.sync-synced.new.link) c.sync-synced.result stands c.open.ensures.any_moment c.in-Ok.ensures.opened.alike ends
+            (client_party g.K.Kem.mechanism [] c.in-Ok.client.kept) (g.L.Pipe.port c.open-in-Ok.new.self) (g.L.Pipe.port c.sync-synced.new.link) c.sync-synced.result opens c.open.ensures.any_moment c.in-Ok.ensures.opened.alike ends
             (c.sync-synced.ensures.in_worlds w side syncs.replies opens.client.0 syncs.syncs fair));
         ends =
             c.close.ensures.ends (lines_of_sync (client_party g.K.Kem.mechanism [] c.in-Ok.client.kept) c.in-Ok.client.kept syncs.replies c.sync-synced.result) (g.O.Sink.at c.args.out.now)

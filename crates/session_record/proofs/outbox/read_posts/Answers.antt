@@ -10,7 +10,7 @@ use Rattle.session_record.proofs.outbox.read_posts.Goals as goal
 pub posts-init : goal.posts-init
 posts-init g c =
     let start = c.args.cursor.now in
-    let field = post_field g.K.Kem.mechanism c.args.heading.now.session c.args.heading.now.side c.args.heading.now.epoch in
+    let field = post_field g.K.Kem.mechanism c.args.heading.now.version c.args.heading.now.session c.args.heading.now.side c.args.heading.now.epoch in
     record {
       read = rw c.requires.empty (items-none (λ _. field) start.at start.rest);
       long = ap (λ (l : List Post). length l) c.requires.empty;
@@ -20,7 +20,7 @@ pub returns-in_err-position : goal.returns-in_err-position
 returns-in_err-position g c =
     let start = c.args.cursor.now in
     let here = c.posts.cursor in
-    let field = post_field g.K.Kem.mechanism c.args.heading.now.session c.args.heading.now.side c.args.heading.now.epoch in
+    let field = post_field g.K.Kem.mechanism c.args.heading.now.version c.args.heading.now.session c.args.heading.now.side c.args.heading.now.epoch in
     let before : Read (List Post) = record { value = c.posts.outbox; at = here.at; rest = here.rest } in
     let p = err_from_is_err_and c.from_residual.result c.from_residual.ensures.1 in
     rw (p.1, p.2)
@@ -32,7 +32,7 @@ posts-preserved g c =
     let start = c.args.cursor.now in
     let here = c.posts.cursor in
     let next = c.read_post.new.cursor in
-    let field = post_field g.K.Kem.mechanism c.args.heading.now.session c.args.heading.now.side c.args.heading.now.epoch in
+    let field = post_field g.K.Kem.mechanism c.args.heading.now.version c.args.heading.now.session c.args.heading.now.side c.args.heading.now.epoch in
     let post : Post = post_under c.in_ok-position.position c.in_ok-position.packet.now in
     let before : Read (List Post) = record { value = c.posts.outbox; at = here.at; rest = here.rest } in
     let one : Read Post = record { value = post; at = next.at; rest = next.rest } in

@@ -9,28 +9,28 @@ use Rattle.slot_store.proofs.inspecting.report_read.Goals as goal
 pub rests-requires-clause-tables : goal.rests-requires-clause-tables
 rests-requires-clause-tables g c =
     let held : HoldsWhatCounts g.G.Grammar.fault_at c.args.area (g.D.Disk.state c.args.disk.now) c.in-Ok-Held.pager =
-    subst (IsLocated g.G.Grammar.fault_at c.args.area (g.D.Disk.state c.args.disk.now)) c.in-Ok-Held.field-0-is c.in-Ok-Held.ensures.found in
-    let looks = c.in-Ok-Held.ensures.looks in
+    subst (IsLocated g.G.Grammar.fault_at c.args.area (g.D.Disk.state c.args.disk.now)) c.in-Ok-Held.field-0-is c.in-Ok-Held.ensures.located.found in
+    let looks = c.in-Ok-Held.ensures.located.looks in
     tables_of _ _ _ _ _ _ c.requires.tables _ held.area_is looks.during.size looks.untouched.unwritten.seen
 
 pub returns-in-Ok : goal.returns-in-Ok
 returns-in-Ok g c =
     let start = g.D.Disk.state c.args.disk.now in
     let held : HoldsWhatCounts g.G.Grammar.fault_at c.args.area start c.in-Ok-Held.pager =
-    subst (IsLocated g.G.Grammar.fault_at c.args.area start) c.in-Ok-Held.field-0-is c.in-Ok-Held.ensures.found in
+    subst (IsLocated g.G.Grammar.fault_at c.args.area start) c.in-Ok-Held.field-0-is c.in-Ok-Held.ensures.located.found in
     record {
       found = λ s told. record {
         first = gate_told _ _ _ _ _ c.deref.ensures.value (c.requires.tables.read.first_is s told) c.gate_seen-first.ensures;
         second = gate_told _ _ _ _ _ c.deref-2.ensures.value (c.requires.tables.read.second_is s told) c.gate_seen-second.ensures;
         found = c.finding-found.ensures ∙ sym (ap finding_of (held.read s told));
         rest = rests_found g.G.Grammar.fault_at c.args.area start c.in-Ok-Held.pager held s told c.in-Ok.rest
-            (c.in-Ok.ensures.found s (c.in-Ok-Held.ensures.looks.untouched.unwritten.seen ∙ told));
+            (c.in-Ok.ensures.found s (c.in-Ok-Held.ensures.located.looks.untouched.unwritten.seen ∙ told));
       };
-      looks = looks_twice _ _ _ _ _ c.in-Ok-Held.ensures.looks (looks_as _ _ _ _ c.in-Ok.ensures.looks);
+      looks = looks_twice _ _ _ _ _ c.in-Ok-Held.ensures.located.looks (looks_as _ _ _ _ c.in-Ok.ensures.looks);
     }
 
 pub returns : goal.returns
 returns g c = record {
   found = tt;
-  looks = looks_twice _ _ _ _ _ c.in-Ok-Held.ensures.looks (looks_failed _ _ _ c.in-Err-rests.ensures.looks);
+  looks = looks_twice _ _ _ _ _ c.in-Ok-Held.ensures.located.looks (looks_failed _ _ _ c.in-Err-rests.ensures.looks);
 }

@@ -1,4 +1,5 @@
 use Rattle.std.proofs.Common.{◌≡◌, ◌-◌, ◌*◌, ℕ, List, length, take, drop, replicate, None, refl, sym, ◌∙◌, ap, ap₂, subst, arith}
+use Rattle.std.specs.Prelude.{IsNone}
 use Rattle.std.specs.Vec.{with_items}
 use Rattle.std.proofs.lemmas.List.{length-take-le, take-take, with_items_is}
 use Rattle.dr_base.specs.declared.limits.TheConstants.{PAGE}
@@ -91,7 +92,7 @@ returns-in-Some-record_fault-clause-loaded g c = record {
       ap₂ (λ k (l : List ℕ). take (PAGE * k) l) held whole in
       loaded_fault c.args.area c.args.body.now c.deref.result.now c.record_length-len.result lawful faultless names says
       c.read_pages.new.bytes s size (c.in-Ok.ensures.pages s told) g.G.Grammar.fault_at _
-      (sym c.in-Some-record_fault.is ∙ c.record_fault.ensures
+      (sym c.in-Some-record_fault.is ∙ c.record_fault.ensures.fault
       ∙ ap (λ (l : List ℕ). behind_table (or_else (g.G.Grammar.fault_at (take c.record_length-len.result l))
       (nonzero_from c.record_length-len.result (drop c.record_length-len.result l)))) part);
 }
@@ -113,7 +114,7 @@ invariant_of-result g c =
     ap₂ (λ k (l : List ℕ). take (PAGE * k) l) held whole in
     let none = behind_none (g.G.Grammar.fault_at (take c.record_length-len.result (take (PAGE * c.len.result) c.deref-2.result.now)))
     (nonzero_from c.record_length-len.result (drop c.record_length-len.result (take (PAGE * c.len.result) c.deref-2.result.now)))
-    (sym c.record_fault.ensures ∙ c.in_default-record_fault.is) in
+    (sym c.record_fault.ensures.fault ∙ c.in_default-record_fault.is) in
     let zeros : nonzero_from c.record_length-len.result (drop c.record_length-len.result (take (PAGE * length c.deref.result.now) c.read_pages.new.bytes)) ≡ None =
     ap (λ (l : List ℕ). nonzero_from c.record_length-len.result (drop c.record_length-len.result l)) (sym part) ∙ none.1 in
     let items : (with_items c.args.kept.bytes c.read_pages.new.bytes).items ≡ c.read_pages.new.bytes = sym c.deref-2.ensures.value ∙ whole in
@@ -148,7 +149,7 @@ returns-clause-named g c =
     ap₂ (λ k (l : List ℕ). take (PAGE * k) l) held whole in
     let none = behind_none (g.G.Grammar.fault_at (take c.record_length-len.result (take (PAGE * c.len.result) c.deref-2.result.now)))
     (nonzero_from c.record_length-len.result (drop c.record_length-len.result (take (PAGE * c.len.result) c.deref-2.result.now)))
-    (sym c.record_fault.ensures ∙ c.in_default-record_fault.is) in
+    (sym c.record_fault.ensures.fault ∙ c.in_default-record_fault.is) in
     let zeros : nonzero_from c.record_length-len.result (drop c.record_length-len.result (take (PAGE * length c.deref.result.now) c.read_pages.new.bytes)) ≡ None =
     ap (λ (l : List ℕ). nonzero_from c.record_length-len.result (drop c.record_length-len.result l)) (sym part) ∙ none.1 in
     let items : (with_items c.args.kept.bytes c.read_pages.new.bytes).items ≡ c.read_pages.new.bytes = sym c.deref-2.ensures.value ∙ whole in
@@ -184,10 +185,25 @@ returns-clause-loaded g c = record {
       ap₂ (λ k (l : List ℕ). take (PAGE * k) l) held whole in
       let none = behind_none (g.G.Grammar.fault_at (take c.record_length-len.result (take (PAGE * c.len.result) c.deref-2.result.now)))
       (nonzero_from c.record_length-len.result (drop c.record_length-len.result (take (PAGE * c.len.result) c.deref-2.result.now)))
-      (sym c.record_fault.ensures ∙ c.in_default-record_fault.is) in
+      (sym c.record_fault.ensures.fault ∙ c.in_default-record_fault.is) in
       let zeros : nonzero_from c.record_length-len.result (drop c.record_length-len.result (take (PAGE * length c.deref.result.now) c.read_pages.new.bytes)) ≡ None =
       ap (λ (l : List ℕ). nonzero_from c.record_length-len.result (drop c.record_length-len.result l)) (sym part) ∙ none.1 in
       loaded_pages c.args.area c.args.body.now c.deref.result.now c.record_length-len.result lawful faultless names says
       c.read_pages.new.bytes s size (c.in-Ok.ensures.pages s told) zeros
       ∙ ap (λ (l : List ℕ). pages_in (take c.record_length-len.result l)) (sym whole ∙ c.deref-2.ensures.value);
 }
+
+-- ---- who read it
+
+pub returns-clause-read : goal.returns-clause-read
+returns-clause-read g c =
+    let faultless = faultless_by c.args.area _ _ c.args.body.now _ c.page_total-total.ensures.total c.record_most.ensures.most
+    c.table_fault.ensures.fault c.in_default.is in
+    let names : c.deref.result.now ≡ record_names c.args.body.now = c.deref.ensures.value ∙ c.table_fault.ensures.numbers c.in_default.is in
+    let says : c.record_length-len.result ≡ length_in c.args.body.now = c.record_length-len.ensures in
+    let held : c.len.result ≡ length c.deref.result.now = omega (arith, c.len.ensures, c.table_fault.new.numbers.ok.0, ap length c.deref.ensures.value) in
+    let inside = fits c.args.area c.args.body.now c.deref.result.now c.record_length-len.result c.page_total-total.ensures.lawful faultless names says in
+    subst (g.G.Grammar.has_read c.record_fault.new.reader)
+    (take-take c.record_length-len.result (PAGE * c.len.result) c.deref-2.result.now (omega (arith, held, inside))
+    ∙ ap (take c.record_length-len.result) c.deref-2.ensures.value)
+    (c.record_fault.ensures.read (subst IsNone (sym c.in_default-record_fault.is) refl))

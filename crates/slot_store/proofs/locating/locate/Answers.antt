@@ -1,14 +1,16 @@
-use Rattle.std.proofs.Common.{◌≡◌}
+use Rattle.std.proofs.Common.{◌≡◌, refl, subst, sym}
 use Rattle.dr_disk.specs.State.{OnSeen}
 use Rattle.pages.proofs.Looking.{looks_none}
 use Rattle.pages.specs.Tables.{alike, none_open, tables_standing}
 use Rattle.slot_store.specs.Areas.{layout_of}
 use Rattle.slot_store.proofs.EmptyRead.{alike_reading, empty_reading, empty_shown, empty_text, judged_read}
+use Rattle.slot_store.specs.Found.{HasReadContent}
+use Rattle.slot_store.proofs.Settled.{has_none}
 use Rattle.slot_store.proofs.JudgedRead.{first_counts, first_opened, second_counts, second_opened}
 use Rattle.slot_store.proofs.locating.locate.Goals as goal
 
-pub returns-in-Alike : goal.returns-in-Alike
-returns-in-Alike g c = record {
+pub returns-in-Alike-clause-located : goal.returns-in-Alike-clause-located
+returns-in-Alike-clause-located g c = record {
   found = λ s told. alike_reading g.G.Grammar.fault_at c.args.area s
       (judged_read c.args.area (g.D.Disk.state c.args.disk.now) c.args.first_gate c.args.second_gate c.args.scratch.now.first.items
       c.args.scratch.now.second.items c.deref.result.now c.deref-2.result.now alike
@@ -16,8 +18,8 @@ returns-in-Alike g c = record {
   looks = looks_none _ _;
 }
 
-pub returns-in-NoneOpen : goal.returns-in-NoneOpen
-returns-in-NoneOpen g c =
+pub returns-in-NoneOpen-clause-located : goal.returns-in-NoneOpen-clause-located
+returns-in-NoneOpen-clause-located g c =
     let pager = c.pager_of-pager.result in
     let is = c.pager_of-pager.ensures in
     let closed : OnSeen (λ s. tables_standing (layout_of c.args.area) s ≡ none_open) (g.D.Disk.state c.args.disk.now) =
@@ -57,3 +59,8 @@ locate_newer-requires-in-Newer-false-clause-counts g c =
     first_counts c.args.area (g.D.Disk.state c.args.disk.now) c.args.first_gate c.args.second_gate c.args.scratch.now.first.items
     c.args.scratch.now.second.items c.deref.result.now c.deref-2.result.now c.deref-in-Newer-false.result.now
     c.deref.ensures.value c.deref-2.ensures.value c.in-Newer-false.second c.in-Newer-false.ensures c.in-Newer-false.second-test c.deref-in-Newer-false.ensures.value c.requires.tables.read
+
+pub returns-in-NoneOpen-clause-read : goal.returns-in-NoneOpen-clause-read
+returns-in-NoneOpen-clause-read g c =
+    subst (HasReadContent g.G.Grammar.has_read c.args.reader.now c.args.reader.now)
+    (sym (has_none c.pager_of-pager.result c.pager_of-pager.ensures.turn)) refl

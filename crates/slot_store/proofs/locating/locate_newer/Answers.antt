@@ -1,13 +1,14 @@
 use Rattle.std.proofs.Common.{subst, arith}
 use Rattle.dr_disk.specs.State.{OnSeen}
 use Rattle.pages.proofs.Looking.{looks_as}
-use Rattle.slot_store.specs.Loading.{IsLoaded, IsNamed, IsNamedRecord}
+use Rattle.slot_store.specs.declared.loading.Loaded.TheVariants.{Whole}
+use Rattle.slot_store.specs.Loading.{IsLoaded, IsNamed, IsNamedRecord, IsReadRecord}
 use Rattle.slot_store.specs.Settling.{HasShot}
-use Rattle.slot_store.proofs.NewerRead.{damaged_newer, newer_entries, newer_reading, newer_text, read_shown}
+use Rattle.slot_store.proofs.NewerRead.{damaged_newer, newer_entries, newer_read, newer_reading, newer_text, read_shown}
 use Rattle.slot_store.proofs.locating.locate_newer.Goals as goal
 
-pub returns-in-Ok-Faulty : goal.returns-in-Ok-Faulty
-returns-in-Ok-Faulty g c = record {
+pub returns-in-Ok-Faulty-clause-located : goal.returns-in-Ok-Faulty-clause-located
+returns-in-Ok-Faulty-clause-located g c = record {
   found = λ s told.
       damaged_newer g.G.Grammar.fault_at c.args.area c.args.second c.args.body.now s _ c.in-Ok-Faulty.at (c.requires.counts s told)
       (subst (λ f. IsLoaded g.G.Grammar.fault_at c.args.area c.args.body.now f s) c.in-Ok-Faulty.field-0-is (c.in-Ok-Faulty.ensures.loaded.found s told))
@@ -20,8 +21,8 @@ pager_of-pager-requires-clause-entries g c =
     newer_entries g.G.Grammar.fault_at c.args.area c.args.body.now c.in-Ok-Whole.kept
     (subst (λ f. IsNamedRecord g.G.Grammar.fault_at c.args.area c.args.body.now f) c.in-Ok-Whole.field-0-is c.in-Ok-Whole.ensures.named)
 
-pub returns : goal.returns
-returns g c =
+pub returns-clause-located : goal.returns-clause-located
+returns-clause-located g c =
     let pager = c.pager_of-pager.result in
     let is = c.pager_of-pager.ensures in
     let fault_at = g.G.Grammar.fault_at in
@@ -43,3 +44,12 @@ returns g c =
       };
       looks = looks_as _ _ _ _ c.in-Ok-Whole.ensures.loaded.looks;
     }
+
+pub returns-clause-read : goal.returns-clause-read
+returns-clause-read g c =
+    let has_read = g.G.Grammar.has_read in
+    let pager = c.pager_of-pager.result in
+    let read : IsReadRecord (has_read c.load.new.reader) (Whole c.in-Ok-Whole.kept) =
+    subst (IsReadRecord (has_read c.load.new.reader)) c.in-Ok-Whole.field-0-is c.in-Ok-Whole.ensures.read in
+    newer_read has_read c.args.reader.now c.load.new.reader c.args.body.now c.in-Ok-Whole.kept pager
+    c.pager_of-pager.ensures.turn c.pager_of-pager.ensures.kept c.requires.opened read

@@ -1,6 +1,7 @@
-use Rattle.std.proofs.Common.{arith, subst, ◌≡◌}
+use Rattle.std.proofs.Common.{ap, arith, subst, ◌≡◌}
 use Rattle.dr_disk.specs.MemoryDisks.{state_of}
 use Rattle.client.specs.Beginning.{IsUnbegun}
+use Rattle.duet.specs.Shuts.{open_party}
 use Rattle.duet.specs.declared.party.BeginError.TheVariants.{NoPair}
 use Rattle.duet.proofs.Blank.{blank_within, first_refusal}
 use Rattle.duet.proofs.party.Party.begin.Goals as goal
@@ -16,6 +17,9 @@ returns-in-Err-clause-none g c = λ is.
     let none : c.begin_error.result ≡ NoPair = cc in
     (subst (IsUnbegun state_of g.K.Kem.mechanism c.args.key.now.bytes c.in-Ok.disk c.begin.new.disk)
     (c.begin_error.ensures none) c.in-Err.ensures.unbegun).1
+
+pub returns-in-Ok-begin-clause-ok : goal.returns-in-Ok-begin-clause-ok
+returns-in-Ok-begin-clause-ok g c = ap open_party c.in-Ok-begin.ensures.begun.keeps
 
 pub begin-requires : goal.begin-requires
 begin-requires g c = blank_within _ _ (omega arith) c.in-Ok.ensures

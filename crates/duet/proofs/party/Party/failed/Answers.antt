@@ -55,7 +55,8 @@ invariant_of-self-in-Faulted g c =
     let whole = left_whole c.args.at c.requires.counted made client now.client disk now.disk held c.in-Faulted.call cut k
     next c.lawful.ensures in
     subst (λ (d : MemoryDisk). IsClosedParty k d) (sym c.go_on.ensures.lifted)
-    (cut_shut c.args.at c.requires.counted made client now.client disk now.disk held c.in-Faulted.call cut k whole)
+    (cut_shut c.args.at c.requires.counted made client now.client disk now.disk held c.in-Faulted.call cut k
+    (c.record_law.ensures.written k _ whole))
 
 pub returns-in-Acknowledged : goal.returns-in-Acknowledged
 returns-in-Acknowledged g c =
@@ -118,7 +119,7 @@ returns-in-Faulted g c =
     let whole = left_whole c.args.at c.requires.counted made client now.client disk now.disk held c.in-Faulted.call cut k
     next c.lawful.ensures in
     let found = cut_found c.args.at c.requires.counted made client now.client disk now.disk held c.in-Faulted.call cut k
-    ((c.record_law.ensures k).reads _ whole) in
+    (c.record_law.ensures.written k _ whole) in
     subst (λ (x : Client). FailsAt k c.args.at (act_of_call c.args.call) x
     (shut_party now.client.kept c.in-Faulted.call (found_on k now.client.kept c.go_on.new.self)) (Err c.in-Faulted.call))
     (ap (λ (p : PartyNow). p.kept) c.self.view_is) (

@@ -19,5 +19,4 @@ returns g c =
     (subst (λ (p : PartyNow). IsSome p.shut) (sym c.self.view_is) c.requires) c.self.invariant).reads in
     subst (λ (s : PartyNow). IfOk c.reopened.result (λ (p : PartyNow). IfSome s.shut (λ (left : Shut Client). p ≡ open_party left.left)))
     c.self.view_is
-    (opens_left k inside.client.kept inside.disk inside.shut reads c.reopened.result
-    ((c.record_law.ensures k).reads reads.kept reads.lawful) c.reopened.ensures)
+    (opens_left k inside.client.kept inside.disk inside.shut reads c.reopened.result c.reopened.ensures)

@@ -12,7 +12,7 @@ use Rattle.duet.specs.Parties.{IsHeld}
 use Rattle.duet.specs.Stops.{is_replaced, stopped_client}
 use Rattle.duet.proofs.Stopped.Acts.{acknowledged_comes, cut_comes, cut_record, cut_undamaged, cut_within, left_lawful, made_lawful, ready_stopped, refused_comes}
 use Rattle.duet.specs.Shuts.{PartyNow}
-use Rattle.duet.proofs.Closed.{held_open}
+use Rattle.duet.proofs.Closed.{held_open, record_reads}
 use Rattle.duet.proofs.party.Party.stopped.Goals as goal
 
 pub invariant_of-result : goal.invariant_of-result
@@ -101,14 +101,15 @@ reopened-requires-clause-holds g c =
     let next = made_lawful k client.kept (act_of_call c.args.call) cut.next c.laws.ensures.law c.lawful.ensures checked cut.made_is in
     record {
       kept = if is_replaced n mode client.kept cut.next.next then cut.next.next else client.kept;
-      lawful = left_lawful k (is_replaced n mode client.kept cut.next.next) cut.next.next client.kept
-          next c.lawful.ensures;
       bytes = c.crash.ensures.left.bytes;
       told = c.crash.ensures.left.fresh.seen;
-      has = cut_record n mode made client c.perform.new.client (stopped_after n disk) c.perform.new.disk held.is_open
+      has = record_reads k _ (state_of c.crash.result)
+          (cut_record n mode made client c.perform.new.client (stopped_after n disk) c.perform.new.disk held.is_open
           (ready_stopped n client.kept client.store disk held.ready) refl refl c.in-Faulted.field-0 cut
-          c.crash.result c.crash.ensures.left c.crash.ensures.left.bytes
-          c.crash.ensures.left.fresh.seen;
+          c.crash.result c.crash.ensures.left)
+          (c.record_law.ensures.written k _
+          (left_lawful k (is_replaced n mode client.kept cut.next.next) cut.next.next client.kept next c.lawful.ensures))
+          c.crash.ensures.left.bytes c.crash.ensures.left.fresh.seen;
       undamaged = cut_undamaged n mode made client c.perform.new.client (stopped_after n disk) c.perform.new.disk held.is_open
           (ready_stopped n client.kept client.store disk held.ready) refl refl c.in-Faulted.field-0 cut
           c.crash.result c.crash.ensures.left;
@@ -134,7 +135,7 @@ returns-in-Ok g c =
     c.crash.result c.crash.ensures.left in
     let comes = cut_comes n mode made client c.perform.new.client (stopped_after n disk) c.perform.new.disk held.is_open
     (ready_stopped n client.kept client.store disk held.ready) refl refl c.in-Faulted.field-0 cut in
-    let opens = c.in-Ok.ensures _ lawful has in
+    let opens = c.in-Ok.ensures _ (record_reads k _ (state_of c.crash.result) has (c.record_law.ensures.written k _ lawful)) in
     record {
       made = ap (λ (p : PartyNow). step Stopped p.kept) opens ∙ comes
           ∙ ap (λ (x : Client). stopped_client n mode x

@@ -34,7 +34,7 @@ returns g c =
     let loaded = subst (λ (bs : List Box). AreLoaded (length bs) bs c.load_boxes.new.relay c.in-Ok-open_areas.stores.items) c.in-Ok.ensures
     (subst (λ (xs : List SlotStore). AreLoaded (length c.in-Ok.relay) c.in-Ok.relay c.load_boxes.new.relay xs) c.deref.ensures.value c.in-Ok-load_boxes.ensures.loaded) in
     record {
-      looked = looked_then c.args.names.now (g.D.Disk.state c.args.disk.now) (g.D.Disk.state c.open_areas.new.disk) c.in-Ok-open_areas.stores.items c.in-Ok-open_areas.ensures.opened c.load_boxes.new.relay loaded c.requires.within;
+      looked = looked_then c.args.names.now (g.D.Disk.state c.args.disk.now) (g.D.Disk.state c.open_areas.new.disk) c.in-Ok-open_areas.stores.items c.in-Ok-open_areas.ensures.opened c.load_boxes.new.relay loaded c.requires;
       unopened = tt;
       looks = c.open_areas.ensures.looks;
     }

@@ -5,8 +5,10 @@ use Rattle.dr_disk.specs.State.{all_pass}
 use Rattle.dr_disk.specs.Spans.{FailsLater, IsQuiet}
 use Rattle.slot_store.specs.declared.errors.OpenError.TheVariants.{Memory, StoreFault}
 use Rattle.slot_store.specs.AtRest.{IsLeft}
+use Rattle.slot_store.specs.Found.{HasReadContent}
 use Rattle.slot_store.specs.Opened.{IsOpened, IsRefused}
-use Rattle.slot_store.proofs.Answered.{answered_ahead, answered_fate, answered_memory, answered_moment, answered_opened, answered_quiet, answered_reads, answered_refused, answered_still, refused_by}
+use Rattle.slot_store.specs.Store.{content}
+use Rattle.slot_store.proofs.Answered.{answered_ahead, answered_fate, answered_memory, answered_moment, answered_opened, answered_quiet, answered_read, answered_reads, answered_refused, answered_still, refused_by}
 use Rattle.slot_store.proofs.store.SlotStore.open.Goals as goal
 
 pub returns-in-Err-clause-refused : goal.returns-in-Err-clause-refused
@@ -19,21 +21,21 @@ returns-clause-opened g c =
     (answered_opened g.G.Grammar.fault_at c.args.area (g.D.Disk.state c.args.disk.now) (g.D.Disk.state c.settle_and_read.new.disk)
     (g.D.Disk.state c.open_read.new.disk) c.in-Ok-settle_and_read.gates c.open_read.result c.settle_and_read.ensures.any_moment
     c.settle_and_read.ensures.unwritten c.in-Ok-settle_and_read.ensures.settled c.in-Ok-settle_and_read.ensures.passed
-    c.in-Ok-settle_and_read.ensures.calls c.open_read.ensures)
+    c.in-Ok-settle_and_read.ensures.calls c.open_read.ensures.opens)
 
 pub returns-clause-any_moment : goal.returns-clause-any_moment
 returns-clause-any_moment g c =
     answered_moment g.G.Grammar.fault_at c.args.area (g.D.Disk.state c.args.disk.now) (g.D.Disk.state c.settle_and_read.new.disk)
     (g.D.Disk.state c.open_read.new.disk) c.in-Ok-settle_and_read.gates c.open_read.result c.settle_and_read.ensures.any_moment
     c.settle_and_read.ensures.unwritten c.in-Ok-settle_and_read.ensures.settled c.in-Ok-settle_and_read.ensures.passed
-    c.in-Ok-settle_and_read.ensures.calls c.open_read.ensures
+    c.in-Ok-settle_and_read.ensures.calls c.open_read.ensures.opens
 
 pub returns-clause-reads : goal.returns-clause-reads
 returns-clause-reads g c =
     answered_reads g.G.Grammar.fault_at c.args.area (g.D.Disk.state c.args.disk.now) (g.D.Disk.state c.settle_and_read.new.disk)
     (g.D.Disk.state c.open_read.new.disk) c.in-Ok-settle_and_read.gates c.open_read.result c.settle_and_read.ensures.any_moment
     c.settle_and_read.ensures.unwritten c.in-Ok-settle_and_read.ensures.settled c.in-Ok-settle_and_read.ensures.passed
-    c.in-Ok-settle_and_read.ensures.calls c.open_read.ensures
+    c.in-Ok-settle_and_read.ensures.calls c.open_read.ensures.opens
     (g.met.D.Disk.lawful c.open_read.new.disk)
 
 pub returns-clause-still : goal.returns-clause-still
@@ -42,7 +44,7 @@ returns-clause-still g c = λ was.
     (answered_still g.G.Grammar.fault_at c.args.area (g.D.Disk.state c.args.disk.now) (g.D.Disk.state c.settle_and_read.new.disk)
     (g.D.Disk.state c.open_read.new.disk) c.in-Ok-settle_and_read.gates c.open_read.result c.settle_and_read.ensures.any_moment
     c.settle_and_read.ensures.unwritten c.in-Ok-settle_and_read.ensures.settled c.in-Ok-settle_and_read.ensures.passed
-    c.in-Ok-settle_and_read.ensures.calls c.open_read.ensures was)
+    c.in-Ok-settle_and_read.ensures.calls c.open_read.ensures.opens was)
 
 pub returns-clause-refused : goal.returns-clause-refused
 returns-clause-refused g c =
@@ -51,7 +53,7 @@ returns-clause-refused g c =
     (answered_refused g.G.Grammar.fault_at c.args.area (g.D.Disk.state c.args.disk.now) (g.D.Disk.state c.settle_and_read.new.disk)
     (g.D.Disk.state c.open_read.new.disk) c.in-Ok-settle_and_read.gates c.open_read.result c.settle_and_read.ensures.any_moment
     c.settle_and_read.ensures.unwritten c.in-Ok-settle_and_read.ensures.settled c.in-Ok-settle_and_read.ensures.passed
-    c.in-Ok-settle_and_read.ensures.calls c.open_read.ensures)
+    c.in-Ok-settle_and_read.ensures.calls c.open_read.ensures.opens)
 
 pub returns-clause-memory : goal.returns-clause-memory
 returns-clause-memory g c =
@@ -59,7 +61,7 @@ returns-clause-memory g c =
     (answered_memory g.G.Grammar.fault_at c.args.area (g.D.Disk.state c.args.disk.now) (g.D.Disk.state c.settle_and_read.new.disk)
     (g.D.Disk.state c.open_read.new.disk) c.in-Ok-settle_and_read.gates c.open_read.result c.settle_and_read.ensures.any_moment
     c.settle_and_read.ensures.unwritten c.in-Ok-settle_and_read.ensures.settled c.in-Ok-settle_and_read.ensures.passed
-    c.in-Ok-settle_and_read.ensures.calls c.open_read.ensures _)
+    c.in-Ok-settle_and_read.ensures.calls c.open_read.ensures.opens _)
 
 pub returns-clause-quiet : goal.returns-clause-quiet
 returns-clause-quiet g c =
@@ -67,7 +69,7 @@ returns-clause-quiet g c =
     (answered_quiet g.G.Grammar.fault_at c.args.area (g.D.Disk.state c.args.disk.now) (g.D.Disk.state c.settle_and_read.new.disk)
     (g.D.Disk.state c.open_read.new.disk) c.in-Ok-settle_and_read.gates c.open_read.result c.settle_and_read.ensures.any_moment
     c.settle_and_read.ensures.unwritten c.in-Ok-settle_and_read.ensures.settled c.in-Ok-settle_and_read.ensures.passed
-    c.in-Ok-settle_and_read.ensures.calls c.open_read.ensures)
+    c.in-Ok-settle_and_read.ensures.calls c.open_read.ensures.opens)
 
 pub returns-clause-ahead : goal.returns-clause-ahead
 returns-clause-ahead g c =
@@ -75,7 +77,7 @@ returns-clause-ahead g c =
     (answered_ahead g.G.Grammar.fault_at c.args.area (g.D.Disk.state c.args.disk.now) (g.D.Disk.state c.settle_and_read.new.disk)
     (g.D.Disk.state c.open_read.new.disk) c.in-Ok-settle_and_read.gates c.open_read.result c.settle_and_read.ensures.any_moment
     c.settle_and_read.ensures.unwritten c.in-Ok-settle_and_read.ensures.settled c.in-Ok-settle_and_read.ensures.passed
-    c.in-Ok-settle_and_read.ensures.calls c.open_read.ensures)
+    c.in-Ok-settle_and_read.ensures.calls c.open_read.ensures.opens)
 
 pub returns-clause-fate : goal.returns-clause-fate
 returns-clause-fate g c =
@@ -84,4 +86,10 @@ returns-clause-fate g c =
     (answered_fate g.G.Grammar.fault_at c.args.area (g.D.Disk.state c.args.disk.now) (g.D.Disk.state c.settle_and_read.new.disk)
     (g.D.Disk.state c.open_read.new.disk) c.in-Ok-settle_and_read.gates c.open_read.result c.settle_and_read.ensures.any_moment
     c.settle_and_read.ensures.unwritten c.in-Ok-settle_and_read.ensures.settled c.in-Ok-settle_and_read.ensures.passed
-    c.in-Ok-settle_and_read.ensures.calls c.open_read.ensures)
+    c.in-Ok-settle_and_read.ensures.calls c.open_read.ensures.opens)
+
+pub returns-clause-read : goal.returns-clause-read
+returns-clause-read g c =
+    subst (λ r. IfOk r (λ both. HasReadContent g.G.Grammar.has_read c.args.reader.now c.open_read.new.reader (content both.0)))
+    (sym c.answer.ensures)
+    (answered_read g.G.Grammar.has_read c.args.reader.now c.open_read.new.reader c.open_read.result c.open_read.ensures.read)

@@ -1,6 +1,0 @@
-use Rattle.std.proofs.Common.{arith}
-use Rattle.std.proofs.lemmas.Grind.{common_steps}
-use Rattle.client.proofs.room.Room.new.Goals as goal
-
-pub returns-clause-inbox : goal.returns-clause-inbox
-returns-clause-inbox c = grind (arith, common_steps)
