@@ -89,11 +89,11 @@ fn gives_once(skipped: &mut Skipped) -> bool {
         && shelved(skipped.take(second)) == None
 }
 
-/// Whether there is room for 254 keys beside the two that are there.
+/// Whether there is room for 510 keys beside the two that are there.
 fn has_room(skipped: &Skipped) -> bool {
     skipped.len() == 2
-        && skipped.room_for(254) == Ok(())
-        && skipped.room_for(255) == Err(SkipLimit { would: 257 })
+        && skipped.room_for(510) == Ok(())
+        && skipped.room_for(511) == Err(SkipLimit { would: 513 })
 }
 
 /// Whether the first key and the third are there.

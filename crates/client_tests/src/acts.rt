@@ -12,7 +12,7 @@ use kem_laws::OpenKem;
 use std::alloc::Global;
 
 /// A new disk that holds a client's area.
-pub const SIZE: u64 = 393216;
+pub const SIZE: u64 = 1572864;
 
 /// What a client does.
 #[derive(Clone, Copy)]
@@ -23,7 +23,22 @@ pub enum Act {
     Sent,
 }
 
-/// Begins a client, whose key has this byte 32 times.
+/// Begins a client under a key.
+pub fn begin_under(
+    alloc: Global,
+    side: Side,
+    key: &Key32,
+    disk: &mut MemoryDisk,
+) -> Result<Client<OpenKem>, BeginRefusal>
+    ensures { IfOk result (λ client. IsOpenOn client (state_of disk.new)) }
+{
+    if disk.size() < SIZE {
+        return Err(BeginRefusal::Memory);
+    }
+    Client::<OpenKem>::begin(alloc, disk, side, key)
+}
+
+/// The same under the key that has this byte 32 times.
 pub fn begin(
     alloc: Global,
     side: Side,
@@ -32,11 +47,7 @@ pub fn begin(
 ) -> Result<Client<OpenKem>, BeginRefusal>
     ensures { IfOk result (λ client. IsOpenOn client (state_of disk.new)) }
 {
-    if disk.size() < SIZE {
-        return Err(BeginRefusal::Memory);
-    }
-    let key = Key32 { bytes: [byte; 32] };
-    Client::<OpenKem>::begin(alloc, disk, side, &key)
+    begin_under(alloc, side, &Key32 { bytes: [byte; 32] }, disk)
 }
 
 /// Says the text "hi". Answers whether that was acknowledged.

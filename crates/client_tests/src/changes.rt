@@ -25,15 +25,15 @@ pub(crate) fn rows() -> [(&'static [Change], Found); 40] {
             &[(0, b"\x00"), (4096, b"\xa5\x03")],
             Found::Damaged(1, 4096),
         ),
-        (&[(2, b"\x00\x02\xe0\x01")], Found::Damaged(0, 2)),
+        (&[(2, b"\x00\x0b\xe0\x01")], Found::Damaged(0, 2)),
         (&[(2, b"\xff\xff\xff\xff")], Found::Damaged(0, 2)),
         (
-            &[(2, b"\x00\x02\xe0\x01"), (6, b"\x00\x00")],
+            &[(2, b"\x00\x0b\xe0\x01"), (6, b"\x00\x00")],
             Found::Damaged(0, 2),
         ),
         (&[(6, b"\x00\x00")], Found::Damaged(0, 6)),
         (&[(6, b"\x00\x01")], Found::Damaged(0, 6)),
-        (&[(6, b"\x00\x60")], Found::Damaged(0, 6)),
+        (&[(6, b"\x01\x80")], Found::Damaged(0, 6)),
         (&[(10, b"\xff\xff")], Found::Damaged(0, 10)),
         (&[(8, b"\x00\x02")], Found::Damaged(0, 8)),
         (&[(10, b"\x00\x02")], Found::Damaged(0, 10)),
@@ -63,7 +63,7 @@ pub(crate) fn rows() -> [(&'static [Change], Found); 40] {
         (&[(25050, b"\x01")], Found::Damaged(0, 12762)),
         (&[(28671, b"\x01")], Found::Damaged(0, 16383)),
         (&[(4096, b"\xa5\x01")], Found::Damaged(1, 4096)),
-        (&[(4096, b"\xa5\x01\x00\x02\xe0\x01")], Found::Damaged(1, 2)),
+        (&[(4096, b"\xa5\x01\x00\x0b\xe0\x01")], Found::Damaged(1, 2)),
         (
             &[(4096, b"\xa5\x01\x00\x00\x21\xda\x00\x02\x00\x04\x00\x06")],
             Found::Newer,
@@ -78,7 +78,7 @@ pub(crate) fn rows() -> [(&'static [Change], Found); 40] {
         (&[(4096, b"\xa5\x04\xff")], Found::Mended),
         (&[(4096, b"\xa5\x00\xff")], Found::Mended),
         (&[(4096, b"\x05\x01\x00\x00\x00\x01")], Found::Mended),
-        (&[(389127, b"\x01")], Found::Mended),
+        (&[(1568775, b"\x01")], Found::Mended),
         (&[(0, b"\xa4")], Found::NoSession),
     ]
 }

@@ -1,11 +1,12 @@
 //! Cores of both sides in memory: each step once, drafted and accepted or let be, and a record that
 //! is read again.
 
+use boxes::{Inbox, Outbox};
 use client::{Core, CoreBeginError, Draft, Drops};
 use dr_base::{Key32, Position, Side};
 use kem_laws::OpenKem;
 use ratchet::KeptRoom;
-use session_record::{RECORD_LIMIT, check};
+use session_record::{RECORD_LIMIT, decode};
 use std::alloc::Global;
 
 /// Says the text "hi", which is in epoch 0: a first draft is let be, a second one accepted.
@@ -55,7 +56,11 @@ fn has_text(core: &Core<OpenKem>) -> bool {
 
 /// Whether the core of these bytes writes them as its record.
 fn writes(alloc: Global, text: &[u8], out: &mut [u8]) -> bool {
-    if out.len() < RECORD_LIMIT || check::<OpenKem>(text).is_err() {
+    let (Ok(mut inbox), Ok(mut outbox)) = (Inbox::new(alloc), Outbox::new(alloc)) else {
+        return false;
+    };
+    let read = decode::<OpenKem>(text, &mut inbox, &mut outbox);
+    if out.len() < RECORD_LIMIT || read.is_err() {
         return false;
     }
     match Core::<OpenKem>::read(alloc, text) {

@@ -56,7 +56,7 @@ fn says_eight(alloc: Global, disk: &mut MemoryDisk) -> bool {
 }
 
 /// All bytes of a disk, where they can be read.
-fn bytes_of(alloc: Global, disk: &mut MemoryDisk) -> Option<Vec<u8>> {
+pub fn bytes_of(alloc: Global, disk: &mut MemoryDisk) -> Option<Vec<u8>> {
     let Ok(mut bytes) = vec![in alloc; 0; SIZE as usize] else {
         return None;
     };
@@ -97,23 +97,28 @@ fn found(alloc: Global, disk: &mut MemoryDisk, before: &[u8]) -> Option<Found> {
     }
 }
 
-/// Whether an opening finds this on Second's disk with these changes.
-fn is_found(alloc: Global, over: &[Change], expected: Found) -> bool {
-    let Ok(mut disk) = MemoryDisk::new(alloc, SIZE) else {
-        return false;
-    };
-    if !says_eight(alloc, &mut disk) {
+/// Whether an opening finds this on a new disk, once it is Second's with these changes.
+fn is_found_on(alloc: Global, disk: &mut MemoryDisk, over: &[Change], expected: Found) -> bool {
+    if !says_eight(alloc, disk) {
         return false;
     }
-    let Some(before) = bytes_of(alloc, &mut disk) else {
+    let Some(before) = bytes_of(alloc, disk) else {
         return false;
     };
     for change in over {
-        if !changes(&mut disk, *change) {
+        if !changes(disk, *change) {
             return false;
         }
     }
-    found(alloc, &mut disk, &before) == Some(expected)
+    found(alloc, disk, &before) == Some(expected)
+}
+
+/// The same on a disk of its own.
+fn is_found(alloc: Global, over: &[Change], expected: Found) -> bool {
+    match MemoryDisk::new(alloc, SIZE) {
+        Ok(mut disk) => is_found_on(alloc, &mut disk, over, expected),
+        Err(_) => false,
+    }
 }
 
 // Second's record has three pages, 2, 4 and 6, under table 0.

@@ -87,7 +87,7 @@ fn append(bytes: &mut Vec<u8>, piece: &[u8]) -> bool {
 /// Appends what a relay gives to First: the packet as number 1, that it is acknowledged, and that
 /// none stands.
 fn append_replies(gives: &mut Vec<u8>, packet: &[u8]) -> bool {
-    let size = packet.len().min(4000) as u16 + 9;
+    let size = packet.len().min(8000) as u16 + 9;
     append(gives, &size.to_be_bytes())
         && append(gives, b"\x82\x00\x00\x00\x00\x00\x00\x00\x01")
         && append(gives, packet)

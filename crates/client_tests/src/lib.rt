@@ -1,5 +1,5 @@
-//! Tests of clients on disks in memory: each act once, stopped at each write, and syncs over links
-//! in memory.
+//! Tests of clients on disks in memory: each act once, stopped at each write, syncs over links in
+//! memory, and disks of an earlier version that are opened.
 #![tactic(auto)]
 
 #[cfg(test)]
@@ -15,7 +15,13 @@ mod faults;
 #[cfg(test)]
 mod firsts;
 #[cfg(test)]
+mod grown;
+#[cfg(test)]
+mod old_disks;
+#[cfg(test)]
 mod openings;
+#[cfg(test)]
+mod renewals;
 #[cfg(test)]
 mod stops;
 #[cfg(test)]

@@ -6,8 +6,14 @@ use dr_disk::{Disk, MemoryDisk};
 use dr_ports::{MemoryDraws, MemorySink, MemorySource};
 use kem_laws::OpenKem;
 use session_commands::{begin, check, done, inbox, outbox, say, sent, state, take};
-use std::alloc::Global;
+use std::alloc::{AllocError, Global};
 use std::test::Fail;
+
+/// A new disk with room for a client. What is known of it here isn't known where it is used, so the
+/// checker needn't look at all its zeros there.
+pub fn new_disk(alloc: Global) -> Result<MemoryDisk, AllocError> {
+    MemoryDisk::new(alloc, AREA_SIZE)
+}
 
 /// A command, with its words and what it reads.
 #[derive(Clone, Copy)]
@@ -117,7 +123,7 @@ pub fn outcome(
     command: Command<'_>,
     fails: &[u64],
 ) -> Result<(u8, Vec<u8>), Fail> {
-    let mut out = MemorySink::new(alloc, 8192, &[])?;
+    let mut out = MemorySink::new(alloc, 16384, &[])?;
     let code = status_of(alloc, disk, command, fails, &mut out)?;
     Ok((code, out.taken().to_vec(alloc)?))
 }

@@ -1,13 +1,11 @@
 //! Each command once on disks in memory, and each fault.
 
-use crate::outcomes::{Command, outcome};
+use crate::outcomes::{Command, new_disk, outcome};
+use client::AREA_SIZE;
 use dr_base::Side;
 use dr_disk::{Disk, MemoryDisk};
 use std::alloc::Global;
 use std::test::Fail;
-
-/// A new disk that holds a client's area.
-const SIZE: u64 = 393216;
 
 const KEY: &[u8] = b"0000000000000000000000000000000000000000000000000000000000000000\n";
 
@@ -40,7 +38,7 @@ const NAME: &[u8] = b"session 70e0f9cd1a5863238d67aecce0c032e5\n";
 #[test]
 fn a_text_is_said(rt: HostRuntime) -> Result<(), Fail> {
     let alloc = rt.alloc();
-    let mut disk = MemoryDisk::new(alloc, SIZE)?;
+    let mut disk = new_disk(alloc)?;
     let state =
         b"session 70e0f9cd1a5863238d67aecce0c032e5\nside second\nepoch 0\nmissing 0\ninbox 0\noutbox 0\n";
     let rows: [(Command<'_>, &[u8]); 5] = [
@@ -58,7 +56,7 @@ fn a_text_is_said(rt: HostRuntime) -> Result<(), Fail> {
 
 /// The packet of a text that Second says.
 fn packet_of_second(alloc: Global) -> Result<Vec<u8>, Fail> {
-    let mut disk = MemoryDisk::new(alloc, SIZE)?;
+    let mut disk = new_disk(alloc)?;
     let begin = Command::Begin(Side::Second, KEY);
     if !ends(alloc, &mut disk, begin, &[], 0, NAME)? {
         return Err(Fail::from("not begun"));
@@ -70,23 +68,31 @@ fn packet_of_second(alloc: Global) -> Result<Vec<u8>, Fail> {
     first_packet(alloc, &mut disk)
 }
 
-// First takes its packet once, shows the text, and is done with it.
-#[test]
-fn a_text_is_taken(rt: HostRuntime) -> Result<(), Fail> {
-    let alloc = rt.alloc();
-    let packet = packet_of_second(alloc)?;
-    let mut disk = MemoryDisk::new(alloc, SIZE)?;
+/// Whether First, which begins on this disk, takes the packet once, shows its text, and is done with
+/// it.
+fn takes_once(alloc: Global, disk: &mut MemoryDisk, packet: &[u8]) -> Result<bool, Fail> {
     let rows: [(Command<'_>, u8, &[u8]); 6] = [
         (Command::Begin(Side::First, KEY), 0, NAME),
-        (Command::Take(packet.as_slice()), 0, b"opened 0.1\n"),
+        (Command::Take(packet), 0, b"opened 0.1\n"),
         (Command::Inbox, 0, b"0.1 \"a\\x22b\\x5c\\x0a\"\n"),
-        (Command::Take(packet.as_slice()), 3, b"refused: Spent 0.1\n"),
+        (Command::Take(packet), 3, b"refused: Spent 0.1\n"),
         (Command::Done(2), 3, b"refused: Fewer 1\n"),
         (Command::Done(1), 0, b"done 1\n"),
     ];
     for (command, status, lines) in rows {
-        assert!(rt; ends(alloc, &mut disk, command, &[], status, lines)?);
+        if !ends(alloc, disk, command, &[], status, lines)? {
+            return Ok(false);
+        }
     }
+    Ok(true)
+}
+
+#[test]
+fn a_text_is_taken(rt: HostRuntime) -> Result<(), Fail> {
+    let alloc = rt.alloc();
+    let packet = packet_of_second(alloc)?;
+    let mut disk = new_disk(alloc)?;
+    assert!(rt; takes_once(alloc, &mut disk, packet.as_slice())?);
     Ok(())
 }
 
@@ -98,7 +104,7 @@ const DAMAGED: &[u8] = b"slot 0 open 1\nslot 1 open 1\ndamaged slot 1 at 1\nrest
 
 /// Opens the gate of table 1 with the turn 1.
 fn opens_gate(disk: &mut MemoryDisk) -> bool {
-    disk.size() == SIZE && disk.write_at(4096, &[0xa5, 1]).is_ok()
+    disk.size() == AREA_SIZE && disk.write_at(4096, &[0xa5, 1]).is_ok()
 }
 
 /// Whether looks at a disk of zeros, at one with a client and at a damaged one show what is there,
@@ -126,7 +132,7 @@ fn shows_looks(alloc: Global, disk: &mut MemoryDisk) -> Result<bool, Fail> {
 #[test]
 fn the_disk_is_checked(rt: HostRuntime) -> Result<(), Fail> {
     let alloc = rt.alloc();
-    let mut disk = MemoryDisk::new(alloc, SIZE)?;
+    let mut disk = new_disk(alloc)?;
     assert!(rt; shows_looks(alloc, &mut disk)?);
     Ok(())
 }
@@ -135,7 +141,7 @@ fn the_disk_is_checked(rt: HostRuntime) -> Result<(), Fail> {
 #[test]
 fn each_fault(rt: HostRuntime) -> Result<(), Fail> {
     let alloc = rt.alloc();
-    let mut disk = MemoryDisk::new(alloc, SIZE)?;
+    let mut disk = new_disk(alloc)?;
     let begin = Command::Begin(Side::First, KEY);
     let rows: [(Command<'_>, &[u64], u8, &[u8]); 8] = [
         (Command::State, &[], 9, b"no session\n"),

@@ -46,7 +46,7 @@ fn words_are_commands(rt: HostRuntime) -> Result<(), Fail> {
         ("take|--", Command::Take),
         ("inbox", Command::Inbox),
         ("done|0", Command::Done(0)),
-        ("done|64", Command::Done(64)),
+        ("done|128", Command::Done(128)),
         ("done|+5", Command::Done(5)),
         ("done|007", Command::Done(7)),
         ("sent|32", Command::Sent(32)),
@@ -115,7 +115,7 @@ say|--text=hi
 say|hi|there
 say|hi|--|there
 done
-done|65
+done|129
 done|-1
 done|--|-1
 done|

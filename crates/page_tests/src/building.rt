@@ -4,7 +4,7 @@ use crate::rows::Row;
 use std::alloc::{AllocError, Global};
 
 /// Adds a byte so often.
-fn add(text: &mut Vec<u8>, byte: u8, count: usize) -> Result<(), AllocError> {
+pub(crate) fn add(text: &mut Vec<u8>, byte: u8, count: usize) -> Result<(), AllocError> {
     for _ in 0..count {
         text.push(byte)?;
     }

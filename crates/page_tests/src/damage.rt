@@ -34,7 +34,7 @@ fn is_found(
     if !writes(&mut disk, 8192, &[byte]) {
         return false;
     }
-    match finds(alloc, &mut disk, 4, 1, Found::Content, b"a") {
+    match finds(alloc, &mut disk, Found::Content, b"a") {
         Err(OpenError::Damaged { slot, at }) => expected == Err((slot, at)),
         Ok(is) => expected == Ok(is),
         Err(_) => false,
@@ -75,7 +75,7 @@ fn fails_at(alloc: Global, k: u32, failing: Call) -> bool {
         return false;
     };
     disk.stop_after(k);
-    match finds(alloc, &mut disk, 4, 1, Found::NoContent, b"") {
+    match finds(alloc, &mut disk, Found::NoContent, b"") {
         Err(OpenError::StoreFault { call }) => call == failing,
         _ => false,
     }
@@ -84,7 +84,7 @@ fn fails_at(alloc: Global, k: u32, failing: Call) -> bool {
 /// Whether a new disk has no content at opening.
 fn is_new(alloc: Global) -> bool {
     match MemoryDisk::new(alloc, SIZE) {
-        Ok(mut disk) => finds(alloc, &mut disk, 4, 1, Found::NoContent, b"") == Ok(true),
+        Ok(mut disk) => finds(alloc, &mut disk, Found::NoContent, b"") == Ok(true),
         Err(_) => false,
     }
 }

@@ -14,10 +14,7 @@ pub(crate) fn bytes_of<D: Disk>(
     alloc: Global,
     disk: &mut D,
 ) -> Result<Option<Vec<u8>>, AllocError> {
-    let mut bytes = vec![in alloc; 0; SIZE as usize]?;
-    if disk.size() != SIZE {
-        return Ok(None);
-    }
+    let mut bytes = vec![in alloc; 0; disk.size() as usize]?;
     match disk.read(0, &mut bytes) {
         Ok(()) => Ok(Some(bytes)),
         Err(_) => Ok(None),
@@ -25,7 +22,11 @@ pub(crate) fn bytes_of<D: Disk>(
 }
 
 /// Whether these are bytes with this SHA-256, in hex.
-fn has_digest(alloc: Global, bytes: Option<Vec<u8>>, sha256: &str) -> Result<bool, Fail> {
+pub(crate) fn has_digest(
+    alloc: Global,
+    bytes: Option<Vec<u8>>,
+    sha256: &str,
+) -> Result<bool, Fail> {
     let Some(bytes) = bytes else {
         return Ok(false);
     };

@@ -8,6 +8,8 @@ mod damage;
 #[cfg(test)]
 mod disks;
 #[cfg(test)]
+mod halves;
+#[cfg(test)]
 mod looks;
 #[cfg(test)]
 mod rows;

@@ -38,7 +38,7 @@ fn puts_stopped(alloc: Global, disk: &mut MemoryDisk, text: &[u8], after: u32) -
     let Ok(mut room) = room_with(alloc, text) else {
         return false;
     };
-    match SlotStore::open::<Texts, MemoryDisk>(alloc, disk, area()) {
+    match SlotStore::open(alloc, disk, area(), &mut Texts) {
         Ok((mut store, _)) => {
             disk.stop_after(after);
             store.replace(disk, &mut room, text.len()).is_err()
@@ -57,7 +57,7 @@ fn add_digest(alloc: Global, disk: &mut MemoryDisk, all: &mut Vec<u8>) -> Result
 
 /// Opens the area. Answers whether it did.
 fn opens(alloc: Global, disk: &mut MemoryDisk) -> bool {
-    disk.size() >= SIZE && SlotStore::open::<Texts, MemoryDisk>(alloc, disk, area()).is_ok()
+    disk.size() >= SIZE && SlotStore::open(alloc, disk, area(), &mut Texts).is_ok()
 }
 
 /// Stores these records, stops the replacing of the last by another after so many calls, and

@@ -4,8 +4,8 @@
 ghost use Rattle.std.specs.Prelude.{◌≡◌, ◌<◌, ◌^◌, [], length};
 
 use relay_wire::{
-    Ask, Bad, BadReply, Frame, FrameReader, Name, Reply, Request, parse_reply, parse_request,
-    write_reply, write_request,
+    Ask, Bad, BadReply, FRAME_LIMIT, Frame, FrameReader, Name, Reply, Request, parse_reply,
+    parse_request, write_reply, write_request,
 };
 use std::alloc::Global;
 
@@ -15,7 +15,7 @@ const REQUESTS: [(&[u8], u8); 14] = [
     (b"\x00\x04\x01\x01a\x07", 0),
     (b"\x00\x0b\x03\x01a\x00\x00\x00\x00\x00\x00\x00\x01", 0),
     (b"\x00\x00", 1),
-    (b"\x10\x01", 1),
+    (b"\x20\x01", 1),
     (b"\xff\xff", 1),
     (b"\x00\x01\x09", 2),
     (b"\x00\x03\x00\x02a", 2),
@@ -57,7 +57,7 @@ fn feed(reader: &mut FrameReader, bytes: &[u8])
 
 /// Whether a request is written as these bytes.
 fn is_asked(request: &Request<'_>, bytes: &[u8]) -> bool {
-    let mut out = [0; 4098];
+    let mut out = [0; FRAME_LIMIT];
     let len = write_request(request, &mut out);
     out.get(..len) == Some(bytes)
 }
@@ -108,7 +108,7 @@ fn requests_are_read_and_written(rt: HostRuntime) {
 
 /// Whether a reply is written as these bytes.
 fn is_replied(reply: &Reply<'_>, bytes: &[u8]) -> bool {
-    let mut out = [0; 4098];
+    let mut out = [0; FRAME_LIMIT];
     let len = write_reply(reply, &mut out);
     out.get(..len) == Some(bytes)
 }

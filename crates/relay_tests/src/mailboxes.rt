@@ -3,7 +3,7 @@
 ghost use Rattle.std.specs.Prelude.{◌≡◌, ◌<◌, ◌≤◌, ◌+◌, ◌^◌, length};
 
 use relay_core::{Relay, answer_frame};
-use relay_wire::{Frame, FrameReader, Name};
+use relay_wire::{FRAME_LIMIT, Frame, FrameReader, Name};
 use std::alloc::Global;
 
 /// Requests for the boxes `a` and `b`, bytes that are none, a frame of no lawful length, and one
@@ -19,7 +19,7 @@ const REPLIES: &[u8] = b"\x00\x01\x83\x00\x09\x81\x00\x00\x00\x00\x00\x00\x00\x0
 
 /// Appends the reply to a frame, and says whether the connection goes on.
 fn answer(relay: &mut Relay, frame: &Frame<'_>, replies: &mut Vec<u8>) -> bool {
-    let mut out = [0; 4098];
+    let mut out = [0; FRAME_LIMIT];
     let answered = answer_frame(relay, frame, &mut out);
     match out.get(..answered.len) {
         Some(reply) => replies.extend_from_slice(reply).is_ok() && !answered.last,

@@ -6,9 +6,12 @@ ghost use Rattle.relay_server.specs.Durable.{IsServerReady};
 
 use dr_disk::{Call, Disk, MemoryDisk, Mode};
 use dr_ports::MemoryPipe;
-use relay_server::{AREA_SIZE, Ended, ServeFault, Server, ServerOpenError};
+use relay_server::{Ended, HALF_SIZE, ServeFault, Server, ServerOpenError, UPPER_START};
 use relay_wire::Name;
 use std::alloc::{AllocError, Global};
+
+/// The size of a disk with room for one box.
+const SIZE: u64 = UPPER_START + HALF_SIZE;
 
 /// Requests for the boxes `a` and `b`, bytes that are none, a frame of no lawful length, and one
 /// request more.
@@ -33,7 +36,7 @@ const EMPTY: &[u8] = b"\x00\x01\x83";
 
 /// A disk without a record.
 pub fn blank(alloc: Global) -> Result<MemoryDisk, AllocError> {
-    MemoryDisk::new(alloc, AREA_SIZE)
+    MemoryDisk::new(alloc, SIZE)
 }
 
 /// The server of one box, or why none is opened.
@@ -43,7 +46,7 @@ pub fn open<D: Disk>(alloc: Global, disk: &mut D, name: &[u8]) -> Result<Server,
     let Some(name) = Name::new(name) else {
         return Err(ServerOpenError::Memory);
     };
-    if disk.size() < AREA_SIZE {
+    if disk.size() < SIZE {
         return Err(ServerOpenError::Memory);
     }
     Server::open(alloc, disk, &[name])

@@ -1,8 +1,8 @@
 //! Runs of the program in which one call on a port fails.
 
 use crate::answers::{answer, answers_over};
-use crate::running::{Network, SEEDS, run_drawing};
-use dr_disk::MemoryDisk;
+use crate::running::{Network, SEEDS, new_disk, run_drawing};
+use dr_disk::{Disk, MemoryDisk};
 use dr_ports::{MemoryDraws, MemoryLink, MemorySink, MemorySource};
 use messenger_cli::DISK_SIZE;
 use std::alloc::{AllocError, Global};
@@ -23,13 +23,14 @@ pub enum Port {
 }
 
 /// A command, with what the source and the link hold, and with what its side has done before, as
-/// rows of `answers`.
+/// rows of `answers`; and whether its record, in page 2, is one of version 1 then.
 #[derive(Clone, Copy)]
 pub struct Case<'a> {
     pub earlier: &'a str,
     pub words: &'a str,
     pub text: &'a [u8],
     pub replies: &'a [u8],
+    pub is_old: bool,
 }
 
 /// What a run came to: its status, what it wrote, and what the side shows then.
@@ -114,6 +115,11 @@ fn run_on_disk(
     })
 }
 
+/// Puts the record in page 2 into version 1.
+fn age(disk: &mut MemoryDisk) -> bool {
+    disk.size() == DISK_SIZE && disk.write_at(8192, &[1]).is_ok()
+}
+
 /// The same on a new disk, once the side has done what it does before; nothing where it didn't do
 /// that.
 pub fn run_case(
@@ -122,8 +128,11 @@ pub fn run_case(
     failing: (Port, u32),
     network: &mut Network,
 ) -> Result<Option<Came>, AllocError> {
-    let mut disk = MemoryDisk::new(alloc, DISK_SIZE)?;
+    let mut disk = new_disk(alloc)?;
     if !answers_over(alloc, &mut disk, network, case.earlier)? {
+        return Ok(None);
+    }
+    if case.is_old && !age(&mut disk) {
         return Ok(None);
     }
     network.link = MemoryLink::new(alloc, case.replies, 8192, &[number_at(Port::Link, failing)])?;

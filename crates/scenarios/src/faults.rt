@@ -1,10 +1,8 @@
 //! Each fault once: reads, writes and disks that fail, and arguments that can't be read.
 
 use crate::answers::answers;
-use crate::running::{Network, run_duet, run_given};
-use dr_disk::MemoryDisk;
+use crate::running::{Network, new_disk, run_duet, run_given};
 use dr_ports::{MemorySink, MemorySource};
-use messenger_cli::DISK_SIZE;
 use std::alloc::{AllocError, Global};
 use std::io;
 use std::io::ErrorKind;
@@ -73,7 +71,7 @@ fn says_what_failed(rt: HostRuntime) -> Result<(), Fail> {
 #[test]
 fn tells_a_disk_that_stops(rt: HostRuntime) -> Result<(), Fail> {
     let alloc = rt.alloc();
-    let mut disk = MemoryDisk::new(alloc, DISK_SIZE)?;
+    let mut disk = new_disk(alloc)?;
     disk.stop_after(0);
     assert!(rt; answers(alloc, &mut disk, "begin|first>^>6>fault: disk;")?);
     disk.go_on();

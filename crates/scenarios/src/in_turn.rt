@@ -118,7 +118,7 @@ fn runs_whole(
 
 /// Whether each call of a command fails as it should. In its middle it shows what it shows once
 /// these replies have come.
-fn is_kept(
+pub fn is_kept(
     alloc: Global,
     case: Case<'_>,
     replies: &[u8],
@@ -145,12 +145,13 @@ fn is_kept(
 }
 
 /// A command without replies, after these rows.
-fn alone<'a>(earlier: &'a str, words: &'a str, text: &'a [u8]) -> Case<'a> {
+pub fn alone<'a>(earlier: &'a str, words: &'a str, text: &'a [u8]) -> Case<'a> {
     Case {
         earlier,
         words,
         text,
         replies: b"",
+        is_old: false,
     }
 }
 

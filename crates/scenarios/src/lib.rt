@@ -13,6 +13,8 @@ mod faults;
 #[cfg(test)]
 mod in_turn;
 #[cfg(test)]
+mod old;
+#[cfg(test)]
 mod relays;
 #[cfg(test)]
 mod rows;

@@ -1,16 +1,14 @@
 //! The commands that meet a relay, over links and doors in memory.
 
 use crate::answers::{answers_over, are_answered};
-use crate::running::Network;
-use dr_disk::SteadyDisk;
+use crate::running::{Network, steady_disk};
 use dr_ports::{MemoryLink, Stand};
-use messenger_cli::DISK_SIZE;
 use std::alloc::{AllocError, Global};
 use std::test::Fail;
 
 /// Whether the program serves the box `a` to the one connection that there is.
 fn is_served(alloc: Global, network: &mut Network) -> Result<bool, AllocError> {
-    let mut disk = SteadyDisk::new(alloc, DISK_SIZE)?;
+    let mut disk = steady_disk(alloc)?;
     let rows: [(&str, u8, &[u8]); 4] = [
         ("relay|4000|1|a|a", 3, b"refused: BadBox 2\n"),
         ("relay|4000|1|a", 0, b"relay 4000\nconnection 1 ended 4\n"),
@@ -57,7 +55,7 @@ const FETCHED: &[u8] =
 fn syncs_with_a_relay(rt: HostRuntime) -> Result<(), Fail> {
     let alloc = rt.alloc();
     let mut network = Network::new(alloc, REPLIES, b"")?;
-    let mut disk = SteadyDisk::new(alloc, DISK_SIZE)?;
+    let mut disk = steady_disk(alloc)?;
     assert!(rt; answers_over(alloc, &mut disk, &mut network, SYNCED)?);
     assert!(rt; network.link.sent().starts_with(FETCHED));
     assert!(rt; has_ended(&network.link));

@@ -4,10 +4,8 @@
 use crate::answers::is_answered;
 use crate::earlier::{FIRST, SECOND};
 use crate::failing::{Case, PACKET, Port, run_case};
-use crate::running::Network;
-use dr_disk::SteadyDisk;
+use crate::running::{Network, steady_disk};
 use dr_ports::MemoryDoor;
-use messenger_cli::DISK_SIZE;
 use std::alloc::{AllocError, Global};
 use std::test::Fail;
 
@@ -23,15 +21,16 @@ const TAKEN: &[u8] =
 const SAID: &[u8] =
     b"session 70e0f9cd1a5863238d67aecce0c032e5\nside second\nepoch 0\nmissing 0\ninbox 0\noutbox 1\n0.1 ";
 
-/// What a side has done before, its command, and the port whose call fails.
-type Run = (&'static str, &'static str, Port);
+/// What a side has done before, its command, the port whose call fails, and whether its record is
+/// one of version 1.
+type Run = (&'static str, &'static str, Port, bool);
 
 /// Whether runs in which the call of each of these numbers fails come to this status, and show
 /// this.
 fn are_so(
     alloc: Global,
     network: &mut Network,
-    (earlier, words, port): Run,
+    (earlier, words, port, is_old): Run,
     (from, to): (u32, u32),
     status: u8,
     shown: &[u8],
@@ -41,6 +40,7 @@ fn are_so(
         words,
         text: PACKET,
         replies: b"",
+        is_old,
     };
     for k in from..=to {
         match run_case(alloc, case, (port, k), network)? {
@@ -60,15 +60,26 @@ fn a_failing_call_has_its_status(rt: HostRuntime) -> Result<(), Fail> {
     let alloc = rt.alloc();
     let mut network = Network::new(alloc, b"", b"")?;
     // the run, from and to which number a call fails, the status, and what the side shows then
-    let rows: [(Run, (u32, u32), u8, &[u8]); 8] = [
-        ((FIRST, "take", Port::Disk), (1, 5), 6, BEGUN),
-        ((FIRST, "take", Port::Disk), (6, 11), 6, TAKEN),
-        ((FIRST, "take", Port::Disk), (12, 12), 0, TAKEN),
-        ((FIRST, "take", Port::Source), (1, 1), 4, BEGUN),
-        ((FIRST, "take", Port::Out), (1, 1), 5, TAKEN),
-        ((FIRST, "say|hi", Port::Draws), (1, 1), 8, BEGUN),
-        ((SECOND, "say|hi", Port::Draws), (1, 1), 0, SAID),
-        ((FIRST, "sync|127.0.0.1:4000", Port::Link), (1, 1), 7, BEGUN),
+    let rows: [(Run, (u32, u32), u8, &[u8]); 13] = [
+        ((FIRST, "take", Port::Disk, false), (1, 5), 6, BEGUN),
+        ((FIRST, "take", Port::Disk, false), (6, 11), 6, TAKEN),
+        ((FIRST, "take", Port::Disk, false), (12, 12), 0, TAKEN),
+        ((FIRST, "take", Port::Source, false), (1, 1), 4, BEGUN),
+        ((FIRST, "take", Port::Out, false), (1, 1), 5, TAKEN),
+        ((FIRST, "say|hi", Port::Draws, false), (1, 1), 8, BEGUN),
+        ((SECOND, "say|hi", Port::Draws, false), (1, 1), 0, SAID),
+        (
+            (FIRST, "sync|127.0.0.1:4000", Port::Link, false),
+            (1, 1),
+            7,
+            BEGUN,
+        ),
+        // an opening's sync, and then 10 writes and syncs that put a record into the newest version
+        ((FIRST, "state", Port::Disk, true), (1, 11), 6, BEGUN),
+        ((FIRST, "state", Port::Disk, true), (12, 12), 0, BEGUN),
+        ((FIRST, "take", Port::Disk, true), (1, 15), 6, BEGUN),
+        ((FIRST, "take", Port::Disk, true), (16, 21), 6, TAKEN),
+        ((FIRST, "take", Port::Disk, true), (22, 22), 0, TAKEN),
     ];
     for (run, numbers, status, shown) in rows {
         assert!(rt; are_so(alloc, &mut network, run, numbers, status, shown)?);
@@ -83,7 +94,7 @@ fn is_shut(
     call: u64,
     lines: &[u8],
 ) -> Result<bool, AllocError> {
-    let mut disk = SteadyDisk::new(alloc, DISK_SIZE)?;
+    let mut disk = steady_disk(alloc)?;
     network.door = MemoryDoor::new(alloc, b"", &[], 4096, &[call], &[])?;
     is_answered(alloc, "relay|4000|1|a", &mut disk, network, b"", 7, lines)
 }

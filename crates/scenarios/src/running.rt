@@ -1,7 +1,7 @@
 //! Runs of the program on words.
 
 use dr_base::Key32;
-use dr_disk::{Disk, SteadyDisk};
+use dr_disk::{Disk, MemoryDisk, SteadyDisk};
 use dr_ports::{Draws, MemoryDoor, MemoryDraws, MemoryLink, Sink, Source};
 use messenger_cli::{DISK_SIZE, RELAY_DISK_SIZE, Status, run, run_arguments};
 use std::alloc::{AllocError, Global};
@@ -21,11 +21,27 @@ impl Network {
     /// holds these.
     pub fn new(alloc: Global, link: &[u8], door: &[u8]) -> Result<Network, AllocError> {
         Ok(Network {
-            relay_disk: SteadyDisk::new(alloc, RELAY_DISK_SIZE)?,
+            relay_disk: relay_disk(alloc)?,
             link: MemoryLink::new(alloc, link, 4096, &[])?,
             door: MemoryDoor::new(alloc, door, &[door.len()], 4096, &[], &[])?,
         })
     }
+}
+
+/// A disk of zeros for a session. What is known of it here isn't known where it is used, so the
+/// checker needn't look at all its zeros there.
+pub fn new_disk(alloc: Global) -> Result<MemoryDisk, AllocError> {
+    MemoryDisk::new(alloc, DISK_SIZE)
+}
+
+/// The same, all of whose calls pass.
+pub fn steady_disk(alloc: Global) -> Result<SteadyDisk, AllocError> {
+    SteadyDisk::new(alloc, DISK_SIZE)
+}
+
+/// Such a disk for a relay.
+fn relay_disk(alloc: Global) -> Result<SteadyDisk, AllocError> {
+    SteadyDisk::new(alloc, RELAY_DISK_SIZE)
 }
 
 /// Two seeds.
@@ -81,7 +97,7 @@ pub fn run_duet<S: Source, O: Sink>(
     source: &mut S,
     out: &mut O,
 ) -> Result<Status, AllocError> {
-    let mut disk = SteadyDisk::new(alloc, DISK_SIZE)?;
+    let mut disk = steady_disk(alloc)?;
     run_on(alloc, "duet", &mut disk, network, source, out)
 }
 
@@ -118,7 +134,7 @@ pub fn run_given<S: Source, O: Sink>(
     source: &mut S,
     out: &mut O,
 ) -> Result<Status, AllocError> {
-    let mut disk = SteadyDisk::new(alloc, DISK_SIZE)?;
+    let mut disk = steady_disk(alloc)?;
     let mut network = Network::new(alloc, b"", b"")?;
     run_over(alloc, given, &mut disk, &mut network, source, out)
 }

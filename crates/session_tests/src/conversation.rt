@@ -31,7 +31,11 @@ type Packet = ArrayVec<u8, PACKET_LIMIT>;
 type Text = ArrayVec<u8, TEXT_LIMIT>;
 
 /// Says a text, and answers its packet.
-fn say(session: &mut Session<OpenKem>, text: &[u8], byte: u8) -> Result<Packet, Refusal> {
+pub(crate) fn say(
+    session: &mut Session<OpenKem>,
+    text: &[u8],
+    byte: u8,
+) -> Result<Packet, Refusal> {
     let asked = session.send_check(text.len())?;
     let seed = seed_of(asked, byte);
     match session.draft_send(&mut (), text, seed) {

@@ -7,6 +7,12 @@ mod agreement;
 #[cfg(test)]
 mod conversation;
 #[cfg(test)]
+mod filled;
+#[cfg(test)]
+mod later_packets;
+#[cfg(test)]
+mod limits;
+#[cfg(test)]
 mod lists;
 #[cfg(test)]
 mod packets;
@@ -14,3 +20,5 @@ mod packets;
 mod record;
 #[cfg(test)]
 mod stand_in;
+#[cfg(test)]
+mod versions;

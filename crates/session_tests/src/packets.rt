@@ -67,7 +67,7 @@ fn finds_the_first_fault(rt: HostRuntime) {
         (67, 26, &[1], 25, Kind::Index),
         (67, 28, &[0], 25, Kind::Index),
         (67, 29, &[1], 29, Kind::Agreement),
-        (67, 31, &[4, 1], 31, Kind::Text),
+        (67, 31, &[16, 1], 31, Kind::Text),
         (66, 0, &[1], 35, Kind::Short),
         (0, 0, &[1], 0, Kind::Short),
         (68, 0, &[1], 67, Kind::Long),

@@ -1,14 +1,15 @@
-//! Records of an independent implementation, read and written again, and the places of damage.
+//! Records of an independent implementation, in version 1, read and written again, and the places
+//! of damage.
 
 use boxes::{Inbox, Outbox};
 use dr_base::put;
 use kem_laws::OpenKem;
-use session_record::{Change, RECORD_LIMIT, check, decode, encode};
+use session_record::{Change, RECORD_LIMIT, decode, encode};
 use std::alloc::{AllocError, Global};
 use std::test::Fail;
 
 /// What First keeps at the beginning.
-const BEGUN: &[u8] =
+pub(crate) const BEGUN: &[u8] =
     b"\x01\x01\x70\xe0\xf9\xcd\x1a\x58\x63\x23\x8d\x67\xae\xcc\xe0\xc0\x32\xe5\xd0\xe3\xba\x72\x9a\x17\xff\x4f\
     \x20\xb3\x69\x41\xc6\xdf\xd8\x97\x97\x55\x65\x51\x28\x28\xc6\x32\xbe\x67\x9b\xde\xb5\xf6\x06\xa0\x00\x00\
     \x00\x00\xc2\x13\x14\x14\xe3\x40\x7e\x12\x15\x21\xce\x20\x8b\xf0\xac\xe5\x93\xc4\xca\xc6\x91\x47\xe8\xb3\
@@ -58,26 +59,38 @@ const OWN: &[u8] =
     \xf0\x5c\xbc\x14\xd5\x61\x89\xf2\x9f\x9c\x19\x3a\xe6\xd4\xe1\xdc\x23\x1b\xe9\x74\x06\xc7\x72\xc1\xa3\x14\
     \x65\x53\x3d\x34\x03";
 
-/// Whether both readers find the damage in a text at this place, or none.
-fn is_damaged(alloc: Global, text: &[u8], at: Option<usize>) -> Result<bool, AllocError> {
+/// Whether a text is damaged at this place, or read.
+pub(crate) fn is_damaged(
+    alloc: Global,
+    text: &[u8],
+    at: Option<usize>,
+) -> Result<bool, AllocError> {
     let mut inbox = Inbox::new(alloc)?;
     let mut outbox = Outbox::new(alloc)?;
     let read = decode::<OpenKem>(text, &mut inbox, &mut outbox).err();
-    let checked = check::<OpenKem>(text).err();
-    Ok(read == checked && checked.map(|damaged| damaged.at) == at)
+    Ok(read.map(|damaged| damaged.at) == at)
 }
 
-/// Whether a text is read, and written again the same.
-fn is_kept(alloc: Global, text: &[u8]) -> Result<bool, AllocError> {
+/// A text written again, if it is read.
+pub(crate) fn rewritten(alloc: Global, text: &[u8]) -> Result<Option<Vec<u8>>, AllocError> {
     let mut inbox = Inbox::new(alloc)?;
     let mut outbox = Outbox::new(alloc)?;
     match decode::<OpenKem>(text, &mut inbox, &mut outbox) {
-        Err(_) => Ok(false),
+        Err(_) => Ok(None),
         Ok(part) => {
-            let mut out = [0; RECORD_LIMIT];
+            let mut out = vec![in alloc; 0; RECORD_LIMIT]?;
             let len = encode(&part.lent(), &inbox, &outbox, &Change::Same, &mut out);
-            Ok(&out[..len] == text)
+            out.truncate(len);
+            Ok(Some(out))
         }
+    }
+}
+
+/// Whether a text is read, and written again in version 2, the same but for the version.
+fn is_kept(alloc: Global, text: &[u8]) -> Result<bool, AllocError> {
+    match rewritten(alloc, text)? {
+        Some(again) => Ok(again.get(..1) == Some(&[2]) && again.get(1..) == text.get(1..)),
+        None => Ok(false),
     }
 }
 
@@ -107,7 +120,7 @@ fn is_found(alloc: Global, row: Row) -> Result<bool, AllocError> {
 
 #[test]
 fn damage_is_found(rt: HostRuntime) -> Result<(), Fail> {
-    let rows: [Row; 18] = [
+    let rows: [Row; 19] = [
         (BEGUN, 130, 0, b"\x09", 0),
         (BEGUN, 130, 1, b"\x03", 1),
         (BEGUN, 130, 50, b"\xff\xff\xff\xff", 50),
@@ -126,10 +139,11 @@ fn damage_is_found(rt: HostRuntime) -> Result<(), Fail> {
         (PEERS, 353, 175, b"\x00", 172),
         (PEERS, 353, 171, b"\x01", 168),
         (PEERS, 353, 131, b"\x02", 168),
-        // a packet of another session, and one that is a byte too short: the place is its first
-        // byte
+        // a packet of another session, one that is a byte too short, and one of a later version:
+        // the place is its first byte
         (PEERS, 353, 224, b"\x00", 223),
         (PEERS, 353, 222, b"\x81", 223),
+        (PEERS, 353, 223, b"\x02", 223),
     ];
     for row in rows {
         assert!(rt; is_found(rt.alloc(), row)?);

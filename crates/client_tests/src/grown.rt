@@ -1,0 +1,168 @@
+//! A disk with a record of version 1 of two pages, of which one changes in the newest version.
+
+ghost use Rattle.std.specs.Prelude.{◌≡◌, true};
+ghost use Rattle.dr_disk.specs.MemoryDisks.{state_of};
+ghost use Rattle.client.specs.Clients.{IsOpenOn, MayActOn};
+
+use crate::acts::{SIZE, begin_under};
+use crate::old_disks::{has_digest, lays, opens_to};
+use crate::renewals::CALLS;
+use client::Client;
+use dr_base::{Key32, Side};
+use dr_disk::MemoryDisk;
+use dr_ports::SteadyDraws;
+use kem_laws::OpenKem;
+use std::alloc::Global;
+
+/// The key of the conversation: these eight bytes four times.
+const KEY: Key32 = Key32 {
+    bytes: *b"\x01\x23\x45\x67\x89\xab\xcd\xef\x01\x23\x45\x67\x89\xab\xcd\xef\
+        \x01\x23\x45\x67\x89\xab\xcd\xef\x01\x23\x45\x67\x89\xab\xcd\xef",
+};
+
+/// Second's disk before, and once it was opened, by an independent implementation.
+const BEFORE: &str = "f30d5e38afb7987a462b8335fa49f58039ee5ad57f9bf84d6b70f631fa0f2173";
+
+const AFTER: &str = "b288a65e0fe62ffdd302564166232acfefc63f63017ab12894a0d4c03cf7fe2e";
+
+/// Says a text, with a draw that has this byte 32 times. Answers whether that was acknowledged.
+fn says(
+    alloc: Global,
+    text: &[u8],
+    draw: u8,
+    client: &mut Client<OpenKem>,
+    disk: &mut MemoryDisk,
+) -> bool
+    requires { MayActOn client.old (state_of disk.old) }
+    ensures { result ≡ true → IsOpenOn client.new (state_of disk.new) }
+{
+    match SteadyDraws::new(alloc, &[Key32 { bytes: [draw; 32] }]) {
+        Ok(mut draws) => client.say(disk, text, &mut draws).is_ok(),
+        Err(_) => false,
+    }
+}
+
+/// Second says four texts in epoch 0.
+fn says_four(alloc: Global, client: &mut Client<OpenKem>, disk: &mut MemoryDisk) -> bool
+    requires { MayActOn client.old (state_of disk.old) }
+    ensures { result ≡ true → IsOpenOn client.new (state_of disk.new) }
+{
+    let text = [b'x'; 900];
+    says(alloc, &text, 0, client, disk)
+        && says(alloc, &text, 0, client, disk)
+        && says(alloc, &text, 0, client, disk)
+        && says(alloc, &text, 0, client, disk)
+}
+
+/// Takes a packet. Answers whether that was acknowledged.
+fn takes(packet: &[u8], client: &mut Client<OpenKem>, disk: &mut MemoryDisk) -> bool
+    requires { MayActOn client.old (state_of disk.old) }
+    ensures { result ≡ true → IsOpenOn client.new (state_of disk.new) }
+{
+    client.take(disk, packet).is_ok()
+}
+
+/// First takes two packets, and says three texts in epoch 1.
+fn replies(
+    alloc: Global,
+    packets: (&[u8], &[u8]),
+    client: &mut Client<OpenKem>,
+    disk: &mut MemoryDisk,
+) -> bool
+    requires { MayActOn client.old (state_of disk.old) }
+    ensures { result ≡ true → IsOpenOn client.new (state_of disk.new) }
+{
+    let text = [b'y'; 1000];
+    takes(packets.0, client, disk)
+        && takes(packets.1, client, disk)
+        && says(alloc, &text, 1, client, disk)
+        && says(alloc, &text, 1, client, disk)
+        && says(alloc, &text, 1, client, disk)
+}
+
+/// The packet that stands at this place of a client's outbox.
+fn packet(alloc: Global, client: &Client<OpenKem>, at: usize) -> Option<Vec<u8>> {
+    match client.outbox(at) {
+        Some((_, packet)) => packet.to_vec(alloc).ok(),
+        None => None,
+    }
+}
+
+/// First's packet 1.2, which answers these two.
+fn reply_on(alloc: Global, packets: (&[u8], &[u8]), disk: &mut MemoryDisk) -> Option<Vec<u8>> {
+    match begin_under(alloc, Side::First, &KEY, disk) {
+        Ok(mut client) => {
+            if replies(alloc, packets, &mut client, disk) {
+                packet(alloc, &client, 1)
+            } else {
+                None
+            }
+        }
+        Err(_) => None,
+    }
+}
+
+/// The same on a disk of its own.
+fn reply(alloc: Global, packets: (&[u8], &[u8])) -> Option<Vec<u8>> {
+    match MemoryDisk::new(alloc, SIZE) {
+        Ok(mut disk) => reply_on(alloc, packets, &mut disk),
+        Err(_) => None,
+    }
+}
+
+/// First's answer to the packets 0.1 and 0.4 of a client.
+fn answer(alloc: Global, client: &Client<OpenKem>) -> Option<Vec<u8>> {
+    match (packet(alloc, client, 0), packet(alloc, client, 3)) {
+        (Some(early), Some(late)) => reply(alloc, (early.as_slice(), late.as_slice())),
+        _ => None,
+    }
+}
+
+/// Says a text in epoch 2.
+fn says_last(alloc: Global, client: &mut Client<OpenKem>, disk: &mut MemoryDisk) -> bool
+    requires { MayActOn client.old (state_of disk.old) }
+{
+    says(alloc, &[b'z'; 800], 2, client, disk)
+}
+
+/// Second takes that answer, and says a text in epoch 2.
+fn goes_on(alloc: Global, client: &mut Client<OpenKem>, disk: &mut MemoryDisk) -> bool
+    requires { MayActOn client.old (state_of disk.old) }
+{
+    match answer(alloc, client) {
+        Some(packet) => takes(packet.as_slice(), client, disk) && says_last(alloc, client, disk),
+        None => false,
+    }
+}
+
+/// Whether all of it was acknowledged to Second.
+fn talks(alloc: Global, disk: &mut MemoryDisk) -> bool {
+    match begin_under(alloc, Side::Second, &KEY, disk) {
+        Ok(mut client) => {
+            says_four(alloc, &mut client, disk) && goes_on(alloc, &mut client, disk)
+        }
+        Err(_) => false,
+    }
+}
+
+/// Whether Second's disk, whose record is made one of version 1, is opened to that.
+fn is_renewed(alloc: Global, disk: &mut MemoryDisk) -> bool {
+    talks(alloc, disk)
+        && lays(disk, 8192, b"\x01")
+        && has_digest(alloc, disk, BEFORE)
+        && opens_to(alloc, disk, CALLS, AFTER)
+        && opens_to(alloc, disk, 1, AFTER)
+}
+
+/// Whether that is so on a disk of its own.
+fn goes(alloc: Global) -> bool {
+    match MemoryDisk::new(alloc, SIZE) {
+        Ok(mut disk) => is_renewed(alloc, &mut disk),
+        Err(_) => false,
+    }
+}
+
+#[test]
+fn grown_renewed(rt: HostRuntime) {
+    assert!(rt; goes(rt.alloc()));
+}

@@ -1,0 +1,128 @@
+//! Records that are filled up to what a version allows, and above it.
+
+ghost use Rattle.std.specs.Prelude.{◌≤◌, length};
+ghost use Rattle.dr_base.specs.declared.limits.TheConstants.{PACKET_LIMIT};
+
+use crate::conversation::say;
+use crate::record::BEGUN;
+use boxes::{Inbox, Outbox};
+use dr_base::{Key32, PACKET_LIMIT, Side};
+use kem_laws::OpenKem;
+use ratchet::Session;
+use session_record::{Change, RECORD_LIMIT, encode};
+use std::alloc::{AllocError, Global};
+use std::test::Fail;
+
+/// What First keeps at the beginning, in a version, up to the kept keys; 600 texts may be missing.
+fn begun(alloc: Global, version: u8) -> Result<Vec<u8>, AllocError> {
+    let mut text = Vec::from_slice(alloc, &[version])?;
+    text.extend_from_slice(&BEGUN[1..122])?;
+    text.extend_from_slice(&600_u32.to_be_bytes())?;
+    Ok(text)
+}
+
+/// The record with so many kept keys.
+fn with_kept(alloc: Global, version: u8, n: u16) -> Result<Vec<u8>, AllocError> {
+    let mut text = begun(alloc, version)?;
+    text.extend_from_slice(&n.to_be_bytes())?;
+    for i in 0..n {
+        let index = i + 1;
+        text.extend_from_slice(&[0; 4])?;
+        text.extend_from_slice(&u32::from(index).to_be_bytes())?;
+        text.extend_from_slice(&[(index % 256) as u8; 32])?;
+    }
+    text.extend_from_slice(&[0; 2])?;
+    Ok(text)
+}
+
+/// The record with so many empty texts.
+fn with_entries(alloc: Global, version: u8, n: u16) -> Result<Vec<u8>, AllocError> {
+    let mut text = begun(alloc, version)?;
+    text.extend_from_slice(&[0, 0, (n % 256) as u8])?;
+    for i in 0..n {
+        text.extend_from_slice(&[0; 4])?;
+        text.extend_from_slice(&u32::from(i + 1).to_be_bytes())?;
+        text.extend_from_slice(&[0; 2])?;
+    }
+    text.extend_from_slice(&[0])?;
+    Ok(text)
+}
+
+/// The record with one text of so many bytes.
+fn with_text(alloc: Global, version: u8, n: u16) -> Result<Vec<u8>, AllocError> {
+    let mut text = begun(alloc, version)?;
+    text.extend_from_slice(&[0, 0, 1, 0, 0, 0, 0, 0, 0, 0, 1])?;
+    text.extend_from_slice(&n.to_be_bytes())?;
+    for _ in 0..n {
+        text.push(b'a')?;
+    }
+    text.push(0)?;
+    Ok(text)
+}
+
+/// The record of a session with one packet, in a version.
+fn encoded(
+    alloc: Global,
+    session: &Session<OpenKem>,
+    packet: &[u8],
+    version: u8,
+) -> Result<Vec<u8>, AllocError>
+    requires { length packet.now ≤ PACKET_LIMIT }
+{
+    let inbox = Inbox::new(alloc)?;
+    let outbox = Outbox::new(alloc)?;
+    let mut text = vec![in alloc; 0; RECORD_LIMIT]?;
+    let change = Change::Said { packet };
+    let len = encode(&session.part(), &inbox, &outbox, &change, &mut text);
+    text[0] = version;
+    text.truncate(len);
+    Ok(text)
+}
+
+/// The record with the packet of what a session says first.
+fn with_said(
+    alloc: Global,
+    session: &mut Session<OpenKem>,
+    first: &[u8],
+    version: u8,
+) -> Result<Vec<u8>, Fail> {
+    let packet = say(session, first, 0)?;
+    Ok(encoded(alloc, session, packet.as_slice(), version)?)
+}
+
+/// What Second keeps once it said so many x at the beginning, in a version.
+fn with_packet(alloc: Global, version: u8, n: u16) -> Result<Vec<u8>, Fail> {
+    let first = vec![in alloc; b'x'; usize::from(n)]?;
+    let mut session = Session::begin(&mut (), Side::Second, &Key32 { bytes: [0; 32] })?;
+    with_said(alloc, &mut session, &first, version)
+}
+
+/// What Second keeps once it said a text at the beginning, in a version, with this packet in place
+/// of that of its text.
+pub(crate) fn with_other(alloc: Global, version: u8, packet: &[u8]) -> Result<Vec<u8>, Fail> {
+    if packet.len() > PACKET_LIMIT {
+        return Ok(Vec::new(alloc));
+    }
+    let mut session = Session::begin(&mut (), Side::Second, &Key32 { bytes: [0; 32] })?;
+    let _own = say(&mut session, b"hi", 0)?;
+    Ok(encoded(alloc, &session, packet, version)?)
+}
+
+/// What a record is filled with: kept keys, empty texts, a text, a packet.
+#[derive(Clone, Copy)]
+pub(crate) enum With {
+    Kept,
+    Entries,
+    Text,
+    Packet,
+}
+
+/// The record in a version with so many of these, or with one of so many bytes.
+pub(crate) fn filled(alloc: Global, with: With, version: u8, n: u16) -> Result<Vec<u8>, Fail> {
+    match with {
+        With::Kept => Ok(with_kept(alloc, version, n)?),
+        With::Entries => Ok(with_entries(alloc, version, n)?),
+        With::Text => Ok(with_text(alloc, version, n)?),
+        With::Packet => with_packet(alloc, version, n),
+    }
+}

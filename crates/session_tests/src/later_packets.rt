@@ -1,0 +1,69 @@
+//! Packets of later versions, of an independent implementation: no record of these versions holds
+//! one.
+
+use crate::filled::with_other;
+use crate::record::is_damaged;
+use crate::versions::has_digest;
+use hex::decode;
+use std::alloc::Global;
+use std::test::Fail;
+
+/// The packet 0.1 of the text `hi` in version 2.
+const PADDED: &str =
+    "0270e0f9cd1a5863238d67aecce0c032e500000000000000000000000100000100118d47c470ccae0472fe697ab3\
+    ea3690a69c3086a940bd774a69bf29c0c3f667868a2f054649aa566246d7704df012b80db57f335eefa2384e3636\
+    a1e88eb0304b9428db33e10311764d57c9aa49ccbf6e30161aa9d8634ec70c8a702de1d7e9c76e94ba4b86fd08c6\
+    dace5e1101e95ba2435f3c933ec4f7aba60426b3217f4f3bec5963eca998c22b5959d43fb6ba1bcd333af5a0934a\
+    7297c434188b52696f8a55c7091b406fe4ae9b7048b4f24068641d5e69aef181103383085f3f05a8b2485e5d365b\
+    af795379f6adfa352acee5f5ad6ee5dccdf61518f93b1f48454c324a459c4e2c4b7370bef7f3925998b0960d1f55\
+    a7aaf440471935f771608bcb46f65c7d4aa4c8f46677de7c8495a9025bbff7f94ae08d66fb95c2cecaf60ee595";
+
+/// The packet 0.1 of the text `hi` in version 3.
+const RECEIPTS: &str =
+    "0370e0f9cd1a5863238d67aecce0c032e500000000000000000000000100000100118b2fad18a5ae0472fe697ab3\
+    ea3690a69c3086a940bd774a69bf29c0c3f667868a2f054649aa566246d7704df012b80db57f335eefa2384e3636\
+    a1e88eb0304b9428db33e10311764d57c9aa49ccbf6e30161aa9d8634ec70c8a702de1d7e9c76e94ba4b86fd08c6\
+    dace5e1101e95ba2435f3c933ec4f7aba60426b3217f4f3bec5963eca998c22b5959d43fb6ba1bcd333af5a0934a\
+    7297c434188b52696f8a55c7091b406fe4ae9b7048b4f24068641d5e69aef181103383085f3f05a8b2485e5d365b\
+    af795379f6adfa352acee5f5ad6ee5dccdf61518f93b1f48454c324a459c4e2c4b7370bef7f3925998b0960d1f55\
+    a7aaf440471935f771608bcb466dd28f8300cbf0edf0fca4cb26ab8fdf0ebcd105a5d48bc6b84ba21812784611";
+
+/// The version of a record, the packet in its outbox, and the SHA-256 of the record.
+type Row = (u8, &'static str, &'static str);
+
+/// Whether a row's record has its SHA-256, and is damaged where the packet stands.
+fn is_refused(alloc: Global, row: Row) -> Result<bool, Fail> {
+    let (version, packet, sha256) = row;
+    let text = with_other(alloc, version, &decode(alloc, packet)?)?;
+    Ok(has_digest(alloc, &text, sha256)? && is_damaged(alloc, &text, Some(132))?)
+}
+
+#[test]
+fn records_hold_no_packets_of_later_versions(rt: HostRuntime) -> Result<(), Fail> {
+    let rows: [Row; 4] = [
+        (
+            1,
+            PADDED,
+            "7ee89e8bf6ca29aba9a228d445b9d121738687af7874bddec93e45cca177e810",
+        ),
+        (
+            1,
+            RECEIPTS,
+            "64eaf10928d31480922ce68ec42541c114abf80a1daa26495151c408c6e38d4a",
+        ),
+        (
+            2,
+            PADDED,
+            "d4d0edfdf3803cb25ebcaed45c38021eb51ea416314fda45aba59874159f87de",
+        ),
+        (
+            2,
+            RECEIPTS,
+            "5d8218936f144995f1b9c1d76cb79b0e362212e62676640b1188973b9118174b",
+        ),
+    ];
+    for row in rows {
+        assert!(rt; is_refused(rt.alloc(), row)?);
+    }
+    Ok(())
+}

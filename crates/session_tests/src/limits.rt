@@ -1,0 +1,131 @@
+//! What each version of a record allows, by rows of an independent implementation.
+
+use crate::filled::{With, filled};
+use crate::record::is_damaged;
+use crate::versions::has_digest;
+use std::alloc::Global;
+use std::test::Fail;
+
+/// A version, how many or how long, and where the record is damaged, if it is.
+type Row = (u8, u16, Option<usize>);
+
+/// So many kept keys.
+const KEPT: [Row; 8] = [
+    (1, 256, None),
+    (1, 257, Some(126)),
+    (1, 512, Some(126)),
+    (1, 513, Some(126)),
+    (2, 256, None),
+    (2, 257, None),
+    (2, 512, None),
+    (2, 513, Some(126)),
+];
+
+/// The SHA-256 of each of these records.
+const KEPT_SHA256: [&str; 8] = [
+    "1144b719cc6a8e7d37f2e6e2494feacdd6a35423461568aec3b0ef79485690c7",
+    "deff041acb243b1baf92dab2b7ca17e5bb3f2c86e9de3376f7288be61cdadce2",
+    "6e99cd7091d3c0ba0aae3db90bf67594927dd957b24bbf9aa73f1a082c0bdcdf",
+    "7e8d8341a91869293b400e0cfded87391a761107b8a221cc37de0f0ea9900f41",
+    "7a79b77df36f9b85206ef4cf6d46e8d7e81ade74c39bfb14cf884d283c64605b",
+    "a793947a35a932e02b0fb2819df949c8f45c0af3143131113a7fa3e3ce5e2c15",
+    "98ce56d05e0bf18cd2c6b121616e7a296cceb630d5dd266f981d1d1132c5c2d2",
+    "11785e8e6809f8ef5860727b196587b0c111541dda3c8f9771801bf6df2b7425",
+];
+
+/// So many texts in an inbox, all empty.
+const ENTRIES: [Row; 8] = [
+    (1, 64, None),
+    (1, 65, Some(128)),
+    (1, 128, Some(128)),
+    (1, 129, Some(128)),
+    (2, 64, None),
+    (2, 65, None),
+    (2, 128, None),
+    (2, 129, Some(128)),
+];
+
+/// The SHA-256 of each of these records.
+const ENTRIES_SHA256: [&str; 8] = [
+    "f7f00785b8b7511cd57ceb850c471bcf4c621ed7663b6ac625a6022c60fea818",
+    "f36adef3e04cace899e8c704ff2039e34edb0f376a3752facadbfa7a9e637b87",
+    "9b11a955b2ad292a9e497da7b81c84c5d9f6ca87dcf34856829baa18f4ec0f46",
+    "7299c1c8ffe30b79bc4165d472730025a948738bc8f71ed372b6192d67eccb36",
+    "6001514d6f73b6f456d7dd529278342397aa4cebdc8f555d32009c38ecbd019d",
+    "16bb914f53500c7e0b40bbb176f98eb84ab445bd1d3c07666baba78121e1bf5b",
+    "f7539970fb27ed40a249881de336ece80d26a9382614fcc965aab387d77c4b9a",
+    "d8ddf951553a8a427d4d72c4b73db85485199966bd093f3145419d24d3d41fb9",
+];
+
+/// One text of so many bytes.
+const TEXT: [Row; 8] = [
+    (1, 1024, None),
+    (1, 1025, Some(137)),
+    (1, 4096, Some(137)),
+    (1, 4097, Some(137)),
+    (2, 1024, None),
+    (2, 1025, None),
+    (2, 4096, None),
+    (2, 4097, Some(137)),
+];
+
+/// The SHA-256 of each of these records.
+const TEXT_SHA256: [&str; 8] = [
+    "05fc41c100ed6e526ffc2349c9a4e0a62d62e040fe88ff25ad9331a38c83ff2d",
+    "1c35c822ac0cf2bc8fb0b43024724dab388713354db47416419c06e38065d0c0",
+    "94437fe4b48e543377e3d195c62e61da2c1fd045e84c6177373a7d82838dece1",
+    "9c19bdff0b31a2cf0a748b4f2353a061015615f6c86c8b1f9bf1ca9e438a2b15",
+    "9dc77613204862dd733ce44a2f4703f0b9df33f4d522a55f6cf9954d25ad095f",
+    "f1bdc976fd7fb466ba3bfd66c29392e20c220a7afa360acda2c30cafbb0d7823",
+    "dce9de380f468ef89fac1f03953d3976cc9600a956ff4e4b5813030c7fb8dcab",
+    "1ad0425c4933578ee52cf978575a9821f00341b56f1e0ece448a11c76c21a412",
+];
+
+/// One packet in Second's outbox, of a text of so many bytes.
+const PACKET: [Row; 6] = [
+    (1, 1024, None),
+    (1, 1025, Some(132)),
+    (1, 4096, Some(132)),
+    (2, 1024, None),
+    (2, 1025, None),
+    (2, 4096, None),
+];
+
+/// The SHA-256 of each of these records.
+const PACKET_SHA256: [&str; 6] = [
+    "8337d56a8d6a2f1ef3313959ae475ae36688c3057b07bc868bd54536b4885b24",
+    "2829d765fa811ff9c4eb5a2a768b400a73a109f33c519550b71e9220dae6db83",
+    "ba20a6fb79654d8f83be3291124c848f4a033d306c339e7177c637c1ff8bcae7",
+    "1024883f2875f0901d794cccf3549dc6aad8871b4e66d14695217e0853660b4d",
+    "518babd2a879d00b0a54c8f5de0af04b4dad8368aaaed2a80a86625034fda56c",
+    "07fd360e5da41bb309e86d7627f81d776401d2a7f8a087eb8af1d6dfec0e55b8",
+];
+
+/// Whether a row's record has its SHA-256, and its damage.
+fn is_as_told(alloc: Global, with: With, row: Row, sha256: &str) -> Result<bool, Fail> {
+    let (version, n, at) = row;
+    let text = filled(alloc, with, version, n)?;
+    Ok(has_digest(alloc, &text, sha256)? && is_damaged(alloc, &text, at)?)
+}
+
+/// Whether the record of each row is as told.
+fn are_as_told(alloc: Global, with: With, rows: &[Row], sha256: &[&str]) -> Result<bool, Fail> {
+    for i in 0..rows.len() {
+        let Some(digest) = sha256.get(i) else {
+            return Ok(false);
+        };
+        if !is_as_told(alloc, with, rows[i], digest)? {
+            return Ok(false);
+        }
+    }
+    Ok(true)
+}
+
+#[test]
+fn a_version_limits_what_a_record_holds(rt: HostRuntime) -> Result<(), Fail> {
+    assert!(rt; are_as_told(rt.alloc(), With::Kept, &KEPT, &KEPT_SHA256)?);
+    assert!(rt; are_as_told(rt.alloc(), With::Entries, &ENTRIES, &ENTRIES_SHA256)?);
+    assert!(rt; are_as_told(rt.alloc(), With::Text, &TEXT, &TEXT_SHA256)?);
+    assert!(rt; are_as_told(rt.alloc(), With::Packet, &PACKET, &PACKET_SHA256)?);
+    Ok(())
+}
