@@ -99,7 +99,7 @@ def fields_of(packet):
     number(4, "Previous", range(65536) if epoch > 1 else [0])
     index = number(4, "Index", range(1, 65536))
     field(number(2, "Agreement", [AGREEMENT if epoch > 0 else 0]))
-    length = number(2, "Text", range(1025))
+    length = number(2, "Text", range(4097))
     head = packet[:at]
     ciphertext, tag = field(length), field(32)
     if at < len(packet):
@@ -126,7 +126,7 @@ def opened(side, key, packet):
 def sealed(side, key, index, text):
     if side == "first":
         raise Refused("First says nothing in epoch 0, and epoch 1 needs the key encapsulation, which isn't here")
-    if len(text) > 1024:
+    if len(text) > 4096:
         raise Refused(f"TextTooLong {len(text)}")
     stream, session = beginning(key)
     cipher_key, tag_key, nonce = message(stream, index)

@@ -92,6 +92,9 @@ def acts(side, words, given, said):
 # ---- a relay
 
 
+BODY = 8192  # the most bytes of a frame's body
+
+
 def frame(body):
     return len(body).to_bytes(2, "big") + body
 
@@ -105,7 +108,7 @@ def frames_of(stream):
     at = 0
     while at + 2 <= len(stream):
         size = int.from_bytes(stream[at : at + 2], "big")
-        if not 1 <= size <= 4096:
+        if not 1 <= size <= BODY:
             yield None
             return
         if at + 2 + size > len(stream):
@@ -170,7 +173,7 @@ class Course:
     def ask(self, request, answers):
         self.requests += frame(request)
         came, size = self.replies, int.from_bytes(self.replies[:2], "big")
-        if len(came) >= 2 and not 1 <= size <= 4096:
+        if len(came) >= 2 and not 1 <= size <= BODY:
             raise Fault(12, "peer: Frame at 0")
         if len(came) < 2 or len(came) < 2 + size:
             raise Fault(12, f"peer: Ended at {len(came)}")
@@ -218,7 +221,7 @@ POSITION = NUMBER + rb"\." + NUMBER
 CALL = rb"say(?: (?P<text>.*))?|take " + POSITION + rb"|take #" + NUMBER + rb"|(?:sent|done) " + NUMBER
 LINE = re.compile(
     rb"seed [0-9a-fA-F]{64}|(?:first|second) (?:" + CALL + rb"|flip " + POSITION + b" " + NUMBER
-    + rb"|bytes(?: (?:[0-9a-fA-F]{2}){0,4000})?|(?:sent|done) all|inbox|state|sync|lose " + FROM_ONE
+    + rb"|bytes(?: (?:[0-9a-fA-F]{2}){0,8000})?|(?:sent|done) all|inbox|state|sync|lose " + FROM_ONE
     + rb"|open|stop " + NUMBER + rb" (?:old|new|[0-9a-fA-F]{2}) (?:" + CALL.replace(b"?P<text>", b"?P<stopped>")
     + rb")|fail " + FROM_ONE + rb" (?:" + CALL.replace(b"?P<text>", b"?P<failed>") + rb"))",
     re.S,

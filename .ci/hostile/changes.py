@@ -1,10 +1,11 @@
 """Changes at random of real bytes, files and scripts, for `.ci/hostile-bytes`: `draw` is the random source of the case."""
-from hostile.formats import PAGE
+from hostile.areas import PAGE
 
 
 def number_near(draw, size, now):
     """A number that isn't far from a limit or from what stood there."""
-    near = [0, 1, 2, 16, 63, 64, 255, 256, 257, 1023, 1024, 1025, 4000, 4001, 4095, 4096, 4097, 65535, 2**32 - 1]
+    near = [0, 1, 2, 16, 63, 64, 65, 127, 128, 129, 255, 256, 257, 511, 512, 513, 1023, 1024, 1025, 4095, 4096, 4097]
+    near += [7999, 8000, 8001, 8191, 8192, 8193, 65535, 2**32 - 1]
     value = draw.choice([now + draw.choice((-2, -1, 1, 2, 256)), draw.choice(near), 1 << draw.randrange(8 * size)])
     return (value % (1 << 8 * size)).to_bytes(size, "big")
 
@@ -90,7 +91,7 @@ SCRIPTS = [
     "first state",
     f"seed {'1' * 64},first say z,first bytes 01020304,first bytes,second take 1.1",
 ]
-WORDS = "0 00 1 2 64 65 1025 4294967295 4294967296 #0 #1 #4294967295 0.0 0.1 1.1 2.1 0.65536 1.4294967295".split()
+WORDS = "0 00 1 2 128 129 1025 4294967295 4294967296 #0 #1 #4294967295 0.0 0.1 1.1 2.1 0.65536 1.4294967295".split()
 WORDS += "all old new a5 A5 first second".split()
 
 

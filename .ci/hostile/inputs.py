@@ -3,55 +3,45 @@ import random
 
 from hostile.answers import frame, named
 from hostile.changes import SCRIPTS
-from hostile.formats import PAGE, STATE_AREA, Fault, Side, opened
+from hostile.areas import aged, side_of
+from hostile.formats import ITEMS, STORED_PACKET, TEXT, TEXTS
 from hostile.runs import Folder, expect, serve
 
 KEY = b"0123456789abcdef" * 4
 
 
-def side_of(image):
-    return opened(image, 0, *STATE_AREA, Side)[0]
-
-
-def foretold(image, place, area, record):
-    """The record that is found in an area, the file that its opening leaves, and what is told of damage."""
-    try:
-        found, left = opened(image, place, *area, record)
-    except Fault as fault:
-        return None, image, "slot {} at {}\n".format(*fault.args)
-    # what is written to has the size of its area at least
-    return found, left if left == image else left.ljust(place + area[0] * PAGE, b"\0"), None
-
-
 class Inputs:
-    """A session of two sides, made by the program: state files of its steps, packets with their texts, files of relays."""
+    """A session of two sides, made by the program: state files of its steps, some with their record in version 1, packets with
+    their texts, files of relays."""
 
     def __init__(self, work):
-        self.said, self.stages = {}, []
+        self.said, self.stages, self.kept = {}, [], 1
         self.sides = {name: Folder(work, f"made-{name}", "messenger.state") for name in ("first", "second")}
         for name in self.sides:
             self.step(name, "begin", name, given=KEY)
         self.session = side_of(self.stages[0]).session
-        for text in (b"are you there?", b"\xc3\xa9\"\\\x01", b"x" * 1024, b""):
+        for text in (b"are you there?", b"\xc3\xa9\"\\\x01", b"x" * TEXT, b""):
             self.say("second", text)
         self.take("first", "0.3", "0.1")
         self.say("first", b"yes")
         self.say("first", b"no")
         self.step("second", "sent", "3")
         self.take("second", "1.2")
-        for n in range(70):
+        for n in range(TEXTS + 6):
             self.say("second", b"%d" % n * 40)
             if n > 28:
                 self.step("second", "sent", "1")
         self.take("first", "2.20")
         self.step("first", "done", "1")
-        self.take("first", "2.64", *(f"2.{n}" for n in range(1, 63) if n != 20))
-        self.say("first", b"y" * 1024)  # its inbox is full
+        self.take("first", f"2.{TEXTS}", *(f"2.{n}" for n in range(1, TEXTS - 1) if n != 20))
+        self.say("first", b"y" * TEXT)  # its inbox is full
         self.take("second", "3.1")
-        self.stages = [stage for n, stage in enumerate(self.stages) if n % 3 == 0 or n > len(self.stages) - 8]
+        self.stages += filter(None, map(aged, self.stages[::2]))
         self.packets = list(self.said)
         self.boxes = [self.session.hex().encode() + b"-%d" % k for k in (1, 2)] + [b"a"]
-        self.relays = [self.relay_file(Folder(work, f"relay-{n}", "relay.state"), random.Random(n)) for n in range(5)]
+        draws = map(random.Random, range(5))
+        self.relays = [self.relay_file(Folder(work, f"relay-{n}", "relay.state"), draw) for n, draw in enumerate(draws)]
+        self.relays.append(self.full_relay_file(Folder(work, "relay-full", "relay.state")))
         self.scripts = [
             f"kem {kem}\nkey {KEY.decode()}\n{lines}\n".replace(",", "\n").encode()
             for kem in ("open", "sntrup761")
@@ -59,10 +49,13 @@ class Inputs:
         ]
 
     def step(self, name, *words, given=b""):
-        """A command of a side, which has to do its work."""
+        """A command of a side, which has to do its work. Of the files that it leaves each tenth is kept, and the last ones."""
         folder = self.sides[name]
         status, lines, image = folder.run(folder.image(), *words, given=given)
         expect(f"inputs: {words[0]}", status, 0)
+        if len(self.stages) - self.kept > 12:
+            del self.stages[self.kept : self.kept + 9]
+            self.kept += 1
         self.stages.append(image)
 
     def say(self, name, text):
@@ -78,4 +71,11 @@ class Inputs:
         posts = [frame(named(1, draw.choice(self.boxes)) + draw.choice(self.packets)) for _ in range(draw.choice((3, 8, 60)))]
         drops = [frame(named(3, box) + (1).to_bytes(8, "big")) for box in self.boxes]
         serve(folder, None, self.boxes, b"".join(posts + drops))
+        return folder.image()
+
+    def full_relay_file(self, folder):
+        """The first box was full of the longest packets, and the first of them was dropped: so most pages are upper ones."""
+        posts = [frame(named(1, self.boxes[0]) + bytes([n]) * STORED_PACKET) for n in range(1, ITEMS + 1)]
+        drop = frame(named(3, self.boxes[0]) + (1).to_bytes(8, "big"))
+        serve(folder, None, self.boxes, b"".join(posts + [drop]))
         return folder.image()

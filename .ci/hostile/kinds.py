@@ -1,10 +1,12 @@
 """The kinds of cases. Each changes something, runs the program on it, compares with what is foretold, and answers the status."""
 from hostile.answers import Course, acts, bad_line, frame, frames_of, named, replied, shown
+from hostile.areas import HALF, STATE_AREA, STATE_SIZE, box_area, foretold, looked, put_at, renewed, side_of
 from hostile.changes import changed, changed_file, changed_script
-from hostile.formats import BOX_AREA, PAGE, STATE_AREA, Box, Side, looked, opened
-from hostile.inputs import KEY, foretold, side_of
+from hostile.formats import STORED_PACKET, Box, Side
+from hostile.inputs import KEY
 from hostile.runs import expect, expect_talk, serve, sync
 
+PACKET_TEXT = 12717  # the most bytes of a packet's line
 KEPT = ("texts", "packets", "kept", "reach", "latest", "epoch")  # what of a side is compared
 
 
@@ -24,22 +26,33 @@ def try_packet(draw, folder, inputs):
         line = changed(draw, line, [line, b"0123456789abcdefABCDEF\r\n\t -.x"])
     status, lines, left = folder.run(image, "take", given=line)
     digits = line.removesuffix(b"\n")
-    if len(line) > 6573:
-        wanted = "refused: InputTooLong 6573\n"
+    if len(line) > PACKET_TEXT:
+        wanted = f"refused: InputTooLong {PACKET_TEXT}\n"
     elif len(digits) % 2 or digits.strip(b"0123456789abcdefABCDEF"):
         wanted = "refused: NotHex\n"
     else:
         wanted = acts(side, ["take"], bytes.fromhex(digits.decode()), inputs.said)
-    expect_act(status, lines, image, left, wanted, side)
+    # what is no packet's line is refused before the file is opened
+    is_read = not wanted.startswith(("refused: InputTooLong", "refused: NotHex"))
+    expect_act(status, lines, opened(image)[2] if is_read else image, left, wanted, side)
     return status
 
 
-def expect_act(status, lines, tidy, left, wanted, side):
-    """A refusal leaves the file; else it keeps what the side keeps then."""
+def opened(image):
+    """The side that an opening of a file finds, the file once it is at rest, the one that the opening leaves, and what is told of
+    damage."""
+    found, tidy, damage = foretold(image, STATE_AREA, Side)
+    if damage:
+        return None, tidy, tidy, damage
+    return found.record, tidy, renewed(tidy, found), None
+
+
+def expect_act(status, lines, then, left, wanted, side):
+    """A refusal leaves the file as its opening does; else it keeps what the side keeps then."""
     refused = wanted.startswith("refused")
     expect("the answer", (status, lines), (3 if refused else 0, wanted))
     if refused:
-        expect("a refusal leaves the file", left == tidy, True)
+        expect("a refusal leaves the file", left == then, True)
         return
     kept = side_of(left)
     for what in KEPT:
@@ -54,14 +67,14 @@ COMMANDS = [*LOOKS, *LOOKS, "check", "check", "done 0", "done 2", "sent 1", "say
 
 
 def try_state(draw, folder, inputs):
-    image = changed_file(draw, draw.choice(inputs.stages), inputs.stages, STATE_AREA[0] * PAGE)
+    image = changed_file(draw, draw.choice(inputs.stages), inputs.stages, STATE_SIZE)
     words = draw.choice(COMMANDS).split()
     packet = draw.choice(inputs.packets)
     given = {"take": packet.hex().encode(), "begin": KEY}.get(words[0], b"")
-    side, tidy, damage = foretold(image, 0, STATE_AREA, Side)
+    side, tidy, then, damage = opened(image)
     status, lines, left = folder.run(image, *words, given=given)
     if words[0] == "check":
-        expect("check", (status, lines), (0, looked(image, *STATE_AREA, Side)))
+        expect("check", (status, lines), (0, looked(image, STATE_AREA, Side)))
         expect("a look writes nothing", left == image, True)
         return status
     if damage:
@@ -74,8 +87,8 @@ def try_state(draw, folder, inputs):
         wanted = 9, "no session\n"
     elif words[0] in LOOKS:
         wanted = 0, shown(side, words[0])
-    elif words[0] == "begin":
-        wanted = 10, "session exists\n"
+    elif words[0] == "begin":  # which leaves a record's version
+        wanted, then = (10, "session exists\n"), tidy
     elif words[0] == "sync":  # where nobody listens
         wanted = 7, "fault: link\n"
     else:
@@ -83,11 +96,11 @@ def try_state(draw, folder, inputs):
         wanted = 3, "refused: BadTag\n"
         if words[0] != "take" or lines != wanted[1]:
             line = acts(side, words, packet, inputs.said)
-            expect_act(status, lines, tidy, left, line, side)
+            expect_act(status, lines, then, left, line, side)
             wanted = status, line
-            tidy = left
+            then = left
     expect(" ".join(words), (status, lines), wanted)
-    expect("the file is as it was, or tidied", left == tidy, True)
+    expect("the file is as it was, or tidied and in the newest version", left == then, True)
     if status == 0 and words[0] not in LOOKS:
         words, wanted = ["state"], (0, shown(side, "state"))
     again = folder.run(left, *words, given=given)
@@ -99,12 +112,12 @@ def served(folder, inputs, image, stream):
     """A relay on a file, asked on one connection: the lines, the replies and the boxes."""
     boxes, tidy, wanted = {}, image, None
     for k, box in enumerate(inputs.boxes):
-        found, after, damage = foretold(tidy, k * BOX_AREA[0] * PAGE, BOX_AREA, Box)
+        found, after, damage = foretold(tidy, box_area(k), Box)
         if damage:
             wanted = 11, f"damaged area {k} {damage}"
             break
         tidy = after
-        boxes[box] = found or Box(b"\1" + bytes([len(box)]) + box + bytes(9))
+        boxes[box] = found.record or Box(b"\1" + bytes([len(box)]) + box + bytes(9))
         if boxes[box].name != box and not wanted:
             wanted = 3, f"refused: BoxName {k + 1}\n"
     status, lines, came = folder.in_time(serve, folder, image, inputs.boxes, stream)
@@ -117,12 +130,20 @@ def served(folder, inputs, image, stream):
     expect("the relay", (status, lines), (0, f"connection 1 ended {len(replies)}\n"))
     expect_talk("the replies", came, b"".join(replies))
     for k, box in enumerate(boxes.values()):
-        kept, rest = opened(left, k * BOX_AREA[0] * PAGE, *BOX_AREA, Box)
+        found, rest, _ = foretold(left, box_area(k), Box)
+        kept = found.record
         expect("a box", (kept.name, kept.last, kept.items), (box.name, box.last, box.items))
         expect("it is at rest", rest == left, True)
-    end = len(boxes) * BOX_AREA[0] * PAGE
-    expect("what lies behind", left[end:] == image[end:], True)
+    expect("what lies elsewhere", outside(left, len(boxes)) == outside(image or b"", len(boxes)), True)
     return status
+
+
+def outside(image, count):
+    """A relay's file without the areas of so many boxes, up to its last byte that isn't zero."""
+    for k in range(count):
+        for start, end in box_area(k).ranges():
+            image = put_at(image, start, bytes(len(image[start:end])))
+    return image.rstrip(b"\0")
 
 
 def requests(draw, inputs):
@@ -146,7 +167,7 @@ def beginnings(frames, fields):
 
 
 def try_relay_file(draw, folder, inputs):
-    image = changed_file(draw, draw.choice(inputs.relays), inputs.relays, BOX_AREA[0] * PAGE)
+    image = changed_file(draw, draw.choice(inputs.relays), inputs.relays, HALF)
     return served(folder, inputs, image, b"".join(requests(draw, inputs)))
 
 
@@ -163,7 +184,7 @@ def try_replies(draw, folder, inputs):
     for number in range(1, draw.randrange(1, 7)):
         packet = draw.choice(inputs.packets)
         if draw.random() < 0.2:
-            packet = changed(draw, packet, inputs.packets)[:4000] or b"\0"
+            packet = changed(draw, packet, inputs.packets)[:STORED_PACKET] or b"\0"
         replies += [frame(b"\x82" + number.to_bytes(8, "big") + packet), frame(b"\x84")]
     replies.append(frame(b"\x83"))
     replies += [frame(b"\x81" + number.to_bytes(8, "big")) for number in range(1, len(side.packets) + 1)]
@@ -182,7 +203,7 @@ def try_replies(draw, folder, inputs):
     for what in KEPT:
         expect(f"{what}, then", getattr(kept, what), getattr(side, what))
     if not any(line.startswith(("opened", "stored")) for line in course.lines):
-        expect("a sync that moves nothing leaves the file", left == image, True)
+        expect("a sync that moves nothing leaves the file", left == opened(image)[2], True)
     return status
 
 

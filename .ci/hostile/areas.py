@@ -1,0 +1,163 @@
+"""Areas of pages: what an opening finds in one, and the file that it leaves, as docs/PROTOCOL.md says: another implementation,
+for `.ci/hostile-bytes`."""
+from typing import NamedTuple
+
+from hostile.formats import NEWEST, Fault, Side
+
+PAGE = 4096
+LOWER = 128  # pages that stand from an area's start on; the others stand from its upper place on
+HALF = LOWER * PAGE
+BOXES = 16
+
+
+class Area(NamedTuple):
+    """Where its two ranges begin, how many pages it has, and the most that a record may have."""
+
+    start: int
+    upper: int
+    pages: int
+    most: int
+
+    def place(self, number):
+        return self.start + PAGE * number if number < LOWER else self.upper + PAGE * (number - LOWER)
+
+    def page(self, image, number):
+        """A page of a file, which reads as zeros behind its end."""
+        place = self.place(number)
+        return image[place : place + PAGE].ljust(PAGE, b"\0")
+
+    def ranges(self):
+        return (self.start, self.start + HALF), (self.upper, self.upper + PAGE * (self.pages - LOWER))
+
+
+STATE_AREA = Area(0, HALF, 384, 190)
+STATE_SIZE = PAGE * STATE_AREA.pages
+
+
+def box_area(k):
+    return Area(HALF * k, HALF * (BOXES + k), 2 * LOWER, 126)
+
+
+def put_at(image, place, text):
+    """A file with bytes written over it, which has to reach there."""
+    return image[:place] + text + image[place + len(text) :]
+
+
+def turns_of(image, area):
+    """The turns of both tables; 0 where one isn't open."""
+    heads = [area.page(image, slot)[:2] for slot in (0, 1)]
+    return [head[1] if head[0] == 0xA5 and head[1] in (1, 2, 3) else 0 for head in heads]
+
+
+def newer(turns):
+    return 1 if turns[1] and (not turns[0] or turns[1] == turns[0] % 3 + 1) else 0
+
+
+class Found(NamedTuple):
+    """The record of an area as it is read, its slot, and its pages; no record where no table is open."""
+
+    record: object
+    slot: int
+    numbers: list
+
+    def stands(self):
+        return [self.slot, *self.numbers] if self.record else []
+
+
+def found_in(image, area, record_of):
+    """What is found in an area, or the fault with its slot and place."""
+    turns = turns_of(image, area)
+    if turns[0] and turns[0] == turns[1]:
+        raise Fault(1, 1)
+    if not any(turns):
+        return Found(None, 0, [])
+    slot = newer(turns)
+    table = area.page(image, slot)
+    size = int.from_bytes(table[2:6], "big")
+    count = -(-size // PAGE)
+    if count > area.most:
+        raise Fault(slot, 2)
+    numbers = []
+    for at in range(6, 6 + 2 * count, 2):
+        number = int.from_bytes(table[at : at + 2], "big")
+        if not 2 <= number < area.pages or number in numbers:
+            raise Fault(slot, at)
+        numbers.append(number)
+    behind = table[6 + 2 * count :]
+    if behind.strip(b"\0"):
+        raise Fault(slot, PAGE - len(behind.lstrip(b"\0")))
+    held = b"".join(area.page(image, number) for number in numbers)
+    try:
+        record = record_of(held[:size])
+    except Fault as fault:
+        raise Fault(slot, PAGE + fault.args[1]) from None
+    if held[size:].strip(b"\0"):
+        raise Fault(slot, PAGE + len(held) - len(held[size:].lstrip(b"\0")))
+    return Found(record, slot, numbers)
+
+
+def tidied(image, area, found):
+    """The file with zeros in each page of the area that doesn't stand."""
+    for number in range(area.pages):
+        place = area.place(number)
+        if number not in found.stands() and image[place : place + PAGE].strip(b"\0"):
+            image = put_at(image, place, bytes(len(image[place : place + PAGE])))
+    return image
+
+
+def with_room(left, image, area):
+    """The file with the room that it takes before what was written to it: all of a side's, half of a box's area."""
+    for start, end in area.ranges():
+        if left[start:end] != image[start:end]:
+            left = left.ljust(STATE_SIZE if area == STATE_AREA else end, b"\0")
+    return left
+
+
+def foretold(image, area, record_of):
+    """What is found in an area, the file once it is at rest, and what is told of damage."""
+    try:
+        found = found_in(image, area, record_of)
+    except Fault as fault:
+        return None, image, "slot {} at {}\n".format(*fault.args)
+    return found, with_room(tidied(image, area, found), image, area), None
+
+
+def looked(image, area, record_of):
+    """The lines of `check`."""
+    turns = turns_of(image, area)
+    gates = "".join(f"slot {slot} open {turn}\n" if turn else f"slot {slot} closed\n" for slot, turn in enumerate(turns))
+    try:
+        found = found_in(image, area, record_of)
+    except Fault as fault:
+        return gates + "damaged slot {} at {}\nrest no\n".format(*fault.args)
+    size = int.from_bytes(area.page(image, newer(turns))[2:6], "big")
+    rests = tidied(image, area, found) == image
+    return gates + (f"record {size}\n" if found.record else "no record\n") + ("rest yes\n" if rests else "rest no\n")
+
+
+def side_of(image):
+    return found_in(image, STATE_AREA, Side).record
+
+
+def aged(image):
+    """A side's file with its record in version 1, where that may hold it, or none."""
+    found = found_in(image, STATE_AREA, Side)
+    old = put_at(image, STATE_AREA.place(found.numbers[0]), b"\1")
+    return None if foretold(old, STATE_AREA, Side)[2] else old
+
+
+def renewed(image, found):
+    """A side's file at rest once it was opened: a record of an earlier version is replaced by the same in the newest one, so its
+    first page and its table move."""
+    if not found.record or found.record.version == NEWEST:
+        return image
+    area, image = STATE_AREA, image.ljust(STATE_SIZE, b"\0")
+    old, slot, turn = found.numbers[0], 1 - found.slot, turns_of(image, area)[found.slot]
+    page = next(number for number in range(2, area.pages) if number not in found.numbers)
+    numbers = b"".join(number.to_bytes(2, "big") for number in [page, *found.numbers[1:]])
+    table = bytes((0xA5, turn % 3 + 1)) + len(found.record.record).to_bytes(4, "big") + numbers
+    image = put_at(image, area.place(page), bytes([NEWEST]) + area.page(image, old)[1:])
+    image = put_at(image, area.place(slot), table.ljust(PAGE, b"\0"))
+    for number in (found.slot, old):
+        image = put_at(image, area.place(number), bytes(PAGE))
+    return image
