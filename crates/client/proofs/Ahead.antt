@@ -9,7 +9,8 @@ use Rattle.dr_base.specs.Position.{peer_of}
 use Rattle.dr_base.specs.declared.position.Side.{Side}
 use Rattle.dr_base.specs.declared.position.Side.TheVariants.{First, Second}
 use Rattle.dr_model.specs.Conversations.Posts.{posts}
-use Rattle.dr_model.specs.Machines.Acts.{Act, act_in, act_on, finishing, kept_by, needs_seed, saying, sending, taking}
+use Rattle.dr_model.specs.Machines.Acts.{Act, act_on, needs_seed, saying, taking}
+use Rattle.dr_model.specs.Machines.WorldActs.{act_in, kept_by}
 use Rattle.dr_model.specs.Machines.Steps.{Step, settled}
 use Rattle.dr_model.specs.Machines.WorldSides.{kept_in}
 use Rattle.dr_model.specs.Machines.Worlds.{World, made_at, may_say}
@@ -94,8 +95,7 @@ module _ (k : Mechanism) (law : IsLawfulMechanism k) (follow : ActsFollow k) (si
     fair_ahead : (act : Act) → IsFairAct k w side act → IsFairAct k ahead side act
     fair_ahead (saying text draw) fair = record { needed = fair.needed ∙ same_need (length text); whole = fair.whole }
     fair_ahead (taking bytes) fair = unforged_ahead bytes fair
-    fair_ahead (finishing n) fair = fair
-    fair_ahead (sending n) fair = fair
+    fair_ahead act fair = tt
 
     same_step : (act : Act) → IsFairAct k w side act → kept_by k side (act_in k ahead side act) ≡ kept_by k side (act_in k w side act)
     same_step act fair =

@@ -6,7 +6,8 @@ use Rattle.dr_base.specs.declared.position.Side.{Side}
 use Rattle.dr_base.specs.declared.position.Side.TheVariants.{First, Second}
 use Rattle.dr_disk.specs.State.{Always, DiskState, IsLawful}
 use Rattle.dr_model.specs.Conversations.Views.{has_opened}
-use Rattle.dr_model.specs.Machines.Acts.{act_in, saying, taking}
+use Rattle.dr_model.specs.Machines.Acts.{saying, taking}
+use Rattle.dr_model.specs.Machines.WorldActs.{act_in}
 use Rattle.dr_model.specs.Machines.WorldSides.{kept_in}
 use Rattle.dr_model.specs.Machines.Worlds.{World, made_at, view_of}
 use Rattle.dr_model.specs.Theorems.Acting.{ActsFollow, IsFairAct}

@@ -3,8 +3,9 @@ use Rattle.std.proofs.Common.{Bool, List, None, Some, [], ap, false, if◌then�
 use Rattle.std.specs.Prelude.{All}
 use Rattle.std.proofs.lemmas.List.Elements.{All-append, All-cons, All-nil, All-weaker}
 use Rattle.dr_base.specs.declared.position.Side.{Side}
-use Rattle.dr_model.specs.Machines.Acts.{Act, act_in, finishing, saying, sending, taking}
-use Rattle.dr_model.specs.Machines.Events.{Event, drops_done, drops_sent, says, seeds, takes_bytes}
+use Rattle.dr_model.specs.Machines.Acts.{Act, saying, taking}
+use Rattle.dr_model.specs.Machines.WorldActs.{act_in, event_of}
+use Rattle.dr_model.specs.Machines.Events.{Event, seeds}
 use Rattle.dr_model.specs.Machines.Worlds.{World, run_of, step_of}
 use Rattle.dr_model.specs.Theorems.Acting.{IsFairAct}
 use Rattle.dr_model.specs.Theorems.Fairness.{IsSeedWhole, IsUnforged}
@@ -12,7 +13,6 @@ use Rattle.dr_model.specs.Theorems.LawfulWorlds.{IsLawfulWorld}
 use Rattle.dr_model.proofs.Worlds.LawfulWorlds.{lawful_run}
 use Rattle.kem_laws.specs.Mechanism.{Mechanism}
 use Rattle.relay_wire.specs.Replies.{Replied, absent, acked, bad, box_full, empty, item, stored, unknown}
-use Rattle.session_model.specs.declared.answer.Amount.TheVariants.{Exactly}
 use Rattle.sync_model.specs.Courses.{Course, begun, course_from, read_one}
 use Rattle.sync_model.specs.Moves.{Move, Wait, acking, acknowledged, fetching, move, over, posting}
 use Rattle.sync_model.specs.Parties.{Party}
@@ -20,7 +20,7 @@ use Rattle.sync_model.specs.Simulation.{AreFairFrom, IsFairReply}
 use Rattle.sync_model.specs.declared.limits.TheConstants.{ITEM_LIMIT}
 use Rattle.client.specs.Moments.{AreFairActs, IsActed, IsLater, acts_in, reached_by}
 use Rattle.client.specs.Syncing.InWorlds.{AreUnforged, course_in}
-use Rattle.client.specs.Syncing.Parties.{world_party}
+use Rattle.client.specs.Syncing.Parties.{oldest_sent, world_party}
 use Rattle.client.proofs.Syncs.Courses.{read_on}
 
 runs_on : (k : Mechanism) (w : World) (hs es : List Event) → run_of k w (hs ++ es) ≡ run_of k (run_of k w hs) es
@@ -48,13 +48,12 @@ event_later k w h whole = record { events = h ∷ []; whole = All-cons IsSeedWho
 -- an act is an event, after its seed where one was drawn
 pub act_later : (k : Mechanism) (side : Side) (w : World) (act : Act) → IsFairAct k w side act
     → IsLater k w (act_in k w side act).next
-act_later k side w (saying text None) fair = event_later k w (says side text) tt
+act_later k side w (saying text None) fair = event_later k w (event_of side (saying text None)) tt
 act_later k side w (saying text (Some seed)) fair =
-    later_twice k w (step_of k w (seeds seed)).next (act_in k w side (saying text (Some seed))).next
-    (event_later k w (seeds seed) fair.whole) (event_later k (step_of k w (seeds seed)).next (says side text) tt)
-act_later k side w (taking bytes) fair = event_later k w (takes_bytes side bytes) tt
-act_later k side w (finishing n) fair = event_later k w (drops_done side (Exactly n)) tt
-act_later k side w (sending n) fair = event_later k w (drops_sent side (Exactly n)) tt
+    let act = saying text (Some seed) in
+    later_twice k w (step_of k w (seeds seed)).next (act_in k w side act).next
+    (event_later k w (seeds seed) fair.whole) (event_later k (step_of k w (seeds seed)).next (event_of side act) tt)
+act_later k side w act fair = event_later k w (event_of side act) tt
 
 -- ---- by acts of one side
 
@@ -125,7 +124,7 @@ module _ (k : Mechanism) (prefix : List ℕ) (side : Side) (first : World) where
   move_acted s (acking n number) box_full fair = acted_none k side s
   move_acted s (acking n number) unknown fair = acted_none k side s
   move_acted s (acking n number) (bad kind) fair = acted_none k side s
-  move_acted s (posting which) (stored number) fair = acted_once k side s (sending 1) tt
+  move_acted s (posting which) (stored number) fair = acted_once k side s oldest_sent tt
   move_acted s (posting which) (item m packet) fair = acted_none k side s
   move_acted s (posting which) empty fair = acted_none k side s
   move_acted s (posting which) acked fair = acted_none k side s

@@ -2,7 +2,7 @@ mod Ahead
 mod Areas
 mod Beginnings
 mod Drawing
-mod Dropped
+pub mod Dropped
 mod Exchanged
 pub mod Lawful
 pub mod Later

@@ -4,7 +4,8 @@ use Rattle.std.specs.Prelude.{option_map}
 use Rattle.dr_base.specs.declared.position.Side.{Side}
 use Rattle.dr_disk.specs.State.{Always, DiskState}
 use Rattle.dr_disk.proofs.Steps.{stays, widen}
-use Rattle.dr_model.specs.Machines.Acts.{Act, act_in, act_on, kept_by}
+use Rattle.dr_model.specs.Machines.Acts.{Act, act_on}
+use Rattle.dr_model.specs.Machines.WorldActs.{act_in, kept_by}
 use Rattle.dr_model.specs.Machines.Steps.{Step, has_effect, settled, step}
 use Rattle.dr_model.specs.Machines.WorldSides.{kept_in}
 use Rattle.dr_model.specs.Machines.Worlds.{World}

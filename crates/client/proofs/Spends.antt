@@ -4,7 +4,8 @@ use Rattle.std.specs.Prelude.{IfOk, is_none, length, ◌&&◌}
 use Rattle.dr_base.specs.declared.position.Position.{Position}
 use Rattle.dr_base.specs.declared.position.Side.{Side}
 use Rattle.dr_disk.specs.State.{DiskState}
-use Rattle.dr_model.specs.Machines.Acts.{act_in, act_on, needs_seed, saying, taking}
+use Rattle.dr_model.specs.Machines.Acts.{act_on, needs_seed, saying, taking}
+use Rattle.dr_model.specs.Machines.WorldActs.{act_in}
 use Rattle.dr_model.specs.Machines.Worlds.{World, may_say}
 use Rattle.dr_model.specs.Theorems.Acting.{IsFairAct}
 use Rattle.dr_model.specs.Theorems.Fairness.{IsUnforged}

@@ -5,7 +5,7 @@ use Rattle.std.proofs.lemmas.List.{get_or-append-add, get_or_append_left, length
 use Rattle.std.proofs.lemmas.List.Elements.{All-append, All-cons, All-nil, All-weaker}
 use Rattle.dr_base.specs.declared.position.Side.{Side}
 use Rattle.dr_disk.specs.State.{Always, DiskState}
-use Rattle.dr_model.specs.Machines.Acts.{act_in}
+use Rattle.dr_model.specs.Machines.WorldActs.{act_in}
 use Rattle.dr_model.specs.Machines.Worlds.{World}
 use Rattle.kem_laws.specs.Mechanism.{Mechanism}
 use Rattle.sync_model.specs.Courses.{begun}

@@ -17,6 +17,8 @@ use Rattle.session_model.specs.declared.answer.Answer.TheVariants.{Done, Opened,
 use Rattle.session_model.specs.declared.answer.Refusal.{Refusal}
 use Rattle.session_model.specs.declared.answer.Refusal.TheVariants.{Fewer}
 use Rattle.session_record.specs.Lawful.{IsLawfulClient}
+use Rattle.session_record.specs.declared.change.Change.{Change}
+use Rattle.session_record.specs.declared.change.Change.TheVariants.{Done as ChangesDone, Sent as ChangesSent}
 use Rattle.client.specs.declared.cores.drafts.Draft.{Draft}
 use Rattle.client.specs.declared.cores.drafts.Draft.TheVariants.{Dropped as ToDrop, Received as ToTake, Said as ToSay}
 use Rattle.client.specs.declared.cores.drafts.Drops.{Drops}
@@ -76,10 +78,23 @@ abbrev pub dropped_answer : Drops → Answer
 dropped_answer (TextsDone n) = Done n
 dropped_answer (PacketsSent n) = Sent n
 
+-- how many, and of how many
+abbrev pub count_of : Drops → ℕ
+count_of (TextsDone n) = n
+count_of (PacketsSent n) = n
+
+abbrev pub held_of : Drops → (texts packets : ℕ) → ℕ
+held_of (TextsDone n) texts packets = texts
+held_of (PacketsSent n) texts packets = packets
+
 -- so many stand
 abbrev pub HasToDrop : Client → Drops → Type 0
-HasToDrop kept (TextsDone n) = n ≤ length kept.inbox
-HasToDrop kept (PacketsSent n) = n ≤ length kept.outbox
+HasToDrop kept drops = count_of drops ≤ held_of drops (length kept.inbox) (length kept.outbox)
+
+-- what changes of the boxes
+abbrev pub change_of : Drops → Change
+change_of (TextsDone n) = ChangesDone n
+change_of (PacketsSent n) = ChangesSent n
 
 -- what is kept then
 abbrev pub dropped_client : Client → Drops → Client

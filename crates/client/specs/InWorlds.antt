@@ -3,7 +3,8 @@ use Rattle.std.specs.Prelude.{List, Ok, Some, option_map, ℕ, ◌⊎◌, ◌≡
 use Rattle.dr_base.specs.declared.position.Side.{Side}
 use Rattle.dr_disk.specs.Spans.{Span}
 use Rattle.dr_disk.specs.State.{Always, DiskState}
-use Rattle.dr_model.specs.Machines.Acts.{Act, act_in}
+use Rattle.dr_model.specs.Machines.Acts.{Act}
+use Rattle.dr_model.specs.Machines.WorldActs.{act_in}
 use Rattle.dr_model.specs.Machines.WorldSides.{kept_in}
 use Rattle.dr_model.specs.Machines.Worlds.{World}
 use Rattle.dr_model.specs.Theorems.LawfulWorlds.{IsLawfulWorld}

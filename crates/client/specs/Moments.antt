@@ -3,7 +3,8 @@
 use Rattle.std.specs.Prelude.{All, Any, Contains, List, Some, [], slice_get, ℕ, ⊤, ◌++◌, ◌+◌, ◌∷◌, ◌⊎◌, ◌≡◌}
 use Rattle.dr_base.specs.declared.position.Side.{Side}
 use Rattle.dr_disk.specs.State.{Always, DiskState}
-use Rattle.dr_model.specs.Machines.Acts.{Act, act_in}
+use Rattle.dr_model.specs.Machines.Acts.{Act}
+use Rattle.dr_model.specs.Machines.WorldActs.{act_in}
 use Rattle.dr_model.specs.Machines.Events.{Event}
 use Rattle.dr_model.specs.Machines.Worlds.{World, run_of}
 use Rattle.dr_model.specs.Theorems.Acting.{IsFairAct}

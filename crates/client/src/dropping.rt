@@ -38,8 +38,7 @@ impl<K: Kem> Client<K> {
         ensures fate { StaysPassing (D.state disk.old) (D.state disk.new)
             (dropped_as (Done n) result) }
     {
-        grounds::<K>();
-        self.drop_exact(disk, Drops::Done(n))
+        self.drop_items(disk, Drops::Done(n))
     }
 
     /// Drops the `n` oldest packets of the outbox, which were sent. Refuses as `done` does.
@@ -57,8 +56,24 @@ impl<K: Kem> Client<K> {
         ensures fate { StaysPassing (D.state disk.old) (D.state disk.new)
             (dropped_as (Sent n) result) }
     {
+        self.drop_items(disk, Drops::Sent(n))
+    }
+
+    /// Drops so many of the oldest items of a box, as `done` and `sent` do.
+    pub fn drop_items<D: Disk>(&mut self, disk: &mut D, drops: Drops) -> Result<(), DropRefusal>
+        requires { MayActOn self.old (D.state disk.old) }
+        ensures exact { Acts D.state (act_on K.mechanism self.old.kept (act_dropping drops))
+            self.old self.new disk.old disk.new (dropped_as (dropped_answer drops) result) }
+        ensures ready { OnOk result (IsOpenOn self.new (D.state disk.new)) }
+        ensures in_worlds { (w : World) (side : Side) → IsIn K.mechanism w side self.old
+            → ActsIn K.mechanism w side (act_dropping drops) self.old self.new (D.state disk.old)
+            (D.state disk.new)
+            (dropped_as (dropped_answer drops) result) }
+        ensures fate { StaysPassing (D.state disk.old) (D.state disk.new)
+            (dropped_as (dropped_answer drops) result) }
+    {
         grounds::<K>();
-        self.drop_exact(disk, Drops::Sent(n))
+        self.drop_exact(disk, drops)
     }
 
     /// Drops so many of the oldest items of a box.

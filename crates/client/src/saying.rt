@@ -2,7 +2,8 @@
 
 ghost use Rattle.std.specs.Prelude.{◌≡◌, ℕ, List, Option, Ok, IfOk, OnOk, is_some, length};
 ghost use Rattle.dr_base.specs.declared.position.Side.{Side};
-ghost use Rattle.dr_model.specs.Machines.Acts.{act_in, said_by, saying};
+ghost use Rattle.dr_model.specs.Machines.Acts.{said_by, saying};
+ghost use Rattle.dr_model.specs.Machines.WorldActs.{act_in};
 ghost use Rattle.dr_model.specs.Machines.Worlds.{World};
 ghost use Rattle.ratchet.specs.Seen.{seed_bytes};
 ghost use Rattle.session_model.specs.Clients.{say_check, say_on};

@@ -2,7 +2,8 @@
 
 ghost use Rattle.std.specs.Prelude.{◌≡◌, IfOk, Ok, OnOk};
 ghost use Rattle.dr_base.specs.declared.position.Side.{Side};
-ghost use Rattle.dr_model.specs.Machines.Acts.{act_in, act_on, taken_by, taking};
+ghost use Rattle.dr_model.specs.Machines.Acts.{act_on, taken_by, taking};
+ghost use Rattle.dr_model.specs.Machines.WorldActs.{act_in};
 ghost use Rattle.dr_model.specs.Machines.Worlds.{World};
 ghost use Rattle.dr_model.specs.Theorems.Fairness.{IsUnforged};
 ghost use Rattle.ratchet.specs.Seen.{received_of};

@@ -1,3 +1,4 @@
+pub mod CallKinds
 pub mod CutSteps
 pub mod Following
 pub mod LawfulWorlds

@@ -3,7 +3,8 @@ pub mod Network
 pub mod Draws
 pub mod Events
 pub mod EventCodes
+pub mod Acts
 pub mod Sides
 pub mod Worlds
 pub mod WorldSides
-pub mod Acts
+pub mod WorldActs

@@ -26,7 +26,7 @@ use Rattle.client.specs.Outcomes.{replacing_call, replacing_calls}
 use Rattle.scripts.specs.Sides.{acting_side}
 use Rattle.duet.specs.Outcomes.{SidesPlayed, WorldBeside, acted, failed, failed_in, failed_on, lines_alone}
 use Rattle.duet.specs.Replies.{failed_line, reply_of}
-use Rattle.duet.specs.Shuts.{Shut, Shuts, act_of, failing_call, is_shown, left_of, shut_of, with_shut}
+use Rattle.duet.specs.Shuts.{Shut, Shuts, act_of_event, failing_call, is_shown, left_of, shut_of, with_shut}
 use Rattle.duet.proofs.Leading.{held_back, leads}
 use Rattle.duet.proofs.Moving.{one_of}
 use Rattle.duet.proofs.SaidBoxes.{IsHeldBack, IsHonest, IsLeft, IsSaidPacket, KeepsShut, boxes_weaker, left_stays}
@@ -124,7 +124,7 @@ module _ (k : Mechanism) (s : WorldBeside) (n : ℕ) (event : Event) (law : IsLa
   after = kept_in k made.next side
 
   abbrev next_left : Option Act
-  next_left = left_of n before after (act_of seen event) None
+  next_left = left_of n before after (act_of_event seen event) None
 
   abbrev shut_world : Call → WorldBeside
   shut_world call = record s {
@@ -139,12 +139,12 @@ module _ (k : Mechanism) (s : WorldBeside) (n : ℕ) (event : Event) (law : IsLa
   left_alike : has_effect made.answer ≡ true → left_of n before after after before ≡ left_in k w side next_left
   left_alike effect = by_test (is_shown n before after)
     where
-      leading : left_in k w side (act_of seen event) ≡ after
+      leading : left_in k w side (act_of_event seen event) ≡ after
       leading =
           leads k w event after (ap (λ (m : Step Sides). has_effect m.answer) follows ∙ effect)
           (ap (λ (m : Step Sides). client_of m.next side) follows ∙ client_of-kept k made.next side)
 
-      by_test : (b : Bool) → (if b then after else before) ≡ left_in k w side (if b then act_of seen event else None)
+      by_test : (b : Bool) → (if b then after else before) ≡ left_in k w side (if b then act_of_event seen event else None)
       by_test true = sym leading
       by_test false = refl
 
@@ -201,7 +201,7 @@ module _ (k : Mechanism) (s : WorldBeside) (n : ℕ) (event : Event) (law : IsLa
       own : IfSome next_left (IsHeldBack k w side)
       own = by_test (is_shown n before after)
         where
-          by_test : (b : Bool) → IfSome (if b then act_of seen event else None) (IsHeldBack k w side)
+          by_test : (b : Bool) → IfSome (if b then act_of_event seen event else None) (IsHeldBack k w side)
           by_test true = held_back k w event lawful effect
           by_test false = tt
 

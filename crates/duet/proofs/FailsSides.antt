@@ -13,7 +13,6 @@ use Rattle.dr_model.proofs.Acting.Keeping.{own_client}
 use Rattle.kem_laws.specs.Mechanism.{Mechanism}
 use Rattle.session_model.specs.Clients.{Client}
 use Rattle.session_model.specs.declared.answer.Answer.{Answer}
-use Rattle.scripts.proofs.Calls.{acting_call}
 use Rattle.scripts.specs.Seen.{CallOfLine, call_event}
 use Rattle.scripts.specs.Sides.{acting_side}
 use Rattle.duet.specs.Acts.{acted_by}
@@ -77,12 +76,10 @@ module _ (k : Mechanism) (old mid : DuetNow) (side : Side) (call : CallOfLine) (
     made = settled c (act_on k c act)
 
     own_before : before ≡ c
-    own_before = ap (client_of s) (acting_call side call) ∙ same_kept
+    own_before = same_kept
 
     own_after : after_own ≡ made.next
-    own_after =
-        ap (client_of made_on.next) (acting_call side call) ∙ ap (λ (m : Step Sides). client_of m.next side) does
-        ∙ own_next t side made
+    own_after = ap (λ (m : Step Sides). client_of m.next side) does ∙ own_next t side made
 
     same_answer : made_on.answer ≡ made.answer
     same_answer = ap (λ (m : Step Sides). m.answer) does
@@ -112,7 +109,7 @@ module _ (k : Mechanism) (old mid : DuetNow) (side : Side) (call : CallOfLine) (
     shut_next kind is =
         ap (λ (fault : Option Call). after_deed old
         (failed event (beside old) made_on (record s { draws = made_on.next.draws }) (left_of n before after_own after_own before) fault)) is
-        ∙ ap₂ (λ (draws : Draws) (at : Side). shut_at draws at kind (left_of n before after_own after_own before)) draws_are (acting_call side call)
+        ∙ ap (λ (draws : Draws). shut_at draws side kind (left_of n before after_own after_own before)) draws_are
         ∙ ap (shut_at mid.sides.draws side kind) same_left
 
     shut_mid : (kind : Call) (left : Client)
@@ -242,13 +239,11 @@ module _ (k : Mechanism) (duet : DuetNow) (side : Side) (call : CallOfLine) (n :
   pub well_counts : (answer : Answer) (tally : Tally) → fault ≡ None → answer ≡ does.answer
       → counted_of side answer tally ≡ counted_all (acting_side called) (failed_on k (beside duet) n called).answers tally
   well_counts answer tally none is =
-      ap₂ (λ (own : Side) (a : Answer). counted_of own a tally) (sym (acting_call side call)) is
+      ap (λ (a : Answer). counted_of side a tally) is
       ∙ sym (ap (λ (f : Option Call). counted_all (acting_side called) (by_fault f).answers tally) none)
 
   pub shut_lines : (kind : Call) → fault ≡ Some kind → failed_line side kind ≡ (failed_on k (beside duet) n called).lines
-  shut_lines kind is =
-      ap (λ (own : Side). failed_line own kind) (sym (acting_call side call))
-      ∙ sym (ap (λ (f : Option Call). (by_fault f).lines) is)
+  shut_lines kind is = sym (ap (λ (f : Option Call). (by_fault f).lines) is)
 
   pub shut_counts : (kind : Call) (tally : Tally) → fault ≡ Some kind
       → tally ≡ counted_all (acting_side called) (failed_on k (beside duet) n called).answers tally

@@ -10,7 +10,7 @@ use Rattle.dr_model.specs.Conversations.Posts.{key_of}
 use Rattle.dr_model.specs.Conversations.Views.{missing_of}
 use Rattle.dr_base.specs.Position.{peer_of}
 use Rattle.dr_model.specs.Machines.Acts.{Act}
-use Rattle.dr_model.specs.Machines.Events.{Event}
+use Rattle.dr_model.specs.Machines.Events.{Event, does}
 use Rattle.dr_model.specs.Machines.Sides.{Sides, client_of, step_on}
 use Rattle.dr_model.specs.Machines.Steps.{Step}
 use Rattle.dr_model.specs.Machines.Worlds.{World, opening_world, step_of}
@@ -97,8 +97,8 @@ freely_follows : (k : Mechanism) (s : WorldBeside) (deed : Deed) → IsLawfulMec
 unfolding stopped_in
 freely_follows k s (acts event) law honest whole unforged moves =
     event_follows k s event law honest (record { unforged = unforged; whole = whole }) moves
-freely_follows k s (stops n mode call) law honest whole unforged moves =
-    let side = acting_side call in
+freely_follows k s (stops n mode side one) law honest whole unforged moves =
+    let call = does side one in
     let cut = cut_of n mode (kept_in k s.ends side) (kept_in k (step_of k s.ends call).next side) in
     let event = cut_event cut call in
     let step = step_follows k s.ends call law honest.lawful (record { unforged = unforged; whole = whole }) in
@@ -108,7 +108,8 @@ freely_follows k s (stops n mode call) law honest whole unforged moves =
       same = ap (λ (e : Event). acted e (seen_beside k s) (step_on k (sides_of k s.ends) e)) (same_stop k s.ends n mode call step) ∙ by.same;
       honest = by.honest;
     }
-freely_follows k s (fails n call) law honest whole unforged moves =
+freely_follows k s (fails n side one) law honest whole unforged moves =
+    let call = does side one in
     let fair : IsFair k s.ends call = record { unforged = unforged; whole = whole } in
     let keeps = keeps_shut k s.ends call law honest.lawful fair s.shuts (λ asks. moves refl) in record {
       same = fails_follow k s n call law honest.lawful fair keeps;

@@ -1,21 +1,21 @@
 -- What the network gets of a step of one side.
 use Rattle.std.proofs.Common.{Bool, Err, List, None, Ok, Option, Result, Some, [], ap, append-nil, arith, false, if◌then◌else◌, length, refl, suc, sym, true, zero, ℕ, ◌++◌, ◌+◌, ◌-◌, ◌∙◌, ◌∷◌, ◌≡◌, ◌<◌, ◌≤◌}
-use Rattle.std.specs.Prelude.{drop, nat_le, nat_lt, slice_get}
+use Rattle.std.specs.Prelude.{drop, nat_le, nat_lt, slice_get, ⊤}
 use Rattle.std.proofs.lemmas.Bool.Decides.{nat_tests}
 use Rattle.std.proofs.lemmas.List.{drop_all, length-append, length-drop, length-map}
-use Rattle.boxes.specs.Entries.{Entry}
 use Rattle.boxes.specs.Posts.{Post}
 use Rattle.dr_base.specs.declared.position.Side.{Side}
 use Rattle.dr_base.specs.declared.position.Side.TheVariants.{First, Second}
 use Rattle.dr_disk.specs.declared.call.Mode.{Mode}
-use Rattle.dr_model.specs.Machines.Acts.{Act, act_on, finished_by, finishing, said_by, saying, saying_by, sending, sent_by, taken_by, taking}
+use Rattle.dr_model.specs.Machines.Acts.{Act, act_on, finishing, leaving_by, said_by, saying, saying_by, sending, taken_by, taking}
 use Rattle.dr_model.specs.Machines.Draws.{given_or}
-use Rattle.dr_model.specs.Machines.Sides.{Sides, client_of, opened_on, with_client}
+use Rattle.dr_model.specs.Machines.Sides.{Sides, client_of, settled_on, with_client}
 use Rattle.dr_model.specs.Machines.Steps.{Step, has_effect, settled, step}
 use Rattle.kem_laws.specs.Mechanism.{Mechanism}
-use Rattle.session_model.specs.Clients.{Client, TakenPacket, accept_send, dropped_of, say_check, take_on}
+use Rattle.session_model.specs.Clients.{Client, accept_send, dropped_of, say_check, take_on}
 use Rattle.session_model.specs.Saying.{SendDraft, draft_send}
-use Rattle.session_model.specs.declared.answer.Answer.TheVariants.{Opened, Refused, Stopped}
+use Rattle.session_model.specs.declared.answer.Answer.{Answer}
+use Rattle.session_model.specs.declared.answer.Answer.TheVariants.{Refused, Stopped}
 use Rattle.session_model.specs.declared.answer.Refusal.{Refusal}
 use Rattle.session_model.specs.declared.answer.Refusal.TheVariants.{Fewer}
 use Rattle.client.proofs.Syncs.Parties.{keeps_outbox}
@@ -78,7 +78,7 @@ same_draws s Second made = refl
 
 -- ---- how many packets an outbox has after an act
 
-pub taken_few : (k : Mechanism) (c : Client) (bytes : List ℕ)
+taken_few : (k : Mechanism) (c : Client) (bytes : List ℕ)
     → length (settled c (taken_by (take_on k c bytes))).next.outbox ≤ length c.outbox
 taken_few k c bytes =
     let next = (settled c (taken_by (take_on k c bytes))).next in
@@ -89,16 +89,29 @@ taken_few k c bytes =
       length-map c.outbox (λ (i : Post). i.packet),
     )
 
-pub sent_few : (c : Client) (n : ℕ) (b : Bool)
-    → length (settled c (sent_by c n (if b then Ok (drop n c.outbox) else Err (Fewer (length c.outbox))))).next.outbox
-    ≤ length c.outbox
-sent_few c n true = omega (arith, length-drop n c.outbox)
-sent_few c n false = omega arith
+-- where the oldest items of a box leave it
+leaving_few : {A : Type 0} (c : Client) (answer : Answer) (kept_with : List A → Client) (n : ℕ) (items : List A)
+    → length (kept_with (drop n items)).outbox ≤ length c.outbox
+    → length (settled c (leaving_by answer kept_with (dropped_of n items))).next.outbox ≤ length c.outbox
+leaving_few c answer kept_with n items few = by_test (nat_le n (length items))
+  where
+    by_test : (enough : Bool)
+        → length (settled c (leaving_by answer kept_with
+        (if enough then Ok (drop n items) else Err (Fewer (length items))))).next.outbox ≤ length c.outbox
+    by_test true = few
+    by_test false = omega arith
 
-pub done_few : (c : Client) (n : ℕ) (r : Result (List Entry) Refusal)
-    → length (settled c (finished_by c n r)).next.outbox ≤ length c.outbox
-done_few c n (Ok inbox) = omega arith
-done_few c n (Err refusal) = omega arith
+-- an act that says no text
+abbrev pub SaysNone : Act → Type 0
+SaysNone (saying text draw) = ⊥
+SaysNone _ = ⊤
+
+pub quiet_few : (k : Mechanism) (c : Client) (act : Act) → SaysNone act
+    → length (settled c (act_on k c act)).next.outbox ≤ length c.outbox
+quiet_few k c (saying text draw) none = absurd none
+quiet_few k c (taking bytes) none = taken_few k c bytes
+quiet_few k c (sending n) none = leaving_few c _ _ n c.outbox (omega (arith, length-drop n c.outbox))
+quiet_few k c (finishing n) none = leaving_few c _ _ n c.inbox (omega arith)
 
 pub said_few : (c : Client) (d : Option SendDraft) → length (settled c (said_by (accept_send c d))).next.outbox ≤ length c.outbox + 1
 said_few c None = omega arith
@@ -111,9 +124,7 @@ saying_few k c text draw (Err refusal) = omega arith
 
 pub acted_few : (k : Mechanism) (c : Client) (act : Act) → length (settled c (act_on k c act)).next.outbox ≤ length c.outbox + 1
 acted_few k c (saying text draw) = saying_few k c text draw (say_check c (length text))
-acted_few k c (taking bytes) = omega (arith, taken_few k c bytes)
-acted_few k c (sending n) = omega (arith, sent_few c n (nat_le n (length c.outbox)))
-acted_few k c (finishing n) = omega (arith, done_few c n (dropped_of n c.inbox))
+acted_few k c act = omega (arith, quiet_few k c act tt)
 
 -- also where it is cut off
 cut_few : (cut : Option Bool) (c : Client) (made : Step Client) → length made.next.outbox ≤ length c.outbox + 1
@@ -132,18 +143,21 @@ pub stopped_few : (n : ℕ) (mode : Mode) (c : Client) (made : Step Client) → 
 unfolding stopped_client
 stopped_few n mode c made few = cut_few (cut_of n mode c made.next) c made few
 
--- ---- a packet that is taken, as a step of both sides
+-- ---- an act, as a step of both sides
 
-opened_gathers : (s : Sides) (side : Side) (r : Result TakenPacket Refusal)
-    → length (settled (client_of s side) (taken_by r)).next.outbox ≤ length (client_of s side).outbox
-    → gathering s side (settled (client_of s side) (taken_by r)) ≡ opened_on s side r
-opened_gathers s side (Ok taken) few = ap (λ (x : Sides). step (Opened taken.position) x) (gathers_less s side taken.next few)
-opened_gathers s side (Err refusal) few = ap (λ (x : Sides). step (Refused refusal) x) (gathers_none s side)
+settled_gathers : (s : Sides) (side : Side) (r : Result (Step Client) Refusal)
+    → length (settled (client_of s side) r).next.outbox ≤ length (client_of s side).outbox
+    → gathering s side (settled (client_of s side) r) ≡ settled_on s side r
+settled_gathers s side (Ok made) few =
+    ap (λ (x : Sides). record { answer = made.answer; entries = made.entries; next = x }) (gathers_less s side made.next few)
+settled_gathers s side (Err refusal) few = ap (λ (x : Sides). step (Refused refusal) x) (gathers_none s side)
 
-pub takes_act : (k : Mechanism) (s : Sides) (side : Side) (bytes : List ℕ)
-    → gathering s side (settled (client_of s side) (taken_by (take_on k (client_of s side) bytes)))
-    ≡ opened_on s side (take_on k (client_of s side) bytes)
-takes_act k s side bytes = opened_gathers s side (take_on k (client_of s side) bytes) (taken_few k (client_of s side) bytes)
+-- an act that says no text is a step of both sides
+pub quiet_gathers : (k : Mechanism) (s : Sides) (side : Side) (act : Act) → SaysNone act
+    → gathering s side (settled (client_of s side) (act_on k (client_of s side) act))
+    ≡ settled_on s side (act_on k (client_of s side) act)
+quiet_gathers k s side act none =
+    settled_gathers s side (act_on k (client_of s side) act) (quiet_few k (client_of s side) act none)
 
 -- ---- a step in which the side's disk stops
 

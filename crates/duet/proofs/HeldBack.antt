@@ -1,18 +1,18 @@
 -- An act that was held back, and is done then in the world that both sides stand for.
 use Rattle.std.proofs.Common.{Bool, Err, List, None, Ok, Option, Result, Some, [], ap, arith, drop, false, if◌then◌else◌, length, refl, sym, true, ◌++◌, ◌-◌, ◌∙◌, ◌∷◌, ◌≡◌, ℕ}
-use Rattle.std.specs.Prelude.{nat_le, nat_lt}
+use Rattle.std.specs.Prelude.{nat_lt}
 use Rattle.std.proofs.lemmas.Bool.Decides.{nat_tests}
 use Rattle.std.proofs.lemmas.List.{length-append}
-use Rattle.boxes.specs.Entries.{Entry}
 use Rattle.boxes.specs.Posts.{Post}
 use Rattle.dr_base.specs.Position.{peer_of}
 use Rattle.dr_base.specs.declared.position.Side.{Side}
 use Rattle.dr_base.specs.declared.position.Side.TheVariants.{First, Second}
 use Rattle.dr_model.specs.Conversations.Conversation.{Conversation}
 use Rattle.dr_model.specs.Conversations.Posts.{posts}
-use Rattle.dr_model.specs.Machines.Acts.{Act, act_in, act_on, event_of, finishing, needs_seed, said_by, saying, saying_by, sending, taking, with_draw, world_for}
+use Rattle.dr_model.specs.Machines.Acts.{Act, act_on, needs_seed, said_by, saying, saying_by, taking}
+use Rattle.dr_model.specs.Machines.WorldActs.{act_in, event_of, with_draw, world_for}
 use Rattle.dr_model.specs.Machines.Draws.{after_draw, given_or, next_seed}
-use Rattle.dr_model.specs.Machines.Sides.{Sides, client_of, done_on, opened_on, said_on, saying_on, sent_on, step_on, with_client}
+use Rattle.dr_model.specs.Machines.Sides.{Sides, client_of, said_on, saying_on, settled_on, step_on, with_client}
 use Rattle.dr_model.specs.Machines.Steps.{Step, settled}
 use Rattle.dr_model.specs.Machines.Worlds.{World}
 use Rattle.dr_model.specs.Machines.WorldSides.{kept_in, sides_of}
@@ -24,12 +24,12 @@ use Rattle.dr_model.proofs.Saying.SayingChecks.{same_check}
 use Rattle.dr_model.proofs.Worlds.Following.{step_follows}
 use Rattle.dr_model.proofs.Worlds.WorldViews.{client_of-kept}
 use Rattle.kem_laws.specs.Mechanism.{IsLawfulMechanism, Mechanism}
-use Rattle.session_model.specs.Clients.{Client, SaidText, TakenPacket, accept_send, dropped_of, say_check, say_on, take_on}
+use Rattle.session_model.specs.Clients.{Client, SaidText, accept_send, say_check, say_on}
 use Rattle.session_model.specs.Saying.{SendDraft, draft_send}
 use Rattle.session_model.specs.declared.answer.Refusal.{Refusal}
 use Rattle.duet.specs.Gathering.{newest_from}
 use Rattle.duet.proofs.FailsFollow.{redrawn, said_over}
-use Rattle.duet.proofs.Gathering.{none_newest, done_few, sent_few, taken_few}
+use Rattle.duet.proofs.Gathering.{none_newest, quiet_few}
 use Rattle.duet.proofs.SaidBoxes.{IsHeldBack, IsSaidPacket, said_stays, unforged}
 use Rattle.duet.proofs.SeenBeside.{left_in}
 
@@ -74,12 +74,8 @@ saying_newest k c text draw (Ok turns) = draft_newest c (draft_send k c.state te
 -- what an act adds is the newest packet of the outbox
 acts_newest : (k : Mechanism) (c : Client) (act : Act) → act_posts k c act ≡ newest c (settled c (act_on k c act)).next
 acts_newest k c (saying text draw) = saying_newest k c text draw (say_check c (length text))
-acts_newest k c (taking bytes) =
-    sym (none_newest (length c.outbox) (settled c (act_on k c (taking bytes))).next.outbox (taken_few k c bytes))
-acts_newest k c (finishing n) =
-    sym (none_newest (length c.outbox) (settled c (act_on k c (finishing n))).next.outbox (done_few c n (dropped_of n c.inbox)))
-acts_newest k c (sending n) =
-    sym (none_newest (length c.outbox) (settled c (act_on k c (sending n))).next.outbox (sent_few c n (nat_le n (length c.outbox))))
+acts_newest k c act =
+    sym (none_newest (length c.outbox) (settled c (act_on k c act)).next.outbox (quiet_few k c act tt))
 
 -- ---- the key stays
 
@@ -98,23 +94,13 @@ saying_key k s side text (Ok false) = said_key s side (say_on k (client_of s sid
 saying_key k s side text (Ok true) =
     said_key (record s { draws = after_draw s.draws }) side (say_on k (client_of s side) text (next_seed s.key s.draws))
 
-taken_key : (s : Sides) (side : Side) (r : Result TakenPacket Refusal) → (opened_on s side r).next.key ≡ s.key
-taken_key s side (Ok taken) = with_key s side taken.next
-taken_key s side (Err refusal) = refl
-
-done_key : (s : Sides) (side : Side) (n : ℕ) (r : Result (List Entry) Refusal) → (done_on s side n r).next.key ≡ s.key
-done_key s side n (Ok inbox) = with_key s side (record (client_of s side) { inbox = inbox })
-done_key s side n (Err refusal) = refl
-
-sent_key : (s : Sides) (side : Side) (n : ℕ) (r : Result (List Post) Refusal) → (sent_on s side n r).next.key ≡ s.key
-sent_key s side n (Ok outbox) = with_key s side (record (client_of s side) { outbox = outbox })
-sent_key s side n (Err refusal) = refl
+settled_key : (s : Sides) (side : Side) (r : Result (Step Client) Refusal) → (settled_on s side r).next.key ≡ s.key
+settled_key s side (Ok made) = with_key s side made.next
+settled_key s side (Err refusal) = refl
 
 act_key : (k : Mechanism) (s : Sides) (side : Side) (act : Act) → (step_on k s (event_of side act)).next.key ≡ s.key
 act_key k s side (saying text draw) = saying_key k s side text (say_check (client_of s side) (length text))
-act_key k s side (taking bytes) = taken_key s side (take_on k (client_of s side) bytes)
-act_key k s side (finishing n) = done_key s side n (dropped_of n (client_of s side).inbox)
-act_key k s side (sending n) = sent_key s side n (dropped_of n (client_of s side).outbox)
+act_key k s side act = settled_key s side (act_on k (client_of s side) act)
 
 -- the draw that was made for an act leaves the conversation
 draw_over : (w : World) (draw : Option (List ℕ)) → w.conversation ≡ (with_draw w draw).conversation
@@ -123,9 +109,7 @@ draw_over w (Some seed) = refl
 
 act_over : (w : World) (act : Act) → w.conversation ≡ (world_for w act).conversation
 act_over w (saying text draw) = draw_over w draw
-act_over w (taking bytes) = refl
-act_over w (finishing n) = refl
-act_over w (sending n) = refl
+act_over w act = refl
 
 -- ---- an act that was held back
 
@@ -138,8 +122,7 @@ module _ (k : Mechanism) (w : World) (side : Side) (law : IsLawfulMechanism k) (
     whole = held.1;
   }
   fair_act (taking bytes) held = unforged k w side bytes lawful held
-  fair_act (finishing n) held = tt
-  fair_act (sending n) held = tt
+  fair_act act held = tt
 
   module _ (act : Act) (held : IsHeldBack k w side act) where
     abbrev fair : IsFairAct k w side act

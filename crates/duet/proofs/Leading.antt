@@ -12,24 +12,24 @@ use Rattle.dr_model.specs.Conversations.Conversation.{is_said, positions}
 use Rattle.dr_model.specs.Conversations.Posts.{post_at, posts}
 use Rattle.dr_model.specs.Machines.Acts.{Act, act_on, needs_seed, said_by, saying_by, taking}
 use Rattle.dr_model.specs.Machines.Draws.{after_draw, next_seed}
-use Rattle.dr_model.specs.Machines.Events.{Event, cuts, drops_done, drops_sent, flips, says, seeds, shows_inbox, shows_state, takes, takes_bytes, takes_nth}
-use Rattle.dr_model.specs.Machines.Network.{flipped_at, held_at, held_nth}
-use Rattle.dr_model.specs.Machines.Sides.{Sides, client_of, said_on, saying_on, step_on, taken_on}
-use Rattle.dr_model.specs.Machines.Steps.{Step, amount_of, has_effect, settled}
-use Rattle.dr_model.specs.Machines.Worlds.{World, made_at, nth_of_peer, step_of, taking_given, taking_made}
+use Rattle.dr_model.specs.Machines.Events.{Event, PacketSource, SideCall, cuts, does, of_bytes, of_flip, of_number, of_position, says, seeds, shows_inbox, shows_state, takes}
+use Rattle.dr_model.specs.Machines.Network.{flipped_at}
+use Rattle.dr_model.specs.Machines.Sides.{Sides, act_of, acted_on, called_on, client_of, draw_for, said_on, saying_on, step_on}
+use Rattle.dr_model.specs.Machines.Steps.{Step, has_effect, settled}
+use Rattle.dr_model.specs.Machines.Worlds.{World, called_in, made_at, nth_of_peer, step_of, taking_given, taking_made, taking_of}
 use Rattle.dr_model.specs.Machines.WorldSides.{sides_of}
 use Rattle.dr_model.specs.Theorems.LawfulWorlds.{IsLawfulWorld}
-use Rattle.dr_model.proofs.Acting.Keeping.{done_kept, sent_kept, taken_kept}
+use Rattle.dr_model.proofs.Acting.Keeping.{settled_kept}
 use Rattle.dr_model.proofs.Growth.Growing.{positions-said}
 use Rattle.dr_model.proofs.Saying.SayingLawful.{length-next_seed}
 use Rattle.dr_model.proofs.Taking.NetworkPosts.{held_at-posts, held_nth-posts}
-use Rattle.dr_model.proofs.Worlds.Following.{nth_said}
+use Rattle.dr_model.proofs.Worlds.CallKinds.{nth_said}
 use Rattle.dr_model.proofs.Worlds.WorldViews.{client_of-kept}
 use Rattle.kem_laws.specs.Mechanism.{Mechanism}
-use Rattle.session_model.specs.Clients.{Client, SaidText, dropped_of, say_check, say_on, take_on}
+use Rattle.session_model.specs.Clients.{Client, SaidText, say_check, say_on}
 use Rattle.session_model.specs.declared.answer.Refusal.{Refusal}
 use Rattle.scripts.specs.Sides.{acting_side}
-use Rattle.duet.specs.Shuts.{act_of, draw_for}
+use Rattle.duet.specs.Shuts.{act_of_event}
 use Rattle.duet.proofs.Moving.{drawn_same}
 use Rattle.duet.proofs.SaidBoxes.{IsHeldBack, IsSaidPacket}
 use Rattle.duet.proofs.SeenBeside.{left_in}
@@ -57,26 +57,21 @@ saying_leads k s side text (Ok true) =
     ap (λ (c : Client). (settled c (said_by said)).next) (sym (drawn_same s side (after_draw s.draws)))
     ∙ said_next (record s { draws = after_draw s.draws }) side said
 
-given_leads : (k : Mechanism) (s : Sides) (side : Side) (given : Option (List ℕ))
-    → left_on k s side (option_map taking given) ≡ client_of (taken_on k s side given).next side
-given_leads k s side None = refl
-given_leads k s side (Some bytes) =
-    sym (ap (λ (made : Step Client). made.next) (taken_kept s side (take_on k (client_of s side) bytes)))
+acted_leads : (k : Mechanism) (s : Sides) (side : Side) (act : Option Act)
+    → left_on k s side act ≡ client_of (acted_on k s side act).next side
+acted_leads k s side None = refl
+acted_leads k s side (Some act) =
+    sym (ap (λ (made : Step Client). made.next) (settled_kept s side (act_on k (client_of s side) act)))
+
+called_leads : (k : Mechanism) (s : Sides) (side : Side) (call : SideCall)
+    → left_on k s side (act_of s side call) ≡ client_of (called_on k s side call).next side
+called_leads k s side (says text) = saying_leads k s side text (say_check (client_of s side) (length text))
+called_leads k s side call = acted_leads k s side (act_of s side call)
 
 leads_on : (k : Mechanism) (s : Sides) (event : Event) → has_effect (step_on k s event).answer ≡ true
-    → left_on k s (acting_side event) (act_of s event) ≡ client_of (step_on k s event).next (acting_side event)
+    → left_on k s (acting_side event) (act_of_event s event) ≡ client_of (step_on k s event).next (acting_side event)
 leads_on k s (seeds seed) effect = refl
-leads_on k s (says side text) effect = saying_leads k s side text (say_check (client_of s side) (length text))
-leads_on k s (takes side p) effect = given_leads k s side (held_at s.posts p)
-leads_on k s (takes_nth side nth) effect = given_leads k s side (held_nth s.posts side nth)
-leads_on k s (flips side p bit) effect = given_leads k s side (flipped_at s.posts p bit)
-leads_on k s (takes_bytes side bytes) effect = given_leads k s side (Some bytes)
-leads_on k s (drops_sent side amount) effect =
-    let n = amount_of amount (length (client_of s side).outbox) in
-    sym (ap (λ (made : Step Client). made.next) (sent_kept s side n (dropped_of n (client_of s side).outbox)))
-leads_on k s (drops_done side amount) effect =
-    let n = amount_of amount (length (client_of s side).inbox) in
-    sym (ap (λ (made : Step Client). made.next) (done_kept s side n (dropped_of n (client_of s side).inbox)))
+leads_on k s (does side call) effect = called_leads k s side call
 leads_on k s (shows_inbox side) effect = refl
 leads_on k s (shows_state side) effect = refl
 leads_on k s (cuts took event) effect =
@@ -90,9 +85,9 @@ left_seen k w side (Some act) = ap (λ (c : Client). (settled c (act_on k c act)
 -- in a world, by what both sides make of it
 pub leads : (k : Mechanism) (w : World) (event : Event) (next : Client) → has_effect (step_on k (sides_of k w) event).answer ≡ true
     → client_of (step_on k (sides_of k w) event).next (acting_side event) ≡ next
-    → left_in k w (acting_side event) (act_of (sides_of k w) event) ≡ next
+    → left_in k w (acting_side event) (act_of_event (sides_of k w) event) ≡ next
 leads k w event next effect is =
-    sym (left_seen k w (acting_side event) (act_of (sides_of k w) event)) ∙ leads_on k (sides_of k w) event effect ∙ is
+    sym (left_seen k w (acting_side event) (act_of_event (sides_of k w) event)) ∙ leads_on k (sides_of k w) event effect ∙ is
 
 -- ---- what the side can do
 
@@ -152,25 +147,32 @@ module _ (k : Mechanism) (w : World) (side : Side) where
   given_held None effect = tt
   given_held (Some bytes) effect = made_held bytes (made_at k w bytes) refl effect
 
--- an event that took effect is an act that its side can do
-pub held_back : (k : Mechanism) (w : World) (event : Event) → IsLawfulWorld k w → has_effect (step_of k w event).answer ≡ true
-    → IfSome (act_of (sides_of k w) event) (IsHeldBack k w (acting_side event))
-held_back k w (seeds seed) lawful effect = tt
-held_back k w (says side text) lawful effect =
+-- a packet that had an effect was said
+source_held : (k : Mechanism) (w : World) (side : Side) (source : PacketSource)
+    → has_effect (taking_of k w side source).answer ≡ true
+    → IfSome (act_of (sides_of k w) side (takes source)) (IsHeldBack k w side)
+source_held k w side (of_position p) effect =
+    subst (λ o. IfSome (option_map taking o) (IsHeldBack k w side)) (sym (held_at-posts k w.conversation p))
+    (at_held k w side p (is_said w.conversation p) refl)
+source_held k w side (of_number nth) effect =
+    subst (λ o. IfSome (option_map taking o) (IsHeldBack k w side)) (sym (held_nth-posts k w.conversation side nth))
+    (nth_held k w side (nth_of_peer w.conversation side nth) (nth_said w.conversation side nth))
+source_held k w side (of_flip p bit) effect = given_held k w side (flipped_at (posts k w.conversation) p bit) effect
+source_held k w side (of_bytes bytes) effect = given_held k w side (Some bytes) effect
+
+call_held : (k : Mechanism) (w : World) (side : Side) (call : SideCall) → IsLawfulWorld k w
+    → has_effect (called_in k w side call).answer ≡ true
+    → IfSome (act_of (sides_of k w) side call) (IsHeldBack k w side)
+call_held k w side (says text) lawful effect =
     let check = say_check (client_of (sides_of k w) side) (length text) in (
       needs_draw k w side (sides_of k w) check ∙ ap (λ (c : Client). needs_seed (say_check c (length text))) (client_of-kept k w side),
       draw_whole k w side check lawful,
     )
-held_back k w (takes side p) lawful effect =
-    subst (λ o. IfSome (option_map taking o) (IsHeldBack k w side)) (sym (held_at-posts k w.conversation p))
-    (at_held k w side p (is_said w.conversation p) refl)
-held_back k w (takes_nth side nth) lawful effect =
-    subst (λ o. IfSome (option_map taking o) (IsHeldBack k w side)) (sym (held_nth-posts k w.conversation side nth))
-    (nth_held k w side (nth_of_peer w.conversation side nth) (nth_said w.conversation side nth))
-held_back k w (flips side p bit) lawful effect = given_held k w side (flipped_at (posts k w.conversation) p bit) effect
-held_back k w (takes_bytes side bytes) lawful effect = given_held k w side (Some bytes) effect
-held_back k w (drops_sent side amount) lawful effect = tt
-held_back k w (drops_done side amount) lawful effect = tt
-held_back k w (shows_inbox side) lawful effect = tt
-held_back k w (shows_state side) lawful effect = tt
-held_back k w (cuts took event) lawful effect = tt
+call_held k w side (takes source) lawful effect = source_held k w side source effect
+call_held k w side call lawful effect = tt
+
+-- an event that took effect is an act that its side can do
+pub held_back : (k : Mechanism) (w : World) (event : Event) → IsLawfulWorld k w → has_effect (step_of k w event).answer ≡ true
+    → IfSome (act_of_event (sides_of k w) event) (IsHeldBack k w (acting_side event))
+held_back k w (does side call) lawful effect = call_held k w side call lawful effect
+held_back k w event lawful effect = tt

@@ -1,27 +1,26 @@
 -- Whose client moves, and whose stays as it is.
-use Rattle.std.proofs.Common.{Bool, List, None, Option, Some, ap, false, if◌then◌else◌, refl, sym, true, ℕ, ◌∙◌, ◌≡◌}
+use Rattle.std.proofs.Common.{Bool, None, Option, Some, ap, false, if◌then◌else◌, refl, sym, true, ◌∙◌, ◌≡◌}
 use Rattle.std.specs.Prelude.{IfSome, length}
 use Rattle.dr_base.specs.Position.{peer_of}
 use Rattle.dr_base.specs.declared.position.Side.{Side}
 use Rattle.dr_base.specs.declared.position.Side.TheVariants.{First, Second}
 use Rattle.dr_model.specs.Machines.Draws.{Draws}
-use Rattle.dr_model.specs.Machines.Events.{Event, cuts, drops_done, drops_sent, flips, says, seeds, shows_inbox, shows_state, takes, takes_bytes, takes_nth}
-use Rattle.dr_model.specs.Machines.Network.{flipped_at, held_at, held_nth}
-use Rattle.dr_model.specs.Machines.Sides.{Sides, client_of, step_on, taken_on}
-use Rattle.dr_model.specs.Machines.Steps.{Step, amount_of, has_effect, step}
+use Rattle.dr_model.specs.Machines.Events.{Event, SideCall, cuts, does, says, seeds, shows_inbox, shows_state}
+use Rattle.dr_model.specs.Machines.Sides.{Sides, act_of, acted_on, called_on, client_of, step_on}
+use Rattle.dr_model.specs.Machines.Steps.{Step, has_effect, step}
 use Rattle.dr_model.specs.Machines.Worlds.{World, step_of}
 use Rattle.dr_model.specs.Machines.WorldSides.{kept_in, sides_of}
 use Rattle.dr_model.specs.Theorems.Fairness.{IsFair}
 use Rattle.dr_model.specs.Theorems.LawfulWorlds.{IsLawfulWorld}
-use Rattle.dr_model.proofs.Acting.Keeping.{done_leaves, saying_leaves, sent_leaves, taken_leaves}
+use Rattle.dr_model.proofs.Acting.Keeping.{saying_leaves, settled_leaves}
 use Rattle.dr_model.proofs.Worlds.Following.{step_follows}
 use Rattle.dr_model.proofs.Worlds.WorldViews.{client_of-kept}
 use Rattle.kem_laws.specs.Mechanism.{IsLawfulMechanism, Mechanism}
-use Rattle.session_model.specs.Clients.{dropped_of, say_check, take_on}
+use Rattle.session_model.specs.Clients.{say_check}
 use Rattle.session_model.specs.declared.answer.Answer.TheVariants.{Stopped}
 use Rattle.scripts.specs.Sides.{acting_side}
 use Rattle.duet.specs.Shuts.{Shuts, asks_open, shut_of}
-use Rattle.dr_model.specs.Machines.Acts.{Act}
+use Rattle.dr_model.specs.Machines.Acts.{Act, act_on}
 use Rattle.duet.proofs.SaidBoxes.{KeepsShut}
 
 -- a side is the one or the other
@@ -45,10 +44,15 @@ pub drawn_same : (s : Sides) (side : Side) (draws : Draws) → client_of (record
 drawn_same s First draws = refl
 drawn_same s Second draws = refl
 
-given_leaves : (k : Mechanism) (s : Sides) (side : Side) (given : Option (List ℕ))
-    → client_of (taken_on k s side given).next (peer_of side) ≡ client_of s (peer_of side)
-given_leaves k s side None = refl
-given_leaves k s side (Some bytes) = taken_leaves s side (take_on k (client_of s side) bytes)
+acted_leaves : (k : Mechanism) (s : Sides) (side : Side) (act : Option Act)
+    → client_of (acted_on k s side act).next (peer_of side) ≡ client_of s (peer_of side)
+acted_leaves k s side None = refl
+acted_leaves k s side (Some act) = settled_leaves s side (act_on k (client_of s side) act)
+
+called_leaves : (k : Mechanism) (s : Sides) (side : Side) (call : SideCall)
+    → client_of (called_on k s side call).next (peer_of side) ≡ client_of s (peer_of side)
+called_leaves k s side (says text) = saying_leaves k s side text (say_check (client_of s side) (length text))
+called_leaves k s side call = acted_leaves k s side (act_of s side call)
 
 cut_keeps : (s : Sides) (side : Side) (took : Bool) (made : Step Sides) (effect : Bool)
     → client_of made.next side ≡ client_of s side
@@ -62,15 +66,7 @@ cut_keeps s side false made true same = drawn_same s side made.next.draws
 others_keep : (k : Mechanism) (s : Sides) (event : Event)
     → client_of (step_on k s event).next (peer_of (acting_side event)) ≡ client_of s (peer_of (acting_side event))
 others_keep k s (seeds seed) = refl
-others_keep k s (says side text) = saying_leaves k s side text (say_check (client_of s side) (length text))
-others_keep k s (takes side p) = given_leaves k s side (held_at s.posts p)
-others_keep k s (takes_nth side nth) = given_leaves k s side (held_nth s.posts side nth)
-others_keep k s (flips side p bit) = given_leaves k s side (flipped_at s.posts p bit)
-others_keep k s (takes_bytes side bytes) = taken_leaves s side (take_on k (client_of s side) bytes)
-others_keep k s (drops_sent side amount) =
-    let n = amount_of amount (length (client_of s side).outbox) in sent_leaves s side n (dropped_of n (client_of s side).outbox)
-others_keep k s (drops_done side amount) =
-    let n = amount_of amount (length (client_of s side).inbox) in done_leaves s side n (dropped_of n (client_of s side).inbox)
+others_keep k s (does side call) = called_leaves k s side call
 others_keep k s (shows_inbox side) = refl
 others_keep k s (shows_state side) = refl
 others_keep k s (cuts took event) =
@@ -84,13 +80,7 @@ idle_keeps k s (seeds seed) First idle = refl
 idle_keeps k s (seeds seed) Second idle = refl
 idle_keeps k s (shows_inbox own) side idle = refl
 idle_keeps k s (shows_state own) side idle = refl
-idle_keeps k s (says own text) side idle = cc
-idle_keeps k s (takes own p) side idle = cc
-idle_keeps k s (takes_nth own nth) side idle = cc
-idle_keeps k s (flips own p bit) side idle = cc
-idle_keeps k s (takes_bytes own bytes) side idle = cc
-idle_keeps k s (drops_sent own amount) side idle = cc
-idle_keeps k s (drops_done own amount) side idle = cc
+idle_keeps k s (does own call) side idle = cc
 idle_keeps k s (cuts took event) side idle = cc
 
 -- ---- and in a world

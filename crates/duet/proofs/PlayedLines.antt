@@ -7,10 +7,10 @@ use Rattle.dr_ports.specs.Ports.{appended}
 use Rattle.dr_ports.specs.States.{SinkState}
 use Rattle.dr_ports.specs.Writing.{TookBeginning}
 use Rattle.session_model.specs.declared.answer.Answer.{Answer}
-use Rattle.session_model.specs.declared.answer.Answer.TheVariants.{Said, Opened, Sent, Done, Inbox, State, Seeded, Stopped, Nothing, Refused}
+use Rattle.session_model.specs.declared.answer.Answer.TheVariants.{Said, Opened, Nothing, Refused}
 use Rattle.dr_disk.specs.declared.call.Call.{Call}
-use Rattle.dr_model.specs.Machines.Events.{Event}
-use Rattle.dr_model.specs.Machines.Sides.{Sides, client_of, step_on}
+use Rattle.dr_model.specs.Machines.Events.{Event, does}
+use Rattle.dr_model.specs.Machines.Sides.{Sides, called_on, client_of}
 use Rattle.dr_model.specs.Machines.Steps.{Step}
 use Rattle.session_model.specs.Clients.{Client}
 use Rattle.kem_laws.specs.Mechanism.{Mechanism}
@@ -53,12 +53,7 @@ side_more n (Said p) t b = record { said = omega (arith, b.said); opened = omega
 side_more n (Opened p) t b = record { said = omega (arith, b.said); opened = omega (arith, b.opened); refused = omega (arith, b.refused) }
 side_more n Nothing t b = record { said = omega (arith, b.said); opened = omega (arith, b.opened); refused = omega (arith, b.refused) }
 side_more n (Refused refusal) t b = record { said = omega (arith, b.said); opened = omega (arith, b.opened); refused = omega (arith, b.refused) }
-side_more n (Sent m) t b = side_wider n (n + 1) t (omega arith) b
-side_more n (Done m) t b = side_wider n (n + 1) t (omega arith) b
-side_more n (Inbox m) t b = side_wider n (n + 1) t (omega arith) b
-side_more n (State summary) t b = side_wider n (n + 1) t (omega arith) b
-side_more n Seeded t b = side_wider n (n + 1) t (omega arith) b
-side_more n Stopped t b = side_wider n (n + 1) t (omega arith) b
+side_more n answer t b = side_wider n (n + 1) t (omega arith) b
 
 one_more : (n : ℕ) (side : Side) (answer : Answer) (t : Tally) → IsBelow n t → IsBelow (n + 1) (counted_of side answer t)
 one_more n First answer t b = record { first = side_more n answer t.first b.first; second = side_wider n (n + 1) t.second (omega arith) b.second }
@@ -79,12 +74,12 @@ opened_more side s by (Some shut) n t b = wider n (n + 1) t (omega arith) b
 freely_more : (k : Mechanism) (s : SidesBeside) (deed : Deed) (n : ℕ) (t : Tally) → IsBelow n t
     → IsBelow (n + 1) (counted_all (deed_side deed) (freely_on k s deed).answers t)
 freely_more k s (acts event) n t b = one_more n (acting_side event) _ t b
-freely_more k s (stops after mode call) n t b = one_more n (acting_side call) _ t b
-freely_more k s (fails at call) n t b =
-    let made = step_on k s.ends call in
-    let before = client_of s.ends (acting_side call) in
-    let after = client_of made.next (acting_side call) in
-    failed_more call s made (record s.ends { draws = made.next.draws }) (left_of at before after after before)
+freely_more k s (stops after mode side call) n t b = one_more n side _ t b
+freely_more k s (fails at side call) n t b =
+    let made = called_on k s.ends side call in
+    let before = client_of s.ends side in
+    let after = client_of made.next side in
+    failed_more (does side call) s made (record s.ends { draws = made.next.draws }) (left_of at before after after before)
     (failing_call at made.answer before after) n t b
 freely_more k s (reopens side) n t b = opened_more side s (gathers s.ends side) (shut_of s.shuts side) n t b
 freely_more k s (syncs side lost) n t b = wider n (n + 1) t (omega arith) b

@@ -8,7 +8,7 @@ use Rattle.dr_base.specs.declared.position.Position.{Position}
 use Rattle.dr_base.specs.declared.position.Side.{Side}
 use Rattle.dr_model.specs.Conversations.Conversation.{is_said, positions}
 use Rattle.dr_model.specs.Conversations.Posts.{post_at, posts_of}
-use Rattle.dr_model.specs.Machines.Acts.{Act, finishing, needs_seed, saying, sending, taking}
+use Rattle.dr_model.specs.Machines.Acts.{Act, needs_seed, saying, taking}
 use Rattle.dr_model.specs.Machines.Events.{Event}
 use Rattle.dr_model.specs.Machines.WorldSides.{kept_in}
 use Rattle.dr_model.specs.Machines.Worlds.{World, outbox_in, step_of, view_of}
@@ -120,8 +120,7 @@ abbrev pub IsHeldBack : Mechanism → World → Side → Act → Type 0
 IsHeldBack k w side (saying text draw) =
     (is_some draw ≡ needs_seed (say_check (kept_in k w side) (length text))) × IfSome draw (λ seed. length seed ≡ 32)
 IsHeldBack k w side (taking bytes) = IsSaidPacket k w bytes
-IsHeldBack k w side (finishing n) = ⊤
-IsHeldBack k w side (sending n) = ⊤
+IsHeldBack k w side _ = ⊤
 
 abbrev pub IsLeft : Mechanism → World → Side → Shut (Option Act) → Type 0
 IsLeft k w side shut = IfSome shut.left (IsHeldBack k w side)
@@ -141,8 +140,7 @@ module _ (k : Mechanism) (w next : World) (side : Side) (said : (packet : List �
   held_stays (saying text draw) same held =
       (held.0 ∙ ap (λ (c : Client). needs_seed (say_check c (length text))) (sym same), held.1)
   held_stays (taking bytes) same held = said bytes held
-  held_stays (finishing n) same held = tt
-  held_stays (sending n) same held = tt
+  held_stays act same held = tt
 
   act_stays : (o : Option Act) → kept_in k next side ≡ kept_in k w side → IfSome o (IsHeldBack k w side)
       → IfSome o (IsHeldBack k next side)

@@ -4,7 +4,8 @@ use Rattle.std.specs.Prelude.{All, IfSome, if◌then◌else◌}
 use Rattle.std.proofs.lemmas.List.Elements.{All-head, All-tail}
 use Rattle.dr_base.specs.declared.position.Side.{Side}
 use Rattle.dr_base.specs.Position.{peer_of}
-use Rattle.dr_model.specs.Machines.Acts.{Act, act_in, event_of, sending, taking}
+use Rattle.dr_model.specs.Machines.Acts.{Act, taking}
+use Rattle.dr_model.specs.Machines.WorldActs.{act_in, event_of}
 use Rattle.dr_model.specs.Machines.WorldSides.{kept_in}
 use Rattle.dr_model.specs.Machines.Worlds.{World}
 use Rattle.dr_model.specs.Theorems.Fairness.{IsUnforged}
@@ -23,7 +24,7 @@ use Rattle.sync_model.specs.Scenes.{IsFairNext, MeetsFairly, scene, without_repl
 use Rattle.sync_model.specs.Simulation.{AreAlike, IsFairReply}
 use Rattle.sync_model.specs.Transfers.{Meeting, answered, begins, meet_times, meets}
 use Rattle.sync_model.proofs.Alike.{read_alike}
-use Rattle.client.specs.Syncing.Parties.{waiting, world_party}
+use Rattle.client.specs.Syncing.Parties.{oldest_sent, waiting, world_party}
 use Rattle.duet.specs.Outcomes.{WorldBeside}
 use Rattle.scripts.specs.Sides.{side_text}
 use Rattle.duet.specs.Shuts.{Shuts, shut_of}
@@ -106,8 +107,8 @@ module _ (k : Mechanism) (law : IsLawfulMechanism k) (side : Side) (start : Worl
     outbox = λ v w are. ap party.outbox are.0;
     sent = λ v w are. (
       ap party.sent are.0,
-      honest_next k (beside w boxes) (event_of side (sending 1)) are.1 tt
-          (other_keeps w (sending 1) are.1.lawful tt),
+      honest_next k (beside w boxes) (event_of side oldest_sent) are.1 tt
+          (other_keeps w oldest_sent are.1.lawful tt),
     );
     takes = λ v w packet are fair. record {
       line = ap (λ (x : World). (party.take x packet).line) are.0;

@@ -1,19 +1,18 @@
 -- What an event shows, and what it adds to the network and to the draws.
 use Rattle.std.proofs.Common.{◌≡◌, ℕ, ◌+◌, ◌≤◌, Bool, true, false, List, [], ◌∷◌, ◌++◌, length, Option, Some, None, Result, Ok, Err, if◌then◌else◌, refl, sym, ◌∙◌, ap, ap₂, append-nil, arith, length-append}
-use Rattle.std.specs.Prelude.{drop, flat_map, nat_lt, ◌-◌}
+use Rattle.std.specs.Prelude.{IfOk, drop, flat_map, nat_lt, ◌-◌}
 use Rattle.std.proofs.lemmas.List.{length-drop}
 use Rattle.dr_base.specs.declared.position.Side.{Side}
 use Rattle.dr_base.specs.declared.position.Side.TheVariants.{First, Second}
-use Rattle.boxes.specs.Entries.{Entry}
 use Rattle.boxes.specs.Posts.{Post}
 use Rattle.session_model.specs.declared.answer.Answer.TheVariants.{Stopped}
 use Rattle.session_model.specs.declared.answer.Refusal.{Refusal}
 use Rattle.session_model.specs.Clients.{Client, SaidText, TakenPacket, dropped_of, say_check, say_on, take_on}
-use Rattle.dr_model.specs.Machines.Sides.{Sides, client_of, done_on, opened_on, said_on, saying_on, sent_on, step_on, taken_on, with_client}
-use Rattle.dr_model.specs.Machines.Steps.{Step, amount_of, has_effect, step}
-use Rattle.dr_model.specs.Machines.Draws.{Draws, after_draw, next_seed}
-use Rattle.dr_model.specs.Machines.Events.{Event, seeds, says, takes, takes_nth, flips, takes_bytes, drops_sent, drops_done, shows_inbox, shows_state, cuts}
-use Rattle.dr_model.specs.Machines.Network.{flipped_at, held_at, held_nth}
+use Rattle.dr_model.specs.Machines.Sides.{Sides, act_of, acted_on, called_on, client_of, said_on, saying_on, settled_on, step_on, with_client}
+use Rattle.dr_model.specs.Machines.Steps.{Step, has_effect, step}
+use Rattle.dr_model.specs.Machines.Acts.{Act, act_on, leaving_by, said_by, saying, saying_by, taken_by, taking}
+use Rattle.dr_model.specs.Machines.Draws.{Draws, after_draw, given_or, next_seed}
+use Rattle.dr_model.specs.Machines.Events.{Event, SideCall, cuts, does, says, seeds, shows_inbox, shows_state}
 use Rattle.kem_laws.specs.Mechanism.{Mechanism}
 use Rattle.session_model.specs.declared.answer.Answer.{Answer}
 use Rattle.duet.specs.Outcomes.{SidesBeside, SidesPlayed, barring, deed_on, failed, freely_on, opened}
@@ -23,15 +22,11 @@ use Rattle.duet.specs.Gathering.{gathers, newest_from}
 use Rattle.duet.specs.Held.{shown}
 use Rattle.duet.specs.Shuts.{Shut, failing_call, left_of, shut_of}
 use Rattle.duet.proofs.Barred.{barred_or}
-use Rattle.scripts.proofs.Calls.{acting_call}
-use Rattle.scripts.specs.Seen.{CallOfLine, call_event, take_event}
+use Rattle.scripts.specs.Seen.{CallOfLine, call_event}
 use Rattle.duet.specs.Replies.{entry_line, reply_line, reply_of}
 use Rattle.scripts.specs.Sides.{acting_side, deed_side}
 use Rattle.duet.specs.Stops.{cut_event, cut_of, stopped_on}
 use Rattle.scripts.specs.declared.lined.Stop.{Stop}
-use Rattle.scripts.specs.declared.call.Call.TheVariants.{Done, Say, Sent, Take}
-use Rattle.scripts.specs.declared.call.Source.{Source}
-use Rattle.scripts.specs.declared.call.Source.TheVariants.{At, Bytes, Flipped, Nth}
 
 -- a step that shows no text, adds at most one packet to the network, and makes at most one draw
 record IsQuiet (s : Sides) (made : Step Sides) : Type 0 where
@@ -57,24 +52,43 @@ saying_quiet k s side text (Err refusal) = still_quiet s _ refl refl refl
 saying_quiet k s side text (Ok false) = said_quiet s side s.draws (say_on k (client_of s side) text []) (omega arith)
 saying_quiet k s side text (Ok true) = said_quiet s side (after_draw s.draws) (say_on k (client_of s side) text (next_seed s.key s.draws)) (omega arith)
 
-opened_quiet : (s : Sides) (side : Side) (r : Result TakenPacket Refusal) → IsQuiet s (opened_on s side r)
-opened_quiet s First (Ok taken) = still_quiet s _ refl refl refl
-opened_quiet s Second (Ok taken) = still_quiet s _ refl refl refl
-opened_quiet s side (Err refusal) = still_quiet s _ refl refl refl
+-- an act shows no text
+said_none : (r : Result SaidText Refusal) → IfOk (said_by r) (λ made. made.entries ≡ [])
+said_none (Ok said) = refl
+said_none (Err refusal) = tt
 
-taken_quiet : (k : Mechanism) (s : Sides) (side : Side) (given : Option (List ℕ)) → IsQuiet s (taken_on k s side given)
-taken_quiet k s side None = still_quiet s _ refl refl refl
-taken_quiet k s side (Some bytes) = opened_quiet s side (take_on k (client_of s side) bytes)
+saying_none : (k : Mechanism) (c : Client) (text : List ℕ) (draw : Option (List ℕ)) (r : Result Bool Refusal)
+    → IfOk (saying_by k c text draw r) (λ made. made.entries ≡ [])
+saying_none k c text draw (Ok turns) = said_none (say_on k c text (given_or [] draw))
+saying_none k c text draw (Err refusal) = tt
 
-sent_quiet : (s : Sides) (side : Side) (n : ℕ) (r : Result (List Post) Refusal) → IsQuiet s (sent_on s side n r)
-sent_quiet s First n (Ok outbox) = still_quiet s _ refl refl refl
-sent_quiet s Second n (Ok outbox) = still_quiet s _ refl refl refl
-sent_quiet s side n (Err refusal) = still_quiet s _ refl refl refl
+taken_none : (r : Result TakenPacket Refusal) → IfOk (taken_by r) (λ made. made.entries ≡ [])
+taken_none (Ok taken) = refl
+taken_none (Err refusal) = tt
 
-done_quiet : (s : Sides) (side : Side) (n : ℕ) (r : Result (List Entry) Refusal) → IsQuiet s (done_on s side n r)
-done_quiet s First n (Ok inbox) = still_quiet s _ refl refl refl
-done_quiet s Second n (Ok inbox) = still_quiet s _ refl refl refl
-done_quiet s side n (Err refusal) = still_quiet s _ refl refl refl
+leaving_none : {A : Type 0} (answer : Answer) (kept_with : List A → Client) (r : Result (List A) Refusal)
+    → IfOk (leaving_by answer kept_with r) (λ made. made.entries ≡ [])
+leaving_none answer kept_with (Ok left) = refl
+leaving_none answer kept_with (Err refusal) = tt
+
+act_none : (k : Mechanism) (c : Client) (act : Act) → IfOk (act_on k c act) (λ made. made.entries ≡ [])
+act_none k c (saying text draw) = saying_none k c text draw (say_check c (length text))
+act_none k c (taking bytes) = taken_none (take_on k c bytes)
+act_none k c _ = leaving_none _ _ (dropped_of _ _)
+
+settled_quiet : (s : Sides) (side : Side) (r : Result (Step Client) Refusal) → IfOk r (λ made. made.entries ≡ [])
+    → IsQuiet s (settled_on s side r)
+settled_quiet s First (Ok made) none = still_quiet s _ none refl refl
+settled_quiet s Second (Ok made) none = still_quiet s _ none refl refl
+settled_quiet s side (Err refusal) none = still_quiet s _ refl refl refl
+
+acted_quiet : (k : Mechanism) (s : Sides) (side : Side) (act : Option Act) → IsQuiet s (acted_on k s side act)
+acted_quiet k s side None = still_quiet s _ refl refl refl
+acted_quiet k s side (Some act) = settled_quiet s side (act_on k (client_of s side) act) (act_none k (client_of s side) act)
+
+called_quiet : (k : Mechanism) (s : Sides) (side : Side) (call : SideCall) → IsQuiet s (called_on k s side call)
+called_quiet k s side (says text) = saying_quiet k s side text (say_check (client_of s side) (length text))
+called_quiet k s side call = acted_quiet k s side (act_of s side call)
 
 -- ---- a step that was cut off
 
@@ -87,13 +101,7 @@ uncut k s before took made false e h = cc
 effect_shows_none : (k : Mechanism) (s t : Sides) (event : Event) → has_effect (step_on k s event).answer ≡ true
     → shown event t ≡ []
 effect_shows_none k s t (seeds seed) h = refl
-effect_shows_none k s t (says side text) h = refl
-effect_shows_none k s t (takes side p) h = refl
-effect_shows_none k s t (takes_nth side nth) h = refl
-effect_shows_none k s t (flips side p bit) h = refl
-effect_shows_none k s t (takes_bytes side bytes) h = refl
-effect_shows_none k s t (drops_sent side amount) h = refl
-effect_shows_none k s t (drops_done side amount) h = refl
+effect_shows_none k s t (does side call) h = refl
 effect_shows_none k s t (shows_inbox side) h = cc
 effect_shows_none k s t (shows_state side) h = refl
 effect_shows_none k s t (cuts took event) h =
@@ -121,17 +129,7 @@ cut_shown s event took made false e none all = record { entries = all.entries; p
 
 shows : (k : Mechanism) (s : Sides) (event : Event) → IsShown s event (step_on k s event)
 shows k s (seeds seed) = record { entries = refl; posts = omega arith; draws = omega arith }
-shows k s (says side text) = from_quiet s (says side text) _ refl (saying_quiet k s side text (say_check (client_of s side) (length text)))
-shows k s (takes side p) = from_quiet s (takes side p) _ refl (taken_quiet k s side (held_at s.posts p))
-shows k s (takes_nth side nth) = from_quiet s (takes_nth side nth) _ refl (taken_quiet k s side (held_nth s.posts side nth))
-shows k s (flips side p bit) = from_quiet s (flips side p bit) _ refl (taken_quiet k s side (flipped_at s.posts p bit))
-shows k s (takes_bytes side bytes) = from_quiet s (takes_bytes side bytes) _ refl (opened_quiet s side (take_on k (client_of s side) bytes))
-shows k s (drops_sent side amount) =
-    let n = amount_of amount (length (client_of s side).outbox) in
-    from_quiet s (drops_sent side amount) _ refl (sent_quiet s side n (dropped_of n (client_of s side).outbox))
-shows k s (drops_done side amount) =
-    let n = amount_of amount (length (client_of s side).inbox) in
-    from_quiet s (drops_done side amount) _ refl (done_quiet s side n (dropped_of n (client_of s side).inbox))
+shows k s (does side call) = from_quiet s (does side call) _ refl (called_quiet k s side call)
 shows k s (shows_inbox side) = record { entries = refl; posts = omega arith; draws = omega arith }
 shows k s (shows_state side) = record { entries = refl; posts = omega arith; draws = omega arith }
 shows k s (cuts took event) =
@@ -187,12 +185,12 @@ opened_adds s side (Some shut) = gathers_adds s.ends side shut.left
 
 freely_adds : (k : Mechanism) (s : SidesBeside) (deed : Deed) → AddsFew s.ends (freely_on k s deed).next.ends
 freely_adds k s (acts event) = event_adds k s.ends event
-freely_adds k s (stops n mode call) = event_adds k s.ends (stopped_on k s.ends n mode call)
-freely_adds k s (fails n call) =
-    let made = step_on k s.ends call in
-    let before = client_of s.ends (acting_side call) in
-    let after = client_of made.next (acting_side call) in
-    failed_adds k s call (left_of n before after after before) (failing_call n made.answer before after)
+freely_adds k s (stops n mode side call) = event_adds k s.ends (stopped_on k s.ends n mode (does side call))
+freely_adds k s (fails n side call) =
+    let made = called_on k s.ends side call in
+    let before = client_of s.ends side in
+    let after = client_of made.next side in
+    failed_adds k s (does side call) (left_of n before after after before) (failing_call n made.answer before after)
 freely_adds k s (reopens side) = opened_adds s side (shut_of s.shuts side)
 freely_adds k s (syncs side lost) = adds_none s.ends side _
 
@@ -204,22 +202,10 @@ adds_few k s deed =
 
 -- ---- a call in which a disk stops shows no text
 
-take_shows_none : (t : Sides) (side : Side) (source : Source) → shown (take_event side source) t ≡ []
-take_shows_none t side (At p) = refl
-take_shows_none t side (Nth nth) = refl
-take_shows_none t side (Flipped p bit) = refl
-take_shows_none t side (Bytes hex) = refl
-
-call_shows_none : (t : Sides) (side : Side) (call : CallOfLine) → shown (call_event side call) t ≡ []
-call_shows_none t side (Say text) = refl
-call_shows_none t side (Take source) = take_shows_none t side source
-call_shows_none t side (Sent amount) = refl
-call_shows_none t side (Done amount) = refl
-
 cut_shows_none : (t : Sides) (cut : Option Bool) (side : Side) (call : CallOfLine)
     → shown (cut_event cut (call_event side call)) t ≡ []
-cut_shows_none t None side call = call_shows_none t side call
-cut_shows_none t (Some replaced) side call = call_shows_none t side call
+cut_shows_none t None side call = refl
+cut_shows_none t (Some replaced) side call = refl
 
 pub cut_acting : (cut : Option Bool) (event : Event)
     → acting_side (cut_event cut event) ≡ acting_side event
@@ -234,10 +220,9 @@ unfolding reply_of
 call_reply k s side call answer is =
     let event = call_event side call in
     let made = step_on k s event in
-    let none : made.entries ≡ [] = sym (shown-entries k s event) ∙ call_shows_none made.next side call in
-    let line = reply_line (acting_side event) made.answer in
-    ap₂ reply_line (sym (acting_call side call)) is ∙ sym (append-nil line)
-    ∙ ap (λ entries. line ++ flat_map (entry_line (acting_side event)) entries) (sym none)
+    let none : made.entries ≡ [] = sym (shown-entries k s event) in
+    let line = reply_line side made.answer in
+    ap (reply_line side) is ∙ sym (append-nil line) ∙ ap (λ entries. line ++ flat_map (entry_line side) entries) (sym none)
 
 -- so its reply is its line
 pub stop_reply : (k : Mechanism) (s : Sides) (stop : Stop) (answer : Answer)
@@ -247,14 +232,13 @@ pub stop_reply : (k : Mechanism) (s : Sides) (stop : Stop) (answer : Answer)
 unfolding reply_of stopped_on
 stop_reply k s stop answer is =
     let call = call_event stop.side stop.call in
-    let own = acting_side call in
-    let next = client_of (step_on k s call).next own in
-    let cut = cut_of stop.after stop.mode (client_of s own) next in
+    let next = client_of (step_on k s call).next stop.side in
+    let cut = cut_of stop.after stop.mode (client_of s stop.side) next in
     let event = cut_event cut call in
     let made = step_on k s event in
     let same = cut_acting cut call in
     let none : made.entries ≡ [] =
     sym (shown-entries k s event) ∙ cut_shows_none made.next cut stop.side stop.call in
     let line = reply_line (acting_side event) made.answer in
-    ap₂ reply_line (sym (acting_call stop.side stop.call) ∙ sym same) is ∙ sym (append-nil line)
+    ap₂ reply_line (sym same) is ∙ sym (append-nil line)
     ∙ ap (λ entries. line ++ flat_map (entry_line (acting_side event)) entries) (sym none)

@@ -4,8 +4,9 @@ use Rattle.dr_model.proofs.Acting.Keeping.{own_client}
 use Rattle.dr_base.specs.Position.{peer_of}
 use Rattle.dr_base.specs.declared.position.Side.{Side}
 use Rattle.dr_base.specs.declared.position.Side.TheVariants.{First, Second}
-use Rattle.dr_model.specs.Machines.Acts.{Act, act_in, act_on, event_of, sending, sent_by, taken_by, taking}
-use Rattle.dr_model.specs.Machines.Sides.{Sides, client_of, opened_on, sent_on, step_on, with_client}
+use Rattle.dr_model.specs.Machines.Acts.{Act, act_on, taking}
+use Rattle.dr_model.specs.Machines.WorldActs.{act_in, event_of}
+use Rattle.dr_model.specs.Machines.Sides.{Sides, client_of, settled_on, step_on, with_client}
 use Rattle.dr_model.specs.Machines.Steps.{Step, settled, step}
 use Rattle.dr_model.specs.Machines.WorldSides.{kept_in, sides_of}
 use Rattle.dr_model.specs.Machines.Worlds.{World}
@@ -17,9 +18,8 @@ use Rattle.dr_model.proofs.Worlds.WorldViews.{client_of-kept}
 use Rattle.kem_laws.specs.Mechanism.{IsLawfulMechanism, Mechanism}
 use Rattle.relay_core.specs.Boxes.{Box}
 use Rattle.relay_link.specs.Connections.{kept_before}
-use Rattle.session_model.specs.Clients.{Client, TakenPacket, dropped_of, take_on}
+use Rattle.session_model.specs.Clients.{Client}
 use Rattle.session_model.specs.declared.answer.Refusal.{Refusal}
-use Rattle.boxes.specs.Posts.{Post}
 use Rattle.sync_model.specs.Moves.{Ending, Wait, acking, box_is_full, ended, fetching, inbox_full, no_such_box, over, posting, wrong}
 use Rattle.sync_model.specs.Parties.{Party}
 use Rattle.sync_model.specs.Scenes.{IsSameScene, MeetsFairly, scene}
@@ -27,7 +27,7 @@ use Rattle.sync_model.specs.Simulation.{AreAlike}
 use Rattle.sync_model.specs.Transfers.{Meeting, begins}
 use Rattle.sync_model.proofs.Scenes.{scenes_alike}
 use Rattle.client.specs.Syncing.Lines.{answer_line, own_box, peers_box}
-use Rattle.client.specs.Syncing.Parties.{client_party, is_inbox_full, waiting, world_party}
+use Rattle.client.specs.Syncing.Parties.{client_party, is_inbox_full, oldest_sent, waiting, world_party}
 use Rattle.duet.specs.Outcomes.{SidesPlayed, ending_line, closing_line, sync_lines, synced_on}
 use Rattle.duet.specs.Gathering.{on_side}
 use Rattle.scripts.specs.Sides.{side_text}
@@ -48,21 +48,16 @@ other_client s Second kept = refl
 abbrev IsOwn : Mechanism → Side → Act → Type 0
 IsOwn k side act = (s : Sides) → step_on k s (event_of side act) ≡ on_side s side (settled (client_of s side) (act_on k (client_of s side) act))
 
-opened_side : (s : Sides) (side : Side) (r : Result TakenPacket Refusal)
-    → opened_on s side r ≡ on_side s side (settled (client_of s side) (taken_by r))
-opened_side s side (Ok taken) = refl
-opened_side s side (Err refusal) = ap (λ (x : Sides). step _ x) (sym (same_client s side))
-
-sent_side : (s : Sides) (side : Side) (n : ℕ) (r : Result (List Post) Refusal)
-    → sent_on s side n r ≡ on_side s side (settled (client_of s side) (sent_by (client_of s side) n r))
-sent_side s side n (Ok outbox) = refl
-sent_side s side n (Err refusal) = ap (λ (x : Sides). step _ x) (sym (same_client s side))
+settled_side : (s : Sides) (side : Side) (r : Result (Step Client) Refusal)
+    → settled_on s side r ≡ on_side s side (settled (client_of s side) r)
+settled_side s side (Ok made) = refl
+settled_side s side (Err refusal) = ap (λ (x : Sides). step _ x) (sym (same_client s side))
 
 takes_own : (k : Mechanism) (side : Side) (bytes : List ℕ) → IsOwn k side (taking bytes)
-takes_own k side bytes s = opened_side s side (take_on k (client_of s side) bytes)
+takes_own k side bytes s = settled_side s side (act_on k (client_of s side) (taking bytes))
 
-sends_own : (k : Mechanism) (side : Side) → IsOwn k side (sending 1)
-sends_own k side s = sent_side s side 1 (dropped_of 1 (client_of s side).outbox)
+sends_own : (k : Mechanism) (side : Side) → IsOwn k side oldest_sent
+sends_own k side s = settled_side s side (act_on k (client_of s side) oldest_sent)
 
 -- ---- on the way
 
@@ -103,12 +98,13 @@ module _ (k : Mechanism) (law : IsLawfulMechanism k) (side : Side) (start : Worl
       }
 
   sent : (kept : Client) (w : World) → IsOnWay k side start kept w
-      → IsMade (settled kept (act_on k kept (sending 1))) (act_in k w side (sending 1))
+      → IsMade (settled kept (act_on k kept oldest_sent)) (act_in k w side oldest_sent)
   sent kept w is =
-      let same = sym (step_follows k w (event_of side (sending 1)) law is.lawful (record { unforged = tt; whole = tt })) ∙ made kept w is (sending 1) (sends_own k side) in
+      let same = sym (step_follows k w (event_of side oldest_sent) law is.lawful (record { unforged = tt; whole = tt }))
+      ∙ made kept w is oldest_sent (sends_own k side) in
       record {
         answer = sym (ap (λ (m : Step Sides). m.answer) same);
-        next = record { lawful = lawful_next k w (event_of side (sending 1)) is.lawful tt; stands = ap (λ (m : Step Sides). m.next) same };
+        next = record { lawful = lawful_next k w (event_of side oldest_sent) is.lawful tt; stands = ap (λ (m : Step Sides). m.next) same };
       }
 
   -- ---- a sync

@@ -1,24 +1,19 @@
 -- What a side does by a call on its client, and how that ends.
-use Rattle.std.specs.Prelude.{Err, IfSome, List, Ok, Option, Result, Some, false, is_some, length, option_map, ℕ, ⊤, ◌≡◌}
+use Rattle.std.specs.Prelude.{Err, IfSome, List, Ok, Option, Result, false, is_some, length, option_map, ℕ, ⊤, ◌≡◌}
 use Rattle.arrayvec.specs.ArrayVec.{ArrayVec}
-use Rattle.boxes.specs.Posts.{Post}
 use Rattle.kem_laws.specs.Mechanism.{Mechanism}
 use Rattle.dr_base.specs.Bytes.{AreBytes}
 use Rattle.dr_base.specs.declared.key.Key32.{Key32}
 use Rattle.dr_base.specs.declared.position.Side.{Side}
 use Rattle.dr_model.specs.Machines.Acts.{Act, act_on, finishing, saying, sending, taking}
 use Rattle.dr_model.specs.Machines.Events.{Event}
-use Rattle.dr_model.specs.Machines.Network.{flipped_at, held_at, held_nth}
 use Rattle.dr_model.specs.Machines.Sides.{Sides, client_of, step_on}
 use Rattle.dr_model.specs.Machines.Steps.{Step, has_effect, settled, step}
 use Rattle.session_model.specs.Clients.{Client, say_check}
 use Rattle.session_model.specs.declared.answer.Answer.{Answer}
 use Rattle.client.specs.Outcomes.{Outcome, acknowledged, faulted, is_closed, refused, undrawn}
-use Rattle.scripts.specs.Seen.{bytes_of_hex}
 use Rattle.scripts.specs.declared.call.Call.{Call}
 use Rattle.scripts.specs.declared.call.Call.TheVariants.{Done, Say, Sent, Take}
-use Rattle.scripts.specs.declared.call.Source.{Source}
-use Rattle.scripts.specs.declared.call.Source.TheVariants.{At, Bytes, Flipped, Nth}
 use Rattle.duet.specs.Gathering.{gathering, on_side}
 use Rattle.duet.specs.Held.{DuetNow, with_draws}
 use Rattle.duet.specs.declared.acts.Ended.{Ended}
@@ -55,13 +50,6 @@ abbrev pub acted_by : Mechanism → Sides → Side → Act → Step Sides
 acted_by k s side act = let c = client_of s side in gathering s side (settled c (act_on k c act))
 
 -- ---- from a call to an act
-
--- the packet that a side takes, if the network has it to give
-abbrev pub packet_given : List Post → Side → Source → Option (List ℕ)
-packet_given posts side (At p) = held_at posts p
-packet_given posts side (Nth nth) = held_nth posts side nth
-packet_given posts side (Flipped p bit) = flipped_at posts p bit
-packet_given posts side (Bytes hex) = Some (bytes_of_hex hex.now)
 
 -- an event comes to an act of its side, or to an answer without one
 abbrev pub ComesTo : Mechanism → Sides → Sides → Side → Event → Result CallOfClient Answer → Type 0

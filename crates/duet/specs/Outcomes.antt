@@ -13,8 +13,9 @@ use Rattle.sync_model.specs.Scenes.{scene}
 use Rattle.sync_model.specs.Transfers.{Meeting}
 use Rattle.client.specs.Syncing.Lines.{own_box, peers_box}
 use Rattle.client.specs.Syncing.Parties.{client_party, world_party}
-use Rattle.dr_model.specs.Machines.Acts.{Act, act_in}
-use Rattle.dr_model.specs.Machines.Events.{Event}
+use Rattle.dr_model.specs.Machines.Acts.{Act}
+use Rattle.dr_model.specs.Machines.WorldActs.{act_in}
+use Rattle.dr_model.specs.Machines.Events.{Event, does}
 use Rattle.dr_model.specs.Machines.Sides.{Sides, client_of, step_on, with_client}
 use Rattle.dr_model.specs.Machines.Steps.{Step}
 use Rattle.dr_model.specs.Machines.Worlds.{World, step_of}
@@ -25,7 +26,7 @@ use Rattle.scripts.specs.Deeds.{Deed, acts, fails, reopens, stops, syncs}
 use Rattle.scripts.specs.Sides.{acting_side, deed_side, side_text}
 use Rattle.duet.specs.Gathering.{gathers}
 use Rattle.duet.specs.Replies.{closed_line, failed_line, fault_line, open_line, reply_of}
-use Rattle.duet.specs.Shuts.{Shut, Shuts, act_of, failing_call, left_of, needs_open, shut_of, with_shut}
+use Rattle.duet.specs.Shuts.{Shut, Shuts, act_of_event, failing_call, left_of, needs_open, shut_of, with_shut}
 use Rattle.duet.specs.Stops.{stopped_in, stopped_on}
 
 -- Both sides, or the world that they stand for, what was left of those that are closed, and the relay's boxes.
@@ -133,7 +134,8 @@ failed_in k s n event =
     let before = kept_in k s.ends (acting_side event) in
     let after = kept_in k made.next (acting_side event) in
     failed event s made (record s.ends { draws = made.next.draws })
-    (left_of n before after (act_of (sides_of k s.ends) event) None) (failing_call n made.answer before after)
+    (left_of n before after (act_of_event (sides_of k s.ends) event) None)
+    (failing_call n made.answer before after)
 
 -- ---- an opening
 
@@ -153,18 +155,20 @@ act_done_in k w side (Some act) = record (act_in k w side act).next { draws = w.
 -- what both sides and the relay make of it, where it isn't barred
 abbrev pub freely_on : Mechanism → SidesBeside → Deed → SidesPlayed
 freely_on k s (acts event) = acted event s (step_on k s.ends event)
-freely_on k s (stops n mode call) =
-    let event = stopped_on k s.ends n mode call in acted event s (step_on k s.ends event)
-freely_on k s (fails n call) = failed_on k s n call
+freely_on k s (stops n mode side call) =
+    let event = stopped_on k s.ends n mode (does side call) in
+    acted event s (step_on k s.ends event)
+freely_on k s (fails n side call) = failed_on k s n (does side call)
 freely_on k s (reopens side) = opened side s (gathers s.ends side) (shut_of s.shuts side)
 freely_on k s (syncs side lost) = synced_on k s side lost
 
 -- and the machine
 abbrev pub freely_in : Mechanism → WorldBeside → Deed → WorldPlayed
 freely_in k s (acts event) = acted event s (step_of k s.ends event)
-freely_in k s (stops n mode call) =
-    let event = stopped_in k s.ends n mode call in acted event s (step_of k s.ends event)
-freely_in k s (fails n call) = failed_in k s n call
+freely_in k s (stops n mode side call) =
+    let event = stopped_in k s.ends n mode (does side call) in
+    acted event s (step_of k s.ends event)
+freely_in k s (fails n side call) = failed_in k s n (does side call)
 freely_in k s (reopens side) = opened side s (act_done_in k s.ends side) (shut_of s.shuts side)
 freely_in k s (syncs side lost) = synced_in k s side lost
 

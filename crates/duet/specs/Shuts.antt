@@ -3,20 +3,16 @@ use Rattle.std.specs.Prelude.{Bool, None, Option, Some, false, if◌then◌else�
 use Rattle.dr_base.specs.declared.position.Side.{Side}
 use Rattle.dr_base.specs.declared.position.Side.TheVariants.{First, Second}
 use Rattle.dr_disk.specs.declared.call.Call.{Call}
-use Rattle.dr_model.specs.Machines.Acts.{Act, finishing, saying, sending, taking}
-use Rattle.dr_model.specs.Machines.Draws.{next_seed}
-use Rattle.dr_model.specs.Machines.Events.{Event, drops_done, drops_sent, flips, says, seeds, shows_inbox, shows_state, takes, takes_bytes, takes_nth}
-use Rattle.dr_model.specs.Machines.Network.{flipped_at, held_at, held_nth}
-use Rattle.dr_model.specs.Machines.Sides.{Sides, client_of}
-use Rattle.dr_model.specs.Machines.Steps.{amount_of, has_effect}
-use Rattle.session_model.specs.Clients.{Client, say_check}
+use Rattle.dr_model.specs.Machines.Acts.{Act}
+use Rattle.dr_model.specs.Machines.Events.{Event, does, seeds, shows_inbox, shows_state}
+use Rattle.dr_model.specs.Machines.Sides.{Sides, act_of}
+use Rattle.dr_model.specs.Machines.Steps.{has_effect}
+use Rattle.session_model.specs.Clients.{Client}
 use Rattle.session_model.specs.declared.answer.Answer.{Answer}
-use Rattle.session_model.specs.declared.answer.Refusal.{Refusal}
 use Rattle.session_record.specs.Record.{record_text}
 use Rattle.slot_store.specs.Stops.{shows}
 use Rattle.client.specs.Outcomes.{replacing_call, replacing_calls}
 use Rattle.scripts.specs.Deeds.{Deed, acts, reopens}
-use Rattle.std.specs.Prelude.{List, Ok, Result, length, option_map}
 
 -- the kind of the call that failed, and what the next opening finds
 pub record Shut (L : Type 0) : Type 0 where
@@ -83,18 +79,7 @@ left_of n before after new old = if is_shown n before after then new else old
 
 -- ---- what an event comes to
 
--- the seed that is drawn for a text that was checked, where it needs one
-abbrev pub draw_for : Sides → Result Bool Refusal → Option (List ℕ)
-draw_for s (Ok true) = Some (next_seed s.key s.draws)
-draw_for s _ = None
-
--- the act of its side that an event is, where it is one
-abbrev pub act_of : Sides → Event → Option Act
-act_of s (says side text) = Some (saying text (draw_for s (say_check (client_of s side) (length text))))
-act_of s (takes side p) = option_map taking (held_at s.posts p)
-act_of s (takes_nth side nth) = option_map taking (held_nth s.posts side nth)
-act_of s (flips side p bit) = option_map taking (flipped_at s.posts p bit)
-act_of s (takes_bytes side bytes) = Some (taking bytes)
-act_of s (drops_sent side amount) = Some (sending (amount_of amount (length (client_of s side).outbox)))
-act_of s (drops_done side amount) = Some (finishing (amount_of amount (length (client_of s side).inbox)))
-act_of s _ = None
+-- the act of its side, where it is one
+abbrev pub act_of_event : Sides → Event → Option Act
+act_of_event s (does side call) = act_of s side call
+act_of_event s _ = None

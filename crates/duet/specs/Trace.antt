@@ -2,7 +2,7 @@
 use Rattle.std.specs.Prelude.{List, ℕ, [], ◌∷◌, ◌++◌, ⊤}
 use Rattle.dr_base.specs.declared.position.Side.TheVariants.{First}
 use Rattle.dr_model.specs.Machines.Worlds.{opening_world}
-use Rattle.dr_model.specs.Theorems.Fairness.{IsUnforgedEvent}
+use Rattle.dr_model.specs.Theorems.Fairness.{IsUnforgedCall, IsUnforgedEvent}
 use Rattle.dr_model.specs.Machines.WorldSides.{kept_in, sides_of}
 use Rattle.kem_laws.specs.Mechanism.{Mechanism}
 use Rattle.duet.specs.Shuts.{both_open}
@@ -46,8 +46,8 @@ trace_of k script = lines_by (deed_in k) (beginning_in k script) script.deeds
 -- no packet that the deed makes up has a forged tag; a sync or an opening makes up none
 abbrev pub IsUnforgedDeed : Mechanism → WorldBeside → Deed → Type 0
 IsUnforgedDeed k s (acts event) = IsUnforgedEvent k s.ends event
-IsUnforgedDeed k s (stops n mode call) = IsUnforgedEvent k s.ends call
-IsUnforgedDeed k s (fails n call) = IsUnforgedEvent k s.ends call
+IsUnforgedDeed k s (stops n mode side call) = IsUnforgedCall k s.ends side call
+IsUnforgedDeed k s (fails n side call) = IsUnforgedCall k s.ends side call
 IsUnforgedDeed k s (reopens side) = ⊤
 IsUnforgedDeed k s (syncs side lost) = ⊤
 

@@ -1,8 +1,8 @@
 //! The network: it holds every packet that it got, and may change a bit of one.
 
 ghost use Rattle.std.specs.Prelude.{◌≡◌, ◌%◌, ◌^◌, ◌<◌, ◌≤◌, bit_xor, length, option_copied, option_map, slice_index, slice_set, IfSome};
-ghost use Rattle.dr_model.specs.Machines.Network.{flipped, flipped_at, held_at, held_nth};
-ghost use Rattle.duet.specs.Acts.{packet_given};
+ghost use Rattle.dr_model.specs.Machines.Network.{flipped, flipped_at, held_at, held_nth, packet_given};
+ghost use Rattle.scripts.specs.Seen.{source_of};
 
 use crate::post::{Packet, Post, is_at, is_from_peer};
 use dr_base::{PACKET_LIMIT, Position, Side, in_room};
@@ -95,7 +95,8 @@ fn held_flipped(posts: &[Post], position: Position, bit: u32) -> Option<Packet>
 
 /// The packet that a side takes, if the network has it to give.
 pub fn packet_of(posts: &[Post], side: Side, source: Source<'_>) -> Option<Packet>
-    ensures { option_map (λ packet. packet.items) result ≡ packet_given posts.now side source.entry }
+    ensures { option_map (λ packet. packet.items) result
+        ≡ packet_given posts.now side (source_of source.entry) }
 {
     match source {
         Source::At(position) => copied(held_at(posts, position)),

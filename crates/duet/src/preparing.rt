@@ -3,9 +3,9 @@
 
 ghost use Rattle.std.specs.Prelude.{◌-◌, ◌^◌, ◌<◌};
 ghost use Rattle.dr_base.specs.Bytes.{AreBytes};
-ghost use Rattle.dr_model.specs.Machines.Events.{says};
+ghost use Rattle.dr_model.specs.Machines.Events.{does, says, takes};
 ghost use Rattle.duet.specs.Acts.{IsPrepared};
-ghost use Rattle.scripts.specs.Seen.{call_event, take_event};
+ghost use Rattle.scripts.specs.Seen.{call_event, source_of};
 
 use crate::acts::{ClientCall, Seeded};
 use crate::amount::items_in;
@@ -28,7 +28,8 @@ impl<K: Kem> Duet<K> {
     /// needs a seed.
     fn saying<'a>(&mut self, side: Side, text: &'a [u8]) -> Result<ClientCall<'a>, Answer>
         requires { self.old.sides.draws.made < 2 ^ 32 - 1 }
-        ensures { IsPrepared K.mechanism self.old self.new side (says side text.entry.now) result }
+        ensures { let event = does side (says text.entry.now) in
+            IsPrepared K.mechanism self.old self.new side event result }
     {
         match self.party(side).say_check(text.len()) {
             Err(refusal) => Err(Answer::Refused(refusal)),
@@ -47,7 +48,7 @@ impl<K: Kem> Duet<K> {
 
     /// A side would take a packet, if the network has it to give.
     fn taking<'a>(&mut self, side: Side, source: Source<'_>) -> Result<ClientCall<'a>, Answer>
-        ensures { let event = take_event side source.entry in
+        ensures { let event = does side (takes (source_of source.entry)) in
             IsPrepared K.mechanism self.old self.new side event result }
     {
         match packet_of(self.posts.as_slice(), side, source) {

@@ -1,4 +1,3 @@
-pub mod Calls
 pub mod Digits
 pub mod FirstDraws
 pub mod Making

@@ -8,10 +8,10 @@ use Rattle.std.proofs.Math.Nat.{mod-add-mod, mul_comm}
 use Rattle.dr_base.specs.declared.position.Side.{Side}
 use Rattle.dr_base.specs.declared.position.Side.TheVariants.{First, Second}
 use Rattle.session_model.specs.declared.answer.Amount.TheVariants.{All, Exactly}
-use Rattle.dr_model.specs.Machines.Events.{says, takes_nth, drops_sent, drops_done}
+use Rattle.dr_model.specs.Machines.Events.{does, drops_done, drops_sent, of_number, says, takes}
 use Rattle.scripts.specs.Deeds.{Deed, acts}
 use Rattle.scripts.specs.Make.{Round, advanced, choice, drawn, deeds_from, made_deeds, opening, round_of, said_to, saying, side_drawn, taking, turn_deeds}
-use Rattle.scripts.specs.Printed.{amount_text, event_text, line_text, script_text, words_text}
+use Rattle.scripts.specs.Printed.{amount_text, call_text, event_text, line_text, script_text, source_text}
 use Rattle.scripts.specs.Sides.{side_text}
 use Rattle.scripts.specs.Script.{AreCounted, deeds_in}
 use Rattle.scripts.specs.declared.make.rounds.Making.{Making}
@@ -26,23 +26,23 @@ use Rattle.scripts.proofs.ScriptLines.{AreLines, lines_both, text_counted, witho
 numbered : (text : List ℕ) (n : ℕ) → n < 2 ^ 32 → Without 10 text → Without 10 (text ++ decimal n)
 numbered text n h w = both_without text (decimal n) 10 w (digits_without (decimal n) 10 (omega arith) (digits_of n h))
 
-said_line : (side : Side) (round : ℕ) → round < 2 ^ 32 → Without 10 (line_text (acts (says side (codes "m" ++ decimal round))))
-unfolding line_text event_text words_text side_text
+said_line : (side : Side) (round : ℕ) → round < 2 ^ 32 → Without 10 (line_text (acts (does side (says (codes "m" ++ decimal round)))))
+unfolding line_text event_text call_text source_text side_text
 said_line First round h = numbered (codes "first say m") round h (without_tested 10 (codes "first say m") refl)
 said_line Second round h = numbered (codes "second say m") round h (without_tested 10 (codes "second say m") refl)
 
-sent_line : (side : Side) → Without 10 (line_text (acts (drops_sent side (Exactly 1))))
-unfolding line_text event_text words_text side_text amount_text
+sent_line : (side : Side) → Without 10 (line_text (acts (does side (drops_sent (Exactly 1)))))
+unfolding line_text event_text call_text side_text amount_text
 sent_line First = numbered (codes "first sent ") 1 (omega arith) (without_tested 10 (codes "first sent ") refl)
 sent_line Second = numbered (codes "second sent ") 1 (omega arith) (without_tested 10 (codes "second sent ") refl)
 
-taken_line : (side : Side) (nth : ℕ) → nth < 2 ^ 32 → Without 10 (line_text (acts (takes_nth side nth)))
-unfolding line_text event_text words_text side_text
+taken_line : (side : Side) (nth : ℕ) → nth < 2 ^ 32 → Without 10 (line_text (acts (does side (takes (of_number nth)))))
+unfolding line_text event_text call_text source_text side_text
 taken_line First nth h = numbered (codes "first take #") nth h (without_tested 10 (codes "first take #") refl)
 taken_line Second nth h = numbered (codes "second take #") nth h (without_tested 10 (codes "second take #") refl)
 
-done_line : (side : Side) → Without 10 (line_text (acts (drops_done side All)))
-unfolding line_text event_text words_text side_text amount_text
+done_line : (side : Side) → Without 10 (line_text (acts (does side (drops_done All))))
+unfolding line_text event_text call_text side_text amount_text
 done_line First = without_tested 10 (codes "first done all") refl
 done_line Second = without_tested 10 (codes "second done all") refl
 
@@ -64,7 +64,7 @@ turn_lines round most Rests h few within = tt
 
 pub said_is : (side : Side) (round : ℕ)
     → ((((side_text side ++ codes "say m") ++ decimal round) ++ codes "\n") ++ side_text side) ++ codes "sent 1\n" ≡ script_text (turn_deeds round (Says side))
-unfolding turn_deeds line_text event_text words_text side_text amount_text
+unfolding turn_deeds line_text event_text call_text side_text amount_text
 said_is First round =
     append_assoc ((codes "first say m" ++ decimal round) ++ codes "\n") (codes "first ") (codes "sent 1\n")
     ∙ ap (λ d. ((codes "first say m" ++ decimal round) ++ codes "\n") ++ (((codes "first sent " ++ d) ++ codes "\n") ++ [])) (sym (decimal_digit 1 (omega arith)))
@@ -74,7 +74,7 @@ said_is Second round =
 
 pub taken_is : (side : Side) (round nth : ℕ)
     → ((((side_text side ++ codes "take #") ++ decimal nth) ++ codes "\n") ++ side_text side) ++ codes "done all\n" ≡ script_text (turn_deeds round (Takes side nth))
-unfolding turn_deeds line_text event_text words_text side_text amount_text
+unfolding turn_deeds line_text event_text call_text source_text side_text amount_text
 taken_is First round nth = append_assoc ((codes "first take #" ++ decimal nth) ++ codes "\n") (codes "first ") (codes "done all\n")
 taken_is Second round nth = append_assoc ((codes "second take #" ++ decimal nth) ++ codes "\n") (codes "second ") (codes "done all\n")
 

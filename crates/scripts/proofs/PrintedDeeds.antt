@@ -5,7 +5,7 @@ use Rattle.std.specs.Option.{option_and_then, option_or}
 use Rattle.dr_base.specs.declared.position.Side.{Side}
 use Rattle.scripts.specs.Deeds.{Deed, acts, fails, reopens, stops, syncs}
 use Rattle.scripts.specs.Printed.{IsReply, IsSayable, event_text, line_text, sync_text}
-use Rattle.scripts.specs.Words.{after_prefix, bytes_words, deed_words, fail_words, flip_words, if_counted, line_read, look_words, lose_words, open_words, say_words, side_words, sided, stop_words, sync_words, take_words}
+use Rattle.scripts.specs.Words.{after_prefix, bytes_words, called_words, deed_words, fail_words, flip_words, if_counted, line_read, look_words, lose_words, open_words, say_words, side_words, sided, stop_words, sync_words, take_words}
 use Rattle.scripts.proofs.PrintedFails.{fail_line_back, open_line_back, some_counted}
 use Rattle.scripts.proofs.PrintedLines.{deed_back, event_back}
 use Rattle.scripts.proofs.PrintedParts.{number_back}
@@ -15,7 +15,7 @@ use Rattle.scripts.proofs.PrintedStops.{stop_line_back}
 
 -- no event begins so
 no_event : (side : Side) (lost : Option ℕ) → side_words side (sync_text lost) ≡ None
-unfolding sync_text after_prefix side_words say_words take_words flip_words bytes_words look_words
+unfolding sync_text after_prefix side_words called_words say_words take_words flip_words bytes_words look_words
 no_event side None = refl
 no_event side (Some lost) = refl
 
@@ -36,8 +36,8 @@ pub line_back : (deed : Deed) → IsSayable deed → line_read (line_text deed) 
 unfolding line_read line_text
 line_back (acts event) h =
     ap (λ o. option_or (option_map acts o) (sided deed_words (event_text event))) (event_back event h)
-line_back (stops n mode call) h = stop_line_back n mode call h
-line_back (fails n call) h = fail_line_back n call h
+line_back (stops n mode side call) h = stop_line_back n mode side call h
+line_back (fails n side call) h = fail_line_back n side call h
 line_back (reopens side) h = open_line_back side
 line_back (syncs side lost) h =
     deed_back side (sync_text lost) (no_event side lost)

@@ -1,6 +1,6 @@
 -- What the printed line of an event is read as.
 use Rattle.std.proofs.Common.{◌≡◌, ℕ, ◌^◌, ◌<◌, List, [], ◌∷◌, ◌++◌, length, Some, None, refl, sym, ◌∙◌, ap, arith, append_assoc, subst}
-use Rattle.std.specs.Prelude.{⊤, nat_eq, ◌==◌, codes, decimal, option_map}
+use Rattle.std.specs.Prelude.{nat_eq, ◌==◌, codes, decimal, option_map}
 use Rattle.std.specs.List.{starts_with}
 use Rattle.std.specs.Option.{option_and_then, option_or}
 use Rattle.std.specs.Result.{result_ok}
@@ -12,13 +12,13 @@ use Rattle.hex.proofs.HexLemmas.{decode_sized-encode_lower}
 use Rattle.dr_base.specs.declared.position.Position.{Position}
 use Rattle.dr_base.specs.declared.position.Side.{Side}
 use Rattle.dr_base.specs.declared.position.Side.TheVariants.{First, Second}
-use Rattle.dr_model.specs.Machines.Events.{Event, seeds, says, takes, takes_nth, flips, takes_bytes, drops_sent, drops_done, shows_inbox, shows_state, cuts}
+use Rattle.dr_model.specs.Machines.Events.{Event, PacketSource, SideCall, cuts, does, drops_done, drops_sent, of_bytes, of_flip, of_number, of_position, says, seeds, shows_inbox, shows_state, takes}
 use Rattle.scripts.specs.Number.{script_number_read}
-use Rattle.scripts.specs.Printed.{IsNumbered, IsSayableEvent, event_text, words_text}
+use Rattle.scripts.specs.Printed.{IsNumbered, IsSayableCall, IsSayableEvent, IsSayableSource, call_text, event_text, source_text}
 use Rattle.answer_lines.specs.Answers.{position_text}
-use Rattle.scripts.specs.Sides.{acting_side, side_text}
+use Rattle.scripts.specs.Sides.{side_text}
 use Rattle.scripts.specs.Deeds.{acts}
-use Rattle.scripts.specs.Words.{after_prefix, bytes_words, deed_words, flip_read, flip_words, halves_of, line_read, look_words, packet_read, plain_read, position_read, say_words, seed_read, side_named, side_words, sided, take_words}
+use Rattle.scripts.specs.Words.{after_prefix, bytes_words, called_words, deed_words, flip_read, flip_words, halves_of, line_read, look_words, packet_read, plain_read, position_read, say_words, seed_read, side_named, side_words, sided, source_words, take_words}
 use Rattle.scripts.proofs.PrintedParts.{Without, amount_back, digit_from, both_without, digits_of, digits_without, halves_back, hex_back, number_back, point, position_back}
 
 -- ---- what a side does
@@ -35,10 +35,11 @@ position_hashless p h =
     ap (after_prefix (codes "#")) (point (decimal p.epoch) (decimal p.index))
     ∙ no_hash (decimal p.epoch) (46 ∷ decimal p.index) (decimal_nonempty p.epoch (let fits = h.0 in omega arith)) (digits_of p.epoch h.0)
 
-packet_back : (side : Side) (p : Position) → IsNumbered p → packet_read side (position_text p) ≡ Some (takes side p)
-packet_back side p h =
-    ap (λ o. option_or (option_map (takes_nth side) (option_and_then script_number_read o)) (option_map (takes side) (position_read (position_text p)))) (position_hashless p h)
-    ∙ ap (option_map (takes side)) (position_back p h)
+packet_back : (p : Position) → IsNumbered p → packet_read (position_text p) ≡ Some (of_position p)
+packet_back p h =
+    ap (λ o. option_or (option_map of_number (option_and_then script_number_read o))
+    (option_map of_position (position_read (position_text p)))) (position_hashless p h)
+    ∙ ap (option_map of_position) (position_back p h)
 
 -- a position holds no space
 spaceless : (p : Position) → IsNumbered p → Without 32 (decimal p.epoch ++ 46 ∷ decimal p.index)
@@ -53,13 +54,38 @@ position_spaceless p h = subst (Without 32) (sym (point (decimal p.epoch) (decim
 pub spaced : (text bit : List ℕ) → text ++ codes " " ++ bit ≡ text ++ 32 ∷ bit
 spaced text bit = append_assoc text (codes " ") bit
 
-flip_back : (side : Side) (p : Position) (bit : ℕ) → IsNumbered p → bit < 2 ^ 32
-    → option_and_then (flip_read side) (halves_of 32 (position_text p ++ codes " " ++ decimal bit)) ≡ Some (flips side p bit)
-flip_back side p bit h k =
-    ap (λ xs. option_and_then (flip_read side) (halves_of 32 xs)) (spaced (position_text p) (decimal bit))
-    ∙ ap (option_and_then (flip_read side)) (halves_back (position_text p) (decimal bit) 32 (position_spaceless p h))
-    ∙ ap (option_and_then (λ q. option_map (flips side q) (script_number_read (decimal bit)))) (position_back p h)
-    ∙ ap (option_map (flips side p)) (number_back bit k)
+flip_back : (p : Position) (bit : ℕ) → IsNumbered p → bit < 2 ^ 32
+    → option_and_then flip_read (halves_of 32 (position_text p ++ codes " " ++ decimal bit)) ≡ Some (of_flip p bit)
+flip_back p bit h k =
+    ap (λ xs. option_and_then flip_read (halves_of 32 xs)) (spaced (position_text p) (decimal bit))
+    ∙ ap (option_and_then flip_read) (halves_back (position_text p) (decimal bit) 32 (position_spaceless p h))
+    ∙ ap (option_and_then (λ q. option_map (of_flip q) (script_number_read (decimal bit)))) (position_back p h)
+    ∙ ap (option_map (of_flip p)) (number_back bit k)
+
+source_back : (source : PacketSource) → IsSayableSource source → source_words (source_text source) ≡ Some source
+unfolding after_prefix source_text take_words flip_words bytes_words
+source_back (of_position p) h = ap (λ o. option_or o None) (packet_back p h)
+source_back (of_number nth) h =
+    let other = option_map of_position (position_read (35 ∷ decimal nth)) in
+    ap (λ o. option_or (option_or (option_map of_number o) other) None) (number_back nth h)
+source_back (of_flip p bit) h = ap (λ o. option_or o None) (flip_back p bit h.0 h.1)
+source_back (of_bytes bytes) h = ap (option_map of_bytes) (hex_back bytes h.0 h.1)
+
+-- no other word begins so
+takes_alone : (source : PacketSource)
+    → called_words (source_text source) ≡ option_or (option_map takes (source_words (source_text source))) None
+unfolding after_prefix source_text called_words say_words
+takes_alone (of_position p) = refl
+takes_alone (of_number nth) = refl
+takes_alone (of_flip p bit) = refl
+takes_alone (of_bytes bytes) = refl
+
+pub called_back : (call : SideCall) → IsSayableCall call → called_words (call_text call) ≡ Some call
+unfolding after_prefix call_text called_words say_words take_words flip_words bytes_words
+called_back (says text) h = refl
+called_back (takes source) h = takes_alone source ∙ ap (λ o. option_or (option_map takes o) None) (source_back source h)
+called_back (drops_sent amount) h = ap (λ o. option_or (option_map drops_sent o) None) (amount_back amount h)
+called_back (drops_done amount) h = ap (option_map drops_done) (amount_back amount h)
 
 -- ---- lines
 
@@ -93,43 +119,25 @@ deed_back side words none =
     ap (λ o. option_or (option_map acts o) (sided deed_words (side_text side ++ words))) (plain_back side words ∙ none)
     ∙ ap (option_and_then (λ (named : Side × List ℕ). deed_words named.0 named.1)) (named_back side words)
 
--- an event that is a side's
-abbrev pub IsOwn : Event → Type 0
-IsOwn (seeds seed) = ⊥
-IsOwn _ = ⊤
+call_side_back : (side : Side) (call : SideCall) → IsSayableCall call → side_words side (call_text call) ≡ Some (does side call)
+unfolding side_words
+call_side_back side call h =
+    ap (λ o. option_or (option_map (does side) o) (look_words side (call_text call))) (called_back call h)
 
-pub words_back : (event : Event) → IsSayableEvent event → IsOwn event
-    → side_words (acting_side event) (words_text event) ≡ Some event
-unfolding after_prefix words_text side_words say_words take_words flip_words bytes_words look_words
-words_back (seeds seed) h own = absurd own
-words_back (says side text) h own = refl
-words_back (takes side p) h own = ap (λ o. option_or o None) (packet_back side p h)
-words_back (takes_nth side nth) h own =
-    let other = option_map (takes side) (position_read (35 ∷ decimal nth)) in
-    ap (λ o. option_or (option_or (option_map (takes_nth side) o) other) None) (number_back nth h)
-words_back (flips side p bit) h own = ap (λ o. option_or o None) (flip_back side p bit h.0 h.1)
-words_back (takes_bytes side bytes) h own =
-    ap (λ o. option_or (option_map (takes_bytes side) o) None) (hex_back bytes h.0 h.1)
-words_back (drops_sent side amount) h own =
-    ap (λ o. option_or (option_map (drops_sent side) o) None) (amount_back amount h)
-words_back (drops_done side amount) h own =
-    ap (λ o. option_or (option_map (drops_done side) o) None) (amount_back amount h)
-words_back (shows_inbox side) h own = refl
-words_back (shows_state side) h own = refl
-words_back (cuts took event) h own = absurd h
+inbox_back : (side : Side) → side_words side (codes "inbox") ≡ Some (shows_inbox side)
+unfolding after_prefix side_words called_words say_words take_words flip_words bytes_words look_words
+inbox_back side = refl
+
+state_back : (side : Side) → side_words side (codes "state") ≡ Some (shows_state side)
+unfolding after_prefix side_words called_words say_words take_words flip_words bytes_words look_words
+state_back side = refl
 
 pub event_back : (event : Event) → IsSayableEvent event → plain_read (event_text event) ≡ Some event
 unfolding event_text plain_read seed_read side_named after_prefix
 event_back (seeds seed) h =
     ap (λ o. option_or (option_map seeds o) None)
     (ap result_ok (decode_sized-encode_lower seed 32 h.0 h.1))
-event_back (says side text) h = of_side side _ _ (words_back (says side text) h tt)
-event_back (takes side p) h = of_side side _ _ (words_back (takes side p) h tt)
-event_back (takes_nth side nth) h = of_side side _ _ (words_back (takes_nth side nth) h tt)
-event_back (flips side p bit) h = of_side side _ _ (words_back (flips side p bit) h tt)
-event_back (takes_bytes side bytes) h = of_side side _ _ (words_back (takes_bytes side bytes) h tt)
-event_back (drops_sent side amount) h = of_side side _ _ (words_back (drops_sent side amount) h tt)
-event_back (drops_done side amount) h = of_side side _ _ (words_back (drops_done side amount) h tt)
-event_back (shows_inbox side) h = of_side side _ _ (words_back (shows_inbox side) h tt)
-event_back (shows_state side) h = of_side side _ _ (words_back (shows_state side) h tt)
+event_back (does side call) h = of_side side _ _ (call_side_back side call h)
+event_back (shows_inbox side) h = of_side side _ _ (inbox_back side)
+event_back (shows_state side) h = of_side side _ _ (state_back side)
 event_back (cuts took event) h = absurd h

@@ -9,12 +9,11 @@ use Rattle.hex.proofs.HexLemmas.{IsDigits-lower_digits, decode_sized-encode_lowe
 use Rattle.dr_base.specs.declared.position.Side.{Side}
 use Rattle.dr_disk.specs.declared.call.Mode.{Mode}
 use Rattle.dr_disk.specs.declared.call.Mode.TheVariants.{Fill, New, Old}
-use Rattle.dr_model.specs.Machines.Events.{Event, seeds, says, takes, takes_nth, flips, takes_bytes, drops_sent, drops_done, shows_inbox, shows_state, cuts}
+use Rattle.dr_model.specs.Machines.Events.{SideCall}
 use Rattle.scripts.specs.Deeds.{stops, syncs}
-use Rattle.scripts.specs.Printed.{IsMode, IsSayable, line_text, mode_text, stop_text, words_text}
-use Rattle.scripts.specs.Sides.{acting_side}
-use Rattle.scripts.specs.Words.{after_prefix, bytes_words, call_words, crash_read, deed_words, fail_words, flip_words, halves_of, if_call, is_call, is_text, line_read, look_words, mode_read, open_words, say_words, side_words, stop_read, stop_words, sync_words, take_words}
-use Rattle.scripts.proofs.PrintedLines.{IsOwn, deed_back, spaced, words_back}
+use Rattle.scripts.specs.Printed.{IsMode, IsSayable, line_text, mode_text, call_text, stop_text}
+use Rattle.scripts.specs.Words.{after_prefix, bytes_words, call_words, called_words, crash_read, deed_words, fail_words, flip_words, halves_of, if_stops, is_text, line_read, look_words, may_stop, mode_read, open_words, say_words, side_words, stop_read, stop_words, sync_words, take_words}
+use Rattle.scripts.proofs.PrintedLines.{called_back, deed_back, spaced}
 use Rattle.scripts.proofs.PrintedParts.{Without, digits_of, digits_without, halves_back, number_back}
 
 -- ---- how a disk crashes
@@ -67,32 +66,30 @@ mode_back (Fill byte) h =
 
 -- ---- a stop
 
-pub call_back : (side : Side) (event : Event) (words : List ℕ) → is_call event ≡ true
-    → side_words side words ≡ Some event
-    → call_words side words ≡ Some event
+pub call_back : (call : SideCall) (words : List ℕ) → may_stop call ≡ true → called_words words ≡ Some call
+    → call_words words ≡ Some call
 unfolding call_words
-call_back side event words call h =
-    ap (option_and_then if_call) h ∙ cond-true (is_call event) (Some event) None call
+call_back call words may h = ap (option_and_then if_stops) h ∙ cond-true (may_stop call) (Some call) None may
 
 -- after the number of calls
-crash_back : (side : Side) (n : ℕ) (mode : Mode) (event : Event) (words : List ℕ) → IsMode mode
-    → call_words side words ≡ Some event
+crash_back : (side : Side) (n : ℕ) (mode : Mode) (one : SideCall) (words : List ℕ) → IsMode mode
+    → call_words words ≡ Some one
     → option_and_then (crash_read side n) (halves_of 32 (mode_text mode ++ codes " " ++ words))
-    ≡ Some (stops n mode event)
-crash_back side n mode event words h call =
+    ≡ Some (stops n mode side one)
+crash_back side n mode one words h call =
     ap (λ xs. option_and_then (crash_read side n) (halves_of 32 xs)) (spaced (mode_text mode) words)
     ∙ ap (option_and_then (crash_read side n))
     (halves_back (mode_text mode) words 32 (mode_spaceless mode h))
-    ∙ ap (option_and_then (λ m. option_map (stops n m) (call_words side words))) (mode_back mode h)
-    ∙ ap (option_map (stops n mode)) call
+    ∙ ap (option_and_then (λ m. option_map (stops n m side) (call_words words))) (mode_back mode h)
+    ∙ ap (option_map (stops n mode side)) call
 
-counted_back : (side : Side) (n : ℕ) (mode : Mode) (event : Event) (words : List ℕ) → n < 2 ^ 32
+counted_back : (side : Side) (n : ℕ) (mode : Mode) (one : SideCall) (words : List ℕ) → n < 2 ^ 32
     → IsMode mode
-    → call_words side words ≡ Some event
+    → call_words words ≡ Some one
     → option_and_then (stop_read side)
     (halves_of 32 (decimal n ++ codes " " ++ (mode_text mode ++ codes " " ++ words)))
-    ≡ Some (stops n mode event)
-counted_back side n mode event words small h call =
+    ≡ Some (stops n mode side one)
+counted_back side n mode one words small h call =
     let rest : List ℕ = mode_text mode ++ codes " " ++ words in
     ap (λ xs. option_and_then (stop_read side) (halves_of 32 xs)) (spaced (decimal n) rest)
     ∙ ap (option_and_then (stop_read side))
@@ -100,41 +97,26 @@ counted_back side n mode event words small h call =
     (digits_without (decimal n) 32 (omega arith) (digits_of n small)))
     ∙ ap (option_and_then (λ m. option_and_then (crash_read side m) (halves_of 32 rest)))
     (number_back n small)
-    ∙ crash_back side n mode event words h call
+    ∙ crash_back side n mode one words h call
 
-stop_back : (side : Side) (n : ℕ) (mode : Mode) (event : Event) (words : List ℕ) → n < 2 ^ 32
+stop_back : (side : Side) (n : ℕ) (mode : Mode) (one : SideCall) (words : List ℕ) → n < 2 ^ 32
     → IsMode mode
-    → call_words side words ≡ Some event
-    → stop_words side (stop_text n mode words) ≡ Some (stops n mode event)
+    → call_words words ≡ Some one
+    → stop_words side (stop_text n mode words) ≡ Some (stops n mode side one)
 unfolding stop_words stop_text after_prefix
-stop_back side n mode event words small h call = counted_back side n mode event words small h call
+stop_back side n mode one words small h call = counted_back side n mode one words small h call
 
 -- no event begins so
 no_event : (side : Side) (n : ℕ) (mode : Mode) (words : List ℕ) → side_words side (stop_text n mode words) ≡ None
-unfolding stop_text after_prefix side_words say_words take_words flip_words bytes_words look_words
+unfolding stop_text after_prefix side_words called_words say_words take_words flip_words bytes_words look_words
 no_event side n mode words = refl
 
--- a call is a side's
-pub call_own : (event : Event) → is_call event ≡ true → IsOwn event
-call_own (seeds seed) h = cc
-call_own (says side text) h = tt
-call_own (takes side p) h = tt
-call_own (takes_nth side nth) h = tt
-call_own (flips side p bit) h = tt
-call_own (takes_bytes side bytes) h = tt
-call_own (drops_sent side amount) h = tt
-call_own (drops_done side amount) h = tt
-call_own (shows_inbox side) h = tt
-call_own (shows_state side) h = tt
-call_own (cuts took event) h = tt
-
-pub stop_line_back : (n : ℕ) (mode : Mode) (call : Event) → IsSayable (stops n mode call)
-    → line_read (line_text (stops n mode call)) ≡ Some (stops n mode call)
+pub stop_line_back : (n : ℕ) (mode : Mode) (side : Side) (call : SideCall) → IsSayable (stops n mode side call)
+    → line_read (line_text (stops n mode side call)) ≡ Some (stops n mode side call)
 unfolding line_text deed_words
-stop_line_back n mode call h =
-    let side = acting_side call in
-    let words = stop_text n mode (words_text call) in
-    let said = call_back side call (words_text call) h.2 (words_back call h.3 (call_own call h.2)) in
-    deed_back side words (no_event side n mode (words_text call))
+stop_line_back n mode side call h =
+    let words = stop_text n mode (call_text call) in
+    let said = call_back call (call_text call) h.2 (called_back call h.3) in
+    deed_back side words (no_event side n mode (call_text call))
     ∙ ap (λ o. option_or o (option_or (fail_words side words) (option_or (open_words side words) (option_map (syncs side) (sync_words words)))))
-    (stop_back side n mode call (words_text call) h.0 h.1 said)
+    (stop_back side n mode call (call_text call) h.0 h.1 said)

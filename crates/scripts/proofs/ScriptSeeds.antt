@@ -5,15 +5,15 @@ use Rattle.std.specs.Option.{option_and_then, option_or}
 use Rattle.std.proofs.lemmas.List.Elements.{All-cons, All-nil}
 use Rattle.dr_base.specs.declared.position.Side.{Side}
 use Rattle.dr_disk.specs.declared.call.Mode.{Mode}
-use Rattle.dr_model.specs.Machines.Events.{Event}
+use Rattle.dr_model.specs.Machines.Events.{Event, SideCall}
 use Rattle.dr_model.specs.Theorems.Fairness.{IsSeedWhole}
 use Rattle.scripts.specs.Deeds.{Deed, acts, fails, reopens, stops, syncs}
 use Rattle.scripts.specs.Script.{deeds_of, kem_read, key_read, keyed, after_kem, lines_of, or_bad, script_of, script_of_lines, scripted, Scripted, with_deed}
 use Rattle.scripts.specs.Deeds.{HasWholeSeed}
 use Rattle.scripts.specs.Number.{script_number_read}
-use Rattle.scripts.specs.Words.{after_prefix, call_words, crash_read, deed_words, fail_read, fail_words, halves_of, if_call, if_counted, is_call, is_text, line_read, mode_read, open_words, plain_read, side_named, side_words, sided, stop_read, stop_words, sync_words}
+use Rattle.scripts.specs.Words.{after_prefix, call_words, crash_read, deed_words, fail_read, fail_words, halves_of, if_counted, is_text, line_read, mode_read, open_words, plain_read, side_named, sided, stop_read, stop_words, sync_words}
 use Rattle.scripts.specs.declared.script.KemName.{KemName}
-use Rattle.scripts.proofs.Seeds.{whole_plain, whole_words}
+use Rattle.scripts.proofs.Seeds.{whole_plain}
 
 -- ---- a stop
 
@@ -21,20 +21,10 @@ whole_if : (b : Bool) (deed : Deed) → HasWholeSeed deed → IfSome (if b then 
 whole_if true deed h = h
 whole_if false deed h = tt
 
-whole_if_call : (b : Bool) (event : Event) → IsSeedWhole event
-    → IfSome (if b then Some event else None) IsSeedWhole
-whole_if_call true event h = h
-whole_if_call false event h = tt
-
-whole_call : (o : Option Event) → IfSome o IsSeedWhole
-    → IfSome (option_and_then if_call o) IsSeedWhole
-whole_call None h = tt
-whole_call (Some event) h = whole_if_call (is_call event) event h
-
-whole_stops : (n : ℕ) (mode : Mode) (o : Option Event) → IfSome o IsSeedWhole
-    → IfSome (option_map (stops n mode) o) HasWholeSeed
-whole_stops n mode None h = tt
-whole_stops n mode (Some event) h = h
+-- no call gives a seed
+whole_stops : (n : ℕ) (mode : Mode) (side : Side) (o : Option SideCall) → IfSome (option_map (stops n mode side) o) HasWholeSeed
+whole_stops n mode side None = tt
+whole_stops n mode side (Some call) = tt
 
 whole_then : {A : Type 0} (f : A → Option Deed) (o : Option A)
     → ((a : A) → IfSome (f a) HasWholeSeed)
@@ -43,33 +33,31 @@ whole_then f None h = tt
 whole_then f (Some a) h = h a
 
 whole_stop : (side : Side) (words : List ℕ) → IfSome (stop_words side words) HasWholeSeed
-unfolding stop_words call_words
+unfolding stop_words
 whole_stop side words =
     whole_then (stop_read side)
     (option_and_then (halves_of 32) (after_prefix (codes "stop ") words))
     (λ halves. whole_then (λ n. option_and_then (crash_read side n) (halves_of 32 halves.1))
     (script_number_read halves.0)
     (λ n. whole_then (crash_read side n) (halves_of 32 halves.1)
-    (λ rest. whole_then (λ mode. option_map (stops n mode) (call_words side rest.1))
+    (λ rest. whole_then (λ mode. option_map (stops n mode side) (call_words rest.1))
     (mode_read rest.0)
-    (λ mode. whole_stops n mode (call_words side rest.1)
-    (whole_call (side_words side rest.1) (whole_words side rest.1))))))
+    (λ mode. whole_stops n mode side (call_words rest.1)))))
 
 -- ---- a failure, and an opening
 
-whole_fails : (n : ℕ) (o : Option Event) → IfSome o IsSeedWhole → IfSome (option_map (fails n) o) HasWholeSeed
-whole_fails n None h = tt
-whole_fails n (Some event) h = h
+whole_fails : (n : ℕ) (side : Side) (o : Option SideCall) → IfSome (option_map (fails n side) o) HasWholeSeed
+whole_fails n side None = tt
+whole_fails n side (Some call) = tt
 
 whole_fail : (side : Side) (words : List ℕ) → IfSome (fail_words side words) HasWholeSeed
-unfolding fail_words call_words
+unfolding fail_words
 whole_fail side words =
     whole_then (fail_read side)
     (option_and_then (halves_of 32) (after_prefix (codes "fail ") words))
-    (λ halves. whole_then (λ n. option_map (fails n) (call_words side halves.1))
+    (λ halves. whole_then (λ n. option_map (fails n side) (call_words halves.1))
     (option_and_then if_counted (script_number_read halves.0))
-    (λ n. whole_fails n (call_words side halves.1)
-    (whole_call (side_words side halves.1) (whole_words side halves.1))))
+    (λ n. whole_fails n side (call_words halves.1)))
 
 whole_open : (side : Side) (words : List ℕ) → IfSome (open_words side words) HasWholeSeed
 unfolding open_words

@@ -6,9 +6,8 @@ use Rattle.std.specs.Result.{result_ok}
 use Rattle.hex.specs.Hex.{decode_sized}
 use Rattle.hex.proofs.HexLemmas.{decode_of-ok, decode_sized-ok, decode_sized-twice}
 use Rattle.dr_base.specs.declared.position.Side.{Side}
-use Rattle.dr_model.specs.Machines.Events.{Event, seeds, says, takes, takes_nth, flips, takes_bytes, drops_sent, drops_done, shows_inbox, shows_state}
-use Rattle.scripts.specs.Words.{after_prefix, amount_after, bytes_words, flip_words, flip_read, halves_of, hex_read, is_text, look_words, packet_read, plain_read, position_read, say_words, seed_read, side_named, side_words, sided, take_words, text_after}
-use Rattle.scripts.specs.Number.{script_number_read}
+use Rattle.dr_model.specs.Machines.Events.{Event, does, seeds, shows_inbox, shows_state}
+use Rattle.scripts.specs.Words.{after_prefix, called_words, is_text, look_words, plain_read, seed_read, side_named, side_words, sided}
 use Rattle.dr_model.specs.Theorems.Fairness.{IsSeedWhole}
 
 -- ---- choices
@@ -49,31 +48,6 @@ found (Some digits) = decoded digits (decode_sized digits 32) refl
 
 -- ---- a side's line
 
-whole_say : (side : Side) (words : List ℕ) → IfSome (say_words side words) IsSeedWhole
-unfolding say_words
-whole_say side words = whole_map (says side) (text_after (codes "say") words) (λ _. tt)
-
-whole_packet : (side : Side) (text : List ℕ) → IfSome (packet_read side text) IsSeedWhole
-whole_packet side text =
-    whole_or (option_map (takes_nth side) (option_and_then script_number_read (after_prefix (codes "#") text))) (option_map (takes side) (position_read text))
-    (whole_map (takes_nth side) (option_and_then script_number_read (after_prefix (codes "#") text)) (λ _. tt))
-    (whole_map (takes side) (position_read text) (λ _. tt))
-
-whole_take : (side : Side) (words : List ℕ) → IfSome (take_words side words) IsSeedWhole
-unfolding take_words
-whole_take side words = whole_then (packet_read side) (after_prefix (codes "take ") words) (whole_packet side)
-
-whole_flip : (side : Side) (words : List ℕ) → IfSome (flip_words side words) IsSeedWhole
-unfolding flip_words
-whole_flip side words =
-    whole_then (flip_read side) (option_and_then (halves_of 32) (after_prefix (codes "flip ") words))
-    (λ halves. whole_then (λ p. option_map (flips side p) (script_number_read halves.1)) (position_read halves.0)
-    (λ p. whole_map (flips side p) (script_number_read halves.1) (λ _. tt)))
-
-whole_bytes : (side : Side) (words : List ℕ) → IfSome (bytes_words side words) IsSeedWhole
-unfolding bytes_words
-whole_bytes side words = whole_map (takes_bytes side) (option_and_then hex_read (text_after (codes "bytes") words)) (λ _. tt)
-
 whole_look : (side : Side) (words : List ℕ) → IfSome (look_words side words) IsSeedWhole
 unfolding look_words
 whole_look side words =
@@ -83,20 +57,8 @@ whole_look side words =
 pub whole_words : (side : Side) (words : List ℕ) → IfSome (side_words side words) IsSeedWhole
 unfolding side_words
 whole_words side words =
-    let done_or = option_or (option_map (drops_done side) (amount_after (codes "done") words)) (look_words side words) in
-    let sent_or = option_or (option_map (drops_sent side) (amount_after (codes "sent") words)) done_or in
-    let bytes_or = option_or (bytes_words side words) sent_or in
-    let flip_or = option_or (flip_words side words) bytes_or in
-    let take_or = option_or (take_words side words) flip_or in
-    whole_or (say_words side words) take_or (whole_say side words)
-    (whole_or (take_words side words) flip_or (whole_take side words)
-    (whole_or (flip_words side words) bytes_or (whole_flip side words)
-    (whole_or (bytes_words side words) sent_or (whole_bytes side words)
-    (whole_or (option_map (drops_sent side) (amount_after (codes "sent") words)) done_or
-    (whole_map (drops_sent side) (amount_after (codes "sent") words) (λ _. tt))
-    (whole_or (option_map (drops_done side) (amount_after (codes "done") words)) (look_words side words)
-    (whole_map (drops_done side) (amount_after (codes "done") words) (λ _. tt))
-    (whole_look side words))))))
+    whole_or (option_map (does side) (called_words words)) (look_words side words)
+    (whole_map (does side) (called_words words) (λ _. tt)) (whole_look side words)
 
 pub whole_plain : (line : List ℕ) → IfSome (plain_read line) IsSeedWhole
 unfolding plain_read seed_read

@@ -3,15 +3,15 @@
 use Rattle.std.specs.Prelude.{ℕ, Option, ⊤}
 use Rattle.dr_base.specs.declared.position.Side.{Side}
 use Rattle.dr_disk.specs.declared.call.Mode.{Mode}
-use Rattle.dr_model.specs.Machines.Events.{Event}
+use Rattle.dr_model.specs.Machines.Events.{Event, SideCall}
 use Rattle.dr_model.specs.Theorems.Fairness.{IsSeedWhole}
 
 pub data Deed : Type 0 where
   acts : Event → Deed
   -- the disk of a side stops once this many writes and syncs of its call have passed, and crashes so
-  stops : ℕ → Mode → (call : Event) → Deed
+  stops : ℕ → Mode → Side → SideCall → Deed
   -- the write or sync of this number, from 1, of a side's call fails
-  fails : ℕ → (call : Event) → Deed
+  fails : ℕ → Side → SideCall → Deed
   -- the closed client of a side opens again
   reopens : Side → Deed
   -- a side syncs with the relay; the reply to the request of this number, from 1, is lost, and the link fails there
@@ -20,7 +20,4 @@ pub data Deed : Type 0 where
 -- a seed that is given has 32 bytes
 abbrev pub HasWholeSeed : Deed → Type 0
 HasWholeSeed (acts event) = IsSeedWhole event
-HasWholeSeed (stops n mode call) = IsSeedWhole call
-HasWholeSeed (fails n call) = IsSeedWhole call
-HasWholeSeed (reopens side) = ⊤
-HasWholeSeed (syncs side lost) = ⊤
+HasWholeSeed _ = ⊤

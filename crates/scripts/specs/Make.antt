@@ -3,7 +3,7 @@ use Rattle.std.specs.Prelude.{ℕ, zero, suc, ◌+◌, ◌*◌, ◌/◌, ◌%◌
 use Rattle.dr_base.specs.declared.position.Side.{Side}
 use Rattle.dr_base.specs.declared.position.Side.TheVariants.{First, Second}
 use Rattle.session_model.specs.declared.answer.Amount.TheVariants.{All, Exactly}
-use Rattle.dr_model.specs.Machines.Events.{says, takes_nth, drops_sent, drops_done}
+use Rattle.dr_model.specs.Machines.Events.{does, drops_done, drops_sent, of_number, says, takes}
 use Rattle.scripts.specs.Deeds.{Deed, acts}
 use Rattle.scripts.specs.Script.{Scripted}
 use Rattle.scripts.specs.declared.script.KemName.TheVariants.{Open}
@@ -66,8 +66,11 @@ round_of m =
 
 -- the deeds of a round: what was said leaves the outbox, what was taken leaves the inbox
 unfoldable pub turn_deeds : ℕ → Turn → List Deed
-turn_deeds round (Says side) = acts (says side (codes "m" ++ decimal round)) ∷ acts (drops_sent side (Exactly 1)) ∷ []
-turn_deeds round (Takes side nth) = acts (takes_nth side nth) ∷ acts (drops_done side All) ∷ []
+turn_deeds round (Says side) =
+    acts (does side (says (codes "m" ++ decimal round)))
+    ∷ acts (does side (drops_sent (Exactly 1))) ∷ []
+turn_deeds round (Takes side nth) =
+    acts (does side (takes (of_number nth))) ∷ acts (does side (drops_done All)) ∷ []
 turn_deeds round Rests = []
 
 -- ---- a script

@@ -6,11 +6,11 @@ use Rattle.dr_disk.specs.declared.call.Mode.{Mode}
 use Rattle.dr_disk.specs.declared.call.Mode.TheVariants.{Fill, New, Old}
 use Rattle.session_model.specs.declared.answer.Amount.{Amount}
 use Rattle.session_model.specs.declared.answer.Amount.TheVariants.{All, Exactly}
-use Rattle.dr_model.specs.Machines.Events.{Event, seeds, says, takes, takes_nth, flips, takes_bytes, drops_sent, drops_done, shows_inbox, shows_state, cuts}
+use Rattle.dr_model.specs.Machines.Events.{Event, PacketSource, SideCall, cuts, does, drops_done, drops_sent, of_bytes, of_flip, of_number, of_position, says, seeds, shows_inbox, shows_state, takes}
 use Rattle.answer_lines.specs.Answers.{position_text}
 use Rattle.scripts.specs.Deeds.{Deed, acts, fails, reopens, stops, syncs}
-use Rattle.scripts.specs.Sides.{acting_side, side_text}
-use Rattle.scripts.specs.Words.{is_call}
+use Rattle.scripts.specs.Sides.{side_text}
+use Rattle.scripts.specs.Words.{may_stop}
 use Rattle.scripts.specs.declared.hexed.TheConstants.{HEX_LIMIT}
 
 -- `all`, or a number
@@ -18,24 +18,27 @@ unfoldable pub amount_text : Amount → List ℕ
 amount_text All = codes "all"
 amount_text (Exactly n) = decimal n
 
--- what a side does; no line says that an event is cut off
-unfoldable pub words_text : Event → List ℕ
-words_text (seeds seed) = []
-words_text (says side text) = codes "say " ++ text
-words_text (takes side p) = codes "take " ++ position_text p
-words_text (takes_nth side nth) = codes "take #" ++ decimal nth
-words_text (flips side p bit) = codes "flip " ++ position_text p ++ codes " " ++ decimal bit
-words_text (takes_bytes side bytes) = codes "bytes " ++ encode_lower bytes
-words_text (drops_sent side amount) = codes "sent " ++ amount_text amount
-words_text (drops_done side amount) = codes "done " ++ amount_text amount
-words_text (shows_inbox side) = codes "inbox"
-words_text (shows_state side) = codes "state"
-words_text (cuts took event) = []
+-- a packet that a side takes
+unfoldable pub source_text : PacketSource → List ℕ
+source_text (of_position p) = codes "take " ++ position_text p
+source_text (of_number nth) = codes "take #" ++ decimal nth
+source_text (of_flip p bit) = codes "flip " ++ position_text p ++ codes " " ++ decimal bit
+source_text (of_bytes bytes) = codes "bytes " ++ encode_lower bytes
 
--- the line that says an event: a seed is no side's
+-- what a side is called to do
+unfoldable pub call_text : SideCall → List ℕ
+call_text (says text) = codes "say " ++ text
+call_text (takes source) = source_text source
+call_text (drops_sent amount) = codes "sent " ++ amount_text amount
+call_text (drops_done amount) = codes "done " ++ amount_text amount
+
+-- the line that says an event: a seed is no side's, and no line says that an event is cut off
 unfoldable pub event_text : Event → List ℕ
 event_text (seeds seed) = codes "seed " ++ encode_lower seed
-event_text event = side_text (acting_side event) ++ words_text event
+event_text (does side call) = side_text side ++ call_text call
+event_text (shows_inbox side) = side_text side ++ codes "inbox"
+event_text (shows_state side) = side_text side ++ codes "state"
+event_text (cuts took event) = []
 
 -- how a disk crashes
 unfoldable pub mode_text : Mode → List ℕ
@@ -60,8 +63,8 @@ sync_text (Some lost) = codes "lose " ++ decimal lost
 -- the line that says a deed
 unfoldable pub line_text : Deed → List ℕ
 line_text (acts event) = event_text event
-line_text (stops n mode call) = side_text (acting_side call) ++ stop_text n mode (words_text call)
-line_text (fails n call) = side_text (acting_side call) ++ fail_text n (words_text call)
+line_text (stops n mode side call) = side_text side ++ stop_text n mode (call_text call)
+line_text (fails n side call) = side_text side ++ fail_text n (call_text call)
 line_text (reopens side) = side_text side ++ codes "open"
 line_text (syncs side lost) = side_text side ++ sync_text lost
 
@@ -73,17 +76,24 @@ abbrev pub IsAmount : Amount → Type 0
 IsAmount All = ⊤
 IsAmount (Exactly n) = n < 2 ^ 32
 
--- an event that a line can say: its numbers are below 2^32, a seed has 32 bytes, and given bytes
--- are at most HEX_LIMIT; whether one is cut off, no line says
+-- what a line can say: numbers are below 2^32, a seed has 32 bytes, and given bytes are at most
+-- HEX_LIMIT
+abbrev pub IsSayableSource : PacketSource → Type 0
+IsSayableSource (of_position p) = IsNumbered p
+IsSayableSource (of_number nth) = nth < 2 ^ 32
+IsSayableSource (of_flip p bit) = IsNumbered p × (bit < 2 ^ 32)
+IsSayableSource (of_bytes bytes) = (length bytes ≤ HEX_LIMIT) × IsBytes bytes
+
+abbrev pub IsSayableCall : SideCall → Type 0
+IsSayableCall (says text) = ⊤
+IsSayableCall (takes source) = IsSayableSource source
+IsSayableCall (drops_sent amount) = IsAmount amount
+IsSayableCall (drops_done amount) = IsAmount amount
+
+-- whether an event is cut off, no line says
 abbrev pub IsSayableEvent : Event → Type 0
 IsSayableEvent (seeds seed) = (length seed ≡ 32) × IsBytes seed
-IsSayableEvent (says side text) = ⊤
-IsSayableEvent (takes side p) = IsNumbered p
-IsSayableEvent (takes_nth side nth) = nth < 2 ^ 32
-IsSayableEvent (flips side p bit) = IsNumbered p × (bit < 2 ^ 32)
-IsSayableEvent (takes_bytes side bytes) = (length bytes ≤ HEX_LIMIT) × IsBytes bytes
-IsSayableEvent (drops_sent side amount) = IsAmount amount
-IsSayableEvent (drops_done side amount) = IsAmount amount
+IsSayableEvent (does side call) = IsSayableCall call
 IsSayableEvent (shows_inbox side) = ⊤
 IsSayableEvent (shows_state side) = ⊤
 IsSayableEvent (cuts took event) = ⊥
@@ -104,9 +114,9 @@ IsReply (Some lost) = CountsFromOne lost
 -- a deed that a line can say: a disk stops or fails in a call
 abbrev pub IsSayable : Deed → Type 0
 IsSayable (acts event) = IsSayableEvent event
-IsSayable (stops n mode call) =
-    (n < 2 ^ 32) × IsMode mode × (is_call call ≡ true) × IsSayableEvent call
-IsSayable (fails n call) = CountsFromOne n × (is_call call ≡ true) × IsSayableEvent call
+IsSayable (stops n mode side call) =
+    (n < 2 ^ 32) × IsMode mode × (may_stop call ≡ true) × IsSayableCall call
+IsSayable (fails n side call) = CountsFromOne n × (may_stop call ≡ true) × IsSayableCall call
 IsSayable (reopens side) = ⊤
 IsSayable (syncs side lost) = IsReply lost
 

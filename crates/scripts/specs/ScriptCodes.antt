@@ -5,8 +5,8 @@ use Rattle.std.specs.Coded.{Coded, code_by, coded_bool, coded_list, coded_option
 use Rattle.dr_base.specs.declared.position.Side.{Side}
 use Rattle.dr_disk.specs.declared.call.Mode.{Mode}
 use Rattle.dr_disk.specs.declared.call.Mode.TheVariants.{Fill, New, Old}
-use Rattle.dr_model.specs.Machines.EventCodes.{event_code, side_code}
-use Rattle.dr_model.specs.Machines.Events.{Event}
+use Rattle.dr_model.specs.Machines.EventCodes.{call_code, event_code, side_code}
+use Rattle.dr_model.specs.Machines.Events.{Event, SideCall}
 use Rattle.scripts.specs.Deeds.{Deed, acts, fails, reopens, stops, syncs}
 use Rattle.scripts.specs.Script.{Scripted}
 use Rattle.scripts.specs.declared.script.KemName.{KemName}
@@ -34,26 +34,28 @@ abbrev pub mode_code : Coded Mode
 mode_code = code_by (Bool ⊎ ℕ) (coded⊎ coded_bool coded_ℕ) stored_mode mode_by same_mode
 
 abbrev StoredDeed : Type 0
-StoredDeed = Event ⊎ ((ℕ × (Mode × Event)) ⊎ ((ℕ × Event) ⊎ (Side ⊎ (Side × Option ℕ))))
+StoredDeed =
+    Event ⊎ ((ℕ × (Mode × (Side × SideCall)))
+    ⊎ ((ℕ × (Side × SideCall)) ⊎ (Side ⊎ (Side × Option ℕ))))
 
 abbrev stored : Deed → StoredDeed
 stored (acts event) = inl event
-stored (stops n mode call) = inr (inl (n, (mode, call)))
-stored (fails n call) = inr (inr (inl (n, call)))
+stored (stops n mode side call) = inr (inl (n, (mode, (side, call))))
+stored (fails n side call) = inr (inr (inl (n, (side, call))))
 stored (reopens side) = inr (inr (inr (inl side)))
 stored (syncs side lost) = inr (inr (inr (inr (side, lost))))
 
 abbrev deed_by : StoredDeed → Deed
 deed_by (inl event) = acts event
-deed_by (inr (inl stop)) = stops stop.0 stop.1.0 stop.1.1
-deed_by (inr (inr (inl failure))) = fails failure.0 failure.1
+deed_by (inr (inl stop)) = stops stop.0 stop.1.0 stop.1.1.0 stop.1.1.1
+deed_by (inr (inr (inl failure))) = fails failure.0 failure.1.0 failure.1.1
 deed_by (inr (inr (inr (inl side)))) = reopens side
 deed_by (inr (inr (inr (inr sync)))) = syncs sync.0 sync.1
 
 pub same_deed : (deed : Deed) → deed_by (stored deed) ≡ deed
 same_deed (acts event) = refl
-same_deed (stops n mode call) = refl
-same_deed (fails n call) = refl
+same_deed (stops n mode side call) = refl
+same_deed (fails n side call) = refl
 same_deed (reopens side) = refl
 same_deed (syncs side lost) = refl
 
@@ -61,8 +63,8 @@ abbrev pub deed_code : Coded Deed
 deed_code =
     code_by StoredDeed
     (coded⊎ event_code
-    (coded⊎ (coded× coded_ℕ (coded× mode_code event_code))
-    (coded⊎ (coded× coded_ℕ event_code)
+    (coded⊎ (coded× coded_ℕ (coded× mode_code (coded× side_code call_code)))
+    (coded⊎ (coded× coded_ℕ (coded× side_code call_code))
     (coded⊎ side_code (coded× side_code (coded_option coded_ℕ))))))
     stored deed_by same_deed
 

@@ -3,7 +3,7 @@ use Rattle.std.specs.Prelude.{ℕ, List, [], Option, Some, None}
 use Rattle.std.specs.Borrow.{Bor}
 use Rattle.dr_base.specs.declared.position.Side.{Side}
 use Rattle.session_model.specs.declared.answer.Amount.{Amount}
-use Rattle.dr_model.specs.Machines.Events.{Event, seeds, says, takes, takes_nth, flips, takes_bytes, drops_sent, drops_done, shows_inbox, shows_state}
+use Rattle.dr_model.specs.Machines.Events.{Event, PacketSource, SideCall, does, drops_done, drops_sent, of_bytes, of_flip, of_number, of_position, says, seeds, shows_inbox, shows_state, takes}
 use Rattle.scripts.specs.Words.{hex_read}
 use Rattle.scripts.specs.declared.call.Call.{Call}
 use Rattle.scripts.specs.declared.call.Call.TheVariants.{Say, Take, Sent, Done}
@@ -20,23 +20,26 @@ or_empty (Some bytes) = bytes
 abbrev pub bytes_of_hex : List ℕ → List ℕ
 bytes_of_hex digits = or_empty (hex_read digits)
 
--- a side takes a packet
-abbrev pub take_event : Side → Source → Event
-take_event side (At p) = takes side p
-take_event side (Nth nth) = takes_nth side nth
-take_event side (Flipped p bit) = flips side p bit
-take_event side (Bytes hex) = takes_bytes side (bytes_of_hex hex.now)
+-- a packet that a line says
+abbrev pub source_of : Source → PacketSource
+source_of (At p) = of_position p
+source_of (Nth nth) = of_number nth
+source_of (Flipped p bit) = of_flip p bit
+source_of (Bytes hex) = of_bytes (bytes_of_hex hex.now)
 
 -- a call as a line says it
 abbrev pub CallOfLine : Type 0
 CallOfLine = Call (Bor (List ℕ)) Source Amount
 
--- a call of a side, by itself
+abbrev pub call_of : CallOfLine → SideCall
+call_of (Say text) = says text.now
+call_of (Take source) = takes (source_of source)
+call_of (Sent amount) = drops_sent amount
+call_of (Done amount) = drops_done amount
+
+-- a call of a side
 abbrev pub call_event : Side → CallOfLine → Event
-call_event side (Say text) = says side text.now
-call_event side (Take source) = take_event side source
-call_event side (Sent amount) = drops_sent side amount
-call_event side (Done amount) = drops_done side amount
+call_event side call = does side (call_of call)
 
 -- what a line says without a stop
 abbrev pub event_of : Line → Event

@@ -2,7 +2,7 @@
 use Rattle.std.specs.Prelude.{ℕ, List, codes}
 use Rattle.dr_base.specs.declared.position.Side.{Side}
 use Rattle.dr_base.specs.declared.position.Side.TheVariants.{First, Second}
-use Rattle.dr_model.specs.Machines.Events.{Event, seeds, says, takes, takes_nth, flips, takes_bytes, drops_sent, drops_done, shows_inbox, shows_state, cuts}
+use Rattle.dr_model.specs.Machines.Events.{Event, cuts, does, seeds, shows_inbox, shows_state}
 use Rattle.scripts.specs.Deeds.{Deed, acts, fails, reopens, stops, syncs}
 
 -- a side
@@ -13,13 +13,7 @@ side_text Second = codes "second "
 -- the side whose event it is
 abbrev pub acting_side : Event → Side
 acting_side (seeds seed) = First
-acting_side (says side text) = side
-acting_side (takes side p) = side
-acting_side (takes_nth side nth) = side
-acting_side (flips side p bit) = side
-acting_side (takes_bytes side bytes) = side
-acting_side (drops_sent side amount) = side
-acting_side (drops_done side amount) = side
+acting_side (does side call) = side
 acting_side (shows_inbox side) = side
 acting_side (shows_state side) = side
 acting_side (cuts took event) = acting_side event
@@ -27,7 +21,7 @@ acting_side (cuts took event) = acting_side event
 -- the side whose deed it is
 abbrev pub deed_side : Deed → Side
 deed_side (acts event) = acting_side event
-deed_side (stops n mode call) = acting_side call
-deed_side (fails n call) = acting_side call
+deed_side (stops n mode side call) = side
+deed_side (fails n side call) = side
 deed_side (reopens side) = side
 deed_side (syncs side lost) = side

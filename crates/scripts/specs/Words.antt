@@ -12,7 +12,7 @@ use Rattle.dr_base.specs.declared.position.Side.{Side}
 use Rattle.dr_base.specs.declared.position.Side.TheVariants.{First, Second}
 use Rattle.session_model.specs.declared.answer.Amount.{Amount}
 use Rattle.session_model.specs.declared.answer.Amount.TheVariants.{All, Exactly}
-use Rattle.dr_model.specs.Machines.Events.{Event, seeds, says, takes, takes_nth, flips, takes_bytes, drops_sent, drops_done, shows_inbox, shows_state}
+use Rattle.dr_model.specs.Machines.Events.{Event, PacketSource, SideCall, does, drops_done, drops_sent, of_bytes, of_flip, of_number, of_position, says, seeds, shows_inbox, shows_state, takes}
 use Rattle.scripts.specs.Deeds.{Deed, acts, fails, reopens, stops, syncs}
 use Rattle.scripts.specs.Number.{script_number_read}
 use Rattle.scripts.specs.declared.hexed.TheConstants.{DIGIT_LIMIT}
@@ -56,35 +56,50 @@ text_after word words =
     else option_and_then (after_prefix (codes " ")) (after_prefix word words)
 
 -- `say` and a text
-unfoldable pub say_words : Side → List ℕ → Option Event
-say_words side words = option_map (says side) (text_after (codes "say") words)
+unfoldable pub say_words : List ℕ → Option SideCall
+say_words words = option_map says (text_after (codes "say") words)
 
 -- `#` and a number, or a position
-abbrev pub packet_read : Side → List ℕ → Option Event
-packet_read side text =
-    option_or (option_map (takes_nth side) (option_and_then script_number_read (after_prefix (codes "#") text)))
-    (option_map (takes side) (position_read text))
+abbrev pub packet_read : List ℕ → Option PacketSource
+packet_read text =
+    option_or
+    (option_map of_number (option_and_then script_number_read (after_prefix (codes "#") text)))
+    (option_map of_position (position_read text))
 
 -- `take` and a packet
-unfoldable pub take_words : Side → List ℕ → Option Event
-take_words side words = option_and_then (packet_read side) (after_prefix (codes "take ") words)
+unfoldable pub take_words : List ℕ → Option PacketSource
+take_words words = option_and_then packet_read (after_prefix (codes "take ") words)
 
 -- a position, a space, and the number of a bit
-abbrev pub flip_read : Side → List ℕ × List ℕ → Option Event
-flip_read side halves = option_and_then (λ p. option_map (flips side p) (script_number_read halves.1)) (position_read halves.0)
+abbrev pub flip_read : List ℕ × List ℕ → Option PacketSource
+flip_read halves =
+    option_and_then (λ p. option_map (of_flip p) (script_number_read halves.1))
+    (position_read halves.0)
 
 -- `flip`, a position, and the number of a bit
-unfoldable pub flip_words : Side → List ℕ → Option Event
-flip_words side words = option_and_then (flip_read side) (option_and_then (halves_of 32) (after_prefix (codes "flip ") words))
+unfoldable pub flip_words : List ℕ → Option PacketSource
+flip_words words =
+    option_and_then flip_read (option_and_then (halves_of 32) (after_prefix (codes "flip ") words))
 
 -- `bytes` and bytes in hex
-unfoldable pub bytes_words : Side → List ℕ → Option Event
-bytes_words side words =
-    option_map (takes_bytes side) (option_and_then hex_read (text_after (codes "bytes") words))
+unfoldable pub bytes_words : List ℕ → Option PacketSource
+bytes_words words =
+    option_map of_bytes (option_and_then hex_read (text_after (codes "bytes") words))
+
+-- a packet that a side takes
+abbrev pub source_words : List ℕ → Option PacketSource
+source_words words = option_or (take_words words) (option_or (flip_words words) (bytes_words words))
 
 -- an amount after a word and a space
 abbrev pub amount_after : List ℕ → List ℕ → Option Amount
 amount_after word words = option_and_then amount_words (text_after word words)
+
+-- what a side is called to do: a text, a packet, or `sent` or `done` and an amount
+unfoldable pub called_words : List ℕ → Option SideCall
+called_words words =
+    option_or (say_words words) (option_or (option_map takes (source_words words))
+    (option_or (option_map drops_sent (amount_after (codes "sent") words))
+    (option_map drops_done (amount_after (codes "done") words))))
 
 -- `inbox` or `state`
 unfoldable pub look_words : Side → List ℕ → Option Event
@@ -92,14 +107,10 @@ look_words side words =
     if is_text (codes "inbox") words then Some (shows_inbox side)
     else (if is_text (codes "state") words then Some (shows_state side) else None)
 
--- what stands after a side: a text, a packet, `sent` or `done` and an amount, or a look at it
+-- what stands after a side: a call, or a look at it
 unfoldable pub side_words : Side → List ℕ → Option Event
 side_words side words =
-    option_or (say_words side words) (option_or (take_words side words)
-    (option_or (flip_words side words) (option_or (bytes_words side words)
-    (option_or (option_map (drops_sent side) (amount_after (codes "sent") words))
-    (option_or (option_map (drops_done side) (amount_after (codes "done") words))
-    (look_words side words))))))
+    option_or (option_map (does side) (called_words words)) (look_words side words)
 
 -- ---- a side's line
 
@@ -127,25 +138,34 @@ mode_read text =
     else (if is_text (codes "new") text then Some New
     else option_map (λ bytes. Fill (slice_index bytes 0)) (result_ok (decode_sized text 1)))
 
--- in what a disk may stop or fail: a text, a packet as the network holds it, or a number of items
-abbrev pub is_call : Event → Bool
-is_call (says side text) = true
-is_call (takes side p) = true
-is_call (takes_nth side nth) = true
-is_call (drops_sent side (Exactly n)) = true
-is_call (drops_done side (Exactly n)) = true
-is_call _ = false
+-- whether a disk may stop or fail in a call: in a text, a packet as the network holds it, or a
+-- number of items
+abbrev pub is_network : PacketSource → Bool
+is_network (of_position p) = true
+is_network (of_number nth) = true
+is_network _ = false
 
-abbrev pub if_call : Event → Option Event
-if_call event = if is_call event then Some event else None
+abbrev pub is_number : Amount → Bool
+is_number All = false
+is_number (Exactly n) = true
 
-unfoldable pub call_words : Side → List ℕ → Option Event
-call_words side words = option_and_then if_call (side_words side words)
+abbrev pub may_stop : SideCall → Bool
+may_stop (says text) = true
+may_stop (takes source) = is_network source
+may_stop (drops_sent amount) = is_number amount
+may_stop (drops_done amount) = is_number amount
+
+abbrev pub if_stops : SideCall → Option SideCall
+if_stops call = if may_stop call then Some call else None
+
+unfoldable pub call_words : List ℕ → Option SideCall
+call_words words = option_and_then if_stops (called_words words)
 
 -- a mode, a space and a call
 abbrev pub crash_read : Side → ℕ → List ℕ × List ℕ → Option Deed
 crash_read side n halves =
-    option_and_then (λ mode. option_map (stops n mode) (call_words side halves.1)) (mode_read halves.0)
+    option_and_then (λ mode. option_map (stops n mode side) (call_words halves.1))
+    (mode_read halves.0)
 
 -- a number, a space, and the rest
 abbrev pub stop_read : Side → List ℕ × List ℕ → Option Deed
@@ -164,7 +184,8 @@ if_counted n = if nat_le 1 n then Some n else None
 -- a number, a space and a call
 abbrev pub fail_read : Side → List ℕ × List ℕ → Option Deed
 fail_read side halves =
-    option_and_then (λ n. option_map (fails n) (call_words side halves.1)) (option_and_then if_counted (script_number_read halves.0))
+    option_and_then (λ n. option_map (fails n side) (call_words halves.1))
+    (option_and_then if_counted (script_number_read halves.0))
 
 -- `fail`, the number of the write or sync that fails, and the call
 unfoldable pub fail_words : Side → List ℕ → Option Deed

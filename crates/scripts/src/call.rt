@@ -34,6 +34,39 @@ pub enum Source<'a> {
     Bytes(&'a [u8]),
 }
 
+impl Source<'_> {
+    ghost use Rattle.std.specs.Prelude.{◌≡◌};
+    ghost use Rattle.scripts.specs.Seen.{source_of};
+    ghost use Rattle.scripts.specs.Words.{is_network};
+
+    /// Whether the packet is as the network holds it.
+    fn is_network(self) -> bool
+        ensures { result ≡ is_network (source_of self.entry) }
+    {
+        match self {
+            Source::At(_) | Source::Nth(_) => true,
+            Source::Flipped(_, _) | Source::Bytes(_) => false,
+        }
+    }
+}
+
+impl Call<&[u8], Source<'_>, Amount> {
+    ghost use Rattle.std.specs.Prelude.{◌≡◌};
+    ghost use Rattle.scripts.specs.Seen.{call_of};
+    ghost use Rattle.scripts.specs.Words.{may_stop};
+
+    /// Whether a disk may stop or fail in it.
+    pub fn may_stop(self) -> bool
+        ensures { result ≡ may_stop (call_of self.entry) }
+    {
+        match self {
+            Call::Say(_) => true,
+            Call::Take(source) => source.is_network(),
+            Call::Sent(amount) | Call::Done(amount) => matches!(&amount, Amount::Exactly(_)),
+        }
+    }
+}
+
 /// A call in which one write or sync of its side's disk fails.
 #[derive(Clone, Copy)]
 pub struct Failure<'a> {

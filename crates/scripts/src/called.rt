@@ -2,44 +2,28 @@
 
 ghost use Rattle.std.specs.Prelude.{◌≡◌, option_map};
 ghost use Rattle.scripts.specs.Lined.{failed_deed, stop_deed};
-ghost use Rattle.scripts.specs.Seen.{call_event, event_of};
-ghost use Rattle.scripts.specs.Words.{call_words, fail_words, if_call, mode_read, stop_words};
+ghost use Rattle.scripts.specs.Seen.{call_of};
+ghost use Rattle.scripts.specs.Words.{call_words, fail_words, mode_read, stop_words};
 
-use crate::call::{Call, Failure, LineCall, Source};
-use crate::line::{Line, parse_words};
+use crate::call::{Failure, LineCall};
 use crate::lined::Stop;
 use crate::number::{counted, number};
 use crate::split::{after_prefix, cut_at};
+use crate::words::parse_called;
 use dr_base::Side;
 use dr_disk::Mode;
 use hex::FromHex;
-use session_model::Amount;
 
-/// The call that a line says, if a disk may stop or fail in it.
-fn call_in(line: Line<'_>) -> Option<(Side, LineCall<'_>)>
-    ensures { option_map (λ one. call_event one.0 one.1) result ≡ if_call (event_of line.entry) }
-{
-    match line {
-        Line::Does(side, call) => match call {
-            Call::Say(_) => Some((side, call)),
-            Call::Take(Source::At(_) | Source::Nth(_)) => Some((side, call)),
-            Call::Sent(Amount::Exactly(_)) => Some((side, call)),
-            Call::Done(Amount::Exactly(_)) => Some((side, call)),
-            _ => None,
-        },
-        _ => None,
-    }
-}
-
-/// Reads such a call.
+/// Reads a call in which a disk may stop or fail.
 #[tactic(auto, unfolding(crate::specs::Words::call_words))]
-fn parse_call(side: Side, words: &[u8]) -> Option<(Side, LineCall<'_>)>
-    ensures { option_map (λ one. call_event one.0 one.1) result ≡ call_words side words.entry.now }
+fn parse_call(words: &[u8]) -> Option<LineCall<'_>>
+    ensures { option_map call_of result ≡ call_words words.entry.now }
 {
-    match parse_words(side, words) {
-        Some(line) => call_in(line),
-        None => None,
+    let call = parse_called(words)?;
+    if call.may_stop() {
+        return Some(call);
     }
+    None
 }
 
 /// Reads `old`, `new`, or a byte in two hex digits of either case.
@@ -69,7 +53,7 @@ pub fn parse_stop(side: Side, words: &[u8]) -> Option<Stop<'_>>
     let after = number(after)?;
     let (mode, call) = cut_at(rest, b' ')?;
     let mode = parse_mode(mode)?;
-    let (side, call) = parse_call(side, call)?;
+    let call = parse_call(call)?;
     Some(Stop {
         side,
         after,
@@ -86,6 +70,6 @@ pub fn parse_fail(side: Side, words: &[u8]) -> Option<Failure<'_>>
     let text = after_prefix(words, b"fail ")?;
     let (at, call) = cut_at(text, b' ')?;
     let at = counted(at)?;
-    let (side, call) = parse_call(side, call)?;
+    let call = parse_call(call)?;
     Some(Failure { side, at, call })
 }

@@ -5,10 +5,10 @@ ghost use Rattle.scripts.specs.Sides.{acting_side};
 ghost use Rattle.scripts.specs.Words.{plain_read, seed_read, side_words};
 ghost use Rattle.scripts.specs.Seen.{event_of};
 
-use crate::call::{Call, LineCall};
+use crate::call::LineCall;
 use crate::sides::named_side;
 use crate::split::after_prefix;
-use crate::words::{amount_after, parse_bytes, parse_flip, parse_look, parse_say, parse_take};
+use crate::words::{parse_called, parse_look};
 use dr_base::Side;
 use hex::FromHex;
 
@@ -41,7 +41,6 @@ impl<'a> Line<'a> {
     }
 
     /// The side whose event it is; a seed is no side's, and counts as First's.
-    #[tactic(auto, using(crate::proofs::Calls::acting_call))]
     pub fn side(&self) -> Side
         ensures { result ≡ acting_side (event_of self.now) }
     {
@@ -70,26 +69,11 @@ fn parse_seed(line: &[u8]) -> Option<Line<'_>>
 
 /// Reads what stands after a side.
 #[tactic(auto, unfolding(crate::specs::Words::side_words))]
-pub fn parse_words(side: Side, words: &[u8]) -> Option<Line<'_>>
+fn parse_words(side: Side, words: &[u8]) -> Option<Line<'_>>
     ensures { option_map event_of result ≡ side_words side words.entry.now }
 {
-    if let Some(found) = parse_say(side, words) {
-        return Some(found);
-    }
-    if let Some(found) = parse_take(side, words) {
-        return Some(found);
-    }
-    if let Some(found) = parse_flip(side, words) {
-        return Some(found);
-    }
-    if let Some(found) = parse_bytes(side, words) {
-        return Some(found);
-    }
-    if let Some(amount) = amount_after(words, b"sent") {
-        return Some(Line::Does(side, Call::Sent(amount)));
-    }
-    if let Some(amount) = amount_after(words, b"done") {
-        return Some(Line::Does(side, Call::Done(amount)));
+    if let Some(call) = parse_called(words) {
+        return Some(Line::Does(side, call));
     }
     parse_look(side, words)
 }

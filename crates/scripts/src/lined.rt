@@ -57,7 +57,6 @@ impl<'a> Lined<'a> {
     }
 
     /// The side whose deed it is; a seed is no side's, and counts as First's.
-    #[tactic(auto, using(crate::proofs::Calls::acting_call))]
     pub fn side(&self) -> Side
         ensures { result ≡ deed_side (lined_deed self.now) }
     {

@@ -1,10 +1,10 @@
 //! What a side does in a line.
 
 ghost use Rattle.std.specs.Prelude.{◌≡◌, Some, None, option_copied, option_map, if◌then◌else◌};
-ghost use Rattle.scripts.specs.Words.{amount_after, amount_words, bytes_words, flip_words, hex_read, look_words, packet_read, position_read, say_words, take_words, text_after};
-ghost use Rattle.scripts.specs.Seen.{bytes_of_hex, event_of};
+ghost use Rattle.scripts.specs.Words.{amount_after, amount_words, bytes_words, called_words, flip_words, hex_read, look_words, packet_read, position_read, say_words, source_words, take_words, text_after};
+ghost use Rattle.scripts.specs.Seen.{bytes_of_hex, call_of, event_of, source_of};
 
-use crate::call::{Call, Source};
+use crate::call::{Call, LineCall, Source};
 use crate::hexed::{DIGIT_LIMIT, HEX_LIMIT};
 use crate::line::Line;
 use crate::number::number;
@@ -26,35 +26,35 @@ fn text_after<'a>(words: &'a [u8], word: &[u8]) -> Option<&'a [u8]>
 
 /// Reads `say` and a text.
 #[tactic(auto, unfolding(crate::specs::Words::say_words))]
-pub fn parse_say(side: Side, words: &[u8]) -> Option<Line<'_>>
-    ensures { option_map event_of result ≡ say_words side words.entry.now }
+fn parse_say(words: &[u8]) -> Option<LineCall<'_>>
+    ensures { option_map call_of result ≡ say_words words.entry.now }
 {
     let text = text_after(words, b"say")?;
-    Some(Line::Does(side, Call::Say(text)))
+    Some(Call::Say(text))
 }
 
 /// Reads `take` and a packet.
 #[tactic(auto, unfolding(crate::specs::Words::take_words))]
-pub fn parse_take(side: Side, words: &[u8]) -> Option<Line<'_>>
-    ensures { option_map event_of result ≡ take_words side words.entry.now }
+fn parse_take(words: &[u8]) -> Option<Source<'_>>
+    ensures { option_map source_of result ≡ take_words words.entry.now }
 {
     match after_prefix(words, b"take ") {
-        Some(packet) => parse_packet(side, packet),
+        Some(packet) => parse_packet(packet),
         None => None,
     }
 }
 
 /// Reads `#` and a number, or a position.
-fn parse_packet(side: Side, text: &[u8]) -> Option<Line<'_>>
-    ensures { option_map event_of result ≡ packet_read side text.entry.now }
+fn parse_packet(text: &[u8]) -> Option<Source<'_>>
+    ensures { option_map source_of result ≡ packet_read text.entry.now }
 {
     if let Some(digits) = after_prefix(text, b"#") {
         if let Some(nth) = number(digits) {
-            return Some(Line::Does(side, Call::Take(Source::Nth(nth))));
+            return Some(Source::Nth(nth));
         }
     }
     match parse_position(text) {
-        Some(position) => Some(Line::Does(side, Call::Take(Source::At(position)))),
+        Some(position) => Some(Source::At(position)),
         None => None,
     }
 }
@@ -72,14 +72,14 @@ fn parse_position(text: &[u8]) -> Option<Position>
 
 /// Reads `flip`, a position, a space, and the number of a bit.
 #[tactic(auto, unfolding(crate::specs::Words::flip_words))]
-pub fn parse_flip(side: Side, words: &[u8]) -> Option<Line<'_>>
-    ensures { option_map event_of result ≡ flip_words side words.entry.now }
+fn parse_flip(words: &[u8]) -> Option<Source<'_>>
+    ensures { option_map source_of result ≡ flip_words words.entry.now }
 {
     let text = after_prefix(words, b"flip ")?;
     let (position, bit) = cut_at(text, b' ')?;
     let position = parse_position(position)?;
     let bit = number(bit)?;
-    Some(Line::Does(side, Call::Take(Source::Flipped(position, bit))))
+    Some(Source::Flipped(position, bit))
 }
 
 /// Whether a text is at most `HEX_LIMIT` bytes in hex. Their room stands only where a line asks it.
@@ -97,14 +97,47 @@ fn is_hex(text: &[u8]) -> bool
 
 /// Reads `bytes` and bytes in hex.
 #[tactic(auto, unfolding(crate::specs::Words::bytes_words))]
-pub fn parse_bytes(side: Side, words: &[u8]) -> Option<Line<'_>>
-    ensures { option_map event_of result ≡ bytes_words side words.entry.now }
+fn parse_bytes(words: &[u8]) -> Option<Source<'_>>
+    ensures { option_map source_of result ≡ bytes_words words.entry.now }
 {
     let hex = text_after(words, b"bytes")?;
     if is_hex(hex) {
-        return Some(Line::Does(side, Call::Take(Source::Bytes(hex))));
+        return Some(Source::Bytes(hex));
     }
     None
+}
+
+/// Reads a packet that a side takes.
+fn parse_source(words: &[u8]) -> Option<Source<'_>>
+    ensures { option_map source_of result ≡ source_words words.entry.now }
+{
+    if let Some(found) = parse_take(words) {
+        return Some(found);
+    }
+    if let Some(found) = parse_flip(words) {
+        return Some(found);
+    }
+    parse_bytes(words)
+}
+
+/// Reads what a side is called to do.
+#[tactic(auto, unfolding(crate::specs::Words::called_words))]
+pub fn parse_called(words: &[u8]) -> Option<LineCall<'_>>
+    ensures { option_map call_of result ≡ called_words words.entry.now }
+{
+    if let Some(found) = parse_say(words) {
+        return Some(found);
+    }
+    if let Some(source) = parse_source(words) {
+        return Some(Call::Take(source));
+    }
+    if let Some(amount) = amount_after(words, b"sent") {
+        return Some(Call::Sent(amount));
+    }
+    match amount_after(words, b"done") {
+        Some(amount) => Some(Call::Done(amount)),
+        None => None,
+    }
 }
 
 /// Reads `inbox` or `state`.
@@ -122,7 +155,7 @@ pub fn parse_look(side: Side, words: &[u8]) -> Option<Line<'_>>
 }
 
 /// Reads a word, and an amount after a space.
-pub fn amount_after(words: &[u8], word: &[u8]) -> Option<Amount>
+fn amount_after(words: &[u8], word: &[u8]) -> Option<Amount>
     ensures { result ≡ amount_after word.now words.now }
 {
     let text = text_after(words, word)?;

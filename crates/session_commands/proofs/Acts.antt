@@ -4,7 +4,8 @@ use Rattle.dr_base.specs.declared.position.Side.{Side}
 use Rattle.dr_disk.specs.Spans.{Span}
 use Rattle.dr_disk.specs.State.{DiskState, IsLawful}
 use Rattle.dr_disk.proofs.Steps.{quiet_twice}
-use Rattle.dr_model.specs.Machines.Acts.{Act, act_in, act_on}
+use Rattle.dr_model.specs.Machines.Acts.{Act, act_on}
+use Rattle.dr_model.specs.Machines.WorldActs.{act_in}
 use Rattle.dr_model.specs.Machines.Steps.{has_effect, step}
 use Rattle.dr_model.specs.Machines.WorldSides.{kept_in}
 use Rattle.dr_model.specs.Machines.Worlds.{World}

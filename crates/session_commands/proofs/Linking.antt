@@ -3,7 +3,7 @@ use Rattle.std.proofs.Common.{Err, List, Ok, Result, Some, [], arith, append-nil
 use Rattle.dr_base.specs.declared.position.Side.{Side}
 use Rattle.dr_disk.specs.Spans.{Span}
 use Rattle.dr_disk.specs.State.{Always, DiskState, IsLawful}
-use Rattle.dr_model.specs.Machines.Acts.{act_in}
+use Rattle.dr_model.specs.Machines.WorldActs.{act_in}
 use Rattle.dr_model.specs.Machines.WorldSides.{kept_in}
 use Rattle.dr_model.specs.Machines.Worlds.{World}
 use Rattle.dr_model.specs.Theorems.LawfulWorlds.{IsLawfulWorld}

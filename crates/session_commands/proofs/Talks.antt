@@ -11,7 +11,8 @@ use Rattle.dr_base.specs.declared.position.Side.TheVariants.{First, Second}
 use Rattle.dr_disk.specs.State.{Always, DiskState, IsLawful}
 use Rattle.dr_model.specs.Conversations.Conversation.{is_said, positions}
 use Rattle.dr_model.specs.Conversations.Posts.{post_at}
-use Rattle.dr_model.specs.Machines.Acts.{Act, act_in}
+use Rattle.dr_model.specs.Machines.Acts.{Act}
+use Rattle.dr_model.specs.Machines.WorldActs.{act_in}
 use Rattle.dr_model.specs.Machines.WorldSides.{kept_in}
 use Rattle.dr_model.specs.Machines.Worlds.{World, view_of}
 use Rattle.dr_model.specs.Theorems.Acting.{IsFairAct}

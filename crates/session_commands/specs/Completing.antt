@@ -4,7 +4,8 @@ use Rattle.dr_base.specs.Causes.{Rose}
 use Rattle.dr_base.specs.declared.position.Side.{Side}
 use Rattle.dr_disk.specs.State.{DiskState}
 use Rattle.dr_disk.specs.declared.call.Call.{Call}
-use Rattle.dr_model.specs.Machines.Acts.{Act, act_in}
+use Rattle.dr_model.specs.Machines.Acts.{Act}
+use Rattle.dr_model.specs.Machines.WorldActs.{act_in}
 use Rattle.dr_model.specs.Machines.WorldSides.{kept_in}
 use Rattle.dr_model.specs.Machines.Worlds.{World}
 use Rattle.dr_model.specs.Theorems.Acting.{IsFairAct}

@@ -8,8 +8,9 @@ use Rattle.dr_base.specs.declared.position.Side.TheVariants.{First, Second}
 use Rattle.dr_model.specs.Conversations.Conversation.{Conversation}
 use Rattle.dr_model.specs.Conversations.Posts.{post_at}
 use Rattle.dr_model.specs.Conversations.Views.{View, after_opening, has_opened}
-use Rattle.dr_model.specs.Machines.Acts.{act_in, act_on, sending, taking}
-use Rattle.dr_model.specs.Machines.Events.{takes, takes_bytes}
+use Rattle.dr_model.specs.Machines.Acts.{act_on, taking}
+use Rattle.dr_model.specs.Machines.WorldActs.{act_in}
+use Rattle.dr_model.specs.Machines.Events.{does, of_bytes, of_position, takes}
 use Rattle.dr_model.specs.Machines.Steps.{Step, settled}
 use Rattle.dr_model.specs.Machines.Worlds.{World, outbox_in, step_of, view_of, with_view}
 use Rattle.dr_model.specs.Theorems.Fairness.{IsUnforged}
@@ -28,7 +29,7 @@ use Rattle.client.specs.Grounds.{Grounds}
 use Rattle.client.specs.Syncing.Arrivals.{AreExpected, IsExpected, OpensArrived, opened_too}
 use Rattle.client.specs.Syncing.InWorlds.{IsKeptIn}
 use Rattle.client.specs.Syncing.Lines.{own_box, peers_box}
-use Rattle.client.specs.Syncing.Parties.{client_party, is_inbox_full, party_of}
+use Rattle.client.specs.Syncing.Parties.{client_party, is_inbox_full, oldest_sent, party_of}
 use Rattle.client.specs.Syncing.Transfers.{Transfers}
 use Rattle.relay_wire.specs.Replies.{Replied}
 use Rattle.client.proofs.Syncs.Worlds.{answers, next_kept}
@@ -55,10 +56,10 @@ view_stays w next Second one two = two
 
 -- the same conversation, in which the position was opened if it wasn't yet; the answer isn't that there is no room
 record IsMet (k : Mechanism) (w : World) (side : Side) (p : Position) : Type 0 where
-  conversation : (step_of k w (takes side p)).next.conversation ≡ w.conversation
-  arrived : (view_of (step_of k w (takes side p)).next side).arrived
+  conversation : (step_of k w (does side (takes (of_position p)))).next.conversation ≡ w.conversation
+  arrived : (view_of (step_of k w (does side (takes (of_position p)))).next side).arrived
       ≡ (if has_opened (view_of w side) p then (view_of w side).arrived else (view_of w side).arrived ++ p ∷ [])
-  room : is_inbox_full (step_of k w (takes side p)).answer ≡ false
+  room : is_inbox_full (step_of k w (does side (takes (of_position p)))).answer ≡ false
 
 meets_one : (k : Mechanism) (w : World) (side : Side) (p : Position) → IsExpected w side p → IsMet k w side p
 meets_one k w side p is = by_opened (has_opened (view_of w side) p) refl is.near
@@ -66,10 +67,10 @@ meets_one k w side p is = by_opened (has_opened (view_of w side) p) refl is.near
     by_opened : (b : Bool) → has_opened (view_of w side) p ≡ b → (has_opened (view_of w side) p ≡ true) ⊎ IsWithinLimits w side p → IsMet k w side p
     by_opened true before near =
         let spent = repeats k w side p is.said is.peers before in
-        let same = refusal_changes_nothing k w (takes side p) (Spent p) spent in
+        let same = refusal_changes_nothing k w (does side (takes (of_position p))) (Spent p) spent in
         record {
           conversation = same.0;
-          arrived = ap (λ (v : View). v.arrived) (view_stays w (step_of k w (takes side p)).next side same.1 same.2)
+          arrived = ap (λ (v : View). v.arrived) (view_stays w (step_of k w (does side (takes (of_position p)))).next side same.1 same.2)
               ∙ ap (λ (b : Bool). if b then (view_of w side).arrived else (view_of w side).arrived ++ p ∷ []) (sym before);
           room = ap is_inbox_full spent;
         }
@@ -89,7 +90,7 @@ record IsSame (side : Side) (w next : World) : Type 0 where
   conversation : next.conversation ≡ w.conversation
   arrived : (view_of next side).arrived ≡ (view_of w side).arrived
 
-one_sent : (k : Mechanism) (w : World) (side : Side) → IsSame side w (act_in k w side (sending 1)).next
+one_sent : (k : Mechanism) (w : World) (side : Side) → IsSame side w (act_in k w side oldest_sent).next
 one_sent k w side =
     let v = view_of w side in
     by_test (λ (r : Result (Step World) Refusal). IsSame side w (settled w r).next) (nat_le 1 (length (outbox_in k w side))) _ _
@@ -118,10 +119,11 @@ module _ (k : Mechanism) (grounds : Grounds k) (prefix own_name peers_name : Lis
       absurd (let e : [] ≡ (post_at k w.conversation q).packet ∷ map (λ (q : Position). (post_at k w.conversation q).packet) ps = holds in cc)
   taken_behind (q ∷ ps) (x ∷ ks) w kept is holds expected =
       let said = expected.0.said in
-      let made = step_of k w (takes side q) in
+      let made = step_of k w (does side (takes (of_position q))) in
       let head : x.packet ≡ (post_at k w.conversation q).packet = head_is _ _ _ _ holds in
       let fair : IsUnforged k w side x.packet = subst (IsUnforged k w side) (sym head) (real k w side q is.lawful said) in
-      let same : act_in k w side (taking x.packet) ≡ made = ap (λ (b : List ℕ). step_of k w (takes_bytes side b)) head ∙ by_bytes k w side q is.lawful said in
+      let same : act_in k w side (taking x.packet) ≡ made =
+      ap (λ (b : List ℕ). step_of k w (does side (takes (of_bytes b)))) head ∙ by_bytes k w side q is.lawful said in
       let met = meets_one k w side q expected.0 in
       let step = settled kept (act_on k kept (taking x.packet)) in
       let next : IsKeptIn k side step.next made.next = subst (λ (m : Step World). IsKeptIn k side step.next m.next) same (next_kept k grounds prefix side kept w is (taking x.packet) fair) in
@@ -140,9 +142,9 @@ module _ (k : Mechanism) (grounds : Grounds k) (prefix own_name peers_name : Lis
   sent_behind zero w ps kept at = at
   sent_behind (suc n) w ps kept at =
       let one = one_sent k at.later side in
-      sent_behind n w ps (settled kept (act_on k kept (sending 1))).next (record {
-        later = (act_in k at.later side (sending 1)).next;
-        is_kept = next_kept k grounds prefix side kept at.later at.is_kept (sending 1) tt;
+      sent_behind n w ps (settled kept (act_on k kept oldest_sent)).next (record {
+        later = (act_in k at.later side oldest_sent).next;
+        is_kept = next_kept k grounds prefix side kept at.later at.is_kept oldest_sent tt;
         conversation = one.conversation ∙ at.conversation;
         arrived = one.arrived ∙ at.arrived;
       })

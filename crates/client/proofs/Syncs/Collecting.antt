@@ -8,7 +8,7 @@ use Rattle.kem_laws.specs.Mechanism.{Mechanism}
 use Rattle.relay_wire.specs.Replies.{item}
 use Rattle.session_model.specs.Clients.{Client, TakenPacket, take_on}
 use Rattle.session_model.specs.declared.answer.Answer.{Answer}
-use Rattle.session_model.specs.declared.answer.Answer.TheVariants.{Said, Opened, Sent, Done, Inbox, State, Seeded, Stopped, Nothing, Refused as AnswersRefused}
+use Rattle.session_model.specs.declared.answer.Answer.TheVariants.{Refused as AnswersRefused}
 use Rattle.session_model.specs.declared.answer.Refusal.{Refusal}
 use Rattle.session_model.specs.declared.answer.Refusal.TheVariants.{InboxFull}
 use Rattle.sync_model.specs.Moves.{Move, acking, fetching, inbox_full, move, over}
@@ -28,16 +28,8 @@ not_no_room InboxFull not = absurd (not refl)
 not_no_room _ not = refl
 
 pub not_full : (answer : Answer) → ((r : Refusal) → answer ≡ AnswersRefused r → ⊥) → is_inbox_full answer ≡ false
-not_full (Said p) not = refl
-not_full (Opened p) not = refl
-not_full (Sent n) not = refl
-not_full (Done n) not = refl
-not_full (Inbox n) not = refl
-not_full (State s) not = refl
-not_full Seeded not = refl
-not_full Stopped not = refl
-not_full Nothing not = refl
 not_full (AnswersRefused r) not = absurd (not r refl)
+not_full _ not = refl
 
 module _ (k : Mechanism) (prefix own peers : List ℕ) (s : Client) (n number : ℕ) (packet : List ℕ) where
   abbrev made : Step Client

@@ -3,7 +3,8 @@ use Rattle.std.proofs.Common.{Bool, Err, List, Ok, Result, [], ap, append_assoc,
 use Rattle.dr_base.specs.declared.position.Position.{Position}
 use Rattle.dr_base.specs.declared.position.Side.{Side}
 use Rattle.dr_disk.specs.State.{Always}
-use Rattle.dr_model.specs.Machines.Acts.{act_in, taking}
+use Rattle.dr_model.specs.Machines.Acts.{taking}
+use Rattle.dr_model.specs.Machines.WorldActs.{act_in}
 use Rattle.dr_model.specs.Machines.Worlds.{World}
 use Rattle.dr_model.specs.Theorems.Erasure.{IsErased}
 use Rattle.dr_model.specs.Theorems.Fairness.{IsUnforged}

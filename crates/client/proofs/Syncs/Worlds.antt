@@ -3,7 +3,8 @@ use Rattle.std.proofs.Common.{Err, List, Ok, Result, [], ap, inl, inr, refl, sub
 use Rattle.dr_base.specs.declared.position.Side.{Side}
 use Rattle.dr_disk.specs.State.{Always}
 use Rattle.dr_disk.proofs.Steps.{widen}
-use Rattle.dr_model.specs.Machines.Acts.{Act, act_in, act_on, kept_by, sending, taking}
+use Rattle.dr_model.specs.Machines.Acts.{Act, act_on, taking}
+use Rattle.dr_model.specs.Machines.WorldActs.{act_in, kept_by}
 use Rattle.dr_model.specs.Machines.Steps.{Step, settled}
 use Rattle.dr_model.specs.Machines.Worlds.{World}
 use Rattle.dr_model.specs.Theorems.Acting.{IsFairAct}
@@ -22,7 +23,7 @@ use Rattle.client.specs.InWorlds.{IsIn, StandsFor}
 use Rattle.client.specs.Syncing.InWorlds.{AreUnforged, IsKeptIn, IsReachedIn, LeadsTo, SyncsIn, course_in}
 use Rattle.client.specs.Syncing.Lines.{answer_line, own_box, peers_box}
 use Rattle.client.specs.Syncing.Moments.{Moment}
-use Rattle.client.specs.Syncing.Parties.{client_party, is_inbox_full, waiting, world_party}
+use Rattle.client.specs.Syncing.Parties.{client_party, is_inbox_full, oldest_sent, waiting, world_party}
 use Rattle.client.specs.Syncing.SoFar.{IsReached, Stands}
 use Rattle.client.specs.Syncing.Syncs.{EndsSync, SyncsBy}
 use Rattle.client.specs.declared.syncing.faults.SyncFault.{SyncFault}
@@ -61,7 +62,7 @@ module _ (k : Mechanism) (grounds : Grounds k) (prefix : List ℕ) (side : Side)
       stored_line = λ number. refl;
       end_line = λ which. refl;
       outbox = λ s t at. ap waiting at.keeps;
-      sent = λ s t at. next_kept s t at (sending 1) tt;
+      sent = λ s t at. next_kept s t at oldest_sent tt;
       takes = λ s t packet at fair. record {
         line = ap (answer_line prefix) (answers s t at (taking packet) fair);
         full = ap is_inbox_full (answers s t at (taking packet) fair);

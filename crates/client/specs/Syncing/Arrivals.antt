@@ -7,7 +7,7 @@ use Rattle.dr_base.specs.declared.position.Side.{Side}
 use Rattle.dr_model.specs.Conversations.Conversation.{is_said}
 use Rattle.dr_model.specs.Conversations.Posts.{post_at}
 use Rattle.dr_model.specs.Conversations.Views.{has_opened}
-use Rattle.dr_model.specs.Machines.Events.{takes}
+use Rattle.dr_model.specs.Machines.Events.{does, of_position, takes}
 use Rattle.dr_model.specs.Machines.Worlds.{World, step_of, view_of}
 use Rattle.dr_model.specs.Theorems.Headline.{IsWithinLimits}
 use Rattle.kem_laws.specs.Mechanism.{Mechanism}
@@ -29,7 +29,9 @@ pub record IsExpected (w : World) (side : Side) (p : Position) : Type 0 where
 -- each of these at its turn
 abbrev pub AreExpected : Mechanism → World → Side → List Position → Type 0
 AreExpected k w side [] = ⊤
-AreExpected k w side (p ∷ ps) = IsExpected w side p × AreExpected k (step_of k w (takes side p)).next side ps
+AreExpected k w side (p ∷ ps) =
+    IsExpected w side p
+    × AreExpected k (step_of k w (does side (takes (of_position p)))).next side ps
 
 -- the packets of these positions stand in a box, in order
 abbrev pub HoldsPackets : Mechanism → World → Box → List Position → Type 0

@@ -2,7 +2,8 @@
 use Rattle.std.specs.Prelude.{Bool, List, false, map, true, ℕ}
 use Rattle.boxes.specs.Posts.{Post}
 use Rattle.dr_base.specs.declared.position.Side.{Side}
-use Rattle.dr_model.specs.Machines.Acts.{act_in, act_on, sending, taking}
+use Rattle.dr_model.specs.Machines.Acts.{Act, act_on, sending, taking}
+use Rattle.dr_model.specs.Machines.WorldActs.{act_in}
 use Rattle.dr_model.specs.Machines.Steps.{Step, settled}
 use Rattle.dr_model.specs.Machines.WorldSides.{kept_in}
 use Rattle.dr_model.specs.Machines.Worlds.{World}
@@ -39,8 +40,11 @@ abbrev pub taken_step : Mechanism → Client → List ℕ → Step Client
 taken_step k kept packet = settled kept (act_on k kept (taking packet))
 
 -- the oldest packet of the outbox has gone
+abbrev pub oldest_sent : Act
+oldest_sent = sending 1
+
 abbrev pub sent_step : Mechanism → Client → Step Client
-sent_step k kept = settled kept (act_on k kept (sending 1))
+sent_step k kept = settled kept (act_on k kept oldest_sent)
 
 -- with the names of two boxes
 abbrev pub party_of : Mechanism → List ℕ → List ℕ → List ℕ → Party Client
@@ -66,7 +70,7 @@ world_party k prefix side first = record {
   peers = peers_box (kept_in k first side);
   take = λ w packet. took_by prefix (act_in k w side (taking packet));
   outbox = λ w. waiting (kept_in k w side);
-  sent = λ w. (act_in k w side (sending 1)).next;
+  sent = λ w. (act_in k w side oldest_sent).next;
   stored_line = stored_line prefix;
   end_line = end_line prefix;
 }

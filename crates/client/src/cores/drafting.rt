@@ -126,9 +126,7 @@ impl<K: Kem> Core<K> {
             ≡ dropped_by self.now drops result }
         ensures fits { OnOk result (HasToDrop self.now drops) }
     {
-        match drops {
-            Drops::Done(n) => enough(self.inbox.len(), n),
-            Drops::Sent(n) => enough(self.outbox.len(), n),
-        }
+        let held = drops.held(self.inbox.len(), self.outbox.len());
+        enough(held, drops.count())
     }
 }

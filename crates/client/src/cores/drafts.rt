@@ -2,6 +2,8 @@
 
 use kem_laws::Kem;
 use ratchet::{ReceiveDraft, SendDraft};
+use session_model::Answer;
+use session_record::Change;
 
 /// How many of the oldest items are dropped, and from which box.
 #[derive(Clone, Copy)]
@@ -15,7 +17,7 @@ pub enum Drops {
 impl Drops {
     ghost use Rattle.std.specs.Prelude.{◌≡◌};
     ghost use Rattle.dr_model.specs.Machines.Steps.{has_effect};
-    ghost use Rattle.client.specs.Drafting.{dropped_answer};
+    ghost use Rattle.client.specs.Drafting.{change_of, count_of, dropped_answer, held_of};
 
     /// Whether anything is dropped.
     pub fn has_effect(self) -> bool
@@ -24,6 +26,45 @@ impl Drops {
         match self {
             Drops::Done(n) => n > 0,
             Drops::Sent(n) => n > 0,
+        }
+    }
+
+    /// The answer where they are dropped.
+    pub fn answer(self) -> Answer
+        ensures { result ≡ dropped_answer self }
+    {
+        match self {
+            Drops::Done(n) => Answer::Done(n),
+            Drops::Sent(n) => Answer::Sent(n),
+        }
+    }
+
+    /// How many are dropped.
+    pub(super) fn count(self) -> u32
+        ensures { result ≡ count_of self }
+    {
+        match self {
+            Drops::Done(n) | Drops::Sent(n) => n,
+        }
+    }
+
+    /// How many its box holds: the inbox so many texts, and the outbox so many packets.
+    pub(super) fn held(self, texts: u32, packets: u32) -> u32
+        ensures { result ≡ held_of self texts packets }
+    {
+        match self {
+            Drops::Done(_) => texts,
+            Drops::Sent(_) => packets,
+        }
+    }
+
+    /// What changes of the boxes.
+    pub(super) fn change<'a>(self) -> Change<'a>
+        ensures { result ≡ change_of self }
+    {
+        match self {
+            Drops::Done(n) => Change::Done { n },
+            Drops::Sent(n) => Change::Sent { n },
         }
     }
 }

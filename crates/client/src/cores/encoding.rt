@@ -66,9 +66,7 @@ impl<K: Kem> Core<K> {
         ensures { PutsRecord (dropped_client self.now drops) out.old out.new result }
     {
         let part = self.session.part();
-        match drops {
-            Drops::Done(n) => encode(&part, &self.inbox, &self.outbox, &Change::Done { n }, out),
-            Drops::Sent(n) => encode(&part, &self.inbox, &self.outbox, &Change::Sent { n }, out),
-        }
+        let change = drops.change();
+        encode(&part, &self.inbox, &self.outbox, &change, out)
     }
 }

@@ -5,16 +5,17 @@ use Rattle.dr_base.specs.Position.{peer_of}
 use Rattle.dr_base.specs.declared.position.Side.{Side}
 use Rattle.dr_base.specs.declared.position.Side.TheVariants.{First, Second}
 use Rattle.kem_laws.specs.Mechanism.{IsLawfulMechanism, Mechanism}
-use Rattle.session_model.specs.Clients.{Client, dropped_of, say_check, take_on}
-use Rattle.dr_model.specs.Machines.Acts.{Act, act_in, act_on, event_of, finishing, kept_by, needs_seed, saying, sending, taking, with_draw, world_for}
+use Rattle.session_model.specs.Clients.{Client, say_check}
+use Rattle.dr_model.specs.Machines.Acts.{Act, act_on, needs_seed, saying, taking}
 use Rattle.dr_model.specs.Machines.Sides.{Sides, client_of, step_on}
 use Rattle.dr_model.specs.Machines.Steps.{Step, settled}
+use Rattle.dr_model.specs.Machines.WorldActs.{act_in, event_of, kept_by, with_draw, world_for}
 use Rattle.dr_model.specs.Machines.WorldSides.{kept_in, sides_of}
 use Rattle.dr_model.specs.Machines.Worlds.{World}
 use Rattle.dr_model.specs.Theorems.Acting.{IsDrawn, IsFairAct}
 use Rattle.dr_model.specs.Theorems.Fairness.{IsFair}
 use Rattle.dr_model.specs.Theorems.LawfulWorlds.{IsLawfulWorld}
-use Rattle.dr_model.proofs.Acting.Keeping.{Leaves, done_kept, done_leaves, kept_on, saying_kept, saying_leaves, sent_kept, sent_leaves, taken_kept, taken_leaves}
+use Rattle.dr_model.proofs.Acting.Keeping.{Leaves, kept_on, saying_kept, saying_leaves, settled_kept, settled_leaves}
 use Rattle.dr_model.proofs.Saying.SayingChecks.{same_check}
 use Rattle.dr_model.proofs.Worlds.Following.{step_follows}
 use Rattle.dr_model.proofs.Worlds.LawfulWorlds.{lawful_next}
@@ -36,17 +37,14 @@ lawful_draw k w side len (Some seed) lawful drawn = record {
 pub lawful_for : (k : Mechanism) (w : World) (side : Side) (act : Act) → IsLawfulWorld k w → IsFairAct k w side act
     → IsLawfulWorld k (world_for w act)
 lawful_for k w side (saying text draw) lawful fair = lawful_draw k w side (length text) draw lawful fair
-lawful_for k w side (taking bytes) lawful fair = lawful
-lawful_for k w side (finishing n) lawful fair = lawful
-lawful_for k w side (sending n) lawful fair = lawful
+lawful_for k w side act lawful fair = lawful
 
 -- and the event is fair
 pub fair_event : (k : Mechanism) (w : World) (side : Side) (act : Act) → IsFairAct k w side act
     → IsFair k (world_for w act) (event_of side act)
 fair_event k w side (saying text draw) fair = record { unforged = tt; whole = tt }
 fair_event k w side (taking bytes) fair = record { unforged = fair; whole = tt }
-fair_event k w side (finishing n) fair = record { unforged = tt; whole = tt }
-fair_event k w side (sending n) fair = record { unforged = tt; whole = tt }
+fair_event k w side act fair = record { unforged = tt; whole = tt }
 
 pub lawful_act : (k : Mechanism) (w : World) (side : Side) (act : Act) → IsLawfulWorld k w → IsFairAct k w side act
     → IsLawfulWorld k (act_in k w side act).next
@@ -65,9 +63,7 @@ draw_keeps k w Second (Some seed) = refl
 pub act_keeps : (k : Mechanism) (w : World) (side : Side) (act : Act)
     → client_of (sides_of k (world_for w act)) side ≡ kept_in k w side
 act_keeps k w side (saying text draw) = client_of-kept k (with_draw w draw) side ∙ draw_keeps k w side draw
-act_keeps k w side (taking bytes) = client_of-kept k w side
-act_keeps k w side (finishing n) = client_of-kept k w side
-act_keeps k w side (sending n) = client_of-kept k w side
+act_keeps k w side act = client_of-kept k w side
 
 -- the draw is the next one
 pub draw_given : (k : Mechanism) (w : World) (draw : Option (List ℕ)) → is_some draw ≡ true
@@ -92,11 +88,7 @@ acted k w side (saying text draw) lawful fair =
     let s = sides_of k (with_draw w draw) in
     saying_kept k s side text draw (say_check (client_of s side) (length text))
     (same_need k w side (length text) draw lawful fair) (draw_given k w draw)
-acted k w side (taking bytes) lawful fair = taken_kept (sides_of k w) side (take_on k (client_of (sides_of k w) side) bytes)
-acted k w side (finishing n) lawful fair =
-    done_kept (sides_of k w) side n (dropped_of n (client_of (sides_of k w) side).inbox)
-acted k w side (sending n) lawful fair =
-    sent_kept (sides_of k w) side n (dropped_of n (client_of (sides_of k w) side).outbox)
+acted k w side act lawful fair = settled_kept (sides_of k w) side (act_on k (client_of (sides_of k w) side) act)
 
 pub act_follows : (k : Mechanism) (w : World) (side : Side) (act : Act) → IsLawfulMechanism k → IsLawfulWorld k w
     → IsFairAct k w side act
@@ -117,9 +109,7 @@ act_follows k w side act law lawful fair =
 
 event_leaves : (k : Mechanism) (s : Sides) (side : Side) (act : Act) → Leaves side s (step_on k s (event_of side act))
 event_leaves k s side (saying text draw) = saying_leaves k s side text (say_check (client_of s side) (length text))
-event_leaves k s side (taking bytes) = taken_leaves s side (take_on k (client_of s side) bytes)
-event_leaves k s side (finishing n) = done_leaves s side n (dropped_of n (client_of s side).inbox)
-event_leaves k s side (sending n) = sent_leaves s side n (dropped_of n (client_of s side).outbox)
+event_leaves k s side act = settled_leaves s side (act_on k (client_of s side) act)
 
 pub act_leaves : (k : Mechanism) (w : World) (side : Side) (act : Act) → IsLawfulMechanism k → IsLawfulWorld k w
     → IsFairAct k w side act

@@ -1,19 +1,16 @@
 -- A step on both sides, as one side keeps it.
 use Rattle.std.proofs.Common.{◌≡◌, ℕ, Bool, true, false, List, [], Option, Some, None, Result, Ok, Err, refl, ◌∙◌, ap, ap₂}
 use Rattle.std.specs.Prelude.{is_some}
-use Rattle.boxes.specs.Entries.{Entry}
-use Rattle.boxes.specs.Posts.{Post}
 use Rattle.dr_base.specs.Position.{peer_of}
 use Rattle.dr_base.specs.declared.position.Side.{Side}
 use Rattle.dr_base.specs.declared.position.Side.TheVariants.{First, Second}
 use Rattle.kem_laws.specs.Mechanism.{Mechanism}
-use Rattle.session_model.specs.Clients.{Client, SaidText, TakenPacket, say_on}
-use Rattle.session_model.specs.declared.answer.Answer.TheVariants.{Done, Opened, Sent}
+use Rattle.session_model.specs.Clients.{Client, SaidText, say_on}
 use Rattle.session_model.specs.declared.answer.Refusal.{Refusal}
-use Rattle.dr_model.specs.Machines.Acts.{finished_by, needs_seed, said_by, saying_by, sent_by, taken_by}
+use Rattle.dr_model.specs.Machines.Acts.{needs_seed, said_by, saying_by}
 use Rattle.dr_model.specs.Machines.Draws.{Draws, after_draw, drawn, given_or, next_seed}
-use Rattle.dr_model.specs.Machines.Sides.{Sides, client_of, done_on, opened_on, said_on, saying_on, sent_on, with_client}
-use Rattle.dr_model.specs.Machines.Steps.{Step, settled, step}
+use Rattle.dr_model.specs.Machines.Sides.{Sides, client_of, said_on, saying_on, settled_on, with_client}
+use Rattle.dr_model.specs.Machines.Steps.{Step, settled}
 
 -- what the side then keeps, and whether the other side keeps what it kept
 abbrev pub kept_on : Side → Step Sides → Step Client
@@ -31,36 +28,16 @@ others : (s : Sides) (side : Side) (client : Client)
 others s First client = refl
 others s Second client = refl
 
--- a packet is taken
-pub taken_kept : (s : Sides) (side : Side) (r : Result TakenPacket Refusal)
-    → kept_on side (opened_on s side r) ≡ settled (client_of s side) (taken_by r)
-taken_kept s side (Ok taken) = ap (λ (c : Client). step (Opened taken.position) c) (own_client s side taken.next)
-taken_kept s side (Err refusal) = refl
+-- what a side makes of an act by itself
+pub settled_kept : (s : Sides) (side : Side) (r : Result (Step Client) Refusal)
+    → kept_on side (settled_on s side r) ≡ settled (client_of s side) r
+settled_kept s side (Ok made) =
+    ap (λ (c : Client). record { answer = made.answer; entries = made.entries; next = c }) (own_client s side made.next)
+settled_kept s side (Err refusal) = refl
 
-pub taken_leaves : (s : Sides) (side : Side) (r : Result TakenPacket Refusal) → Leaves side s (opened_on s side r)
-taken_leaves s side (Ok taken) = others s side taken.next
-taken_leaves s side (Err refusal) = refl
-
--- texts leave an inbox, and packets an outbox
-pub done_kept : (s : Sides) (side : Side) (n : ℕ) (r : Result (List Entry) Refusal)
-    → kept_on side (done_on s side n r) ≡ settled (client_of s side) (finished_by (client_of s side) n r)
-done_kept s side n (Ok inbox) =
-    ap (λ (c : Client). step (Done n) c) (own_client s side (record (client_of s side) { inbox = inbox }))
-done_kept s side n (Err refusal) = refl
-
-pub done_leaves : (s : Sides) (side : Side) (n : ℕ) (r : Result (List Entry) Refusal) → Leaves side s (done_on s side n r)
-done_leaves s side n (Ok inbox) = others s side (record (client_of s side) { inbox = inbox })
-done_leaves s side n (Err refusal) = refl
-
-pub sent_kept : (s : Sides) (side : Side) (n : ℕ) (r : Result (List Post) Refusal)
-    → kept_on side (sent_on s side n r) ≡ settled (client_of s side) (sent_by (client_of s side) n r)
-sent_kept s side n (Ok outbox) =
-    ap (λ (c : Client). step (Sent n) c) (own_client s side (record (client_of s side) { outbox = outbox }))
-sent_kept s side n (Err refusal) = refl
-
-pub sent_leaves : (s : Sides) (side : Side) (n : ℕ) (r : Result (List Post) Refusal) → Leaves side s (sent_on s side n r)
-sent_leaves s side n (Ok outbox) = others s side (record (client_of s side) { outbox = outbox })
-sent_leaves s side n (Err refusal) = refl
+pub settled_leaves : (s : Sides) (side : Side) (r : Result (Step Client) Refusal) → Leaves side s (settled_on s side r)
+settled_leaves s side (Ok made) = others s side made.next
+settled_leaves s side (Err refusal) = refl
 
 -- a text is said
 said_kept : (s : Sides) (side : Side) (r : Result SaidText Refusal)

@@ -1,18 +1,18 @@
 -- An act adds to the network's packets what depends on what the side keeps alone.
 use Rattle.std.proofs.Common.{◌≡◌, ℕ, Bool, true, false, List, [], ◌∷◌, ◌++◌, length, Option, Some, None, Result, Ok, Err, refl, sym, ◌∙◌, ap, ap₂, append-nil}
 use Rattle.std.specs.Prelude.{is_some}
-use Rattle.boxes.specs.Entries.{Entry}
 use Rattle.boxes.specs.Posts.{Post}
 use Rattle.dr_base.specs.declared.position.Side.{Side}
 use Rattle.dr_base.specs.declared.position.Side.TheVariants.{First, Second}
 use Rattle.kem_laws.specs.Mechanism.{IsLawfulMechanism, Mechanism}
-use Rattle.session_model.specs.Clients.{Client, SaidText, TakenPacket, dropped_of, say_check, say_on, take_on}
+use Rattle.session_model.specs.Clients.{Client, SaidText, say_check, say_on}
 use Rattle.session_model.specs.declared.answer.Refusal.{Refusal}
 use Rattle.dr_model.specs.Conversations.Posts.{posts}
-use Rattle.dr_model.specs.Machines.Acts.{Act, act_in, event_of, finishing, needs_seed, saying, sending, taking, with_draw, world_for}
+use Rattle.dr_model.specs.Machines.Acts.{Act, act_on, needs_seed, saying}
 use Rattle.dr_model.specs.Machines.Draws.{after_draw, drawn, given_or, next_seed}
-use Rattle.dr_model.specs.Machines.Sides.{Sides, client_of, done_on, opened_on, said_on, saying_on, sent_on, step_on, with_client}
+use Rattle.dr_model.specs.Machines.Sides.{Sides, client_of, said_on, saying_on, settled_on, step_on, with_client}
 use Rattle.dr_model.specs.Machines.Steps.{Step}
+use Rattle.dr_model.specs.Machines.WorldActs.{act_in, event_of, with_draw, world_for}
 use Rattle.dr_model.specs.Machines.WorldSides.{kept_in, sides_of}
 use Rattle.dr_model.specs.Machines.Worlds.{World}
 use Rattle.dr_model.specs.Theorems.Acting.{IsFairAct}
@@ -55,17 +55,9 @@ saying_grows k s side text (Some seed) (Ok true) needed given =
     ∙ ap (λ (seed : List ℕ). s.posts ++ said_posts (say_on k (client_of s side) text seed))
     (ap (given_or (drawn s.key s.draws.made)) (given refl))
 
-taken_grows : (s : Sides) (side : Side) (r : Result TakenPacket Refusal) → (opened_on s side r).next.posts ≡ s.posts ++ []
-taken_grows s side (Ok taken) = client_leaves s side taken.next
-taken_grows s side (Err refusal) = sym (append-nil s.posts)
-
-done_grows : (s : Sides) (side : Side) (n : ℕ) (r : Result (List Entry) Refusal) → (done_on s side n r).next.posts ≡ s.posts ++ []
-done_grows s side n (Ok inbox) = client_leaves s side (record (client_of s side) { inbox = inbox })
-done_grows s side n (Err refusal) = sym (append-nil s.posts)
-
-sent_grows : (s : Sides) (side : Side) (n : ℕ) (r : Result (List Post) Refusal) → (sent_on s side n r).next.posts ≡ s.posts ++ []
-sent_grows s side n (Ok outbox) = client_leaves s side (record (client_of s side) { outbox = outbox })
-sent_grows s side n (Err refusal) = sym (append-nil s.posts)
+settled_grows : (s : Sides) (side : Side) (r : Result (Step Client) Refusal) → (settled_on s side r).next.posts ≡ s.posts ++ []
+settled_grows s side (Ok made) = client_leaves s side made.next
+settled_grows s side (Err refusal) = sym (append-nil s.posts)
 
 -- ---- in a world
 
@@ -76,11 +68,7 @@ acted_grows k w side (saying text draw) lawful fair =
     let s = sides_of k (with_draw w draw) in
     saying_grows k s side text draw (say_check (client_of s side) (length text)) (same_need k w side (length text) draw lawful fair)
     (draw_given k w draw)
-acted_grows k w side (taking bytes) lawful fair = taken_grows (sides_of k w) side (take_on k (client_of (sides_of k w) side) bytes)
-acted_grows k w side (finishing n) lawful fair =
-    done_grows (sides_of k w) side n (dropped_of n (client_of (sides_of k w) side).inbox)
-acted_grows k w side (sending n) lawful fair =
-    sent_grows (sides_of k w) side n (dropped_of n (client_of (sides_of k w) side).outbox)
+acted_grows k w side act lawful fair = settled_grows (sides_of k w) side (act_on k (client_of (sides_of k w) side) act)
 
 draw_leaves : (k : Mechanism) (w : World) (draw : Option (List ℕ)) → posts k (with_draw w draw).conversation ≡ posts k w.conversation
 draw_leaves k w None = refl
@@ -88,9 +76,7 @@ draw_leaves k w (Some seed) = refl
 
 posts_for : (k : Mechanism) (w : World) (act : Act) → posts k (world_for w act).conversation ≡ posts k w.conversation
 posts_for k w (saying text draw) = draw_leaves k w draw
-posts_for k w (taking bytes) = refl
-posts_for k w (finishing n) = refl
-posts_for k w (sending n) = refl
+posts_for k w act = refl
 
 pub act_grows : (k : Mechanism) (w : World) (side : Side) (act : Act) → IsLawfulMechanism k → IsLawfulWorld k w → IsFairAct k w side act
     → posts k (act_in k w side act).next.conversation ≡ posts k w.conversation ++ act_posts k (kept_in k w side) act

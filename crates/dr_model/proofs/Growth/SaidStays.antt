@@ -7,21 +7,22 @@ use Rattle.dr_base.specs.declared.position.Position.{Position}
 use Rattle.dr_base.specs.declared.position.Side.{Side}
 use Rattle.dr_base.specs.declared.position.Side.TheVariants.{First, Second}
 use Rattle.kem_laws.specs.Mechanism.{Mechanism}
-use Rattle.session_model.specs.declared.answer.Answer.TheVariants.{Opened, Sent, Done}
+use Rattle.session_model.specs.declared.answer.Answer.{Answer}
+use Rattle.session_model.specs.declared.answer.Answer.TheVariants.{Opened}
 use Rattle.session_model.specs.declared.answer.Refusal.{Refusal}
 use Rattle.session_model.specs.declared.answer.Refusal.TheVariants.{NoPair, OwnPacket, Spent, SkipLimit, InboxFull, Fewer}
 use Rattle.dr_model.specs.Conversations.Conversation.{Conversation, is_said, with_text, with_turn}
-use Rattle.dr_model.specs.Conversations.Posts.{post_at, posts}
+use Rattle.dr_model.specs.Conversations.Posts.{post_at}
 use Rattle.dr_model.specs.Conversations.Views.{View, has_opened, after_opening, missing_of, entry_at}
 use Rattle.dr_model.specs.Machines.Draws.{next_seed}
-use Rattle.dr_model.specs.Machines.Events.{Event, seeds, says, takes, takes_nth, flips, takes_bytes, drops_sent, drops_done, shows_inbox, shows_state, cuts}
-use Rattle.dr_model.specs.Machines.Network.{flipped_at}
-use Rattle.dr_model.specs.Machines.Steps.{Step, step, settled, amount_of}
-use Rattle.dr_model.specs.Machines.Worlds.{World, view_of, with_view, inbox_in, outbox_in, may_say, said_next, saying_in, taking_in, taking_at, said_at, nth_of_peer, made_at, taking_made, taking_given, sent_in, done_in, step_of}
+use Rattle.dr_model.specs.Machines.Events.{Event, cuts, does, seeds, shows_inbox, shows_state}
+use Rattle.dr_model.specs.Machines.Steps.{Step, step, settled}
+use Rattle.dr_model.specs.Machines.Worlds.{World, view_of, with_view, inbox_in, may_say, said_next, saying_in, taking_in, taking_at, made_at, taking_made, taking_given, leaving_in, step_of}
 use Rattle.dr_model.specs.Theorems.LawfulWorlds.{IsLawfulWorld}
 use Rattle.dr_model.proofs.Growth.Growing.{grown, is_said-grown, entry_at-grown, said-begun}
 use Rattle.dr_model.proofs.Growth.TurnGrowth.{SameTurns, post_at-grown, turns_same, turns_stay}
 use Rattle.dr_model.proofs.Saying.SayingFollows.{drawn_in}
+use Rattle.dr_model.proofs.Worlds.CallKinds.{of_call}
 use Rattle.dr_model.proofs.Worlds.CutSteps.{cut_off}
 use Rattle.dr_model.proofs.Worlds.WorldViews.{view_lawful}
 
@@ -72,20 +73,11 @@ given_leaves : (k : Mechanism) (w : World) (side : Side) (bytes : Option (List �
 given_leaves k w side (Some bytes) = made_leaves k w side bytes (made_at k w bytes)
 given_leaves k w side None = refl
 
--- texts or packets leave a box
-sent_leaves : (k : Mechanism) (w : World) (side : Side) (n : ℕ) → Leaves w (settled w (sent_in k w side n))
-sent_leaves k w side n =
-    let v = view_of w side in
-    let after = record v { dropped = v.dropped + n } in
-    leave_leaves w (nat_le n (length (outbox_in k w side))) (Fewer (length (outbox_in k w side)))
-    (step (Sent n) (with_view w side after)) (with_view_leaves w side after)
-
-done_leaves : (w : World) (side : Side) (n : ℕ) → Leaves w (settled w (done_in w side n))
-done_leaves w side n =
-    let v = view_of w side in
-    let after = record v { done = v.done + n } in
-    leave_leaves w (nat_le n (length (inbox_in w side))) (Fewer (length (inbox_in w side)))
-    (step (Done n) (with_view w side after)) (with_view_leaves w side after)
+-- items leave a box
+left_leaves : (w : World) (side : Side) (standing n : ℕ) (answer : Answer) (after : View)
+    → Leaves w (settled w (leaving_in w side standing n answer after))
+left_leaves w side standing n answer after =
+    leave_leaves w (nat_le n standing) (Fewer standing) (step answer (with_view w side after)) (with_view_leaves w side after)
 
 -- a text is said, or refused
 next_keeps : (w : World) (side : Side) (seed text : List ℕ) (none : Bool) (P : Conversation → Type 0) → P w.conversation
@@ -112,18 +104,16 @@ pub step_keeps : (k : Mechanism) (w : World) (h : Event) (P : Conversation → T
     → ((side : Side) (seed text : List ℕ) → P (with_turn w.conversation seed ((view_of w side).epoch + 1) text))
     → P (step_of k w h).next.conversation
 step_keeps k w (seeds seed) P still here next = still
-step_keeps k w (says side text) P still here next =
-    saying_keeps k w side text (may_say k w side (length text)) P still (here side text) (λ seed. next side seed text)
-step_keeps k w (takes side p) P still here next = subst P (sym (at_leaves w side (said_at w.conversation p))) still
-step_keeps k w (takes_nth side nth) P still here next =
-    subst P (sym (at_leaves w side (nth_of_peer w.conversation side nth))) still
-step_keeps k w (flips side p bit) P still here next =
-    subst P (sym (given_leaves k w side (flipped_at (posts k w.conversation) p bit))) still
-step_keeps k w (takes_bytes side bytes) P still here next = subst P (sym (given_leaves k w side (Some bytes))) still
-step_keeps k w (drops_sent side amount) P still here next =
-    subst P (sym (sent_leaves k w side (amount_of amount (length (outbox_in k w side))))) still
-step_keeps k w (drops_done side amount) P still here next =
-    subst P (sym (done_leaves w side (amount_of amount (length (inbox_in w side))))) still
+step_keeps k w (does side call) P still here next =
+    of_call k w side (λ made. P made.next.conversation) (record {
+      text = λ text.
+          saying_keeps k w side text (may_say k w side (length text)) P still (here side text) (λ seed. next side seed text);
+      packet = λ at said. subst P (sym (at_leaves w side at)) still;
+      bytes = λ given. subst P (sym (given_leaves k w side given)) still;
+      items = λ standing n answer done dropped leaving.
+          let after = record (view_of w side) { done = done; dropped = dropped } in
+          subst P (sym (left_leaves w side standing n answer after)) still;
+    }) call
 step_keeps k w (shows_inbox side) P still here next = still
 step_keeps k w (shows_state side) P still here next = still
 step_keeps k w (cuts took h) P still here next =

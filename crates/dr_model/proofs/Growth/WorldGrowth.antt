@@ -1,5 +1,5 @@
 -- What happens to the views of a world.
-use Rattle.std.proofs.Common.{◌≡◌, ℕ, ◌+◌, Bool, true, false, List, [], ◌∷◌, ◌++◌, length, Option, Some, None, Result, Ok, Err, refl}
+use Rattle.std.proofs.Common.{◌≡◌, ℕ, Bool, true, false, List, [], ◌∷◌, ◌++◌, length, Option, Some, None, Result, Ok, Err, refl}
 use Rattle.std.specs.List.{list_any}
 use Rattle.std.specs.Prelude.{if◌then◌else◌, nat_le, nat_lt, is_none}
 use Rattle.std.proofs.lemmas.Bool.{cond_both}
@@ -11,19 +11,18 @@ use Rattle.dr_base.specs.declared.position.Side.{Side}
 use Rattle.dr_base.specs.declared.position.Side.TheVariants.{First, Second}
 use Rattle.kem_laws.specs.Mechanism.{Mechanism}
 use Rattle.session_model.specs.declared.answer.Answer.{Answer}
-use Rattle.session_model.specs.declared.answer.Answer.TheVariants.{Opened, Sent, Done, Nothing, Refused}
+use Rattle.session_model.specs.declared.answer.Answer.TheVariants.{Opened, Nothing, Refused}
 use Rattle.session_model.specs.declared.answer.Refusal.{Refusal}
 use Rattle.session_model.specs.declared.answer.Refusal.TheVariants.{NoPair, OwnPacket, Spent, SkipLimit, InboxFull, Fewer}
 use Rattle.dr_model.specs.Conversations.Conversation.{Conversation, with_text}
-use Rattle.dr_model.specs.Conversations.Posts.{posts}
 use Rattle.dr_model.specs.Conversations.ViewStates.{state_of}
 use Rattle.dr_model.specs.Conversations.Views.{View, has_opened, after_opening, missing_of}
 use Rattle.dr_model.specs.Machines.Draws.{Draws, next_seed, after_draw}
-use Rattle.dr_model.specs.Machines.Events.{Event, seeds, says, takes, takes_nth, flips, takes_bytes, drops_sent, drops_done, shows_inbox, shows_state, cuts}
-use Rattle.dr_model.specs.Machines.Network.{flipped_at}
-use Rattle.dr_model.specs.Machines.Steps.{Step, step, settled, amount_of}
-use Rattle.dr_model.specs.Machines.Worlds.{World, view_of, with_view, inbox_in, outbox_in, may_say, said_here, said_next, saying_in, taking_in, taking_at, said_at, nth_of_peer, made_at, refusal_of, taking_made, taking_given, sent_in, done_in, step_of}
+use Rattle.dr_model.specs.Machines.Events.{Event, cuts, does, seeds, shows_inbox, shows_state}
+use Rattle.dr_model.specs.Machines.Steps.{Step, step, settled}
+use Rattle.dr_model.specs.Machines.Worlds.{World, view_of, with_view, inbox_in, may_say, said_here, said_next, saying_in, taking_in, taking_at, made_at, refusal_of, taking_made, taking_given, leaving_in, step_of}
 use Rattle.dr_model.proofs.Saying.SayingFollows.{drawn_in}
+use Rattle.dr_model.proofs.Worlds.CallKinds.{of_call}
 use Rattle.dr_model.proofs.Worlds.CutSteps.{cut_off}
 
 -- the second list is the first, or has at its end one position more, which wasn't among them
@@ -74,23 +73,16 @@ with_view_gains w First v Second gains = same refl
 with_view_gains w Second v First gains = same refl
 with_view_gains w Second v Second gains = gains
 
--- packets leave the outbox
-sent_sound : (k : Mechanism) (w : World) (side : Side) (n : ℕ) → IsSettled w (sent_in k w side n)
-sent_sound k w side n =
-    let v = view_of w side in
-    let after = record v { dropped = v.dropped + n } in
-    enough_sound w (nat_le n (length (outbox_in k w side))) (Fewer (length (outbox_in k w side)))
-    (step (Sent n) (with_view w side after))
-    (record { gains = λ other. with_view_gains w side after other (same refl); refused = λ refusal e. cc })
-
--- texts leave the inbox
-done_sound : (w : World) (side : Side) (n : ℕ) → IsSettled w (done_in w side n)
-done_sound w side n =
-    let v = view_of w side in
-    let after = record v { done = v.done + n } in
-    enough_sound w (nat_le n (length (inbox_in w side))) (Fewer (length (inbox_in w side)))
-    (step (Done n) (with_view w side after))
-    (record { gains = λ other. with_view_gains w side after other (same refl); refused = λ refusal e. cc })
+-- items leave a box
+left_sound : (w : World) (side : Side) (standing n : ℕ) (answer : Answer) (done dropped : ℕ)
+    → ((refusal : Refusal) → answer ≡ Refused refusal → ⊥)
+    → IsSettled w (leaving_in w side standing n answer (record (view_of w side) { done = done; dropped = dropped }))
+left_sound w side standing n answer done dropped answered =
+    let after = record (view_of w side) { done = done; dropped = dropped } in
+    enough_sound w (nat_le n standing) (Fewer standing) (step answer (with_view w side after)) (record {
+      gains = λ other. with_view_gains w side after other (same refl);
+      refused = λ refusal e. absurd (answered refusal e);
+    })
 
 -- ---- a packet is taken
 
@@ -172,13 +164,13 @@ saying_sound k w side text (Ok true) =
 pub step_sound : (k : Mechanism) (w : World) (h : Event) → IsSound w (step_of k w h)
 step_sound k w (seeds seed) =
     record { gains = talk_gains w w.conversation (record w.draws { given = Some seed }); refused = λ refusal e. cc }
-step_sound k w (says side text) = saying_sound k w side text (may_say k w side (length text))
-step_sound k w (takes side p) = at_sound w side (said_at w.conversation p)
-step_sound k w (takes_nth side nth) = at_sound w side (nth_of_peer w.conversation side nth)
-step_sound k w (flips side p bit) = given_sound k w side (flipped_at (posts k w.conversation) p bit)
-step_sound k w (takes_bytes side bytes) = given_sound k w side (Some bytes)
-step_sound k w (drops_sent side amount) = sent_sound k w side (amount_of amount (length (outbox_in k w side)))
-step_sound k w (drops_done side amount) = done_sound w side (amount_of amount (length (inbox_in w side)))
+step_sound k w (does side call) =
+    of_call k w side (IsSound w) (record {
+      text = λ text. saying_sound k w side text (may_say k w side (length text));
+      packet = λ at said. at_sound w side at;
+      bytes = given_sound k w side;
+      items = λ standing n answer done dropped leaving. left_sound w side standing n answer done dropped leaving.answered;
+    }) call
 step_sound k w (shows_inbox side) = still_sound w _ (inbox_in w side)
 step_sound k w (shows_state side) = still_sound w _ []
 step_sound k w (cuts took h) =

@@ -18,7 +18,7 @@ use Rattle.dr_model.specs.Conversations.Posts.{post_at, posts}
 use Rattle.dr_model.specs.Conversations.ViewStates.{client_at}
 use Rattle.dr_model.specs.Conversations.Views.{View, after_turn}
 use Rattle.dr_model.specs.Machines.Draws.{Draws, next_seed, after_draw}
-use Rattle.dr_model.specs.Machines.Events.{says}
+use Rattle.dr_model.specs.Machines.Events.{does, says}
 use Rattle.dr_model.specs.Machines.Sides.{Sides, client_of, said_on, saying_on, step_on}
 use Rattle.dr_model.specs.Machines.Steps.{step, settled}
 use Rattle.dr_model.specs.Machines.WorldSides.{sides_of}
@@ -191,7 +191,7 @@ saying-follows k w side text (Ok true) lawful is =
     turn-follows k w side seed text (k.meaning.pair_of seed) lawful (own_where k w side (length text) true is) refl
 
 pub says_follows : (k : Mechanism) (w : World) (side : Side) (text : List ℕ) → IsLawfulMechanism k → IsLawfulWorld k w
-    → step_on k (sides_of k w) (says side text) ≡ seen_world k (step_of k w (says side text))
+    → step_on k (sides_of k w) (does side (says text)) ≡ seen_world k (step_of k w (does side (says text)))
 says_follows k w side text law lawful =
     ap (saying_on k (sides_of k w) side text) (same_check k w side (length text) lawful)
     ∙ saying-follows k w side text (may_say k w side (length text)) lawful refl

@@ -1,5 +1,5 @@
 -- A world stays lawful where a side says a text.
-use Rattle.std.proofs.Common.{◌≡◌, ℕ, ◌+◌, ◌-◌, ◌^◌, ◌<◌, ◌≤◌, true, false, Bool, not, List, [], ◌∷◌, ◌++◌, length, Option, Some, None, Result, Ok, Err, refl, sym, ◌∙◌, ap, if◌then◌else◌, arith}
+use Rattle.std.proofs.Common.{◌≡◌, ℕ, ◌+◌, ◌<◌, ◌≤◌, true, false, Bool, not, List, [], ◌∷◌, ◌++◌, length, Option, Some, None, Result, Ok, Err, refl, sym, ◌∙◌, ap, if◌then◌else◌, arith}
 use Rattle.std.specs.Prelude.{IfSome, is_none, is_some}
 use Rattle.std.proofs.lemmas.Bool.{leb-false}
 use Rattle.std.proofs.lemmas.List.{length_push}
@@ -16,7 +16,7 @@ use Rattle.dr_model.specs.Conversations.Conversation.{Conversation, count_of, wi
 use Rattle.dr_model.specs.Conversations.Lawful.{IsSeed, IsLawfulConversation, IsLawfulView}
 use Rattle.dr_model.specs.Conversations.Views.{View, after_turn, outbox_of}
 use Rattle.dr_model.specs.Machines.Draws.{Draws, drawn, given_or, next_seed}
-use Rattle.dr_model.specs.Machines.Events.{says}
+use Rattle.dr_model.specs.Machines.Events.{does, says}
 use Rattle.dr_model.specs.Machines.Steps.{settled}
 use Rattle.dr_model.specs.Machines.Worlds.{World, view_of, outbox_in, may_say, said_here, said_next, saying_in, step_of}
 use Rattle.dr_model.specs.Theorems.LawfulWorlds.{IsLawfulWorld}
@@ -165,5 +165,5 @@ saying_lawful k w side text (Ok true) lawful is =
     (leb-false LAST_EPOCH (view_of w side).epoch may.room)
 
 pub lawful_says : (k : Mechanism) (w : World) (side : Side) (text : List ℕ) → IsLawfulWorld k w
-    → IsLawfulWorld k (step_of k w (says side text)).next
+    → IsLawfulWorld k (step_of k w (does side (says text))).next
 lawful_says k w side text lawful = saying_lawful k w side text (may_say k w side (length text)) lawful refl

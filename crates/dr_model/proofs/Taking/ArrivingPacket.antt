@@ -1,5 +1,6 @@
 -- What a side makes of the packet of a text that was said, and what it keeps then.
-use Rattle.std.proofs.Common.{◌≡◌, Bool, true, false, nat_le, nat_lt, List, [], ◌∷◌, ◌++◌, length, drop, Result, Ok, Err, refl, sym, ap, ap₂, ◌∙◌, arith, if◌then◌else◌}
+use Rattle.std.proofs.Common.{◌≡◌, ℕ, Bool, true, false, nat_le, nat_lt, List, [], ◌∷◌, ◌++◌, length, drop, Option, Result, Ok, Err, refl, sym, ap, ap₂, ◌∙◌, arith, if◌then◌else◌}
+use Rattle.std.specs.Prelude.{option_map}
 use Rattle.std.proofs.lemmas.List.{drop-append-le, length-map, map_push}
 use Rattle.dr_base.specs.declared.limits.TheConstants.{KEPT_LIMIT, INBOX_LIMIT}
 use Rattle.boxes.specs.Entries.{Entry}
@@ -18,7 +19,8 @@ use Rattle.dr_model.specs.Conversations.Lawful.{IsLawfulConversation, IsLawfulVi
 use Rattle.dr_model.specs.Conversations.Posts.{post_at}
 use Rattle.dr_model.specs.Conversations.ViewStates.{client_at, state_of}
 use Rattle.dr_model.specs.Conversations.Views.{View, after_opening, entry_at, has_opened, history_of, inbox_of, missing_of, outbox_of}
-use Rattle.dr_model.specs.Machines.Sides.{client_of, opened_on}
+use Rattle.dr_model.specs.Machines.Acts.{taken_by, taking}
+use Rattle.dr_model.specs.Machines.Sides.{Sides, acted_on, client_of, settled_on}
 use Rattle.dr_model.specs.Machines.Steps.{Step, settled, step}
 use Rattle.dr_model.specs.Machines.WorldSides.{sides_of}
 use Rattle.dr_model.specs.Machines.Worlds.{World, taking_in, view_of, with_view}
@@ -27,6 +29,13 @@ use Rattle.dr_model.proofs.Taking.PacketAnswers.{received}
 use Rattle.dr_model.proofs.Taking.PacketFields.{is_place, read-post}
 use Rattle.dr_model.proofs.Worlds.SeenWorlds.{seen_world}
 use Rattle.dr_model.proofs.Worlds.WorldViews.{client_of-kept, view_lawful}
+
+-- what both sides make of the taking of a packet, and of one that the network may give
+abbrev pub opened_on : Sides → Side → Result TakenPacket Refusal → Step Sides
+opened_on s side taken = settled_on s side (taken_by taken)
+
+abbrev pub taken_on : Mechanism → Sides → Side → Option (List ℕ) → Step Sides
+taken_on k s side given = acted_on k s side (option_map taking given)
 
 -- one text more in the inbox
 inbox_after : (k : Mechanism) (c : Conversation) (side : Side) (v : View) (p : Position) → IsLawfulView k c side v

@@ -17,13 +17,13 @@ use Rattle.session_model.specs.Ways.{Way, way_of}
 use Rattle.session_model.specs.declared.answer.Refusal.{Refusal}
 use Rattle.session_model.specs.declared.answer.Refusal.TheVariants.{BadTag}
 use Rattle.dr_model.specs.Conversations.ViewStates.{state_of}
-use Rattle.dr_model.specs.Machines.Sides.{client_of, opened_on, taken_on}
+use Rattle.dr_model.specs.Machines.Sides.{client_of}
 use Rattle.dr_model.specs.Machines.Steps.{settled}
 use Rattle.dr_model.specs.Machines.WorldSides.{sides_of}
 use Rattle.dr_model.specs.Machines.Worlds.{World, made_at, read_refusal, refusal_of, taking_given, taking_made, view_of, way_refusal}
 use Rattle.dr_model.specs.Theorems.Fairness.{IsUnforged}
 use Rattle.dr_model.specs.Theorems.LawfulWorlds.{IsLawfulWorld}
-use Rattle.dr_model.proofs.Taking.ArrivingPacket.{arrival}
+use Rattle.dr_model.proofs.Taking.ArrivingPacket.{arrival, opened_on, taken_on}
 use Rattle.dr_model.proofs.Taking.MadePositions.{made_at-is}
 use Rattle.dr_model.proofs.Worlds.SeenWorlds.{seen_world}
 

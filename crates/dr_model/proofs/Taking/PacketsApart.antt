@@ -20,7 +20,7 @@ use Rattle.session_model.specs.Sealing.{posted}
 use Rattle.dr_model.specs.Conversations.Conversation.{Conversation, is_said, positions}
 use Rattle.dr_model.specs.Conversations.Lawful.{IsLawfulConversation}
 use Rattle.dr_model.specs.Conversations.Posts.{fields_at, post_at, posts}
-use Rattle.dr_model.specs.Machines.Events.{takes, takes_bytes, takes_nth}
+use Rattle.dr_model.specs.Machines.Events.{does, of_bytes, of_number, of_position, takes}
 use Rattle.dr_model.specs.Machines.Steps.{settled}
 use Rattle.dr_model.specs.Machines.Worlds.{World, made_at, nth_of_peer, said_at, step_of, taking_at, taking_made}
 use Rattle.dr_model.specs.Theorems.Fairness.{IsUnforged}
@@ -30,7 +30,7 @@ use Rattle.dr_model.proofs.Taking.AllPositions.{same_test}
 use Rattle.dr_model.proofs.Taking.MadePositions.{position-post_at}
 use Rattle.dr_model.proofs.Taking.NetworkPosts.{find-said}
 use Rattle.dr_model.proofs.Taking.PacketFields.{is_place, same_bytes}
-use Rattle.dr_model.proofs.Worlds.Following.{nth_said}
+use Rattle.dr_model.proofs.Worlds.CallKinds.{nth_said}
 
 -- ---- two packets
 
@@ -130,7 +130,7 @@ taken_at w side p said = ap (taking_at w side) (cond-true (is_said w.conversatio
 
 -- taking a packet's bytes is taking its position
 pub by_bytes : (k : Mechanism) (w : World) (side : Side) (p : Position) → IsLawfulWorld k w → is_said w.conversation p ≡ true
-    → step_of k w (takes_bytes side (post_at k w.conversation p).packet) ≡ step_of k w (takes side p)
+    → step_of k w (does side (takes (of_bytes (post_at k w.conversation p).packet))) ≡ step_of k w (does side (takes (of_position p)))
 by_bytes k w side p lawful said =
     ap (λ made. settled w (taking_made k w side (post_at k w.conversation p).packet made)) (made_at-post k w p lawful said)
     ∙ sym (taken_at w side p said)
@@ -144,7 +144,7 @@ real k w side p lawful said none f way read found =
 -- taking the peer's packet of a number is taking the position of that number
 pub by_number : (k : Mechanism) (w : World) (side : Side) (nth : ℕ) (p : Position)
     → nth_of_peer w.conversation side nth ≡ Some p
-    → step_of k w (takes_nth side nth) ≡ step_of k w (takes side p)
+    → step_of k w (does side (takes (of_number nth))) ≡ step_of k w (does side (takes (of_position p)))
 by_number k w side nth p is =
     ap (taking_at w side) is
     ∙ sym (taken_at w side p

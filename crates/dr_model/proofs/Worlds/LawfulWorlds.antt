@@ -1,30 +1,29 @@
 -- Worlds stay lawful, event by event.
-use Rattle.std.proofs.Common.{Bool, Err, List, None, Ok, Option, Some, [], ap, arith, false, if◌then◌else◌, length, nat_le, refl, true, ℕ, ◌+◌, ◌-◌, ◌∙◌, ◌∷◌, ◌≡◌, ◌≤◌}
+use Rattle.std.proofs.Common.{Bool, Err, List, None, Ok, Option, Some, [], ap, arith, false, if◌then◌else◌, length, nat_le, refl, subst, sym, true, ℕ, ◌+◌, ◌∷◌, ◌≡◌, ◌≤◌}
 use Rattle.std.specs.Prelude.{All, IfSome}
-use Rattle.std.proofs.lemmas.Bool.Decides.{nat_tests}
 use Rattle.std.proofs.lemmas.List.Elements.{All-head, All-tail, All-weaker}
 use Rattle.dr_base.specs.declared.position.Position.{Position}
 use Rattle.dr_base.specs.declared.position.Side.{Side}
 use Rattle.kem_laws.specs.Mechanism.{Mechanism}
-use Rattle.session_model.specs.declared.answer.Answer.TheVariants.{Sent, Done}
+use Rattle.session_model.specs.declared.answer.Answer.{Answer}
 use Rattle.session_model.specs.declared.answer.Refusal.{Refusal}
 use Rattle.session_model.specs.declared.answer.Refusal.TheVariants.{Fewer}
 use Rattle.dr_model.specs.Conversations.Conversation.{Conversation, is_said}
 use Rattle.dr_model.specs.Conversations.Lawful.{HasArrived, IsLawfulView}
-use Rattle.dr_model.specs.Conversations.Posts.{posts, posts_of}
+use Rattle.dr_model.specs.Conversations.Posts.{posts_of}
 use Rattle.dr_model.specs.Conversations.Views.{View}
-use Rattle.dr_model.specs.Machines.Events.{Event, seeds, says, takes, takes_nth, flips, takes_bytes, drops_sent, drops_done, shows_inbox, shows_state, cuts}
-use Rattle.dr_model.specs.Machines.Network.{flipped_at}
-use Rattle.dr_model.specs.Machines.Steps.{Step, step, settled, amount_of}
-use Rattle.dr_model.specs.Machines.Worlds.{World, done_in, inbox_in, made_at, nth_of_peer, outbox_in, run_of, said_at, sent_in, step_of, taking_at, taking_given, taking_made, view_of, with_view}
+use Rattle.dr_model.specs.Machines.Events.{Event, cuts, does, seeds, shows_inbox, shows_state}
+use Rattle.dr_model.specs.Machines.Steps.{Step, step, settled}
+use Rattle.dr_model.specs.Machines.Worlds.{World, leaving_in, made_at, run_of, step_of, taking_at, taking_given, taking_made, view_of, with_view}
 use Rattle.dr_model.specs.Theorems.Fairness.{IsSeedWhole}
 use Rattle.dr_model.specs.Theorems.LawfulWorlds.{IsLawfulWorld}
 use Rattle.dr_model.proofs.Growth.BoxSizes.{length-inbox_of, length-outbox_of}
 use Rattle.dr_model.proofs.Saying.SayingLawful.{lawful_says}
 use Rattle.dr_model.proofs.Taking.ArrivingLawful.{lawful_taking, with_lawful}
 use Rattle.dr_model.proofs.Taking.MadePositions.{made_at-is}
+use Rattle.dr_model.proofs.Worlds.CallKinds.{IsLeaving, of_call}
 use Rattle.dr_model.proofs.Worlds.CutSteps.{cut_off}
-use Rattle.dr_model.proofs.Worlds.Following.{missing_below-boxes, nth_said, where_said}
+use Rattle.dr_model.proofs.Worlds.Following.{missing_below-boxes}
 use Rattle.dr_model.proofs.Worlds.WorldViews.{view_lawful}
 
 -- a packet of a position that was said, or none
@@ -73,55 +72,35 @@ leave_lawful : (k : Mechanism) (w : World) (enough : Bool) (refusal : Refusal) (
 leave_lawful k w true refusal next lawful h = h refl
 leave_lawful k w false refusal next lawful h = lawful
 
--- no more leave than stand there
-within : (n length gone all : ℕ) → length ≡ all - gone → gone ≤ all → nat_le n length ≡ true → gone + n ≤ all
-within n length gone all e le h = grind (arith, nat_tests)
-
--- packets leave an outbox
-lawful_sent : (k : Mechanism) (w : World) (side : Side) (n : ℕ) → IsLawfulWorld k w
-    → IsLawfulWorld k (settled w (sent_in k w side n)).next
-lawful_sent k w side n lawful =
+-- items leave a box
+lawful_left : (k : Mechanism) (w : World) (side : Side) (standing n : ℕ) (answer : Answer) (done dropped : ℕ)
+    → IsLawfulWorld k w → IsLeaving k w.conversation (view_of w side) standing n answer done dropped
+    → IsLawfulWorld k
+    (settled w (leaving_in w side standing n answer (record (view_of w side) { done = done; dropped = dropped }))).next
+lawful_left k w side standing n answer done dropped lawful leaving =
     let c = w.conversation in
     let v = view_of w side in
+    let after = record v { done = done; dropped = dropped } in
     let view = view_lawful k w side lawful in
-    let stands : length (outbox_in k w side) ≡ length (posts_of k c side) - v.dropped =
-    length-outbox_of k c v ∙ ap (λ s. length (posts_of k c s) - v.dropped) view.side_is in
-    leave_lawful k w (nat_le n (length (outbox_in k w side))) (Fewer (length (outbox_in k w side)))
-    (step (Sent n) (with_view w side (record v { dropped = v.dropped + n }))) lawful
-    (λ enough. with_lawful k w side (record v { dropped = v.dropped + n }) lawful
-    (lawful_boxes k c side v v.done (v.dropped + n) view (omega arith) (omega arith) view.done_fits
-    (within n (length (outbox_in k w side)) v.dropped (length (posts_of k c side)) stands view.dropped_fits enough)))
-
--- texts leave an inbox
-lawful_done : (k : Mechanism) (w : World) (side : Side) (n : ℕ) → IsLawfulWorld k w
-    → IsLawfulWorld k (settled w (done_in w side n)).next
-lawful_done k w side n lawful =
-    let c = w.conversation in
-    let v = view_of w side in
-    let view = view_lawful k w side lawful in
-    leave_lawful k w (nat_le n (length (inbox_in w side))) (Fewer (length (inbox_in w side)))
-    (step (Done n) (with_view w side (record v { done = v.done + n }))) lawful
-    (λ enough. with_lawful k w side (record v { done = v.done + n }) lawful
-    (lawful_boxes k c side v (v.done + n) v.dropped view (omega arith) (omega arith)
-    (within n (length (inbox_in w side)) v.done (length v.arrived)
-    (length-inbox_of c v) view.done_fits enough) view.dropped_fits))
+    leave_lawful k w (nat_le n standing) (Fewer standing) (step answer (with_view w side after)) lawful
+    (λ enough. with_lawful k w side after lawful
+    (lawful_boxes k c side v done dropped view leaving.more_done leaving.more_dropped
+    (leaving.done_fits enough view.done_fits)
+    (subst (λ s. dropped ≤ length (posts_of k c s)) view.side_is (leaving.dropped_fits enough
+    (subst (λ s. v.dropped ≤ length (posts_of k c s)) (sym view.side_is) view.dropped_fits)))))
 
 -- any event
 pub lawful_next : (k : Mechanism) (w : World) (h : Event) → IsLawfulWorld k w → IsSeedWhole h
     → IsLawfulWorld k (step_of k w h).next
 lawful_next k w (seeds seed) lawful whole =
     record { conversation = lawful.conversation; first = lawful.first; second = lawful.second; given = whole }
-lawful_next k w (says side text) lawful whole = lawful_says k w side text lawful
-lawful_next k w (takes side p) lawful whole =
-    lawful_at k w side (said_at w.conversation p) lawful (where_said w.conversation p (is_said w.conversation p) refl)
-lawful_next k w (takes_nth side nth) lawful whole =
-    lawful_at k w side (nth_of_peer w.conversation side nth) lawful (nth_said w.conversation side nth)
-lawful_next k w (flips side p bit) lawful whole = lawful_given k w side (flipped_at (posts k w.conversation) p bit) lawful
-lawful_next k w (takes_bytes side bytes) lawful whole = lawful_given k w side (Some bytes) lawful
-lawful_next k w (drops_sent side amount) lawful whole =
-    lawful_sent k w side (amount_of amount (length (outbox_in k w side))) lawful
-lawful_next k w (drops_done side amount) lawful whole =
-    lawful_done k w side (amount_of amount (length (inbox_in w side))) lawful
+lawful_next k w (does side call) lawful whole =
+    of_call k w side (λ made. IsLawfulWorld k made.next) (record {
+      text = λ text. lawful_says k w side text lawful;
+      packet = λ at said. lawful_at k w side at lawful said;
+      bytes = λ given. lawful_given k w side given lawful;
+      items = λ standing n answer done dropped leaving. lawful_left k w side standing n answer done dropped lawful leaving;
+    }) call
 lawful_next k w (shows_inbox side) lawful whole = lawful
 lawful_next k w (shows_state side) lawful whole = lawful
 lawful_next k w (cuts took h) lawful whole =

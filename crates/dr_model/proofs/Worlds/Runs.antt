@@ -17,7 +17,7 @@ use Rattle.session_model.specs.declared.answer.Refusal.{Refusal}
 use Rattle.session_model.specs.declared.answer.Refusal.TheVariants.{OwnPacket, Spent, SkipLimit, InboxFull}
 use Rattle.dr_model.specs.Conversations.Conversation.{is_said}
 use Rattle.dr_model.specs.Conversations.Views.{View, has_opened, after_opening, missing_of, entry_at, history_of}
-use Rattle.dr_model.specs.Machines.Events.{Event, takes}
+use Rattle.dr_model.specs.Machines.Events.{Event, does, of_position, takes}
 use Rattle.dr_model.specs.Machines.Steps.{Step, step, settled}
 use Rattle.dr_model.specs.Machines.Worlds.{World, opening_world, view_of, with_view, inbox_in, taking_in, taking_at, step_of, run_of}
 use Rattle.dr_model.specs.Theorems.Headline.{IsWithinLimits, IsNew, times_opened_by}
@@ -76,12 +76,12 @@ refusal_changes_nothing k w h refusal = (step_sound k w h).refused refusal
 
 -- a side takes the packet of a position that was said
 taken : (k : Mechanism) (w : World) (side : Side) (p : Position) → is_said w.conversation p ≡ true
-    → step_of k w (takes side p) ≡ settled w (taking_in w side p)
+    → step_of k w (does side (takes (of_position p))) ≡ settled w (taking_in w side p)
 taken k w side p said = ap (taking_at w side) (cond-true (is_said w.conversation p) (Some p) None said)
 
 -- within the limits it is opened
 pub opened_within : (k : Mechanism) (w : World) (side : Side) (p : Position) → IsNew w side p → IsWithinLimits w side p
-    → step_of k w (takes side p) ≡ step (Opened p) (with_view w side (after_opening (view_of w side) p))
+    → step_of k w (does side (takes (of_position p))) ≡ step (Opened p) (with_view w side (after_opening (view_of w side) p))
 opened_within k w side p new within =
     let missing = length (missing_of w.conversation (after_opening (view_of w side) p)) in
     let near : nat_lt KEPT_LIMIT missing ≡ false = le-ltb KEPT_LIMIT missing within.near in
@@ -93,7 +93,7 @@ opened_within k w side p new within =
 
 -- it is answered so
 pub first_arrival : (k : Mechanism) (w : World) (side : Side) (p : Position) → IsNew w side p → IsWithinLimits w side p
-    → (step_of k w (takes side p)).answer ≡ Opened p
+    → (step_of k w (does side (takes (of_position p)))).answer ≡ Opened p
 first_arrival k w side p new within = ap (λ (made : Step World). made.answer) (opened_within k w side p new within)
 
 -- the history of the view that changed
@@ -104,7 +104,7 @@ history_with w Second v = refl
 
 -- the text comes last in the history
 pub stands : (k : Mechanism) (w : World) (side : Side) (p : Position) → IsNew w side p → IsWithinLimits w side p
-    → let next = (step_of k w (takes side p)).next in
+    → let next = (step_of k w (does side (takes (of_position p)))).next in
     history_of next.conversation (view_of next side) ≡ history_of w.conversation
     (view_of w side) ++ entry_at w.conversation p ∷ []
 stands k w side p new within =
@@ -127,7 +127,7 @@ opened_with w Second v p = refl
 
 -- the position is among those that were opened
 pub opened : (k : Mechanism) (w : World) (side : Side) (p : Position) → IsNew w side p → IsWithinLimits w side p
-    → has_opened (view_of (step_of k w (takes side p)).next side) p ≡ true
+    → has_opened (view_of (step_of k w (does side (takes (of_position p)))).next side) p ≡ true
 opened k w side p new within =
     ap (λ (made : Step World). has_opened (view_of made.next side) p) (opened_within k w side p new within)
     ∙ opened_with w side (after_opening (view_of w side) p) p
@@ -136,7 +136,7 @@ opened k w side p new within =
 -- a repeat is refused
 pub repeats : (k : Mechanism) (w : World) (side : Side) (p : Position) → is_said w.conversation p ≡ true
     → is_own side p.epoch ≡ false
-    → has_opened (view_of w side) p ≡ true → (step_of k w (takes side p)).answer ≡ Refused (Spent p)
+    → has_opened (view_of w side) p ≡ true → (step_of k w (does side (takes (of_position p)))).answer ≡ Refused (Spent p)
 repeats k w side p said peers before =
     ap (λ (made : Step World). made.answer)
     (taken k w side p said
@@ -145,7 +145,7 @@ repeats k w side p said peers before =
 -- too far ahead it is refused
 pub too_far : (k : Mechanism) (w : World) (side : Side) (p : Position) → IsNew w side p
     → KEPT_LIMIT < length (missing_of w.conversation (after_opening (view_of w side) p))
-    → (step_of k w (takes side p)).answer
+    → (step_of k w (does side (takes (of_position p)))).answer
     ≡ Refused (SkipLimit (length (missing_of w.conversation (after_opening (view_of w side) p))))
 too_far k w side p new far =
     let missing = length (missing_of w.conversation (after_opening (view_of w side) p)) in
@@ -158,7 +158,7 @@ too_far k w side p new far =
 -- and so it is where the inbox is full
 pub inbox_full : (k : Mechanism) (w : World) (side : Side) (p : Position) → IsNew w side p
     → length (missing_of w.conversation (after_opening (view_of w side) p)) ≤ KEPT_LIMIT
-    → INBOX_LIMIT ≤ length (inbox_in w side) → (step_of k w (takes side p)).answer ≡ Refused InboxFull
+    → INBOX_LIMIT ≤ length (inbox_in w side) → (step_of k w (does side (takes (of_position p)))).answer ≡ Refused InboxFull
 inbox_full k w side p new near full =
     let missing = length (missing_of w.conversation (after_opening (view_of w side) p)) in
     let under : nat_lt KEPT_LIMIT missing ≡ false = le-ltb KEPT_LIMIT missing near in

@@ -7,7 +7,7 @@ use Rattle.dr_base.specs.declared.position.Side.{Side}
 use Rattle.dr_base.specs.declared.position.Side.TheVariants.{First, Second}
 use Rattle.session_model.specs.declared.answer.Amount.{Amount}
 use Rattle.session_model.specs.declared.answer.Amount.TheVariants.{All, Exactly}
-use Rattle.dr_model.specs.Machines.Events.{Event, cuts, drops_done, drops_sent, flips, says, seeds, shows_inbox, shows_state, takes, takes_bytes, takes_nth}
+use Rattle.dr_model.specs.Machines.Events.{Event, PacketSource, SideCall, cuts, does, drops_done, drops_sent, of_bytes, of_flip, of_number, of_position, says, seeds, shows_inbox, shows_state, takes}
 
 -- ---- a side, a position, an amount
 
@@ -45,54 +45,86 @@ same_amount (Exactly n) = refl
 abbrev pub amount_code : Coded Amount
 amount_code = code_by (Option ℕ) (coded_option coded_ℕ) number_in amount_by same_amount
 
+-- ---- a packet that is taken, a call
+
+abbrev StoredSource : Type 0
+StoredSource = Position ⊎ (ℕ ⊎ ((Position × ℕ) ⊎ List ℕ))
+
+abbrev stored_source : PacketSource → StoredSource
+stored_source (of_position p) = inl p
+stored_source (of_number nth) = inr (inl nth)
+stored_source (of_flip p bit) = inr (inr (inl (p, bit)))
+stored_source (of_bytes bytes) = inr (inr (inr bytes))
+
+abbrev source_by : StoredSource → PacketSource
+source_by (inl p) = of_position p
+source_by (inr (inl nth)) = of_number nth
+source_by (inr (inr (inl flip))) = of_flip flip.0 flip.1
+source_by (inr (inr (inr bytes))) = of_bytes bytes
+
+pub same_source : (source : PacketSource) → source_by (stored_source source) ≡ source
+same_source (of_position p) = refl
+same_source (of_number nth) = refl
+same_source (of_flip p bit) = refl
+same_source (of_bytes bytes) = refl
+
+abbrev pub source_code : Coded PacketSource
+source_code =
+    code_by StoredSource
+    (coded⊎ position_code (coded⊎ coded_ℕ
+    (coded⊎ (coded× position_code coded_ℕ) (coded_list coded_ℕ))))
+    stored_source source_by same_source
+
+abbrev StoredCall : Type 0
+StoredCall = List ℕ ⊎ (PacketSource ⊎ (Amount ⊎ Amount))
+
+abbrev stored_call : SideCall → StoredCall
+stored_call (says text) = inl text
+stored_call (takes source) = inr (inl source)
+stored_call (drops_sent amount) = inr (inr (inl amount))
+stored_call (drops_done amount) = inr (inr (inr amount))
+
+abbrev call_by : StoredCall → SideCall
+call_by (inl text) = says text
+call_by (inr (inl source)) = takes source
+call_by (inr (inr (inl amount))) = drops_sent amount
+call_by (inr (inr (inr amount))) = drops_done amount
+
+pub same_call : (call : SideCall) → call_by (stored_call call) ≡ call
+same_call (says text) = refl
+same_call (takes source) = refl
+same_call (drops_sent amount) = refl
+same_call (drops_done amount) = refl
+
+abbrev pub call_code : Coded SideCall
+call_code =
+    code_by StoredCall
+    (coded⊎ (coded_list coded_ℕ) (coded⊎ source_code (coded⊎ amount_code amount_code)))
+    stored_call call_by same_call
+
 -- ---- an event: whether each cut took effect, and the event that was cut off
 
--- a seed; or a text or bytes; or a packet, as it is or with one bit changed; or an amount; or a look
+-- a seed; or a call of a side; or a look
 abbrev pub Plain : Type 0
-Plain =
-    List ℕ ⊎ ((Side × (List ℕ ⊎ List ℕ)) ⊎ ((Side × (Position ⊎ (ℕ ⊎ (Position × ℕ))))
-    ⊎ ((Side × (Amount ⊎ Amount)) ⊎ (Side ⊎ Side))))
+Plain = List ℕ ⊎ ((Side × SideCall) ⊎ (Side ⊎ Side))
 
 abbrev pub plain_code : Coded Plain
 plain_code =
     coded⊎ (coded_list coded_ℕ)
-    (coded⊎ (coded× side_code (coded⊎ (coded_list coded_ℕ) (coded_list coded_ℕ)))
-    (coded⊎ (coded× side_code (coded⊎ position_code (coded⊎ coded_ℕ (coded× position_code coded_ℕ))))
-    (coded⊎ (coded× side_code (coded⊎ amount_code amount_code)) (coded⊎ side_code side_code))))
+    (coded⊎ (coded× side_code call_code) (coded⊎ side_code side_code))
 
 abbrev stored : Event → List Bool × Plain
 stored (seeds seed) = ([], inl seed)
-stored (says side text) = ([], inr (inl (side, inl text)))
-stored (takes side p) = ([], inr (inr (inl (side, inl p))))
-stored (takes_nth side nth) = ([], inr (inr (inl (side, inr (inl nth)))))
-stored (flips side p bit) = ([], inr (inr (inl (side, inr (inr (p, bit))))))
-stored (takes_bytes side bytes) = ([], inr (inl (side, inr bytes)))
-stored (drops_sent side amount) = ([], inr (inr (inr (inl (side, inl amount)))))
-stored (drops_done side amount) = ([], inr (inr (inr (inl (side, inr amount)))))
-stored (shows_inbox side) = ([], inr (inr (inr (inr (inl side)))))
-stored (shows_state side) = ([], inr (inr (inr (inr (inr side)))))
+stored (does side call) = ([], inr (inl (side, call)))
+stored (shows_inbox side) = ([], inr (inr (inl side)))
+stored (shows_state side) = ([], inr (inr (inr side)))
 stored (cuts took event) = (took ∷ (stored event).0, (stored event).1)
-
-abbrev text_by : Side → List ℕ ⊎ List ℕ → Event
-text_by side (inl text) = says side text
-text_by side (inr bytes) = takes_bytes side bytes
-
-abbrev packet_by : Side → Position ⊎ (ℕ ⊎ (Position × ℕ)) → Event
-packet_by side (inl p) = takes side p
-packet_by side (inr (inl nth)) = takes_nth side nth
-packet_by side (inr (inr flip)) = flips side flip.0 flip.1
-
-abbrev dropped_by : Side → Amount ⊎ Amount → Event
-dropped_by side (inl amount) = drops_sent side amount
-dropped_by side (inr amount) = drops_done side amount
 
 abbrev plain_by : Plain → Event
 plain_by (inl seed) = seeds seed
-plain_by (inr (inl text)) = text_by text.0 text.1
-plain_by (inr (inr (inl packet))) = packet_by packet.0 packet.1
-plain_by (inr (inr (inr (inl amount)))) = dropped_by amount.0 amount.1
-plain_by (inr (inr (inr (inr (inl side))))) = shows_inbox side
-plain_by (inr (inr (inr (inr (inr side))))) = shows_state side
+plain_by (inr (inl called)) = does called.0 called.1
+plain_by (inr (inr (inl side))) = shows_inbox side
+plain_by (inr (inr (inr side))) = shows_state side
 
 abbrev cut_by : List Bool → Event → Event
 cut_by [] event = event
@@ -100,13 +132,7 @@ cut_by (took ∷ more) event = cuts took (cut_by more event)
 
 pub same_event : (event : Event) → cut_by (stored event).0 (plain_by (stored event).1) ≡ event
 same_event (seeds seed) = refl
-same_event (says side text) = refl
-same_event (takes side p) = refl
-same_event (takes_nth side nth) = refl
-same_event (flips side p bit) = refl
-same_event (takes_bytes side bytes) = refl
-same_event (drops_sent side amount) = refl
-same_event (drops_done side amount) = refl
+same_event (does side call) = refl
 same_event (shows_inbox side) = refl
 same_event (shows_state side) = refl
 same_event (cuts took event) = ap (cuts took) (same_event event)

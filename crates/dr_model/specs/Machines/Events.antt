@@ -4,23 +4,33 @@ use Rattle.dr_base.specs.declared.position.Position.{Position}
 use Rattle.dr_base.specs.declared.position.Side.{Side}
 use Rattle.session_model.specs.declared.answer.Amount.{Amount}
 
+-- which packet a side takes
+pub data PacketSource : Type 0 where
+  -- that of a position, as the network holds it
+  of_position : Position → PacketSource
+  -- that which the other side made, counted from 1 in the order that the network got them
+  of_number : ℕ → PacketSource
+  -- that of a position with one bit changed
+  of_flip : Position → ℕ → PacketSource
+  -- any bytes
+  of_bytes : List ℕ → PacketSource
+
+-- what a side is called to do
+pub data SideCall : Type 0 where
+  -- it says a text
+  says : List ℕ → SideCall
+  -- it takes a packet
+  takes : PacketSource → SideCall
+  -- its oldest packets leave its outbox
+  drops_sent : Amount → SideCall
+  -- its oldest texts leave its inbox
+  drops_done : Amount → SideCall
+
 pub data Event : Type 0 where
   -- the next draw is this seed
   seeds : List ℕ → Event
-  -- a side says a text
-  says : Side → List ℕ → Event
-  -- a side takes the packet of a position, as the network holds it
-  takes : Side → Position → Event
-  -- a side takes the packet that the other side made, counted from 1 in the order that the network got them
-  takes_nth : Side → ℕ → Event
-  -- a side takes the packet of a position with one bit changed
-  flips : Side → Position → ℕ → Event
-  -- a side takes any bytes
-  takes_bytes : Side → List ℕ → Event
-  -- a side's oldest packets leave its outbox
-  drops_sent : Side → Amount → Event
-  -- a side's oldest texts leave its inbox
-  drops_done : Side → Amount → Event
+  -- a side does what it is called to do
+  does : Side → SideCall → Event
   -- a side shows its inbox
   shows_inbox : Side → Event
   -- a side shows what it holds, in numbers

@@ -5,7 +5,7 @@ use Rattle.boxes.specs.Posts.{Post}
 use Rattle.dr_base.specs.Position.{is_at, is_own}
 use Rattle.dr_base.specs.declared.position.Position.{Position}
 use Rattle.dr_base.specs.declared.position.Side.{Side}
-use Rattle.dr_model.specs.Conversations.Posts.{posts}
+use Rattle.dr_model.specs.Machines.Events.{PacketSource, of_bytes, of_flip, of_number, of_position}
 
 -- bytes with one bit changed, counted from the lowest of the first byte, if they have that bit
 unfoldable pub flipped : ℕ → List ℕ → Option (List ℕ)
@@ -29,3 +29,10 @@ held_nth posts side nth =
 -- the packet of a position with one bit changed
 abbrev pub flipped_at : List Post → Position → ℕ → Option (List ℕ)
 flipped_at posts p bit = option_and_then (flipped bit) (held_at posts p)
+
+-- the packet that a side takes, if the network has it to give
+abbrev pub packet_given : List Post → Side → PacketSource → Option (List ℕ)
+packet_given posts side (of_position p) = held_at posts p
+packet_given posts side (of_number nth) = held_nth posts side nth
+packet_given posts side (of_flip p bit) = flipped_at posts p bit
+packet_given posts side (of_bytes bytes) = Some bytes

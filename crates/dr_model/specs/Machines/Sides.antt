@@ -1,16 +1,16 @@
 -- Both sides, the network between them, and their steps.
-use Rattle.std.specs.Prelude.{Bool, Err, List, None, Ok, Option, Result, Some, [], false, length, true, ℕ, ◌++◌, ◌∷◌}
-use Rattle.boxes.specs.Entries.{Entry}
+use Rattle.std.specs.Prelude.{Bool, Err, List, None, Ok, Option, Result, Some, [], false, length, option_map, true, ℕ, ◌++◌, ◌∷◌}
 use Rattle.boxes.specs.Posts.{Post}
 use Rattle.dr_base.specs.declared.position.Side.{Side}
 use Rattle.dr_base.specs.declared.position.Side.TheVariants.{First, Second}
 use Rattle.kem_laws.specs.Mechanism.{Mechanism}
-use Rattle.session_model.specs.Clients.{Client, SaidText, TakenPacket, dropped_of, say_check, say_on, summary_of, take_on}
-use Rattle.session_model.specs.declared.answer.Answer.TheVariants.{Done, Inbox, Opened, Said, Seeded, Sent, State as InNumbers}
+use Rattle.session_model.specs.Clients.{Client, SaidText, say_check, say_on, summary_of}
+use Rattle.session_model.specs.declared.answer.Answer.TheVariants.{Inbox, Said, Seeded, State as InNumbers}
 use Rattle.session_model.specs.declared.answer.Refusal.{Refusal}
+use Rattle.dr_model.specs.Machines.Acts.{Act, act_on, finishing, saying, sending, taking}
 use Rattle.dr_model.specs.Machines.Draws.{Draws, after_draw, next_seed}
-use Rattle.dr_model.specs.Machines.Events.{Event, cuts, drops_done, drops_sent, flips, says, seeds, shows_inbox, shows_state, takes, takes_bytes, takes_nth}
-use Rattle.dr_model.specs.Machines.Network.{flipped_at, held_at, held_nth}
+use Rattle.dr_model.specs.Machines.Events.{Event, SideCall, cuts, does, drops_done, drops_sent, says, seeds, shows_inbox, shows_state, takes}
+use Rattle.dr_model.specs.Machines.Network.{packet_given}
 use Rattle.dr_model.specs.Machines.Steps.{Step, amount_of, cut_step, nothing, settled, step}
 
 pub record Sides : Type 0 where
@@ -42,34 +42,42 @@ saying_on k s side text (Ok false) = said_on s side (say_on k (client_of s side)
 saying_on k s side text (Ok true) =
     said_on (record s { draws = after_draw s.draws }) side (say_on k (client_of s side) text (next_seed s.key s.draws))
 
-abbrev pub opened_on : Sides → Side → Result TakenPacket Refusal → Step Sides
-opened_on s side (Ok taken) = step (Opened taken.position) (with_client s side taken.next)
-opened_on s side (Err refusal) = settled s (Err refusal)
+-- what a side makes of an act by itself: the other side, the network and the draws stay as they are
+abbrev pub settled_on : Sides → Side → Result (Step Client) Refusal → Step Sides
+settled_on s side (Ok made) =
+    record { answer = made.answer; entries = made.entries; next = with_client s side made.next }
+settled_on s side (Err refusal) = settled s (Err refusal)
 
-abbrev pub taken_on : Mechanism → Sides → Side → Option (List ℕ) → Step Sides
-taken_on k s side None = nothing s
-taken_on k s side (Some bytes) = opened_on s side (take_on k (client_of s side) bytes)
+-- or the network holds no packet for it
+abbrev pub acted_on : Mechanism → Sides → Side → Option Act → Step Sides
+acted_on k s side None = nothing s
+acted_on k s side (Some act) = settled_on s side (act_on k (client_of s side) act)
 
-abbrev pub sent_on : Sides → Side → ℕ → Result (List Post) Refusal → Step Sides
-sent_on s side n (Ok outbox) = step (Sent n) (with_client s side (record (client_of s side) { outbox = outbox }))
-sent_on s side n (Err refusal) = settled s (Err refusal)
+-- the seed that is drawn for a text that was checked, where it needs one
+abbrev pub draw_for : Sides → Result Bool Refusal → Option (List ℕ)
+draw_for s (Ok true) = Some (next_seed s.key s.draws)
+draw_for s _ = None
 
-abbrev pub done_on : Sides → Side → ℕ → Result (List Entry) Refusal → Step Sides
-done_on s side n (Ok inbox) = step (Done n) (with_client s side (record (client_of s side) { inbox = inbox }))
-done_on s side n (Err refusal) = settled s (Err refusal)
+-- the act that a call of a side comes to, unless the network holds no packet for it
+abbrev pub act_of : Sides → Side → SideCall → Option Act
+act_of s side (says text) =
+    Some (saying text (draw_for s (say_check (client_of s side) (length text))))
+act_of s side (takes source) = option_map taking (packet_given s.posts side source)
+act_of s side (drops_sent amount) =
+    Some (sending (amount_of amount (length (client_of s side).outbox)))
+act_of s side (drops_done amount) =
+    Some (finishing (amount_of amount (length (client_of s side).inbox)))
+
+-- what both sides make of a call of one: the network gets the packet of a text
+abbrev pub called_on : Mechanism → Sides → Side → SideCall → Step Sides
+called_on k s side (says text) =
+    saying_on k s side text (say_check (client_of s side) (length text))
+called_on k s side call = acted_on k s side (act_of s side call)
 
 -- what both sides make of what happens
 abbrev pub step_on : Mechanism → Sides → Event → Step Sides
 step_on k s (seeds seed) = step Seeded (record s { draws = record s.draws { given = Some seed } })
-step_on k s (says side text) = saying_on k s side text (say_check (client_of s side) (length text))
-step_on k s (takes side p) = taken_on k s side (held_at s.posts p)
-step_on k s (takes_nth side nth) = taken_on k s side (held_nth s.posts side nth)
-step_on k s (flips side p bit) = taken_on k s side (flipped_at s.posts p bit)
-step_on k s (takes_bytes side bytes) = taken_on k s side (Some bytes)
-step_on k s (drops_sent side amount) =
-    let n = amount_of amount (length (client_of s side).outbox) in sent_on s side n (dropped_of n (client_of s side).outbox)
-step_on k s (drops_done side amount) =
-    let n = amount_of amount (length (client_of s side).inbox) in done_on s side n (dropped_of n (client_of s side).inbox)
+step_on k s (does side call) = called_on k s side call
 step_on k s (shows_inbox side) =
     record { answer = Inbox (length (client_of s side).inbox); entries = (client_of s side).inbox; next = s }
 step_on k s (shows_state side) = step (InNumbers (summary_of (client_of s side))) s

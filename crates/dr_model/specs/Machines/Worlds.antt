@@ -15,6 +15,7 @@ use Rattle.packet.specs.Reading.{read_packet}
 use Rattle.packet.specs.declared.fault.Malformed.{Malformed}
 use Rattle.session_model.specs.States.{State}
 use Rattle.session_model.specs.Ways.{Way, way_of}
+use Rattle.session_model.specs.declared.answer.Answer.{Answer}
 use Rattle.session_model.specs.declared.answer.Answer.TheVariants.{Done, Inbox, Opened, Said, Seeded, Sent, State as InNumbers}
 use Rattle.session_model.specs.declared.answer.Refusal.{Refusal}
 use Rattle.session_model.specs.declared.answer.Refusal.TheVariants.{BadTag, EpochFull, Fewer, InboxFull, LastEpoch, Malformed as Unreadable, NoPair, OutboxFull, OwnPacket, SkipLimit, Spent, TextTooLong}
@@ -23,7 +24,7 @@ use Rattle.dr_model.specs.Conversations.Posts.{posts}
 use Rattle.dr_model.specs.Conversations.ViewStates.{state_of}
 use Rattle.dr_model.specs.Conversations.Views.{View, after_opening, after_turn, has_opened, inbox_of, missing_of, opening_view, outbox_of}
 use Rattle.dr_model.specs.Machines.Draws.{Draws, after_draw, next_seed}
-use Rattle.dr_model.specs.Machines.Events.{Event, cuts, drops_done, drops_sent, flips, says, seeds, shows_inbox, shows_state, takes, takes_bytes, takes_nth}
+use Rattle.dr_model.specs.Machines.Events.{Event, PacketSource, SideCall, cuts, does, drops_done, drops_sent, of_bytes, of_flip, of_number, of_position, says, seeds, shows_inbox, shows_state, takes}
 use Rattle.dr_model.specs.Machines.Network.{flipped_at}
 use Rattle.dr_model.specs.Machines.Steps.{Step, amount_of, cut_step, nothing, settled, step}
 
@@ -143,29 +144,44 @@ abbrev pub taking_given : Mechanism → World → Side → Option (List ℕ) →
 taking_given k w side None = nothing w
 taking_given k w side (Some bytes) = settled w (taking_made k w side bytes (made_at k w bytes))
 
+-- a side takes a packet
+abbrev pub taking_of : Mechanism → World → Side → PacketSource → Step World
+taking_of k w side (of_position p) = taking_at w side (said_at w.conversation p)
+taking_of k w side (of_number nth) = taking_at w side (nth_of_peer w.conversation side nth)
+taking_of k w side (of_flip p bit) =
+    taking_given k w side (flipped_at (posts k w.conversation) p bit)
+taking_of k w side (of_bytes bytes) = taking_given k w side (Some bytes)
+
+-- the oldest items leave a box, if so many stand in it: with this answer, and this view then
+abbrev pub leaving_in : World → Side → (standing n : ℕ) → Answer → View
+    → Result (Step World) Refusal
+leaving_in w side standing n answer after =
+    if nat_le n standing then Ok (step answer (with_view w side after)) else Err (Fewer standing)
+
 abbrev pub sent_in : Mechanism → World → Side → ℕ → Result (Step World) Refusal
 sent_in k w side n =
     let v = view_of w side in
-    if nat_le n (length (outbox_in k w side)) then Ok
-    (step (Sent n) (with_view w side (record v { dropped = v.dropped + n })))
-    else Err (Fewer (length (outbox_in k w side)))
+    leaving_in w side (length (outbox_in k w side)) n (Sent n)
+    (record v { dropped = v.dropped + n })
 
 abbrev pub done_in : World → Side → ℕ → Result (Step World) Refusal
 done_in w side n =
     let v = view_of w side in
-    if nat_le n (length (inbox_in w side)) then Ok (step (Done n) (with_view w side (record v { done = v.done + n })))
-    else Err (Fewer (length (inbox_in w side)))
+    leaving_in w side (length (inbox_in w side)) n (Done n) (record v { done = v.done + n })
+
+-- what becomes of a call of a side
+abbrev pub called_in : Mechanism → World → Side → SideCall → Step World
+called_in k w side (says text) = saying_in k w side text (may_say k w side (length text))
+called_in k w side (takes source) = taking_of k w side source
+called_in k w side (drops_sent amount) =
+    settled w (sent_in k w side (amount_of amount (length (outbox_in k w side))))
+called_in k w side (drops_done amount) =
+    settled w (done_in w side (amount_of amount (length (inbox_in w side))))
 
 -- what becomes of what happens
 abbrev pub step_of : Mechanism → World → Event → Step World
 step_of k w (seeds seed) = step Seeded (record w { draws = record w.draws { given = Some seed } })
-step_of k w (says side text) = saying_in k w side text (may_say k w side (length text))
-step_of k w (takes side p) = taking_at w side (said_at w.conversation p)
-step_of k w (takes_nth side nth) = taking_at w side (nth_of_peer w.conversation side nth)
-step_of k w (flips side p bit) = taking_given k w side (flipped_at (posts k w.conversation) p bit)
-step_of k w (takes_bytes side bytes) = taking_given k w side (Some bytes)
-step_of k w (drops_sent side amount) = settled w (sent_in k w side (amount_of amount (length (outbox_in k w side))))
-step_of k w (drops_done side amount) = settled w (done_in w side (amount_of amount (length (inbox_in w side))))
+step_of k w (does side call) = called_in k w side call
 step_of k w (shows_inbox side) = record { answer = Inbox (length (inbox_in w side)); entries = inbox_in w side; next = w }
 step_of k w (shows_state side) =
     step (InNumbers (record {

@@ -3,8 +3,9 @@ use Rattle.std.specs.Prelude.{IfSome, List, Option, is_some, length, ℕ, ⊤, �
 use Rattle.dr_base.specs.Position.{peer_of}
 use Rattle.dr_base.specs.declared.position.Side.{Side}
 use Rattle.kem_laws.specs.Mechanism.{Mechanism}
-use Rattle.dr_model.specs.Machines.Acts.{Act, act_in, act_on, finishing, kept_by, needs_seed, saying, sending, taking}
+use Rattle.dr_model.specs.Machines.Acts.{Act, act_on, needs_seed, saying, taking}
 use Rattle.dr_model.specs.Machines.Steps.{settled}
+use Rattle.dr_model.specs.Machines.WorldActs.{act_in, kept_by}
 use Rattle.dr_model.specs.Machines.WorldSides.{kept_in}
 use Rattle.dr_model.specs.Machines.Worlds.{World, may_say}
 use Rattle.dr_model.specs.Theorems.Fairness.{IsUnforged}
@@ -19,8 +20,7 @@ pub record IsDrawn (k : Mechanism) (w : World) (side : Side) (len : ℕ) (draw :
 abbrev pub IsFairAct : Mechanism → World → Side → Act → Type 0
 IsFairAct k w side (saying text draw) = IsDrawn k w side (length text) draw
 IsFairAct k w side (taking bytes) = IsUnforged k w side bytes
-IsFairAct k w side (finishing n) = ⊤
-IsFairAct k w side (sending n) = ⊤
+IsFairAct k w side _ = ⊤
 
 -- A side makes of an act what the machine does, and then keeps what stands in the next world; the other side keeps what
 -- it kept.

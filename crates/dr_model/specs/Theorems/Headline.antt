@@ -11,7 +11,7 @@ use Rattle.session_model.specs.declared.answer.Refusal.TheVariants.{InboxFull, S
 use Rattle.dr_model.specs.Conversations.Conversation.{is_said}
 use Rattle.dr_model.specs.Conversations.Posts.{post_at, posts}
 use Rattle.dr_model.specs.Conversations.Views.{after_opening, entry_at, has_opened, history_of, missing_of, times_opened}
-use Rattle.dr_model.specs.Machines.Events.{Event, takes, takes_bytes, takes_nth}
+use Rattle.dr_model.specs.Machines.Events.{Event, does, of_bytes, of_number, of_position, takes}
 use Rattle.dr_model.specs.Machines.Network.{held_nth}
 use Rattle.dr_model.specs.Machines.Worlds.{World, inbox_in, nth_of_peer, opening_world, run_of, step_of, view_of}
 use Rattle.dr_model.specs.Theorems.Fairness.{IsSeedWhole, IsUnforged}
@@ -45,18 +45,20 @@ times_opened_by w side p = times_opened (view_of w side) p
 pub record Headline (k : Mechanism) : Type 0 where
   -- in any world, a side's answer to a packet of the peer's that it hasn't opened
   pub first_arrival : (w : World) (side : Side) (p : Position) → IsNew w side p → IsWithinLimits w side p
-      → (step_of k w (takes side p)).answer ≡ Opened p
+      → (step_of k w (does side (takes (of_position p)))).answer ≡ Opened p
   pub too_far : (w : World) (side : Side) (p : Position) → IsNew w side p → KEPT_LIMIT < would_miss w side p
-      → (step_of k w (takes side p)).answer ≡ Refused (SkipLimit (would_miss w side p))
+      → (step_of k w (does side (takes (of_position p)))).answer
+      ≡ Refused (SkipLimit (would_miss w side p))
   pub inbox_full : (w : World) (side : Side) (p : Position) → IsNew w side p → would_miss w side p ≤ KEPT_LIMIT
-      → INBOX_LIMIT ≤ length (inbox_in w side) → (step_of k w (takes side p)).answer ≡ Refused InboxFull
+      → INBOX_LIMIT ≤ length (inbox_in w side)
+      → (step_of k w (does side (takes (of_position p)))).answer ≡ Refused InboxFull
   -- what was opened stands in the history, with the text that was said
   pub stands : (w : World) (side : Side) (p : Position) → IsNew w side p → IsWithinLimits w side p
-      → let next = (step_of k w (takes side p)).next in
+      → let next = (step_of k w (does side (takes (of_position p)))).next in
       history_of next.conversation (view_of next side)
       ≡ history_of w.conversation (view_of w side) ++ entry_at w.conversation p ∷ []
   pub opened : (w : World) (side : Side) (p : Position) → IsNew w side p → IsWithinLimits w side p
-      → has_opened (view_of (step_of k w (takes side p)).next side) p ≡ true
+      → has_opened (view_of (step_of k w (does side (takes (of_position p)))).next side) p ≡ true
   -- in every run: it stays, and it is opened once
   pub stays : (w : World) (hs : List Event) (side : Side) (p : Position) → has_opened (view_of w side) p ≡ true
       → has_opened (view_of (run_of k w hs) side) p ≡ true
@@ -64,13 +66,15 @@ pub record Headline (k : Mechanism) : Type 0 where
       → times_opened_by (run_of k (opening_world key) hs) side p ≤ 1
   -- repeats and refusals
   pub repeats : (w : World) (side : Side) (p : Position) → is_said w.conversation p ≡ true → is_own side p.epoch ≡ false
-      → has_opened (view_of w side) p ≡ true → (step_of k w (takes side p)).answer ≡ Refused (Spent p)
+      → has_opened (view_of w side) p ≡ true
+      → (step_of k w (does side (takes (of_position p)))).answer ≡ Refused (Spent p)
   pub refusal_changes_nothing : (w : World) (h : Event) (refusal : Refusal) → (step_of k w h).answer ≡ Refused refusal
       → let next = (step_of k w h).next in
       (next.conversation ≡ w.conversation) × (next.first ≡ w.first) × (next.second ≡ w.second)
   -- a packet that arrives as bytes: taking them is taking its position, and no tag of theirs is forged
   pub by_bytes : (w : World) (side : Side) (p : Position) → IsLawfulWorld k w → is_said w.conversation p ≡ true
-      → step_of k w (takes_bytes side (post_at k w.conversation p).packet) ≡ step_of k w (takes side p)
+      → step_of k w (does side (takes (of_bytes (post_at k w.conversation p).packet)))
+      ≡ step_of k w (does side (takes (of_position p)))
   pub real : (w : World) (side : Side) (p : Position) → IsLawfulWorld k w → is_said w.conversation p ≡ true
       → IsUnforged k w side (post_at k w.conversation p).packet
   -- a packet that arrives by its number: it is the packet of the peer's position of that number, and taking it is taking
@@ -79,7 +83,8 @@ pub record Headline (k : Mechanism) : Type 0 where
       → held_nth (posts k w.conversation) side nth
       ≡ option_map (λ p. (post_at k w.conversation p).packet) (nth_of_peer w.conversation side nth)
   pub by_number : (w : World) (side : Side) (nth : ℕ) (p : Position) → nth_of_peer w.conversation side nth ≡ Some p
-      → step_of k w (takes_nth side nth) ≡ step_of k w (takes side p)
+      → step_of k w (does side (takes (of_number nth)))
+      ≡ step_of k w (does side (takes (of_position p)))
   -- growth: a packet and its text stay, whatever happens
   pub packets_stay : (w : World) (h : Event) (p : Position) → IsLawfulWorld k w → is_said w.conversation p ≡ true
       → let next = (step_of k w h).next.conversation in

@@ -3,8 +3,6 @@ use Rattle.std.proofs.Common.{Bool, Err, List, None, Ok, Option, Result, Some, [
 use Rattle.std.specs.Prelude.{IfSome, is_some, nat_le}
 use Rattle.std.proofs.lemmas.Bool.{cond-false, cond-true, le-leb}
 use Rattle.std.proofs.lemmas.Bool.Decides.{nat_tests}
-use Rattle.boxes.specs.Entries.{Entry}
-use Rattle.boxes.specs.Posts.{Post}
 use Rattle.dr_disk.specs.MemoryDisks.{IsLeftBy, going_on, state_of, stopped_after}
 use Rattle.dr_disk.specs.MemoryLaws.{memory_lawful}
 use Rattle.dr_disk.specs.State.{DiskState, IsLawful, to_failure}
@@ -12,13 +10,13 @@ use Rattle.dr_disk.specs.declared.call.Call.{Call}
 use Rattle.dr_disk.proofs.Exactly.{enough as enough_told, too_few}
 use Rattle.dr_disk.specs.declared.call.Mode.{Mode}
 use Rattle.dr_disk.specs.declared.memory.MemoryDisk.{MemoryDisk}
-use Rattle.dr_model.specs.Machines.Acts.{Act, act_on, finished_by, finishing, said_by, saying, saying_by, sending, sent_by, taken_by, taking}
+use Rattle.dr_model.specs.Machines.Acts.{Act, act_on, finishing, leaving_by, said_by, saying, saying_by, sending, taken_by, taking}
 use Rattle.dr_model.specs.Machines.Draws.{given_or}
 use Rattle.dr_model.specs.Machines.Steps.{Step, has_effect, settled, step}
 use Rattle.kem_laws.specs.Mechanism.{IsLawfulMechanism, Mechanism}
 use Rattle.session_model.specs.Clients.{Client, SaidText, TakenPacket, dropped_of, say_on, take_on}
 use Rattle.session_model.specs.declared.answer.Answer.{Answer}
-use Rattle.session_model.specs.declared.answer.Answer.TheVariants.{Done as AnsweredDone, Opened, Refused, Said, Sent as AnsweredSent, Stopped}
+use Rattle.session_model.specs.declared.answer.Answer.TheVariants.{Opened, Refused, Said, Stopped}
 use Rattle.session_model.specs.declared.answer.Refusal.{Refusal}
 use Rattle.session_record.specs.Lawful.{IsLawfulClient}
 use Rattle.session_record.specs.Record.{record_text}
@@ -231,21 +229,13 @@ taken_keeps k (Ok taken) next each is =
     let same : step (Opened taken.position) taken.next ≡ next = cc in
     subst (λ (made : Step Client). IsLawfulClient k made.next) same (each taken refl)
 
-sent_keeps : (k : Mechanism) (c : Client) (n : ℕ) (r : Result (List Post) Refusal) (next : Step Client)
-    → ((outbox : List Post) → r ≡ Ok outbox → IsLawfulClient k (record c { outbox = outbox })) → sent_by c n r ≡ Ok next
-    → IsLawfulClient k next.next
-sent_keeps k c n (Err refusal) next each is = absurd (cc is)
-sent_keeps k c n (Ok outbox) next each is =
-    let same : step (AnsweredSent n) (record c { outbox = outbox }) ≡ next = cc in
-    subst (λ (made : Step Client). IsLawfulClient k made.next) same (each outbox refl)
-
-done_keeps : (k : Mechanism) (c : Client) (n : ℕ) (r : Result (List Entry) Refusal) (next : Step Client)
-    → ((inbox : List Entry) → r ≡ Ok inbox → IsLawfulClient k (record c { inbox = inbox })) → finished_by c n r ≡ Ok next
-    → IsLawfulClient k next.next
-done_keeps k c n (Err refusal) next each is = absurd (cc is)
-done_keeps k c n (Ok inbox) next each is =
-    let same : step (AnsweredDone n) (record c { inbox = inbox }) ≡ next = cc in
-    subst (λ (made : Step Client). IsLawfulClient k made.next) same (each inbox refl)
+leaving_keeps : {A : Type 0} (k : Mechanism) (answer : Answer) (kept_with : List A → Client) (r : Result (List A) Refusal)
+    (next : Step Client) → ((left : List A) → r ≡ Ok left → IsLawfulClient k (kept_with left))
+    → leaving_by answer kept_with r ≡ Ok next → IsLawfulClient k next.next
+leaving_keeps k answer kept_with (Err refusal) next each is = absurd (cc is)
+leaving_keeps k answer kept_with (Ok left) next each is =
+    let same : step answer (kept_with left) ≡ next = cc in
+    subst (λ (made : Step Client). IsLawfulClient k made.next) same (each left refl)
 
 seed_whole : (draw : Option (List ℕ)) → IfSome draw (λ seed. length seed ≡ 32) → is_some draw ≡ true
     → length (given_or [] draw) ≡ 32
@@ -263,9 +253,9 @@ made_lawful k c (saying text draw) next law l checked is =
 made_lawful k c (taking bytes) next law l small is =
     taken_keeps k (take_on k c bytes) next (λ taken gives. take_lawful k c bytes taken l small gives) is
 made_lawful k c (sending n) next law l checked is =
-    sent_keeps k c n (dropped_of n c.outbox) next (λ outbox gives. sent_lawful k c n outbox l gives) is
+    leaving_keeps k _ _ (dropped_of n c.outbox) next (λ outbox gives. sent_lawful k c n outbox l gives) is
 made_lawful k c (finishing n) next law l checked is =
-    done_keeps k c n (dropped_of n c.inbox) next (λ inbox gives. done_lawful k c n inbox l gives) is
+    leaving_keeps k _ _ (dropped_of n c.inbox) next (λ inbox gives. done_lawful k c n inbox l gives) is
 
 -- whichever is left
 pub left_lawful : (k : Mechanism) (b : Bool) (a z : Client) → IsLawfulClient k a → IsLawfulClient k z

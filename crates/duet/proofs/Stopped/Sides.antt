@@ -12,7 +12,6 @@ use Rattle.dr_model.specs.Machines.Steps.{Step, has_effect, settled, step}
 use Rattle.kem_laws.specs.Mechanism.{Mechanism}
 use Rattle.session_model.specs.Clients.{Client}
 use Rattle.session_model.specs.declared.answer.Answer.{Answer}
-use Rattle.scripts.proofs.Calls.{acting_call}
 use Rattle.scripts.specs.Seen.{CallOfLine, call_event}
 use Rattle.scripts.specs.Sides.{acting_side}
 use Rattle.duet.specs.Acts.{acted_by}
@@ -87,7 +86,6 @@ module _ (k : Mechanism) (old new : DuetNow) (side : Side) (call : CallOfLine) (
   on_its_side made does same =
       event_stopped k old.sides new.sides n mode event
       (over_draws old new (step_on k old.sides event) drawn (ap (λ (m : Step Sides). m.next.draws) does ∙ same))
-      ∙ ap (λ (own : Side). stopped_sides own n mode new.sides (step_on k old.sides event)) (acting_call side call)
       ∙ ap (stopped_sides side n mode new.sides) does
 
   -- one that comes to an act

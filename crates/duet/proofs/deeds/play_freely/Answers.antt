@@ -1,6 +1,4 @@
-use Rattle.std.proofs.Common.{None, refl, subst, ◌≡◌}
-use Rattle.duet.specs.Shuts.{shut_of}
-use Rattle.scripts.proofs.Calls.{acting_call}
+use Rattle.std.proofs.Common.{refl}
 use Rattle.duet.proofs.Barred.{line_open}
 use Rattle.duet.proofs.PlayedDeeds.{goes_along, goes_written, of_ok}
 use Rattle.duet.proofs.deeds.play_freely.Goals as goal
@@ -9,16 +7,10 @@ pub play_line-written-requires-clause-open : goal.play_line-written-requires-cla
 play_line-written-requires-clause-open g c needs = line_open _ _ _ c.in-Plain.is c.requires.open needs
 
 pub play_stop-requires-clause-open : goal.play_stop-requires-clause-open
-play_stop-requires-clause-open g c =
-    let stop = c.in-Stopping.stop in
-    subst (λ side. shut_of c.args.duet.shuts side ≡ None) (acting_call stop.side stop.call)
-    (line_open _ _ _ c.in-Stopping.is c.requires.open refl)
+play_stop-requires-clause-open g c = line_open _ _ _ c.in-Stopping.is c.requires.open refl
 
 pub play_fail-written-requires-clause-open : goal.play_fail-written-requires-clause-open
-play_fail-written-requires-clause-open g c =
-    let failure = c.in-Failing.failure in
-    subst (λ side. shut_of c.args.duet.shuts side ≡ None) (acting_call failure.side failure.call)
-    (line_open _ _ _ c.in-Failing.is c.requires.open refl)
+play_fail-written-requires-clause-open g c = line_open _ _ _ c.in-Failing.is c.requires.open refl
 
 pub sync-written-requires : goal.sync-written-requires
 sync-written-requires g c = record { «open» = line_open _ _ _ c.in-Syncing.is c.requires.open refl }

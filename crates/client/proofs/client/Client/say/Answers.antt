@@ -1,5 +1,6 @@
 use Rattle.std.proofs.Common.{List, Option, length, ℕ}
-use Rattle.dr_model.specs.Machines.Acts.{act_in, saying}
+use Rattle.dr_model.specs.Machines.Acts.{saying}
+use Rattle.dr_model.specs.Machines.WorldActs.{act_in}
 use Rattle.client.specs.InWorlds.{IsIn}
 use Rattle.client.specs.Saying.{IsSeedDrawn}
 use Rattle.client.specs.Spent.{IsSpent}
