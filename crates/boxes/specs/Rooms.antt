@@ -1,5 +1,5 @@
 -- The rooms of a row, each under a number, and the order in which their items stand.
-use Rattle.std.specs.Prelude.{◌≡◌, ◌≤◌, ℕ, List, [], ◌++◌, All, length, map, slice_index_or, take, drop}
+use Rattle.std.specs.Prelude.{◌≤◌, ℕ, List, [], ◌++◌, All, length, map, slice_index_or, take, drop}
 use Rattle.std.specs.List.{range_with_len}
 use Rattle.std.specs.List.Sorted.{IsPermutation}
 use Rattle.boxes.specs.Items.{Item, item_at}
@@ -20,10 +20,10 @@ standing rooms held order = map (item_in rooms) (take held order)
 abbrev pub turned_front : ℕ → ℕ → List ℕ → List ℕ
 turned_front held n order = drop n (take held order) ++ take n order ++ drop held order
 
--- Each number below the limit is that of a room, and stands once in the order. The rooms that are held come first in it,
--- and no item is larger than a room.
+-- There are no more rooms than the limit, and the number of each stands once in the order. The rooms that are held come
+-- first in it, and no item is larger than a room.
 pub record AreRooms (limit room : ℕ) (rooms : List Item) (held : ℕ) (order : List ℕ) : Type 0 where
-  pub all : length rooms ≡ limit
-  pub once : IsPermutation (range_with_len 0 limit) order
-  pub first : held ≤ limit
+  pub few : length rooms ≤ limit
+  pub once : IsPermutation (range_with_len 0 (length rooms)) order
+  pub first : held ≤ length rooms
   pub fits : All (λ item. length item.bytes ≤ room) rooms

@@ -1,7 +1,7 @@
 //! A row of at most `LIMIT` items, the oldest first, each of at most `ROOM` bytes, in memory that
 //! is taken once.
 
-ghost use Rattle.std.specs.Prelude.{◌≡◌, ◌^◌, ◌<◌, ◌≤◌, ◌↔◌, [], length, All, option_copied, slice_get, IsSome, IfOk};
+ghost use Rattle.std.specs.Prelude.{◌≡◌, ◌^◌, ◌<◌, ◌≤◌, ◌↔◌, ◌∷◌, ◌++◌, [], length, vec_capacity, All, option_copied, slice_get, IsSome, IfOk};
 ghost use Rattle.boxes.specs.Changes.{Pushes, DropsFirst};
 ghost use Rattle.boxes.specs.Items.{item_at};
 ghost use Rattle.boxes.specs.Rooms.{turned_front};
@@ -11,9 +11,6 @@ use arrayvec::ArrayVec;
 use dr_base::{Position, in_room};
 use std::alloc::{AllocError, Global};
 use std::marker::Model;
-
-/// The position of a room in which nothing stands.
-const NOWHERE: Position = Position { epoch: 0, index: 0 };
 
 /// One item of a row: a position, and at most `ROOM` bytes in room of their own.
 #[derive(Drop)]
@@ -69,7 +66,8 @@ impl<const ROOM: usize> Stored<ROOM> {
 }
 
 /// A list of at most `LIMIT` items, the oldest first, each of at most `ROOM` bytes. A contract sees
-/// the list of them. All its memory is taken when it is made: no later call allocates.
+/// the list of them. All its memory is taken when it is made: no later call allocates. A room of it
+/// is written once an item stands in it, and no sooner.
 ///
 /// An item stays in its room for as long as it stands. What moves is the order of the rooms'
 /// numbers: first come the `held` rooms with an item, the oldest first, and then those that are
@@ -79,6 +77,8 @@ pub struct Row<const LIMIT: usize, const ROOM: usize> {
     rooms: Vec<Stored<ROOM>>,
     order: Vec<usize>,
     held: usize,
+    ghost rooms_kept: { LIMIT ≤ vec_capacity rooms },
+    ghost order_kept: { LIMIT ≤ vec_capacity order },
 }
 
 impl<const LIMIT: usize, const ROOM: usize> Model for Row<LIMIT, ROOM> {
@@ -91,6 +91,26 @@ impl<const LIMIT: usize, const ROOM: usize> Model for Row<LIMIT, ROOM> {
     ghost view = { λ r. standing r.rooms.items r.held r.order.items };
 
     ghost invariant = { λ r. AreRooms LIMIT ROOM r.rooms.items r.held r.order.items };
+}
+
+/// Makes one more room, the last in the order, with the item of these bytes under a position.
+#[inline(never)]
+fn add_room<const ROOM: usize>(
+    rooms: &mut Vec<Stored<ROOM>>,
+    order: &mut Vec<usize>,
+    position: Position,
+    bytes: &[u8],
+)
+    requires fits { length bytes.now ≤ ROOM }
+    requires room { length rooms.old.items < vec_capacity rooms.old }
+    requires place { length order.old.items < vec_capacity order.old }
+    ensures rooms { rooms.new.items ≡ rooms.old.items ++ item_at position bytes.now ∷ [] }
+    ensures order { order.new.items ≡ order.old.items ++ length rooms.old.items ∷ [] }
+    ensures rooms_kept { vec_capacity rooms.old ≤ vec_capacity rooms.new }
+    ensures order_kept { vec_capacity order.old ≤ vec_capacity order.new }
+{
+    order.push(rooms.len()).unwrap();
+    rooms.push(Stored::new(position, bytes)).unwrap();
 }
 
 /// Moves the first `n` numbers of an order behind the others of those that are held.
@@ -108,15 +128,9 @@ impl<const LIMIT: usize, const ROOM: usize> Row<LIMIT, ROOM> {
     pub fn new(alloc: Global) -> Result<Self, AllocError>
         ensures { IfOk result (λ row. row ≡ []) }
     {
-        let mut rooms = Vec::with_capacity(alloc, LIMIT)?;
-        let mut order = Vec::with_capacity(alloc, LIMIT)?;
-        for number in 0..LIMIT {
-            rooms.push(Stored::new(NOWHERE, &[])).unwrap();
-            order.push(number).unwrap();
-        }
         Ok(Row {
-            rooms,
-            order,
+            rooms: Vec::with_capacity(alloc, LIMIT)?,
+            order: Vec::with_capacity(alloc, LIMIT)?,
             held: 0,
         })
     }
@@ -137,6 +151,11 @@ impl<const LIMIT: usize, const ROOM: usize> Row<LIMIT, ROOM> {
     {
         if self.held >= LIMIT {
             return Err(Full);
+        }
+        if self.held == self.rooms.len() {
+            add_room(&mut self.rooms, &mut self.order, position, bytes);
+            self.held += 1;
+            return Ok(());
         }
         let number = self.order[self.held];
         self.rooms[number].refill(position, bytes);

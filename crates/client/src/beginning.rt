@@ -7,7 +7,7 @@ ghost use Rattle.dr_disk.specs.State.{Always, Fate};
 ghost use Rattle.dr_disk.specs.declared.call.Call.{Call};
 ghost use Rattle.dr_model.specs.Machines.Worlds.{opening_world};
 ghost use Rattle.session_record.specs.Record.{record_text};
-ghost use Rattle.slot_store.specs.Areas.{HasRecordRoom};
+ghost use Rattle.slot_store.specs.Areas.{HasRecordMemory};
 ghost use Rattle.slot_store.specs.Reading.{IsLikeRead};
 ghost use Rattle.slot_store.specs.Store.{IsOldOrNew, HasArea, Rests, content};
 ghost use Rattle.client.specs.Beginning.{IsClientBegun, IsEntryOrFirst, IsFirst, IsUnbegun, begin_refusal};
@@ -23,7 +23,7 @@ use dr_disk::{Call, Disk};
 use dr_model::both_sides_follow;
 use kem_laws::{Kem, NoPair, laws};
 use relay_wire::FrameReader;
-use slot_store::{Found, OpenError, SlotStore, readings};
+use slot_store::{Found, OpenError, SlotStore, lengthen, readings};
 use std::alloc::Global;
 
 /// Keeps the first record of a core.
@@ -34,7 +34,7 @@ fn first<K: Kem, D: Disk>(
     mut store: SlotStore,
     disk: &mut D,
 ) -> Result<Client<K>, Call>
-    requires room { HasRecordRoom client_area text.items }
+    requires room { HasRecordMemory client_area text }
     requires none { content store ≡ None }
     requires area { store.area ≡ client_area }
     requires within { HasArea client_area (D.state disk.old) }
@@ -50,6 +50,7 @@ fn first<K: Kem, D: Disk>(
     ensures fault { IfErr result
         (λ call. Rose ((D.state disk.old).faults call) ((D.state disk.new).faults call)) }
 {
+    lengthen(AREA, &mut text);
     let len = core.encode_now(&mut text);
     match store.replace(disk, &mut text, len) {
         Err(fault) => Err(fault.call),

@@ -41,7 +41,7 @@ pub const AREA_SIZE: u64 = PAGE as u64 * AREA_PAGES as u64;
 pub struct Client<K: Kem> {
     pub(crate) core: Core<K>,
     pub(crate) store: SlotStore,
-    /// The room in which a record is put together.
+    /// The room in which a record is put together. It is made long before one is.
     pub(crate) text: Vec<u8>,
     /// What has come of a relay's reply.
     pub(crate) reader: FrameReader,
@@ -50,13 +50,13 @@ pub struct Client<K: Kem> {
 
 impl<K: Kem> Model for Client<K> {
     ghost use Rattle.client.specs.Clients.{ClientNow, client_area};
-    ghost use Rattle.slot_store.specs.Areas.{HasRecordRoom};
+    ghost use Rattle.slot_store.specs.Areas.{HasRecordMemory};
 
     ghost Value = { ClientNow };
 
     ghost view = { λ c. record { kept = c.core; store = c.store; closed = c.closed } };
 
-    ghost invariant = { λ c. HasRecordRoom client_area c.text.items };
+    ghost invariant = { λ c. HasRecordMemory client_area c.text };
 }
 
 impl<K: Kem> Client<K> {

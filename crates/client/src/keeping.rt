@@ -8,10 +8,11 @@ ghost use Rattle.client.specs.Clients.{IsOpenOn};
 ghost use Rattle.client.specs.Drafting.{IsDraftOf, drafted_answer, drafted_step};
 ghost use Rattle.client.specs.Outcomes.{kept_as};
 
-use crate::client::Client;
+use crate::client::{AREA, Client};
 use crate::cores::Draft;
 use dr_disk::{Call, Disk};
 use kem_laws::Kem;
+use slot_store::lengthen;
 
 impl<K: Kem> Client<K> {
     /// Keeps what was drafted: the record that it leads to replaces the one on the disk, and then
@@ -25,6 +26,7 @@ impl<K: Kem> Client<K> {
         ensures { IsAct D.state (Ok (drafted_step self.old.kept draft.entry))
             self.old self.new disk.old disk.new (kept_as (drafted_answer draft.entry) result) }
     {
+        lengthen(AREA, &mut self.text);
         let len = self.core.encode(&draft, &mut self.text);
         match self.store.replace(disk, &mut self.text, len) {
             Ok(()) => {

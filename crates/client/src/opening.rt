@@ -23,7 +23,7 @@ use crate::room::Room;
 use dr_disk::{Call, Disk};
 use kem_laws::Kem;
 use session_record::{is_newest, record_law};
-use slot_store::{Found, OpenError, SlotStore, readings, resting};
+use slot_store::{Found, OpenError, SlotStore, lengthen, readings, resting};
 use std::alloc::Global;
 
 /// Why a store's opening refuses a client.
@@ -100,6 +100,7 @@ impl<K: Kem> Client<K> {
         if is_newest(text) {
             return Ok(());
         }
+        lengthen(AREA, &mut self.text);
         let len = self.core.encode_now(&mut self.text);
         match self.store.replace(disk, &mut self.text, len) {
             Ok(()) => Ok(()),

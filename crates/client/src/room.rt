@@ -1,7 +1,7 @@
 //! The memory of a client, all of which is taken before its disk is called.
 
 ghost use Rattle.std.specs.Prelude.{IfOk};
-ghost use Rattle.slot_store.specs.Areas.{HasRecordRoom};
+ghost use Rattle.slot_store.specs.Areas.{HasRecordMemory};
 ghost use Rattle.client.specs.Clients.{client_area};
 ghost use Rattle.client.specs.Reading.{HasReadNothing};
 
@@ -9,7 +9,7 @@ use crate::client::AREA;
 use crate::cores::RecordReader;
 use kem_laws::Kem;
 use relay_wire::FrameReader;
-use slot_store::record_room;
+use slot_store::record_memory;
 use std::alloc::{AllocError, Global};
 
 /// The memory of a client, but for its store's.
@@ -18,7 +18,7 @@ pub(crate) struct Room<K: Kem> {
     pub(crate) record: RecordReader<K>,
     pub(crate) text: Vec<u8>,
     pub(crate) reader: FrameReader,
-    ghost size: { HasRecordRoom client_area text.items },
+    ghost size: { HasRecordMemory client_area text },
 }
 
 impl<K: Kem> Room<K> {
@@ -28,7 +28,7 @@ impl<K: Kem> Room<K> {
             HasReadNothing room.record.session core.inbox core.outbox) }
     {
         let record = RecordReader::new(alloc)?;
-        let text = record_room(alloc, AREA)?;
+        let text = record_memory(alloc, AREA)?;
         let reader = FrameReader::new(alloc)?;
         Ok(Room {
             record,

@@ -1,7 +1,7 @@
 -- Where the boxes of a relay lie on its disk: each has an area of two halves.
-use Rattle.std.specs.Prelude.{◌≡◌, ◌<◌, ◌≤◌, ◌+◌, ◌*◌, ℕ, List, length, slice_index}
+use Rattle.std.specs.Prelude.{◌≡◌, ◌<◌, ◌≤◌, ◌+◌, ◌*◌, ℕ, List, Vec, length, slice_index}
 use Rattle.dr_disk.specs.State.{DiskState}
-use Rattle.slot_store.specs.Areas.{Area, HasRecordRoom, IsOutsideArea}
+use Rattle.slot_store.specs.Areas.{Area, HasRecordMemory, HasRecordRoom, IsOutsideArea}
 use Rattle.relay_core.specs.declared.limits.TheConstants.{RELAY_LIMIT}
 use Rattle.relay_server.specs.declared.limits.TheConstants.{BOX_PAGES, HALF_SIZE, RECORD_PAGES, UPPER_START}
 
@@ -21,6 +21,10 @@ area_of k = record {
 -- bytes that have room for any record of a box, wherever its area lies
 abbrev pub IsBoxRoom : List ℕ → Type 0
 IsBoxRoom bytes = HasRecordRoom (area_of 0) bytes
+
+-- memory in which such bytes can come to lie
+abbrev pub HasBoxMemory : {Z : Type 0} → Vec ℕ Z → Type 0
+HasBoxMemory text = HasRecordMemory (area_of 0) text
 
 -- a disk has room for this many areas
 abbrev pub HasRoomForAreas : ℕ → DiskState → Type 0

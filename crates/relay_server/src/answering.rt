@@ -4,17 +4,22 @@ ghost use Rattle.std.specs.Prelude.{◌≡◌, ◌<◌, ◌≤◌, length, take,
 ghost use Rattle.relay_core.specs.Boxes.{Box};
 ghost use Rattle.relay_core.specs.Record.{box_text};
 ghost use Rattle.relay_core.specs.declared.limits.TheConstants.{RECORD_LIMIT};
+ghost use Rattle.relay_server.specs.Places.{HasBoxMemory, IsBoxRoom};
 
+use crate::areas::FIRST_AREA;
 use relay_core::Relay;
+use slot_store::lengthen;
 
-/// Writes the record of the box at a place at the beginning of `out`, and answers how many bytes it
-/// has.
-pub fn write_text(relay: &Relay, place: usize, out: &mut [u8]) -> usize
+/// Writes the record of the box at a place at the beginning of a text, which is made long enough
+/// for any record of a box, and answers how many bytes it has.
+pub(crate) fn write_text(relay: &Relay, place: usize, text: &mut Vec<u8>) -> usize
     requires place { place < length relay.now }
-    requires room { RECORD_LIMIT ≤ length out.old }
+    requires memory { HasBoxMemory text.old }
     ensures len { result ≤ RECORD_LIMIT }
+    ensures room { IsBoxRoom text.new.items }
     ensures text { (box : Box) → slice_get relay.now place ≡ Option.Some box
-        → take result out.new ≡ box_text box }
+        → take result text.new.items ≡ box_text box }
 {
-    relay.write_box(place, out)
+    lengthen(FIRST_AREA, text);
+    relay.write_box(place, text)
 }

@@ -1,6 +1,6 @@
 //! Boxes that stand on a disk.
 
-ghost use Rattle.std.specs.Prelude.{◌≡◌, ◌≢◌, ◌<◌, ◌≤◌, ◌+◌, ◌^◌, ℕ, length, take, slice_get, Option, OnOk, IfOk, is_ok, [], Bool};
+ghost use Rattle.std.specs.Prelude.{◌≡◌, ◌≢◌, ◌<◌, ◌≤◌, ◌+◌, ◌^◌, ℕ, length, vec_capacity, take, slice_get, Option, OnOk, IfOk, is_ok, [], Bool};
 ghost use Rattle.dr_disk.specs.State.{Always};
 ghost use Rattle.dr_disk.specs.Spans.{IsQuiet, Span};
 ghost use Rattle.slot_store.specs.Areas.{HasText};
@@ -32,17 +32,17 @@ pub struct DurableBoxes {
 
 impl Model for DurableBoxes {
     ghost use Rattle.relay_server.specs.Durable.{ServerNow};
-    ghost use Rattle.relay_server.specs.Places.{IsBoxRoom};
+    ghost use Rattle.relay_server.specs.Places.{HasBoxMemory};
 
     ghost Value = { ServerNow };
 
     ghost view = { λ s. record { boxes = s.relay; stores = s.stores.items } };
 
-    ghost invariant = { λ s. IsBoxRoom s.text.items };
+    ghost invariant = { λ s. HasBoxMemory s.text };
 }
 
 /// Replaces the record of one store by the first `len` bytes of a text, which gets the room of the
-/// record before.
+/// record before, with no less memory.
 pub(crate) fn replace_at<D: Disk>(
     stores: &mut [SlotStore],
     place: usize,
@@ -60,7 +60,7 @@ pub(crate) fn replace_at<D: Disk>(
         → IsReplaced (take len text.old.items) old new (D.state disk.old) (D.state disk.new)
         (is_ok result) }
     ensures count { length stores.new ≡ length stores.old }
-    ensures room { length text.new.items ≡ length text.old.items }
+    ensures room { length text.old.items ≤ vec_capacity text.new }
     ensures fault { FailsByCall (D.state disk.old) (D.state disk.new) result }
     ensures quiet { OnOk result (IsQuiet (D.state disk.old) (D.state disk.new)) }
 {

@@ -5,7 +5,7 @@ ghost use Rattle.slot_store.specs.Store.{SlotStore, content};
 ghost use Rattle.relay_core.specs.declared.limits.TheConstants.{RELAY_LIMIT};
 ghost use Rattle.relay_server.specs.Filling.{AreFilled, AreLoaded, Fills, IsFirstOthers, LoadsAt};
 ghost use Rattle.relay_server.specs.Opening.{box_fault};
-ghost use Rattle.relay_server.specs.Places.{IsBoxRoom};
+ghost use Rattle.relay_server.specs.Places.{HasBoxMemory};
 
 use crate::answering::write_text;
 use crate::durable::replace_at;
@@ -70,10 +70,10 @@ fn fill_area<D: Disk>(
 ) -> Result<(), Call>
     requires inside { place < length relay.now }
     requires filled { AreFilled place relay.now stores.old (D.state disk.old) }
-    requires room { IsBoxRoom text.old.items }
+    requires room { HasBoxMemory text.old }
     ensures fills { Fills (place + 1) relay.now stores.new (D.state disk.old) (D.state disk.new)
         result }
-    ensures room { IsBoxRoom text.new.items }
+    ensures room { HasBoxMemory text.new }
 {
     locality();
     resting();
@@ -92,10 +92,10 @@ pub(crate) fn fill_areas<D: Disk>(
     disk: &mut D,
 ) -> Result<(), Call>
     requires filled { AreFilled 0 relay.now stores.old (D.state disk.old) }
-    requires room { IsBoxRoom text.old.items }
+    requires room { HasBoxMemory text.old }
     ensures fills { Fills (length relay.now) relay.now stores.new (D.state disk.old)
         (D.state disk.new) result }
-    ensures room { IsBoxRoom text.new.items }
+    ensures room { HasBoxMemory text.new }
 {
     'boxes: for place in 0..stores.len() {
         match fill_area(relay, stores, place, text, disk) {

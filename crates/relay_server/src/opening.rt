@@ -13,7 +13,7 @@ use crate::filling::{fill_areas, load_boxes};
 use dr_disk::{Call, Disk};
 use relay_core::Relay;
 use relay_wire::Name;
-use slot_store::{locality, readings, record_room};
+use slot_store::{locality, readings, record_memory};
 use std::alloc::Global;
 
 impl DurableBoxes {
@@ -37,7 +37,7 @@ impl DurableBoxes {
         let Ok(mut relay) = Relay::new(alloc, names) else {
             return Err(ServerOpenError::Memory);
         };
-        let Ok(text) = record_room(alloc, FIRST_AREA) else {
+        let Ok(text) = record_memory(alloc, FIRST_AREA) else {
             return Err(ServerOpenError::Memory);
         };
         let stores = match open_areas(alloc, disk, names.len()) {

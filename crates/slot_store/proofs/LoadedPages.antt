@@ -1,6 +1,6 @@
 -- What was read into memory by a table without a fault.
 use Rattle.std.proofs.Common.{◌≡◌, ℕ, ◌+◌, ◌-◌, ◌*◌, ◌≤◌, List, [], length, take, drop, map, replicate, Option, Some, None, refl, sym, ◌∙◌, ap, ap₂, arith, length-drop}
-use Rattle.std.proofs.lemmas.List.{length-take-le}
+use Rattle.std.proofs.lemmas.List.{take_all}
 use Rattle.std.proofs.lemmas.List.Elements.{All-get_or}
 use Rattle.dr_base.specs.declared.limits.TheConstants.{PAGE}
 use Rattle.pages.specs.Layouts.{IsPage}
@@ -45,36 +45,33 @@ module _ (area : Area) (body numbers : List ℕ) (len : ℕ) (lawful : IsArea ar
   pub are_pages : ArePages (layout_of area) numbers
   are_pages j lt = All-get_or (IsPage (layout_of area)) numbers j 0 lt (entries_within area numbers lawful_entries)
 
-  module _ (bytes s : List ℕ) (size : length bytes ≡ PAGE * area.most)
+  module _ (bytes s : List ℕ) (size : length bytes ≡ PAGE * length numbers)
       (read : cut (length numbers) bytes ≡ map (page_of (layout_of area) s) numbers) where
-    room : PAGE * length numbers ≤ length bytes
-    room = omega (arith, few, size)
+    whole : take (PAGE * length numbers) bytes ≡ bytes
+    whole = take_all (PAGE * length numbers) bytes (omega (arith, size))
 
     named : pages_named area body s ≡ cut (length numbers) bytes
     named = ap (λ (l : List ℕ). map (page_of (layout_of area) s) l) (sym names) ∙ sym read
 
     -- a fault in the pages
     pub loaded_fault : (fault_at : List ℕ → Option ℕ) (r : Option ℕ)
-        → r ≡ behind_table (or_else (fault_at (take len (take (PAGE * length numbers) bytes)))
-        (nonzero_from len (drop len (take (PAGE * length numbers) bytes))))
+        → r ≡ behind_table (or_else (fault_at (take len bytes)) (nonzero_from len (drop len bytes)))
         → fault_in fault_at area body (pages_named area body s) ≡ r
     loaded_fault fault_at r is =
         ap (λ f. or_else f (behind_table (record_fault fault_at body (pages_named area body s)))) faultless
         ∙ ap₂ (λ k (l : List ℕ). behind_table (or_else (fault_at (take k l)) (nonzero_from k (drop k l)))) (sym says)
-        (ap joined named ∙ joined_cut (length numbers) bytes)
+        (ap joined named ∙ joined_cut (length numbers) bytes ∙ whole)
         ∙ sym is
 
     -- no fault: the pages are the record's
-    pub loaded_pages : nonzero_from len (drop len (take (PAGE * length numbers) bytes)) ≡ None
-        → pages_named area body s ≡ pages_in (take len bytes)
-    loaded_pages none = named ∙ sym (cut_filled (length numbers) len bytes count room
-        (all_zeros (drop len (take (PAGE * length numbers) bytes)) len none))
+    pub loaded_pages : nonzero_from len (drop len bytes) ≡ None → pages_named area body s ≡ pages_in (take len bytes)
+    loaded_pages none = named ∙ sym (cut_filled (length numbers) len bytes count (omega (arith, size))
+        (all_zeros (drop len (take (PAGE * length numbers) bytes)) len (ap (λ (l : List ℕ). nonzero_from len (drop len l)) whole ∙ none)))
 
   -- behind the record its pages have zeros
-  pub loaded_blank : (bytes : List ℕ) → length bytes ≡ PAGE * area.most
-      → nonzero_from len (drop len (take (PAGE * length numbers) bytes)) ≡ None
+  pub loaded_blank : (bytes : List ℕ) → length bytes ≡ PAGE * length numbers → nonzero_from len (drop len bytes) ≡ None
       → drop len (take (PAGE * length numbers) bytes) ≡ replicate (PAGE * length numbers - len) 0
   loaded_blank bytes size none =
-      all_zeros (drop len (take (PAGE * length numbers) bytes)) len none
-      ∙ ap (λ k. replicate k 0) (length-drop len (take (PAGE * length numbers) bytes)
-      ∙ ap (λ k. k - len) (length-take-le (PAGE * length numbers) bytes (omega (arith, few, size))))
+      ap (λ (l : List ℕ). drop len l) (take_all (PAGE * length numbers) bytes (omega (arith, size)))
+      ∙ all_zeros (drop len bytes) len none
+      ∙ ap (λ k. replicate k 0) (length-drop len bytes ∙ ap (λ k. k - len) size)

@@ -72,7 +72,8 @@ module _ (fault_at : List ℕ → Option ℕ) (area : Area) (second : Bool) (bod
   text_is = ap (λ (k : Kept). take k.len k.bytes.items) is_kept
 
   text_long : length_in body ≡ length text
-  text_long = sym (ap (λ (l : List ℕ). length l) text_is ∙ length-take-le kept.len kept.bytes.items kept.fits ∙ named.len)
+  text_long = sym (ap (λ (l : List ℕ). length l) text_is
+      ∙ length-take-le kept.len kept.bytes.items (omega (arith, kept.covers, kept.fits)) ∙ named.len)
 
   numbers : record_names body ≡ pager.kept.numbers.items
   numbers = sym (ap (λ (k : Kept). k.numbers.items) is_kept ∙ named.numbers)

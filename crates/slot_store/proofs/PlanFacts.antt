@@ -20,7 +20,7 @@ use Rattle.slot_store.specs.Stops.{wipes_of, writes_of}
 use Rattle.slot_store.specs.Pager.{content, mark}
 use Rattle.slot_store.proofs.Contents.{pages_are}
 use Rattle.slot_store.proofs.HasPlan.{AreOthers, HasPlan, fresh}
-use Rattle.slot_store.proofs.Replanned.{IsKept, free_left, held_room, kept_is, old_long, old_pages, plan_is}
+use Rattle.slot_store.proofs.Replanned.{IsKept, free_left, kept_is, old_long, old_pages, plan_is}
 
 -- ---- numbers of an area's pages
 
@@ -45,7 +45,7 @@ module _ (pager : Pager) where
       (entries_lawful pager.area.pages pager.draft.plan.dropped.items pager.drops)
 
   kept_in : IsKept pager.area pager.kept.len pager.kept.bytes.items pager.kept.numbers.items
-  kept_in = kept_is pager.area pager.kept pager.long pager.entries
+  kept_in = kept_is pager.area pager.kept pager.few pager.entries
 
 module _ (old new : Pager) (text : List ℕ) (staged : IsStaged old new text)
     (fits : Fits old.area text) where
@@ -113,8 +113,7 @@ module _ (old new : Pager) (text : List ℕ) (staged : IsStaged old new text)
       new.kept.numbers.items (kept_in new) ∙ sym (pages_are new) ∙ ap pages_held staged.holds)
 
   room : PAGE * length new.kept.numbers.items ≤ length new.kept.bytes.items
-  room = held_room new.area new.lawful new.kept.len new.kept.bytes.items new.kept.numbers.items
-      (kept_in new)
+  room = new.kept.fits
 
   inside : (j : ℕ) → j < length new.draft.plan.places.items
       → PAGE * slice_index new.draft.plan.places.items j + PAGE ≤ length new.kept.bytes.items

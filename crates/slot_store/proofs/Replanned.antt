@@ -17,15 +17,23 @@ use Rattle.slot_store.specs.Layout.{free_in}
 
 -- a record in memory, and the numbers of its pages
 pub record IsKept (area : Area) (len : ℕ) (bytes numbers : List ℕ) : Type 0 where
+  pub fits : PAGE * length numbers ≤ length bytes
   pub inside : len ≤ length bytes
   pub blank : drop len (take (PAGE * length numbers) bytes) ≡ replicate (PAGE * length numbers - len) 0
   pub each : length numbers ≡ page_count len
-  pub long : length bytes ≡ PAGE * area.most
+  pub few : len ≤ PAGE * area.most
   pub entries : entry_fault area.pages [] 6 numbers ≡ None
 
-pub kept_is : (area : Area) (kept : Kept) → length kept.bytes.items ≡ PAGE * area.most → entry_fault area.pages [] 6 kept.numbers.items ≡ None
+pub kept_is : (area : Area) (kept : Kept) → kept.len ≤ PAGE * area.most → entry_fault area.pages [] 6 kept.numbers.items ≡ None
     → IsKept area kept.len kept.bytes.items kept.numbers.items
-kept_is area kept long entries = record { inside = kept.fits; blank = kept.blank; each = each_of kept; long = long; entries = entries }
+kept_is area kept few entries = record {
+  fits = kept.fits;
+  inside = omega (arith, kept.covers, kept.fits);
+  blank = kept.blank;
+  each = each_of kept;
+  few = few;
+  entries = entries;
+}
 
 -- the free numbers, as they were filled in
 pub filled_is : (area : Area) (numbers now free : List ℕ) (total : ℕ) → now ≡ numbers → total ≡ area.pages → free ≡ free_from now (total - 2) 2
@@ -35,18 +43,15 @@ filled_is area numbers now free total is all filled =
 
 module _ (area : Area) (lawful : IsArea area) (len : ℕ) (bytes numbers : List ℕ) (kept : IsKept area len bytes numbers) where
   pub held_few : length numbers ≤ area.most
-  held_few = omega (arith, kept.each, count_least len area.most (omega (arith, kept.inside, kept.long)))
-
-  pub held_room : PAGE * length numbers ≤ length bytes
-  held_room = omega (arith, held_few, kept.long)
+  held_few = omega (arith, kept.each, count_least len area.most kept.few)
 
   -- its pages, in memory
   pub old_pages : cut (length numbers) bytes ≡ pages_in (take len bytes)
   old_pages =
-      sym (cut_filled (length numbers) len bytes kept.each held_room (kept.blank ∙ ap (λ k. replicate k 0) (
+      sym (cut_filled (length numbers) len bytes kept.each kept.fits (kept.blank ∙ ap (λ k. replicate k 0) (
       let e : PAGE * length numbers - len ≡ length (drop len (take (PAGE * length numbers) bytes)) =
       sym (length-drop len (take (PAGE * length numbers) bytes)
-      ∙ ap (λ k. k - len) (length-take-le (PAGE * length numbers) bytes held_room)) in e)))
+      ∙ ap (λ k. k - len) (length-take-le (PAGE * length numbers) bytes kept.fits)) in e)))
 
   pub old_long : length numbers ≡ length (pages_in (take len bytes))
   old_long =

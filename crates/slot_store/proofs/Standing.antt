@@ -80,11 +80,11 @@ module _ (pager : Pager) where
   marked_as text false is_some is =
       let same : take pager.kept.len all ≡ text = cc in
       let long : length text ≡ pager.kept.len =
-      ap (λ (l : List ℕ). length l) (sym same) ∙ length-take-le pager.kept.len all pager.kept.fits in
+      ap (λ (l : List ℕ). length l) (sym same) ∙ length-take-le pager.kept.len all (omega (arith, pager.kept.covers, pager.kept.fits)) in
       record {
         low = let e = is_some in grind (arith, nat_tests);
         high = pager.turns;
-        fits = text_fits pager.area text (omega (arith, long, pager.kept.fits, pager.long));
+        fits = text_fits pager.area text (omega (arith, long, pager.few));
         each = each_of pager.kept ∙ ap page_count (sym long);
         entries = pager.entries;
       }

@@ -1,5 +1,5 @@
 -- Where a store lies on its disk.
-use Rattle.std.specs.Prelude.{◌≡◌, ℕ, ◌+◌, ◌*◌, ◌^◌, ◌<◌, ◌≤◌, List, length}
+use Rattle.std.specs.Prelude.{◌≡◌, ℕ, ◌+◌, ◌*◌, ◌^◌, ◌<◌, ◌≤◌, List, Vec, length, vec_capacity}
 use Rattle.dr_base.specs.declared.limits.TheConstants.{PAGE}
 use Rattle.pages.specs.declared.layout.Layout.{Layout}
 use Rattle.pages.specs.declared.layout.TheConstants.{LOWER_PAGES}
@@ -48,6 +48,10 @@ IsSameOutsideArea area = IsSameAround (layout_of area)
 -- bytes that have room for any record of the area, and no more
 abbrev pub HasRecordRoom : Area → List ℕ → Type 0
 HasRecordRoom area bytes = length bytes ≡ PAGE * area.most
+
+-- memory in which such a room lies, or can come to lie without more
+abbrev pub HasRecordMemory : {Z : Type 0} → Area → Vec ℕ Z → Type 0
+HasRecordMemory area bytes = PAGE * area.most ≤ vec_capacity bytes
 
 -- such a room, whose first `len` bytes are a text
 pub record HasText (area : Area) (bytes : List ℕ) (len : ℕ) : Type 0 where

@@ -1,21 +1,23 @@
 -- A record that was read into memory.
-use Rattle.std.specs.Prelude.{◌≡◌, ⊤, ℕ, ◌≤◌, List, map, take, vec_capacity, Option, Some, None}
+use Rattle.std.specs.Prelude.{◌≡◌, ⊤, ℕ, ◌*◌, ◌≤◌, List, map, take, vec_capacity, Option, Some, None}
+use Rattle.dr_base.specs.declared.limits.TheConstants.{PAGE}
 use Rattle.pages.specs.Snapshots.{page_of}
 use Rattle.record_pages.specs.Pages.{pages_in}
 use Rattle.record_pages.specs.Tables.{length_in, record_names, table_fault}
 use Rattle.slot_store.specs.declared.kept.Kept.{Kept}
 use Rattle.slot_store.specs.declared.loading.Loaded.{Loaded}
 use Rattle.slot_store.specs.declared.loading.Loaded.TheVariants.{Faulty, Whole}
-use Rattle.slot_store.specs.Areas.{Area, HasRecordRoom, layout_of}
+use Rattle.slot_store.specs.Areas.{Area, HasRecordMemory, layout_of}
 use Rattle.slot_store.specs.Reading.{fault_in}
 
 -- the pages that a table names
 abbrev pub pages_named : Area → List ℕ → List ℕ → List (List ℕ)
 pages_named area body s = map (page_of (layout_of area) s) (record_names body)
 
--- room for a record of the area, and for the numbers of its pages
+-- memory for a record of the area, and for the numbers of its pages; what it has is no longer than such a record
 pub record HasRoomToLoad (area : Area) (kept : Kept) : Type 0 where
-  pub long : HasRecordRoom area kept.bytes.items
+  pub few : kept.len ≤ PAGE * area.most
+  pub long : HasRecordMemory area kept.bytes
   pub room : area.most ≤ vec_capacity kept.numbers
 
 -- a record that a faultless table names, in the grammar

@@ -2,7 +2,7 @@
 
 ghost use Rattle.std.specs.Prelude.{◌≡◌, ◌≤◌, ◌<◌, ◌+◌, ◌-◌, ◌*◌, length, take, drop, replicate, IfOk};
 ghost use Rattle.dr_base.specs.declared.limits.TheConstants.{PAGE};
-ghost use Rattle.slot_store.specs.Areas.{HasRecordRoom};
+ghost use Rattle.slot_store.specs.Areas.{HasRecordMemory, HasRecordRoom};
 
 use crate::area::{Area, record_most};
 use dr_base::PAGE;
@@ -12,11 +12,12 @@ use std::mem::swap;
 /// A record and the numbers of its pages, in memory that was taken at opening.
 #[derive(Drop)]
 pub(crate) struct Kept {
-    /// The record, and zeros behind it up to the end of its last page.
+    /// The record, and zeros behind it up to the end of its last page. What was read ends there;
+    /// what was put has all the room of its text.
     pub(crate) bytes: Vec<u8>,
     pub(crate) len: usize,
     pub(crate) numbers: Vec<u32>,
-    ghost fits: { len ≤ length bytes.items },
+    ghost fits: { PAGE * length numbers.items ≤ length bytes.items },
     ghost blank: { drop len (take (PAGE * length numbers.items) bytes.items)
         ≡ replicate (PAGE * length numbers.items - len) 0 },
     ghost covers: { len ≤ PAGE * length numbers.items },
@@ -32,7 +33,7 @@ impl Kept {
         ensures room { IfOk result (HasRoomToLoad area) }
     {
         Ok(Kept {
-            bytes: record_room(alloc, area)?,
+            bytes: record_memory(alloc, area)?,
             len: 0,
             numbers: Vec::with_capacity(alloc, record_most(area) as usize)?,
         })
@@ -46,11 +47,30 @@ impl Kept {
     }
 }
 
+/// Memory for the longest record of an area, in which nothing stands yet.
+pub fn record_memory(alloc: Global, area: Area) -> Result<Vec<u8>, AllocError>
+    ensures { IfOk result (HasRecordMemory area) }
+{
+    Vec::with_capacity(alloc, PAGE * record_most(area) as usize)
+}
+
 /// Room in which a record of an area is put together.
 pub fn record_room(alloc: Global, area: Area) -> Result<Vec<u8>, AllocError>
     ensures { IfOk result (λ room. HasRecordRoom area room.items) }
 {
-    vec![in alloc; 0; PAGE * record_most(area) as usize]
+    let mut room = record_memory(alloc, area)?;
+    lengthen(area, &mut room);
+    Ok(room)
+}
+
+/// Makes the room in which a record is put together as long as the longest record of an area, in
+/// the memory that it has. Where it is that long it stays as it is.
+pub fn lengthen(area: Area, room: &mut Vec<u8>)
+    requires { HasRecordMemory area room.old }
+    ensures room { HasRecordRoom area room.new.items }
+    ensures memory { HasRecordMemory area room.new }
+{
+    room.resize(PAGE * record_most(area) as usize, 0).unwrap();
 }
 
 /// Makes the bytes from a place up to another one zeros.

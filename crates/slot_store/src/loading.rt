@@ -1,6 +1,6 @@
 //! The record that a table names is read into memory, and judged.
 
-ghost use Rattle.std.specs.Prelude.{◌≡◌, ◌≤◌, ◌+◌, ◌*◌, length, map, take, drop, IfOk, IsNone, OnOk};
+ghost use Rattle.std.specs.Prelude.{◌≡◌, ◌≤◌, ◌+◌, ◌*◌, length, map, take, drop, vec_capacity, IfOk, IsNone, OnOk};
 ghost use Rattle.dr_base.specs.declared.limits.TheConstants.{PAGE};
 ghost use Rattle.dr_disk.specs.State.{OnSeen};
 ghost use Rattle.pages.specs.Layouts.{IsSound};
@@ -58,6 +58,21 @@ fn read_pages<D: Disk>(
     Ok(())
 }
 
+/// Reads the pages of these numbers into a room, which has just these pages then.
+fn fill<D: Disk>(disk: &mut D, area: Area, numbers: &[u32], bytes: &mut Vec<u8>) -> Result<(), Call>
+    requires sound { IsSound (layout_of area) (D.state disk.old).size }
+    requires pages { ArePages (layout_of area) numbers.now }
+    requires room { PAGE * length numbers.now ≤ vec_capacity bytes.old }
+    ensures pages { OnOk result (OnSeen (λ s. cut (length numbers.now) bytes.new.items
+        ≡ map (page_of (layout_of area) s) numbers.now) (D.state disk.old)) }
+    ensures long { length bytes.new.items ≡ PAGE * length numbers.now }
+    ensures room { vec_capacity bytes.old ≤ vec_capacity bytes.new }
+    ensures looks { ReadsAlone (D.state disk.old) (D.state disk.new) result }
+{
+    bytes.resize(PAGE * numbers.len(), 0).unwrap();
+    read_pages(disk, area, numbers, bytes)
+}
+
 /// The first place in a record's pages that no record has, counted from its table, if there is one.
 fn record_fault<G: Grammar>(pages: &[u8], len: usize, reader: &mut G) -> Option<u64>
     requires fits { len ≤ length pages.now }
@@ -106,12 +121,12 @@ pub(crate) fn load<G: Grammar, D: Disk>(
     if let Some(at) = table_fault(body, total, record_most(area), &mut numbers) {
         return Ok(Loaded::Faulty { at: at as u64 });
     }
-    match read_pages(disk, area, &numbers, &mut bytes) {
+    match fill(disk, area, &numbers, &mut bytes) {
         Ok(()) => {}
         Err(call) => return Err(call),
     }
     let len = record_length(body) as usize;
-    if let Some(at) = record_fault(&bytes[..PAGE * numbers.len()], len, reader) {
+    if let Some(at) = record_fault(&bytes, len, reader) {
         return Ok(Loaded::Faulty { at });
     }
     Ok(Loaded::Whole {

@@ -8,7 +8,7 @@ ghost use Rattle.dr_disk.specs.State.{Always};
 ghost use Rattle.dr_disk.specs.Spans.{Span};
 ghost use Rattle.dr_disk.specs.Called.{Called};
 ghost use Rattle.record_pages.specs.Tables.{entry_fault};
-ghost use Rattle.slot_store.specs.Areas.{HasRecordRoom, HasText, IsArea};
+ghost use Rattle.slot_store.specs.Areas.{HasRecordMemory, HasText, IsArea};
 ghost use Rattle.slot_store.specs.Memory.{HasPlanRoom};
 ghost use Rattle.pages.specs.Runs.{FailsBy};
 ghost use Rattle.pages.specs.Stops.{put_call};
@@ -40,7 +40,8 @@ pub(crate) struct Pager {
     ghost lawful: { IsArea area },
     ghost turns: { turn ≤ 3 },
     ghost none: { turn ≡ 0 → kept.len ≡ 0 },
-    ghost long: { length kept.bytes.items ≡ PAGE * area.most },
+    ghost few: { kept.len ≤ PAGE * area.most },
+    ghost long: { HasRecordMemory area kept.bytes },
     ghost entries: { entry_fault area.pages [] 6 kept.numbers.items ≡ None },
     ghost numbers: { area.most ≤ vec_capacity kept.numbers },
     ghost drops: { entry_fault area.pages [] 6 draft.plan.dropped.items ≡ None },
@@ -65,7 +66,7 @@ impl Pager {
     fn stage(&mut self, text: &mut Vec<u8>, len: usize)
         requires { HasText self.old.area text.old.items len }
         ensures staged { IsStaged self.old self.new (take len text.old.items) }
-        ensures room { HasRecordRoom self.old.area text.new.items }
+        ensures room { HasRecordMemory self.old.area text.new }
     {
         let turn = next(self.turn);
         self.replaced = self.turn != 0;
@@ -95,7 +96,7 @@ impl Pager {
         ensures done { OnOk result (Always (HasPut self.old self.new (take len text.old.items)
             (D.state disk.old)) (D.state disk.new)) }
         ensures staged { IsStaged self.old self.new (take len text.old.items) }
-        ensures room { HasRecordRoom self.old.area text.new.items }
+        ensures room { HasRecordMemory self.old.area text.new }
 
         // How the calls went.
         ensures calls { Called

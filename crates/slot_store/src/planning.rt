@@ -5,7 +5,7 @@ ghost use Rattle.dr_base.specs.declared.limits.TheConstants.{PAGE};
 ghost use Rattle.record_pages.specs.Pages.{pages_in};
 ghost use Rattle.record_pages.specs.Plans.{changed_places, dropped, numbered};
 ghost use Rattle.record_pages.specs.Tables.{entry_fault};
-ghost use Rattle.slot_store.specs.Areas.{HasRecordRoom, HasText};
+ghost use Rattle.slot_store.specs.Areas.{HasRecordMemory, HasText};
 ghost use Rattle.slot_store.specs.Memory.{HasPlanRoom};
 ghost use Rattle.slot_store.specs.Layout.{free_in};
 
@@ -37,7 +37,8 @@ pub(crate) fn take_draft(alloc: Global, area: Area) -> Result<Draft, AllocError>
 /// Puts a text in place of the record in memory, and plans what of it is written and what is wiped.
 pub(crate) fn replan(area: Area, kept: &mut Kept, draft: &mut Draft, text: &mut Vec<u8>, len: usize)
     requires text { HasText area text.old.items len }
-    requires long { length kept.old.bytes.items ≡ PAGE * area.most }
+    requires few { kept.old.len ≤ PAGE * area.most }
+    requires long { HasRecordMemory area kept.old.bytes }
     requires entries { entry_fault area.pages [] 6 kept.old.numbers.items ≡ None }
     requires numbers { area.most ≤ vec_capacity kept.old.numbers }
     requires room { HasPlanRoom area draft.old }
@@ -45,7 +46,8 @@ pub(crate) fn replan(area: Area, kept: &mut Kept, draft: &mut Draft, text: &mut 
     // The record in memory.
     ensures len { kept.new.len ≡ len }
     ensures text { take kept.new.len kept.new.bytes.items ≡ take len text.old.items }
-    ensures long { length kept.new.bytes.items ≡ PAGE * area.most }
+    ensures few { kept.new.len ≤ PAGE * area.most }
+    ensures long { HasRecordMemory area kept.new.bytes }
     ensures numbers { kept.new.numbers.items
         ≡ numbered (pages_in (take kept.old.len kept.old.bytes.items)) kept.old.numbers.items
         (pages_in (take len text.old.items)) (free_in area kept.old.numbers.items) }
@@ -53,7 +55,7 @@ pub(crate) fn replan(area: Area, kept: &mut Kept, draft: &mut Draft, text: &mut 
     ensures number_room { area.most ≤ vec_capacity kept.new.numbers }
 
     // The room that the record before had.
-    ensures given { HasRecordRoom area text.new.items }
+    ensures given { HasRecordMemory area text.new }
 
     // The plan.
     ensures free { draft.new.free.items ≡ free_in area kept.old.numbers.items }

@@ -3,7 +3,7 @@
 ghost use Rattle.std.specs.Prelude.{◌≡◌, take, Option, OnOk};
 ghost use Rattle.dr_disk.specs.State.{Always};
 ghost use Rattle.dr_disk.specs.Called.{Called};
-ghost use Rattle.slot_store.specs.Areas.{HasRecordRoom, HasText};
+ghost use Rattle.slot_store.specs.Areas.{HasRecordMemory, HasText};
 ghost use Rattle.pages.specs.Runs.{FailsBy};
 ghost use Rattle.slot_store.specs.Stops.{call_after, calls_of};
 
@@ -41,8 +41,8 @@ impl SlotStore {
     }
 
     /// Replaces the record by the first `len` bytes of a text: a put, and then a retire. The text's
-    /// room is taken over with it, and the room of the record before is handed back: what it holds
-    /// isn't said.
+    /// room is taken over with it, and the room of the record before is handed back: how long it is
+    /// and what it holds isn't said, but `lengthen` makes it a room for a text again.
     pub fn replace<D: Disk>(
         &mut self,
         disk: &mut D,
@@ -62,7 +62,7 @@ impl SlotStore {
             (D.state disk.old)) (D.state disk.new)) }
         ensures holds { OnOk result (content self.new ≡ Option.Some (take len text.old.items)) }
         ensures next { IsNext self.old self.new (take len text.old.items) }
-        ensures room { HasRecordRoom self.old.area text.new.items }
+        ensures room { HasRecordMemory self.old.area text.new }
 
         // How the calls went.
         ensures calls { Called

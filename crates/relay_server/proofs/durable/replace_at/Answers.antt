@@ -1,4 +1,4 @@
-use Rattle.std.proofs.Common.{false, get_or, subst, sym, take, true, ◌∙◌}
+use Rattle.std.proofs.Common.{false, get_or, subst, take, true, arith}
 use Rattle.std.proofs.lemmas.Option.{get_or_from_slice_get, slice_get-get_or}
 use Rattle.relay_server.specs.Durable.{IsReplaced}
 use Rattle.relay_server.proofs.StorePlaces.{others_stay, put_there}
@@ -54,11 +54,13 @@ returns-in-Err-clause-there g c = λ old new was now.
     }))
 
 pub returns-in-Ok-clause-room : goal.returns-in-Ok-clause-room
-returns-in-Ok-clause-room g c = c.replace.ensures.room
-    ∙ sym (c.requires.ready (get_or c.args.stores.now c.args.place c.index-stores-place.result)
-    (slice_get-get_or c.args.stores.now c.args.place c.index-stores-place.result c.requires.inside)).0.room
+returns-in-Ok-clause-room g c =
+    let ready = c.requires.ready (get_or c.args.stores.now c.args.place c.index-stores-place.result)
+    (slice_get-get_or c.args.stores.now c.args.place c.index-stores-place.result c.requires.inside) in
+    omega (arith, ready.0.room, c.replace.ensures.room)
 
 pub returns-in-Err-clause-room : goal.returns-in-Err-clause-room
-returns-in-Err-clause-room g c = c.replace.ensures.room
-    ∙ sym (c.requires.ready (get_or c.args.stores.now c.args.place c.index-stores-place.result)
-    (slice_get-get_or c.args.stores.now c.args.place c.index-stores-place.result c.requires.inside)).0.room
+returns-in-Err-clause-room g c =
+    let ready = c.requires.ready (get_or c.args.stores.now c.args.place c.index-stores-place.result)
+    (slice_get-get_or c.args.stores.now c.args.place c.index-stores-place.result c.requires.inside) in
+    omega (arith, ready.0.room, c.replace.ensures.room)

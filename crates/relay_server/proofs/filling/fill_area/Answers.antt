@@ -1,7 +1,5 @@
-use Rattle.std.proofs.Common.{◌≡◌, ◌<◌, Some, None, Ok, Err, Result, List, ℕ, ap, arith, length, refl, rules, subst, sym, take, true, ◌∙◌}
+use Rattle.std.proofs.Common.{◌≡◌, ◌<◌, Some, None, Ok, Err, Result, ap, arith, length, refl, rules, subst, sym, take, true, ◌∙◌}
 use Rattle.std.specs.Prelude.{OnOk, is_ok, slice_get}
-use Rattle.std.specs.Vec.{with_items}
-use Rattle.std.proofs.lemmas.List.{with_items_is}
 use Rattle.std.proofs.lemmas.Bool.{eqb-false, eqb-true}
 use Rattle.std.proofs.lemmas.Option.{slice_get-get_or}
 use Rattle.slot_store.specs.Store.{SlotStore, content}
@@ -29,10 +27,9 @@ returns-then-not-is_empty-clause-fills g c =
 
 pub replace_at-requires-clause-ready : goal.replace_at-requires-clause-ready
 replace_at-requires-clause-ready g c = λ store there.
-    let items = with_items_is c.args.text.now c.write_text-len.new.out (c.write_text-len.auto.out ∙ c.deref_mut.ensures.len) in
-    let long = ap length items ∙ c.write_text-len.auto.out ∙ ap length c.deref_mut.ensures.value in
     place_ready c.args.place c.args.relay.now c.args.stores.now (g.D.Disk.state c.args.disk.now) _ c.write_text-len.result
-    c.requires.filled c.requires.inside (long ∙ c.requires.room) (omega (arith, long, c.requires.room, c.write_text-len.ensures.len)) store there
+    c.requires.filled c.requires.inside c.write_text-len.ensures.room
+    (omega (arith, c.write_text-len.ensures.room, c.write_text-len.ensures.len)) store there
 
 on_ok : {A E : Type 0} (r : Result A E) (P : Type 0) → (is_ok r ≡ true → P) → OnOk r P
 on_ok (Ok a) P gives = gives refl
@@ -46,21 +43,20 @@ returns-clause-fills g c =
     let box = there_is c.args.relay.now c.args.place c.requires.inside in
     let empty = eqb-true (length c.content.result.now) 0 (sym c.is_empty.ensures ∙ (search rules)) in
     let none : content store ≡ None = none_there c.args.place c.args.place box.0 (content store) (c.requires.filled.each c.args.place store box.0 here box.1) (ap length (ap (λ (s : SlotStore). content_or_empty (content s)) c.index-stores-place.is ∙ sym c.content.ensures) ∙ empty) in
-    let put : Put c.args.place c.args.relay.now c.args.stores.now c.replace_at.new.stores (take c.write_text-len.result (with_items c.args.text.now c.write_text-len.new.out).items) (g.D.Disk.state c.args.disk.now) (g.D.Disk.state c.replace_at.new.disk) (is_ok c.replace_at.result) = record {
+    let put : Put c.args.place c.args.relay.now c.args.stores.now c.replace_at.new.stores (take c.write_text-len.result c.write_text-len.new.text.items) (g.D.Disk.state c.args.disk.now) (g.D.Disk.state c.replace_at.new.disk) (is_ok c.replace_at.result) = record {
       filled = c.requires.filled;
       inside = c.requires.inside;
       none = λ other there. let e : Some store ≡ Some other = sym here ∙ there in let f : store ≡ other = cc in subst (λ (s : SlotStore). content s ≡ None) f none;
       stores_count = c.replace_at.ensures.count;
-      written = λ of there. ap (λ (l : List ℕ). take c.write_text-len.result l) (with_items_is c.args.text.now c.write_text-len.new.out
-          (c.write_text-len.auto.out ∙ c.deref_mut.ensures.len)) ∙ c.write_text-len.ensures.text of there;
+      written = c.write_text-len.ensures.text;
       others = c.replace_at.ensures.others;
       there = c.replace_at.ensures.there;
       local = c.locality.ensures;
       resting = c.resting.ensures.record_of;
     } in
     record {
-      filled = on_ok c.replace_at.result _ (put_filled c.args.place c.args.relay.now c.args.stores.now c.replace_at.new.stores (take c.write_text-len.result (with_items c.args.text.now c.write_text-len.new.out).items) (g.D.Disk.state c.args.disk.now) (g.D.Disk.state c.replace_at.new.disk) (is_ok c.replace_at.result) put);
-      any_moment = put_moments c.args.place c.args.relay.now c.args.stores.now c.replace_at.new.stores (take c.write_text-len.result (with_items c.args.text.now c.write_text-len.new.out).items) (g.D.Disk.state c.args.disk.now) (g.D.Disk.state c.replace_at.new.disk) (is_ok c.replace_at.result) put;
+      filled = on_ok c.replace_at.result _ (put_filled c.args.place c.args.relay.now c.args.stores.now c.replace_at.new.stores (take c.write_text-len.result c.write_text-len.new.text.items) (g.D.Disk.state c.args.disk.now) (g.D.Disk.state c.replace_at.new.disk) (is_ok c.replace_at.result) put);
+      any_moment = put_moments c.args.place c.args.relay.now c.args.stores.now c.replace_at.new.stores (take c.write_text-len.result c.write_text-len.new.text.items) (g.D.Disk.state c.args.disk.now) (g.D.Disk.state c.replace_at.new.disk) (is_ok c.replace_at.result) put;
       fault = c.replace_at.ensures.fault;
       quiet = c.replace_at.ensures.quiet;
     }

@@ -19,7 +19,7 @@ plan_pages-requires-clause-enough c =
     c.deref-4.ensures.value ∙ filled_is c.args.area kept.numbers.items c.deref.result.now c.fill_free.new.free.items c.page_total-total.result
     c.deref.ensures.value c.page_total-total.ensures.total c.fill_free.ensures.free in
     let said : take c.args.len c.deref-3.result.now ≡ text = ap (λ (l : List ℕ). take c.args.len l) c.deref-3.ensures.value in
-    let is_kept = kept_is c.args.area kept c.requires.long c.requires.entries in
+    let is_kept = kept_is c.args.area kept c.requires.few c.requires.entries in
     given_room c.args.area c.page_total-total.ensures.lawful kept.len kept.bytes.items kept.numbers.items
     is_kept text fits c.deref-2.result.now c.deref-4.result.now (take c.args.len c.deref-3.result.now) c.deref-2.ensures.value free said
 
@@ -32,7 +32,7 @@ overflow_mul-end c =
     c.deref-4.ensures.value ∙ filled_is c.args.area kept.numbers.items c.deref.result.now c.fill_free.new.free.items c.page_total-total.result
     c.deref.ensures.value c.page_total-total.ensures.total c.fill_free.ensures.free in
     let said : take c.args.len c.deref-3.result.now ≡ text = ap (λ (l : List ℕ). take c.args.len l) c.deref-3.ensures.value in
-    let is_kept = kept_is c.args.area kept c.requires.long c.requires.entries in
+    let is_kept = kept_is c.args.area kept c.requires.few c.requires.entries in
     let count : length c.plan_pages.new.numbers.items ≡ page_count c.args.len =
     count_is c.args.area c.page_total-total.ensures.lawful kept.len kept.bytes.items kept.numbers.items
     is_kept text fits c.deref-2.result.now c.deref-4.result.now (take c.args.len c.deref-3.result.now) c.deref-2.ensures.value free said
@@ -51,7 +51,7 @@ take_over-requires-clause-inside c =
     c.deref-4.ensures.value ∙ filled_is c.args.area kept.numbers.items c.deref.result.now c.fill_free.new.free.items c.page_total-total.result
     c.deref.ensures.value c.page_total-total.ensures.total c.fill_free.ensures.free in
     let said : take c.args.len c.deref-3.result.now ≡ text = ap (λ (l : List ℕ). take c.args.len l) c.deref-3.ensures.value in
-    let is_kept = kept_is c.args.area kept c.requires.long c.requires.entries in
+    let is_kept = kept_is c.args.area kept c.requires.few c.requires.entries in
     let count : length c.plan_pages.new.numbers.items ≡ page_count c.args.len =
     count_is c.args.area c.page_total-total.ensures.lawful kept.len kept.bytes.items kept.numbers.items
     is_kept text fits c.deref-2.result.now c.deref-4.result.now (take c.args.len c.deref-3.result.now) c.deref-2.ensures.value free said
@@ -69,7 +69,7 @@ take_over-requires-clause-room c =
     c.deref-4.ensures.value ∙ filled_is c.args.area kept.numbers.items c.deref.result.now c.fill_free.new.free.items c.page_total-total.result
     c.deref.ensures.value c.page_total-total.ensures.total c.fill_free.ensures.free in
     let said : take c.args.len c.deref-3.result.now ≡ text = ap (λ (l : List ℕ). take c.args.len l) c.deref-3.ensures.value in
-    let is_kept = kept_is c.args.area kept c.requires.long c.requires.entries in
+    let is_kept = kept_is c.args.area kept c.requires.few c.requires.entries in
     let count : length c.plan_pages.new.numbers.items ≡ page_count c.args.len =
     count_is c.args.area c.page_total-total.ensures.lawful kept.len kept.bytes.items kept.numbers.items
     is_kept text fits c.deref-2.result.now c.deref-4.result.now (take c.args.len c.deref-3.result.now) c.deref-2.ensures.value free said
@@ -78,6 +78,24 @@ take_over-requires-clause-room c =
     let ends : c.len-end.result ≡ length c.plan_pages.new.numbers.items = omega (arith, c.len-end.ensures, c.plan_pages.new.numbers.ok.0) in
     let few = count_least c.args.len c.args.area.most (omega (arith, c.requires.text.inside, c.requires.text.room)) in
     omega (arith, count, ends, few, c.requires.text.room)
+
+pub invariant_of-kept-clause-fits : goal.invariant_of-kept-clause-fits
+invariant_of-kept-clause-fits c =
+    let kept = c.args.kept.now in
+    let text : List ℕ = take c.args.len c.args.text.now.items in
+    let fits = held_fits c.args.area c.args.text.now.items c.args.len c.requires.text in
+    let free : c.deref-4.result.now ≡ free_in c.args.area kept.numbers.items =
+    c.deref-4.ensures.value ∙ filled_is c.args.area kept.numbers.items c.deref.result.now c.fill_free.new.free.items c.page_total-total.result
+    c.deref.ensures.value c.page_total-total.ensures.total c.fill_free.ensures.free in
+    let said : take c.args.len c.deref-3.result.now ≡ text = ap (λ (l : List ℕ). take c.args.len l) c.deref-3.ensures.value in
+    let is_kept = kept_is c.args.area kept c.requires.few c.requires.entries in
+    let count : length c.plan_pages.new.numbers.items ≡ page_count c.args.len =
+    count_is c.args.area c.page_total-total.ensures.lawful kept.len kept.bytes.items kept.numbers.items
+    is_kept text fits c.deref-2.result.now c.deref-4.result.now (take c.args.len c.deref-3.result.now) c.deref-2.ensures.value free said
+    c.plan_pages.new.numbers.items c.plan_pages.ensures.numbers
+    ∙ ap page_count (length-take-le c.args.len c.args.text.now.items c.requires.text.inside) in
+    let few = count_least c.args.len c.args.area.most (omega (arith, c.requires.text.inside, c.requires.text.room)) in
+    omega (arith, count, few, c.requires.text.room, c.take_over.ensures.long)
 
 pub invariant_of-kept-clause-blank : goal.invariant_of-kept-clause-blank
 invariant_of-kept-clause-blank c =
@@ -94,7 +112,7 @@ invariant_of-kept-clause-covers c =
     c.deref-4.ensures.value ∙ filled_is c.args.area kept.numbers.items c.deref.result.now c.fill_free.new.free.items c.page_total-total.result
     c.deref.ensures.value c.page_total-total.ensures.total c.fill_free.ensures.free in
     let said : take c.args.len c.deref-3.result.now ≡ text = ap (λ (l : List ℕ). take c.args.len l) c.deref-3.ensures.value in
-    let is_kept = kept_is c.args.area kept c.requires.long c.requires.entries in
+    let is_kept = kept_is c.args.area kept c.requires.few c.requires.entries in
     let count : length c.plan_pages.new.numbers.items ≡ page_count c.args.len =
     count_is c.args.area c.page_total-total.ensures.lawful kept.len kept.bytes.items kept.numbers.items
     is_kept text fits c.deref-2.result.now c.deref-4.result.now (take c.args.len c.deref-3.result.now) c.deref-2.ensures.value free said
@@ -111,7 +129,7 @@ invariant_of-kept-clause-least c =
     c.deref-4.ensures.value ∙ filled_is c.args.area kept.numbers.items c.deref.result.now c.fill_free.new.free.items c.page_total-total.result
     c.deref.ensures.value c.page_total-total.ensures.total c.fill_free.ensures.free in
     let said : take c.args.len c.deref-3.result.now ≡ text = ap (λ (l : List ℕ). take c.args.len l) c.deref-3.ensures.value in
-    let is_kept = kept_is c.args.area kept c.requires.long c.requires.entries in
+    let is_kept = kept_is c.args.area kept c.requires.few c.requires.entries in
     let count : length c.plan_pages.new.numbers.items ≡ page_count c.args.len =
     count_is c.args.area c.page_total-total.ensures.lawful kept.len kept.bytes.items kept.numbers.items
     is_kept text fits c.deref-2.result.now c.deref-4.result.now (take c.args.len c.deref-3.result.now) c.deref-2.ensures.value free said
@@ -128,7 +146,7 @@ returns-clause-numbers c =
     c.deref-4.ensures.value ∙ filled_is c.args.area kept.numbers.items c.deref.result.now c.fill_free.new.free.items c.page_total-total.result
     c.deref.ensures.value c.page_total-total.ensures.total c.fill_free.ensures.free in
     let said : take c.args.len c.deref-3.result.now ≡ text = ap (λ (l : List ℕ). take c.args.len l) c.deref-3.ensures.value in
-    let is_kept = kept_is c.args.area kept c.requires.long c.requires.entries in
+    let is_kept = kept_is c.args.area kept c.requires.few c.requires.entries in
     c.plan_pages.ensures.numbers ∙ numbers_are c.args.area c.page_total-total.ensures.lawful kept.len kept.bytes.items kept.numbers.items
     is_kept text fits c.deref-2.result.now c.deref-4.result.now (take c.args.len c.deref-3.result.now) c.deref-2.ensures.value free said
 
@@ -141,7 +159,7 @@ returns-clause-entries c =
     c.deref-4.ensures.value ∙ filled_is c.args.area kept.numbers.items c.deref.result.now c.fill_free.new.free.items c.page_total-total.result
     c.deref.ensures.value c.page_total-total.ensures.total c.fill_free.ensures.free in
     let said : take c.args.len c.deref-3.result.now ≡ text = ap (λ (l : List ℕ). take c.args.len l) c.deref-3.ensures.value in
-    let is_kept = kept_is c.args.area kept c.requires.long c.requires.entries in
+    let is_kept = kept_is c.args.area kept c.requires.few c.requires.entries in
     ap (λ (l : List ℕ). entry_fault c.args.area.pages [] 6 l) (c.plan_pages.ensures.numbers ∙ numbers_are c.args.area c.page_total-total.ensures.lawful kept.len kept.bytes.items kept.numbers.items
     is_kept text fits c.deref-2.result.now c.deref-4.result.now (take c.args.len c.deref-3.result.now) c.deref-2.ensures.value free said)
     ∙ named_lawful c.args.area c.page_total-total.ensures.lawful kept.len kept.bytes.items kept.numbers.items
@@ -156,7 +174,7 @@ returns-clause-places c =
     c.deref-4.ensures.value ∙ filled_is c.args.area kept.numbers.items c.deref.result.now c.fill_free.new.free.items c.page_total-total.result
     c.deref.ensures.value c.page_total-total.ensures.total c.fill_free.ensures.free in
     let said : take c.args.len c.deref-3.result.now ≡ text = ap (λ (l : List ℕ). take c.args.len l) c.deref-3.ensures.value in
-    let is_kept = kept_is c.args.area kept c.requires.long c.requires.entries in
+    let is_kept = kept_is c.args.area kept c.requires.few c.requires.entries in
     c.plan_pages.ensures.places ∙ places_are c.args.area c.page_total-total.ensures.lawful kept.len kept.bytes.items kept.numbers.items
     is_kept text fits c.deref-2.result.now c.deref-4.result.now (take c.args.len c.deref-3.result.now) c.deref-2.ensures.value free said
 
@@ -169,7 +187,7 @@ returns-clause-dropped c =
     c.deref-4.ensures.value ∙ filled_is c.args.area kept.numbers.items c.deref.result.now c.fill_free.new.free.items c.page_total-total.result
     c.deref.ensures.value c.page_total-total.ensures.total c.fill_free.ensures.free in
     let said : take c.args.len c.deref-3.result.now ≡ text = ap (λ (l : List ℕ). take c.args.len l) c.deref-3.ensures.value in
-    let is_kept = kept_is c.args.area kept c.requires.long c.requires.entries in
+    let is_kept = kept_is c.args.area kept c.requires.few c.requires.entries in
     c.plan_pages.ensures.dropped ∙ dropped_are c.args.area c.page_total-total.ensures.lawful kept.len kept.bytes.items kept.numbers.items
     is_kept text fits c.deref-2.result.now c.deref-4.result.now (take c.args.len c.deref-3.result.now) c.deref-2.ensures.value free said
 
@@ -182,7 +200,7 @@ returns-clause-drops c =
     c.deref-4.ensures.value ∙ filled_is c.args.area kept.numbers.items c.deref.result.now c.fill_free.new.free.items c.page_total-total.result
     c.deref.ensures.value c.page_total-total.ensures.total c.fill_free.ensures.free in
     let said : take c.args.len c.deref-3.result.now ≡ text = ap (λ (l : List ℕ). take c.args.len l) c.deref-3.ensures.value in
-    let is_kept = kept_is c.args.area kept c.requires.long c.requires.entries in
+    let is_kept = kept_is c.args.area kept c.requires.few c.requires.entries in
     ap (λ (l : List ℕ). entry_fault c.args.area.pages [] 6 l) (c.plan_pages.ensures.dropped ∙ dropped_are c.args.area c.page_total-total.ensures.lawful kept.len kept.bytes.items kept.numbers.items
     is_kept text fits c.deref-2.result.now c.deref-4.result.now (take c.args.len c.deref-3.result.now) c.deref-2.ensures.value free said)
     ∙ dropped_lawful c.args.area c.page_total-total.ensures.lawful kept.len kept.bytes.items kept.numbers.items

@@ -16,7 +16,7 @@ returns-in-Ok g c =
     let client : ClientNow = record { kept = c.self.inside.core; store = c.self.inside.store; closed = c.self.inside.closed } in
     let new : ClientNow = record { kept = c.accept.new.self; store = c.replace.new.self; closed = c.self.inside.closed } in
     let opened = subst (λ (n : ClientNow). IsOpenOn n start) (sym c.self.view_is) c.requires.open in
-    let written = ap (λ l. take c.encode-len.result l) (with_items_is c.self.inside.text c.encode-len.new.out
+    let written = ap (λ l. take c.encode-len.result l) (with_items_is c.lengthen.new.room c.encode-len.new.out
     (c.encode-len.auto.out ∙ c.deref_mut.ensures.len)) ∙ c.encode-len.ensures.written in
     subst (λ (n : ClientNow). IsAct state (Ok (drafted_step n.kept c.args.draft)) n new c.args.disk.now c.replace.new.disk
     (kept_as (drafted_answer c.args.draft) (Ok tt))) c.self.view_is
@@ -34,7 +34,7 @@ returns-in-Err g c =
     let client : ClientNow = record { kept = c.self.inside.core; store = c.self.inside.store; closed = c.self.inside.closed } in
     let new : ClientNow = record { kept = c.self.inside.core; store = c.replace.new.self; closed = Some c.in-Err.fault.call } in
     let opened = subst (λ (n : ClientNow). IsOpenOn n start) (sym c.self.view_is) c.requires.open in
-    let written = ap (λ l. take c.encode-len.result l) (with_items_is c.self.inside.text c.encode-len.new.out
+    let written = ap (λ l. take c.encode-len.result l) (with_items_is c.lengthen.new.room c.encode-len.new.out
     (c.encode-len.auto.out ∙ c.deref_mut.ensures.len)) ∙ c.encode-len.ensures.written in
     subst (λ (n : ClientNow). IsAct state (Ok (drafted_step n.kept c.args.draft)) n new c.args.disk.now c.replace.new.disk
     (kept_as (drafted_answer c.args.draft) (Err c.in-Err.fault.call))) c.self.view_is

@@ -26,7 +26,7 @@ pub returns-clause-ready : goal.returns-clause-ready
 returns-clause-ready g c =
     let now = g.D.Disk.state c.replace.new.disk in
     let area = subst (λ (n : ClientNow). n.store.area ≡ client_area) (sym c.self.view_is) c.requires.area in
-    let written = ap (λ l. take c.encode_now-len.result l) (with_items_is c.self.inside.text c.encode_now-len.new.out
+    let written = ap (λ l. take c.encode_now-len.result l) (with_items_is c.lengthen.new.room c.encode_now-len.new.out
     (c.encode_now-len.auto.out ∙ c.deref_mut.ensures.len)) ∙ c.encode_now-len.ensures.written in
     elim c.match-replace.branch [
       | in-Ok w ↦

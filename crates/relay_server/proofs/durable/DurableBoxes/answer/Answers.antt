@@ -1,6 +1,5 @@
 use Rattle.std.proofs.Common.{inl, ◌≡◌, List, take, drop, length, refl, sym, ◌∙◌, ap, subst, rules}
 use Rattle.std.specs.Prelude.{is_ok}
-use Rattle.std.specs.Vec.{with_items}
 use Rattle.dr_disk.proofs.Steps.{stays}
 use Rattle.std.proofs.lemmas.List.{with_items_is}
 use Rattle.relay_wire.specs.Requests.{read_request}
@@ -16,17 +15,16 @@ pub returns-in-Err : goal.returns-in-Err
 returns-in-Err g c =
     let frame = read_request (drop 2 c.args.frame.now.bytes.now) in
     let boxes = c.self.inside.relay in
-    let long : length c.write_text-len.new.out ≡ c.self.inside.text.len = c.write_text-len.auto.out ∙ c.deref_mut.ensures.len in
-    let known : Known box_text c.args.self.now boxes c.answer_frame-answered.new.relay (answers_read boxes frame) c.self.inside.stores.items c.deref_mut-in-Some.result.now c.replace_at.new.stores
-    c.in-Some.place (take c.write_text-len.result (with_items c.self.inside.text c.write_text-len.new.out).items) (g.D.Disk.state c.args.disk.now) (g.D.Disk.state c.replace_at.new.disk) (is_ok c.replace_at.result) = record {
+    let known : Known box_text c.args.self.now boxes c.answer_frame-answered.new.relay (answers_read boxes frame) c.self.inside.stores.items c.deref_mut.result.now c.replace_at.new.stores
+    c.in-Some.place (take c.write_text-len.result c.write_text-len.new.text.items) (g.D.Disk.state c.args.disk.now) (g.D.Disk.state c.replace_at.new.disk) (is_ok c.replace_at.result) = record {
       ready = c.requires.ready;
       seen = c.self.view_is;
-      lent = c.deref_mut-in-Some.ensures.value;
+      lent = c.deref_mut.ensures.value;
       change = c.changes.ensures boxes frame;
       next_is = c.answer_frame-answered.ensures.next;
       place_is = sym c.answer_frame-answered.ensures.changed ∙ c.in-Some.is;
       stores_count = c.replace_at.ensures.count;
-      written = λ box there. ap (take c.write_text-len.result) (with_items_is c.self.inside.text c.write_text-len.new.out long) ∙ c.write_text-len.ensures.text box there;
+      written = c.write_text-len.ensures.text;
       others = c.replace_at.ensures.others;
       there = c.replace_at.ensures.there;
       local = c.locality.ensures;
@@ -35,10 +33,10 @@ returns-in-Err g c =
     record {
       next = c.answer_frame-answered.ensures.next ∙ ap (λ (server : ServerNow). (answers_read server.boxes frame).next) c.self.view_is;
       leaves = record {
-        any_moment = known_moments box_text c.args.self.now boxes c.answer_frame-answered.new.relay (answers_read boxes frame) c.self.inside.stores.items c.deref_mut-in-Some.result.now c.replace_at.new.stores
-            c.in-Some.place (take c.write_text-len.result (with_items c.self.inside.text c.write_text-len.new.out).items) (g.D.Disk.state c.args.disk.now) (g.D.Disk.state c.replace_at.new.disk) (is_ok c.replace_at.result) known;
-        at_return = known_now box_text c.args.self.now boxes c.answer_frame-answered.new.relay (answers_read boxes frame) c.self.inside.stores.items c.deref_mut-in-Some.result.now c.replace_at.new.stores
-            c.in-Some.place (take c.write_text-len.result (with_items c.self.inside.text c.write_text-len.new.out).items) (g.D.Disk.state c.args.disk.now) (g.D.Disk.state c.replace_at.new.disk) (is_ok c.replace_at.result) known;
+        any_moment = known_moments box_text c.args.self.now boxes c.answer_frame-answered.new.relay (answers_read boxes frame) c.self.inside.stores.items c.deref_mut.result.now c.replace_at.new.stores
+            c.in-Some.place (take c.write_text-len.result c.write_text-len.new.text.items) (g.D.Disk.state c.args.disk.now) (g.D.Disk.state c.replace_at.new.disk) (is_ok c.replace_at.result) known;
+        at_return = known_now box_text c.args.self.now boxes c.answer_frame-answered.new.relay (answers_read boxes frame) c.self.inside.stores.items c.deref_mut.result.now c.replace_at.new.stores
+            c.in-Some.place (take c.write_text-len.result c.write_text-len.new.text.items) (g.D.Disk.state c.args.disk.now) (g.D.Disk.state c.replace_at.new.disk) (is_ok c.replace_at.result) known;
         ready = tt;
         fault = c.in-Err.ensures.fault;
         quiet = tt;
@@ -50,33 +48,32 @@ pub returns-in_default-replace_at : goal.returns-in_default-replace_at
 returns-in_default-replace_at g c =
     let frame = read_request (drop 2 c.args.frame.now.bytes.now) in
     let boxes = c.self.inside.relay in
-    let long : length c.write_text-len.new.out ≡ c.self.inside.text.len = c.write_text-len.auto.out ∙ c.deref_mut.ensures.len in
-    let known : Known box_text c.args.self.now boxes c.answer_frame-answered.new.relay (answers_read boxes frame) c.self.inside.stores.items c.deref_mut-in-Some.result.now c.replace_at.new.stores
-    c.in-Some.place (take c.write_text-len.result (with_items c.self.inside.text c.write_text-len.new.out).items) (g.D.Disk.state c.args.disk.now) (g.D.Disk.state c.replace_at.new.disk) (is_ok c.replace_at.result) = record {
+    let known : Known box_text c.args.self.now boxes c.answer_frame-answered.new.relay (answers_read boxes frame) c.self.inside.stores.items c.deref_mut.result.now c.replace_at.new.stores
+    c.in-Some.place (take c.write_text-len.result c.write_text-len.new.text.items) (g.D.Disk.state c.args.disk.now) (g.D.Disk.state c.replace_at.new.disk) (is_ok c.replace_at.result) = record {
       ready = c.requires.ready;
       seen = c.self.view_is;
-      lent = c.deref_mut-in-Some.ensures.value;
+      lent = c.deref_mut.ensures.value;
       change = c.changes.ensures boxes frame;
       next_is = c.answer_frame-answered.ensures.next;
       place_is = sym c.answer_frame-answered.ensures.changed ∙ c.in-Some.is;
       stores_count = c.replace_at.ensures.count;
-      written = λ box there. ap (take c.write_text-len.result) (with_items_is c.self.inside.text c.write_text-len.new.out long) ∙ c.write_text-len.ensures.text box there;
+      written = c.write_text-len.ensures.text;
       others = c.replace_at.ensures.others;
       there = c.replace_at.ensures.there;
       local = c.locality.ensures;
       resting = c.resting.ensures.record_of;
     } in
-    let same : length c.replace_at.new.stores ≡ c.self.inside.stores.len = c.replace_at.ensures.count ∙ c.deref_mut-in-Some.ensures.len in
+    let same : length c.replace_at.new.stores ≡ c.self.inside.stores.len = c.replace_at.ensures.count ∙ c.deref_mut.ensures.len in
     record {
       next = c.answer_frame-answered.ensures.next ∙ ap (λ (server : ServerNow). (answers_read server.boxes frame).next) c.self.view_is;
       leaves = record {
-        any_moment = known_moments box_text c.args.self.now boxes c.answer_frame-answered.new.relay (answers_read boxes frame) c.self.inside.stores.items c.deref_mut-in-Some.result.now c.replace_at.new.stores
-            c.in-Some.place (take c.write_text-len.result (with_items c.self.inside.text c.write_text-len.new.out).items) (g.D.Disk.state c.args.disk.now) (g.D.Disk.state c.replace_at.new.disk) (is_ok c.replace_at.result) known;
-        at_return = known_now box_text c.args.self.now boxes c.answer_frame-answered.new.relay (answers_read boxes frame) c.self.inside.stores.items c.deref_mut-in-Some.result.now c.replace_at.new.stores
-            c.in-Some.place (take c.write_text-len.result (with_items c.self.inside.text c.write_text-len.new.out).items) (g.D.Disk.state c.args.disk.now) (g.D.Disk.state c.replace_at.new.disk) (is_ok c.replace_at.result) known;
+        any_moment = known_moments box_text c.args.self.now boxes c.answer_frame-answered.new.relay (answers_read boxes frame) c.self.inside.stores.items c.deref_mut.result.now c.replace_at.new.stores
+            c.in-Some.place (take c.write_text-len.result c.write_text-len.new.text.items) (g.D.Disk.state c.args.disk.now) (g.D.Disk.state c.replace_at.new.disk) (is_ok c.replace_at.result) known;
+        at_return = known_now box_text c.args.self.now boxes c.answer_frame-answered.new.relay (answers_read boxes frame) c.self.inside.stores.items c.deref_mut.result.now c.replace_at.new.stores
+            c.in-Some.place (take c.write_text-len.result c.write_text-len.new.text.items) (g.D.Disk.state c.args.disk.now) (g.D.Disk.state c.replace_at.new.disk) (is_ok c.replace_at.result) known;
         ready = subst (λ (xs : List SlotStore). IsServerReady box_text (record { boxes = c.answer_frame-answered.new.relay; stores = xs }) (g.D.Disk.state c.replace_at.new.disk)) (sym (with_items_is c.self.inside.stores c.replace_at.new.stores same))
-            (known_ready box_text c.args.self.now boxes c.answer_frame-answered.new.relay (answers_read boxes frame) c.self.inside.stores.items c.deref_mut-in-Some.result.now c.replace_at.new.stores
-            c.in-Some.place (take c.write_text-len.result (with_items c.self.inside.text c.write_text-len.new.out).items) (g.D.Disk.state c.args.disk.now) (g.D.Disk.state c.replace_at.new.disk) (is_ok c.replace_at.result) known (ap is_ok c.in_default-replace_at.is));
+            (known_ready box_text c.args.self.now boxes c.answer_frame-answered.new.relay (answers_read boxes frame) c.self.inside.stores.items c.deref_mut.result.now c.replace_at.new.stores
+            c.in-Some.place (take c.write_text-len.result c.write_text-len.new.text.items) (g.D.Disk.state c.args.disk.now) (g.D.Disk.state c.replace_at.new.disk) (is_ok c.replace_at.result) known (ap is_ok c.in_default-replace_at.is));
         fault = tt;
         quiet = c.in_default-replace_at.ensures.quiet;
       };

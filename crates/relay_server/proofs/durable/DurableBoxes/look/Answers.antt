@@ -10,8 +10,8 @@ use Rattle.relay_server.proofs.durable.DurableBoxes.look.Goals as goal
 pub returns-in_default : goal.returns-in_default
 returns-in_default g c = record { looked = tt; unopened = λ call. refl; looks = unlooked (length c.args.names.now) (g.D.Disk.state c.args.disk.now) }
 
-pub returns-in_default-record_room : goal.returns-in_default-record_room
-returns-in_default-record_room g c = record { looked = tt; unopened = λ call. refl; looks = unlooked (length c.args.names.now) (g.D.Disk.state c.args.disk.now) }
+pub returns-in_default-record_memory : goal.returns-in_default-record_memory
+returns-in_default-record_memory g c = record { looked = tt; unopened = λ call. refl; looks = unlooked (length c.args.names.now) (g.D.Disk.state c.args.disk.now) }
 
 pub returns-in-Err : goal.returns-in-Err
 returns-in-Err g c = record {

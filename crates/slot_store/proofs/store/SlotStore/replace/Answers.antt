@@ -3,7 +3,7 @@ use Rattle.dr_disk.specs.Called.{Called}
 use Rattle.dr_disk.specs.Spans.{Span}
 use Rattle.dr_disk.specs.State.{Always}
 use Rattle.dr_disk.proofs.Calling.{failed_at_first, failed_later, passed_both}
-use Rattle.slot_store.specs.Areas.{HasRecordRoom, HasText}
+use Rattle.slot_store.specs.Areas.{HasRecordMemory, HasText}
 use Rattle.slot_store.specs.Pager.{content, store_seen}
 use Rattle.slot_store.specs.Putting.{HasReplaced, IsNext, call_of, retire_calls}
 use Rattle.pages.specs.Runs.{CameNext}
@@ -48,7 +48,7 @@ returns-in-Err g c =
       kind = subst (λ (s : SlotStore). CameNext (call_after s.content (Some text)) start mid c.in-Err.fault.call) c.self.view_is
           (came_in_put old put text start mid c.in-Err.fault.call c.put.ensures.replaces.any_moment.passes
           c.in-Err.ensures.calls.few c.in-Err.ensures.kind);
-      room = subst (λ (s : SlotStore). HasRecordRoom s.area c.put.new.text.items) c.self.view_is c.put.ensures.room;
+      room = subst (λ (s : SlotStore). HasRecordMemory s.area c.put.new.text) c.self.view_is c.put.ensures.room;
     }
 
 pub returns-in-Err-retire : goal.returns-in-Err-retire
@@ -85,7 +85,7 @@ returns-in-Err-retire g c =
       kind = subst (λ (s : SlotStore). CameNext (call_after s.content (Some text)) start end c.in-Err-retire.fault.call) c.self.view_is
           (came_in_retire old put text start mid c.in-Err-retire.fault.call end staged fits c.in-Ok.ensures.calls.passed
           c.retire.ensures.any_moment.passes c.in-Err-retire.ensures.calls.few c.in-Err-retire.ensures.kind);
-      room = subst (λ (s : SlotStore). HasRecordRoom s.area c.put.new.text.items) c.self.view_is c.put.ensures.room;
+      room = subst (λ (s : SlotStore). HasRecordMemory s.area c.put.new.text) c.self.view_is c.put.ensures.room;
     }
 
 pub returns : goal.returns
@@ -118,5 +118,5 @@ returns g c =
           (passed_both (putting (content old) (Some text)) (retire_calls put) call_of call_of call_of _ _ _ _ _ _
           c.in-Ok.ensures.calls c.in-Ok-retire.ensures.calls));
       kind = tt;
-      room = subst (λ (s : SlotStore). HasRecordRoom s.area c.put.new.text.items) c.self.view_is c.put.ensures.room;
+      room = subst (λ (s : SlotStore). HasRecordMemory s.area c.put.new.text) c.self.view_is c.put.ensures.room;
     }
