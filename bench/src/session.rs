@@ -4,6 +4,7 @@ ghost use Rattle.std.specs.Prelude.{◌≡◌, None, IfOk, OnOk};
 ghost use Rattle.client.specs.Clients.{IsReady};
 
 use crate::clock::Times;
+use bodies::Format;
 use client::{AREA_SIZE, Client};
 use dr_base::{Key32, Side};
 use dr_disk::{Disk, FileDisk, Sharing};
@@ -42,7 +43,7 @@ fn begin<K: Kem, D: Disk>(alloc: Global, side: Side, disk: &mut D) -> io::Result
     if disk.size() < AREA_SIZE {
         return Err(Error::from(ErrorKind::InvalidInput));
     }
-    match Client::<K>::begin(alloc, disk, side, &Key32 { bytes: [7; 32] }) {
+    match Client::<K>::begin(alloc, disk, side, Format::Plain, &Key32 { bytes: [7; 32] }) {
         Ok(_) => Ok(()),
         Err(_) => Err(Error::from(ErrorKind::InvalidData)),
     }

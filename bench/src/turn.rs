@@ -3,9 +3,10 @@
 ghost use Rattle.std.specs.Prelude.{◌≡◌, is_some};
 
 use crate::clock::Times;
+use bodies::Format;
 use boxes::{Inbox, Outbox};
 use cka::agreement_length;
-use dr_base::{Key32, Side};
+use dr_base::{KEPT_LIMIT, Key32, Side};
 use kem_laws::{Kem, OpenKem};
 use packet::parse;
 use ratchet::{KeptRoom, Session};
@@ -49,7 +50,7 @@ fn begun<K: Kem>(
 ) -> Result<Option<Party<K>>, AllocError> {
     let inbox = Inbox::new(alloc)?;
     let outbox = Outbox::new(alloc)?;
-    match Session::begin(work, side, &Key32 { bytes: [7; 32] }) {
+    match Session::begin(work, side, Format::Plain, &Key32 { bytes: [7; 32] }) {
         Err(_) => Ok(None),
         Ok(session) => Ok(Some(Party {
             session,
@@ -140,9 +141,17 @@ fn pass_turns<K: Kem, R: Clock>(
     Ok(())
 }
 
-/// The median time of a text in an epoch, said by one side and taken by the other, in nanoseconds.
-fn time_text<K: Kem, R: Clock + AllocGlobal>(rt: &R, work: &mut K::Work) -> io::Result<u64> {
+/// The median time of a text in an epoch, said by one side and taken by the other while so many keys are kept, in nanoseconds.
+fn time_text<K: Kem, R: Clock + AllocGlobal>(
+    rt: &R,
+    work: &mut K::Work,
+    kept: usize,
+) -> io::Result<u64> {
     let (mut first, mut second) = parties::<K>(rt.alloc(), work)?;
+    for _ in 0..kept {
+        say(&mut second, work, 1);
+        let _lost = second.outbox.drop_first(1);
+    }
     let mut times = Times::new(rt.alloc());
     pass_texts(rt, &mut second, &mut first, work, &mut times)?;
     times.median()
@@ -159,10 +168,12 @@ fn time_turn<K: Kem, R: Clock + AllocGlobal>(rt: &R, work: &mut K::Work) -> io::
 /// Prints a line for each.
 pub fn report<R: Clock + Print + AllocGlobal>(rt: &R) -> io::Result<()> {
     let mut work = Sntrup761::work(rt.alloc())?;
-    let text = time_text::<OpenKem, R>(rt, &mut ())?;
+    let text = time_text::<OpenKem, R>(rt, &mut (), 0)?;
+    let half = time_text::<OpenKem, R>(rt, &mut (), KEPT_LIMIT / 2)?;
+    let full = time_text::<OpenKem, R>(rt, &mut (), KEPT_LIMIT)?;
     let stand_in = time_turn::<OpenKem, R>(rt, &mut ())?;
     let turn = time_turn::<Sntrup761, R>(rt, &mut work)?;
     println!(rt;
-        "said and taken: a text in an epoch {text} ns; a turn {stand_in} ns with the stand-in, {turn} ns with sntrup761"
+        "said and taken: a text in an epoch {text} ns, {half} and {full} ns while half and all keys are kept; a turn {stand_in} ns with the stand-in, {turn} ns with sntrup761"
     )
 }

@@ -6,7 +6,7 @@ use Rattle.packet.specs.declared.fault.Kind.TheVariants.{Version, Epoch, Previou
 use Rattle.session_model.specs.declared.answer.Answer.{Answer}
 use Rattle.session_model.specs.declared.answer.Answer.TheVariants.{Said, Opened, Sent, Done, Inbox, State, Seeded, Stopped, Nothing, Refused}
 use Rattle.session_model.specs.declared.answer.Refusal.{Refusal}
-use Rattle.session_model.specs.declared.answer.Refusal.TheVariants.{TextTooLong, OutboxFull, EpochFull, LastEpoch, NoPair, Malformed, OtherSession, OwnPacket, Ahead, Spent, Count, SkipLimit, BadTag, InboxFull, Fewer}
+use Rattle.session_model.specs.declared.answer.Refusal.TheVariants.{TextTooLong, OutboxFull, EpochFull, LastEpoch, NoPair, Malformed, OtherSession, OwnPacket, Ahead, Spent, Count, SkipLimit, BadTag, BadPadding, InboxFull, Fewer}
 use Rattle.session_model.specs.declared.answer.Summary.{Summary}
 
 -- `epoch.index`
@@ -39,6 +39,7 @@ refusal_text (Spent p) = codes "Spent " ++ position_text p
 refusal_text (Count claimed known) = codes "Count " ++ decimal claimed ++ codes " " ++ decimal known
 refusal_text (SkipLimit would) = codes "SkipLimit " ++ decimal would
 refusal_text BadTag = codes "BadTag"
+refusal_text BadPadding = codes "BadPadding"
 refusal_text InboxFull = codes "InboxFull"
 refusal_text (Fewer held) = codes "Fewer " ++ decimal held
 

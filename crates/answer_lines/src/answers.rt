@@ -90,6 +90,7 @@ pub fn put_refusal(line: &mut OutputLine, refusal: Refusal)
         }
         Refusal::SkipLimit(would) => put_named(line, b"SkipLimit ", u64::from(would)),
         Refusal::BadTag => line.text(b"BadTag"),
+        Refusal::BadPadding => line.text(b"BadPadding"),
         Refusal::InboxFull => line.text(b"InboxFull"),
         Refusal::Fewer(held) => put_named(line, b"Fewer ", u64::from(held)),
     }

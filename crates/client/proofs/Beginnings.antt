@@ -1,10 +1,12 @@
 -- A client that is begun, and why none is.
 use Rattle.std.proofs.Common.{Bool, List, None, Option, Some, ap, ◌+◌, false, inl, inr, refl, sym, true, ℕ, ⊎_elim, ◌∙◌, ◌≡◌, ◌⊎◌}
 use Rattle.std.specs.Prelude.{IsSome, is_some}
+use Rattle.bodies.specs.declared.format.Format.{Format}
 use Rattle.dr_base.specs.Causes.{Rose}
 use Rattle.dr_base.specs.declared.position.Side.{Side}
 use Rattle.dr_base.specs.declared.position.Side.TheVariants.{First, Second}
 use Rattle.dr_model.specs.Machines.WorldSides.{kept_in}
+use Rattle.dr_model.specs.Conversations.Formats.{formats_of}
 use Rattle.dr_model.specs.Machines.Worlds.{opening_world}
 use Rattle.dr_model.proofs.Worlds.OpeningWorlds.{opening_client}
 use Rattle.dr_disk.specs.Calls.{Unwritten}
@@ -61,10 +63,10 @@ rests_as_read k readings found store start now is some area verdict rest =
       read = read_content k readings found store start is some verdict;
     }
 
-module _ (k : Mechanism) (readings : IsRead) (key : List ℕ) (side : Side) (start mid now : DiskState) (lawful : IsLawful start)
+module _ (k : Mechanism) (readings : IsRead) (key : List ℕ) (side : Side) (format : Format) (start mid now : DiskState) (lawful : IsLawful start)
     (none : IsReadAs k start no_content) (pair : IsSome (k.meaning.pair_of (agreement_seed key))) (alike : Always (IsLikeRead client_area start) mid)
     (opening : Span start mid (IsEntryOrLike client_area start))
-    (putting : Span mid now (IsOldOrNew mid client_area None (Some (record_text (begun_client k key side))))) where
+    (putting : Span mid now (IsOldOrNew mid client_area None (Some (record_text (begun_client k key side format))))) where
   -- what has no record is like what was read, which had none
   no_record : (c : List ℕ) → stored_record client_area c ≡ None → IsUndamaged client_area c → KeepsOutsideArea client_area mid c → IsLikeRead client_area start c
   no_record c without whole kept =
@@ -80,8 +82,8 @@ module _ (k : Mechanism) (readings : IsRead) (key : List ℕ) (side : Side) (sta
   outside_mid : Always (KeepsOutsideArea client_area start) mid
   outside_mid d left = let like = alike d left in (like.read, lawful.seen_now like.read like.told, like.outside)
 
-  left_by : (c : List ℕ) → IsOldOrNew mid client_area None (Some (record_text (begun_client k key side))) c
-      → IsLikeRead client_area start c ⊎ IsFirst k key side start c
+  left_by : (c : List ℕ) → IsOldOrNew mid client_area None (Some (record_text (begun_client k key side format))) c
+      → IsLikeRead client_area start c ⊎ IsFirst k key side format start c
   left_by c s =
       ⊎_elim (λ old. inl (no_record c old s.undamaged s.frame))
       (λ new. inr (record {
@@ -92,15 +94,15 @@ module _ (k : Mechanism) (readings : IsRead) (key : List ℕ) (side : Side) (sta
         outside = keeps_twice client_area start mid outside_mid c s.frame;
       })) s.either
 
-  pub first_moments : Span start now (IsEntryOrFirst k key side start)
+  pub first_moments : Span start now (IsEntryOrFirst k key side format start)
   first_moments =
-      spans start mid now (IsEntryOrFirst k key side start)
-      (widen start mid (IsEntryOrLike client_area start) (IsEntryOrFirst k key side start) (λ c s. inl s) opening)
-      (widen mid now (IsOldOrNew mid client_area None (Some (record_text (begun_client k key side)))) (IsEntryOrFirst k key side start)
+      spans start mid now (IsEntryOrFirst k key side format start)
+      (widen start mid (IsEntryOrLike client_area start) (IsEntryOrFirst k key side format start) (λ c s. inl s) opening)
+      (widen mid now (IsOldOrNew mid client_area None (Some (record_text (begun_client k key side format)))) (IsEntryOrFirst k key side format start)
       (λ c s. ⊎_elim (λ like. inl (inr like)) (λ first. inr first) (left_by c s)) putting)
 
   -- each image then is like what was read, or has the first record
-  pub first_left : (c : List ℕ) → now.image c → IsLikeRead client_area start c ⊎ IsFirst k key side start c
+  pub first_left : (c : List ℕ) → now.image c → IsLikeRead client_area start c ⊎ IsFirst k key side format start c
   first_left c left = ⊎_elim (λ was. inl (alike c was)) (left_by c) (putting.last c left)
 
 -- where the one is false, so is the other
@@ -110,6 +112,7 @@ none_by a false from isnt = refl
 
 -- ---- the world in which a conversation begins
 
-pub kept_first : (k : Mechanism) (key : List ℕ) (side : Side) → begun_client k key side ≡ kept_in k (opening_world key) side
-kept_first k key First = sym (opening_client k key First)
-kept_first k key Second = sym (opening_client k key Second)
+pub kept_first : (k : Mechanism) (key : List ℕ) (side : Side) (format other : Format)
+    → begun_client k key side format ≡ kept_in k (opening_world key (formats_of side format other)) side
+kept_first k key First format other = sym (opening_client k key (formats_of First format other) First)
+kept_first k key Second format other = sym (opening_client k key (formats_of Second format other) Second)

@@ -1,5 +1,6 @@
 -- What beginning a client does.
 use Rattle.std.specs.Prelude.{IsNone, IsSome, List, None, Some, [], ℕ, ◌≡◌, ◌⊎◌}
+use Rattle.bodies.specs.declared.format.Format.{Format}
 use Rattle.dr_base.specs.Causes.{Rose}
 use Rattle.dr_base.specs.declared.position.Side.{Side}
 use Rattle.dr_disk.specs.Calls.{Unwritten}
@@ -21,22 +22,22 @@ use Rattle.client.specs.declared.refusals.BeginRefusal.{BeginRefusal}
 use Rattle.client.specs.declared.refusals.BeginRefusal.TheVariants.{Damaged, Exists, Memory, NoPair, StoreFault}
 
 -- a side at the beginning of a conversation
-abbrev pub begun_client : Mechanism → List ℕ → Side → Client
-begun_client k key side = client_of (opening_state k key side) [] []
+abbrev pub begun_client : Mechanism → List ℕ → Side → Format → Client
+begun_client k key side format = client_of (opening_state k key side format) [] []
 
 -- bytes with the first record of a client, read without damage, which is put only where what was read held none and the key has a
 -- pair; outside the client's area they are as they were
-pub record IsFirst (k : Mechanism) (key : List ℕ) (side : Side) (start : DiskState) (c : List ℕ) : Type 0 where
+pub record IsFirst (k : Mechanism) (key : List ℕ) (side : Side) (format : Format) (start : DiskState) (c : List ℕ) : Type 0 where
   pub none : IsReadAs k start no_content
   pub pair : IsSome (k.meaning.pair_of (agreement_seed key))
-  pub holds : stored_record client_area c ≡ Some (record_text (begun_client k key side))
+  pub holds : stored_record client_area c ≡ Some (record_text (begun_client k key side format))
   pub undamaged : IsUndamaged client_area c
   pub outside : KeepsOutsideArea client_area start c
 
 -- what a crash may leave while a client is begun: what one might have left at entry, or what is like what was read, or,
 -- where that held no record, the first one
-abbrev pub IsEntryOrFirst : Mechanism → List ℕ → Side → DiskState → List ℕ → Type 0
-IsEntryOrFirst k key side start c = IsEntryOrLike client_area start c ⊎ IsFirst k key side start c
+abbrev pub IsEntryOrFirst : Mechanism → List ℕ → Side → Format → DiskState → List ℕ → Type 0
+IsEntryOrFirst k key side format start c = IsEntryOrLike client_area start c ⊎ IsFirst k key side format start c
 
 -- why a store's opening refuses a client that is begun
 abbrev pub begin_refusal : OpenError → BeginRefusal
@@ -45,9 +46,9 @@ begin_refusal (DiskFault call) = StoreFault call
 begin_refusal (StoreDamaged slot at) = Damaged slot at
 
 -- A client that was begun, where no table was open.
-pub record IsClientBegun (k : Mechanism) (key : List ℕ) (side : Side) (client : ClientNow) (start now : DiskState) : Type 0 where
+pub record IsClientBegun (k : Mechanism) (key : List ℕ) (side : Side) (format : Format) (client : ClientNow) (start now : DiskState) : Type 0 where
   pub is_open : client.closed ≡ None
-  pub keeps : client.kept ≡ begun_client k key side
+  pub keeps : client.kept ≡ begun_client k key side format
   pub ready : IsReady client.kept client.store now
   pub read : IsReadAs k start no_content
   pub pair : IsSome (k.meaning.pair_of (agreement_seed key))

@@ -1,5 +1,6 @@
 -- How a client's core begins, and the record of what it keeps.
 use Rattle.std.specs.Prelude.{Err, IsNone, IsSome, List, Ok, Result, drop, length, take, ℕ, ⊤, ◌≤◌, ◌≡◌}
+use Rattle.bodies.specs.declared.format.Format.{Format}
 use Rattle.dr_base.specs.declared.position.Side.{Side}
 use Rattle.grammar.specs.Printer.{HasRoom}
 use Rattle.kem_laws.specs.Mechanism.{Mechanism}
@@ -12,11 +13,11 @@ use Rattle.client.specs.declared.refusals.CoreBeginError.{CoreBeginError}
 use Rattle.client.specs.declared.refusals.CoreBeginError.TheVariants.{Memory, NoPair}
 
 -- as the side of a conversation; or its agreement seed has no pair, or memory was wanting
-abbrev pub BeginsCore : Mechanism → List ℕ → Side → Result Client CoreBeginError → Type 0
-BeginsCore k key side (Ok core) =
-    (core ≡ begun_client k key side) × IsSome (k.meaning.pair_of (agreement_seed key))
-BeginsCore k key side (Err NoPair) = IsNone (k.meaning.pair_of (agreement_seed key))
-BeginsCore k key side (Err Memory) = ⊤
+abbrev pub BeginsCore : Mechanism → List ℕ → Side → Format → Result Client CoreBeginError → Type 0
+BeginsCore k key side format (Ok core) =
+    (core ≡ begun_client k key side format) × IsSome (k.meaning.pair_of (agreement_seed key))
+BeginsCore k key side format (Err NoPair) = IsNone (k.meaning.pair_of (agreement_seed key))
+BeginsCore k key side format (Err Memory) = ⊤
 
 -- a buffer has room for the record of a client, or for any
 abbrev pub HasRoomToWrite : Client → List ℕ → Type 0

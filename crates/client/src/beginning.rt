@@ -5,6 +5,8 @@ ghost use Rattle.dr_base.specs.Causes.{Rose};
 ghost use Rattle.dr_disk.specs.Spans.{IsQuiet, Span};
 ghost use Rattle.dr_disk.specs.State.{Always, Fate};
 ghost use Rattle.dr_disk.specs.declared.call.Call.{Call};
+ghost use Rattle.bodies.specs.declared.format.Format.{Format};
+ghost use Rattle.dr_model.specs.Conversations.Formats.{formats_of};
 ghost use Rattle.dr_model.specs.Machines.Worlds.{opening_world};
 ghost use Rattle.session_record.specs.Record.{record_text};
 ghost use Rattle.slot_store.specs.Areas.{HasRecordMemory};
@@ -18,6 +20,7 @@ use crate::client::{AREA, Client};
 use crate::cores::Core;
 use crate::refusals::BeginRefusal;
 use crate::room::Room;
+use bodies::Format;
 use dr_base::{Key32, Side};
 use dr_disk::{Call, Disk};
 use dr_model::both_sides_follow;
@@ -76,33 +79,35 @@ fn refusal(error: OpenError) -> BeginRefusal
 }
 
 impl<K: Kem> Client<K> {
-    /// Begins the session of a side on a disk that holds none: the disk is opened, and the first
-    /// record is put. `Exists` exactly where a table is open and its record reads, `Damaged`
-    /// exactly where what was read is no record; then nothing was written. `NoPair` exactly where
-    /// the agreement seed of the key has none. `StoreFault` only where a call on the disk failed,
-    /// and with `Memory` none was made.
+    /// Begins the session of a side, which seals its texts in this format, on a disk that holds
+    /// none: the disk is opened, and the first record is put. `Exists` exactly where a table is open
+    /// and its record reads, `Damaged` exactly where what was read is no record; then nothing was
+    /// written. `NoPair` exactly where the agreement seed of the key has none. `StoreFault` only
+    /// where a call on the disk failed, and with `Memory` none was made.
     pub fn begin<D: Disk>(
         alloc: Global,
         disk: &mut D,
         side: Side,
+        format: Format,
         key: &Key32,
     ) -> Result<Client<K>, BeginRefusal>
         requires { HasArea client_area (D.state disk.old) }
         ensures begun { IfOk result
-            (λ client. IsClientBegun K.mechanism key.now.bytes side client (D.state disk.old)
+            (λ client. IsClientBegun K.mechanism key.now.bytes side format client (D.state disk.old)
             (D.state disk.new)) }
         ensures unbegun { IfErr result
             (IsUnbegun D.state K.mechanism key.now.bytes disk.old disk.new) }
         // Meanwhile, and in each ending: what was read, but for what was tidied, or the first
         // record, where that held none.
         ensures any_moment { Span (D.state disk.old) (D.state disk.new)
-            (IsEntryOrFirst K.mechanism key.now.bytes side (D.state disk.old)) }
+            (IsEntryOrFirst K.mechanism key.now.bytes side format (D.state disk.old)) }
         ensures reads { (s : List ℕ) → (D.state disk.new).seen ≡ Some s
             → IsLikeRead client_area (D.state disk.old) s
-            ⊎ IsFirst K.mechanism key.now.bytes side (D.state disk.old) s }
-        // It is a side of the world in which the conversation begins.
+            ⊎ IsFirst K.mechanism key.now.bytes side format (D.state disk.old) s }
+        // It is a side of the world in which the conversation begins, whichever the peer's format.
         ensures in_worlds { IfOk result
-            (λ client. IsIn K.mechanism (opening_world key.now.bytes) side client) }
+            (λ client. (other : Format) → IsIn K.mechanism
+            (opening_world key.now.bytes (formats_of side format other)) side client) }
         ensures fate { (D.state disk.old).fate ≡ Fate.all_pass →
             IfErr result (λ e. (call : Call) → e ≢ BeginRefusal.StoreFault call)
             × ((D.state disk.new).fate ≡ Fate.all_pass) }
@@ -123,7 +128,7 @@ impl<K: Kem> Client<K> {
                         text,
                         reader,
                     } = room;
-                    match record.room.begin(side, key) {
+                    match record.room.begin(side, format, key) {
                         Err(NoPair) => Err(BeginRefusal::NoPair),
                         Ok(core) => match first(core, text, reader, store, disk) {
                             Err(call) => Err(BeginRefusal::StoreFault { call }),

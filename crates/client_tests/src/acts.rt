@@ -4,6 +4,7 @@ ghost use Rattle.std.specs.Prelude.{◌≡◌, IfOk, OnSome, true};
 ghost use Rattle.dr_disk.specs.MemoryDisks.{state_of};
 ghost use Rattle.client.specs.Clients.{IsOpenOn, MayActOn};
 
+use bodies::Format;
 use client::{BeginRefusal, Client, OpenRefusal, look};
 use dr_base::{Key32, Side};
 use dr_disk::{Disk, MemoryDisk};
@@ -35,7 +36,7 @@ pub fn begin_under(
     if disk.size() < SIZE {
         return Err(BeginRefusal::Memory);
     }
-    Client::<OpenKem>::begin(alloc, disk, side, key)
+    Client::<OpenKem>::begin(alloc, disk, side, Format::Plain, key)
 }
 
 /// The same under the key that has this byte 32 times.

@@ -14,7 +14,7 @@ pub(crate) enum Found {
 pub(crate) type Change = (u64, &'static [u8]);
 
 /// Changes of the disk, each with what an opening then finds, by an independent implementation.
-pub(crate) fn rows() -> [(&'static [Change], Found); 40] {
+pub(crate) fn rows() -> [(&'static [Change], Found); 41] {
     [
         (&[(4096, b"\xa5\x03")], Found::Damaged(1, 1)),
         (
@@ -51,21 +51,22 @@ pub(crate) fn rows() -> [(&'static [Change], Found); 40] {
         (&[(12, b"\x01"), (8192, b"\x09")], Found::Damaged(0, 12)),
         (&[(8192, b"\x09")], Found::Damaged(0, 4096)),
         (&[(8193, b"\x03")], Found::Damaged(0, 4097)),
-        (&[(8242, b"\xff\xff\xff\xff")], Found::Damaged(0, 4146)),
+        (&[(8243, b"\xff\xff\xff\xff")], Found::Damaged(0, 4147)),
         (&[(6, b"\x00\x04\x00\x02\x00\x06")], Found::Damaged(0, 4096)),
-        (&[(9391, b"\x02")], Found::Damaged(0, 5295)),
-        (&[(2, b"\x00\x00\x21\xd9")], Found::Damaged(0, 11697)),
-        (&[(2, b"\x00\x00\x21\xdb")], Found::Damaged(0, 12762)),
+        (&[(8194, b"\x03")], Found::Damaged(0, 4098)),
+        (&[(9392, b"\x03")], Found::Damaged(0, 5296)),
+        (&[(2, b"\x00\x00\x21\xda")], Found::Damaged(0, 11698)),
+        (&[(2, b"\x00\x00\x21\xdc")], Found::Damaged(0, 12763)),
         (
-            &[(8192, b"\x09"), (25050, b"\x01")],
+            &[(8192, b"\x09"), (25051, b"\x01")],
             Found::Damaged(0, 4096),
         ),
-        (&[(25050, b"\x01")], Found::Damaged(0, 12762)),
+        (&[(25051, b"\x01")], Found::Damaged(0, 12763)),
         (&[(28671, b"\x01")], Found::Damaged(0, 16383)),
         (&[(4096, b"\xa5\x01")], Found::Damaged(1, 4096)),
         (&[(4096, b"\xa5\x01\x00\x0b\xe0\x01")], Found::Damaged(1, 2)),
         (
-            &[(4096, b"\xa5\x01\x00\x00\x21\xda\x00\x02\x00\x04\x00\x06")],
+            &[(4096, b"\xa5\x01\x00\x00\x21\xdb\x00\x02\x00\x04\x00\x06")],
             Found::Newer,
         ),
         (

@@ -1,6 +1,7 @@
 //! Cores of both sides in memory: each step once, drafted and accepted or let be, and a record that
 //! is read again.
 
+use bodies::Format;
 use boxes::{Inbox, Outbox};
 use client::{Core, CoreBeginError, Draft, Drops};
 use dr_base::{Key32, Position, Side};
@@ -120,7 +121,7 @@ fn goes_over(alloc: Global, first: &mut Core<OpenKem>, second: &mut Core<OpenKem
 
 /// The core of a side, with the key of zeros.
 fn begun(alloc: Global, side: Side) -> Result<Core<OpenKem>, CoreBeginError> {
-    Core::begin(alloc, side, &Key32 { bytes: [0; 32] })
+    Core::begin(alloc, side, Format::Plain, &Key32 { bytes: [0; 32] })
 }
 
 /// The same over cores of its own.

@@ -1,17 +1,18 @@
-//! A disk with a record of version 1 of two pages, of which one changes in the newest version.
+//! A disk with a record of version 1 of two pages, which both change in the newest version.
 
 ghost use Rattle.std.specs.Prelude.{◌≡◌, true};
 ghost use Rattle.dr_disk.specs.MemoryDisks.{state_of};
 ghost use Rattle.client.specs.Clients.{IsOpenOn, MayActOn};
 
 use crate::acts::{SIZE, begin_under};
-use crate::old_disks::{has_digest, lays, opens_to};
-use crate::renewals::CALLS;
+use crate::damaged::bytes_of;
+use crate::old_disks::{are, has_digest, lays, opens_within};
 use client::Client;
 use dr_base::{Key32, Side};
 use dr_disk::MemoryDisk;
 use dr_ports::SteadyDraws;
 use kem_laws::OpenKem;
+use sha2::{Digest, Sha256};
 use std::alloc::Global;
 
 /// The key of the conversation: these eight bytes four times.
@@ -20,10 +21,20 @@ const KEY: Key32 = Key32 {
         \x01\x23\x45\x67\x89\xab\xcd\xef\x01\x23\x45\x67\x89\xab\xcd\xef",
 };
 
-/// Second's disk before, and once it was opened, by an independent implementation.
+/// Second's disk with the record in version 1, by an independent implementation.
 const BEFORE: &str = "f30d5e38afb7987a462b8335fa49f58039ee5ad57f9bf84d6b70f631fa0f2173";
 
-const AFTER: &str = "b288a65e0fe62ffdd302564166232acfefc63f63017ab12894a0d4c03cf7fe2e";
+/// The record in the newest version, by the same.
+const RECORD: &str = "db593eeba98b256b79a462b75d3365c65177ee1bad3900bd02ad140e856eb4bc";
+
+/// How many bytes it has, of which a page has this many.
+const LEN: usize = 6080;
+
+const PAGE: usize = 4096;
+
+/// How many writes and syncs an opening makes that replaces a record of which two pages change: its
+/// own sync, and then twelve.
+const CALLS: u32 = 13;
 
 /// Says a text, with a draw that has this byte 32 times. Answers whether that was acknowledged.
 fn says(
@@ -145,13 +156,80 @@ fn talks(alloc: Global, disk: &mut MemoryDisk) -> bool {
     }
 }
 
-/// Whether Second's disk, whose record is made one of version 1, is opened to that.
-fn is_renewed(alloc: Global, disk: &mut MemoryDisk) -> bool {
-    talks(alloc, disk)
+/// The record that pages 2 and 5 of a disk hold, where it has that length.
+fn record_of(alloc: Global, disk: &mut MemoryDisk) -> Option<Vec<u8>> {
+    let bytes = match bytes_of(alloc, disk) {
+        Some(bytes) if bytes.len() == SIZE as usize => bytes,
+        _ => return None,
+    };
+    let mut text = match bytes[2 * PAGE..3 * PAGE].to_vec(alloc) {
+        Ok(text) => text,
+        Err(_) => return None,
+    };
+    match text.extend_from_slice(&bytes[5 * PAGE..4 * PAGE + LEN]) {
+        Ok(()) => Some(text),
+        Err(_) => None,
+    }
+}
+
+/// Puts a record of the newest version, in pages 2 and 5 under table 0, into version 1: the byte of
+/// its format goes, and its number changes.
+fn ages(disk: &mut MemoryDisk, text: &[u8]) -> bool {
+    text.len() == LEN
+        && lays(disk, 2, b"\x00\x00\x17\xbf")
         && lays(disk, 8192, b"\x01")
+        && lays(disk, 8194, &text[3..PAGE + 1])
+        && lays(disk, 20480, &text[PAGE + 1..])
+        && lays(disk, 22463, b"\x00")
+}
+
+/// Makes a new disk one with a record in pages 3 and 4 under table 1, whose turn is 2.
+fn lays_new(disk: &mut MemoryDisk, text: &[u8]) -> bool {
+    if text.len() != LEN {
+        return false;
+    }
+    let (front, back) = text.split_at(PAGE);
+    lays(disk, 4096, b"\xa5\x02\x00\x00\x17\xc0\x00\x03\x00\x04")
+        && lays(disk, 12288, front)
+        && lays(disk, 16384, back)
+}
+
+/// Whether two disks have the same bytes.
+fn are_same(alloc: Global, one: &mut MemoryDisk, other: &mut MemoryDisk) -> bool {
+    match (bytes_of(alloc, one), bytes_of(alloc, other)) {
+        (Some(one), Some(other)) => one.as_slice() == other.as_slice(),
+        _ => false,
+    }
+}
+
+/// Whether a disk has that record there, and all else is zeros.
+fn holds(alloc: Global, disk: &mut MemoryDisk, text: &[u8]) -> bool {
+    match MemoryDisk::new(alloc, SIZE) {
+        Ok(mut other) => lays_new(&mut other, text) && are_same(alloc, disk, &mut other),
+        Err(_) => false,
+    }
+}
+
+/// Whether Second's disk, whose record is made one of version 1, is opened to that.
+fn is_reopened(alloc: Global, disk: &mut MemoryDisk, text: &[u8]) -> bool {
+    are(alloc, Sha256::digest(text).as_slice(), RECORD)
+        && ages(disk, text)
         && has_digest(alloc, disk, BEFORE)
-        && opens_to(alloc, disk, CALLS, AFTER)
-        && opens_to(alloc, disk, 1, AFTER)
+        && opens_within(alloc, disk, CALLS)
+        && holds(alloc, disk, text)
+        && opens_within(alloc, disk, 1)
+        && holds(alloc, disk, text)
+}
+
+/// The same of what Second has said and taken.
+fn is_renewed(alloc: Global, disk: &mut MemoryDisk) -> bool {
+    if !talks(alloc, disk) {
+        return false;
+    }
+    match record_of(alloc, disk) {
+        Some(text) => is_reopened(alloc, disk, text.as_slice()),
+        None => false,
+    }
 }
 
 /// Whether that is so on a disk of its own.

@@ -9,14 +9,24 @@ use kem_laws::OpenKem;
 use sha2::{Digest, Sha256};
 use std::alloc::Global;
 
-/// Table 0 of First's disk: its record of 130 bytes stands in page 2.
-const TABLE: &str = "a501000000820002";
+/// Table 1 of First's disk: its record of 585 bytes stands in page 3.
+const TABLE: &str = "a503000002490003";
 
-/// The record with which First begins under the key of zeros, in version 1.
-const RECORD: &str = "010170e0f9cd1a5863238d67aecce0c032e5d0e3ba729a17ff4f20b36941c6dfd8\
-    97975565512828c632be679bdeb5f606a000000000c2131414e3407e121521ce208bf0ace593c4cac69147e8b35f\
-    dd1ad2a3a1879400000000e572ef19e379b889e674493cd4c9624de08354a5f46ab7dede4d635ba20e35cd000000\
-    0000000000";
+/// The record of First, who has talked, in version 1.
+const RECORD: &str =
+    "01017992cd5f4ac8394bf3744ac50eb9f28667a6a5f78efba36acc5e81f3219174142de180ed40c79b959963389e\
+    d8019461000000030303030303030303030303030303030303030303030303030303030303030303f2e642f85e31\
+    36bb0e4fbe5be762c080f60968fa15c54152b62a7454b2e321b0d8041f7991d732ea98ec0ad6308ce15b8d99264b\
+    78eddef1b47a7c3f8b6a10dff21b6cc7570a5daa12d29147d5d47d83dfb9cbe243dd9319d27bb6503eb465120000\
+    0001000000015d5f1c2cc211c097b62e56f92ceba7649304d5093b87e12ece80794837a69c620000000100020000\
+    000000000001b8784b816479975311a7bf0a5540c69f776176698799498caa7a6ba5f7b87fdf0000000000000002\
+    94bc646910b29b95ac28cec5dd28e026f2f8c135392f390d256425afcc0c388f0100000002000000010001650200\
+    82017992cd5f4ac8394bf3744ac50eb9f2860000000100000000000000010040030610bfe3b906afc878a84f0087\
+    ea6c20e112a5218a7510d0d37c0bbe796f1a2d44de7f90a0095da077abf0a056f7e7224e97f9738020b784e1fa5a\
+    8fba32b60001493d7ac87a12120e9d9c35d0930e0568d5a00014da6b4362de65759b71dbe53d240082017992cd5f\
+    4ac8394bf3744ac50eb9f2860000000300000001000000010040f2e642f85e3136bb0e4fbe5be762c080f60968fa\
+    15c54152b62a7454b2e321b0d8041f7991d732ea98ec0ad6308ce15b8d99264b78eddef1b47a7c3f8b6a10df0001\
+    4610f6a8b5d5253cf519e8a7f45a5e72766089d1bb47b4eb255127c7a07a523e29";
 
 /// Whether bytes are those that are written in hex.
 pub fn are(alloc: Global, bytes: &[u8], hexed: &str) -> bool {
@@ -53,7 +63,7 @@ fn lays_hexed(alloc: Global, disk: &mut MemoryDisk, at: u64, hexed: &str) -> boo
 
 /// Makes a new disk First's of version 1. Answers whether it did.
 pub fn lays_old(alloc: Global, disk: &mut MemoryDisk) -> bool {
-    lays_hexed(alloc, disk, 0, TABLE) && lays_hexed(alloc, disk, 8192, RECORD)
+    lays_hexed(alloc, disk, 4096, TABLE) && lays_hexed(alloc, disk, 12288, RECORD)
 }
 
 /// Whether a client was opened, or which call failed; nothing where it was refused otherwise.
@@ -81,11 +91,15 @@ pub fn opens_stopped(alloc: Global, disk: &mut MemoryDisk, after: u32) -> Option
     end
 }
 
-/// Whether an opening makes no more than so many writes and syncs, and leaves a disk with this
-/// digest.
-pub fn opens_to(alloc: Global, disk: &mut MemoryDisk, calls: u32, hexed: &str) -> bool {
+/// Whether an opening makes no more than so many writes and syncs.
+pub fn opens_within(alloc: Global, disk: &mut MemoryDisk, calls: u32) -> bool {
     disk.fail_at(calls.saturating_add(1));
     let end = opens(alloc, disk);
     disk.go_on();
-    end == Some(Ok(())) && has_digest(alloc, disk, hexed)
+    end == Some(Ok(()))
+}
+
+/// Whether it leaves a disk with this digest then.
+pub fn opens_to(alloc: Global, disk: &mut MemoryDisk, calls: u32, hexed: &str) -> bool {
+    opens_within(alloc, disk, calls) && has_digest(alloc, disk, hexed)
 }

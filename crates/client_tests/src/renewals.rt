@@ -12,16 +12,16 @@ use sha2::{Digest, Sha256};
 use std::alloc::Global;
 
 /// The disk before, and once it was opened.
-const BEFORE: &str = "34eaa418140aa8ae5d359e7e4d1baa2a051619a91b24d97ee546ab452a59f01b";
+const BEFORE: &str = "00fecaffeab362272ff7448702ca9ee90e07e512ce7cb82979fa808a1aa7cff6";
 
-const AFTER: &str = "9150e7ea20896c7cfdca15ea04f9bd12689362134903a1a96a1456edd17c772c";
+const AFTER: &str = "7d58ce376337ce1726f2f6e39aabe341144dee709d0d2cc677854c82ef5b8c35";
 
 /// The images of all stops, in each mode, one digest after the other.
-const IMAGES: &str = "e8511ed8a0563bb2bf8026a4b75416b39be59d0b2804b80ea2d6c1d8a2320389";
+const IMAGES: &str = "d1706237e4576c0791f9073d3daf09b4146cd8fcd3683c1731104e24862bf8ae";
 
 /// How many writes and syncs an opening makes that replaces a record of which one page changes: its
 /// own sync, and then ten.
-pub const CALLS: u32 = 11;
+const CALLS: u32 = 11;
 
 /// The call of that opening that fails where the disk stops after none of them, one, and so on. All
 /// reads follow the first sync.

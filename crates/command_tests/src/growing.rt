@@ -2,6 +2,7 @@
 //! and shrinks again, by another implementation.
 
 use crate::outcomes::{Command, new_disk, outcome};
+use bodies::Format;
 use client::AREA_SIZE;
 use dr_base::{Side, TEXT_LIMIT};
 use dr_disk::{Disk, MemoryDisk};
@@ -21,27 +22,27 @@ const TAKES: [(u8, u8, &str); 5] = [
     (
         1,
         1,
-        "14bd9ad1447a2c49cae61fefdf0a9e064dc3ac6cb3c858fb0627deb0259ae7b5",
+        "19c131de4e6108d5944606607865046af92e26b9d5550a4d1a8c99681563d72f",
     ),
     (
         2,
         2,
-        "f1bd4435506dc02e9ed21b77523c842d8d23388dab7d41c478439b4e03420417",
+        "bba3231f5945c6ed260ee5d49aa44f50e819d962a2fcbab8ac99f313253bf11a",
     ),
     (
         3,
         64,
-        "209709ad07a05acd9852e50f591e7bc66f231ba44aac8c941ba0adcffac6665d",
+        "d61307dae58cdb6534fffb2a46ae355716191b89afcda8529f096ccb9257ca58",
     ),
     (
         65,
         127,
-        "7ef1664761a703df7ba40925049773f51b5c9ada10d2a71114b6597e00b74d83",
+        "4e363d86b723084d9fc6ddedaa1e83e23a006173d8f2ade4ca1783f35702afd5",
     ),
     (
         128,
         128,
-        "f5d3cfebb0e7b03cf081df6452cb7d4307ac17f16651a1154d02452196e86e56",
+        "2896c873690201b507923ce2a13588db50cb9f4aaf69b5a4518ba9a2ca3fcbf0",
     ),
 ];
 
@@ -49,19 +50,19 @@ const TAKES: [(u8, u8, &str); 5] = [
 const DROPS: [(u32, &str); 4] = [
     (
         1,
-        "0245f692f443d1effea68adcd15e4112f7224783c1ee718f7d5284df2fb03899",
+        "f6b5a9b65f07aa79809718c29584d676307485ebc5590d17059299192e01c366",
     ),
     (
         1,
-        "a80c0dc41d8dd1e7f14d7f2e43f0b30f4e9d86c95eb6ef6502e4d319969e7d74",
+        "86808d2507b433a9607155ae7407ded7467f7f7849387b3571f1cae016bf35fd",
     ),
     (
         100,
-        "7a21b4a25a1a8717aa29fa8049380947c1a27092215d9ca32eaf39e36b9eb278",
+        "9f76691a52d5876fbee22d57e352cf146abcd6d0dec39da3129824be72804282",
     ),
     (
         26,
-        "55867555d58f9b40025e185975ecac7abf1618729409257ace4b9c9eeb30a6d6",
+        "ff07a48aae90520298bdf80f3de97f3ecc1e2cf23cf253fddb9469e66bf6529e",
     ),
 ];
 
@@ -139,8 +140,20 @@ fn records_of_many_pages(rt: HostRuntime) -> Result<(), Fail> {
     let alloc = rt.alloc();
     let mut first = new_disk(alloc)?;
     let mut second = new_disk(alloc)?;
-    assert!(rt; works(alloc, &mut first, Command::Begin(Side::First, KEY))?);
-    assert!(rt; works(alloc, &mut second, Command::Begin(Side::Second, KEY))?);
+    assert!(rt;
+        works(
+            alloc,
+            &mut first,
+            Command::Begin(Side::First, Format::Plain, KEY)
+        )?
+    );
+    assert!(rt;
+        works(
+            alloc,
+            &mut second,
+            Command::Begin(Side::Second, Format::Plain, KEY)
+        )?
+    );
     assert!(rt; grows(alloc, &mut first, &mut second)?);
     assert!(rt; shrinks(alloc, &mut first)?);
     Ok(())

@@ -1,5 +1,6 @@
 //! What a command on a disk in memory comes to.
 
+use bodies::Format;
 use client::AREA_SIZE;
 use dr_base::{Key32, Side};
 use dr_disk::{Disk, MemoryDisk};
@@ -18,7 +19,7 @@ pub fn new_disk(alloc: Global) -> Result<MemoryDisk, AllocError> {
 /// A command, with its words and what it reads.
 #[derive(Clone, Copy)]
 pub enum Command<'a> {
-    Begin(Side, &'a [u8]),
+    Begin(Side, Format, &'a [u8]),
     Say(&'a [u8]),
     Take(&'a [u8]),
     Done(u32),
@@ -33,7 +34,7 @@ pub enum Command<'a> {
 fn begun(
     alloc: Global,
     disk: &mut MemoryDisk,
-    side: Side,
+    (side, format): (Side, Format),
     text: &[u8],
     fails: &[u64],
     out: &mut MemorySink,
@@ -45,6 +46,7 @@ fn begun(
     let status = begin::<OpenKem, MemoryDisk, MemorySource, MemorySink>(
         alloc,
         side,
+        format,
         disk,
         &mut source,
         out,
@@ -103,7 +105,9 @@ fn status_of(
         return Err(Fail::from("no room"));
     }
     let status = match command {
-        Command::Begin(side, text) => return begun(alloc, disk, side, text, fails, out),
+        Command::Begin(side, format, text) => {
+            return begun(alloc, disk, (side, format), text, fails, out);
+        }
         Command::Take(text) => return taken(alloc, disk, text, fails, out),
         Command::Say(text) => return said(alloc, disk, text, fails, out),
         Command::Done(n) => done::<OpenKem, MemoryDisk, MemorySink>(alloc, n, disk, out),

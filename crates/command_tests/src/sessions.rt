@@ -1,6 +1,7 @@
 //! Each command once on disks in memory, and each fault.
 
 use crate::outcomes::{Command, new_disk, outcome};
+use bodies::Format;
 use client::AREA_SIZE;
 use dr_base::Side;
 use dr_disk::{Disk, MemoryDisk};
@@ -42,7 +43,7 @@ fn a_text_is_said(rt: HostRuntime) -> Result<(), Fail> {
     let state =
         b"session 70e0f9cd1a5863238d67aecce0c032e5\nside second\nepoch 0\nmissing 0\ninbox 0\noutbox 0\n";
     let rows: [(Command<'_>, &[u8]); 5] = [
-        (Command::Begin(Side::Second, KEY), NAME),
+        (Command::Begin(Side::Second, Format::Plain, KEY), NAME),
         (Command::State, state),
         (Command::Say(b"hi"), b"said 0.1\n"),
         (Command::Sent(1), b"sent 1\n"),
@@ -54,10 +55,10 @@ fn a_text_is_said(rt: HostRuntime) -> Result<(), Fail> {
     Ok(())
 }
 
-/// The packet of a text that Second says.
-fn packet_of_second(alloc: Global) -> Result<Vec<u8>, Fail> {
+/// The packet of a text that Second says in this format.
+fn packet_of_second(alloc: Global, format: Format) -> Result<Vec<u8>, Fail> {
     let mut disk = new_disk(alloc)?;
-    let begin = Command::Begin(Side::Second, KEY);
+    let begin = Command::Begin(Side::Second, format, KEY);
     if !ends(alloc, &mut disk, begin, &[], 0, NAME)? {
         return Err(Fail::from("not begun"));
     }
@@ -72,7 +73,7 @@ fn packet_of_second(alloc: Global) -> Result<Vec<u8>, Fail> {
 /// it.
 fn takes_once(alloc: Global, disk: &mut MemoryDisk, packet: &[u8]) -> Result<bool, Fail> {
     let rows: [(Command<'_>, u8, &[u8]); 6] = [
-        (Command::Begin(Side::First, KEY), 0, NAME),
+        (Command::Begin(Side::First, Format::Plain, KEY), 0, NAME),
         (Command::Take(packet), 0, b"opened 0.1\n"),
         (Command::Inbox, 0, b"0.1 \"a\\x22b\\x5c\\x0a\"\n"),
         (Command::Take(packet), 3, b"refused: Spent 0.1\n"),
@@ -90,14 +91,18 @@ fn takes_once(alloc: Global, disk: &mut MemoryDisk, packet: &[u8]) -> Result<boo
 #[test]
 fn a_text_is_taken(rt: HostRuntime) -> Result<(), Fail> {
     let alloc = rt.alloc();
-    let packet = packet_of_second(alloc)?;
-    let mut disk = new_disk(alloc)?;
-    assert!(rt; takes_once(alloc, &mut disk, packet.as_slice())?);
+    // how many bytes each packet has: 33, the text of 5 bytes or its padding, and 32
+    for (format, bytes) in [(Format::Plain, 70), (Format::Padded, 321)] {
+        let packet = packet_of_second(alloc, format)?;
+        let mut disk = new_disk(alloc)?;
+        assert!(rt; packet.len() == 2 * bytes + 1);
+        assert!(rt; takes_once(alloc, &mut disk, packet.as_slice())?);
+    }
     Ok(())
 }
 
 /// What a look shows of a disk with the client that has begun, by another implementation.
-const BEGUN: &[u8] = b"slot 0 open 1\nslot 1 closed\nrecord 130\nrest yes\n";
+const BEGUN: &[u8] = b"slot 0 open 1\nslot 1 closed\nrecord 131\nrest yes\n";
 
 /// What one shows of a damaged disk.
 const DAMAGED: &[u8] = b"slot 0 open 1\nslot 1 open 1\ndamaged slot 1 at 1\nrest no\n";
@@ -113,7 +118,7 @@ fn shows_looks(alloc: Global, disk: &mut MemoryDisk) -> Result<bool, Fail> {
     let none = b"slot 0 closed\nslot 1 closed\nno record\nrest yes\n";
     let rows: [(Command<'_>, &[u8]); 3] = [
         (Command::Check, none),
-        (Command::Begin(Side::Second, KEY), NAME),
+        (Command::Begin(Side::Second, Format::Plain, KEY), NAME),
         (Command::Check, BEGUN),
     ];
     for (command, lines) in rows {
@@ -142,17 +147,17 @@ fn the_disk_is_checked(rt: HostRuntime) -> Result<(), Fail> {
 fn each_fault(rt: HostRuntime) -> Result<(), Fail> {
     let alloc = rt.alloc();
     let mut disk = new_disk(alloc)?;
-    let begin = Command::Begin(Side::First, KEY);
+    let begin = Command::Begin(Side::First, Format::Plain, KEY);
     let rows: [(Command<'_>, &[u64], u8, &[u8]); 8] = [
         (Command::State, &[], 9, b"no session\n"),
         (
-            Command::Begin(Side::First, &[b'0'; 63]),
+            Command::Begin(Side::First, Format::Plain, &[b'0'; 63]),
             &[],
             3,
             b"refused: BadKey\n",
         ),
         (
-            Command::Begin(Side::First, &[b'0'; 66]),
+            Command::Begin(Side::First, Format::Padded, &[b'0'; 66]),
             &[],
             3,
             b"refused: InputTooLong 65\n",

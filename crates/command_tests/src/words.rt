@@ -1,5 +1,6 @@
 //! Lines of words, with the command that each must be.
 
+use bodies::Format;
 use command_words::{Command, parse};
 use dr_base::Side;
 use std::alloc::{AllocError, Global};
@@ -30,9 +31,24 @@ fn made<'a>(rounds: u32, number: u64) -> Command<'a> {
 fn words_are_commands(rt: HostRuntime) -> Result<(), Fail> {
     let alloc = rt.alloc();
     let commands = [
-        ("begin|first", Command::Begin(Side::First)),
-        ("begin|second", Command::Begin(Side::Second)),
-        ("begin|--|second", Command::Begin(Side::Second)),
+        ("begin|first", Command::Begin(Side::First, Format::Plain)),
+        ("begin|second", Command::Begin(Side::Second, Format::Plain)),
+        (
+            "begin|--|second",
+            Command::Begin(Side::Second, Format::Plain),
+        ),
+        (
+            "begin|first|plain",
+            Command::Begin(Side::First, Format::Plain),
+        ),
+        (
+            "begin|second|padded",
+            Command::Begin(Side::Second, Format::Padded),
+        ),
+        (
+            "begin|first|--|padded",
+            Command::Begin(Side::First, Format::Padded),
+        ),
         ("say|hi", Command::Say("hi")),
         ("say|two words", Command::Say("two words")),
         ("say|", Command::Say("")),
@@ -108,6 +124,14 @@ begin
 begin|third
 begin|First
 begin|first|first
+begin|first|other
+begin|first|Plain
+begin|first|
+begin|first|-padded
+begin|padded|first
+begin|plain
+begin|first|plain|plain
+begin|first|plain|--|x
 say
 say|--
 say|-x

@@ -7,7 +7,7 @@ use Rattle.clap.specs.Simple.{Shape}
 use Rattle.clap.specs.Faults.{level_fault, turn_fault}
 use Rattle.clap.proofs.OnLiterals.{clap_on_literals}
 use Rattle.command_words.specs.Application.{first_rule}
-use Rattle.command_words.specs.Commands.{Reading, Work, bare, listed, paired, valued, values_read}
+use Rattle.command_words.specs.Commands.{Reading, Work, bare, extended, listed, paired, valued, values_read}
 use Rattle.command_words.specs.Values.{values_found, values_of}
 use Rattle.command_words.proofs.Building.{built_for, built_rules}
 use Rattle.command_words.proofs.Levels.{AreTexts, ComesTo, IsFlat, comes_to, fault_from, fault_steps, held_after}
@@ -78,6 +78,10 @@ values_hold name (bare work) (a ∷ more) e = cc
 values_hold name (valued read) [] e = cc
 values_hold name (valued read) (a ∷ []) e = refl
 values_hold name (valued read) (a ∷ b ∷ more) e = cc
+values_hold name (extended read) [] e = cc
+values_hold name (extended read) (a ∷ []) e = refl
+values_hold name (extended read) (a ∷ b ∷ []) e = refl
+values_hold name (extended read) (a ∷ b ∷ c ∷ more) e = cc
 values_hold name (paired read) [] e = cc
 values_hold name (paired read) (a ∷ []) e = cc
 values_hold name (paired read) (a ∷ b ∷ []) e = refl
@@ -95,6 +99,10 @@ values_pass name (bare w) (a ∷ more) work r = cc
 values_pass name (valued read) [] work r = cc
 values_pass name (valued read) (a ∷ []) work r = refl
 values_pass name (valued read) (a ∷ b ∷ more) work r = cc
+values_pass name (extended read) [] work r = cc
+values_pass name (extended read) (a ∷ []) work r = refl
+values_pass name (extended read) (a ∷ b ∷ []) work r = refl
+values_pass name (extended read) (a ∷ b ∷ c ∷ more) work r = cc
 values_pass name (paired read) [] work r = cc
 values_pass name (paired read) (a ∷ []) work r = cc
 values_pass name (paired read) (a ∷ b ∷ []) work r = refl
@@ -109,6 +117,7 @@ values_pass name (listed read) (a ∷ b ∷ c ∷ more) work r = (all_found name
 flat : (reading : Reading) → IsFlat (built_rules reading)
 flat (bare work) = record { by_long = λ name. refl; by_short = λ x. refl; whole = refl }
 flat (valued read) = record { by_long = λ name. refl; by_short = λ x. refl; whole = refl }
+flat (extended read) = record { by_long = λ name. refl; by_short = λ x. refl; whole = refl }
 flat (paired read) = record { by_long = λ name. refl; by_short = λ x. refl; whole = refl }
 flat (listed read) = record { by_long = λ name. refl; by_short = λ x. refl; whole = refl }
 

@@ -5,7 +5,7 @@ use Rattle.clap.specs.declared.builder.command.Command.TheViews.{out-Command}
 use Rattle.clap.specs.declared.builder.action.ArgAction.TheVariants.{Append}
 use Rattle.clap.specs.Walk.{Rule}
 use Rattle.clap.specs.Simple.{App, Shape, new_rule, new_shape, app_of, with_subcommand}
-use Rattle.command_words.specs.Commands.{Reading, bare, valued, paired, listed, Row}
+use Rattle.command_words.specs.Commands.{Reading, bare, valued, extended, paired, listed, Row}
 
 -- a value that is wanted, and one or more such
 abbrev pub wanted : List ℕ → Rule
@@ -14,12 +14,15 @@ wanted id = record (new_rule id) { required = true }
 abbrev pub wanted_each : List ℕ → Rule
 wanted_each id = record (wanted id) { action = Some Append }
 
--- the first value of a command, its second, and those after them
+-- the first value of a command, its second, which may be one that can be left out, and those after them
 abbrev pub first_rule : Rule
 first_rule = wanted (codes "first")
 
 abbrev pub second_rule : Rule
 second_rule = wanted (codes "second")
+
+abbrev pub spare_rule : Rule
+spare_rule = new_rule (codes "second")
 
 abbrev pub more_rule : Rule
 more_rule = wanted_each (codes "more")
@@ -27,6 +30,7 @@ more_rule = wanted_each (codes "more")
 abbrev pub rules_for : Reading → List Rule
 rules_for (bare work) = []
 rules_for (valued read) = first_rule ∷ []
+rules_for (extended read) = first_rule ∷ spare_rule ∷ []
 rules_for (paired read) = first_rule ∷ second_rule ∷ []
 rules_for (listed read) = first_rule ∷ second_rule ∷ more_rule ∷ []
 

@@ -1,6 +1,8 @@
 -- What the words of a command say.
 use Rattle.std.specs.Prelude.{ℕ, ◌&&◌, nat_le, List, [], ◌∷◌, Option, Some, None, option_map, option_and_then, codes, find, if◌then◌else◌}
 use Rattle.std.specs.Str.{bytes_eq}
+use Rattle.bodies.specs.declared.format.Format.{Format}
+use Rattle.bodies.specs.declared.format.Format.TheVariants.{Plain, Padded}
 use Rattle.dr_base.specs.declared.limits.TheConstants.{INBOX_LIMIT, OUTBOX_LIMIT}
 use Rattle.dr_base.specs.declared.position.Side.{Side}
 use Rattle.dr_base.specs.declared.position.Side.TheVariants.{First, Second}
@@ -10,7 +12,7 @@ use Rattle.command_words.specs.Values.{values_of}
 
 -- the work that a command asks for
 pub data Work : Type 0 where
-  begins : Side → Work
+  begins : Side → Format → Work
   says : List ℕ → Work
   takes : Work
   shows_inbox : Work
@@ -30,6 +32,21 @@ side_read word =
     if bytes_eq word (codes "first") then Some First
     else (if bytes_eq word (codes "second") then Some Second else None)
 
+-- `plain` or `padded`
+unfoldable pub format_read : List ℕ → Option Format
+format_read word =
+    if bytes_eq word (codes "plain") then Some Plain
+    else (if bytes_eq word (codes "padded") then Some Padded else None)
+
+-- the format of a word, and plain where there is none
+abbrev pub format_given : Option (List ℕ) → Option Format
+format_given None = Some Plain
+format_given (Some word) = format_read word
+
+-- a side, and perhaps the format that it seals its texts in
+unfoldable pub begin_read : List ℕ → Option (List ℕ) → Option Work
+begin_read side format = option_and_then (λ s. option_map (begins s) (format_given format)) (side_read side)
+
 -- a number of at most `most`
 unfoldable pub amount_read : ℕ → List ℕ → Option ℕ
 amount_read most word = option_and_then (λ n. if nat_le n most then Some n else None) (number_read word)
@@ -47,10 +64,12 @@ relay_read port count boxes =
 unfoldable pub made_read : List ℕ → List ℕ → Option Work
 made_read rounds number = option_and_then (λ r. option_map (plays_made r) (number_read number)) (count_read ROUND_LIMIT rounds)
 
--- a command without a value, with one, with two, or with two and one or more after them, which are read so
+-- a command without a value, with one, with one and perhaps one more, with two, or with two and one or more after them, which are
+-- read so
 pub data Reading : Type 0 where
   bare : Work → Reading
   valued : (List ℕ → Option Work) → Reading
+  extended : (List ℕ → Option (List ℕ) → Option Work) → Reading
   paired : (List ℕ → List ℕ → Option Work) → Reading
   listed : (List ℕ → List ℕ → List (List ℕ) → Option Work) → Reading
 
@@ -60,7 +79,7 @@ Row = List ℕ × Reading
 
 abbrev pub rows : List Row
 rows =
-    (codes "begin", valued (λ word. option_map begins (side_read word)))
+    (codes "begin", extended begin_read)
     ∷ (codes "say", valued (λ word. Some (says word)))
     ∷ (codes "take", bare takes)
     ∷ (codes "inbox", bare shows_inbox)
@@ -82,6 +101,10 @@ values_read (bare work) (value ∷ more) = None
 values_read (valued read) [] = None
 values_read (valued read) (value ∷ []) = read value
 values_read (valued read) (value ∷ next ∷ more) = None
+values_read (extended read) [] = None
+values_read (extended read) (value ∷ []) = read value None
+values_read (extended read) (value ∷ next ∷ []) = read value (Some next)
+values_read (extended read) (value ∷ next ∷ third ∷ more) = None
 values_read (paired read) [] = None
 values_read (paired read) (value ∷ []) = None
 values_read (paired read) (value ∷ next ∷ []) = read value next

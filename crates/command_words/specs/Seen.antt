@@ -5,7 +5,7 @@ use Rattle.command_words.specs.declared.command.Command.{Command}
 use Rattle.command_words.specs.declared.command.Command.TheVariants.{Begin, Say, Take, Inbox, Done, Sent, Outbox, State, Check, Sync, Relay, Duet, DuetMake}
 
 abbrev pub work_of : Command → Work
-work_of (Begin side) = begins side
+work_of (Begin side format) = begins side format
 work_of (Say text) = says text.now
 work_of Take = takes
 work_of Inbox = shows_inbox

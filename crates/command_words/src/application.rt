@@ -1,8 +1,8 @@
 //! The application as clap knows it: one level of subcommands, with their values.
 
 ghost use Rattle.std.specs.Prelude.{◌≡◌, [], ◌∷◌, false, IfOk};
-ghost use Rattle.clap.specs.Simple.{App, app_of, with_rule};
-ghost use Rattle.command_words.specs.Application.{IsLocal, Makes, Joins, application, empty_application, first_rule, second_rule, more_rule, shape_with, wanted, wanted_each};
+ghost use Rattle.clap.specs.Simple.{App, app_of, new_rule, with_rule};
+ghost use Rattle.command_words.specs.Application.{IsLocal, Makes, Joins, application, empty_application, first_rule, second_rule, more_rule, shape_with, spare_rule, wanted, wanted_each};
 ghost use Rattle.command_words.specs.Commands.{rows};
 
 use clap::{Arg, ArgAction, Command};
@@ -20,6 +20,20 @@ fn wanting<'a>(
     ensures local { IfOk result IsLocal }
 {
     command?.arg(Arg::new(alloc, id).required(true))
+}
+
+/// A command with one more value, which may be left out.
+fn allowing<'a>(
+    alloc: Global,
+    command: Result<Command<'a>, AllocError>,
+    id: &'a str,
+) -> Result<Command<'a>, AllocError>
+    requires { IfOk command IsLocal }
+    ensures shape { (app : App) → Makes command.entry app
+        → Makes result (with_rule app (new_rule id.now)) }
+    ensures local { IfOk result IsLocal }
+{
+    command?.arg(Arg::new(alloc, id))
 }
 
 /// A command with one or more values after those that it has.
@@ -72,6 +86,20 @@ fn with_valued<'a>(
     joined(application, one)
 }
 
+/// The application with one more subcommand, which has a value, and perhaps one more.
+fn with_extended<'a>(
+    alloc: Global,
+    application: Result<Command<'a>, AllocError>,
+    name: &'a str,
+) -> Result<Command<'a>, AllocError>
+    ensures { Joins application.entry result
+        (shape_with name.now (first_rule ∷ spare_rule ∷ [])) }
+{
+    let one = wanting(alloc, Ok(Command::new(alloc, name)), "first");
+    let two = allowing(alloc, one, "second");
+    joined(application, two)
+}
+
 /// The application with one more subcommand, which has two values.
 fn with_paired<'a>(
     alloc: Global,
@@ -116,7 +144,7 @@ pub fn application<'a>(alloc: Global) -> Result<Command<'a>, AllocError>
     ensures { Makes result (application rows) }
 {
     let command = Ok(without_commands(alloc));
-    let command = with_valued(alloc, command, "begin");
+    let command = with_extended(alloc, command, "begin");
     let command = with_valued(alloc, command, "say");
     let command = with_bare(alloc, command, "take");
     let command = with_bare(alloc, command, "inbox");

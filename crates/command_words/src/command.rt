@@ -1,12 +1,13 @@
 //! What a command asks for.
 
+use bodies::Format;
 use dr_base::Side;
 
 /// A command, with its values.
 #[derive(PartialEq, Eq, Drop)]
 pub enum Command<'a> {
-    /// A session of this side begins.
-    Begin(Side),
+    /// A session of this side begins, which seals its texts in this format.
+    Begin(Side, Format),
     /// The side says this text.
     Say(&'a str),
     /// The side takes a packet.

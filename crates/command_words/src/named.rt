@@ -4,12 +4,13 @@ ghost use Rattle.std.specs.Prelude.{◌≡◌, ◌<◌, ◌^◌, ℕ, List, [], 
 ghost use Rattle.clap.specs.Walk.{texts};
 ghost use Rattle.dr_base.specs.declared.limits.TheConstants.{INBOX_LIMIT, OUTBOX_LIMIT};
 ghost use Rattle.command_words.specs.declared.limits.TheConstants.{CONNECTION_LIMIT, PORT_LIMIT, ROUND_LIMIT};
-ghost use Rattle.command_words.specs.Commands.{amount_read, command_named, count_read, made_read, relay_read, rows, side_read};
+ghost use Rattle.command_words.specs.Commands.{amount_read, begin_read, command_named, count_read, format_given, made_read, relay_read, rows, side_read};
 ghost use Rattle.command_words.specs.Numbers.{number_read};
 ghost use Rattle.command_words.specs.Seen.{work_of};
 
 use crate::command::Command;
 use crate::limits::{CONNECTION_LIMIT, PORT_LIMIT, ROUND_LIMIT};
+use bodies::Format;
 use dr_base::{INBOX_LIMIT, OUTBOX_LIMIT, Side};
 use std::alloc::{AllocError, Global};
 
@@ -22,6 +23,18 @@ fn side_of(word: &str) -> Option<Side>
         "first" => Some(Side::First),
         "second" => Some(Side::Second),
         _ => None,
+    }
+}
+
+/// The format that a word names, and plain where there is none.
+#[tactic(auto, unfolding(crate::specs::Commands::format_read))]
+fn format_of(word: Option<&str>) -> Option<Format>
+    ensures { result ≡ format_given (option_map (λ word. word.now) word.entry) }
+{
+    match word {
+        None | Some("plain") => Some(Format::Plain),
+        Some("padded") => Some(Format::Padded),
+        Some(_) => None,
     }
 }
 
@@ -75,6 +88,17 @@ fn port_of(word: &str) -> Option<u16>
     }
 }
 
+/// The beginning that a side's word says, with the word of a format after it or none.
+#[tactic(auto, unfolding(crate::specs::Commands::begin_read))]
+fn begin_of<'a>(side: &str, format: Option<&str>) -> Option<Command<'a>>
+    ensures { option_map work_of result
+        ≡ begin_read side.now (option_map (λ word. word.now) format.entry) }
+{
+    let side = side_of(side)?;
+    let format = format_of(format)?;
+    Some(Command::Begin(side, format))
+}
+
 /// The relay that two words and the boxes after them say.
 #[tactic(auto, unfolding(crate::specs::Commands::relay_read))]
 fn relay_of<'a>(
@@ -126,7 +150,7 @@ fn with_value<'a>(name: &str, value: &'a str) -> Option<Command<'a>>
     ensures { option_map work_of result ≡ command_named rows name.now (value.entry.now ∷ []) }
 {
     match name {
-        "begin" => Some(Command::Begin(side_of(value)?)),
+        "begin" => begin_of(value, None),
         "say" => Some(Command::Say(value)),
         "done" => Some(Command::Done(amount_of(INBOX_LIMIT, value)?)),
         "sent" => Some(Command::Sent(amount_of(OUTBOX_LIMIT, value)?)),
@@ -141,6 +165,7 @@ fn with_two<'a>(name: &str, first: &str, second: &str) -> Option<Command<'a>>
         (first.now ∷ second.now ∷ []) }
 {
     match name {
+        "begin" => begin_of(first, Some(second)),
         "duet-make" => made_of(first, second),
         _ => None,
     }

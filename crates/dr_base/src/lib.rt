@@ -7,8 +7,8 @@ pub use failed::Failed;
 pub use key::{Kept, Key32};
 pub use limits::{
     AGREEMENT_LIMIT, CARRIED_LIMIT, CIPHERTEXT_LIMIT, INBOX_LIMIT, INDEX_LIMIT, KEPT_LIMIT,
-    LAST_EPOCH, OUTBOX_LIMIT, PACKET_FRAME, PACKET_LIMIT, PAGE, PUBLIC_LIMIT, SECRET_LIMIT,
-    TEXT_LIMIT, limits_in_numbers,
+    LAST_EPOCH, OUTBOX_LIMIT, PACKET_FRAME, PACKET_LIMIT, PADDED, PAGE, PLAIN, PUBLIC_LIMIT,
+    SEALED_LIMIT, SECRET_LIMIT, TEXT_LIMIT, limits_in_numbers,
 };
 pub use number::{read_u16, read_u32};
 pub use position::{Position, Side};

@@ -36,8 +36,17 @@ pub const AGREEMENT_LIMIT: usize = CIPHERTEXT_LIMIT + PUBLIC_LIMIT;
 /// and session id, and its tag.
 pub const PACKET_FRAME: usize = 33 + 32;
 
+/// The version of a packet that seals its text as it is.
+pub const PLAIN: u8 = 1;
+
+/// The version of a packet that seals its text padded: filled up with zeros to steps of 256 bytes.
+pub const PADDED: u8 = 2;
+
+/// The most bytes that a packet seals: a longest text, padded.
+pub const SEALED_LIMIT: usize = 4352;
+
 /// The longest packet, in bytes.
-pub const PACKET_LIMIT: usize = PACKET_FRAME + AGREEMENT_LIMIT + TEXT_LIMIT;
+pub const PACKET_LIMIT: usize = PACKET_FRAME + AGREEMENT_LIMIT + SEALED_LIMIT;
 
 /// The longest packet that a relay carries, in bytes.
 pub const CARRIED_LIMIT: usize = 8000;

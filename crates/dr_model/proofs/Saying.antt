@@ -4,3 +4,4 @@ pub mod SayingFollows
 pub mod SayingLawful
 pub mod SayingText
 pub mod SayingTurn
+pub mod OwnSide

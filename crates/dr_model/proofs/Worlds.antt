@@ -12,3 +12,4 @@ pub mod Counted
 pub mod Passes
 pub mod FullViews
 pub mod LastingPackets
+pub mod PaddedRightly

@@ -1,3 +1,4 @@
+pub mod Formats
 pub mod Conversation
 pub mod Indices
 pub mod Posts

@@ -13,12 +13,19 @@ use Rattle.scripts.specs.Script.{Scripted}
 use Rattle.duet.specs.Trace.{beginning}
 
 -- what both keep in an opening world, and its boxes
-pub opening_stands : (k : Mechanism) (script : Scripted) (room : ℕ) → beside (opening_duet k script.key room) ≡ beginning k script
+pub opening_stands : (k : Mechanism) (script : Scripted) (room : ℕ)
+    → beside (opening_duet k script.key script.formats room) ≡ beginning k script
 unfolding positions_after
 opening_stands k script room =
     ap₂ (λ (first second : Client). let stands : SidesBeside = record {
-      ends = record { key = script.key; first = first; second = second; posts = []; draws = (opening_world script.key).draws };
+      ends = record {
+        key = script.key;
+        first = first;
+        second = second;
+        posts = [];
+        draws = (opening_world script.key script.formats).draws;
+      };
       boxes = opening_boxes first;
       shuts = both_open;
     } in stands)
-    (sym (opening_client k script.key First)) (sym (opening_client k script.key Second))
+    (sym (opening_client k script.key script.formats First)) (sym (opening_client k script.key script.formats Second))

@@ -194,12 +194,16 @@ none_left k w Second = tt
 honest_beginning : (k : Mechanism) (script : Scripted) → is_some (k.meaning.pair_of (agreement_seed script.key)) ≡ true
     → IsHonest k (beginning_in k script)
 honest_beginning k script pairs =
-    let w = opening_world script.key in
+    let w = opening_world script.key script.formats in
     let Only : Box → Type 0 = HoldsOnly (IsSaidPacket k w) in
     let none = All-nil (λ (kept : Kept). IsSaidPacket k w kept.packet) in
     let own = empty_box (own_box (kept_in k w First)) in
     let peers = empty_box (peers_box (kept_in k w First)) in
-    record { lawful = lawful_opening k script.key pairs; shuts = none_left k w; boxes = All-cons Only own (peers ∷ []) none (All-cons Only peers [] none (All-nil Only)) }
+    record {
+      lawful = lawful_opening k script.key script.formats pairs;
+      shuts = none_left k w;
+      boxes = All-cons Only own (peers ∷ []) none (All-cons Only peers [] none (All-nil Only));
+    }
 
 -- from there
 script_follows : (k : Mechanism) (script : Scripted) → IsLawfulMechanism k → is_some (k.meaning.pair_of (agreement_seed script.key)) ≡ true

@@ -1,11 +1,13 @@
 -- Both sides, as the code holds them.
 use Rattle.std.specs.Prelude.{◌<◌, ℕ, List, [], None, length}
+use Rattle.bodies.specs.declared.format.Format.{Format}
 use Rattle.dr_base.specs.declared.position.Side.{Side}
 use Rattle.dr_base.specs.declared.position.Side.TheVariants.{First, Second}
 use Rattle.relay_core.specs.Boxes.{Box}
 use Rattle.boxes.specs.Entries.{Entry}
 use Rattle.boxes.specs.Posts.{Post}
 use Rattle.session_model.specs.Clients.{Client}
+use Rattle.dr_model.specs.Conversations.Formats.{Formats, format_of}
 use Rattle.dr_model.specs.Machines.Sides.{Sides, client_of, step_on}
 use Rattle.dr_model.specs.Machines.Steps.{Step}
 use Rattle.dr_model.specs.Machines.Draws.{Draws}
@@ -16,8 +18,16 @@ use Rattle.duet.specs.Outcomes.{SidesBeside, SidesPlayed, opening_boxes}
 use Rattle.duet.specs.Shuts.{PartyNow, Shuts, open_party}
 
 -- a side at the beginning of a conversation
-abbrev pub opening_client : Mechanism → List ℕ → Side → Client
-opening_client k key side = record { state = opening_state k key side; inbox = []; outbox = [] }
+abbrev pub opening_client : Mechanism → List ℕ → Side → Format → Client
+opening_client k key side format = record {
+  state = opening_state k key side format;
+  inbox = [];
+  outbox = [];
+}
+
+-- one of two sides that seal their texts so
+abbrev pub opening_of : Mechanism → List ℕ → Formats → Side → Client
+opening_of k key formats side = opening_client k key side (format_of formats side)
 
 -- the sides, what was left of those that are closed, the boxes of their relay, and how many packets the network has room for
 pub record DuetNow : Type 0 where
@@ -35,10 +45,11 @@ duet_now key first second posts draws boxes room = record {
 }
 
 -- both sides at the beginning of a conversation
-abbrev pub opening_duet : Mechanism → List ℕ → ℕ → DuetNow
-opening_duet k key room =
-    let first = opening_client k key First in
-    duet_now key (open_party first) (open_party (opening_client k key Second)) [] (record { made = 0; given = None })
+abbrev pub opening_duet : Mechanism → List ℕ → Formats → ℕ → DuetNow
+opening_duet k key formats room =
+    let first = opening_of k key formats First in
+    let second = opening_of k key formats Second in
+    duet_now key (open_party first) (open_party second) [] (record { made = 0; given = None })
     (opening_boxes first) room
 
 -- the network has room for a packet more

@@ -23,7 +23,8 @@ after_by act s (deed ∷ deeds) = after_by act (act s deed).next deeds
 -- the world at the beginning of a script, and the boxes of the relay
 abbrev pub beginning_in : Mechanism → Scripted → WorldBeside
 beginning_in k script =
-    let w = opening_world script.key in record { ends = w; boxes = opening_boxes (kept_in k w First); shuts = both_open }
+    let w = opening_world script.key script.formats in
+    record { ends = w; boxes = opening_boxes (kept_in k w First); shuts = both_open }
 
 -- both sides at the beginning of a script, and these boxes
 abbrev pub beginning : Mechanism → Scripted → SidesBeside

@@ -15,6 +15,7 @@ ghost use Rattle.client.specs.declared.refusals.BeginRefusal.TheVariants.{NoPair
 
 use crate::acts::{ClientCall, Ended, perform};
 use crate::post::Post;
+use bodies::Format;
 use boxes::Entry;
 use client::{AREA_SIZE, BeginRefusal, Client, Names};
 use dr_base::{Key32, Side, TEXT_LIMIT};
@@ -73,10 +74,11 @@ fn begin_error(refusal: BeginRefusal) -> BeginError
 }
 
 impl<K: Kem> Party<K> {
-    /// A side at the beginning of a conversation, on a disk of its own. It takes all its memory
-    /// here.
-    pub fn begin(alloc: Global, side: Side, key: &Key32) -> Result<Self, BeginError>
-        ensures ok { IfOk result (λ p. p ≡ open_party (opening_client K.mechanism key.now.bytes side)) }
+    /// A side at the beginning of a conversation, which seals its texts in this format, on a disk of
+    /// its own. It takes all its memory here.
+    pub fn begin(alloc: Global, side: Side, format: Format, key: &Key32) -> Result<Self, BeginError>
+        ensures ok { let kept = opening_client K.mechanism key.now.bytes side format in
+            IfOk result (λ p. p ≡ open_party kept) }
         ensures pair { IfOk result
             (λ _. IsSome (K.mechanism.meaning.pair_of (agreement_seed key.now.bytes))) }
         ensures none { IsErrOf result BeginError.NoPair
@@ -85,7 +87,7 @@ impl<K: Kem> Party<K> {
         let Ok(mut disk) = MemoryDisk::new(alloc, DISK_SIZE) else {
             return Err(BeginError::Memory);
         };
-        match Client::begin(alloc, &mut disk, side, key) {
+        match Client::begin(alloc, &mut disk, side, format, key) {
             Ok(client) => Ok(Party {
                 client,
                 disk,

@@ -11,6 +11,7 @@ use crate::deeds::{Cut, play_deed};
 use crate::party::BeginError;
 use crate::sides::Duet;
 use crate::tally::Tally;
+use dr_base::Side;
 use dr_ports::Sink;
 use kem_laws::Kem;
 use scripts::Script;
@@ -56,7 +57,9 @@ pub fn play<K: Kem, O: Sink>(
         → (O.at out.new).faults ≡ (O.at out.old).faults }
     ensures later { (O.at out.old).faults ≤ (O.at out.new).faults }
 {
-    let mut duet = match Duet::<K>::new(alloc, script.key(), script.len()) {
+    let first = script.format(Side::First);
+    let second = script.format(Side::Second);
+    let mut duet = match Duet::<K>::new(alloc, first, second, script.key(), script.len()) {
         Ok(duet) => duet,
         Err(BeginError::Memory) => return Err(PlayError::Memory),
         Err(BeginError::NoPair) => return Err(PlayError::NoPair),

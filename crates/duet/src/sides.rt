@@ -1,6 +1,7 @@
 //! Both sides of a conversation, with the network between them.
 
 ghost use Rattle.std.specs.Prelude.{◌≡◌, ◌+◌, ◌-◌, ◌^◌, ◌<◌, ◌≤◌, length, None, true, IfOk, IsErrOf, IsNone, IsSome};
+ghost use Rattle.dr_model.specs.Conversations.Formats.{Formats};
 ghost use Rattle.dr_model.specs.Machines.Sides.{client_of, step_on};
 ghost use Rattle.session_model.specs.Schedule.{agreement_seed};
 ghost use Rattle.duet.specs.Acts.{IsChecked, act_of_call, acted_by, alone_by};
@@ -15,6 +16,7 @@ use crate::draws::Draws;
 use crate::party::{BeginError, Party};
 use crate::post::Post;
 use crate::tally::{SideTally, Tally};
+use bodies::Format;
 use dr_base::{Key32, Side};
 use kem_laws::Kem;
 use relay_link::RelayLink;
@@ -48,10 +50,17 @@ impl<K: Kem> Model for Duet<K> {
 impl<K: Kem> Duet<K> {
     ghost use Rattle.scripts.specs.Seen.{call_event, event_of};
 
-    /// Both sides before the first event, and room in the network for this many packets. It takes
-    /// all memory that the events need.
-    pub fn new(alloc: Global, key: &Key32, room: usize) -> Result<Self, BeginError>
-        ensures ok { IfOk result (λ duet. duet ≡ opening_duet K.mechanism key.now.bytes room) }
+    /// Both sides before the first event, which seal their texts in these formats, and room in the
+    /// network for this many packets. It takes all memory that the events need.
+    pub fn new(
+        alloc: Global,
+        first_format: Format,
+        second_format: Format,
+        key: &Key32,
+        room: usize,
+    ) -> Result<Self, BeginError>
+        ensures ok { let both : Formats = record { first = first_format; second = second_format } in
+            IfOk result (λ duet. duet ≡ opening_duet K.mechanism key.now.bytes both room) }
         ensures few { IfOk result (λ _. room < 2 ^ 32 - 1) }
         ensures pair { IfOk result
             (λ _. IsSome (K.mechanism.meaning.pair_of (agreement_seed key.now.bytes))) }
@@ -65,7 +74,7 @@ impl<K: Kem> Duet<K> {
         let Ok(posts) = Vec::with_capacity(alloc, room) else {
             return Err(BeginError::Memory);
         };
-        let first = match Party::begin(alloc, Side::First, key) {
+        let first = match Party::begin(alloc, Side::First, first_format, key) {
             Ok(first) => first,
             Err(error) => return Err(error),
         };
@@ -73,7 +82,7 @@ impl<K: Kem> Duet<K> {
         let Ok(relay) = RelayLink::new(alloc, &[names.own, names.peers]) else {
             return Err(BeginError::Memory);
         };
-        match Party::begin(alloc, Side::Second, key) {
+        match Party::begin(alloc, Side::Second, second_format, key) {
             Ok(second) => Ok(Duet {
                 key: Key32 { bytes: key.bytes },
                 first,

@@ -84,8 +84,8 @@ pub record ServesAlone {X R S L A W : Type 0} (seen : Seen X R S L A W) (port co
 -- What a command comes to. Sessions are over sntrup761.
 abbrev pub Performs : {X R S L A W : Type 0} → Work → Seen X R S L A W
     → PortsNow X R S L A W → PortsNow X R S L A W → ℕ → Type 0
-Performs (begins side) seen old new code =
-    ReadsAndWrites (RunsBegin seen.disk sntrup761_kem side
+Performs (begins side format) seen old new code =
+    ReadsAndWrites (RunsBegin seen.disk sntrup761_kem side format
     (seen.source old.source) (seen.source new.source) old.disk new.disk) old new code
 Performs (says text) seen old new code =
     DrawsAndWrites (RunsAct seen.disk sntrup761_kem

@@ -36,7 +36,9 @@ pub(crate) fn perform<D: Disk, R: Disk, S: Source, O: Sink, L: Link, A: Door, W:
         result.code }
 {
     match command {
-        Command::Begin(side) => begin::<Sntrup761, D, S, O>(alloc, side, disk, source, out),
+        Command::Begin(side, format) => begin::<Sntrup761, D, S, O>(
+            alloc, side, format, disk, source, out,
+        ),
         Command::Say(text) => say::<Sntrup761, D, O, W>(alloc, text.as_bytes(), disk, out, draws),
         Command::Take => take::<Sntrup761, D, S, O>(alloc, disk, source, out),
         Command::Inbox => inbox::<Sntrup761, D, O>(alloc, disk, out),

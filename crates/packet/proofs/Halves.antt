@@ -21,7 +21,7 @@ after_head agreement bytes x e =
     by_step (lawful w32 25 Index is_index previous.1) _ x e4 (λ index index_is e5.
     by_step (lawful w16 29 Agreement (λ n. nat_eq n (agreement_len agreement epoch.0)) index.1) _ x e5 (λ size size_is e6.
     let is = passed_on
-    (record { session = session.0; epoch = epoch.0; previous = previous.0; index = index.0; size = size.0 }, size.1) x e6 in
+    (record { version = version.0; session = session.0; epoch = epoch.0; previous = previous.0; index = index.0; size = size.0 }, size.1) x e6 in
     rw (version_is, session_is, epoch_is, previous_is, index_is, size_is, ← is) refl))))))
 
 -- a fault of the numbers is the first one

@@ -10,3 +10,4 @@ mod Sample
 mod TextFaults
 pub mod Faulty
 pub mod Halves
+pub mod Known

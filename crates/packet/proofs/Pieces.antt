@@ -7,6 +7,7 @@ use Rattle.std.proofs.lemmas.List.{take_at, drop_at}
 use Rattle.packet.specs.Packet.{Fields, IsLawful, packet_of}
 use Rattle.packet.specs.Faults.{pieces_of}
 use Rattle.dr_base.proofs.Widths.{exact16}
+use Rattle.packet.proofs.Known.{text_small}
 use Rattle.packet.proofs.Printed.{packet_of-grouped}
 
 pub packet_of-pieces : (f : Fields) → packet_of f ≡ concat (pieces_of f)
@@ -58,7 +59,7 @@ same_size agreement f g (suc (suc (suc (suc (suc (suc zero)))))) below a b e = t
     (b.fits (omega arith)) (ap (λ (l : List (List ℕ)). get_or l 5 []) e)
 same_size agreement f g (suc (suc (suc (suc (suc (suc (suc zero))))))) below a b e = refl
 same_size agreement f g (suc (suc (suc (suc (suc (suc (suc (suc zero)))))))) below a b e = told_len _ _
-    (omega (arith, a.lawful.text_fits)) (omega (arith, b.lawful.text_fits)) (ap (λ (l : List (List ℕ)). get_or l 7 []) e)
+    (text_small _ _ a.lawful.text_fits) (text_small _ _ b.lawful.text_fits) (ap (λ (l : List (List ℕ)). get_or l 7 []) e)
 same_size agreement f g (suc (suc (suc (suc (suc (suc (suc (suc (suc zero))))))))) below a b e = a.lawful.tag_len
     ∙ sym b.lawful.tag_len
 same_size agreement f g (suc (suc (suc (suc (suc (suc (suc (suc (suc (suc k)))))))))) below a b e = absurd (omega arith)

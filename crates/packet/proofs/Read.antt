@@ -44,7 +44,7 @@ read_was_printed agreement bytes f small e =
     by_step (lawful w32 25 Index is_index previous.1) _ f e4 (λ index index_is e5.
     by_step (lawful w16 29 Agreement (λ n. nat_eq n (agreement_len agreement epoch.0)) index.1) _ f e5 (λ size size_is e6.
     by_step (field 31 size.0 size.1) _ f e6 (λ message message_is e7.
-    by_step (lawful w16 (31 + size.0) Text is_text_len message.1) _ f e7 (λ text_len text_len_is e8.
+    by_step (lawful w16 (31 + size.0) Text (is_text_len version.0) message.1) _ f e7 (λ text_len text_len_is e8.
     by_step (field (33 + size.0) text_len.0 text_len.1) _ f e8 (λ ciphertext ciphertext_is e9.
     by_step (field (33 + size.0 + text_len.0) 32 ciphertext.1) _ f e9 (λ tag tag_is e10.
     let v = number_read w8 (2 ^ 8) exact8 0 Version is_version bytes version small version_is in
@@ -54,12 +54,13 @@ read_was_printed agreement bytes f small e =
     let i = number_read w32 (2 ^ 32) exact32 25 Index is_index previous.1 index p.rest_small index_is in
     let z = number_read w16 (2 ^ 16) exact16 29 Agreement (λ n. nat_eq n (agreement_len agreement epoch.0)) index.1 size i.rest_small size_is in
     let m = field_read 31 size.0 size.1 message z.rest_small message_is in
-    let n = number_read w16 (2 ^ 16) exact16 (31 + size.0) Text is_text_len message.1 text_len m.0.rest_small text_len_is in
+    let n = number_read w16 (2 ^ 16) exact16 (31 + size.0) Text (is_text_len version.0) message.1 text_len m.0.rest_small text_len_is in
     let c = field_read (33 + size.0) text_len.0 text_len.1 ciphertext n.rest_small ciphertext_is in
     let g = field_read (33 + size.0 + text_len.0) 32 ciphertext.1 tag c.0.rest_small tag_is in
-    let made : Fields = record { session = session.0; epoch = epoch.0; previous = previous.0; index = index.0; agreement = message.0; ciphertext = ciphertext.0; tag = tag.0 } in
+    let made : Fields = record { version = version.0; session = session.0; epoch = epoch.0; previous = previous.0; index = index.0; agreement = message.0; ciphertext = ciphertext.0; tag = tag.0 } in
     let end = passed (nat_eq (length tag.1) 0) made f _ e10 in
     let made_lawful : IsLawful agreement made = record {
+      version_is = v.passes;
       session_len = s.1;
       epoch_fits = leb-true _ _ t.passes;
       previous_fits = previous_fits epoch.0 previous.0 p.passes;
@@ -67,11 +68,11 @@ read_was_printed agreement bytes f small e =
       index_from_one = index_from_one index.0 i.passes;
       index_fits = index_fits index.0 i.passes;
       agreement_is = m.1 ∙ eqb-true _ _ z.passes;
-      text_fits = omega (arith, c.1, leb-true _ _ n.passes);
+      text_fits = subst (λ (k : ℕ). is_text_len version.0 k ≡ true) (sym c.1) n.passes;
       tag_len = g.1;
     } in
     let text : bytes ≡ grouped made =
-    onto (to_be_bytes w8 1) bytes version.1 _ (subst (λ (k : ℕ). bytes ≡ to_be_bytes w8 k ++ version.1) (eqb-true _ _ v.passes) v.parts)
+    onto (to_be_bytes w8 version.0) bytes version.1 _ v.parts
     (onto session.0 version.1 session.1 _ s.0.parts
     (onto (to_be_bytes w32 epoch.0) session.1 epoch.1 _ t.parts
     (onto (to_be_bytes w32 previous.0) epoch.1 previous.1 _ p.parts

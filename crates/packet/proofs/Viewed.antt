@@ -16,6 +16,7 @@ own_len agreement epoch n e = grind (arith, nat_tests)
 
 own_lawful : (agreement : ℕ) (f : Fields) → IsLawful agreement f → IsLawful (length f.agreement) f
 own_lawful agreement f lawful = record {
+  version_is = lawful.version_is;
   session_len = lawful.session_len;
   epoch_fits = lawful.epoch_fits;
   previous_fits = lawful.previous_fits;

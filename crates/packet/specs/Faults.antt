@@ -1,7 +1,7 @@
 -- The first fault of bytes that are no packet, in the printer's words. Nothing is read here: a place is one where
 -- a lawful packet has a field.
 use Rattle.std.specs.Prelude.{◌≡◌, ℕ, ◌+◌, ◌^◌, ◌<◌, ◌≤◌, List, [], ◌∷◌, ◌++◌, length, take, get_or}
-use Rattle.std.specs.Int.{w16, w32, to_be_bytes}
+use Rattle.std.specs.Int.{w8, w16, w32, to_be_bytes}
 use Rattle.std.specs.List.{concat}
 use Rattle.packet.specs.declared.fault.Kind.{Kind}
 use Rattle.packet.specs.declared.fault.Kind.TheVariants.{Version, Epoch, Previous, Index, Agreement, Text, Short, Long}
@@ -12,7 +12,7 @@ use Rattle.packet.specs.Packet.{Fields, IsLawful, packet_of}
 -- index, 5 and 6 the agreement message's length and itself, 7 and 8 the ciphertext's, 9 the tag
 abbrev pub pieces_of : Fields → List (List ℕ)
 pieces_of f =
-    (1 ∷ []) ∷ f.session ∷ to_be_bytes w32 f.epoch ∷ to_be_bytes w32 f.previous ∷ to_be_bytes w32 f.index
+    to_be_bytes w8 f.version ∷ f.session ∷ to_be_bytes w32 f.epoch ∷ to_be_bytes w32 f.previous ∷ to_be_bytes w32 f.index
     ∷ to_be_bytes w16 (length f.agreement) ∷ f.agreement ∷ to_be_bytes w16
     (length f.ciphertext) ∷ f.ciphertext ∷ f.tag ∷ []
 

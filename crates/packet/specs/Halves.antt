@@ -10,6 +10,7 @@ use Rattle.packet.specs.Reading.{◌>>=◌, field, lawful, is_version, is_epoch,
 
 -- the numbers before the agreement message, its length as the last
 pub record Head : Type 0 where
+  pub version : ℕ
   pub session : List ℕ
   pub epoch : ℕ
   pub previous : ℕ
@@ -18,7 +19,7 @@ pub record Head : Type 0 where
 
 -- the numbers, the session id lent from bytes
 abbrev pub head_of : HeadPart → Head
-head_of h = record { session = h.session.now; epoch = h.epoch; previous = h.previous; index = h.index; size = h.size }
+head_of h = record { version = h.version; session = h.session.now; epoch = h.epoch; previous = h.previous; index = h.index; size = h.size }
 
 -- the numbers and the bytes after them, or the first fault
 unfoldable pub read_head : ℕ → List ℕ → Result (Head × List ℕ) Malformed
@@ -29,17 +30,18 @@ read_head agreement bytes = do
   previous ← lawful w32 21 Previous (is_previous epoch.0) epoch.1
   index ← lawful w32 25 Index is_index previous.1
   size ← lawful w16 29 Agreement (λ n. n == agreement_len agreement epoch.0) index.1
-  Ok (record { session = session.0; epoch = epoch.0; previous = previous.0; index = index.0; size = size.0 }, size.1)
+  Ok (record { version = version.0; session = session.0; epoch = epoch.0; previous = previous.0; index = index.0; size = size.0 }, size.1)
 
 -- the packet with these numbers, from the bytes after them, or the first fault
 unfoldable pub read_body : Head → List ℕ → Result Fields Malformed
 read_body head bytes = do
   message ← field 31 head.size bytes
-  text_len ← lawful w16 (31 + head.size) Text is_text_len message.1
+  text_len ← lawful w16 (31 + head.size) Text (is_text_len head.version) message.1
   ciphertext ← field (33 + head.size) text_len.0 text_len.1
   tag ← field (33 + head.size + text_len.0) 32 ciphertext.1
   ended (PACKET_FRAME + head.size + text_len.0) tag.1
       (record {
+        version = head.version;
         session = head.session;
         epoch = head.epoch;
         previous = head.previous;

@@ -7,6 +7,7 @@ use Rattle.packet.specs.Packet.{Fields, IsLawful, packet_of}
 -- the fields that were lent from bytes
 abbrev pub fields_of : Parts → Fields
 fields_of p = record {
+  version = p.version;
   session = p.session.now;
   epoch = p.epoch;
   previous = p.previous;
@@ -17,8 +18,9 @@ fields_of p = record {
 }
 
 -- the fields of a packet that is written at a position
-abbrev pub fields_at : List ℕ → Position → ℕ → List ℕ → List ℕ → List ℕ → Fields
-fields_at session position previous agreement ciphertext tag = record {
+abbrev pub fields_at : ℕ → List ℕ → Position → ℕ → List ℕ → List ℕ → List ℕ → Fields
+fields_at version session position previous agreement ciphertext tag = record {
+  version = version;
   session = session;
   epoch = position.epoch;
   previous = previous;

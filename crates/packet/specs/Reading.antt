@@ -1,11 +1,12 @@
 -- Reading a packet from left to right. A field is its value and the bytes after it, or the first fault.
-use Rattle.std.specs.Prelude.{◌≡◌, ℕ, ◌+◌, ◌-◌, ◌^◌, ◌==◌, ◌&&◌, ◌||◌, Bool, nat_lt, nat_le, List, length, take, drop, Result, Ok, Err, if◌then◌else◌}
+use Rattle.std.specs.Prelude.{◌≡◌, ℕ, ◌+◌, ◌==◌, ◌&&◌, ◌||◌, Bool, nat_lt, nat_le, List, length, take, drop, Result, Ok, Err, if◌then◌else◌}
 use Rattle.std.specs.Int.{Width, w8, w16, w32, byte_len, from_be_bytes}
-use Rattle.dr_base.specs.declared.limits.TheConstants.{TEXT_LIMIT, INDEX_LIMIT, LAST_EPOCH, PACKET_FRAME}
+use Rattle.dr_base.specs.declared.limits.TheConstants.{INDEX_LIMIT, LAST_EPOCH, PACKET_FRAME}
 use Rattle.packet.specs.declared.fault.Kind.{Kind}
 use Rattle.packet.specs.declared.fault.Kind.TheVariants.{Version, Epoch, Previous, Index, Agreement, Text, Short, Long}
 use Rattle.packet.specs.declared.fault.Malformed.{Malformed}
 use Rattle.packet.specs.Packet.{Fields, agreement_len}
+pub use Rattle.packet.specs.Versions.{is_text_len, is_version}
 
 -- the next step, unless there was a fault
 infixl 10 ◌>>=◌
@@ -33,10 +34,6 @@ lawful w at kind test bytes = do
   n ← number w at bytes
   if test n.0 then Ok n else fault at kind
 
--- the version is 1
-abbrev pub is_version : ℕ → Bool
-is_version n = n == 1
-
 -- an epoch is any number but the greatest
 abbrev pub is_epoch : ℕ → Bool
 is_epoch n = nat_le n LAST_EPOCH
@@ -48,10 +45,6 @@ is_previous epoch n = nat_le n INDEX_LIMIT && (nat_lt 1 epoch || n == 0)
 -- an index is from 1 to the greatest
 abbrev pub is_index : ℕ → Bool
 is_index n = nat_le 1 n && nat_le n INDEX_LIMIT
-
--- a text has at most as many bytes as the longest
-abbrev pub is_text_len : ℕ → Bool
-is_text_len n = nat_le n TEXT_LIMIT
 
 -- nothing may stand after the tag
 abbrev pub ended : ℕ → List ℕ → Fields → Result Fields Malformed
@@ -67,11 +60,12 @@ read_packet agreement bytes = do
   index ← lawful w32 25 Index is_index previous.1
   size ← lawful w16 29 Agreement (λ n. n == agreement_len agreement epoch.0) index.1
   message ← field 31 size.0 size.1
-  text_len ← lawful w16 (31 + size.0) Text is_text_len message.1
+  text_len ← lawful w16 (31 + size.0) Text (is_text_len version.0) message.1
   ciphertext ← field (33 + size.0) text_len.0 text_len.1
   tag ← field (33 + size.0 + text_len.0) 32 ciphertext.1
   ended (PACKET_FRAME + size.0 + text_len.0) tag.1
       (record {
+        version = version.0;
         session = session.0;
         epoch = epoch.0;
         previous = previous.0;

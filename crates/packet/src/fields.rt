@@ -7,10 +7,9 @@ ghost use Rattle.packet.specs.Packet.{agreement_len};
 ghost use Rattle.packet.specs.Reading.{Gives, field, number, lawful, is_version, is_epoch, is_previous, is_index, is_text_len};
 
 use crate::fault::{Kind, Malformed};
-use dr_base::{INDEX_LIMIT, LAST_EPOCH, TEXT_LIMIT, read_u16, read_u32};
-
-/// The version of the format.
-pub const VERSION: u8 = 1;
+use dr_base::{
+    INDEX_LIMIT, LAST_EPOCH, PADDED, PLAIN, SEALED_LIMIT, TEXT_LIMIT, read_u16, read_u32,
+};
 
 // The offsets of the fields before the agreement message.
 const VERSION_AT: usize = 0;
@@ -67,19 +66,20 @@ fn u32_at(bytes: &[u8], at: usize) -> Result<(u32, &[u8]), Malformed>
     Ok((read_u32(front, 0), rest))
 }
 
-/// The version, which is 1: only the bytes after it.
+/// The version.
 #[tactic(auto, unfolding(crate::specs::Reading::field, crate::specs::Reading::number, crate::specs::Reading::lawful))]
-pub fn version(bytes: &[u8]) -> Result<&[u8], Malformed>
-    ensures { Gives (λ x. (1, x.now)) result (lawful w8 0 Version is_version bytes.now) }
+pub fn version(bytes: &[u8]) -> Result<(u8, &[u8]), Malformed>
+    ensures { Gives (λ x. (x.0, x.1.now)) result (lawful w8 0 Version is_version bytes.now) }
 {
     let (front, rest) = bytes_at(bytes, VERSION_AT, 1)?;
-    if front[0] != VERSION {
+    let version = front[0];
+    if version != PLAIN && version != PADDED {
         return Err(Malformed {
             at: VERSION_AT,
             kind: Kind::Version,
         });
     }
-    Ok(rest)
+    Ok((version, rest))
 }
 
 /// The epoch, which isn't the greatest number.
@@ -146,13 +146,24 @@ pub fn agreement_len(bytes: &[u8], agreement: usize, epoch: u32) -> Result<(u16,
     Ok((len, rest))
 }
 
-/// The length of the text, at most that of the longest.
+/// Whether a packet of a version may seal so many bytes.
+#[tactic(auto, unfolding(crate::specs::Versions::is_text_len))]
+pub fn is_text_len(version: u8, len: usize) -> bool
+    ensures { result ≡ is_text_len version len }
+{
+    if version == PLAIN {
+        return len <= TEXT_LIMIT;
+    }
+    len % 256 == 0 && len >= 256 && len <= SEALED_LIMIT
+}
+
+/// The length of the sealed bytes, one that the version may have.
 #[tactic(auto, unfolding(crate::specs::Reading::lawful))]
-pub fn text_len(bytes: &[u8], at: usize) -> Result<(u16, &[u8]), Malformed>
-    ensures { Gives (λ x. (x.0, x.1.now)) result (lawful w16 at Text is_text_len bytes.now) }
+pub fn text_len(bytes: &[u8], at: usize, version: u8) -> Result<(u16, &[u8]), Malformed>
+    ensures { Gives (λ x. (x.0, x.1.now)) result (lawful w16 at Text (is_text_len version) bytes.now) }
 {
     let (len, rest) = u16_at(bytes, at)?;
-    if usize::from(len) > TEXT_LIMIT {
+    if !is_text_len(version, usize::from(len)) {
         return Err(Malformed {
             at,
             kind: Kind::Text,

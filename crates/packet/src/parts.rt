@@ -11,6 +11,7 @@ use dr_base::PACKET_FRAME;
 /// The numbers before the agreement message: its length is `size`.
 #[derive(Drop)]
 pub struct Head<'a> {
+    pub version: u8,
     pub session: &'a [u8; 16],
     pub epoch: u32,
     pub previous: u32,
@@ -21,6 +22,7 @@ pub struct Head<'a> {
 /// The fields, the long ones lent from the bytes that were read.
 #[derive(Drop)]
 pub struct Parts<'a> {
+    pub version: u8,
     pub session: &'a [u8; 16],
     pub epoch: u32,
     pub previous: u32,
@@ -35,13 +37,14 @@ pub struct Parts<'a> {
 fn read_head(bytes: &[u8], agreement: usize) -> Result<(Head<'_>, &[u8]), Malformed>
     ensures { Gives (λ x. (head_of x.0, x.1.now)) result (read_head agreement bytes.now) }
 {
-    let rest = fields::version(bytes)?;
+    let (version, rest) = fields::version(bytes)?;
     let (session, rest) = fields::array_at(rest, 1)?;
     let (epoch, rest) = fields::epoch(rest)?;
     let (previous, rest) = fields::previous(rest, epoch)?;
     let (index, rest) = fields::index(rest)?;
     let (size, rest) = fields::agreement_len(rest, agreement, epoch)?;
     let head = Head {
+        version,
         session,
         epoch,
         previous,
@@ -58,7 +61,7 @@ fn read_body<'a>(head: &Head<'a>, bytes: &'a [u8]) -> Result<Parts<'a>, Malforme
 {
     let size = usize::from(head.size);
     let (message, rest) = fields::bytes_at(bytes, 31, size)?;
-    let (text_len, rest) = fields::text_len(rest, 31 + size)?;
+    let (text_len, rest) = fields::text_len(rest, 31 + size, head.version)?;
     let text_len = usize::from(text_len);
     let (ciphertext, rest) = fields::bytes_at(rest, 33 + size, text_len)?;
     let (tag, rest) = fields::array_at(rest, 33 + size + text_len)?;
@@ -69,6 +72,7 @@ fn read_body<'a>(head: &Head<'a>, bytes: &'a [u8]) -> Result<Parts<'a>, Malforme
         });
     }
     Ok(Parts {
+        version: head.version,
         session: head.session,
         epoch: head.epoch,
         previous: head.previous,

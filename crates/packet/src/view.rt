@@ -1,13 +1,14 @@
 //! A packet that was read, and what it lends.
 
-ghost use Rattle.std.specs.Prelude.{◌≡◌, ◌+◌, ◌-◌, ◌^◌, ◌<◌, ◌≤◌, length, IfOk};
+ghost use Rattle.std.specs.Prelude.{◌≡◌, true, ◌+◌, ◌-◌, ◌^◌, ◌<◌, ◌≤◌, length, IfOk};
 ghost use Rattle.packet.specs.Packet.{Fields, IsLawful, ad_of, packet_of};
 ghost use Rattle.packet.specs.Parts.{fields_of, HasAt, IsViewed};
 ghost use Rattle.packet.specs.Reading.{read_packet};
+ghost use Rattle.packet.specs.Versions.{is_version};
 
 use crate::fault::Malformed;
 use crate::parts::{self, Parts};
-use dr_base::{INDEX_LIMIT, LAST_EPOCH, TEXT_LIMIT};
+use dr_base::{INDEX_LIMIT, LAST_EPOCH, PLAIN, SEALED_LIMIT, TEXT_LIMIT};
 use std::marker::Model;
 
 /// The fields of a packet, lent from the bytes that were parsed, and where they stand in these.
@@ -36,6 +37,14 @@ pub fn parse(bytes: &[u8], agreement: usize) -> Result<View<'_>, Malformed>
 }
 
 impl View<'_> {
+    /// The version.
+    pub fn version(&self) -> u8
+        ensures value { result ≡ self.now.version }
+        ensures known { is_version result ≡ true }
+    {
+        self.parts.version
+    }
+
     /// The session id.
     pub fn session(&self) -> &[u8; 16]
         ensures { result.now ≡ self.now.session }
@@ -104,10 +113,11 @@ impl View<'_> {
         &self.bytes[..end]
     }
 
-    /// The ciphertext, as long as its text.
+    /// The ciphertext, as long as what is sealed.
     pub fn ciphertext(&self) -> &[u8]
         ensures value { result.now ≡ self.now.ciphertext }
-        ensures fits { length result.now ≤ TEXT_LIMIT }
+        ensures fits { length result.now ≤ SEALED_LIMIT }
+        ensures plain { self.now.version ≡ PLAIN → length result.now ≤ TEXT_LIMIT }
     {
         self.parts.ciphertext
     }

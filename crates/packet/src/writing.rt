@@ -1,13 +1,13 @@
 //! Writing a packet into a buffer.
 
-ghost use Rattle.std.specs.Prelude.{◌≡◌, ℕ, ◌+◌, ◌^◌, ◌<◌, ◌≤◌, length, take, drop};
-ghost use Rattle.std.specs.Int.{w16, to_be_bytes};
+ghost use Rattle.std.specs.Prelude.{◌≡◌, true, ℕ, ◌+◌, ◌^◌, ◌<◌, ◌≤◌, length, take, drop};
+ghost use Rattle.std.specs.Int.{w8, w16, to_be_bytes};
 ghost use Rattle.dr_base.specs.Buffer.{Puts};
 ghost use Rattle.packet.specs.Packet.{IsLawful, header_of, packet_of};
 ghost use Rattle.packet.specs.Parts.{fields_at};
+ghost use Rattle.packet.specs.Versions.{is_text_len};
 
-use crate::fields::VERSION;
-use dr_base::{PACKET_FRAME, Position, TEXT_LIMIT, put, put_u32};
+use dr_base::{PACKET_FRAME, Position, put, put_u32};
 
 /// Puts the two low bytes of a length at a place.
 fn put_len(out: &mut [u8], at: usize, len: usize) -> usize
@@ -17,8 +17,17 @@ fn put_len(out: &mut [u8], at: usize, len: usize) -> usize
     put(out, at, &len.to_be_bytes()[6..])
 }
 
+/// Puts the version at the beginning.
+fn put_version(out: &mut [u8], version: u8) -> usize
+    requires { 1 ≤ length out.old }
+    ensures { Puts out.old out.new 0 (to_be_bytes w8 version) result }
+{
+    put(out, 0, &[version])
+}
+
 /// Puts what stands before the ciphertext at the beginning.
 fn put_header(
+    version: u8,
     session: &[u8; 16],
     position: Position,
     previous: u32,
@@ -27,11 +36,11 @@ fn put_header(
     out: &mut [u8],
 ) -> usize
     requires { 33 + length agreement.now ≤ length out.old }
-    ensures { let header = header_of session.now position.epoch previous position.index
+    ensures { let header = header_of version session.now position.epoch previous position.index
         agreement.now text_len in
         Puts out.old out.new 0 header result }
 {
-    let at_session = put(out, 0, &[VERSION]);
+    let at_session = put_version(out, version);
     let at_epoch = put(out, at_session, session);
     let at_previous = put_u32(out, at_epoch, position.epoch);
     let at_index = put_u32(out, at_previous, previous);
@@ -43,6 +52,7 @@ fn put_header(
 
 /// Writes what stands before the ciphertext, which sealing needs first, and answers its length.
 pub fn write_ad(
+    version: u8,
     session: &[u8; 16],
     position: Position,
     previous: u32,
@@ -51,22 +61,25 @@ pub fn write_ad(
     out: &mut [u8],
 ) -> usize
     requires agreement_fits { length agreement.now < 2 ^ 16 }
-    requires text_fits { text_len ≤ TEXT_LIMIT }
+    requires text_fits { is_text_len version text_len ≡ true }
     requires room { 33 + length agreement.now ≤ length out.old }
-    ensures len { let header = header_of session.now position.epoch previous position.index
-        agreement.now text_len in
+    ensures len { let header = header_of version session.now position.epoch previous
+        position.index agreement.now text_len in
         result ≡ length header }
     ensures size { result ≡ 33 + length agreement.now }
-    ensures written { let header = header_of session.now position.epoch previous position.index
-        agreement.now text_len in
+    ensures written { let header = header_of version session.now position.epoch previous
+        position.index agreement.now text_len in
         take result out.new ≡ header }
     ensures rest { drop result out.new ≡ drop result out.old }
 {
-    put_header(session, position, previous, agreement, text_len, out)
+    put_header(
+        version, session, position, previous, agreement, text_len, out,
+    )
 }
 
 /// Writes a packet, and answers its length.
 pub fn write_into(
+    version: u8,
     session: &[u8; 16],
     position: Position,
     previous: u32,
@@ -75,20 +88,21 @@ pub fn write_into(
     tag: &[u8; 32],
     out: &mut [u8],
 ) -> usize
-    requires lawful { let f = fields_at session.now position previous agreement.now ciphertext.now
-        tag.now in
+    requires lawful { let f = fields_at version session.now position previous agreement.now
+        ciphertext.now tag.now in
         IsLawful (length agreement.now) f }
     requires room { PACKET_FRAME + length agreement.now + length ciphertext.now ≤ length out.old }
-    ensures len { let f = fields_at session.now position previous agreement.now ciphertext.now
-        tag.now in
+    ensures len { let f = fields_at version session.now position previous agreement.now
+        ciphertext.now tag.now in
         result ≡ length (packet_of f) }
     ensures size { result ≡ PACKET_FRAME + length agreement.now + length ciphertext.now }
-    ensures written { let f = fields_at session.now position previous agreement.now ciphertext.now
-        tag.now in
+    ensures written { let f = fields_at version session.now position previous agreement.now
+        ciphertext.now tag.now in
         take result out.new ≡ packet_of f }
     ensures rest { drop result out.new ≡ drop result out.old }
 {
     let at_ciphertext = put_header(
+        version,
         session,
         position,
         previous,

@@ -2,6 +2,7 @@
 use Rattle.std.proofs.Common.{◌≡◌, ℕ, ◌≤◌, List, [], ◌++◌, length, take, Option, Some, None, refl, sym, ◌∙◌, ap, subst, arith}
 use Rattle.std.proofs.Math.Seq.{take-append_seam}
 use Rattle.std.proofs.lemmas.List.Elements.{All-nil}
+use Rattle.bodies.specs.declared.format.Format.{Format}
 use Rattle.dr_base.specs.declared.limits.TheConstants.{INDEX_LIMIT}
 use Rattle.dr_base.specs.declared.key.Kept.{Kept}
 use Rattle.dr_base.specs.declared.position.Side.{Side}
@@ -11,9 +12,10 @@ use Rattle.session_model.specs.LawfulStates.{IsLawfulState}
 use Rattle.session_model.specs.States.{Own, Phase, Reception, State, in_own, in_peers}
 
 -- what a session begins with, in equal parts
-abbrev pub opening : Side → List ℕ → List ℕ → Phase → Option Reception → List Kept → State
-opening side session root phase receiving kept = record {
+abbrev pub opening : Side → Format → List ℕ → List ℕ → Phase → Option Reception → List Kept → State
+opening side format session root phase receiving kept = record {
   side = side;
+  format = format;
   session = session;
   root = root;
   epoch = 0;
@@ -23,17 +25,17 @@ opening side session root phase receiving kept = record {
   kept = kept;
 }
 
-opening_is : {side side₁ : Side} (session root : List ℕ) {phase phase₁ : Phase} {receiving receiving₁ : Option Reception} {kept kept₁ : List Kept}
-    → side ≡ side₁ → phase ≡ phase₁ → receiving ≡ receiving₁ → kept ≡ kept₁ → opening side session root phase receiving kept ≡ opening side₁ session root phase₁ receiving₁ kept₁
-opening_is session root a b c d = cc
+opening_is : {side side₁ : Side} (format : Format) (session root : List ℕ) {phase phase₁ : Phase} {receiving receiving₁ : Option Reception} {kept kept₁ : List Kept}
+    → side ≡ side₁ → phase ≡ phase₁ → receiving ≡ receiving₁ → kept ≡ kept₁ → opening side format session root phase receiving kept ≡ opening side₁ format session root phase₁ receiving₁ kept₁
+opening_is format session root a b c d = cc
 
 -- First has the public key, and the stream of epoch 0
-pub opens_first : (k : Mechanism) (side : Side) (session root : List ℕ) (phase : Phase) (receiving : Option Reception) (kept : List Kept) (public chain : List ℕ)
+pub opens_first : (k : Mechanism) (side : Side) (format : Format) (session root : List ℕ) (phase : Phase) (receiving : Option Reception) (kept : List Kept) (public chain : List ℕ)
     → side ≡ First → phase ≡ in_peers public → receiving ≡ Some (record { chain = chain; reach = 0 }) → kept ≡ []
-    → length session ≡ 16 → length root ≡ 32 → length chain ≡ 32 → length public ≡ k.public → IsLawfulState k (opening side session root phase receiving kept)
-opens_first k side session root phase receiving kept public chain s p r e session_long root_long chain_long public_long =
+    → length session ≡ 16 → length root ≡ 32 → length chain ≡ 32 → length public ≡ k.public → IsLawfulState k (opening side format session root phase receiving kept)
+opens_first k side format session root phase receiving kept public chain s p r e session_long root_long chain_long public_long =
     let small : 0 ≤ INDEX_LIMIT = omega arith in
-    let begun : IsLawfulState k (opening First session root (in_peers public) (Some (record { chain = chain; reach = 0 })) []) = record {
+    let begun : IsLawfulState k (opening First format session root (in_peers public) (Some (record { chain = chain; reach = 0 })) []) = record {
       session_long = session_long;
       root_long = root_long;
       epoch_fits = omega arith;
@@ -44,16 +46,16 @@ opens_first k side session root phase receiving kept public chain s p r e sessio
       each = All-nil _;
       few = omega arith;
     } in
-    subst (IsLawfulState k) (sym (opening_is session root s p r e)) begun
+    subst (IsLawfulState k) (sym (opening_is format session root s p r e)) begun
 
 -- Second has the secret, and the stream of epoch 0
-pub opens_second : (k : Mechanism) (side : Side) (session root : List ℕ) (phase : Phase) (receiving : Option Reception) (kept : List Kept) (own : Own)
+pub opens_second : (k : Mechanism) (side : Side) (format : Format) (session root : List ℕ) (phase : Phase) (receiving : Option Reception) (kept : List Kept) (own : Own)
     → side ≡ Second → phase ≡ in_own own → receiving ≡ None → kept ≡ []
     → length session ≡ 16 → length root ≡ 32 → length own.chain ≡ 32 → length own.secret ≡ k.secret → IsLawful k.meaning own.secret
-    → own.agreement ≡ [] → own.sent ≡ 0 → IsLawfulState k (opening side session root phase receiving kept)
-opens_second k side session root phase receiving kept own s p r e session_long root_long chain_long secret_long lawful message none =
+    → own.agreement ≡ [] → own.sent ≡ 0 → IsLawfulState k (opening side format session root phase receiving kept)
+opens_second k side format session root phase receiving kept own s p r e session_long root_long chain_long secret_long lawful message none =
     let small : 0 ≤ INDEX_LIMIT = omega arith in
-    let begun : IsLawfulState k (opening Second session root (in_own own) None []) = record {
+    let begun : IsLawfulState k (opening Second format session root (in_own own) None []) = record {
       session_long = session_long;
       root_long = root_long;
       epoch_fits = omega arith;
@@ -64,7 +66,7 @@ opens_second k side session root phase receiving kept own s p r e session_long r
       each = All-nil _;
       few = omega arith;
     } in
-    subst (IsLawfulState k) (sym (opening_is session root s p r e)) begun
+    subst (IsLawfulState k) (sym (opening_is format session root s p r e)) begun
 
 -- the front of a buffer
 pub front_of : (n : ℕ) (part after text : List ℕ) → length part ≡ n → text ≡ take n (part ++ after) → text ≡ part

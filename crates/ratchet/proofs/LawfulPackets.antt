@@ -9,14 +9,14 @@ use Rattle.dr_base.specs.Position.{is_own}
 use Rattle.dr_base.specs.declared.key.Kept.{Kept}
 use Rattle.dr_base.specs.declared.limits.TheConstants.{KEPT_LIMIT}
 use Rattle.dr_base.specs.declared.position.Position.{Position}
-use Rattle.etm_aead.specs.Seal.{tag_of}
 use Rattle.fs_aead.specs.Chain.{chain_of}
 use Rattle.fs_aead.specs.Table.{IsBefore, kept_key, shelved, without}
 use Rattle.kem_laws.specs.Mechanism.{Mechanism}
-use Rattle.packet.specs.Packet.{Fields, ad_of}
+use Rattle.packet.specs.Packet.{Fields}
 use Rattle.prf_prng.specs.Root.{root_key}
 use Rattle.session_model.proofs.Latest.{latest-peers}
-use Rattle.session_model.proofs.Passing.{lets, passes}
+use Rattle.session_model.proofs.Opened.{is_opened}
+use Rattle.session_model.proofs.Passing.{passes}
 use Rattle.session_model.specs.Drafts.{IsReceiveDraft}
 use Rattle.session_model.specs.LawfulStates.{IsLawfulReception, IsLawfulState}
 use Rattle.session_model.specs.States.{Own, Phase, Reception, State, in_own, in_peers, receiving_epoch}
@@ -132,10 +132,7 @@ opened_follows : (k : Mechanism) (s : State) (f : Fields) (way : Result Way Refu
     → way_of k s f ≡ way → opened_by f way ≡ Ok draft → Follows s draft.next
 opened_follows k s f (Err refusal) draft l found is = absurd (cc is)
 opened_follows k s f (Ok way) draft l found is =
-    let one : ReceiveDraft = record { position = position_of f; text = _; next = way.next } in
-    let through : Ok one ≡ Ok draft = lets (pointwise nat_eq f.tag (tag_of way.key (ad_of f) f.ciphertext)) _ (Ok one) draft is in
-    let same : one ≡ draft = cc in
-    subst (λ (d : ReceiveDraft). Follows s d.next) same (way_follows k s f way l found)
+    subst (λ (d : ReceiveDraft). Follows s d.next) (sym (is_opened f way draft is).is) (way_follows k s f way l found)
 
 -- the draft of a packet
 pub lawful_received : (k : Mechanism) (s : State) (position : Position) (text : List ℕ) (head : State) (table : Option (List Kept))

@@ -107,8 +107,10 @@ fn say_on<K: Kem>(
         index: own.sent + 1,
     };
     let previous = next.previous;
+    let version = next.format.version();
     let (stream, key) = SendStream::resume(copy_of_key(&own.chain), own.sent).next();
     let len = seal_packet(
+        version,
         &next.session,
         position,
         previous,
@@ -161,8 +163,10 @@ fn say_first<K: Kem>(
         }
         Ok((holder, agreement, shared)) => {
             let (root, stream) = Root::resume(copy_of_key(&next.root)).up(&shared);
+            let version = next.format.version();
             let (stream, key) = SendStream::resume(stream, 0).next();
             let len = seal_packet(
+                version,
                 &next.session,
                 position,
                 next.previous,

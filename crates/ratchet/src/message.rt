@@ -4,11 +4,11 @@ ghost use Rattle.std.specs.Prelude.{◌≡◌, ◌↔◌, ℕ, ◌≤◌, length
 ghost use Rattle.etm_aead.specs.Seal.{ciphertext_of, tag_of};
 
 use arrayvec::ArrayVec;
-use dr_base::TEXT_LIMIT;
+use dr_base::SEALED_LIMIT;
 use etm_aead::{BadTag, OpenKey};
 
-/// The bytes of a message.
-pub type Message = ArrayVec<u8, TEXT_LIMIT>;
+/// The bytes that a packet seals.
+pub type Message = ArrayVec<u8, SEALED_LIMIT>;
 
 /// Opens a ciphertext in place, if the tag is right.
 pub fn open(key: OpenKey, ad: &[u8], message: &mut Message, tag: &[u8; 32]) -> Result<(), BadTag>

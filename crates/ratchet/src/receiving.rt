@@ -1,6 +1,6 @@
 //! Drafts of packets that are taken.
 
-ghost use Rattle.std.specs.Prelude.{◌≡◌, ◌≤◌, length, IfOk};
+ghost use Rattle.std.specs.Prelude.{◌≡◌, ◌+◌, ◌≤◌, length, IfOk};
 ghost use Rattle.cka.specs.Agreement.{agreement_size};
 ghost use Rattle.packet.specs.Packet.{IsLawful};
 ghost use Rattle.session_model.specs.Drafts.{IsReceiveDraft};
@@ -12,6 +12,7 @@ use crate::message::{Message, open};
 use crate::session::Session;
 use crate::table::{KeptRoom, kept_in, settle};
 use crate::way::find_key;
+use bodies::{body_place, open_body};
 use dr_base::{Position, TEXT_LIMIT, in_room};
 use etm_aead::OpenKey;
 use fs_aead::Skipped;
@@ -26,29 +27,34 @@ use std::marker::Model;
 /// It can't be copied, and it has to be spent: by `accept`, or by `discard`.
 pub struct ReceiveDraft<'a, K: Kem> {
     position: Position,
-    text: Message,
+    /// What the packet seals, opened: the text stands in it.
+    sealed: Message,
+    start: usize,
+    len: usize,
     head: Head<K>,
     /// None where the session's kept keys stay.
     table: Option<&'a Skipped>,
 }
 
 impl<'a, K: Kem> Model for ReceiveDraft<'a, K> {
-    ghost use Rattle.std.specs.Prelude.{[], option_map};
+    ghost use Rattle.std.specs.Prelude.{◌+◌, ◌≤◌, [], length, option_map};
+    ghost use Rattle.dr_base.specs.declared.limits.TheConstants.{TEXT_LIMIT};
     ghost use Rattle.session_model.specs.LawfulStates.{IsLawfulState};
     ghost use Rattle.session_model.specs.Seen.{seen};
-    ghost use Rattle.ratchet.specs.Seen.{Received, kept_in};
+    ghost use Rattle.ratchet.specs.Seen.{Received, kept_in, text_in};
 
     ghost Value = { Received };
 
     ghost view = { λ d. record {
       position = d.position;
-      text = d.text.items;
+      text = text_in (d.start, d.len) d.sealed.items;
       head = seen d.head [];
       table = option_map (λ t. t.now) d.table;
     } };
 
-    ghost invariant = { λ d.
-        IsLawfulState K.mechanism (seen d.head (kept_in [] (option_map (λ t. t.now) d.table))) };
+    ghost invariant = { λ d. (d.start + d.len ≤ length d.sealed.items) × (d.len ≤ TEXT_LIMIT)
+        × IsLawfulState K.mechanism
+        (seen d.head (kept_in [] (option_map (λ t. t.now) d.table))) };
 }
 
 impl<K: Kem> ReceiveDraft<'_, K> {
@@ -64,7 +70,7 @@ impl<K: Kem> ReceiveDraft<'_, K> {
         ensures value { result.now ≡ self.now.text }
         ensures fits { length result.now ≤ TEXT_LIMIT }
     {
-        self.text.as_slice()
+        &self.sealed[self.start..self.start + self.len]
     }
 
     /// What the session that it was drafted from would keep.
@@ -90,7 +96,9 @@ impl<K: Kem> ReceiveDraft<'_, K> {
         settle(&mut part.kept, self.table);
         let ReceiveDraft {
             position: _,
-            text: _,
+            sealed: _,
+            start: _,
+            len: _,
             head: _,
             table: _,
         } = self;
@@ -100,7 +108,9 @@ impl<K: Kem> ReceiveDraft<'_, K> {
     pub fn discard(self) {
         let ReceiveDraft {
             position: _,
-            text: _,
+            sealed: _,
+            start: _,
+            len: _,
             head: _,
             table: _,
         } = self;
@@ -108,15 +118,29 @@ impl<K: Kem> ReceiveDraft<'_, K> {
 }
 
 /// Opens the ciphertext of a packet in place with the key that was found for it, if its tag is the
-/// one under that key.
-fn open_text(key: OpenKey, view: &View<'_>, text: &mut Message) -> Result<(), ReceiveRefusal>
-    requires { text.old.items ≡ view.now.ciphertext }
-    ensures { (next : State)
-        → opened result view.now text.new.items next ≡ opening_on view.now (on_way key next) }
+/// one under that key. Answers where the text begins in what was opened, and its length, unless it
+/// is padded wrongly.
+fn open_text(
+    key: OpenKey,
+    view: &View<'_>,
+    sealed: &mut Message,
+) -> Result<(usize, usize), ReceiveRefusal>
+    requires { sealed.old.items ≡ view.now.ciphertext }
+    ensures exact { (next : State) → opened result view.now sealed.new.items next
+        ≡ opening_on view.now (on_way key next) }
+    ensures inside { IfOk result (λ span. span.0 + span.1 ≤ length sealed.new.items) }
+    ensures fits { IfOk result (λ span. span.1 ≤ TEXT_LIMIT) }
 {
-    match open(key, view.ad(), text, view.tag()) {
-        Err(_) => Err(ReceiveRefusal::BadTag),
-        Ok(()) => Ok(()),
+    let version = view.version();
+    // The proof takes from this that a plain packet seals no more than a text.
+    let _ciphertext = view.ciphertext();
+    match open(key, view.ad(), sealed, view.tag()) {
+        Err(_) => return Err(ReceiveRefusal::BadTag),
+        Ok(()) => {}
+    }
+    match open_body(version, sealed.as_slice()) {
+        Some(text) => Ok((body_place(version), text.len())),
+        None => Err(ReceiveRefusal::BadPadding),
     }
 }
 
@@ -144,7 +168,9 @@ impl<K: Kem> Session<K> {
                 epoch: view.epoch(),
                 index: view.index(),
             },
-            text: in_room(view.ciphertext()),
+            sealed: in_room(view.ciphertext()),
+            start: 0,
+            len: 0,
             head: part.head.copied(),
             table: None,
         };
@@ -155,8 +181,10 @@ impl<K: Kem> Session<K> {
                 return Err(refusal);
             }
         };
-        match open_text(key, view, &mut draft.text) {
-            Ok(()) => {
+        match open_text(key, view, &mut draft.sealed) {
+            Ok((start, len)) => {
+                draft.start = start;
+                draft.len = len;
                 draft.table = room.changed();
                 Ok(draft)
             }

@@ -1,12 +1,14 @@
 //! A text, sealed into its packet.
 
 ghost use Rattle.std.specs.Prelude.{◌≡◌, ◌+◌, ◌^◌, ◌<◌, ◌≤◌, ◌++◌, length, take, drop};
+ghost use Rattle.bodies.specs.Bodies.{text_body};
 ghost use Rattle.boxes.specs.Posts.{post_under};
 ghost use Rattle.etm_aead.specs.Seal.{ciphertext_of, tag_of};
 ghost use Rattle.packet.specs.Packet.{IsLawful};
 ghost use Rattle.session_model.specs.Sealing.{posted, sealing};
 
-use dr_base::{AGREEMENT_LIMIT, PACKET_LIMIT, Position, TEXT_LIMIT, put};
+use bodies::{put_sealed, sealed_len};
+use dr_base::{AGREEMENT_LIMIT, PACKET_LIMIT, Position, SEALED_LIMIT, TEXT_LIMIT, put};
 use etm_aead::SealKey;
 use packet::write_ad;
 
@@ -14,19 +16,20 @@ use packet::write_ad;
 /// along. Answers the tag.
 fn seal_from(key: SealKey, bytes: &mut [u8], at: usize) -> [u8; 32]
     requires within { at ≤ length bytes.old }
-    requires short { length bytes.old ≤ at + TEXT_LIMIT }
+    requires short { length bytes.old ≤ at + SEALED_LIMIT }
     ensures sealed { bytes.new ≡ take at bytes.old ++ ciphertext_of key (drop at bytes.old) }
     ensures tag { result ≡ tag_of key (take at bytes.old) (ciphertext_of key (drop at bytes.old)) }
 {
-    let (ad, text) = bytes.split_at_mut(at);
-    key.seal(ad, text)
+    let (ad, sealed) = bytes.split_at_mut(at);
+    key.seal(ad, sealed)
 }
 
-/// Prints the packet of a text that a session says into the front of its room, sealed with a
-/// message key, and answers the packet's length. The text is copied once, to its place in the
-/// packet, and sealed there.
+/// Prints the packet of a text that a session says into the front of its room, sealed in the form
+/// of a version with a message key, and answers the packet's length. The text is copied once, to its
+/// place in the packet, and sealed there.
 #[tactic(auto, unfolding(session_model::specs::Sealing::posted))]
 pub fn seal_packet(
+    version: u8,
     session: &[u8; 16],
     position: Position,
     previous: u32,
@@ -37,14 +40,15 @@ pub fn seal_packet(
 ) -> usize
     requires agreement_fits { length agreement.now ≤ AGREEMENT_LIMIT }
     requires short { length text.now ≤ TEXT_LIMIT }
-    requires lawful { IsLawful (length agreement.now)
-        (sealing session.now position previous agreement.now key text.now) }
-    ensures packet { post_under position (take result room.new)
-        ≡ posted session.now position previous agreement.now key text.now }
+    requires lawful { IsLawful (length agreement.now) (sealing version session.now position previous
+        agreement.now key (text_body text.now)) }
+    ensures packet { post_under position (take result room.new) ≡ posted version session.now
+        position previous agreement.now key (text_body text.now) }
     ensures fits { result ≤ PACKET_LIMIT }
 {
-    let at_text = write_ad(session, position, previous, agreement, text.len(), room);
-    let at_tag = put(room, at_text, text);
+    let len = sealed_len(version, text.len());
+    let at_text = write_ad(version, session, position, previous, agreement, len, room);
+    let at_tag = put_sealed(version, room, at_text, text);
     let tag = seal_from(key, &mut room[..at_tag], at_text);
     put(room, at_tag, &tag)
 }

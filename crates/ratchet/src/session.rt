@@ -7,6 +7,7 @@ ghost use Rattle.session_model.specs.States.{opening_state};
 ghost use Rattle.session_model.specs.Schedule.{agreement_seed};
 
 use crate::beginning::begin;
+use bodies::Format;
 use cka::Agreement;
 use dr_base::{
     INDEX_LIMIT, Key32, LAST_EPOCH, PUBLIC_LIMIT, SECRET_LIMIT, Side, TEXT_LIMIT, in_room,
@@ -31,10 +32,17 @@ impl<K: Kem> Model for Session<K> {
 }
 
 impl<K: Kem> Session<K> {
-    /// A side's session at the beginning of a conversation. `NoPair` where the agreement seed that
+    /// A side's session at the beginning of a conversation, which seals its texts in this format.
+    /// `NoPair` where the agreement seed that
     /// follows from the shared key has no pair.
-    pub fn begin(work: &mut K::Work, side: Side, key: &Key32) -> Result<Session<K>, NoPair>
-        ensures ok { IfOk result (λ s. s ≡ opening_state K.mechanism key.now.bytes side) }
+    pub fn begin(
+        work: &mut K::Work,
+        side: Side,
+        format: Format,
+        key: &Key32,
+    ) -> Result<Session<K>, NoPair>
+        ensures ok { IfOk result (λ s.
+            s ≡ opening_state K.mechanism key.now.bytes side format) }
         ensures variant { IsOk result
             ↔ IsSome (K.mechanism.meaning.pair_of (agreement_seed key.now.bytes)) }
     {
@@ -72,6 +80,7 @@ impl<K: Kem> Session<K> {
                     part: SessionPart {
                         head: Head {
                             side,
+                            format,
                             session: beginning.session,
                             root: beginning.root,
                             epoch: 0,

@@ -1,5 +1,6 @@
 pub mod Digits
 pub mod FirstDraws
+pub mod HeadLines
 pub mod Making
 pub mod PrintedDeeds
 pub mod PrintedFails

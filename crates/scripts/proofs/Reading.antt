@@ -99,34 +99,45 @@ pub are_read : (text : List ℕ) (deeds : List Deed) → deeds_of 3 (lines_of te
 unfolding deeds_in
 are_read text deeds read = (read ∙ ap Ok (sym (ap or_none read)), ap or_none read)
 
--- the lines so far were read, and these are left
-pub record IsCounting (text rest : List ℕ) (number : ℕ) : Type 0 where
+-- the lines so far, from the line of this number on, were read, and these are left
+pub record IsCounting (from : ℕ) (text rest : List ℕ) (number : ℕ) : Type 0 where
   pub deeds : List Deed
-  pub read : deeds_of 3 (lines_of text) ≡ with_deeds deeds (deeds_of number (lines_of rest))
-  pub number_is : number ≡ 3 + length deeds
-  pub fits : number + length rest ≤ 3 + length text
+  pub read : deeds_of from (lines_of text) ≡ with_deeds deeds (deeds_of number (lines_of rest))
+  pub number_is : number ≡ from + length deeds
+  pub fits : number + length rest ≤ from + length text
 
-pub none_counted : (text : List ℕ) → IsCounting text text 3
-none_counted text = record { deeds = []; read = nothing_before (deeds_of 3 (lines_of text)); number_is = refl; fits = omega arith }
+pub none_counted : (from : ℕ) (text : List ℕ) → IsCounting from text text from
+none_counted from text = record {
+  deeds = [];
+  read = nothing_before (deeds_of from (lines_of text));
+  number_is = omega arith;
+  fits = omega arith;
+}
 
-pub one_counted : (text rest next line : List ℕ) (number : ℕ) (deed : Deed) → IsCounting text rest number
+pub one_counted : (from : ℕ) (text rest next line : List ℕ) (number : ℕ) (deed : Deed)
+    → IsCounting from text rest number
     → lines_of rest ≡ line ∷ lines_of next
-    → length next < length rest → Some deed ≡ line_read line → IsCounting text next (number + 1)
-one_counted text rest next line number deed c first shorter good = record {
+    → length next < length rest → Some deed ≡ line_read line → IsCounting from text next (number + 1)
+one_counted from text rest next line number deed c first shorter good = record {
   deeds = c.deeds ++ deed ∷ [];
   read = goes_on _ c.deeds number (lines_of rest) (lines_of next) line deed c.read first good;
   number_is = omega (arith, c.number_is, length-append c.deeds (deed ∷ []));
   fits = omega (arith, c.fits, shorter);
 }
 
-pub all_counted : (text rest : List ℕ) (number : ℕ) → IsCounting text rest number → lines_of rest ≡ [] → AreCounted text (number - 3)
-all_counted text rest number c none =
-    let read = are_read text c.deeds (ends _ c.deeds number (lines_of rest) c.read none) in
-    record { read = read.0; count_is = omega (arith, c.number_is, ap length read.1) }
+-- all are read, with whatever number they begin
+pub all_counted : (from : ℕ) (text rest : List ℕ) (number : ℕ) → IsCounting from text rest number → lines_of rest ≡ []
+    → AreCounted text (number - from) × (deeds_of from (lines_of text) ≡ Ok (deeds_in text))
+all_counted from text rest number c none =
+    let whole = ends _ c.deeds number (lines_of rest) c.read none in
+    let read = are_read text c.deeds (renumbered 3 from (lines_of text) c.deeds whole) in
+    (record { read = read.0; count_is = omega (arith, c.number_is, ap length read.1) }, whole ∙ ap Ok (sym read.1))
 
-pub bad_counted : (text rest next line : List ℕ) (number : ℕ) → IsCounting text rest number → lines_of rest ≡ line ∷ lines_of next
-    → None ≡ line_read line → deeds_of 3 (lines_of text) ≡ Err number
-bad_counted text rest next line number c first bad = stops _ c.deeds number (lines_of rest) (lines_of next) line c.read first bad
+pub bad_counted : (from : ℕ) (text rest next line : List ℕ) (number : ℕ) → IsCounting from text rest number
+    → lines_of rest ≡ line ∷ lines_of next
+    → None ≡ line_read line → deeds_of from (lines_of text) ≡ Err number
+bad_counted from text rest next line number c first bad =
+    stops _ c.deeds number (lines_of rest) (lines_of next) line c.read first bad
 
 -- ---- what a reader of lines answers
 

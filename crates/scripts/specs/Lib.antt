@@ -1,5 +1,6 @@
 pub mod Deeds
 pub mod Faults
+pub mod Heads
 pub mod Lined
 pub mod Make
 pub mod Number

@@ -5,6 +5,7 @@ use Rattle.dr_base.specs.declared.position.Side.TheVariants.{First, Second}
 use Rattle.session_model.specs.declared.answer.Amount.TheVariants.{All, Exactly}
 use Rattle.dr_model.specs.Machines.Events.{does, drops_done, drops_sent, of_number, says, takes}
 use Rattle.scripts.specs.Deeds.{Deed, acts}
+use Rattle.scripts.specs.Heads.{both_plain}
 use Rattle.scripts.specs.Script.{Scripted}
 use Rattle.scripts.specs.declared.script.KemName.TheVariants.{Open}
 use Rattle.scripts.specs.declared.make.rounds.Making.{Making}
@@ -89,4 +90,10 @@ made_deeds rounds number = deeds_from (opening number) 1 rounds
 
 -- a script of this many rounds, made from a number
 abbrev pub made_script : ℕ → ℕ → Scripted
-made_script rounds number = record { kem = Open; key = replicate 32 0; deeds = made_deeds rounds number; rounds = rounds }
+made_script rounds number = record {
+  kem = Open;
+  key = replicate 32 0;
+  formats = both_plain;
+  deeds = made_deeds rounds number;
+  rounds = rounds;
+}

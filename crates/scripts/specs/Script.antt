@@ -3,7 +3,9 @@ use Rattle.std.specs.Prelude.{◌≡◌, ℕ, suc, ◌==◌, List, [], ◌∷◌
 use Rattle.std.specs.Option.{option_and_then}
 use Rattle.std.specs.Result.{result_ok}
 use Rattle.hex.specs.Hex.{decode_sized}
+use Rattle.dr_model.specs.Conversations.Formats.{Formats}
 use Rattle.scripts.specs.Deeds.{Deed}
+use Rattle.scripts.specs.Heads.{Headed, head_of}
 use Rattle.scripts.specs.Words.{after_prefix, is_text, line_read}
 use Rattle.scripts.specs.declared.script.KemName.{KemName}
 use Rattle.scripts.specs.declared.script.KemName.TheVariants.{Open, Sntrup761}
@@ -38,7 +40,7 @@ abbrev pub or_none : Result (List Deed) ℕ → List Deed
 or_none (Ok deeds) = deeds
 or_none (Err bad) = []
 
--- the deeds of the lines after the key, which begin with the third; none where a line is bad
+-- the deeds of the lines after the head, whose numbers tell only in an Err; none where one is bad
 unfoldable pub deeds_in : List ℕ → List Deed
 deeds_in text = or_none (deeds_of 3 (lines_of text))
 
@@ -51,11 +53,12 @@ pub record AreCounted (text : List ℕ) (count : ℕ) : Type 0 where
   pub read : AreRead text
   pub count_is : count ≡ length (deeds_in text)
 
--- what a script says: the mechanism, the key of both sessions, and what happens; and of how many rounds it was made, 0 where
--- it was read
+-- what a script says: the mechanism, the key of both sessions, how each side seals its texts, and
+-- what happens; and of how many rounds it was made, 0 where it was read
 pub record Scripted : Type 0 where
   pub kem : KemName
   pub key : List ℕ
+  pub formats : Formats
   pub deeds : List Deed
   pub rounds : ℕ
 
@@ -69,15 +72,20 @@ kem_read line =
 unfoldable pub key_read : List ℕ → Option (List ℕ)
 key_read line = option_and_then (λ digits. result_ok (decode_sized digits 32)) (after_prefix (codes "key ") line)
 
--- a script from its mechanism, its key and its deeds
-abbrev pub scripted : KemName → List ℕ → Result (List Deed) ℕ → Result Scripted ℕ
-scripted kem key (Ok deeds) = Ok (record { kem = kem; key = key; deeds = deeds; rounds = 0 })
-scripted kem key (Err bad) = Err bad
+-- a script from its mechanism, its key, its formats and its deeds
+abbrev pub scripted : KemName → List ℕ → Formats → Result (List Deed) ℕ → Result Scripted ℕ
+scripted kem key formats (Ok deeds) =
+    Ok (record { kem = kem; key = key; formats = formats; deeds = deeds; rounds = 0 })
+scripted kem key formats (Err bad) = Err bad
+
+-- and from its head, which has the lines of its deeds
+abbrev pub headed : KemName → List ℕ → Headed → Result Scripted ℕ
+headed kem key head = scripted kem key head.formats (deeds_of head.number head.lines)
 
 -- a script from its key, if the second line has one, and the lines after it
 abbrev pub keyed : KemName → Option (List ℕ) → List (List ℕ) → Result Scripted ℕ
 keyed kem None lines = Err 2
-keyed kem (Some key) lines = scripted kem key (deeds_of 3 lines)
+keyed kem (Some key) lines = headed kem key (head_of lines)
 
 -- a script from its mechanism, if the first line names one, and the lines after it
 abbrev pub after_kem : Option KemName → List (List ℕ) → Result Scripted ℕ

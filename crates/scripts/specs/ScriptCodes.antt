@@ -2,9 +2,12 @@
 use Rattle.std.specs.Prelude.{Bool, List, Option, false, refl, true, ℕ, ◌≡◌, ◌⊎◌}
 use Rattle.std.proofs.Common.{inl, inr}
 use Rattle.std.specs.Coded.{Coded, code_by, coded_bool, coded_list, coded_option, coded_ℕ, coded×, coded⊎}
+use Rattle.bodies.specs.declared.format.Format.{Format}
+use Rattle.bodies.specs.declared.format.Format.TheVariants.{Padded, Plain}
 use Rattle.dr_base.specs.declared.position.Side.{Side}
 use Rattle.dr_disk.specs.declared.call.Mode.{Mode}
 use Rattle.dr_disk.specs.declared.call.Mode.TheVariants.{Fill, New, Old}
+use Rattle.dr_model.specs.Conversations.Formats.{Formats}
 use Rattle.dr_model.specs.Machines.EventCodes.{call_code, event_code, side_code}
 use Rattle.dr_model.specs.Machines.Events.{Event, SideCall}
 use Rattle.scripts.specs.Deeds.{Deed, acts, fails, reopens, stops, syncs}
@@ -85,7 +88,36 @@ same_kem Sntrup761 = refl
 abbrev pub kem_code : Coded KemName
 kem_code = code_by Bool coded_bool is_open kem_by same_kem
 
+abbrev is_padded : Format → Bool
+is_padded Plain = false
+is_padded Padded = true
+
+abbrev format_by : Bool → Format
+format_by false = Plain
+format_by true = Padded
+
+pub same_format : (format : Format) → format_by (is_padded format) ≡ format
+same_format Plain = refl
+same_format Padded = refl
+
+abbrev pub format_code : Coded Format
+format_code = code_by Bool coded_bool is_padded format_by same_format
+
+abbrev pub formats_code : Coded Formats
+formats_code =
+    code_by (Format × Format) (coded× format_code format_code)
+    (λ f. (f.first, f.second)) (λ e. record { first = e.0; second = e.1 }) (λ _. refl)
+
 abbrev pub script_code : Coded Scripted
 script_code =
-    code_by (KemName × (List ℕ × (List Deed × ℕ))) (coded× kem_code (coded× (coded_list coded_ℕ) (coded× (coded_list deed_code) coded_ℕ)))
-    (λ s. (s.kem, (s.key, (s.deeds, s.rounds)))) (λ e. record { kem = e.0; key = e.1.0; deeds = e.1.1.0; rounds = e.1.1.1 }) (λ _. refl)
+    code_by (KemName × (List ℕ × (Formats × (List Deed × ℕ))))
+    (coded× kem_code (coded× (coded_list coded_ℕ)
+    (coded× formats_code (coded× (coded_list deed_code) coded_ℕ))))
+    (λ s. (s.kem, (s.key, (s.formats, (s.deeds, s.rounds)))))
+    (λ e. record {
+      kem = e.0;
+      key = e.1.0;
+      formats = e.1.1.0;
+      deeds = e.1.1.1.0;
+      rounds = e.1.1.1.1;
+    }) (λ _. refl)

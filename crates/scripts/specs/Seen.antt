@@ -4,11 +4,14 @@ use Rattle.std.specs.Borrow.{Bor}
 use Rattle.dr_base.specs.declared.position.Side.{Side}
 use Rattle.session_model.specs.declared.answer.Amount.{Amount}
 use Rattle.dr_model.specs.Machines.Events.{Event, PacketSource, SideCall, does, drops_done, drops_sent, of_bytes, of_flip, of_number, of_position, says, seeds, shows_inbox, shows_state, takes}
+use Rattle.scripts.specs.Heads.{Headed}
+use Rattle.scripts.specs.Script.{lines_of}
 use Rattle.scripts.specs.Words.{hex_read}
 use Rattle.scripts.specs.declared.call.Call.{Call}
 use Rattle.scripts.specs.declared.call.Call.TheVariants.{Say, Take, Sent, Done}
 use Rattle.scripts.specs.declared.call.Source.{Source}
 use Rattle.scripts.specs.declared.call.Source.TheVariants.{At, Nth, Flipped, Bytes}
+use Rattle.scripts.specs.declared.head.Head.{Head}
 use Rattle.scripts.specs.declared.line.Line.{Line}
 use Rattle.scripts.specs.declared.line.Line.TheVariants.{Seed, Does, Inbox, State}
 
@@ -47,3 +50,11 @@ event_of (Seed seed) = seeds seed
 event_of (Does side call) = call_event side call
 event_of (Inbox side) = shows_inbox side
 event_of (State side) = shows_state side
+
+-- the lines before the deeds
+abbrev pub head_seen : Head → Headed
+head_seen head = record {
+  formats = record { first = head.first; second = head.second };
+  number = head.number;
+  lines = lines_of head.rest.now;
+}

@@ -12,6 +12,7 @@ pub use sides::{side_name, side_prefix};
 
 mod call;
 mod called;
+mod head;
 mod hexed;
 mod laws;
 mod line;

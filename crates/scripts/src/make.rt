@@ -7,6 +7,7 @@ ghost use Rattle.scripts.specs.declared.make.rounds.Turn.TheVariants.{Says, Take
 
 use crate::script::{KemName, Script};
 use crate::sides::side_name;
+use bodies::Format;
 use dr_base::{Key32, Side};
 use dr_ports::OutputLine;
 use rounds::{Making, Turn};
@@ -83,6 +84,8 @@ impl Script {
         Ok(Script {
             kem: KemName::Open,
             key: Key32 { bytes: [0; 32] },
+            first: Format::Plain,
+            second: Format::Plain,
             text,
             count,
             rounds,

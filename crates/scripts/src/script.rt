@@ -1,15 +1,17 @@
 //! A script's text, read whole before its first line runs. Its first line names the mechanism, its
-//! second the key of both sessions; each later line is a deed.
+//! second the key of both sessions, its third may name their formats; each later line is a deed.
 
-ghost use Rattle.std.specs.Prelude.{◌≡◌, ◌+◌, ◌<◌, ◌^◌, length, Ok, Err, IfOk, IfErr, option_map};
+ghost use Rattle.std.specs.Prelude.{◌≡◌, ◌≤◌, ◌<◌, ◌^◌, length, Ok, Err, IfOk, IfErr};
+ghost use Rattle.dr_model.specs.Conversations.Formats.{format_of};
 ghost use Rattle.scripts.specs.Faults.{IsFaultOf};
-ghost use Rattle.scripts.specs.Script.{AreCounted, deeds_of, kem_read, key_read, lines_of, script_of};
+ghost use Rattle.scripts.specs.Script.{AreCounted, deeds_in, deeds_of, lines_of, script_of};
 
+use crate::head::{parse_head, parse_kem, parse_key};
 use crate::lined::Lined;
 use crate::lines::Lines;
-use crate::split::{after_prefix, split_line};
-use dr_base::Key32;
-use hex::FromHex;
+use crate::split::split_line;
+use bodies::Format;
+use dr_base::{Key32, Side};
 use std::alloc::Global;
 use std::marker::Model;
 
@@ -22,13 +24,15 @@ pub enum KemName {
     Sntrup761,
 }
 
-/// A script that was read or made: a mechanism, the key of both sessions, and the deeds in order.
-/// It owns its text.
+/// A script that was read or made: a mechanism, the key of both sessions, how each seals its texts,
+/// and the deeds in order. It owns its text.
 #[derive(Drop)]
 pub struct Script {
     pub(crate) kem: KemName,
     pub(crate) key: Key32,
-    /// The lines after the key, none of which is bad.
+    pub(crate) first: Format,
+    pub(crate) second: Format,
+    /// The lines of the deeds, none of which is bad.
     pub(crate) text: Vec<u8>,
     /// How many lines these are.
     pub(crate) count: usize,
@@ -44,7 +48,13 @@ impl Model for Script {
 
     ghost coded = { script_code };
 
-    ghost view = { λ s. record { kem = s.kem; key = s.key.bytes; deeds = deeds_in s.text.items; rounds = s.rounds } };
+    ghost view = { λ s. record {
+      kem = s.kem;
+      key = s.key.bytes;
+      formats = record { first = s.first; second = s.second };
+      deeds = deeds_in s.text.items;
+      rounds = s.rounds;
+    } };
 
     ghost invariant = { λ s. AreCounted s.text.items s.count };
 }
@@ -78,16 +88,19 @@ impl Script {
         let Some(key) = parse_key(line) else {
             return Err(ScriptError::Line(2));
         };
-        let count = match count_lines(rest) {
+        let head = parse_head(rest);
+        let count = match count_lines(head.rest, head.number) {
             Ok(count) => count,
             Err(number) => return Err(ScriptError::Line(number)),
         };
-        let Ok(text) = Vec::from_slice(alloc, rest) else {
+        let Ok(text) = Vec::from_slice(alloc, head.rest) else {
             return Err(ScriptError::Memory);
         };
         Ok(Script {
             kem,
             key,
+            first: head.first,
+            second: head.second,
             text,
             count,
             rounds: 0,
@@ -106,6 +119,16 @@ impl Script {
         ensures { result.now.bytes ≡ self.now.key }
     {
         &self.key
+    }
+
+    /// How a side seals its texts.
+    pub fn format(&self, side: Side) -> Format
+        ensures { result ≡ format_of self.now.formats side }
+    {
+        match side {
+            Side::First => self.first,
+            Side::Second => self.second,
+        }
     }
 
     /// How many deeds there are.
@@ -130,43 +153,17 @@ impl Script {
     }
 }
 
-/// The mechanism that a line names.
-#[tactic(auto, unfolding(crate::specs::Script::kem_read))]
-fn parse_kem(line: &[u8]) -> Option<KemName>
-    ensures { result ≡ kem_read line.now }
-{
-    if line == b"kem open".as_slice() {
-        return Some(KemName::Open);
-    }
-    if line == b"kem sntrup761".as_slice() {
-        return Some(KemName::Sntrup761);
-    }
-    None
-}
-
-/// The key of a line `key` and 64 hex digits of either case.
-#[tactic(auto, unfolding(crate::specs::Script::key_read))]
-fn parse_key(line: &[u8]) -> Option<Key32>
-    ensures { option_map (λ key. key.bytes) result ≡ key_read line.now }
-{
-    match after_prefix(line, b"key ") {
-        Some(digits) => match <[u8; 32] as FromHex>::from_hex(digits) {
-            Ok(bytes) => Some(Key32 { bytes }),
-            Err(_) => None,
-        },
-        None => None,
-    }
-}
-
-/// How many lines stand after the key, of which the first is the script's third, or the number of
-/// the first bad one.
-fn count_lines(text: &[u8]) -> Result<usize, u32>
-    requires { length text.now < 2 ^ 31 }
+/// How many lines there are, of which the first has this number in its script, or the number of the
+/// first bad one.
+fn count_lines(text: &[u8], from: u32) -> Result<usize, u32>
+    requires few { length text.now < 2 ^ 31 }
+    requires early { from ≤ 4 }
     ensures ok { IfOk result (AreCounted text.now) }
-    ensures err { IfErr result (λ number. deeds_of 3 (lines_of text.now) ≡ Err number) }
+    ensures read { IfOk result (λ _. deeds_of from (lines_of text.now) ≡ Ok (deeds_in text.now)) }
+    ensures err { IfErr result (λ number. deeds_of from (lines_of text.now) ≡ Err number) }
 {
     let mut rest = text;
-    let mut number = 3;
+    let mut number = from;
     'lines: while let Some((line, next)) = split_line(rest) {
         if Lined::parse(line).is_none() {
             return Err(number);
@@ -174,5 +171,5 @@ fn count_lines(text: &[u8]) -> Result<usize, u32>
         rest = next;
         number += 1;
     }
-    Ok(number as usize - 3)
+    Ok((number - from) as usize)
 }

@@ -1,10 +1,12 @@
 -- A session that was begun, or wasn't.
 use Rattle.std.proofs.Common.{List, None, Ok, Some, [], ap, inl, inr, subst, sym, ℕ, ⊎_elim, ◌∙◌, ◌≡◌, ◌⊎◌}
 use Rattle.std.specs.Prelude.{option_map}
+use Rattle.bodies.specs.declared.format.Format.{Format}
 use Rattle.dr_base.specs.declared.position.Side.{Side}
 use Rattle.dr_disk.specs.Spans.{Span}
 use Rattle.dr_disk.specs.State.{DiskState}
 use Rattle.dr_disk.proofs.Steps.{widen}
+use Rattle.dr_model.specs.Conversations.Formats.{formats_of}
 use Rattle.dr_model.specs.Machines.WorldSides.{kept_in}
 use Rattle.dr_model.specs.Machines.Worlds.{World, opening_world}
 use Rattle.endings.specs.declared.ending.Ending.TheVariants.{Done}
@@ -34,45 +36,48 @@ like_stands_for k side before after start c reads like = record {
 }
 
 -- where a world was read, no first record was put
-never_first : (k : Mechanism) → IsRead → (key : List ℕ) (side : Side) (w : World) (whose : Side) (start : DiskState) (c : List ℕ)
-    → ReadsAsSide k w whose start → IsFirst k key side start c → ⊥
-never_first k readings key side w whose start c reads first =
+never_first : (k : Mechanism) → IsRead → (key : List ℕ) (side : Side) (format : Format) (w : World) (whose : Side) (start : DiskState)
+    (c : List ℕ) → ReadsAsSide k w whose start → IsFirst k key side format start c → ⊥
+never_first k readings key side format w whose start c reads first =
     let none : stored_record client_area reads.bytes ≡ None =
     readings.none (client_record_fault k) client_area reads.bytes (first.none reads.bytes reads.told) in
     let same : None ≡ Some (Ok (kept_in k w whose)) = sym (ap (option_map (record_read k)) none) ∙ reads.stands in cc
 
-module _ {X : Type 0} (state : X → DiskState) (k : Mechanism) (readings : IsRead) (key : List ℕ) (side : Side) (start now : X)
-    (span : Span (state start) (state now) (IsEntryOrFirst k key side (state start)))
+module _ {X : Type 0} (state : X → DiskState) (k : Mechanism) (readings : IsRead) (key : List ℕ) (side : Side) (format : Format) (start now : X)
+    (span : Span (state start) (state now) (IsEntryOrFirst k key side format (state start)))
     (seen : (s : List ℕ) → (state now).seen ≡ Some s
-    → IsLikeRead client_area (state start) s ⊎ IsFirst k key side (state start) s) where
+    → IsLikeRead client_area (state start) s ⊎ IsFirst k key side format (state start) s) where
   worlds_stay : (w : World) (whose : Side) → ReadsAsSide k w whose (state start) → RunsOn k whose w w (state start) (state now)
   worlds_stay w whose reads = record {
     any_moment =
-        widen (state start) (state now) (IsEntryOrFirst k key side (state start))
+        widen (state start) (state now) (IsEntryOrFirst k key side format (state start))
         (λ c. (state start).image c ⊎ StandsForOne k whose w w (state start) c)
         (λ c s.
         ⊎_elim
         (λ left. ⊎_elim (λ was. inl was) (λ like. inr (like_stands_for k whose w w (state start) c reads like)) left)
-        (λ first. absurd (never_first k readings key side w whose (state start) c reads first)) s) span;
+        (λ first. absurd (never_first k readings key side format w whose (state start) c reads first)) s) span;
     reads = λ s told.
         ⊎_elim (λ like. like_stands_for k whose w w (state start) s reads like)
-        (λ first. absurd (never_first k readings key side w whose (state start) s reads first)) (seen s told);
+        (λ first. absurd (never_first k readings key side format w whose (state start) s reads first)) (seen s told);
   }
 
   pub unbegun_begins : (refusal : BeginRefusal) → IsUnbegun state k key start now refusal
-      → Begins state k key side start now (ending_of_begin refusal) []
+      → Begins state k key side format start now (ending_of_begin refusal) []
   unbegun_begins refusal why =
       record { began = wasnt_begun refusal why; any_moment = span; reads = seen; in_worlds = worlds_stay }
 
-  pub begun_begins : (client : ClientNow) → IsClientBegun k key side client (state start) (state now)
-      → IsIn k (opening_world key) side client
-      → Begins state k key side start now Done (session_line client.kept.state.session)
+  pub begun_begins : (client : ClientNow) → IsClientBegun k key side format client (state start) (state now)
+      → ((other : Format) → IsIn k (opening_world key (formats_of side format other)) side client)
+      → Begins state k key side format start now Done (session_line client.kept.state.session)
   begun_begins client begun is = record {
     began =
-        subst (λ (kept : Client). Began state k key side start now Done (session_line kept.state.session)) (sym begun.keeps)
-        (was_begun begun.read begun.pair is.lawful
-        (subst (λ (kept : Client). IsClientAtRest kept (state now)) is.keeps
-        (record { store = client.store; ready = begun.ready }))
+        subst (λ (kept : Client). Began state k key side format start now Done (session_line kept.state.session)) (sym begun.keeps)
+        (was_begun begun.read begun.pair
+        (λ other. record {
+          lawful = (is other).lawful;
+          rests = subst (λ (kept : Client). IsClientAtRest kept (state now)) (is other).keeps
+              (record { store = client.store; ready = begun.ready });
+        })
         begun.quiet);
     any_moment = span;
     reads = seen;

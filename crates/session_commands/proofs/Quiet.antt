@@ -1,5 +1,6 @@
 -- Status 0 says that no call failed, so a command that comes to something counts what failed.
 use Rattle.std.proofs.Common.{List, Option, arith, inl, inr, refl, sym, ℕ, ◌∙◌, ◌≡◌, ◌≤◌}
+use Rattle.bodies.specs.declared.format.Format.{Format}
 use Rattle.dr_base.specs.declared.position.Side.{Side}
 use Rattle.dr_disk.specs.Spans.{IsQuiet}
 use Rattle.dr_disk.specs.State.{DiskState}
@@ -138,24 +139,25 @@ check_counts state k start now old new code runs later =
     counted (RunsCheck state k start now) (IsQuiet (state start) (state now)) old new code
     (λ ending lines came zero. checked_came state k start now ending lines came.checked zero) runs later
 
-begun_came : {X : Type 0} (state : X → DiskState) (k : Mechanism) (key : List ℕ) (side : Side) (start now : X) (ending : Ending)
-    (lines : List ℕ) → Began state k key side start now ending lines → code_of ending ≡ 0 → IsQuiet (state start) (state now)
-begun_came state k key side start now ending lines (wasnt_begun refusal why) e = absurd (begin_code refusal e)
-begun_came state k key side start now ending lines (was_begun none pair lawful rests quiet) e = quiet
+begun_came : {X : Type 0} (state : X → DiskState) (k : Mechanism) (key : List ℕ) (side : Side) (format : Format) (start now : X)
+    (ending : Ending) (lines : List ℕ) → Began state k key side format start now ending lines → code_of ending ≡ 0 → IsQuiet (state start) (state now)
+begun_came state k key side format start now ending lines (wasnt_begun refusal why) e = absurd (begin_code refusal e)
+begun_came state k key side format start now ending lines (was_begun none pair rests quiet) e = quiet
 
-begin_came : {X : Type 0} (state : X → DiskState) (k : Mechanism) (side : Side) (from to : SourceState) (start now : X) (ending : Ending) (lines : List ℕ)
-    → RunsBegin state k side from to start now ending lines → code_of ending ≡ 0
+begin_came : {X : Type 0} (state : X → DiskState) (k : Mechanism) (side : Side) (format : Format) (from to : SourceState) (start now : X)
+    (ending : Ending) (lines : List ℕ)
+    → RunsBegin state k side format from to start now ending lines → code_of ending ≡ 0
     → IsQuiet (state start) (state now) × (to.faults ≡ from.faults)
-begin_came state k side from to start now ending lines (had_no_key e none same) zero =
+begin_came state k side format from to start now ending lines (had_no_key e none same) zero =
     absurd (input_code _ _ _ _ _ e refl none zero)
-begin_came state k side from to start now ending lines (had_key key e l input begins) zero =
-    (begun_came state k key side start now e l begins.began zero, input.quiet)
+begin_came state k side format from to start now ending lines (had_key key e l input begins) zero =
+    (begun_came state k key side format start now e l begins.began zero, input.quiet)
 
-pub begin_counts : {X : Type 0} (state : X → DiskState) (k : Mechanism) (side : Side) (from to : SourceState)
+pub begin_counts : {X : Type 0} (state : X → DiskState) (k : Mechanism) (side : Side) (format : Format) (from to : SourceState)
     (start now : X) (old new : SinkState) (code : ℕ)
-    → Runs (RunsBegin state k side from to start now) old new code → old.faults ≤ new.faults
-    → RunsAndCounts (RunsBegin state k side from to start now)
+    → Runs (RunsBegin state k side format from to start now) old new code → old.faults ≤ new.faults
+    → RunsAndCounts (RunsBegin state k side format from to start now)
     (IsQuiet (state start) (state now) × (to.faults ≡ from.faults)) old new code
-begin_counts state k side from to start now old new code runs later =
-    counted (RunsBegin state k side from to start now) (IsQuiet (state start) (state now) × (to.faults ≡ from.faults))
-    old new code (begin_came state k side from to start now) runs later
+begin_counts state k side format from to start now old new code runs later =
+    counted (RunsBegin state k side format from to start now) (IsQuiet (state start) (state now) × (to.faults ≡ from.faults))
+    old new code (begin_came state k side format from to start now) runs later

@@ -11,6 +11,7 @@ use crate::closing::finish_with;
 use crate::endings_of::unbegun;
 use crate::input::read_key;
 use crate::lines::session_line;
+use bodies::Format;
 use client::Client;
 use dr_base::{Key32, Side};
 use dr_disk::Disk;
@@ -20,19 +21,20 @@ use kem_laws::Kem;
 use slot_store::readings;
 use std::alloc::Global;
 
-/// Begins the session of a key, and gives the line of its name.
+/// Begins the session of a key in a format, and gives the line of its name.
 fn begin_on<K: Kem, D: Disk>(
     alloc: Global,
     side: Side,
+    format: Format,
     key: &Key32,
     disk: &mut D,
 ) -> Result<OutputLine, Ending>
     requires { HasClientRoom (D.state disk.old) }
-    ensures { Begins D.state K.mechanism key.now.bytes side disk.old disk.new (begun_ending result)
-        (begun_lines result) }
+    ensures { Begins D.state K.mechanism key.now.bytes side format disk.old disk.new
+        (begun_ending result) (begun_lines result) }
 {
     readings();
-    match Client::<K>::begin(alloc, disk, side, key) {
+    match Client::<K>::begin(alloc, disk, side, format, key) {
         Err(refusal) => Err(unbegun(refusal)),
         Ok(client) => Ok(session_line(client.session())),
     }
@@ -42,39 +44,41 @@ fn begin_on<K: Kem, D: Disk>(
 fn read_and_begin<K: Kem, D: Disk, S: Source>(
     alloc: Global,
     side: Side,
+    format: Format,
     disk: &mut D,
     source: &mut S,
 ) -> Result<OutputLine, Ending>
     requires { HasClientRoom (D.state disk.old) }
-    ensures runs { RunsBegin D.state K.mechanism side (S.at source.old) (S.at source.new)
+    ensures runs { RunsBegin D.state K.mechanism side format (S.at source.old) (S.at source.new)
         disk.old disk.new (begun_ending result) (begun_lines result) }
     ensures later { (S.at source.old).faults ≤ (S.at source.new).faults }
 {
     match read_key(alloc, source) {
         Err(ending) => Err(ending),
-        Ok(key) => begin_on::<K, D>(alloc, side, &key, disk),
+        Ok(key) => begin_on::<K, D>(alloc, side, format, &key, disk),
     }
 }
 
 /// Begins the session of the key whose 64 hex digits the source holds, on a disk that holds none,
-/// and writes `session S`.
+/// and writes `session S`. The side seals its texts in this format.
 pub fn begin<K: Kem, D: Disk, S: Source, O: Sink>(
     alloc: Global,
     side: Side,
+    format: Format,
     disk: &mut D,
     source: &mut S,
     out: &mut O,
 ) -> Status
     requires { HasClientRoom (D.state disk.old) }
     ensures runs { RunsAndCounts
-        (RunsBegin D.state K.mechanism side (S.at source.old) (S.at source.new)
+        (RunsBegin D.state K.mechanism side format (S.at source.old) (S.at source.new)
         disk.old disk.new)
         (IsQuiet (D.state disk.old) (D.state disk.new)
         × ((S.at source.new).faults ≡ (S.at source.old).faults))
         (O.at out.old) (O.at out.new) result.code }
     ensures reads { (S.at source.old).faults ≤ (S.at source.new).faults }
 {
-    match read_and_begin::<K, D, S>(alloc, side, disk, source) {
+    match read_and_begin::<K, D, S>(alloc, side, format, disk, source) {
         Err(ending) => finish(out, ending),
         Ok(line) => finish_with(out, line.as_bytes()),
     }

@@ -1,3 +1,5 @@
 pub mod Latest
 pub mod LawfulKept
+pub mod Opened
 pub mod Passing
+pub mod Sealed

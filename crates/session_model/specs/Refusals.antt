@@ -5,7 +5,7 @@ use Rattle.session_model.specs.declared.answer.Refusal.TheVariants as refusal
 use Rattle.session_model.specs.declared.refusals.SendRefusal.{SendRefusal}
 use Rattle.session_model.specs.declared.refusals.SendRefusal.TheVariants.{TextTooLong, EpochFull, LastEpoch}
 use Rattle.session_model.specs.declared.refusals.ReceiveRefusal.{ReceiveRefusal}
-use Rattle.session_model.specs.declared.refusals.ReceiveRefusal.TheVariants.{OtherSession, OwnPacket, Ahead, Spent, Count, SkipLimit, BadTag}
+use Rattle.session_model.specs.declared.refusals.ReceiveRefusal.TheVariants.{OtherSession, OwnPacket, Ahead, Spent, Count, SkipLimit, BadTag, BadPadding}
 
 abbrev pub send_refusal : SendRefusal → Refusal
 send_refusal (TextTooLong len) = refusal.TextTooLong len
@@ -20,6 +20,7 @@ receive_refusal (Spent position) = refusal.Spent position
 receive_refusal (Count claimed known) = refusal.Count claimed known
 receive_refusal (SkipLimit would) = refusal.SkipLimit would
 receive_refusal BadTag = refusal.BadTag
+receive_refusal BadPadding = refusal.BadPadding
 
 -- an answer whose refusal is read as one of an event
 abbrev pub refused_as : {A E : Type 0} → (E → Refusal) → Result A E → Result A Refusal

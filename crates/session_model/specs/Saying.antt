@@ -1,6 +1,8 @@
 -- What a session answers to a text, and what it keeps once the text is said.
 use Rattle.std.specs.Prelude.{Bool, Err, List, Ok, Option, Result, Some, false, if◌then◌else◌, nat_le, nat_lt, option_map, true, ℕ, ◌+◌}
 use Rattle.dr_base.specs.declared.limits.TheConstants.{TEXT_LIMIT, INDEX_LIMIT, LAST_EPOCH}
+use Rattle.bodies.specs.Bodies.{text_body}
+use Rattle.bodies.specs.Formats.{version_of}
 use Rattle.boxes.specs.Posts.{Post}
 use Rattle.cka.specs.Agreement.{turn_of}
 use Rattle.fs_aead.specs.Chain.{chain_message_key, next_chain}
@@ -27,16 +29,16 @@ pub record SendDraft : Type 0 where
 -- in an own epoch: the next key of the stream, and the epoch's agreement message again
 abbrev pub draft_own : State → Own → List ℕ → SendDraft
 draft_own s own text = record {
-  post = posted s.session (record { epoch = s.epoch; index = own.sent + 1 }) s.previous own.agreement
-      (chain_message_key own.chain) text;
+  post = posted (version_of s.format) s.session (record { epoch = s.epoch; index = own.sent + 1 }) s.previous own.agreement
+      (chain_message_key own.chain) (text_body text);
   next = record s { phase = in_own (record own { chain = next_chain own.chain; sent = own.sent + 1 }) };
 }
 
 -- in a peer's epoch: a turn, which begins the next own epoch with the first key of its stream
 abbrev pub draft_turn : State → List ℕ → List ℕ × List ℕ × List ℕ → SendDraft
 draft_turn s text turn = record {
-  post = posted s.session (record { epoch = s.epoch + 1; index = 1 }) s.previous turn.1
-      (chain_message_key (root_key s.root turn.2)) text;
+  post = posted (version_of s.format) s.session (record { epoch = s.epoch + 1; index = 1 }) s.previous turn.1
+      (chain_message_key (root_key s.root turn.2)) (text_body text);
   next = record s {
     root = next_root s.root turn.2;
     epoch = s.epoch + 1;

@@ -22,6 +22,7 @@ reception_seen r = record { chain = r.chain.bytes; reach = r.reach }
 abbrev pub seen : {K Work : Type 0} → Head K Work → List Kept → State
 seen head kept = record {
   side = head.side;
+  format = head.format;
   session = head.session;
   root = head.root.bytes;
   epoch = head.epoch;

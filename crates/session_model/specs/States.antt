@@ -1,5 +1,6 @@
 -- What a session keeps.
 use Rattle.std.specs.Prelude.{List, None, Option, Some, [], if◌then◌else◌, ℕ, ◌-◌, ◌==◌}
+use Rattle.bodies.specs.declared.format.Format.{Format}
 use Rattle.dr_base.specs.Position.{is_own}
 use Rattle.dr_base.specs.declared.key.Kept.{Kept}
 use Rattle.dr_base.specs.declared.position.Side.{Side}
@@ -28,6 +29,8 @@ pub record Reception : Type 0 where
 
 pub record State : Type 0 where
   pub side : Side
+  -- how it seals its texts
+  pub format : Format
   pub session : List ℕ
   pub root : List ℕ
   -- the greatest epoch that the side has reached
@@ -54,9 +57,10 @@ abbrev pub opening_reception : List ℕ → Side → Option Reception
 opening_reception key First = Some (record { chain = stream_of key; reach = 0 })
 opening_reception key Second = None
 
-abbrev pub opening_state : Mechanism → List ℕ → Side → State
-opening_state k key side = record {
+abbrev pub opening_state : Mechanism → List ℕ → Side → Format → State
+opening_state k key side format = record {
   side = side;
+  format = format;
   session = session_of key;
   root = root_of key;
   epoch = 0;

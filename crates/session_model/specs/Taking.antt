@@ -1,6 +1,7 @@
 -- What a session answers to a packet, and what it keeps once the packet is taken.
 use Rattle.std.specs.Cmp.Lexicographic.{pointwise}
-use Rattle.std.specs.Prelude.{Err, List, Ok, Result, if◌then◌else◌, nat_eq, ℕ}
+use Rattle.std.specs.Prelude.{Err, List, None, Ok, Option, Result, Some, if◌then◌else◌, nat_eq, ℕ}
+use Rattle.bodies.specs.Bodies.{Body, opened_body}
 use Rattle.dr_base.specs.declared.position.Position.{Position}
 use Rattle.etm_aead.specs.Seal.{ciphertext_of, tag_of}
 use Rattle.kem_laws.specs.Mechanism.{Mechanism}
@@ -8,7 +9,7 @@ use Rattle.packet.specs.Packet.{Fields, ad_of}
 use Rattle.session_model.specs.States.{State}
 use Rattle.session_model.specs.Ways.{Way, position_of, way_of}
 use Rattle.session_model.specs.declared.answer.Refusal.{Refusal}
-use Rattle.session_model.specs.declared.answer.Refusal.TheVariants.{BadTag}
+use Rattle.session_model.specs.declared.answer.Refusal.TheVariants.{BadPadding, BadTag}
 
 -- a packet that opens: its position, its text, and what the session keeps once it is taken
 pub record ReceiveDraft : Type 0 where
@@ -16,11 +17,16 @@ pub record ReceiveDraft : Type 0 where
   pub text : List ℕ
   pub next : State
 
--- on the way to a packet's key: whether its tag is the one under that key
+-- what the opened bytes of a packet are, on the way to its key: a body, unless their padding is wrong
+abbrev pub opened_as : Fields → Way → Option Body → Result ReceiveDraft Refusal
+opened_as f way None = Err BadPadding
+opened_as f way (Some body) = Ok (record { position = position_of f; text = body.content; next = way.next })
+
+-- on the way to a packet's key: whether its tag is the one under that key, and then what its bytes are
 abbrev pub opening_on : Fields → Way → Result ReceiveDraft Refusal
 opening_on f way =
     if pointwise nat_eq f.tag (tag_of way.key (ad_of f) f.ciphertext)
-    then Ok (record { position = position_of f; text = ciphertext_of way.key f.ciphertext; next = way.next })
+    then opened_as f way (opened_body f.version (ciphertext_of way.key f.ciphertext))
     else Err BadTag
 
 abbrev pub opened_by : Fields → Result Way Refusal → Result ReceiveDraft Refusal

@@ -71,6 +71,8 @@ pub enum Refusal {
     SkipLimit(u32),
     /// The packet's tag differs from the one under its key.
     BadTag,
+    /// The tag is right, but what the packet seals is no text that was padded.
+    BadPadding,
     /// The inbox is full.
     InboxFull,
     /// Only this many stand, fewer than were to be taken out.

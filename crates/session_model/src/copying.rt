@@ -103,6 +103,7 @@ impl<K: Kem> Head<K> {
         ensures { seen self.new [] ≡ seen from.now [] }
     {
         self.side = from.side;
+        self.format = from.format;
         self.session = from.session;
         self.root = copy_of_key(&from.root);
         self.epoch = from.epoch;
@@ -120,6 +121,7 @@ impl<K: Kem> Head<K> {
         phase.copy_from(&self.phase);
         Head {
             side: self.side,
+            format: self.format,
             session: self.session,
             root: copy_of_key(&self.root),
             epoch: self.epoch,

@@ -2,6 +2,7 @@
 
 ghost use Rattle.std.specs.Prelude.{◌≡◌};
 
+use bodies::Format;
 use cka::{Agreement, PublicText, SecretText};
 use dr_base::{Key32, Side};
 use fs_aead::Skipped;
@@ -39,6 +40,8 @@ pub struct Reception {
 #[derive(Drop)]
 pub struct Head<K: Kem> {
     pub side: Side,
+    /// How it seals its texts.
+    pub format: Format,
     pub session: [u8; 16],
     pub root: Key32,
     /// The greatest epoch that the side has reached.

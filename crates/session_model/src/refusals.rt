@@ -43,6 +43,9 @@ pub enum ReceiveRefusal {
     /// The packet's tag differs from the one under its key.
     #[error("the packet's tag is wrong")]
     BadTag,
+    /// The tag is right, but what the packet seals is no text that was padded.
+    #[error("the packet seals no padded text")]
+    BadPadding,
 }
 
 impl From<SendRefusal> for Refusal {
@@ -75,6 +78,7 @@ impl From<ReceiveRefusal> for Refusal {
             ReceiveRefusal::Count { claimed, known } => Refusal::Count { claimed, known },
             ReceiveRefusal::SkipLimit { would } => Refusal::SkipLimit(would),
             ReceiveRefusal::BadTag => Refusal::BadTag,
+            ReceiveRefusal::BadPadding => Refusal::BadPadding,
         }
     }
 }

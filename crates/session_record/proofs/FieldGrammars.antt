@@ -1,8 +1,10 @@
 -- The grammars of the fields before the lists.
-use Rattle.std.proofs.Common.{◌≡◌, ℕ, ◌^◌, ◌<◌, Bool, true, List, length, refl, arith, inl, inr}
+use Rattle.std.proofs.Common.{◌≡◌, ℕ, ◌^◌, ◌<◌, Bool, true, false, List, length, Option, Some, None, refl, sym, arith, inl, inr, if◌then◌else◌}
 use Rattle.std.specs.Prelude.{◌⊎◌}
 use Rattle.std.specs.Int.{w8, w32, to_be_bytes}
 use Rattle.std.proofs.lemmas.Bool.Decides.{nat_tests}
+use Rattle.bodies.specs.declared.format.Format.{Format}
+use Rattle.bodies.specs.declared.format.Format.TheVariants.{Padded, Plain}
 use Rattle.dr_base.specs.declared.position.Side.{Side}
 use Rattle.dr_base.specs.declared.position.Side.TheVariants.{First, Second}
 use Rattle.packet.specs.Packet.{agreement_len}
@@ -18,8 +20,9 @@ use Rattle.grammar.proofs.Fields.{number_grammar, piece_grammar}
 use Rattle.dr_base.proofs.Widths.{exact8, exact32}
 use Rattle.grammar.proofs.Choices.{maybe_grammar, either_grammar}
 use Rattle.grammar.proofs.Combined.{both_grammar, checked_grammar, mapped_grammar}
-use Rattle.session_record.specs.Fields.{up_to, version_field, is_side, side_at, code_of, side_field, epoch_field, is_secret, count_field, own_of, of_own, own_fields, own_text, phase_of, of_phase, phase_field, phase_text, is_previous, previous_field, has_receiving, reception_of, of_reception, reception_fields, receiving_field, reception_text}
-use Rattle.session_record.specs.Versions.{is_version, version_at, version_code}
+use Rattle.session_record.specs.Fields.{up_to, version_field, is_side, side_at, code_of, side_field, is_format, format_at, format_code, format_of, of_format, format_byte, format_field, format_text, epoch_field, is_secret, count_field, own_of, of_own, own_fields, own_text, phase_of, of_phase, phase_field, phase_text, is_previous, previous_field, has_receiving, reception_of, of_reception, reception_fields, receiving_field, reception_text}
+use Rattle.session_record.specs.Versions.{IsFormatOf, has_format, is_version, version_at, version_code}
+use Rattle.session_record.specs.declared.versions.Version.{Version}
 use Rattle.session_record.proofs.Passing.{PassesOwn, PassesPhase, PassesReception}
 use Rattle.session_record.proofs.VersionLimits.{code_fits, code_is_version, version_lawful, version_of_code}
 
@@ -52,6 +55,37 @@ unfolding side_field
 side_grammar =
     mapped_grammar (to_be_bytes w8) _ _ (checked_grammar _ _ _ (number_grammar w8 (2 ^ 8) exact8) is_side) (λ side. Unit {0}) side_at code_of
     (λ n lawful. (tt, side_lawful n lawful.1)) (λ side lawful. code_lawful side)
+
+format_lawful : (n : ℕ) → is_format n ≡ true → format_code (format_at n) ≡ n
+format_lawful n lawful = grind (arith, nat_tests)
+
+byte_lawful : (format : Format) → ((format_code format < 2 ^ 8) × (is_format (format_code format) ≡ true)) × (format_at (format_code format) ≡ format)
+byte_lawful Plain = ((omega arith, refl), refl)
+byte_lawful Padded = ((omega arith, refl), refl)
+
+byte_grammar : IsGrammar (λ format. to_be_bytes w8 (format_code format)) (λ format. Unit {0}) format_byte
+unfolding format_byte
+byte_grammar =
+    mapped_grammar (to_be_bytes w8) _ _ (checked_grammar _ _ _ (number_grammar w8 (2 ^ 8) exact8) is_format) (λ format. Unit {0}) format_at format_code
+    (λ n lawful. (tt, format_lawful n lawful.1)) (λ format lawful. byte_lawful format)
+
+pub format_grammar : (version : Version) → IsGrammar (format_text version) (IsFormatOf version) (format_field version)
+unfolding format_field
+format_grammar version =
+    mapped_grammar _ _ _ (maybe_grammar _ _ _ byte_grammar (has_format version)) (IsFormatOf version) format_of (of_format version)
+    (λ o lawful. there (has_format version) o lawful) (λ format plain. back (has_format version) format plain)
+  where
+    there : (has : Bool) (o : Option Format) → IsMaybe has (λ format. Unit {0}) o
+        → (has ≡ false → format_of o ≡ Plain) × ((if has then Some (format_of o) else None) ≡ o)
+    there true None lawful = absurd (let e : true ≡ false = lawful in cc)
+    there false None lawful = (λ _. refl, refl)
+    there true (Some format) lawful = (λ without. absurd (let e : true ≡ false = without in cc), refl)
+    there false (Some format) lawful = absurd (let e : false ≡ true = lawful.0 in cc)
+
+    back : (has : Bool) (format : Format) → (has ≡ false → format ≡ Plain)
+        → IsMaybe has (λ (one : Format). Unit {0}) (if has then Some format else None) × (format_of (if has then Some format else None) ≡ format)
+    back true format plain = ((refl, tt), refl)
+    back false format plain = (refl, sym (plain refl))
 
 pub epoch_grammar : IsGrammar (to_be_bytes w32) (λ n. up_to LAST_EPOCH n ≡ true) epoch_field
 unfolding epoch_field

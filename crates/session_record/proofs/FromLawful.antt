@@ -97,6 +97,7 @@ passes k saved l =
     let got = received c.state.side c.state.epoch (is_own c.state.side c.state.epoch) refl s.epoch_fits c.state.receiving c.state.kept keys s.receiving in
     record {
       heading = record {
+        format = l.fits.format;
         session_long = s.session_long;
         root_long = s.root_long;
         epoch_fits = epoch_part c.state.epoch s.epoch_fits;

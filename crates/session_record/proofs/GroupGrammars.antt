@@ -12,7 +12,7 @@ use Rattle.session_record.specs.Versions.{inbox_most, kept_most, outbox_most}
 use Rattle.session_record.specs.declared.groups.Heading.{Heading}
 use Rattle.session_record.specs.declared.versions.Version.{Version}
 use Rattle.session_record.proofs.Passing.{PassesBoxes, PassesHeading, PassesKeys}
-use Rattle.session_record.proofs.FieldGrammars.{epoch_grammar, phase_grammar, previous_grammar, receiving_grammar, side_grammar, version_grammar}
+use Rattle.session_record.proofs.FieldGrammars.{epoch_grammar, format_grammar, phase_grammar, previous_grammar, receiving_grammar, side_grammar, version_grammar}
 use Rattle.session_record.proofs.ListGrammars.{inbox_list, kept_list, outbox_list}
 use Rattle.session_record.proofs.VersionLimits.{inbox-limit, kept-limit, outbox-limit}
 
@@ -20,14 +20,15 @@ pub heading_grammar : IsGrammar heading_text PassesHeading heading_fields
 unfolding heading_fields
 heading_grammar =
     mapped_grammar _ _ _
-    (both_grammar _ _ _ _ _ _ version_grammar (λ _ _.
+    (both_grammar _ _ _ _ _ _ version_grammar (λ version _.
     both_grammar _ _ _ _ _ _ side_grammar (λ _ _.
+    both_grammar _ _ _ _ _ _ (format_grammar version) (λ _ _.
     both_grammar _ _ _ _ _ _ (piece_grammar 16) (λ _ _.
     both_grammar _ _ _ _ _ _ (piece_grammar 32) (λ _ _.
-    epoch_grammar)))))
+    epoch_grammar))))))
     PassesHeading heading_of of_heading
-    (λ e l. (record { session_long = l.1.1.0; root_long = l.1.1.1.0; epoch_fits = l.1.1.1.1 }, refl))
-    (λ h l. ((tt, (tt, (l.session_long, (l.root_long, l.epoch_fits)))), refl))
+    (λ e l. (record { format = l.1.1.0; session_long = l.1.1.1.0; root_long = l.1.1.1.1.0; epoch_fits = l.1.1.1.1.1 }, refl))
+    (λ h l. ((tt, (tt, (l.format, (l.session_long, (l.root_long, l.epoch_fits))))), refl))
 
 -- a count that a version allows stands in its bytes
 fits_kept : (version : Version) (n : ℕ) → up_to (kept_most version) n ≡ true → n < 2 ^ 16

@@ -16,7 +16,7 @@ use Rattle.session_record.specs.Lists.{is_kept_epoch, is_kept_index, is_peers, i
 use Rattle.packet.specs.Reading.{is_index}
 use Rattle.session_record.specs.Groups.{Boxes, Keys}
 use Rattle.session_record.specs.Record.{Saved, boxes_in, heading_in, keys_in}
-use Rattle.session_record.specs.Versions.{inbox_most, kept_most, outbox_most, text_most}
+use Rattle.session_record.specs.Versions.{IsFormatOf, inbox_most, kept_most, outbox_most, text_most}
 use Rattle.session_record.specs.declared.groups.Heading.{Heading}
 use Rattle.session_record.specs.declared.versions.Version.{Version}
 
@@ -55,6 +55,7 @@ pub record PassesPost (k : Mechanism) (version : Version) (session : List ℕ) (
 -- ---- the groups
 
 pub record PassesHeading (h : Heading) : Type 0 where
+  pub format : IsFormatOf h.version h.format
   pub session_long : length h.session ≡ 16
   pub root_long : length h.root.bytes ≡ 32
   pub epoch_fits : up_to LAST_EPOCH h.epoch ≡ true

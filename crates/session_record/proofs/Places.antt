@@ -14,13 +14,14 @@ use Rattle.kem_laws.specs.Mechanism.{IsLawfulMechanism, Mechanism}
 use Rattle.packet.specs.Packet.{Fields, agreement_len}
 use Rattle.packet.specs.Reading.{read_packet, is_index}
 use Rattle.packet.specs.declared.fault.Malformed.{Malformed}
+use Rattle.packet.proofs.Known.{text_few}
 use Rattle.packet.proofs.Lengths.{length-packet_of}
 use Rattle.packet.proofs.Read.{read_was_printed}
 use Rattle.session_record.specs.declared.limits.TheConstants.{COUNT_SIZE, ENTRIES_LIMIT, ENTRY_LIMIT, HEADING_SIZE, KEPT_SIZE, KEYS_LIMIT, PHASE_LIMIT, POSTS_LIMIT, POST_LIMIT, RECORD_LIMIT, STREAM_SIZE}
-use Rattle.session_record.specs.Fields.{count_field, epoch_field, is_secret, own_fields, phase_field, previous_field, receiving_field, reception_fields, side_field, up_to, own_of, phase_of, reception_of, version_field, is_side, side_at, is_previous, has_receiving}
+use Rattle.session_record.specs.Fields.{count_field, epoch_field, is_secret, own_fields, phase_field, previous_field, receiving_field, reception_fields, side_field, format_byte, format_field, format_at, format_of, is_format, up_to, own_of, phase_of, reception_of, version_field, is_side, side_at, is_previous, has_receiving}
 use Rattle.session_record.specs.Lists.{any, any_length, entry_field, entry_of, inbox_field, is_kept_epoch, is_kept_index, is_peers, is_post, is_posted, kept_behind, kept_field, kept_item, kept_of, last_position, outbox_field, post_field, post_of, reach_of}
 use Rattle.session_record.specs.Groups.{boxes_fields, boxes_of, heading_fields, heading_of, keys_fields, keys_of}
-use Rattle.session_record.specs.Versions.{inbox_most, is_version, kept_most, outbox_most, text_most, version_at}
+use Rattle.session_record.specs.Versions.{has_format, inbox_most, is_version, kept_most, outbox_most, text_most, version_at}
 use Rattle.session_record.specs.declared.groups.Heading.{Heading}
 use Rattle.session_record.specs.declared.versions.Version.{Version}
 use Rattle.session_record.proofs.VersionLimits.{inbox-limit, kept-limit, outbox-limit, text-limit}
@@ -94,7 +95,7 @@ short_post k version session side epoch law bytes are passes = by_read (read_pac
     by_read (Ok f) is passes =
         let was = read_was_printed (agreement_size k) bytes f are is in
         let message = message_fits (agreement_size k) f.epoch (omega (arith, law.public_fits, law.ciphertext_fits)) in
-        omega (arith, ap (λ (l : List ℕ). length l) was.1, length-packet_of f was.0.session_len was.0.tag_len, was.0.agreement_is, was.0.text_fits, message)
+        omega (arith, ap (λ (l : List ℕ). length l) was.1, length-packet_of f was.0.session_len was.0.tag_len, was.0.agreement_is, text_few f.version (length f.ciphertext) was.0.text_fits, message)
 
 within-outbox : (k : Mechanism) (version : Version) (session : List ℕ) (side : Side) (epoch : ℕ) → IsLawfulMechanism k
     → IsWithin POSTS_LIMIT (outbox_field k version session side epoch)
@@ -110,14 +111,16 @@ within-outbox k version session side epoch law =
 -- ---- the groups
 
 within-heading : IsWithin HEADING_SIZE heading_fields
-unfolding heading_fields version_field side_field epoch_field
+unfolding heading_fields version_field side_field format_field format_byte epoch_field
 within-heading =
     within-mapped HEADING_SIZE heading_of _
-    (within-both _ _ _ _ (within-mapped _ version_at _ (within-checked _ is_version (number w8) (within-number w8))) (λ _.
+    (within-both _ _ _ _ (within-mapped _ version_at _ (within-checked _ is_version (number w8) (within-number w8))) (λ version.
     within-both _ _ _ _ (within-mapped _ side_at _ (within-checked _ is_side (number w8) (within-number w8))) (λ _.
+    within-both _ _ _ _ (within-mapped _ format_of _ (within-maybe _ (has_format version) _
+    (within-mapped _ format_at _ (within-checked _ is_format (number w8) (within-number w8))))) (λ _.
     within-both _ _ _ _ (within-piece 16) (λ _.
     within-both _ _ _ _ (within-piece 32) (λ _.
-    within-checked _ (up_to LAST_EPOCH) (number w32) (within-number w32))))))
+    within-checked _ (up_to LAST_EPOCH) (number w32) (within-number w32)))))))
 
 within-keys : (k : Mechanism) (h : Heading) → IsLawfulMechanism k
     → IsWithin (PHASE_LIMIT + (COUNT_SIZE + (STREAM_SIZE + KEYS_LIMIT))) (keys_fields k h)

@@ -1,5 +1,5 @@
 -- The laws of the record.
-use Rattle.std.proofs.Common.{◌≡◌, ◌==◌, List, ℕ, Result, Ok, Err, true, get_or, refl, sym, ap, subst, ◌∙◌, arith}
+use Rattle.std.proofs.Common.{◌≡◌, ◌==◌, List, ℕ, Result, Ok, Err, true, false, get_or, refl, sym, ap, subst, ◌∙◌, arith}
 use Rattle.dr_base.specs.Bytes.{AreBytes}
 use Rattle.grammar.specs.Grammar.{IsWholeGrammar}
 use Rattle.kem_laws.specs.Mechanism.{Mechanism}
@@ -8,11 +8,11 @@ use Rattle.session_record.specs.Lawful.{FitsVersion, IsLawfulClient, IsLawfulSav
 use Rattle.session_record.specs.Record.{Saved, record_read, record_text, saved_read, saved_text, without_version}
 use Rattle.session_record.specs.Versions.{is_newest, newest, version_code}
 use Rattle.session_record.specs.declared.versions.Version.{Version}
-use Rattle.session_record.specs.declared.versions.Version.TheVariants.{One, Two}
+use Rattle.session_record.specs.declared.versions.Version.TheVariants.{One, Two, Three}
 use Rattle.session_record.proofs.FromLawful.{passes}
 use Rattle.session_record.proofs.RecordGrammar.{passing_grammar}
 use Rattle.session_record.proofs.ToLawful.{lawful}
-use Rattle.session_record.proofs.VersionLimits.{inbox-newest, is-newest, kept-newest, outbox-newest, text-newest}
+use Rattle.session_record.proofs.VersionLimits.{inbox-newest, is-newest, kept-newest, outbox-newest, packet-newest, text-newest}
 
 -- in each version
 pub saved_grammar : (k : Mechanism) → IsWholeGrammar saved_text (IsLawfulSaved k) (saved_read k)
@@ -26,11 +26,12 @@ saved_grammar k =
 -- the newest version allows what a client may hold
 fits-newest : (k : Mechanism) (c : Client) → IsLawfulClient k c → FitsVersion k newest c
 fits-newest k c l = record {
+  format = λ without. absurd (let e : true ≡ false = without in cc);
   few_kept = omega (arith, l.state.few, kept-newest);
   few_entries = omega (arith, l.few_entries, inbox-newest);
   short_texts = λ i d inside. omega (arith, (l.inbox i d inside).short, text-newest);
   few_posts = omega (arith, l.few_posts, outbox-newest);
-  posts = λ i d inside f reads. refl;
+  posts = λ i d inside f reads. packet-newest f;
 }
 
 -- what is written is read as it
@@ -51,6 +52,7 @@ first-byte : (version : Version) (c : Client) → get_or (saved_text (record { v
 unfolding saved_text
 first-byte One c = refl
 first-byte Two c = refl
+first-byte Three c = refl
 
 pub newest-byte : (c : Client) → is_newest (record_text c) ≡ true
 unfolding record_text

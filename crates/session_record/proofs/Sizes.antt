@@ -25,7 +25,6 @@ use Rattle.session_record.specs.Groups.{Keys, boxes_text, heading_text, keys_tex
 use Rattle.session_record.specs.Lists.{entry_text, kept_text, post_of, post_text}
 use Rattle.session_record.specs.Record.{boxes_in, heading_in, keys_in, record_text, saved_text}
 use Rattle.session_record.specs.Versions.{newest}
-use Rattle.session_record.specs.declared.versions.Version.{Version}
 use Rattle.session_record.proofs.Places.{message_fits}
 
 -- ---- the pieces of a text
@@ -64,9 +63,9 @@ text_size c =
 
 -- ---- how long each is at most
 
-size-heading : (version : Version) (s : State) → length s.session ≡ 16 → length s.root ≡ 32
-    → length (heading_text (heading_in version s)) ≤ HEADING_SIZE
-size-heading version s long key =
+size-heading : (s : State) → length s.session ≡ 16 → length s.root ≡ 32
+    → length (heading_text (heading_in newest s)) ≤ HEADING_SIZE
+size-heading s long key =
     omega (arith, length-append s.session (s.root ++ to_be_bytes w32 s.epoch), length-append s.root (to_be_bytes w32 s.epoch), long, key)
 
 size-phase : (k : Mechanism) (side : Side) (epoch : ℕ) (phase : Phase) → IsLawfulMechanism k
@@ -118,7 +117,7 @@ pub text-fits : (k : Mechanism) (c : Client) → IsLawfulMechanism k → IsLawfu
     → IsRoomyInbox c.inbox → IsRoomyOutbox c.outbox → length (record_text c) ≤ RECORD_LIMIT
 text-fits k c law l long inbox outbox =
     let s = c.state in
-    omega (arith, text_size c, keys_size (keys_in s), size-heading newest s l.session_long l.root_long, size-phase k s.side s.epoch s.phase law l.phase, size-receiving s.kept s.receiving (receiving_epoch s.side s.epoch) l.receiving, size-kept s.kept long l.few, size-inbox c.inbox inbox, size-outbox c.outbox outbox)
+    omega (arith, text_size c, keys_size (keys_in s), size-heading s l.session_long l.root_long, size-phase k s.side s.epoch s.phase law l.phase, size-receiving s.kept s.receiving (receiving_epoch s.side s.epoch) l.receiving, size-kept s.kept long l.few, size-inbox c.inbox inbox, size-outbox c.outbox outbox)
 
 -- ---- after a change
 

@@ -141,6 +141,7 @@ fits_version k saved l =
     let version = saved.version in
     let c = saved.client in
     record {
+      format = l.heading.format;
       few_kept = leb-true (length c.state.kept) (kept_most version) l.keys.few_kept;
       few_entries = leb-true (length c.inbox) (inbox_most version) l.boxes.few_entries;
       short_texts = each_of (PassesEntry version c.state.side c.state.epoch) (λ entry. length entry.text ≤ text_most version)

@@ -2,17 +2,19 @@
 use Rattle.std.specs.Prelude.{ℕ, ◌==◌, ◌&&◌, ◌||◌, ◌⊎◌, Bool, true, false, not, nat_le, nat_lt, List, ◌++◌, Option, Some, None, if◌then◌else◌}
 use Rattle.std.proofs.Common.{inl, inr}
 use Rattle.std.specs.Int.{w8, w32, to_be_bytes}
+use Rattle.bodies.specs.declared.format.Format.{Format}
+use Rattle.bodies.specs.declared.format.Format.TheVariants.{Padded, Plain}
 use Rattle.cka.specs.Agreement.{agreement_size}
 use Rattle.dr_base.specs.Position.{is_own}
 use Rattle.dr_base.specs.declared.limits.TheConstants.{INDEX_LIMIT, LAST_EPOCH}
 use Rattle.dr_base.specs.declared.position.Side.{Side}
 use Rattle.dr_base.specs.declared.position.Side.TheVariants.{First, Second}
-use Rattle.grammar.specs.Printer.{print_either}
+use Rattle.grammar.specs.Printer.{print_either, print_maybe}
 use Rattle.grammar.specs.Reader.{Reader, number, piece, checked, mapped, both, maybe, either}
 use Rattle.kem_laws.specs.Mechanism.{Mechanism}
 use Rattle.packet.specs.Packet.{agreement_len}
 use Rattle.session_model.specs.States.{Own, Phase, Reception, in_own, in_peers}
-use Rattle.session_record.specs.Versions.{is_version, version_at}
+use Rattle.session_record.specs.Versions.{has_format, is_version, version_at}
 use Rattle.session_record.specs.declared.versions.Version.{Version}
 
 abbrev pub up_to : ℕ → ℕ → Bool
@@ -35,6 +37,36 @@ code_of Second = 2
 
 unfoldable pub side_field : Reader Side
 side_field = mapped side_at (checked is_side (number w8))
+
+-- ---- the format, where the version has a byte for it: 1 is Plain, 2 is Padded
+
+abbrev pub is_format : ℕ → Bool
+is_format n = (n == 1) || (n == 2)
+
+abbrev pub format_at : ℕ → Format
+format_at n = if n == 1 then Plain else Padded
+
+abbrev pub format_code : Format → ℕ
+format_code Plain = 1
+format_code Padded = 2
+
+-- without a byte it is Plain
+abbrev pub format_of : Option Format → Format
+format_of None = Plain
+format_of (Some format) = format
+
+abbrev pub of_format : Version → Format → Option Format
+of_format version format = if has_format version then Some format else None
+
+unfoldable pub format_byte : Reader Format
+format_byte = mapped format_at (checked is_format (number w8))
+
+unfoldable pub format_field : Version → Reader Format
+format_field version = mapped format_of (maybe (has_format version) format_byte)
+
+abbrev pub format_text : Version → Format → List ℕ
+format_text version format =
+    print_maybe (λ one. to_be_bytes w8 (format_code one)) (of_format version format)
 
 -- ---- the epoch, up to the last one; and a count of texts
 

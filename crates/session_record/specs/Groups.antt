@@ -2,6 +2,7 @@
 -- the heading, the keys, the boxes. What the heading says is handed to the others, the version too.
 use Rattle.std.specs.Prelude.{ℕ, List, ◌++◌, Option}
 use Rattle.std.specs.Int.{w8, w16, w32, to_be_bytes}
+use Rattle.bodies.specs.declared.format.Format.{Format}
 use Rattle.boxes.specs.Entries.{Entry}
 use Rattle.boxes.specs.Posts.{Post}
 use Rattle.dr_base.specs.declared.key.Kept.{Kept}
@@ -10,7 +11,7 @@ use Rattle.grammar.specs.Printer.{print_maybe, print_counted}
 use Rattle.grammar.specs.Reader.{Reader, piece, mapped, both}
 use Rattle.kem_laws.specs.Mechanism.{Mechanism}
 use Rattle.session_model.specs.States.{Phase, Reception}
-use Rattle.session_record.specs.Fields.{code_of, epoch_field, phase_field, phase_text, previous_field, receiving_field, reception_text, side_field, version_field}
+use Rattle.session_record.specs.Fields.{code_of, epoch_field, format_field, format_text, phase_field, phase_text, previous_field, receiving_field, reception_text, side_field, version_field}
 use Rattle.session_record.specs.Lists.{entry_text, inbox_field, kept_field, kept_text, outbox_field, post_text, reach_of}
 use Rattle.session_record.specs.Versions.{version_code}
 use Rattle.session_record.specs.declared.groups.Heading.{Heading}
@@ -18,34 +19,37 @@ use Rattle.session_record.specs.declared.versions.Version.{Version}
 
 -- ---- the heading
 
-abbrev pub heading_of : Version × (Side × (List ℕ × (List ℕ × ℕ))) → Heading
+abbrev pub heading_of : Version × (Side × (Format × (List ℕ × (List ℕ × ℕ)))) → Heading
 heading_of e = record {
   version = e.0;
   side = e.1.0;
-  session = e.1.1.0;
-  root = record { bytes = e.1.1.1.0 };
-  epoch = e.1.1.1.1;
+  format = e.1.1.0;
+  session = e.1.1.1.0;
+  root = record { bytes = e.1.1.1.1.0 };
+  epoch = e.1.1.1.1.1;
 }
 
-abbrev pub of_heading : Heading → Version × (Side × (List ℕ × (List ℕ × ℕ)))
-of_heading h = (h.version, (h.side, (h.session, (h.root.bytes, h.epoch))))
+abbrev pub of_heading : Heading → Version × (Side × (Format × (List ℕ × (List ℕ × ℕ))))
+of_heading h = (h.version, (h.side, (h.format, (h.session, (h.root.bytes, h.epoch)))))
 
 unfoldable pub heading_fields : Reader Heading
 heading_fields =
     mapped heading_of
-    (both version_field (λ _.
+    (both version_field (λ version.
     both side_field (λ _.
+    both (format_field version) (λ _.
     both (piece 16) (λ _.
     both (piece 32) (λ _.
-    epoch_field)))))
+    epoch_field))))))
 
 abbrev pub heading_text : Heading → List ℕ
 heading_text h =
     to_be_bytes w8 (version_code h.version)
     ++ (to_be_bytes w8 (code_of h.side)
+    ++ (format_text h.version h.format
     ++ (h.session
     ++ (h.root.bytes
-    ++ to_be_bytes w32 h.epoch)))
+    ++ to_be_bytes w32 h.epoch))))
 
 -- ---- the keys
 

@@ -13,7 +13,7 @@ use Rattle.session_model.specs.LawfulStates.{IsLawfulState}
 use Rattle.session_model.specs.States.{State}
 use Rattle.session_model.specs.Ways.{position_of}
 use Rattle.session_record.specs.Record.{Saved}
-use Rattle.session_record.specs.Versions.{inbox_most, is_packet_of, kept_most, outbox_most, text_most}
+use Rattle.session_record.specs.Versions.{IsFormatOf, inbox_most, is_packet_of, kept_most, outbox_most, text_most}
 use Rattle.session_record.specs.declared.versions.Version.{Version}
 
 -- a text of the peer's, of an epoch that was reached
@@ -51,6 +51,7 @@ IsPostOf k version post =
 
 -- what a version allows
 pub record FitsVersion (k : Mechanism) (version : Version) (c : Client) : Type 0 where
+  pub format : IsFormatOf version c.state.format
   pub few_kept : length c.state.kept ≤ kept_most version
   pub few_entries : length c.inbox ≤ inbox_most version
   pub short_texts : All (λ entry. length entry.text ≤ text_most version) c.inbox

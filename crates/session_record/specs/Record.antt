@@ -30,6 +30,7 @@ abbrev pub heading_in : Version → State → Heading
 heading_in version s = record {
   version = version;
   side = s.side;
+  format = s.format;
   session = s.session;
   root = record { bytes = s.root };
   epoch = s.epoch;
@@ -48,6 +49,7 @@ of_saved s = (heading_in s.version s.client.state, (keys_in s.client.state, boxe
 abbrev pub state_of_groups : Heading → Keys → State
 state_of_groups h keys = record {
   side = h.side;
+  format = h.format;
   session = h.session;
   root = h.root.bytes;
   epoch = h.epoch;

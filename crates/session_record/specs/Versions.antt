@@ -1,32 +1,47 @@
 -- The versions of a record, and what each of them allows. A later one is a case more of each
 -- definition. A field that stands since a version is a `maybe` over a test of the version, which
 -- stands here too.
-use Rattle.std.specs.Prelude.{ℕ, ◌==◌, ◌||◌, Bool, true, nat_le, List, length, get_or, if◌then◌else◌}
-use Rattle.dr_base.specs.declared.limits.TheConstants.{INBOX_LIMIT, KEPT_LIMIT, OUTBOX_LIMIT, TEXT_LIMIT}
+use Rattle.std.specs.Prelude.{◌≡◌, ℕ, ◌==◌, ◌&&◌, ◌||◌, Bool, true, false, nat_le, List, length, get_or, if◌then◌else◌}
+use Rattle.bodies.specs.declared.format.Format.{Format}
+use Rattle.bodies.specs.declared.format.Format.TheVariants.{Plain}
+use Rattle.dr_base.specs.declared.limits.TheConstants.{INBOX_LIMIT, KEPT_LIMIT, OUTBOX_LIMIT, PLAIN, TEXT_LIMIT}
 use Rattle.packet.specs.Packet.{Fields}
 use Rattle.session_record.specs.declared.versions.TheConstants.{FIRST_INBOX_LIMIT, FIRST_KEPT_LIMIT, FIRST_OUTBOX_LIMIT, FIRST_TEXT_LIMIT}
 use Rattle.session_record.specs.declared.versions.Version.{Version}
-use Rattle.session_record.specs.declared.versions.Version.TheVariants.{One, Two}
+use Rattle.session_record.specs.declared.versions.Version.TheVariants.{One, Two, Three}
 
 -- the version that is written
 abbrev pub newest : Version
-newest = Two
+newest = Three
 
 -- ---- the byte of a version
 
 abbrev pub is_version : ℕ → Bool
-is_version n = (n == 1) || (n == 2)
+is_version n = (n == 1) || ((n == 2) || (n == 3))
 
 abbrev pub version_at : ℕ → Version
-version_at n = if n == 1 then One else Two
+version_at n = if n == 1 then One else if n == 2 then Two else Three
 
 abbrev pub version_code : Version → ℕ
 version_code One = 1
 version_code Two = 2
+version_code Three = 3
 
 -- a text begins as the newest version does
 abbrev pub is_newest : List ℕ → Bool
 is_newest text = get_or text 0 0 == version_code newest
+
+-- ---- the format of a session
+
+-- a byte says it since version 3
+abbrev pub has_format : Version → Bool
+has_format One = false
+has_format Two = false
+has_format Three = true
+
+-- where none does, the session is plain
+abbrev pub IsFormatOf : Version → Format → Type 0
+IsFormatOf version format = has_format version ≡ false → format ≡ Plain
 
 -- ---- the limits of a version
 
@@ -34,23 +49,29 @@ is_newest text = get_or text 0 0 == version_code newest
 abbrev pub text_most : Version → ℕ
 text_most One = FIRST_TEXT_LIMIT
 text_most Two = TEXT_LIMIT
+text_most Three = TEXT_LIMIT
 
 -- the kept keys
 abbrev pub kept_most : Version → ℕ
 kept_most One = FIRST_KEPT_LIMIT
 kept_most Two = KEPT_LIMIT
+kept_most Three = KEPT_LIMIT
 
 -- the texts of an inbox
 abbrev pub inbox_most : Version → ℕ
 inbox_most One = FIRST_INBOX_LIMIT
 inbox_most Two = INBOX_LIMIT
+inbox_most Three = INBOX_LIMIT
 
 -- the packets of an outbox
 abbrev pub outbox_most : Version → ℕ
 outbox_most One = FIRST_OUTBOX_LIMIT
 outbox_most Two = OUTBOX_LIMIT
+outbox_most Three = OUTBOX_LIMIT
 
--- the packets: those of version 1 have the texts of their time
+-- the packets: of versions 1 and 2 plain ones, of version 1 with the texts of their time; since
+-- version 3 any
 abbrev pub is_packet_of : Version → Fields → Bool
-is_packet_of One f = nat_le (length f.ciphertext) FIRST_TEXT_LIMIT
-is_packet_of Two f = true
+is_packet_of One f = (f.version == PLAIN) && nat_le (length f.ciphertext) FIRST_TEXT_LIMIT
+is_packet_of Two f = f.version == PLAIN
+is_packet_of Three f = true

@@ -87,6 +87,7 @@ fn part_of<K: Kem>(heading: Heading, keys: Keys) -> SessionPart<K>
     SessionPart {
         head: Head {
             side: heading.side,
+            format: heading.format,
             session,
             root: heading.root,
             epoch: heading.epoch,

@@ -12,9 +12,10 @@ use crate::kept::{put_kept, read_kept};
 use crate::keys::{
     put_phase, put_receiving, reach_of, read_array, read_key, read_phase, read_receiving,
 };
-use crate::numbers::{read_epoch, read_previous, read_side, side_code};
+use crate::numbers::{format_code, read_epoch, read_format, read_previous, read_side, side_code};
 use crate::versions::{NEWEST, Version, read_version};
 use arrayvec::ArrayVec;
+use bodies::Format;
 use dr_base::{KEPT_LIMIT, Kept, Key32, Side, put, put_u8, put_u32};
 use grammar::Cursor;
 use kem_laws::Kem;
@@ -25,6 +26,7 @@ use session_model::{LentPart, Phase, Reception};
 pub(crate) struct Heading {
     pub(crate) version: Version,
     pub(crate) side: Side,
+    pub(crate) format: Format,
     pub(crate) session: [u8; 16],
     pub(crate) root: Key32,
     pub(crate) epoch: u32,
@@ -47,12 +49,14 @@ pub(crate) fn read_heading(cursor: &mut Cursor<'_>) -> Result<Heading, usize>
 {
     let version = read_version(cursor)?;
     let side = read_side(cursor)?;
+    let format = read_format(cursor, version)?;
     let session = read_array(cursor)?;
     let root = read_key(cursor)?;
     let epoch = read_epoch(cursor)?;
     Ok(Heading {
         version,
         side,
+        format,
         session,
         root,
         epoch,
@@ -84,7 +88,8 @@ pub(crate) fn put_heading<K: Kem>(out: &mut [u8], part: &LentPart<'_, K>) -> usi
 {
     let head = part.head;
     let at_side = put_u8(out, 0, NEWEST.code());
-    let at_session = put_u8(out, at_side, side_code(head.side));
+    let at_format = put_u8(out, at_side, side_code(head.side));
+    let at_session = put_u8(out, at_format, format_code(head.format));
     let at_root = put(out, at_session, &head.session);
     let at_epoch = put(out, at_root, &head.root.bytes);
     put_u32(out, at_epoch, head.epoch)

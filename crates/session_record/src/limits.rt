@@ -6,8 +6,8 @@ use dr_base::{
     AGREEMENT_LIMIT, INBOX_LIMIT, KEPT_LIMIT, OUTBOX_LIMIT, PACKET_LIMIT, SECRET_LIMIT, TEXT_LIMIT,
 };
 
-/// The version, the side, the session id, the root and the epoch.
-pub(crate) const HEADING_SIZE: usize = 1 + 1 + 16 + 32 + 4;
+/// The version, the side, the format, the session id, the root and the epoch.
+pub(crate) const HEADING_SIZE: usize = 1 + 1 + 1 + 16 + 32 + 4;
 
 /// A count of texts.
 pub(crate) const COUNT_SIZE: usize = 4;

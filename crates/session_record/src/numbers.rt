@@ -4,8 +4,10 @@ ghost use Rattle.std.specs.Prelude.{◌≡◌, ◌≤◌, IfOk};
 ghost use Rattle.std.specs.Int.{w8};
 ghost use Rattle.grammar.specs.Reader.{checked, number};
 ghost use Rattle.grammar.specs.Standing.{Reads};
-ghost use Rattle.session_record.specs.Fields.{code_of, count_field, epoch_field, previous_field, side_field, up_to};
+ghost use Rattle.session_record.specs.Fields.{code_of, count_field, epoch_field, format_code, format_field, previous_field, side_field, up_to};
 
+use crate::versions::Version;
+use bodies::Format;
 use dr_base::{INDEX_LIMIT, LAST_EPOCH, Side};
 use grammar::Cursor;
 
@@ -18,6 +20,22 @@ pub(crate) fn read_side(cursor: &mut Cursor<'_>) -> Result<Side, usize>
     match cursor.number8()? {
         1 => Ok(Side::First),
         2 => Ok(Side::Second),
+        _ => Err(at),
+    }
+}
+
+/// The format, plain where the version has no byte for it.
+#[tactic(auto, unfolding(crate::specs::Fields::format_field, crate::specs::Fields::format_byte))]
+pub(crate) fn read_format(cursor: &mut Cursor<'_>, version: Version) -> Result<Format, usize>
+    ensures { Reads (λ f. f) (format_field version) cursor.old cursor.new result }
+{
+    if !version.has_format() {
+        return Ok(Format::Plain);
+    }
+    let at = cursor.at();
+    match cursor.number8()? {
+        1 => Ok(Format::Plain),
+        2 => Ok(Format::Padded),
         _ => Err(at),
     }
 }
@@ -83,5 +101,15 @@ pub(crate) fn side_code(side: Side) -> u8
     match side {
         Side::First => 1,
         Side::Second => 2,
+    }
+}
+
+/// The byte of a format.
+pub(crate) fn format_code(format: Format) -> u8
+    ensures { result ≡ format_code format }
+{
+    match format {
+        Format::Plain => 1,
+        Format::Padded => 2,
     }
 }

@@ -44,7 +44,8 @@ fn read_post<'a, K: Kem>(
             if *view.session() != heading.session || !heading.side.owns(of) || of > heading.epoch {
                 return Err(at);
             }
-            if view.ciphertext().len() > heading.version.sealed_most() {
+            let sealed = view.ciphertext().len();
+            if !heading.version.holds(view.version(), sealed) {
                 return Err(at);
             }
             let position = Position {

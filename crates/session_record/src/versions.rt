@@ -1,13 +1,13 @@
 //! The versions of a record, and what each of them allows.
 
-ghost use Rattle.std.specs.Prelude.{◌≡◌, ◌≤◌, length, nat_le};
-ghost use Rattle.dr_base.specs.declared.limits.TheConstants.{TEXT_LIMIT};
+ghost use Rattle.std.specs.Prelude.{◌≡◌, ◌≤◌, length};
+ghost use Rattle.dr_base.specs.declared.limits.TheConstants.{PLAIN, TEXT_LIMIT};
 ghost use Rattle.grammar.specs.Standing.{Reads};
 ghost use Rattle.packet.specs.Packet.{Fields};
 ghost use Rattle.session_record.specs.Fields.{version_field};
-ghost use Rattle.session_record.specs.Versions.{inbox_most, is_newest, is_packet_of, kept_most, outbox_most, text_most, version_code};
+ghost use Rattle.session_record.specs.Versions.{has_format, inbox_most, is_newest, is_packet_of, kept_most, outbox_most, text_most, version_code};
 
-use dr_base::{INBOX_LIMIT, KEPT_LIMIT, OUTBOX_LIMIT, TEXT_LIMIT};
+use dr_base::{INBOX_LIMIT, KEPT_LIMIT, OUTBOX_LIMIT, PLAIN, TEXT_LIMIT};
 use grammar::Cursor;
 
 /// The longest text of version 1, in bytes. Each version keeps its limits when those of the product
@@ -28,10 +28,11 @@ pub(crate) const FIRST_OUTBOX_LIMIT: usize = 32;
 pub(crate) enum Version {
     One,
     Two,
+    Three,
 }
 
 /// The version that is written.
-pub(crate) const NEWEST: Version = Version::Two;
+pub(crate) const NEWEST: Version = Version::Three;
 
 impl Version {
     /// Its byte.
@@ -41,6 +42,17 @@ impl Version {
         match self {
             Version::One => 1,
             Version::Two => 2,
+            Version::Three => 3,
+        }
+    }
+
+    /// Whether a byte says the session's format.
+    pub(crate) fn has_format(self) -> bool
+        ensures { result ≡ has_format self }
+    {
+        match self {
+            Version::One | Version::Two => false,
+            Version::Three => true,
         }
     }
 
@@ -51,16 +63,19 @@ impl Version {
     {
         match self {
             Version::One => FIRST_TEXT_LIMIT,
-            Version::Two => TEXT_LIMIT,
+            Version::Two | Version::Three => TEXT_LIMIT,
         }
     }
 
-    /// The longest text of a packet in its outbox, in bytes.
-    pub(crate) fn sealed_most(self) -> usize
-        ensures { (f : Fields) → length f.ciphertext ≤ TEXT_LIMIT
-            → is_packet_of self f ≡ nat_le (length f.ciphertext) result }
+    /// Whether its outbox may hold a packet of this version that seals so many bytes.
+    pub(crate) fn holds(self, packet: u8, sealed: usize) -> bool
+        ensures { (f : Fields) → f.version ≡ packet → length f.ciphertext ≡ sealed
+            → (packet ≡ PLAIN → sealed ≤ TEXT_LIMIT) → is_packet_of self f ≡ result }
     {
-        self.text_most()
+        match self {
+            Version::One | Version::Two => packet == PLAIN && sealed <= self.text_most(),
+            Version::Three => true,
+        }
     }
 
     /// The most kept keys.
@@ -70,7 +85,7 @@ impl Version {
     {
         match self {
             Version::One => FIRST_KEPT_LIMIT,
-            Version::Two => KEPT_LIMIT,
+            Version::Two | Version::Three => KEPT_LIMIT,
         }
     }
 
@@ -81,7 +96,7 @@ impl Version {
     {
         match self {
             Version::One => FIRST_INBOX_LIMIT,
-            Version::Two => INBOX_LIMIT,
+            Version::Two | Version::Three => INBOX_LIMIT,
         }
     }
 
@@ -92,7 +107,7 @@ impl Version {
     {
         match self {
             Version::One => FIRST_OUTBOX_LIMIT,
-            Version::Two => OUTBOX_LIMIT,
+            Version::Two | Version::Three => OUTBOX_LIMIT,
         }
     }
 }
@@ -106,6 +121,7 @@ pub(crate) fn read_version(cursor: &mut Cursor<'_>) -> Result<Version, usize>
     match cursor.number8()? {
         1 => Ok(Version::One),
         2 => Ok(Version::Two),
+        3 => Ok(Version::Three),
         _ => Err(at),
     }
 }

@@ -3,6 +3,7 @@
 ghost use Rattle.std.specs.Prelude.{◌≡◌, ◌≤◌, length, is_some};
 
 use arrayvec::ArrayVec;
+use bodies::Format;
 use cka::{Agreement, PublicText, SecretText};
 use dr_base::{Key32, PACKET_LIMIT, Position, Side, TEXT_LIMIT, in_room};
 use fs_aead::Skipped;
@@ -25,10 +26,10 @@ fn seed_of(asked: bool, byte: u8) -> Option<Key32>
 }
 
 /// A packet in room of its own.
-type Packet = ArrayVec<u8, PACKET_LIMIT>;
+pub(crate) type Packet = ArrayVec<u8, PACKET_LIMIT>;
 
 /// A text in room of its own.
-type Text = ArrayVec<u8, TEXT_LIMIT>;
+pub(crate) type Text = ArrayVec<u8, TEXT_LIMIT>;
 
 /// Says a text, and answers its packet.
 pub(crate) fn say(
@@ -49,7 +50,7 @@ pub(crate) fn say(
 }
 
 /// Takes a packet, and answers its text.
-fn take(session: &mut Session<OpenKem>, packet: &Packet) -> Result<Text, Refusal> {
+pub(crate) fn take(session: &mut Session<OpenKem>, packet: &Packet) -> Result<Text, Refusal> {
     let mut room = KeptRoom::new();
     match parse(packet.as_slice(), 64) {
         Err(fault) => Err(Refusal::Malformed(fault)),
@@ -67,8 +68,8 @@ fn take(session: &mut Session<OpenKem>, packet: &Packet) -> Result<Text, Refusal
 /// What both sides begin with.
 fn sessions() -> Result<(Session<OpenKem>, Session<OpenKem>), NoPair> {
     let key = Key32 { bytes: [7; 32] };
-    let first = Session::begin(&mut (), Side::First, &key)?;
-    let second = Session::begin(&mut (), Side::Second, &key)?;
+    let first = Session::begin(&mut (), Side::First, Format::Plain, &key)?;
+    let second = Session::begin(&mut (), Side::Second, Format::Plain, &key)?;
     Ok((first, second))
 }
 
@@ -150,6 +151,7 @@ fn full_session() -> Session<OpenKem> {
     Session::resume(SessionPart {
         head: Head {
             side: Side::Second,
+            format: Format::Plain,
             session: [2; 16],
             root: Key32 { bytes: [3; 32] },
             epoch: 0,
@@ -174,6 +176,7 @@ fn last_session() -> Session<OpenKem> {
     Session::resume(SessionPart {
         head: Head {
             side: Side::First,
+            format: Format::Plain,
             session: [2; 16],
             root: Key32 { bytes: [3; 32] },
             epoch: 4294967294,

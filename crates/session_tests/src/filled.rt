@@ -5,18 +5,28 @@ ghost use Rattle.dr_base.specs.declared.limits.TheConstants.{PACKET_LIMIT};
 
 use crate::conversation::say;
 use crate::record::BEGUN;
+use bodies::Format;
 use boxes::{Inbox, Outbox};
 use dr_base::{Key32, PACKET_LIMIT, Side};
-use kem_laws::OpenKem;
+use kem_laws::{NoPair, OpenKem};
 use ratchet::Session;
 use session_record::{Change, RECORD_LIMIT, encode};
 use std::alloc::{AllocError, Global};
 use std::test::Fail;
 
+/// What a plain side keeps, in a version, of which this stands after the side and the format.
+fn of_side(alloc: Global, version: u8, side: u8, rest: &[u8]) -> Result<Vec<u8>, AllocError> {
+    let mut text = Vec::from_slice(alloc, &[version, side])?;
+    if version > 2 {
+        text.push(1)?;
+    }
+    text.extend_from_slice(rest)?;
+    Ok(text)
+}
+
 /// What First keeps at the beginning, in a version, up to the kept keys; 600 texts may be missing.
 fn begun(alloc: Global, version: u8) -> Result<Vec<u8>, AllocError> {
-    let mut text = Vec::from_slice(alloc, &[version])?;
-    text.extend_from_slice(&BEGUN[1..122])?;
+    let mut text = of_side(alloc, version, 1, &BEGUN[2..122])?;
     text.extend_from_slice(&600_u32.to_be_bytes())?;
     Ok(text)
 }
@@ -60,7 +70,7 @@ fn with_text(alloc: Global, version: u8, n: u16) -> Result<Vec<u8>, AllocError> 
     Ok(text)
 }
 
-/// The record of a session with one packet, in a version.
+/// The record of a plain session of Second's with one packet, in a version.
 fn encoded(
     alloc: Global,
     session: &Session<OpenKem>,
@@ -74,9 +84,10 @@ fn encoded(
     let mut text = vec![in alloc; 0; RECORD_LIMIT]?;
     let change = Change::Said { packet };
     let len = encode(&session.part(), &inbox, &outbox, &change, &mut text);
-    text[0] = version;
-    text.truncate(len);
-    Ok(text)
+    match text.get(3..len) {
+        Some(rest) => of_side(alloc, version, 2, rest),
+        None => Ok(Vec::new(alloc)),
+    }
 }
 
 /// The record with the packet of what a session says first.
@@ -90,10 +101,20 @@ fn with_said(
     Ok(encoded(alloc, session, packet.as_slice(), version)?)
 }
 
+/// Second at the beginning, under the key of zeros.
+fn second() -> Result<Session<OpenKem>, NoPair> {
+    Session::begin(
+        &mut (),
+        Side::Second,
+        Format::Plain,
+        &Key32 { bytes: [0; 32] },
+    )
+}
+
 /// What Second keeps once it said so many x at the beginning, in a version.
 fn with_packet(alloc: Global, version: u8, n: u16) -> Result<Vec<u8>, Fail> {
     let first = vec![in alloc; b'x'; usize::from(n)]?;
-    let mut session = Session::begin(&mut (), Side::Second, &Key32 { bytes: [0; 32] })?;
+    let mut session = second()?;
     with_said(alloc, &mut session, &first, version)
 }
 
@@ -103,7 +124,7 @@ pub(crate) fn with_other(alloc: Global, version: u8, packet: &[u8]) -> Result<Ve
     if packet.len() > PACKET_LIMIT {
         return Ok(Vec::new(alloc));
     }
-    let mut session = Session::begin(&mut (), Side::Second, &Key32 { bytes: [0; 32] })?;
+    let mut session = second()?;
     let _own = say(&mut session, b"hi", 0)?;
     Ok(encoded(alloc, &session, packet, version)?)
 }

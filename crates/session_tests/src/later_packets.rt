@@ -1,5 +1,4 @@
-//! Packets of later versions, of an independent implementation: no record of these versions holds
-//! one.
+//! Packets of later versions, of an independent implementation: which version of a record holds them.
 
 use crate::filled::with_other;
 use crate::record::is_damaged;
@@ -28,42 +27,59 @@ const RECEIPTS: &str =
     af795379f6adfa352acee5f5ad6ee5dccdf61518f93b1f48454c324a459c4e2c4b7370bef7f3925998b0960d1f55\
     a7aaf440471935f771608bcb466dd28f8300cbf0edf0fca4cb26ab8fdf0ebcd105a5d48bc6b84ba21812784611";
 
-/// The version of a record, the packet in its outbox, and the SHA-256 of the record.
-type Row = (u8, &'static str, &'static str);
+/// The version of a record, the packet in its outbox, the SHA-256 of the record, and where it is
+/// damaged, if it is.
+type Row = (u8, &'static str, &'static str, Option<usize>);
 
-/// Whether a row's record has its SHA-256, and is damaged where the packet stands.
-fn is_refused(alloc: Global, row: Row) -> Result<bool, Fail> {
-    let (version, packet, sha256) = row;
+/// Whether a row's record has its SHA-256, and its damage.
+fn is_told(alloc: Global, row: Row) -> Result<bool, Fail> {
+    let (version, packet, sha256, at) = row;
     let text = with_other(alloc, version, &decode(alloc, packet)?)?;
-    Ok(has_digest(alloc, &text, sha256)? && is_damaged(alloc, &text, Some(132))?)
+    Ok(has_digest(alloc, &text, sha256)? && is_damaged(alloc, &text, at)?)
 }
 
 #[test]
-fn records_hold_no_packets_of_later_versions(rt: HostRuntime) -> Result<(), Fail> {
-    let rows: [Row; 4] = [
+fn records_hold_the_packets_of_their_version(rt: HostRuntime) -> Result<(), Fail> {
+    let rows: [Row; 6] = [
         (
             1,
             PADDED,
             "7ee89e8bf6ca29aba9a228d445b9d121738687af7874bddec93e45cca177e810",
+            Some(132),
         ),
         (
             1,
             RECEIPTS,
             "64eaf10928d31480922ce68ec42541c114abf80a1daa26495151c408c6e38d4a",
+            Some(132),
         ),
         (
             2,
             PADDED,
             "d4d0edfdf3803cb25ebcaed45c38021eb51ea416314fda45aba59874159f87de",
+            Some(132),
         ),
         (
             2,
             RECEIPTS,
             "5d8218936f144995f1b9c1d76cb79b0e362212e62676640b1188973b9118174b",
+            Some(132),
+        ),
+        (
+            3,
+            PADDED,
+            "c83bbae58fd6ca5ae55c5c754ac17af13d995d84990964bf26c45898b35d9b66",
+            None,
+        ),
+        (
+            3,
+            RECEIPTS,
+            "0ed8a3012c9e8c41a10f2d710c8a5c7a36851e8340bf7c48bb92949ed2bc7cd4",
+            Some(133),
         ),
     ];
     for row in rows {
-        assert!(rt; is_refused(rt.alloc(), row)?);
+        assert!(rt; is_told(rt.alloc(), row)?);
     }
     Ok(())
 }

@@ -1,5 +1,5 @@
-//! Tests of the crates below the client: the stand-in, the agreement, packets, boxes, sessions and
-//! records.
+//! Tests of the crates below the client: the stand-in, the agreement, packets and what they seal,
+//! boxes, sessions and records.
 #![tactic(auto)]
 
 #[cfg(test)]
@@ -9,6 +9,8 @@ mod conversation;
 #[cfg(test)]
 mod filled;
 #[cfg(test)]
+mod formats;
+#[cfg(test)]
 mod later_packets;
 #[cfg(test)]
 mod limits;
@@ -16,6 +18,8 @@ mod limits;
 mod lists;
 #[cfg(test)]
 mod packets;
+#[cfg(test)]
+mod padded;
 #[cfg(test)]
 mod record;
 #[cfg(test)]

@@ -1,6 +1,6 @@
 //! The packet of the text `hi`, written and read, and the first fault of what is none.
 
-use dr_base::{Position, put};
+use dr_base::{PLAIN, Position, put};
 use packet::{Kind, Malformed, grammar, parse, write_ad, write_into};
 use std::test::Fail;
 
@@ -17,9 +17,10 @@ const FIRST: Position = Position { epoch: 0, index: 1 };
 const TAG: [u8; 32] = [7; 32];
 
 /// Whether what stands before the ciphertext is written.
+#[tactic(auto, unfolding(packet::specs::Versions::is_text_len))]
 fn writes_ad() -> bool {
     let mut ad = [0; 33];
-    write_ad(&SESSION, FIRST, 0, &[], 2, &mut ad) == 33 && ad == AD
+    write_ad(PLAIN, &SESSION, FIRST, 0, &[], 2, &mut ad) == 33 && ad == AD
 }
 
 /// Whether the parts of the first packet are lent.
@@ -36,10 +37,11 @@ fn lends(packet: &[u8]) -> Result<bool, Malformed> {
 }
 
 #[test]
+#[tactic(auto, unfolding(packet::specs::Versions::is_text_len))]
 fn writes_and_lends_the_first_packet(rt: HostRuntime) -> Result<(), Fail> {
     assert!(rt; writes_ad());
     let mut bytes = [0; 67];
-    assert!(rt; write_into(&SESSION, FIRST, 0, &[], b"hi", &TAG, &mut bytes) == 67);
+    assert!(rt; write_into(PLAIN, &SESSION, FIRST, 0, &[], b"hi", &TAG, &mut bytes) == 67);
     assert!(rt; lends(&bytes)?);
     grammar();
     Ok(())
@@ -47,9 +49,10 @@ fn writes_and_lends_the_first_packet(rt: HostRuntime) -> Result<(), Fail> {
 
 /// Whether the fault of the first packet's first `len` bytes is this one, where `new` is put at a
 /// place.
+#[tactic(auto, unfolding(packet::specs::Versions::is_text_len))]
 fn finds(len: usize, place: usize, new: &[u8], fault: Malformed) -> bool {
     let mut bytes = [0; 68];
-    let _len = write_into(&SESSION, FIRST, 0, &[], b"hi", &TAG, &mut bytes);
+    let _len = write_into(PLAIN, &SESSION, FIRST, 0, &[], b"hi", &TAG, &mut bytes);
     if len > 68 || place > 64 || new.len() > 4 {
         return false;
     }

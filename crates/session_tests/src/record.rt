@@ -86,10 +86,14 @@ pub(crate) fn rewritten(alloc: Global, text: &[u8]) -> Result<Option<Vec<u8>>, A
     }
 }
 
-/// Whether a text is read, and written again in version 2, the same but for the version.
+/// Whether a text of version 1 is read, and written again in version 3: the same but for the
+/// version and a plain format after the side.
 fn is_kept(alloc: Global, text: &[u8]) -> Result<bool, AllocError> {
     match rewritten(alloc, text)? {
-        Some(again) => Ok(again.get(..1) == Some(&[2]) && again.get(1..) == text.get(1..)),
+        Some(again) => {
+            let is_begun = again.first() == Some(&3) && again.get(1) == text.get(1);
+            Ok(is_begun && again.get(2) == Some(&1) && again.get(3..) == text.get(2..))
+        }
         None => Ok(false),
     }
 }
@@ -147,6 +151,43 @@ fn damage_is_found(rt: HostRuntime) -> Result<(), Fail> {
     ];
     for row in rows {
         assert!(rt; is_found(rt.alloc(), row)?);
+    }
+    Ok(())
+}
+
+/// How much of the record is read, a place, the bytes that are put there, and where the damage is
+/// then.
+type ThirdRow = (usize, usize, &'static [u8], usize);
+
+/// Whether the damage of `BEGUN` in version 3 is found where a row has it.
+fn is_found_in_third(alloc: Global, row: ThirdRow) -> Result<bool, AllocError> {
+    let (len, place, new, at) = row;
+    if len > 135 || place > 131 || new.len() > 4 {
+        return Ok(false);
+    }
+    let mut bytes = [0; 135];
+    let at_session = put(&mut bytes, 0, b"\x03\x01\x01");
+    let _end = put(&mut bytes, at_session, &BEGUN[2..130]);
+    let _end = put(&mut bytes, place, new);
+    is_damaged(alloc, &bytes[..len], Some(at))
+}
+
+#[test]
+fn damage_is_found_in_version_3(rt: HostRuntime) -> Result<(), Fail> {
+    let rows: [ThirdRow; 10] = [
+        (131, 0, b"\x09", 0),
+        (131, 1, b"\x03", 1),
+        (131, 51, b"\xff\xff\xff\xff", 51),
+        (131, 87, b"\x00\x00\x00\x01", 87),
+        (131, 123, b"\x00\x01\x00\x00", 123),
+        (131, 127, b"\x00\x01", 129),
+        (131, 129, b"\xff", 129),
+        (131, 130, b"\xff", 130),
+        (132, 131, b"\x00", 131),
+        (61, 0, b"\x03", 55),
+    ];
+    for row in rows {
+        assert!(rt; is_found_in_third(rt.alloc(), row)?);
     }
     Ok(())
 }

@@ -1,5 +1,5 @@
-//! Records of the first version, of an independent implementation: what they are written as, and
-//! what the first byte of a record says.
+//! Records of the first versions, of an independent implementation: what they are written as, and
+//! what the first byte of a record says, and the format.
 
 use crate::record::{is_damaged, rewritten};
 use hex::decode;
@@ -45,9 +45,13 @@ pub(crate) fn has_digest(alloc: Global, text: &[u8], sha256: &str) -> Result<boo
     Ok(Sha256::digest(text).as_slice() == decode(alloc, sha256)?.as_slice())
 }
 
-/// Whether a record, in hex, has one SHA-256, and what it is written as the other.
-fn is_renewed(alloc: Global, record: &str, old: &str, new: &str) -> Result<bool, Fail> {
-    let text = decode(alloc, record)?;
+/// Whether a record, in hex, with this first byte has one SHA-256, and what it is written as the
+/// other.
+fn is_renewed(alloc: Global, record: &str, byte: u8, old: &str, new: &str) -> Result<bool, Fail> {
+    let mut text = decode(alloc, record)?;
+    if let Some(first) = text.first_mut() {
+        *first = byte;
+    }
     match rewritten(alloc, &text)? {
         Some(again) => Ok(has_digest(alloc, &text, old)? && has_digest(alloc, &again, new)?),
         None => Ok(false),
@@ -56,30 +60,44 @@ fn is_renewed(alloc: Global, record: &str, old: &str, new: &str) -> Result<bool,
 
 #[test]
 fn old_records_are_written_in_the_newest_version(rt: HostRuntime) -> Result<(), Fail> {
-    // a record, its SHA-256, and that of what it is written as
+    // a record, its version, its SHA-256, and that of what it is written as
     let rows = [
         (
             FIRST,
+            1,
             "427c752bd17e7c4c113e359707d3bacedf23640e5524e32ca21b71c9ab260332",
+            "e5a40f3339811ae67a200cbda4d86df0201de9c0a3701d05b70269973a5c9eb0",
+        ),
+        (
+            FIRST,
+            2,
             "ceb479bf50bbec4323627b5eb238c1a1b9a03e5b25719a7ba6ec40eab30a7179",
+            "e5a40f3339811ae67a200cbda4d86df0201de9c0a3701d05b70269973a5c9eb0",
         ),
         (
             SECOND,
+            1,
             "9fa58e2cd116976a3a7a003c6c1f24eac04c445342aebaae5e997d0a8beb8eb8",
+            "b4a0f3469ba53b8a5cddca84c328601dbd5e6e818e8dd15a9d3937c15ae1a7e3",
+        ),
+        (
+            SECOND,
+            2,
             "91e5cc38d5ede5be187eb03505730e1f900bd3faa5d592e70f2f4e7bc3248d0d",
+            "b4a0f3469ba53b8a5cddca84c328601dbd5e6e818e8dd15a9d3937c15ae1a7e3",
         ),
     ];
-    for (record, old, new) in rows {
-        assert!(rt; is_renewed(rt.alloc(), record, old, new)?);
+    for (record, byte, old, new) in rows {
+        assert!(rt; is_renewed(rt.alloc(), record, byte, old, new)?);
     }
     Ok(())
 }
 
-/// What is put after the side: nothing in the versions that there are, and a format in later ones.
+/// What is put after the side: a format, or nothing.
 type Format = &'static [u8];
 
 /// Whether First's record with another first byte, and with what is put after its side, is damaged
-/// at this place, or nowhere, and in the newest version where that byte is 2.
+/// at this place, or nowhere, and in the newest version where that byte is 3.
 fn is_told(alloc: Global, byte: u8, format: Format, at: Option<usize>) -> Result<bool, Fail> {
     let old = decode(alloc, FIRST)?;
     let mut text = Vec::from_slice(alloc, &[byte, 1])?;
@@ -87,27 +105,33 @@ fn is_told(alloc: Global, byte: u8, format: Format, at: Option<usize>) -> Result
     if let Some(rest) = old.get(2..) {
         text.extend_from_slice(rest)?;
     }
-    Ok(is_newest(&text) == (byte == 2) && is_damaged(alloc, &text, at)?)
+    Ok(is_newest(&text) == (byte == 3) && is_damaged(alloc, &text, at)?)
 }
 
 #[test]
 fn the_first_byte_tells_the_version(rt: HostRuntime) -> Result<(), Fail> {
     // the first byte, what is put after the side, and where the damage is
-    let rows: [(u8, Format, Option<usize>); 14] = [
+    let rows: [(u8, Format, Option<usize>); 19] = [
         (0, b"", Some(0)),
         (1, b"", None),
         (2, b"", None),
-        (3, b"", Some(0)),
+        (3, b"", Some(2)),
         (4, b"", Some(0)),
         (5, b"", Some(0)),
         (255, b"", Some(0)),
         (0, b"\x01", Some(0)),
         (1, b"\x01", Some(86)),
         (2, b"\x01", Some(86)),
-        (3, b"\x01", Some(0)),
+        (3, b"\x01", None),
         (4, b"\x01", Some(0)),
         (5, b"\x01", Some(0)),
         (255, b"\x01", Some(0)),
+        // the other formats of version 3
+        (3, b"\x00", Some(2)),
+        (3, b"\x02", None),
+        (3, b"\x03", Some(2)),
+        (3, b"\x04", Some(2)),
+        (3, b"\xff", Some(2)),
     ];
     for (byte, format, at) in rows {
         assert!(rt; is_told(rt.alloc(), byte, format, at)?);

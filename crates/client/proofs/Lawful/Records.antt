@@ -10,6 +10,7 @@ use Rattle.dr_base.specs.declared.position.Side.{Side}
 use Rattle.fs_aead.specs.Chain.{chain_message_key, chain_of, message_key}
 use Rattle.hmac_hkdf.proofs.Lengths.{length-hmac_of}
 use Rattle.kem_laws.specs.Mechanism.{IsLawfulMechanism, Mechanism}
+use Rattle.packet.proofs.Known.{text_few}
 use Rattle.packet.proofs.Lengths.{length-packet_of}
 use Rattle.session_model.specs.Sealing.{posted}
 use Rattle.session_record.specs.Lawful.{IsLawfulClient, IsLawfulEntry, IsLawfulPost}
@@ -82,7 +83,7 @@ post_lawful k c side v p law lawful view said own =
       own = own;
       reached = own_reached k c side v p.epoch view mine place.began;
       place = refl;
-      fits = omega (arith, long, message, fields.text_fits);
+      fits = omega (arith, long, message, text_few f.version (length f.ciphertext) fields.text_fits);
     }
 
 posts_lawful : (k : Mechanism) (c : Conversation) (side : Side) (v : View) → IsLawfulMechanism k → IsLawfulConversation k c

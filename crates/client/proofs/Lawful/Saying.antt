@@ -4,6 +4,9 @@ use Rattle.std.specs.Prelude.{All, if◌then◌else◌, nat_le, nat_lt, option_m
 use Rattle.std.proofs.lemmas.Bool.Decides.{nat_tests}
 use Rattle.std.proofs.lemmas.List.{length_push}
 use Rattle.std.proofs.lemmas.List.Elements.{All-push, All-weaker}
+use Rattle.bodies.specs.Bodies.{text_body}
+use Rattle.bodies.specs.Formats.{version_of}
+use Rattle.bodies.specs.declared.format.Format.{Format}
 use Rattle.boxes.specs.Entries.{Entry}
 use Rattle.boxes.specs.Posts.{Post}
 use Rattle.cka.specs.Agreement.{agreement_size, turn_of}
@@ -11,15 +14,18 @@ use Rattle.dr_base.specs.Position.{is_own}
 use Rattle.dr_base.specs.declared.limits.TheConstants.{AGREEMENT_LIMIT, INDEX_LIMIT, OUTBOX_LIMIT, TEXT_LIMIT}
 use Rattle.dr_base.specs.declared.position.Position.{Position}
 use Rattle.dr_base.specs.declared.position.Side.{Side}
-use Rattle.etm_aead.specs.Undoing.{length-ciphertext_of, length-tag_of}
+use Rattle.etm_aead.specs.Undoing.{length-tag_of}
 use Rattle.fs_aead.specs.Chain.{chain_message_key}
 use Rattle.kem_laws.specs.Mechanism.{IsLawfulMechanism, Mechanism}
 use Rattle.packet.specs.Packet.{IsLawful, agreement_len}
+use Rattle.packet.specs.Versions.{is_text_len}
+use Rattle.packet.proofs.Known.{text_few}
 use Rattle.packet.proofs.Lengths.{length-packet_of}
 use Rattle.packet.proofs.Printed.{printed_is_read}
 use Rattle.session_model.specs.Clients.{Client, say_check}
 use Rattle.session_model.specs.LawfulStates.{IsLawfulPhase, IsLawfulPrevious, IsLawfulState}
 use Rattle.session_model.specs.Saying.{SendDraft, draft_own, draft_phase, draft_send, draft_turn, send_check}
+use Rattle.session_model.proofs.Sealed.{known_version, sealed_fits}
 use Rattle.session_model.specs.Sealing.{posted, sealing}
 use Rattle.session_model.specs.States.{Own, Phase, State, in_own, in_peers}
 use Rattle.session_model.specs.declared.answer.Refusal.TheVariants.{OutboxFull, TextTooLong}
@@ -65,17 +71,18 @@ pub message_fits : (agreement epoch : ℕ) → agreement ≤ AGREEMENT_LIMIT
     → agreement_len agreement epoch ≤ AGREEMENT_LIMIT
 message_fits agreement epoch fits = grind arith
 
-post_lawful : (k : Mechanism) (next : State) (p : Position) (previous : ℕ) (agreement key text : List ℕ) → IsLawfulMechanism k
+post_lawful : (k : Mechanism) (next : State) (format : Format) (p : Position) (previous : ℕ) (agreement key text : List ℕ) → IsLawfulMechanism k
     → IsLawfulState k next → p.epoch ≤ next.epoch → is_own next.side p.epoch ≡ true → previous ≤ INDEX_LIMIT
     → (p.epoch ≤ 1 → previous ≡ 0) → 1 ≤ p.index → p.index ≤ INDEX_LIMIT
     → length agreement ≡ agreement_len (agreement_size k) p.epoch → length text ≤ TEXT_LIMIT
-    → IsLawfulPost k next (posted next.session p previous agreement key text)
+    → IsLawfulPost k next (posted (version_of format) next.session p previous agreement key (text_body text))
 unfolding posted
-post_lawful k next p previous agreement key text law l reached own few none one most message short =
-    let f = sealing next.session p previous agreement key text in
+post_lawful k next format p previous agreement key text law l reached own few none one most message short =
+    let f = sealing (version_of format) next.session p previous agreement key (text_body text) in
     let size : agreement_size k ≤ AGREEMENT_LIMIT = omega (arith, law.public_fits, law.ciphertext_fits) in
-    let text_fits : length f.ciphertext ≤ TEXT_LIMIT = omega (arith, short, length-ciphertext_of key text) in
+    let text_fits : is_text_len f.version (length f.ciphertext) ≡ true = sealed_fits format key text short in
     let lawful : IsLawful (agreement_size k) f = record {
+      version_is = known_version format;
       session_len = l.session_long;
       epoch_fits = omega (arith, reached, l.epoch_fits);
       previous_fits = few;
@@ -95,7 +102,7 @@ post_lawful k next p previous agreement key text law l reached own few none one 
       own = own;
       reached = reached;
       place = refl;
-      fits = omega (arith, long, fits, text_fits);
+      fits = omega (arith, long, fits, text_few f.version (length f.ciphertext) text_fits);
     }
 
 -- what is said of a draft: the state goes on with the same kept keys, and the packet is lawful
@@ -114,7 +121,7 @@ own_said k s own text law l held after short =
     record {
       on = record { side = refl; session = refl; grows = omega arith };
       kept = refl;
-      post = post_lawful k (draft_own s own text).next (record { epoch = s.epoch; index = own.sent + 1 }) s.previous
+      post = post_lawful k (draft_own s own text).next s.format (record { epoch = s.epoch; index = own.sent + 1 }) s.previous
           own.agreement (chain_message_key own.chain) text law after (omega arith) phase.0 previous.0 previous.1 (omega arith)
           after.phase.1.few phase.1.agreement_long short;
     }
@@ -129,7 +136,7 @@ turn_said k s public text turn law l held after short =
     record {
       on = record { side = refl; session = refl; grows = omega arith };
       kept = refl;
-      post = post_lawful k (draft_turn s text turn).next (record { epoch = s.epoch + 1; index = 1 }) s.previous turn.1 _ text
+      post = post_lawful k (draft_turn s text turn).next s.format (record { epoch = s.epoch + 1; index = 1 }) s.previous turn.1 _ text
           law after (omega arith) after.phase.0 previous.0 (λ first. previous.1 (omega (arith, first))) (omega arith) one
           after.phase.1.agreement_long short;
     }

@@ -1,5 +1,5 @@
 -- A lawful client is lawful after a packet that it takes.
-use Rattle.std.proofs.Common.{Bool, Err, List, None, Ok, Option, Result, Some, [], ap, arith, false, length, refl, subst, suc, true, zero, ℕ, ◌++◌, ◌+◌, ◌-◌, ◌<◌, ◌∙◌, ◌∷◌, ◌≡◌, ◌≤◌}
+use Rattle.std.proofs.Common.{Bool, Err, List, None, Ok, Option, Result, Some, [], ap, arith, false, length, refl, subst, suc, sym, true, zero, ℕ, ◌++◌, ◌+◌, ◌-◌, ◌<◌, ◌∙◌, ◌∷◌, ◌≡◌, ◌≤◌}
 use Rattle.std.specs.Cmp.Lexicographic.{pointwise}
 use Rattle.std.specs.Prelude.{All, if◌then◌else◌, nat_eq, nat_le, nat_lt, not, ◌&&◌, ◌==◌}
 use Rattle.std.proofs.lemmas.Bool.Decides.{nat_tests}
@@ -9,15 +9,17 @@ use Rattle.boxes.specs.Entries.{entry_under}
 use Rattle.cka.specs.Agreement.{agreement_size}
 use Rattle.dr_base.specs.Position.{is_own}
 use Rattle.dr_base.specs.declared.key.Kept.{Kept}
-use Rattle.dr_base.specs.declared.limits.TheConstants.{INBOX_LIMIT, KEPT_LIMIT}
+use Rattle.dr_base.specs.declared.limits.TheConstants.{INBOX_LIMIT, KEPT_LIMIT, PLAIN, TEXT_LIMIT}
 use Rattle.dr_base.specs.declared.position.Position.{Position}
 use Rattle.dr_base.specs.declared.position.Side.{Side}
 use Rattle.etm_aead.specs.Seal.{tag_of}
+use Rattle.bodies.proofs.Short.{opened_short}
 use Rattle.etm_aead.specs.Undoing.{length-ciphertext_of}
 use Rattle.fs_aead.specs.Chain.{chain_message_key, chain_of, message_key}
 use Rattle.fs_aead.specs.Table.{is_kept_at, kept_key, shelved, without}
 use Rattle.hmac_hkdf.proofs.Lengths.{length-hmac_of}
 use Rattle.kem_laws.specs.Mechanism.{Mechanism}
+use Rattle.packet.proofs.Known.{plain_few}
 use Rattle.packet.specs.Packet.{Fields, IsLawful, ad_of}
 use Rattle.session_model.specs.Clients.{Client}
 use Rattle.session_model.specs.LawfulStates.{IsLawfulState}
@@ -28,7 +30,8 @@ use Rattle.session_model.specs.declared.answer.Refusal.{Refusal}
 use Rattle.session_record.specs.Lawful.{IsLawfulClient, IsLawfulEntry}
 use Rattle.session_record.specs.Record.{client_of}
 use Rattle.client.proofs.Lawful.Saying.{GoesOn, entries_stay, posts_stay}
-use Rattle.session_model.proofs.Passing.{lets, passes}
+use Rattle.session_model.proofs.Opened.{is_opened}
+use Rattle.session_model.proofs.Passing.{passes}
 
 -- ---- kept keys have 32 bytes
 
@@ -159,29 +162,32 @@ taken_way k s f way long is =
 
 -- ---- what a draft is
 
-record IsOpened (s : State) (f : Fields) (draft : ReceiveDraft) : Type 0 where
+record IsTakenOf (s : State) (f : Fields) (draft : ReceiveDraft) : Type 0 where
   peers : IsPeers s f draft.next
   place : draft.position ≡ position_of f
-  size : length draft.text ≡ length f.ciphertext
+  short : (f.version ≡ PLAIN → length f.ciphertext ≤ TEXT_LIMIT) → length draft.text ≤ TEXT_LIMIT
 
 opened_on : (s : State) (f : Fields) (way : Way) (draft : ReceiveDraft) → IsPeers s f way.next
-    → opening_on f way ≡ Ok draft → IsOpened s f draft
+    → opening_on f way ≡ Ok draft → IsTakenOf s f draft
 opened_on s f way draft peers is =
-    let one : ReceiveDraft = record { position = position_of f; text = _; next = way.next } in
-    let through : Ok one ≡ Ok draft = lets (pointwise nat_eq f.tag (tag_of way.key (ad_of f) f.ciphertext)) _ (Ok one) draft is in
-    let same : one ≡ draft = cc in
-    subst (IsOpened s f) same
-    (record { peers = peers; place = refl; size = length-ciphertext_of way.key f.ciphertext })
+    let o = is_opened f way draft is in
+    subst (IsTakenOf s f) (sym o.is)
+    (record {
+      peers = peers;
+      place = refl;
+      short = λ plain. opened_short f.version _ o.body o.opens
+          (λ version. omega (arith, plain version, length-ciphertext_of way.key f.ciphertext));
+    })
 
 opened_way : (k : Mechanism) (s : State) (f : Fields) (way : Result Way Refusal) (draft : ReceiveDraft) → AreLong s.kept
-    → way_of k s f ≡ way → opened_by f way ≡ Ok draft → IsOpened s f draft
+    → way_of k s f ≡ way → opened_by f way ≡ Ok draft → IsTakenOf s f draft
 opened_way k s f (Err refusal) draft long found is = absurd (cc is)
 opened_way k s f (Ok way) draft long found is = opened_on s f way draft (taken_way k s f way long found) is
 
 -- ---- the client
 
 entry_lawful : (k : Mechanism) (s : State) (f : Fields) (draft : ReceiveDraft) → IsLawful (agreement_size k) f
-    → IsOpened s f draft → IsLawfulEntry draft.next (entry_under draft.position draft.text)
+    → IsTakenOf s f draft → IsLawfulEntry draft.next (entry_under draft.position draft.text)
 entry_lawful k s f draft packet o =
     let epoch : draft.position.epoch ≡ f.epoch = ap (λ (p : Position). p.epoch) o.place in
     let index : draft.position.index ≡ f.index = ap (λ (p : Position). p.index) o.place in
@@ -192,7 +198,7 @@ entry_lawful k s f draft packet o =
       reached = omega (arith, epoch, o.peers.taken.reached);
       from_one = omega (arith, index, packet.index_from_one);
       most = omega (arith, index, packet.index_fits);
-      short = omega (arith, o.size, packet.text_fits);
+      short = o.short (plain_few f.version (length f.ciphertext) packet.text_fits);
     }
 
 pub taken_lawful : (k : Mechanism) (c : Client) (f : Fields) (draft : ReceiveDraft) → IsLawful (agreement_size k) f

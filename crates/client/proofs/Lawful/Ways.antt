@@ -1,5 +1,5 @@
 -- The draft of a packet leads a lawful session to a lawful state.
-use Rattle.std.proofs.Common.{Bool, Err, List, None, Ok, Option, Result, Some, [], ap, append-nil, arith, false, length, refl, subst, true, ℕ, ◌++◌, ◌+◌, ◌-◌, ◌<◌, ◌∙◌, ◌≡◌, ◌≤◌}
+use Rattle.std.proofs.Common.{Bool, Err, List, None, Ok, Option, Result, Some, [], ap, append-nil, arith, false, length, refl, subst, sym, true, ℕ, ◌++◌, ◌+◌, ◌-◌, ◌<◌, ◌∙◌, ◌≡◌, ◌≤◌}
 use Rattle.std.specs.Cmp.Lexicographic.{pointwise}
 use Rattle.std.specs.Prelude.{drop, if◌then◌else◌, nat_eq, nat_le, nat_lt, not, take, ◌&&◌, ◌==◌}
 use Rattle.std.proofs.lemmas.Bool.Decides.{nat_tests}
@@ -30,7 +30,8 @@ use Rattle.session_model.specs.States.{Own, Phase, Reception, State, in_own, in_
 use Rattle.session_model.specs.Taking.{ReceiveDraft, draft_receive, opened_by}
 use Rattle.session_model.specs.Ways.{Way, chain_way, epoch_way, kept_way, known_way, next_way, position_of, turn_way, turned, way_of}
 use Rattle.session_model.specs.declared.answer.Refusal.{Refusal}
-use Rattle.session_model.proofs.Passing.{lets, passes}
+use Rattle.session_model.proofs.Opened.{is_opened}
+use Rattle.session_model.proofs.Passing.{passes}
 
 -- ---- in the peer's epochs so far
 
@@ -201,10 +202,7 @@ opened_lawful : (k : Mechanism) (s : State) (f : Fields) (way : Result Way Refus
     → IsLawful (agreement_size k) f → way_of k s f ≡ way → opened_by f way ≡ Ok draft → IsLawfulState k draft.next
 opened_lawful k s f (Err refusal) draft l packet found is = absurd (cc is)
 opened_lawful k s f (Ok way) draft l packet found is =
-    let one : ReceiveDraft = record { position = position_of f; text = _; next = way.next } in
-    let through : Ok one ≡ Ok draft = lets (pointwise nat_eq f.tag (tag_of way.key (ad_of f) f.ciphertext)) _ (Ok one) draft is in
-    let same : one ≡ draft = cc in
-    subst (λ (d : ReceiveDraft). IsLawfulState k d.next) same (way_lawful k s f way l packet found)
+    subst (λ (d : ReceiveDraft). IsLawfulState k d.next) (sym (is_opened f way draft is).is) (way_lawful k s f way l packet found)
 
 pub receive_lawful : (k : Mechanism) (s : State) (f : Fields) (draft : ReceiveDraft) → IsLawfulState k s
     → IsLawful (agreement_size k) f → draft_receive k s f ≡ Ok draft → IsLawfulState k draft.next

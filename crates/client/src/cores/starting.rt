@@ -8,6 +8,7 @@ ghost use Rattle.client.specs.Cores.{BeginsCore};
 use super::drafting::lawful_part;
 use super::showing::Core;
 use crate::refusals::CoreBeginError;
+use bodies::Format;
 use boxes::{Inbox, Outbox};
 use dr_base::{Key32, Side};
 use kem_laws::{Kem, NoPair, laws};
@@ -39,10 +40,11 @@ impl<K: Kem> CoreRoom<K> {
     }
 
     /// The core of a side at the beginning of a conversation.
-    pub(crate) fn begin(self, side: Side, key: &Key32) -> Result<Core<K>, NoPair>
+    pub(crate) fn begin(self, side: Side, format: Format, key: &Key32) -> Result<Core<K>, NoPair>
         requires inbox { self.inbox ≡ [] }
         requires outbox { self.outbox ≡ [] }
-        ensures ok { IfOk result (λ core. core ≡ begun_client K.mechanism key.now.bytes side) }
+        ensures ok { IfOk result (λ core.
+            core ≡ begun_client K.mechanism key.now.bytes side format) }
         ensures variant { IsOk result
             ↔ IsSome (K.mechanism.meaning.pair_of (agreement_seed key.now.bytes)) }
     {
@@ -51,7 +53,7 @@ impl<K: Kem> CoreRoom<K> {
             outbox,
             mut work,
         } = self;
-        match Session::<K>::begin(&mut work, side, key) {
+        match Session::<K>::begin(&mut work, side, format, key) {
             Err(NoPair) => Err(NoPair),
             Ok(session) => {
                 lawful_part(&session.part());
@@ -67,16 +69,21 @@ impl<K: Kem> CoreRoom<K> {
 }
 
 impl<K: Kem> Core<K> {
-    /// Begins the session of a side. `NoPair` exactly where the agreement seed of the key has none,
-    /// unless memory was wanting.
-    pub fn begin(alloc: Global, side: Side, key: &Key32) -> Result<Core<K>, CoreBeginError>
-        ensures { BeginsCore K.mechanism key.now.bytes side result }
+    /// Begins the session of a side, which seals its texts in this format. `NoPair` exactly where
+    /// the agreement seed of the key has none, unless memory was wanting.
+    pub fn begin(
+        alloc: Global,
+        side: Side,
+        format: Format,
+        key: &Key32,
+    ) -> Result<Core<K>, CoreBeginError>
+        ensures { BeginsCore K.mechanism key.now.bytes side format result }
     {
         laws::<K>();
         let Ok(room) = CoreRoom::<K>::new(alloc) else {
             return Err(CoreBeginError::Memory);
         };
-        match room.begin(side, key) {
+        match room.begin(side, format, key) {
             Err(NoPair) => Err(CoreBeginError::NoPair),
             Ok(core) => Ok(core),
         }

@@ -14,7 +14,7 @@ use Rattle.dr_model.proofs.Growth.Texts.{saying_of, texts_of-append, texts_of-fi
 
 -- a conversation with one text more, and these seeds
 abbrev pub grown : Conversation → List (List ℕ) → ℕ → List ℕ → Conversation
-grown c seeds epoch text = record { key = c.key; seeds = seeds; said = c.said ++ saying_of epoch text ∷ [] }
+grown c seeds epoch text = record { key = c.key; formats = c.formats; seeds = seeds; said = c.said ++ saying_of epoch text ∷ [] }
 
 -- ---- one position
 

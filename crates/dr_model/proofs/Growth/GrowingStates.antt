@@ -5,6 +5,7 @@ use Rattle.std.proofs.lemmas.Bool.{cond-false}
 use Rattle.std.proofs.lemmas.Bool.Decides.{nat_tests}
 use Rattle.boxes.specs.Entries.{Entry}
 use Rattle.boxes.specs.Posts.{Post}
+use Rattle.bodies.specs.declared.format.Format.{Format}
 use Rattle.dr_base.specs.Position.{is_own}
 use Rattle.dr_base.specs.declared.key.Kept.{Kept}
 use Rattle.dr_base.specs.declared.position.Side.{Side}
@@ -19,15 +20,17 @@ use Rattle.dr_model.specs.Conversations.Conversation.{Conversation, count_of, ne
 use Rattle.dr_model.specs.Conversations.Lawful.{HasArrived}
 use Rattle.dr_model.specs.Conversations.Posts.{post_at, posts_of, turn_of_epoch}
 use Rattle.dr_model.specs.Conversations.ViewStates.{client_at, phase_of, previous_in, state_of}
+use Rattle.dr_model.specs.Conversations.Formats.{format_of}
 use Rattle.dr_model.specs.Conversations.Views.{View, inbox_of, outbox_of}
 use Rattle.dr_model.proofs.Growth.Growing.{grown, count-grown, previous-grown}
 use Rattle.dr_model.proofs.Growth.GrowingViews.{kept-grown, receiving-grown, history-grown}
 use Rattle.dr_model.proofs.Growth.TurnGrowth.{SameTurns, posts_of-grown}
 
 -- a state by its parts
-abbrev pub state_with : Side → List ℕ → ℕ → List ℕ → Phase → ℕ → Option Reception → List Kept → State
-state_with side session epoch root phase previous receiving kept = record {
+abbrev pub state_with : Side → Format → List ℕ → ℕ → List ℕ → Phase → ℕ → Option Reception → List Kept → State
+state_with side format session epoch root phase previous receiving kept = record {
   side = side;
+  format = format;
   session = session;
   root = root;
   epoch = epoch;
@@ -38,16 +41,16 @@ state_with side session epoch root phase previous receiving kept = record {
 }
 
 -- with the same parts it is the same
-pub same_state : (side : Side) (session : List ℕ) (epoch : ℕ) (root other_root : List ℕ) (phase other_phase : Phase)
+pub same_state : (side : Side) (format : Format) (session : List ℕ) (epoch : ℕ) (root other_root : List ℕ) (phase other_phase : Phase)
     (previous other_previous : ℕ)
     (receiving other_receiving : Option Reception) (kept other_kept : List Kept)
     → root ≡ other_root → phase ≡ other_phase → previous ≡ other_previous → receiving ≡ other_receiving → kept ≡ other_kept
-    → state_with side session epoch root phase previous receiving kept
-    ≡ state_with side session epoch other_root other_phase other_previous other_receiving other_kept
-same_state side session epoch root other_root phase other_phase previous other_previous receiving other_receiving kept other_kept r p n o ks =
-    ap₂ (λ a b. state_with side session epoch a b previous receiving kept) r p
-    ∙ ap₂ (λ a b. state_with side session epoch other_root other_phase a b kept) n o
-    ∙ ap (state_with side session epoch other_root other_phase other_previous other_receiving) ks
+    → state_with side format session epoch root phase previous receiving kept
+    ≡ state_with side format session epoch other_root other_phase other_previous other_receiving other_kept
+same_state side format session epoch root other_root phase other_phase previous other_previous receiving other_receiving kept other_kept r p n o ks =
+    ap₂ (λ a b. state_with side format session epoch a b previous receiving kept) r p
+    ∙ ap₂ (λ a b. state_with side format session epoch other_root other_phase a b kept) n o
+    ∙ ap (state_with side format session epoch other_root other_phase other_previous other_receiving) ks
 
 -- an own epoch's keys, of which this many were given
 abbrev pub own_with : Turn → ℕ → Own
@@ -100,7 +103,7 @@ pub state-grown : (k : Mechanism) (c : Conversation) (seeds : List (List ℕ)) (
     → v.epoch ≤ epoch + 1 → v.epoch ≤ length c.seeds → is_own v.side epoch ≡ false
     → state_of k (grown c seeds epoch text) v ≡ state_of k c v
 state-grown k c seeds epoch text v same near within peers =
-    same_state v.side (session_of c.key) v.epoch _ _ _ _ _ _ _ _ _ _
+    same_state v.side (format_of c.formats v.side) (session_of c.key) v.epoch _ _ _ _ _ _ _ _ _ _
     (ap (λ (turn : Turn). turn.root) (same v.epoch within))
     (phase-grown k c seeds epoch text v same within peers)
     (previous_in-grown c seeds epoch text v near peers)

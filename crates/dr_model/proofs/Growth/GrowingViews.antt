@@ -1,5 +1,5 @@
 -- What a view of a conversation shows stays as the conversation grows.
-use Rattle.std.proofs.Common.{◌≡◌, ◌≢◌, ℕ, zero, suc, ◌+◌, ◌-◌, ◌<◌, ◌≤◌, true, false, Bool, nat_le, List, [], ◌++◌, length, map, Option, Some, None, refl, ◌∙◌, ap, ap₂, if◌then◌else◌, arith}
+use Rattle.std.proofs.Common.{◌≡◌, ◌≢◌, ℕ, zero, suc, ◌+◌, ◌<◌, ◌≤◌, true, false, Bool, nat_le, List, [], ◌++◌, length, map, Option, Some, None, refl, ◌∙◌, ap, ap₂, if◌then◌else◌, arith}
 use Rattle.std.specs.Prelude.{All, option_map}
 use Rattle.std.proofs.lemmas.Bool.Decides.{nat_tests}
 use Rattle.std.proofs.lemmas.List.Elements.{All-append, All-map, All-nil, All-weaker}

@@ -3,6 +3,7 @@ use Rattle.std.proofs.Common.{◌≡◌, ℕ, zero, suc, ◌+◌, ◌≤◌, tru
 use Rattle.std.specs.Prelude.{All}
 use Rattle.std.proofs.lemmas.List.{get_or_append_left, map-append}
 use Rattle.std.proofs.lemmas.List.Elements.{All-filter, All-head, All-tail, All-weaker}
+use Rattle.bodies.specs.Bodies.{text_body}
 use Rattle.boxes.specs.Posts.{Post}
 use Rattle.dr_base.specs.Position.{is_own}
 use Rattle.dr_base.specs.declared.position.Position.{Position}
@@ -13,7 +14,7 @@ use Rattle.session_model.specs.Schedule.{session_of}
 use Rattle.session_model.specs.Sealing.{posted}
 use Rattle.session_model.specs.Turns.{Turn, next_turn, turn_at}
 use Rattle.dr_model.specs.Conversations.Conversation.{Conversation, is_said, next_position, positions, previous_of, text_at}
-use Rattle.dr_model.specs.Conversations.Posts.{turn_of_epoch, key_of, post_at, posts, posts_of}
+use Rattle.dr_model.specs.Conversations.Posts.{turn_of_epoch, key_of, post_at, posts, posts_of, version_at}
 use Rattle.dr_model.proofs.Growth.Growing.{grown, text_at-grown, previous-grown, positions-grown, positions-said, own_positions-grown, said-begun}
 
 -- the epochs of these seeds have the same keys under other ones
@@ -46,8 +47,8 @@ pub post_at-grown : (k : Mechanism) (c : Conversation) (seeds : List (List ℕ))
     → length c.seeds ≤ epoch + 1 → p.epoch ≤ length c.seeds → is_said c p ≡ true
     → post_at k (grown c seeds epoch text) p ≡ post_at k c p
 post_at-grown k c seeds epoch text p same late within said =
-    let make : ℕ → Turn → List ℕ → Post = λ previous turn said. posted (session_of c.key) p previous turn.agreement
-    (message_key turn.stream p.index) said in
+    let make : ℕ → Turn → List ℕ → Post = λ previous turn said. posted (version_at c p.epoch) (session_of c.key) p previous turn.agreement
+    (message_key turn.stream p.index) (text_body said) in
     ap₂ (λ previous turn. make previous turn (text_at (grown c seeds epoch text) p))
     (previous-grown c seeds epoch text p.epoch (omega arith)) (same p.epoch within)
     ∙ ap (make (previous_of c p.epoch) (turn_of_epoch k c p.epoch)) (text_at-grown c seeds epoch text p said)

@@ -1,5 +1,5 @@
 -- Whether a side may say a text, as its client checks.
-use Rattle.std.proofs.Common.{◌≡◌, ℕ, ◌-◌, ◌^◌, ◌<◌, ◌≤◌, true, false, Bool, not, nat_le, nat_lt, List, length, Ok, Err, refl, ◌∙◌, ap, if◌then◌else◌}
+use Rattle.std.proofs.Common.{◌≡◌, ℕ, ◌<◌, ◌≤◌, true, false, Bool, not, nat_le, nat_lt, List, length, Ok, Err, refl, ◌∙◌, ap, if◌then◌else◌}
 use Rattle.std.proofs.lemmas.Bool.{leb-false, ltb-false}
 use Rattle.dr_base.specs.declared.limits.TheConstants.{TEXT_LIMIT, INDEX_LIMIT, LAST_EPOCH, OUTBOX_LIMIT}
 use Rattle.dr_base.specs.Position.{is_own}

@@ -3,10 +3,13 @@ use Rattle.std.proofs.Common.{◌≡◌, ℕ, ◌+◌, ◌-◌, ◌≤◌, true,
 use Rattle.std.specs.Prelude.{All}
 use Rattle.std.proofs.lemmas.Bool.{cond-true, cond-false}
 use Rattle.std.proofs.lemmas.List.{drop-append-le}
+use Rattle.bodies.specs.Bodies.{text_body}
+use Rattle.bodies.specs.Formats.{version_of}
 use Rattle.boxes.specs.Entries.{Entry}
 use Rattle.boxes.specs.Posts.{Post}
-use Rattle.dr_base.specs.Position.{is_own}
-use Rattle.fs_aead.specs.Chain.{chain_of, next_chain, message_key}
+use Rattle.dr_base.specs.Position.{is_own, side_of}
+use Rattle.dr_base.specs.declared.position.Side.{Side}
+use Rattle.fs_aead.specs.Chain.{chain_message_key, chain_of, next_chain, message_key}
 use Rattle.fs_aead.proofs.Streams.{chain_of-suc, message_key-suc}
 use Rattle.kem_laws.specs.Mechanism.{Mechanism}
 use Rattle.session_model.specs.Clients.{Client, accept_send, say_on}
@@ -17,6 +20,7 @@ use Rattle.session_model.specs.States.{in_own, in_peers, State}
 use Rattle.session_model.specs.Turns.{Turn}
 use Rattle.dr_model.specs.Conversations.Conversation.{Conversation, count_of, next_position, previous_of, with_text}
 use Rattle.dr_model.specs.Conversations.Lawful.{HasArrived}
+use Rattle.dr_model.specs.Conversations.Formats.{format_of}
 use Rattle.dr_model.specs.Conversations.Posts.{post_at, posts_of, turn_of_epoch}
 use Rattle.dr_model.specs.Conversations.ViewStates.{client_at, own_of, phase_of, previous_in, state_of}
 use Rattle.dr_model.specs.Conversations.Views.{View, outbox_of}
@@ -25,6 +29,7 @@ use Rattle.dr_model.proofs.Growth.GrowingStates.{inbox-grown, own_with, same_sta
 use Rattle.dr_model.proofs.Growth.GrowingViews.{kept-grown, receiving-grown}
 use Rattle.dr_model.proofs.Growth.Texts.{count-here}
 use Rattle.dr_model.proofs.Growth.TurnGrowth.{SameTurns, posts_of-grown, turns_same}
+use Rattle.dr_model.proofs.Saying.OwnSide.{own_side}
 
 -- what a side holds of an own epoch, and of a peer's
 pub phase_own : (k : Mechanism) (c : Conversation) (v : View) → is_own v.side v.epoch ≡ true
@@ -65,7 +70,7 @@ state_own : (k : Mechanism) (c : Conversation) (v : View) (text : List ℕ) → 
 state_own k c v text own within =
     let d = with_text c v.epoch text in
     let same = turns_same k c.key c.seeds in
-    sym (same_state v.side (session_of c.key) v.epoch _ _ _ _ _ _ _ _ _ _
+    sym (same_state v.side (format_of c.formats v.side) (session_of c.key) v.epoch _ _ _ _ _ _ _ _ _ _
     refl
     (phase_own k d v own ∙ ap in_own
     (own_next (turn_of_epoch k c v.epoch) (count_of c v.epoch) (count_of d v.epoch) (count-here c.said v.epoch text)))
@@ -81,12 +86,13 @@ post_own : (k : Mechanism) (c : Conversation) (v : View) (text : List ℕ) → i
 post_own k c v text own =
     let d = with_text c v.epoch text in
     let turn = turn_of_epoch k c v.epoch in
-    let make : ℕ → List ℕ → List ℕ → Post = λ previous key said. posted (session_of c.key)
-    (next_position c.said v.epoch) previous turn.agreement key said in
-    ap₂ (λ previous key. make previous key text)
+    let make : Side → ℕ → List ℕ → List ℕ → Post = λ side previous key said. posted (version_of (format_of c.formats side)) (session_of c.key)
+    (next_position c.said v.epoch) previous turn.agreement key (text_body said) in
+    ap (λ side. make side (previous_in c v) (chain_message_key (own_of k c v).chain) text) (sym (own_side v.side v.epoch own))
+    ∙ ap₂ (λ previous key. make (side_of v.epoch) previous key text)
     (previous_own c v own ∙ sym (previous-grown c c.seeds v.epoch text v.epoch (omega arith)))
     (sym (message_key-suc turn.stream (count_of c v.epoch)))
-    ∙ ap (make (previous_of d v.epoch) (message_key turn.stream (count_of c v.epoch + 1)))
+    ∙ ap (make (side_of v.epoch) (previous_of d v.epoch) (message_key turn.stream (count_of c v.epoch + 1)))
     (sym (text_at-new c c.seeds v.epoch text))
 
 -- it stands in the outbox

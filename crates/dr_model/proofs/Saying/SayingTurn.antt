@@ -2,8 +2,11 @@
 use Rattle.std.proofs.Common.{◌≡◌, ℕ, ◌+◌, ◌≤◌, true, false, List, [], ◌∷◌, ◌++◌, length, Option, Some, None, Ok, Err, sym, ◌∙◌, ap, ap₂, add-one, arith}
 use Rattle.std.specs.Prelude.{All, is_some, option_map, slice_index_or}
 use Rattle.std.proofs.Math.Seq.{get_or-append_seam}
+use Rattle.bodies.specs.Bodies.{text_body}
+use Rattle.bodies.specs.Formats.{version_of}
 use Rattle.boxes.specs.Posts.{Post}
-use Rattle.dr_base.specs.Position.{is_own}
+use Rattle.dr_base.specs.Position.{is_own, side_of}
+use Rattle.dr_base.specs.declared.position.Side.{Side}
 use Rattle.dr_base.specs.declared.position.Position.{Position}
 use Rattle.dr_base.proofs.Parity.{own_after}
 use Rattle.fs_aead.specs.Chain.{next_chain, chain_message_key, message_key}
@@ -18,14 +21,16 @@ use Rattle.session_model.specs.Turns.{Turn, next_turn, turn_at, pair_at}
 use Rattle.session_model.specs.declared.answer.Refusal.TheVariants.{NoPair}
 use Rattle.dr_model.specs.Conversations.Conversation.{Conversation, count_of, next_position, previous_of, text_at, with_turn}
 use Rattle.dr_model.specs.Conversations.Lawful.{HasArrived}
+use Rattle.dr_model.specs.Conversations.Formats.{format_of}
 use Rattle.dr_model.specs.Conversations.Posts.{post_at, posts_of, turn_of_epoch}
-use Rattle.dr_model.specs.Conversations.ViewStates.{client_at, state_of}
+use Rattle.dr_model.specs.Conversations.ViewStates.{client_at, previous_in, state_of}
 use Rattle.dr_model.specs.Conversations.Views.{View, after_turn}
 use Rattle.dr_model.proofs.Growth.Growing.{grown, text_at-new}
 use Rattle.dr_model.proofs.Growth.GrowingStates.{inbox-grown, own_with, same_state}
 use Rattle.dr_model.proofs.Growth.Texts.{count-here, texts_of-beyond}
 use Rattle.dr_model.proofs.Growth.TurnGrowth.{turns_stay}
 use Rattle.dr_model.proofs.Growth.TurnedViews.{kept-turned, receiving-turned, previous-turned}
+use Rattle.dr_model.proofs.Saying.OwnSide.{own_side}
 use Rattle.dr_model.proofs.Saying.SayingText.{phase_own, phase_peers, previous_own, previous_peers, outbox_own, accepted}
 use Rattle.dr_model.proofs.Worlds.TurnSizes.{some_pair}
 
@@ -89,7 +94,7 @@ state_turn k c v text seed peers last begun =
     let same = turns_stay k c.key c.seeds seed in
     let new = turn_new k c.key c.seeds seed v.epoch last in
     let own = own_after v.side v.epoch peers in
-    sym (same_state v.side (session_of c.key) (v.epoch + 1) _ _ _ _ _ _ _ _ _ _
+    sym (same_state v.side (format_of c.formats v.side) (session_of c.key) (v.epoch + 1) _ _ _ _ _ _ _ _ _ _
     (ap (λ (turn : Turn). turn.root) new)
     (phase_own k d (after_turn v) own
     ∙ ap in_own (own_first (turn_of_epoch k d (v.epoch + 1)) (next_turn k (turn_of_epoch k c v.epoch) seed)
@@ -110,12 +115,14 @@ post_turn k c v text seed peers last begun =
     let turn = next_turn k (turn_of_epoch k c v.epoch) seed in
     let first : Position = record { epoch = v.epoch + 1; index = 1 } in
     let place = first_place c v.epoch begun last in
-    let make : ℕ → List ℕ → List ℕ → List ℕ → Post = λ previous agreement key said. posted
-    (session_of c.key) first previous agreement key said in
-    ap₂ (λ previous key. make previous turn.agreement key text)
+    let make : Side → ℕ → List ℕ → List ℕ → List ℕ → Post = λ side previous agreement key said. posted (version_of (format_of c.formats side))
+    (session_of c.key) first previous agreement key (text_body said) in
+    ap (λ side. make side (previous_in c v) turn.agreement (chain_message_key turn.stream) text)
+    (sym (own_side v.side (v.epoch + 1) (own_after v.side v.epoch peers)))
+    ∙ ap₂ (λ previous key. make (side_of (v.epoch + 1)) previous turn.agreement key text)
     (previous_peers c v peers ∙ sym (previous-turned c (c.seeds ++ seed ∷ []) text v))
     (ap chain_message_key (sym (chain_of-zero turn.stream)) ∙ sym (message_key-suc turn.stream 0))
-    ∙ ap₂ (λ (t : Turn) said. make (previous_of d (v.epoch + 1)) t.agreement (message_key t.stream 1) said)
+    ∙ ap₂ (λ (t : Turn) said. make (side_of (v.epoch + 1)) (previous_of d (v.epoch + 1)) t.agreement (message_key t.stream 1) said)
     (sym (turn_new k c.key c.seeds seed v.epoch last))
     (sym (text_at-new c (c.seeds ++ seed ∷ []) (v.epoch + 1) text) ∙ ap (text_at d) place)
     ∙ ap (post_at k d) (sym place)

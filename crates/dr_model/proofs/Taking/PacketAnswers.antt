@@ -45,28 +45,28 @@ answer_within : (f : Fields) (b : Bool) (n : ℕ) (way : Way) (opened : Result R
 answer_within f true n way opened h = refl
 answer_within f false n way opened h = h
 
-answer_limit : (k : Mechanism) (c : Conversation) (next : View) (p : Position)
+answer_limit : (k : Mechanism) (c : Conversation) (next : View) (p : Position) → IsPlace c p
     → opened_by (fields_at k c p) (within_limit (length (missing_of c next)) (record { key = message_key (turn_of_epoch k c p.epoch).stream p.index; next = state_of k c next }))
     ≡ far_at k c next p
-answer_limit k c next p =
+answer_limit k c next p place =
     let way : Way = record { key = message_key (turn_of_epoch k c p.epoch).stream p.index; next = state_of k c next } in
     answer_within (fields_at k c p) (nat_lt KEPT_LIMIT (length (missing_of c next))) (length (missing_of c next)) way
     (opens_at k c next p)
-    (opened_by-key k c p way refl)
+    (opened_by-key k c p way place.short refl)
 
 -- ---- a known epoch
 
 -- by a kept key, which leaves no more missing
-answer_late : (k : Mechanism) (c : Conversation) (v : View) (p : Position) → length (missing_of c v) ≤ KEPT_LIMIT
+answer_late : (k : Mechanism) (c : Conversation) (v : View) (p : Position) → IsPlace c p → length (missing_of c v) ≤ KEPT_LIMIT
     → p.index ≤ reach_in c v p.epoch
     → opened_by (fields_at k c p) (Ok (record { key = message_key (turn_of_epoch k c p.epoch).stream p.index; next = state_of k c (opened_here v p) }))
     ≡ far_at k c (opened_here v p) p
-answer_late k c v p near late =
+answer_late k c v p place near late =
     let next = opened_here v p in
     opened_by-key k c p (record {
       key = message_key (turn_of_epoch k c p.epoch).stream p.index;
       next = state_of k c next;
-    }) refl
+    }) place.short refl
     ∙ sym (cond-false (nat_lt KEPT_LIMIT (length (missing_of c next))) (Err (SkipLimit (length (missing_of c next))))
     (opens_at k c next p)
     (le-ltb KEPT_LIMIT (length (missing_of c next)) (omega (arith, length-kept k c v p late))))
@@ -84,10 +84,10 @@ answer_new k c v p latest place at near own known new =
           ap (opened_by f)
           (way_chain k c v p (subst (λ n. IsLatest v.side v.epoch n)
           (is_latest v.side v.epoch latest p.epoch at own known low) at) early)
-          ∙ answer_limit k c (opened_here v p) p
+          ∙ answer_limit k c (opened_here v p) p place
       | inr late ↦
           ap (opened_by f) (way_kept k c v p latest at own known place.one late new)
-          ∙ answer_late k c v p near late
+          ∙ answer_late k c v p place near late
     ]
 
 -- opened before, or not
@@ -125,13 +125,13 @@ AnswersOn k c v p ways =
 
 answer_next : (k : Mechanism) (c : Conversation) (v : View) (i : ℕ) → IsLawfulMechanism k → IsLawfulConversation k c
     → All (HasArrived c v) v.arrived → 1 ≤ i
-    → v.epoch < length c.seeds → is_own v.side (v.epoch + 1) ≡ false
+    → v.epoch < length c.seeds → is_own v.side (v.epoch + 1) ≡ false → IsPlace c (position_at (v.epoch + 1) i)
     → AnswersOn k c v (position_at (v.epoch + 1) i) (epoch_way k (state_of k c v) (fields_at k c (position_at (v.epoch + 1) i)) (state_of k c v).phase)
-answer_next k c v i law lawful arrivals one begun peers =
+answer_next k c v i law lawful arrivals one begun peers place =
     let p = position_at (v.epoch + 1) i in
     let own : is_own v.side v.epoch ≡ true = not-false (is_own v.side v.epoch) (sym (own_next v.side v.epoch) ∙ peers) in
     ap (opened_by (fields_at k c p)) (way_next k c v i (answers k c v.epoch law lawful begun) arrivals one own peers)
-    ∙ answer_limit k c (opened_next v i) p
+    ∙ answer_limit k c (opened_next v i) p place
     ∙ ap (λ next. far_at k c next p) (sym (after_opening-next v i))
     ∙ sym (cond-false (has_opened v p) (Err (Spent p)) (far_at k c (after_opening v p) p) (unopened_next c v i arrivals))
 
@@ -154,7 +154,7 @@ answer_peers k c side v p law lawful view place peers =
           (eq-eqb p.epoch (v.epoch + 1) next))
           ∙ subst (λ q. AnswersOn k c v q (epoch_way k s (fields_at k c q) s.phase)) same
           (answer_next k c v p.index law lawful view.arrivals place.one (omega (arith, place.began))
-          (ap (is_own v.side) (sym next) ∙ peers))
+          (ap (is_own v.side) (sym next) ∙ peers) (subst (IsPlace c) (sym same) place))
       | inr other ↦
           ap (opened_by f) (by_epoch
           ∙ cond-false (nat_eq p.epoch (v.epoch + 1)) (epoch_way k s f s.phase) (known_way s p s.receiving)

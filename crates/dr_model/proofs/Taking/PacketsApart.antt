@@ -5,7 +5,7 @@ use Rattle.std.specs.Int.{from_be_bytes, to_be_bytes, w16, w32, w8}
 use Rattle.std.specs.Prelude.{All, IfSome, find, option_map}
 use Rattle.std.proofs.Math.Seq.{drop-append_seam, take-append_seam}
 use Rattle.std.proofs.lemmas.Bool.{cond-true}
-use Rattle.std.proofs.lemmas.List.{append_cancel_left}
+use Rattle.std.proofs.lemmas.List.{append_cancel_left, take_at}
 use Rattle.std.proofs.lemmas.List.Elements.{All-head, All-map, All-tail, All-weaker}
 use Rattle.std.proofs.lemmas.Nat.{from_be_bytes-to_be_bytes_4}
 use Rattle.boxes.specs.Posts.{Post}
@@ -15,11 +15,14 @@ use Rattle.dr_base.specs.declared.position.Side.{Side}
 use Rattle.dr_base.proofs.Positions.{is_at-itself, is_at-same}
 use Rattle.kem_laws.specs.Mechanism.{Mechanism}
 use Rattle.packet.specs.Packet.{Fields, packet_of}
+use Rattle.packet.proofs.Known.{same_version}
 use Rattle.packet.proofs.Printed.{packet_of-grouped}
+use Rattle.packet.specs.Versions.{is_version}
+use Rattle.session_model.proofs.Sealed.{known_version}
 use Rattle.session_model.specs.Sealing.{posted}
 use Rattle.dr_model.specs.Conversations.Conversation.{Conversation, is_said, positions}
 use Rattle.dr_model.specs.Conversations.Lawful.{IsLawfulConversation}
-use Rattle.dr_model.specs.Conversations.Posts.{fields_at, post_at, posts}
+use Rattle.dr_model.specs.Conversations.Posts.{fields_at, format_at, post_at, posts}
 use Rattle.dr_model.specs.Machines.Events.{does, of_bytes, of_number, of_position, takes}
 use Rattle.dr_model.specs.Machines.Steps.{settled}
 use Rattle.dr_model.specs.Machines.Worlds.{World, made_at, nth_of_peer, said_at, step_of, taking_at, taking_made}
@@ -53,17 +56,25 @@ after_session f =
     ++ (to_be_bytes w16 (length f.agreement) ++
     (f.agreement ++ (to_be_bytes w16 (length f.ciphertext) ++ (f.ciphertext ++ (f.tag ++ [])))))))
 
+-- the first bytes of two packets that are the same
+first_byte : (m n : ℕ) (more others : List ℕ) → to_be_bytes w8 m ++ more ≡ to_be_bytes w8 n ++ others → to_be_bytes w8 m ≡ to_be_bytes w8 n
+first_byte m n more others same =
+    sym (take_at (to_be_bytes w8 m) more 1 refl) ∙ ap (take 1) same ∙ take_at (to_be_bytes w8 n) others 1 refl
+
 -- two packets of one session that are the same have one position
-same_position : (f g : Fields) → f.session ≡ g.session → f.epoch < 2 ^ 32 → g.epoch < 2 ^ 32 → f.index < 2 ^ 32
-    → g.index < 2 ^ 32
+same_position : (f g : Fields) → is_version f.version ≡ true → is_version g.version ≡ true → f.session ≡ g.session → f.epoch < 2 ^ 32
+    → g.epoch < 2 ^ 32 → f.index < 2 ^ 32 → g.index < 2 ^ 32
     → packet_of f ≡ packet_of g → (f.epoch ≡ g.epoch) × (f.index ≡ g.index)
 unfolding after_session
-same_position f g session e1 e2 i1 i2 same =
-    let first : to_be_bytes w8 1 ++ (f.session ++ after_session f) ≡ to_be_bytes w8 1 ++ (g.session ++ after_session g) =
-    sym (packet_of-grouped f) ∙ same ∙ packet_of-grouped g in
+same_position f g known_f known_g session e1 e2 i1 i2 same =
+    let grouped = sym (packet_of-grouped f) ∙ same ∙ packet_of-grouped g in
+    let version : f.version ≡ g.version = same_version f.version g.version known_f known_g
+    (first_byte f.version g.version (f.session ++ after_session f) (g.session ++ after_session g) grouped) in
+    let first : to_be_bytes w8 g.version ++ (f.session ++ after_session f) ≡ to_be_bytes w8 g.version ++ (g.session ++ after_session g) =
+    ap (λ v. to_be_bytes w8 v ++ (f.session ++ after_session f)) (sym version) ∙ sym (packet_of-grouped f) ∙ same ∙ packet_of-grouped g in
     let second : g.session ++ after_session f ≡ g.session ++ after_session g =
     ap (λ s. s ++ after_session f) (sym session)
-    ∙ append_cancel_left (to_be_bytes w8 1) (f.session ++ after_session f) (g.session ++ after_session g) first in
+    ∙ append_cancel_left (to_be_bytes w8 g.version) (f.session ++ after_session f) (g.session ++ after_session g) first in
     let epochs = append_cancel_left g.session (after_session f) (after_session g) second in
     let rest = number_rest f.epoch g.epoch _ _ epochs in (
       number_front f.epoch g.epoch _ _ e1 e2 epochs,
@@ -78,7 +89,7 @@ unfolding posted
 apart k c p q lawful said_p said_q same =
     let place_p = is_place k c p lawful said_p in
     let place_q = is_place k c q lawful said_q in
-    let at = same_position (fields_at k c q) (fields_at k c p) refl
+    let at = same_position (fields_at k c q) (fields_at k c p) (known_version (format_at c q.epoch)) (known_version (format_at c p.epoch)) refl
     (omega (arith, place_q.began, lawful.few_turns)) (omega (arith, place_p.began, lawful.few_turns))
     (omega (arith, place_q.few)) (omega (arith, place_p.few)) same in
     let make : ℕ → ℕ → Position = λ e i. record { epoch = e; index = i } in

@@ -12,6 +12,7 @@ use Rattle.session_model.specs.States.{opening_state}
 use Rattle.session_model.specs.Turns.{turn_at}
 use Rattle.dr_model.specs.Conversations.Conversation.{Said, opening_conversation, positions_after}
 use Rattle.dr_model.specs.Conversations.Indices.{missing_to, reach}
+use Rattle.dr_model.specs.Conversations.Formats.{Formats, format_of}
 use Rattle.dr_model.specs.Conversations.Lawful.{IsSeed, IsLawfulConversation, HasArrived, IsLawfulView}
 use Rattle.dr_model.specs.Conversations.ViewStates.{client_at}
 use Rattle.dr_model.specs.Conversations.Views.{opening_view, missing_below, missing_of, outbox_of}
@@ -19,9 +20,9 @@ use Rattle.dr_model.specs.Machines.Worlds.{opening_world}
 use Rattle.dr_model.specs.Theorems.LawfulWorlds.{IsLawfulWorld}
 use Rattle.dr_model.proofs.Growth.BoxSizes.{length-inbox_of}
 
-lawful_opening_conversation : (k : Mechanism) (key : List ℕ) → is_some (k.meaning.pair_of (agreement_seed key)) ≡ true
-    → IsLawfulConversation k (opening_conversation key)
-lawful_opening_conversation k key some = record {
+lawful_opening_conversation : (k : Mechanism) (key : List ℕ) (formats : Formats) → is_some (k.meaning.pair_of (agreement_seed key)) ≡ true
+    → IsLawfulConversation k (opening_conversation key formats)
+lawful_opening_conversation k key formats some = record {
   begins = some;
   turns = All-nil (IsSeed k);
   few_turns = omega arith;
@@ -32,48 +33,48 @@ lawful_opening_conversation k key some = record {
 }
 
 -- nothing is missing
-opening_missing : (key : List ℕ) (side : Side) → missing_of (opening_conversation key) (opening_view side) ≡ []
+opening_missing : (key : List ℕ) (formats : Formats) (side : Side) → missing_of (opening_conversation key formats) (opening_view side) ≡ []
 unfolding missing_below missing_to reach
-opening_missing key First = refl
-opening_missing key Second = refl
+opening_missing key formats First = refl
+opening_missing key formats Second = refl
 
 -- no packet stands in the outbox
-opening_packets : (k : Mechanism) (key : List ℕ) (side : Side)
-    → length (outbox_of k (opening_conversation key) (opening_view side)) ≤ OUTBOX_LIMIT
+opening_packets : (k : Mechanism) (key : List ℕ) (formats : Formats) (side : Side)
+    → length (outbox_of k (opening_conversation key formats) (opening_view side)) ≤ OUTBOX_LIMIT
 unfolding positions_after
-opening_packets k key First = omega arith
-opening_packets k key Second = omega arith
+opening_packets k key formats First = omega arith
+opening_packets k key formats Second = omega arith
 
-opening_lawful : (k : Mechanism) (key : List ℕ) (side : Side)
-    → IsLawfulView k (opening_conversation key) side (opening_view side)
-opening_lawful k key side = record {
+opening_lawful : (k : Mechanism) (key : List ℕ) (formats : Formats) (side : Side)
+    → IsLawfulView k (opening_conversation key formats) side (opening_view side)
+opening_lawful k key formats side = record {
   side_is = refl;
   reached = omega arith;
   near_end = omega arith;
   waits = λ next. absurd (omega arith);
-  arrivals = All-nil (HasArrived (opening_conversation key) (opening_view side));
+  arrivals = All-nil (HasArrived (opening_conversation key formats) (opening_view side));
   once = λ p. omega arith;
   some = λ epoch one most peers. absurd (omega arith);
-  near = omega (arith, ap length (opening_missing key side));
+  near = omega (arith, ap length (opening_missing key formats side));
   done_fits = omega arith;
   dropped_fits = omega arith;
-  few_texts = omega (arith, length-inbox_of (opening_conversation key) (opening_view side));
-  few_packets = opening_packets k key side;
+  few_texts = omega (arith, length-inbox_of (opening_conversation key formats) (opening_view side));
+  few_packets = opening_packets k key formats side;
 }
 
-pub lawful_opening : (k : Mechanism) (key : List ℕ) → is_some (k.meaning.pair_of (agreement_seed key)) ≡ true
-    → IsLawfulWorld k (opening_world key)
-lawful_opening k key some = record {
-  conversation = lawful_opening_conversation k key some;
-  first = opening_lawful k key First;
-  second = opening_lawful k key Second;
+pub lawful_opening : (k : Mechanism) (key : List ℕ) (formats : Formats) → is_some (k.meaning.pair_of (agreement_seed key)) ≡ true
+    → IsLawfulWorld k (opening_world key formats)
+lawful_opening k key formats some = record {
+  conversation = lawful_opening_conversation k key formats some;
+  first = opening_lawful k key formats First;
+  second = opening_lawful k key formats Second;
   given = tt;
 }
 
 -- what a client keeps there
-pub opening_client : (k : Mechanism) (key : List ℕ) (side : Side)
-    → client_at k (opening_conversation key) (opening_view side)
-    ≡ record { state = opening_state k key side; inbox = []; outbox = [] }
+pub opening_client : (k : Mechanism) (key : List ℕ) (formats : Formats) (side : Side)
+    → client_at k (opening_conversation key formats) (opening_view side)
+    ≡ record { state = opening_state k key side (format_of formats side); inbox = []; outbox = [] }
 unfolding missing_below missing_to reach turn_at chain_of positions_after
-opening_client k key First = refl
-opening_client k key Second = refl
+opening_client k key formats First = refl
+opening_client k key formats Second = refl

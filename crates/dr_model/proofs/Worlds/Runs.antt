@@ -15,6 +15,7 @@ use Rattle.kem_laws.specs.Mechanism.{Mechanism}
 use Rattle.session_model.specs.declared.answer.Answer.TheVariants.{Opened, Refused}
 use Rattle.session_model.specs.declared.answer.Refusal.{Refusal}
 use Rattle.session_model.specs.declared.answer.Refusal.TheVariants.{OwnPacket, Spent, SkipLimit, InboxFull}
+use Rattle.dr_model.specs.Conversations.Formats.{Formats}
 use Rattle.dr_model.specs.Conversations.Conversation.{is_said}
 use Rattle.dr_model.specs.Conversations.Views.{View, has_opened, after_opening, missing_of, entry_at, history_of}
 use Rattle.dr_model.specs.Machines.Events.{Event, does, of_position, takes}
@@ -58,14 +59,14 @@ stays_once k w (e ∷ hs) side p h =
     (count_gained (view_of w side).arrived (view_of (step_of k w e).next side).arrived p ((step_sound k w e).gains side) h)
 
 -- at the beginning nothing was opened
-opening_once : (key : List ℕ) (side : Side) (p : Position) → times_opened_by (opening_world key) side p ≤ 1
-opening_once key First p = omega arith
-opening_once key Second p = omega arith
+opening_once : (key : List ℕ) (formats : Formats) (side : Side) (p : Position) → times_opened_by (opening_world key formats) side p ≤ 1
+opening_once key formats First p = omega arith
+opening_once key formats Second p = omega arith
 
 -- so each position is opened at most once
-pub once : (k : Mechanism) (key : List ℕ) (hs : List Event) (side : Side) (p : Position)
-    → times_opened_by (run_of k (opening_world key) hs) side p ≤ 1
-once k key hs side p = stays_once k (opening_world key) hs side p (opening_once key side p)
+pub once : (k : Mechanism) (key : List ℕ) (formats : Formats) (hs : List Event) (side : Side) (p : Position)
+    → times_opened_by (run_of k (opening_world key formats) hs) side p ≤ 1
+once k key formats hs side p = stays_once k (opening_world key formats) hs side p (opening_once key formats side p)
 
 -- a refusal leaves the conversation and both views
 pub refusal_changes_nothing : (k : Mechanism) (w : World) (h : Event) (refusal : Refusal)

@@ -1,6 +1,7 @@
 -- A conversation: all that both sides have said so far, and the seeds of their turns.
 use Rattle.std.specs.Prelude.{Bool, List, [], filter, if◌then◌else◌, length, map, nat_le, slice_index_or, ℕ, ◌&&◌, ◌++◌, ◌+◌, ◌-◌, ◌==◌, ◌∷◌}
 use Rattle.dr_base.specs.declared.position.Position.{Position}
+use Rattle.dr_model.specs.Conversations.Formats.{Formats}
 
 -- a text, in the epoch in which it was said
 pub record Said : Type 0 where
@@ -10,14 +11,16 @@ pub record Said : Type 0 where
 pub record Conversation : Type 0 where
   -- the shared key
   pub key : List ℕ
+  -- how each side seals its texts
+  pub formats : Formats
   -- the seeds of the turns that began the epochs 1, 2, and so on
   pub seeds : List (List ℕ)
   -- the texts, in the order that they were said
   pub said : List Said
 
 -- where a conversation begins
-abbrev pub opening_conversation : List ℕ → Conversation
-opening_conversation key = record { key = key; seeds = []; said = [] }
+abbrev pub opening_conversation : List ℕ → Formats → Conversation
+opening_conversation key formats = record { key = key; formats = formats; seeds = []; said = [] }
 
 -- the texts of an epoch
 abbrev pub texts_of : List Said → ℕ → List (List ℕ)

@@ -1,5 +1,5 @@
 -- Lawful conversations and views, which events lead to.
-use Rattle.std.specs.Prelude.{All, List, false, is_some, length, true, ℕ, ◌+◌, ◌-◌, ◌^◌, ◌≡◌, ◌≤◌}
+use Rattle.std.specs.Prelude.{All, List, false, is_some, length, true, ℕ, ◌+◌, ◌≡◌, ◌≤◌}
 use Rattle.dr_base.specs.declared.limits.TheConstants.{TEXT_LIMIT, INDEX_LIMIT, LAST_EPOCH, KEPT_LIMIT, INBOX_LIMIT, OUTBOX_LIMIT}
 use Rattle.dr_base.specs.Position.{is_own}
 use Rattle.dr_base.specs.declared.position.Position.{Position}

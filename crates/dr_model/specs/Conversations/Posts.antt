@@ -1,7 +1,10 @@
 -- The packets of a conversation.
 use Rattle.std.specs.Prelude.{List, [], filter, map, slice_index_or, suc, zero, ℕ}
+use Rattle.bodies.specs.Bodies.{text_body}
+use Rattle.bodies.specs.Formats.{version_of}
+use Rattle.bodies.specs.declared.format.Format.{Format}
 use Rattle.boxes.specs.Posts.{Post}
-use Rattle.dr_base.specs.Position.{is_own}
+use Rattle.dr_base.specs.Position.{is_own, side_of}
 use Rattle.dr_base.specs.declared.key.Kept.{Kept}
 use Rattle.dr_base.specs.declared.position.Position.{Position}
 use Rattle.dr_base.specs.declared.position.Side.{Side}
@@ -12,6 +15,7 @@ use Rattle.session_model.specs.Schedule.{agreement_seed, session_of}
 use Rattle.session_model.specs.Sealing.{posted, sealing}
 use Rattle.session_model.specs.Turns.{Turn, turn_at}
 use Rattle.dr_model.specs.Conversations.Conversation.{Conversation, positions, previous_of, text_at}
+use Rattle.dr_model.specs.Conversations.Formats.{format_of}
 
 -- the keys of an epoch of a conversation
 abbrev pub turn_of_epoch : Mechanism → Conversation → ℕ → Turn
@@ -26,17 +30,24 @@ pair_seed c (suc epoch) = slice_index_or c.seeds epoch []
 abbrev pub key_of : Mechanism → Conversation → Position → Kept
 key_of k c p = record { position = p; key = record { bytes = message_key (turn_of_epoch k c p.epoch).stream p.index } }
 
+-- how the side of an epoch seals its texts, and the version of its packets
+abbrev pub format_at : Conversation → ℕ → Format
+format_at c epoch = format_of c.formats (side_of epoch)
+
+abbrev pub version_at : Conversation → ℕ → ℕ
+version_at c epoch = version_of (format_at c epoch)
+
 -- the fields of the packet of a position
 abbrev pub fields_at : Mechanism → Conversation → Position → Fields
 fields_at k c p =
-    sealing (session_of c.key) p (previous_of c p.epoch) (turn_of_epoch k c p.epoch).agreement
-    (message_key (turn_of_epoch k c p.epoch).stream p.index) (text_at c p)
+    sealing (version_at c p.epoch) (session_of c.key) p (previous_of c p.epoch) (turn_of_epoch k c p.epoch).agreement
+    (message_key (turn_of_epoch k c p.epoch).stream p.index) (text_body (text_at c p))
 
 -- the packet of a position
 abbrev pub post_at : Mechanism → Conversation → Position → Post
 post_at k c p =
-    posted (session_of c.key) p (previous_of c p.epoch) (turn_of_epoch k c p.epoch).agreement
-    (message_key (turn_of_epoch k c p.epoch).stream p.index) (text_at c p)
+    posted (version_at c p.epoch) (session_of c.key) p (previous_of c p.epoch) (turn_of_epoch k c p.epoch).agreement
+    (message_key (turn_of_epoch k c p.epoch).stream p.index) (text_body (text_at c p))
 
 -- all packets, in the order that the texts were said; the network holds them all
 abbrev pub posts : Mechanism → Conversation → List Post

@@ -9,6 +9,7 @@ use Rattle.session_model.specs.States.{Own, Phase, Reception, State, in_own, in_
 use Rattle.dr_model.specs.Conversations.Conversation.{Conversation, count_of, previous_of}
 use Rattle.dr_model.specs.Conversations.Posts.{key_of, turn_of_epoch}
 use Rattle.dr_model.specs.Conversations.Views.{View, inbox_of, missing_of, outbox_of, reach_in}
+use Rattle.dr_model.specs.Conversations.Formats.{format_of}
 
 -- what a side holds of the keys of an own epoch that it has reached
 abbrev pub own_of : Mechanism → Conversation → View → Own
@@ -42,6 +43,7 @@ reception_of k c v epoch = record {
 abbrev pub state_of : Mechanism → Conversation → View → State
 state_of k c v = record {
   side = v.side;
+  format = format_of c.formats v.side;
   session = session_of c.key;
   root = (turn_of_epoch k c v.epoch).root;
   epoch = v.epoch;

@@ -19,6 +19,7 @@ use Rattle.session_model.specs.declared.answer.Answer.{Answer}
 use Rattle.session_model.specs.declared.answer.Answer.TheVariants.{Done, Inbox, Opened, Said, Seeded, Sent, State as InNumbers}
 use Rattle.session_model.specs.declared.answer.Refusal.{Refusal}
 use Rattle.session_model.specs.declared.answer.Refusal.TheVariants.{BadTag, EpochFull, Fewer, InboxFull, LastEpoch, Malformed as Unreadable, NoPair, OutboxFull, OwnPacket, SkipLimit, Spent, TextTooLong}
+use Rattle.dr_model.specs.Conversations.Formats.{Formats}
 use Rattle.dr_model.specs.Conversations.Conversation.{Conversation, count_of, is_said, next_position, opening_conversation, positions, with_text, with_turn}
 use Rattle.dr_model.specs.Conversations.Posts.{posts}
 use Rattle.dr_model.specs.Conversations.ViewStates.{state_of}
@@ -35,9 +36,9 @@ pub record World : Type 0 where
   pub draws : Draws
 
 -- where a conversation begins
-abbrev pub opening_world : List ℕ → World
-opening_world key = record {
-  conversation = opening_conversation key;
+abbrev pub opening_world : List ℕ → Formats → World
+opening_world key formats = record {
+  conversation = opening_conversation key formats;
   first = opening_view First;
   second = opening_view Second;
   draws = record { made = 0; given = None };

@@ -4,6 +4,7 @@ use Rattle.dr_base.specs.declared.position.Side.{Side}
 use Rattle.kem_laws.specs.Mechanism.{Mechanism}
 use Rattle.session_model.specs.LawfulStates.{IsLawfulState}
 use Rattle.session_model.specs.Schedule.{agreement_seed}
+use Rattle.dr_model.specs.Conversations.Formats.{Formats}
 use Rattle.dr_model.specs.Conversations.ViewStates.{state_of}
 use Rattle.dr_model.specs.Machines.Events.{Event}
 use Rattle.dr_model.specs.Machines.Sides.{step_on}
@@ -14,8 +15,8 @@ use Rattle.dr_model.specs.Theorems.LawfulWorlds.{IsLawfulWorld}
 
 -- Both sides answer as the machine does, and keep what stands in the views after it, where no tag is forged.
 pub record Follows (k : Mechanism) : Type 0 where
-  pub lawful_opening : (key : List ℕ) → is_some (k.meaning.pair_of (agreement_seed key)) ≡ true
-      → IsLawfulWorld k (opening_world key)
+  pub lawful_opening : (key : List ℕ) (formats : Formats) → is_some (k.meaning.pair_of (agreement_seed key)) ≡ true
+      → IsLawfulWorld k (opening_world key formats)
   -- worlds stay lawful, also where a tag is forged
   pub lawful_next : (w : World) (h : Event) → IsLawfulWorld k w → IsSeedWhole h → IsLawfulWorld k (step_of k w h).next
   pub lawful_run : (w : World) (hs : List Event) → IsLawfulWorld k w → All IsSeedWhole hs → IsLawfulWorld k (run_of k w hs)

@@ -1,5 +1,5 @@
 -- What holds in every run of the machine.
-use Rattle.std.specs.Prelude.{All, List, Some, [], false, length, option_map, true, ℕ, ◌++◌, ◌<◌, ◌∷◌, ◌≡◌, ◌≤◌}
+use Rattle.std.specs.Prelude.{All, List, Some, [], false, length, option_map, true, ℕ, ◌++◌, ◌<◌, ◌∷◌, ◌≡◌, ◌≢◌, ◌≤◌}
 use Rattle.dr_base.specs.declared.limits.TheConstants.{KEPT_LIMIT, INBOX_LIMIT}
 use Rattle.dr_base.specs.Position.{is_own}
 use Rattle.dr_base.specs.declared.position.Position.{Position}
@@ -7,8 +7,9 @@ use Rattle.dr_base.specs.declared.position.Side.{Side}
 use Rattle.kem_laws.specs.Mechanism.{Mechanism}
 use Rattle.session_model.specs.declared.answer.Answer.TheVariants.{Opened, Refused}
 use Rattle.session_model.specs.declared.answer.Refusal.{Refusal}
-use Rattle.session_model.specs.declared.answer.Refusal.TheVariants.{InboxFull, SkipLimit, Spent}
+use Rattle.session_model.specs.declared.answer.Refusal.TheVariants.{BadPadding, InboxFull, SkipLimit, Spent}
 use Rattle.dr_model.specs.Conversations.Conversation.{is_said}
+use Rattle.dr_model.specs.Conversations.Formats.{Formats}
 use Rattle.dr_model.specs.Conversations.Posts.{post_at, posts}
 use Rattle.dr_model.specs.Conversations.Views.{after_opening, entry_at, has_opened, history_of, missing_of, times_opened}
 use Rattle.dr_model.specs.Machines.Events.{Event, does, of_bytes, of_number, of_position, takes}
@@ -62,8 +63,11 @@ pub record Headline (k : Mechanism) : Type 0 where
   -- in every run: it stays, and it is opened once
   pub stays : (w : World) (hs : List Event) (side : Side) (p : Position) → has_opened (view_of w side) p ≡ true
       → has_opened (view_of (run_of k w hs) side) p ≡ true
-  pub once : (key : List ℕ) (hs : List Event) (side : Side) (p : Position)
-      → times_opened_by (run_of k (opening_world key) hs) side p ≤ 1
+  pub once : (key : List ℕ) (formats : Formats) (hs : List Event) (side : Side) (p : Position)
+      → times_opened_by (run_of k (opening_world key formats) hs) side p ≤ 1
+  -- a packet that a session made is never refused for its padding, whichever format its side has
+  pub padded_rightly : (w : World) (side : Side) (p : Position)
+      → (step_of k w (does side (takes (of_position p)))).answer ≢ Refused BadPadding
   -- repeats and refusals
   pub repeats : (w : World) (side : Side) (p : Position) → is_said w.conversation p ≡ true → is_own side p.epoch ≡ false
       → has_opened (view_of w side) p ≡ true

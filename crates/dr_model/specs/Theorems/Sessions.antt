@@ -13,6 +13,7 @@ use Rattle.session_model.specs.Taking.{ReceiveDraft, draft_receive}
 use Rattle.session_model.specs.declared.answer.Refusal.{Refusal}
 use Rattle.session_model.specs.declared.answer.Refusal.TheVariants.{EpochFull, LastEpoch, OwnPacket, SkipLimit, Spent, TextTooLong}
 use Rattle.dr_model.specs.Conversations.Conversation.{Conversation, count_of, is_said, next_position, opening_conversation, text_at, with_text, with_turn}
+use Rattle.dr_model.specs.Conversations.Formats.{Formats, format_of}
 use Rattle.dr_model.specs.Conversations.Lawful.{IsLawfulConversation, IsLawfulView}
 use Rattle.dr_model.specs.Conversations.Posts.{fields_at, post_at}
 use Rattle.dr_model.specs.Conversations.ViewStates.{state_of}
@@ -49,8 +50,8 @@ pub record StandsIn (k : Mechanism) (c : Conversation) (side : Side) (v : View) 
 -- very text that was said, or refuses it by name, and then keeps what its view says. What it drafts is the packet of the
 -- next position. And it keeps what it kept when the other side says.
 pub record SessionsAgree (k : Mechanism) : Type 0 where
-  pub opening : (key : List ℕ) (side : Side)
-      → opening_state k key side ≡ state_of k (opening_conversation key) (opening_view side)
+  pub opening : (key : List ℕ) (formats : Formats) (side : Side)
+      → opening_state k key side (format_of formats side) ≡ state_of k (opening_conversation key formats) (opening_view side)
   -- the packet of a position is read, and answered
   pub reads : (c : Conversation) (p : Position) → IsLawfulConversation k c → is_said c p ≡ true
       → read_packet (agreement_size k) (post_at k c p).packet ≡ Ok (fields_at k c p)

@@ -2,6 +2,7 @@ use Rattle.dr_model.proofs.Growth.SaidStays.{packets_stay, texts_stay}
 use Rattle.dr_model.proofs.Taking.NetworkPosts.{held_nth-posts}
 use Rattle.dr_model.proofs.Taking.PacketsApart.{by_bytes, by_number, real}
 use Rattle.dr_model.proofs.Worlds.LastingPackets.{packets_last}
+use Rattle.dr_model.proofs.Worlds.PaddedRightly.{padded_rightly}
 use Rattle.dr_model.proofs.Worlds.Runs.{first_arrival, too_far, inbox_full, stands, opened, stays, once, repeats, refusal_changes_nothing}
 use Rattle.dr_model.proofs.laws.headline.Goals as goal
 
@@ -14,6 +15,7 @@ returns c = λ k. record {
   opened = opened k;
   stays = stays k;
   once = once k;
+  padded_rightly = padded_rightly k;
   repeats = repeats k;
   refusal_changes_nothing = refusal_changes_nothing k;
   by_bytes = by_bytes k;

@@ -14,7 +14,7 @@ use Rattle.dr_model.proofs.laws.sessions_agree.Goals as goal
 
 pub returns : goal.returns
 returns args k law = record {
-  opening = λ key side. ap (λ (client : Client). client.state) (sym (opening_client k key side));
+  opening = λ key formats side. ap (λ (client : Client). client.state) (sym (opening_client k key formats side));
   reads = λ c p lawful said. read-post k c p law lawful (is_place k c p lawful said);
   receives = λ c side v p at said. received k c side v p law at.conversation at.view said;
   checks = λ c v len. session_check k c v len;

@@ -1,8 +1,9 @@
-use Rattle.std.proofs.Common.{◌∙◌, Err, ap, inr, subst, sym, arith}
+use Rattle.std.proofs.Common.{◌∙◌, ℕ, List, Err, ap, ap₂, inr, subst, sym, arith}
 use Rattle.std.specs.Prelude.{IsSome}
+use Rattle.bodies.specs.declared.format.Format.{Format}
 use Rattle.dr_ports.specs.Writing.{TookBeginning}
 use Rattle.session_model.specs.Schedule.{agreement_seed}
-use Rattle.duet.specs.Held.{opening_duet}
+use Rattle.duet.specs.Held.{DuetNow, opening_duet}
 use Rattle.duet.specs.Tally.{opening_tally}
 use Rattle.duet.specs.Trace.{played}
 use Rattle.duet.proofs.PlayedLines.{plays_cut, plays_first, plays_last, plays_on, plays_short, tallies_last}
@@ -11,8 +12,13 @@ use Rattle.duet.proofs.playing.play.Goals as goal
 pub deeds-init : goal.deeds-init
 deeds-init g c =
     let k = g.K.Kem.mechanism in
+    let begun : List ℕ → Format → Format → DuetNow = λ key first second.
+    opening_duet k key (record { first = first; second = second }) c.len.result in
     plays_first k _ _ _ _ _ c.len.result c.lines-lines.ensures c.len.ensures
-    (c.in-Ok.ensures.ok ∙ ap (λ key. opening_duet k key c.len.result) c.key.ensures) c.in-Ok.ensures.few (c.new-tally.ensures ∙ ap opening_tally c.rounds.ensures)
+    (c.in-Ok.ensures.ok
+    ∙ ap (λ key. begun key c.format-first.result c.format-second.result) c.key.ensures
+    ∙ ap₂ (begun c.args.script.now.key) c.format-first.ensures c.format-second.ensures)
+    c.in-Ok.ensures.few (c.new-tally.ensures ∙ ap opening_tally c.rounds.ensures)
 
 pub deeds-preserved : goal.deeds-preserved
 deeds-preserved g c =

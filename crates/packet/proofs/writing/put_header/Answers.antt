@@ -6,5 +6,5 @@ pub returns : goal.returns
 unfolding header_of
 returns c =
     then_puts
-    (then_puts (then_puts (then_puts (then_puts (then_puts (then_puts c.put-at_session.ensures c.put-at_epoch.ensures) c.put_u32-at_previous.ensures) c.put_u32-at_index.ensures) c.put_u32-at_size.ensures)
+    (then_puts (then_puts (then_puts (then_puts (then_puts (then_puts c.put_version-at_session.ensures c.put-at_epoch.ensures) c.put_u32-at_previous.ensures) c.put_u32-at_index.ensures) c.put_u32-at_size.ensures)
     c.put_len-at_agreement.ensures) c.put-at_text_len.ensures) c.put_len.ensures

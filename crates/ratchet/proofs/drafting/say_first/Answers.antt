@@ -17,7 +17,7 @@ seal_packet-len-requires-clause-lawful g c =
     let fits : c.args.next.now.epoch + 1 ≤ LAST_EPOCH = omega (arith, more) in
     let one : 1 ≤ 1 = omega arith in
     let most : 1 ≤ INDEX_LIMIT = omega arith in
-    lawful_sealing _ _ _ _ _ _ _ c.requires.lawful.session_long fits before.0 (λ h. before.1 (omega (arith, h))) one most
+    lawful_sealing _ _ _ _ _ _ _ _ _ c.version-version.ensures c.requires.lawful.session_long fits before.0 (λ h. before.1 (omega (arith, h))) one most
     (ap length c.as_slice-in-Ok.ensures.value ∙ c.in-Ok.ensures.long ∙ sym (agreement_later _ _)) c.requires.short
 
 pub returns-in-Ok-clause-lawful : goal.returns-in-Ok-clause-lawful

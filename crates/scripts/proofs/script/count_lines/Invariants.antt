@@ -3,7 +3,7 @@ use Rattle.scripts.proofs.Reading.{IsCounting}
 use Rattle.scripts.proofs.script.count_lines.Given as goal
 
 abbrev pub invariant-lines : goal.invariant-lines
-invariant-lines l = IsCounting l.initial.text l.rest l.number
+invariant-lines l = IsCounting l.fn.from l.initial.text l.rest l.number
 
 abbrev pub decreases-lines : goal.decreases-lines
 decreases-lines l = length l.rest

@@ -6,7 +6,7 @@ use Rattle.session_commands.proofs.beginning.begin.Goals as goal
 
 pub returns-in-Err-clause-runs : goal.returns-in-Err-clause-runs
 returns-in-Err-clause-runs g c =
-    begin_counts g.D.Disk.state g.K.Kem.mechanism c.args.side (g.S.Source.at c.args.source.now)
+    begin_counts g.D.Disk.state g.K.Kem.mechanism c.args.side c.args.format (g.S.Source.at c.args.source.now)
     (g.S.Source.at c.read_and_begin.new.source) c.args.disk.now c.read_and_begin.new.disk
     (g.O.Sink.at c.args.out.now) (g.O.Sink.at c.finish.new.out) c.finish.result.code
     (record { ending = c.in-Err.ending; lines = []; came = c.in-Err.ensures.runs; ends = c.finish.ensures.ends })
@@ -14,7 +14,7 @@ returns-in-Err-clause-runs g c =
 
 pub returns-in-Ok-clause-runs : goal.returns-in-Ok-clause-runs
 returns-in-Ok-clause-runs g c =
-    begin_counts g.D.Disk.state g.K.Kem.mechanism c.args.side (g.S.Source.at c.args.source.now)
+    begin_counts g.D.Disk.state g.K.Kem.mechanism c.args.side c.args.format (g.S.Source.at c.args.source.now)
     (g.S.Source.at c.read_and_begin.new.source) c.args.disk.now c.read_and_begin.new.disk
     (g.O.Sink.at c.args.out.now) (g.O.Sink.at c.finish_with.new.out) c.finish_with.result.code
     (record {

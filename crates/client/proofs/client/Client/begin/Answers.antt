@@ -2,6 +2,7 @@ use Rattle.std.proofs.Common.{inl, arith, None, Some, ap, refl, subst, sym, ◌�
 use Rattle.std.proofs.lemmas.Grind.{common_steps}
 use Rattle.dr_disk.specs.Spans.{Span}
 use Rattle.dr_disk.proofs.Steps.{quiet_twice, widen}
+use Rattle.dr_model.specs.Conversations.Formats.{formats_of}
 use Rattle.session_model.specs.Clients.{Client}
 use Rattle.session_record.specs.Record.{record_text}
 use Rattle.slot_store.specs.Found.{found_as, has_content}
@@ -24,7 +25,7 @@ pub returns-in-Err-clause-any_moment : goal.returns-in-Err-clause-any_moment
 returns-in-Err-clause-any_moment g c =
     let start = g.D.Disk.state c.args.disk.now in
     widen start (g.D.Disk.state c.open.new.disk) (IsEntryOrLike client_area start)
-    (IsEntryOrFirst g.K.Kem.mechanism c.args.key.now.bytes c.args.side start) (λ f left. inl left)
+    (IsEntryOrFirst g.K.Kem.mechanism c.args.key.now.bytes c.args.side c.args.format start) (λ f left. inl left)
     c.open.ensures.any_moment
 
 pub returns-in-Content-clause-unbegun : goal.returns-in-Content-clause-unbegun
@@ -52,7 +53,7 @@ returns-in-Err-begin-clause-unbegun g c = (
 pub returns-in-Err-first-clause-any_moment : goal.returns-in-Err-first-clause-any_moment
 returns-in-Err-first-clause-any_moment g c =
     let k = g.K.Kem.mechanism in
-    let begun = begun_client k c.args.key.now.bytes c.args.side in
+    let begun = begun_client k c.args.key.now.bytes c.args.side c.args.format in
     let start = g.D.Disk.state c.args.disk.now in
     let mid = g.D.Disk.state c.open.new.disk in
     let now = g.D.Disk.state c.first.new.disk in
@@ -61,14 +62,14 @@ returns-in-Err-first-clause-any_moment g c =
     let putting : Span mid now (IsOldOrNew mid client_area None (Some (record_text begun))) =
     subst (λ (kept : Client). Span mid now (IsOldOrNew mid client_area None (Some (record_text kept))))
     c.in-Ok-begin.ensures.ok c.first.ensures.any_moment in
-    first_moments k c.readings.ensures c.args.key.now.bytes c.args.side start mid now (g.met.D.Disk.lawful c.args.disk.now) none
+    first_moments k c.readings.ensures c.args.key.now.bytes c.args.side c.args.format start mid now (g.met.D.Disk.lawful c.args.disk.now) none
     (c.in-Ok-begin.ensures.variant.0 refl)
     (λ f left. (c.in-Ok-open.ensures.opened.at_rest f left).1) c.open.ensures.any_moment putting
 
 pub returns-in-Err-first-clause-reads : goal.returns-in-Err-first-clause-reads
 returns-in-Err-first-clause-reads g c = λ s seen.
     let k = g.K.Kem.mechanism in
-    let begun = begun_client k c.args.key.now.bytes c.args.side in
+    let begun = begun_client k c.args.key.now.bytes c.args.side c.args.format in
     let start = g.D.Disk.state c.args.disk.now in
     let mid = g.D.Disk.state c.open.new.disk in
     let now = g.D.Disk.state c.first.new.disk in
@@ -77,7 +78,7 @@ returns-in-Err-first-clause-reads g c = λ s seen.
     let putting : Span mid now (IsOldOrNew mid client_area None (Some (record_text begun))) =
     subst (λ (kept : Client). Span mid now (IsOldOrNew mid client_area None (Some (record_text kept))))
     c.in-Ok-begin.ensures.ok c.first.ensures.any_moment in
-    first_left k c.readings.ensures c.args.key.now.bytes c.args.side start mid now (g.met.D.Disk.lawful c.args.disk.now) none
+    first_left k c.readings.ensures c.args.key.now.bytes c.args.side c.args.format start mid now (g.met.D.Disk.lawful c.args.disk.now) none
     (c.in-Ok-begin.ensures.variant.0 refl)
     (λ f left. (c.in-Ok-open.ensures.opened.at_rest f left).1) c.open.ensures.any_moment putting
     s ((g.met.D.Disk.lawful c.first.new.disk).seen_now s seen)
@@ -85,7 +86,7 @@ returns-in-Err-first-clause-reads g c = λ s seen.
 pub returns-in-Ok-first-clause-any_moment : goal.returns-in-Ok-first-clause-any_moment
 returns-in-Ok-first-clause-any_moment g c =
     let k = g.K.Kem.mechanism in
-    let begun = begun_client k c.args.key.now.bytes c.args.side in
+    let begun = begun_client k c.args.key.now.bytes c.args.side c.args.format in
     let start = g.D.Disk.state c.args.disk.now in
     let mid = g.D.Disk.state c.open.new.disk in
     let now = g.D.Disk.state c.first.new.disk in
@@ -94,14 +95,14 @@ returns-in-Ok-first-clause-any_moment g c =
     let putting : Span mid now (IsOldOrNew mid client_area None (Some (record_text begun))) =
     subst (λ (kept : Client). Span mid now (IsOldOrNew mid client_area None (Some (record_text kept))))
     c.in-Ok-begin.ensures.ok c.first.ensures.any_moment in
-    first_moments k c.readings.ensures c.args.key.now.bytes c.args.side start mid now (g.met.D.Disk.lawful c.args.disk.now) none
+    first_moments k c.readings.ensures c.args.key.now.bytes c.args.side c.args.format start mid now (g.met.D.Disk.lawful c.args.disk.now) none
     (c.in-Ok-begin.ensures.variant.0 refl)
     (λ f left. (c.in-Ok-open.ensures.opened.at_rest f left).1) c.open.ensures.any_moment putting
 
 pub returns-in-Ok-first-clause-reads : goal.returns-in-Ok-first-clause-reads
 returns-in-Ok-first-clause-reads g c = λ s seen.
     let k = g.K.Kem.mechanism in
-    let begun = begun_client k c.args.key.now.bytes c.args.side in
+    let begun = begun_client k c.args.key.now.bytes c.args.side c.args.format in
     let start = g.D.Disk.state c.args.disk.now in
     let mid = g.D.Disk.state c.open.new.disk in
     let now = g.D.Disk.state c.first.new.disk in
@@ -110,20 +111,20 @@ returns-in-Ok-first-clause-reads g c = λ s seen.
     let putting : Span mid now (IsOldOrNew mid client_area None (Some (record_text begun))) =
     subst (λ (kept : Client). Span mid now (IsOldOrNew mid client_area None (Some (record_text kept))))
     c.in-Ok-begin.ensures.ok c.first.ensures.any_moment in
-    first_left k c.readings.ensures c.args.key.now.bytes c.args.side start mid now (g.met.D.Disk.lawful c.args.disk.now) none
+    first_left k c.readings.ensures c.args.key.now.bytes c.args.side c.args.format start mid now (g.met.D.Disk.lawful c.args.disk.now) none
     (c.in-Ok-begin.ensures.variant.0 refl)
     (λ f left. (c.in-Ok-open.ensures.opened.at_rest f left).1) c.open.ensures.any_moment putting
     s ((g.met.D.Disk.lawful c.first.new.disk).seen_now s seen)
 
 pub returns-in-Ok-first-clause-in_worlds : goal.returns-in-Ok-first-clause-in_worlds
-returns-in-Ok-first-clause-in_worlds g c =
+returns-in-Ok-first-clause-in_worlds g c = λ other.
     let k = g.K.Kem.mechanism in
     let key = c.args.key.now.bytes in
     record {
-      lawful = (c.both_sides_follow.ensures k c.laws.ensures.law).lawful_opening key (c.in-Ok-begin.ensures.variant.0 refl);
+      lawful = (c.both_sides_follow.ensures k c.laws.ensures.law).lawful_opening key (formats_of c.args.side c.args.format other) (c.in-Ok-begin.ensures.variant.0 refl);
       keeps =
           c.in-Ok-first.ensures.keeps ∙ c.in-Ok-begin.ensures.ok
-          ∙ kept_first k key c.args.side;
+          ∙ kept_first k key c.args.side c.args.format other;
     }
 
 pub returns-in_default-clause-any_moment : goal.returns-in_default-clause-any_moment

@@ -13,7 +13,8 @@ pub returns-in-Ok-begin-2-clause-ok : goal.returns-in-Ok-begin-2-clause-ok
 returns-in-Ok-begin-2-clause-ok g c =
     let first = c.in-Ok-begin.ensures.ok in
     let names = c.names-names.result in
-    let boxes : boxes_now c.in-Ok-new.relay ≡ opening_boxes (opening_client g.K.Kem.mechanism c.args.key.now.bytes First) =
+    let begun = opening_client g.K.Kem.mechanism c.args.key.now.bytes First c.args.first_format in
+    let boxes : boxes_now c.in-Ok-new.relay ≡ opening_boxes begun =
     ap boxes_now c.in-Ok-new.ensures ∙ same_boxes (empty_box names.own ∷ empty_box names.peers ∷ [])
     ∙ ap₂ (λ (own peers : List ℕ). empty_box own ∷ empty_box peers ∷ []) (c.names-names.ensures.own ∙ ap (λ (p : PartyNow). own_box p.kept) first) (c.names-names.ensures.peers ∙ ap (λ (p : PartyNow). peers_box p.kept) first) in
     let second = c.in-Ok-begin-2.ensures.ok in

@@ -1,6 +1,7 @@
 use Rattle.std.proofs.Common.{◌∙◌, ◌++◌, List, ap, arith}
 use Rattle.std.specs.Prelude.{replicate}
 use Rattle.scripts.specs.Deeds.{Deed}
+use Rattle.scripts.specs.Heads.{both_plain}
 use Rattle.scripts.specs.Script.{Scripted}
 use Rattle.scripts.specs.declared.script.KemName.TheVariants.{Open}
 use Rattle.scripts.proofs.Making.{makes_all, makes_first, makes_on}
@@ -17,7 +18,13 @@ rounds-preserved c =
 pub returns : goal.returns
 returns c =
     let all = makes_all _ _ _ _ _ _ c.rounds.invariant (omega arith) in
-    ap (λ (deeds : List Deed). let script : Scripted = record { kem = Open; key = replicate 32 0; deeds = deeds; rounds = c.args.rounds } in script) all.1
+    ap (λ (deeds : List Deed). let script : Scripted = record {
+      kem = Open;
+      key = replicate 32 0;
+      formats = both_plain;
+      deeds = deeds;
+      rounds = c.args.rounds;
+    } in script) all.1
 
 pub invariant_of-result : goal.invariant_of-result
 invariant_of-result c = (makes_all _ _ _ _ _ _ c.rounds.invariant (omega arith)).0

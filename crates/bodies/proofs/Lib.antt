@@ -1,0 +1,4 @@
+pub mod Padded
+pub mod Sealed
+pub mod Opened
+pub mod Short

@@ -1,0 +1,4 @@
+pub mod Padding
+pub mod Bodies
+pub mod Lawful
+pub mod Formats

@@ -1,0 +1,48 @@
+-- The lines of a script that may stand between its key and its deeds.
+use Rattle.std.specs.Prelude.{ℕ, List, [], ◌∷◌, Option, Some, None, option_map, codes, if◌then◌else◌}
+use Rattle.std.specs.Option.{option_and_then}
+use Rattle.bodies.specs.declared.format.Format.{Format}
+use Rattle.bodies.specs.declared.format.Format.TheVariants.{Padded, Plain}
+use Rattle.dr_model.specs.Conversations.Formats.{Formats}
+use Rattle.scripts.specs.Words.{after_prefix, halves_of, is_text}
+
+-- `plain` or `padded`
+unfoldable pub format_read : List ℕ → Option Format
+format_read word =
+    if is_text (codes "plain") word then Some Plain
+    else (if is_text (codes "padded") word then Some Padded else None)
+
+-- First's format, and Second's
+abbrev pub both_read : List ℕ × List ℕ → Option Formats
+both_read halves =
+    option_and_then (λ first.
+    option_map (λ second. record { first = first; second = second }) (format_read halves.1))
+    (format_read halves.0)
+
+-- the formats of the line `format F G`
+unfoldable pub formats_read : List ℕ → Option Formats
+formats_read line =
+    option_and_then both_read (option_and_then (halves_of 32) (after_prefix (codes "format ") line))
+
+-- what the lines before the deeds say, the number of the next line, and the lines from it on
+pub record Headed : Type 0 where
+  pub formats : Formats
+  pub number : ℕ
+  pub lines : List (List ℕ)
+
+-- where no line says formats, both sides seal their texts as they are
+abbrev pub both_plain : Formats
+both_plain = record { first = Plain; second = Plain }
+
+abbrev pub plain_head : List (List ℕ) → Headed
+plain_head lines = record { formats = both_plain; number = 3; lines = lines }
+
+-- a third line and those after it, where it says formats, and where it doesn't
+abbrev pub with_formats : Option Formats → List ℕ → List (List ℕ) → Headed
+with_formats None line lines = plain_head (line ∷ lines)
+with_formats (Some formats) line lines = record { formats = formats; number = 4; lines = lines }
+
+-- the head of the lines after the key, which begin with the third
+unfoldable pub head_of : List (List ℕ) → Headed
+head_of [] = plain_head []
+head_of (line ∷ lines) = with_formats (formats_read line) line lines

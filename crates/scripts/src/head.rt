@@ -1,0 +1,104 @@
+//! The lines of a script before its deeds. Those after its key may be left out.
+
+ghost use Rattle.std.specs.Prelude.{◌≡◌, ◌≤◌, length, option_map};
+ghost use Rattle.scripts.specs.Heads.{format_read, formats_read, head_of};
+ghost use Rattle.scripts.specs.Script.{kem_read, key_read, lines_of};
+ghost use Rattle.scripts.specs.Seen.{head_seen};
+
+use crate::script::KemName;
+use crate::split::{after_prefix, cut_at, split_line};
+use bodies::Format;
+use dr_base::Key32;
+use hex::FromHex;
+
+/// What the lines after the key say, and the text after them.
+#[derive(Clone, Copy)]
+pub struct Head<'a> {
+    /// How First seals its texts.
+    pub first: Format,
+    /// How Second does.
+    pub second: Format,
+    /// The number of the line that the rest begins with.
+    pub number: u32,
+    pub rest: &'a [u8],
+}
+
+/// The mechanism that a line names.
+#[tactic(auto, unfolding(crate::specs::Script::kem_read))]
+pub fn parse_kem(line: &[u8]) -> Option<KemName>
+    ensures { result ≡ kem_read line.now }
+{
+    if line == b"kem open".as_slice() {
+        return Some(KemName::Open);
+    }
+    if line == b"kem sntrup761".as_slice() {
+        return Some(KemName::Sntrup761);
+    }
+    None
+}
+
+/// The key of a line `key` and 64 hex digits of either case.
+#[tactic(auto, unfolding(crate::specs::Script::key_read))]
+pub fn parse_key(line: &[u8]) -> Option<Key32>
+    ensures { option_map (λ key. key.bytes) result ≡ key_read line.now }
+{
+    match after_prefix(line, b"key ") {
+        Some(digits) => match <[u8; 32] as FromHex>::from_hex(digits) {
+            Ok(bytes) => Some(Key32 { bytes }),
+            Err(_) => None,
+        },
+        None => None,
+    }
+}
+
+/// Reads `plain` or `padded`.
+#[tactic(auto, unfolding(crate::specs::Heads::format_read))]
+fn parse_format(word: &[u8]) -> Option<Format>
+    ensures { result ≡ format_read word.now }
+{
+    if word == b"plain".as_slice() {
+        return Some(Format::Plain);
+    }
+    if word == b"padded".as_slice() {
+        return Some(Format::Padded);
+    }
+    None
+}
+
+/// Reads `format`, First's and Second's.
+#[tactic(auto, unfolding(crate::specs::Heads::formats_read))]
+fn parse_formats(line: &[u8]) -> Option<(Format, Format)>
+    ensures { option_map (λ formats. record { first = formats.0; second = formats.1 }) result
+        ≡ formats_read line.now }
+{
+    let words = after_prefix(line, b"format ")?;
+    let (first, second) = cut_at(words, b' ')?;
+    let first = parse_format(first)?;
+    let second = parse_format(second)?;
+    Some((first, second))
+}
+
+/// The head of what stands after the key.
+#[tactic(auto, unfolding(crate::specs::Heads::head_of))]
+pub fn parse_head(text: &[u8]) -> Head<'_>
+    ensures head { head_seen result ≡ head_of (lines_of text.entry.now) }
+    ensures early { result.number ≤ 4 }
+    ensures within { length result.rest.now ≤ length text.entry.now }
+{
+    if let Some((line, rest)) = split_line(text) {
+        if let Some((first, second)) = parse_formats(line) {
+            return Head {
+                first,
+                second,
+                number: 4,
+                rest,
+            };
+        }
+    }
+    Head {
+        first: Format::Plain,
+        second: Format::Plain,
+        number: 3,
+        rest: text,
+    }
+}
