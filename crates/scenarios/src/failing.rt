@@ -23,7 +23,7 @@ pub enum Port {
 }
 
 /// A command, with what the source and the link hold, and with what its side has done before, as
-/// rows of `answers`; and whether its record, in page 2, is one of version 1 then.
+/// rows of `answers`; and whether its record, that of First's beginning, is one of version 1 then.
 #[derive(Clone, Copy)]
 pub struct Case<'a> {
     pub earlier: &'a str,
@@ -115,9 +115,31 @@ fn run_on_disk(
     })
 }
 
-/// Puts the record in page 2 into version 1.
+/// How many bytes First's record has at the beginning.
+const LEN: usize = 1257;
+
+/// Writes bytes at a place. Answers whether it did.
+fn lays(disk: &mut MemoryDisk, at: u64, bytes: &[u8]) -> bool {
+    disk.size() == DISK_SIZE
+        && at <= DISK_SIZE
+        && bytes.len() as u64 <= DISK_SIZE - at
+        && disk.write_at(at, bytes).is_ok()
+}
+
+/// Reads the bytes of page 2, as many as there is room for. Answers whether it did.
+fn reads(disk: &mut MemoryDisk, into: &mut [u8]) -> bool {
+    disk.size() == DISK_SIZE && into.len() <= 4096 && disk.read(8192, into).is_ok()
+}
+
+/// Puts First's record, in page 2 under table 0, into version 1: the byte of its format, which is
+/// its third, goes, and its number changes.
 fn age(disk: &mut MemoryDisk) -> bool {
-    disk.size() == DISK_SIZE && disk.write_at(8192, &[1]).is_ok()
+    let mut text = [0; LEN];
+    reads(disk, &mut text)
+        && lays(disk, 8192, &[1])
+        && lays(disk, 8194, &text[3..])
+        && lays(disk, 9448, &[0])
+        && lays(disk, 2, &[0, 0, 4, 0xe8])
 }
 
 /// The same on a new disk, once the side has done what it does before; nothing where it didn't do
