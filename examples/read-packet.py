@@ -5,11 +5,12 @@ key of theirs. It keeps nothing between two runs, so it opens a packet as often 
 
     messenger outbox | examples/read-packet.py open first KEY
     examples/read-packet.py seal second KEY INDEX 'are you there?' | messenger take
+    examples/read-packet.py pad second KEY INDEX 'are you there?' | messenger take
 
-KEY is a file with the session's key, as `messenger begin` reads it. `open` is followed by the side that reads, and `seal`
-by the one that says. `open` reads packets in hex, one a line; each may have its position before it. Of each it prints the
-position and the text, as `messenger inbox` does, or why not, with the names of PROTOCOL. `seal` prints a packet; without a
-text it seals what standard input holds. The status is 0, or 1 where a file can't be read, 2 where the words are no
+KEY is a file with the session's key, as `messenger begin` reads it. `open` is followed by the side that reads, `seal` and
+`pad` by the one that says. `open` reads packets in hex, one a line, plain and padded ones; each may have its position
+before it. Of each it prints the position and the text, as `messenger inbox` does, or why not, with the names of PROTOCOL.
+`seal` prints a plain packet, `pad` a padded one; without a text they seal what standard input holds. The status is 0, or 1 where a file can't be read, 2 where the words are no
 command, and 3 where something is refused.
 """
 import hmac
@@ -18,8 +19,10 @@ import re
 import struct
 import sys
 
-USAGE = "usage: read-packet.py open first|second KEY < PACKETS\n       read-packet.py seal first|second KEY INDEX [TEXT]"
+USAGE = "usage: read-packet.py open first|second KEY < PACKETS\n       read-packet.py seal|pad first|second KEY INDEX [TEXT]"
 AGREEMENT = 1039 + 1158  # over sntrup761: a ciphertext and a public key
+PLAIN, PADDED = 1, 2  # versions
+LENGTHS = {PLAIN: range(4097), PADDED: range(256, 4353, 256)}  # of what a packet seals
 COLUMNS = [(0, 4, 8, 12), (1, 5, 9, 13), (2, 6, 10, 14), (3, 7, 11, 15)]
 DIAGONALS = [(0, 5, 10, 15), (1, 6, 11, 12), (2, 7, 8, 13), (3, 4, 9, 14)]
 
@@ -76,8 +79,21 @@ def tag_of(key, head, ciphertext):
     return mac(key, head + ciphertext + struct.pack("<QQ", len(head), len(ciphertext)))
 
 
+def padded(text):
+    """The text after its length, filled up with zeros."""
+    made = struct.pack(">H", len(text)) + text
+    return made + bytes(-len(made) % 256)
+
+
+def unpadded(sealed):
+    text = sealed[2 : 2 + int.from_bytes(sealed[:2], "big")]
+    if len(text) > 4096 or padded(text) != sealed:
+        raise Refused("BadPadding")
+    return text
+
+
 def fields_of(packet):
-    """Session id, epoch, index, all that stands before the ciphertext, the ciphertext and the tag."""
+    """Version, session id, epoch, index, all that stands before the ciphertext, the ciphertext and the tag."""
     at = 0
 
     def field(size):
@@ -93,24 +109,24 @@ def fields_of(packet):
             raise Refused(f"Malformed {kind} {at - size}")
         return value
 
-    number(1, "Version", [1])
+    version = number(1, "Version", LENGTHS)
     session = field(16)
     epoch = number(4, "Epoch", range(2**32 - 1))
     number(4, "Previous", range(65536) if epoch > 1 else [0])
     index = number(4, "Index", range(1, 65536))
     field(number(2, "Agreement", [AGREEMENT if epoch > 0 else 0]))
-    length = number(2, "Text", range(4097))
+    length = number(2, "Text", LENGTHS[version])
     head = packet[:at]
     ciphertext, tag = field(length), field(32)
     if at < len(packet):
         raise Refused(f"Malformed Long {at}")
-    return session, epoch, index, head, ciphertext, tag
+    return version, session, epoch, index, head, ciphertext, tag
 
 
 def opened(side, key, packet):
     """The index and the text."""
     stream, session = beginning(key)
-    its_session, epoch, index, head, ciphertext, tag = fields_of(packet)
+    version, its_session, epoch, index, head, ciphertext, tag = fields_of(packet)
     if its_session != session:
         raise Refused("OtherSession")
     if side == ("first" if epoch % 2 else "second"):
@@ -120,18 +136,24 @@ def opened(side, key, packet):
     cipher_key, tag_key, nonce = message(stream, index)
     if not hmac.compare_digest(tag, tag_of(tag_key, head, ciphertext)):
         raise Refused("BadTag")
-    return index, enciphered(cipher_key, nonce, ciphertext)
+    opens_to = enciphered(cipher_key, nonce, ciphertext)
+    return index, opens_to if version == PLAIN else unpadded(opens_to)
 
 
-def sealed(side, key, index, text):
+def sealed(version, side, key, index, text):
     if side == "first":
         raise Refused("First says nothing in epoch 0, and epoch 1 needs the key encapsulation, which isn't here")
     if len(text) > 4096:
         raise Refused(f"TextTooLong {len(text)}")
+    return packet_of(version, key, index, text if version == PLAIN else padded(text))
+
+
+def packet_of(version, key, index, body):
+    """Second's packet in epoch 0 that seals these bytes."""
     stream, session = beginning(key)
     cipher_key, tag_key, nonce = message(stream, index)
-    head = struct.pack(">B16sIIIHH", 1, session, 0, 0, index, 0, len(text))
-    ciphertext = enciphered(cipher_key, nonce, text)
+    head = struct.pack(">B16sIIIHH", version, session, 0, 0, index, 0, len(body))
+    ciphertext = enciphered(cipher_key, nonce, body)
     return head + ciphertext + tag_of(tag_key, head, ciphertext)
 
 
@@ -154,7 +176,7 @@ def open_line(side, key, line):
 
 def main(words):
     opens = words[:1] == ["open"] and len(words) == 3
-    seals = words[:1] == ["seal"] and len(words) in (4, 5) and words[3] in map(str, range(1, 65536))
+    seals = words[0:1] in (["seal"], ["pad"]) and len(words) in (4, 5) and words[3] in map(str, range(1, 65536))
     if not (opens or seals) or words[1] not in ("first", "second"):
         print(USAGE, file=sys.stderr)
         return 2
@@ -163,7 +185,8 @@ def main(words):
         key = bytes_of(file.read(), rb"((?:[0-9a-fA-F]{2}){32})", "BadKey")
     if seals:
         text = os.fsencode(words[4]) if words[4:] else sys.stdin.buffer.read()
-        print(sealed(side, key, int(words[3]), text).hex())
+        version = PADDED if words[0] == "pad" else PLAIN
+        print(sealed(version, side, key, int(words[3]), text).hex())
     else:
         for line in sys.stdin.buffer:
             try:

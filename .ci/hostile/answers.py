@@ -240,6 +240,8 @@ def bad_line(script):
             lawful = line in (b"kem open", b"kem sntrup761")
         elif at == 2:
             lawful = re.fullmatch(rb"key [0-9a-fA-F]{64}", line)
+        elif at == 3 and re.fullmatch(rb"format (plain|padded) (plain|padded)", line):
+            lawful = True
         elif lawful := LINE.fullmatch(line):
             said = [lawful[it] for it in ("text", "stopped", "failed") if lawful[it] is not None]
             text = said[0] if said else b""

@@ -2,7 +2,7 @@
 for `.ci/hostile-bytes`."""
 from typing import NamedTuple
 
-from hostile.formats import NEWEST, Fault, Side
+from hostile.formats import NEWEST, PLAIN, Fault, Side
 
 PAGE = 4096
 LOWER = 128  # pages that stand from an area's start on; the others stand from its upper place on
@@ -139,25 +139,37 @@ def side_of(image):
     return found_in(image, STATE_AREA, Side).record
 
 
-def aged(image):
-    """A side's file with its record in version 1, where that may hold it, or none."""
+def laid(image, found, record, kept):
+    """A side's file at rest with another record in place of the one that is found, behind the other table where the old one is
+    to be kept until then: what changes of it stands in the lowest free pages. Else it stands in the first pages of the old."""
+    area, turns = STATE_AREA, turns_of(image, STATE_AREA)
+    slot, turn = (1 - found.slot, turns[found.slot] % 3 + 1) if kept else (found.slot, turns[found.slot])
+    free = (number for number in range(2, area.pages) if number not in found.numbers)
+    pages, numbers = [record[at : at + PAGE].ljust(PAGE, b"\0") for at in range(0, len(record), PAGE)], []
+    for at, page in enumerate(pages):
+        stays = at < len(found.numbers) and (not kept or area.page(image, found.numbers[at]) == page)
+        numbers.append(found.numbers[at] if stays else next(free))
+    table = bytes((0xA5, turn)) + len(record).to_bytes(4, "big") + b"".join(number.to_bytes(2, "big") for number in numbers)
+    for number in found.stands():
+        image = put_at(image, area.place(number), bytes(PAGE))
+    for number, page in zip([slot, *numbers], [table.ljust(PAGE, b"\0"), *pages]):
+        image = put_at(image, area.place(number), page)
+    return image
+
+
+def aged(image, version):
+    """A side's file with its record in an earlier version, where that may hold it, or none."""
     found = found_in(image, STATE_AREA, Side)
-    old = put_at(image, STATE_AREA.place(found.numbers[0]), b"\1")
+    if found.record.format != PLAIN:
+        return None
+    text = found.record.record
+    old = laid(image, found, bytes([version]) + text[1:2] + text[3:], False)
     return None if foretold(old, STATE_AREA, Side)[2] else old
 
 
 def renewed(image, found):
-    """A side's file at rest once it was opened: a record of an earlier version is replaced by the same in the newest one, so its
-    first page and its table move."""
+    """A side's file at rest once it was opened: a record of an earlier version is replaced by the same in the newest one."""
     if not found.record or found.record.version == NEWEST:
         return image
-    area, image = STATE_AREA, image.ljust(STATE_SIZE, b"\0")
-    old, slot, turn = found.numbers[0], 1 - found.slot, turns_of(image, area)[found.slot]
-    page = next(number for number in range(2, area.pages) if number not in found.numbers)
-    numbers = b"".join(number.to_bytes(2, "big") for number in [page, *found.numbers[1:]])
-    table = bytes((0xA5, turn % 3 + 1)) + len(found.record.record).to_bytes(4, "big") + numbers
-    image = put_at(image, area.place(page), bytes([NEWEST]) + area.page(image, old)[1:])
-    image = put_at(image, area.place(slot), table.ljust(PAGE, b"\0"))
-    for number in (found.slot, old):
-        image = put_at(image, area.place(number), bytes(PAGE))
-    return image
+    text = found.record.record
+    return laid(image.ljust(STATE_SIZE, b"\0"), found, bytes([NEWEST]) + text[1:2] + bytes([PLAIN]) + text[2:], True)

@@ -48,7 +48,7 @@ def changed(draw, text, others, places=()):
 
 
 # where tables and records have their first fields
-HEADS = (0, 1, 2, 3, 4, 5, 6, 8, 18, 36, 43, 44, 45, 50, 52, 53, 54, 3247, 3251)
+HEADS = (0, 1, 2, 3, 4, 5, 6, 8, 18, 19, 36, 43, 44, 45, 46, 50, 51, 52, 53, 54, 55, 3247, 3248, 3251, 3252)
 
 
 def changed_file(draw, image, others, area):
@@ -90,9 +90,10 @@ SCRIPTS = [
     "second say x,second sync,first lose 2,first sync,first say,first say ,second sync,first done all,second done 1,"
     "first state",
     f"seed {'1' * 64},first say z,first bytes 01020304,first bytes,second take 1.1",
+    "format plain padded,second say a,first take 0.1,first say b,second take 1.1",
 ]
 WORDS = "0 00 1 2 128 129 1025 4294967295 4294967296 #0 #1 #4294967295 0.0 0.1 1.1 2.1 0.65536 1.4294967295".split()
-WORDS += "all old new a5 A5 first second".split()
+WORDS += "all old new a5 A5 first second format plain padded".split()
 
 
 def changed_script(draw, script):

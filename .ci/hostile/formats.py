@@ -4,8 +4,11 @@ import re
 AGREEMENT = 2197  # bytes of an agreement message over sntrup761
 SECRET, PUBLIC = 1763, 1158
 KEPT, TEXTS, PACKETS, TEXT = 512, 128, 32, 4096
-NEWEST = 2  # the version of a side's record that is written
-LIMITS = {1: (256, 64, 1024), NEWEST: (KEPT, TEXTS, TEXT)}  # most kept keys, texts and bytes of a text in each version
+PLAIN, PADDED = 1, 2  # versions of packets, and formats of a session
+SEALED = {PLAIN: range(TEXT + 1), PADDED: range(256, 4353, 256)}  # how many bytes a packet seals
+NEWEST = 3  # the version of a side's record that is written
+# most kept keys, texts and bytes of a text in each version
+LIMITS = {1: (256, 64, 1024), 2: (KEPT, TEXTS, TEXT), NEWEST: (KEPT, TEXTS, TEXT)}
 ITEMS, STORED_PACKET = 64, 8000
 
 
@@ -40,7 +43,7 @@ class Fields:
 class Packet:
     def __init__(self, text):
         fields = Fields(text)
-        fields.number(1, "Version", 1, 1)
+        self.version = fields.number(1, "Version", PLAIN, PADDED)
         self.session = fields.bytes(16)
         self.epoch = fields.number(4, "Epoch", 0, 2**32 - 2)
         self.previous = fields.number(4, "Previous", 0, 65535 if self.epoch > 1 else 0)
@@ -48,7 +51,8 @@ class Packet:
         agreement = AGREEMENT if self.epoch else 0
         fields.number(2, "Agreement", agreement, agreement)
         fields.bytes(agreement)
-        self.size = fields.number(2, "Text", 0, TEXT)
+        sizes = SEALED[self.version]
+        self.size = int.from_bytes(fields.bytes(2, "Text", lambda size: int.from_bytes(size, "big") in sizes), "big")
         fields.bytes(self.size)
         fields.bytes(32)
         fields.end("Long")
@@ -62,6 +66,7 @@ class Side:
         self.record, self.version = record, fields.number(1, "", 1, NEWEST)
         self.most_keys, self.most_texts, self.most = LIMITS[self.version]
         self.side = fields.number(1, "", 1, 2)
+        self.format = fields.number(1, "", PLAIN, PADDED) if self.version >= 3 else PLAIN
         self.session = fields.bytes(16)
         fields.bytes(32)
         self.epoch = fields.number(4, "", 0, 2**32 - 2)
@@ -117,7 +122,8 @@ class Side:
         except Fault:
             raise Fault("", place) from None
         is_own = self.is_own(packet.epoch) and packet.epoch <= self.epoch
-        if packet.size > self.most or packet.session != self.session or not is_own:
+        is_late = self.version < 3 and (packet.version != PLAIN or packet.size > self.most)
+        if is_late or packet.session != self.session or not is_own:
             raise Fault("", place)
         return f"{packet.epoch}.{packet.index}", fields.text[place : fields.at]
 

@@ -11,14 +11,14 @@ KEY = b"0123456789abcdef" * 4
 
 
 class Inputs:
-    """A session of two sides, made by the program: state files of its steps, some with their record in version 1, packets with
-    their texts, files of relays."""
+    """A session of two sides, made by the program: state files of its steps, some with their record in an earlier version,
+    packets with their texts, files of relays. First's packets are plain, and Second's padded."""
 
     def __init__(self, work):
         self.said, self.stages, self.kept = {}, [], 1
         self.sides = {name: Folder(work, f"made-{name}", "messenger.state") for name in ("first", "second")}
-        for name in self.sides:
-            self.step(name, "begin", name, given=KEY)
+        for name, format in ("first", "plain"), ("second", "padded"):
+            self.step(name, "begin", name, format, given=KEY)
         self.session = side_of(self.stages[0]).session
         for text in (b"are you there?", b"\xc3\xa9\"\\\x01", b"x" * TEXT, b""):
             self.say("second", text)
@@ -36,7 +36,7 @@ class Inputs:
         self.take("first", f"2.{TEXTS}", *(f"2.{n}" for n in range(1, TEXTS - 1) if n != 20))
         self.say("first", b"y" * TEXT)  # its inbox is full
         self.take("second", "3.1")
-        self.stages += filter(None, map(aged, self.stages[::2]))
+        self.stages += [old for image in self.stages[::2] for version in (1, 2) if (old := aged(image, version))]
         self.packets = list(self.said)
         self.boxes = [self.session.hex().encode() + b"-%d" % k for k in (1, 2)] + [b"a"]
         draws = map(random.Random, range(5))

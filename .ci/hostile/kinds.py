@@ -6,7 +6,7 @@ from hostile.formats import STORED_PACKET, Box, Side
 from hostile.inputs import KEY
 from hostile.runs import expect, expect_talk, serve, sync
 
-PACKET_TEXT = 12717  # the most bytes of a packet's line
+PACKET_TEXT = 13229  # the most bytes of a packet's line
 KEPT = ("texts", "packets", "kept", "reach", "latest", "epoch")  # what of a side is compared
 
 
