@@ -6,7 +6,7 @@ use bodies::Format;
 use boxes::{Inbox, Outbox};
 use dr_base::{INBOX_LIMIT, Key32, OUTBOX_LIMIT, Position, Side, TEXT_LIMIT};
 use kem_laws::Kem;
-use ratchet::Session;
+use ratchet::{PacketRoom, Session};
 use session_record::{Change, RECORD_LIMIT, decode, encode};
 use sntrup761::Sntrup761;
 use std::alloc::Global;
@@ -20,9 +20,11 @@ const RUNS: usize = 201;
 
 /// Says this many texts of the greatest length, whose packets stay in the outbox.
 fn fill_outbox<K: Kem>(session: &mut Session<K>, work: &mut K::Work, outbox: &mut Outbox) {
+    let mut room = PacketRoom::new();
     for _ in 0..OUTBOX_LIMIT {
         if let Ok(asked) = session.send_check(TEXT_LIMIT) {
-            if let Ok(draft) = session.draft_send(work, &[5; TEXT_LIMIT], seed_of(asked, 3)) {
+            let seed = seed_of(asked, 3);
+            if let Ok(draft) = session.draft_send(work, &[5; TEXT_LIMIT], seed, &mut room) {
                 let _pushed = outbox.push(draft.position(), draft.packet());
                 draft.accept(session);
             }

@@ -5,7 +5,7 @@ ghost use Rattle.std.specs.Prelude.{⊤, ℕ, List, None};
 use crate::clock::Times;
 use dr_base::PAGE;
 use dr_disk::{Disk, FileDisk, Sharing};
-use slot_store::{Area, Grammar, SlotStore, record_room};
+use slot_store::{Area, Grammar, SlotStore, lengthen, record_memory};
 use std::fs::{File, OpenOptions};
 use std::io::{Error, ErrorKind};
 use std::os::unix::fs::FileExt;
@@ -63,7 +63,8 @@ fn replace<R: Clock + AllocGlobal + Files<File = File>>(
     else {
         return Err(Error::from(ErrorKind::InvalidData));
     };
-    let mut room = record_room(rt.alloc(), area)?;
+    let mut room = record_memory(rt.alloc(), area)?;
+    lengthen(area, &mut room);
     room[..text.len()].copy_from_slice(text);
     let start = Instant::now(rt)?;
     let Ok(()) = store.replace(disk, &mut room, text.len()) else {

@@ -9,7 +9,7 @@ use cka::agreement_length;
 use dr_base::{KEPT_LIMIT, Key32, Side};
 use kem_laws::{Kem, OpenKem};
 use packet::parse;
-use ratchet::{KeptRoom, Session};
+use ratchet::{OpeningRoom, PacketRoom, Session};
 use sntrup761::Sntrup761;
 use std::alloc::{AllocError, Global};
 use std::io;
@@ -29,6 +29,23 @@ struct Party<K: Kem> {
     session: Session<K>,
     inbox: Inbox,
     outbox: Outbox,
+}
+
+/// The rooms in which texts are said and taken.
+#[derive(Drop)]
+struct Rooms {
+    packet: PacketRoom,
+    opening: OpeningRoom,
+}
+
+impl Rooms {
+    /// Makes them.
+    fn new() -> Rooms {
+        Rooms {
+            packet: PacketRoom::new(),
+            opening: OpeningRoom::new(),
+        }
+    }
 }
 
 /// A seed of equal bytes, if one is asked for.
@@ -61,24 +78,23 @@ fn begun<K: Kem>(
 }
 
 /// A side says a text of 100 bytes: its packet stands in the outbox.
-fn say<K: Kem>(party: &mut Party<K>, work: &mut K::Work, byte: u8) {
+fn say<K: Kem>(party: &mut Party<K>, work: &mut K::Work, byte: u8, room: &mut PacketRoom) {
     let Ok(asked) = party.session.send_check(100) else {
         return;
     };
     let seed = seed_of(asked, byte);
-    if let Ok(draft) = party.session.draft_send(work, &[byte; 100], seed) {
+    if let Ok(draft) = party.session.draft_send(work, &[byte; 100], seed, room) {
         let _pushed = party.outbox.push(draft.position(), draft.packet());
         draft.accept(&mut party.session);
     }
 }
 
 /// A side takes a packet, and is done with its text.
-fn take<K: Kem>(party: &mut Party<K>, work: &mut K::Work, packet: &[u8]) {
+fn take<K: Kem>(party: &mut Party<K>, work: &mut K::Work, packet: &[u8], room: &mut OpeningRoom) {
     let Ok(view) = parse(packet, agreement_length::<K>()) else {
         return;
     };
-    let mut room = KeptRoom::new();
-    if let Ok(draft) = party.session.draft_receive(work, &view, &mut room) {
+    if let Ok(draft) = party.session.draft_receive(work, &view, room) {
         let _pushed = party.inbox.push(draft.position(), draft.text());
         draft.accept(&mut party.session);
         let _done = party.inbox.drop_first(1);
@@ -86,10 +102,16 @@ fn take<K: Kem>(party: &mut Party<K>, work: &mut K::Work, packet: &[u8]) {
 }
 
 /// One side says a text, the other takes its packet, and both boxes are emptied.
-fn pass<K: Kem>(from: &mut Party<K>, to: &mut Party<K>, work: &mut K::Work, byte: u8) {
-    say(from, work, byte);
+fn pass<K: Kem>(
+    from: &mut Party<K>,
+    to: &mut Party<K>,
+    work: &mut K::Work,
+    byte: u8,
+    rooms: &mut Rooms,
+) {
+    say(from, work, byte, &mut rooms.packet);
     if let Some((_, packet)) = from.outbox.at(0) {
-        take(to, work, packet);
+        take(to, work, packet, &mut rooms.opening);
     }
     let _sent = from.outbox.drop_first(1);
 }
@@ -112,9 +134,10 @@ fn pass_texts<K: Kem, R: Clock>(
     work: &mut K::Work,
     times: &mut Times,
 ) -> io::Result<()> {
+    let mut rooms = Rooms::new();
     for _ in 0..TEXTS {
         let start = Instant::now(rt)?;
-        pass(from, to, work, 1);
+        pass(from, to, work, 1, &mut rooms);
         times.add(rt, start)?;
     }
     Ok(())
@@ -128,13 +151,14 @@ fn pass_turns<K: Kem, R: Clock>(
     work: &mut K::Work,
     times: &mut Times,
 ) -> io::Result<()> {
+    let mut rooms = Rooms::new();
     for run in 0..TURNS {
         let byte = (run % 128) as u8;
         let start = Instant::now(rt)?;
         if run % 2 == 0 {
-            pass(first, second, work, byte);
+            pass(first, second, work, byte, &mut rooms);
         } else {
-            pass(second, first, work, byte);
+            pass(second, first, work, byte, &mut rooms);
         }
         times.add(rt, start)?;
     }
@@ -148,8 +172,9 @@ fn time_text<K: Kem, R: Clock + AllocGlobal>(
     kept: usize,
 ) -> io::Result<u64> {
     let (mut first, mut second) = parties::<K>(rt.alloc(), work)?;
+    let mut room = PacketRoom::new();
     for _ in 0..kept {
-        say(&mut second, work, 1);
+        say(&mut second, work, 1, &mut room);
         let _lost = second.outbox.drop_first(1);
     }
     let mut times = Times::new(rt.alloc());

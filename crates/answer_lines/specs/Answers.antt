@@ -4,7 +4,9 @@ use Rattle.dr_base.specs.declared.position.Position.{Position}
 use Rattle.packet.specs.declared.fault.Kind.{Kind}
 use Rattle.packet.specs.declared.fault.Kind.TheVariants.{Version, Epoch, Previous, Index, Agreement, Text, Short, Long}
 use Rattle.session_model.specs.declared.answer.Answer.{Answer}
-use Rattle.session_model.specs.declared.answer.Answer.TheVariants.{Said, Opened, Sent, Done, Inbox, State, Seeded, Stopped, Nothing, Refused}
+use Rattle.session_model.specs.declared.answer.Answer.TheVariants.{Said, Opened, Dropped, Inbox, State, Seeded, Stopped, Nothing, Refused}
+use Rattle.session_model.specs.declared.answer.Items.{Items}
+use Rattle.session_model.specs.declared.answer.Items.TheVariants.{Packets, Texts}
 use Rattle.session_model.specs.declared.answer.Refusal.{Refusal}
 use Rattle.session_model.specs.declared.answer.Refusal.TheVariants.{TextTooLong, OutboxFull, EpochFull, LastEpoch, NoPair, Malformed, OtherSession, OwnPacket, Ahead, Spent, Count, SkipLimit, BadTag, BadPadding, InboxFull, Fewer}
 use Rattle.session_model.specs.declared.answer.Summary.{Summary}
@@ -49,12 +51,16 @@ summary_text s =
     codes "epoch " ++ decimal s.epoch ++ codes " missing " ++ decimal s.missing ++ codes " inbox " ++ decimal s.inbox
     ++ codes " outbox " ++ decimal s.outbox
 
+-- the word of a call that drops items, before their number
+unfoldable pub drop_word : Items → List ℕ
+drop_word Packets = codes "sent "
+drop_word Texts = codes "done "
+
 -- an answer in words
 unfoldable pub answer_text : Answer → List ℕ
 answer_text (Said p) = codes "said " ++ position_text p
 answer_text (Opened p) = codes "opened " ++ position_text p
-answer_text (Sent n) = codes "sent " ++ decimal n
-answer_text (Done n) = codes "done " ++ decimal n
+answer_text (Dropped items n) = drop_word items ++ decimal n
 answer_text (Inbox n) = codes "inbox " ++ decimal n
 answer_text (State s) = codes "state " ++ summary_text s
 answer_text Seeded = []

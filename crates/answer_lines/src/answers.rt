@@ -1,12 +1,12 @@
 //! Answers in words.
 
 ghost use Rattle.std.specs.Prelude.{◌≡◌, ℕ, ◌+◌, ◌≤◌, List, ◌++◌, length, codes, decimal};
-ghost use Rattle.answer_lines.specs.Answers.{position_text, kind_text, refusal_text, summary_text, answer_text};
+ghost use Rattle.answer_lines.specs.Answers.{position_text, kind_text, refusal_text, summary_text, drop_word, answer_text};
 
 use dr_base::Position;
 use dr_ports::{OutputLine, ROOM};
 use packet::{Kind, Malformed};
-use session_model::{Answer, Refusal, Summary};
+use session_model::{Answer, Items, Refusal, Summary};
 
 /// Puts a name and a number after what stands.
 pub fn put_named(line: &mut OutputLine, name: &[u8], number: u64)
@@ -109,6 +109,18 @@ pub fn put_summary(line: &mut OutputLine, summary: Summary)
     put_named(line, b" outbox ", u64::from(summary.outbox));
 }
 
+/// The word of a call that drops items, before their number: `sent ` or `done `.
+#[tactic(auto, unfolding(crate::specs::Answers::drop_word))]
+pub fn drop_word(items: Items) -> &'static [u8]
+    ensures word { result.now ≡ drop_word items }
+    ensures len { length result.now ≡ 5 }
+{
+    match items {
+        Items::Packets => b"sent ",
+        Items::Texts => b"done ",
+    }
+}
+
 /// Puts an answer in words after what stands.
 #[tactic(auto, unfolding(crate::specs::Answers::answer_text))]
 pub fn put_answer(line: &mut OutputLine, answer: Answer)
@@ -125,8 +137,7 @@ pub fn put_answer(line: &mut OutputLine, answer: Answer)
             line.text(b"opened ");
             put_position(line, position);
         }
-        Answer::Sent(n) => put_named(line, b"sent ", u64::from(n)),
-        Answer::Done(n) => put_named(line, b"done ", u64::from(n)),
+        Answer::Dropped(items, n) => put_named(line, drop_word(items), u64::from(n)),
         Answer::Inbox(n) => put_named(line, b"inbox ", u64::from(n)),
         Answer::State(summary) => {
             line.text(b"state ");

@@ -8,7 +8,7 @@ use Rattle.dr_base.specs.declared.limits.TheConstants.{PLAIN, TEXT_LIMIT}
 use Rattle.grammar.specs.Reader.{Read, Reader, and_then, gives, checked, mapped, both, piece, number, ended}
 use Rattle.grammar.proofs.Steps.{from_and_then, from_test}
 use Rattle.bodies.specs.Bodies.{Body, HasContentAt, text_body, body_place, as_text, opened_body}
-use Rattle.bodies.specs.Lawful.{IsBody}
+use Rattle.bodies.specs.Lawful.{IsLawfulBody}
 use Rattle.bodies.specs.Padding.{filling, are_zeros, text_field, padded_field, found, unpadded}
 use Rattle.bodies.proofs.Sealed.{other_version}
 
@@ -149,7 +149,7 @@ unfolding opened_body
 opened-place version bytes body h = (opened_by (version == PLAIN) bytes body h).place
 
 pub opened-lawful : (version : ℕ) (bytes : List ℕ) (body : Body) → opened_body version bytes ≡ Some body
-    → IsBody version body
+    → IsLawfulBody version body
 unfolding opened_body
 opened-lawful version bytes body h =
     record { fits = λ other. (opened_by (version == PLAIN) bytes body h).fits (other_version version other) }

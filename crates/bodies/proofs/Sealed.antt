@@ -3,8 +3,8 @@ use Rattle.std.proofs.Common.{◌≡◌, ◌≢◌, ℕ, ◌==◌, ◌≤◌, Bo
 use Rattle.std.proofs.lemmas.Bool.Decides.{nat_tests}
 use Rattle.dr_base.specs.Bytes.{AreBytes}
 use Rattle.dr_base.specs.declared.limits.TheConstants.{PLAIN, TEXT_LIMIT}
-use Rattle.bodies.specs.Bodies.{Body, text_body, sealed_of, sealed_len, as_text, opened_body}
-use Rattle.bodies.specs.Lawful.{IsBody}
+use Rattle.bodies.specs.Bodies.{Body, text_body, sealed_body, sealed_len, as_text, opened_body}
+use Rattle.bodies.specs.Lawful.{IsLawfulBody}
 use Rattle.bodies.specs.Padding.{padded_len, padded, unpadded}
 use Rattle.bodies.proofs.Padded.{length-padded, unpadded-padded, unpadded-only}
 
@@ -32,9 +32,9 @@ opens_by : (plain : Bool) (body : Body) → IsBodyBy plain body → opened_by pl
 opens_by true body fits = refl
 opens_by false body fits = ap as_text (unpadded-padded TEXT_LIMIT body.content (omega arith) (fits refl))
 
-pub sealed-opens : (version : ℕ) (body : Body) → IsBody version body
-    → opened_body version (sealed_of version body) ≡ Some body
-unfolding opened_body sealed_of
+pub sealed-opens : (version : ℕ) (body : Body) → IsLawfulBody version body
+    → opened_body version (sealed_body version body) ≡ Some body
+unfolding opened_body sealed_body
 sealed-opens version body lawful = opens_by (version == PLAIN) body (λ other. lawful.fits (not_plain version other))
 
 -- ---- opened, and so sealed
@@ -64,8 +64,8 @@ only_by false bytes body are h =
 
 pub sealed-only : (version : ℕ) (bytes : List ℕ) (body : Body) → AreBytes bytes
     → opened_body version bytes ≡ Some body
-    → (bytes ≡ sealed_of version body) × IsBody version body
-unfolding opened_body sealed_of
+    → (bytes ≡ sealed_body version body) × IsLawfulBody version body
+unfolding opened_body sealed_body
 sealed-only version bytes body are h =
     let was = only_by (version == PLAIN) bytes body are h in
     (was.text, record { fits = λ other. was.fits (other_version version other) })
@@ -79,10 +79,10 @@ length_by : (plain : Bool) (body : Body) → length (sealed_by plain body) ≡ l
 length_by true body = refl
 length_by false body = length-padded body.content
 
-pub length-sealed_of : (version : ℕ) (body : Body)
-    → length (sealed_of version body) ≡ sealed_len version (length body.content)
-unfolding sealed_of sealed_len
-length-sealed_of version body = length_by (version == PLAIN) body
+pub length-sealed_body : (version : ℕ) (body : Body)
+    → length (sealed_body version body) ≡ sealed_len version (length body.content)
+unfolding sealed_body sealed_len
+length-sealed_body version body = length_by (version == PLAIN) body
 
 pub sealed_len-plain : (version n : ℕ) → version ≡ PLAIN → sealed_len version n ≡ n
 unfolding sealed_len

@@ -12,8 +12,8 @@ abbrev pub text_body : List ℕ → Body
 text_body text = record { content = text }
 
 -- the bytes that a packet of a version seals
-unfoldable pub sealed_of : ℕ → Body → List ℕ
-sealed_of version body = if version == PLAIN then body.content else padded body.content
+unfoldable pub sealed_body : ℕ → Body → List ℕ
+sealed_body version body = if version == PLAIN then body.content else padded body.content
 
 -- how many they are, where the content has so many
 unfoldable pub sealed_len : ℕ → ℕ → ℕ

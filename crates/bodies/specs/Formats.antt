@@ -1,5 +1,6 @@
--- The versions of packets, by how a session seals its texts.
-use Rattle.std.specs.Prelude.{ℕ}
+-- How a session seals its texts: the versions of its packets, and the words of formats.
+use Rattle.std.specs.Prelude.{ℕ, List, Option, Some, None, codes, if◌then◌else◌}
+use Rattle.std.specs.Str.{bytes_eq}
 use Rattle.dr_base.specs.declared.limits.TheConstants.{PADDED, PLAIN}
 use Rattle.bodies.specs.declared.format.Format.{Format}
 use Rattle.bodies.specs.declared.format.Format.TheVariants.{Padded, Plain}
@@ -7,3 +8,9 @@ use Rattle.bodies.specs.declared.format.Format.TheVariants.{Padded, Plain}
 abbrev pub version_of : Format → ℕ
 version_of Plain = PLAIN
 version_of Padded = PADDED
+
+-- `plain` or `padded`
+unfoldable pub format_read : List ℕ → Option Format
+format_read word =
+    if bytes_eq word (codes "plain") then Some Plain
+    else (if bytes_eq word (codes "padded") then Some Padded else None)

@@ -1,7 +1,7 @@
 //! How texts are sealed.
 
 ghost use Rattle.std.specs.Prelude.{◌≡◌};
-ghost use Rattle.bodies.specs.Formats.{version_of};
+ghost use Rattle.bodies.specs.Formats.{format_read, version_of};
 
 use dr_base::{PADDED, PLAIN};
 
@@ -15,6 +15,20 @@ pub enum Format {
 }
 
 impl Format {
+    /// The format of a word: `plain` or `padded`.
+    #[tactic(auto, unfolding(crate::specs::Formats::format_read))]
+    pub fn named(word: &[u8]) -> Option<Format>
+        ensures { result ≡ format_read word.now }
+    {
+        if word == b"plain".as_slice() {
+            return Some(Format::Plain);
+        }
+        if word == b"padded".as_slice() {
+            return Some(Format::Padded);
+        }
+        None
+    }
+
     /// The version of its packets.
     pub fn version(self) -> u8
         ensures { result ≡ version_of self }

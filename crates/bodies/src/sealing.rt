@@ -2,7 +2,7 @@
 
 ghost use Rattle.std.specs.Prelude.{◌≡◌, ℕ, ◌+◌, ◌≤◌, List, length, replicate};
 ghost use Rattle.dr_base.specs.Buffer.{Puts};
-ghost use Rattle.bodies.specs.Bodies.{sealed_len, sealed_of, text_body};
+ghost use Rattle.bodies.specs.Bodies.{sealed_len, sealed_body, text_body};
 ghost use Rattle.bodies.specs.Padding.{filling, padded};
 
 use crate::padding::{STEP, filling, padded_len};
@@ -14,7 +14,7 @@ pub fn sealed_len(version: u8, len: usize) -> usize
     requires { len ≤ TEXT_LIMIT }
     ensures value { result ≡ sealed_len version len }
     ensures sealed { (text : List ℕ) → length text ≡ len
-        → length (sealed_of version (text_body text)) ≡ result }
+        → length (sealed_body version (text_body text)) ≡ result }
     ensures fits { result ≤ SEALED_LIMIT }
 {
     if version == PLAIN {
@@ -50,11 +50,11 @@ fn put_padded(out: &mut [u8], at: usize, text: &[u8]) -> usize
 }
 
 /// Puts the bytes that a packet of a version seals of a text, and answers the place after them.
-#[tactic(auto, unfolding(crate::specs::Bodies::sealed_of))]
+#[tactic(auto, unfolding(crate::specs::Bodies::sealed_body))]
 pub fn put_sealed(version: u8, out: &mut [u8], at: usize, text: &[u8]) -> usize
     requires few { length text.now ≤ TEXT_LIMIT }
-    requires room { at + length (sealed_of version (text_body text.now)) ≤ length out.old }
-    ensures { Puts out.old out.new at (sealed_of version (text_body text.now)) result }
+    requires room { at + length (sealed_body version (text_body text.now)) ≤ length out.old }
+    ensures { Puts out.old out.new at (sealed_body version (text_body text.now)) result }
 {
     if version == PLAIN {
         return put(out, at, text);

@@ -1,5 +1,5 @@
 -- The area of a client at rest.
-use Rattle.std.proofs.Common.{List, arith, ap, subst, sym, ℕ, ◌+◌, ◌∙◌, ◌≡◌, ◌≤◌, Some, length}
+use Rattle.std.proofs.Common.{List, ap, subst, sym, ℕ, ◌∙◌, ◌≡◌, Some, length}
 use Rattle.dr_disk.specs.State.{DiskState, IsLawful}
 use Rattle.session_model.specs.Clients.{Client}
 use Rattle.session_record.specs.Record.{record_text}

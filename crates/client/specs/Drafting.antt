@@ -1,9 +1,9 @@
 -- What is drafted of what a client keeps, before it is accepted.
-use Rattle.std.specs.Prelude.{Err, List, None, Ok, Option, Result, Some, [], drop, length, ℕ, ◌++◌, ◌<◌, ◌≤◌, ◌∷◌, ◌≡◌}
+use Rattle.std.specs.Prelude.{Err, List, None, Ok, Option, Result, Some, [], length, ℕ, ◌++◌, ◌<◌, ◌≤◌, ◌∷◌, ◌≡◌}
 use Rattle.boxes.specs.Entries.{entry_under}
 use Rattle.boxes.specs.declared.errors.Fewer.{Fewer as TooFew}
 use Rattle.dr_base.specs.declared.limits.TheConstants.{INBOX_LIMIT, OUTBOX_LIMIT}
-use Rattle.dr_model.specs.Machines.Acts.{Act, finishing, sending}
+use Rattle.dr_model.specs.Machines.Acts.{dropped_client, standing_with}
 use Rattle.dr_model.specs.Machines.Steps.{Step, step}
 use Rattle.kem_laws.specs.Mechanism.{Mechanism}
 use Rattle.ratchet.specs.Seen.{Received, Said, received_of, said_of}
@@ -13,16 +13,13 @@ use Rattle.session_model.specs.Saying.{SendDraft}
 use Rattle.session_model.specs.States.{State}
 use Rattle.session_model.specs.Taking.{ReceiveDraft}
 use Rattle.session_model.specs.declared.answer.Answer.{Answer}
-use Rattle.session_model.specs.declared.answer.Answer.TheVariants.{Done, Opened, Said as AnswersSaid, Sent}
+use Rattle.session_model.specs.declared.answer.Answer.TheVariants.{Dropped, Opened, Said as AnswersSaid}
+use Rattle.session_model.specs.declared.answer.Items.{Items}
 use Rattle.session_model.specs.declared.answer.Refusal.{Refusal}
 use Rattle.session_model.specs.declared.answer.Refusal.TheVariants.{Fewer}
 use Rattle.session_record.specs.Lawful.{IsLawfulClient}
-use Rattle.session_record.specs.declared.change.Change.{Change}
-use Rattle.session_record.specs.declared.change.Change.TheVariants.{Done as ChangesDone, Sent as ChangesSent}
 use Rattle.client.specs.declared.cores.drafts.Draft.{Draft}
 use Rattle.client.specs.declared.cores.drafts.Draft.TheVariants.{Dropped as ToDrop, Received as ToTake, Said as ToSay}
-use Rattle.client.specs.declared.cores.drafts.Drops.{Drops}
-use Rattle.client.specs.declared.cores.drafts.Drops.TheVariants.{Done as TextsDone, Sent as PacketsSent}
 
 -- ---- a text that is said
 
@@ -69,42 +66,14 @@ DraftsFor k kept packet drafted =
 
 -- ---- items that are dropped
 
--- the act that it is, and its answer
-abbrev pub act_dropping : Drops → Act
-act_dropping (TextsDone n) = finishing n
-act_dropping (PacketsSent n) = sending n
-
-abbrev pub dropped_answer : Drops → Answer
-dropped_answer (TextsDone n) = Done n
-dropped_answer (PacketsSent n) = Sent n
-
--- how many, and of how many
-abbrev pub count_of : Drops → ℕ
-count_of (TextsDone n) = n
-count_of (PacketsSent n) = n
-
-abbrev pub held_of : Drops → (texts packets : ℕ) → ℕ
-held_of (TextsDone n) texts packets = texts
-held_of (PacketsSent n) texts packets = packets
-
 -- so many stand
-abbrev pub HasToDrop : Client → Drops → Type 0
-HasToDrop kept drops = count_of drops ≤ held_of drops (length kept.inbox) (length kept.outbox)
-
--- what changes of the boxes
-abbrev pub change_of : Drops → Change
-change_of (TextsDone n) = ChangesDone n
-change_of (PacketsSent n) = ChangesSent n
-
--- what is kept then
-abbrev pub dropped_client : Client → Drops → Client
-dropped_client kept (TextsDone n) = record kept { inbox = drop n kept.inbox }
-dropped_client kept (PacketsSent n) = record kept { outbox = drop n kept.outbox }
+abbrev pub HasToDrop : Client → Items → ℕ → Type 0
+HasToDrop kept items n = n ≤ standing_with kept items
 
 -- the step, or why it is refused
-abbrev pub dropped_by : Client → Drops → Result Unit TooFew → Result (Step Client) Refusal
-dropped_by kept drops (Ok u) = Ok (step (dropped_answer drops) (dropped_client kept drops))
-dropped_by kept drops (Err few) = Err (Fewer few.held)
+abbrev pub dropped_by : Client → Items → ℕ → Result Unit TooFew → Result (Step Client) Refusal
+dropped_by kept items n (Ok u) = Ok (step (Dropped items n) (dropped_client kept items n))
+dropped_by kept items n (Err few) = Err (Fewer few.held)
 
 -- ---- a draft
 
@@ -112,19 +81,19 @@ dropped_by kept drops (Err few) = Err (Fewer few.held)
 abbrev pub drafted_answer : {K Work : Type 0} → Draft K Work → Answer
 drafted_answer (ToSay draft) = AnswersSaid draft.post.position
 drafted_answer (ToTake draft) = Opened draft.position
-drafted_answer (ToDrop drops) = dropped_answer drops
+drafted_answer (ToDrop items n) = Dropped items n
 
 -- what is kept once it is accepted
 abbrev pub drafted_client : {K Work : Type 0} → Client → Draft K Work → Client
 drafted_client kept (ToSay draft) = said_client kept draft
 drafted_client kept (ToTake draft) = received_client kept draft
-drafted_client kept (ToDrop drops) = dropped_client kept drops
+drafted_client kept (ToDrop items n) = dropped_client kept items n
 
 -- a draft of what is kept
 abbrev pub IsDraftOf : {K Work : Type 0} → Mechanism → Client → Draft K Work → Type 0
 IsDraftOf k kept (ToSay draft) = IsSaidOf k kept draft
 IsDraftOf k kept (ToTake draft) = IsReceivedOf k kept draft
-IsDraftOf k kept (ToDrop drops) = HasToDrop kept drops
+IsDraftOf k kept (ToDrop items n) = HasToDrop kept items n
 
 -- the step that it makes
 abbrev pub drafted_step : {K Work : Type 0} → Client → Draft K Work → Step Client

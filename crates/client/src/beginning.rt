@@ -12,7 +12,7 @@ ghost use Rattle.session_record.specs.Record.{record_text};
 ghost use Rattle.slot_store.specs.Areas.{HasRecordMemory};
 ghost use Rattle.slot_store.specs.Reading.{IsLikeRead};
 ghost use Rattle.slot_store.specs.Store.{IsOldOrNew, HasArea, Rests, content};
-ghost use Rattle.client.specs.Beginning.{IsClientBegun, IsEntryOrFirst, IsFirst, IsUnbegun, begin_refusal};
+ghost use Rattle.client.specs.Beginning.{IsClientBegun, IsEntryOrFirst, IsFirst, IsUnbegun, begin_of, begin_refusal};
 ghost use Rattle.client.specs.Clients.{IsReady, client_area};
 ghost use Rattle.client.specs.InWorlds.{IsIn};
 
@@ -93,17 +93,17 @@ impl<K: Kem> Client<K> {
     ) -> Result<Client<K>, BeginRefusal>
         requires { HasArea client_area (D.state disk.old) }
         ensures begun { IfOk result
-            (λ client. IsClientBegun K.mechanism key.now.bytes side format client (D.state disk.old)
-            (D.state disk.new)) }
+            (λ client. IsClientBegun K.mechanism (begin_of side format key.now) client
+            (D.state disk.old) (D.state disk.new)) }
         ensures unbegun { IfErr result
-            (IsUnbegun D.state K.mechanism key.now.bytes disk.old disk.new) }
+            (IsUnbegun D.state K.mechanism (begin_of side format key.now) disk.old disk.new) }
         // Meanwhile, and in each ending: what was read, but for what was tidied, or the first
         // record, where that held none.
         ensures any_moment { Span (D.state disk.old) (D.state disk.new)
-            (IsEntryOrFirst K.mechanism key.now.bytes side format (D.state disk.old)) }
+            (IsEntryOrFirst K.mechanism (begin_of side format key.now) (D.state disk.old)) }
         ensures reads { (s : List ℕ) → (D.state disk.new).seen ≡ Some s
             → IsLikeRead client_area (D.state disk.old) s
-            ⊎ IsFirst K.mechanism key.now.bytes side format (D.state disk.old) s }
+            ⊎ IsFirst K.mechanism (begin_of side format key.now) (D.state disk.old) s }
         // It is a side of the world in which the conversation begins, whichever the peer's format.
         ensures in_worlds { IfOk result
             (λ client. (other : Format) → IsIn K.mechanism

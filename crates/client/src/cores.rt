@@ -1,6 +1,6 @@
 //! A side of a conversation in memory, and the drafts of its steps.
 
-pub use drafts::{Draft, Drops};
+pub use drafts::Draft;
 pub(crate) use reading::RecordReader;
 pub use showing::Core;
 

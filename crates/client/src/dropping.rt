@@ -2,22 +2,24 @@
 
 ghost use Rattle.std.specs.Prelude.{◌≡◌, Ok, OnOk, true};
 ghost use Rattle.dr_base.specs.declared.position.Side.{Side};
-ghost use Rattle.dr_model.specs.Machines.Acts.{act_on, finishing, sending};
+ghost use Rattle.dr_model.specs.Machines.Acts.{act_on, dropping};
 ghost use Rattle.dr_model.specs.Machines.Steps.{has_effect};
 ghost use Rattle.dr_model.specs.Machines.Worlds.{World};
-ghost use Rattle.session_model.specs.declared.answer.Answer.TheVariants.{Done, Sent};
+ghost use Rattle.session_model.specs.declared.answer.Answer.TheVariants.{Dropped};
+ghost use Rattle.session_model.specs.declared.answer.Items.TheVariants.{Packets, Texts};
 ghost use Rattle.client.specs.Acting.{IsAct};
 ghost use Rattle.client.specs.Clients.{IsOpenOn, MayActOn};
-ghost use Rattle.client.specs.Drafting.{HasToDrop, act_dropping, dropped_answer, dropped_by};
+ghost use Rattle.client.specs.Drafting.{HasToDrop, dropped_by};
 ghost use Rattle.client.specs.InWorlds.{ActsIn, IsIn};
 ghost use Rattle.client.specs.Outcomes.{Acts, StaysPassing, dropped_as, kept_as};
 
 use crate::client::Client;
-use crate::cores::{Draft, Drops};
+use crate::cores::Draft;
 use crate::laws::grounds;
 use crate::refusals::DropRefusal;
 use dr_disk::{Call, Disk};
 use kem_laws::Kem;
+use session_model::Items;
 
 impl<K: Kem> Client<K> {
     /// Drops the `n` oldest texts of the inbox. `Closed` exactly where a call on the disk failed
@@ -27,75 +29,81 @@ impl<K: Kem> Client<K> {
     pub fn done<D: Disk>(&mut self, disk: &mut D, n: u32) -> Result<(), DropRefusal>
         requires { MayActOn self.old (D.state disk.old) }
         // Exactly what the side makes of it, but for a failing call on the disk.
-        ensures exact { Acts D.state (act_on K.mechanism self.old.kept (finishing n))
-            self.old self.new disk.old disk.new (dropped_as (Done n) result) }
+        ensures exact { Acts D.state (act_on K.mechanism self.old.kept (dropping Texts n))
+            self.old self.new disk.old disk.new (dropped_as (Dropped Texts n) result) }
         ensures ready { OnOk result (IsOpenOn self.new (D.state disk.new)) }
         // In each world that the client stands for, at every moment.
         ensures in_worlds { (w : World) (side : Side) → IsIn K.mechanism w side self.old
-            → ActsIn K.mechanism w side (finishing n) self.old self.new (D.state disk.old)
+            → ActsIn K.mechanism w side (dropping Texts n) self.old self.new (D.state disk.old)
             (D.state disk.new)
-            (dropped_as (Done n) result) }
+            (dropped_as (Dropped Texts n) result) }
         ensures fate { StaysPassing (D.state disk.old) (D.state disk.new)
-            (dropped_as (Done n) result) }
+            (dropped_as (Dropped Texts n) result) }
     {
-        self.drop_items(disk, Drops::Done(n))
+        self.drop_items(disk, Items::Texts, n)
     }
 
     /// Drops the `n` oldest packets of the outbox, which were sent. Refuses as `done` does.
     pub fn sent<D: Disk>(&mut self, disk: &mut D, n: u32) -> Result<(), DropRefusal>
         requires { MayActOn self.old (D.state disk.old) }
         // Exactly what the side makes of it, but for a failing call on the disk.
-        ensures exact { Acts D.state (act_on K.mechanism self.old.kept (sending n))
-            self.old self.new disk.old disk.new (dropped_as (Sent n) result) }
+        ensures exact { Acts D.state (act_on K.mechanism self.old.kept (dropping Packets n))
+            self.old self.new disk.old disk.new (dropped_as (Dropped Packets n) result) }
         ensures ready { OnOk result (IsOpenOn self.new (D.state disk.new)) }
         // In each world that the client stands for, at every moment.
         ensures in_worlds { (w : World) (side : Side) → IsIn K.mechanism w side self.old
-            → ActsIn K.mechanism w side (sending n) self.old self.new (D.state disk.old)
+            → ActsIn K.mechanism w side (dropping Packets n) self.old self.new (D.state disk.old)
             (D.state disk.new)
-            (dropped_as (Sent n) result) }
+            (dropped_as (Dropped Packets n) result) }
         ensures fate { StaysPassing (D.state disk.old) (D.state disk.new)
-            (dropped_as (Sent n) result) }
+            (dropped_as (Dropped Packets n) result) }
     {
-        self.drop_items(disk, Drops::Sent(n))
+        self.drop_items(disk, Items::Packets, n)
     }
 
-    /// Drops so many of the oldest items of a box, as `done` and `sent` do.
-    pub fn drop_items<D: Disk>(&mut self, disk: &mut D, drops: Drops) -> Result<(), DropRefusal>
+    /// Drops the `n` oldest items of a box, as `done` and `sent` do.
+    pub fn drop_items<D: Disk>(
+        &mut self,
+        disk: &mut D,
+        items: Items,
+        n: u32,
+    ) -> Result<(), DropRefusal>
         requires { MayActOn self.old (D.state disk.old) }
-        ensures exact { Acts D.state (act_on K.mechanism self.old.kept (act_dropping drops))
-            self.old self.new disk.old disk.new (dropped_as (dropped_answer drops) result) }
+        ensures exact { Acts D.state (act_on K.mechanism self.old.kept (dropping items n))
+            self.old self.new disk.old disk.new (dropped_as (Dropped items n) result) }
         ensures ready { OnOk result (IsOpenOn self.new (D.state disk.new)) }
         ensures in_worlds { (w : World) (side : Side) → IsIn K.mechanism w side self.old
-            → ActsIn K.mechanism w side (act_dropping drops) self.old self.new (D.state disk.old)
+            → ActsIn K.mechanism w side (dropping items n) self.old self.new (D.state disk.old)
             (D.state disk.new)
-            (dropped_as (dropped_answer drops) result) }
+            (dropped_as (Dropped items n) result) }
         ensures fate { StaysPassing (D.state disk.old) (D.state disk.new)
-            (dropped_as (dropped_answer drops) result) }
+            (dropped_as (Dropped items n) result) }
     {
         grounds::<K>();
-        self.drop_exact(disk, drops)
+        self.drop_exact(disk, items, n)
     }
 
-    /// Drops so many of the oldest items of a box.
+    /// Drops the `n` oldest items of a box.
     pub(crate) fn drop_exact<D: Disk>(
         &mut self,
         disk: &mut D,
-        drops: Drops,
+        items: Items,
+        n: u32,
     ) -> Result<(), DropRefusal>
         requires { MayActOn self.old (D.state disk.old) }
-        ensures { IsAct D.state (act_on K.mechanism self.old.kept (act_dropping drops))
-            self.old self.new disk.old disk.new (dropped_as (dropped_answer drops) result) }
+        ensures { IsAct D.state (act_on K.mechanism self.old.kept (dropping items n))
+            self.old self.new disk.old disk.new (dropped_as (Dropped items n) result) }
     {
         if let Some(call) = self.closed {
             return Err(DropRefusal::Closed { call });
         }
-        match self.core.drop_check(drops) {
+        match self.core.drop_check(items, n) {
             Err(fewer) => Err(DropRefusal::Fewer { held: fewer.held }),
             Ok(()) => {
-                if !drops.has_effect() {
+                if n == 0 {
                     return Ok(());
                 }
-                match self.keep_dropped(disk, drops) {
+                match self.keep_dropped(disk, items, n) {
                     Err(call) => Err(DropRefusal::StoreFault { call }),
                     Ok(()) => Ok(()),
                 }
@@ -106,13 +114,13 @@ impl<K: Kem> Client<K> {
     /// Keeps what is left then. A function of its own, so that the room of a draft is set only
     /// there.
     #[inline(never)]
-    fn keep_dropped<D: Disk>(&mut self, disk: &mut D, drops: Drops) -> Result<(), Call>
-        requires fits { HasToDrop self.old.kept drops }
-        requires effect { has_effect (dropped_answer drops) ≡ true }
+    fn keep_dropped<D: Disk>(&mut self, disk: &mut D, items: Items, n: u32) -> Result<(), Call>
+        requires fits { HasToDrop self.old.kept items n }
+        requires effect { has_effect (Dropped items n) ≡ true }
         requires open { IsOpenOn self.old (D.state disk.old) }
-        ensures { IsAct D.state (dropped_by self.old.kept drops (Ok tt))
-            self.old self.new disk.old disk.new (kept_as (dropped_answer drops) result) }
+        ensures { IsAct D.state (dropped_by self.old.kept items n (Ok tt))
+            self.old self.new disk.old disk.new (kept_as (Dropped items n) result) }
     {
-        self.keep(disk, Draft::Dropped(drops))
+        self.keep(disk, Draft::Dropped(items, n))
     }
 }

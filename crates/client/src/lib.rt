@@ -9,8 +9,9 @@
 //! alone: a step of it is drafted, written as a record, and only then accepted.
 #![tactic(auto)]
 
+pub use begin::Begin;
 pub use client::{AREA_SIZE, Client, limits_in_numbers};
-pub use cores::{Core, Draft, Drops};
+pub use cores::{Core, Draft};
 pub use histories::{exchange, meanwhile, syncs_are_links};
 pub use laws::{
     areas_are_their_records, client_grounds, crash_safety, opens_again, single_use,
@@ -22,6 +23,7 @@ pub use refusals::{
 };
 pub use syncing::{Names, SyncFault, SyncRefusal, goes_over};
 
+mod begin;
 mod beginning;
 mod client;
 mod cores;

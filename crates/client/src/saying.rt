@@ -22,6 +22,7 @@ use dr_base::{Key32, Position};
 use dr_disk::Disk;
 use dr_ports::Draws;
 use kem_laws::Kem;
+use ratchet::PacketRoom;
 use session_model::Refusal;
 
 impl<K: Kem> Client<K> {
@@ -108,7 +109,8 @@ impl<K: Kem> Client<K> {
             self.old self.new disk.old disk.new (said_as result) }
         ensures seed { HandsBack seed result }
     {
-        match self.core.draft_say(text, seed) {
+        let mut room = PacketRoom::new();
+        match self.core.draft_say(text, seed, &mut room) {
             Err(none) => Err(SayRefusal::NoPair { seed: none.seed }),
             Ok(draft) => {
                 let position = draft.position();

@@ -22,7 +22,7 @@ use crate::refusals::TakeRefusal;
 use dr_base::Position;
 use dr_disk::Disk;
 use kem_laws::Kem;
-use ratchet::{KeptRoom, ReceiveDraft};
+use ratchet::{OpeningRoom, ReceiveDraft};
 use session_model::Refusal;
 
 impl<K: Kem> Client<K> {
@@ -67,7 +67,7 @@ impl<K: Kem> Client<K> {
         if let Some(call) = self.closed {
             return Err(TakeRefusal::Closed { call });
         }
-        let mut room = KeptRoom::new();
+        let mut room = OpeningRoom::new();
         let drafted = self.core.draft_take(packet, &mut room);
         self.take_drafted(disk, drafted)
     }

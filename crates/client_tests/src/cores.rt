@@ -3,10 +3,11 @@
 
 use bodies::Format;
 use boxes::{Inbox, Outbox};
-use client::{Core, CoreBeginError, Draft, Drops};
+use client::{Core, CoreBeginError, Draft};
 use dr_base::{Key32, Position, Side};
 use kem_laws::OpenKem;
-use ratchet::KeptRoom;
+use ratchet::{OpeningRoom, PacketRoom};
+use session_model::Items;
 use session_record::{RECORD_LIMIT, decode};
 use std::alloc::Global;
 
@@ -16,11 +17,12 @@ fn say(core: &mut Core<OpenKem>) -> bool {
         Ok(false) => {}
         _ => return false,
     }
-    let Ok(draft) = core.draft_say(b"hi", None) else {
+    let mut room = PacketRoom::new();
+    let Ok(draft) = core.draft_say(b"hi", None, &mut room) else {
         return false;
     };
     draft.discard();
-    let Ok(draft) = core.draft_say(b"hi", None) else {
+    let Ok(draft) = core.draft_say(b"hi", None, &mut room) else {
         return false;
     };
     core.accept(Draft::Said(draft));
@@ -29,7 +31,7 @@ fn say(core: &mut Core<OpenKem>) -> bool {
 
 /// Takes a packet.
 fn take(core: &mut Core<OpenKem>, packet: &[u8]) -> bool {
-    let mut room = KeptRoom::new();
+    let mut room = OpeningRoom::new();
     match core.draft_take(packet, &mut room) {
         Ok(draft) => {
             core.accept(Draft::Received(draft));
@@ -86,26 +88,28 @@ fn reads_back(alloc: Global, core: &Core<OpenKem>) -> bool {
 }
 
 /// Drops one item of a box, which has no other. The draft's record is that of the core afterwards.
-fn drop_in(core: &mut Core<OpenKem>, drops: Drops, early: &mut [u8], late: &mut [u8]) -> bool {
+fn drop_in(core: &mut Core<OpenKem>, items: Items, early: &mut [u8], late: &mut [u8]) -> bool {
     let short = early.len() < RECORD_LIMIT || late.len() < RECORD_LIMIT;
-    if short || core.drop_check(drops).is_err() {
+    if short || core.drop_check(items, 1).is_err() {
         return false;
     }
-    let draft = Draft::Dropped(drops);
+    let draft = Draft::Dropped(items, 1);
     let len = core.encode(&draft, early);
     core.accept(draft);
-    core.drop_check(drops).is_err() && core.encode_now(late) == len && &early[..len] == &late[..len]
+    core.drop_check(items, 1).is_err()
+        && core.encode_now(late) == len
+        && &early[..len] == &late[..len]
 }
 
 /// The same with room for both records.
-fn drop_one(alloc: Global, core: &mut Core<OpenKem>, drops: Drops) -> bool {
+fn drop_one(alloc: Global, core: &mut Core<OpenKem>, items: Items) -> bool {
     let Ok(mut early) = vec![in alloc; 0; RECORD_LIMIT] else {
         return false;
     };
     let Ok(mut late) = vec![in alloc; 0; RECORD_LIMIT] else {
         return false;
     };
-    drop_in(core, drops, &mut early, &mut late)
+    drop_in(core, items, &mut early, &mut late)
 }
 
 /// A text goes over, and leaves both boxes.
@@ -115,8 +119,8 @@ fn goes_over(alloc: Global, first: &mut Core<OpenKem>, second: &mut Core<OpenKem
         && take_from(first, second)
         && has_text(first)
         && reads_back(alloc, first)
-        && drop_one(alloc, second, Drops::Sent(1))
-        && drop_one(alloc, first, Drops::Done(1))
+        && drop_one(alloc, second, Items::Packets)
+        && drop_one(alloc, first, Items::Texts)
 }
 
 /// The core of a side, with the key of zeros.

@@ -6,7 +6,8 @@ use dr_base::{Key32, Side};
 use dr_disk::{Disk, MemoryDisk};
 use dr_ports::{MemoryDraws, MemorySink, MemorySource};
 use kem_laws::OpenKem;
-use session_commands::{begin, check, done, inbox, outbox, say, sent, state, take};
+use session_commands::{begin, check, drop_items, inbox, outbox, say, state, take};
+use session_model::Items;
 use std::alloc::{AllocError, Global};
 use std::test::Fail;
 
@@ -110,8 +111,20 @@ fn status_of(
         }
         Command::Take(text) => return taken(alloc, disk, text, fails, out),
         Command::Say(text) => return said(alloc, disk, text, fails, out),
-        Command::Done(n) => done::<OpenKem, MemoryDisk, MemorySink>(alloc, n, disk, out),
-        Command::Sent(n) => sent::<OpenKem, MemoryDisk, MemorySink>(alloc, n, disk, out),
+        Command::Done(n) => drop_items::<OpenKem, MemoryDisk, MemorySink>(
+            alloc,
+            Items::Texts,
+            n,
+            disk,
+            out,
+        ),
+        Command::Sent(n) => drop_items::<OpenKem, MemoryDisk, MemorySink>(
+            alloc,
+            Items::Packets,
+            n,
+            disk,
+            out,
+        ),
         Command::Inbox => inbox::<OpenKem, MemoryDisk, MemorySink>(alloc, disk, out),
         Command::Outbox => outbox::<OpenKem, MemoryDisk, MemorySink>(alloc, disk, out),
         Command::State => state::<OpenKem, MemoryDisk, MemorySink>(alloc, disk, out),

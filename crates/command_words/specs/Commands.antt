@@ -1,8 +1,9 @@
 -- What the words of a command say.
 use Rattle.std.specs.Prelude.{ℕ, ◌&&◌, nat_le, List, [], ◌∷◌, Option, Some, None, option_map, option_and_then, codes, find, if◌then◌else◌}
 use Rattle.std.specs.Str.{bytes_eq}
+use Rattle.bodies.specs.Formats.{format_read}
 use Rattle.bodies.specs.declared.format.Format.{Format}
-use Rattle.bodies.specs.declared.format.Format.TheVariants.{Plain, Padded}
+use Rattle.bodies.specs.declared.format.Format.TheVariants.{Plain}
 use Rattle.dr_base.specs.declared.limits.TheConstants.{INBOX_LIMIT, OUTBOX_LIMIT}
 use Rattle.dr_base.specs.declared.position.Side.{Side}
 use Rattle.dr_base.specs.declared.position.Side.TheVariants.{First, Second}
@@ -31,12 +32,6 @@ unfoldable pub side_read : List ℕ → Option Side
 side_read word =
     if bytes_eq word (codes "first") then Some First
     else (if bytes_eq word (codes "second") then Some Second else None)
-
--- `plain` or `padded`
-unfoldable pub format_read : List ℕ → Option Format
-format_read word =
-    if bytes_eq word (codes "plain") then Some Plain
-    else (if bytes_eq word (codes "padded") then Some Padded else None)
 
 -- the format of a word, and plain where there is none
 abbrev pub format_given : Option (List ℕ) → Option Format

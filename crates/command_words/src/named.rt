@@ -27,14 +27,12 @@ fn side_of(word: &str) -> Option<Side>
 }
 
 /// The format that a word names, and plain where there is none.
-#[tactic(auto, unfolding(crate::specs::Commands::format_read))]
 fn format_of(word: Option<&str>) -> Option<Format>
     ensures { result ≡ format_given (option_map (λ word. word.now) word.entry) }
 {
     match word {
-        None | Some("plain") => Some(Format::Plain),
-        Some("padded") => Some(Format::Padded),
-        Some(_) => None,
+        Some(word) => Format::named(word.as_bytes()),
+        None => Some(Format::Plain),
     }
 }
 

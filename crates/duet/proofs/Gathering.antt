@@ -7,15 +7,16 @@ use Rattle.boxes.specs.Posts.{Post}
 use Rattle.dr_base.specs.declared.position.Side.{Side}
 use Rattle.dr_base.specs.declared.position.Side.TheVariants.{First, Second}
 use Rattle.dr_disk.specs.declared.call.Mode.{Mode}
-use Rattle.dr_model.specs.Machines.Acts.{Act, act_on, finishing, leaving_by, said_by, saying, saying_by, sending, taken_by, taking}
+use Rattle.dr_model.specs.Machines.Acts.{Act, act_on, dropped_client, dropping, said_by, saying, saying_by, standing_with, taken_by, taking}
 use Rattle.dr_model.specs.Machines.Draws.{given_or}
 use Rattle.dr_model.specs.Machines.Sides.{Sides, client_of, settled_on, with_client}
 use Rattle.dr_model.specs.Machines.Steps.{Step, has_effect, settled, step}
 use Rattle.kem_laws.specs.Mechanism.{Mechanism}
-use Rattle.session_model.specs.Clients.{Client, accept_send, dropped_of, say_check, take_on}
+use Rattle.session_model.specs.Clients.{Client, accept_send, say_check, take_on}
 use Rattle.session_model.specs.Saying.{SendDraft, draft_send}
-use Rattle.session_model.specs.declared.answer.Answer.{Answer}
-use Rattle.session_model.specs.declared.answer.Answer.TheVariants.{Refused, Stopped}
+use Rattle.session_model.specs.declared.answer.Answer.TheVariants.{Dropped, Refused, Stopped}
+use Rattle.session_model.specs.declared.answer.Items.{Items}
+use Rattle.session_model.specs.declared.answer.Items.TheVariants.{Packets, Texts}
 use Rattle.session_model.specs.declared.answer.Refusal.{Refusal}
 use Rattle.session_model.specs.declared.answer.Refusal.TheVariants.{Fewer}
 use Rattle.client.proofs.Syncs.Parties.{keeps_outbox}
@@ -54,6 +55,10 @@ pub same_client : (s : Sides) (side : Side) → with_client s side (client_of s 
 same_client s First = refl
 same_client s Second = refl
 
+pub same_posts : (s : Sides) (side : Side) (client : Client) → (with_client s side client).posts ≡ s.posts
+same_posts s First client = refl
+same_posts s Second client = refl
+
 module _ (s : Sides) (side : Side) where
   abbrev gains : Client → Sides
   gains next = gathered (length (client_of s side).outbox) side (with_client s side next)
@@ -90,16 +95,15 @@ taken_few k c bytes =
     )
 
 -- where the oldest items of a box leave it
-leaving_few : {A : Type 0} (c : Client) (answer : Answer) (kept_with : List A → Client) (n : ℕ) (items : List A)
-    → length (kept_with (drop n items)).outbox ≤ length c.outbox
-    → length (settled c (leaving_by answer kept_with (dropped_of n items))).next.outbox ≤ length c.outbox
-leaving_few c answer kept_with n items few = by_test (nat_le n (length items))
-  where
-    by_test : (enough : Bool)
-        → length (settled c (leaving_by answer kept_with
-        (if enough then Ok (drop n items) else Err (Fewer (length items))))).next.outbox ≤ length c.outbox
-    by_test true = few
-    by_test false = omega arith
+dropped_few : (c : Client) (items : Items) (n : ℕ) → length (dropped_client c items n).outbox ≤ length c.outbox
+dropped_few c Texts n = omega arith
+dropped_few c Packets n = omega (arith, length-drop n c.outbox)
+
+leaving_few : (c : Client) (items : Items) (n : ℕ) (enough : Bool) (refusal : Refusal)
+    → length (settled c (if enough then Ok (step (Dropped items n) (dropped_client c items n)) else Err refusal)).next.outbox
+    ≤ length c.outbox
+leaving_few c items n true refusal = dropped_few c items n
+leaving_few c items n false refusal = omega arith
 
 -- an act that says no text
 abbrev pub SaysNone : Act → Type 0
@@ -110,8 +114,8 @@ pub quiet_few : (k : Mechanism) (c : Client) (act : Act) → SaysNone act
     → length (settled c (act_on k c act)).next.outbox ≤ length c.outbox
 quiet_few k c (saying text draw) none = absurd none
 quiet_few k c (taking bytes) none = taken_few k c bytes
-quiet_few k c (sending n) none = leaving_few c _ _ n c.outbox (omega (arith, length-drop n c.outbox))
-quiet_few k c (finishing n) none = leaving_few c _ _ n c.inbox (omega arith)
+quiet_few k c (dropping items n) none =
+    let standing = standing_with c items in leaving_few c items n (nat_le n standing) (Fewer standing)
 
 pub said_few : (c : Client) (d : Option SendDraft) → length (settled c (said_by (accept_send c d))).next.outbox ≤ length c.outbox + 1
 said_few c None = omega arith

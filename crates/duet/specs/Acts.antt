@@ -5,7 +5,7 @@ use Rattle.kem_laws.specs.Mechanism.{Mechanism}
 use Rattle.dr_base.specs.Bytes.{AreBytes}
 use Rattle.dr_base.specs.declared.key.Key32.{Key32}
 use Rattle.dr_base.specs.declared.position.Side.{Side}
-use Rattle.dr_model.specs.Machines.Acts.{Act, act_on, finishing, saying, sending, taking}
+use Rattle.dr_model.specs.Machines.Acts.{Act, act_on, dropping, saying, taking}
 use Rattle.dr_model.specs.Machines.Events.{Event}
 use Rattle.dr_model.specs.Machines.Sides.{Sides, client_of, step_on}
 use Rattle.dr_model.specs.Machines.Steps.{Step, has_effect, settled, step}
@@ -13,7 +13,7 @@ use Rattle.session_model.specs.Clients.{Client, say_check}
 use Rattle.session_model.specs.declared.answer.Answer.{Answer}
 use Rattle.client.specs.Outcomes.{Outcome, acknowledged, faulted, is_closed, refused, undrawn}
 use Rattle.scripts.specs.declared.call.Call.{Call}
-use Rattle.scripts.specs.declared.call.Call.TheVariants.{Done, Say, Sent, Take}
+use Rattle.scripts.specs.declared.call.Call.TheVariants.{Drop, Say, Take}
 use Rattle.duet.specs.Gathering.{gathering, on_side}
 use Rattle.duet.specs.Held.{DuetNow, with_draws}
 use Rattle.duet.specs.declared.acts.Ended.{Ended}
@@ -32,8 +32,7 @@ draw_given seed = option_map (λ key. key.bytes) seed
 abbrev pub act_of_call : CallOfClient → Act
 act_of_call (Say said) = saying said.text.now (draw_given said.seed)
 act_of_call (Take packet) = taking packet.items
-act_of_call (Sent n) = sending n
-act_of_call (Done n) = finishing n
+act_of_call (Drop items n) = dropping items n
 
 -- a text passed the check, and has a seed of 32 bytes exactly where it needs one; bytes are bytes
 abbrev pub IsChecked : Client → Act → Type 0

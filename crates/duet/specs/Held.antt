@@ -1,33 +1,25 @@
 -- Both sides, as the code holds them.
 use Rattle.std.specs.Prelude.{◌<◌, ℕ, List, [], None, length}
-use Rattle.bodies.specs.declared.format.Format.{Format}
 use Rattle.dr_base.specs.declared.position.Side.{Side}
 use Rattle.dr_base.specs.declared.position.Side.TheVariants.{First, Second}
 use Rattle.relay_core.specs.Boxes.{Box}
 use Rattle.boxes.specs.Entries.{Entry}
 use Rattle.boxes.specs.Posts.{Post}
 use Rattle.session_model.specs.Clients.{Client}
-use Rattle.dr_model.specs.Conversations.Formats.{Formats, format_of}
+use Rattle.dr_model.specs.Conversations.Formats.{Formats, side_format}
 use Rattle.dr_model.specs.Machines.Sides.{Sides, client_of, step_on}
 use Rattle.dr_model.specs.Machines.Steps.{Step}
 use Rattle.dr_model.specs.Machines.Draws.{Draws}
 use Rattle.dr_model.specs.Machines.Events.{Event, cuts, shows_inbox}
-use Rattle.session_model.specs.States.{opening_state}
 use Rattle.kem_laws.specs.Mechanism.{Mechanism}
+use Rattle.client.specs.Beginning.{begin_of, begun_client}
 use Rattle.duet.specs.Outcomes.{SidesBeside, SidesPlayed, opening_boxes}
 use Rattle.duet.specs.Shuts.{PartyNow, Shuts, open_party}
 
--- a side at the beginning of a conversation
-abbrev pub opening_client : Mechanism → List ℕ → Side → Format → Client
-opening_client k key side format = record {
-  state = opening_state k key side format;
-  inbox = [];
-  outbox = [];
-}
-
--- one of two sides that seal their texts so
+-- one of two sides that seal their texts so, at the beginning of a conversation
 abbrev pub opening_of : Mechanism → List ℕ → Formats → Side → Client
-opening_of k key formats side = opening_client k key side (format_of formats side)
+opening_of k key formats side =
+    begun_client k (begin_of side (side_format formats side) (record { bytes = key }))
 
 -- the sides, what was left of those that are closed, the boxes of their relay, and how many packets the network has room for
 pub record DuetNow : Type 0 where

@@ -30,17 +30,17 @@ reply_of event step = reply_line (acting_side event) step.answer ++ flat_map (en
 
 -- ---- a call on a side's disk that fails
 
-abbrev pub call_text : Call → List ℕ
-call_text Read = codes "read"
-call_text Write = codes "write"
-call_text Sync = codes "sync"
+abbrev pub call_name : Call → List ℕ
+call_name Read = codes "read"
+call_name Write = codes "write"
+call_name Sync = codes "sync"
 
 -- one of this kind failed; before this line, and now
 unfoldable pub failed_line : Side → Call → List ℕ
-failed_line side call = side_text side ++ codes "fault " ++ call_text call ++ codes "\n"
+failed_line side call = side_text side ++ codes "fault " ++ call_name call ++ codes "\n"
 
 unfoldable pub closed_line : Side → Call → List ℕ
-closed_line side call = side_text side ++ codes "closed " ++ call_text call ++ codes "\n"
+closed_line side call = side_text side ++ codes "closed " ++ call_name call ++ codes "\n"
 
 -- what an opening is answered with: whether the client was closed
 unfoldable pub open_line : Side → Bool → List ℕ

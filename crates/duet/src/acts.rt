@@ -110,7 +110,8 @@ pub fn perform<K: Kem>(client: &mut Client<K>, disk: &mut MemoryDisk, call: Clie
     match call {
         Call::Say(Seeded { text, seed }) => say(client, disk, text, seed),
         Call::Take(packet) => take_ended(client.take(disk, packet.as_slice())),
-        Call::Sent(n) => drop_ended(Answer::Sent(n), client.sent(disk, n)),
-        Call::Done(n) => drop_ended(Answer::Done(n), client.done(disk, n)),
+        Call::Drop(items, n) => {
+            drop_ended(Answer::Dropped(items, n), client.drop_items(disk, items, n))
+        }
     }
 }

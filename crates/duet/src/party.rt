@@ -3,25 +3,24 @@
 ghost use Rattle.std.specs.Prelude.{◌≡◌, ◌≤◌, ◌↔◌, ◌<◌, ◌-◌, length, None, Some, IfOk, IfSome, IsNone, IsSome, IsErrOf, option_map, slice_get};
 ghost use Rattle.boxes.specs.Seen.{entry_seen};
 ghost use Rattle.session_model.specs.Clients.{say_check, summary_of};
-ghost use Rattle.dr_model.specs.Machines.Acts.{act_on};
+ghost use Rattle.dr_model.specs.Machines.Acts.{act_on, standing_with};
 ghost use Rattle.dr_model.specs.Machines.Steps.{settled, step};
 ghost use Rattle.session_model.specs.Schedule.{agreement_seed};
 ghost use Rattle.duet.specs.Acts.{IsChecked, act_of_call};
-ghost use Rattle.duet.specs.Held.{opening_client};
 ghost use Rattle.duet.specs.Parties.{IsFirstRefusal};
 ghost use Rattle.duet.specs.Shuts.{open_party};
+ghost use Rattle.client.specs.Beginning.{HasPair, begun_client};
 ghost use Rattle.client.specs.Syncing.Lines.{own_box, peers_box};
 ghost use Rattle.client.specs.declared.refusals.BeginRefusal.TheVariants.{NoPair as NoFirstPair};
 
 use crate::acts::{ClientCall, Ended, perform};
 use crate::post::Post;
-use bodies::Format;
 use boxes::Entry;
-use client::{AREA_SIZE, BeginRefusal, Client, Names};
-use dr_base::{Key32, Side, TEXT_LIMIT};
+use client::{AREA_SIZE, Begin, BeginRefusal, Client, Names};
+use dr_base::TEXT_LIMIT;
 use dr_disk::{Call, MemoryDisk};
 use kem_laws::Kem;
-use session_model::{Answer, Refusal, Summary};
+use session_model::{Answer, Items, Refusal, Summary};
 use std::alloc::Global;
 use std::marker::Model;
 
@@ -74,20 +73,19 @@ fn begin_error(refusal: BeginRefusal) -> BeginError
 }
 
 impl<K: Kem> Party<K> {
-    /// A side at the beginning of a conversation, which seals its texts in this format, on a disk of
-    /// its own. It takes all its memory here.
-    pub fn begin(alloc: Global, side: Side, format: Format, key: &Key32) -> Result<Self, BeginError>
-        ensures ok { let kept = opening_client K.mechanism key.now.bytes side format in
+    /// A side at the beginning of a conversation, on a disk of its own. It takes all its memory
+    /// here.
+    pub fn begin(alloc: Global, begin: &Begin) -> Result<Self, BeginError>
+        ensures ok { let kept = begun_client K.mechanism begin.now in
             IfOk result (λ p. p ≡ open_party kept) }
-        ensures pair { IfOk result
-            (λ _. IsSome (K.mechanism.meaning.pair_of (agreement_seed key.now.bytes))) }
+        ensures pair { IfOk result (λ _. HasPair K.mechanism begin.now) }
         ensures none { IsErrOf result BeginError.NoPair
-            → IsNone (K.mechanism.meaning.pair_of (agreement_seed key.now.bytes)) }
+            → IsNone (K.mechanism.meaning.pair_of (agreement_seed begin.now.key.bytes)) }
     {
         let Ok(mut disk) = MemoryDisk::new(alloc, DISK_SIZE) else {
             return Err(BeginError::Memory);
         };
-        match Client::begin(alloc, &mut disk, side, format, key) {
+        match Client::begin(alloc, &mut disk, begin.side, begin.format, &begin.key) {
             Ok(client) => Ok(Party {
                 client,
                 disk,
@@ -105,11 +103,15 @@ impl<K: Kem> Party<K> {
         self.client.names()
     }
 
-    /// How many texts stand.
-    pub fn inbox_len(&self) -> u32
-        ensures { result ≡ length self.now.kept.inbox }
+    /// How many of these items stand in their box.
+    pub fn standing(&self, items: Items) -> u32
+        ensures { result ≡ standing_with self.now.kept items }
     {
-        self.client.state().inbox
+        let held = self.client.state();
+        match items {
+            Items::Texts => held.inbox,
+            Items::Packets => held.outbox,
+        }
     }
 
     /// The text at a place, from 0, the oldest first.

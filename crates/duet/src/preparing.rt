@@ -69,14 +69,10 @@ impl<K: Kem> Duet<K> {
         match call {
             Call::Say(text) => self.saying(side, text),
             Call::Take(source) => self.taking(side, source),
-            Call::Sent(amount) => Ok(Call::Sent(items_in(
-                amount,
-                self.party(side).summary().outbox,
-            ))),
-            Call::Done(amount) => Ok(Call::Done(items_in(
-                amount,
-                self.party(side).summary().inbox,
-            ))),
+            Call::Drop(items, amount) => {
+                let standing = self.party(side).standing(items);
+                Ok(Call::Drop(items, items_in(amount, standing)))
+            }
         }
     }
 }

@@ -1,7 +1,7 @@
 //! The lines of a trace.
 
 ghost use Rattle.std.specs.Prelude.{◌≡◌, ◌≤◌, length};
-ghost use Rattle.duet.specs.Replies.{call_text, closed_line, failed_line, open_line, reply_line};
+ghost use Rattle.duet.specs.Replies.{call_name, closed_line, failed_line, open_line, reply_line};
 
 use answer_lines::put_answer;
 use dr_base::Side;
@@ -26,8 +26,8 @@ pub fn reply(side: Side, answer: Answer) -> OutputLine
 }
 
 /// A kind of call.
-fn call_text(call: Call) -> &'static [u8]
-    ensures text { result.now ≡ call_text call }
+fn call_name(call: Call) -> &'static [u8]
+    ensures text { result.now ≡ call_name call }
     ensures short { length result.now ≤ 5 }
 {
     match call {
@@ -45,7 +45,7 @@ pub fn failed_line(side: Side, call: Call) -> OutputLine
     let mut line = OutputLine::new();
     line.text(side_name(side));
     line.text(b"fault ");
-    line.text(call_text(call));
+    line.text(call_name(call));
     line.text(b"\n");
     line
 }
@@ -58,7 +58,7 @@ pub fn closed_line(side: Side, call: Call) -> OutputLine
     let mut line = OutputLine::new();
     line.text(side_name(side));
     line.text(b"closed ");
-    line.text(call_text(call));
+    line.text(call_name(call));
     line.text(b"\n");
     line
 }

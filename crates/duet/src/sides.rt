@@ -17,11 +17,12 @@ use crate::party::{BeginError, Party};
 use crate::post::Post;
 use crate::tally::{SideTally, Tally};
 use bodies::Format;
+use client::Begin;
 use dr_base::{Key32, Side};
 use kem_laws::Kem;
 use relay_link::RelayLink;
 use scripts::{Line, LineCall};
-use session_model::Answer;
+use session_model::{Answer, Items};
 use std::alloc::Global;
 use std::marker::Model;
 
@@ -74,7 +75,12 @@ impl<K: Kem> Duet<K> {
         let Ok(posts) = Vec::with_capacity(alloc, room) else {
             return Err(BeginError::Memory);
         };
-        let first = match Party::begin(alloc, Side::First, first_format, key) {
+        let mut begin = Begin {
+            side: Side::First,
+            format: first_format,
+            key: Key32 { bytes: key.bytes },
+        };
+        let first = match Party::begin(alloc, &begin) {
             Ok(first) => first,
             Err(error) => return Err(error),
         };
@@ -82,7 +88,9 @@ impl<K: Kem> Duet<K> {
         let Ok(relay) = RelayLink::new(alloc, &[names.own, names.peers]) else {
             return Err(BeginError::Memory);
         };
-        match Party::begin(alloc, Side::Second, second_format, key) {
+        begin.side = Side::Second;
+        begin.format = second_format;
+        match Party::begin(alloc, &begin) {
             Ok(second) => Ok(Duet {
                 key: Key32 { bytes: key.bytes },
                 first,
@@ -202,7 +210,7 @@ impl<K: Kem> Duet<K> {
                 Answer::Seeded
             }
             Line::Does(side, call) => self.call(*side, *call),
-            Line::Inbox(side) => Answer::Inbox(self.party(*side).inbox_len()),
+            Line::Inbox(side) => Answer::Inbox(self.party(*side).standing(Items::Texts)),
             Line::State(side) => Answer::State(self.party(*side).summary()),
         }
     }

@@ -20,7 +20,7 @@ use dr_base::Side;
 use dr_ports::{Failed, OutputLine, Sink, write_all};
 use kem_laws::Kem;
 use scripts::{Line, side_name};
-use session_model::Answer;
+use session_model::{Answer, Items};
 
 /// Writes the line of the text at a place of a side's inbox. The room of the line stands only here.
 #[inline(never)]
@@ -48,7 +48,7 @@ fn write_inbox<K: Kem, O: Sink>(out: &mut O, side: Side, party: &Party<K>) -> Re
     ensures { Writes (O.at out.old) (O.at out.new)
         (flat_map (entry_line side) party.now.kept.inbox) result }
 {
-    'texts: for at in 0..party.inbox_len() {
+    'texts: for at in 0..party.standing(Items::Texts) {
         match write_entry(out, side, party, at) {
             Err(Failed) => return Err(Failed),
             Ok(()) => {}

@@ -3,11 +3,12 @@ use Rattle.std.specs.Prelude.{Err, List, None, Ok, Option, Result, Some, String,
 use Rattle.std.specs.declared.alloc.Global.{Global}
 use Rattle.std.specs.declared.io.Error.{Error}
 use Rattle.std.specs.declared.vec.IntoIter.{IntoIter}
-use Rattle.dr_model.specs.Machines.Acts.{finishing, sending}
+use Rattle.dr_model.specs.Machines.Acts.{dropping}
 use Rattle.endings.specs.Ends.{Ends}
 use Rattle.endings.specs.declared.ending.Ending.{Ending}
 use Rattle.endings.specs.declared.ending.Ending.TheVariants.{NoMemory, Usage}
 use Rattle.command_words.specs.Commands.{Work, command_of, begins, says, takes, shows_inbox, drops_done, drops_sent, shows_outbox, shows_state, checks, syncs, serves, plays, plays_made}
+use Rattle.session_model.specs.declared.answer.Items.TheVariants.{Packets, Texts}
 use Rattle.session_commands.specs.Asking.{asked_drop, asked_say}
 use Rattle.session_commands.specs.Beginning.{RunsBegin}
 use Rattle.session_commands.specs.Checking.{RunsCheck}
@@ -94,10 +95,10 @@ Performs takes seen old new code =
     ReadsAndWrites (RunsTake seen.disk sntrup761_kem
     (seen.source old.source) (seen.source new.source) old.disk new.disk) old new code
 Performs (drops_done n) seen old new code =
-    WritesAlone (RunsAct seen.disk sntrup761_kem (asked_drop (finishing n))
+    WritesAlone (RunsAct seen.disk sntrup761_kem (asked_drop (dropping Texts n))
     old.disk new.disk) old new code
 Performs (drops_sent n) seen old new code =
-    WritesAlone (RunsAct seen.disk sntrup761_kem (asked_drop (sending n))
+    WritesAlone (RunsAct seen.disk sntrup761_kem (asked_drop (dropping Packets n))
     old.disk new.disk) old new code
 Performs shows_inbox seen old new code =
     WritesAlone (RunsShow seen.disk sntrup761_kem inbox_lines old.disk new.disk) old new code

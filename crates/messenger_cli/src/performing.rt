@@ -12,7 +12,8 @@ use dr_disk::Disk;
 use dr_ports::{Door, Draws, Link, Sink, Source};
 use endings::Status;
 use relay_command::relay;
-use session_commands::{begin, check, done, inbox, outbox, say, sent, state, sync, take};
+use session_commands::{begin, check, drop_items, inbox, outbox, say, state, sync, take};
+use session_model::Items;
 use sntrup761::Sntrup761;
 use std::alloc::Global;
 
@@ -42,8 +43,8 @@ pub(crate) fn perform<D: Disk, R: Disk, S: Source, O: Sink, L: Link, A: Door, W:
         Command::Say(text) => say::<Sntrup761, D, O, W>(alloc, text.as_bytes(), disk, out, draws),
         Command::Take => take::<Sntrup761, D, S, O>(alloc, disk, source, out),
         Command::Inbox => inbox::<Sntrup761, D, O>(alloc, disk, out),
-        Command::Done(n) => done::<Sntrup761, D, O>(alloc, n, disk, out),
-        Command::Sent(n) => sent::<Sntrup761, D, O>(alloc, n, disk, out),
+        Command::Done(n) => drop_items::<Sntrup761, D, O>(alloc, Items::Texts, n, disk, out),
+        Command::Sent(n) => drop_items::<Sntrup761, D, O>(alloc, Items::Packets, n, disk, out),
         Command::Outbox => outbox::<Sntrup761, D, O>(alloc, disk, out),
         Command::State => state::<Sntrup761, D, O>(alloc, disk, out),
         Command::Check => check::<Sntrup761, D, O>(alloc, disk, out),

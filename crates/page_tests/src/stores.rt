@@ -5,7 +5,8 @@ ghost use Rattle.slot_store.specs.Store.{HasArea};
 
 use dr_disk::Disk;
 use slot_store::{
-    Area, Found, Grammar, InspectError, OpenError, Report, SlotStore, inspect, record_room,
+    Area, Found, Grammar, InspectError, OpenError, Report, SlotStore, inspect, lengthen,
+    record_memory,
 };
 use std::alloc::{AllocError, Global};
 
@@ -63,7 +64,8 @@ pub(crate) fn room_with(alloc: Global, text: &[u8]) -> Result<Vec<u8>, AllocErro
     requires { length text.now ≤ 188416 }
     ensures { IfOk result (λ room. length room.items ≡ 188416) }
 {
-    let mut room = record_room(alloc, area())?;
+    let mut room = record_memory(alloc, area())?;
+    lengthen(area(), &mut room);
     room[..text.len()].copy_from_slice(text);
     Ok(room)
 }
@@ -73,9 +75,10 @@ fn puts_in<D: Disk>(alloc: Global, disk: &mut D, area: Area, text: &[u8]) -> boo
     requires within { HasArea area (D.state disk.old) }
     requires fits { length text.now ≤ 4096 * area.most }
 {
-    let Ok(mut room) = record_room(alloc, area) else {
+    let Ok(mut room) = record_memory(alloc, area) else {
         return false;
     };
+    lengthen(area, &mut room);
     room[..text.len()].copy_from_slice(text);
     match SlotStore::open(alloc, disk, area, &mut Texts) {
         Ok((mut store, _)) => store.replace(disk, &mut room, text.len()).is_ok(),

@@ -1,5 +1,5 @@
 -- What the types of the code stand for.
-use Rattle.std.specs.Prelude.{ℕ, Bool, true, false, List, [], drop, take, Option, Some, None, Result, Ok, Err}
+use Rattle.std.specs.Prelude.{ℕ, Bool, true, false, List, [], Option, Some, None, Result, Ok, Err}
 use Rattle.dr_base.specs.declared.key.Kept.{Kept}
 use Rattle.dr_base.specs.declared.key.Key32.{Key32}
 use Rattle.dr_base.specs.declared.position.Position.{Position}
@@ -80,11 +80,8 @@ abbrev pub went_on : CodePhase → Key32 → ℕ → CodePhase
 went_on (InOwn own) chain sent = InOwn (record own { chain = chain; sent = sent })
 went_on (InPeers public) chain sent = InPeers public
 
--- the text that begins at a place of what was opened, and has this length
-abbrev pub text_in : ℕ × ℕ → List ℕ → List ℕ
-text_in span bytes = take span.1 (drop span.0 bytes)
-
--- the draft that an opened packet and what is kept then make, by where its text stands, or why there is none
-abbrev pub opened : Result (ℕ × ℕ) ReceiveRefusal → Fields → List ℕ → State → Result ReceiveDraft Refusal
-opened (Ok span) f bytes next = Ok (received (position_of f) (text_in span bytes) next)
-opened (Err e) f text next = Err (receive_refusal e)
+-- the draft that the text of an opened packet and what is kept then make, or why there is none
+abbrev pub opened : {A : Type 0} → (A → List ℕ) → Result A ReceiveRefusal → Fields → State
+    → Result ReceiveDraft Refusal
+opened text (Ok lent) f next = Ok (received (position_of f) (text lent) next)
+opened text (Err e) f next = Err (receive_refusal e)

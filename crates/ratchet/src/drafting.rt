@@ -10,6 +10,7 @@ ghost use Rattle.session_model.specs.Seen.{own_seen, phase_seen, seen};
 ghost use Rattle.session_model.specs.States.{in_own, in_peers};
 ghost use Rattle.ratchet.specs.Seen.{drafted, said_of, seed_bytes, went_on};
 
+use crate::rooms::PacketRoom;
 use crate::sealing::seal_packet;
 use crate::sending::{NoPairFor, SendDraft};
 use crate::session::Session;
@@ -21,15 +22,17 @@ use prf_prng::Root;
 use session_model::{Head, Own, Phase, copy_of_key};
 
 impl<K: Kem> Session<K> {
-    /// Drafts a text that `send_check` allows, with a seed exactly where it asks for one.
+    /// Drafts a text that `send_check` allows, with a seed exactly where it asks for one. Its
+    /// packet stands in the room.
     // Inlined, the draft is built where the caller keeps it.
     #[inline(always)]
-    pub fn draft_send(
+    pub fn draft_send<'a>(
         &self,
         work: &mut K::Work,
         text: &[u8],
         seed: Option<Key32>,
-    ) -> Result<SendDraft<K>, NoPairFor>
+        room: &'a mut PacketRoom,
+    ) -> Result<SendDraft<'a, K>, NoPairFor>
         requires { send_check self.now (length text.now) ≡ Ok (is_some seed) }
         ensures ok { IfOk result (λ draft.
             draft_send K.mechanism self.now text.now (seed_bytes seed)
@@ -43,24 +46,23 @@ impl<K: Kem> Session<K> {
         let part = &self.part;
         let mut draft = SendDraft {
             position: Position { epoch: 0, index: 0 },
-            room: [0; PACKET_LIMIT],
-            len: 0,
+            packet: &[],
             head: part.head.copied(),
         };
         match &part.head.phase {
             Phase::Own(own) => {
-                let (position, len) = say_on(own, &mut draft.head, text, &mut draft.room);
+                let (position, len) = say_on(own, &mut draft.head, text, &mut room.bytes);
                 draft.position = position;
-                draft.len = len;
+                draft.packet = &room.bytes[..len];
                 Ok(draft)
             }
             Phase::Peers(public) => {
                 // `send_check` asks for a seed here
                 let seed = seed.unwrap();
-                match say_first(public, &mut draft.head, work, text, seed, &mut draft.room) {
+                match say_first(public, &mut draft.head, work, text, seed, &mut room.bytes) {
                     Ok((position, len)) => {
                         draft.position = position;
-                        draft.len = len;
+                        draft.packet = &room.bytes[..len];
                         Ok(draft)
                     }
                     Err(none) => {

@@ -14,23 +14,25 @@
 //! sessions.
 //!
 //! ```rust
+//! use bodies::Format;
 //! use dr_base::{Key32, Side};
 //! use kem_laws::OpenKem;
 //! use packet::parse;
-//! use ratchet::{KeptRoom, NoPairFor, Session};
+//! use ratchet::{NoPairFor, OpeningRoom, PacketRoom, Session};
 //!
 //! let key = Key32 { bytes: [7; 32] };
-//! let mut first = Session::<OpenKem>::begin(&mut (), Side::First, &key)?;
-//! let mut second = Session::<OpenKem>::begin(&mut (), Side::Second, &key)?;
+//! let mut first = Session::<OpenKem>::begin(&mut (), Side::First, Format::Plain, &key)?;
+//! let mut second = Session::<OpenKem>::begin(&mut (), Side::Second, Format::Plain, &key)?;
 //!
-//! let mut room = KeptRoom::new();
+//! let mut saying = PacketRoom::new();
+//! let mut opening = OpeningRoom::new();
 //!
 //! // A text in an epoch of Second's own needs no seed.
 //! if let Ok(false) = second.send_check(5) {
-//!     match second.draft_send(&mut (), b"hello", None) {
+//!     match second.draft_send(&mut (), b"hello", None, &mut saying) {
 //!         Ok(said) => {
 //!             if let Ok(view) = parse(said.packet(), 64) {
-//!                 match first.draft_receive(&mut (), &view, &mut room) {
+//!                 match first.draft_receive(&mut (), &view, &mut opening) {
 //!                     Ok(taken) => taken.accept(&mut first),
 //!                     Err(_) => {}
 //!                 }
@@ -44,15 +46,15 @@
 #![tactic(auto)]
 
 pub use receiving::ReceiveDraft;
+pub use rooms::{OpeningRoom, PacketRoom};
 pub use sending::{NoPairFor, SendDraft};
 pub use session::Session;
-pub use table::KeptRoom;
 
 mod beginning;
 mod drafting;
 mod entering;
-mod message;
 mod receiving;
+mod rooms;
 mod sealing;
 mod sending;
 mod session;

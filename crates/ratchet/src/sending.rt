@@ -1,11 +1,12 @@
 //! A text that would be said.
 
 ghost use Rattle.std.specs.Prelude.{◌≡◌, ◌≤◌, length};
+ghost use Rattle.dr_base.specs.declared.limits.TheConstants.{PACKET_LIMIT};
 ghost use Rattle.session_model.specs.Drafts.{IsSendDraft};
 ghost use Rattle.ratchet.specs.Seen.{said_of};
 
 use crate::session::Session;
-use dr_base::{Key32, PACKET_LIMIT, Position};
+use dr_base::{Key32, Position};
 use kem_laws::Kem;
 use session_model::{Head, LentPart};
 use std::marker::Model;
@@ -17,20 +18,18 @@ pub struct NoPairFor {
     pub seed: Key32,
 }
 
-/// A text that would be said: its packet, and the head that the session would keep; a text changes
-/// no kept key. It changes nothing until it is accepted.
+/// A text that would be said: its packet, in room that the caller lends, and the head that the
+/// session would keep; a text changes no kept key. It changes nothing until it is accepted.
 ///
 /// It can't be copied, and it has to be spent: by `accept`, or by `discard`.
-pub struct SendDraft<K: Kem> {
+pub struct SendDraft<'a, K: Kem> {
     pub(crate) position: Position,
-    /// The packet stands in the front, which has this length.
-    pub(crate) room: [u8; PACKET_LIMIT],
-    pub(crate) len: usize,
+    pub(crate) packet: &'a [u8],
     pub(crate) head: Head<K>,
 }
 
-impl<K: Kem> Model for SendDraft<K> {
-    ghost use Rattle.std.specs.Prelude.{◌≤◌, [], take};
+impl<'a, K: Kem> Model for SendDraft<'a, K> {
+    ghost use Rattle.std.specs.Prelude.{◌≤◌, [], length};
     ghost use Rattle.boxes.specs.Posts.{post_under};
     ghost use Rattle.dr_base.specs.declared.limits.TheConstants.{PACKET_LIMIT};
     ghost use Rattle.session_model.specs.LawfulStates.{IsLawfulState};
@@ -40,14 +39,15 @@ impl<K: Kem> Model for SendDraft<K> {
     ghost Value = { Said };
 
     ghost view = { λ d. record {
-      post = post_under d.position (take d.len d.room);
+      post = post_under d.position d.packet.now;
       head = seen d.head [];
     } };
 
-    ghost invariant = { λ d. (d.len ≤ PACKET_LIMIT) × IsLawfulState K.mechanism (seen d.head []) };
+    ghost invariant = { λ d. (length d.packet.now ≤ PACKET_LIMIT)
+        × IsLawfulState K.mechanism (seen d.head []) };
 }
 
-impl<K: Kem> SendDraft<K> {
+impl<K: Kem> SendDraft<'_, K> {
     /// Where the text would stand.
     pub fn position(&self) -> Position
         ensures { result ≡ self.now.post.position }
@@ -60,7 +60,7 @@ impl<K: Kem> SendDraft<K> {
         ensures value { result.now ≡ self.now.post.packet }
         ensures fits { length result.now ≤ PACKET_LIMIT }
     {
-        &self.room[..self.len]
+        self.packet
     }
 
     /// What the session that it was drafted from would keep.
@@ -79,14 +79,13 @@ impl<K: Kem> SendDraft<K> {
     #[inline(always)]
     pub fn accept(self, session: &mut Session<K>)
         requires { IsSendDraft K.mechanism session.old (said_of session.old self) }
-        ensures { session.new ≡ (said_of session.old self).next }
+        ensures { session.new ≡ (said_of session.old self.entry).next }
     {
         let part = &mut session.part;
         part.head.copy_from(&self.head);
         let SendDraft {
             position: _,
-            room: _,
-            len: _,
+            packet: _,
             head: _,
         } = self;
     }
@@ -95,8 +94,7 @@ impl<K: Kem> SendDraft<K> {
     pub fn discard(self) {
         let SendDraft {
             position: _,
-            room: _,
-            len: _,
+            packet: _,
             head: _,
         } = self;
     }

@@ -12,10 +12,10 @@ use etm_aead::OpenKey;
 use fs_aead::{ReceiveStream, Skipped};
 use std::marker::Model;
 
-/// Room for kept keys that a packet changes, which has kilobytes: a caller makes it, and lends it
-/// for each packet. A contract sees the kept keys that it holds, if a packet changed them.
+/// Room for kept keys that a packet changes. A contract sees those that it holds, if a packet
+/// changed them.
 #[derive(Drop)]
-pub struct KeptRoom {
+pub(crate) struct KeptRoom {
     is_changed: bool,
     table: Skipped,
 }
@@ -63,7 +63,7 @@ fn begin_change(is_changed: &mut bool, table: &mut Skipped, kept: &Skipped)
 
 impl KeptRoom {
     /// Room in which no key stands.
-    pub fn new() -> KeptRoom
+    pub(crate) fn new() -> KeptRoom
         ensures { result ≡ None }
     {
         KeptRoom {

@@ -2,7 +2,8 @@
 use Rattle.std.proofs.Common.{◌≡◌, codes, refl}
 use Rattle.std.specs.Prelude.{Some, None}
 use Rattle.bodies.specs.declared.format.Format.TheVariants.{Padded, Plain}
-use Rattle.scripts.specs.Heads.{format_read, formats_read}
+use Rattle.bodies.specs.Formats.{format_read}
+use Rattle.scripts.specs.Heads.{formats_read}
 use Rattle.scripts.specs.Words.{after_prefix, halves_of, line_read, plain_read, seed_read, side_named}
 
 pub both_said : formats_read (codes "format plain padded") ≡ Some (record { first = Plain; second = Padded })

@@ -8,7 +8,9 @@ use Rattle.std.proofs.Math.Nat.{mod-add-mod, mul_comm}
 use Rattle.dr_base.specs.declared.position.Side.{Side}
 use Rattle.dr_base.specs.declared.position.Side.TheVariants.{First, Second}
 use Rattle.session_model.specs.declared.answer.Amount.TheVariants.{All, Exactly}
-use Rattle.dr_model.specs.Machines.Events.{does, drops_done, drops_sent, of_number, says, takes}
+use Rattle.session_model.specs.declared.answer.Items.TheVariants.{Packets, Texts}
+use Rattle.dr_model.specs.Machines.Events.{does, drops, of_number, says, takes}
+use Rattle.answer_lines.specs.Answers.{drop_word}
 use Rattle.scripts.specs.Deeds.{Deed, acts}
 use Rattle.scripts.specs.Make.{Round, advanced, choice, drawn, deeds_from, made_deeds, opening, round_of, said_to, saying, side_drawn, taking, turn_deeds}
 use Rattle.scripts.specs.Printed.{amount_text, call_text, event_text, line_text, script_text, source_text}
@@ -31,8 +33,8 @@ unfolding line_text event_text call_text source_text side_text
 said_line First round h = numbered (codes "first say m") round h (without_tested 10 (codes "first say m") refl)
 said_line Second round h = numbered (codes "second say m") round h (without_tested 10 (codes "second say m") refl)
 
-sent_line : (side : Side) → Without 10 (line_text (acts (does side (drops_sent (Exactly 1)))))
-unfolding line_text event_text call_text side_text amount_text
+sent_line : (side : Side) → Without 10 (line_text (acts (does side (drops Packets (Exactly 1)))))
+unfolding line_text event_text call_text side_text amount_text drop_word
 sent_line First = numbered (codes "first sent ") 1 (omega arith) (without_tested 10 (codes "first sent ") refl)
 sent_line Second = numbered (codes "second sent ") 1 (omega arith) (without_tested 10 (codes "second sent ") refl)
 
@@ -41,8 +43,8 @@ unfolding line_text event_text call_text source_text side_text
 taken_line First nth h = numbered (codes "first take #") nth h (without_tested 10 (codes "first take #") refl)
 taken_line Second nth h = numbered (codes "second take #") nth h (without_tested 10 (codes "second take #") refl)
 
-done_line : (side : Side) → Without 10 (line_text (acts (does side (drops_done All))))
-unfolding line_text event_text call_text side_text amount_text
+done_line : (side : Side) → Without 10 (line_text (acts (does side (drops Texts All))))
+unfolding line_text event_text call_text side_text amount_text drop_word
 done_line First = without_tested 10 (codes "first done all") refl
 done_line Second = without_tested 10 (codes "second done all") refl
 
@@ -64,7 +66,7 @@ turn_lines round most Rests h few within = tt
 
 pub said_is : (side : Side) (round : ℕ)
     → ((((side_text side ++ codes "say m") ++ decimal round) ++ codes "\n") ++ side_text side) ++ codes "sent 1\n" ≡ script_text (turn_deeds round (Says side))
-unfolding turn_deeds line_text event_text call_text side_text amount_text
+unfolding turn_deeds line_text event_text call_text side_text amount_text drop_word
 said_is First round =
     append_assoc ((codes "first say m" ++ decimal round) ++ codes "\n") (codes "first ") (codes "sent 1\n")
     ∙ ap (λ d. ((codes "first say m" ++ decimal round) ++ codes "\n") ++ (((codes "first sent " ++ d) ++ codes "\n") ++ [])) (sym (decimal_digit 1 (omega arith)))
@@ -74,7 +76,7 @@ said_is Second round =
 
 pub taken_is : (side : Side) (round nth : ℕ)
     → ((((side_text side ++ codes "take #") ++ decimal nth) ++ codes "\n") ++ side_text side) ++ codes "done all\n" ≡ script_text (turn_deeds round (Takes side nth))
-unfolding turn_deeds line_text event_text call_text source_text side_text amount_text
+unfolding turn_deeds line_text event_text call_text source_text side_text amount_text drop_word
 taken_is First round nth = append_assoc ((codes "first take #" ++ decimal nth) ++ codes "\n") (codes "first ") (codes "done all\n")
 taken_is Second round nth = append_assoc ((codes "second take #" ++ decimal nth) ++ codes "\n") (codes "second ") (codes "done all\n")
 

@@ -3,9 +3,10 @@ use Rattle.std.proofs.Common.{◌≡◌, ℕ, Option, Some, None, refl, ◌∙�
 use Rattle.std.specs.Prelude.{option_map}
 use Rattle.std.specs.Option.{option_and_then, option_or}
 use Rattle.dr_base.specs.declared.position.Side.{Side}
+use Rattle.answer_lines.specs.Answers.{drop_word}
 use Rattle.scripts.specs.Deeds.{Deed, acts, fails, reopens, stops, syncs}
 use Rattle.scripts.specs.Printed.{IsReply, IsSayable, event_text, line_text, sync_text}
-use Rattle.scripts.specs.Words.{after_prefix, bytes_words, called_words, deed_words, fail_words, flip_words, if_counted, line_read, look_words, lose_words, open_words, say_words, side_words, sided, stop_words, sync_words, take_words}
+use Rattle.scripts.specs.Words.{after_prefix, bytes_words, called_words, deed_words, drop_words, fail_words, flip_words, if_counted, line_read, look_words, lose_words, open_words, say_words, side_words, sided, stop_words, sync_words, take_words}
 use Rattle.scripts.proofs.PrintedFails.{fail_line_back, open_line_back, some_counted}
 use Rattle.scripts.proofs.PrintedLines.{deed_back, event_back}
 use Rattle.scripts.proofs.PrintedParts.{number_back}
@@ -15,7 +16,7 @@ use Rattle.scripts.proofs.PrintedStops.{stop_line_back}
 
 -- no event begins so
 no_event : (side : Side) (lost : Option ℕ) → side_words side (sync_text lost) ≡ None
-unfolding sync_text after_prefix side_words called_words say_words take_words flip_words bytes_words look_words
+unfolding sync_text after_prefix side_words called_words drop_words drop_word say_words take_words flip_words bytes_words look_words
 no_event side None = refl
 no_event side (Some lost) = refl
 

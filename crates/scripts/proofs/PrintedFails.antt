@@ -6,9 +6,10 @@ use Rattle.std.proofs.lemmas.Bool.{cond-true}
 use Rattle.std.proofs.lemmas.Bool.Decides.{nat_tests}
 use Rattle.dr_base.specs.declared.position.Side.{Side}
 use Rattle.dr_model.specs.Machines.Events.{SideCall}
+use Rattle.answer_lines.specs.Answers.{drop_word}
 use Rattle.scripts.specs.Deeds.{Deed, fails, reopens, syncs}
 use Rattle.scripts.specs.Printed.{CountsFromOne, IsSayable, call_text, fail_text, line_text}
-use Rattle.scripts.specs.Words.{after_prefix, bytes_words, call_words, called_words, deed_words, fail_read, fail_words, flip_words, halves_of, if_counted, line_read, look_words, open_words, say_words, side_words, stop_words, sync_words, take_words}
+use Rattle.scripts.specs.Words.{after_prefix, bytes_words, call_words, called_words, deed_words, drop_words, fail_read, fail_words, flip_words, halves_of, if_counted, line_read, look_words, open_words, say_words, side_words, stop_words, sync_words, take_words}
 use Rattle.scripts.proofs.PrintedLines.{called_back, deed_back, spaced}
 use Rattle.scripts.proofs.PrintedParts.{digits_of, digits_without, halves_back, number_back}
 use Rattle.scripts.proofs.PrintedStops.{call_back}
@@ -39,7 +40,7 @@ fail_back side n one words h call = counted_back side n one words h call
 
 -- no event begins so
 no_event : (side : Side) (n : ℕ) (words : List ℕ) → side_words side (fail_text n words) ≡ None
-unfolding fail_text after_prefix side_words called_words say_words take_words flip_words bytes_words look_words
+unfolding fail_text after_prefix side_words called_words drop_words drop_word say_words take_words flip_words bytes_words look_words
 no_event side n words = refl
 
 -- and no stop
@@ -62,7 +63,7 @@ fail_line_back n side call h =
 
 -- no event begins so
 opens_no_event : (side : Side) → side_words side (codes "open") ≡ None
-unfolding after_prefix side_words called_words say_words take_words flip_words bytes_words look_words
+unfolding after_prefix side_words called_words drop_words drop_word say_words take_words flip_words bytes_words look_words
 opens_no_event side = refl
 
 pub open_line_back : (side : Side) → line_read (line_text (reopens side)) ≡ Some (reopens side)

@@ -10,9 +10,10 @@ use Rattle.dr_base.specs.declared.position.Side.{Side}
 use Rattle.dr_disk.specs.declared.call.Mode.{Mode}
 use Rattle.dr_disk.specs.declared.call.Mode.TheVariants.{Fill, New, Old}
 use Rattle.dr_model.specs.Machines.Events.{SideCall}
+use Rattle.answer_lines.specs.Answers.{drop_word}
 use Rattle.scripts.specs.Deeds.{stops, syncs}
 use Rattle.scripts.specs.Printed.{IsMode, IsSayable, line_text, mode_text, call_text, stop_text}
-use Rattle.scripts.specs.Words.{after_prefix, bytes_words, call_words, called_words, crash_read, deed_words, fail_words, flip_words, halves_of, if_stops, is_text, line_read, look_words, may_stop, mode_read, open_words, say_words, side_words, stop_read, stop_words, sync_words, take_words}
+use Rattle.scripts.specs.Words.{after_prefix, bytes_words, call_words, called_words, crash_read, deed_words, drop_words, fail_words, flip_words, halves_of, if_stops, is_text, line_read, look_words, may_stop, mode_read, open_words, say_words, side_words, stop_read, stop_words, sync_words, take_words}
 use Rattle.scripts.proofs.PrintedLines.{called_back, deed_back, spaced}
 use Rattle.scripts.proofs.PrintedParts.{Without, digits_of, digits_without, halves_back, number_back}
 
@@ -108,7 +109,7 @@ stop_back side n mode one words small h call = counted_back side n mode one word
 
 -- no event begins so
 no_event : (side : Side) (n : ℕ) (mode : Mode) (words : List ℕ) → side_words side (stop_text n mode words) ≡ None
-unfolding stop_text after_prefix side_words called_words say_words take_words flip_words bytes_words look_words
+unfolding stop_text after_prefix side_words called_words drop_words drop_word say_words take_words flip_words bytes_words look_words
 no_event side n mode words = refl
 
 pub stop_line_back : (n : ℕ) (mode : Mode) (side : Side) (call : SideCall) → IsSayable (stops n mode side call)

@@ -9,7 +9,7 @@ use Rattle.dr_model.specs.Machines.Events.{Event, SideCall}
 use Rattle.dr_model.specs.Theorems.Fairness.{IsSeedWhole}
 use Rattle.dr_model.specs.Conversations.Formats.{Formats}
 use Rattle.scripts.specs.Deeds.{Deed, acts, fails, reopens, stops, syncs}
-use Rattle.scripts.specs.Heads.{head_of}
+use Rattle.scripts.specs.Heads.{head_read}
 use Rattle.scripts.specs.Script.{deeds_of, kem_read, key_read, keyed, after_kem, lines_of, or_bad, script_of, script_of_lines, scripted, Scripted, with_deed}
 use Rattle.scripts.specs.Deeds.{HasWholeSeed}
 use Rattle.scripts.specs.Number.{script_number_read}
@@ -125,7 +125,7 @@ whole_keyed : (kem : KemName) (key : Option (List ℕ)) (lines : List (List ℕ)
     → IfOk (keyed kem key lines) (λ script. All HasWholeSeed script.deeds)
 whole_keyed kem None lines = tt
 whole_keyed kem (Some key) lines =
-    let head = head_of lines in
+    let head = head_read lines in
     whole_scripted kem key head.formats (deeds_of head.number head.lines) (whole_deeds head.number head.lines)
 
 whole_after : (kem : Option KemName) (lines : List (List ℕ)) → IfOk (after_kem kem lines) (λ script. All HasWholeSeed script.deeds)

@@ -1,16 +1,10 @@
 -- The lines of a script that may stand between its key and its deeds.
-use Rattle.std.specs.Prelude.{ℕ, List, [], ◌∷◌, Option, Some, None, option_map, codes, if◌then◌else◌}
+use Rattle.std.specs.Prelude.{ℕ, List, [], ◌∷◌, Option, Some, None, option_map, codes}
 use Rattle.std.specs.Option.{option_and_then}
-use Rattle.bodies.specs.declared.format.Format.{Format}
-use Rattle.bodies.specs.declared.format.Format.TheVariants.{Padded, Plain}
+use Rattle.bodies.specs.Formats.{format_read}
+use Rattle.bodies.specs.declared.format.Format.TheVariants.{Plain}
 use Rattle.dr_model.specs.Conversations.Formats.{Formats}
-use Rattle.scripts.specs.Words.{after_prefix, halves_of, is_text}
-
--- `plain` or `padded`
-unfoldable pub format_read : List ℕ → Option Format
-format_read word =
-    if is_text (codes "plain") word then Some Plain
-    else (if is_text (codes "padded") word then Some Padded else None)
+use Rattle.scripts.specs.Words.{after_prefix, halves_of}
 
 -- First's format, and Second's
 abbrev pub both_read : List ℕ × List ℕ → Option Formats
@@ -43,6 +37,6 @@ with_formats None line lines = plain_head (line ∷ lines)
 with_formats (Some formats) line lines = record { formats = formats; number = 4; lines = lines }
 
 -- the head of the lines after the key, which begin with the third
-unfoldable pub head_of : List (List ℕ) → Headed
-head_of [] = plain_head []
-head_of (line ∷ lines) = with_formats (formats_read line) line lines
+unfoldable pub head_read : List (List ℕ) → Headed
+head_read [] = plain_head []
+head_read (line ∷ lines) = with_formats (formats_read line) line lines

@@ -1,6 +1,6 @@
 -- What a line says: an event, which may stop the disk of its side or let it fail once, an opening, or a sync.
 use Rattle.scripts.specs.Deeds.{Deed, acts, fails, reopens, stops, syncs}
-use Rattle.scripts.specs.Seen.{call_of, event_of}
+use Rattle.scripts.specs.Seen.{call_seen, event_of}
 use Rattle.scripts.specs.declared.call.Failure.{Failure}
 use Rattle.scripts.specs.declared.lined.Lined.{Lined}
 use Rattle.scripts.specs.declared.lined.Lined.TheVariants.{Failing, Opening, Plain, Stopping, Syncing}
@@ -8,11 +8,11 @@ use Rattle.scripts.specs.declared.lined.Stop.{Stop}
 
 -- a call in which the disk stops
 abbrev pub stop_deed : Stop → Deed
-stop_deed stop = stops stop.after stop.mode stop.side (call_of stop.call)
+stop_deed stop = stops stop.after stop.mode stop.side (call_seen stop.call)
 
 -- a call in which the disk fails once
 abbrev pub failed_deed : Failure → Deed
-failed_deed failure = fails failure.at failure.side (call_of failure.call)
+failed_deed failure = fails failure.at failure.side (call_seen failure.call)
 
 abbrev pub lined_deed : Lined → Deed
 lined_deed (Plain line) = acts (event_of line)

@@ -3,7 +3,8 @@ use Rattle.std.specs.Prelude.{ℕ, zero, suc, ◌+◌, ◌*◌, ◌/◌, ◌%◌
 use Rattle.dr_base.specs.declared.position.Side.{Side}
 use Rattle.dr_base.specs.declared.position.Side.TheVariants.{First, Second}
 use Rattle.session_model.specs.declared.answer.Amount.TheVariants.{All, Exactly}
-use Rattle.dr_model.specs.Machines.Events.{does, drops_done, drops_sent, of_number, says, takes}
+use Rattle.session_model.specs.declared.answer.Items.TheVariants.{Packets, Texts}
+use Rattle.dr_model.specs.Machines.Events.{does, drops, of_number, says, takes}
 use Rattle.scripts.specs.Deeds.{Deed, acts}
 use Rattle.scripts.specs.Heads.{both_plain}
 use Rattle.scripts.specs.Script.{Scripted}
@@ -69,9 +70,9 @@ round_of m =
 unfoldable pub turn_deeds : ℕ → Turn → List Deed
 turn_deeds round (Says side) =
     acts (does side (says (codes "m" ++ decimal round)))
-    ∷ acts (does side (drops_sent (Exactly 1))) ∷ []
+    ∷ acts (does side (drops Packets (Exactly 1))) ∷ []
 turn_deeds round (Takes side nth) =
-    acts (does side (takes (of_number nth))) ∷ acts (does side (drops_done All)) ∷ []
+    acts (does side (takes (of_number nth))) ∷ acts (does side (drops Texts All)) ∷ []
 turn_deeds round Rests = []
 
 -- ---- a script

@@ -6,8 +6,8 @@ use Rattle.dr_disk.specs.declared.call.Mode.{Mode}
 use Rattle.dr_disk.specs.declared.call.Mode.TheVariants.{Fill, New, Old}
 use Rattle.session_model.specs.declared.answer.Amount.{Amount}
 use Rattle.session_model.specs.declared.answer.Amount.TheVariants.{All, Exactly}
-use Rattle.dr_model.specs.Machines.Events.{Event, PacketSource, SideCall, cuts, does, drops_done, drops_sent, of_bytes, of_flip, of_number, of_position, says, seeds, shows_inbox, shows_state, takes}
-use Rattle.answer_lines.specs.Answers.{position_text}
+use Rattle.dr_model.specs.Machines.Events.{Event, PacketSource, SideCall, cuts, does, drops, of_bytes, of_flip, of_number, of_position, says, seeds, shows_inbox, shows_state, takes}
+use Rattle.answer_lines.specs.Answers.{drop_word, position_text}
 use Rattle.scripts.specs.Deeds.{Deed, acts, fails, reopens, stops, syncs}
 use Rattle.scripts.specs.Sides.{side_text}
 use Rattle.scripts.specs.Words.{may_stop}
@@ -29,8 +29,7 @@ source_text (of_bytes bytes) = codes "bytes " ++ encode_lower bytes
 unfoldable pub call_text : SideCall → List ℕ
 call_text (says text) = codes "say " ++ text
 call_text (takes source) = source_text source
-call_text (drops_sent amount) = codes "sent " ++ amount_text amount
-call_text (drops_done amount) = codes "done " ++ amount_text amount
+call_text (drops items amount) = drop_word items ++ amount_text amount
 
 -- the line that says an event: a seed is no side's, and no line says that an event is cut off
 unfoldable pub event_text : Event → List ℕ
@@ -87,8 +86,7 @@ IsSayableSource (of_bytes bytes) = (length bytes ≤ HEX_LIMIT) × IsBytes bytes
 abbrev pub IsSayableCall : SideCall → Type 0
 IsSayableCall (says text) = ⊤
 IsSayableCall (takes source) = IsSayableSource source
-IsSayableCall (drops_sent amount) = IsAmount amount
-IsSayableCall (drops_done amount) = IsAmount amount
+IsSayableCall (drops items amount) = IsAmount amount
 
 -- whether an event is cut off, no line says
 abbrev pub IsSayableEvent : Event → Type 0

@@ -5,7 +5,7 @@ use Rattle.std.specs.Result.{result_ok}
 use Rattle.hex.specs.Hex.{decode_sized}
 use Rattle.dr_model.specs.Conversations.Formats.{Formats}
 use Rattle.scripts.specs.Deeds.{Deed}
-use Rattle.scripts.specs.Heads.{Headed, head_of}
+use Rattle.scripts.specs.Heads.{Headed, head_read}
 use Rattle.scripts.specs.Words.{after_prefix, is_text, line_read}
 use Rattle.scripts.specs.declared.script.KemName.{KemName}
 use Rattle.scripts.specs.declared.script.KemName.TheVariants.{Open, Sntrup761}
@@ -85,7 +85,7 @@ headed kem key head = scripted kem key head.formats (deeds_of head.number head.l
 -- a script from its key, if the second line has one, and the lines after it
 abbrev pub keyed : KemName → Option (List ℕ) → List (List ℕ) → Result Scripted ℕ
 keyed kem None lines = Err 2
-keyed kem (Some key) lines = headed kem key (head_of lines)
+keyed kem (Some key) lines = headed kem key (head_read lines)
 
 -- a script from its mechanism, if the first line names one, and the lines after it
 abbrev pub after_kem : Option KemName → List (List ℕ) → Result Scripted ℕ

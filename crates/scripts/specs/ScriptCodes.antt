@@ -100,12 +100,12 @@ pub same_format : (format : Format) → format_by (is_padded format) ≡ format
 same_format Plain = refl
 same_format Padded = refl
 
-abbrev pub format_code : Coded Format
-format_code = code_by Bool coded_bool is_padded format_by same_format
+abbrev pub coded_format : Coded Format
+coded_format = code_by Bool coded_bool is_padded format_by same_format
 
 abbrev pub formats_code : Coded Formats
 formats_code =
-    code_by (Format × Format) (coded× format_code format_code)
+    code_by (Format × Format) (coded× coded_format coded_format)
     (λ f. (f.first, f.second)) (λ e. record { first = e.0; second = e.1 }) (λ _. refl)
 
 abbrev pub script_code : Coded Scripted

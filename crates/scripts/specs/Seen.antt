@@ -3,12 +3,12 @@ use Rattle.std.specs.Prelude.{ℕ, List, [], Option, Some, None}
 use Rattle.std.specs.Borrow.{Bor}
 use Rattle.dr_base.specs.declared.position.Side.{Side}
 use Rattle.session_model.specs.declared.answer.Amount.{Amount}
-use Rattle.dr_model.specs.Machines.Events.{Event, PacketSource, SideCall, does, drops_done, drops_sent, of_bytes, of_flip, of_number, of_position, says, seeds, shows_inbox, shows_state, takes}
+use Rattle.dr_model.specs.Machines.Events.{Event, PacketSource, SideCall, does, drops, of_bytes, of_flip, of_number, of_position, says, seeds, shows_inbox, shows_state, takes}
 use Rattle.scripts.specs.Heads.{Headed}
 use Rattle.scripts.specs.Script.{lines_of}
 use Rattle.scripts.specs.Words.{hex_read}
 use Rattle.scripts.specs.declared.call.Call.{Call}
-use Rattle.scripts.specs.declared.call.Call.TheVariants.{Say, Take, Sent, Done}
+use Rattle.scripts.specs.declared.call.Call.TheVariants.{Say, Take, Drop}
 use Rattle.scripts.specs.declared.call.Source.{Source}
 use Rattle.scripts.specs.declared.call.Source.TheVariants.{At, Nth, Flipped, Bytes}
 use Rattle.scripts.specs.declared.head.Head.{Head}
@@ -34,15 +34,14 @@ source_of (Bytes hex) = of_bytes (bytes_of_hex hex.now)
 abbrev pub CallOfLine : Type 0
 CallOfLine = Call (Bor (List ℕ)) Source Amount
 
-abbrev pub call_of : CallOfLine → SideCall
-call_of (Say text) = says text.now
-call_of (Take source) = takes (source_of source)
-call_of (Sent amount) = drops_sent amount
-call_of (Done amount) = drops_done amount
+abbrev pub call_seen : CallOfLine → SideCall
+call_seen (Say text) = says text.now
+call_seen (Take source) = takes (source_of source)
+call_seen (Drop items amount) = drops items amount
 
 -- a call of a side
 abbrev pub call_event : Side → CallOfLine → Event
-call_event side call = does side (call_of call)
+call_event side call = does side (call_seen call)
 
 -- what a line says without a stop
 abbrev pub event_of : Line → Event
@@ -52,8 +51,8 @@ event_of (Inbox side) = shows_inbox side
 event_of (State side) = shows_state side
 
 -- the lines before the deeds
-abbrev pub head_seen : Head → Headed
-head_seen head = record {
+abbrev pub head_fields : Head → Headed
+head_fields head = record {
   formats = record { first = head.first; second = head.second };
   number = head.number;
   lines = lines_of head.rest.now;

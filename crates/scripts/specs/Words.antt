@@ -12,7 +12,10 @@ use Rattle.dr_base.specs.declared.position.Side.{Side}
 use Rattle.dr_base.specs.declared.position.Side.TheVariants.{First, Second}
 use Rattle.session_model.specs.declared.answer.Amount.{Amount}
 use Rattle.session_model.specs.declared.answer.Amount.TheVariants.{All, Exactly}
-use Rattle.dr_model.specs.Machines.Events.{Event, PacketSource, SideCall, does, drops_done, drops_sent, of_bytes, of_flip, of_number, of_position, says, seeds, shows_inbox, shows_state, takes}
+use Rattle.session_model.specs.declared.answer.Items.{Items}
+use Rattle.session_model.specs.declared.answer.Items.TheVariants.{Packets, Texts}
+use Rattle.dr_model.specs.Machines.Events.{Event, PacketSource, SideCall, does, drops, of_bytes, of_flip, of_number, of_position, says, seeds, shows_inbox, shows_state, takes}
+use Rattle.answer_lines.specs.Answers.{drop_word}
 use Rattle.scripts.specs.Deeds.{Deed, acts, fails, reopens, stops, syncs}
 use Rattle.scripts.specs.Number.{script_number_read}
 use Rattle.scripts.specs.declared.hexed.TheConstants.{DIGIT_LIMIT}
@@ -90,16 +93,16 @@ bytes_words words =
 abbrev pub source_words : List ℕ → Option PacketSource
 source_words words = option_or (take_words words) (option_or (flip_words words) (bytes_words words))
 
--- an amount after a word and a space
-abbrev pub amount_after : List ℕ → List ℕ → Option Amount
-amount_after word words = option_and_then amount_words (text_after word words)
+-- the word of these items, and an amount
+unfoldable pub drop_words : Items → List ℕ → Option SideCall
+drop_words items words =
+    option_map (drops items) (option_and_then amount_words (after_prefix (drop_word items) words))
 
 -- what a side is called to do: a text, a packet, or `sent` or `done` and an amount
 unfoldable pub called_words : List ℕ → Option SideCall
 called_words words =
     option_or (say_words words) (option_or (option_map takes (source_words words))
-    (option_or (option_map drops_sent (amount_after (codes "sent") words))
-    (option_map drops_done (amount_after (codes "done") words))))
+    (option_or (drop_words Packets words) (drop_words Texts words)))
 
 -- `inbox` or `state`
 unfoldable pub look_words : Side → List ℕ → Option Event
@@ -145,15 +148,14 @@ is_network (of_position p) = true
 is_network (of_number nth) = true
 is_network _ = false
 
-abbrev pub is_number : Amount → Bool
-is_number All = false
-is_number (Exactly n) = true
+abbrev pub is_exact : Amount → Bool
+is_exact All = false
+is_exact (Exactly n) = true
 
 abbrev pub may_stop : SideCall → Bool
 may_stop (says text) = true
 may_stop (takes source) = is_network source
-may_stop (drops_sent amount) = is_number amount
-may_stop (drops_done amount) = is_number amount
+may_stop (drops items amount) = is_exact amount
 
 abbrev pub if_stops : SideCall → Option SideCall
 if_stops call = if may_stop call then Some call else None

@@ -3,7 +3,7 @@
 ghost use Rattle.std.specs.Prelude.{◌≤◌};
 
 use dr_base::{Position, Side};
-use session_model::Amount;
+use session_model::{Amount, Items};
 
 /// A call on a side's client, by what stands for a text, a packet and a number of items.
 #[derive(Clone, Copy, Drop)]
@@ -12,10 +12,8 @@ pub enum Call<T, P, N> {
     Say(T),
     /// It takes this packet.
     Take(P),
-    /// This many of the oldest packets leave its outbox.
-    Sent(N),
-    /// This many of the oldest texts leave its inbox.
-    Done(N),
+    /// This many of the oldest items leave their box.
+    Drop(Items, N),
 }
 
 /// A call as a line says it.
@@ -52,17 +50,17 @@ impl Source<'_> {
 
 impl Call<&[u8], Source<'_>, Amount> {
     ghost use Rattle.std.specs.Prelude.{◌≡◌};
-    ghost use Rattle.scripts.specs.Seen.{call_of};
+    ghost use Rattle.scripts.specs.Seen.{call_seen};
     ghost use Rattle.scripts.specs.Words.{may_stop};
 
     /// Whether a disk may stop or fail in it.
     pub fn may_stop(self) -> bool
-        ensures { result ≡ may_stop (call_of self.entry) }
+        ensures { result ≡ may_stop (call_seen self.entry) }
     {
         match self {
             Call::Say(_) => true,
             Call::Take(source) => source.is_network(),
-            Call::Sent(amount) | Call::Done(amount) => matches!(&amount, Amount::Exactly(_)),
+            Call::Drop(_, amount) => matches!(&amount, Amount::Exactly(_)),
         }
     }
 }

@@ -2,7 +2,7 @@
 
 ghost use Rattle.std.specs.Prelude.{◌≡◌, option_map};
 ghost use Rattle.scripts.specs.Lined.{failed_deed, stop_deed};
-ghost use Rattle.scripts.specs.Seen.{call_of};
+ghost use Rattle.scripts.specs.Seen.{call_seen};
 ghost use Rattle.scripts.specs.Words.{call_words, fail_words, mode_read, stop_words};
 
 use crate::call::{Failure, LineCall};
@@ -17,7 +17,7 @@ use hex::FromHex;
 /// Reads a call in which a disk may stop or fail.
 #[tactic(auto, unfolding(crate::specs::Words::call_words))]
 fn parse_call(words: &[u8]) -> Option<LineCall<'_>>
-    ensures { option_map call_of result ≡ call_words words.entry.now }
+    ensures { option_map call_seen result ≡ call_words words.entry.now }
 {
     let call = parse_called(words)?;
     if call.may_stop() {

@@ -1,9 +1,9 @@
 //! The lines of a script before its deeds. Those after its key may be left out.
 
 ghost use Rattle.std.specs.Prelude.{◌≡◌, ◌≤◌, length, option_map};
-ghost use Rattle.scripts.specs.Heads.{format_read, formats_read, head_of};
+ghost use Rattle.scripts.specs.Heads.{formats_read, head_read};
 ghost use Rattle.scripts.specs.Script.{kem_read, key_read, lines_of};
-ghost use Rattle.scripts.specs.Seen.{head_seen};
+ghost use Rattle.scripts.specs.Seen.{head_fields};
 
 use crate::script::KemName;
 use crate::split::{after_prefix, cut_at, split_line};
@@ -51,20 +51,6 @@ pub fn parse_key(line: &[u8]) -> Option<Key32>
     }
 }
 
-/// Reads `plain` or `padded`.
-#[tactic(auto, unfolding(crate::specs::Heads::format_read))]
-fn parse_format(word: &[u8]) -> Option<Format>
-    ensures { result ≡ format_read word.now }
-{
-    if word == b"plain".as_slice() {
-        return Some(Format::Plain);
-    }
-    if word == b"padded".as_slice() {
-        return Some(Format::Padded);
-    }
-    None
-}
-
 /// Reads `format`, First's and Second's.
 #[tactic(auto, unfolding(crate::specs::Heads::formats_read))]
 fn parse_formats(line: &[u8]) -> Option<(Format, Format)>
@@ -73,15 +59,15 @@ fn parse_formats(line: &[u8]) -> Option<(Format, Format)>
 {
     let words = after_prefix(line, b"format ")?;
     let (first, second) = cut_at(words, b' ')?;
-    let first = parse_format(first)?;
-    let second = parse_format(second)?;
+    let first = Format::named(first)?;
+    let second = Format::named(second)?;
     Some((first, second))
 }
 
 /// The head of what stands after the key.
-#[tactic(auto, unfolding(crate::specs::Heads::head_of))]
+#[tactic(auto, unfolding(crate::specs::Heads::head_read))]
 pub fn parse_head(text: &[u8]) -> Head<'_>
-    ensures head { head_seen result ≡ head_of (lines_of text.entry.now) }
+    ensures head { head_fields result ≡ head_read (lines_of text.entry.now) }
     ensures early { result.number ≤ 4 }
     ensures within { length result.rest.now ≤ length text.entry.now }
 {

@@ -2,7 +2,7 @@
 //! second the key of both sessions, its third may name their formats; each later line is a deed.
 
 ghost use Rattle.std.specs.Prelude.{◌≡◌, ◌≤◌, ◌<◌, ◌^◌, length, Ok, Err, IfOk, IfErr};
-ghost use Rattle.dr_model.specs.Conversations.Formats.{format_of};
+ghost use Rattle.dr_model.specs.Conversations.Formats.{side_format};
 ghost use Rattle.scripts.specs.Faults.{IsFaultOf};
 ghost use Rattle.scripts.specs.Script.{AreCounted, deeds_in, deeds_of, lines_of, script_of};
 
@@ -123,7 +123,7 @@ impl Script {
 
     /// How a side seals its texts.
     pub fn format(&self, side: Side) -> Format
-        ensures { result ≡ format_of self.now.formats side }
+        ensures { result ≡ side_format self.now.formats side }
     {
         match side {
             Side::First => self.first,

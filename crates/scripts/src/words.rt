@@ -1,17 +1,18 @@
 //! What a side does in a line.
 
 ghost use Rattle.std.specs.Prelude.{◌≡◌, Some, None, option_copied, option_map, if◌then◌else◌};
-ghost use Rattle.scripts.specs.Words.{amount_after, amount_words, bytes_words, called_words, flip_words, hex_read, look_words, packet_read, position_read, say_words, source_words, take_words, text_after};
-ghost use Rattle.scripts.specs.Seen.{bytes_of_hex, call_of, event_of, source_of};
+ghost use Rattle.scripts.specs.Words.{amount_words, bytes_words, called_words, drop_words, flip_words, hex_read, look_words, packet_read, position_read, say_words, source_words, take_words, text_after};
+ghost use Rattle.scripts.specs.Seen.{bytes_of_hex, call_seen, event_of, source_of};
 
 use crate::call::{Call, LineCall, Source};
 use crate::hexed::{DIGIT_LIMIT, HEX_LIMIT};
 use crate::line::Line;
 use crate::number::number;
 use crate::split::{after_prefix, cut_at};
+use answer_lines::drop_word;
 use dr_base::{Position, Side};
 use hex::decode_to_slice;
-use session_model::Amount;
+use session_model::{Amount, Items};
 
 /// What stands after a word and a space; nothing where the word stands alone.
 fn text_after<'a>(words: &'a [u8], word: &[u8]) -> Option<&'a [u8]>
@@ -27,7 +28,7 @@ fn text_after<'a>(words: &'a [u8], word: &[u8]) -> Option<&'a [u8]>
 /// Reads `say` and a text.
 #[tactic(auto, unfolding(crate::specs::Words::say_words))]
 fn parse_say(words: &[u8]) -> Option<LineCall<'_>>
-    ensures { option_map call_of result ≡ say_words words.entry.now }
+    ensures { option_map call_seen result ≡ say_words words.entry.now }
 {
     let text = text_after(words, b"say")?;
     Some(Call::Say(text))
@@ -123,7 +124,7 @@ fn parse_source(words: &[u8]) -> Option<Source<'_>>
 /// Reads what a side is called to do.
 #[tactic(auto, unfolding(crate::specs::Words::called_words))]
 pub fn parse_called(words: &[u8]) -> Option<LineCall<'_>>
-    ensures { option_map call_of result ≡ called_words words.entry.now }
+    ensures { option_map call_seen result ≡ called_words words.entry.now }
 {
     if let Some(found) = parse_say(words) {
         return Some(found);
@@ -131,13 +132,10 @@ pub fn parse_called(words: &[u8]) -> Option<LineCall<'_>>
     if let Some(source) = parse_source(words) {
         return Some(Call::Take(source));
     }
-    if let Some(amount) = amount_after(words, b"sent") {
-        return Some(Call::Sent(amount));
+    if let Some(found) = parse_drop(Items::Packets, words) {
+        return Some(found);
     }
-    match amount_after(words, b"done") {
-        Some(amount) => Some(Call::Done(amount)),
-        None => None,
-    }
+    parse_drop(Items::Texts, words)
 }
 
 /// Reads `inbox` or `state`.
@@ -154,12 +152,14 @@ pub fn parse_look(side: Side, words: &[u8]) -> Option<Line<'_>>
     None
 }
 
-/// Reads a word, and an amount after a space.
-fn amount_after(words: &[u8], word: &[u8]) -> Option<Amount>
-    ensures { result ≡ amount_after word.now words.now }
+/// Reads the word of these items, and an amount.
+#[tactic(auto, unfolding(crate::specs::Words::drop_words))]
+fn parse_drop(items: Items, words: &[u8]) -> Option<LineCall<'_>>
+    ensures { option_map call_seen result ≡ drop_words items words.entry.now }
 {
-    let text = text_after(words, word)?;
-    parse_amount(text)
+    let text = after_prefix(words, drop_word(items))?;
+    let amount = parse_amount(text)?;
+    Some(Call::Drop(items, amount))
 }
 
 /// Reads `all` or a number.

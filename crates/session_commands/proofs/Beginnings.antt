@@ -20,6 +20,7 @@ use Rattle.client.specs.Beginning.{IsClientBegun, IsEntryOrFirst, IsFirst, IsUnb
 use Rattle.client.specs.Clients.{ClientNow, client_area}
 use Rattle.client.specs.InWorlds.{IsIn}
 use Rattle.client.specs.Opening.{ReadsAsSide, client_record_fault}
+use Rattle.client.specs.declared.begin.Begin.{Begin}
 use Rattle.client.specs.declared.refusals.BeginRefusal.{BeginRefusal}
 use Rattle.client.proofs.Openings.{like_stands}
 use Rattle.session_commands.specs.Beginning.{Began, Begins, was_begun, wasnt_begun}
@@ -36,42 +37,42 @@ like_stands_for k side before after start c reads like = record {
 }
 
 -- where a world was read, no first record was put
-never_first : (k : Mechanism) → IsRead → (key : List ℕ) (side : Side) (format : Format) (w : World) (whose : Side) (start : DiskState)
-    (c : List ℕ) → ReadsAsSide k w whose start → IsFirst k key side format start c → ⊥
-never_first k readings key side format w whose start c reads first =
+never_first : (k : Mechanism) → IsRead → (begin : Begin) (w : World) (whose : Side) (start : DiskState)
+    (c : List ℕ) → ReadsAsSide k w whose start → IsFirst k begin start c → ⊥
+never_first k readings begin w whose start c reads first =
     let none : stored_record client_area reads.bytes ≡ None =
     readings.none (client_record_fault k) client_area reads.bytes (first.none reads.bytes reads.told) in
     let same : None ≡ Some (Ok (kept_in k w whose)) = sym (ap (option_map (record_read k)) none) ∙ reads.stands in cc
 
-module _ {X : Type 0} (state : X → DiskState) (k : Mechanism) (readings : IsRead) (key : List ℕ) (side : Side) (format : Format) (start now : X)
-    (span : Span (state start) (state now) (IsEntryOrFirst k key side format (state start)))
+module _ {X : Type 0} (state : X → DiskState) (k : Mechanism) (readings : IsRead) (begin : Begin) (start now : X)
+    (span : Span (state start) (state now) (IsEntryOrFirst k begin (state start)))
     (seen : (s : List ℕ) → (state now).seen ≡ Some s
-    → IsLikeRead client_area (state start) s ⊎ IsFirst k key side format (state start) s) where
+    → IsLikeRead client_area (state start) s ⊎ IsFirst k begin (state start) s) where
   worlds_stay : (w : World) (whose : Side) → ReadsAsSide k w whose (state start) → RunsOn k whose w w (state start) (state now)
   worlds_stay w whose reads = record {
     any_moment =
-        widen (state start) (state now) (IsEntryOrFirst k key side format (state start))
+        widen (state start) (state now) (IsEntryOrFirst k begin (state start))
         (λ c. (state start).image c ⊎ StandsForOne k whose w w (state start) c)
         (λ c s.
         ⊎_elim
         (λ left. ⊎_elim (λ was. inl was) (λ like. inr (like_stands_for k whose w w (state start) c reads like)) left)
-        (λ first. absurd (never_first k readings key side format w whose (state start) c reads first)) s) span;
+        (λ first. absurd (never_first k readings begin w whose (state start) c reads first)) s) span;
     reads = λ s told.
         ⊎_elim (λ like. like_stands_for k whose w w (state start) s reads like)
-        (λ first. absurd (never_first k readings key side format w whose (state start) s reads first)) (seen s told);
+        (λ first. absurd (never_first k readings begin w whose (state start) s reads first)) (seen s told);
   }
 
-  pub unbegun_begins : (refusal : BeginRefusal) → IsUnbegun state k key start now refusal
-      → Begins state k key side format start now (ending_of_begin refusal) []
+  pub unbegun_begins : (refusal : BeginRefusal) → IsUnbegun state k begin start now refusal
+      → Begins state k begin start now (ending_of_begin refusal) []
   unbegun_begins refusal why =
       record { began = wasnt_begun refusal why; any_moment = span; reads = seen; in_worlds = worlds_stay }
 
-  pub begun_begins : (client : ClientNow) → IsClientBegun k key side format client (state start) (state now)
-      → ((other : Format) → IsIn k (opening_world key (formats_of side format other)) side client)
-      → Begins state k key side format start now Done (session_line client.kept.state.session)
+  pub begun_begins : (client : ClientNow) → IsClientBegun k begin client (state start) (state now)
+      → ((other : Format) → IsIn k (opening_world begin.key.bytes (formats_of begin.side begin.format other)) begin.side client)
+      → Begins state k begin start now Done (session_line client.kept.state.session)
   begun_begins client begun is = record {
     began =
-        subst (λ (kept : Client). Began state k key side format start now Done (session_line kept.state.session)) (sym begun.keeps)
+        subst (λ (kept : Client). Began state k begin start now Done (session_line kept.state.session)) (sym begun.keeps)
         (was_begun begun.read begun.pair
         (λ other. record {
           lawful = (is other).lawful;

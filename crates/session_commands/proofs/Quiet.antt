@@ -11,6 +11,8 @@ use Rattle.endings.specs.Ends.{Ends}
 use Rattle.endings.specs.declared.ending.Ending.{Ending}
 use Rattle.kem_laws.specs.Mechanism.{Mechanism}
 use Rattle.session_model.specs.Clients.{Client}
+use Rattle.client.specs.Beginning.{begin_of}
+use Rattle.client.specs.declared.begin.Begin.{Begin}
 use Rattle.client.specs.declared.refusals.BeginRefusal.{BeginRefusal}
 use Rattle.client.specs.declared.refusals.BeginRefusal.TheVariants.{Damaged as BeginDamaged, Exists as BeginExists, Memory as BeginMemory, NoPair as BeginNoPair, StoreFault as BeginFault}
 use Rattle.client.specs.declared.refusals.OpenRefusal.{OpenRefusal}
@@ -139,10 +141,10 @@ check_counts state k start now old new code runs later =
     counted (RunsCheck state k start now) (IsQuiet (state start) (state now)) old new code
     (λ ending lines came zero. checked_came state k start now ending lines came.checked zero) runs later
 
-begun_came : {X : Type 0} (state : X → DiskState) (k : Mechanism) (key : List ℕ) (side : Side) (format : Format) (start now : X)
-    (ending : Ending) (lines : List ℕ) → Began state k key side format start now ending lines → code_of ending ≡ 0 → IsQuiet (state start) (state now)
-begun_came state k key side format start now ending lines (wasnt_begun refusal why) e = absurd (begin_code refusal e)
-begun_came state k key side format start now ending lines (was_begun none pair rests quiet) e = quiet
+begun_came : {X : Type 0} (state : X → DiskState) (k : Mechanism) (begin : Begin) (start now : X)
+    (ending : Ending) (lines : List ℕ) → Began state k begin start now ending lines → code_of ending ≡ 0 → IsQuiet (state start) (state now)
+begun_came state k begin start now ending lines (wasnt_begun refusal why) e = absurd (begin_code refusal e)
+begun_came state k begin start now ending lines (was_begun none pair rests quiet) e = quiet
 
 begin_came : {X : Type 0} (state : X → DiskState) (k : Mechanism) (side : Side) (format : Format) (from to : SourceState) (start now : X)
     (ending : Ending) (lines : List ℕ)
@@ -151,7 +153,7 @@ begin_came : {X : Type 0} (state : X → DiskState) (k : Mechanism) (side : Side
 begin_came state k side format from to start now ending lines (had_no_key e none same) zero =
     absurd (input_code _ _ _ _ _ e refl none zero)
 begin_came state k side format from to start now ending lines (had_key key e l input begins) zero =
-    (begun_came state k key side format start now e l begins.began zero, input.quiet)
+    (begun_came state k (begin_of side format key) start now e l begins.began zero, input.quiet)
 
 pub begin_counts : {X : Type 0} (state : X → DiskState) (k : Mechanism) (side : Side) (format : Format) (from to : SourceState)
     (start now : X) (old new : SinkState) (code : ℕ)

@@ -3,18 +3,18 @@
 use Rattle.std.specs.Prelude.{List, Result, Some, [], slice_get, ℕ, ◌+◌, ◌≡◌}
 use Rattle.dr_base.specs.declared.position.Side.{Side}
 use Rattle.dr_disk.specs.State.{Always, DiskState}
+use Rattle.dr_model.specs.Machines.Acts.{dropping}
 use Rattle.dr_model.specs.Machines.Worlds.{World}
 use Rattle.dr_ports.specs.States.{DrawsState}
 use Rattle.endings.specs.declared.ending.Ending.{Ending}
 use Rattle.kem_laws.specs.Mechanism.{Mechanism}
 use Rattle.relay_wire.specs.Replies.{Replied}
 use Rattle.session_model.specs.Clients.{Client}
+use Rattle.session_model.specs.declared.answer.Items.{Items}
 use Rattle.sync_model.specs.declared.more.More.{More}
-use Rattle.client.specs.Drafting.{act_dropping}
 use Rattle.client.specs.InWorlds.{StandsFor}
 use Rattle.client.specs.Moments.{HaveMoved, IsAmongKnown, Known, settled_in}
 use Rattle.client.specs.Syncing.InWorlds.{AreUnforged}
-use Rattle.client.specs.declared.cores.drafts.Drops.{Drops}
 use Rattle.client.specs.declared.syncing.faults.SyncFault.{SyncFault}
 use Rattle.session_commands.specs.Acting.{ClientAsk}
 use Rattle.session_commands.specs.Asking.{asked_drop, asked_say, asked_take}
@@ -29,12 +29,12 @@ use Rattle.session_commands.specs.Syncing.{SyncRunsIn}
 pub data Command (W : Type 0) : Type 0 where
   says : (text : List ℕ) (source left : W) → Command W
   takes : (packet : List ℕ) → Command W
-  drops : Drops → Command W
+  drops : (items : Items) (n : ℕ) → Command W
 
 abbrev pub asked_by : {W : Type 0} → (W → DrawsState) → Mechanism → Command W → ClientAsk
 asked_by draws k (says text source left) = asked_say draws text source left
 asked_by draws k (takes packet) = asked_take k packet
-asked_by draws k (drops items) = asked_drop (act_dropping items)
+asked_by draws k (drops items n) = asked_drop (dropping items n)
 
 -- a crash now leaves only what one might have left then
 abbrev pub LeavesAlone : DiskState → DiskState → Type 0

@@ -12,8 +12,8 @@ use crate::endings_of::unbegun;
 use crate::input::read_key;
 use crate::lines::session_line;
 use bodies::Format;
-use client::Client;
-use dr_base::{Key32, Side};
+use client::{Begin, Client};
+use dr_base::Side;
 use dr_disk::Disk;
 use dr_ports::{OutputLine, Sink, Source};
 use endings::{Ending, Status, finish};
@@ -24,17 +24,15 @@ use std::alloc::Global;
 /// Begins the session of a key in a format, and gives the line of its name.
 fn begin_on<K: Kem, D: Disk>(
     alloc: Global,
-    side: Side,
-    format: Format,
-    key: &Key32,
+    begin: &Begin,
     disk: &mut D,
 ) -> Result<OutputLine, Ending>
     requires { HasClientRoom (D.state disk.old) }
-    ensures { Begins D.state K.mechanism key.now.bytes side format disk.old disk.new
+    ensures { Begins D.state K.mechanism begin.now disk.old disk.new
         (begun_ending result) (begun_lines result) }
 {
     readings();
-    match Client::<K>::begin(alloc, disk, side, format, key) {
+    match Client::<K>::begin(alloc, disk, begin.side, begin.format, &begin.key) {
         Err(refusal) => Err(unbegun(refusal)),
         Ok(client) => Ok(session_line(client.session())),
     }
@@ -55,7 +53,7 @@ fn read_and_begin<K: Kem, D: Disk, S: Source>(
 {
     match read_key(alloc, source) {
         Err(ending) => Err(ending),
-        Ok(key) => begin_on::<K, D>(alloc, side, format, &key, disk),
+        Ok(key) => begin_on::<K, D>(alloc, &Begin { side, format, key }, disk),
     }
 }
 

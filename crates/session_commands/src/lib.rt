@@ -8,7 +8,7 @@
 
 pub use beginning::begin;
 pub use checking::check;
-pub use dropping::{done, sent};
+pub use dropping::drop_items;
 pub use histories::{crashes_are_links, reads_known, runs_are_links, stays_whole};
 pub use input::{KEY_TEXT_LIMIT, PACKET_TEXT_LIMIT, limits_in_numbers};
 pub use laws::complete;

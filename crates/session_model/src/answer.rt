@@ -10,10 +10,8 @@ pub enum Answer {
     Said(Position),
     /// The packet of this position was opened.
     Opened(Position),
-    /// This many packets were taken out of the outbox.
-    Sent(u32),
-    /// This many texts were taken out of the inbox.
-    Done(u32),
+    /// This many texts or packets left their box.
+    Dropped(Items, u32),
     /// This many texts stand in the inbox.
     Inbox(u32),
     /// What a side holds.
@@ -26,6 +24,15 @@ pub enum Answer {
     Nothing,
     /// Nothing changed, for this reason.
     Refused(Refusal),
+}
+
+/// Which items leave a box of a side, the oldest first.
+#[derive(Clone, Copy)]
+pub enum Items {
+    /// Texts that were read leave its inbox.
+    Texts,
+    /// Packets that were sent leave its outbox.
+    Packets,
 }
 
 /// What a side holds, in numbers.

@@ -4,7 +4,7 @@
 //! refusals.
 #![tactic(auto)]
 
-pub use answer::{Amount, Answer, Refusal, Summary};
+pub use answer::{Amount, Answer, Items, Refusal, Summary};
 pub use part::{Head, LentPart, Own, Phase, Reception, SessionPart, copy_of_key};
 pub use refusals::{ReceiveRefusal, SendRefusal};
 

@@ -14,10 +14,11 @@ use Rattle.grammar.specs.Printer.{print_counted, print_maybe}
 use Rattle.grammar.proofs.Printing.{size-items}
 use Rattle.kem_laws.specs.Mechanism.{IsLawfulMechanism, Mechanism}
 use Rattle.session_model.specs.Clients.{Client}
+use Rattle.session_model.specs.declared.answer.Items.TheVariants.{Packets, Texts}
 use Rattle.session_model.specs.LawfulStates.{IsLawfulPhase, IsLawfulReception, IsLawfulState}
 use Rattle.session_model.specs.States.{Phase, Reception, State, in_own, in_peers, receiving_epoch}
 use Rattle.session_record.specs.declared.change.Change.{Change}
-use Rattle.session_record.specs.declared.change.Change.TheVariants.{Same, Received, Said, Done, Sent}
+use Rattle.session_record.specs.declared.change.Change.TheVariants.{Same, Received, Said, Dropped}
 use Rattle.session_record.specs.declared.limits.TheConstants.{COUNT_SIZE, ENTRIES_LIMIT, ENTRY_LIMIT, HEADING_SIZE, KEPT_SIZE, KEYS_LIMIT, PHASE_LIMIT, POSTS_LIMIT, POST_LIMIT, RECORD_LIMIT, STREAM_SIZE}
 use Rattle.session_record.specs.Changes.{FitsInbox, FitsOutbox, inbox_after, outbox_after}
 use Rattle.session_record.specs.Fields.{phase_text, reception_text}
@@ -137,17 +138,17 @@ module _ {T : Type 0} (bytes_of : T → List ℕ) (limit room : ℕ) (box : List
 pub roomy-inbox : (inbox : List Entry) (change : Change) → IsRoomyInbox inbox → FitsInbox inbox change → IsRoomyInbox (inbox_after inbox change)
 roomy-inbox inbox (Received position text) before fits =
     roomy-push (λ (entry : Entry). entry.text) INBOX_LIMIT TEXT_LIMIT inbox before (entry_under position text.now) fits.0 fits.1
-roomy-inbox inbox (Done n) before fits = roomy-drop (λ (entry : Entry). entry.text) INBOX_LIMIT TEXT_LIMIT inbox before n
+roomy-inbox inbox (Dropped Texts n) before fits = roomy-drop (λ (entry : Entry). entry.text) INBOX_LIMIT TEXT_LIMIT inbox before n
 roomy-inbox inbox Same before fits = before
 roomy-inbox inbox (Said packet) before fits = before
-roomy-inbox inbox (Sent n) before fits = before
+roomy-inbox inbox (Dropped Packets n) before fits = before
 
 pub roomy-outbox : (k : Mechanism) (outbox : List Post) (change : Change) → IsRoomyOutbox outbox → FitsOutbox outbox change
     → IsRoomyOutbox (outbox_after k outbox change)
 unfolding post_of
 roomy-outbox k outbox (Said packet) before fits =
     roomy-push (λ (post : Post). post.packet) OUTBOX_LIMIT PACKET_LIMIT outbox before (post_of k packet.now) fits.0 fits.1
-roomy-outbox k outbox (Sent n) before fits = roomy-drop (λ (post : Post). post.packet) OUTBOX_LIMIT PACKET_LIMIT outbox before n
+roomy-outbox k outbox (Dropped Packets n) before fits = roomy-drop (λ (post : Post). post.packet) OUTBOX_LIMIT PACKET_LIMIT outbox before n
 roomy-outbox k outbox Same before fits = before
 roomy-outbox k outbox (Received position text) before fits = before
-roomy-outbox k outbox (Done n) before fits = before
+roomy-outbox k outbox (Dropped Texts n) before fits = before

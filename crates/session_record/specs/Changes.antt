@@ -5,18 +5,19 @@ use Rattle.boxes.specs.Posts.{Post}
 use Rattle.dr_base.specs.declared.limits.TheConstants.{INBOX_LIMIT, OUTBOX_LIMIT, PACKET_LIMIT, TEXT_LIMIT}
 use Rattle.kem_laws.specs.Mechanism.{Mechanism}
 use Rattle.session_model.specs.Clients.{Client}
+use Rattle.session_model.specs.declared.answer.Items.TheVariants.{Packets, Texts}
 use Rattle.session_record.specs.declared.change.Change.{Change}
-use Rattle.session_record.specs.declared.change.Change.TheVariants.{Received, Said, Done, Sent}
+use Rattle.session_record.specs.declared.change.Change.TheVariants.{Received, Said, Dropped}
 use Rattle.session_record.specs.Lists.{post_of}
 
 abbrev pub inbox_after : List Entry → Change → List Entry
 inbox_after inbox (Received position text) = inbox ++ entry_under position text.now ∷ []
-inbox_after inbox (Done n) = drop n inbox
+inbox_after inbox (Dropped Texts n) = drop n inbox
 inbox_after inbox _ = inbox
 
 abbrev pub outbox_after : Mechanism → List Post → Change → List Post
 outbox_after k outbox (Said packet) = outbox ++ post_of k packet.now ∷ []
-outbox_after k outbox (Sent n) = drop n outbox
+outbox_after k outbox (Dropped Packets n) = drop n outbox
 outbox_after k outbox _ = outbox
 
 -- the client after a change
@@ -28,11 +29,11 @@ changed k c change =
 abbrev pub FitsInbox : List Entry → Change → Type 0
 FitsInbox inbox (Received position text) =
     (length inbox < INBOX_LIMIT) × (length text.now ≤ TEXT_LIMIT)
-FitsInbox inbox (Done n) = n ≤ length inbox
+FitsInbox inbox (Dropped Texts n) = n ≤ length inbox
 FitsInbox inbox _ = ⊤
 
 abbrev pub FitsOutbox : List Post → Change → Type 0
 FitsOutbox outbox (Said packet) =
     (length outbox < OUTBOX_LIMIT) × (length packet.now ≤ PACKET_LIMIT)
-FitsOutbox outbox (Sent n) = n ≤ length outbox
+FitsOutbox outbox (Dropped Packets n) = n ≤ length outbox
 FitsOutbox outbox _ = ⊤

@@ -18,6 +18,7 @@ use crate::numbers::read_len;
 use boxes::{Entry, Inbox};
 use dr_base::{INBOX_LIMIT, INDEX_LIMIT, Position, TEXT_LIMIT, put, put_u8, put_u16, put_u32};
 use grammar::Cursor;
+use session_model::Items;
 
 /// A text after its length, which is at most `limit`.
 fn read_text<'a>(cursor: &mut Cursor<'a>, limit: usize) -> Result<&'a [u8], usize>
@@ -153,7 +154,10 @@ pub(crate) fn put_inbox(out: &mut [u8], at: usize, inbox: &Inbox, change: &Chang
 {
     match change {
         Change::Received { position, text } => put_more(out, at, inbox, *position, text),
-        Change::Done { n } => put_later(out, at, inbox, *n),
-        Change::Same | Change::Said { .. } | Change::Sent { .. } => put_later(out, at, inbox, 0),
+        Change::Dropped { items, n } => match items {
+            Items::Texts => put_later(out, at, inbox, *n),
+            Items::Packets => put_later(out, at, inbox, 0),
+        },
+        Change::Same | Change::Said { .. } => put_later(out, at, inbox, 0),
     }
 }

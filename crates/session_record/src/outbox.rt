@@ -20,6 +20,7 @@ use dr_base::{OUTBOX_LIMIT, PACKET_LIMIT, Position, put, put_u8, put_u16};
 use grammar::Cursor;
 use kem_laws::{Kem, laws};
 use packet::{grammar, parse};
+use session_model::Items;
 
 /// A packet of the session, of an own epoch, and its position.
 #[tactic(auto, unfolding(crate::specs::Lists::post_field, crate::specs::Lists::is_post, crate::specs::Lists::post_of))]
@@ -160,9 +161,10 @@ pub(crate) fn put_outbox<K: Kem>(
 {
     match change {
         Change::Said { packet } => put_more::<K>(out, at, outbox, packet),
-        Change::Sent { n } => put_later(out, at, outbox, *n),
-        Change::Same | Change::Received { .. } | Change::Done { .. } => put_later(
-            out, at, outbox, 0,
-        ),
+        Change::Dropped { items, n } => match items {
+            Items::Packets => put_later(out, at, outbox, *n),
+            Items::Texts => put_later(out, at, outbox, 0),
+        },
+        Change::Same | Change::Received { .. } => put_later(out, at, outbox, 0),
     }
 }

@@ -9,7 +9,7 @@ use dr_base::{Key32, PACKET_LIMIT, Position, Side, TEXT_LIMIT, in_room};
 use fs_aead::Skipped;
 use kem_laws::{NoPair, OpenKem};
 use packet::parse;
-use ratchet::{KeptRoom, NoPairFor, Session};
+use ratchet::{NoPairFor, OpeningRoom, PacketRoom, Session};
 use session_model::{Head, Own, Phase, Reception, Refusal, SendRefusal, SessionPart};
 use std::marker::PhantomData;
 use std::test::Fail;
@@ -39,7 +39,8 @@ pub(crate) fn say(
 ) -> Result<Packet, Refusal> {
     let asked = session.send_check(text.len())?;
     let seed = seed_of(asked, byte);
-    match session.draft_send(&mut (), text, seed) {
+    let mut room = PacketRoom::new();
+    match session.draft_send(&mut (), text, seed, &mut room) {
         Err(NoPairFor { seed: _ }) => Err(Refusal::NoPair),
         Ok(draft) => {
             let packet = in_room(draft.packet());
@@ -51,7 +52,7 @@ pub(crate) fn say(
 
 /// Takes a packet, and answers its text.
 pub(crate) fn take(session: &mut Session<OpenKem>, packet: &Packet) -> Result<Text, Refusal> {
-    let mut room = KeptRoom::new();
+    let mut room = OpeningRoom::new();
     match parse(packet.as_slice(), 64) {
         Err(fault) => Err(Refusal::Malformed(fault)),
         Ok(view) => match session.draft_receive(&mut (), &view, &mut room) {

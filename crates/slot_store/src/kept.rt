@@ -54,17 +54,8 @@ pub fn record_memory(alloc: Global, area: Area) -> Result<Vec<u8>, AllocError>
     Vec::with_capacity(alloc, PAGE * record_most(area) as usize)
 }
 
-/// Room in which a record of an area is put together.
-pub fn record_room(alloc: Global, area: Area) -> Result<Vec<u8>, AllocError>
-    ensures { IfOk result (λ room. HasRecordRoom area room.items) }
-{
-    let mut room = record_memory(alloc, area)?;
-    lengthen(area, &mut room);
-    Ok(room)
-}
-
 /// Makes the room in which a record is put together as long as the longest record of an area, in
-/// the memory that it has. Where it is that long it stays as it is.
+/// the memory that it has.
 pub fn lengthen(area: Area, room: &mut Vec<u8>)
     requires { HasRecordMemory area room.old }
     ensures room { HasRecordRoom area room.new.items }

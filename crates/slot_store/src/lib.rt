@@ -9,7 +9,7 @@ pub use area::Area;
 pub use errors::{InspectError, OpenError, StoreFault};
 pub use grammar::Grammar;
 pub use inspecting::inspect;
-pub use kept::{lengthen, record_memory, record_room};
+pub use kept::{lengthen, record_memory};
 pub use laws::{locality, readings, resting, widening};
 pub use opening::Found;
 pub use pages::LOWER_PAGES;

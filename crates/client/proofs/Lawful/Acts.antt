@@ -1,28 +1,29 @@
 -- A lawful client is lawful after each act that it answers.
 use Rattle.std.proofs.Common.{Bool, Err, List, None, Ok, Option, Result, Some, arith, length, refl, subst, true, ℕ, ◌++◌, ◌<◌, ◌∷◌, ◌≡◌, []}
-use Rattle.std.specs.Prelude.{drop, nat_le, nat_lt}
+use Rattle.std.specs.Prelude.{nat_le, nat_lt}
 use Rattle.std.proofs.lemmas.Bool.Decides.{nat_tests}
 use Rattle.std.proofs.lemmas.List.{length-drop}
 use Rattle.std.proofs.lemmas.List.Elements.{All-drop}
-use Rattle.boxes.specs.Entries.{Entry, entry_under}
-use Rattle.boxes.specs.Posts.{Post}
+use Rattle.boxes.specs.Entries.{entry_under}
 use Rattle.cka.specs.Agreement.{agreement_size}
 use Rattle.dr_base.specs.declared.limits.TheConstants.{INBOX_LIMIT, OUTBOX_LIMIT, TEXT_LIMIT}
+use Rattle.dr_model.specs.Machines.Acts.{act_on, dropped_client, dropping, standing_with}
+use Rattle.dr_model.specs.Machines.Steps.{Step, step}
 use Rattle.kem_laws.specs.Mechanism.{IsLawfulMechanism, Mechanism}
 use Rattle.packet.specs.Packet.{Fields, IsLawful}
 use Rattle.dr_base.specs.Bytes.{AreBytes}
 use Rattle.packet.specs.Reading.{read_packet}
 use Rattle.packet.specs.declared.fault.Malformed.{Malformed}
 use Rattle.packet.proofs.Read.{read_was_printed}
-use Rattle.session_model.specs.Clients.{Client, SaidText, TakenPacket, accept_receive, accept_send, dropped_of, say_check, say_on, take_on, take_read}
+use Rattle.session_model.specs.Clients.{Client, SaidText, TakenPacket, accept_receive, accept_send, say_check, say_on, take_on, take_read}
 use Rattle.session_model.specs.Saying.{SendDraft, draft_send, phase_check}
 use Rattle.session_model.specs.Taking.{ReceiveDraft, draft_receive}
+use Rattle.session_model.specs.declared.answer.Answer.TheVariants.{Dropped}
+use Rattle.session_model.specs.declared.answer.Items.{Items}
+use Rattle.session_model.specs.declared.answer.Items.TheVariants.{Packets, Texts}
 use Rattle.session_model.specs.declared.answer.Refusal.{Refusal}
 use Rattle.session_model.specs.declared.answer.Refusal.TheVariants.{NoPair}
 use Rattle.session_record.specs.Lawful.{IsLawfulClient, IsLawfulEntry, IsLawfulPost}
-use Rattle.client.specs.Drafting.{dropped_client}
-use Rattle.client.specs.declared.cores.drafts.Drops.{Drops}
-use Rattle.client.specs.declared.cores.drafts.Drops.TheVariants.{Done as TextsDone, Sent as PacketsSent}
 use Rattle.client.proofs.Lawful.Drafts.{send_lawful}
 use Rattle.client.proofs.Lawful.Saying.{passed_check, said_lawful}
 use Rattle.client.proofs.Lawful.Taking.{taken_lawful}
@@ -86,12 +87,9 @@ take_lawful k c bytes taken l small is = by_fields (read_packet (agreement_size 
 
 -- ---- items are dropped
 
-pub dropped_are : {A : Type 0} (n : ℕ) (items rest : List A) → dropped_of n items ≡ Ok rest → drop n items ≡ rest
-dropped_are n items rest is =
-    let through : Ok (drop n items) ≡ Ok rest = lets (nat_le n (length items)) _ (Ok (drop n items)) rest is in cc
-
-pub dropped_lawful : (k : Mechanism) (c : Client) (drops : Drops) → IsLawfulClient k c → IsLawfulClient k (dropped_client c drops)
-dropped_lawful k c (TextsDone n) l = record {
+pub dropped_lawful : (k : Mechanism) (c : Client) (items : Items) (n : ℕ) → IsLawfulClient k c
+    → IsLawfulClient k (dropped_client c items n)
+dropped_lawful k c Texts n l = record {
   state = l.state;
   keys_long = l.keys_long;
   inbox = All-drop (IsLawfulEntry c.state) n c.inbox l.inbox;
@@ -99,7 +97,7 @@ dropped_lawful k c (TextsDone n) l = record {
   outbox = l.outbox;
   few_posts = l.few_posts;
 }
-dropped_lawful k c (PacketsSent n) l = record {
+dropped_lawful k c Packets n l = record {
   state = l.state;
   keys_long = l.keys_long;
   inbox = l.inbox;
@@ -108,14 +106,10 @@ dropped_lawful k c (PacketsSent n) l = record {
   few_posts = omega (arith, length-drop n c.outbox, l.few_posts);
 }
 
-pub sent_lawful : (k : Mechanism) (c : Client) (n : ℕ) (outbox : List Post) → IsLawfulClient k c
-    → dropped_of n c.outbox ≡ Ok outbox → IsLawfulClient k (record c { outbox = outbox })
-sent_lawful k c n outbox l is =
-    subst (λ (items : List Post). IsLawfulClient k (record c { outbox = items })) (dropped_are n c.outbox outbox is)
-    (dropped_lawful k c (PacketsSent n) l)
-
-pub done_lawful : (k : Mechanism) (c : Client) (n : ℕ) (inbox : List Entry) → IsLawfulClient k c
-    → dropped_of n c.inbox ≡ Ok inbox → IsLawfulClient k (record c { inbox = inbox })
-done_lawful k c n inbox l is =
-    subst (λ (items : List Entry). IsLawfulClient k (record c { inbox = items })) (dropped_are n c.inbox inbox is)
-    (dropped_lawful k c (TextsDone n) l)
+pub drop_lawful : (k : Mechanism) (c : Client) (items : Items) (n : ℕ) (made : Step Client) → IsLawfulClient k c
+    → act_on k c (dropping items n) ≡ Ok made → IsLawfulClient k made.next
+drop_lawful k c items n made l is =
+    let one = step (Dropped items n) (dropped_client c items n) in
+    let through : Ok one ≡ Ok made = lets (nat_le n (standing_with c items)) _ (Ok one) made is in
+    let same : one ≡ made = cc in
+    subst (λ (m : Step Client). IsLawfulClient k m.next) same (dropped_lawful k c items n l)

@@ -16,7 +16,7 @@ use Rattle.session_model.specs.Sealing.{posted}
 use Rattle.session_record.specs.Lawful.{IsLawfulClient, IsLawfulEntry, IsLawfulPost}
 use Rattle.dr_model.specs.Conversations.Conversation.{Conversation, is_said, positions}
 use Rattle.dr_model.specs.Conversations.Lawful.{HasArrived, IsLawfulConversation, IsLawfulView}
-use Rattle.dr_model.specs.Conversations.Posts.{fields_at, key_of, post_at, turn_of_epoch}
+use Rattle.dr_model.specs.Conversations.Posts.{post_fields, key_of, post_at, turn_of_epoch}
 use Rattle.dr_model.specs.Conversations.ViewStates.{state_of}
 use Rattle.dr_model.specs.Conversations.Views.{View, entry_at, inbox_of, missing_of, outbox_of}
 use Rattle.dr_model.specs.Machines.WorldSides.{kept_in}
@@ -66,7 +66,7 @@ unfolding posted
 post_lawful k c side v p law lawful view said own =
     let place = is_place k c p lawful said in
     let fields = IsLawful-fields k c p law lawful place in
-    let f = fields_at k c p in
+    let f = post_fields k c p in
     let mine : is_own side p.epoch ≡ true = sym (ap (λ s. is_own s p.epoch) view.side_is) ∙ own in
     let long = length-packet_of f fields.session_len fields.tag_len in
     let message : length f.agreement ≤ AGREEMENT_LIMIT =

@@ -12,7 +12,6 @@ use Rattle.dr_base.specs.declared.key.Kept.{Kept}
 use Rattle.dr_base.specs.declared.limits.TheConstants.{INBOX_LIMIT, KEPT_LIMIT, PLAIN, TEXT_LIMIT}
 use Rattle.dr_base.specs.declared.position.Position.{Position}
 use Rattle.dr_base.specs.declared.position.Side.{Side}
-use Rattle.etm_aead.specs.Seal.{tag_of}
 use Rattle.bodies.proofs.Short.{opened_short}
 use Rattle.etm_aead.specs.Undoing.{length-ciphertext_of}
 use Rattle.fs_aead.specs.Chain.{chain_message_key, chain_of, message_key}
@@ -20,7 +19,7 @@ use Rattle.fs_aead.specs.Table.{is_kept_at, kept_key, shelved, without}
 use Rattle.hmac_hkdf.proofs.Lengths.{length-hmac_of}
 use Rattle.kem_laws.specs.Mechanism.{Mechanism}
 use Rattle.packet.proofs.Known.{plain_few}
-use Rattle.packet.specs.Packet.{Fields, IsLawful, ad_of}
+use Rattle.packet.specs.Packet.{Fields, IsLawful}
 use Rattle.session_model.specs.Clients.{Client}
 use Rattle.session_model.specs.LawfulStates.{IsLawfulState}
 use Rattle.session_model.specs.States.{Own, Phase, Reception, State, in_own, in_peers}

@@ -12,12 +12,11 @@ use Rattle.dr_base.specs.declared.position.Position.{Position}
 use Rattle.dr_base.specs.declared.position.Side.{Side}
 use Rattle.dr_base.proofs.Parity.{own_next}
 use Rattle.dr_model.proofs.Worlds.StateLawful.{length-chain_of}
-use Rattle.etm_aead.specs.Seal.{tag_of}
 use Rattle.fs_aead.specs.Chain.{chain_of}
 use Rattle.fs_aead.specs.Table.{kept_key, shelved, without}
 use Rattle.fs_aead.proofs.Streams.{length-shelved}
 use Rattle.kem_laws.specs.Mechanism.{Mechanism}
-use Rattle.packet.specs.Packet.{Fields, IsLawful, ad_of, agreement_len}
+use Rattle.packet.specs.Packet.{Fields, IsLawful, agreement_len}
 use Rattle.prf_prng.specs.Root.{next_root, root_key}
 use Rattle.prf_prng.proofs.Lengths.{length-next_root, length-root_key}
 use Rattle.ratchet.proofs.Fields.{agreement_later}

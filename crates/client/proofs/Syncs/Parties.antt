@@ -9,20 +9,20 @@ use Rattle.dr_base.specs.Position.{peer_of}
 use Rattle.dr_base.specs.declared.limits.TheConstants.{INBOX_LIMIT, OUTBOX_LIMIT, PACKET_LIMIT}
 use Rattle.dr_base.specs.declared.position.Side.{Side}
 use Rattle.dr_base.specs.declared.position.Side.TheVariants.{First, Second}
-use Rattle.dr_model.specs.Machines.Acts.{leaving_by}
-use Rattle.dr_model.specs.Machines.Steps.{Step, settled}
+use Rattle.dr_model.specs.Machines.Acts.{taken_by}
+use Rattle.dr_model.specs.Machines.Steps.{leaving, settled, step}
 use Rattle.hex.specs.Hex.{encode_lower}
 use Rattle.kem_laws.specs.Mechanism.{Mechanism}
 use Rattle.packet.specs.Packet.{Fields}
 use Rattle.packet.specs.Reading.{read_packet}
 use Rattle.packet.specs.declared.fault.Malformed.{Malformed}
 use Rattle.relay_wire.specs.Names.{is_name}
-use Rattle.session_model.specs.Clients.{Client, TakenPacket, accept_receive, dropped_of, take_on, take_read}
+use Rattle.session_model.specs.Clients.{Client, TakenPacket, accept_receive, take_on, take_read}
 use Rattle.session_model.specs.Taking.{ReceiveDraft, draft_receive}
-use Rattle.session_model.specs.declared.answer.Answer.{Answer}
+use Rattle.session_model.specs.declared.answer.Answer.TheVariants.{Dropped}
+use Rattle.session_model.specs.declared.answer.Items.TheVariants.{Packets}
 use Rattle.session_model.specs.declared.answer.Refusal.{Refusal}
 use Rattle.session_model.specs.declared.answer.Refusal.TheVariants.{Fewer}
-use Rattle.dr_model.specs.Machines.Acts.{taken_by}
 use Rattle.session_record.specs.Lawful.{IsLawfulPost}
 use Rattle.session_model.specs.States.{State}
 use Rattle.sync_model.proofs.Asking.{ArePackets}
@@ -48,24 +48,20 @@ boxes_apart kept = names_apart kept.state.session kept.state.side
 
 -- ---- the outbox
 
-abbrev with_left : Answer → Client → Result (List Post) Refusal → Result (Step Client) Refusal
-with_left answer t = leaving_by answer (λ outbox. record t { outbox = outbox })
-
-one_gone : (answer : Answer) (t : Client) (items : List Post) → t.outbox ≡ items
-    → map (λ (i : Post). i.packet) (settled t (with_left answer t (dropped_of 1 items))).next.outbox
+one_gone : (t : Client) (items : List Post) → t.outbox ≡ items
+    → map (λ (i : Post). i.packet) (settled t (leaving Packets 1 (length items) (record t { outbox = drop 1 items }))).next.outbox
     ≡ drop 1 (map (λ (i : Post). i.packet) items)
-one_gone answer t [] is = ap (map (λ (i : Post). i.packet)) is
-one_gone answer t (item ∷ items) is = by_room (nat_le 1 (length (item ∷ items))) (grind (arith, nat_tests))
+one_gone t [] is = ap (map (λ (i : Post). i.packet)) is
+one_gone t (item ∷ items) is = by_room (nat_le 1 (length (item ∷ items))) (grind (arith, nat_tests))
   where
     by_room : (room : Bool) → room ≡ true
-        → map (λ (i : Post). i.packet)
-        (settled t (with_left answer t (if room then Ok items else Err (Fewer (length (item ∷ items)))))).next.outbox
+        → map (λ (i : Post). i.packet) (settled t (if room then Ok (step (Dropped Packets 1) (record t { outbox = items })) else Err (Fewer (length (item ∷ items))))).next.outbox
         ≡ map (λ (i : Post). i.packet) items
     by_room true room = refl
     by_room false room = absurd (let e : false ≡ true = room in cc)
 
 pub drops_one : (k : Mechanism) (t : Client) → waiting (sent_step k t).next ≡ drop 1 (waiting t)
-drops_one k t = one_gone _ t t.outbox refl
+drops_one k t = one_gone t t.outbox refl
 
 received_keeps : (t : Client) (draft : Result ReceiveDraft Refusal) → (settled t (taken_by (accept_receive t draft))).next.outbox ≡ t.outbox
 received_keeps t (Err refusal) = refl

@@ -2,7 +2,7 @@
 use Rattle.std.specs.Prelude.{Bool, List, false, map, true, ℕ}
 use Rattle.boxes.specs.Posts.{Post}
 use Rattle.dr_base.specs.declared.position.Side.{Side}
-use Rattle.dr_model.specs.Machines.Acts.{Act, act_on, sending, taking}
+use Rattle.dr_model.specs.Machines.Acts.{Act, act_on, dropping, taking}
 use Rattle.dr_model.specs.Machines.WorldActs.{act_in}
 use Rattle.dr_model.specs.Machines.Steps.{Step, settled}
 use Rattle.dr_model.specs.Machines.WorldSides.{kept_in}
@@ -11,6 +11,7 @@ use Rattle.kem_laws.specs.Mechanism.{Mechanism}
 use Rattle.session_model.specs.Clients.{Client}
 use Rattle.session_model.specs.declared.answer.Answer.{Answer}
 use Rattle.session_model.specs.declared.answer.Answer.TheVariants.{Refused}
+use Rattle.session_model.specs.declared.answer.Items.TheVariants.{Packets}
 use Rattle.session_model.specs.declared.answer.Refusal.{Refusal}
 use Rattle.session_model.specs.declared.answer.Refusal.TheVariants.{InboxFull}
 use Rattle.sync_model.specs.Parties.{Party, TookPacket}
@@ -41,7 +42,7 @@ taken_step k kept packet = settled kept (act_on k kept (taking packet))
 
 -- the oldest packet of the outbox has gone
 abbrev pub oldest_sent : Act
-oldest_sent = sending 1
+oldest_sent = dropping Packets 1
 
 abbrev pub sent_step : Mechanism → Client → Step Client
 sent_step k kept = settled kept (act_on k kept oldest_sent)

@@ -1,12 +1,14 @@
 //! A draft is accepted: the core changes as it says.
 
 ghost use Rattle.std.specs.Prelude.{◌≡◌};
-ghost use Rattle.client.specs.Drafting.{HasToDrop, IsDraftOf, IsReceivedOf, IsSaidOf, dropped_client, drafted_client, received_client, said_client};
+ghost use Rattle.dr_model.specs.Machines.Acts.{dropped_client};
+ghost use Rattle.client.specs.Drafting.{HasToDrop, IsDraftOf, IsReceivedOf, IsSaidOf, drafted_client, received_client, said_client};
 
-use super::drafts::{Draft, Drops};
+use super::drafts::Draft;
 use super::showing::Core;
 use kem_laws::Kem;
 use ratchet::{ReceiveDraft, SendDraft};
+use session_model::Items;
 
 impl<K: Kem> Core<K> {
     /// Accepts a draft of what it keeps.
@@ -19,14 +21,14 @@ impl<K: Kem> Core<K> {
         match draft {
             Draft::Said(said) => self.accept_said(said),
             Draft::Received(received) => self.accept_received(received),
-            Draft::Dropped(drops) => self.accept_dropped(drops),
+            Draft::Dropped(items, n) => self.accept_dropped(items, n),
         }
     }
 
     #[inline(always)]
-    fn accept_said(&mut self, draft: SendDraft<K>)
+    fn accept_said(&mut self, draft: SendDraft<'_, K>)
         requires { IsSaidOf K.mechanism self.old draft }
-        ensures { self.new ≡ said_client self.old draft }
+        ensures { self.new ≡ said_client self.old draft.entry }
     {
         self.outbox.push(draft.position(), draft.packet()).unwrap();
         draft.accept(&mut self.session);
@@ -41,13 +43,13 @@ impl<K: Kem> Core<K> {
         draft.accept(&mut self.session);
     }
 
-    fn accept_dropped(&mut self, drops: Drops)
-        requires { HasToDrop self.old drops }
-        ensures { self.new ≡ dropped_client self.old drops }
+    fn accept_dropped(&mut self, items: Items, n: u32)
+        requires { HasToDrop self.old items n }
+        ensures { self.new ≡ dropped_client self.old items n }
     {
-        match drops {
-            Drops::Done(n) => self.inbox.drop_first(n).unwrap(),
-            Drops::Sent(n) => self.outbox.drop_first(n).unwrap(),
+        match items {
+            Items::Texts => self.inbox.drop_first(n).unwrap(),
+            Items::Packets => self.outbox.drop_first(n).unwrap(),
         }
     }
 }

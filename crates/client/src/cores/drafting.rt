@@ -2,21 +2,20 @@
 //! dropped.
 
 ghost use Rattle.std.specs.Prelude.{◌≡◌, ◌≤◌, ◌<◌, Ok, IfOk, IfErr, OnOk, MatchResult, is_some, length};
-ghost use Rattle.dr_model.specs.Machines.Acts.{act_on};
+ghost use Rattle.dr_model.specs.Machines.Acts.{act_on, dropping, standing_with};
 ghost use Rattle.ratchet.specs.Seen.{received_of, said_of, seed_bytes};
 ghost use Rattle.session_model.specs.Clients.{accept_send, say_check, say_on};
 ghost use Rattle.session_model.specs.Drafts.{IsReceiveDraft, IsSendDraft};
 ghost use Rattle.session_model.specs.LawfulStates.{IsLawfulState};
-ghost use Rattle.client.specs.Drafting.{DraftsFor, HasToDrop, IsReceivedOf, IsSaidOf, act_dropping, dropped_by, said_if};
+ghost use Rattle.client.specs.Drafting.{DraftsFor, HasToDrop, IsReceivedOf, IsSaidOf, dropped_by, said_if};
 
-use super::drafts::Drops;
 use super::showing::Core;
 use boxes::Fewer;
 use dr_base::{INBOX_LIMIT, Key32, OUTBOX_LIMIT, TEXT_LIMIT};
 use kem_laws::{Kem, laws};
 use packet::parse;
-use ratchet::{KeptRoom, NoPairFor, ReceiveDraft, SendDraft, Session};
-use session_model::{LentPart, Refusal};
+use ratchet::{NoPairFor, OpeningRoom, PacketRoom, ReceiveDraft, SendDraft, Session};
+use session_model::{Items, LentPart, Refusal};
 
 /// A part is a lawful state: a caller that needs this calls it.
 pub(super) fn lawful_part<K: Kem>(part: &LentPart<'_, K>)
@@ -26,7 +25,7 @@ pub(super) fn lawful_part<K: Kem>(part: &LentPart<'_, K>)
 }
 
 /// What a session would keep once a text is said is lawful: a caller that needs this calls it.
-fn lawful_said<K: Kem>(draft: &SendDraft<K>, session: &Session<K>)
+fn lawful_said<K: Kem>(draft: &SendDraft<'_, K>, session: &Session<K>)
     requires { IsSendDraft K.mechanism session.now (said_of session.now draft.now) }
     ensures { IsLawfulState K.mechanism (said_of session.now draft.now).next }
 {
@@ -68,10 +67,16 @@ impl<K: Kem> Core<K> {
         }
     }
 
-    /// Drafts a text that `say_check` allows, with a seed exactly where it asks for one.
+    /// Drafts a text that `say_check` allows, with a seed exactly where it asks for one. Its packet
+    /// stands in the room.
     // Inlined, the draft is built where the caller keeps it.
     #[inline(always)]
-    pub fn draft_say(&mut self, text: &[u8], seed: Option<Key32>) -> Result<SendDraft<K>, NoPairFor>
+    pub fn draft_say<'a>(
+        &mut self,
+        text: &[u8],
+        seed: Option<Key32>,
+        room: &'a mut PacketRoom,
+    ) -> Result<SendDraft<'a, K>, NoPairFor>
         requires { say_check self.old (length text.now) ≡ Ok (is_some seed) }
         ensures exact { say_on K.mechanism self.old text.now (seed_bytes seed)
             ≡ accept_send self.old (said_if self.old.state result) }
@@ -80,7 +85,7 @@ impl<K: Kem> Core<K> {
         ensures same { self.new ≡ self.old }
     {
         laws::<K>();
-        match self.session.draft_send(&mut self.work, text, seed) {
+        match self.session.draft_send(&mut self.work, text, seed, room) {
             Err(none) => Err(none),
             Ok(draft) => {
                 lawful_said(&draft, &self.session);
@@ -90,15 +95,15 @@ impl<K: Kem> Core<K> {
     }
 
     /// Drafts the taking of the packet that the bytes are, or answers the first reason against it,
-    /// of which a full inbox is the last. The room is for the kept keys, where the packet changes
-    /// them.
+    /// of which a full inbox is the last. The text stands in the room, and so do the kept keys,
+    /// where the packet changes them.
     // Inlined, the draft is built where the caller keeps it.
     #[inline(always)]
     #[tactic(auto, unfolding(session_model::specs::Clients::take_on))]
     pub fn draft_take<'a>(
         &mut self,
         packet: &[u8],
-        room: &'a mut KeptRoom,
+        room: &'a mut OpeningRoom,
     ) -> Result<ReceiveDraft<'a, K>, Refusal>
         ensures exact { DraftsFor K.mechanism self.old packet.now result }
         ensures draft { IfOk result (IsReceivedOf K.mechanism self.old) }
@@ -120,13 +125,22 @@ impl<K: Kem> Core<K> {
         }
     }
 
-    /// Whether so many items can be dropped from a box: `Fewer` exactly where fewer stand.
-    pub fn drop_check(&self, drops: Drops) -> Result<(), Fewer>
-        ensures exact { act_on K.mechanism self.now (act_dropping drops)
-            ≡ dropped_by self.now drops result }
-        ensures fits { OnOk result (HasToDrop self.now drops) }
+    /// How many items its box holds.
+    fn held(&self, items: Items) -> u32
+        ensures { result ≡ standing_with self.now items }
     {
-        let held = drops.held(self.inbox.len(), self.outbox.len());
-        enough(held, drops.count())
+        match items {
+            Items::Texts => self.inbox.len(),
+            Items::Packets => self.outbox.len(),
+        }
+    }
+
+    /// Whether so many items can be dropped from a box: `Fewer` exactly where fewer stand.
+    pub fn drop_check(&self, items: Items, n: u32) -> Result<(), Fewer>
+        ensures exact { act_on K.mechanism self.now (dropping items n)
+            ≡ dropped_by self.now items n result }
+        ensures fits { OnOk result (HasToDrop self.now items n) }
+    {
+        enough(self.held(items), n)
     }
 }

@@ -1,8 +1,7 @@
 //! A core is begun, in memory that was taken before.
 
-ghost use Rattle.std.specs.Prelude.{◌≡◌, ◌↔◌, [], IfOk, IsOk, IsSome};
-ghost use Rattle.session_model.specs.Schedule.{agreement_seed};
-ghost use Rattle.client.specs.Beginning.{begun_client};
+ghost use Rattle.std.specs.Prelude.{◌≡◌, ◌↔◌, [], IfOk, IsOk};
+ghost use Rattle.client.specs.Beginning.{HasPair, begin_of, begun_client};
 ghost use Rattle.client.specs.Cores.{BeginsCore};
 
 use super::drafting::lawful_part;
@@ -44,9 +43,8 @@ impl<K: Kem> CoreRoom<K> {
         requires inbox { self.inbox ≡ [] }
         requires outbox { self.outbox ≡ [] }
         ensures ok { IfOk result (λ core.
-            core ≡ begun_client K.mechanism key.now.bytes side format) }
-        ensures variant { IsOk result
-            ↔ IsSome (K.mechanism.meaning.pair_of (agreement_seed key.now.bytes)) }
+            core ≡ begun_client K.mechanism (begin_of side format key.now)) }
+        ensures variant { IsOk result ↔ HasPair K.mechanism (begin_of side format key.now) }
     {
         let CoreRoom {
             inbox,
@@ -77,7 +75,7 @@ impl<K: Kem> Core<K> {
         format: Format,
         key: &Key32,
     ) -> Result<Core<K>, CoreBeginError>
-        ensures { BeginsCore K.mechanism key.now.bytes side format result }
+        ensures { BeginsCore K.mechanism (begin_of side format key.now) result }
     {
         laws::<K>();
         let Ok(room) = CoreRoom::<K>::new(alloc) else {

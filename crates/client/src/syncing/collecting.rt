@@ -24,7 +24,7 @@ use crate::client::Client;
 use dr_disk::Disk;
 use dr_ports::{Failed, Pipe, Sink};
 use kem_laws::Kem;
-use ratchet::{KeptRoom, ReceiveDraft};
+use ratchet::{OpeningRoom, ReceiveDraft};
 use relay_wire::{Reply, Request};
 use session_model::{Answer, Refusal};
 use sync_model::{ITEM_LIMIT, More};
@@ -120,6 +120,7 @@ impl<K: Kem> Client<K> {
         out: &mut O,
         prefix: &str,
         names: &Names,
+        room: &mut OpeningRoom,
     ) -> Result<Option<u64>, SyncFault>
         requires { IsOpenOn self.old (D.state disk.old) }
         ensures round { (n : ℕ)
@@ -136,8 +137,7 @@ impl<K: Kem> Client<K> {
             Ok(reply) => match reply {
                 Reply::Empty => Ok(None),
                 Reply::Item(number, packet) => {
-                    let mut room = KeptRoom::new();
-                    let drafted = self.core.draft_take(packet.bytes(), &mut room);
+                    let drafted = self.core.draft_take(packet.bytes(), room);
                     self.collect(disk, out, prefix, number, drafted)
                 }
                 Reply::Unknown => Err(SyncFault::Refused(SyncRefusal::Unknown)),
@@ -188,9 +188,10 @@ impl<K: Kem> Client<K> {
         ensures later { (O.at out.old).faults ≤ (O.at out.new).faults }
         ensures link { LeavesLink L.port L.behind link.old link.new }
     {
+        let mut room = OpeningRoom::new();
         let mut count = 0;
         'items: while count < ITEM_LIMIT {
-            match self.fetch(disk, link, out, prefix, names) {
+            match self.fetch(disk, link, out, prefix, names, &mut room) {
                 Err(fault) => return Err(fault),
                 Ok(None) => return Ok(More::End),
                 Ok(Some(number)) => match self.acknowledge(link, names, number) {

@@ -19,7 +19,7 @@ ghost use Rattle.client.specs.Syncing.Moments.{HasGone, IsTaken};
 
 use super::faults::SyncFault;
 use crate::client::Client;
-use crate::cores::{Core, Drops};
+use crate::cores::Core;
 use crate::refusals::{DropRefusal, TakeRefusal};
 use dr_disk::{Call, Disk};
 use dr_ports::Pipe;
@@ -27,7 +27,7 @@ use kem_laws::Kem;
 use ratchet::ReceiveDraft;
 use relay_pipe::{AskFault, ask};
 use relay_wire::{FrameReader, Packet, Reply, Request};
-use session_model::{Answer, Refusal};
+use session_model::{Answer, Items, Refusal};
 
 /// What came of a request.
 fn heard<'a>(replied: Result<Reply<'a>, AskFault>) -> Result<Reply<'a>, SyncFault>
@@ -108,7 +108,7 @@ impl<K: Kem> Client<K> {
             (D.state disk.old) (D.state disk.new) result }
         ensures fewer { OnOk result (length self.new.kept.outbox < length self.old.kept.outbox) }
     {
-        match self.drop_exact(disk, Drops::Sent(1)) {
+        match self.drop_exact(disk, Items::Packets, 1) {
             Ok(()) => Ok(()),
             Err(DropRefusal::StoreFault { call }) => Err(call),
             Err(_) => unreachable!(),

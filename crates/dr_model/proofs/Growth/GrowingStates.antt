@@ -19,8 +19,8 @@ use Rattle.session_model.specs.Turns.{Turn}
 use Rattle.dr_model.specs.Conversations.Conversation.{Conversation, count_of, next_position, previous_of}
 use Rattle.dr_model.specs.Conversations.Lawful.{HasArrived}
 use Rattle.dr_model.specs.Conversations.Posts.{post_at, posts_of, turn_of_epoch}
-use Rattle.dr_model.specs.Conversations.ViewStates.{client_at, phase_of, previous_in, state_of}
-use Rattle.dr_model.specs.Conversations.Formats.{format_of}
+use Rattle.dr_model.specs.Conversations.ViewStates.{client_at, view_phase, previous_in, state_of}
+use Rattle.dr_model.specs.Conversations.Formats.{side_format}
 use Rattle.dr_model.specs.Conversations.Views.{View, inbox_of, outbox_of}
 use Rattle.dr_model.proofs.Growth.Growing.{grown, count-grown, previous-grown}
 use Rattle.dr_model.proofs.Growth.GrowingViews.{kept-grown, receiving-grown, history-grown}
@@ -69,7 +69,7 @@ same_phase false turn other m n t same = ap (λ (a : Turn). in_peers a.public) t
 -- where the text isn't the side's, what it holds of its epoch stays
 pub phase-grown : (k : Mechanism) (c : Conversation) (seeds : List (List ℕ)) (epoch : ℕ) (text : List ℕ) (v : View)
     → SameTurns k c.key c.seeds seeds
-    → v.epoch ≤ length c.seeds → is_own v.side epoch ≡ false → phase_of k (grown c seeds epoch text) v ≡ phase_of k c v
+    → v.epoch ≤ length c.seeds → is_own v.side epoch ≡ false → view_phase k (grown c seeds epoch text) v ≡ view_phase k c v
 phase-grown k c seeds epoch text v same within peers =
     let d = grown c seeds epoch text in
     same_phase (is_own v.side v.epoch) (turn_of_epoch k d v.epoch) (turn_of_epoch k c v.epoch) (count_of d v.epoch)
@@ -103,7 +103,7 @@ pub state-grown : (k : Mechanism) (c : Conversation) (seeds : List (List ℕ)) (
     → v.epoch ≤ epoch + 1 → v.epoch ≤ length c.seeds → is_own v.side epoch ≡ false
     → state_of k (grown c seeds epoch text) v ≡ state_of k c v
 state-grown k c seeds epoch text v same near within peers =
-    same_state v.side (format_of c.formats v.side) (session_of c.key) v.epoch _ _ _ _ _ _ _ _ _ _
+    same_state v.side (side_format c.formats v.side) (session_of c.key) v.epoch _ _ _ _ _ _ _ _ _ _
     (ap (λ (turn : Turn). turn.root) (same v.epoch within))
     (phase-grown k c seeds epoch text v same within peers)
     (previous_in-grown c seeds epoch text v near peers)

@@ -14,7 +14,7 @@ use Rattle.dr_model.specs.Conversations.Conversation.{Conversation, count_of}
 use Rattle.dr_model.specs.Conversations.Indices.{missing_to, reach}
 use Rattle.dr_model.specs.Conversations.Lawful.{HasArrived}
 use Rattle.dr_model.specs.Conversations.Posts.{key_of}
-use Rattle.dr_model.specs.Conversations.ViewStates.{reception_of}
+use Rattle.dr_model.specs.Conversations.ViewStates.{view_reception}
 use Rattle.dr_model.specs.Conversations.Views.{View, indices_in, reach_in, missing_in, missing_below, missing_of, entry_at, history_of}
 use Rattle.dr_model.proofs.Growth.Growing.{grown, count-grown, entry_at-grown}
 use Rattle.dr_model.proofs.Growth.TurnGrowth.{SameTurns, key_of-grown, map-same}
@@ -97,7 +97,7 @@ kept-grown k c seeds epoch text v same near within =
 -- of one epoch
 pub reception-grown : (k : Mechanism) (c : Conversation) (seeds : List (List ℕ)) (epoch : ℕ) (text : List ℕ) (v : View)
     (t : ℕ) → SameTurns k c.key c.seeds seeds
-    → v.epoch ≤ epoch + 1 → t ≤ length c.seeds → reception_of k (grown c seeds epoch text) v t ≡ reception_of k c v t
+    → v.epoch ≤ epoch + 1 → t ≤ length c.seeds → view_reception k (grown c seeds epoch text) v t ≡ view_reception k c v t
 reception-grown k c seeds epoch text v t same near within =
     ap₂ (λ (turn : Turn) (r : ℕ). record { chain = chain_of turn.stream r; reach = r }) (same t within)
     (reach_in-grown c seeds epoch text v t near)
@@ -110,10 +110,10 @@ some_same f g (Some t) same = ap Some (same t refl)
 pub receiving-grown : (k : Mechanism) (c : Conversation) (seeds : List (List ℕ)) (epoch : ℕ) (text : List ℕ) (v : View)
     → SameTurns k c.key c.seeds seeds
     → v.epoch ≤ epoch + 1 → v.epoch ≤ length c.seeds
-    → option_map (reception_of k (grown c seeds epoch text) v) (receiving_epoch v.side v.epoch)
-    ≡ option_map (reception_of k c v) (receiving_epoch v.side v.epoch)
+    → option_map (view_reception k (grown c seeds epoch text) v) (receiving_epoch v.side v.epoch)
+    ≡ option_map (view_reception k c v) (receiving_epoch v.side v.epoch)
 receiving-grown k c seeds epoch text v same near within =
-    some_same (reception_of k (grown c seeds epoch text) v) (reception_of k c v) (receiving_epoch v.side v.epoch)
+    some_same (view_reception k (grown c seeds epoch text) v) (view_reception k c v) (receiving_epoch v.side v.epoch)
     (λ t is. reception-grown k c seeds epoch text v t same near
     (let latest = latest-reached v.side v.epoch t is in omega arith))
 

@@ -7,17 +7,17 @@ use Rattle.dr_base.specs.declared.position.Position.{Position}
 use Rattle.dr_base.specs.declared.position.Side.{Side}
 use Rattle.dr_base.specs.declared.position.Side.TheVariants.{First, Second}
 use Rattle.kem_laws.specs.Mechanism.{Mechanism}
-use Rattle.session_model.specs.declared.answer.Answer.{Answer}
-use Rattle.session_model.specs.declared.answer.Answer.TheVariants.{Opened}
+use Rattle.session_model.specs.declared.answer.Answer.TheVariants.{Dropped, Opened}
+use Rattle.session_model.specs.declared.answer.Items.{Items}
 use Rattle.session_model.specs.declared.answer.Refusal.{Refusal}
 use Rattle.session_model.specs.declared.answer.Refusal.TheVariants.{NoPair, OwnPacket, Spent, SkipLimit, InboxFull, Fewer}
 use Rattle.dr_model.specs.Conversations.Conversation.{Conversation, is_said, with_text, with_turn}
 use Rattle.dr_model.specs.Conversations.Posts.{post_at}
-use Rattle.dr_model.specs.Conversations.Views.{View, has_opened, after_opening, missing_of, entry_at}
+use Rattle.dr_model.specs.Conversations.Views.{View, after_drop, has_opened, after_opening, missing_of, entry_at}
 use Rattle.dr_model.specs.Machines.Draws.{next_seed}
 use Rattle.dr_model.specs.Machines.Events.{Event, cuts, does, seeds, shows_inbox, shows_state}
 use Rattle.dr_model.specs.Machines.Steps.{Step, step, settled}
-use Rattle.dr_model.specs.Machines.Worlds.{World, view_of, with_view, inbox_in, may_say, said_next, saying_in, taking_in, taking_at, made_at, taking_made, taking_given, leaving_in, step_of}
+use Rattle.dr_model.specs.Machines.Worlds.{World, view_of, with_view, dropping_in, inbox_in, may_say, said_next, saying_in, taking_in, taking_at, made_at, taking_made, taking_given, standing_in, step_of}
 use Rattle.dr_model.specs.Theorems.LawfulWorlds.{IsLawfulWorld}
 use Rattle.dr_model.proofs.Growth.Growing.{grown, is_said-grown, entry_at-grown, said-begun}
 use Rattle.dr_model.proofs.Growth.TurnGrowth.{SameTurns, post_at-grown, turns_same, turns_stay}
@@ -74,10 +74,12 @@ given_leaves k w side (Some bytes) = made_leaves k w side bytes (made_at k w byt
 given_leaves k w side None = refl
 
 -- items leave a box
-left_leaves : (w : World) (side : Side) (standing n : ℕ) (answer : Answer) (after : View)
-    → Leaves w (settled w (leaving_in w side standing n answer after))
-left_leaves w side standing n answer after =
-    leave_leaves w (nat_le n standing) (Fewer standing) (step answer (with_view w side after)) (with_view_leaves w side after)
+left_leaves : (k : Mechanism) (w : World) (side : Side) (items : Items) (n : ℕ) → Leaves w (settled w (dropping_in k w side items n))
+left_leaves k w side items n =
+    let after = after_drop (view_of w side) items n in
+    let standing = standing_in k w side items in
+    leave_leaves w (nat_le n standing) (Fewer standing) (step (Dropped items n) (with_view w side after))
+    (with_view_leaves w side after)
 
 -- a text is said, or refused
 next_keeps : (w : World) (side : Side) (seed text : List ℕ) (none : Bool) (P : Conversation → Type 0) → P w.conversation
@@ -110,9 +112,7 @@ step_keeps k w (does side call) P still here next =
           saying_keeps k w side text (may_say k w side (length text)) P still (here side text) (λ seed. next side seed text);
       packet = λ at said. subst P (sym (at_leaves w side at)) still;
       bytes = λ given. subst P (sym (given_leaves k w side given)) still;
-      items = λ standing n answer done dropped leaving.
-          let after = record (view_of w side) { done = done; dropped = dropped } in
-          subst P (sym (left_leaves w side standing n answer after)) still;
+      drop = λ items n. subst P (sym (left_leaves k w side items n)) still;
     }) call
 step_keeps k w (shows_inbox side) P still here next = still
 step_keeps k w (shows_state side) P still here next = still

@@ -14,7 +14,7 @@ use Rattle.session_model.specs.Schedule.{session_of}
 use Rattle.session_model.specs.Sealing.{posted}
 use Rattle.session_model.specs.Turns.{Turn, next_turn, turn_at}
 use Rattle.dr_model.specs.Conversations.Conversation.{Conversation, is_said, next_position, positions, previous_of, text_at}
-use Rattle.dr_model.specs.Conversations.Posts.{turn_of_epoch, key_of, post_at, posts, posts_of, version_at}
+use Rattle.dr_model.specs.Conversations.Posts.{turn_of_epoch, key_of, post_at, posts, posts_of, epoch_version}
 use Rattle.dr_model.proofs.Growth.Growing.{grown, text_at-grown, previous-grown, positions-grown, positions-said, own_positions-grown, said-begun}
 
 -- the epochs of these seeds have the same keys under other ones
@@ -47,7 +47,7 @@ pub post_at-grown : (k : Mechanism) (c : Conversation) (seeds : List (List ℕ))
     → length c.seeds ≤ epoch + 1 → p.epoch ≤ length c.seeds → is_said c p ≡ true
     → post_at k (grown c seeds epoch text) p ≡ post_at k c p
 post_at-grown k c seeds epoch text p same late within said =
-    let make : ℕ → Turn → List ℕ → Post = λ previous turn said. posted (version_at c p.epoch) (session_of c.key) p previous turn.agreement
+    let make : ℕ → Turn → List ℕ → Post = λ previous turn said. posted (epoch_version c p.epoch) (session_of c.key) p previous turn.agreement
     (message_key turn.stream p.index) (text_body said) in
     ap₂ (λ previous turn. make previous turn (text_at (grown c seeds epoch text) p))
     (previous-grown c seeds epoch text p.epoch (omega arith)) (same p.epoch within)

@@ -15,7 +15,7 @@ use Rattle.session_model.specs.Turns.{Turn}
 use Rattle.dr_model.specs.Conversations.Conversation.{Conversation, count_of, previous_of}
 use Rattle.dr_model.specs.Conversations.Indices.{missing_to, reach}
 use Rattle.dr_model.specs.Conversations.Posts.{key_of}
-use Rattle.dr_model.specs.Conversations.ViewStates.{reception_of}
+use Rattle.dr_model.specs.Conversations.ViewStates.{view_reception}
 use Rattle.dr_model.specs.Conversations.Views.{View, after_turn, indices_in, reach_in, missing_in, missing_below, missing_of}
 use Rattle.dr_model.proofs.Growth.Growing.{grown, count-grown}
 use Rattle.dr_model.proofs.Growth.GrowingViews.{IsBelow, missing_below-below}
@@ -93,14 +93,14 @@ kept-turned k c seeds text v same peers within =
 pub receiving-turned : (k : Mechanism) (c : Conversation) (seeds : List (List ℕ)) (text : List ℕ) (v : View)
     → SameTurns k c.key c.seeds seeds
     → is_own v.side v.epoch ≡ false → v.epoch ≤ length c.seeds
-    → option_map (reception_of k (grown c seeds (v.epoch + 1) text) (after_turn v)) (receiving_epoch v.side (v.epoch + 1))
-    ≡ option_map (reception_of k c v) (receiving_epoch v.side v.epoch)
+    → option_map (view_reception k (grown c seeds (v.epoch + 1) text) (after_turn v)) (receiving_epoch v.side (v.epoch + 1))
+    ≡ option_map (view_reception k c v) (receiving_epoch v.side v.epoch)
 receiving-turned k c seeds text v same peers within =
-    ap (option_map (reception_of k (grown c seeds (v.epoch + 1) text) (after_turn v)))
+    ap (option_map (view_reception k (grown c seeds (v.epoch + 1) text) (after_turn v)))
     (latest-turn v.side v.epoch peers ∙ latest-peers v.side v.epoch peers)
     ∙ ap₂ (λ (turn : Turn) (r : ℕ). Some (record { chain = chain_of turn.stream r; reach = r }))
     (same v.epoch within) (reach_in-turned c seeds text v v.epoch peers peers (omega arith))
-    ∙ sym (ap (option_map (reception_of k c v)) (latest-peers v.side v.epoch peers))
+    ∙ sym (ap (option_map (view_reception k c v)) (latest-peers v.side v.epoch peers))
 
 -- ---- how many texts the last own epoch had
 

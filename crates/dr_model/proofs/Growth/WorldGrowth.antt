@@ -11,16 +11,18 @@ use Rattle.dr_base.specs.declared.position.Side.{Side}
 use Rattle.dr_base.specs.declared.position.Side.TheVariants.{First, Second}
 use Rattle.kem_laws.specs.Mechanism.{Mechanism}
 use Rattle.session_model.specs.declared.answer.Answer.{Answer}
-use Rattle.session_model.specs.declared.answer.Answer.TheVariants.{Opened, Nothing, Refused}
+use Rattle.session_model.specs.declared.answer.Answer.TheVariants.{Dropped, Opened, Nothing, Refused}
+use Rattle.session_model.specs.declared.answer.Items.{Items}
+use Rattle.session_model.specs.declared.answer.Items.TheVariants.{Packets, Texts}
 use Rattle.session_model.specs.declared.answer.Refusal.{Refusal}
 use Rattle.session_model.specs.declared.answer.Refusal.TheVariants.{NoPair, OwnPacket, Spent, SkipLimit, InboxFull, Fewer}
 use Rattle.dr_model.specs.Conversations.Conversation.{Conversation, with_text}
 use Rattle.dr_model.specs.Conversations.ViewStates.{state_of}
-use Rattle.dr_model.specs.Conversations.Views.{View, has_opened, after_opening, missing_of}
+use Rattle.dr_model.specs.Conversations.Views.{View, after_drop, has_opened, after_opening, missing_of}
 use Rattle.dr_model.specs.Machines.Draws.{Draws, next_seed, after_draw}
 use Rattle.dr_model.specs.Machines.Events.{Event, cuts, does, seeds, shows_inbox, shows_state}
 use Rattle.dr_model.specs.Machines.Steps.{Step, step, settled}
-use Rattle.dr_model.specs.Machines.Worlds.{World, view_of, with_view, inbox_in, may_say, said_here, said_next, saying_in, taking_in, taking_at, made_at, refusal_of, taking_made, taking_given, leaving_in, step_of}
+use Rattle.dr_model.specs.Machines.Worlds.{World, view_of, with_view, dropping_in, inbox_in, may_say, said_here, said_next, saying_in, taking_in, taking_at, made_at, refusal_of, taking_made, taking_given, standing_in, step_of}
 use Rattle.dr_model.proofs.Saying.SayingFollows.{drawn_in}
 use Rattle.dr_model.proofs.Worlds.CallKinds.{of_call}
 use Rattle.dr_model.proofs.Worlds.CutSteps.{cut_off}
@@ -74,14 +76,17 @@ with_view_gains w Second v First gains = same refl
 with_view_gains w Second v Second gains = gains
 
 -- items leave a box
-left_sound : (w : World) (side : Side) (standing n : ℕ) (answer : Answer) (done dropped : ℕ)
-    → ((refusal : Refusal) → answer ≡ Refused refusal → ⊥)
-    → IsSettled w (leaving_in w side standing n answer (record (view_of w side) { done = done; dropped = dropped }))
-left_sound w side standing n answer done dropped answered =
-    let after = record (view_of w side) { done = done; dropped = dropped } in
-    enough_sound w (nat_le n standing) (Fewer standing) (step answer (with_view w side after)) (record {
-      gains = λ other. with_view_gains w side after other (same refl);
-      refused = λ refusal e. absurd (answered refusal e);
+same_arrived : (v : View) (items : Items) (n : ℕ) → (after_drop v items n).arrived ≡ v.arrived
+same_arrived v Texts n = refl
+same_arrived v Packets n = refl
+
+left_sound : (k : Mechanism) (w : World) (side : Side) (items : Items) (n : ℕ) → IsSettled w (dropping_in k w side items n)
+left_sound k w side items n =
+    let after = after_drop (view_of w side) items n in
+    let standing = standing_in k w side items in
+    enough_sound w (nat_le n standing) (Fewer standing) (step (Dropped items n) (with_view w side after)) (record {
+      gains = λ other. with_view_gains w side after other (same (same_arrived (view_of w side) items n));
+      refused = λ refusal e. cc;
     })
 
 -- ---- a packet is taken
@@ -169,7 +174,7 @@ step_sound k w (does side call) =
       text = λ text. saying_sound k w side text (may_say k w side (length text));
       packet = λ at said. at_sound w side at;
       bytes = given_sound k w side;
-      items = λ standing n answer done dropped leaving. left_sound w side standing n answer done dropped leaving.answered;
+      drop = left_sound k w side;
     }) call
 step_sound k w (shows_inbox side) = still_sound w _ (inbox_in w side)
 step_sound k w (shows_state side) = still_sound w _ []

@@ -13,7 +13,7 @@ use Rattle.session_model.specs.declared.answer.Refusal.{Refusal}
 use Rattle.session_model.specs.declared.answer.Refusal.TheVariants.{TextTooLong, OutboxFull, EpochFull, LastEpoch}
 use Rattle.dr_model.specs.Conversations.Conversation.{Conversation, count_of}
 use Rattle.dr_model.specs.Conversations.Posts.{turn_of_epoch}
-use Rattle.dr_model.specs.Conversations.ViewStates.{client_at, own_of, state_of}
+use Rattle.dr_model.specs.Conversations.ViewStates.{client_at, view_own, state_of}
 use Rattle.dr_model.specs.Conversations.Views.{View, outbox_of}
 use Rattle.dr_model.specs.Machines.Sides.{client_of}
 use Rattle.dr_model.specs.Machines.WorldSides.{sides_of}
@@ -40,7 +40,7 @@ check_view : (k : Mechanism) (c : Conversation) (v : View) (side : Side) (len : 
     else (if is_own side v.epoch then (if nat_le INDEX_LIMIT (count_of c v.epoch) then Err EpochFull else Ok false) else
     (if nat_le LAST_EPOCH v.epoch then Err LastEpoch else Ok true))))
 check_view k c v side len is =
-    check_by len v.epoch (nat_lt TEXT_LIMIT len) (nat_le OUTBOX_LIMIT (length (outbox_of k c v))) (is_own v.side v.epoch) (own_of k c v)
+    check_by len v.epoch (nat_lt TEXT_LIMIT len) (nat_le OUTBOX_LIMIT (length (outbox_of k c v))) (is_own v.side v.epoch) (view_own k c v)
     (turn_of_epoch k c v.epoch).public
     ∙ ap (λ s. if nat_lt TEXT_LIMIT len then Err (TextTooLong len) else
     (if nat_le OUTBOX_LIMIT (length (outbox_of k c v)) then Err OutboxFull
@@ -65,7 +65,7 @@ session_by len epoch false false o public = refl
 pub session_check : (k : Mechanism) (c : Conversation) (v : View) (len : ℕ)
     → send_check (state_of k c v) len ≡ checked_in c v len
 session_check k c v len =
-    session_by len v.epoch (nat_lt TEXT_LIMIT len) (is_own v.side v.epoch) (own_of k c v) (turn_of_epoch k c v.epoch).public
+    session_by len v.epoch (nat_lt TEXT_LIMIT len) (is_own v.side v.epoch) (view_own k c v) (turn_of_epoch k c v.epoch).public
 
 -- whose epoch it is, by the answer
 own_by : (p q r s : Refusal) (long full own used last : Bool) (turns : Bool)

@@ -20,9 +20,9 @@ use Rattle.session_model.specs.States.{in_own, in_peers, State}
 use Rattle.session_model.specs.Turns.{Turn}
 use Rattle.dr_model.specs.Conversations.Conversation.{Conversation, count_of, next_position, previous_of, with_text}
 use Rattle.dr_model.specs.Conversations.Lawful.{HasArrived}
-use Rattle.dr_model.specs.Conversations.Formats.{format_of}
+use Rattle.dr_model.specs.Conversations.Formats.{side_format}
 use Rattle.dr_model.specs.Conversations.Posts.{post_at, posts_of, turn_of_epoch}
-use Rattle.dr_model.specs.Conversations.ViewStates.{client_at, own_of, phase_of, previous_in, state_of}
+use Rattle.dr_model.specs.Conversations.ViewStates.{client_at, view_own, view_phase, previous_in, state_of}
 use Rattle.dr_model.specs.Conversations.Views.{View, outbox_of}
 use Rattle.dr_model.proofs.Growth.Growing.{grown, previous-grown, text_at-new}
 use Rattle.dr_model.proofs.Growth.GrowingStates.{inbox-grown, own_with, same_state}
@@ -33,14 +33,14 @@ use Rattle.dr_model.proofs.Saying.OwnSide.{own_side}
 
 -- what a side holds of an own epoch, and of a peer's
 pub phase_own : (k : Mechanism) (c : Conversation) (v : View) → is_own v.side v.epoch ≡ true
-    → phase_of k c v ≡ in_own (own_of k c v)
+    → view_phase k c v ≡ in_own (view_own k c v)
 phase_own k c v own =
-    cond-true (is_own v.side v.epoch) (in_own (own_of k c v)) (in_peers (turn_of_epoch k c v.epoch).public) own
+    cond-true (is_own v.side v.epoch) (in_own (view_own k c v)) (in_peers (turn_of_epoch k c v.epoch).public) own
 
 pub phase_peers : (k : Mechanism) (c : Conversation) (v : View) → is_own v.side v.epoch ≡ false
-    → phase_of k c v ≡ in_peers (turn_of_epoch k c v.epoch).public
+    → view_phase k c v ≡ in_peers (turn_of_epoch k c v.epoch).public
 phase_peers k c v peers =
-    cond-false (is_own v.side v.epoch) (in_own (own_of k c v)) (in_peers (turn_of_epoch k c v.epoch).public) peers
+    cond-false (is_own v.side v.epoch) (in_own (view_own k c v)) (in_peers (turn_of_epoch k c v.epoch).public) peers
 
 -- how many texts its last own epoch had, in an own epoch and in a peer's
 pub previous_own : (c : Conversation) (v : View) → is_own v.side v.epoch ≡ true → previous_in c v ≡ previous_of c v.epoch
@@ -66,11 +66,11 @@ own_next turn n m more =
 
 state_own : (k : Mechanism) (c : Conversation) (v : View) (text : List ℕ) → is_own v.side v.epoch ≡ true
     → v.epoch ≤ length c.seeds
-    → (draft_own (state_of k c v) (own_of k c v) text).next ≡ state_of k (with_text c v.epoch text) v
+    → (draft_own (state_of k c v) (view_own k c v) text).next ≡ state_of k (with_text c v.epoch text) v
 state_own k c v text own within =
     let d = with_text c v.epoch text in
     let same = turns_same k c.key c.seeds in
-    sym (same_state v.side (format_of c.formats v.side) (session_of c.key) v.epoch _ _ _ _ _ _ _ _ _ _
+    sym (same_state v.side (side_format c.formats v.side) (session_of c.key) v.epoch _ _ _ _ _ _ _ _ _ _
     refl
     (phase_own k d v own ∙ ap in_own
     (own_next (turn_of_epoch k c v.epoch) (count_of c v.epoch) (count_of d v.epoch) (count-here c.said v.epoch text)))
@@ -81,14 +81,14 @@ state_own k c v text own within =
 -- ---- its packet
 
 post_own : (k : Mechanism) (c : Conversation) (v : View) (text : List ℕ) → is_own v.side v.epoch ≡ true
-    → (draft_own (state_of k c v) (own_of k c v) text).post ≡ post_at k (with_text c v.epoch text)
+    → (draft_own (state_of k c v) (view_own k c v) text).post ≡ post_at k (with_text c v.epoch text)
     (next_position c.said v.epoch)
 post_own k c v text own =
     let d = with_text c v.epoch text in
     let turn = turn_of_epoch k c v.epoch in
-    let make : Side → ℕ → List ℕ → List ℕ → Post = λ side previous key said. posted (version_of (format_of c.formats side)) (session_of c.key)
+    let make : Side → ℕ → List ℕ → List ℕ → Post = λ side previous key said. posted (version_of (side_format c.formats side)) (session_of c.key)
     (next_position c.said v.epoch) previous turn.agreement key (text_body said) in
-    ap (λ side. make side (previous_in c v) (chain_message_key (own_of k c v).chain) text) (sym (own_side v.side v.epoch own))
+    ap (λ side. make side (previous_in c v) (chain_message_key (view_own k c v).chain) text) (sym (own_side v.side v.epoch own))
     ∙ ap₂ (λ previous key. make (side_of v.epoch) previous key text)
     (previous_own c v own ∙ sym (previous-grown c c.seeds v.epoch text v.epoch (omega arith)))
     (sym (message_key-suc turn.stream (count_of c v.epoch)))

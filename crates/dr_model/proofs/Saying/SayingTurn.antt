@@ -21,7 +21,7 @@ use Rattle.session_model.specs.Turns.{Turn, next_turn, turn_at, pair_at}
 use Rattle.session_model.specs.declared.answer.Refusal.TheVariants.{NoPair}
 use Rattle.dr_model.specs.Conversations.Conversation.{Conversation, count_of, next_position, previous_of, text_at, with_turn}
 use Rattle.dr_model.specs.Conversations.Lawful.{HasArrived}
-use Rattle.dr_model.specs.Conversations.Formats.{format_of}
+use Rattle.dr_model.specs.Conversations.Formats.{side_format}
 use Rattle.dr_model.specs.Conversations.Posts.{post_at, posts_of, turn_of_epoch}
 use Rattle.dr_model.specs.Conversations.ViewStates.{client_at, previous_in, state_of}
 use Rattle.dr_model.specs.Conversations.Views.{View, after_turn}
@@ -94,7 +94,7 @@ state_turn k c v text seed peers last begun =
     let same = turns_stay k c.key c.seeds seed in
     let new = turn_new k c.key c.seeds seed v.epoch last in
     let own = own_after v.side v.epoch peers in
-    sym (same_state v.side (format_of c.formats v.side) (session_of c.key) (v.epoch + 1) _ _ _ _ _ _ _ _ _ _
+    sym (same_state v.side (side_format c.formats v.side) (session_of c.key) (v.epoch + 1) _ _ _ _ _ _ _ _ _ _
     (ap (λ (turn : Turn). turn.root) new)
     (phase_own k d (after_turn v) own
     ∙ ap in_own (own_first (turn_of_epoch k d (v.epoch + 1)) (next_turn k (turn_of_epoch k c v.epoch) seed)
@@ -115,7 +115,7 @@ post_turn k c v text seed peers last begun =
     let turn = next_turn k (turn_of_epoch k c v.epoch) seed in
     let first : Position = record { epoch = v.epoch + 1; index = 1 } in
     let place = first_place c v.epoch begun last in
-    let make : Side → ℕ → List ℕ → List ℕ → List ℕ → Post = λ side previous agreement key said. posted (version_of (format_of c.formats side))
+    let make : Side → ℕ → List ℕ → List ℕ → List ℕ → Post = λ side previous agreement key said. posted (version_of (side_format c.formats side))
     (session_of c.key) first previous agreement key (text_body said) in
     ap (λ side. make side (previous_in c v) turn.agreement (chain_message_key turn.stream) text)
     (sym (own_side v.side (v.epoch + 1) (own_after v.side v.epoch peers)))

@@ -9,7 +9,7 @@ use Rattle.kem_laws.specs.Mechanism.{Mechanism}
 use Rattle.session_model.specs.States.{Own, Reception, in_own, in_peers, receiving_epoch}
 use Rattle.dr_model.specs.Conversations.Conversation.{Conversation}
 use Rattle.dr_model.specs.Conversations.Posts.{key_of, turn_of_epoch}
-use Rattle.dr_model.specs.Conversations.ViewStates.{own_of, phase_of, reception_of, state_of}
+use Rattle.dr_model.specs.Conversations.ViewStates.{view_own, view_phase, view_reception, state_of}
 use Rattle.dr_model.specs.Conversations.Views.{View, missing_of}
 use Rattle.dr_model.specs.Secrets.Held.{Held, holds_kept, holds_receiving, holds_root, holds_secret, holds_sending}
 use Rattle.dr_model.specs.Secrets.Secret.{Secret, value_of}
@@ -17,25 +17,25 @@ use Rattle.dr_model.specs.Secrets.Secret.{Secret, value_of}
 -- what a phase holds of an own epoch
 pub record IsOwnPhase (k : Mechanism) (c : Conversation) (v : View) (own : Own) : Type 0 where
   pub mine : is_own v.side v.epoch ≡ true
-  pub is : own ≡ own_of k c v
+  pub is : own ≡ view_own k c v
 
 phase_by : (b : Bool) (x own : Own) (public : List ℕ) → (if b then in_own x else in_peers public) ≡ in_own own
     → (b ≡ true) × (own ≡ x)
 phase_by true x own public same = (refl, let e : in_own x ≡ in_own own = same in cc)
 phase_by false x own public same = absurd (let e : in_peers public ≡ in_own own = same in cc)
 
-pub own_phase : (k : Mechanism) (c : Conversation) (v : View) (own : Own) → phase_of k c v ≡ in_own own
+pub own_phase : (k : Mechanism) (c : Conversation) (v : View) (own : Own) → view_phase k c v ≡ in_own own
     → IsOwnPhase k c v own
 own_phase k c v own same =
-    let both = phase_by (is_own v.side v.epoch) (own_of k c v) own (turn_of_epoch k c v.epoch).public same in
+    let both = phase_by (is_own v.side v.epoch) (view_own k c v) own (turn_of_epoch k c v.epoch).public same in
     record { mine = both.0; is = both.1 }
 
 -- the reception of the latest peer's epoch
 pub latest_reception : (k : Mechanism) (c : Conversation) (v : View) (r : Reception) (t : ℕ)
-    → option_map (reception_of k c v) (receiving_epoch v.side v.epoch) ≡ Some r → receiving_epoch v.side v.epoch ≡ Some t
-    → r ≡ reception_of k c v t
+    → option_map (view_reception k c v) (receiving_epoch v.side v.epoch) ≡ Some r → receiving_epoch v.side v.epoch ≡ Some t
+    → r ≡ view_reception k c v t
 latest_reception k c v r t same is =
-    let e : Some (reception_of k c v t) ≡ Some r = sym (ap (option_map (reception_of k c v)) is) ∙ same in cc
+    let e : Some (view_reception k c v t) ≡ Some r = sym (ap (option_map (view_reception k c v)) is) ∙ same in cc
 
 -- each value
 pub held_values : (k : Mechanism) (c : Conversation) (v : View) (secret : Secret) (value : List ℕ)

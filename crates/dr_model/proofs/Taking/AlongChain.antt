@@ -13,7 +13,7 @@ use Rattle.session_model.specs.Ways.{chain_way, kept_way, known_way, within_limi
 use Rattle.dr_model.specs.Conversations.Conversation.{Conversation}
 use Rattle.dr_model.specs.Conversations.Indices.{reach}
 use Rattle.dr_model.specs.Conversations.Posts.{key_of, turn_of_epoch}
-use Rattle.dr_model.specs.Conversations.ViewStates.{reception_of, state_of}
+use Rattle.dr_model.specs.Conversations.ViewStates.{view_reception, state_of}
 use Rattle.dr_model.specs.Conversations.Views.{View, indices_in, missing_of, reach_in}
 use Rattle.dr_model.proofs.Missing.Arrived.{reach-push}
 use Rattle.dr_model.proofs.Missing.EpochIndices.{indices_in-same}
@@ -115,7 +115,7 @@ way_chain k c v p at early =
     let s = state_of k c v in
     let r = reach_in c v p.epoch in
     ap (known_way s p) (receiving-latest k c v p.epoch at)
-    ∙ cond-true (nat_le v.epoch (p.epoch + 1) && nat_lt r p.index) (chain_way s (reception_of k c v p.epoch) p)
+    ∙ cond-true (nat_le v.epoch (p.epoch + 1) && nat_lt r p.index) (chain_way s (view_reception k c v p.epoch) p)
     (kept_way s p (kept_key s.kept p))
     (and_from (nat_le v.epoch (p.epoch + 1)) (nat_lt r p.index) (le-leb v.epoch (p.epoch + 1) at.near)
     (lt-ltb r p.index early))

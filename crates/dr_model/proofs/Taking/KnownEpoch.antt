@@ -16,7 +16,7 @@ use Rattle.session_model.specs.declared.answer.Refusal.TheVariants.{Spent}
 use Rattle.dr_model.specs.Conversations.Conversation.{Conversation, count_of}
 use Rattle.dr_model.specs.Conversations.Indices.{is_among, reach}
 use Rattle.dr_model.specs.Conversations.Posts.{key_of, turn_of_epoch}
-use Rattle.dr_model.specs.Conversations.ViewStates.{reception_of, state_of}
+use Rattle.dr_model.specs.Conversations.ViewStates.{view_reception, state_of}
 use Rattle.dr_model.specs.Conversations.Views.{View, after_opening, has_opened, indices_in, missing_of, reach_in}
 use Rattle.dr_model.proofs.Missing.Arrived.{reach-push, reach-greatest}
 use Rattle.dr_model.proofs.Missing.EpochIndices.{indices_in-other, indices_in-same, is_among-indices}
@@ -100,8 +100,8 @@ late_test c v p latest at own known late =
 
 -- the reception of the latest peer's epoch
 pub receiving-latest : (k : Mechanism) (c : Conversation) (v : View) (latest : ℕ) → IsLatest v.side v.epoch latest
-    → (state_of k c v).receiving ≡ Some (reception_of k c v latest)
-receiving-latest k c v latest at = ap (option_map (reception_of k c v)) at.receiving
+    → (state_of k c v).receiving ≡ Some (view_reception k c v latest)
+receiving-latest k c v latest at = ap (option_map (view_reception k c v)) at.receiving
 
 way_late : (k : Mechanism) (c : Conversation) (v : View) (p : Position) (latest : ℕ) → IsLatest v.side v.epoch latest
     → is_own v.side p.epoch ≡ false → p.epoch ≤ v.epoch
@@ -112,7 +112,7 @@ way_late k c v p latest at own known late =
     let s = state_of k c v in
     ap (known_way s p) (receiving-latest k c v latest at)
     ∙ cond-false (nat_le v.epoch (p.epoch + 1) && nat_lt (reach_in c v latest) p.index)
-    (chain_way s (reception_of k c v latest) p) (kept_way s p (kept_key s.kept p))
+    (chain_way s (view_reception k c v latest) p) (kept_way s p (kept_key s.kept p))
     (late_test c v p latest at own known late)
     ∙ ap (kept_way s p) (kept_key-below k c v p (v.epoch + 1) (omega arith) own)
 

@@ -16,8 +16,8 @@ use Rattle.session_model.specs.Ways.{turn_way, within_limit}
 use Rattle.dr_model.specs.Conversations.Conversation.{Conversation, count_of, previous_of}
 use Rattle.dr_model.specs.Conversations.Indices.{reach}
 use Rattle.dr_model.specs.Conversations.Lawful.{HasArrived, IsLawfulConversation}
-use Rattle.dr_model.specs.Conversations.Posts.{fields_at, key_of, pair_seed, turn_of_epoch}
-use Rattle.dr_model.specs.Conversations.ViewStates.{own_of, phase_of, state_of}
+use Rattle.dr_model.specs.Conversations.Posts.{post_fields, key_of, pair_seed, turn_of_epoch}
+use Rattle.dr_model.specs.Conversations.ViewStates.{view_own, view_phase, state_of}
 use Rattle.dr_model.specs.Conversations.Views.{View, after_opening, indices_in, missing_of, reach_in}
 use Rattle.dr_model.proofs.Missing.EpochIndices.{indices_in-beyond, indices_in-same}
 use Rattle.dr_model.proofs.Missing.MissingEpochs.{epoch_keys, keys_below, keys_below-own, keys_below-peers}
@@ -164,12 +164,12 @@ pub turn_way-is : (k : Mechanism) (c : Conversation) (v : View) (i : ℕ) (passe
     → Answers k c v.epoch → All (HasArrived c v) v.arrived → 1 ≤ i
     → is_own v.side v.epoch ≡ true → is_own v.side (v.epoch + 1) ≡ false → length keys ≡ passed
     → keys_below k c (opened_next v i) v.epoch ≡ keys_below k c v (v.epoch + 1) ++ keys
-    → turn_way k (state_of k c v) (own_of k c v) (fields_at k c (position_at (v.epoch + 1) i)) passed keys
+    → turn_way k (state_of k c v) (view_own k c v) (post_fields k c (position_at (v.epoch + 1) i)) passed keys
     ≡ within_limit (length (missing_of c (opened_next v i)))
     (record { key = message_key (turn_of_epoch k c (v.epoch + 1)).stream i; next = state_of k c (opened_next v i) })
 turn_way-is k c v i passed keys answered arrivals one own peers long earlier =
     let s = state_of k c v in
-    let f = fields_at k c (position_at (v.epoch + 1) i) in
+    let f = post_fields k c (position_at (v.epoch + 1) i) in
     let turn = turn_of_epoch k c (v.epoch + 1) in
     let next = opened_next v i in
     let root = (turn_of_epoch k c v.epoch).root in
@@ -188,10 +188,10 @@ turn_way-is k c v i passed keys answered arrivals one own peers long earlier =
     (s.kept ++ keys ++ shelved (v.epoch + 1) turn.stream 0 (i - 1)))
     (ap (next_root root) answered.key ∙ answered.root)
     (ap in_peers answered.public
-    ∙ sym (cond-false (is_own v.side (v.epoch + 1)) (in_own (own_of k c next)) (in_peers turn.public) peers))
-    ∙ ap₂ (λ previous receiving. turned k c v turn.root (phase_of k c next) previous receiving
+    ∙ sym (cond-false (is_own v.side (v.epoch + 1)) (in_own (view_own k c next)) (in_peers turn.public) peers))
+    ∙ ap₂ (λ previous receiving. turned k c v turn.root (view_phase k c next) previous receiving
     (s.kept ++ keys ++ shelved (v.epoch + 1) turn.stream 0 (i - 1)))
     (previous_next k c v i peers)
     (ap (λ n. Some (record { chain = chain_of turn.stream n; reach = n })) (sym (reach_in-next c v i arrivals))
     ∙ sym (receiving-latest k c next (v.epoch + 1) (latest_here v.side (v.epoch + 1) peers)))
-    ∙ ap (turned k c v turn.root (phase_of k c next) (state_of k c next).previous (state_of k c next).receiving) kept)
+    ∙ ap (turned k c v turn.root (view_phase k c next) (state_of k c next).previous (state_of k c next).receiving) kept)

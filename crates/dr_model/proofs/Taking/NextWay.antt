@@ -13,8 +13,8 @@ use Rattle.session_model.specs.declared.answer.Refusal.TheVariants.{Count}
 use Rattle.dr_model.specs.Conversations.Conversation.{Conversation, count_of, previous_of}
 use Rattle.dr_model.specs.Conversations.Indices.{reach}
 use Rattle.dr_model.specs.Conversations.Lawful.{HasArrived}
-use Rattle.dr_model.specs.Conversations.Posts.{fields_at, turn_of_epoch}
-use Rattle.dr_model.specs.Conversations.ViewStates.{own_of, reception_of, state_of}
+use Rattle.dr_model.specs.Conversations.Posts.{post_fields, turn_of_epoch}
+use Rattle.dr_model.specs.Conversations.ViewStates.{view_own, view_reception, state_of}
 use Rattle.dr_model.specs.Conversations.Views.{View, indices_in, missing_of, reach_in}
 use Rattle.dr_model.proofs.Missing.EpochIndices.{indices_in-other, reach-said}
 use Rattle.dr_model.proofs.Missing.MissingEpochs.{epoch_keys, keys_below, keys_below-own, keys_below-peers, keys_below-same, keys_below-zero}
@@ -90,23 +90,23 @@ next_way-latest : (k : Mechanism) (c : Conversation) (v : View) (i latest : ℕ)
     → All (HasArrived c v) v.arrived → 1 ≤ i
     → is_own v.side v.epoch ≡ true → is_own v.side (v.epoch + 1) ≡ false → IsLatest v.side v.epoch latest
     → v.epoch ≡ latest + 1
-    → next_way k (state_of k c v) (own_of k c v) (fields_at k c (position_at (v.epoch + 1) i)) (state_of k c v).receiving
+    → next_way k (state_of k c v) (view_own k c v) (post_fields k c (position_at (v.epoch + 1) i)) (state_of k c v).receiving
     ≡ within_limit (length (missing_of c (opened_next v i)))
     (record { key = message_key (turn_of_epoch k c (v.epoch + 1)).stream i; next = state_of k c (opened_next v i) })
 next_way-latest k c v i latest answered arrivals one own peers at e =
     let s = state_of k c v in
-    let f = fields_at k c (position_at (v.epoch + 1) i) in
+    let f = post_fields k c (position_at (v.epoch + 1) i) in
     let r = reach_in c v latest in
     let chain = chain_of (turn_of_epoch k c latest).stream r in
     let end = count_of c latest in
     let before : r ≡ reach (indices_in v.arrived latest) = reach_in-latest c v latest (omega arith) in
     let said = reach-said c v v.arrived latest arrivals in
-    ap (next_way k s (own_of k c v) f) (receiving-latest k c v latest at)
-    ∙ ap₂ (λ previous epoch. if nat_lt previous r then Err (Count previous r) else turn_way k s (own_of k c v) f
+    ap (next_way k s (view_own k c v) f) (receiving-latest k c v latest at)
+    ∙ ap₂ (λ previous epoch. if nat_lt previous r then Err (Count previous r) else turn_way k s (view_own k c v) f
     (previous - r) (shelved epoch chain r (previous - r)))
     (previous_of-latest c v.epoch latest e) (omega arith)
     ∙ cond-false (nat_lt end r) (Err (Count end r))
-    (turn_way k s (own_of k c v) f (end - r) (shelved latest chain r (end - r))) (le-ltb end r (omega arith))
+    (turn_way k s (view_own k c v) f (end - r) (shelved latest chain r (end - r))) (le-ltb end r (omega arith))
     ∙ turn_way-is k c v i (end - r) (shelved latest chain r (end - r)) answered arrivals one own peers
     (length-shelved latest chain r (end - r)) (keys_ended k c v i latest arrivals at e)
 
@@ -114,23 +114,23 @@ next_way-latest k c v i latest answered arrivals one own peers at e =
 next_way-first : (k : Mechanism) (c : Conversation) (v : View) (i : ℕ) → Answers k c v.epoch
     → All (HasArrived c v) v.arrived → 1 ≤ i
     → is_own v.side v.epoch ≡ true → is_own v.side (v.epoch + 1) ≡ false → v.epoch ≡ 0
-    → next_way k (state_of k c v) (own_of k c v) (fields_at k c (position_at (v.epoch + 1) i)) (state_of k c v).receiving
+    → next_way k (state_of k c v) (view_own k c v) (post_fields k c (position_at (v.epoch + 1) i)) (state_of k c v).receiving
     ≡ within_limit (length (missing_of c (opened_next v i)))
     (record { key = message_key (turn_of_epoch k c (v.epoch + 1)).stream i; next = state_of k c (opened_next v i) })
 next_way-first k c v i answered arrivals one own peers e =
     let s = state_of k c v in
-    let f = fields_at k c (position_at (v.epoch + 1) i) in
+    let f = post_fields k c (position_at (v.epoch + 1) i) in
     let none : receiving_epoch v.side v.epoch ≡ None =
     cond-true (is_own v.side v.epoch) (if nat_eq v.epoch 0 then None else Some (v.epoch - 1)) (Some v.epoch) own
     ∙ cond-true (nat_eq v.epoch 0) None (Some (v.epoch - 1)) (eq-eqb v.epoch 0 e) in
-    ap (λ epoch. next_way k s (own_of k c v) f (option_map (reception_of k c v) epoch)) none
+    ap (λ epoch. next_way k s (view_own k c v) f (option_map (view_reception k c v) epoch)) none
     ∙ turn_way-is k c v i 0 [] answered arrivals one own peers refl (keys_none k c v i own e)
 
 -- by the epoch that is reached
 next_way-is : (k : Mechanism) (c : Conversation) (v : View) (i epoch : ℕ) → Answers k c v.epoch
     → All (HasArrived c v) v.arrived → 1 ≤ i
     → is_own v.side v.epoch ≡ true → is_own v.side (v.epoch + 1) ≡ false → v.epoch ≡ epoch
-    → next_way k (state_of k c v) (own_of k c v) (fields_at k c (position_at (v.epoch + 1) i)) (state_of k c v).receiving
+    → next_way k (state_of k c v) (view_own k c v) (post_fields k c (position_at (v.epoch + 1) i)) (state_of k c v).receiving
     ≡ within_limit (length (missing_of c (opened_next v i)))
     (record { key = message_key (turn_of_epoch k c (v.epoch + 1)).stream i; next = state_of k c (opened_next v i) })
 next_way-is k c v i zero answered arrivals one own peers e = next_way-first k c v i answered arrivals one own peers e
@@ -143,10 +143,10 @@ next_way-is k c v i (suc latest) answered arrivals one own peers e =
 pub way_next : (k : Mechanism) (c : Conversation) (v : View) (i : ℕ) → Answers k c v.epoch → All (HasArrived c v) v.arrived
     → 1 ≤ i
     → is_own v.side v.epoch ≡ true → is_own v.side (v.epoch + 1) ≡ false
-    → epoch_way k (state_of k c v) (fields_at k c (position_at (v.epoch + 1) i)) (state_of k c v).phase
+    → epoch_way k (state_of k c v) (post_fields k c (position_at (v.epoch + 1) i)) (state_of k c v).phase
     ≡ within_limit (length (missing_of c (opened_next v i)))
     (record { key = message_key (turn_of_epoch k c (v.epoch + 1)).stream i; next = state_of k c (opened_next v i) })
 way_next k c v i answered arrivals one own peers =
-    ap (epoch_way k (state_of k c v) (fields_at k c (position_at (v.epoch + 1) i)))
-    (cond-true (is_own v.side v.epoch) (in_own (own_of k c v)) (in_peers (turn_of_epoch k c v.epoch).public) own)
+    ap (epoch_way k (state_of k c v) (post_fields k c (position_at (v.epoch + 1) i)))
+    (cond-true (is_own v.side v.epoch) (in_own (view_own k c v)) (in_peers (turn_of_epoch k c v.epoch).public) own)
     ∙ next_way-is k c v i v.epoch answered arrivals one own peers refl

@@ -17,7 +17,7 @@ use Rattle.session_model.specs.declared.answer.Refusal.TheVariants.{OwnPacket, S
 use Rattle.dr_model.specs.Conversations.Conversation.{Conversation, is_said, text_at}
 use Rattle.dr_model.specs.Conversations.Indices.{is_among}
 use Rattle.dr_model.specs.Conversations.Lawful.{HasArrived, IsLawfulConversation, IsLawfulView}
-use Rattle.dr_model.specs.Conversations.Posts.{fields_at, turn_of_epoch}
+use Rattle.dr_model.specs.Conversations.Posts.{post_fields, turn_of_epoch}
 use Rattle.dr_model.specs.Conversations.ViewStates.{state_of}
 use Rattle.dr_model.specs.Conversations.Views.{View, after_opening, has_opened, missing_of, reach_in}
 use Rattle.dr_model.specs.Theorems.Sessions.{received_in}
@@ -46,11 +46,11 @@ answer_within f true n way opened h = refl
 answer_within f false n way opened h = h
 
 answer_limit : (k : Mechanism) (c : Conversation) (next : View) (p : Position) → IsPlace c p
-    → opened_by (fields_at k c p) (within_limit (length (missing_of c next)) (record { key = message_key (turn_of_epoch k c p.epoch).stream p.index; next = state_of k c next }))
+    → opened_by (post_fields k c p) (within_limit (length (missing_of c next)) (record { key = message_key (turn_of_epoch k c p.epoch).stream p.index; next = state_of k c next }))
     ≡ far_at k c next p
 answer_limit k c next p place =
     let way : Way = record { key = message_key (turn_of_epoch k c p.epoch).stream p.index; next = state_of k c next } in
-    answer_within (fields_at k c p) (nat_lt KEPT_LIMIT (length (missing_of c next))) (length (missing_of c next)) way
+    answer_within (post_fields k c p) (nat_lt KEPT_LIMIT (length (missing_of c next))) (length (missing_of c next)) way
     (opens_at k c next p)
     (opened_by-key k c p way place.short refl)
 
@@ -59,7 +59,7 @@ answer_limit k c next p place =
 -- by a kept key, which leaves no more missing
 answer_late : (k : Mechanism) (c : Conversation) (v : View) (p : Position) → IsPlace c p → length (missing_of c v) ≤ KEPT_LIMIT
     → p.index ≤ reach_in c v p.epoch
-    → opened_by (fields_at k c p) (Ok (record { key = message_key (turn_of_epoch k c p.epoch).stream p.index; next = state_of k c (opened_here v p) }))
+    → opened_by (post_fields k c p) (Ok (record { key = message_key (turn_of_epoch k c p.epoch).stream p.index; next = state_of k c (opened_here v p) }))
     ≡ far_at k c (opened_here v p) p
 answer_late k c v p place near late =
     let next = opened_here v p in
@@ -75,9 +75,9 @@ answer_late k c v p place near late =
 answer_new : (k : Mechanism) (c : Conversation) (v : View) (p : Position) (latest : ℕ) → IsPlace c p
     → IsLatest v.side v.epoch latest → length (missing_of c v) ≤ KEPT_LIMIT
     → is_own v.side p.epoch ≡ false → p.epoch ≤ v.epoch → has_opened v p ≡ false
-    → opened_by (fields_at k c p) (known_way (state_of k c v) p (state_of k c v).receiving) ≡ far_at k c (opened_here v p) p
+    → opened_by (post_fields k c p) (known_way (state_of k c v) p (state_of k c v).receiving) ≡ far_at k c (opened_here v p) p
 answer_new k c v p latest place at near own known new =
-    let f = fields_at k c p in
+    let f = post_fields k c p in
     elim (cases_lt (reach_in c v p.epoch) p.index) as (λ _. opened_by f (known_way (state_of k c v) p (state_of k c v).receiving) ≡ far_at k c (opened_here v p) p) [
       | inl early ↦
           let low : v.epoch ≤ p.epoch + 1 = near_reach c v p.epoch p.index place.most early in
@@ -93,10 +93,10 @@ answer_new k c v p latest place at near own known new =
 -- opened before, or not
 answer_known : (k : Mechanism) (c : Conversation) (v : View) (p : Position) → IsPlace c p → length (missing_of c v) ≤ KEPT_LIMIT
     → is_own v.side p.epoch ≡ false → p.epoch ≤ v.epoch
-    → opened_by (fields_at k c p) (known_way (state_of k c v) p (state_of k c v).receiving)
+    → opened_by (post_fields k c p) (known_way (state_of k c v) p (state_of k c v).receiving)
     ≡ (if has_opened v p then Err (Spent p) else far_at k c (after_opening v p) p)
 answer_known k c v p place near own known =
-    let f = fields_at k c p in
+    let f = post_fields k c p in
     let ways = known_way (state_of k c v) p (state_of k c v).receiving in
     let found = latest_of v.side v.epoch p.epoch own known in
     elim (cases_Bool (has_opened v p)) as (λ _. opened_by f ways ≡ (if has_opened v p then Err (Spent p) else far_at k c (after_opening v p) p)) [
@@ -121,16 +121,16 @@ unopened_next c v i arrivals =
 -- what the side answers by the way
 abbrev AnswersOn : Mechanism → Conversation → View → Position → Result Way Refusal → Type 0
 AnswersOn k c v p ways =
-    opened_by (fields_at k c p) ways ≡ (if has_opened v p then Err (Spent p) else far_at k c (after_opening v p) p)
+    opened_by (post_fields k c p) ways ≡ (if has_opened v p then Err (Spent p) else far_at k c (after_opening v p) p)
 
 answer_next : (k : Mechanism) (c : Conversation) (v : View) (i : ℕ) → IsLawfulMechanism k → IsLawfulConversation k c
     → All (HasArrived c v) v.arrived → 1 ≤ i
     → v.epoch < length c.seeds → is_own v.side (v.epoch + 1) ≡ false → IsPlace c (position_at (v.epoch + 1) i)
-    → AnswersOn k c v (position_at (v.epoch + 1) i) (epoch_way k (state_of k c v) (fields_at k c (position_at (v.epoch + 1) i)) (state_of k c v).phase)
+    → AnswersOn k c v (position_at (v.epoch + 1) i) (epoch_way k (state_of k c v) (post_fields k c (position_at (v.epoch + 1) i)) (state_of k c v).phase)
 answer_next k c v i law lawful arrivals one begun peers place =
     let p = position_at (v.epoch + 1) i in
     let own : is_own v.side v.epoch ≡ true = not-false (is_own v.side v.epoch) (sym (own_next v.side v.epoch) ∙ peers) in
-    ap (opened_by (fields_at k c p)) (way_next k c v i (answers k c v.epoch law lawful begun) arrivals one own peers)
+    ap (opened_by (post_fields k c p)) (way_next k c v i (answers k c v.epoch law lawful begun) arrivals one own peers)
     ∙ answer_limit k c (opened_next v i) p place
     ∙ ap (λ next. far_at k c next p) (sym (after_opening-next v i))
     ∙ sym (cond-false (has_opened v p) (Err (Spent p)) (far_at k c (after_opening v p) p) (unopened_next c v i arrivals))
@@ -140,10 +140,10 @@ answer_next k c v i law lawful arrivals one begun peers place =
 -- a packet of the peer's
 answer_peers : (k : Mechanism) (c : Conversation) (side : Side) (v : View) (p : Position) → IsLawfulMechanism k
     → IsLawfulConversation k c → IsLawfulView k c side v → IsPlace c p
-    → is_own v.side p.epoch ≡ false → AnswersOn k c v p (way_of k (state_of k c v) (fields_at k c p))
+    → is_own v.side p.epoch ≡ false → AnswersOn k c v p (way_of k (state_of k c v) (post_fields k c p))
 answer_peers k c side v p law lawful view place peers =
     let s = state_of k c v in
-    let f = fields_at k c p in
+    let f = post_fields k c p in
     let near : p.epoch ≤ v.epoch + 1 = omega (arith, place.began, view.near_end) in
     let by_epoch = way_of-peers k s f refl peers near in
     elim (cases_eq p.epoch (v.epoch + 1)) as (λ _. AnswersOn k c v p (way_of k s f)) [
@@ -152,7 +152,7 @@ answer_peers k c side v p law lawful view place peers =
           ap (opened_by f) (by_epoch
           ∙ cond-true (nat_eq p.epoch (v.epoch + 1)) (epoch_way k s f s.phase) (known_way s p s.receiving)
           (eq-eqb p.epoch (v.epoch + 1) next))
-          ∙ subst (λ q. AnswersOn k c v q (epoch_way k s (fields_at k c q) s.phase)) same
+          ∙ subst (λ q. AnswersOn k c v q (epoch_way k s (post_fields k c q) s.phase)) same
           (answer_next k c v p.index law lawful view.arrivals place.one (omega (arith, place.began))
           (ap (is_own v.side) (sym next) ∙ peers) (subst (IsPlace c) (sym same) place))
       | inr other ↦
@@ -165,11 +165,11 @@ answer_peers k c side v p law lawful view place peers =
 -- an own packet, or one of the peer's
 pub received : (k : Mechanism) (c : Conversation) (side : Side) (v : View) (p : Position) → IsLawfulMechanism k
     → IsLawfulConversation k c → IsLawfulView k c side v → is_said c p ≡ true
-    → draft_receive k (state_of k c v) (fields_at k c p) ≡ received_in k c v p
+    → draft_receive k (state_of k c v) (post_fields k c p) ≡ received_in k c v p
 unfolding draft_receive
 received k c side v p law lawful view said =
     let s = state_of k c v in
-    let f = fields_at k c p in
+    let f = post_fields k c p in
     let place = is_place k c p lawful said in
     let others = if has_opened v p then Err (Spent p) else far_at k c (after_opening v p) p in
     elim (cases_Bool (is_own v.side p.epoch)) as (λ _. opened_by f (way_of k s f) ≡ received_in k c v p) [

@@ -8,7 +8,7 @@ use Rattle.std.proofs.lemmas.List.{length-map, get_or-map}
 use Rattle.std.proofs.lemmas.List.Elements.{All-head, All-tail, All-filter}
 use Rattle.std.proofs.lemmas.Slice.Eq.{bytes_eq-Decides}
 use Rattle.dr_base.specs.declared.limits.TheConstants.{TEXT_LIMIT, INDEX_LIMIT}
-use Rattle.bodies.specs.Bodies.{opened_body, sealed_of, text_body}
+use Rattle.bodies.specs.Bodies.{opened_body, sealed_body, text_body}
 use Rattle.cka.specs.Agreement.{agreement_size}
 use Rattle.dr_base.specs.Position.{is_own}
 use Rattle.dr_base.specs.declared.position.Position.{Position}
@@ -28,7 +28,7 @@ use Rattle.session_model.specs.Ways.{Way, epoch_way, known_way, position_of, way
 use Rattle.session_model.specs.declared.answer.Refusal.TheVariants.{OtherSession, OwnPacket, Ahead, BadTag}
 use Rattle.dr_model.specs.Conversations.Conversation.{Conversation, Said, is_said, count_of, previous_of, text_at, texts_of}
 use Rattle.dr_model.specs.Conversations.Lawful.{IsLawfulConversation}
-use Rattle.dr_model.specs.Conversations.Posts.{fields_at, format_at, post_at, turn_of_epoch, version_at}
+use Rattle.dr_model.specs.Conversations.Posts.{post_fields, epoch_format, post_at, turn_of_epoch, epoch_version}
 use Rattle.dr_model.proofs.Growth.Growing.{said_from, said_to}
 use Rattle.dr_model.proofs.Worlds.TurnSizes.{turn_sizes, length-session_of}
 
@@ -93,13 +93,13 @@ few_previous false n h = omega arith
 
 -- what is sealed
 abbrev sealed_at : Conversation → Position → List ℕ
-sealed_at c p = sealed_of (version_at c p.epoch) (text_body (text_at c p))
+sealed_at c p = sealed_body (epoch_version c p.epoch) (text_body (text_at c p))
 
 -- the fields are lawful
 pub IsLawful-fields : (k : Mechanism) (c : Conversation) (p : Position) → IsLawfulMechanism k → IsLawfulConversation k c
-    → IsPlace c p → IsLawful (agreement_size k) (fields_at k c p)
+    → IsPlace c p → IsLawful (agreement_size k) (post_fields k c p)
 IsLawful-fields k c p law lawful place = record {
-  version_is = known_version (format_at c p.epoch);
+  version_is = known_version (epoch_format c p.epoch);
   session_len = length-session_of c.key;
   epoch_fits = omega (arith, place.began, lawful.few_turns);
   previous_fits = few_previous (nat_le 2 p.epoch) (count_of c (p.epoch - 2)) (lawful.few (p.epoch - 2));
@@ -107,17 +107,17 @@ IsLawful-fields k c p law lawful place = record {
   index_from_one = place.one;
   index_fits = omega (arith, place.few);
   agreement_is = (turn_sizes k c p.epoch law lawful place.began).agreement_long;
-  text_fits = sealed_fits (format_at c p.epoch) (message_key (turn_of_epoch k c p.epoch).stream p.index) (text_at c p) place.short;
+  text_fits = sealed_fits (epoch_format c p.epoch) (message_key (turn_of_epoch k c p.epoch).stream p.index) (text_at c p) place.short;
   tag_len = length-tag_of _ _ _;
 }
 
 -- its bytes are read to them
 pub read-post : (k : Mechanism) (c : Conversation) (p : Position) → IsLawfulMechanism k → IsLawfulConversation k c
     → IsPlace c p
-    → read_packet (agreement_size k) (post_at k c p).packet ≡ Ok (fields_at k c p)
+    → read_packet (agreement_size k) (post_at k c p).packet ≡ Ok (post_fields k c p)
 unfolding posted
 read-post k c p law lawful place =
-    printed_is_read (agreement_size k) (fields_at k c p) (omega (arith, law.public_fits, law.ciphertext_fits))
+    printed_is_read (agreement_size k) (post_fields k c p) (omega (arith, law.public_fits, law.ciphertext_fits))
     (IsLawful-fields k c p law lawful place)
 
 -- ---- the way to the key
@@ -152,21 +152,21 @@ way_of-peers k s f session own near =
 -- the tag covers the length of what is sealed, which is that of the ciphertext
 tag-fields : (k : Mechanism) (c : Conversation) (p : Position) (key : List ℕ)
     → key ≡ message_key (turn_of_epoch k c p.epoch).stream p.index
-    → (fields_at k c p).tag ≡ tag_of key (ad_of (fields_at k c p)) (fields_at k c p).ciphertext
+    → (post_fields k c p).tag ≡ tag_of key (ad_of (post_fields k c p)) (post_fields k c p).ciphertext
 tag-fields k c p key same =
     let own_key = message_key (turn_of_epoch k c p.epoch).stream p.index in
     ap (λ n. tag_of own_key
-    (header_of (version_at c p.epoch) (session_of c.key) p.epoch (previous_of c p.epoch) p.index (turn_of_epoch k c p.epoch).agreement n)
+    (header_of (epoch_version c p.epoch) (session_of c.key) p.epoch (previous_of c p.epoch) p.index (turn_of_epoch k c p.epoch).agreement n)
     (ciphertext_of own_key (sealed_at c p)))
     (sym (length-ciphertext_of own_key (sealed_at c p)))
-    ∙ ap (λ key. tag_of key (ad_of (fields_at k c p)) (fields_at k c p).ciphertext) (sym same)
+    ∙ ap (λ key. tag_of key (ad_of (post_fields k c p)) (post_fields k c p).ciphertext) (sym same)
 
 -- its key opens it to the text that was said
 pub opened_by-key : (k : Mechanism) (c : Conversation) (p : Position) (way : Way) → length (text_at c p) ≤ TEXT_LIMIT
     → way.key ≡ message_key (turn_of_epoch k c p.epoch).stream p.index
-    → opened_by (fields_at k c p) (Ok way) ≡ Ok (record { position = p; text = text_at c p; next = way.next })
+    → opened_by (post_fields k c p) (Ok way) ≡ Ok (record { position = p; text = text_at c p; next = way.next })
 opened_by-key k c p way short same =
-    let f = fields_at k c p in
+    let f = post_fields k c p in
     let tag = tag_of way.key (ad_of f) f.ciphertext in
     let tagged : pointwise nat_eq f.tag tag ≡ true = ap (λ t. pointwise nat_eq f.tag t) (sym (tag-fields k c p way.key same))
     ∙ same_bytes f.tag in
@@ -174,4 +174,4 @@ opened_by-key k c p way short same =
     ∙ ap (λ bytes. opened_as f way (opened_body f.version bytes))
     (ap (λ key. ciphertext_of key f.ciphertext) same
     ∙ ciphertext_of-ciphertext_of (message_key (turn_of_epoch k c p.epoch).stream p.index) (sealed_at c p))
-    ∙ ap (opened_as f way) (opened_sealed (format_at c p.epoch) (text_at c p) short)
+    ∙ ap (opened_as f way) (opened_sealed (epoch_format c p.epoch) (text_at c p) short)

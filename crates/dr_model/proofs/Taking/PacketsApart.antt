@@ -22,7 +22,7 @@ use Rattle.session_model.proofs.Sealed.{known_version}
 use Rattle.session_model.specs.Sealing.{posted}
 use Rattle.dr_model.specs.Conversations.Conversation.{Conversation, is_said, positions}
 use Rattle.dr_model.specs.Conversations.Lawful.{IsLawfulConversation}
-use Rattle.dr_model.specs.Conversations.Posts.{fields_at, format_at, post_at, posts}
+use Rattle.dr_model.specs.Conversations.Posts.{post_fields, epoch_format, post_at, posts}
 use Rattle.dr_model.specs.Machines.Events.{does, of_bytes, of_number, of_position, takes}
 use Rattle.dr_model.specs.Machines.Steps.{settled}
 use Rattle.dr_model.specs.Machines.Worlds.{World, made_at, nth_of_peer, said_at, step_of, taking_at, taking_made}
@@ -89,7 +89,7 @@ unfolding posted
 apart k c p q lawful said_p said_q same =
     let place_p = is_place k c p lawful said_p in
     let place_q = is_place k c q lawful said_q in
-    let at = same_position (fields_at k c q) (fields_at k c p) (known_version (format_at c q.epoch)) (known_version (format_at c p.epoch)) refl
+    let at = same_position (post_fields k c q) (post_fields k c p) (known_version (epoch_format c q.epoch)) (known_version (epoch_format c p.epoch)) refl
     (omega (arith, place_q.began, lawful.few_turns)) (omega (arith, place_p.began, lawful.few_turns))
     (omega (arith, place_q.few)) (omega (arith, place_p.few)) same in
     let make : ℕ → ℕ → Position = λ e i. record { epoch = e; index = i } in

@@ -1,23 +1,18 @@
 -- What becomes of a call in a world, by its kind: a text, the packet of a position, bytes, or items that leave a box.
-use Rattle.std.proofs.Common.{Bool, List, None, Option, Some, [], arith, false, if◌then◌else◌, length, nat_le, not, refl, suc, true, zero, ℕ, ◌+◌, ◌-◌, ◌∷◌, ◌≡◌, ◌≤◌}
+use Rattle.std.proofs.Common.{Bool, List, None, Option, Some, [], false, if◌then◌else◌, length, nat_le, not, refl, suc, true, zero, ℕ, ◌-◌, ◌∷◌, ◌≡◌}
 use Rattle.std.specs.Prelude.{All, IfSome, filter, slice_get}
-use Rattle.std.proofs.lemmas.Bool.Decides.{nat_tests}
 use Rattle.std.proofs.lemmas.List.Elements.{All-filter, All-head, All-tail}
 use Rattle.dr_base.specs.Position.{is_own}
 use Rattle.dr_base.specs.declared.position.Position.{Position}
 use Rattle.dr_base.specs.declared.position.Side.{Side}
 use Rattle.kem_laws.specs.Mechanism.{Mechanism}
-use Rattle.session_model.specs.declared.answer.Answer.{Answer}
-use Rattle.session_model.specs.declared.answer.Answer.TheVariants.{Done, Refused, Sent}
-use Rattle.session_model.specs.declared.answer.Refusal.{Refusal}
+use Rattle.session_model.specs.declared.answer.Items.{Items}
 use Rattle.dr_model.specs.Conversations.Conversation.{Conversation, is_said, positions}
-use Rattle.dr_model.specs.Conversations.Posts.{posts, posts_of}
-use Rattle.dr_model.specs.Conversations.Views.{View}
-use Rattle.dr_model.specs.Machines.Events.{PacketSource, SideCall, drops_done, drops_sent, of_bytes, of_flip, of_number, of_position, says, takes}
+use Rattle.dr_model.specs.Conversations.Posts.{posts}
+use Rattle.dr_model.specs.Machines.Events.{PacketSource, SideCall, drops, of_bytes, of_flip, of_number, of_position, says, takes}
 use Rattle.dr_model.specs.Machines.Network.{flipped_at}
 use Rattle.dr_model.specs.Machines.Steps.{Step, amount_of, settled}
-use Rattle.dr_model.specs.Machines.Worlds.{World, called_in, inbox_in, leaving_in, may_say, nth_of_peer, outbox_in, said_at, saying_in, taking_at, taking_given, taking_of, view_of}
-use Rattle.dr_model.proofs.Growth.BoxSizes.{length-inbox_of, length-outbox_of}
+use Rattle.dr_model.specs.Machines.Worlds.{World, called_in, dropping_in, may_say, nth_of_peer, said_at, saying_in, standing_in, taking_at, taking_given, taking_of}
 use Rattle.dr_model.proofs.Growth.Growing.{positions-said}
 
 -- ---- a position that the network gives was said
@@ -44,44 +39,6 @@ nth_said c side n =
     (some_of (λ p. is_said c p ≡ true) (filter (λ p. not (is_own side p.epoch)) (positions c)) (n - 1)
     (All-filter (λ p. not (is_own side p.epoch)) (λ p. is_said c p ≡ true) (positions c) (positions-said c)))
 
--- ---- items that leave a box
-
--- Items leave a box of the view, in which so many stand: their number, the answer, which is no refusal, and how many have left
--- each of its boxes then.
-pub record IsLeaving (k : Mechanism) (c : Conversation) (v : View) (standing n : ℕ) (answer : Answer) (done dropped : ℕ)
-    : Type 0 where
-  pub answered : (refusal : Refusal) → answer ≡ Refused refusal → ⊥
-  pub more_done : v.done ≤ done
-  pub more_dropped : v.dropped ≤ dropped
-  pub done_fits : nat_le n standing ≡ true → v.done ≤ length v.arrived → done ≤ length v.arrived
-  pub dropped_fits : nat_le n standing ≡ true → v.dropped ≤ length (posts_of k c v.side)
-      → dropped ≤ length (posts_of k c v.side)
-
--- no more leave than stand there
-within : (n length gone all : ℕ) → length ≡ all - gone → gone ≤ all → nat_le n length ≡ true → gone + n ≤ all
-within n length gone all e le h = grind (arith, nat_tests)
-
-packets_leave : (k : Mechanism) (c : Conversation) (v : View) (standing n : ℕ)
-    → standing ≡ length (posts_of k c v.side) - v.dropped
-    → IsLeaving k c v standing n (Sent n) v.done (v.dropped + n)
-packets_leave k c v standing n is = record {
-  answered = λ refusal e. cc;
-  more_done = omega arith;
-  more_dropped = omega arith;
-  done_fits = λ enough fits. fits;
-  dropped_fits = λ enough fits. within n standing v.dropped (length (posts_of k c v.side)) is fits enough;
-}
-
-texts_leave : (k : Mechanism) (c : Conversation) (v : View) (standing n : ℕ) → standing ≡ length v.arrived - v.done
-    → IsLeaving k c v standing n (Done n) (v.done + n) v.dropped
-texts_leave k c v standing n is = record {
-  answered = λ refusal e. cc;
-  more_done = omega arith;
-  more_dropped = omega arith;
-  done_fits = λ enough fits. within n standing v.done (length v.arrived) is fits enough;
-  dropped_fits = λ enough fits. fits;
-}
-
 -- ---- any call
 
 module _ (k : Mechanism) (w : World) (side : Side) (P : Step World → Type 0) where
@@ -90,9 +47,7 @@ module _ (k : Mechanism) (w : World) (side : Side) (P : Step World → Type 0) w
     pub text : (text : List ℕ) → P (saying_in k w side text (may_say k w side (length text)))
     pub packet : (at : Option Position) → IfSome at (λ p. is_said w.conversation p ≡ true) → P (taking_at w side at)
     pub bytes : (given : Option (List ℕ)) → P (taking_given k w side given)
-    pub items : (standing n : ℕ) (answer : Answer) (done dropped : ℕ)
-        → IsLeaving k w.conversation (view_of w side) standing n answer done dropped
-        → P (settled w (leaving_in w side standing n answer (record (view_of w side) { done = done; dropped = dropped })))
+    pub drop : (items : Items) (n : ℕ) → P (settled w (dropping_in k w side items n))
 
   of_source : HoldsOfKinds → (source : PacketSource) → P (taking_of k w side source)
   of_source holds (of_position p) =
@@ -105,15 +60,4 @@ module _ (k : Mechanism) (w : World) (side : Side) (P : Step World → Type 0) w
   pub of_call : HoldsOfKinds → (call : SideCall) → P (called_in k w side call)
   of_call holds (says text) = holds.text text
   of_call holds (takes source) = of_source holds source
-  of_call holds (drops_sent amount) =
-      let v = view_of w side in
-      let standing = length (outbox_in k w side) in
-      let n = amount_of amount standing in
-      holds.items standing n (Sent n) v.done (v.dropped + n)
-      (packets_leave k w.conversation v standing n (length-outbox_of k w.conversation v))
-  of_call holds (drops_done amount) =
-      let v = view_of w side in
-      let standing = length (inbox_in w side) in
-      let n = amount_of amount standing in
-      holds.items standing n (Done n) (v.done + n) v.dropped
-      (texts_leave k w.conversation v standing n (length-inbox_of w.conversation v))
+  of_call holds (drops items amount) = holds.drop items (amount_of amount (standing_in k w side items))

@@ -1,30 +1,29 @@
 -- Each event of a world on both sides: they answer as the machine does, and keep what stands after it.
-use Rattle.std.proofs.Common.{◌≡◌, ℕ, ◌+◌, Bool, true, false, nat_le, List, [], length, drop, map, Option, Some, None, Ok, Err, refl, sym, ◌∙◌, ap, ap₂, zero, suc, ◌++◌, if◌then◌else◌}
+use Rattle.std.proofs.Common.{◌≡◌, ℕ, ◌+◌, Bool, true, false, nat_le, List, [], length, map, Option, Some, None, Ok, Err, refl, sym, ◌∙◌, ap, ap₂, zero, suc, ◌++◌, if◌then◌else◌}
 use Rattle.std.specs.Prelude.{IfSome, option_map}
 use Rattle.std.proofs.lemmas.List.{drop-drop, length-map}
-use Rattle.boxes.specs.Entries.{Entry}
-use Rattle.boxes.specs.Posts.{Post}
 use Rattle.dr_base.specs.Position.{is_own}
 use Rattle.dr_base.specs.declared.position.Position.{Position}
 use Rattle.dr_base.specs.declared.position.Side.{Side}
 use Rattle.dr_base.specs.declared.position.Side.TheVariants.{First, Second}
 use Rattle.kem_laws.specs.Mechanism.{Mechanism, IsLawfulMechanism}
-use Rattle.session_model.specs.Clients.{Client, dropped_of}
-use Rattle.session_model.specs.States.{State}
-use Rattle.session_model.specs.declared.answer.Answer.{Answer}
-use Rattle.session_model.specs.declared.answer.Answer.TheVariants.{Sent, Done, State as InNumbers}
+use Rattle.session_model.specs.Clients.{Client}
+use Rattle.session_model.specs.declared.answer.Amount.{Amount}
+use Rattle.session_model.specs.declared.answer.Answer.TheVariants.{Dropped, State as InNumbers}
+use Rattle.session_model.specs.declared.answer.Items.{Items}
+use Rattle.session_model.specs.declared.answer.Items.TheVariants.{Packets, Texts}
 use Rattle.session_model.specs.declared.answer.Refusal.TheVariants.{Fewer}
 use Rattle.dr_model.specs.Conversations.Conversation.{Conversation, is_said}
 use Rattle.dr_model.specs.Conversations.Posts.{post_at, posts, posts_of, key_of}
-use Rattle.dr_model.specs.Conversations.ViewStates.{state_of}
-use Rattle.dr_model.specs.Conversations.Views.{View, history_of, missing_below, missing_in, missing_of}
-use Rattle.dr_model.specs.Machines.Acts.{finishing, leaving_by, sending}
-use Rattle.dr_model.specs.Machines.Events.{Event, PacketSource, SideCall, cuts, does, drops_done, drops_sent, of_bytes, of_flip, of_number, of_position, says, seeds, shows_inbox, shows_state, takes}
+use Rattle.dr_model.specs.Conversations.ViewStates.{client_at, state_of}
+use Rattle.dr_model.specs.Conversations.Views.{View, after_drop, history_of, inbox_of, missing_below, missing_in, missing_of, outbox_of, standing_of}
+use Rattle.dr_model.specs.Machines.Acts.{dropped_client, standing_with}
+use Rattle.dr_model.specs.Machines.Events.{Event, PacketSource, SideCall, cuts, does, drops, of_bytes, of_flip, of_number, of_position, says, seeds, shows_inbox, shows_state, takes}
 use Rattle.dr_model.specs.Machines.Network.{flipped_at, packet_given}
-use Rattle.dr_model.specs.Machines.Sides.{Sides, acted_on, called_on, settled_on, step_on, with_client}
-use Rattle.dr_model.specs.Machines.Steps.{Step, step, settled, amount_of, cut_step}
+use Rattle.dr_model.specs.Machines.Sides.{Sides, called_on, settled_on, step_on, with_client}
+use Rattle.dr_model.specs.Machines.Steps.{Step, step, settled, amount_of, cut_step, leaving}
 use Rattle.dr_model.specs.Machines.WorldSides.{sides_of}
-use Rattle.dr_model.specs.Machines.Worlds.{World, called_in, done_in, inbox_in, leaving_in, nth_of_peer, outbox_in, said_at, sent_in, step_of, taking_at, taking_given, taking_of, view_of, with_view}
+use Rattle.dr_model.specs.Machines.Worlds.{World, called_in, inbox_in, nth_of_peer, outbox_in, said_at, step_of, taking_at, taking_given, taking_of, view_of, with_view}
 use Rattle.dr_model.specs.Theorems.Fairness.{IsFair, IsUnforged, IsUnforgedCall, IsUnforgedSource}
 use Rattle.dr_model.specs.Theorems.LawfulWorlds.{IsLawfulWorld}
 use Rattle.dr_model.proofs.Saying.SayingFollows.{says_follows}
@@ -34,6 +33,7 @@ use Rattle.dr_model.proofs.Taking.NetworkPosts.{held_at-posts, held_nth-posts}
 use Rattle.dr_model.proofs.Worlds.CallKinds.{nth_said, where_said}
 use Rattle.dr_model.proofs.Worlds.CutSteps.{cut_seen}
 use Rattle.dr_model.proofs.Worlds.SeenWorlds.{seen_world}
+use Rattle.dr_model.proofs.Worlds.WorldViews.{client_of-kept}
 
 -- the packet of a position that was said, or none
 position_follows : (k : Mechanism) (w : World) (side : Side) (at : Option Position) → IsLawfulMechanism k
@@ -64,52 +64,56 @@ state_of-boxes k c v done dropped =
     ap (λ missing. record (state_of k c v) { kept = map (key_of k c) missing })
     (missing_below-boxes c v done dropped (v.epoch + 1))
 
--- the oldest items leave a box
-leaving_follows : {A : Type 0} (k : Mechanism) (w : World) (side : Side) (n : ℕ) (answer : Answer)
-    (kept_with : List A → Client) (items : List A) (after : View)
-    → with_client (sides_of k w) side (kept_with (drop n items)) ≡ sides_of k (with_view w side after)
-    → settled_on (sides_of k w) side (leaving_by answer kept_with (dropped_of n items))
-    ≡ seen_world k (settled w (leaving_in w side (length items) n answer after))
-leaving_follows k w side n answer kept_with items after same = by_test (nat_le n (length items))
+-- so many of a box leave it: as many stand, and what is left is kept
+same_standing : (k : Mechanism) (c : Conversation) (v : View) (items : Items)
+    → standing_with (client_at k c v) items ≡ standing_of k c v items
+same_standing k c v Texts = refl
+same_standing k c v Packets = refl
+
+same_dropped : (k : Mechanism) (c : Conversation) (v : View) (items : Items) (n : ℕ)
+    → dropped_client (client_at k c v) items n ≡ client_at k c (after_drop v items n)
+same_dropped k c v Texts n =
+    ap₂ (λ state inbox. let client : Client = record { state = state; inbox = inbox; outbox = outbox_of k c v } in client)
+    (sym (state_of-boxes k c v (v.done + n) v.dropped)) (drop-drop n v.done (history_of c v))
+same_dropped k c v Packets n =
+    ap₂ (λ state outbox. let client : Client = record { state = state; inbox = inbox_of c v; outbox = outbox } in client)
+    (sym (state_of-boxes k c v v.done (v.dropped + n))) (drop-drop n v.dropped (posts_of k c v.side))
+
+with_seen : (k : Mechanism) (w : World) (side : Side) (v : View)
+    → with_client (sides_of k w) side (client_at k w.conversation v) ≡ sides_of k (with_view w side v)
+with_seen k w First v = refl
+with_seen k w Second v = refl
+
+left_follows : (k : Mechanism) (w : World) (side : Side) (items : Items) (n standing : ℕ) (after : View)
+    → settled_on (sides_of k w) side (leaving items n standing (client_at k w.conversation after))
+    ≡ seen_world k (settled w (leaving items n standing (with_view w side after)))
+left_follows k w side items n standing after = by_test (nat_le n standing)
   where
     by_test : (enough : Bool)
         → settled_on (sides_of k w) side
-        (leaving_by answer kept_with (if enough then Ok (drop n items) else Err (Fewer (length items))))
+        (if enough then Ok (step (Dropped items n) (client_at k w.conversation after)) else Err (Fewer standing))
         ≡ seen_world k (settled w
-        (if enough then Ok (step answer (with_view w side after)) else Err (Fewer (length items))))
-    by_test true = ap (λ (next : Sides). step answer next) same
+        (if enough then Ok (step (Dropped items n) (with_view w side after)) else Err (Fewer standing)))
+    by_test true = ap (λ (next : Sides). step (Dropped items n) next) (with_seen k w side after)
     by_test false = refl
 
--- the boxes that a side then keeps
-abbrev with_boxes : Mechanism → World → Side → State → List Entry → List Post → Sides
-with_boxes k w side state inbox outbox =
-    with_client (sides_of k w) side (record { state = state; inbox = inbox; outbox = outbox })
-
-sent_follows : (k : Mechanism) (w : World) (side : Side) (n : ℕ)
-    → acted_on k (sides_of k w) side (Some (sending n)) ≡ seen_world k (settled w (sent_in k w side n))
-sent_follows k w First n =
-    leaving_follows k w First n (Sent n) _ (outbox_in k w First) _
-    (ap₂ (λ state outbox. with_boxes k w First state (inbox_in w First) outbox)
-    (sym (state_of-boxes k w.conversation w.first w.first.done (w.first.dropped + n)))
-    (drop-drop n w.first.dropped (posts_of k w.conversation w.first.side)))
-sent_follows k w Second n =
-    leaving_follows k w Second n (Sent n) _ (outbox_in k w Second) _
-    (ap₂ (λ state outbox. with_boxes k w Second state (inbox_in w Second) outbox)
-    (sym (state_of-boxes k w.conversation w.second w.second.done (w.second.dropped + n)))
-    (drop-drop n w.second.dropped (posts_of k w.conversation w.second.side)))
-
-done_follows : (k : Mechanism) (w : World) (side : Side) (n : ℕ)
-    → acted_on k (sides_of k w) side (Some (finishing n)) ≡ seen_world k (settled w (done_in w side n))
-done_follows k w First n =
-    leaving_follows k w First n (Done n) _ (inbox_in w First) _
-    (ap₂ (λ state inbox. with_boxes k w First state inbox (outbox_in k w First))
-    (sym (state_of-boxes k w.conversation w.first (w.first.done + n) w.first.dropped))
-    (drop-drop n w.first.done (history_of w.conversation w.first)))
-done_follows k w Second n =
-    leaving_follows k w Second n (Done n) _ (inbox_in w Second) _
-    (ap₂ (λ state inbox. with_boxes k w Second state inbox (outbox_in k w Second))
-    (sym (state_of-boxes k w.conversation w.second (w.second.done + n) w.second.dropped))
-    (drop-drop n w.second.done (history_of w.conversation w.second)))
+drop_follows : (k : Mechanism) (w : World) (side : Side) (items : Items) (amount : Amount)
+    → called_on k (sides_of k w) side (drops items amount) ≡ seen_world k (called_in k w side (drops items amount))
+drop_follows k w side items amount =
+    let c = w.conversation in
+    let v = view_of w side in
+    let n = amount_of amount (standing_of k c v items) in
+    ap (λ (client : Client).
+    let n = amount_of amount (standing_with client items) in
+    settled_on (sides_of k w) side (leaving items n (standing_with client items) (dropped_client client items n)))
+    (client_of-kept k w side)
+    ∙ ap (λ standing.
+    let n = amount_of amount standing in
+    settled_on (sides_of k w) side (leaving items n standing (dropped_client (client_at k c v) items n)))
+    (same_standing k c v items)
+    ∙ ap (λ (next : Client). settled_on (sides_of k w) side (leaving items n (standing_of k c v items) next))
+    (same_dropped k c v items n)
+    ∙ left_follows k w side items n (standing_of k c v items) (after_drop v items n)
 
 -- each packet
 source_follows : (k : Mechanism) (w : World) (side : Side) (source : PacketSource) → IsLawfulMechanism k → IsLawfulWorld k w
@@ -132,14 +136,7 @@ called_follows : (k : Mechanism) (w : World) (side : Side) (call : SideCall) →
     → IsUnforgedCall k w side call → called_on k (sides_of k w) side call ≡ seen_world k (called_in k w side call)
 called_follows k w side (says text) law lawful unforged = says_follows k w side text law lawful
 called_follows k w side (takes source) law lawful unforged = source_follows k w side source law lawful unforged
-called_follows k w First (drops_sent amount) law lawful unforged =
-    sent_follows k w First (amount_of amount (length (outbox_in k w First)))
-called_follows k w Second (drops_sent amount) law lawful unforged =
-    sent_follows k w Second (amount_of amount (length (outbox_in k w Second)))
-called_follows k w First (drops_done amount) law lawful unforged =
-    done_follows k w First (amount_of amount (length (inbox_in w First)))
-called_follows k w Second (drops_done amount) law lawful unforged =
-    done_follows k w Second (amount_of amount (length (inbox_in w Second)))
+called_follows k w side (drops items amount) law lawful unforged = drop_follows k w side items amount
 
 -- what a side holds, with this many missing
 abbrev in_numbers : Mechanism → World → Side → ℕ → Step Sides

@@ -1,27 +1,29 @@
 -- Worlds stay lawful, event by event.
-use Rattle.std.proofs.Common.{Bool, Err, List, None, Ok, Option, Some, [], ap, arith, false, if◌then◌else◌, length, nat_le, refl, subst, sym, true, ℕ, ◌+◌, ◌∷◌, ◌≡◌, ◌≤◌}
+use Rattle.std.proofs.Common.{Bool, Err, List, None, Ok, Option, Some, [], ap, arith, false, if◌then◌else◌, length, nat_le, refl, true, ℕ, ◌+◌, ◌-◌, ◌∙◌, ◌∷◌, ◌≡◌, ◌≤◌}
 use Rattle.std.specs.Prelude.{All, IfSome}
 use Rattle.std.proofs.lemmas.List.Elements.{All-head, All-tail, All-weaker}
 use Rattle.dr_base.specs.declared.position.Position.{Position}
 use Rattle.dr_base.specs.declared.position.Side.{Side}
 use Rattle.kem_laws.specs.Mechanism.{Mechanism}
-use Rattle.session_model.specs.declared.answer.Answer.{Answer}
+use Rattle.session_model.specs.declared.answer.Answer.TheVariants.{Dropped}
+use Rattle.session_model.specs.declared.answer.Items.{Items}
+use Rattle.session_model.specs.declared.answer.Items.TheVariants.{Packets, Texts}
 use Rattle.session_model.specs.declared.answer.Refusal.{Refusal}
 use Rattle.session_model.specs.declared.answer.Refusal.TheVariants.{Fewer}
 use Rattle.dr_model.specs.Conversations.Conversation.{Conversation, is_said}
 use Rattle.dr_model.specs.Conversations.Lawful.{HasArrived, IsLawfulView}
 use Rattle.dr_model.specs.Conversations.Posts.{posts_of}
-use Rattle.dr_model.specs.Conversations.Views.{View}
+use Rattle.dr_model.specs.Conversations.Views.{View, after_drop, inbox_of, outbox_of, standing_of}
 use Rattle.dr_model.specs.Machines.Events.{Event, cuts, does, seeds, shows_inbox, shows_state}
 use Rattle.dr_model.specs.Machines.Steps.{Step, step, settled}
-use Rattle.dr_model.specs.Machines.Worlds.{World, leaving_in, made_at, run_of, step_of, taking_at, taking_given, taking_made, view_of, with_view}
+use Rattle.dr_model.specs.Machines.Worlds.{World, dropping_in, made_at, run_of, standing_in, step_of, taking_at, taking_given, taking_made, view_of, with_view}
 use Rattle.dr_model.specs.Theorems.Fairness.{IsSeedWhole}
 use Rattle.dr_model.specs.Theorems.LawfulWorlds.{IsLawfulWorld}
-use Rattle.dr_model.proofs.Growth.BoxSizes.{length-inbox_of, length-outbox_of}
+use Rattle.dr_model.proofs.Growth.BoxSizes.{length-inbox_of, length-outbox_of, within}
 use Rattle.dr_model.proofs.Saying.SayingLawful.{lawful_says}
 use Rattle.dr_model.proofs.Taking.ArrivingLawful.{lawful_taking, with_lawful}
 use Rattle.dr_model.proofs.Taking.MadePositions.{made_at-is}
-use Rattle.dr_model.proofs.Worlds.CallKinds.{IsLeaving, of_call}
+use Rattle.dr_model.proofs.Worlds.CallKinds.{of_call}
 use Rattle.dr_model.proofs.Worlds.CutSteps.{cut_off}
 use Rattle.dr_model.proofs.Worlds.Following.{missing_below-boxes}
 use Rattle.dr_model.proofs.Worlds.WorldViews.{view_lawful}
@@ -72,22 +74,28 @@ leave_lawful : (k : Mechanism) (w : World) (enough : Bool) (refusal : Refusal) (
 leave_lawful k w true refusal next lawful h = h refl
 leave_lawful k w false refusal next lawful h = lawful
 
--- items leave a box
-lawful_left : (k : Mechanism) (w : World) (side : Side) (standing n : ℕ) (answer : Answer) (done dropped : ℕ)
-    → IsLawfulWorld k w → IsLeaving k w.conversation (view_of w side) standing n answer done dropped
-    → IsLawfulWorld k
-    (settled w (leaving_in w side standing n answer (record (view_of w side) { done = done; dropped = dropped }))).next
-lawful_left k w side standing n answer done dropped lawful leaving =
-    let c = w.conversation in
+-- so many of a box leave it
+lawful_drop : (k : Mechanism) (c : Conversation) (side : Side) (v : View) (items : Items) (n : ℕ) → IsLawfulView k c side v
+    → nat_le n (standing_of k c v items) ≡ true → IsLawfulView k c side (after_drop v items n)
+lawful_drop k c side v Texts n lawful enough =
+    lawful_boxes k c side v (v.done + n) v.dropped lawful (omega arith) (omega arith)
+    (within n (length (inbox_of c v)) v.done (length v.arrived) (length-inbox_of c v) lawful.done_fits enough)
+    lawful.dropped_fits
+lawful_drop k c side v Packets n lawful enough =
+    lawful_boxes k c side v v.done (v.dropped + n) lawful (omega arith) (omega arith) lawful.done_fits
+    (within n (length (outbox_of k c v)) v.dropped (length (posts_of k c side))
+    (length-outbox_of k c v ∙ ap (λ s. length (posts_of k c s) - v.dropped) lawful.side_is)
+    lawful.dropped_fits enough)
+
+lawful_left : (k : Mechanism) (w : World) (side : Side) (items : Items) (n : ℕ) → IsLawfulWorld k w
+    → IsLawfulWorld k (settled w (dropping_in k w side items n)).next
+lawful_left k w side items n lawful =
     let v = view_of w side in
-    let after = record v { done = done; dropped = dropped } in
-    let view = view_lawful k w side lawful in
-    leave_lawful k w (nat_le n standing) (Fewer standing) (step answer (with_view w side after)) lawful
+    let after = after_drop v items n in
+    let standing = standing_in k w side items in
+    leave_lawful k w (nat_le n standing) (Fewer standing) (step (Dropped items n) (with_view w side after)) lawful
     (λ enough. with_lawful k w side after lawful
-    (lawful_boxes k c side v done dropped view leaving.more_done leaving.more_dropped
-    (leaving.done_fits enough view.done_fits)
-    (subst (λ s. dropped ≤ length (posts_of k c s)) view.side_is (leaving.dropped_fits enough
-    (subst (λ s. v.dropped ≤ length (posts_of k c s)) (sym view.side_is) view.dropped_fits)))))
+    (lawful_drop k w.conversation side v items n (view_lawful k w side lawful) enough))
 
 -- any event
 pub lawful_next : (k : Mechanism) (w : World) (h : Event) → IsLawfulWorld k w → IsSeedWhole h
@@ -99,7 +107,7 @@ lawful_next k w (does side call) lawful whole =
       text = λ text. lawful_says k w side text lawful;
       packet = λ at said. lawful_at k w side at lawful said;
       bytes = λ given. lawful_given k w side given lawful;
-      items = λ standing n answer done dropped leaving. lawful_left k w side standing n answer done dropped lawful leaving;
+      drop = λ items n. lawful_left k w side items n lawful;
     }) call
 lawful_next k w (shows_inbox side) lawful whole = lawful
 lawful_next k w (shows_state side) lawful whole = lawful

@@ -12,7 +12,7 @@ use Rattle.session_model.specs.States.{opening_state}
 use Rattle.session_model.specs.Turns.{turn_at}
 use Rattle.dr_model.specs.Conversations.Conversation.{Said, opening_conversation, positions_after}
 use Rattle.dr_model.specs.Conversations.Indices.{missing_to, reach}
-use Rattle.dr_model.specs.Conversations.Formats.{Formats, format_of}
+use Rattle.dr_model.specs.Conversations.Formats.{Formats, side_format}
 use Rattle.dr_model.specs.Conversations.Lawful.{IsSeed, IsLawfulConversation, HasArrived, IsLawfulView}
 use Rattle.dr_model.specs.Conversations.ViewStates.{client_at}
 use Rattle.dr_model.specs.Conversations.Views.{opening_view, missing_below, missing_of, outbox_of}
@@ -74,7 +74,7 @@ lawful_opening k key formats some = record {
 -- what a client keeps there
 pub opening_client : (k : Mechanism) (key : List ℕ) (formats : Formats) (side : Side)
     → client_at k (opening_conversation key formats) (opening_view side)
-    ≡ record { state = opening_state k key side (format_of formats side); inbox = []; outbox = [] }
+    ≡ record { state = opening_state k key side (side_format formats side); inbox = []; outbox = [] }
 unfolding missing_below missing_to reach turn_at chain_of positions_after
 opening_client k key formats First = refl
 opening_client k key formats Second = refl

@@ -22,7 +22,7 @@ use Rattle.session_model.specs.Turns.{Turn}
 use Rattle.dr_model.specs.Conversations.Conversation.{Conversation, count_of}
 use Rattle.dr_model.specs.Conversations.Lawful.{IsLawfulConversation, IsLawfulView}
 use Rattle.dr_model.specs.Conversations.Posts.{key_of, pair_seed, turn_of_epoch}
-use Rattle.dr_model.specs.Conversations.ViewStates.{reception_of, state_of}
+use Rattle.dr_model.specs.Conversations.ViewStates.{view_reception, state_of}
 use Rattle.dr_model.specs.Conversations.Views.{View, reach_in, missing_in, missing_below, missing_of}
 use Rattle.dr_model.specs.Machines.Worlds.{World, view_of}
 use Rattle.dr_model.specs.Theorems.LawfulWorlds.{IsLawfulWorld}
@@ -149,7 +149,7 @@ kept-none k c v is =
 lawful_reception : (k : Mechanism) (c : Conversation) (side : Side) (v : View) (o : Option ℕ) → IsLawfulMechanism k
     → IsLawfulConversation k c → IsLawfulView k c side v
     → receiving_epoch v.side v.epoch ≡ o
-    → IsLawfulReception (map (key_of k c) (missing_of c v)) (option_map (reception_of k c v) o) o
+    → IsLawfulReception (map (key_of k c) (missing_of c v)) (option_map (view_reception k c v) o) o
 lawful_reception k c side v None law world lawful is = kept-none k c v is
 lawful_reception k c side v (Some t) law world lawful is =
     let latest = latest-reached v.side v.epoch t is in

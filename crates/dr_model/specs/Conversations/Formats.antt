@@ -7,9 +7,9 @@ pub record Formats : Type 0 where
   pub first : Format
   pub second : Format
 
-abbrev pub format_of : Formats → Side → Format
-format_of formats First = formats.first
-format_of formats Second = formats.second
+abbrev pub side_format : Formats → Side → Format
+side_format formats First = formats.first
+side_format formats Second = formats.second
 
 -- those of a side and of its peer
 abbrev pub formats_of : Side → Format → Format → Formats

@@ -15,7 +15,7 @@ use Rattle.session_model.specs.Schedule.{agreement_seed, session_of}
 use Rattle.session_model.specs.Sealing.{posted, sealing}
 use Rattle.session_model.specs.Turns.{Turn, turn_at}
 use Rattle.dr_model.specs.Conversations.Conversation.{Conversation, positions, previous_of, text_at}
-use Rattle.dr_model.specs.Conversations.Formats.{format_of}
+use Rattle.dr_model.specs.Conversations.Formats.{side_format}
 
 -- the keys of an epoch of a conversation
 abbrev pub turn_of_epoch : Mechanism → Conversation → ℕ → Turn
@@ -31,22 +31,22 @@ abbrev pub key_of : Mechanism → Conversation → Position → Kept
 key_of k c p = record { position = p; key = record { bytes = message_key (turn_of_epoch k c p.epoch).stream p.index } }
 
 -- how the side of an epoch seals its texts, and the version of its packets
-abbrev pub format_at : Conversation → ℕ → Format
-format_at c epoch = format_of c.formats (side_of epoch)
+abbrev pub epoch_format : Conversation → ℕ → Format
+epoch_format c epoch = side_format c.formats (side_of epoch)
 
-abbrev pub version_at : Conversation → ℕ → ℕ
-version_at c epoch = version_of (format_at c epoch)
+abbrev pub epoch_version : Conversation → ℕ → ℕ
+epoch_version c epoch = version_of (epoch_format c epoch)
 
 -- the fields of the packet of a position
-abbrev pub fields_at : Mechanism → Conversation → Position → Fields
-fields_at k c p =
-    sealing (version_at c p.epoch) (session_of c.key) p (previous_of c p.epoch) (turn_of_epoch k c p.epoch).agreement
+abbrev pub post_fields : Mechanism → Conversation → Position → Fields
+post_fields k c p =
+    sealing (epoch_version c p.epoch) (session_of c.key) p (previous_of c p.epoch) (turn_of_epoch k c p.epoch).agreement
     (message_key (turn_of_epoch k c p.epoch).stream p.index) (text_body (text_at c p))
 
 -- the packet of a position
 abbrev pub post_at : Mechanism → Conversation → Position → Post
 post_at k c p =
-    posted (version_at c p.epoch) (session_of c.key) p (previous_of c p.epoch) (turn_of_epoch k c p.epoch).agreement
+    posted (epoch_version c p.epoch) (session_of c.key) p (previous_of c p.epoch) (turn_of_epoch k c p.epoch).agreement
     (message_key (turn_of_epoch k c p.epoch).stream p.index) (text_body (text_at c p))
 
 -- all packets, in the order that the texts were said; the network holds them all

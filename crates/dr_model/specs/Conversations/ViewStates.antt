@@ -9,11 +9,11 @@ use Rattle.session_model.specs.States.{Own, Phase, Reception, State, in_own, in_
 use Rattle.dr_model.specs.Conversations.Conversation.{Conversation, count_of, previous_of}
 use Rattle.dr_model.specs.Conversations.Posts.{key_of, turn_of_epoch}
 use Rattle.dr_model.specs.Conversations.Views.{View, inbox_of, missing_of, outbox_of, reach_in}
-use Rattle.dr_model.specs.Conversations.Formats.{format_of}
+use Rattle.dr_model.specs.Conversations.Formats.{side_format}
 
 -- what a side holds of the keys of an own epoch that it has reached
-abbrev pub own_of : Mechanism → Conversation → View → Own
-own_of k c v =
+abbrev pub view_own : Mechanism → Conversation → View → Own
+view_own k c v =
     let turn = turn_of_epoch k c v.epoch in
     record {
       secret = turn.secret;
@@ -23,8 +23,8 @@ own_of k c v =
     }
 
 -- and of any epoch
-abbrev pub phase_of : Mechanism → Conversation → View → Phase
-phase_of k c v = if is_own v.side v.epoch then in_own (own_of k c v) else in_peers (turn_of_epoch k c v.epoch).public
+abbrev pub view_phase : Mechanism → Conversation → View → Phase
+view_phase k c v = if is_own v.side v.epoch then in_own (view_own k c v) else in_peers (turn_of_epoch k c v.epoch).public
 
 -- how many texts the side said in its last epoch before the own one that stands or comes next
 abbrev pub previous_in : Conversation → View → ℕ
@@ -33,8 +33,8 @@ previous_in c v =
     else (if nat_le 1 v.epoch then count_of c (v.epoch - 1) else 0)
 
 -- the stream of a peer's epoch, as far as the epoch was read
-abbrev pub reception_of : Mechanism → Conversation → View → ℕ → Reception
-reception_of k c v epoch = record {
+abbrev pub view_reception : Mechanism → Conversation → View → ℕ → Reception
+view_reception k c v epoch = record {
   chain = chain_of (turn_of_epoch k c epoch).stream (reach_in c v epoch);
   reach = reach_in c v epoch;
 }
@@ -43,13 +43,13 @@ reception_of k c v epoch = record {
 abbrev pub state_of : Mechanism → Conversation → View → State
 state_of k c v = record {
   side = v.side;
-  format = format_of c.formats v.side;
+  format = side_format c.formats v.side;
   session = session_of c.key;
   root = (turn_of_epoch k c v.epoch).root;
   epoch = v.epoch;
-  phase = phase_of k c v;
+  phase = view_phase k c v;
   previous = previous_in c v;
-  receiving = option_map (reception_of k c v) (receiving_epoch v.side v.epoch);
+  receiving = option_map (view_reception k c v) (receiving_epoch v.side v.epoch);
   kept = map (key_of k c) (missing_of c v);
 }
 

@@ -1,12 +1,14 @@
 -- How far a side has come in a conversation.
 use Rattle.std.specs.List.{list_any}
-use Rattle.std.specs.Prelude.{Bool, List, [], count_by, drop, filter, if◌then◌else◌, map, max, nat_le, suc, zero, ℕ, ◌++◌, ◌+◌, ◌==◌, ◌∷◌}
+use Rattle.std.specs.Prelude.{Bool, List, [], count_by, drop, filter, if◌then◌else◌, length, map, max, nat_le, suc, zero, ℕ, ◌++◌, ◌+◌, ◌==◌, ◌∷◌}
 use Rattle.boxes.specs.Entries.{Entry, entry_under}
 use Rattle.boxes.specs.Posts.{Post}
 use Rattle.dr_base.specs.Position.{is_at, is_own}
 use Rattle.dr_base.specs.declared.position.Position.{Position}
 use Rattle.dr_base.specs.declared.position.Side.{Side}
 use Rattle.kem_laws.specs.Mechanism.{Mechanism}
+use Rattle.session_model.specs.declared.answer.Items.{Items}
+use Rattle.session_model.specs.declared.answer.Items.TheVariants.{Packets, Texts}
 use Rattle.dr_model.specs.Conversations.Conversation.{Conversation, count_of, text_at}
 use Rattle.dr_model.specs.Conversations.Indices.{missing_to, reach}
 use Rattle.dr_model.specs.Conversations.Posts.{posts_of}
@@ -80,3 +82,13 @@ inbox_of c v = drop v.done (history_of c v)
 -- the packets that stand in its outbox, the oldest first
 abbrev pub outbox_of : Mechanism → Conversation → View → List Post
 outbox_of k c v = drop v.dropped (posts_of k c v.side)
+
+-- how many of these items stand in their box
+abbrev pub standing_of : Mechanism → Conversation → View → Items → ℕ
+standing_of k c v Texts = length (inbox_of c v)
+standing_of k c v Packets = length (outbox_of k c v)
+
+-- the view once so many of the oldest have left it
+abbrev pub after_drop : View → Items → ℕ → View
+after_drop v Texts n = record v { done = v.done + n }
+after_drop v Packets n = record v { dropped = v.dropped + n }

@@ -1,21 +1,33 @@
 -- What one side does by itself, apart from the network, on what it keeps.
-use Rattle.std.specs.Prelude.{Bool, Err, List, Ok, Option, Result, [], false, length, ℕ}
+use Rattle.std.specs.Prelude.{Bool, Err, List, Ok, Option, Result, [], drop, false, length, ℕ}
 use Rattle.kem_laws.specs.Mechanism.{Mechanism}
-use Rattle.session_model.specs.Clients.{Client, SaidText, TakenPacket, dropped_of, say_check, say_on, take_on}
-use Rattle.session_model.specs.declared.answer.Answer.{Answer}
-use Rattle.session_model.specs.declared.answer.Answer.TheVariants.{Done, Opened, Said, Sent}
+use Rattle.session_model.specs.Clients.{Client, SaidText, TakenPacket, say_check, say_on, take_on}
+use Rattle.session_model.specs.declared.answer.Answer.TheVariants.{Opened, Said}
+use Rattle.session_model.specs.declared.answer.Items.{Items}
+use Rattle.session_model.specs.declared.answer.Items.TheVariants.{Packets, Texts}
 use Rattle.session_model.specs.declared.answer.Refusal.{Refusal}
 use Rattle.dr_model.specs.Machines.Draws.{given_or}
-use Rattle.dr_model.specs.Machines.Steps.{Step, step}
+use Rattle.dr_model.specs.Machines.Steps.{Step, leaving, step}
 
 pub data Act : Type 0 where
   -- it says a text, with the seed that was drawn for it; none is drawn where none is needed
   saying : (text : List ℕ) → (draw : Option (List ℕ)) → Act
   -- it takes bytes
   taking : (bytes : List ℕ) → Act
-  -- this many of the oldest texts leave its inbox, or of the oldest packets its outbox
-  finishing : (amount : ℕ) → Act
-  sending : (amount : ℕ) → Act
+  -- this many of the oldest items leave their box
+  dropping : (items : Items) → (amount : ℕ) → Act
+
+-- ---- a client's boxes
+
+-- how many of these items stand in their box
+abbrev pub standing_with : Client → Items → ℕ
+standing_with client Texts = length client.inbox
+standing_with client Packets = length client.outbox
+
+-- what is kept once so many of the oldest have left it
+abbrev pub dropped_client : Client → Items → ℕ → Client
+dropped_client client Texts n = record client { inbox = drop n client.inbox }
+dropped_client client Packets n = record client { outbox = drop n client.outbox }
 
 -- ---- a step, or a refusal, which changes nothing
 
@@ -31,19 +43,11 @@ abbrev pub taken_by : Result TakenPacket Refusal → Result (Step Client) Refusa
 taken_by (Ok taken) = Ok (step (Opened taken.position) taken.next)
 taken_by (Err refusal) = Err refusal
 
--- the oldest items leave a box: with this answer, and what is kept with those that are left
-abbrev pub leaving_by : {A : Type 0} → Answer → (List A → Client) → Result (List A) Refusal
-    → Result (Step Client) Refusal
-leaving_by answer kept_with (Ok left) = Ok (step answer (kept_with left))
-leaving_by answer kept_with (Err refusal) = Err refusal
-
 abbrev pub act_on : Mechanism → Client → Act → Result (Step Client) Refusal
 act_on k client (saying text draw) = saying_by k client text draw (say_check client (length text))
 act_on k client (taking bytes) = taken_by (take_on k client bytes)
-act_on k client (finishing n) =
-    leaving_by (Done n) (λ inbox. record client { inbox = inbox }) (dropped_of n client.inbox)
-act_on k client (sending n) =
-    leaving_by (Sent n) (λ outbox. record client { outbox = outbox }) (dropped_of n client.outbox)
+act_on k client (dropping items n) =
+    leaving items n (standing_with client items) (dropped_client client items n)
 
 -- whether a text that was checked needs a seed
 abbrev pub needs_seed : Result Bool Refusal → Bool

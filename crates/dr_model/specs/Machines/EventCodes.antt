@@ -7,9 +7,11 @@ use Rattle.dr_base.specs.declared.position.Side.{Side}
 use Rattle.dr_base.specs.declared.position.Side.TheVariants.{First, Second}
 use Rattle.session_model.specs.declared.answer.Amount.{Amount}
 use Rattle.session_model.specs.declared.answer.Amount.TheVariants.{All, Exactly}
-use Rattle.dr_model.specs.Machines.Events.{Event, PacketSource, SideCall, cuts, does, drops_done, drops_sent, of_bytes, of_flip, of_number, of_position, says, seeds, shows_inbox, shows_state, takes}
+use Rattle.session_model.specs.declared.answer.Items.{Items}
+use Rattle.session_model.specs.declared.answer.Items.TheVariants.{Packets, Texts}
+use Rattle.dr_model.specs.Machines.Events.{Event, PacketSource, SideCall, cuts, does, drops, of_bytes, of_flip, of_number, of_position, says, seeds, shows_inbox, shows_state, takes}
 
--- ---- a side, a position, an amount
+-- ---- a side, a position, an amount of items
 
 abbrev is_second : Side → Bool
 is_second First = false
@@ -29,6 +31,21 @@ side_code = code_by Bool coded_bool is_second side_by same_side
 abbrev pub position_code : Coded Position
 position_code =
     code_by (ℕ × ℕ) (coded× coded_ℕ coded_ℕ) (λ p. (p.epoch, p.index)) (λ e. record { epoch = e.0; index = e.1 }) (λ _. refl)
+
+abbrev are_packets : Items → Bool
+are_packets Texts = false
+are_packets Packets = true
+
+abbrev items_by : Bool → Items
+items_by false = Texts
+items_by true = Packets
+
+pub same_items : (items : Items) → items_by (are_packets items) ≡ items
+same_items Texts = refl
+same_items Packets = refl
+
+abbrev pub items_code : Coded Items
+items_code = code_by Bool coded_bool are_packets items_by same_items
 
 abbrev number_in : Amount → Option ℕ
 number_in All = None
@@ -76,30 +93,27 @@ source_code =
     stored_source source_by same_source
 
 abbrev StoredCall : Type 0
-StoredCall = List ℕ ⊎ (PacketSource ⊎ (Amount ⊎ Amount))
+StoredCall = List ℕ ⊎ (PacketSource ⊎ (Items × Amount))
 
 abbrev stored_call : SideCall → StoredCall
 stored_call (says text) = inl text
 stored_call (takes source) = inr (inl source)
-stored_call (drops_sent amount) = inr (inr (inl amount))
-stored_call (drops_done amount) = inr (inr (inr amount))
+stored_call (drops items amount) = inr (inr (items, amount))
 
 abbrev call_by : StoredCall → SideCall
 call_by (inl text) = says text
 call_by (inr (inl source)) = takes source
-call_by (inr (inr (inl amount))) = drops_sent amount
-call_by (inr (inr (inr amount))) = drops_done amount
+call_by (inr (inr dropped)) = drops dropped.0 dropped.1
 
 pub same_call : (call : SideCall) → call_by (stored_call call) ≡ call
 same_call (says text) = refl
 same_call (takes source) = refl
-same_call (drops_sent amount) = refl
-same_call (drops_done amount) = refl
+same_call (drops items amount) = refl
 
 abbrev pub call_code : Coded SideCall
 call_code =
     code_by StoredCall
-    (coded⊎ (coded_list coded_ℕ) (coded⊎ source_code (coded⊎ amount_code amount_code)))
+    (coded⊎ (coded_list coded_ℕ) (coded⊎ source_code (coded× items_code amount_code)))
     stored_call call_by same_call
 
 -- ---- an event: whether each cut took effect, and the event that was cut off

@@ -3,6 +3,7 @@ use Rattle.std.specs.Prelude.{Bool, List, ℕ}
 use Rattle.dr_base.specs.declared.position.Position.{Position}
 use Rattle.dr_base.specs.declared.position.Side.{Side}
 use Rattle.session_model.specs.declared.answer.Amount.{Amount}
+use Rattle.session_model.specs.declared.answer.Items.{Items}
 
 -- which packet a side takes
 pub data PacketSource : Type 0 where
@@ -21,10 +22,8 @@ pub data SideCall : Type 0 where
   says : List ℕ → SideCall
   -- it takes a packet
   takes : PacketSource → SideCall
-  -- its oldest packets leave its outbox
-  drops_sent : Amount → SideCall
-  -- its oldest texts leave its inbox
-  drops_done : Amount → SideCall
+  -- its oldest texts leave its inbox, or its oldest packets its outbox
+  drops : Items → Amount → SideCall
 
 pub data Event : Type 0 where
   -- the next draw is this seed

@@ -7,9 +7,9 @@ use Rattle.kem_laws.specs.Mechanism.{Mechanism}
 use Rattle.session_model.specs.Clients.{Client, SaidText, say_check, say_on, summary_of}
 use Rattle.session_model.specs.declared.answer.Answer.TheVariants.{Inbox, Said, Seeded, State as InNumbers}
 use Rattle.session_model.specs.declared.answer.Refusal.{Refusal}
-use Rattle.dr_model.specs.Machines.Acts.{Act, act_on, finishing, saying, sending, taking}
+use Rattle.dr_model.specs.Machines.Acts.{Act, act_on, dropping, saying, standing_with, taking}
 use Rattle.dr_model.specs.Machines.Draws.{Draws, after_draw, next_seed}
-use Rattle.dr_model.specs.Machines.Events.{Event, SideCall, cuts, does, drops_done, drops_sent, says, seeds, shows_inbox, shows_state, takes}
+use Rattle.dr_model.specs.Machines.Events.{Event, SideCall, cuts, does, drops, says, seeds, shows_inbox, shows_state, takes}
 use Rattle.dr_model.specs.Machines.Network.{packet_given}
 use Rattle.dr_model.specs.Machines.Steps.{Step, amount_of, cut_step, nothing, settled, step}
 
@@ -63,10 +63,8 @@ abbrev pub act_of : Sides → Side → SideCall → Option Act
 act_of s side (says text) =
     Some (saying text (draw_for s (say_check (client_of s side) (length text))))
 act_of s side (takes source) = option_map taking (packet_given s.posts side source)
-act_of s side (drops_sent amount) =
-    Some (sending (amount_of amount (length (client_of s side).outbox)))
-act_of s side (drops_done amount) =
-    Some (finishing (amount_of amount (length (client_of s side).inbox)))
+act_of s side (drops items amount) =
+    Some (dropping items (amount_of amount (standing_with (client_of s side) items)))
 
 -- what both sides make of a call of one: the network gets the packet of a text
 abbrev pub called_on : Mechanism → Sides → Side → SideCall → Step Sides

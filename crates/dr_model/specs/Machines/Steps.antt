@@ -1,11 +1,13 @@
 -- What comes of an event.
-use Rattle.std.specs.Prelude.{Bool, Err, List, Ok, Result, [], false, if◌then◌else◌, nat_lt, true, ℕ}
+use Rattle.std.specs.Prelude.{Bool, Err, List, Ok, Result, [], false, if◌then◌else◌, nat_le, nat_lt, true, ℕ}
 use Rattle.boxes.specs.Entries.{Entry}
 use Rattle.session_model.specs.declared.answer.Amount.{Amount}
 use Rattle.session_model.specs.declared.answer.Amount.TheVariants.{All, Exactly}
 use Rattle.session_model.specs.declared.answer.Answer.{Answer}
-use Rattle.session_model.specs.declared.answer.Answer.TheVariants.{Done, Nothing, Opened, Refused, Said, Sent, Stopped}
+use Rattle.session_model.specs.declared.answer.Answer.TheVariants.{Dropped, Nothing, Opened, Refused, Said, Stopped}
+use Rattle.session_model.specs.declared.answer.Items.{Items}
 use Rattle.session_model.specs.declared.answer.Refusal.{Refusal}
+use Rattle.session_model.specs.declared.answer.Refusal.TheVariants.{Fewer}
 
 -- an event's answer, the texts that it shows, and what stands after it
 pub record Step (S : Type 0) : Type 0 where
@@ -22,6 +24,11 @@ abbrev pub settled : {S : Type 0} → S → Result (Step S) Refusal → Step S
 settled s (Ok made) = made
 settled s (Err refusal) = step (Refused refusal) s
 
+-- the oldest items leave a box, if so many stand in it: with what stands then
+abbrev pub leaving : {S : Type 0} → Items → (n standing : ℕ) → S → Result (Step S) Refusal
+leaving items n standing next =
+    if nat_le n standing then Ok (step (Dropped items n) next) else Err (Fewer standing)
+
 -- the network holds no such packet
 abbrev pub nothing : {S : Type 0} → S → Step S
 nothing s = step Nothing s
@@ -35,8 +42,7 @@ amount_of (Exactly n) standing = n
 abbrev pub has_effect : Answer → Bool
 has_effect (Said position) = true
 has_effect (Opened position) = true
-has_effect (Sent n) = nat_lt 0 n
-has_effect (Done n) = nat_lt 0 n
+has_effect (Dropped items n) = nat_lt 0 n
 has_effect _ = false
 
 -- a step that was cut off: with its effect, or as `before`; a step without an effect is never cut off

@@ -4,8 +4,8 @@ use Rattle.dr_base.specs.declared.position.Side.{Side}
 use Rattle.kem_laws.specs.Mechanism.{Mechanism}
 use Rattle.session_model.specs.Clients.{Client}
 use Rattle.session_model.specs.declared.answer.Amount.TheVariants.{Exactly}
-use Rattle.dr_model.specs.Machines.Acts.{Act, finishing, saying, sending, taking}
-use Rattle.dr_model.specs.Machines.Events.{Event, SideCall, does, drops_done, drops_sent, of_bytes, says, takes}
+use Rattle.dr_model.specs.Machines.Acts.{Act, dropping, saying, taking}
+use Rattle.dr_model.specs.Machines.Events.{Event, SideCall, does, drops, of_bytes, says, takes}
 use Rattle.dr_model.specs.Machines.Steps.{Step}
 use Rattle.dr_model.specs.Machines.WorldSides.{kept_in}
 use Rattle.dr_model.specs.Machines.Worlds.{World, step_of}
@@ -14,8 +14,7 @@ use Rattle.dr_model.specs.Machines.Worlds.{World, step_of}
 abbrev pub call_for : Act → SideCall
 call_for (saying text draw) = says text
 call_for (taking bytes) = takes (of_bytes bytes)
-call_for (finishing n) = drops_done (Exactly n)
-call_for (sending n) = drops_sent (Exactly n)
+call_for (dropping items n) = drops items (Exactly n)
 
 -- and the event
 abbrev pub event_of : Side → Act → Event

@@ -15,19 +15,19 @@ use Rattle.packet.specs.Reading.{read_packet}
 use Rattle.packet.specs.declared.fault.Malformed.{Malformed}
 use Rattle.session_model.specs.States.{State}
 use Rattle.session_model.specs.Ways.{Way, way_of}
-use Rattle.session_model.specs.declared.answer.Answer.{Answer}
-use Rattle.session_model.specs.declared.answer.Answer.TheVariants.{Done, Inbox, Opened, Said, Seeded, Sent, State as InNumbers}
+use Rattle.session_model.specs.declared.answer.Answer.TheVariants.{Inbox, Opened, Said, Seeded, State as InNumbers}
+use Rattle.session_model.specs.declared.answer.Items.{Items}
 use Rattle.session_model.specs.declared.answer.Refusal.{Refusal}
-use Rattle.session_model.specs.declared.answer.Refusal.TheVariants.{BadTag, EpochFull, Fewer, InboxFull, LastEpoch, Malformed as Unreadable, NoPair, OutboxFull, OwnPacket, SkipLimit, Spent, TextTooLong}
+use Rattle.session_model.specs.declared.answer.Refusal.TheVariants.{BadTag, EpochFull, InboxFull, LastEpoch, Malformed as Unreadable, NoPair, OutboxFull, OwnPacket, SkipLimit, Spent, TextTooLong}
 use Rattle.dr_model.specs.Conversations.Formats.{Formats}
 use Rattle.dr_model.specs.Conversations.Conversation.{Conversation, count_of, is_said, next_position, opening_conversation, positions, with_text, with_turn}
 use Rattle.dr_model.specs.Conversations.Posts.{posts}
 use Rattle.dr_model.specs.Conversations.ViewStates.{state_of}
-use Rattle.dr_model.specs.Conversations.Views.{View, after_opening, after_turn, has_opened, inbox_of, missing_of, opening_view, outbox_of}
+use Rattle.dr_model.specs.Conversations.Views.{View, after_drop, after_opening, after_turn, has_opened, inbox_of, missing_of, opening_view, outbox_of, standing_of}
 use Rattle.dr_model.specs.Machines.Draws.{Draws, after_draw, next_seed}
-use Rattle.dr_model.specs.Machines.Events.{Event, PacketSource, SideCall, cuts, does, drops_done, drops_sent, of_bytes, of_flip, of_number, of_position, says, seeds, shows_inbox, shows_state, takes}
+use Rattle.dr_model.specs.Machines.Events.{Event, PacketSource, SideCall, cuts, does, drops, of_bytes, of_flip, of_number, of_position, says, seeds, shows_inbox, shows_state, takes}
 use Rattle.dr_model.specs.Machines.Network.{flipped_at}
-use Rattle.dr_model.specs.Machines.Steps.{Step, amount_of, cut_step, nothing, settled, step}
+use Rattle.dr_model.specs.Machines.Steps.{Step, amount_of, cut_step, leaving, nothing, settled, step}
 
 pub record World : Type 0 where
   pub conversation : Conversation
@@ -153,31 +153,22 @@ taking_of k w side (of_flip p bit) =
     taking_given k w side (flipped_at (posts k w.conversation) p bit)
 taking_of k w side (of_bytes bytes) = taking_given k w side (Some bytes)
 
--- the oldest items leave a box, if so many stand in it: with this answer, and this view then
-abbrev pub leaving_in : World → Side → (standing n : ℕ) → Answer → View
-    → Result (Step World) Refusal
-leaving_in w side standing n answer after =
-    if nat_le n standing then Ok (step answer (with_view w side after)) else Err (Fewer standing)
+-- how many items stand in a box of a side
+abbrev pub standing_in : Mechanism → World → Side → Items → ℕ
+standing_in k w side items = standing_of k w.conversation (view_of w side) items
 
-abbrev pub sent_in : Mechanism → World → Side → ℕ → Result (Step World) Refusal
-sent_in k w side n =
-    let v = view_of w side in
-    leaving_in w side (length (outbox_in k w side)) n (Sent n)
-    (record v { dropped = v.dropped + n })
-
-abbrev pub done_in : World → Side → ℕ → Result (Step World) Refusal
-done_in w side n =
-    let v = view_of w side in
-    leaving_in w side (length (inbox_in w side)) n (Done n) (record v { done = v.done + n })
+-- so many of the oldest leave it
+abbrev pub dropping_in : Mechanism → World → Side → Items → ℕ → Result (Step World) Refusal
+dropping_in k w side items n =
+    leaving items n (standing_in k w side items)
+    (with_view w side (after_drop (view_of w side) items n))
 
 -- what becomes of a call of a side
 abbrev pub called_in : Mechanism → World → Side → SideCall → Step World
 called_in k w side (says text) = saying_in k w side text (may_say k w side (length text))
 called_in k w side (takes source) = taking_of k w side source
-called_in k w side (drops_sent amount) =
-    settled w (sent_in k w side (amount_of amount (length (outbox_in k w side))))
-called_in k w side (drops_done amount) =
-    settled w (done_in w side (amount_of amount (length (inbox_in w side))))
+called_in k w side (drops items amount) =
+    settled w (dropping_in k w side items (amount_of amount (standing_in k w side items)))
 
 -- what becomes of what happens
 abbrev pub step_of : Mechanism → World → Event → Step World

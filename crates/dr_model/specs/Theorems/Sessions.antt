@@ -13,9 +13,9 @@ use Rattle.session_model.specs.Taking.{ReceiveDraft, draft_receive}
 use Rattle.session_model.specs.declared.answer.Refusal.{Refusal}
 use Rattle.session_model.specs.declared.answer.Refusal.TheVariants.{EpochFull, LastEpoch, OwnPacket, SkipLimit, Spent, TextTooLong}
 use Rattle.dr_model.specs.Conversations.Conversation.{Conversation, count_of, is_said, next_position, opening_conversation, text_at, with_text, with_turn}
-use Rattle.dr_model.specs.Conversations.Formats.{Formats, format_of}
+use Rattle.dr_model.specs.Conversations.Formats.{Formats, side_format}
 use Rattle.dr_model.specs.Conversations.Lawful.{IsLawfulConversation, IsLawfulView}
-use Rattle.dr_model.specs.Conversations.Posts.{fields_at, post_at}
+use Rattle.dr_model.specs.Conversations.Posts.{post_fields, post_at}
 use Rattle.dr_model.specs.Conversations.ViewStates.{state_of}
 use Rattle.dr_model.specs.Conversations.Views.{View, after_opening, after_turn, has_opened, missing_of, opening_view}
 
@@ -51,12 +51,12 @@ pub record StandsIn (k : Mechanism) (c : Conversation) (side : Side) (v : View) 
 -- next position. And it keeps what it kept when the other side says.
 pub record SessionsAgree (k : Mechanism) : Type 0 where
   pub opening : (key : List ℕ) (formats : Formats) (side : Side)
-      → opening_state k key side (format_of formats side) ≡ state_of k (opening_conversation key formats) (opening_view side)
+      → opening_state k key side (side_format formats side) ≡ state_of k (opening_conversation key formats) (opening_view side)
   -- the packet of a position is read, and answered
   pub reads : (c : Conversation) (p : Position) → IsLawfulConversation k c → is_said c p ≡ true
-      → read_packet (agreement_size k) (post_at k c p).packet ≡ Ok (fields_at k c p)
+      → read_packet (agreement_size k) (post_at k c p).packet ≡ Ok (post_fields k c p)
   pub receives : (c : Conversation) (side : Side) (v : View) (p : Position) → StandsIn k c side v → is_said c p ≡ true
-      → draft_receive k (state_of k c v) (fields_at k c p) ≡ received_in k c v p
+      → draft_receive k (state_of k c v) (post_fields k c p) ≡ received_in k c v p
   -- a text is checked, and drafted: in an epoch of the side's own, or with a seed that has a pair in the next epoch
   pub checks : (c : Conversation) (v : View) (len : ℕ) → send_check (state_of k c v) len ≡ checked_in c v len
   pub sends : (c : Conversation) (side : Side) (v : View) (text seed : List ℕ) → StandsIn k c side v

@@ -10,11 +10,11 @@ use Rattle.dr_disk.specs.declared.call.Call.{Call}
 use Rattle.dr_disk.proofs.Exactly.{enough as enough_told, too_few}
 use Rattle.dr_disk.specs.declared.call.Mode.{Mode}
 use Rattle.dr_disk.specs.declared.memory.MemoryDisk.{MemoryDisk}
-use Rattle.dr_model.specs.Machines.Acts.{Act, act_on, finishing, leaving_by, said_by, saying, saying_by, sending, taken_by, taking}
+use Rattle.dr_model.specs.Machines.Acts.{Act, act_on, dropping, said_by, saying, saying_by, taken_by, taking}
 use Rattle.dr_model.specs.Machines.Draws.{given_or}
 use Rattle.dr_model.specs.Machines.Steps.{Step, has_effect, settled, step}
 use Rattle.kem_laws.specs.Mechanism.{IsLawfulMechanism, Mechanism}
-use Rattle.session_model.specs.Clients.{Client, SaidText, TakenPacket, dropped_of, say_on, take_on}
+use Rattle.session_model.specs.Clients.{Client, SaidText, TakenPacket, say_on, take_on}
 use Rattle.session_model.specs.declared.answer.Answer.{Answer}
 use Rattle.session_model.specs.declared.answer.Answer.TheVariants.{Opened, Refused, Said, Stopped}
 use Rattle.session_model.specs.declared.answer.Refusal.{Refusal}
@@ -31,7 +31,7 @@ use Rattle.client.specs.Outcomes.{Acts, IsCutOff, IsDone, IsEffected, Outcome, a
 use Rattle.client.specs.Opening.{SaysNothing}
 use Rattle.client.specs.declared.refusals.OpenRefusal.{OpenRefusal}
 use Rattle.client.specs.declared.refusals.OpenRefusal.TheVariants.{Damaged, Memory, NoSession, StoreFault}
-use Rattle.client.proofs.Lawful.Acts.{done_lawful, say_lawful, sent_lawful, take_lawful}
+use Rattle.client.proofs.Lawful.Acts.{drop_lawful, say_lawful, take_lawful}
 use Rattle.duet.specs.Acts.{IsChecked, IsEnded}
 use Rattle.duet.specs.Parties.{DiskHasRecord, IsHeld, IsWantOfMemory}
 use Rattle.duet.specs.Stops.{cut_by, cut_of, is_replaced, stopped_client}
@@ -229,14 +229,6 @@ taken_keeps k (Ok taken) next each is =
     let same : step (Opened taken.position) taken.next ≡ next = cc in
     subst (λ (made : Step Client). IsLawfulClient k made.next) same (each taken refl)
 
-leaving_keeps : {A : Type 0} (k : Mechanism) (answer : Answer) (kept_with : List A → Client) (r : Result (List A) Refusal)
-    (next : Step Client) → ((left : List A) → r ≡ Ok left → IsLawfulClient k (kept_with left))
-    → leaving_by answer kept_with r ≡ Ok next → IsLawfulClient k next.next
-leaving_keeps k answer kept_with (Err refusal) next each is = absurd (cc is)
-leaving_keeps k answer kept_with (Ok left) next each is =
-    let same : step answer (kept_with left) ≡ next = cc in
-    subst (λ (made : Step Client). IsLawfulClient k made.next) same (each left refl)
-
 seed_whole : (draw : Option (List ℕ)) → IfSome draw (λ seed. length seed ≡ 32) → is_some draw ≡ true
     → length (given_or [] draw) ≡ 32
 seed_whole None long needs = absurd (let e : false ≡ true = needs in cc)
@@ -252,10 +244,7 @@ made_lawful k c (saying text draw) next law l checked is =
     (ap (saying_by k c text draw) (sym checked.0) ∙ is)
 made_lawful k c (taking bytes) next law l small is =
     taken_keeps k (take_on k c bytes) next (λ taken gives. take_lawful k c bytes taken l small gives) is
-made_lawful k c (sending n) next law l checked is =
-    leaving_keeps k _ _ (dropped_of n c.outbox) next (λ outbox gives. sent_lawful k c n outbox l gives) is
-made_lawful k c (finishing n) next law l checked is =
-    leaving_keeps k _ _ (dropped_of n c.inbox) next (λ inbox gives. done_lawful k c n inbox l gives) is
+made_lawful k c (dropping items n) next law l checked is = drop_lawful k c items n next l is
 
 -- whichever is left
 pub left_lawful : (k : Mechanism) (b : Bool) (a z : Client) → IsLawfulClient k a → IsLawfulClient k z

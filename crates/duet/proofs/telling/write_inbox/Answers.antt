@@ -12,12 +12,12 @@ some = entry_under (record { epoch = 0; index = 0 }) []
 
 pub returns-in-Err : goal.returns-in-Err
 returns-in-Err g c =
-    let below : c.texts.at < length c.args.party.now.kept.inbox = omega (arith, c.inbox_len-at-end.ensures) in
+    let below : c.texts.at < length c.args.party.now.kept.inbox = omega (arith, c.standing-at-end.ensures) in
     cut_in_lines (entry_line c.args.side) _ _ _ c.args.party.now.kept.inbox c.texts.at some _ below c.texts.invariant.written c.texts.invariant.quiet (c.in-Err.ensures some)
 
 pub texts-preserved : goal.texts-preserved
 texts-preserved g c =
-    let below : c.texts.at < length c.args.party.now.kept.inbox = omega (arith, c.inbox_len-at-end.ensures) in
+    let below : c.texts.at < length c.args.party.now.kept.inbox = omega (arith, c.standing-at-end.ensures) in
     let writes = c.in-Ok.ensures some in
     record {
       written = took_line (entry_line c.args.side) _ _ _ c.args.party.now.kept.inbox c.texts.at some below c.texts.invariant.written writes.whole;
@@ -26,7 +26,7 @@ texts-preserved g c =
 
 pub returns : goal.returns
 returns g c =
-    let all : length c.args.party.now.kept.inbox ≤ c.texts.at = omega (arith, c.inbox_len-at-end.ensures) in
+    let all : length c.args.party.now.kept.inbox ≤ c.texts.at = omega (arith, c.standing-at-end.ensures) in
     record {
       whole = c.texts.invariant.written ∙ ap (λ items. appended (g.O.Sink.at c.args.out.now).taken (flat_map (entry_line c.args.side) items)) (take_all c.texts.at c.args.party.now.kept.inbox all);
       part = tt;

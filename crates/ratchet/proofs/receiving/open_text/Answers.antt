@@ -6,5 +6,5 @@ use Rattle.ratchet.proofs.receiving.open_text.Goals as goal
 
 pub returns-in-Some-clause-fits : goal.returns-in-Some-clause-fits
 returns-in-Some-clause-fits c =
-    opened_short c.version-version.result _ (text_body c.in-Some.text.now) (sym c.in-Some.ensures.opens)
-    (λ plain. omega (arith, ap length c.ciphertext-ciphertext.ensures.value, ap length (c.as_slice.ensures.value ∙ c.in-Ok.ensures.ok), length-ciphertext_of c.args.key c.args.sealed.now.items, ap length c.requires, c.ciphertext-ciphertext.ensures.plain (sym c.version-version.ensures.value ∙ plain)))
+    opened_short c.version.result _ (text_body c.in-Some.text.now) (sym c.in-Some.ensures.opens)
+    (λ plain. omega (arith, ap length (c.as_slice.ensures.value ∙ c.in-Ok.ensures.ok), length-ciphertext_of c.args.key c.ciphertext.result.now, c.ciphertext.ensures.plain (sym c.version.ensures.value ∙ plain)))

@@ -1,5 +1,5 @@
 use Rattle.std.proofs.Common.{◌∙◌, ◌≡◌, ◌++◌, ℕ, List, ap, length, refl, subst, sym, true}
-use Rattle.bodies.specs.Bodies.{sealed_of, text_body}
+use Rattle.bodies.specs.Bodies.{sealed_body, text_body}
 use Rattle.boxes.specs.Posts.{post_under}
 use Rattle.etm_aead.specs.Seal.{ciphertext_of, tag_of}
 use Rattle.etm_aead.specs.Undoing.{length-ciphertext_of}
@@ -11,7 +11,7 @@ use Rattle.ratchet.proofs.sealing.seal_packet.Goals as goal
 
 pub write_ad-at_text-requires-clause-text_fits : goal.write_ad-at_text-requires-clause-text_fits
 write_ad-at_text-requires-clause-text_fits c =
-    let body = sealed_of c.args.version (text_body c.args.text.now) in
+    let body = sealed_body c.args.version (text_body c.args.text.now) in
     subst (λ (n : ℕ). is_text_len c.args.version n ≡ true)
     (length-ciphertext_of c.args.key body ∙ c.sealed_len-len.ensures.sealed c.args.text.now refl) c.requires.lawful.text_fits
 
@@ -20,7 +20,7 @@ unfolding posted packet_of
 returns-clause-packet c =
     let p = c.args.position in
     let key = c.args.key in
-    let body = sealed_of c.args.version (text_body c.args.text.now) in
+    let body = sealed_body c.args.version (text_body c.args.text.now) in
     let sealed = ciphertext_of key body in
     let header : ℕ → List ℕ = λ n. header_of c.args.version c.args.session.now p.epoch c.args.previous p.index c.args.agreement.now n in
     let long : c.sealed_len-len.result ≡ length body = sym (c.sealed_len-len.ensures.sealed c.args.text.now refl) in

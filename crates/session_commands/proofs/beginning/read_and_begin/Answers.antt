@@ -8,5 +8,5 @@ returns-in-Err-clause-runs g c = had_no_key c.in-Err.ending c.in-Err.ensures.inp
 
 pub returns-in-Ok-clause-runs : goal.returns-in-Ok-clause-runs
 returns-in-Ok-clause-runs g c =
-    had_key c.in-Ok.key.bytes (begun_ending c.begin_on.result) (begun_lines c.begin_on.result) c.in-Ok.ensures.input
+    had_key c.in-Ok.key (begun_ending c.begin_on.result) (begun_lines c.begin_on.result) c.in-Ok.ensures.input
     c.begin_on.ensures

@@ -1,30 +1,18 @@
-use Rattle.std.proofs.Common.{[], ap, refl, subst, sym, ◌∙◌}
-use Rattle.session_model.specs.declared.answer.Answer.{Answer}
-use Rattle.client.specs.Drafting.{act_dropping, dropped_answer}
-use Rattle.client.specs.Outcomes.{dropped_as}
-use Rattle.client.proofs.Dropped.{dropping_fair}
+use Rattle.dr_disk.specs.Spans.{IsQuiet}
+use Rattle.dr_model.specs.Machines.Acts.{dropping}
 use Rattle.session_commands.specs.Asking.{asked_drop}
-use Rattle.session_commands.specs.Closing.{ending_by, lines_of_ending, worked_as}
-use Rattle.session_commands.specs.InWorlds.{RunsAct}
-use Rattle.session_commands.proofs.Acts.{act_runs}
-use Rattle.session_commands.proofs.Unopened.{unopened_runs}
+use Rattle.session_commands.specs.Closing.{ending_by, lines_of_ending}
+use Rattle.session_commands.proofs.Quiet.{act_counts}
 use Rattle.session_commands.proofs.dropping.drop_items.Goals as goal
 
-pub returns-in-Err : goal.returns-in-Err
-returns-in-Err g c =
-    let asked = asked_drop (act_dropping c.args.drops) in
-    subst (λ e. RunsAct g.D.Disk.state g.K.Kem.mechanism asked c.args.disk.now c.open.new.disk e []) (sym c.unopened.ensures)
-    (unopened_runs g.D.Disk.state g.K.Kem.mechanism c.args.disk.now c.open.new.disk c.in-Err.refusal c.in-Err.ensures.unopened
-    c.open.ensures.any_moment c.open.ensures.reads c.in-Err.ensures.in_worlds asked tt)
-
-pub returns-in-Ok : goal.returns-in-Ok
-returns-in-Ok g c =
-    let asked = asked_drop (act_dropping c.args.drops) in
-    subst (λ r. RunsAct g.D.Disk.state g.K.Kem.mechanism asked c.args.disk.now c.drop_items-acted.new.disk (ending_by r) (lines_of_ending r))
-    (sym (c.dropped.ensures ∙ ap (λ (a : Answer). worked_as (dropped_as a c.drop_items-acted.result)) c.answer.ensures))
-    (act_runs g.D.Disk.state g.K.Kem.mechanism c.args.disk.now c.open.new.disk c.drop_items-acted.new.disk
-    (g.met.D.Disk.lawful c.drop_items-acted.new.disk) c.in-Ok.client c.drop_items-acted.new.self c.in-Ok.ensures.opened
-    c.open.ensures.any_moment asked (act_dropping c.args.drops) refl
-    (λ w side fair. dropping_fair g.K.Kem.mechanism w side c.args.drops)
-    (dropped_as (dropped_answer c.args.drops) c.drop_items-acted.result)
-    c.drop_items-acted.ensures.exact c.in-Ok.ensures.in_worlds (λ w side is fair. c.drop_items-acted.ensures.in_worlds w side is))
+pub returns : goal.returns
+returns g c =
+    act_counts g.D.Disk.state g.K.Kem.mechanism (asked_drop (dropping c.args.items c.args.n)) c.args.disk.now c.open_and_drop-worked.new.disk
+    (IsQuiet (g.D.Disk.state c.args.disk.now) (g.D.Disk.state c.open_and_drop-worked.new.disk))
+    (λ kept act asks quiet. quiet) (g.O.Sink.at c.args.out.now) (g.O.Sink.at c.close.new.out) c.close.result.code
+    (record {
+      ending = ending_by c.open_and_drop-worked.result;
+      lines = lines_of_ending c.open_and_drop-worked.result;
+      came = c.open_and_drop-worked.ensures;
+      ends = c.close.ensures.ends;
+    }) c.close.ensures.later

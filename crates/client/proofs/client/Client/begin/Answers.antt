@@ -8,7 +8,7 @@ use Rattle.session_record.specs.Record.{record_text}
 use Rattle.slot_store.specs.Found.{found_as, has_content}
 use Rattle.slot_store.specs.Reading.{IsEntryOrLike, no_content}
 use Rattle.slot_store.specs.Store.{IsOldOrNew, content}
-use Rattle.client.specs.Beginning.{IsEntryOrFirst, IsUnbegun, begun_client}
+use Rattle.client.specs.Beginning.{IsEntryOrFirst, IsUnbegun, begin_of, begun_client}
 use Rattle.client.specs.Clients.{client_area}
 use Rattle.client.specs.Opening.{IsReadAs}
 use Rattle.client.proofs.Beginnings.{first_left, first_moments, held, kept_first, none_by, rests_as_read, unbegun}
@@ -17,15 +17,16 @@ use Rattle.client.proofs.client.Client.begin.Goals as goal
 pub returns-in-Err-clause-unbegun : goal.returns-in-Err-clause-unbegun
 returns-in-Err-clause-unbegun g c =
     let k = g.K.Kem.mechanism in
-    subst (IsUnbegun g.D.Disk.state k c.args.key.now.bytes c.args.disk.now c.open.new.disk) (sym c.refusal.ensures)
-    (unbegun g.D.Disk.state k c.args.key.now.bytes c.args.disk.now c.open.new.disk c.in-Err.error c.in-Err.ensures.refused.damaged
+    let begin = begin_of c.args.side c.args.format c.args.key.now in
+    subst (IsUnbegun g.D.Disk.state k begin c.args.disk.now c.open.new.disk) (sym c.refusal.ensures)
+    (unbegun g.D.Disk.state k begin c.args.disk.now c.open.new.disk c.in-Err.error c.in-Err.ensures.refused.damaged
     c.in-Err.ensures.memory c.in-Err.ensures.refused.fault)
 
 pub returns-in-Err-clause-any_moment : goal.returns-in-Err-clause-any_moment
 returns-in-Err-clause-any_moment g c =
     let start = g.D.Disk.state c.args.disk.now in
     widen start (g.D.Disk.state c.open.new.disk) (IsEntryOrLike client_area start)
-    (IsEntryOrFirst g.K.Kem.mechanism c.args.key.now.bytes c.args.side c.args.format start) (λ f left. inl left)
+    (IsEntryOrFirst g.K.Kem.mechanism (begin_of c.args.side c.args.format c.args.key.now) start) (λ f left. inl left)
     c.open.ensures.any_moment
 
 pub returns-in-Content-clause-unbegun : goal.returns-in-Content-clause-unbegun
@@ -53,7 +54,8 @@ returns-in-Err-begin-clause-unbegun g c = (
 pub returns-in-Err-first-clause-any_moment : goal.returns-in-Err-first-clause-any_moment
 returns-in-Err-first-clause-any_moment g c =
     let k = g.K.Kem.mechanism in
-    let begun = begun_client k c.args.key.now.bytes c.args.side c.args.format in
+    let begin = begin_of c.args.side c.args.format c.args.key.now in
+    let begun = begun_client k begin in
     let start = g.D.Disk.state c.args.disk.now in
     let mid = g.D.Disk.state c.open.new.disk in
     let now = g.D.Disk.state c.first.new.disk in
@@ -62,14 +64,15 @@ returns-in-Err-first-clause-any_moment g c =
     let putting : Span mid now (IsOldOrNew mid client_area None (Some (record_text begun))) =
     subst (λ (kept : Client). Span mid now (IsOldOrNew mid client_area None (Some (record_text kept))))
     c.in-Ok-begin.ensures.ok c.first.ensures.any_moment in
-    first_moments k c.readings.ensures c.args.key.now.bytes c.args.side c.args.format start mid now (g.met.D.Disk.lawful c.args.disk.now) none
+    first_moments k c.readings.ensures begin start mid now (g.met.D.Disk.lawful c.args.disk.now) none
     (c.in-Ok-begin.ensures.variant.0 refl)
     (λ f left. (c.in-Ok-open.ensures.opened.at_rest f left).1) c.open.ensures.any_moment putting
 
 pub returns-in-Err-first-clause-reads : goal.returns-in-Err-first-clause-reads
 returns-in-Err-first-clause-reads g c = λ s seen.
     let k = g.K.Kem.mechanism in
-    let begun = begun_client k c.args.key.now.bytes c.args.side c.args.format in
+    let begin = begin_of c.args.side c.args.format c.args.key.now in
+    let begun = begun_client k begin in
     let start = g.D.Disk.state c.args.disk.now in
     let mid = g.D.Disk.state c.open.new.disk in
     let now = g.D.Disk.state c.first.new.disk in
@@ -78,7 +81,7 @@ returns-in-Err-first-clause-reads g c = λ s seen.
     let putting : Span mid now (IsOldOrNew mid client_area None (Some (record_text begun))) =
     subst (λ (kept : Client). Span mid now (IsOldOrNew mid client_area None (Some (record_text kept))))
     c.in-Ok-begin.ensures.ok c.first.ensures.any_moment in
-    first_left k c.readings.ensures c.args.key.now.bytes c.args.side c.args.format start mid now (g.met.D.Disk.lawful c.args.disk.now) none
+    first_left k c.readings.ensures begin start mid now (g.met.D.Disk.lawful c.args.disk.now) none
     (c.in-Ok-begin.ensures.variant.0 refl)
     (λ f left. (c.in-Ok-open.ensures.opened.at_rest f left).1) c.open.ensures.any_moment putting
     s ((g.met.D.Disk.lawful c.first.new.disk).seen_now s seen)
@@ -86,7 +89,8 @@ returns-in-Err-first-clause-reads g c = λ s seen.
 pub returns-in-Ok-first-clause-any_moment : goal.returns-in-Ok-first-clause-any_moment
 returns-in-Ok-first-clause-any_moment g c =
     let k = g.K.Kem.mechanism in
-    let begun = begun_client k c.args.key.now.bytes c.args.side c.args.format in
+    let begin = begin_of c.args.side c.args.format c.args.key.now in
+    let begun = begun_client k begin in
     let start = g.D.Disk.state c.args.disk.now in
     let mid = g.D.Disk.state c.open.new.disk in
     let now = g.D.Disk.state c.first.new.disk in
@@ -95,14 +99,15 @@ returns-in-Ok-first-clause-any_moment g c =
     let putting : Span mid now (IsOldOrNew mid client_area None (Some (record_text begun))) =
     subst (λ (kept : Client). Span mid now (IsOldOrNew mid client_area None (Some (record_text kept))))
     c.in-Ok-begin.ensures.ok c.first.ensures.any_moment in
-    first_moments k c.readings.ensures c.args.key.now.bytes c.args.side c.args.format start mid now (g.met.D.Disk.lawful c.args.disk.now) none
+    first_moments k c.readings.ensures begin start mid now (g.met.D.Disk.lawful c.args.disk.now) none
     (c.in-Ok-begin.ensures.variant.0 refl)
     (λ f left. (c.in-Ok-open.ensures.opened.at_rest f left).1) c.open.ensures.any_moment putting
 
 pub returns-in-Ok-first-clause-reads : goal.returns-in-Ok-first-clause-reads
 returns-in-Ok-first-clause-reads g c = λ s seen.
     let k = g.K.Kem.mechanism in
-    let begun = begun_client k c.args.key.now.bytes c.args.side c.args.format in
+    let begin = begin_of c.args.side c.args.format c.args.key.now in
+    let begun = begun_client k begin in
     let start = g.D.Disk.state c.args.disk.now in
     let mid = g.D.Disk.state c.open.new.disk in
     let now = g.D.Disk.state c.first.new.disk in
@@ -111,7 +116,7 @@ returns-in-Ok-first-clause-reads g c = λ s seen.
     let putting : Span mid now (IsOldOrNew mid client_area None (Some (record_text begun))) =
     subst (λ (kept : Client). Span mid now (IsOldOrNew mid client_area None (Some (record_text kept))))
     c.in-Ok-begin.ensures.ok c.first.ensures.any_moment in
-    first_left k c.readings.ensures c.args.key.now.bytes c.args.side c.args.format start mid now (g.met.D.Disk.lawful c.args.disk.now) none
+    first_left k c.readings.ensures begin start mid now (g.met.D.Disk.lawful c.args.disk.now) none
     (c.in-Ok-begin.ensures.variant.0 refl)
     (λ f left. (c.in-Ok-open.ensures.opened.at_rest f left).1) c.open.ensures.any_moment putting
     s ((g.met.D.Disk.lawful c.first.new.disk).seen_now s seen)
@@ -124,7 +129,7 @@ returns-in-Ok-first-clause-in_worlds g c = λ other.
       lawful = (c.both_sides_follow.ensures k c.laws.ensures.law).lawful_opening key (formats_of c.args.side c.args.format other) (c.in-Ok-begin.ensures.variant.0 refl);
       keeps =
           c.in-Ok-first.ensures.keeps ∙ c.in-Ok-begin.ensures.ok
-          ∙ kept_first k key c.args.side c.args.format other;
+          ∙ kept_first k (begin_of c.args.side c.args.format c.args.key.now) other;
     }
 
 pub returns-in_default-clause-any_moment : goal.returns-in_default-clause-any_moment

@@ -1,21 +1,20 @@
-use Rattle.dr_model.specs.Machines.Acts.{act_on}
-use Rattle.client.specs.Drafting.{act_dropping, dropped_answer}
+use Rattle.dr_model.specs.Machines.Acts.{act_on, dropping}
+use Rattle.session_model.specs.declared.answer.Answer.TheVariants.{Dropped}
 use Rattle.client.specs.Outcomes.{dropped_as}
-use Rattle.client.proofs.Dropped.{dropping_fair}
 use Rattle.client.proofs.Lifted.{lift}
 use Rattle.client.proofs.Readiness.{dropped_ready}
 use Rattle.client.proofs.client.Client.drop_items.Goals as goal
 
 pub returns-clause-in_worlds : goal.returns-clause-in_worlds
 returns-clause-in_worlds g c = λ w side is.
-    lift g.K.Kem.mechanism c.grounds.ensures w side (act_dropping c.args.drops) c.args.self.now c.drop_exact.new.self is
-    g.D.Disk.state c.args.disk.now c.drop_exact.new.disk c.requires (λ _. dropping_fair g.K.Kem.mechanism w side c.args.drops)
-    (dropped_as (dropped_answer c.args.drops) c.drop_exact.result) c.drop_exact.ensures.exact
+    lift g.K.Kem.mechanism c.grounds.ensures w side (dropping c.args.items c.args.n) c.args.self.now c.drop_exact.new.self is
+    g.D.Disk.state c.args.disk.now c.drop_exact.new.disk c.requires (λ _. tt)
+    (dropped_as (Dropped c.args.items c.args.n) c.drop_exact.result) c.drop_exact.ensures.exact
 
 pub returns-clause-ready : goal.returns-clause-ready
 returns-clause-ready g c =
-    dropped_ready g.D.Disk.state (act_on g.K.Kem.mechanism c.args.self.now.kept (act_dropping c.args.drops)) c.args.self.now
-    c.drop_exact.new.self c.args.disk.now c.drop_exact.new.disk c.requires (dropped_answer c.args.drops) c.drop_exact.result
+    dropped_ready g.D.Disk.state (act_on g.K.Kem.mechanism c.args.self.now.kept (dropping c.args.items c.args.n)) c.args.self.now
+    c.drop_exact.new.self c.args.disk.now c.drop_exact.new.disk c.requires (Dropped c.args.items c.args.n) c.drop_exact.result
     c.drop_exact.ensures.exact
 
 pub returns-clause-exact : goal.returns-clause-exact

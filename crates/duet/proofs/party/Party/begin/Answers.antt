@@ -9,13 +9,13 @@ use Rattle.duet.proofs.party.Party.begin.Goals as goal
 pub begin_error-requires : goal.begin_error-requires
 begin_error-requires g c =
     let blank = c.in-Ok.ensures in
-    first_refusal g.K.Kem.mechanism c.args.key.now.bytes _ _ c.begin.new.disk (omega arith) blank c.in-Err.refusal
+    first_refusal g.K.Kem.mechanism c.args.begin.now _ _ c.begin.new.disk (omega arith) blank c.in-Err.refusal
     c.in-Err.ensures.unbegun (c.in-Err.ensures.fate blank.fresh.fate).0
 
 pub returns-in-Err-clause-none : goal.returns-in-Err-clause-none
 returns-in-Err-clause-none g c = λ is.
     let none : c.begin_error.result ≡ NoPair = cc in
-    (subst (IsUnbegun state_of g.K.Kem.mechanism c.args.key.now.bytes c.in-Ok.disk c.begin.new.disk)
+    (subst (IsUnbegun state_of g.K.Kem.mechanism c.args.begin.now c.in-Ok.disk c.begin.new.disk)
     (c.begin_error.ensures none) c.in-Err.ensures.unbegun).1
 
 pub returns-in-Ok-begin-clause-ok : goal.returns-in-Ok-begin-clause-ok

@@ -9,7 +9,7 @@ use Rattle.duet.specs.Acts.{act_of_call}
 use Rattle.duet.specs.Gathering.{gathered}
 use Rattle.duet.specs.Held.{DuetNow}
 use Rattle.duet.specs.Stops.{stopped_client}
-use Rattle.duet.proofs.Gathering.{acted_few, stopped_few}
+use Rattle.duet.proofs.Gathering.{acted_few, same_posts, stopped_few}
 use Rattle.duet.proofs.sides.Duet.act_stopped.Goals as goal
 
 pub gather-requires-clause-one : goal.gather-requires-clause-one
@@ -26,6 +26,20 @@ gather-requires-clause-one g c =
       ap (λ (x : Client). length x.outbox) (own_client s c.args.side left.next),
       ap (λ (m : Summary). m.outbox) c.summary-held.ensures,
       ap (λ (x : Client). length x.outbox) c.party.ensures.kept,
+    )
+
+pub gather-requires-clause-room : goal.gather-requires-clause-room
+gather-requires-clause-room g c =
+    let k = g.K.Kem.mechanism in
+    let s = c.args.self.sides in
+    let own = client_of s c.args.side in
+    let left = stopped_client c.args.stops.0 c.args.stops.1 own (settled own (act_on k own (act_of_call c.args.call))) in
+    omega (
+      arith,
+      c.requires.room,
+      ap (λ (x : DuetNow). length x.sides.posts) c.in-Ok.ensures.1,
+      ap (λ (x : DuetNow). x.room) c.in-Ok.ensures.1,
+      ap length (same_posts s c.args.side left.next),
     )
 
 pub returns-in-Ok : goal.returns-in-Ok

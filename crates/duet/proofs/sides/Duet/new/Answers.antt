@@ -1,28 +1,36 @@
-use Rattle.std.proofs.Common.{List, [], ◌∷◌, ap, ap₂, ◌∙◌, ◌≡◌, ℕ}
-use Rattle.dr_base.specs.declared.position.Side.TheVariants.{First}
-use Rattle.relay_core.specs.Boxes.{empty_box}
+use Rattle.std.proofs.Common.{List, None, [], ◌∷◌, ap, ap₂, ◌∙◌, ◌≡◌, ℕ}
+use Rattle.std.specs.Prelude.{vec_capacity}
+use Rattle.boxes.specs.Posts.{Post}
+use Rattle.dr_base.specs.declared.position.Side.TheVariants.{First, Second}
+use Rattle.dr_model.specs.Conversations.Formats.{Formats}
+use Rattle.dr_model.specs.Machines.Draws.{Draws}
+use Rattle.relay_core.specs.Boxes.{Box, empty_box}
 use Rattle.relay_link.specs.Connections.{boxes_now}
 use Rattle.relay_link.proofs.Bringing.{same_boxes}
 use Rattle.client.specs.Syncing.Lines.{own_box, peers_box}
+use Rattle.duet.specs.Held.{duet_now, opening_of}
 use Rattle.duet.specs.Outcomes.{opening_boxes}
-use Rattle.duet.specs.Held.{opening_client}
-use Rattle.duet.specs.Shuts.{PartyNow}
+use Rattle.duet.specs.Shuts.{PartyNow, open_party}
 use Rattle.duet.proofs.sides.Duet.new.Goals as goal
 
 pub returns-in-Ok-begin-2-clause-ok : goal.returns-in-Ok-begin-2-clause-ok
 returns-in-Ok-begin-2-clause-ok g c =
+    let k = g.K.Kem.mechanism in
+    let key = c.args.key.now.bytes in
+    let both : Formats = record { first = c.args.first_format; second = c.args.second_format } in
+    let begun = opening_of k key both First in
     let first = c.in-Ok-begin.ensures.ok in
+    let second = c.in-Ok-begin-2.ensures.ok in
     let names = c.names-names.result in
-    let begun = opening_client g.K.Kem.mechanism c.args.key.now.bytes First c.args.first_format in
     let boxes : boxes_now c.in-Ok-new.relay ≡ opening_boxes begun =
     ap boxes_now c.in-Ok-new.ensures ∙ same_boxes (empty_box names.own ∷ empty_box names.peers ∷ [])
     ∙ ap₂ (λ (own peers : List ℕ). empty_box own ∷ empty_box peers ∷ []) (c.names-names.ensures.own ∙ ap (λ (p : PartyNow). own_box p.kept) first) (c.names-names.ensures.peers ∙ ap (λ (p : PartyNow). peers_box p.kept) first) in
-    let second = c.in-Ok-begin-2.ensures.ok in
-    let posts = c.in-Ok.ensures.items in
-    let room = c.in-Ok.ensures.exact in
-    let draws = c.new-in-Ok-begin-2.ensures in
-    let kept_first = ap (λ (p : PartyNow). p.kept) first in
-    let shut_first = ap (λ (p : PartyNow). p.shut) first in
-    let kept_second = ap (λ (p : PartyNow). p.kept) second in
-    let shut_second = ap (λ (p : PartyNow). p.shut) second in
-    cc
+    ap₂ (λ (a b : PartyNow).
+    duet_now key a b c.in-Ok.posts.items c.new-in-Ok-begin-2.result (boxes_now c.in-Ok-new.relay) (vec_capacity c.in-Ok.posts))
+    first second
+    ∙ ap₂ (λ (posts : List Post) (draws : Draws).
+    duet_now key (open_party begun) (open_party (opening_of k key both Second)) posts draws (boxes_now c.in-Ok-new.relay) (vec_capacity c.in-Ok.posts))
+    c.in-Ok.ensures.items c.new-in-Ok-begin-2.ensures
+    ∙ ap₂ (λ (held : List Box) (room : ℕ).
+    duet_now key (open_party begun) (open_party (opening_of k key both Second)) [] (record { made = 0; given = None }) held room)
+    boxes c.in-Ok.ensures.exact

@@ -4,13 +4,13 @@ use Rattle.session_model.specs.Seen.{seen}
 use Rattle.session_model.specs.States.{State}
 use Rattle.session_model.specs.Taking.{draft_receive, opened_by}
 use Rattle.session_model.specs.Ways.{way_of}
-use Rattle.ratchet.specs.Seen.{kept_in, received, text_in}
+use Rattle.ratchet.specs.Seen.{kept_in, received}
 use Rattle.ratchet.proofs.session.Session.draft_receive.Goals as goal
 
 pub returns-in-Ok-open_text-clause-exact : goal.returns-in-Ok-open_text-clause-exact
 unfolding draft_receive
 returns-in-Ok-open_text-clause-exact g c =
-    let text = text_in (c.in-Ok-open_text.start, c.in-Ok-open_text.len) c.open_text.new.sealed.items in
+    let text = c.in-Ok-open_text.text.now in
     let at : ℕ → ℕ → Position = λ e i. record { epoch = e; index = i } in
     let next = λ (s : State). seen c.find_key.new.next (kept_in s.kept c.find_key.new.table) in
     ap (λ table. Ok (received (at c.epoch.result c.index.result) text
