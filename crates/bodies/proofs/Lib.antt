@@ -1,4 +1,12 @@
 pub mod Padded
+pub mod Passing
+pub mod ReceiptGrammar
+pub mod Listed
+pub mod Covered
+pub mod Heads
+pub mod Lengths
 pub mod Sealed
+pub mod Taken
+pub mod HeadsTaken
 pub mod Opened
 pub mod Short

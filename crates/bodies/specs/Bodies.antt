@@ -1,27 +1,46 @@
--- What a packet seals, by its version: a text as it is, or a text padded.
-use Rattle.std.specs.Prelude.{◌≡◌, ℕ, ◌+◌, ◌≤◌, ◌==◌, List, length, take, drop, Option, Some, None, if◌then◌else◌}
+-- What a packet seals, by its version: a text as it is; a text padded; or a receipt, a kind and a
+-- text, padded together.
+use Rattle.std.specs.Prelude.{◌≡◌, ℕ, ◌+◌, ◌≤◌, ◌==◌, ◌&&◌, Bool, nat_le, List, [], ◌++◌, length, take, drop, Option, Some, None, Result, Ok, Err, if◌then◌else◌}
+use Rattle.std.specs.Int.{w8, to_be_bytes}
 use Rattle.dr_base.specs.declared.limits.TheConstants.{PLAIN, TEXT_LIMIT}
-use Rattle.bodies.specs.Padding.{padded_len, padded, unpadded}
+use Rattle.dr_base.specs.declared.position.Side.{Side}
+use Rattle.grammar.specs.Reader.{Read, Reader, both, gives, number}
+use Rattle.bodies.specs.Padding.{padded, unpadded}
+use Rattle.bodies.specs.Receipts.{Receipt, receipt_field, receipt_text}
+use Rattle.bodies.specs.declared.limits.TheConstants.{BODY_LIMIT, RECEIPTS, TEXT_KIND}
 
 -- what an opened packet holds
 pub record Body : Type 0 where
+  pub receipt : Option Receipt
+  pub kind : ℕ
   pub content : List ℕ
 
 -- a text alone
 abbrev pub text_body : List ℕ → Body
-text_body text = record { content = text }
+text_body text = record { receipt = None; kind = TEXT_KIND; content = text }
+
+-- the contents of a kind: those of a text
+abbrev pub is_content : ℕ → List ℕ → Bool
+is_content kind content = (kind == TEXT_KIND) && nat_le (length content) TEXT_LIMIT
+
+-- ---- sealed
+
+-- what a packet of a version has before the content: one with receipts the receipt and the kind
+unfoldable pub body_head : ℕ → Body → List ℕ
+body_head version body =
+    if version == RECEIPTS then receipt_text body.receipt ++ to_be_bytes w8 body.kind else []
+
+abbrev pub body_text : ℕ → Body → List ℕ
+body_text version body = body_head version body ++ body.content
 
 -- the bytes that a packet of a version seals
 unfoldable pub sealed_body : ℕ → Body → List ℕ
-sealed_body version body = if version == PLAIN then body.content else padded body.content
-
--- how many they are, where the content has so many
-unfoldable pub sealed_len : ℕ → ℕ → ℕ
-sealed_len version n = if version == PLAIN then n else padded_len n
+sealed_body version body =
+    if version == PLAIN then body.content else padded (body_text version body)
 
 -- how many of them stand before the content
-abbrev pub body_place : ℕ → ℕ
-body_place version = if version == PLAIN then 0 else 2
+abbrev pub body_place : ℕ → Body → ℕ
+body_place version body = if version == PLAIN then 0 else 2 + length (body_head version body)
 
 -- from a place on, the bytes are first those of a content
 pub record HasContentAt (bytes : List ℕ) (place : ℕ) (content : List ℕ) : Type 0 where
@@ -30,11 +49,30 @@ pub record HasContentAt (bytes : List ℕ) (place : ℕ) (content : List ℕ) : 
 
 -- ---- opened
 
-abbrev pub as_text : Option (List ℕ) → Option Body
-as_text None = None
-as_text (Some text) = Some (text_body text)
+-- the receipt and the kind, read by an opener of a side
+unfoldable pub head_field : ℕ → Side → Reader (Option Receipt × ℕ)
+head_field version side at bytes =
+    if version == RECEIPTS then both (receipt_field side) (λ _. number w8) at bytes
+    else gives (None, TEXT_KIND) at bytes
 
--- what the bytes of an opened packet are; None is a padding that is wrong
-unfoldable pub opened_body : ℕ → List ℕ → Option Body
-opened_body version bytes =
-    if version == PLAIN then Some (text_body bytes) else as_text (unpadded TEXT_LIMIT bytes)
+-- what follows them is the content, if it is one of that kind
+abbrev pub with_content : Result (Read (Option Receipt × ℕ)) ℕ → Option Body
+with_content (Ok x) =
+    if is_content x.value.1 x.rest
+    then Some (record { receipt = x.value.0; kind = x.value.1; content = x.rest })
+    else None
+with_content (Err at) = None
+
+abbrev pub body_read : ℕ → Side → List ℕ → Option Body
+body_read version side bytes = with_content (head_field version side 0 bytes)
+
+abbrev pub as_body : ℕ → Side → Option (List ℕ) → Option Body
+as_body version side None = None
+as_body version side (Some bytes) = body_read version side bytes
+
+-- what the bytes of an opened packet are, where this is its opener's side; None is a padding that
+-- is wrong
+unfoldable pub opened_body : ℕ → Side → List ℕ → Option Body
+opened_body version side bytes =
+    if version == PLAIN then Some (text_body bytes)
+    else as_body version side (unpadded BODY_LIMIT bytes)

@@ -1,9 +1,63 @@
--- The bodies that a packet of a version may have.
-use Rattle.std.specs.Prelude.{◌≢◌, ℕ, ◌≤◌, length}
+-- The bodies that a packet of a version may have, and what a receipt says.
+use Rattle.std.specs.Prelude.{◌≡◌, ◌≢◌, ℕ, ◌<◌, ◌^◌, ◌≤◌, ⊤, true, false, List, length, AllPairs, All, Option, Some, None}
+use Rattle.std.specs.List.{list_any}
+use Rattle.dr_base.specs.Position.{is_at, is_own}
 use Rattle.dr_base.specs.declared.limits.TheConstants.{PLAIN, TEXT_LIMIT}
+use Rattle.dr_base.specs.declared.position.Position.{Position}
+use Rattle.dr_base.specs.declared.position.Side.{Side}
 use Rattle.bodies.specs.Bodies.{Body}
+use Rattle.bodies.specs.Receipts.{Receipt}
+use Rattle.bodies.specs.declared.limits.TheConstants.{RECEIPTS, RECEIPT_LIMIT, TEXT_KIND}
 
--- A padded content is no longer than the longest text. Of a plain one nothing is asked: the
--- packet's own grammar bounds what it seals.
-pub record IsLawfulBody (version : ℕ) (body : Body) : Type 0 where
+-- p comes before q
+abbrev pub IsBefore : Position → Position → Type 0
+IsBefore p q = (p.epoch ≤ q.epoch) × (p.epoch ≡ q.epoch → p.index < q.index)
+
+-- p stands at q or before it
+abbrev pub IsUpTo : Position → Position → Type 0
+IsUpTo q p = (p.epoch ≤ q.epoch) × (p.epoch ≡ q.epoch → p.index ≤ q.index)
+
+-- its numbers fit their fields
+pub record FitsFields (p : Position) : Type 0 where
+  pub epoch : p.epoch < 2 ^ 32
+  pub index : p.index < 2 ^ 32
+
+-- a position of a side's, from index 1 on, up to a bound
+pub record IsListed (side : Side) (bound p : Position) : Type 0 where
+  pub own : is_own side p.epoch ≡ true
+  pub from_one : 1 ≤ p.index
+  pub up_to : IsUpTo bound p
+  pub fits : FitsFields p
+
+-- positions of a side's, in their order, up to a bound in one of the side's epochs
+pub record AreListed (side : Side) (bound : Position) (list : List Position) : Type 0 where
+  pub own : is_own side bound.epoch ≡ true
+  pub fits : FitsFields bound
+  pub each : All (IsListed side bound) list
+  pub ascending : AllPairs IsBefore list
+
+-- a receipt that a side may open: it lists few of the side's positions
+pub record IsLawfulReceipt (side : Side) (r : Receipt) : Type 0 where
+  pub few : length r.listed ≤ RECEIPT_LIMIT
+  pub listed : AreListed side r.bound r.listed
+
+abbrev pub IsReceiptOrNone : Side → Option Receipt → Type 0
+IsReceiptOrNone side None = ⊤
+IsReceiptOrNone side (Some r) = IsLawfulReceipt side r
+
+-- A body that a side may open: a text, which is no longer than the longest one, and a receipt for
+-- that side or none. Of the length of a plain text nothing is asked: the packet's own grammar
+-- bounds what it seals.
+pub record IsLawfulBody (version : ℕ) (side : Side) (body : Body) : Type 0 where
+  pub receipt : IsReceiptOrNone side body.receipt
+  -- only packets with receipts have one
+  pub alone : version ≢ RECEIPTS → body.receipt ≡ None
+  pub kind : body.kind ≡ TEXT_KIND
   pub fits : version ≢ PLAIN → length body.content ≤ TEXT_LIMIT
+
+-- what a receipt says of a position p, where its sender has read a side's texts up to a position,
+-- and misses some: p is one of that side's, up to there, and its text isn't missing
+pub record IsOpenedAt (side : Side) (missing : List Position) (reached p : Position) : Type 0 where
+  pub own : is_own side p.epoch ≡ true
+  pub up_to : IsUpTo reached p
+  pub opened : list_any (is_at p) missing ≡ false

@@ -2,11 +2,14 @@
 
 ghost use Rattle.std.specs.Prelude.{◌≡◌, ◌≢◌, ◌≤◌, option_map, length, IfSome};
 ghost use Rattle.grammar.specs.Standing.{Reads};
-ghost use Rattle.bodies.specs.Bodies.{HasContentAt, body_place, opened_body, text_body};
+ghost use Rattle.bodies.specs.Bodies.{HasContentAt, body_place, body_read, is_content, opened_body};
 ghost use Rattle.bodies.specs.Padding.{are_zeros, padded_field, unpadded};
 
-use crate::padding::{LENGTH, filling};
-use dr_base::{PLAIN, TEXT_LIMIT};
+use crate::body::Body;
+use crate::limits::{BODY_LIMIT, TEXT_KIND};
+use crate::padding::filling;
+use crate::reading::read_head;
+use dr_base::{PLAIN, Side, TEXT_LIMIT};
 use grammar::Cursor;
 
 /// Whether all are zeros.
@@ -16,14 +19,14 @@ fn are_zeros(bytes: &[u8]) -> bool
     bytes.iter().all(|byte| *byte == 0)
 }
 
-/// A padded text.
+/// What is padded, and its padding.
 #[tactic(auto, unfolding(crate::specs::Padding::padded_field))]
 fn read_padded<'a>(cursor: &mut Cursor<'a>) -> Result<&'a [u8], usize>
-    ensures { Reads (λ text. text.now) (padded_field TEXT_LIMIT) cursor.old cursor.new result }
+    ensures { Reads (λ text. text.now) (padded_field BODY_LIMIT) cursor.old cursor.new result }
 {
     let at = cursor.at();
     let len = usize::from(cursor.number16()?);
-    if len > TEXT_LIMIT {
+    if len > BODY_LIMIT {
         return Err(at);
     }
     let text = cursor.piece(len)?;
@@ -35,10 +38,10 @@ fn read_padded<'a>(cursor: &mut Cursor<'a>) -> Result<&'a [u8], usize>
     Ok(text)
 }
 
-/// The text that bytes are the padding of.
+/// What bytes are the padding of.
 #[tactic(auto, unfolding(crate::specs::Padding::unpadded))]
 fn unpadded(bytes: &[u8]) -> Option<&[u8]>
-    ensures { option_map (λ text. text.now) result ≡ unpadded TEXT_LIMIT bytes.now }
+    ensures { option_map (λ text. text.now) result ≡ unpadded BODY_LIMIT bytes.now }
 {
     let mut cursor = Cursor::new(bytes);
     let Ok(text) = read_padded(&mut cursor) else {
@@ -47,25 +50,47 @@ fn unpadded(bytes: &[u8]) -> Option<&[u8]>
     if cursor.is_at_end() { Some(text) } else { None }
 }
 
-/// How many of the bytes that a packet of a version seals stand before the content.
-pub fn body_place(version: u8) -> usize
-    ensures { result ≡ body_place version }
+/// Whether a kind may have a content.
+fn is_content(kind: u8, content: &[u8]) -> bool
+    ensures { result ≡ is_content kind content.now }
 {
-    if version == PLAIN { 0 } else { LENGTH }
+    kind == TEXT_KIND && content.len() <= TEXT_LIMIT
 }
 
-/// The content that the bytes of an opened packet of a version hold, lent from its place in them.
-/// Nothing is found exactly where their padding is wrong, which a plain packet's never is.
+/// The body that a packet of a version has as these bytes, if they are one.
+fn read_body(version: u8, side: Side, bytes: &[u8]) -> Option<Body<'_>>
+    ensures { result ≡ body_read version side bytes.now }
+{
+    let mut cursor = Cursor::new(bytes);
+    let Ok((receipt, kind)) = read_head(&mut cursor, version, side) else {
+        return None;
+    };
+    let (_, content) = bytes.split_at(cursor.at());
+    if !is_content(kind, content) {
+        return None;
+    }
+    Some(Body {
+        receipt,
+        kind,
+        content,
+    })
+}
+
+/// The body that the bytes of an opened packet of a version hold, where this is the side that opens
+/// it; the content is lent from its place in them. Nothing is found exactly where they are no
+/// padding of a lawful body, which a plain packet's always are.
 #[tactic(auto, unfolding(crate::specs::Bodies::opened_body))]
-pub fn open_body(version: u8, bytes: &[u8]) -> Option<&[u8]>
-    ensures opens { option_map (λ content. text_body content.now) result
-        ≡ opened_body version bytes.now }
-    ensures place { IfSome result (λ content.
-        HasContentAt bytes.now (body_place version) content.now) }
-    ensures fits { version ≢ PLAIN → IfSome result (λ content. length content.now ≤ TEXT_LIMIT) }
+pub fn open_body(version: u8, side: Side, bytes: &[u8]) -> Option<Body<'_>>
+    ensures opens { result ≡ opened_body version side bytes.now }
+    ensures place { IfSome result (λ body.
+        HasContentAt bytes.now (body_place version body) body.content) }
+    ensures fits { version ≢ PLAIN → IfSome result (λ body. length body.content ≤ TEXT_LIMIT) }
 {
     if version == PLAIN {
-        return Some(bytes);
+        return Some(Body::text(bytes));
     }
-    unpadded(bytes)
+    match unpadded(bytes) {
+        Some(text) => read_body(version, side, text),
+        None => None,
+    }
 }

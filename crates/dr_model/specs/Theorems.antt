@@ -6,3 +6,4 @@ pub mod Sessions
 pub mod Erasure
 pub mod Acting
 pub mod ViewWorlds
+pub mod Receipts

@@ -7,6 +7,7 @@ ghost use Rattle.dr_model.specs.Theorems.Acting.{ActsFollow};
 ghost use Rattle.dr_model.specs.Theorems.Erasure.{IsErased};
 ghost use Rattle.dr_model.specs.Theorems.Following.{Follows};
 ghost use Rattle.dr_model.specs.Theorems.Headline.{Headline};
+ghost use Rattle.dr_model.specs.Theorems.Receipts.{ReceiptsAreTrue};
 ghost use Rattle.dr_model.specs.Theorems.ViewWorlds.{ViewsHaveWorlds};
 ghost use Rattle.dr_model.specs.Theorems.Sessions.{SessionsAgree};
 ghost use Rattle.kem_laws.specs.Mechanism.{IsLawfulMechanism, Mechanism};
@@ -58,4 +59,12 @@ pub fn one_draft_is_accepted()
     ensures { (k : Mechanism) (s : State) (first second : SendDraft) → IsSendDraft k s first
         → IsSendDraft k s second
         → IsSendDraft k first.next second → ⊥ }
+{}
+
+/// Receipts are true: the receipt that a side would send in a lawful view covers only texts that it
+/// has opened there, and the other side may open it; and whatever is opened and said later, what it
+/// covers was opened, also at the end of every run, over any mechanism. No packet carries receipts
+/// yet: this is said of what a conversation and its views show.
+pub fn receipts_are_true()
+    ensures { (k : Mechanism) → ReceiptsAreTrue k }
 {}

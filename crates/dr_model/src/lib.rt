@@ -4,8 +4,8 @@
 #![tactic(auto)]
 
 pub use laws::{
-    acts_follow, both_sides_follow, erasure, headline, one_draft_is_accepted, sessions_agree,
-    views_have_worlds,
+    acts_follow, both_sides_follow, erasure, headline, one_draft_is_accepted, receipts_are_true,
+    sessions_agree, views_have_worlds,
 };
 
 mod laws;

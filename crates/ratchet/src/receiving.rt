@@ -14,7 +14,7 @@ use crate::session::Session;
 use crate::table::{kept_in, settle};
 use crate::way::find_key;
 use bodies::open_body;
-use dr_base::Position;
+use dr_base::{Position, Side};
 use etm_aead::OpenKey;
 use fs_aead::Skipped;
 use kem_laws::Kem;
@@ -127,8 +127,9 @@ fn open_text<'a>(
         Err(_) => return Err(ReceiveRefusal::BadTag),
         Ok(()) => {}
     }
-    match open_body(view.version(), message.as_slice()) {
-        Some(text) => Ok(text),
+    let side = Side::of_epoch(view.epoch()).peer();
+    match open_body(view.version(), side, message.as_slice()) {
+        Some(body) => Ok(body.content),
         None => Err(ReceiveRefusal::BadPadding),
     }
 }

@@ -7,7 +7,7 @@ ghost use Rattle.etm_aead.specs.Seal.{ciphertext_of, tag_of};
 ghost use Rattle.packet.specs.Packet.{IsLawful};
 ghost use Rattle.session_model.specs.Sealing.{posted, sealing};
 
-use bodies::{put_sealed, sealed_len};
+use bodies::{Body, put_sealed, sealed_len};
 use dr_base::{AGREEMENT_LIMIT, PACKET_LIMIT, Position, SEALED_LIMIT, TEXT_LIMIT, put};
 use etm_aead::SealKey;
 use packet::write_ad;
@@ -46,9 +46,10 @@ pub fn seal_packet(
         position previous agreement.now key (text_body text.now) }
     ensures fits { result ≤ PACKET_LIMIT }
 {
-    let len = sealed_len(version, text.len());
+    let body = Body::text(text);
+    let len = sealed_len(version, &body);
     let at_text = write_ad(version, session, position, previous, agreement, len, room);
-    let at_tag = put_sealed(version, room, at_text, text);
+    let at_tag = put_sealed(version, room, at_text, &body);
     let tag = seal_from(key, &mut room[..at_tag], at_text);
     put(room, at_tag, &tag)
 }

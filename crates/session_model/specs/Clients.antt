@@ -1,5 +1,5 @@
 -- One side with its boxes.
-use Rattle.std.specs.Prelude.{Bool, Err, List, None, Ok, Option, Result, Some, [], drop, if◌then◌else◌, length, nat_le, nat_lt, ℕ, ◌++◌, ◌∷◌}
+use Rattle.std.specs.Prelude.{Bool, Err, List, None, Ok, Option, Result, Some, [], if◌then◌else◌, length, nat_le, nat_lt, ℕ, ◌++◌, ◌∷◌}
 use Rattle.dr_base.specs.declared.limits.TheConstants.{TEXT_LIMIT, INBOX_LIMIT, OUTBOX_LIMIT}
 use Rattle.boxes.specs.Entries.{Entry, entry_under}
 use Rattle.boxes.specs.Posts.{Post}
@@ -13,7 +13,7 @@ use Rattle.session_model.specs.Saying.{SendDraft, draft_send, send_check}
 use Rattle.session_model.specs.States.{State}
 use Rattle.session_model.specs.Taking.{ReceiveDraft, draft_receive}
 use Rattle.session_model.specs.declared.answer.Refusal.{Refusal}
-use Rattle.session_model.specs.declared.answer.Refusal.TheVariants.{Fewer, InboxFull, Malformed as Unreadable, NoPair, OutboxFull, TextTooLong}
+use Rattle.session_model.specs.declared.answer.Refusal.TheVariants.{InboxFull, Malformed as Unreadable, NoPair, OutboxFull, TextTooLong}
 use Rattle.session_model.specs.declared.answer.Summary.{Summary}
 
 pub record Client : Type 0 where
@@ -65,10 +65,6 @@ take_read k client (Ok f) = accept_receive client (draft_receive k client.state 
 -- what a client answers to bytes
 unfoldable pub take_on : Mechanism → Client → List ℕ → Result TakenPacket Refusal
 take_on k client bytes = take_read k client (read_packet (agreement_size k) bytes)
-
--- the oldest of a box are dropped
-abbrev pub dropped_of : {T : Type 0} → ℕ → List T → Result (List T) Refusal
-dropped_of n box = if nat_le n (length box) then Ok (drop n box) else Err (Fewer (length box))
 
 abbrev pub summary_of : Client → Summary
 summary_of client = record {

@@ -2,6 +2,7 @@
 use Rattle.std.specs.Cmp.Lexicographic.{pointwise}
 use Rattle.std.specs.Prelude.{Err, List, None, Ok, Option, Result, Some, if◌then◌else◌, nat_eq, ℕ}
 use Rattle.bodies.specs.Bodies.{Body, opened_body}
+use Rattle.dr_base.specs.Position.{peer_of, side_of}
 use Rattle.dr_base.specs.declared.position.Position.{Position}
 use Rattle.etm_aead.specs.Seal.{ciphertext_of, tag_of}
 use Rattle.kem_laws.specs.Mechanism.{Mechanism}
@@ -22,11 +23,12 @@ abbrev pub opened_as : Fields → Way → Option Body → Result ReceiveDraft Re
 opened_as f way None = Err BadPadding
 opened_as f way (Some body) = Ok (record { position = position_of f; text = body.content; next = way.next })
 
--- on the way to a packet's key: whether its tag is the one under that key, and then what its bytes are
+-- on the way to a packet's key: whether its tag is the one under that key, and then what its bytes are to whoever opens
+-- it, the other party of the one whose epoch it is
 abbrev pub opening_on : Fields → Way → Result ReceiveDraft Refusal
 opening_on f way =
     if pointwise nat_eq f.tag (tag_of way.key (ad_of f) f.ciphertext)
-    then opened_as f way (opened_body f.version (ciphertext_of way.key f.ciphertext))
+    then opened_as f way (opened_body f.version (peer_of (side_of f.epoch)) (ciphertext_of way.key f.ciphertext))
     else Err BadTag
 
 abbrev pub opened_by : Fields → Result Way Refusal → Result ReceiveDraft Refusal

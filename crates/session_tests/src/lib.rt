@@ -21,6 +21,8 @@ mod packets;
 #[cfg(test)]
 mod padded;
 #[cfg(test)]
+mod receipts;
+#[cfg(test)]
 mod record;
 #[cfg(test)]
 mod stand_in;

@@ -2,10 +2,34 @@
 //! implementation.
 
 use crate::versions::has_digest;
-use bodies::{bodies_law, body_place, lengths_law, open_body, put_sealed, sealed_len};
-use dr_base::{PADDED, PLAIN, SEALED_LIMIT, TEXT_LIMIT, put, put_u16};
+use bodies::{
+    Body, bodies_law, body_place, lengths_law, limits_in_numbers, open_body, put_sealed, sealed_len,
+};
+use dr_base::{PADDED, PLAIN, SEALED_LIMIT, Side, TEXT_LIMIT, put, put_u16};
 use std::alloc::Global;
 use std::test::Fail;
+
+/// The content of what First opens.
+fn opened(version: u8, bytes: &[u8]) -> Option<&[u8]> {
+    match open_body(version, Side::First, bytes) {
+        Some(body) => Some(body.content),
+        None => None,
+    }
+}
+
+/// Whether a text is sealed as so many bytes with this SHA-256, and opened again.
+fn seals_text(alloc: Global, text: &[u8], len: usize, sha256: &str) -> Result<bool, Fail> {
+    if text.len() > TEXT_LIMIT {
+        return Ok(false);
+    }
+    let body = Body::text(text);
+    let mut room = [255; SEALED_LIMIT];
+    let said_len = sealed_len(PADDED, &body);
+    let end = put_sealed(PADDED, &mut room, 0, &body);
+    let sealed = &room[..end];
+    let is_right = (said_len, end) == (len, len) && opened(PADDED, sealed) == Some(text);
+    Ok(is_right && has_digest(alloc, sealed, sha256)?)
+}
 
 /// Whether so many times a letter are sealed as so many bytes with this SHA-256, and opened again.
 fn seals(alloc: Global, letter: u8, count: usize, len: usize, sha256: &str) -> Result<bool, Fail> {
@@ -13,13 +37,7 @@ fn seals(alloc: Global, letter: u8, count: usize, len: usize, sha256: &str) -> R
         return Ok(false);
     }
     let letters = [letter; TEXT_LIMIT];
-    let text = &letters[..count];
-    let mut room = [255; SEALED_LIMIT];
-    let said_len = sealed_len(PADDED, count);
-    let end = put_sealed(PADDED, &mut room, 0, text);
-    let sealed = &room[..end];
-    let is_right = (said_len, end) == (len, len) && open_body(PADDED, sealed) == Some(text);
-    Ok(is_right && has_digest(alloc, sealed, sha256)?)
+    seals_text(alloc, &letters[..count], len, sha256)
 }
 
 #[test]
@@ -89,8 +107,10 @@ fn opens(number: u16, letters: usize, zeros: usize, last: &[u8], text: Option<us
     let at_zeros = put(&mut room, at_letters, &LETTERS[..letters]);
     let at_last = put(&mut room, at_zeros, &ZEROS[..zeros]);
     let end = put(&mut room, at_last, last);
-    match (open_body(PADDED, &room[..end]), text) {
-        (Some(content), Some(len)) => room[body_place(PADDED)..].get(..len) == Some(content),
+    match (open_body(PADDED, Side::First, &room[..end]), text) {
+        (Some(body), Some(len)) => {
+            room[body_place(PADDED, &body)..].get(..len) == Some(body.content)
+        }
         (None, None) => true,
         _ => false,
     }
@@ -129,14 +149,16 @@ fn opens_what_is_padded(rt: HostRuntime) {
 /// Whether a plain packet seals a text as it is, and is opened as any bytes.
 fn is_plain() -> bool {
     let mut room = [255; 2];
-    sealed_len(PLAIN, 2) == 2
-        && put_sealed(PLAIN, &mut room, 0, b"hi") == 2
+    let body = Body::text(b"hi");
+    sealed_len(PLAIN, &body) == 2
+        && put_sealed(PLAIN, &mut room, 0, &body) == 2
         && room == *b"hi"
-        && body_place(PLAIN) == 0
-        && open_body(PLAIN, b"\xff\xff\x00") == Some(b"\xff\xff\x00".as_slice())
+        && body_place(PLAIN, &body) == 0
+        && opened(PLAIN, b"\xff\xff\x00") == Some(b"\xff\xff\x00".as_slice())
 }
 
 #[test]
 fn seals_plain(rt: HostRuntime) {
+    limits_in_numbers();
     assert!(rt; is_plain());
 }

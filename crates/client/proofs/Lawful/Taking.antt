@@ -174,7 +174,7 @@ opened_on s f way draft peers is =
     (record {
       peers = peers;
       place = refl;
-      short = λ plain. opened_short f.version _ o.body o.opens
+      short = λ plain. opened_short f.version _ _ o.body o.opens
           (λ version. omega (arith, plain version, length-ciphertext_of way.key f.ciphertext));
     })
 

@@ -10,7 +10,7 @@ use Rattle.std.proofs.lemmas.Slice.Eq.{bytes_eq-Decides}
 use Rattle.dr_base.specs.declared.limits.TheConstants.{TEXT_LIMIT, INDEX_LIMIT}
 use Rattle.bodies.specs.Bodies.{opened_body, sealed_body, text_body}
 use Rattle.cka.specs.Agreement.{agreement_size}
-use Rattle.dr_base.specs.Position.{is_own}
+use Rattle.dr_base.specs.Position.{is_own, peer_of, side_of}
 use Rattle.dr_base.specs.declared.position.Position.{Position}
 use Rattle.fs_aead.specs.Chain.{message_key}
 use Rattle.etm_aead.specs.Seal.{ciphertext_of, tag_of}
@@ -171,7 +171,7 @@ opened_by-key k c p way short same =
     let tagged : pointwise nat_eq f.tag tag ≡ true = ap (λ t. pointwise nat_eq f.tag t) (sym (tag-fields k c p way.key same))
     ∙ same_bytes f.tag in
     cond-true (pointwise nat_eq f.tag tag) _ (Err BadTag) tagged
-    ∙ ap (λ bytes. opened_as f way (opened_body f.version bytes))
+    ∙ ap (λ bytes. opened_as f way (opened_body f.version (peer_of (side_of f.epoch)) bytes))
     (ap (λ key. ciphertext_of key f.ciphertext) same
     ∙ ciphertext_of-ciphertext_of (message_key (turn_of_epoch k c p.epoch).stream p.index) (sealed_at c p))
-    ∙ ap (opened_as f way) (opened_sealed (epoch_format c p.epoch) (text_at c p) short)
+    ∙ ap (opened_as f way) (opened_sealed (epoch_format c p.epoch) _ (text_at c p) short)

@@ -1,13 +1,17 @@
-use Rattle.std.proofs.Common.{refl}
-use Rattle.dr_base.specs.declared.limits.TheConstants.{PLAIN}
-use Rattle.bodies.proofs.Sealed.{length-sealed_body, sealed_len-plain, sealed_len-padded}
+use Rattle.bodies.proofs.Lengths.{alone_text, length-plain, length-receipt, length-sealed, length-told}
 use Rattle.bodies.proofs.law.lengths_law.Goals as goal
 
-pub returns-clause-sealed : goal.returns-clause-sealed
-returns-clause-sealed c = length-sealed_body
-
 pub returns-clause-plain : goal.returns-clause-plain
-returns-clause-plain c = λ n. sealed_len-plain PLAIN n refl
+returns-clause-plain c = length-plain
 
 pub returns-clause-padded : goal.returns-clause-padded
-returns-clause-padded c = sealed_len-padded
+returns-clause-padded c = length-sealed
+
+pub returns-clause-alone : goal.returns-clause-alone
+returns-clause-alone c = alone_text
+
+pub returns-clause-told : goal.returns-clause-told
+returns-clause-told c = length-told
+
+pub returns-clause-receipt : goal.returns-clause-receipt
+returns-clause-receipt c = length-receipt

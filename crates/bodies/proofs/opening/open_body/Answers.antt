@@ -1,25 +1,15 @@
-use Rattle.std.proofs.Common.{◌≡◌, ℕ, Bool, List, Option, Some, None, length, ◌≤◌, option_map, IfSome, sym, subst, if◌then◌else◌}
-use Rattle.dr_base.specs.declared.limits.TheConstants.{TEXT_LIMIT}
-use Rattle.bodies.specs.Bodies.{HasContentAt, body_place}
-use Rattle.bodies.proofs.Opened.{unpadded-place}
-use Rattle.bodies.proofs.Sealed.{other_version}
+use Rattle.std.proofs.Common.{◌≡◌, ◌∙◌, Option, Some, None, IfSome, refl, sym}
+use Rattle.bodies.specs.Bodies.{Body}
+use Rattle.bodies.proofs.Opened.{opened-padded, opened-place}
 use Rattle.bodies.proofs.opening.open_body.Goals as goal
 
--- what holds of the text that there is holds of what lends it
-of_text : {X : Type 0} (view : X → List ℕ) (P : List ℕ → Type 0) (o : Option X) (r : Option (List ℕ))
-    → option_map view o ≡ r → ((text : List ℕ) → r ≡ Some text → P text) → IfSome o (λ x. P (view x))
-of_text view P None r is each = tt
-of_text view P (Some x) r is each = each (view x) (sym is)
+if_some : (P : Body → Type 0) (o : Option Body) → ((body : Body) → o ≡ Some body → P body) → IfSome o P
+if_some P None each = tt
+if_some P (Some body) each = each body refl
 
-pub returns-clause-place : goal.returns-clause-place
-returns-clause-place c =
-    let bytes = c.args.bytes.now in
-    of_text (λ content. content.now) (λ text. HasContentAt c.args.bytes.now (body_place c.args.version) text)
-    c.unpadded.result _ c.unpadded.ensures (λ text is.
-    subst (λ (plain : Bool). HasContentAt c.args.bytes.now (if plain then 0 else 2) text)
-    (sym (other_version c.args.version c.if-version-eq-PLAIN.false)) (unpadded-place TEXT_LIMIT bytes text is).place)
-
-pub returns-clause-fits : goal.returns-clause-fits
-returns-clause-fits c = λ other.
-    of_text (λ content. content.now) (λ text. length text ≤ TEXT_LIMIT) c.unpadded.result _ c.unpadded.ensures
-    (λ text is. (unpadded-place TEXT_LIMIT c.args.bytes.now text is).fits)
+pub returns-in-Some-clause-place : goal.returns-in-Some-clause-place
+returns-in-Some-clause-place c =
+    if_some _ c.read_body.result (λ body is.
+    opened-place c.args.version c.args.side c.args.bytes.now body
+    (opened-padded c.args.version c.args.side c.args.bytes.now c.in-Some.text.now c.if-version-eq-PLAIN.false (sym c.in-Some.ensures)
+    ∙ sym c.read_body.ensures ∙ is))

@@ -1,15 +1,28 @@
-use Rattle.std.proofs.Common.{◌∙◌, ap, sym}
-use Rattle.bodies.specs.Bodies.{sealed_len, text_body}
-use Rattle.bodies.proofs.Sealed.{length-sealed_body, sealed_len-plain, sealed_len-padded}
+use Rattle.std.proofs.Common.{◌∙◌, ℕ, length, ap, sym, arith, length-append}
+use Rattle.bodies.specs.Bodies.{Body, body_head, sealed_body}
+use Rattle.bodies.specs.Padding.{padded_len}
+use Rattle.bodies.proofs.Lengths.{alone-head, length-plain, length-sealed}
 use Rattle.bodies.proofs.sealing.sealed_len.Goals as goal
 
 pub returns-then-version-eq-PLAIN-clause-sealed : goal.returns-then-version-eq-PLAIN-clause-sealed
-returns-then-version-eq-PLAIN-clause-sealed c = λ text long.
-    length-sealed_body c.args.version (text_body text)
-    ∙ ap (sealed_len c.args.version) long ∙ sealed_len-plain c.args.version c.args.len c.if-version-eq-PLAIN.true
+returns-then-version-eq-PLAIN-clause-sealed c =
+    ap (λ (b : Body). length b.content) c.body.view_is
+    ∙ sym (length-plain c.args.body.now)
+    ∙ ap (λ (v : ℕ). length (sealed_body v c.args.body.now)) (sym c.if-version-eq-PLAIN.true)
 
 pub returns-else-version-eq-PLAIN-clause-sealed : goal.returns-else-version-eq-PLAIN-clause-sealed
-returns-else-version-eq-PLAIN-clause-sealed c = λ text long.
-    length-sealed_body c.args.version (text_body text)
-    ∙ ap (sealed_len c.args.version) long ∙ sealed_len-padded c.args.version c.args.len c.if-version-eq-PLAIN.false
-    ∙ sym c.padded_len.ensures
+returns-else-version-eq-PLAIN-clause-sealed c =
+    c.padded_len.ensures ∙ ap padded_len c.text_len.ensures.value
+    ∙ sym (length-sealed c.args.version c.args.body.now c.if-version-eq-PLAIN.false)
+
+pub returns-else-version-eq-PLAIN-clause-alone : goal.returns-else-version-eq-PLAIN-clause-alone
+returns-else-version-eq-PLAIN-clause-alone c = λ none.
+    let body = c.args.body.now in
+    omega (
+      arith,
+      c.padded_len.ensures,
+      c.text_len.ensures.value,
+      c.requires,
+      alone-head c.args.version body none,
+      length-append (body_head c.args.version body) body.content,
+    )
