@@ -38,6 +38,7 @@ pub(crate) fn refusal(error: OpenError) -> OpenRefusal
 }
 
 /// The client of a store that holds a record, in whatever version, which was read.
+#[inline(never)]
 fn client_in<K: Kem>(room: Room<K>, store: SlotStore) -> Client<K>
     requires some { is_some (content store) ≡ true }
     requires read { (text : List ℕ) → content store ≡ Some text → let core = room.record.room in

@@ -32,6 +32,7 @@ fn tally_made(alloc: Global, rounds: u32, number: u64) -> Result<Tally, Ending>
 
 /// Plays the script of this many rounds that is made from a number, and writes what it comes to in
 /// six lines.
+#[inline(never)]
 pub(crate) fn play_made<O: Sink>(alloc: Global, rounds: u32, number: u64, out: &mut O) -> Status
     ensures runs { Runs (PlaysMade rounds number) (O.at out.old) (O.at out.new) result.code }
     ensures writes { (O.at out.old).faults ≤ (O.at out.new).faults }

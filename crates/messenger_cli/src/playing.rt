@@ -43,6 +43,7 @@ fn work<S: Source, O: Sink>(alloc: Global, source: &mut S, out: &mut O) -> Resul
 }
 
 /// Plays the script that the source holds, and writes its lines.
+#[inline(never)]
 pub(crate) fn play_script<S: Source, O: Sink>(alloc: Global, source: &mut S, out: &mut O) -> Status
     ensures runs { RunsDuet (S.at source.old) (S.at source.new)
         (O.at out.old) (O.at out.new) result.code }

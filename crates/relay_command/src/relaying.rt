@@ -65,6 +65,7 @@ fn look<A: Disk>(alloc: Global, boxes: &[&str], disk: &mut A) -> Result<Looked, 
 /// connection is accepted, served and ended, also where a call on it or on the disk failed.
 /// `LinkFault` where accepting failed. A call on the disk that failed ends the command with
 /// `DiskFault`, and a line that couldn't be written ends it with status 5.
+#[inline(never)]
 pub fn relay<A: Disk, L: Door, O: Sink>(
     alloc: Global,
     port: u16,

@@ -59,6 +59,7 @@ fn read_and_begin<K: Kem, D: Disk, S: Source>(
 
 /// Begins the session of the key whose 64 hex digits the source holds, on a disk that holds none,
 /// and writes `session S`. The side seals its texts in this format.
+#[inline(never)]
 pub fn begin<K: Kem, D: Disk, S: Source, O: Sink>(
     alloc: Global,
     side: Side,

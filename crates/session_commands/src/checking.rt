@@ -105,6 +105,7 @@ fn unread(error: InspectError) -> Ending
 /// Shows what the disk holds, and writes nothing to it: the lines `slot 0 open TURN` or
 /// `slot 0 closed`, the same of table 1, `record LENGTH`, `no record` or `damaged slot S at A`, and
 /// `rest yes` or `rest no`.
+#[inline(never)]
 pub fn check<K: Kem, D: Disk, O: Sink>(alloc: Global, disk: &mut D, out: &mut O) -> Status
     requires { HasClientRoom (D.state disk.old) }
     ensures { RunsAndCounts (RunsCheck D.state K.mechanism disk.old disk.new)

@@ -40,6 +40,7 @@ fn open_and_drop<K: Kem, D: Disk>(
 
 /// Drops the `n` oldest items of a box: texts of the inbox, which are done, and writes `done N`, or
 /// packets of the outbox, which were sent, and writes `sent N`.
+#[inline(never)]
 pub fn drop_items<K: Kem, D: Disk, O: Sink>(
     alloc: Global,
     items: Items,

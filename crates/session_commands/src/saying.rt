@@ -41,6 +41,7 @@ fn say_text<K: Kem, D: Disk, W: Draws>(
 
 /// Says a text, and writes `said E.I`. A seed is drawn exactly where the client is open and the
 /// text needs one.
+#[inline(never)]
 pub fn say<K: Kem, D: Disk, O: Sink, W: Draws>(
     alloc: Global,
     text: &[u8],

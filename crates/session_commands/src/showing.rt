@@ -85,6 +85,7 @@ fn write_state<K: Kem, O: Sink>(client: &Client<K>, out: &mut O) -> Result<(), F
 }
 
 /// Shows the texts of the inbox, a line `E.I "TEXT"` for each, the oldest first.
+#[inline(never)]
 pub fn inbox<K: Kem, D: Disk, O: Sink>(alloc: Global, disk: &mut D, out: &mut O) -> Status
     requires { HasClientRoom (D.state disk.old) }
     ensures { RunsAndCounts (RunsShow D.state K.mechanism inbox_lines disk.old disk.new)
@@ -101,6 +102,7 @@ pub fn inbox<K: Kem, D: Disk, O: Sink>(alloc: Global, disk: &mut D, out: &mut O)
 }
 
 /// Shows the packets of the outbox, a line `E.I HEX` for each, the oldest first.
+#[inline(never)]
 pub fn outbox<K: Kem, D: Disk, O: Sink>(alloc: Global, disk: &mut D, out: &mut O) -> Status
     requires { HasClientRoom (D.state disk.old) }
     ensures { RunsAndCounts (RunsShow D.state K.mechanism outbox_lines disk.old disk.new)
@@ -118,6 +120,7 @@ pub fn outbox<K: Kem, D: Disk, O: Sink>(alloc: Global, disk: &mut D, out: &mut O
 
 /// Shows what the client is and holds: the lines `session S`, `side SIDE`, `epoch E`, `missing M`,
 /// `inbox I` and `outbox O`.
+#[inline(never)]
 pub fn state<K: Kem, D: Disk, O: Sink>(alloc: Global, disk: &mut D, out: &mut O) -> Status
     requires { HasClientRoom (D.state disk.old) }
     ensures { RunsAndCounts (RunsShow D.state K.mechanism state_lines disk.old disk.new)

@@ -72,6 +72,7 @@ fn close<O: Sink>(out: &mut O, synced: Result<More, SyncFault>) -> Status
 
 /// Opens the client, connects the link to the address, syncs over it and ends the connection: the
 /// lines of the sync are written. Where no client was opened the link is left alone.
+#[inline(never)]
 pub fn sync<K: Kem, D: Disk, L: Link, O: Sink>(
     alloc: Global,
     address: &str,

@@ -57,6 +57,7 @@ fn read_and_take<K: Kem, D: Disk, S: Source>(
 
 /// Takes the packet whose hex digits the source holds, and writes `opened E.I`. Where the source
 /// holds none the disk is left alone.
+#[inline(never)]
 pub fn take<K: Kem, D: Disk, S: Source, O: Sink>(
     alloc: Global,
     disk: &mut D,
