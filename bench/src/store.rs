@@ -64,7 +64,7 @@ fn replace<R: Clock + AllocGlobal + Files<File = File>>(
         return Err(Error::from(ErrorKind::InvalidData));
     };
     let mut room = record_memory(rt.alloc(), area)?;
-    lengthen(area, &mut room);
+    lengthen(area, &mut room, text.len());
     room[..text.len()].copy_from_slice(text);
     let start = Instant::now(rt)?;
     let Ok(()) = store.replace(disk, &mut room, text.len()) else {

@@ -15,7 +15,7 @@ use Rattle.session_model.specs.States.{State}
 use Rattle.session_record.specs.Lists.{post_of, post_text}
 use Rattle.session_record.specs.Record.{client_of, record_text, saved_text}
 use Rattle.session_record.specs.declared.limits.TheConstants.{RECORD_LIMIT}
-use Rattle.client.specs.Cores.{HasRoomToWrite, PutsRecord}
+use Rattle.client.specs.Cores.{HasRecordLength, HasRoomToWrite, PutsRecord}
 use Rattle.client.specs.Drafting.{received_client, said_client}
 
 -- the record of a packet in the outbox is that of its bytes
@@ -60,7 +60,10 @@ received_record kept draft state p text next place same =
     ap (λ s. record_text (client_of s (kept.inbox ++ entry_under p text ∷ []) kept.outbox)) next
     ∙ ap₂ (λ a t. record_text (client_of (received_of kept.state draft).next (kept.inbox ++ entry_under a t ∷ []) kept.outbox)) place same
 
--- ---- where it is put
+-- ---- how long it is, and where it is put
+
+pub long_alike : (a b : Client) (len : ℕ) → record_text a ≡ record_text b → HasRecordLength a len → HasRecordLength b len
+long_alike a b len same has = record { long = has.long ∙ ap length same; limit = has.limit }
 
 pub room_alike : (a b : Client) (out : List ℕ) → record_text a ≡ record_text b → HasRoomToWrite a out → HasRoomToWrite b out
 room_alike a b out same room = subst (λ text. HasRoom RECORD_LIMIT text (length out)) same room

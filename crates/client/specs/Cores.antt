@@ -21,6 +21,11 @@ BeginsCore k begin (Err Memory) = ⊤
 abbrev pub HasRoomToWrite : Client → List ℕ → Type 0
 HasRoomToWrite kept out = HasRoom RECORD_LIMIT (record_text kept) (length out)
 
+-- so many bytes has the record of a client
+pub record HasRecordLength (kept : Client) (len : ℕ) : Type 0 where
+  pub long : len ≡ length (record_text kept)
+  pub limit : len ≤ RECORD_LIMIT
+
 -- the record of a client was put into the front of a buffer
 pub record PutsRecord (kept : Client) (old new : List ℕ) (len : ℕ) : Type 0 where
   pub long : len ≡ length (record_text kept)

@@ -53,7 +53,8 @@ fn first<K: Kem, D: Disk>(
     ensures fault { IfErr result
         (λ call. Rose ((D.state disk.old).faults call) ((D.state disk.new).faults call)) }
 {
-    lengthen(AREA, &mut text);
+    let long = core.encoded_len_now();
+    lengthen(AREA, &mut text, long);
     let len = core.encode_now(&mut text);
     match store.replace(disk, &mut text, len) {
         Err(fault) => Err(fault.call),

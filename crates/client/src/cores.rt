@@ -8,6 +8,7 @@ mod accepting;
 mod drafting;
 mod drafts;
 mod encoding;
+mod measuring;
 mod reading;
 mod showing;
 mod starting;

@@ -26,7 +26,8 @@ impl<K: Kem> Client<K> {
         ensures { IsAct D.state (Ok (drafted_step self.old.kept draft.entry))
             self.old self.new disk.old disk.new (kept_as (drafted_answer draft.entry) result) }
     {
-        lengthen(AREA, &mut self.text);
+        let long = self.core.encoded_len(&draft);
+        lengthen(AREA, &mut self.text, long);
         let len = self.core.encode(&draft, &mut self.text);
         match self.store.replace(disk, &mut self.text, len) {
             Ok(()) => {

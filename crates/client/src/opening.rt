@@ -101,7 +101,8 @@ impl<K: Kem> Client<K> {
         if is_newest(text) {
             return Ok(());
         }
-        lengthen(AREA, &mut self.text);
+        let long = self.core.encoded_len_now();
+        lengthen(AREA, &mut self.text, long);
         let len = self.core.encode_now(&mut self.text);
         match self.store.replace(disk, &mut self.text, len) {
             Ok(()) => Ok(()),

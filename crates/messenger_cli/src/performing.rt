@@ -18,7 +18,8 @@ use sntrup761::Sntrup761;
 use std::alloc::Global;
 
 /// Does a command's work, and answers its status.
-// Each command is a function that isn't inlined, so that the room of the one that is done is set alone.
+// Each command is a function that isn't inlined, so that the room of the one that is done is set
+// alone.
 pub(crate) fn perform<D: Disk, R: Disk, S: Source, O: Sink, L: Link, A: Door, W: Draws>(
     alloc: Global,
     command: Command<'_>,

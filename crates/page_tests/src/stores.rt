@@ -1,6 +1,7 @@
 //! Stores whose records are any bytes but none.
 
 ghost use Rattle.std.specs.Prelude.{◌≡◌, ◌==◌, ◌<◌, ◌≤◌, ◌+◌, ◌*◌, ⊤, length, Some, None, if◌then◌else◌, IfOk};
+ghost use Rattle.slot_store.specs.Areas.{HasText};
 ghost use Rattle.slot_store.specs.Store.{HasArea};
 
 use dr_disk::Disk;
@@ -62,10 +63,12 @@ fn small_area() -> Area
 /// Room for a record, with a text at its beginning.
 pub(crate) fn room_with(alloc: Global, text: &[u8]) -> Result<Vec<u8>, AllocError>
     requires { length text.now ≤ 188416 }
-    ensures { IfOk result (λ room. length room.items ≡ 188416) }
+    ensures { IfOk result (λ room.
+        HasText (record { start = 0; upper = 524288; pages = 96; most = 46 }) room
+        (length text.now)) }
 {
     let mut room = record_memory(alloc, area())?;
-    lengthen(area(), &mut room);
+    lengthen(area(), &mut room, text.len());
     room[..text.len()].copy_from_slice(text);
     Ok(room)
 }
@@ -78,7 +81,7 @@ fn puts_in<D: Disk>(alloc: Global, disk: &mut D, area: Area, text: &[u8]) -> boo
     let Ok(mut room) = record_memory(alloc, area) else {
         return false;
     };
-    lengthen(area, &mut room);
+    lengthen(area, &mut room, text.len());
     room[..text.len()].copy_from_slice(text);
     match SlotStore::open(alloc, disk, area, &mut Texts) {
         Ok((mut store, _)) => store.replace(disk, &mut room, text.len()).is_ok(),

@@ -1,5 +1,5 @@
 -- Boxes that are loaded, and areas that get an empty box's record.
-use Rattle.std.proofs.Common.{◌≡◌, ◌≢◌, inl, inr, ⊎_elim, ℕ, ◌+◌, ◌<◌, ◌≤◌, Bool, true, List, ◌++◌, length, Option, Some, None, refl, sym, ◌∙◌, ap, subst, arith, length-append}
+use Rattle.std.proofs.Common.{◌≡◌, ◌≢◌, inl, inr, ⊎_elim, ℕ, ◌+◌, ◌<◌, ◌≤◌, Bool, true, List, Vec, ◌++◌, length, Option, Some, None, refl, sym, ◌∙◌, ap, subst, arith, length-append}
 use Rattle.std.specs.Prelude.{slice_get}
 use Rattle.std.specs.Int.{w8, w64, to_be_bytes}
 use Rattle.grammar.specs.Printer.{print_items, print_sized}
@@ -16,6 +16,7 @@ use Rattle.slot_store.specs.Store.{IsOldOrNew, HasArea, KeepsOutsideArea, Rests,
 use Rattle.relay_core.specs.Boxes.{Box, empty_box}
 use Rattle.relay_core.specs.declared.limits.TheConstants.{RELAY_LIMIT}
 use Rattle.relay_core.specs.Record.{box_text, head_text, kept_packet_text}
+use Rattle.relay_server.specs.declared.limits.TheConstants.{RECORD_PAGES}
 use Rattle.relay_server.specs.Durable.{IsReplaced}
 use Rattle.relay_server.specs.Places.{IsBoxRoom, area_of}
 use Rattle.relay_server.specs.Filling.{AreFilled, HasBox, IsFilling}
@@ -71,12 +72,20 @@ stays_text n k box None t has is = absurd (let e : None ≡ Some t = is in cc)
 stays_text n k box (Some s) t has is = has
 
 -- what a call in one area needs
-pub place_ready : (n : ℕ) (boxes : List Box) (stores : List SlotStore) (d : DiskState) (bytes : List ℕ) (len : ℕ)
-    → AreFilled n boxes stores d → n < length boxes → IsBoxRoom bytes → len ≤ length bytes → (store : SlotStore) → slice_get stores n ≡ Some store
-    → HasText store.area bytes len × HasArea store.area d × Always (Rests store) d
-place_ready n boxes stores d bytes len filled inside room few store there =
-    let area = filled.areas n store there in
-    (subst (λ (a : Area). HasText a bytes len) (sym area) (record { room = room; inside = few }), subst (λ (a : Area). HasArea a d) (sym area) (omega (arith, inside, filled.within)), filled.rests n store there)
+pub place_ready : {Z : Type 0} (n : ℕ) (boxes : List Box) (stores : List SlotStore) (d : DiskState) (text : Vec ℕ Z) (len : ℕ)
+    → AreFilled n boxes stores d → n < length boxes → IsBoxRoom text.items → len ≤ length text.items → (store : SlotStore) → slice_get stores n ≡ Some store
+    → HasText store.area text len × HasArea store.area d × Always (Rests store) d × (store.area.most ≡ RECORD_PAGES)
+place_ready n boxes stores d text len filled inside room few store there =
+    let area = filled.areas n store there in (
+      subst (λ (a : Area). HasText a text len) (sym area) (record {
+        memory = omega (arith, room, text.ok.0, text.ok.1);
+        room = omega (arith, few, room);
+        few = omega (arith, few, room);
+      }),
+      subst (λ (a : Area). HasArea a d) (sym area) (omega (arith, inside, filled.within)),
+      filled.rests n store there,
+      ap (λ (a : Area). a.most) area,
+    )
 
 pub stands_on : (n : ℕ) (boxes : List Box) (stores : List SlotStore) (d : DiskState) (store : SlotStore) (t : List ℕ) → AreFilled n boxes stores d → slice_get stores n ≡ Some store → content store ≡ Some t → AreFilled (n + 1) boxes stores d
 stands_on n boxes stores d store t filled here has = record {

@@ -1,7 +1,8 @@
 -- Where the boxes of a relay lie on its disk: each has an area of two halves.
 use Rattle.std.specs.Prelude.{◌≡◌, ◌<◌, ◌≤◌, ◌+◌, ◌*◌, ℕ, List, Vec, length, slice_index}
+use Rattle.dr_base.specs.declared.limits.TheConstants.{PAGE}
 use Rattle.dr_disk.specs.State.{DiskState}
-use Rattle.slot_store.specs.Areas.{Area, HasRecordMemory, HasRecordRoom, IsOutsideArea}
+use Rattle.slot_store.specs.Areas.{Area, HasRecordMemory, IsOutsideArea}
 use Rattle.relay_core.specs.declared.limits.TheConstants.{RELAY_LIMIT}
 use Rattle.relay_server.specs.declared.limits.TheConstants.{BOX_PAGES, HALF_SIZE, RECORD_PAGES, UPPER_START}
 
@@ -20,7 +21,7 @@ area_of k = record {
 
 -- bytes that have room for any record of a box, wherever its area lies
 abbrev pub IsBoxRoom : List ℕ → Type 0
-IsBoxRoom bytes = HasRecordRoom (area_of 0) bytes
+IsBoxRoom bytes = length bytes ≡ PAGE * RECORD_PAGES
 
 -- memory in which such bytes can come to lie
 abbrev pub HasBoxMemory : {Z : Type 0} → Vec ℕ Z → Type 0

@@ -7,6 +7,8 @@ ghost use Rattle.relay_core.specs.declared.limits.TheConstants.{RECORD_LIMIT};
 ghost use Rattle.relay_server.specs.Places.{HasBoxMemory, IsBoxRoom};
 
 use crate::areas::FIRST_AREA;
+use crate::limits::RECORD_PAGES;
+use dr_base::PAGE;
 use relay_core::Relay;
 use slot_store::lengthen;
 
@@ -20,6 +22,6 @@ pub(crate) fn write_text(relay: &Relay, place: usize, text: &mut Vec<u8>) -> usi
     ensures text { (box : Box) → slice_get relay.now place ≡ Option.Some box
         → take result text.new.items ≡ box_text box }
 {
-    lengthen(FIRST_AREA, text);
+    lengthen(FIRST_AREA, text, PAGE * RECORD_PAGES as usize);
     relay.write_box(place, text)
 }

@@ -1,6 +1,6 @@
 //! Boxes that stand on a disk.
 
-ghost use Rattle.std.specs.Prelude.{◌≡◌, ◌≢◌, ◌<◌, ◌≤◌, ◌+◌, ◌^◌, ℕ, length, vec_capacity, take, slice_get, Option, OnOk, IfOk, is_ok, [], Bool};
+ghost use Rattle.std.specs.Prelude.{◌≡◌, ◌≢◌, ◌<◌, ◌≤◌, ◌+◌, ◌^◌, ℕ, length, take, slice_get, Option, OnOk, IfOk, is_ok, [], Bool};
 ghost use Rattle.dr_disk.specs.State.{Always};
 ghost use Rattle.dr_disk.specs.Spans.{IsQuiet, Span};
 ghost use Rattle.slot_store.specs.Areas.{HasText};
@@ -9,7 +9,9 @@ ghost use Rattle.relay_wire.specs.Frames.{IsFrame};
 ghost use Rattle.relay_wire.specs.declared.limits.TheConstants.{FRAME_LIMIT};
 ghost use Rattle.relay_core.specs.Record.{box_text};
 ghost use Rattle.relay_server.specs.Durable.{FailsByCall, IsReplaced};
+ghost use Rattle.relay_server.specs.declared.limits.TheConstants.{RECORD_PAGES};
 ghost use Rattle.relay_server.specs.FrameByFrame.{IsServedInOrder};
+ghost use Rattle.relay_server.specs.Places.{HasBoxMemory};
 ghost use Rattle.relay_server.specs.Serving.{AnswersFrame, CanAnswer, LeavesCounts, Rounds};
 
 use crate::answering::write_text;
@@ -42,7 +44,7 @@ impl Model for DurableBoxes {
 }
 
 /// Replaces the record of one store by the first `len` bytes of a text, which gets the room of the
-/// record before, with no less memory.
+/// record before, with memory for any.
 pub(crate) fn replace_at<D: Disk>(
     stores: &mut [SlotStore],
     place: usize,
@@ -52,15 +54,15 @@ pub(crate) fn replace_at<D: Disk>(
 ) -> Result<(), Call>
     requires inside { place < length stores.old }
     requires ready { (store : SlotStore) → slice_get stores.old place ≡ Option.Some store
-        → HasText store.area text.old.items len × HasArea store.area (D.state disk.old)
-        × Always (Rests store) (D.state disk.old) }
+        → HasText store.area text.old len × HasArea store.area (D.state disk.old)
+        × Always (Rests store) (D.state disk.old) × (store.area.most ≡ RECORD_PAGES) }
     ensures others { (j : ℕ) → j ≢ place → slice_get stores.new j ≡ slice_get stores.old j }
     ensures there { (old new : SlotStore) → slice_get stores.old place ≡ Option.Some old
         → slice_get stores.new place ≡ Option.Some new
         → IsReplaced (take len text.old.items) old new (D.state disk.old) (D.state disk.new)
         (is_ok result) }
     ensures count { length stores.new ≡ length stores.old }
-    ensures room { length text.old.items ≤ vec_capacity text.new }
+    ensures room { HasBoxMemory text.new }
     ensures fault { FailsByCall (D.state disk.old) (D.state disk.new) result }
     ensures quiet { OnOk result (IsQuiet (D.state disk.old) (D.state disk.new)) }
 {

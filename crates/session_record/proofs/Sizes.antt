@@ -1,17 +1,18 @@
 -- No record is longer than RECORD_LIMIT, also after a change.
-use Rattle.std.proofs.Common.{◌≡◌, ℕ, ◌+◌, ◌<◌, ◌≤◌, List, [], ◌∷◌, ◌++◌, length, drop, Option, Some, None, refl, ap, arith, length-append}
+use Rattle.std.proofs.Common.{◌≡◌, ℕ, ◌+◌, ◌*◌, ◌<◌, ◌≤◌, List, [], ◌∷◌, ◌++◌, length, drop, take, Option, Some, None, refl, ap, arith, length-append}
+use Rattle.std.specs.List.{slice_get}
 use Rattle.std.specs.Prelude.{All}
 use Rattle.std.specs.Int.{w8, w16, w32, to_be_bytes}
 use Rattle.std.proofs.lemmas.List.{length-drop, length_push}
-use Rattle.std.proofs.lemmas.List.Elements.{All-drop, All-push}
+use Rattle.std.proofs.lemmas.List.Elements.{All-drop, All-head, All-push, All-tail}
 use Rattle.boxes.specs.Entries.{Entry, entry_under}
 use Rattle.boxes.specs.Posts.{Post}
 use Rattle.cka.specs.Agreement.{agreement_size}
 use Rattle.dr_base.specs.declared.key.Kept.{Kept}
 use Rattle.dr_base.specs.declared.limits.TheConstants.{INBOX_LIMIT, KEPT_LIMIT, OUTBOX_LIMIT, PACKET_LIMIT, TEXT_LIMIT}
 use Rattle.dr_base.specs.declared.position.Side.{Side}
-use Rattle.grammar.specs.Printer.{print_counted, print_maybe}
-use Rattle.grammar.proofs.Printing.{size-items}
+use Rattle.grammar.specs.Printer.{print_counted, print_items, print_maybe}
+use Rattle.grammar.proofs.Printing.{print-next, size-items}
 use Rattle.kem_laws.specs.Mechanism.{IsLawfulMechanism, Mechanism}
 use Rattle.session_model.specs.Clients.{Client}
 use Rattle.session_model.specs.declared.answer.Items.TheVariants.{Packets, Texts}
@@ -40,7 +41,7 @@ pub text_pieces : (c : Client) → record_text c ≡ heading_bytes c ++ (keys_by
 unfolding record_text saved_text
 text_pieces c = refl
 
-keys_size : (keys : Keys) → length (keys_text keys) ≡ length (phase_text keys.phase) + (COUNT_SIZE
+pub keys_size : (keys : Keys) → length (keys_text keys) ≡ length (phase_text keys.phase) + (COUNT_SIZE
     + (length (print_maybe reception_text keys.receiving) + length (print_counted w16 kept_text keys.kept)))
 keys_size keys =
     let phase = phase_text keys.phase in
@@ -61,6 +62,12 @@ text_size c =
       length-append (keys_bytes c) (inbox ++ outbox),
       length-append inbox outbox,
     )
+
+-- the length of the first items, and of one more
+pub size_next : {A : Type 0} (print : A → List ℕ) (xs : List A) (i : ℕ) (x : A) (sum : ℕ) → slice_get xs i ≡ Some x
+    → sum ≡ length (print_items print (take i xs)) → sum + length (print x) ≡ length (print_items print (take (i + 1) xs))
+size_next print xs i x sum here before =
+    omega (arith, before, ap (λ (l : List ℕ). length l) (print-next print xs i x here), length-append (print_items print (take i xs)) (print x))
 
 -- ---- how long each is at most
 
@@ -83,6 +90,15 @@ size-receiving : (kept : List Kept) (receiving : Option Reception) (epoch : Opti
 size-receiving kept None epoch l = omega arith
 size-receiving kept (Some r) None l = absurd l
 size-receiving kept (Some r) (Some epoch) l = omega (arith, length-append r.chain (to_be_bytes w32 r.reach), l.0)
+
+pub long-kept : (kept : List Kept) → All (λ (one : Kept). length one.key.bytes ≡ 32) kept
+    → length (print_items kept_text kept) ≡ KEPT_SIZE * length kept
+unfolding print_items
+long-kept [] long = omega arith
+long-kept (one ∷ more) long =
+    let first = All-head (λ (k : Kept). length k.key.bytes ≡ 32) one more long in
+    let behind = long-kept more (All-tail (λ (k : Kept). length k.key.bytes ≡ 32) one more long) in
+    omega (arith, first, behind, length-append (kept_text one) (print_items kept_text more))
 
 size-kept : (kept : List Kept) → All (λ (one : Kept). length one.key.bytes ≡ 32) kept
     → length kept ≤ KEPT_LIMIT → length (print_counted w16 kept_text kept) ≤ KEYS_LIMIT

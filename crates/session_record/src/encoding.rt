@@ -16,7 +16,12 @@ use kem_laws::{Kem, laws};
 use session_model::LentPart;
 
 /// No record is longer than `RECORD_LIMIT`, also after a change.
-fn is_short<K: Kem>(part: &LentPart<'_, K>, inbox: &Inbox, outbox: &Outbox, change: &Change<'_>)
+pub(crate) fn is_short<K: Kem>(
+    part: &LentPart<'_, K>,
+    inbox: &Inbox,
+    outbox: &Outbox,
+    change: &Change<'_>,
+)
     requires inbox { FitsInbox inbox.now change.now }
     requires outbox { FitsOutbox outbox.now change.now }
     ensures { let client = client_of part.now inbox.now outbox.now in

@@ -118,8 +118,8 @@ pub(crate) fn put_kept(out: &mut [u8], at: usize, keys: &[Kept]) -> usize
     put_each(out, next, keys)
 }
 
-/// A key has 32 bytes.
-fn is_long(key: &[u8; 32])
+/// A key has 32 bytes, which the proofs learn here.
+pub(crate) fn is_long(key: &[u8; 32])
     ensures { length key.now ≡ 32 }
 {}
 

@@ -1,5 +1,5 @@
 -- What bytes stand for on which a store rests.
-use Rattle.std.proofs.Common.{◌≡◌, ℕ, ◌*◌, ◌≤◌, Bool, true, false, List, length, take, Option, Some, None, refl, sym, ◌∙◌, ap, subst, arith}
+use Rattle.std.proofs.Common.{◌≡◌, ℕ, ◌*◌, ◌≤◌, Bool, true, false, List, Vec, length, take, Option, Some, None, refl, sym, ◌∙◌, ap, subst, arith}
 use Rattle.std.specs.Prelude.{if◌then◌else◌, ◌==◌}
 use Rattle.std.proofs.lemmas.Bool.Decides.{nat_tests}
 use Rattle.std.proofs.lemmas.List.{length-take-le}
@@ -8,7 +8,7 @@ use Rattle.pages.specs.Snapshots.{kept_shot}
 use Rattle.pages.proofs.Shots.{shot_still}
 use Rattle.record_pages.specs.Pages.{page_count}
 use Rattle.record_pages.specs.Tables.{record_names}
-use Rattle.record_pages.proofs.Filled.{count_least}
+use Rattle.record_pages.proofs.Filled.{count_covers, count_least}
 use Rattle.slot_store.proofs.Paging.{each_of}
 use Rattle.slot_store.specs.declared.pager.Pager.{Pager}
 use Rattle.slot_store.specs.Areas.{Area, Fits, HasText, IsArea, layout_of}
@@ -23,9 +23,12 @@ use Rattle.slot_store.proofs.Laid.{laid_kept, laid_read, laid_shown}
 pub text_fits : (area : Area) (text : List ℕ) → length text ≤ PAGE * area.most → Fits area text
 text_fits area text short = count_least (length text) area.most short
 
-pub held_fits : (area : Area) (bytes : List ℕ) (len : ℕ) → HasText area bytes len → Fits area (take len bytes)
-held_fits area bytes len has =
-    text_fits area (take len bytes) (omega (arith, has.room, has.inside, length-take-le len bytes has.inside))
+pub held_inside : {Z : Type 0} (area : Area) (text : Vec ℕ Z) (len : ℕ) → HasText area text len → len ≤ length text.items
+held_inside area text len has = omega (arith, count_covers len, has.room)
+
+pub held_fits : {Z : Type 0} (area : Area) (text : Vec ℕ Z) (len : ℕ) → HasText area text len → Fits area (take len text.items)
+held_fits area text len has =
+    text_fits area (take len text.items) (omega (arith, has.few, length-take-le len text.items (held_inside area text len has)))
 
 -- ---- bytes whose shot is that of a record that is laid out, or of none
 

@@ -1,5 +1,5 @@
 -- Where a store lies on its disk.
-use Rattle.std.specs.Prelude.{◌≡◌, ℕ, ◌+◌, ◌*◌, ◌^◌, ◌<◌, ◌≤◌, List, Vec, length, vec_capacity}
+use Rattle.std.specs.Prelude.{ℕ, ◌+◌, ◌*◌, ◌^◌, ◌<◌, ◌≤◌, List, Vec, length, vec_capacity}
 use Rattle.dr_base.specs.declared.limits.TheConstants.{PAGE}
 use Rattle.pages.specs.declared.layout.Layout.{Layout}
 use Rattle.pages.specs.declared.layout.TheConstants.{LOWER_PAGES}
@@ -45,18 +45,15 @@ IsOutsideArea area = IsOutsideAll (layout_of area)
 abbrev pub IsSameOutsideArea : Area → List ℕ → List ℕ → Type 0
 IsSameOutsideArea area = IsSameAround (layout_of area)
 
--- bytes that have room for any record of the area, and no more
-abbrev pub HasRecordRoom : Area → List ℕ → Type 0
-HasRecordRoom area bytes = length bytes ≡ PAGE * area.most
-
--- memory in which such a room lies, or can come to lie without more
+-- memory in which any record of the area lies, or can come to lie without more
 abbrev pub HasRecordMemory : {Z : Type 0} → Area → Vec ℕ Z → Type 0
 HasRecordMemory area bytes = PAGE * area.most ≤ vec_capacity bytes
 
--- such a room, whose first `len` bytes are a text
-pub record HasText (area : Area) (bytes : List ℕ) (len : ℕ) : Type 0 where
-  pub room : HasRecordRoom area bytes
-  pub inside : len ≤ length bytes
+-- the first `len` bytes are a text that an area has room for. They stand in memory for any, as long as the text's pages at least.
+pub record HasText {Z : Type 0} (area : Area) (text : Vec ℕ Z) (len : ℕ) : Type 0 where
+  pub memory : HasRecordMemory area text
+  pub room : PAGE * page_count len ≤ length text.items
+  pub few : len ≤ PAGE * area.most
 
 -- a text has no more pages than a record may have
 abbrev pub Fits : Area → List ℕ → Type 0

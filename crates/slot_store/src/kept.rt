@@ -1,11 +1,13 @@
 //! A record in memory, as it lies in pages.
 
-ghost use Rattle.std.specs.Prelude.{◌≡◌, ◌≤◌, ◌<◌, ◌+◌, ◌-◌, ◌*◌, length, take, drop, replicate, IfOk};
+ghost use Rattle.std.specs.Prelude.{◌≡◌, ◌≤◌, ◌<◌, ◌+◌, ◌-◌, ◌*◌, length, take, drop, replicate, vec_capacity, IfOk};
 ghost use Rattle.dr_base.specs.declared.limits.TheConstants.{PAGE};
-ghost use Rattle.slot_store.specs.Areas.{HasRecordMemory, HasRecordRoom};
+ghost use Rattle.record_pages.specs.Pages.{page_count};
+ghost use Rattle.slot_store.specs.Areas.{HasRecordMemory};
 
 use crate::area::{Area, record_most};
 use dr_base::PAGE;
+use record_pages::page_count;
 use std::alloc::{AllocError, Global};
 use std::mem::swap;
 
@@ -54,14 +56,16 @@ pub fn record_memory(alloc: Global, area: Area) -> Result<Vec<u8>, AllocError>
     Vec::with_capacity(alloc, PAGE * record_most(area) as usize)
 }
 
-/// Makes the room in which a record is put together as long as the longest record of an area, in
-/// the memory that it has.
-pub fn lengthen(area: Area, room: &mut Vec<u8>)
-    requires { HasRecordMemory area room.old }
-    ensures room { HasRecordRoom area room.new.items }
+/// Makes the room in which a record of `len` bytes is put together as long as the record's pages,
+/// in the memory that it has.
+pub fn lengthen(area: Area, room: &mut Vec<u8>, len: usize)
+    requires memory { HasRecordMemory area room.old }
+    requires few { len ≤ PAGE * area.most }
+    ensures room { length room.new.items ≡ PAGE * page_count len }
     ensures memory { HasRecordMemory area room.new }
 {
-    room.resize(PAGE * record_most(area) as usize, 0).unwrap();
+    let _most = record_most(area);
+    room.resize(PAGE * page_count(len), 0).unwrap();
 }
 
 /// Makes the bytes from a place up to another one zeros.
@@ -82,6 +86,7 @@ pub(crate) fn take_over(bytes: &mut Vec<u8>, text: &mut Vec<u8>, len: usize, end
     ensures text { take len bytes.new.items ≡ take len text.old.items }
     ensures blank { drop len (take end bytes.new.items) ≡ replicate (end - len) 0 }
     ensures long { length bytes.new.items ≡ length text.old.items }
+    ensures memory { vec_capacity bytes.new ≡ vec_capacity text.old }
     ensures room { text.new ≡ bytes.old }
 {
     swap(bytes, text);

@@ -64,7 +64,7 @@ impl Pager {
     /// Puts a text in place of the record in memory: what is written, what is wiped, and the table
     /// that is to come.
     fn stage(&mut self, text: &mut Vec<u8>, len: usize)
-        requires { HasText self.old.area text.old.items len }
+        requires { HasText self.old.area text.old len }
         ensures staged { IsStaged self.old self.new (take len text.old.items) }
         ensures room { HasRecordMemory self.old.area text.new }
     {
@@ -84,7 +84,7 @@ impl Pager {
         text: &mut Vec<u8>,
         len: usize,
     ) -> Result<(), StoreFault>
-        requires text { HasText self.old.area text.old.items len }
+        requires text { HasText self.old.area text.old len }
         requires within { HasArea self.old.area (D.state disk.old) }
         requires at_rest { Always (IsLaidFor self.old) (D.state disk.old) }
 

@@ -36,7 +36,7 @@ pub(crate) fn take_draft(alloc: Global, area: Area) -> Result<Draft, AllocError>
 
 /// Puts a text in place of the record in memory, and plans what of it is written and what is wiped.
 pub(crate) fn replan(area: Area, kept: &mut Kept, draft: &mut Draft, text: &mut Vec<u8>, len: usize)
-    requires text { HasText area text.old.items len }
+    requires text { HasText area text.old len }
     requires few { kept.old.len ≤ PAGE * area.most }
     requires long { HasRecordMemory area kept.old.bytes }
     requires entries { entry_fault area.pages [] 6 kept.old.numbers.items ≡ None }

@@ -49,7 +49,7 @@ impl SlotStore {
         text: &mut Vec<u8>,
         len: usize,
     ) -> Result<(), StoreFault>
-        requires text { HasText self.old.area text.old.items len }
+        requires text { HasText self.old.area text.old len }
         requires within { HasArea self.old.area (D.state disk.old) }
         requires at_rest { Always (Rests self.old) (D.state disk.old) }
 

@@ -57,10 +57,10 @@ pub returns-in-Ok-clause-room : goal.returns-in-Ok-clause-room
 returns-in-Ok-clause-room g c =
     let ready = c.requires.ready (get_or c.args.stores.now c.args.place c.index-stores-place.result)
     (slice_get-get_or c.args.stores.now c.args.place c.index-stores-place.result c.requires.inside) in
-    omega (arith, ready.0.room, c.replace.ensures.room)
+    omega (arith, ready.3, c.replace.ensures.room)
 
 pub returns-in-Err-clause-room : goal.returns-in-Err-clause-room
 returns-in-Err-clause-room g c =
     let ready = c.requires.ready (get_or c.args.stores.now c.args.place c.index-stores-place.result)
     (slice_get-get_or c.args.stores.now c.args.place c.index-stores-place.result c.requires.inside) in
-    omega (arith, ready.0.room, c.replace.ensures.room)
+    omega (arith, ready.3, c.replace.ensures.room)

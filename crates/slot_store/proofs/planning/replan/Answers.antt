@@ -7,14 +7,14 @@ use Rattle.record_pages.proofs.Filled.{count_least}
 use Rattle.slot_store.specs.Layout.{free_in}
 use Rattle.slot_store.proofs.Replanned.{count_is, dropped_are, dropped_lawful, filled_is, given_room, kept_is, named_lawful, numbers_are, places_are}
 use Rattle.slot_store.proofs.Paging.{covered, fewest}
-use Rattle.slot_store.proofs.Standing.{held_fits}
+use Rattle.slot_store.proofs.Standing.{held_fits, held_inside}
 use Rattle.slot_store.proofs.planning.replan.Goals as goal
 
 pub plan_pages-requires-clause-enough : goal.plan_pages-requires-clause-enough
 plan_pages-requires-clause-enough c =
     let kept = c.args.kept.now in
     let text : List ℕ = take c.args.len c.args.text.now.items in
-    let fits = held_fits c.args.area c.args.text.now.items c.args.len c.requires.text in
+    let fits = held_fits c.args.area c.args.text.now c.args.len c.requires.text in
     let free : c.deref-4.result.now ≡ free_in c.args.area kept.numbers.items =
     c.deref-4.ensures.value ∙ filled_is c.args.area kept.numbers.items c.deref.result.now c.fill_free.new.free.items c.page_total-total.result
     c.deref.ensures.value c.page_total-total.ensures.total c.fill_free.ensures.free in
@@ -27,7 +27,7 @@ pub overflow_mul-end : goal.overflow_mul-end
 overflow_mul-end c =
     let kept = c.args.kept.now in
     let text : List ℕ = take c.args.len c.args.text.now.items in
-    let fits = held_fits c.args.area c.args.text.now.items c.args.len c.requires.text in
+    let fits = held_fits c.args.area c.args.text.now c.args.len c.requires.text in
     let free : c.deref-4.result.now ≡ free_in c.args.area kept.numbers.items =
     c.deref-4.ensures.value ∙ filled_is c.args.area kept.numbers.items c.deref.result.now c.fill_free.new.free.items c.page_total-total.result
     c.deref.ensures.value c.page_total-total.ensures.total c.fill_free.ensures.free in
@@ -37,16 +37,16 @@ overflow_mul-end c =
     count_is c.args.area c.page_total-total.ensures.lawful kept.len kept.bytes.items kept.numbers.items
     is_kept text fits c.deref-2.result.now c.deref-4.result.now (take c.args.len c.deref-3.result.now) c.deref-2.ensures.value free said
     c.plan_pages.new.numbers.items c.plan_pages.ensures.numbers
-    ∙ ap page_count (length-take-le c.args.len c.args.text.now.items c.requires.text.inside) in
+    ∙ ap page_count (length-take-le c.args.len c.args.text.now.items (held_inside c.args.area c.args.text.now c.args.len c.requires.text)) in
     let ends : c.len-end.result ≡ length c.plan_pages.new.numbers.items = omega (arith, c.len-end.ensures, c.plan_pages.new.numbers.ok.0) in
-    let few = count_least c.args.len c.args.area.most (omega (arith, c.requires.text.inside, c.requires.text.room)) in
+    let few = count_least c.args.len c.args.area.most c.requires.text.few in
     omega (arith, count, ends, few, c.page_total-total.ensures.lawful.named)
 
 pub take_over-requires-clause-inside : goal.take_over-requires-clause-inside
 take_over-requires-clause-inside c =
     let kept = c.args.kept.now in
     let text : List ℕ = take c.args.len c.args.text.now.items in
-    let fits = held_fits c.args.area c.args.text.now.items c.args.len c.requires.text in
+    let fits = held_fits c.args.area c.args.text.now c.args.len c.requires.text in
     let free : c.deref-4.result.now ≡ free_in c.args.area kept.numbers.items =
     c.deref-4.ensures.value ∙ filled_is c.args.area kept.numbers.items c.deref.result.now c.fill_free.new.free.items c.page_total-total.result
     c.deref.ensures.value c.page_total-total.ensures.total c.fill_free.ensures.free in
@@ -56,7 +56,7 @@ take_over-requires-clause-inside c =
     count_is c.args.area c.page_total-total.ensures.lawful kept.len kept.bytes.items kept.numbers.items
     is_kept text fits c.deref-2.result.now c.deref-4.result.now (take c.args.len c.deref-3.result.now) c.deref-2.ensures.value free said
     c.plan_pages.new.numbers.items c.plan_pages.ensures.numbers
-    ∙ ap page_count (length-take-le c.args.len c.args.text.now.items c.requires.text.inside) in
+    ∙ ap page_count (length-take-le c.args.len c.args.text.now.items (held_inside c.args.area c.args.text.now c.args.len c.requires.text)) in
     let ends : c.len-end.result ≡ length c.plan_pages.new.numbers.items = omega (arith, c.len-end.ensures, c.plan_pages.new.numbers.ok.0) in
     omega (arith, ends, covered (length c.plan_pages.new.numbers.items) c.args.len count)
 
@@ -64,7 +64,7 @@ pub take_over-requires-clause-room : goal.take_over-requires-clause-room
 take_over-requires-clause-room c =
     let kept = c.args.kept.now in
     let text : List ℕ = take c.args.len c.args.text.now.items in
-    let fits = held_fits c.args.area c.args.text.now.items c.args.len c.requires.text in
+    let fits = held_fits c.args.area c.args.text.now c.args.len c.requires.text in
     let free : c.deref-4.result.now ≡ free_in c.args.area kept.numbers.items =
     c.deref-4.ensures.value ∙ filled_is c.args.area kept.numbers.items c.deref.result.now c.fill_free.new.free.items c.page_total-total.result
     c.deref.ensures.value c.page_total-total.ensures.total c.fill_free.ensures.free in
@@ -74,16 +74,15 @@ take_over-requires-clause-room c =
     count_is c.args.area c.page_total-total.ensures.lawful kept.len kept.bytes.items kept.numbers.items
     is_kept text fits c.deref-2.result.now c.deref-4.result.now (take c.args.len c.deref-3.result.now) c.deref-2.ensures.value free said
     c.plan_pages.new.numbers.items c.plan_pages.ensures.numbers
-    ∙ ap page_count (length-take-le c.args.len c.args.text.now.items c.requires.text.inside) in
+    ∙ ap page_count (length-take-le c.args.len c.args.text.now.items (held_inside c.args.area c.args.text.now c.args.len c.requires.text)) in
     let ends : c.len-end.result ≡ length c.plan_pages.new.numbers.items = omega (arith, c.len-end.ensures, c.plan_pages.new.numbers.ok.0) in
-    let few = count_least c.args.len c.args.area.most (omega (arith, c.requires.text.inside, c.requires.text.room)) in
-    omega (arith, count, ends, few, c.requires.text.room)
+    omega (arith, count, ends, c.requires.text.room)
 
 pub invariant_of-kept-clause-fits : goal.invariant_of-kept-clause-fits
 invariant_of-kept-clause-fits c =
     let kept = c.args.kept.now in
     let text : List ℕ = take c.args.len c.args.text.now.items in
-    let fits = held_fits c.args.area c.args.text.now.items c.args.len c.requires.text in
+    let fits = held_fits c.args.area c.args.text.now c.args.len c.requires.text in
     let free : c.deref-4.result.now ≡ free_in c.args.area kept.numbers.items =
     c.deref-4.ensures.value ∙ filled_is c.args.area kept.numbers.items c.deref.result.now c.fill_free.new.free.items c.page_total-total.result
     c.deref.ensures.value c.page_total-total.ensures.total c.fill_free.ensures.free in
@@ -93,9 +92,8 @@ invariant_of-kept-clause-fits c =
     count_is c.args.area c.page_total-total.ensures.lawful kept.len kept.bytes.items kept.numbers.items
     is_kept text fits c.deref-2.result.now c.deref-4.result.now (take c.args.len c.deref-3.result.now) c.deref-2.ensures.value free said
     c.plan_pages.new.numbers.items c.plan_pages.ensures.numbers
-    ∙ ap page_count (length-take-le c.args.len c.args.text.now.items c.requires.text.inside) in
-    let few = count_least c.args.len c.args.area.most (omega (arith, c.requires.text.inside, c.requires.text.room)) in
-    omega (arith, count, few, c.requires.text.room, c.take_over.ensures.long)
+    ∙ ap page_count (length-take-le c.args.len c.args.text.now.items (held_inside c.args.area c.args.text.now c.args.len c.requires.text)) in
+    omega (arith, count, c.requires.text.room, c.take_over.ensures.long)
 
 pub invariant_of-kept-clause-blank : goal.invariant_of-kept-clause-blank
 invariant_of-kept-clause-blank c =
@@ -107,7 +105,7 @@ pub invariant_of-kept-clause-covers : goal.invariant_of-kept-clause-covers
 invariant_of-kept-clause-covers c =
     let kept = c.args.kept.now in
     let text : List ℕ = take c.args.len c.args.text.now.items in
-    let fits = held_fits c.args.area c.args.text.now.items c.args.len c.requires.text in
+    let fits = held_fits c.args.area c.args.text.now c.args.len c.requires.text in
     let free : c.deref-4.result.now ≡ free_in c.args.area kept.numbers.items =
     c.deref-4.ensures.value ∙ filled_is c.args.area kept.numbers.items c.deref.result.now c.fill_free.new.free.items c.page_total-total.result
     c.deref.ensures.value c.page_total-total.ensures.total c.fill_free.ensures.free in
@@ -117,14 +115,14 @@ invariant_of-kept-clause-covers c =
     count_is c.args.area c.page_total-total.ensures.lawful kept.len kept.bytes.items kept.numbers.items
     is_kept text fits c.deref-2.result.now c.deref-4.result.now (take c.args.len c.deref-3.result.now) c.deref-2.ensures.value free said
     c.plan_pages.new.numbers.items c.plan_pages.ensures.numbers
-    ∙ ap page_count (length-take-le c.args.len c.args.text.now.items c.requires.text.inside) in
+    ∙ ap page_count (length-take-le c.args.len c.args.text.now.items (held_inside c.args.area c.args.text.now c.args.len c.requires.text)) in
     covered (length c.plan_pages.new.numbers.items) c.args.len count
 
 pub invariant_of-kept-clause-least : goal.invariant_of-kept-clause-least
 invariant_of-kept-clause-least c =
     let kept = c.args.kept.now in
     let text : List ℕ = take c.args.len c.args.text.now.items in
-    let fits = held_fits c.args.area c.args.text.now.items c.args.len c.requires.text in
+    let fits = held_fits c.args.area c.args.text.now c.args.len c.requires.text in
     let free : c.deref-4.result.now ≡ free_in c.args.area kept.numbers.items =
     c.deref-4.ensures.value ∙ filled_is c.args.area kept.numbers.items c.deref.result.now c.fill_free.new.free.items c.page_total-total.result
     c.deref.ensures.value c.page_total-total.ensures.total c.fill_free.ensures.free in
@@ -134,14 +132,14 @@ invariant_of-kept-clause-least c =
     count_is c.args.area c.page_total-total.ensures.lawful kept.len kept.bytes.items kept.numbers.items
     is_kept text fits c.deref-2.result.now c.deref-4.result.now (take c.args.len c.deref-3.result.now) c.deref-2.ensures.value free said
     c.plan_pages.new.numbers.items c.plan_pages.ensures.numbers
-    ∙ ap page_count (length-take-le c.args.len c.args.text.now.items c.requires.text.inside) in
+    ∙ ap page_count (length-take-le c.args.len c.args.text.now.items (held_inside c.args.area c.args.text.now c.args.len c.requires.text)) in
     fewest (length c.plan_pages.new.numbers.items) c.args.len count
 
 pub returns-clause-numbers : goal.returns-clause-numbers
 returns-clause-numbers c =
     let kept = c.args.kept.now in
     let text : List ℕ = take c.args.len c.args.text.now.items in
-    let fits = held_fits c.args.area c.args.text.now.items c.args.len c.requires.text in
+    let fits = held_fits c.args.area c.args.text.now c.args.len c.requires.text in
     let free : c.deref-4.result.now ≡ free_in c.args.area kept.numbers.items =
     c.deref-4.ensures.value ∙ filled_is c.args.area kept.numbers.items c.deref.result.now c.fill_free.new.free.items c.page_total-total.result
     c.deref.ensures.value c.page_total-total.ensures.total c.fill_free.ensures.free in
@@ -154,7 +152,7 @@ pub returns-clause-entries : goal.returns-clause-entries
 returns-clause-entries c =
     let kept = c.args.kept.now in
     let text : List ℕ = take c.args.len c.args.text.now.items in
-    let fits = held_fits c.args.area c.args.text.now.items c.args.len c.requires.text in
+    let fits = held_fits c.args.area c.args.text.now c.args.len c.requires.text in
     let free : c.deref-4.result.now ≡ free_in c.args.area kept.numbers.items =
     c.deref-4.ensures.value ∙ filled_is c.args.area kept.numbers.items c.deref.result.now c.fill_free.new.free.items c.page_total-total.result
     c.deref.ensures.value c.page_total-total.ensures.total c.fill_free.ensures.free in
@@ -169,7 +167,7 @@ pub returns-clause-places : goal.returns-clause-places
 returns-clause-places c =
     let kept = c.args.kept.now in
     let text : List ℕ = take c.args.len c.args.text.now.items in
-    let fits = held_fits c.args.area c.args.text.now.items c.args.len c.requires.text in
+    let fits = held_fits c.args.area c.args.text.now c.args.len c.requires.text in
     let free : c.deref-4.result.now ≡ free_in c.args.area kept.numbers.items =
     c.deref-4.ensures.value ∙ filled_is c.args.area kept.numbers.items c.deref.result.now c.fill_free.new.free.items c.page_total-total.result
     c.deref.ensures.value c.page_total-total.ensures.total c.fill_free.ensures.free in
@@ -182,7 +180,7 @@ pub returns-clause-dropped : goal.returns-clause-dropped
 returns-clause-dropped c =
     let kept = c.args.kept.now in
     let text : List ℕ = take c.args.len c.args.text.now.items in
-    let fits = held_fits c.args.area c.args.text.now.items c.args.len c.requires.text in
+    let fits = held_fits c.args.area c.args.text.now c.args.len c.requires.text in
     let free : c.deref-4.result.now ≡ free_in c.args.area kept.numbers.items =
     c.deref-4.ensures.value ∙ filled_is c.args.area kept.numbers.items c.deref.result.now c.fill_free.new.free.items c.page_total-total.result
     c.deref.ensures.value c.page_total-total.ensures.total c.fill_free.ensures.free in
@@ -195,7 +193,7 @@ pub returns-clause-drops : goal.returns-clause-drops
 returns-clause-drops c =
     let kept = c.args.kept.now in
     let text : List ℕ = take c.args.len c.args.text.now.items in
-    let fits = held_fits c.args.area c.args.text.now.items c.args.len c.requires.text in
+    let fits = held_fits c.args.area c.args.text.now c.args.len c.requires.text in
     let free : c.deref-4.result.now ≡ free_in c.args.area kept.numbers.items =
     c.deref-4.ensures.value ∙ filled_is c.args.area kept.numbers.items c.deref.result.now c.fill_free.new.free.items c.page_total-total.result
     c.deref.ensures.value c.page_total-total.ensures.total c.fill_free.ensures.free in

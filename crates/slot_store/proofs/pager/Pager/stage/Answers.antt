@@ -3,6 +3,7 @@ use Rattle.std.proofs.lemmas.List.{length-take-le, with_items_is}
 use Rattle.record_pages.specs.Tables.{table_body}
 use Rattle.dr_base.specs.declared.limits.TheConstants.{PAGE}
 use Rattle.slot_store.proofs.Contents.{body_is, is_staged, small_numbers}
+use Rattle.slot_store.proofs.Standing.{held_inside}
 use Rattle.slot_store.proofs.pager.Pager.stage.Goals as goal
 
 pub lay_out_table-requires-clause-small : goal.lay_out_table-requires-clause-small
@@ -20,4 +21,4 @@ returns-clause-staged c =
     ∙ body_is c.next-turn.result (c.args.len) (length c.deref_mut.result.now) c.replan.new.kept.numbers.items c.deref.result.now c.deref.ensures.value long
     ∙ ap (λ n. table_body c.next-turn.result n c.replan.new.kept.numbers.items
     (PAGE - (6 + 2 * length c.replan.new.kept.numbers.items)))
-    (sym (length-take-le c.args.len c.args.text.now.items c.requires.inside)))
+    (sym (length-take-le c.args.len c.args.text.now.items (held_inside c.args.self.now.area c.args.text.now c.args.len c.requires))))

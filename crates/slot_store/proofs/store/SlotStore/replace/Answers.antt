@@ -16,7 +16,7 @@ use Rattle.slot_store.proofs.store.SlotStore.replace.Goals as goal
 
 pub put-requires-clause-text : goal.put-requires-clause-text
 put-requires-clause-text g c =
-    subst (λ (s : SlotStore). HasText s.area c.args.text.now.items c.args.len) (sym c.self.view_is) c.requires.text
+    subst (λ (s : SlotStore). HasText s.area c.args.text.now c.args.len) (sym c.self.view_is) c.requires.text
 
 pub put-requires-clause-at_rest : goal.put-requires-clause-at_rest
 put-requires-clause-at_rest g c = λ d left. laid_as_seen c.self.inside.pager d
@@ -29,8 +29,8 @@ returns-in-Err g c =
     let text = take c.args.len c.args.text.now.items in
     let start = g.D.Disk.state c.args.disk.now in
     let mid = g.D.Disk.state c.put.new.disk in
-    let fits = held_fits old.area c.args.text.now.items c.args.len
-    (subst (λ (s : SlotStore). HasText s.area c.args.text.now.items c.args.len) (sym c.self.view_is) c.requires.text) in
+    let fits = held_fits old.area c.args.text.now c.args.len
+    (subst (λ (s : SlotStore). HasText s.area c.args.text.now c.args.len) (sym c.self.view_is) c.requires.text) in
     record {
       replaces = record {
         any_moment = subst (λ (s : SlotStore). Span start mid (IsOldOrNew start s.area s.content (Some text))) c.self.view_is
@@ -61,8 +61,8 @@ returns-in-Err-retire g c =
     let end = g.D.Disk.state c.retire.new.disk in
     let staged = c.put.ensures.staged in
     let done = c.in-Ok.ensures.done in
-    let fits = held_fits old.area c.args.text.now.items c.args.len
-    (subst (λ (s : SlotStore). HasText s.area c.args.text.now.items c.args.len) (sym c.self.view_is) c.requires.text) in
+    let fits = held_fits old.area c.args.text.now c.args.len
+    (subst (λ (s : SlotStore). HasText s.area c.args.text.now c.args.len) (sym c.self.view_is) c.requires.text) in
     record {
       replaces = record {
         any_moment = subst (λ (s : SlotStore). Span start end (IsOldOrNew start s.area s.content (Some text))) c.self.view_is
@@ -98,8 +98,8 @@ returns g c =
     let end = g.D.Disk.state c.retire.new.disk in
     let staged = c.put.ensures.staged in
     let done = c.in-Ok.ensures.done in
-    let fits = held_fits old.area c.args.text.now.items c.args.len
-    (subst (λ (s : SlotStore). HasText s.area c.args.text.now.items c.args.len) (sym c.self.view_is) c.requires.text) in
+    let fits = held_fits old.area c.args.text.now c.args.len
+    (subst (λ (s : SlotStore). HasText s.area c.args.text.now c.args.len) (sym c.self.view_is) c.requires.text) in
     record {
       replaces = record {
         any_moment = subst (λ (s : SlotStore). Span start end (IsOldOrNew start s.area s.content (Some text))) c.self.view_is
