@@ -6,12 +6,14 @@ key of theirs. It keeps nothing between two runs, so it opens a packet as often 
     messenger outbox | examples/read-packet.py open first KEY
     examples/read-packet.py seal second KEY INDEX 'are you there?' | messenger take
     examples/read-packet.py pad second KEY INDEX 'are you there?' | messenger take
+    examples/read-packet.py attest second KEY INDEX 'are you there?' | messenger take
 
-KEY is a file with the session's key, as `messenger begin` reads it. `open` is followed by the side that reads, `seal` and
-`pad` by the one that says. `open` reads packets in hex, one a line, plain and padded ones; each may have its position
-before it. Of each it prints the position and the text, as `messenger inbox` does, or why not, with the names of PROTOCOL.
-`seal` prints a plain packet, `pad` a padded one; without a text they seal what standard input holds. The status is 0, or 1 where a file can't be read, 2 where the words are no
-command, and 3 where something is refused.
+KEY is a file with the session's key, as `messenger begin` reads it. `open` is followed by the side that reads, the other words
+by the one that says. `open` reads packets in hex, one a line, of all formats; each may have its position before it. Of each it
+prints the position and the text, as `messenger inbox` does, or why not, with the names of PROTOCOL. `seal` prints a plain
+packet, `pad` a padded one, and `attest` one with a receipt, which is empty, as First says nothing in epoch 0 that could be
+opened; without a text they seal what standard input holds. The status is 0, or 1 where a file can't be read, 2 where the
+words are no command, and 3 where something is refused.
 """
 import hmac
 import os
@@ -19,10 +21,15 @@ import re
 import struct
 import sys
 
-USAGE = "usage: read-packet.py open first|second KEY < PACKETS\n       read-packet.py seal|pad first|second KEY INDEX [TEXT]"
+USAGE = """usage: read-packet.py open first|second KEY < PACKETS
+       read-packet.py seal|pad|attest first|second KEY INDEX [TEXT]"""
 AGREEMENT = 1039 + 1158  # over sntrup761: a ciphertext and a public key
-PLAIN, PADDED = 1, 2  # versions
-LENGTHS = {PLAIN: range(4097), PADDED: range(256, 4353, 256)}  # of what a packet seals
+PLAIN, PADDED, RECEIPTS = 1, 2, 3  # versions
+SEALS = {"seal": PLAIN, "pad": PADDED, "attest": RECEIPTS}
+LENGTHS = {PLAIN: range(4097), PADDED: range(256, 4353, 256), RECEIPTS: range(256, 4609, 256)}  # of what a packet seals
+TEXT, LISTED = 4096, 32  # the most bytes of a text, and positions of a receipt
+BODY = 1 + 8 + 1 + 8 * LISTED + 1 + TEXT
+NO_RECEIPT = TEXT_KIND = b"\0"
 COLUMNS = [(0, 4, 8, 12), (1, 5, 9, 13), (2, 6, 10, 14), (3, 7, 11, 15)]
 DIAGONALS = [(0, 5, 10, 15), (1, 6, 11, 12), (2, 7, 8, 13), (3, 4, 9, 14)]
 
@@ -85,9 +92,33 @@ def padded(text):
     return made + bytes(-len(made) % 256)
 
 
-def unpadded(sealed):
-    text = sealed[2 : 2 + int.from_bytes(sealed[:2], "big")]
-    if len(text) > 4096 or padded(text) != sealed:
+def unpadded(sealed, most):
+    held = sealed[2 : 2 + int.from_bytes(sealed[:2], "big")]
+    if len(held) > most or padded(held) != sealed:
+        raise Refused("BadPadding")
+    return held
+
+
+def receipt_size(body, parity):
+    """The length of the receipt that a body begins with, for the side whose epochs have this parity."""
+    if body[:1] == NO_RECEIPT:
+        return 1
+    count = body[9] if len(body) > 9 else LISTED + 1
+    size = 10 + 8 * count
+    if body[:1] != b"\1" or count > LISTED or len(body) < size:
+        raise Refused("BadPadding")
+    bound, listed = struct.unpack(">II", body[1:9]), list(struct.iter_unpack(">II", body[10:size]))
+    ascends = all(one < other for one, other in zip(listed, listed[1:] + [(bound[0], bound[1] + 1)]))
+    if not ascends or any(epoch % 2 != parity for epoch, _ in [bound, *listed]) or any(index == 0 for _, index in listed):
+        raise Refused("BadPadding")
+    return size
+
+
+def text_of(body, parity):
+    """The text after a receipt and its kind."""
+    size = receipt_size(body, parity)
+    text = body[size + 1 :]
+    if body[size : size + 1] != TEXT_KIND or len(text) > TEXT:
         raise Refused("BadPadding")
     return text
 
@@ -136,16 +167,21 @@ def opened(side, key, packet):
     cipher_key, tag_key, nonce = message(stream, index)
     if not hmac.compare_digest(tag, tag_of(tag_key, head, ciphertext)):
         raise Refused("BadTag")
-    opens_to = enciphered(cipher_key, nonce, ciphertext)
-    return index, opens_to if version == PLAIN else unpadded(opens_to)
+    held = enciphered(cipher_key, nonce, ciphertext)
+    if version == PADDED:
+        held = unpadded(held, TEXT)
+    if version == RECEIPTS:
+        held = text_of(unpadded(held, BODY), 1)  # who opens is First here, whose epochs are odd
+    return index, held
 
 
 def sealed(version, side, key, index, text):
     if side == "first":
         raise Refused("First says nothing in epoch 0, and epoch 1 needs the key encapsulation, which isn't here")
-    if len(text) > 4096:
+    if len(text) > TEXT:
         raise Refused(f"TextTooLong {len(text)}")
-    return packet_of(version, key, index, text if version == PLAIN else padded(text))
+    held = {PLAIN: text, PADDED: padded(text), RECEIPTS: padded(NO_RECEIPT + TEXT_KIND + text)}
+    return packet_of(version, key, index, held[version])
 
 
 def packet_of(version, key, index, body):
@@ -176,7 +212,7 @@ def open_line(side, key, line):
 
 def main(words):
     opens = words[:1] == ["open"] and len(words) == 3
-    seals = words[0:1] in (["seal"], ["pad"]) and len(words) in (4, 5) and words[3] in map(str, range(1, 65536))
+    seals = len(words) in (4, 5) and words[0] in SEALS and words[3] in map(str, range(1, 65536))
     if not (opens or seals) or words[1] not in ("first", "second"):
         print(USAGE, file=sys.stderr)
         return 2
@@ -185,8 +221,7 @@ def main(words):
         key = bytes_of(file.read(), rb"((?:[0-9a-fA-F]{2}){32})", "BadKey")
     if seals:
         text = os.fsencode(words[4]) if words[4:] else sys.stdin.buffer.read()
-        version = PADDED if words[0] == "pad" else PLAIN
-        print(sealed(version, side, key, int(words[3]), text).hex())
+        print(sealed(SEALS[words[0]], side, key, int(words[3]), text).hex())
     else:
         for line in sys.stdin.buffer:
             try:

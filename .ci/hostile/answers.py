@@ -1,8 +1,10 @@
 """What a side, a relay and a sync answer, and which scripts are read, as docs/PROTOCOL.md says: another implementation, for
-`.ci/hostile-bytes`. Whether a tag is right isn't computed: a packet that was made is known with its text."""
+`.ci/hostile-bytes`. Whether a tag is right isn't computed: a packet that was made is known with its text and its receipt."""
 import re
 
-from hostile.formats import ITEMS, KEPT, PACKETS, STORED_PACKET, TEXTS, Fault, Packet, is_name
+from hostile.formats import (
+    AWAITING, ITEMS, KEPT, LISTED, PACKETS, RECEIPTS, STORED_PACKET, TEXTS, Fault, Packet, is_name,
+)
 
 
 def quoted(text):
@@ -13,11 +15,13 @@ def quoted(text):
 
 
 def shown(side, command):
-    """The lines of state, inbox and outbox."""
+    """The lines of state, inbox, outbox and awaiting."""
     if command == "inbox":
         return "".join(f'{position} "{quoted(text)}"\n' for position, text in side.texts)
     if command == "outbox":
         return "".join(f"{position} {packet.hex()}\n" for position, packet in side.packets)
+    if command == "awaiting":
+        return f"awaiting {len(side.awaiting)}\n" + "".join(f"{epoch}.{index}\n" for epoch, index in side.awaiting)
     name = "first" if side.side == 1 else "second"
     return (
         f"session {side.session.hex()}\nside {name}\nepoch {side.epoch}\nmissing {len(side.kept)}\n"
@@ -25,8 +29,25 @@ def shown(side, command):
     )
 
 
+def receipt_of(side):
+    """The receipt of a text that a side says: its bound and the positions that it lists, or none."""
+    if side.format != RECEIPTS or side.latest < 0:
+        return None
+    bound = (side.latest, side.reach) if len(side.kept) <= LISTED else side.kept[LISTED - 1]
+    return bound, side.kept[:LISTED]
+
+
+def is_covered(receipt, position):
+    """Whether a receipt says that a position was opened."""
+    if not receipt:
+        return False
+    bound, listed = receipt
+    return position[0] % 2 == bound[0] % 2 and position <= bound and position not in listed
+
+
 def takes(side, text, said):
-    """The refusal of bytes, or none: then the side keeps their text. `said` has the text of each packet that was made."""
+    """The refusal of bytes, or none: then the side keeps their text, and what their receipt covers waits no longer. `said` has
+    the text and the receipt of each packet that was made."""
     try:
         packet = Packet(text)
     except Fault as fault:
@@ -61,7 +82,9 @@ def takes(side, text, said):
     if position not in side.kept:
         side.reach, side.latest, side.epoch = packet.index, packet.epoch, max(side.epoch, packet.epoch)
     side.kept = sorted(kept)
-    side.texts.append((f"{packet.epoch}.{packet.index}", said[text]))
+    content, receipt = said[text]
+    side.texts.append((f"{packet.epoch}.{packet.index}", content))
+    side.awaiting = [it for it in side.awaiting if not is_covered(receipt, it)]
     return None
 
 
@@ -82,6 +105,7 @@ def acts(side, words, given, said):
         side.epoch, side.said = (side.epoch, side.said + 1) if own else (side.epoch + 1, 1)
         position = f"{side.epoch}.{side.said}"
         side.packets.append((position, None))
+        side.awaiting = (side.awaiting + [(side.epoch, side.said)])[-AWAITING:]
         return f"said {position}\n"
     if int(words[1]) > len(held):
         return f"refused: Fewer {len(held)}\n"
@@ -221,7 +245,7 @@ POSITION = NUMBER + rb"\." + NUMBER
 CALL = rb"say(?: (?P<text>.*))?|take " + POSITION + rb"|take #" + NUMBER + rb"|(?:sent|done) " + NUMBER
 LINE = re.compile(
     rb"seed [0-9a-fA-F]{64}|(?:first|second) (?:" + CALL + rb"|flip " + POSITION + b" " + NUMBER
-    + rb"|bytes(?: (?:[0-9a-fA-F]{2}){0,8000})?|(?:sent|done) all|inbox|state|sync|lose " + FROM_ONE
+    + rb"|bytes(?: (?:[0-9a-fA-F]{2}){0,8000})?|(?:sent|done) all|inbox|state|awaiting|sync|lose " + FROM_ONE
     + rb"|open|stop " + NUMBER + rb" (?:old|new|[0-9a-fA-F]{2}) (?:" + CALL.replace(b"?P<text>", b"?P<stopped>")
     + rb")|fail " + FROM_ONE + rb" (?:" + CALL.replace(b"?P<text>", b"?P<failed>") + rb"))",
     re.S,
@@ -240,7 +264,7 @@ def bad_line(script):
             lawful = line in (b"kem open", b"kem sntrup761")
         elif at == 2:
             lawful = re.fullmatch(rb"key [0-9a-fA-F]{64}", line)
-        elif at == 3 and re.fullmatch(rb"format (plain|padded) (plain|padded)", line):
+        elif at == 3 and re.fullmatch(rb"format (plain|padded|receipts) (plain|padded|receipts)", line):
             lawful = True
         elif lawful := LINE.fullmatch(line):
             said = [lawful[it] for it in ("text", "stopped", "failed") if lawful[it] is not None]

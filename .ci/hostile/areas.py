@@ -2,7 +2,7 @@
 for `.ci/hostile-bytes`."""
 from typing import NamedTuple
 
-from hostile.formats import NEWEST, PLAIN, Fault, Side
+from hostile.formats import FORMATS, NEWEST, Fault, Side
 
 PAGE = 4096
 LOWER = 128  # pages that stand from an area's start on; the others stand from its upper place on
@@ -157,13 +157,24 @@ def laid(image, found, record, kept):
     return image
 
 
+def rewritten(side, version):
+    """A side's record in another version: from 3 on a byte says the format; from 4 on a byte after each position of the inbox
+    says a kind, and what waits stands at the end, which is nothing where the record didn't say it."""
+    text, at = side.record, 3 if side.version >= 3 else 2
+    made = bytes([version, side.side]) + (bytes([side.format]) if version >= 3 else b"")
+    for place in side.entries:
+        made += text[at : place - (side.version >= 4)] + (b"\0" if version >= 4 else b"")
+        at = place
+    made += text[at : side.lists_end]
+    return made + (text[side.lists_end :] or b"\0") if version >= 4 else made
+
+
 def aged(image, version):
-    """A side's file with its record in an earlier version, where that may hold it, or none."""
+    """A side's file with its record in an earlier version, where that may hold it but for what waits, or none."""
     found = found_in(image, STATE_AREA, Side)
-    if found.record.format != PLAIN:
+    if found.record.format > FORMATS[version]:
         return None
-    text = found.record.record
-    old = laid(image, found, bytes([version]) + text[1:2] + text[3:], False)
+    old = laid(image, found, rewritten(found.record, version), False)
     return None if foretold(old, STATE_AREA, Side)[2] else old
 
 
@@ -171,5 +182,4 @@ def renewed(image, found):
     """A side's file at rest once it was opened: a record of an earlier version is replaced by the same in the newest one."""
     if not found.record or found.record.version == NEWEST:
         return image
-    text = found.record.record
-    return laid(image.ljust(STATE_SIZE, b"\0"), found, bytes([NEWEST]) + text[1:2] + bytes([PLAIN]) + text[2:], True)
+    return laid(image.ljust(STATE_SIZE, b"\0"), found, rewritten(found.record, NEWEST), True)

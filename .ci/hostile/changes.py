@@ -5,7 +5,7 @@ from hostile.areas import PAGE
 def number_near(draw, size, now):
     """A number that isn't far from a limit or from what stood there."""
     near = [0, 1, 2, 16, 63, 64, 65, 127, 128, 129, 255, 256, 257, 511, 512, 513, 1023, 1024, 1025, 4095, 4096, 4097]
-    near += [7999, 8000, 8001, 8191, 8192, 8193, 65535, 2**32 - 1]
+    near += [31, 32, 33, 4351, 4352, 4353, 4607, 4608, 4609, 7999, 8000, 8001, 8191, 8192, 8193, 65535, 2**32 - 1]
     value = draw.choice([now + draw.choice((-2, -1, 1, 2, 256)), draw.choice(near), 1 << draw.randrange(8 * size)])
     return (value % (1 << 8 * size)).to_bytes(size, "big")
 
@@ -47,7 +47,8 @@ def changed(draw, text, others, places=()):
     return bytes(text)
 
 
-# where tables and records have their first fields
+# where tables and records have their first fields, and how far before a record's end what waits has its own
+ENDS = (1, 4, 8, 9, 12, 16, 17)
 HEADS = (0, 1, 2, 3, 4, 5, 6, 8, 18, 19, 36, 43, 44, 45, 46, 50, 51, 52, 53, 54, 55, 3247, 3248, 3251, 3252)
 
 
@@ -77,7 +78,8 @@ def changed_file(draw, image, others, area):
         at = draw.choice(used + tables)
         page = image[at : at + PAGE]
         held = max(8, len(page.rstrip(b"\0")))
-        piece = changed(draw, page[:held], [bytes(page), bytes(image[:PAGE])], HEADS)
+        places = HEADS + tuple(held - back for back in ENDS if back < held)
+        piece = changed(draw, page[:held], [bytes(page), bytes(image[:PAGE])], places)
         image[at : at + PAGE] = piece[:PAGE].ljust(PAGE, b"\0") if at + PAGE <= len(image) else piece
     return bytes(image)
 
@@ -91,9 +93,10 @@ SCRIPTS = [
     "first state",
     f"seed {'1' * 64},first say z,first bytes 01020304,first bytes,second take 1.1",
     "format plain padded,second say a,first take 0.1,first say b,second take 1.1",
+    "format receipts receipts,second say a,second say b,first take 0.2,first say c,second take 1.1,second awaiting,first awaiting",
 ]
 WORDS = "0 00 1 2 128 129 1025 4294967295 4294967296 #0 #1 #4294967295 0.0 0.1 1.1 2.1 0.65536 1.4294967295".split()
-WORDS += "all old new a5 A5 first second format plain padded".split()
+WORDS += "all old new a5 A5 first second format plain padded receipts awaiting".split()
 
 
 def changed_script(draw, script):

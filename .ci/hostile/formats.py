@@ -3,12 +3,14 @@ import re
 
 AGREEMENT = 2197  # bytes of an agreement message over sntrup761
 SECRET, PUBLIC = 1763, 1158
-KEPT, TEXTS, PACKETS, TEXT = 512, 128, 32, 4096
-PLAIN, PADDED = 1, 2  # versions of packets, and formats of a session
-SEALED = {PLAIN: range(TEXT + 1), PADDED: range(256, 4353, 256)}  # how many bytes a packet seals
-NEWEST = 3  # the version of a side's record that is written
+KEPT, TEXTS, PACKETS, TEXT, AWAITING, LISTED = 512, 128, 32, 4096, 64, 32
+PLAIN, PADDED, RECEIPTS = 1, 2, 3  # versions of packets, and formats of a session
+# how many bytes a packet seals
+SEALED = {PLAIN: range(TEXT + 1), PADDED: range(256, 4353, 256), RECEIPTS: range(256, 4609, 256)}
+NEWEST = 4  # the version of a side's record that is written
 # most kept keys, texts and bytes of a text in each version
-LIMITS = {1: (256, 64, 1024), 2: (KEPT, TEXTS, TEXT), NEWEST: (KEPT, TEXTS, TEXT)}
+LIMITS = {1: (256, 64, 1024), 2: (KEPT, TEXTS, TEXT), 3: (KEPT, TEXTS, TEXT), NEWEST: (KEPT, TEXTS, TEXT)}
+FORMATS = {1: PLAIN, 2: PLAIN, 3: PADDED, NEWEST: RECEIPTS}  # the last format, and version of packets, that each version has
 ITEMS, STORED_PACKET = 64, 8000
 
 
@@ -43,7 +45,7 @@ class Fields:
 class Packet:
     def __init__(self, text):
         fields = Fields(text)
-        self.version = fields.number(1, "Version", PLAIN, PADDED)
+        self.version = fields.number(1, "Version", PLAIN, RECEIPTS)
         self.session = fields.bytes(16)
         self.epoch = fields.number(4, "Epoch", 0, 2**32 - 2)
         self.previous = fields.number(4, "Previous", 0, 65535 if self.epoch > 1 else 0)
@@ -59,14 +61,15 @@ class Packet:
 
 
 class Side:
-    """What a record keeps of a side; texts of the inbox as position and text."""
+    """What a record keeps of a side; texts of the inbox as position and text. `entries` has where the text of each begins, with
+    its length before it, and `lists_end` where the outbox ends."""
 
     def __init__(self, record):
         fields = Fields(record)
         self.record, self.version = record, fields.number(1, "", 1, NEWEST)
         self.most_keys, self.most_texts, self.most = LIMITS[self.version]
         self.side = fields.number(1, "", 1, 2)
-        self.format = fields.number(1, "", PLAIN, PADDED) if self.version >= 3 else PLAIN
+        self.format = fields.number(1, "", PLAIN, FORMATS[self.version]) if self.version >= 3 else PLAIN
         self.session = fields.bytes(16)
         fields.bytes(32)
         self.epoch = fields.number(4, "", 0, 2**32 - 2)
@@ -81,13 +84,15 @@ class Side:
         before = self.epoch - (2 if own else 1)
         fields.number(4, "", 0, 65535 if before >= 0 else 0)
         self.latest = self.epoch - 1 if own else self.epoch
-        self.reach = 0
+        self.reach, self.entries = 0, []
         if self.latest >= 0:
             fields.bytes(32)
             self.reach = fields.number(4, "", 0, 65535)
         self.kept = self.kept_keys(fields)
         self.texts = [self.text_of(fields) for _ in range(fields.number(1, "", 0, self.most_texts))]
         self.packets = [self.packet_of(fields) for _ in range(fields.number(1, "", 0, PACKETS))]
+        self.lists_end = fields.at
+        self.awaiting = self.positions_of(fields) if self.version >= 4 else []
         fields.end()
 
     def is_own(self, epoch):
@@ -111,7 +116,21 @@ class Side:
     def text_of(self, fields):
         epoch = int.from_bytes(fields.bytes(4, "", self.is_peers), "big")
         index = fields.number(4, "", 1, 65535)
+        if self.version >= 4:
+            fields.number(1, "", 0, 0)
+        self.entries.append(fields.at)
         return f"{epoch}.{index}", fields.bytes(fields.number(2, "", 0, self.most))
+
+    def positions_of(self, fields):
+        """Positions of the side's own texts, ascending."""
+        positions = []
+        for _ in range(fields.number(1, "", 0, AWAITING)):
+            last = positions[-1] if positions else (0, 0)
+            lawful = lambda value: self.is_own(it := int.from_bytes(value, "big")) and last[0] <= it <= self.epoch
+            epoch = int.from_bytes(fields.bytes(4, "", lawful), "big")
+            least = last[1] + 1 if epoch == last[0] else 1
+            positions.append((epoch, fields.number(4, "", least, self.said if epoch == self.epoch else 65535)))
+        return positions
 
     def packet_of(self, fields):
         # of a packet the place is its first byte, whatever is wrong in it or with its length
@@ -122,7 +141,7 @@ class Side:
         except Fault:
             raise Fault("", place) from None
         is_own = self.is_own(packet.epoch) and packet.epoch <= self.epoch
-        is_late = self.version < 3 and (packet.version != PLAIN or packet.size > self.most)
+        is_late = packet.version > FORMATS[self.version] or self.version < 3 and packet.size > self.most
         if is_late or packet.session != self.session or not is_own:
             raise Fault("", place)
         return f"{packet.epoch}.{packet.index}", fields.text[place : fields.at]

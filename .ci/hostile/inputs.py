@@ -1,10 +1,10 @@
 """What is changed: files of a session of two sides and of relays, made by the program, with all packets, and scripts."""
 import random
 
-from hostile.answers import frame, named
+from hostile.answers import frame, named, receipt_of
 from hostile.changes import SCRIPTS
-from hostile.areas import aged, side_of
-from hostile.formats import ITEMS, STORED_PACKET, TEXT, TEXTS
+from hostile.areas import STATE_AREA, aged, found_in, put_at, side_of
+from hostile.formats import ITEMS, NEWEST, RECEIPTS, STORED_PACKET, TEXT, TEXTS, Side
 from hostile.runs import Folder, expect, serve
 
 KEY = b"0123456789abcdef" * 4
@@ -12,7 +12,8 @@ KEY = b"0123456789abcdef" * 4
 
 class Inputs:
     """A session of two sides, made by the program: state files of its steps, some with their record in an earlier version,
-    packets with their texts, files of relays. First's packets are plain, and Second's padded."""
+    packets with their texts and receipts, files of relays. First's packets are plain and Second's padded; the last ones of
+    both have receipts."""
 
     def __init__(self, work):
         self.said, self.stages, self.kept = {}, [], 1
@@ -28,15 +29,18 @@ class Inputs:
         self.step("second", "sent", "3")
         self.take("second", "1.2")
         for n in range(TEXTS + 6):
+            if n == TEXTS // 2:
+                self.seal_receipts("second")
             self.say("second", b"%d" % n * 40)
             if n > 28:
                 self.step("second", "sent", "1")
         self.take("first", "2.20")
         self.step("first", "done", "1")
         self.take("first", f"2.{TEXTS}", *(f"2.{n}" for n in range(1, TEXTS - 1) if n != 20))
+        self.seal_receipts("first")
         self.say("first", b"y" * TEXT)  # its inbox is full
         self.take("second", "3.1")
-        self.stages += [old for image in self.stages[::2] for version in (1, 2) if (old := aged(image, version))]
+        self.stages += [old for image in self.stages[::2] for version in range(1, NEWEST) if (old := aged(image, version))]
         self.packets = list(self.said)
         self.boxes = [self.session.hex().encode() + b"-%d" % k for k in (1, 2)] + [b"a"]
         draws = map(random.Random, range(5))
@@ -58,9 +62,17 @@ class Inputs:
             self.kept += 1
         self.stages.append(image)
 
+    def seal_receipts(self, name):
+        """The file of a side with another byte for its format, as if it had begun with receipts."""
+        folder = self.sides[name]
+        image = folder.image()
+        place = STATE_AREA.place(found_in(image, STATE_AREA, Side).numbers[0])
+        folder.file.write_bytes(put_at(image, place + 2, bytes([RECEIPTS])))
+
     def say(self, name, text):
+        receipt = receipt_of(side_of(self.sides[name].image()))
         self.step(name, "say", "--", text)
-        self.said[side_of(self.stages[-1]).packets[-1][1]] = text
+        self.said[side_of(self.stages[-1]).packets[-1][1]] = text, receipt
 
     def take(self, name, *positions):
         packets = {f"{int.from_bytes(it[17:21], 'big')}.{int.from_bytes(it[25:29], 'big')}": it for it in self.said}

@@ -6,8 +6,8 @@ from hostile.formats import STORED_PACKET, Box, Side
 from hostile.inputs import KEY
 from hostile.runs import expect, expect_talk, serve, sync
 
-PACKET_TEXT = 13229  # the most bytes of a packet's line
-KEPT = ("texts", "packets", "kept", "reach", "latest", "epoch")  # what of a side is compared
+PACKET_TEXT = 13741  # the most bytes of a packet's line
+KEPT = ("texts", "packets", "kept", "reach", "latest", "epoch", "awaiting")  # what of a side is compared
 
 
 def try_packet(draw, folder, inputs):
@@ -62,7 +62,7 @@ def expect_act(status, lines, then, left, wanted, side):
         expect(f"{what}, then", now, then)
 
 
-LOOKS = ("state", "inbox", "outbox")
+LOOKS = ("state", "inbox", "outbox", "awaiting")
 COMMANDS = [*LOOKS, *LOOKS, "check", "check", "done 0", "done 2", "sent 1", "say hi", "take", "begin first", "sync 127.0.0.1:1"]
 
 

@@ -30,4 +30,4 @@ def boxes_of(image):
 def keeps(side):
     """What is told of a side here, whose texts aren't known."""
     texts, packets = ([position for position, _ in each] for each in (side.texts, side.packets))
-    return side.epoch, side.latest, side.reach, side.kept, texts, packets
+    return side.epoch, side.latest, side.reach, side.kept, texts, packets, side.awaiting

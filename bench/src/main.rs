@@ -1,5 +1,5 @@
 //! Measures the messenger: medians of many runs. The word `run` measures the path of a text, the word `ring` the
-//! arithmetic of the key encapsulation and a turn, the word `store` a record in memory and on a
+//! arithmetic of the key encapsulation, a turn and the three formats, the word `store` a record in memory and on a
 //! file, a relay over loopback, and a client on a file. Without a word it prints one fixed line.
 #![tactic(auto)]
 
@@ -7,9 +7,11 @@ use std::{env, io};
 
 mod cipher;
 mod clock;
+mod formats;
 mod mechanism;
 mod message;
 mod network;
+mod party;
 mod record;
 mod relay;
 mod ring;
@@ -28,7 +30,8 @@ fn measure(rt: &HostRuntime, word: &str) -> io::Result<()> {
         "ring" => {
             ring::report(rt)?;
             mechanism::report(rt)?;
-            turn::report(rt)
+            turn::report(rt)?;
+            formats::report(rt)
         }
         "store" => {
             record::report(rt)?;

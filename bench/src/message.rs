@@ -1,7 +1,7 @@
 //! One message: sealed, opened, parsed; and the keys that a stream passes.
 
 use crate::clock::Times;
-use dr_base::{PLAIN, Key32, Position};
+use dr_base::{Key32, PLAIN, Position};
 use etm_aead::{OpenKey, SealKey};
 use fs_aead::{ReceiveStream, Skipped};
 use packet::{parse, write_into};
@@ -45,8 +45,7 @@ fn time_parsing<R: Clock + AllocGlobal>(rt: &R) -> io::Result<u64> {
     let position = Position { epoch: 1, index: 1 };
     let mut bytes = [0; 3286];
     write_into(
-        PLAIN,
-        &[1; 16], position, 0, &[2; 2197], &[3; 1024], &[4; 32], &mut bytes,
+        PLAIN, &[1; 16], position, 0, &[2; 2197], &[3; 1024], &[4; 32], &mut bytes,
     );
     let mut times = Times::new(rt.alloc());
     let mut parsed: u64 = 0;

@@ -1,7 +1,7 @@
 //! The record of a client with full boxes, written and read.
 
 use crate::clock::Times;
-use crate::turn::seed_of;
+use crate::party::seed_of;
 use bodies::Format;
 use boxes::{Inbox, Outbox};
 use dr_base::{INBOX_LIMIT, Key32, OUTBOX_LIMIT, Position, Side, TEXT_LIMIT};
@@ -59,7 +59,12 @@ struct Full<K: Kem> {
 fn filled_client<K: Kem>(alloc: Global, work: &mut K::Work) -> io::Result<Full<K>> {
     let mut inbox = Inbox::new(alloc)?;
     let mut outbox = Outbox::new(alloc)?;
-    let Ok(mut session) = Session::<K>::begin(work, Side::First, Format::Plain, &Key32 { bytes: [7; 32] }) else {
+    let Ok(mut session) = Session::<K>::begin(
+        work,
+        Side::First,
+        Format::Plain,
+        &Key32 { bytes: [7; 32] },
+    ) else {
         return Err(Error::from(ErrorKind::InvalidData));
     };
     fill_outbox(&mut session, work, &mut outbox);

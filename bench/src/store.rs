@@ -59,8 +59,7 @@ fn replace<R: Clock + AllocGlobal + Files<File = File>>(
         pages: 384,
         most: 190,
     };
-    let Ok((mut store, _found)) = SlotStore::open(rt.alloc(), disk, area, &mut AnyText)
-    else {
+    let Ok((mut store, _found)) = SlotStore::open(rt.alloc(), disk, area, &mut AnyText) else {
         return Err(Error::from(ErrorKind::InvalidData));
     };
     let mut room = record_memory(rt.alloc(), area)?;

@@ -4,7 +4,7 @@ use Rattle.dr_base.specs.declared.position.Position.{Position}
 use Rattle.packet.specs.declared.fault.Kind.{Kind}
 use Rattle.packet.specs.declared.fault.Kind.TheVariants.{Version, Epoch, Previous, Index, Agreement, Text, Short, Long}
 use Rattle.session_model.specs.declared.answer.Answer.{Answer}
-use Rattle.session_model.specs.declared.answer.Answer.TheVariants.{Said, Opened, Dropped, Inbox, State, Seeded, Stopped, Nothing, Refused}
+use Rattle.session_model.specs.declared.answer.Answer.TheVariants.{Said, Opened, Dropped, Inbox, Awaiting, State, Seeded, Stopped, Nothing, Refused}
 use Rattle.session_model.specs.declared.answer.Items.{Items}
 use Rattle.session_model.specs.declared.answer.Items.TheVariants.{Packets, Texts}
 use Rattle.session_model.specs.declared.answer.Refusal.{Refusal}
@@ -62,6 +62,7 @@ answer_text (Said p) = codes "said " ++ position_text p
 answer_text (Opened p) = codes "opened " ++ position_text p
 answer_text (Dropped items n) = drop_word items ++ decimal n
 answer_text (Inbox n) = codes "inbox " ++ decimal n
+answer_text (Awaiting n) = codes "awaiting " ++ decimal n
 answer_text (State s) = codes "state " ++ summary_text s
 answer_text Seeded = []
 answer_text Stopped = codes "stopped"

@@ -1,7 +1,8 @@
--- Texts of an inbox in lines.
+-- Texts in lines: those of an inbox, and the positions of those that wait for a receipt.
 use Rattle.std.specs.Prelude.{ℕ, Bool, ◌==◌, ◌&&◌, ◌||◌, not, nat_le, List, [], ◌∷◌, ◌++◌, flat_map, codes, if◌then◌else◌}
 use Rattle.hex.specs.Hex.{encode_lower}
 use Rattle.boxes.specs.Entries.{Entry}
+use Rattle.dr_base.specs.declared.position.Position.{Position}
 use Rattle.answer_lines.specs.Answers.{position_text}
 
 -- a printable byte, but for the quote and the backslash
@@ -16,3 +17,7 @@ escaped byte = if is_plain byte then byte ∷ [] else codes "\\x" ++ encode_lowe
 unfoldable pub text_line : List ℕ → Entry → List ℕ
 text_line head entry =
     head ++ position_text entry.position ++ codes " \"" ++ flat_map escaped entry.text ++ codes "\"\n"
+
+-- the line of a position alone, after a head
+unfoldable pub place_line : List ℕ → Position → List ℕ
+place_line head p = head ++ position_text p ++ codes "\n"

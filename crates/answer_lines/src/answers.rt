@@ -139,6 +139,7 @@ pub fn put_answer(line: &mut OutputLine, answer: Answer)
         }
         Answer::Dropped(items, n) => put_named(line, drop_word(items), u64::from(n)),
         Answer::Inbox(n) => put_named(line, b"inbox ", u64::from(n)),
+        Answer::Awaiting(n) => put_named(line, b"awaiting ", u64::from(n)),
         Answer::State(summary) => {
             line.text(b"state ");
             put_summary(line, summary);

@@ -3,7 +3,7 @@
 #![tactic(auto)]
 
 pub use answers::{drop_word, put_answer, put_named, put_position, put_refusal, put_summary};
-pub use texts::{HEAD_LIMIT, TEXT_LINE_LIMIT, TextLine, limits_in_numbers, text_line};
+pub use texts::{HEAD_LIMIT, TEXT_LINE_LIMIT, TextLine, limits_in_numbers, place_line, text_line};
 
 mod answers;
 mod texts;

@@ -1,9 +1,9 @@
-//! The lines of an inbox.
+//! The lines of texts: those of an inbox, and the positions of those that wait for a receipt.
 
 ghost use Rattle.std.specs.Prelude.{◌≡◌, ℕ, ◌+◌, ◌≤◌, List, ◌++◌, length};
 ghost use Rattle.boxes.specs.Entries.{entry_under};
 ghost use Rattle.answer_lines.specs.declared.texts.TheConstants.{HEAD_LIMIT, TEXT_LINE_LIMIT};
-ghost use Rattle.answer_lines.specs.Texts.{escaped, is_plain, text_line};
+ghost use Rattle.answer_lines.specs.Texts.{escaped, is_plain, place_line, text_line};
 ghost use Rattle.answer_lines.specs.Limits.{HasLimits};
 
 use crate::answers::put_position;
@@ -63,6 +63,19 @@ pub fn text_line(head: &[u8], position: Position, text: &[u8]) -> TextLine
         put_escaped(&mut line, *byte);
     }
     line.try_extend_from_slice(b"\"\n").unwrap();
+    line
+}
+
+/// The line of a position alone, after a head, as a side's name: `HEAD t.i`.
+#[tactic(auto, unfolding(crate::specs::Texts::place_line))]
+pub fn place_line(head: &[u8], position: Position) -> OutputLine
+    requires { length head.now ≤ HEAD_LIMIT }
+    ensures { result ≡ place_line head.now position }
+{
+    let mut line = OutputLine::new();
+    line.text(head);
+    put_position(&mut line, position);
+    line.text(b"\n");
     line
 }
 

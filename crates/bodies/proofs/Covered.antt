@@ -6,14 +6,14 @@ use Rattle.std.proofs.lemmas.Bool.{and_parts, cases_Bool, cases_lt, leb-true, no
 use Rattle.std.proofs.lemmas.Bool.Decides.{nat_tests}
 use Rattle.std.proofs.lemmas.List.{length-take, get_or-take, get_or_default}
 use Rattle.std.proofs.lemmas.List.Folds.{list_any_at}
-use Rattle.dr_base.specs.Position.{is_at, is_own}
+use Rattle.dr_base.specs.Position.{IsBefore, IsUpTo, is_at, is_own}
 use Rattle.dr_base.specs.declared.position.Position.{Position}
 use Rattle.dr_base.specs.declared.position.Side.{Side}
 use Rattle.dr_base.specs.declared.position.Side.TheVariants.{First, Second}
 use Rattle.dr_base.proofs.Positions.{is_at-same}
-use Rattle.bodies.specs.Lawful.{AreListed, IsBefore, IsLawfulReceipt, IsListed, IsOpenedAt, IsUpTo}
+use Rattle.bodies.specs.Lawful.{AreListed, IsLawfulReceipt, IsListed, IsOpenedAt}
 use Rattle.bodies.specs.Receipts.{Receipt, is_up_to, is_covered_by, receipt_up_to}
-use Rattle.bodies.specs.declared.limits.TheConstants.{RECEIPT_LIMIT}
+use Rattle.dr_base.specs.declared.limits.TheConstants.{RECEIPT_LIMIT}
 use Rattle.bodies.proofs.Listed.{up_to_is}
 
 -- ---- the first of too many

@@ -8,8 +8,8 @@ use Rattle.grammar.specs.Printer.{print_counted, print_items}
 use Rattle.bodies.specs.Bodies.{Body, body_text, body_head, sealed_body}
 use Rattle.bodies.specs.Padding.{padded, padded_len}
 use Rattle.bodies.specs.Receipts.{Receipt, position_bytes, receipt_text}
-use Rattle.dr_base.specs.declared.limits.TheConstants.{PLAIN, TEXT_LIMIT}
-use Rattle.bodies.specs.declared.limits.TheConstants.{BODY_LIMIT, RECEIPTS, RECEIPT_LIMIT}
+use Rattle.dr_base.specs.declared.limits.TheConstants.{PLAIN, RECEIPTS, RECEIPT_LIMIT, TEXT_LIMIT}
+use Rattle.bodies.specs.declared.limits.TheConstants.{BODY_LIMIT}
 use Rattle.bodies.proofs.Heads.{body_head-is}
 use Rattle.bodies.proofs.Padded.{length-padded}
 
@@ -54,16 +54,6 @@ length-body_head version body =
 short-receipt : (o : Option Receipt) → IfSome o (λ r. length r.listed ≤ RECEIPT_LIMIT) → length (receipt_text o) + 1 + TEXT_LIMIT ≤ BODY_LIMIT
 short-receipt None few = omega arith
 short-receipt (Some r) few = omega (arith, few, length-receipt r)
-
--- before a text alone stand at most two bytes
-alone-by : (told : Bool) (o : Option Receipt) → o ≡ None → (if told then length (receipt_text o) + 1 else 0) ≤ 2
-alone-by told (Some r) is = cc
-alone-by true None is = omega arith
-alone-by false None is = omega arith
-
-pub alone-head : (version : ℕ) (body : Body) → body.receipt ≡ None → length (body_head version body) ≤ 2
-alone-head version body none =
-    omega (arith, length-body_head version body, alone-by (version == RECEIPTS) body.receipt none)
 
 -- a content that isn't longer than a text has room after it
 pub short-head : (version : ℕ) (body : Body) → IfSome body.receipt (λ r. length r.listed ≤ RECEIPT_LIMIT)

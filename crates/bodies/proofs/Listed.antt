@@ -6,14 +6,14 @@ use Rattle.std.proofs.lemmas.Bool.Decides.{nat_tests}
 use Rattle.std.proofs.lemmas.List.{take_more}
 use Rattle.std.proofs.lemmas.List.Quantifiers.{all_pairs_push}
 use Rattle.std.proofs.lemmas.List.Elements.{All-push}
-use Rattle.dr_base.specs.Position.{is_own, position_at}
+use Rattle.dr_base.specs.Position.{IsBefore, IsUpTo, is_own, position_at}
 use Rattle.dr_base.specs.declared.position.Position.{Position}
 use Rattle.dr_base.specs.declared.position.Side.{Side}
 use Rattle.grammar.specs.Printer.{AreItems, no_items, and_item}
 use Rattle.grammar.proofs.Lists.{items-from}
-use Rattle.bodies.specs.Lawful.{IsBefore, IsUpTo, IsListed, IsLawfulReceipt, IsReceiptOrNone}
+use Rattle.bodies.specs.Lawful.{IsListed, IsLawfulReceipt, IsReceiptOrNone}
 use Rattle.bodies.specs.Receipts.{Receipt, is_before, is_up_to, is_listed, last_in}
-use Rattle.bodies.specs.declared.limits.TheConstants.{RECEIPT_LIMIT}
+use Rattle.dr_base.specs.declared.limits.TheConstants.{RECEIPT_LIMIT}
 use Rattle.bodies.proofs.Passing.{PassesListed, PassesOrNone, PassesReceipt, of_place}
 
 pub last_in-push : (p : Position) (list : List Position) (q : Position) → last_in p (list ++ q ∷ []) ≡ q

@@ -5,13 +5,13 @@ use Rattle.std.specs.Prelude.{◌≢◌, nat_le}
 use Rattle.std.specs.Int.{w16}
 use Rattle.std.proofs.lemmas.Bool.{and_parts, leb-true}
 use Rattle.std.proofs.lemmas.List.{drop-drop, drop-take, length-drop, length-take, take_all}
-use Rattle.dr_base.specs.declared.limits.TheConstants.{PLAIN, TEXT_LIMIT}
+use Rattle.dr_base.specs.declared.limits.TheConstants.{PLAIN, RECEIPTS, TEXT_LIMIT}
 use Rattle.dr_base.specs.declared.position.Side.{Side}
 use Rattle.grammar.specs.Reader.{Read, Reader, both, checked, ended, number, piece}
 use Rattle.grammar.proofs.Steps.{from_test}
 use Rattle.bodies.specs.Bodies.{Body, HasContentAt, as_body, body_place, body_read, head_field, body_head, opened_body, text_body}
 use Rattle.bodies.specs.Padding.{filling, are_zeros, text_field, padded_field, found, unpadded}
-use Rattle.bodies.specs.declared.limits.TheConstants.{BODY_LIMIT, RECEIPTS, TEXT_KIND}
+use Rattle.bodies.specs.declared.limits.TheConstants.{BODY_LIMIT, TEXT_KIND}
 use Rattle.bodies.proofs.Heads.{from_head}
 use Rattle.bodies.proofs.Lengths.{is_other, length-body_head}
 use Rattle.bodies.proofs.HeadsTaken.{size_by, takes-head}

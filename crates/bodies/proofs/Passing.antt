@@ -6,7 +6,7 @@ use Rattle.dr_base.specs.declared.position.Side.{Side}
 use Rattle.grammar.specs.Printer.{AreItems}
 use Rattle.bodies.specs.Lawful.{FitsFields}
 use Rattle.bodies.specs.Receipts.{Receipt, is_listed, last_in, at_most}
-use Rattle.bodies.specs.declared.limits.TheConstants.{RECEIPT_LIMIT}
+use Rattle.dr_base.specs.declared.limits.TheConstants.{RECEIPT_LIMIT}
 
 abbrev pub of_place : Position → ℕ × ℕ
 of_place p = (p.epoch, p.index)

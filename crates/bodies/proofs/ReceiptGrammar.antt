@@ -13,7 +13,7 @@ use Rattle.grammar.proofs.Choices.{maybe_grammar}
 use Rattle.grammar.proofs.Combined.{both_grammar, checked_grammar, mapped_grammar}
 use Rattle.grammar.proofs.Lists.{counted_grammar}
 use Rattle.bodies.specs.Receipts.{Receipt, is_listed, last_in, listed_place, listed_behind, listed_item, with_listed, bound_field, is_one, receipt_field, position_bytes, bound_text, receipt_code, receipt_text, at_most}
-use Rattle.bodies.specs.declared.limits.TheConstants.{RECEIPT_LIMIT}
+use Rattle.dr_base.specs.declared.limits.TheConstants.{RECEIPT_LIMIT}
 use Rattle.bodies.proofs.Passing.{PassesListed, PassesOrNone, PassesReceipt, of_place}
 
 listed_grammar : (side : Side) (bound : Position) (before : List Position)

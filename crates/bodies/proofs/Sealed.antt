@@ -6,14 +6,14 @@ use Rattle.std.proofs.lemmas.Bool.{and_from, and_parts, eqb-true, le-leb, leb-tr
 use Rattle.std.proofs.lemmas.Bool.Decides.{nat_tests}
 use Rattle.std.proofs.lemmas.List.{drop_at, take_at}
 use Rattle.dr_base.specs.Bytes.{AreBytes}
-use Rattle.dr_base.specs.declared.limits.TheConstants.{PLAIN, TEXT_LIMIT}
+use Rattle.dr_base.specs.declared.limits.TheConstants.{PLAIN, RECEIPTS, RECEIPT_LIMIT, TEXT_LIMIT}
 use Rattle.dr_base.specs.declared.position.Side.{Side}
 use Rattle.dr_base.proofs.Bytes.{AreBytes-drop, AreBytes-take}
 use Rattle.bodies.specs.Bodies.{Body, as_body, body_text, body_head, opened_body, sealed_body, text_body}
 use Rattle.bodies.specs.Lawful.{IsLawfulBody, IsReceiptOrNone}
 use Rattle.bodies.specs.Padding.{filling, padded, unpadded}
 use Rattle.bodies.specs.Receipts.{Receipt}
-use Rattle.bodies.specs.declared.limits.TheConstants.{BODY_LIMIT, RECEIPTS, RECEIPT_LIMIT, TEXT_KIND}
+use Rattle.bodies.specs.declared.limits.TheConstants.{BODY_LIMIT, TEXT_KIND}
 use Rattle.bodies.proofs.Heads.{Head, Passes, PassesHead, body-only, body-reads, head_of}
 use Rattle.bodies.proofs.Lengths.{differs, not_told, short-head}
 use Rattle.bodies.proofs.Listed.{or-lawful, or-passes}

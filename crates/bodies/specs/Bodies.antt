@@ -2,12 +2,12 @@
 -- text, padded together.
 use Rattle.std.specs.Prelude.{◌≡◌, ℕ, ◌+◌, ◌≤◌, ◌==◌, ◌&&◌, Bool, nat_le, List, [], ◌++◌, length, take, drop, Option, Some, None, Result, Ok, Err, if◌then◌else◌}
 use Rattle.std.specs.Int.{w8, to_be_bytes}
-use Rattle.dr_base.specs.declared.limits.TheConstants.{PLAIN, TEXT_LIMIT}
+use Rattle.dr_base.specs.declared.limits.TheConstants.{PLAIN, RECEIPTS, TEXT_LIMIT}
 use Rattle.dr_base.specs.declared.position.Side.{Side}
 use Rattle.grammar.specs.Reader.{Read, Reader, both, gives, number}
 use Rattle.bodies.specs.Padding.{padded, unpadded}
 use Rattle.bodies.specs.Receipts.{Receipt, receipt_field, receipt_text}
-use Rattle.bodies.specs.declared.limits.TheConstants.{BODY_LIMIT, RECEIPTS, TEXT_KIND}
+use Rattle.bodies.specs.declared.limits.TheConstants.{BODY_LIMIT, TEXT_KIND}
 
 -- what an opened packet holds
 pub record Body : Type 0 where
@@ -70,8 +70,8 @@ abbrev pub as_body : ℕ → Side → Option (List ℕ) → Option Body
 as_body version side None = None
 as_body version side (Some bytes) = body_read version side bytes
 
--- what the bytes of an opened packet are, where this is its opener's side; None is a padding that
--- is wrong
+-- what the bytes of an opened packet are, where this is its opener's side; None is what no lawful
+-- body of the version is sealed as
 unfoldable pub opened_body : ℕ → Side → List ℕ → Option Body
 opened_body version side bytes =
     if version == PLAIN then Some (text_body bytes)

@@ -1,21 +1,13 @@
 -- The bodies that a packet of a version may have, and what a receipt says.
 use Rattle.std.specs.Prelude.{◌≡◌, ◌≢◌, ℕ, ◌<◌, ◌^◌, ◌≤◌, ⊤, true, false, List, length, AllPairs, All, Option, Some, None}
 use Rattle.std.specs.List.{list_any}
-use Rattle.dr_base.specs.Position.{is_at, is_own}
-use Rattle.dr_base.specs.declared.limits.TheConstants.{PLAIN, TEXT_LIMIT}
+use Rattle.dr_base.specs.Position.{IsBefore, IsUpTo, is_at, is_own}
+use Rattle.dr_base.specs.declared.limits.TheConstants.{PLAIN, RECEIPTS, RECEIPT_LIMIT, TEXT_LIMIT}
 use Rattle.dr_base.specs.declared.position.Position.{Position}
 use Rattle.dr_base.specs.declared.position.Side.{Side}
 use Rattle.bodies.specs.Bodies.{Body}
 use Rattle.bodies.specs.Receipts.{Receipt}
-use Rattle.bodies.specs.declared.limits.TheConstants.{RECEIPTS, RECEIPT_LIMIT, TEXT_KIND}
-
--- p comes before q
-abbrev pub IsBefore : Position → Position → Type 0
-IsBefore p q = (p.epoch ≤ q.epoch) × (p.epoch ≡ q.epoch → p.index < q.index)
-
--- p stands at q or before it
-abbrev pub IsUpTo : Position → Position → Type 0
-IsUpTo q p = (p.epoch ≤ q.epoch) × (p.epoch ≡ q.epoch → p.index ≤ q.index)
+use Rattle.bodies.specs.declared.limits.TheConstants.{TEXT_KIND}
 
 -- its numbers fit their fields
 pub record FitsFields (p : Position) : Type 0 where

@@ -1,12 +1,8 @@
 -- The limits of bodies in numbers.
 use Rattle.std.specs.Prelude.{◌≡◌}
-use Rattle.bodies.specs.declared.limits.TheConstants.{BODY_LIMIT, RECEIPTS, RECEIPT_LIMIT, SEALED_BODY_LIMIT, TEXT_KIND}
+use Rattle.bodies.specs.declared.limits.TheConstants.{BODY_LIMIT, TEXT_KIND}
 
--- the version of packets with receipts, and the kind of a text; positions of a receipt; bytes of a
--- body, and of what a packet with receipts seals
+-- the kind of a text, and the bytes of a body
 pub record HasLimits : Type 0 where
-  pub version : RECEIPTS ≡ 3
   pub kind : TEXT_KIND ≡ 0
-  pub receipt : RECEIPT_LIMIT ≡ 32
   pub body : BODY_LIMIT ≡ 4363
-  pub sealed : SEALED_BODY_LIMIT ≡ 4608

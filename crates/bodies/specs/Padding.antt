@@ -1,4 +1,5 @@
--- Padding: a text after its length, filled up with zeros, so that their number tells little of it.
+-- Padding: bytes, a text or a receipt with one, after their length and filled up with zeros, so that their number tells
+-- little of the text.
 use Rattle.std.specs.Prelude.{ℕ, ◌+◌, ◌-◌, ◌*◌, ◌/◌, ◌==◌, Bool, true, nat_le, List, ◌++◌, length, replicate, Option, Some, None, Result, Ok, Err}
 use Rattle.std.specs.Int.{w16}
 use Rattle.std.specs.List.{list_all}
@@ -13,7 +14,7 @@ padded_len n = 256 * ((n + 257) / 256)
 unfoldable pub filling : ℕ → ℕ
 filling n = padded_len n - (n + 2)
 
--- a text padded
+-- bytes padded
 unfoldable pub padded : List ℕ → List ℕ
 padded text = print_sized w16 text ++ replicate (filling (length text)) 0
 
@@ -22,11 +23,11 @@ padded text = print_sized w16 text ++ replicate (filling (length text)) 0
 abbrev pub are_zeros : List ℕ → Bool
 are_zeros bytes = list_all (λ b. b == 0) bytes
 
--- a text of at most so many bytes, after its length
+-- at most so many bytes, after their length
 abbrev pub text_field : ℕ → Reader (List ℕ)
 text_field most = sized w16 (λ n. nat_le n most) (λ _. true)
 
--- a padded text of at most so many bytes
+-- at most so many bytes, padded
 unfoldable pub padded_field : ℕ → Reader (List ℕ)
 padded_field most =
     mapped (λ e. e.0)
@@ -37,6 +38,6 @@ abbrev pub found : {A : Type 0} → Result A ℕ → Option A
 found (Ok a) = Some a
 found (Err at) = None
 
--- the text that these bytes are the padding of, if it has at most so many bytes
+-- what these bytes are the padding of, if it has at most so many
 unfoldable pub unpadded : ℕ → List ℕ → Option (List ℕ)
 unpadded most bytes = found (whole (padded_field most) bytes)

@@ -8,7 +8,7 @@ use Rattle.dr_base.specs.declared.position.Position.{Position}
 use Rattle.dr_base.specs.declared.position.Side.{Side}
 use Rattle.grammar.specs.Printer.{print_counted, print_maybe}
 use Rattle.grammar.specs.Reader.{Reader, both, checked, counted, mapped, maybe, number}
-use Rattle.bodies.specs.declared.limits.TheConstants.{RECEIPT_LIMIT}
+use Rattle.dr_base.specs.declared.limits.TheConstants.{RECEIPT_LIMIT}
 
 -- all texts up to a bound but those that are listed
 pub record Receipt : Type 0 where

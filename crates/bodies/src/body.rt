@@ -3,10 +3,10 @@
 ghost use Rattle.std.specs.Prelude.{◌≡◌, ◌+◌, ◌≤◌, length};
 ghost use Rattle.bodies.specs.Bodies.{body_place, body_text, body_head, text_body};
 
-use crate::limits::{BODY_LIMIT, RECEIPTS, TEXT_KIND};
+use crate::limits::{BODY_LIMIT, TEXT_KIND};
 use crate::padding::LENGTH;
 use crate::receipt::{Receipt, receipt_len};
-use dr_base::{PLAIN, TEXT_LIMIT};
+use dr_base::{PLAIN, RECEIPTS, TEXT_LIMIT};
 use std::marker::Model;
 
 /// What a packet holds: a receipt of its sender or none, and a content of a kind, lent from where

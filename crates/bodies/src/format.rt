@@ -3,19 +3,21 @@
 ghost use Rattle.std.specs.Prelude.{◌≡◌};
 ghost use Rattle.bodies.specs.Formats.{format_read, version_of};
 
-use dr_base::{PADDED, PLAIN};
+use dr_base::{PADDED, PLAIN, RECEIPTS};
 
-/// How a session seals its texts. It opens packets of either format.
+/// How a session seals its texts. It opens packets of every format.
 #[derive(Clone, Copy, PartialEq, Eq)]
 pub enum Format {
     /// As they are: a packet shows the length of its text.
     Plain,
     /// Padded: a packet shows the length of its text by steps of 256 bytes alone.
     Padded,
+    /// Padded, with a receipt of the other side's texts that were opened.
+    Receipts,
 }
 
 impl Format {
-    /// The format of a word: `plain` or `padded`.
+    /// The format of a word: `plain`, `padded` or `receipts`.
     #[tactic(auto, unfolding(crate::specs::Formats::format_read))]
     pub fn named(word: &[u8]) -> Option<Format>
         ensures { result ≡ format_read word.now }
@@ -25,6 +27,9 @@ impl Format {
         }
         if word == b"padded".as_slice() {
             return Some(Format::Padded);
+        }
+        if word == b"receipts".as_slice() {
+            return Some(Format::Receipts);
         }
         None
     }
@@ -36,6 +41,7 @@ impl Format {
         match self {
             Format::Plain => PLAIN,
             Format::Padded => PADDED,
+            Format::Receipts => RECEIPTS,
         }
     }
 }

@@ -9,8 +9,8 @@ ghost use Rattle.bodies.specs.Lawful.{AreListed, IsLawfulBody, IsLawfulReceipt, 
 ghost use Rattle.bodies.specs.Padding.{padded_len};
 ghost use Rattle.bodies.specs.Receipts.{Receipt, is_covered_by, receipt_text, receipt_up_to};
 
-use crate::limits::{BODY_LIMIT, BOUND_LEN, POSITION_LEN, RECEIPTS, SEALED_BODY_LIMIT};
-use dr_base::{PLAIN, SEALED_LIMIT, TEXT_LIMIT};
+use crate::limits::{BODY_LIMIT, BOUND_LEN, POSITION_LEN};
+use dr_base::{PADDED_LIMIT, PLAIN, RECEIPTS, SEALED_LIMIT, TEXT_LIMIT};
 
 /// What was sealed is opened, and nothing else. The function has no code.
 pub fn bodies_law()
@@ -54,6 +54,6 @@ pub fn lengths_law()
     ensures from_one_step { (n : ℕ) → 256 ≤ padded_len n }
     ensures holds { (n : ℕ) → n + 2 ≤ padded_len n }
     ensures least { (n : ℕ) → padded_len n < n + 2 + 256 }
-    ensures fits { (n : ℕ) → n ≤ TEXT_LIMIT → padded_len n ≤ SEALED_LIMIT }
-    ensures fits_body { (n : ℕ) → n ≤ BODY_LIMIT → padded_len n ≤ SEALED_BODY_LIMIT }
+    ensures fits { (n : ℕ) → n ≤ TEXT_LIMIT → padded_len n ≤ PADDED_LIMIT }
+    ensures fits_body { (n : ℕ) → n ≤ BODY_LIMIT → padded_len n ≤ SEALED_LIMIT }
 {}

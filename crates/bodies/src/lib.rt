@@ -4,12 +4,12 @@
 //! A packet of version `PLAIN` seals its text as it is. One of version `PADDED` seals the text's
 //! length (2 bytes, the high one first), the text, and zeros up to the least multiple of 256 bytes.
 //! One of version `RECEIPTS` seals in this way a receipt, a kind (1 byte) and a text. A receipt is
-//! a byte 00; or 01, its bound, and the positions that it lists after their count (1 byte). No
-//! session seals in this version.
+//! a byte 00; or 01, its bound, and the positions that it lists after their count (1 byte).
 //!
 //! `specs/Bodies` defines all three, sealed and opened, and `specs/Receipts` what receipts are and
 //! what they cover. `bodies_law` says that what was sealed is opened, and nothing else,
-//! `receipts_law` that what a receipt covers was opened, `lengths_law` how many bytes are sealed.
+//! `receipts_law` that what an honest receipt covers was opened, `lengths_law` how many bytes are
+//! sealed.
 //!
 //! ```rust
 //! use bodies::{Body, open_body, put_sealed, sealed_len};
@@ -27,9 +27,7 @@
 pub use body::{Body, body_place};
 pub use format::Format;
 pub use law::{bodies_law, lengths_law, receipts_law};
-pub use limits::{
-    BODY_LIMIT, RECEIPT_LIMIT, RECEIPTS, SEALED_BODY_LIMIT, TEXT_KIND, limits_in_numbers,
-};
+pub use limits::{BODY_LIMIT, TEXT_KIND, limits_in_numbers};
 pub use opening::open_body;
 pub use receipt::{Receipt, is_covered};
 pub use sealing::{put_sealed, sealed_len};

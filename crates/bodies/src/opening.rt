@@ -78,7 +78,7 @@ fn read_body(version: u8, side: Side, bytes: &[u8]) -> Option<Body<'_>>
 
 /// The body that the bytes of an opened packet of a version hold, where this is the side that opens
 /// it; the content is lent from its place in them. Nothing is found exactly where they are no
-/// padding of a lawful body, which a plain packet's always are.
+/// padding of a lawful body of the version; the bytes of a plain packet always are one.
 #[tactic(auto, unfolding(crate::specs::Bodies::opened_body))]
 pub fn open_body(version: u8, side: Side, bytes: &[u8]) -> Option<Body<'_>>
     ensures opens { result ≡ opened_body version side bytes.now }

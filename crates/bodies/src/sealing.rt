@@ -1,6 +1,6 @@
 //! What a packet seals of a body.
 
-ghost use Rattle.std.specs.Prelude.{◌≡◌, ◌+◌, ◌≤◌, length, replicate, None};
+ghost use Rattle.std.specs.Prelude.{◌≡◌, ◌≢◌, ◌+◌, ◌≤◌, length, replicate};
 ghost use Rattle.std.specs.Int.{w8, to_be_bytes};
 ghost use Rattle.dr_base.specs.Buffer.{Puts};
 ghost use Rattle.grammar.specs.Printer.{print_items};
@@ -9,17 +9,20 @@ ghost use Rattle.bodies.specs.Padding.{filling, padded};
 ghost use Rattle.bodies.specs.Receipts.{position_bytes, receipt_text};
 
 use crate::body::{Body, text_len};
-use crate::limits::{BODY_LIMIT, RECEIPTS, SEALED_BODY_LIMIT};
+use crate::limits::BODY_LIMIT;
 use crate::padding::{STEP, filling, padded_len};
 use crate::receipt::Receipt;
-use dr_base::{PLAIN, Position, SEALED_LIMIT, TEXT_LIMIT, put, put_u8, put_u16, put_u32};
+use dr_base::{
+    PADDED_LIMIT, PLAIN, Position, RECEIPTS, SEALED_LIMIT, TEXT_LIMIT, put, put_u8, put_u16,
+    put_u32,
+};
 
 /// How many bytes a packet of a version seals of a body.
 pub fn sealed_len(version: u8, body: &Body<'_>) -> usize
     requires { length body.now.content ≤ TEXT_LIMIT }
     ensures sealed { result ≡ length (sealed_body version body.now) }
-    ensures fits { result ≤ SEALED_BODY_LIMIT }
-    ensures alone { body.now.receipt ≡ None → result ≤ SEALED_LIMIT }
+    ensures fits { result ≤ SEALED_LIMIT }
+    ensures alone { version ≢ RECEIPTS → result ≤ PADDED_LIMIT }
 {
     if version == PLAIN {
         body.content.len()

@@ -14,6 +14,7 @@ pub mod Renewing
 pub mod Reopening
 mod Replaced
 mod SameRecord
+mod Receipts
 mod Settled
 mod Kept
 mod Spending

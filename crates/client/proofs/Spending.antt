@@ -44,27 +44,27 @@ use Rattle.client.proofs.Standing.{among, first_later, later, stands}
 -- ---- a packet that was taken
 
 opened_now : (w : World) (side : Side) (p : Position)
-    → has_opened (view_of (with_view w side (after_opening (view_of w side) p)) side) p ≡ true
+    → has_opened (view_of (with_view w side (after_opening w.conversation (view_of w side) p)) side) p ≡ true
 opened_now w side p =
-    opened_with w side (after_opening (view_of w side) p) p ∙ among_last (view_of w side).arrived p
+    opened_with w side (after_opening w.conversation (view_of w side) p) p ∙ among_last (view_of w side).arrived p
 
 opens_by : (w : World) (side : Side) (a b c d : Bool) (r s t u : Refusal) (p q : Position)
     → (settled w (if a then Err r else (if b then Err s else (if c then Err t else (if d then Err u else Ok
-    (step (Opened p) (with_view w side (after_opening (view_of w side) p)))))))).answer ≡ Opened q
+    (step (Opened p) (with_view w side (after_opening w.conversation (view_of w side) p)))))))).answer ≡ Opened q
     → (p ≡ q) × (has_opened (view_of (settled w (if a then Err r else (if b then Err s else (if c then Err t else (if d then Err u else Ok
-    (step (Opened p) (with_view w side (after_opening (view_of w side) p)))))))).next side) q ≡ true)
+    (step (Opened p) (with_view w side (after_opening w.conversation (view_of w side) p)))))))).next side) q ≡ true)
 opens_by w side true b c d r s t u p q h = absurd (cc h)
 opens_by w side false true c d r s t u p q h = absurd (cc h)
 opens_by w side false false true d r s t u p q h = absurd (cc h)
 opens_by w side false false false true r s t u p q h = absurd (cc h)
 opens_by w side false false false false r s t u p q h =
     let same : p ≡ q = cc h in
-    (same, subst (λ x. has_opened (view_of (with_view w side (after_opening (view_of w side) p)) side) x ≡ true) same (opened_now w side p))
+    (same, subst (λ x. has_opened (view_of (with_view w side (after_opening w.conversation (view_of w side) p)) side) x ≡ true) same (opened_now w side p))
 
 opens_at : (w : World) (side : Side) (p q : Position) → (settled w (taking_in w side p)).answer ≡ Opened q
     → (p ≡ q) × (has_opened (view_of (settled w (taking_in w side p)).next side) q ≡ true)
 opens_at w side p q =
-    let missing = length (missing_of w.conversation (after_opening (view_of w side) p)) in
+    let missing = length (missing_of w.conversation (after_opening w.conversation (view_of w side) p)) in
     opens_by w side (is_own side p.epoch) (has_opened (view_of w side) p)
     (nat_lt KEPT_LIMIT missing) (nat_le INBOX_LIMIT (length (inbox_in w side)))
     (OwnPacket p.epoch) (Spent p) (SkipLimit missing) InboxFull p q

@@ -6,6 +6,7 @@ pub mod Acting
 pub mod InWorlds
 pub mod Saying
 pub mod Spent
+pub mod Receipts
 pub mod Opening
 pub mod Reading
 pub mod Beginning

@@ -2,6 +2,7 @@
 
 ghost use Rattle.std.specs.Prelude.{◌≡◌, ◌↔◌, ◌<◌, ◌≤◌, length, option_map, slice_get, IfSome, IsSome};
 ghost use Rattle.dr_base.specs.declared.limits.TheConstants.{PACKET_LIMIT, TEXT_LIMIT};
+ghost use Rattle.dr_model.specs.Machines.Acts.{standing_with};
 ghost use Rattle.client.specs.Limits.{HasLimits};
 
 use crate::cores::Core;
@@ -10,7 +11,7 @@ use dr_base::{PAGE, Position, Side};
 use dr_disk::Call;
 use kem_laws::Kem;
 use relay_wire::FrameReader;
-use session_model::Summary;
+use session_model::{Items, Summary};
 use slot_store::{Area, LOWER_PAGES, SlotStore};
 use std::marker::Model;
 
@@ -98,6 +99,29 @@ impl<K: Kem> Client<K> {
         ensures some { IfSome result (λ pair. 1 ≤ length pair.1.now) }
     {
         self.core.outbox(at)
+    }
+
+    /// How many of these items stand in their box.
+    pub fn standing(&self, items: Items) -> u32
+        ensures { result ≡ standing_with self.now.kept items }
+    {
+        self.core.standing(items)
+    }
+
+    /// How many own texts wait for a receipt.
+    pub fn waiting(&self) -> u32
+        ensures { result ≡ length self.now.kept.state.awaiting }
+    {
+        self.core.waiting()
+    }
+
+    /// Where the own text stands that waits for a receipt at a place, from 0, the oldest first. A
+    /// text that is awaited no more was opened by the other side, or is one of more than 64 that
+    /// wait, where the oldest is given up.
+    pub fn awaiting(&self, at: usize) -> Option<Position>
+        ensures { result ≡ slice_get self.now.kept.state.awaiting at }
+    {
+        self.core.awaiting(at)
     }
 
     /// What the client keeps is lawful, so its record is read as just that. It has no code: a

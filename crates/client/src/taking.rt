@@ -13,6 +13,7 @@ ghost use Rattle.client.specs.Clients.{IsOpenOn, MayActOn};
 ghost use Rattle.client.specs.Drafting.{IsReceivedOf, taken_of};
 ghost use Rattle.client.specs.InWorlds.{ActsIn, IsIn};
 ghost use Rattle.client.specs.Outcomes.{Acts, StaysPassing, taken_as};
+ghost use Rattle.client.specs.Receipts.{HaveArrived};
 ghost use Rattle.client.specs.Spent.{IsSpent};
 
 use crate::client::Client;
@@ -49,6 +50,10 @@ impl<K: Kem> Client<K> {
             → IsUnforged K.mechanism w side packet.now
             → IsSpent K.mechanism (act_in K.mechanism w side (taking packet.now)).next side position
             (D.state disk.new)) }
+        // Each own text that doesn't wait for a receipt any more was opened by the other side.
+        ensures arrived { (w : World) (side : Side) → IsIn K.mechanism w side self.old
+            → IsUnforged K.mechanism w side packet.now
+            → HaveArrived w side self.old.kept self.new.kept }
         ensures fate { StaysPassing (D.state disk.old) (D.state disk.new) (taken_as result) }
     {
         grounds::<K>();

@@ -24,10 +24,11 @@ pub enum Act {
     Sent,
 }
 
-/// Begins a client under a key.
-pub fn begin_under(
+/// Begins a client in a format, under a key.
+fn begin_with(
     alloc: Global,
     side: Side,
+    format: Format,
     key: &Key32,
     disk: &mut MemoryDisk,
 ) -> Result<Client<OpenKem>, BeginRefusal>
@@ -36,7 +37,31 @@ pub fn begin_under(
     if disk.size() < SIZE {
         return Err(BeginRefusal::Memory);
     }
-    Client::<OpenKem>::begin(alloc, disk, side, Format::Plain, key)
+    Client::<OpenKem>::begin(alloc, disk, side, format, key)
+}
+
+/// Begins one under the key of zeros.
+pub fn begin_in(
+    alloc: Global,
+    side: Side,
+    format: Format,
+    disk: &mut MemoryDisk,
+) -> Result<Client<OpenKem>, BeginRefusal>
+    ensures { IfOk result (λ client. IsOpenOn client (state_of disk.new)) }
+{
+    begin_with(alloc, side, format, &Key32 { bytes: [0; 32] }, disk)
+}
+
+/// Begins a plain one under a key.
+pub fn begin_under(
+    alloc: Global,
+    side: Side,
+    key: &Key32,
+    disk: &mut MemoryDisk,
+) -> Result<Client<OpenKem>, BeginRefusal>
+    ensures { IfOk result (λ client. IsOpenOn client (state_of disk.new)) }
+{
+    begin_with(alloc, side, Format::Plain, key, disk)
 }
 
 /// The same under the key that has this byte 32 times.

@@ -6,7 +6,7 @@ ghost use Rattle.client.specs.Clients.{IsOpenOn, MayActOn};
 
 use crate::acts::{SIZE, begin_under};
 use crate::damaged::bytes_of;
-use crate::old_disks::{are, has_digest, lays, opens_within};
+use crate::old_disks::{are, has_digest, lays, opens_to};
 use client::Client;
 use dr_base::{Key32, Side};
 use dr_disk::MemoryDisk;
@@ -24,13 +24,23 @@ const KEY: Key32 = Key32 {
 /// Second's disk with the record in version 1, by an independent implementation.
 const BEFORE: &str = "f30d5e38afb7987a462b8335fa49f58039ee5ad57f9bf84d6b70f631fa0f2173";
 
-/// The record in the newest version, by the same.
-const RECORD: &str = "db593eeba98b256b79a462b75d3365c65177ee1bad3900bd02ad140e856eb4bc";
+/// The disk once it was opened, with the record in the newest version, in which no text waits; by
+/// the same.
+const AFTER: &str = "fc70071be6289612e74dbe7626b37998fffc8758be279f455a20a20c9a1a9140";
+
+/// The record in the newest version, in which all five texts wait, by the same.
+const RECORD: &str = "93afc52bf47660e3837b27a0ddb61bc6215c8bb1c9aabd2901128d54150132a1";
 
 /// How many bytes it has, of which a page has this many.
-const LEN: usize = 6080;
+const LEN: usize = 6122;
 
 const PAGE: usize = 4096;
+
+/// Where the kind of its text stands, and the count of the texts that wait, with which it ends in
+/// version 1.
+const KIND: usize = 278;
+
+const COUNT: usize = 6081;
 
 /// How many writes and syncs an opening makes that replaces a record of which two pages change: its
 /// own sync, and then twelve.
@@ -172,53 +182,43 @@ fn record_of(alloc: Global, disk: &mut MemoryDisk) -> Option<Vec<u8>> {
     }
 }
 
-/// Puts a record of the newest version, in pages 2 and 5 under table 0, into version 1: the byte of
-/// its format goes, and its number changes.
-fn ages(disk: &mut MemoryDisk, text: &[u8]) -> bool {
-    text.len() == LEN
-        && lays(disk, 2, b"\x00\x00\x17\xbf")
-        && lays(disk, 8192, b"\x01")
-        && lays(disk, 8194, &text[3..PAGE + 1])
-        && lays(disk, 20480, &text[PAGE + 1..])
-        && lays(disk, 22463, b"\x00")
-}
-
-/// Makes a new disk one with a record in pages 3 and 4 under table 1, whose turn is 2.
-fn lays_new(disk: &mut MemoryDisk, text: &[u8]) -> bool {
+/// That record in version 1: its number changes, and the bytes of its format and of the kind and all
+/// from the count on go.
+fn aged(alloc: Global, text: &[u8]) -> Option<Vec<u8>> {
     if text.len() != LEN {
-        return false;
+        return None;
     }
-    let (front, back) = text.split_at(PAGE);
-    lays(disk, 4096, b"\xa5\x02\x00\x00\x17\xc0\x00\x03\x00\x04")
-        && lays(disk, 12288, front)
-        && lays(disk, 16384, back)
+    let mut old = Vec::new(alloc);
+    let pushed = old.extend_from_slice(&[1, text[1]]).is_ok()
+        && old.extend_from_slice(&text[3..KIND]).is_ok()
+        && old.extend_from_slice(&text[KIND + 1..COUNT]).is_ok();
+    if pushed { Some(old) } else { None }
 }
 
-/// Whether two disks have the same bytes.
-fn are_same(alloc: Global, one: &mut MemoryDisk, other: &mut MemoryDisk) -> bool {
-    match (bytes_of(alloc, one), bytes_of(alloc, other)) {
-        (Some(one), Some(other)) => one.as_slice() == other.as_slice(),
-        _ => false,
+/// Puts a record of version 1 in the place of that one in pages 2 and 5 under table 0.
+fn lays_aged(disk: &mut MemoryDisk, old: &[u8]) -> bool {
+    old.len() == COUNT - 2
+        && lays(disk, 2, b"\x00\x00\x17\xbf")
+        && lays(disk, 8192, &old[..PAGE])
+        && lays(disk, 20480, &old[PAGE..])
+        && lays(disk, 22463, &[0; LEN + 2 - COUNT])
+}
+
+/// Makes that record one of version 1.
+fn ages(alloc: Global, disk: &mut MemoryDisk, text: &[u8]) -> bool {
+    match aged(alloc, text) {
+        Some(old) => lays_aged(disk, old.as_slice()),
+        None => false,
     }
 }
 
-/// Whether a disk has that record there, and all else is zeros.
-fn holds(alloc: Global, disk: &mut MemoryDisk, text: &[u8]) -> bool {
-    match MemoryDisk::new(alloc, SIZE) {
-        Ok(mut other) => lays_new(&mut other, text) && are_same(alloc, disk, &mut other),
-        Err(_) => false,
-    }
-}
-
-/// Whether Second's disk, whose record is made one of version 1, is opened to that.
+/// Whether Second's disk, whose record is made one of version 1, is opened to the newest one.
 fn is_reopened(alloc: Global, disk: &mut MemoryDisk, text: &[u8]) -> bool {
     are(alloc, Sha256::digest(text).as_slice(), RECORD)
-        && ages(disk, text)
+        && ages(alloc, disk, text)
         && has_digest(alloc, disk, BEFORE)
-        && opens_within(alloc, disk, CALLS)
-        && holds(alloc, disk, text)
-        && opens_within(alloc, disk, 1)
-        && holds(alloc, disk, text)
+        && opens_to(alloc, disk, CALLS, AFTER)
+        && opens_to(alloc, disk, 1, AFTER)
 }
 
 /// The same of what Second has said and taken.

@@ -1,9 +1,11 @@
 //! Tests of clients on disks in memory: each act once, stopped at each write, syncs over links in
-//! memory, and disks of an earlier version that are opened.
+//! memory, a text that is known to be opened, and disks of an earlier version that are opened.
 #![tactic(auto)]
 
 #[cfg(test)]
 mod acts;
+#[cfg(test)]
+mod awaiting;
 #[cfg(test)]
 mod changes;
 #[cfg(test)]

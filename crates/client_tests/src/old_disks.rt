@@ -92,7 +92,7 @@ pub fn opens_stopped(alloc: Global, disk: &mut MemoryDisk, after: u32) -> Option
 }
 
 /// Whether an opening makes no more than so many writes and syncs.
-pub fn opens_within(alloc: Global, disk: &mut MemoryDisk, calls: u32) -> bool {
+fn opens_within(alloc: Global, disk: &mut MemoryDisk, calls: u32) -> bool {
     disk.fail_at(calls.saturating_add(1));
     let end = opens(alloc, disk);
     disk.go_on();

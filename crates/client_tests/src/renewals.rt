@@ -14,10 +14,10 @@ use std::alloc::Global;
 /// The disk before, and once it was opened.
 const BEFORE: &str = "00fecaffeab362272ff7448702ca9ee90e07e512ce7cb82979fa808a1aa7cff6";
 
-const AFTER: &str = "7d58ce376337ce1726f2f6e39aabe341144dee709d0d2cc677854c82ef5b8c35";
+const AFTER: &str = "d697860b52d8cfb7d50f011f35a49d9e7a8c0068a1ead47f3315f3818a8c8436";
 
 /// The images of all stops, in each mode, one digest after the other.
-const IMAGES: &str = "d1706237e4576c0791f9073d3daf09b4146cd8fcd3683c1731104e24862bf8ae";
+const IMAGES: &str = "f3da8a37377b342a03c55af94e3a2aa232b7869d70eea757aa4e46228f1a556a";
 
 /// How many writes and syncs an opening makes that replaces a record of which one page changes: its
 /// own sync, and then ten.

@@ -22,27 +22,27 @@ const TAKES: [(u8, u8, &str); 5] = [
     (
         1,
         1,
-        "19c131de4e6108d5944606607865046af92e26b9d5550a4d1a8c99681563d72f",
+        "c8faffd109f5a2965bf59f09717abb6ffe56ce601799b16dcf10ae3c7d2c9fa6",
     ),
     (
         2,
         2,
-        "bba3231f5945c6ed260ee5d49aa44f50e819d962a2fcbab8ac99f313253bf11a",
+        "fc5023df80a21aacc59c2e2d89052317ceaaf28c045074b952f8bb1defc123fd",
     ),
     (
         3,
         64,
-        "d61307dae58cdb6534fffb2a46ae355716191b89afcda8529f096ccb9257ca58",
+        "7244867d4ea45e1adbdcddf90dfdc6b412e353e13a4ed6712bd91dbbd6361c0f",
     ),
     (
         65,
         127,
-        "4e363d86b723084d9fc6ddedaa1e83e23a006173d8f2ade4ca1783f35702afd5",
+        "ca28a0c478dc557cbfcda32af5aa2590c71c90b10db12eb7590739084cfec7c9",
     ),
     (
         128,
         128,
-        "2896c873690201b507923ce2a13588db50cb9f4aaf69b5a4518ba9a2ca3fcbf0",
+        "925cae8556852a4503d53afa2561225dc96b25caa092db9a00348fdd3e417828",
     ),
 ];
 
@@ -50,19 +50,19 @@ const TAKES: [(u8, u8, &str); 5] = [
 const DROPS: [(u32, &str); 4] = [
     (
         1,
-        "f6b5a9b65f07aa79809718c29584d676307485ebc5590d17059299192e01c366",
+        "d613f72c08e8b4b4ffae8d4877cbe0273a4d3e41374f00017bba4b5ec4e6a026",
     ),
     (
         1,
-        "86808d2507b433a9607155ae7407ded7467f7f7849387b3571f1cae016bf35fd",
+        "698f64b8d2be6608efc88dc4a13269e4e31c50a65864d0ca8d80fd4eeca77dab",
     ),
     (
         100,
-        "9f76691a52d5876fbee22d57e352cf146abcd6d0dec39da3129824be72804282",
+        "a961bc1100757746f1d247a58b8278943ff7124dec6d100cbc98ad2df169bae9",
     ),
     (
         26,
-        "ff07a48aae90520298bdf80f3de97f3ecc1e2cf23cf253fddb9469e66bf6529e",
+        "d36813c80d372fa2f3926c7a67d3471aaea4c61dbbad29f5f4f09fffaf270c26",
     ),
 ];
 

@@ -6,7 +6,7 @@ use dr_base::{Key32, Side};
 use dr_disk::{Disk, MemoryDisk};
 use dr_ports::{MemoryDraws, MemorySink, MemorySource};
 use kem_laws::OpenKem;
-use session_commands::{begin, check, drop_items, inbox, outbox, say, state, take};
+use session_commands::{awaiting, begin, check, drop_items, inbox, outbox, say, state, take};
 use session_model::Items;
 use std::alloc::{AllocError, Global};
 use std::test::Fail;
@@ -27,6 +27,7 @@ pub enum Command<'a> {
     Sent(u32),
     Inbox,
     Outbox,
+    Awaiting,
     State,
     Check,
 }
@@ -127,6 +128,7 @@ fn status_of(
         ),
         Command::Inbox => inbox::<OpenKem, MemoryDisk, MemorySink>(alloc, disk, out),
         Command::Outbox => outbox::<OpenKem, MemoryDisk, MemorySink>(alloc, disk, out),
+        Command::Awaiting => awaiting::<OpenKem, MemoryDisk, MemorySink>(alloc, disk, out),
         Command::State => state::<OpenKem, MemoryDisk, MemorySink>(alloc, disk, out),
         Command::Check => check::<OpenKem, MemoryDisk, MemorySink>(alloc, disk, out),
     };

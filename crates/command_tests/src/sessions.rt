@@ -42,10 +42,12 @@ fn a_text_is_said(rt: HostRuntime) -> Result<(), Fail> {
     let mut disk = new_disk(alloc)?;
     let state =
         b"session 70e0f9cd1a5863238d67aecce0c032e5\nside second\nepoch 0\nmissing 0\ninbox 0\noutbox 0\n";
-    let rows: [(Command<'_>, &[u8]); 5] = [
+    let rows: [(Command<'_>, &[u8]); 7] = [
         (Command::Begin(Side::Second, Format::Plain, KEY), NAME),
         (Command::State, state),
+        (Command::Awaiting, b"awaiting 0\n"),
         (Command::Say(b"hi"), b"said 0.1\n"),
+        (Command::Awaiting, b"awaiting 1\n0.1\n"),
         (Command::Sent(1), b"sent 1\n"),
         (Command::Outbox, b""),
     ];
@@ -92,7 +94,11 @@ fn takes_once(alloc: Global, disk: &mut MemoryDisk, packet: &[u8]) -> Result<boo
 fn a_text_is_taken(rt: HostRuntime) -> Result<(), Fail> {
     let alloc = rt.alloc();
     // how many bytes each packet has: 33, the text of 5 bytes or its padding, and 32
-    for (format, bytes) in [(Format::Plain, 70), (Format::Padded, 321)] {
+    for (format, bytes) in [
+        (Format::Plain, 70),
+        (Format::Padded, 321),
+        (Format::Receipts, 321),
+    ] {
         let packet = packet_of_second(alloc, format)?;
         let mut disk = new_disk(alloc)?;
         assert!(rt; packet.len() == 2 * bytes + 1);
@@ -102,7 +108,7 @@ fn a_text_is_taken(rt: HostRuntime) -> Result<(), Fail> {
 }
 
 /// What a look shows of a disk with the client that has begun, by another implementation.
-const BEGUN: &[u8] = b"slot 0 open 1\nslot 1 closed\nrecord 131\nrest yes\n";
+const BEGUN: &[u8] = b"slot 0 open 1\nslot 1 closed\nrecord 132\nrest yes\n";
 
 /// What one shows of a damaged disk.
 const DAMAGED: &[u8] = b"slot 0 open 1\nslot 1 open 1\ndamaged slot 1 at 1\nrest no\n";
@@ -148,8 +154,9 @@ fn each_fault(rt: HostRuntime) -> Result<(), Fail> {
     let alloc = rt.alloc();
     let mut disk = new_disk(alloc)?;
     let begin = Command::Begin(Side::First, Format::Plain, KEY);
-    let rows: [(Command<'_>, &[u64], u8, &[u8]); 8] = [
+    let rows: [(Command<'_>, &[u64], u8, &[u8]); 9] = [
         (Command::State, &[], 9, b"no session\n"),
+        (Command::Awaiting, &[], 9, b"no session\n"),
         (
             Command::Begin(Side::First, Format::Plain, &[b'0'; 63]),
             &[],

@@ -42,6 +42,10 @@ fn words_are_commands(rt: HostRuntime) -> Result<(), Fail> {
             Command::Begin(Side::First, Format::Plain),
         ),
         (
+            "begin|second|receipts",
+            Command::Begin(Side::Second, Format::Receipts),
+        ),
+        (
             "begin|second|padded",
             Command::Begin(Side::Second, Format::Padded),
         ),
@@ -67,6 +71,7 @@ fn words_are_commands(rt: HostRuntime) -> Result<(), Fail> {
         ("done|007", Command::Done(7)),
         ("sent|32", Command::Sent(32)),
         ("outbox", Command::Outbox),
+        ("awaiting", Command::Awaiting),
         ("state", Command::State),
         ("check", Command::Check),
         ("sync|127.0.0.1:4000", Command::Sync("127.0.0.1:4000")),
@@ -126,6 +131,7 @@ begin|First
 begin|first|first
 begin|first|other
 begin|first|Plain
+begin|first|receipt
 begin|first|
 begin|first|-padded
 begin|padded|first
@@ -146,6 +152,7 @@ done|
 done|+
 done|++5
 done|5 
+awaiting|1
 done|0x5
 done|18446744073709551680
 sent|33

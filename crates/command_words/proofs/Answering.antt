@@ -1,9 +1,10 @@
 -- From what clap's parse says of its result to the command.
-use Rattle.std.proofs.Common.{◌≡◌, ◌∙◌, ◌≤◌, ◌-◌, true, refl, sym, ap, ap₂, arith, subst, length, take, drop, get_or, take_all, inl, inr, List, [], ◌∷◌, ◌++◌, map, String, string_bytes, Option, Some, None, codes}
+use Rattle.std.proofs.Common.{◌≡◌, ◌∙◌, ◌≤◌, ◌<◌, ◌-◌, true, refl, sym, ap, ap₂, arith, subst, length, take, drop, get_or, take_all, inl, inr, List, [], ◌∷◌, ◌++◌, map, String, string_bytes, Option, Some, None, codes}
 use Rattle.std.specs.Prelude.{Box, unwrap_or}
 use Rattle.std.specs.Borrow.{Bor}
 use Rattle.std.specs.Box.{box_value}
 use Rattle.std.specs.Option.{option_map, option_to_list}
+use Rattle.std.proofs.lemmas.List.{nil_from_length}
 use Rattle.std.proofs.lemmas.Str.{IsUtf8-string_bytes}
 use Rattle.clap.specs.Kinds.{HasKind}
 use Rattle.clap.specs.Matches.{first_value, found_of, matched_of, raw_values, subcommand_name_of}
@@ -64,6 +65,22 @@ all_values f first second more none one two three empty first_put second_put mor
     let one_is = first_put ∙ ap₂ (λ xs o. xs ++ option_to_list o) empty first_is in
     let two_is = second_put ∙ ap₂ (λ xs o. xs ++ option_to_list o) one_is second_is in
     more_put ∙ ap₂ (λ xs o. xs ++ unwrap_or o []) two_is more_is
+
+-- no value, one, and two
+pub none_given : (xs : List (Bor Text)) → length xs < 1 → texts xs ≡ []
+none_given xs h = ap texts (nil_from_length xs (omega (arith, h)))
+
+pub one_given : (xs : List (Bor Text)) (d : Bor Text) → 1 ≤ length xs → length xs < 2 → texts xs ≡ (get_or xs 0 d).now ∷ []
+one_given [] d some few = absurd (omega (arith, some))
+one_given (a ∷ []) d some few = refl
+one_given (a ∷ b ∷ rest) d some few = absurd (omega (arith, few))
+
+pub two_given : (xs : List (Bor Text)) (d : Bor Text) → 2 ≤ length xs → length xs < 3
+    → texts xs ≡ (get_or xs 0 d).now ∷ (get_or xs 1 d).now ∷ []
+two_given [] d some few = absurd (omega (arith, some))
+two_given (a ∷ []) d some few = absurd (omega (arith, some))
+two_given (a ∷ b ∷ []) d some few = refl
+two_given (a ∷ b ∷ c ∷ rest) d some few = absurd (omega (arith, few))
 
 -- a third value and those after it
 pub three_or_more : (xs : List (Bor Text)) (d : Bor Text) → 3 ≤ length xs

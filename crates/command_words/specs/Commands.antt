@@ -20,6 +20,7 @@ pub data Work : Type 0 where
   drops_done : ℕ → Work
   drops_sent : ℕ → Work
   shows_outbox : Work
+  shows_awaiting : Work
   shows_state : Work
   checks : Work
   syncs : List ℕ → Work
@@ -81,6 +82,7 @@ rows =
     ∷ (codes "done", valued (λ word. option_map drops_done (amount_read INBOX_LIMIT word)))
     ∷ (codes "sent", valued (λ word. option_map drops_sent (amount_read OUTBOX_LIMIT word)))
     ∷ (codes "outbox", bare shows_outbox)
+    ∷ (codes "awaiting", bare shows_awaiting)
     ∷ (codes "state", bare shows_state)
     ∷ (codes "check", bare checks)
     ∷ (codes "sync", valued (λ word. Some (syncs word)))

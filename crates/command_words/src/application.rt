@@ -151,6 +151,7 @@ pub fn application<'a>(alloc: Global) -> Result<Command<'a>, AllocError>
     let command = with_valued(alloc, command, "done");
     let command = with_valued(alloc, command, "sent");
     let command = with_bare(alloc, command, "outbox");
+    let command = with_bare(alloc, command, "awaiting");
     let command = with_bare(alloc, command, "state");
     let command = with_bare(alloc, command, "check");
     let command = with_valued(alloc, command, "sync");

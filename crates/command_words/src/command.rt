@@ -20,6 +20,8 @@ pub enum Command<'a> {
     Sent(u32),
     /// The side shows its outbox.
     Outbox,
+    /// The side shows which of its texts wait for a receipt.
+    Awaiting,
     /// The side shows what it holds, in numbers.
     State,
     /// The side shows how its disk stands, and changes nothing.

@@ -136,6 +136,7 @@ fn without_value<'a>(name: &str) -> Option<Command<'a>>
         "take" => Some(Command::Take),
         "inbox" => Some(Command::Inbox),
         "outbox" => Some(Command::Outbox),
+        "awaiting" => Some(Command::Awaiting),
         "state" => Some(Command::State),
         "check" => Some(Command::Check),
         "duet" => Some(Command::Duet),

@@ -20,6 +20,9 @@ pub const INBOX_LIMIT: usize = 128;
 /// The most packets in an outbox.
 pub const OUTBOX_LIMIT: usize = 32;
 
+/// The most texts of a side that wait until a receipt covers them.
+pub const AWAITING_LIMIT: usize = 64;
+
 /// The longest public key of a mechanism, in bytes.
 pub const PUBLIC_LIMIT: usize = 1158;
 
@@ -42,8 +45,17 @@ pub const PLAIN: u8 = 1;
 /// The version of a packet that seals its text padded: filled up with zeros to steps of 256 bytes.
 pub const PADDED: u8 = 2;
 
-/// The most bytes that a packet seals: a longest text, padded.
-pub const SEALED_LIMIT: usize = 4352;
+/// The version of a packet that seals a receipt, a kind and a text, padded together.
+pub const RECEIPTS: u8 = 3;
+
+/// The most bytes that a padded packet seals: a longest text, padded.
+pub const PADDED_LIMIT: usize = 4352;
+
+/// The most positions that a receipt lists.
+pub const RECEIPT_LIMIT: usize = 32;
+
+/// The most bytes that a packet seals: a longest text with a longest receipt, padded.
+pub const SEALED_LIMIT: usize = 4608;
 
 /// The longest packet, in bytes.
 pub const PACKET_LIMIT: usize = PACKET_FRAME + AGREEMENT_LIMIT + SEALED_LIMIT;

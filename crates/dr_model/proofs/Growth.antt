@@ -1,8 +1,10 @@
 pub mod BoxSizes
 pub mod Growing
+pub mod LawfulTalk
 pub mod GrowingLawful
 pub mod GrowingStates
 pub mod GrowingViews
+pub mod SameViews
 pub mod TurnGrowth
 pub mod TurnedViews
 pub mod WorldGrowth

@@ -1,7 +1,9 @@
 pub mod Drafts
 pub mod SayingChecks
 pub mod SayingFollows
+pub mod SaidWaits
 pub mod SayingLawful
+pub mod SaidBodies
 pub mod SayingText
 pub mod SayingTurn
 pub mod OwnSide

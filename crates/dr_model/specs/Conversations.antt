@@ -4,4 +4,5 @@ pub mod Indices
 pub mod Posts
 pub mod Views
 pub mod ViewStates
+pub mod Receipts
 pub mod Lawful

@@ -61,10 +61,11 @@ pub fn one_draft_is_accepted()
         → IsSendDraft k first.next second → ⊥ }
 {}
 
-/// Receipts are true: the receipt that a side would send in a lawful view covers only texts that it
-/// has opened there, and the other side may open it; and whatever is opened and said later, what it
-/// covers was opened, also at the end of every run, over any mechanism. No packet carries receipts
-/// yet: this is said of what a conversation and its views show.
+/// Receipts are true: the receipt that a side sends in a lawful view covers only texts that it has
+/// opened there, and the other side may open it; and whatever is opened and said later, what it
+/// covers was opened, also at the end of every run from a lawful world whose given seeds have 32
+/// bytes, over any mechanism. So each text that a side takes off those that wait, since a packet
+/// that it took says so, was opened by the other side.
 pub fn receipts_are_true()
     ensures { (k : Mechanism) → ReceiptsAreTrue k }
 {}

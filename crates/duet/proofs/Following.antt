@@ -7,18 +7,21 @@ use Rattle.dr_base.specs.declared.position.Side.{Side}
 use Rattle.dr_base.specs.declared.position.Side.TheVariants.{First, Second}
 use Rattle.dr_disk.specs.declared.call.Mode.{Mode}
 use Rattle.dr_model.specs.Conversations.Posts.{key_of}
-use Rattle.dr_model.specs.Conversations.Views.{missing_of}
+use Rattle.dr_model.specs.Conversations.Views.{has_opened, missing_of}
 use Rattle.dr_base.specs.Position.{peer_of}
+use Rattle.dr_base.specs.declared.position.Position.{Position}
 use Rattle.dr_model.specs.Machines.Acts.{Act}
-use Rattle.dr_model.specs.Machines.Events.{Event, does}
+use Rattle.dr_model.specs.Machines.Events.{Event, PacketSource, does, takes}
 use Rattle.dr_model.specs.Machines.Sides.{Sides, client_of, step_on}
 use Rattle.dr_model.specs.Machines.Steps.{Step}
-use Rattle.dr_model.specs.Machines.Worlds.{World, opening_world, step_of}
+use Rattle.dr_model.specs.Machines.Worlds.{World, opening_world, step_of, view_of}
 use Rattle.dr_model.specs.Machines.WorldSides.{kept_in, sides_of}
 use Rattle.dr_model.specs.Theorems.Fairness.{IsFair, IsSeedWhole, IsUnforgedEvent}
 use Rattle.session_model.specs.Clients.{Client}
 use Rattle.kem_laws.specs.Mechanism.{IsLawfulMechanism, Mechanism}
 use Rattle.session_model.specs.Schedule.{agreement_seed}
+use Rattle.dr_model.specs.Theorems.Receipts.{EndsWaiting}
+use Rattle.dr_model.proofs.Receipts.Arrived.{taking_arrives}
 use Rattle.dr_model.proofs.Worlds.Following.{step_follows}
 use Rattle.dr_model.proofs.Worlds.OpeningWorlds.{lawful_opening}
 use Rattle.dr_model.proofs.Worlds.SeenWorlds.{seen_world}
@@ -159,11 +162,12 @@ record RunsAlike (k : Mechanism) (s : WorldBeside) (deeds : List Deed) : Type 0 
   lines : lines_by (deed_on k) (seen_beside k s) deeds ≡ lines_by (deed_in k) s deeds
   counts : (t : Tally) → counted_by (deed_on k) (seen_beside k s) t deeds ≡ counted_by (deed_in k) s t deeds
   leads : after_by (deed_on k) (seen_beside k s) deeds ≡ seen_beside k (after_by (deed_in k) s deeds)
+  honest : IsHonest k (after_by (deed_in k) s deeds)
 
 run_follows : (k : Mechanism) (s : WorldBeside) (deeds : List Deed) → IsLawfulMechanism k → IsHonest k s → All HasWholeSeed deeds
     → IsUnforgedPlay k s deeds → RunsAlike k s deeds
 unfolding lines_by counted_by after_by
-run_follows k s [] law honest whole unforged = record { lines = refl; counts = λ t. refl; leads = refl }
+run_follows k s [] law honest whole unforged = record { lines = refl; counts = λ t. refl; leads = refl; honest = honest }
 run_follows k s (deed ∷ deeds) law honest whole unforged =
     let first = deed_follows k s deed law honest (All-head HasWholeSeed deed deeds whole) unforged.0 in
     let later = run_follows k (deed_in k s deed).next deeds law first.honest (All-tail HasWholeSeed deed deeds whole) unforged.1 in
@@ -173,6 +177,7 @@ run_follows k s (deed ∷ deeds) law honest whole unforged =
       counts = λ t. ap (λ (made : SidesPlayed). counted_by (deed_on k) made.next (counted_all (deed_side deed) made.answers t) deeds) first.same
           ∙ later.counts (counted_all (deed_side deed) (deed_in k s deed).answers t);
       leads = ap (λ (made : SidesPlayed). after_by (deed_on k) made.next deeds) first.same ∙ later.leads;
+      honest = later.honest;
     }
 
 -- how far both sides have come in a world
@@ -227,3 +232,12 @@ tallies_follow k script law pairs whole fair =
     let run = script_follows k script law pairs whole fair in
     ap₂ (λ (end : SidesBeside) (t : Tally). both_reached end.ends t) run.leads (run.counts (opening_tally script.rounds))
     ∙ reached_alike k (after_by (deed_in k) s script.deeds).ends (counted_by (deed_in k) s (opening_tally script.rounds) script.deeds)
+
+-- what waits no more after a take has arrived
+pub arrives : (k : Mechanism) (script : Scripted) (side : Side) (source : PacketSource) (p : Position) → IsLawfulMechanism k
+    → is_some (k.meaning.pair_of (agreement_seed script.key)) ≡ true → All HasWholeSeed script.deeds → IsUnforgedScript k script
+    → let w = (after_by (deed_in k) (beginning_in k script) script.deeds).ends in
+    EndsWaiting w (step_of k w (does side (takes source))).next side p → has_opened (view_of w (peer_of side)) p ≡ true
+arrives k script side source p law pairs whole fair ends =
+    let s = after_by (deed_in k) (beginning_in k script) script.deeds in
+    taking_arrives k s.ends side p (script_follows k script law pairs whole fair).honest.lawful source ends

@@ -153,7 +153,7 @@ settled_gathers : (s : Sides) (side : Side) (r : Result (Step Client) Refusal)
     → length (settled (client_of s side) r).next.outbox ≤ length (client_of s side).outbox
     → gathering s side (settled (client_of s side) r) ≡ settled_on s side r
 settled_gathers s side (Ok made) few =
-    ap (λ (x : Sides). record { answer = made.answer; entries = made.entries; next = x }) (gathers_less s side made.next few)
+    ap (λ (x : Sides). record { answer = made.answer; shown = made.shown; next = x }) (gathers_less s side made.next few)
 settled_gathers s side (Err refusal) few = ap (λ (x : Sides). step (Refused refusal) x) (gathers_none s side)
 
 -- an act that says no text is a step of both sides

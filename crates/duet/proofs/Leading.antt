@@ -12,7 +12,7 @@ use Rattle.dr_model.specs.Conversations.Conversation.{is_said, positions}
 use Rattle.dr_model.specs.Conversations.Posts.{post_at, posts}
 use Rattle.dr_model.specs.Machines.Acts.{Act, act_on, needs_seed, said_by, saying_by, taking}
 use Rattle.dr_model.specs.Machines.Draws.{after_draw, next_seed}
-use Rattle.dr_model.specs.Machines.Events.{Event, PacketSource, SideCall, cuts, does, of_bytes, of_flip, of_number, of_position, says, seeds, shows_inbox, shows_state, takes}
+use Rattle.dr_model.specs.Machines.Events.{Event, PacketSource, SideCall, cuts, does, of_bytes, of_flip, of_number, of_position, says, seeds, shows_awaiting, shows_inbox, shows_state, takes}
 use Rattle.dr_model.specs.Machines.Network.{flipped_at}
 use Rattle.dr_model.specs.Machines.Sides.{Sides, act_of, acted_on, called_on, client_of, draw_for, said_on, saying_on, step_on}
 use Rattle.dr_model.specs.Machines.Steps.{Step, has_effect, settled}
@@ -73,6 +73,7 @@ leads_on : (k : Mechanism) (s : Sides) (event : Event) → has_effect (step_on k
 leads_on k s (seeds seed) effect = refl
 leads_on k s (does side call) effect = called_leads k s side call
 leads_on k s (shows_inbox side) effect = refl
+leads_on k s (shows_awaiting side) effect = refl
 leads_on k s (shows_state side) effect = refl
 leads_on k s (cuts took event) effect =
     let made = step_on k s event in

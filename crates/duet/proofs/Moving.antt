@@ -5,7 +5,7 @@ use Rattle.dr_base.specs.Position.{peer_of}
 use Rattle.dr_base.specs.declared.position.Side.{Side}
 use Rattle.dr_base.specs.declared.position.Side.TheVariants.{First, Second}
 use Rattle.dr_model.specs.Machines.Draws.{Draws}
-use Rattle.dr_model.specs.Machines.Events.{Event, SideCall, cuts, does, says, seeds, shows_inbox, shows_state}
+use Rattle.dr_model.specs.Machines.Events.{Event, SideCall, cuts, does, says, seeds, shows_awaiting, shows_inbox, shows_state}
 use Rattle.dr_model.specs.Machines.Sides.{Sides, act_of, acted_on, called_on, client_of, step_on}
 use Rattle.dr_model.specs.Machines.Steps.{Step, has_effect, step}
 use Rattle.dr_model.specs.Machines.Worlds.{World, step_of}
@@ -68,6 +68,7 @@ others_keep : (k : Mechanism) (s : Sides) (event : Event)
 others_keep k s (seeds seed) = refl
 others_keep k s (does side call) = called_leaves k s side call
 others_keep k s (shows_inbox side) = refl
+others_keep k s (shows_awaiting side) = refl
 others_keep k s (shows_state side) = refl
 others_keep k s (cuts took event) =
     let made = step_on k s event in
@@ -80,6 +81,7 @@ idle_keeps k s (seeds seed) First idle = refl
 idle_keeps k s (seeds seed) Second idle = refl
 idle_keeps k s (shows_inbox own) side idle = refl
 idle_keeps k s (shows_state own) side idle = refl
+idle_keeps k s (shows_awaiting own) side idle = cc
 idle_keeps k s (does own call) side idle = cc
 idle_keeps k s (cuts took event) side idle = cc
 

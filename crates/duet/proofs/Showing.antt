@@ -11,10 +11,10 @@ use Rattle.session_model.specs.declared.answer.Refusal.{Refusal}
 use Rattle.session_model.specs.declared.answer.Refusal.TheVariants.{Fewer}
 use Rattle.session_model.specs.Clients.{Client, SaidText, TakenPacket, say_check, say_on, take_on}
 use Rattle.dr_model.specs.Machines.Sides.{Sides, act_of, acted_on, called_on, client_of, said_on, saying_on, settled_on, step_on, with_client}
-use Rattle.dr_model.specs.Machines.Steps.{Step, has_effect, step}
+use Rattle.dr_model.specs.Machines.Steps.{Shown, Step, has_effect, step, texts}
 use Rattle.dr_model.specs.Machines.Acts.{Act, act_on, dropped_client, dropping, said_by, saying, saying_by, standing_with, taken_by, taking}
 use Rattle.dr_model.specs.Machines.Draws.{Draws, after_draw, given_or, next_seed}
-use Rattle.dr_model.specs.Machines.Events.{Event, SideCall, cuts, does, says, seeds, shows_inbox, shows_state}
+use Rattle.dr_model.specs.Machines.Events.{Event, SideCall, cuts, does, says, seeds, shows_awaiting, shows_inbox, shows_state}
 use Rattle.kem_laws.specs.Mechanism.{Mechanism}
 use Rattle.session_model.specs.declared.answer.Answer.{Answer}
 use Rattle.duet.specs.Outcomes.{SidesBeside, SidesPlayed, barring, deed_on, failed, freely_on, opened}
@@ -25,18 +25,18 @@ use Rattle.duet.specs.Held.{shown}
 use Rattle.duet.specs.Shuts.{Shut, failing_call, left_of, shut_of}
 use Rattle.duet.proofs.Barred.{barred_or}
 use Rattle.scripts.specs.Seen.{CallOfLine, call_event}
-use Rattle.duet.specs.Replies.{entry_line, reply_line, reply_of}
+use Rattle.duet.specs.Replies.{reply_line, reply_of, shown_lines}
 use Rattle.scripts.specs.Sides.{acting_side, deed_side}
 use Rattle.duet.specs.Stops.{cut_event, cut_of, stopped_on}
 use Rattle.scripts.specs.declared.lined.Stop.{Stop}
 
--- a step that shows no text, adds at most one packet to the network, and makes at most one draw
+-- a step that shows nothing, adds at most one packet to the network, and makes at most one draw
 record IsQuiet (s : Sides) (made : Step Sides) : Type 0 where
-  none : made.entries ≡ []
+  none : made.shown ≡ texts []
   posts : length made.next.posts ≤ length s.posts + 1
   draws : made.next.draws.made ≤ s.draws.made + 1
 
-still_quiet : (s : Sides) (made : Step Sides) → made.entries ≡ [] → made.next.posts ≡ s.posts → made.next.draws ≡ s.draws → IsQuiet s made
+still_quiet : (s : Sides) (made : Step Sides) → made.shown ≡ texts [] → made.next.posts ≡ s.posts → made.next.draws ≡ s.draws → IsQuiet s made
 still_quiet s made none posts draws = record {
   none = none;
   posts = omega (arith, ap length posts);
@@ -54,33 +54,33 @@ saying_quiet k s side text (Err refusal) = still_quiet s _ refl refl refl
 saying_quiet k s side text (Ok false) = said_quiet s side s.draws (say_on k (client_of s side) text []) (omega arith)
 saying_quiet k s side text (Ok true) = said_quiet s side (after_draw s.draws) (say_on k (client_of s side) text (next_seed s.key s.draws)) (omega arith)
 
--- an act shows no text
-said_none : (r : Result SaidText Refusal) → IfOk (said_by r) (λ made. made.entries ≡ [])
+-- an act shows nothing
+said_none : (r : Result SaidText Refusal) → IfOk (said_by r) (λ made. made.shown ≡ texts [])
 said_none (Ok said) = refl
 said_none (Err refusal) = tt
 
 saying_none : (k : Mechanism) (c : Client) (text : List ℕ) (draw : Option (List ℕ)) (r : Result Bool Refusal)
-    → IfOk (saying_by k c text draw r) (λ made. made.entries ≡ [])
+    → IfOk (saying_by k c text draw r) (λ made. made.shown ≡ texts [])
 saying_none k c text draw (Ok turns) = said_none (say_on k c text (given_or [] draw))
 saying_none k c text draw (Err refusal) = tt
 
-taken_none : (r : Result TakenPacket Refusal) → IfOk (taken_by r) (λ made. made.entries ≡ [])
+taken_none : (r : Result TakenPacket Refusal) → IfOk (taken_by r) (λ made. made.shown ≡ texts [])
 taken_none (Ok taken) = refl
 taken_none (Err refusal) = tt
 
 leaving_none : (items : Items) (n : ℕ) (next : Client) (enough : Bool) (refusal : Refusal)
-    → IfOk (if enough then Ok (step (Dropped items n) next) else Err refusal) (λ made. made.entries ≡ [])
+    → IfOk (if enough then Ok (step (Dropped items n) next) else Err refusal) (λ made. made.shown ≡ texts [])
 leaving_none items n next true refusal = refl
 leaving_none items n next false refusal = tt
 
-act_none : (k : Mechanism) (c : Client) (act : Act) → IfOk (act_on k c act) (λ made. made.entries ≡ [])
+act_none : (k : Mechanism) (c : Client) (act : Act) → IfOk (act_on k c act) (λ made. made.shown ≡ texts [])
 act_none k c (saying text draw) = saying_none k c text draw (say_check c (length text))
 act_none k c (taking bytes) = taken_none (take_on k c bytes)
 act_none k c (dropping items n) =
     let standing = standing_with c items in
     leaving_none items n (dropped_client c items n) (nat_le n standing) (Fewer standing)
 
-settled_quiet : (s : Sides) (side : Side) (r : Result (Step Client) Refusal) → IfOk r (λ made. made.entries ≡ [])
+settled_quiet : (s : Sides) (side : Side) (r : Result (Step Client) Refusal) → IfOk r (λ made. made.shown ≡ texts [])
     → IsQuiet s (settled_on s side r)
 settled_quiet s First (Ok made) none = still_quiet s _ none refl refl
 settled_quiet s Second (Ok made) none = still_quiet s _ none refl refl
@@ -101,12 +101,13 @@ pub uncut : (k : Mechanism) (s before : Sides) (took : Bool) (made : Step Sides)
 uncut k s before took made true e h = cc
 uncut k s before took made false e h = cc
 
--- an event that took effect shows no text
+-- an event that took effect shows nothing
 effect_shows_none : (k : Mechanism) (s t : Sides) (event : Event) → has_effect (step_on k s event).answer ≡ true
-    → shown event t ≡ []
+    → shown event t ≡ texts []
 effect_shows_none k s t (seeds seed) h = refl
 effect_shows_none k s t (does side call) h = refl
 effect_shows_none k s t (shows_inbox side) h = cc
+effect_shows_none k s t (shows_awaiting side) h = cc
 effect_shows_none k s t (shows_state side) h = refl
 effect_shows_none k s t (cuts took event) h =
     let made = step_on k s event in
@@ -114,35 +115,36 @@ effect_shows_none k s t (cuts took event) h =
 
 -- a step that shows just what the event shows, adds at most one packet, and makes at most one draw
 record IsShown (s : Sides) (event : Event) (made : Step Sides) : Type 0 where
-  entries : shown event made.next ≡ made.entries
+  same : shown event made.next ≡ made.shown
   posts : length made.next.posts ≤ length s.posts + 1
   draws : made.next.draws.made ≤ s.draws.made + 1
 
-from_quiet : (s : Sides) (event : Event) (made : Step Sides) → shown event made.next ≡ [] → IsQuiet s made → IsShown s event made
-from_quiet s event made nothing quiet = record { entries = nothing ∙ sym quiet.none; posts = quiet.posts; draws = quiet.draws }
+from_quiet : (s : Sides) (event : Event) (made : Step Sides) → shown event made.next ≡ texts [] → IsQuiet s made → IsShown s event made
+from_quiet s event made nothing quiet = record { same = nothing ∙ sym quiet.none; posts = quiet.posts; draws = quiet.draws }
 
--- a step that was cut off shows what it shows uncut, or no text
+-- a step that was cut off shows what it shows uncut, or nothing
 cut_shown : (s : Sides) (event : Event) (took : Bool) (made : Step Sides) (effect : Bool) → has_effect made.answer ≡ effect
-    → ((t : Sides) → has_effect made.answer ≡ true → shown event t ≡ []) → IsShown s event made
+    → ((t : Sides) → has_effect made.answer ≡ true → shown event t ≡ texts []) → IsShown s event made
     → IsShown s (cuts took event)
     (if effect then step Stopped (if took then made.next else record s { draws = made.next.draws }) else made)
-cut_shown s event true made true e none all = record { entries = none made.next e; posts = all.posts; draws = all.draws }
+cut_shown s event true made true e none all = record { same = none made.next e; posts = all.posts; draws = all.draws }
 cut_shown s event false made true e none all =
-    record { entries = none (record s { draws = made.next.draws }) e; posts = omega arith; draws = all.draws }
-cut_shown s event took made false e none all = record { entries = all.entries; posts = all.posts; draws = all.draws }
+    record { same = none (record s { draws = made.next.draws }) e; posts = omega arith; draws = all.draws }
+cut_shown s event took made false e none all = record { same = all.same; posts = all.posts; draws = all.draws }
 
 shows : (k : Mechanism) (s : Sides) (event : Event) → IsShown s event (step_on k s event)
-shows k s (seeds seed) = record { entries = refl; posts = omega arith; draws = omega arith }
+shows k s (seeds seed) = record { same = refl; posts = omega arith; draws = omega arith }
 shows k s (does side call) = from_quiet s (does side call) _ refl (called_quiet k s side call)
-shows k s (shows_inbox side) = record { entries = refl; posts = omega arith; draws = omega arith }
-shows k s (shows_state side) = record { entries = refl; posts = omega arith; draws = omega arith }
+shows k s (shows_inbox side) = record { same = refl; posts = omega arith; draws = omega arith }
+shows k s (shows_awaiting side) = record { same = refl; posts = omega arith; draws = omega arith }
+shows k s (shows_state side) = record { same = refl; posts = omega arith; draws = omega arith }
 shows k s (cuts took event) =
     let made = step_on k s event in
     cut_shown s event took made (has_effect made.answer) refl (λ t. effect_shows_none k s t event) (shows k s event)
 
--- the texts that an event shows
-pub shown-entries : (k : Mechanism) (s : Sides) (event : Event) → shown event (step_on k s event).next ≡ (step_on k s event).entries
-shown-entries k s event = (shows k s event).entries
+-- what an event shows
+pub shown-same : (k : Mechanism) (s : Sides) (event : Event) → shown event (step_on k s event).next ≡ (step_on k s event).shown
+shown-same k s event = (shows k s event).same
 
 -- ---- a deed
 
@@ -204,10 +206,10 @@ adds_few k s deed =
     barred_or (λ (made : SidesPlayed). AddsFew s.ends made.next.ends) (deed_side deed) s (freely_on k s deed)
     (barring s.shuts deed) (freely_adds k s deed) (λ call. record { posts = omega arith; draws = omega arith })
 
--- ---- a call in which a disk stops shows no text
+-- ---- a call in which a disk stops shows nothing
 
 cut_shows_none : (t : Sides) (cut : Option Bool) (side : Side) (call : CallOfLine)
-    → shown (cut_event cut (call_event side call)) t ≡ []
+    → shown (cut_event cut (call_event side call)) t ≡ texts []
 cut_shows_none t None side call = refl
 cut_shows_none t (Some replaced) side call = refl
 
@@ -224,9 +226,9 @@ unfolding reply_of
 call_reply k s side call answer is =
     let event = call_event side call in
     let made = step_on k s event in
-    let none : made.entries ≡ [] = sym (shown-entries k s event) in
+    let none : made.shown ≡ texts [] = sym (shown-same k s event) in
     let line = reply_line side made.answer in
-    ap (reply_line side) is ∙ sym (append-nil line) ∙ ap (λ entries. line ++ flat_map (entry_line side) entries) (sym none)
+    ap (reply_line side) is ∙ sym (append-nil line) ∙ ap (λ (s : Shown). line ++ shown_lines side s) (sym none)
 
 -- so its reply is its line
 pub stop_reply : (k : Mechanism) (s : Sides) (stop : Stop) (answer : Answer)
@@ -241,8 +243,8 @@ stop_reply k s stop answer is =
     let event = cut_event cut call in
     let made = step_on k s event in
     let same = cut_acting cut call in
-    let none : made.entries ≡ [] =
-    sym (shown-entries k s event) ∙ cut_shows_none made.next cut stop.side stop.call in
+    let none : made.shown ≡ texts [] =
+    sym (shown-same k s event) ∙ cut_shows_none made.next cut stop.side stop.call in
     let line = reply_line (acting_side event) made.answer in
     ap₂ reply_line (sym same) is ∙ sym (append-nil line)
-    ∙ ap (λ entries. line ++ flat_map (entry_line (acting_side event)) entries) (sym none)
+    ∙ ap (λ (s : Shown). line ++ shown_lines (acting_side event) s) (sym none)

@@ -80,7 +80,7 @@ module _ (k : Mechanism) (law : IsLawfulMechanism k) (side : Side) (start : Worl
     made act own =
         own (sides_of k w)
         ∙ ap₂ (λ (s : Sides) (c : Client). on_side s side (settled c (act_on k c act))) is.stands keeps
-        ∙ ap (λ (s : Sides). let made : Step Sides = record { answer = (settled kept (act_on k kept act)).answer; entries = (settled kept (act_on k kept act)).entries; next = s } in made)
+        ∙ ap (λ (s : Sides). let made : Step Sides = record { answer = (settled kept (act_on k kept act)).answer; shown = (settled kept (act_on k kept act)).shown; next = s } in made)
         (given_twice (sides_of k start) side kept (settled kept (act_on k kept act)).next)
 
   -- a step of the world, and what a side made

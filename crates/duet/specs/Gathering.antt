@@ -7,7 +7,7 @@ use Rattle.session_model.specs.Clients.{Client}
 
 -- a step of one side, among both
 abbrev pub on_side : Sides → Side → Step Client → Step Sides
-on_side s side made = record { answer = made.answer; entries = made.entries; next = with_client s side made.next }
+on_side s side made = record { answer = made.answer; shown = made.shown; next = with_client s side made.next }
 
 -- the network gets what stands after this many packets of a side's outbox
 abbrev pub gathered : ℕ → Side → Sides → Sides
@@ -17,7 +17,7 @@ gathered held side s = record s { posts = s.posts ++ drop held (client_of s side
 abbrev pub gathering : Sides → Side → Step Client → Step Sides
 gathering s side made = record {
   answer = made.answer;
-  entries = made.entries;
+  shown = made.shown;
   next = gathered (length (client_of s side).outbox) side (with_client s side made.next);
 }
 

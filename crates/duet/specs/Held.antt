@@ -3,14 +3,13 @@ use Rattle.std.specs.Prelude.{◌<◌, ℕ, List, [], None, length}
 use Rattle.dr_base.specs.declared.position.Side.{Side}
 use Rattle.dr_base.specs.declared.position.Side.TheVariants.{First, Second}
 use Rattle.relay_core.specs.Boxes.{Box}
-use Rattle.boxes.specs.Entries.{Entry}
 use Rattle.boxes.specs.Posts.{Post}
 use Rattle.session_model.specs.Clients.{Client}
 use Rattle.dr_model.specs.Conversations.Formats.{Formats, side_format}
 use Rattle.dr_model.specs.Machines.Sides.{Sides, client_of, step_on}
-use Rattle.dr_model.specs.Machines.Steps.{Step}
+use Rattle.dr_model.specs.Machines.Steps.{Shown, Step, places, texts}
 use Rattle.dr_model.specs.Machines.Draws.{Draws}
-use Rattle.dr_model.specs.Machines.Events.{Event, cuts, shows_inbox}
+use Rattle.dr_model.specs.Machines.Events.{Event, cuts, shows_awaiting, shows_inbox}
 use Rattle.kem_laws.specs.Mechanism.{Mechanism}
 use Rattle.client.specs.Beginning.{begin_of, begun_client}
 use Rattle.duet.specs.Outcomes.{SidesBeside, SidesPlayed, opening_boxes}
@@ -67,8 +66,9 @@ with_draws duet draws = record duet { sides = record duet.sides { draws = draws 
 abbrev pub stepped : Mechanism → DuetNow → Event → DuetNow
 stepped k duet event = after_step duet (step_on k duet.sides event)
 
--- the texts that an event shows
-abbrev pub shown : Event → Sides → List Entry
-shown (shows_inbox side) s = (client_of s side).inbox
+-- what an event shows
+abbrev pub shown : Event → Sides → Shown
+shown (shows_inbox side) s = texts (client_of s side).inbox
+shown (shows_awaiting side) s = places (client_of s side).state.awaiting
 shown (cuts took event) s = shown event s
-shown _ s = []
+shown _ s = texts []

@@ -1,5 +1,7 @@
--- The lines of a trace: one for each event, and after an inbox one for each of its texts; and one of a sync that broke off.
+-- The lines of a trace: one for each event, and after a look one for each text that it shows; and one of a sync that broke
+-- off.
 use Rattle.std.specs.Prelude.{Bool, false, true, ℕ, List, [], ◌++◌, flat_map, codes}
+use Rattle.dr_base.specs.declared.position.Position.{Position}
 use Rattle.dr_base.specs.declared.position.Side.{Side}
 use Rattle.dr_disk.specs.declared.call.Call.{Call}
 use Rattle.dr_disk.specs.declared.call.Call.TheVariants.{Read, Sync, Write}
@@ -9,10 +11,10 @@ use Rattle.client.specs.declared.syncing.faults.SyncFault.TheVariants.{Link, Ref
 use Rattle.client.specs.declared.syncing.faults.SyncRefusal.TheVariants.{BoxFull, InboxFull, Unknown}
 use Rattle.session_model.specs.declared.answer.Answer.{Answer}
 use Rattle.session_model.specs.declared.answer.Answer.TheVariants.{Seeded}
-use Rattle.dr_model.specs.Machines.Steps.{Step}
+use Rattle.dr_model.specs.Machines.Steps.{Shown, Step, places, texts}
 use Rattle.dr_model.specs.Machines.Events.{Event}
 use Rattle.answer_lines.specs.Answers.{answer_text}
-use Rattle.answer_lines.specs.Texts.{text_line}
+use Rattle.answer_lines.specs.Texts.{place_line, text_line}
 use Rattle.scripts.specs.Sides.{acting_side, side_text}
 
 -- the line of a side's event with its answer; a seed has none
@@ -24,9 +26,19 @@ reply_line side answer = side_text side ++ answer_text answer ++ codes "\n"
 abbrev pub entry_line : Side → Entry → List ℕ
 entry_line side item = text_line (side_text side) item
 
+-- the line of an own text of a side that waits for a receipt
+abbrev pub waiting_line : Side → Position → List ℕ
+waiting_line side p = place_line (side_text side) p
+
+-- the lines of what an event of a side shows
+abbrev pub shown_lines : Side → Shown → List ℕ
+shown_lines side (texts entries) = flat_map (entry_line side) entries
+shown_lines side (places waiting) = flat_map (waiting_line side) waiting
+
 -- what an event is answered with, in lines
 unfoldable pub reply_of : {S : Type 0} → Event → Step S → List ℕ
-reply_of event step = reply_line (acting_side event) step.answer ++ flat_map (entry_line (acting_side event)) step.entries
+reply_of event step =
+    reply_line (acting_side event) step.answer ++ shown_lines (acting_side event) step.shown
 
 -- ---- a call on a side's disk that fails
 

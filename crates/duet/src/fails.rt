@@ -27,6 +27,7 @@ fn needs_open(line: &Lined<'_>) -> bool
 {
     match line {
         Lined::Plain(Line::Does(_, _)) => true,
+        Lined::Plain(Line::Awaiting(_)) => true,
         Lined::Plain(_) => false,
         Lined::Opening(_) => false,
         _ => true,

@@ -1,7 +1,7 @@
 //! Both sides of a conversation, which play a script.
 #![tactic(auto)]
 
-pub use laws::{played_is_the_trace, tallied_is_the_machines};
+pub use laws::{played_is_the_trace, receipts_hold, tallied_is_the_machines};
 pub use playing::{PlayError, play};
 pub use summary::{SummaryText, summary_lines};
 pub use tally::{SideTally, Tally};

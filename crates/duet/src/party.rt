@@ -17,7 +17,7 @@ use crate::acts::{ClientCall, Ended, perform};
 use crate::post::Post;
 use boxes::Entry;
 use client::{AREA_SIZE, Begin, BeginRefusal, Client, Names};
-use dr_base::TEXT_LIMIT;
+use dr_base::{Position, TEXT_LIMIT};
 use dr_disk::{Call, MemoryDisk};
 use kem_laws::Kem;
 use session_model::{Answer, Items, Refusal, Summary};
@@ -107,11 +107,7 @@ impl<K: Kem> Party<K> {
     pub fn standing(&self, items: Items) -> u32
         ensures { result ≡ standing_with self.now.kept items }
     {
-        let held = self.client.state();
-        match items {
-            Items::Texts => held.inbox,
-            Items::Packets => held.outbox,
-        }
+        self.client.standing(items)
     }
 
     /// The text at a place, from 0, the oldest first.
@@ -121,6 +117,20 @@ impl<K: Kem> Party<K> {
         ensures fits { IfSome result (λ entry. length entry.text.now ≤ TEXT_LIMIT) }
     {
         self.client.inbox(at)
+    }
+
+    /// How many of its own texts wait for a receipt.
+    pub fn waiting(&self) -> u32
+        ensures { result ≡ length self.now.kept.state.awaiting }
+    {
+        self.client.waiting()
+    }
+
+    /// Where the own text stands that waits at a place, from 0, the oldest first.
+    pub fn awaiting_at(&self, at: usize) -> Option<Position>
+        ensures { result ≡ slice_get self.now.kept.state.awaiting at }
+    {
+        self.client.awaiting(at)
     }
 
     /// The packet that was put into the outbox last.

@@ -194,7 +194,7 @@ impl<K: Kem> Duet<K> {
         }
     }
 
-    /// One event that no stop cuts off. An inbox is answered with how many texts stand in it.
+    /// One event that no stop cuts off. A look at texts is answered with how many they are.
     pub fn step(&mut self, line: &Line<'_>) -> Answer
         requires room { HasPostRoom self.old }
         requires draws { self.old.sides.draws.made < 2 ^ 32 - 1 }
@@ -211,6 +211,7 @@ impl<K: Kem> Duet<K> {
             }
             Line::Does(side, call) => self.call(*side, *call),
             Line::Inbox(side) => Answer::Inbox(self.party(*side).standing(Items::Texts)),
+            Line::Awaiting(side) => Answer::Awaiting(self.party(*side).waiting()),
             Line::State(side) => Answer::State(self.party(*side).summary()),
         }
     }

@@ -3,10 +3,11 @@
 ghost use Rattle.std.specs.Prelude.{◌≡◌, ◌-◌, ◌^◌, ◌<◌, length, flat_map, slice_index_or, None, true};
 ghost use Rattle.dr_ports.specs.Writing.{Writes};
 ghost use Rattle.boxes.specs.Entries.{Entry};
+ghost use Rattle.dr_base.specs.declared.position.Position.{Position};
 ghost use Rattle.dr_model.specs.Machines.Sides.{step_on};
 ghost use Rattle.duet.specs.Held.{HasPostRoom, shown, stepped};
 ghost use Rattle.duet.specs.Shuts.{asks_open, shut_of};
-ghost use Rattle.duet.specs.Replies.{entry_line, reply_line, reply_of};
+ghost use Rattle.duet.specs.Replies.{entry_line, reply_line, reply_of, shown_lines, waiting_line};
 ghost use Rattle.scripts.specs.Sides.{acting_side};
 ghost use Rattle.scripts.specs.Seen.{event_of};
 ghost use Rattle.duet.specs.Tally.{IsBelow, counted_of};
@@ -15,7 +16,7 @@ use crate::party::Party;
 use crate::reply::reply;
 use crate::sides::Duet;
 use crate::tally::Tally;
-use answer_lines::text_line;
+use answer_lines::{place_line, text_line};
 use dr_base::Side;
 use dr_ports::{Failed, OutputLine, Sink, write_all};
 use kem_laws::Kem;
@@ -57,18 +58,46 @@ fn write_inbox<K: Kem, O: Sink>(out: &mut O, side: Side, party: &Party<K>) -> Re
     Ok(())
 }
 
-/// Writes the texts that an event shows.
-fn write_entries<K: Kem, O: Sink>(
+/// Writes the line of the own text that waits at a place.
+fn write_place<K: Kem, O: Sink>(
     out: &mut O,
-    duet: &Duet<K>,
-    line: &Line<'_>,
+    side: Side,
+    party: &Party<K>,
+    at: u32,
 ) -> Result<(), Failed>
+    requires { at < length party.now.kept.state.awaiting }
+    ensures { (d : Position) → Writes (O.at out.old) (O.at out.new)
+        (waiting_line side (slice_index_or party.now.kept.state.awaiting at d)) result }
+{
+    match party.awaiting_at(at as usize) {
+        Some(position) => write_line(out, &place_line(side_name(side), position)),
+        None => Ok(()),
+    }
+}
+
+/// Writes the lines of a side's own texts that wait for a receipt, the oldest first.
+fn write_awaiting<K: Kem, O: Sink>(out: &mut O, side: Side, party: &Party<K>) -> Result<(), Failed>
     ensures { Writes (O.at out.old) (O.at out.new)
-        (flat_map (entry_line (acting_side (event_of line.now)))
+        (flat_map (waiting_line side) party.now.kept.state.awaiting) result }
+{
+    'texts: for at in 0..party.waiting() {
+        match write_place(out, side, party, at) {
+            Err(Failed) => return Err(Failed),
+            Ok(()) => {}
+        }
+    }
+    Ok(())
+}
+
+/// Writes what an event shows.
+fn write_shown<K: Kem, O: Sink>(out: &mut O, duet: &Duet<K>, line: &Line<'_>) -> Result<(), Failed>
+    ensures { Writes (O.at out.old) (O.at out.new)
+        (shown_lines (acting_side (event_of line.now))
         (shown (event_of line.now) duet.now.sides)) result }
 {
     match line {
         Line::Inbox(side) => write_inbox(out, *side, duet.party(*side)),
+        Line::Awaiting(side) => write_awaiting(out, *side, duet.party(*side)),
         _ => Ok(()),
     }
 }
@@ -122,6 +151,6 @@ pub fn play_line<K: Kem, O: Sink>(
     let answer = duet.step(line);
     match tell(line.side(), answer, tally, out) {
         Err(Failed) => Err(Failed),
-        Ok(()) => write_entries(out, duet, line),
+        Ok(()) => write_shown(out, duet, line),
     }
 }

@@ -6,7 +6,8 @@ use Rattle.std.proofs.lemmas.List.Quantifiers.{all_pairs_push}
 use Rattle.dr_base.specs.declared.key.Kept.{Kept}
 use Rattle.dr_base.specs.declared.position.Position.{Position}
 use Rattle.fs_aead.specs.Chain.{chain_message_key, chain_of, message_key, next_chain}
-use Rattle.fs_aead.specs.Table.{AllBefore, IsAscending, IsBefore, shelved}
+use Rattle.dr_base.specs.Position.{IsBefore}
+use Rattle.fs_aead.specs.Table.{AllBefore, IsAscending, shelved}
 
 -- no step
 pub chain_of-zero : (stream : List ℕ) → chain_of stream 0 ≡ stream

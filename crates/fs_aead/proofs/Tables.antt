@@ -9,7 +9,8 @@ use Rattle.std.proofs.lemmas.List.Kept.{AllPairs-filter}
 use Rattle.std.proofs.lemmas.List.Elements.{filter_passes}
 use Rattle.dr_base.specs.declared.key.Kept.{Kept}
 use Rattle.dr_base.specs.declared.position.Position.{Position}
-use Rattle.fs_aead.specs.Table.{IsBefore, IsAscending, is_kept_at, kept_key, without}
+use Rattle.dr_base.specs.Position.{IsBefore}
+use Rattle.fs_aead.specs.Table.{IsAscending, is_kept_at, kept_key, without}
 use Rattle.fs_aead.proofs.Places.{filter-none, filter-one, find-first, find-none, find-filter, position-None}
 
 -- a test passes at its position

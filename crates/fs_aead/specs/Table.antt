@@ -1,13 +1,9 @@
 -- The table of the keys that were passed over, for texts that are still to come.
-use Rattle.std.specs.Prelude.{◌≡◌, ℕ, zero, suc, ◌+◌, ◌<◌, ◌≤◌, Bool, not, List, [], ◌∷◌, ◌++◌, Option, All, AllPairs, filter, find, option_map}
+use Rattle.std.specs.Prelude.{◌≡◌, ℕ, zero, suc, ◌+◌, Bool, not, List, [], ◌∷◌, ◌++◌, Option, All, AllPairs, filter, find, option_map}
 use Rattle.dr_base.specs.declared.key.Kept.{Kept}
 use Rattle.dr_base.specs.declared.position.Position.{Position}
-use Rattle.dr_base.specs.Position.{is_at}
+use Rattle.dr_base.specs.Position.{IsBefore, is_at}
 use Rattle.fs_aead.specs.Chain.{message_key}
-
--- p comes before q: not in a later epoch, and at a lower index where they share the epoch
-abbrev pub IsBefore : Position → Position → Type 0
-IsBefore p q = (p.epoch ≤ q.epoch) × (p.epoch ≡ q.epoch → p.index < q.index)
 
 -- each key's position comes before those of all later ones
 abbrev pub IsAscending : List Kept → Type 0

@@ -1,6 +1,7 @@
 -- The program's limits, as numbers: those of its own, and those of the crates below it.
 use Rattle.std.specs.Prelude.{◌≡◌}
 use Rattle.dr_base.specs.Limits.{HasLimits as HasConversations}
+use Rattle.bodies.specs.Limits.{HasLimits as HasBodies}
 use Rattle.pages.specs.Limits.{HasLimits as HasPages}
 use Rattle.record_pages.specs.Limits.{HasLimits as HasTables}
 use Rattle.session_record.specs.Limits.{HasLimits as HasRecords}
@@ -8,6 +9,7 @@ use Rattle.client.specs.Limits.{HasLimits as HasPlaces}
 use Rattle.session_commands.specs.Limits.{HasLimits as HasInputs}
 use Rattle.relay_wire.specs.Limits.{HasLimits as HasFrames}
 use Rattle.relay_core.specs.Limits.{HasLimits as HasBoxes}
+use Rattle.relay_link.specs.Limits.{HasLimits as HasLinks}
 use Rattle.relay_command.specs.Limits.{HasLimits as HasRelays}
 use Rattle.sync_model.specs.Limits.{HasLimits as HasSyncs}
 use Rattle.command_words.specs.Limits.{HasLimits as HasWords}
@@ -17,6 +19,7 @@ use Rattle.messenger_cli.specs.declared.program.TheConstants.{DISK_SIZE}
 
 pub record HasLimits : Type 0 where
   pub conversations : HasConversations
+  pub bodies : HasBodies
   pub records : HasRecords
   pub pages : HasPages
   pub tables : HasTables
@@ -32,3 +35,4 @@ pub record HasLimits : Type 0 where
   pub boxes : HasBoxes
   pub relays : HasRelays
   pub syncs : HasSyncs
+  pub links : HasLinks

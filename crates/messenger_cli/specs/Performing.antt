@@ -7,13 +7,13 @@ use Rattle.dr_model.specs.Machines.Acts.{dropping}
 use Rattle.endings.specs.Ends.{Ends}
 use Rattle.endings.specs.declared.ending.Ending.{Ending}
 use Rattle.endings.specs.declared.ending.Ending.TheVariants.{NoMemory, Usage}
-use Rattle.command_words.specs.Commands.{Work, command_of, begins, says, takes, shows_inbox, drops_done, drops_sent, shows_outbox, shows_state, checks, syncs, serves, plays, plays_made}
+use Rattle.command_words.specs.Commands.{Work, command_of, begins, says, takes, shows_inbox, drops_done, drops_sent, shows_awaiting, shows_outbox, shows_state, checks, syncs, serves, plays, plays_made}
 use Rattle.session_model.specs.declared.answer.Items.TheVariants.{Packets, Texts}
 use Rattle.session_commands.specs.Asking.{asked_drop, asked_say}
 use Rattle.session_commands.specs.Beginning.{RunsBegin}
 use Rattle.session_commands.specs.Checking.{RunsCheck}
 use Rattle.session_commands.specs.InWorlds.{RunsAct}
-use Rattle.session_commands.specs.Lines.{inbox_lines, outbox_lines, state_lines}
+use Rattle.session_commands.specs.Lines.{awaiting_lines, inbox_lines, outbox_lines, state_lines}
 use Rattle.session_commands.specs.Runs.{Runs, RunsTake}
 use Rattle.session_commands.specs.Showing.{RunsShow}
 use Rattle.session_commands.specs.Syncing.{RunsSync}
@@ -104,6 +104,8 @@ Performs shows_inbox seen old new code =
     WritesAlone (RunsShow seen.disk sntrup761_kem inbox_lines old.disk new.disk) old new code
 Performs shows_outbox seen old new code =
     WritesAlone (RunsShow seen.disk sntrup761_kem outbox_lines old.disk new.disk) old new code
+Performs shows_awaiting seen old new code =
+    WritesAlone (RunsShow seen.disk sntrup761_kem awaiting_lines old.disk new.disk) old new code
 Performs shows_state seen old new code =
     WritesAlone (RunsShow seen.disk sntrup761_kem state_lines old.disk new.disk) old new code
 Performs checks seen old new code =

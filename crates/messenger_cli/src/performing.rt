@@ -12,7 +12,7 @@ use dr_disk::Disk;
 use dr_ports::{Door, Draws, Link, Sink, Source};
 use endings::Status;
 use relay_command::relay;
-use session_commands::{begin, check, drop_items, inbox, outbox, say, state, sync, take};
+use session_commands::{awaiting, begin, check, drop_items, inbox, outbox, say, state, sync, take};
 use session_model::Items;
 use sntrup761::Sntrup761;
 use std::alloc::Global;
@@ -48,6 +48,7 @@ pub(crate) fn perform<D: Disk, R: Disk, S: Source, O: Sink, L: Link, A: Door, W:
         Command::Done(n) => drop_items::<Sntrup761, D, O>(alloc, Items::Texts, n, disk, out),
         Command::Sent(n) => drop_items::<Sntrup761, D, O>(alloc, Items::Packets, n, disk, out),
         Command::Outbox => outbox::<Sntrup761, D, O>(alloc, disk, out),
+        Command::Awaiting => awaiting::<Sntrup761, D, O>(alloc, disk, out),
         Command::State => state::<Sntrup761, D, O>(alloc, disk, out),
         Command::Check => check::<Sntrup761, D, O>(alloc, disk, out),
         Command::Duet => play_script(alloc, source, out),

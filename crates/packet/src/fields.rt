@@ -8,7 +8,8 @@ ghost use Rattle.packet.specs.Reading.{Gives, field, number, lawful, is_version,
 
 use crate::fault::{Kind, Malformed};
 use dr_base::{
-    INDEX_LIMIT, LAST_EPOCH, PADDED, PLAIN, SEALED_LIMIT, TEXT_LIMIT, read_u16, read_u32,
+    INDEX_LIMIT, LAST_EPOCH, PADDED, PADDED_LIMIT, PLAIN, RECEIPTS, SEALED_LIMIT, TEXT_LIMIT,
+    read_u16, read_u32,
 };
 
 // The offsets of the fields before the agreement message.
@@ -73,7 +74,7 @@ pub fn version(bytes: &[u8]) -> Result<(u8, &[u8]), Malformed>
 {
     let (front, rest) = bytes_at(bytes, VERSION_AT, 1)?;
     let version = front[0];
-    if version != PLAIN && version != PADDED {
+    if version != PLAIN && version != PADDED && version != RECEIPTS {
         return Err(Malformed {
             at: VERSION_AT,
             kind: Kind::Version,
@@ -154,7 +155,12 @@ pub fn is_text_len(version: u8, len: usize) -> bool
     if version == PLAIN {
         return len <= TEXT_LIMIT;
     }
-    len % 256 == 0 && len >= 256 && len <= SEALED_LIMIT
+    let most = if version == PADDED {
+        PADDED_LIMIT
+    } else {
+        SEALED_LIMIT
+    };
+    len % 256 == 0 && len >= 256 && len <= most
 }
 
 /// The length of the sealed bytes, one that the version may have.

@@ -2,6 +2,7 @@
 use Rattle.std.proofs.Common.{List, None, Option, Some, [], arith, false, refl, subst, sym, ℕ, ◌≡◌}
 use Rattle.std.specs.Prelude.{All, option_map}
 use Rattle.std.proofs.lemmas.List.Elements.{All-nil}
+use Rattle.bodies.specs.Bodies.{Body}
 use Rattle.boxes.specs.Posts.{Post}
 use Rattle.cka.specs.Agreement.{turn_of}
 use Rattle.dr_base.specs.Position.{is_own}
@@ -10,7 +11,7 @@ use Rattle.kem_laws.specs.Mechanism.{Mechanism}
 use Rattle.session_model.proofs.Latest.{latest-turn}
 use Rattle.session_model.specs.Drafts.{IsSendDraft}
 use Rattle.session_model.specs.LawfulStates.{IsLawfulKept, IsLawfulReception, IsLawfulState}
-use Rattle.session_model.specs.Saying.{SendDraft, draft_own, draft_phase, draft_send, draft_turn}
+use Rattle.session_model.specs.Saying.{SendDraft, body_of, draft_own, draft_phase, draft_send, draft_turn}
 use Rattle.session_model.specs.States.{Phase, Reception, State, in_own, in_peers, receiving_epoch}
 use Rattle.ratchet.specs.Seen.{Said, kept_in, said_of}
 use Rattle.ratchet.proofs.LawfulTurn.{in_peers_phase}
@@ -36,6 +37,7 @@ emptied k s l = record {
   kept = λ i j d lt below. absurd (omega arith);
   each = All-nil _;
   few = omega arith;
+  waiting = l.waiting;
 }
 
 -- and with the kept keys of a change, if there is one, on top of none
@@ -63,28 +65,29 @@ filled k s head l after h = record {
   kept = l.kept;
   each = subst (λ side. All (IsLawfulKept side) s.kept) (sym after.side) l.each;
   few = l.few;
+  waiting = h.waiting;
 }
 
 -- ---- a text
 
-turn_follows : (s : State) (text : List ℕ) (turn : Option (List ℕ × List ℕ × List ℕ)) (draft : SendDraft)
+turn_follows : (s : State) (body : Body) (turn : Option (List ℕ × List ℕ × List ℕ)) (draft : SendDraft)
     → IsLawfulReception s.kept s.receiving (receiving_epoch s.side s.epoch) → is_own s.side s.epoch ≡ false
-    → option_map (draft_turn s text) turn ≡ Some draft → Follows s draft.next
-turn_follows s text None draft l peers is = absurd (let no : None ≡ Some draft = is in cc)
-turn_follows s text (Some turn) draft l peers is =
-    let same : draft_turn s text turn ≡ draft = cc in
+    → option_map (draft_turn s body) turn ≡ Some draft → Follows s draft.next
+turn_follows s body None draft l peers is = absurd (let no : None ≡ Some draft = is in cc)
+turn_follows s body (Some turn) draft l peers is =
+    let same : draft_turn s body turn ≡ draft = cc in
     subst (λ (d : SendDraft). Follows s d.next) same (record {
       side = refl;
       before = λ _. subst (IsLawfulReception s.kept s.receiving) (sym (latest-turn s.side s.epoch peers)) l;
     })
 
-said_follows : (k : Mechanism) (s : State) (text seed : List ℕ) (phase : Phase) (draft : SendDraft) → IsLawfulState k s
-    → s.phase ≡ phase → draft_phase k s text seed phase ≡ Some draft → Follows s draft.next
-said_follows k s text seed (in_own own) draft l held is =
-    let same : draft_own s own text ≡ draft = cc in
+said_follows : (k : Mechanism) (s : State) (body : Body) (seed : List ℕ) (phase : Phase) (draft : SendDraft) → IsLawfulState k s
+    → s.phase ≡ phase → draft_phase k s body seed phase ≡ Some draft → Follows s draft.next
+said_follows k s body seed (in_own own) draft l held is =
+    let same : draft_own s own body ≡ draft = cc in
     subst (λ (d : SendDraft). Follows s d.next) same (record { side = refl; before = λ _. l.receiving })
-said_follows k s text seed (in_peers public) draft l held is =
-    turn_follows s text (turn_of k public seed) draft l.receiving (in_peers_phase k s public l held).0 is
+said_follows k s body seed (in_peers public) draft l held is =
+    turn_follows s body (turn_of k public seed) draft l.receiving (in_peers_phase k s public l held).0 is
 
 -- the draft of a text
 pub lawful_said : (k : Mechanism) (s : State) (post : Post) (head : State) → IsLawfulState k s
@@ -93,4 +96,4 @@ pub lawful_said : (k : Mechanism) (s : State) (post : Post) (head : State) → I
     IsSendDraft k s (said_of s d) → IsLawfulState k (said_of s d).next)
 unfolding draft_send
 lawful_said k s post head l h of =
-    filled k s head l (said_follows k s of.text of.seed s.phase _ l refl of.gives) h
+    filled k s head l (said_follows k s (body_of s of.text) of.seed s.phase _ l refl of.gives) h

@@ -1,20 +1,40 @@
--- A kept key less, or the keys that a chain passed, leave a state lawful.
+-- A receipt that was obeyed, a kept key less, or the keys that a chain passed leave a state lawful.
 use Rattle.std.proofs.Common.{◌≡◌, ℕ, ◌+◌, ◌≤◌, List, ◌++◌, length, Option, Some, None, refl, sym, ◌∙◌, ap, subst, arith}
 use Rattle.std.specs.Prelude.{All, not}
 use Rattle.std.proofs.lemmas.List.{length-append}
 use Rattle.std.proofs.lemmas.List.Elements.{All-filter, All-weaker}
 use Rattle.std.proofs.lemmas.List.Filters.{length-filter_both}
+use Rattle.bodies.specs.Receipts.{Receipt}
 use Rattle.dr_base.specs.declared.limits.TheConstants.{INDEX_LIMIT, KEPT_LIMIT}
 use Rattle.dr_base.specs.declared.key.Kept.{Kept}
 use Rattle.dr_base.specs.declared.position.Position.{Position}
-use Rattle.fs_aead.specs.Table.{AllBefore, IsAscending, IsBefore, is_kept_at, without, shelved}
+use Rattle.dr_base.specs.Position.{IsBefore}
+use Rattle.fs_aead.specs.Table.{AllBefore, IsAscending, is_kept_at, without, shelved}
 use Rattle.fs_aead.proofs.Streams.{length-shelved, shelved-ascending, table-before}
 use Rattle.fs_aead.proofs.Tables.{IsAscending-without}
+use Rattle.session_model.specs.Awaiting.{still_waiting}
 use Rattle.session_model.specs.States.{Reception, State, receiving_epoch}
 use Rattle.session_model.specs.LawfulStates.{IsLawfulKept, IsLawfulReception, IsLawfulState}
 use Rattle.session_model.proofs.LawfulKept.{lawful_kept-table, lawful_kept-without}
 use Rattle.kem_laws.specs.Mechanism.{Mechanism}
 use Rattle.session_model.proofs.Latest.{latest_is-peers}
+use Rattle.session_model.proofs.Waiting.{waiting-obeyed}
+
+-- a receipt that was obeyed
+pub lawful_obeyed : (k : Mechanism) (s : State) (receipt : Option Receipt) → IsLawfulState k s
+    → IsLawfulState k (record s { awaiting = still_waiting receipt s.awaiting })
+lawful_obeyed k s receipt l = record {
+  session_long = l.session_long;
+  root_long = l.root_long;
+  epoch_fits = l.epoch_fits;
+  phase = l.phase;
+  previous = l.previous;
+  receiving = l.receiving;
+  kept = l.kept;
+  each = l.each;
+  few = l.few;
+  waiting = waiting-obeyed s.side s.epoch s.phase receipt s.awaiting l.waiting;
+}
 
 -- a kept key less
 reception_without : (kept : List Kept) (p : Position) (r : Option Reception) (epoch : Option ℕ) → IsLawfulReception kept r epoch → IsLawfulReception (without kept p) r epoch
@@ -46,6 +66,7 @@ lawful_less k s p l =
       kept = IsAscending-without s.kept p l.kept;
       each = lawful_kept-without s.side s.kept p l.each;
       few = omega arith;
+      waiting = l.waiting;
     }
 
 pub lawful_without : (k : Mechanism) (s : State) (p : Position) (table : List Kept) → IsLawfulState k s → table ≡ without s.kept p
@@ -84,4 +105,5 @@ lawful_along k s r epoch n chain reach table l e f long place most room is =
       kept = subst IsAscending (sym is) (shelved-ascending epoch r.chain r.reach n s.kept l.kept below);
       each = subst (All (IsLawfulKept s.side)) (sym is) (lawful_kept-table s.side s.kept epoch r.chain r.reach n l.each (latest_is-peers s.side s.epoch epoch f) (omega arith));
       few = omega arith;
+      waiting = l.waiting;
     }

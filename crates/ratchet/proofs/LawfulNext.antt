@@ -6,15 +6,16 @@ use Rattle.std.proofs.lemmas.List.Elements.{All-nil, All-weaker}
 use Rattle.dr_base.specs.declared.limits.TheConstants.{INDEX_LIMIT, LAST_EPOCH, KEPT_LIMIT}
 use Rattle.dr_base.specs.declared.key.Kept.{Kept}
 use Rattle.dr_base.specs.declared.position.Position.{Position}
-use Rattle.dr_base.specs.Position.{is_own}
+use Rattle.dr_base.specs.Position.{IsBefore, is_own}
 use Rattle.dr_base.proofs.Parity.{own_next}
-use Rattle.fs_aead.specs.Table.{AllBefore, IsAscending, IsBefore, shelved}
+use Rattle.fs_aead.specs.Table.{AllBefore, IsAscending, shelved}
 use Rattle.fs_aead.proofs.Streams.{length-shelved, shelved-ascending, table-before}
 use Rattle.session_model.specs.States.{Own, in_own, in_peers, Reception, State, receiving_epoch}
 use Rattle.session_model.specs.LawfulStates.{IsLawfulKept, IsLawfulReception, IsLawfulState}
 use Rattle.session_model.proofs.LawfulKept.{lawful_kept-table}
 use Rattle.kem_laws.specs.Mechanism.{Mechanism}
 use Rattle.session_model.proofs.Latest.{latest-peers, latest-reached}
+use Rattle.session_model.proofs.Waiting.{waiting-reached}
 use Rattle.ratchet.proofs.LawfulTurn.{in_own_phase}
 
 -- keys that come before a position come before the later epochs
@@ -74,4 +75,5 @@ lawful_next k s own epoch index reach root public chain stream table l e next fi
       kept = subst IsAscending (sym is) (shelved-ascending epoch stream 0 (index - 1) s.kept l.kept below);
       each = subst (All (IsLawfulKept s.side)) (sym is) (lawful_kept-table s.side s.kept epoch stream 0 (index - 1) l.each peers (omega arith));
       few = omega arith;
+      waiting = waiting-reached s.side s.epoch epoch s.phase public s.awaiting (omega arith) l.waiting;
     }

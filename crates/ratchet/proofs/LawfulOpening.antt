@@ -5,15 +5,17 @@ use Rattle.std.proofs.lemmas.List.Elements.{All-nil}
 use Rattle.bodies.specs.declared.format.Format.{Format}
 use Rattle.dr_base.specs.declared.limits.TheConstants.{INDEX_LIMIT}
 use Rattle.dr_base.specs.declared.key.Kept.{Kept}
+use Rattle.dr_base.specs.declared.position.Position.{Position}
 use Rattle.dr_base.specs.declared.position.Side.{Side}
 use Rattle.dr_base.specs.declared.position.Side.TheVariants.{First, Second}
 use Rattle.kem_laws.specs.Mechanism.{IsLawful, Mechanism}
+use Rattle.session_model.proofs.Waiting.{waiting-none}
 use Rattle.session_model.specs.LawfulStates.{IsLawfulState}
 use Rattle.session_model.specs.States.{Own, Phase, Reception, State, in_own, in_peers}
 
 -- what a session begins with, in equal parts
-abbrev pub opening : Side → Format → List ℕ → List ℕ → Phase → Option Reception → List Kept → State
-opening side format session root phase receiving kept = record {
+abbrev pub opening : Side → Format → List ℕ → List ℕ → Phase → Option Reception → List Kept → List Position → State
+opening side format session root phase receiving kept awaiting = record {
   side = side;
   format = format;
   session = session;
@@ -23,19 +25,22 @@ opening side format session root phase receiving kept = record {
   previous = 0;
   receiving = receiving;
   kept = kept;
+  awaiting = awaiting;
 }
 
 opening_is : {side side₁ : Side} (format : Format) (session root : List ℕ) {phase phase₁ : Phase} {receiving receiving₁ : Option Reception} {kept kept₁ : List Kept}
-    → side ≡ side₁ → phase ≡ phase₁ → receiving ≡ receiving₁ → kept ≡ kept₁ → opening side format session root phase receiving kept ≡ opening side₁ format session root phase₁ receiving₁ kept₁
-opening_is format session root a b c d = cc
+    {awaiting awaiting₁ : List Position}
+    → side ≡ side₁ → phase ≡ phase₁ → receiving ≡ receiving₁ → kept ≡ kept₁ → awaiting ≡ awaiting₁
+    → opening side format session root phase receiving kept awaiting ≡ opening side₁ format session root phase₁ receiving₁ kept₁ awaiting₁
+opening_is format session root a b c d e = cc
 
 -- First has the public key, and the stream of epoch 0
-pub opens_first : (k : Mechanism) (side : Side) (format : Format) (session root : List ℕ) (phase : Phase) (receiving : Option Reception) (kept : List Kept) (public chain : List ℕ)
-    → side ≡ First → phase ≡ in_peers public → receiving ≡ Some (record { chain = chain; reach = 0 }) → kept ≡ []
-    → length session ≡ 16 → length root ≡ 32 → length chain ≡ 32 → length public ≡ k.public → IsLawfulState k (opening side format session root phase receiving kept)
-opens_first k side format session root phase receiving kept public chain s p r e session_long root_long chain_long public_long =
+pub opens_first : (k : Mechanism) (side : Side) (format : Format) (session root : List ℕ) (phase : Phase) (receiving : Option Reception) (kept : List Kept) (awaiting : List Position) (public chain : List ℕ)
+    → side ≡ First → phase ≡ in_peers public → receiving ≡ Some (record { chain = chain; reach = 0 }) → kept ≡ [] → awaiting ≡ []
+    → length session ≡ 16 → length root ≡ 32 → length chain ≡ 32 → length public ≡ k.public → IsLawfulState k (opening side format session root phase receiving kept awaiting)
+opens_first k side format session root phase receiving kept awaiting public chain s p r e w session_long root_long chain_long public_long =
     let small : 0 ≤ INDEX_LIMIT = omega arith in
-    let begun : IsLawfulState k (opening First format session root (in_peers public) (Some (record { chain = chain; reach = 0 })) []) = record {
+    let begun : IsLawfulState k (opening First format session root (in_peers public) (Some (record { chain = chain; reach = 0 })) [] []) = record {
       session_long = session_long;
       root_long = root_long;
       epoch_fits = omega arith;
@@ -45,17 +50,18 @@ opens_first k side format session root phase receiving kept public chain s p r e
       kept = λ i j d lt below. absurd (omega arith);
       each = All-nil _;
       few = omega arith;
+      waiting = waiting-none _ _ _;
     } in
-    subst (IsLawfulState k) (sym (opening_is format session root s p r e)) begun
+    subst (IsLawfulState k) (sym (opening_is format session root s p r e w)) begun
 
 -- Second has the secret, and the stream of epoch 0
-pub opens_second : (k : Mechanism) (side : Side) (format : Format) (session root : List ℕ) (phase : Phase) (receiving : Option Reception) (kept : List Kept) (own : Own)
-    → side ≡ Second → phase ≡ in_own own → receiving ≡ None → kept ≡ []
+pub opens_second : (k : Mechanism) (side : Side) (format : Format) (session root : List ℕ) (phase : Phase) (receiving : Option Reception) (kept : List Kept) (awaiting : List Position) (own : Own)
+    → side ≡ Second → phase ≡ in_own own → receiving ≡ None → kept ≡ [] → awaiting ≡ []
     → length session ≡ 16 → length root ≡ 32 → length own.chain ≡ 32 → length own.secret ≡ k.secret → IsLawful k.meaning own.secret
-    → own.agreement ≡ [] → own.sent ≡ 0 → IsLawfulState k (opening side format session root phase receiving kept)
-opens_second k side format session root phase receiving kept own s p r e session_long root_long chain_long secret_long lawful message none =
+    → own.agreement ≡ [] → own.sent ≡ 0 → IsLawfulState k (opening side format session root phase receiving kept awaiting)
+opens_second k side format session root phase receiving kept awaiting own s p r e w session_long root_long chain_long secret_long lawful message none =
     let small : 0 ≤ INDEX_LIMIT = omega arith in
-    let begun : IsLawfulState k (opening Second format session root (in_own own) None []) = record {
+    let begun : IsLawfulState k (opening Second format session root (in_own own) None [] []) = record {
       session_long = session_long;
       root_long = root_long;
       epoch_fits = omega arith;
@@ -65,8 +71,9 @@ opens_second k side format session root phase receiving kept own s p r e session
       kept = λ i j d lt below. absurd (omega arith);
       each = All-nil _;
       few = omega arith;
+      waiting = waiting-none _ _ _;
     } in
-    subst (IsLawfulState k) (sym (opening_is format session root s p r e)) begun
+    subst (IsLawfulState k) (sym (opening_is format session root s p r e w)) begun
 
 -- the front of a buffer
 pub front_of : (n : ℕ) (part after text : List ℕ) → length part ≡ n → text ≡ take n (part ++ after) → text ≡ part

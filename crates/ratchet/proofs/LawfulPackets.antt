@@ -5,12 +5,12 @@ use Rattle.std.specs.Prelude.{All, if◌then◌else◌, nat_eq, nat_le, nat_lt, 
 use Rattle.std.proofs.lemmas.Bool.Decides.{nat_tests}
 use Rattle.std.proofs.lemmas.List.Elements.{All-weaker}
 use Rattle.dr_base.proofs.Parity.{own_next}
-use Rattle.dr_base.specs.Position.{is_own}
+use Rattle.dr_base.specs.Position.{IsBefore, is_own}
 use Rattle.dr_base.specs.declared.key.Kept.{Kept}
 use Rattle.dr_base.specs.declared.limits.TheConstants.{KEPT_LIMIT}
 use Rattle.dr_base.specs.declared.position.Position.{Position}
 use Rattle.fs_aead.specs.Chain.{chain_of}
-use Rattle.fs_aead.specs.Table.{IsBefore, kept_key, shelved, without}
+use Rattle.fs_aead.specs.Table.{kept_key, shelved, without}
 use Rattle.kem_laws.specs.Mechanism.{Mechanism}
 use Rattle.packet.specs.Packet.{Fields}
 use Rattle.prf_prng.specs.Root.{root_key}
@@ -132,7 +132,9 @@ opened_follows : (k : Mechanism) (s : State) (f : Fields) (way : Result Way Refu
     → way_of k s f ≡ way → opened_by f way ≡ Ok draft → Follows s draft.next
 opened_follows k s f (Err refusal) draft l found is = absurd (cc is)
 opened_follows k s f (Ok way) draft l found is =
-    subst (λ (d : ReceiveDraft). Follows s d.next) (sym (is_opened f way draft is).is) (way_follows k s f way l found)
+    let after = way_follows k s f way l found in
+    subst (λ (d : ReceiveDraft). Follows s d.next) (sym (is_opened f way draft is).is)
+    (record { side = after.side; before = after.before })
 
 -- the draft of a packet
 pub lawful_received : (k : Mechanism) (s : State) (position : Position) (text : List ℕ) (head : State) (table : Option (List Kept))

@@ -1,13 +1,14 @@
 -- The drafts of texts, as the code makes them.
 use Rattle.std.proofs.Common.{◌≡◌, ℕ, ◌+◌, List, [], length, Option, Some, None, refl, sym, ◌∙◌, ap, arith}
 use Rattle.std.specs.Prelude.{option_map}
+use Rattle.bodies.specs.Bodies.{Body}
 use Rattle.dr_base.specs.declared.key.Kept.{Kept}
 use Rattle.dr_base.specs.declared.key.Key32.{Key32}
 use Rattle.fs_aead.specs.Stream.{Stream}
 use Rattle.fs_aead.specs.Chain.{next_chain}
 use Rattle.kem_laws.specs.Mechanism.{IsLawful, Mechanism}
 use Rattle.cka.specs.Agreement.{turn_of, agreement_size}
-use Rattle.session_model.specs.Saying.{SendDraft, draft_own, draft_phase, draft_send, draft_turn}
+use Rattle.session_model.specs.Saying.{SendDraft, body_of, draft_own, draft_phase, draft_send, draft_turn}
 use Rattle.session_model.specs.States.{Own, in_own, in_peers, State}
 use Rattle.session_model.specs.LawfulStates.{IsLawfulOwn}
 use Rattle.ratchet.specs.Seen.{seed_bytes}
@@ -18,29 +19,34 @@ abbrev pub with_kept : List Kept → SendDraft → SendDraft
 with_kept kept d = record { post = d.post; next = record d.next { kept = kept } }
 
 -- the draft in an own epoch, of a copy of the state's head
-pub says_own : (k : Mechanism) (s head : State) (own : Own) (text seed : List ℕ) (d : SendDraft) → s.phase ≡ in_own own
-    → head ≡ record s { kept = [] } → d ≡ draft_own head own text → draft_send k s text seed ≡ Some (with_kept s.kept d)
+pub says_own : (k : Mechanism) (s head : State) (own : Own) (text seed : List ℕ) (body : Body) (d : SendDraft)
+    → s.phase ≡ in_own own → head ≡ record s { kept = [] } → body ≡ body_of s text
+    → d ≡ draft_own head own body → draft_send k s text seed ≡ Some (with_kept s.kept d)
 unfolding draft_send
-says_own k s head own text seed d held copy is =
-    ap (draft_phase k s text seed) held
-    ∙ ap (λ x. Some (with_kept s.kept x)) (sym (is ∙ ap (λ x. draft_own x own text) copy))
+says_own k s head own text seed body d held copy whole is =
+    ap (draft_phase k s (body_of s text) seed) held
+    ∙ ap (λ x. Some (with_kept s.kept x))
+    (sym (is ∙ ap (λ x. draft_own x own body) copy ∙ ap (draft_own (record s { kept = [] }) own) whole))
 
 -- a turn in a copy of the state's head
-turned_with : (s : State) (text : List ℕ) (turn : Option (List ℕ × List ℕ × List ℕ))
-    → option_map (with_kept s.kept) (option_map (draft_turn (record s { kept = [] }) text) turn) ≡ option_map (draft_turn s text) turn
-turned_with s text None = refl
-turned_with s text (Some turn) = refl
+turned_with : (s : State) (body : Body) (turn : Option (List ℕ × List ℕ × List ℕ))
+    → option_map (with_kept s.kept) (option_map (draft_turn (record s { kept = [] }) body) turn) ≡ option_map (draft_turn s body) turn
+turned_with s body None = refl
+turned_with s body (Some turn) = refl
 
 -- the draft in a peer's epoch
-pub says_turn : (k : Mechanism) (s head : State) (public text : List ℕ) (given : Option Key32) (seed : Key32) (d : SendDraft)
-    → s.phase ≡ in_peers public → head ≡ record s { kept = [] } → given ≡ Some seed
-    → option_map (draft_turn head text) (turn_of k public seed.bytes) ≡ Some d
+pub says_turn : (k : Mechanism) (s head : State) (public text : List ℕ) (given : Option Key32) (seed : Key32) (body : Body) (d : SendDraft)
+    → s.phase ≡ in_peers public → head ≡ record s { kept = [] } → given ≡ Some seed → body ≡ body_of s text
+    → option_map (draft_turn head body) (turn_of k public seed.bytes) ≡ Some d
     → draft_send k s text (seed_bytes given) ≡ Some (with_kept s.kept d)
 unfolding draft_send
-says_turn k s head public text given seed d held copy is made =
-    ap (draft_phase k s text (seed_bytes given)) held ∙ ap (λ x. draft_phase k s text (seed_bytes x) (in_peers public)) is
-    ∙ sym (turned_with s text (turn_of k public seed.bytes))
-    ∙ ap (λ x. option_map (with_kept s.kept) (option_map (draft_turn x text) (turn_of k public seed.bytes))) (sym copy)
+says_turn k s head public text given seed body d held copy is whole made =
+    let turn = turn_of k public seed.bytes in
+    ap (draft_phase k s (body_of s text) (seed_bytes given)) held
+    ∙ ap (λ x. draft_phase k s (body_of s text) (seed_bytes x) (in_peers public)) is
+    ∙ ap (λ x. option_map (draft_turn s x) turn) (sym whole)
+    ∙ sym (turned_with s body turn)
+    ∙ ap (λ x. option_map (with_kept s.kept) (option_map (draft_turn x body) turn)) (sym copy)
     ∙ ap (option_map (with_kept s.kept)) made
 
 -- if there is one
@@ -48,8 +54,9 @@ pub says_none : (k : Mechanism) (s : State) (public text : List ℕ) (given : Op
     → given ≡ Some seed → turn_of k public seed.bytes ≡ None → draft_send k s text (seed_bytes given) ≡ None
 unfolding draft_send
 says_none k s public text given seed held is none =
-    ap (draft_phase k s text (seed_bytes given)) held ∙ ap (λ x. draft_phase k s text (seed_bytes x) (in_peers public)) is
-    ∙ ap (option_map (draft_turn s text)) none
+    ap (draft_phase k s (body_of s text) (seed_bytes given)) held
+    ∙ ap (λ x. draft_phase k s (body_of s text) (seed_bytes x) (in_peers public)) is
+    ∙ ap (option_map (draft_turn s (body_of s text))) none
 
 -- what the holder of a turn and the stream after its first key keep
 pub lawful_holder : (k : Mechanism) (epoch : ℕ) (own : Own) (secret : List ℕ) (resumed stream : Stream) → own.secret ≡ secret → length secret ≡ k.secret

@@ -1,10 +1,12 @@
 -- What the types of the code stand for.
 use Rattle.std.specs.Prelude.{ℕ, Bool, true, false, List, [], Option, Some, None, Result, Ok, Err}
+use Rattle.bodies.specs.Bodies.{Body}
 use Rattle.dr_base.specs.declared.key.Kept.{Kept}
 use Rattle.dr_base.specs.declared.key.Key32.{Key32}
 use Rattle.dr_base.specs.declared.position.Position.{Position}
 use Rattle.packet.specs.Packet.{Fields}
 use Rattle.boxes.specs.Posts.{Post}
+use Rattle.session_model.specs.Awaiting.{still_waiting}
 use Rattle.session_model.specs.Taking.{ReceiveDraft}
 use Rattle.session_model.specs.Saying.{SendDraft}
 use Rattle.session_model.specs.Ways.{Way, position_of}
@@ -80,8 +82,9 @@ abbrev pub went_on : CodePhase → Key32 → ℕ → CodePhase
 went_on (InOwn own) chain sent = InOwn (record own { chain = chain; sent = sent })
 went_on (InPeers public) chain sent = InPeers public
 
--- the draft that the text of an opened packet and what is kept then make, or why there is none
-abbrev pub opened : {A : Type 0} → (A → List ℕ) → Result A ReceiveRefusal → Fields → State
-    → Result ReceiveDraft Refusal
-opened text (Ok lent) f next = Ok (received (position_of f) (text lent) next)
-opened text (Err e) f next = Err (receive_refusal e)
+-- the draft that an opened body and what is kept then make, or why there is none
+abbrev pub opened : Result Body ReceiveRefusal → Fields → State → Result ReceiveDraft Refusal
+opened (Ok body) f next =
+    Ok (received (position_of f) body.content
+    (record next { awaiting = still_waiting body.receipt next.awaiting }))
+opened (Err e) f next = Err (receive_refusal e)

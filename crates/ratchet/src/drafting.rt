@@ -1,6 +1,6 @@
 //! Drafts of texts that are said.
 
-ghost use Rattle.std.specs.Prelude.{◌≡◌, ◌+◌, ◌-◌, ◌^◌, ◌<◌, ◌≤◌, length, take, [], Some, None, Ok, is_some, option_map, IfOk, IfErr, OnErr, OnOk};
+ghost use Rattle.std.specs.Prelude.{◌≡◌, ◌+◌, ◌-◌, ◌^◌, ◌<◌, ◌≤◌, length, take, [], Some, None, Ok, is_some, option_map, IfOk, IfErr, IfSome, OnErr, OnOk};
 ghost use Rattle.cka.specs.Agreement.{turn_of};
 ghost use Rattle.boxes.specs.Posts.{post_under};
 ghost use Rattle.session_model.specs.Drafts.{IsSendDraft};
@@ -14,8 +14,9 @@ use crate::rooms::PacketRoom;
 use crate::sealing::seal_packet;
 use crate::sending::{NoPairFor, SendDraft};
 use crate::session::Session;
+use bodies::{Body, TEXT_KIND};
 use cka::{Caller, PublicText};
-use dr_base::{INDEX_LIMIT, Key32, LAST_EPOCH, PACKET_LIMIT, Position, TEXT_LIMIT};
+use dr_base::{INDEX_LIMIT, Key32, LAST_EPOCH, PACKET_LIMIT, Position, RECEIPT_LIMIT, TEXT_LIMIT};
 use fs_aead::SendStream;
 use kem_laws::{Kem, laws};
 use prf_prng::Root;
@@ -44,6 +45,11 @@ impl<K: Kem> Session<K> {
         ensures seed { IfErr result (λ e. seed ≡ Some e.seed) }
     {
         let part = &self.part;
+        let body = Body {
+            receipt: part.receipt(),
+            kind: TEXT_KIND,
+            content: text,
+        };
         let mut draft = SendDraft {
             position: Position { epoch: 0, index: 0 },
             packet: &[],
@@ -51,7 +57,7 @@ impl<K: Kem> Session<K> {
         };
         match &part.head.phase {
             Phase::Own(own) => {
-                let (position, len) = say_on(own, &mut draft.head, text, &mut room.bytes);
+                let (position, len) = say_on(own, &mut draft.head, &body, &mut room.bytes);
                 draft.position = position;
                 draft.packet = &room.bytes[..len];
                 Ok(draft)
@@ -59,7 +65,7 @@ impl<K: Kem> Session<K> {
             Phase::Peers(public) => {
                 // `send_check` asks for a seed here
                 let seed = seed.unwrap();
-                match say_first(public, &mut draft.head, work, text, seed, &mut room.bytes) {
+                match say_first(public, &mut draft.head, work, &body, seed, &mut room.bytes) {
                     Ok((position, len)) => {
                         draft.position = position;
                         draft.packet = &room.bytes[..len];
@@ -92,15 +98,16 @@ fn go_on(phase: &mut Phase, chain: Key32, sent: u32)
 fn say_on<K: Kem>(
     own: &Own,
     next: &mut Head<K>,
-    text: &[u8],
+    body: &Body<'_>,
     room: &mut [u8; PACKET_LIMIT],
 ) -> (Position, usize)
     requires held { phase_seen next.old.phase ≡ in_own (own_seen own.now) }
     requires lawful { IsLawfulState K.mechanism (seen next.old []) }
     requires few { own.now.sent < INDEX_LIMIT }
-    requires short { length text.now ≤ TEXT_LIMIT }
+    requires short { length body.now.content ≤ TEXT_LIMIT }
+    requires listed { IfSome body.now.receipt (λ r. length r.listed ≤ RECEIPT_LIMIT) }
     ensures draft { drafted (post_under result.0 (take result.1 room.new)) (seen next.new [])
-        ≡ draft_own (seen next.old []) (own_seen own.now) text.now }
+        ≡ draft_own (seen next.old []) (own_seen own.now) body.now }
     ensures lawful { IsLawfulState K.mechanism (seen next.new []) }
     ensures fits { result.1 ≤ PACKET_LIMIT }
 {
@@ -118,11 +125,12 @@ fn say_on<K: Kem>(
         previous,
         own.agreement.as_slice(),
         key,
-        text,
+        body,
         room,
     );
     let (chain, sent) = stream.rest();
     go_on(&mut next.phase, chain, sent);
+    next.awaiting.wait(position);
     (position, len)
 }
 
@@ -133,16 +141,17 @@ fn say_first<K: Kem>(
     public: &PublicText,
     next: &mut Head<K>,
     work: &mut K::Work,
-    text: &[u8],
+    body: &Body<'_>,
     seed: Key32,
     room: &mut [u8; PACKET_LIMIT],
 ) -> Result<(Position, usize), NoPairFor>
     requires held { phase_seen next.old.phase ≡ in_peers public.now.items }
     requires lawful { IsLawfulState K.mechanism (seen next.old []) }
     requires more { next.old.epoch < LAST_EPOCH }
-    requires short { length text.now ≤ TEXT_LIMIT }
+    requires short { length body.now.content ≤ TEXT_LIMIT }
+    requires listed { IfSome body.now.receipt (λ r. length r.listed ≤ RECEIPT_LIMIT) }
     ensures ok { IfOk result (λ said.
-        option_map (draft_turn (seen next.old []) text.now)
+        option_map (draft_turn (seen next.old []) body.now)
         (turn_of K.mechanism public.now.items seed.bytes)
         ≡ Some (drafted (post_under said.0 (take said.1 room.new)) (seen next.new []))) }
     ensures fits { IfOk result (λ said. said.1 ≤ PACKET_LIMIT) }
@@ -174,7 +183,7 @@ fn say_first<K: Kem>(
                 next.previous,
                 agreement.as_slice(),
                 key,
-                text,
+                body,
                 room,
             );
             let (chain, sent) = stream.rest();
@@ -186,6 +195,7 @@ fn say_first<K: Kem>(
                 chain,
                 sent,
             });
+            next.awaiting.wait(position);
             Ok((position, len))
         }
     }

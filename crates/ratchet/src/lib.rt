@@ -9,6 +9,9 @@
 //! along the stream of its epoch, by a key that was kept when its index was passed, or as the first
 //! one of the next epoch. No memory is allocated.
 //!
+//! A text that is said waits for a receipt. In the format `Receipts` each text takes one along, of
+//! the peer's texts that were opened; what an opened packet's receipt covers doesn't wait any more.
+//!
 //! Below, First opens what Second drafted. That it does, whatever was said and lost before, is the
 //! law `dr_model::sessions_agree`, which speaks of the states that a contract sees of the two
 //! sessions.

@@ -13,7 +13,7 @@ use crate::rooms::{Message, OpeningRoom, open};
 use crate::session::Session;
 use crate::table::{kept_in, settle};
 use crate::way::find_key;
-use bodies::open_body;
+use bodies::{Body, open_body};
 use dr_base::{Position, Side};
 use etm_aead::OpenKey;
 use fs_aead::Skipped;
@@ -113,15 +113,16 @@ impl<K: Kem> ReceiveDraft<'_, K> {
 }
 
 /// Opens the ciphertext of a packet in room for it, with the key that was found for the packet, if
-/// its tag is the one under that key. Answers the text, unless it is padded wrongly.
+/// its tag is the one under that key. Answers the body, if the opened bytes are one of the packet's
+/// version.
 fn open_text<'a>(
     key: OpenKey,
     view: &View<'_>,
     message: &'a mut Message,
-) -> Result<&'a [u8], ReceiveRefusal>
-    ensures exact { (next : State) → opened (λ text. text.now) result view.now next
+) -> Result<Body<'a>, ReceiveRefusal>
+    ensures exact { (next : State) → opened result view.now next
         ≡ opening_on view.now (on_way key next) }
-    ensures fits { IfOk result (λ text. length text.now ≤ TEXT_LIMIT) }
+    ensures fits { IfOk result (λ body. length body.content ≤ TEXT_LIMIT) }
 {
     match open(key, view.ad(), view.ciphertext(), view.tag(), message) {
         Err(_) => return Err(ReceiveRefusal::BadTag),
@@ -129,14 +130,15 @@ fn open_text<'a>(
     }
     let side = Side::of_epoch(view.epoch()).peer();
     match open_body(view.version(), side, message.as_slice()) {
-        Some(body) => Ok(body.content),
+        Some(body) => Ok(body),
         None => Err(ReceiveRefusal::BadPadding),
     }
 }
 
 impl<K: Kem> Session<K> {
     /// Drafts the taking of a packet, or answers why it is refused. The text stands in the room,
-    /// and so do the kept keys, where the packet changes them.
+    /// and so do the kept keys, where the packet changes them. What the packet's receipt covers
+    /// doesn't wait any more in the draft's head.
     // Inlined, the draft is built where the caller keeps it.
     #[inline(always)]
     #[tactic(auto, unfolding(session_model::specs::Taking::draft_receive))]
@@ -170,8 +172,9 @@ impl<K: Kem> Session<K> {
             }
         };
         match open_text(key, view, &mut room.message) {
-            Ok(text) => {
-                draft.text = text;
+            Ok(body) => {
+                draft.head.awaiting.obey(&body.receipt);
+                draft.text = body.content;
                 draft.table = room.kept.changed();
                 Ok(draft)
             }

@@ -1,7 +1,6 @@
-//! A text, sealed into its packet.
+//! A body, sealed into its packet.
 
 ghost use Rattle.std.specs.Prelude.{◌≡◌, ◌+◌, ◌^◌, ◌<◌, ◌≤◌, ◌++◌, length, take, drop};
-ghost use Rattle.bodies.specs.Bodies.{text_body};
 ghost use Rattle.boxes.specs.Posts.{post_under};
 ghost use Rattle.etm_aead.specs.Seal.{ciphertext_of, tag_of};
 ghost use Rattle.packet.specs.Packet.{IsLawful};
@@ -24,8 +23,8 @@ fn seal_from(key: SealKey, bytes: &mut [u8], at: usize) -> [u8; 32]
     key.seal(ad, sealed)
 }
 
-/// Prints the packet of a text that a session says into the front of its room, sealed in the form
-/// of a version with a message key, and answers the packet's length. The text is copied once, to its
+/// Prints the packet of a body that a session says into the front of its room, sealed in the form
+/// of a version with a message key, and answers the packet's length. The body is put once, at its
 /// place in the packet, and sealed there.
 #[tactic(auto, unfolding(session_model::specs::Sealing::posted))]
 pub fn seal_packet(
@@ -35,21 +34,20 @@ pub fn seal_packet(
     previous: u32,
     agreement: &[u8],
     key: SealKey,
-    text: &[u8],
+    body: &Body<'_>,
     room: &mut [u8; PACKET_LIMIT],
 ) -> usize
     requires agreement_fits { length agreement.now ≤ AGREEMENT_LIMIT }
-    requires short { length text.now ≤ TEXT_LIMIT }
+    requires short { length body.now.content ≤ TEXT_LIMIT }
     requires lawful { IsLawful (length agreement.now) (sealing version session.now position previous
-        agreement.now key (text_body text.now)) }
+        agreement.now key body.now) }
     ensures packet { post_under position (take result room.new) ≡ posted version session.now
-        position previous agreement.now key (text_body text.now) }
+        position previous agreement.now key body.now }
     ensures fits { result ≤ PACKET_LIMIT }
 {
-    let body = Body::text(text);
-    let len = sealed_len(version, &body);
-    let at_text = write_ad(version, session, position, previous, agreement, len, room);
-    let at_tag = put_sealed(version, room, at_text, &body);
-    let tag = seal_from(key, &mut room[..at_tag], at_text);
+    let len = sealed_len(version, body);
+    let at_body = write_ad(version, session, position, previous, agreement, len, room);
+    let at_tag = put_sealed(version, room, at_body, body);
+    let tag = seal_from(key, &mut room[..at_tag], at_body);
     put(room, at_tag, &tag)
 }

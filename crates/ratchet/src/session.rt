@@ -14,7 +14,7 @@ use dr_base::{
 };
 use fs_aead::Skipped;
 use kem_laws::{Kem, NoPair, laws};
-use session_model::{Head, LentPart, Own, Phase, Reception, SendRefusal, SessionPart};
+use session_model::{Awaiting, Head, LentPart, Own, Phase, Reception, SendRefusal, SessionPart};
 use std::marker::{Model, PhantomData};
 
 /// One side of a conversation. A contract sees its state.
@@ -87,6 +87,7 @@ impl<K: Kem> Session<K> {
                             phase,
                             previous: 0,
                             receiving,
+                            awaiting: Awaiting::new(),
                             mechanism: PhantomData,
                         },
                         kept: Skipped::new(),

@@ -116,7 +116,7 @@ fn run_on_disk(
 }
 
 /// How many bytes First's record has at the beginning.
-const LEN: usize = 1257;
+const LEN: usize = 1258;
 
 /// Writes bytes at a place. Answers whether it did.
 fn lays(disk: &mut MemoryDisk, at: u64, bytes: &[u8]) -> bool {
@@ -132,13 +132,13 @@ fn reads(disk: &mut MemoryDisk, into: &mut [u8]) -> bool {
 }
 
 /// Puts First's record, in page 2 under table 0, into version 1: the byte of its format, which is
-/// its third, goes, and its number changes.
+/// its third, and the last one, by which no text waits, go, and its number changes.
 fn age(disk: &mut MemoryDisk) -> bool {
     let mut text = [0; LEN];
     reads(disk, &mut text)
         && lays(disk, 8192, &[1])
-        && lays(disk, 8194, &text[3..])
-        && lays(disk, 9448, &[0])
+        && lays(disk, 8194, &text[3..LEN - 1])
+        && lays(disk, 9448, &[0, 0])
         && lays(disk, 2, &[0, 0, 4, 0xe8])
 }
 

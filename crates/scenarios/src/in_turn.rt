@@ -178,7 +178,7 @@ fn each_call_fails_in_turn(rt: HostRuntime) -> Result<(), Fail> {
     let alloc = rt.alloc();
     let mut network = Network::new(alloc, b"", b"")?;
     let key: &[u8] = b"0000000000000000000000000000000000000000000000000000000000000000\n";
-    let cases: [(&str, &str, &[u8]); 9] = [
+    let cases: [(&str, &str, &[u8]); 10] = [
         ("", "begin|first", key),
         (FIRST, "say|yes", b""),
         (FIRST, "take", PACKET),
@@ -186,6 +186,7 @@ fn each_call_fails_in_turn(rt: HostRuntime) -> Result<(), Fail> {
         (SAID, "sent|1", b""),
         (TAKEN, "inbox", b""),
         (SAID, "outbox", b""),
+        (SAID, "awaiting", b""),
         (FIRST, "state", b""),
         (FIRST, "check", b""),
     ];

@@ -13,7 +13,7 @@ use Rattle.dr_base.specs.declared.position.Position.{Position}
 use Rattle.dr_base.specs.declared.position.Side.{Side}
 use Rattle.dr_base.specs.declared.position.Side.TheVariants.{First, Second}
 use Rattle.session_model.specs.declared.answer.Items.TheVariants.{Packets, Texts}
-use Rattle.dr_model.specs.Machines.Events.{Event, PacketSource, SideCall, cuts, does, drops, of_bytes, of_flip, of_number, of_position, says, seeds, shows_inbox, shows_state, takes}
+use Rattle.dr_model.specs.Machines.Events.{Event, PacketSource, SideCall, cuts, does, drops, of_bytes, of_flip, of_number, of_position, says, seeds, shows_awaiting, shows_inbox, shows_state, takes}
 use Rattle.scripts.specs.Number.{script_number_read}
 use Rattle.scripts.specs.Printed.{IsNumbered, IsSayableCall, IsSayableEvent, IsSayableSource, call_text, event_text, source_text}
 use Rattle.answer_lines.specs.Answers.{drop_word, position_text}
@@ -129,6 +129,10 @@ inbox_back : (side : Side) → side_words side (codes "inbox") ≡ Some (shows_i
 unfolding after_prefix side_words called_words drop_words drop_word say_words take_words flip_words bytes_words look_words
 inbox_back side = refl
 
+awaiting_back : (side : Side) → side_words side (codes "awaiting") ≡ Some (shows_awaiting side)
+unfolding after_prefix side_words called_words drop_words drop_word say_words take_words flip_words bytes_words look_words
+awaiting_back side = refl
+
 state_back : (side : Side) → side_words side (codes "state") ≡ Some (shows_state side)
 unfolding after_prefix side_words called_words drop_words drop_word say_words take_words flip_words bytes_words look_words
 state_back side = refl
@@ -140,5 +144,6 @@ event_back (seeds seed) h =
     (ap result_ok (decode_sized-encode_lower seed 32 h.0 h.1))
 event_back (does side call) h = of_side side _ _ (call_side_back side call h)
 event_back (shows_inbox side) h = of_side side _ _ (inbox_back side)
+event_back (shows_awaiting side) h = of_side side _ _ (awaiting_back side)
 event_back (shows_state side) h = of_side side _ _ (state_back side)
 event_back (cuts took event) h = absurd h

@@ -6,7 +6,7 @@ use Rattle.std.specs.Result.{result_ok}
 use Rattle.hex.specs.Hex.{decode_sized}
 use Rattle.hex.proofs.HexLemmas.{decode_of-ok, decode_sized-ok, decode_sized-twice}
 use Rattle.dr_base.specs.declared.position.Side.{Side}
-use Rattle.dr_model.specs.Machines.Events.{Event, does, seeds, shows_inbox, shows_state}
+use Rattle.dr_model.specs.Machines.Events.{Event, does, seeds, shows_awaiting, shows_inbox, shows_state}
 use Rattle.scripts.specs.Words.{after_prefix, called_words, is_text, look_words, plain_read, seed_read, side_named, side_words, sided}
 use Rattle.dr_model.specs.Theorems.Fairness.{IsSeedWhole}
 
@@ -51,8 +51,11 @@ found (Some digits) = decoded digits (decode_sized digits 32) refl
 whole_look : (side : Side) (words : List ℕ) → IfSome (look_words side words) IsSeedWhole
 unfolding look_words
 whole_look side words =
-    whole_if (is_text (codes "inbox") words) (Some (shows_inbox side)) (if is_text (codes "state") words then Some (shows_state side) else None) tt
-    (whole_if (is_text (codes "state") words) (Some (shows_state side)) None tt tt)
+    let state = if is_text (codes "state") words then Some (shows_state side) else None in
+    whole_if (is_text (codes "inbox") words) (Some (shows_inbox side))
+    (if is_text (codes "awaiting") words then Some (shows_awaiting side) else state) tt
+    (whole_if (is_text (codes "awaiting") words) (Some (shows_awaiting side)) state tt
+    (whole_if (is_text (codes "state") words) (Some (shows_state side)) None tt tt))
 
 pub whole_words : (side : Side) (words : List ℕ) → IfSome (side_words side words) IsSeedWhole
 unfolding side_words

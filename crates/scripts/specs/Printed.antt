@@ -6,7 +6,7 @@ use Rattle.dr_disk.specs.declared.call.Mode.{Mode}
 use Rattle.dr_disk.specs.declared.call.Mode.TheVariants.{Fill, New, Old}
 use Rattle.session_model.specs.declared.answer.Amount.{Amount}
 use Rattle.session_model.specs.declared.answer.Amount.TheVariants.{All, Exactly}
-use Rattle.dr_model.specs.Machines.Events.{Event, PacketSource, SideCall, cuts, does, drops, of_bytes, of_flip, of_number, of_position, says, seeds, shows_inbox, shows_state, takes}
+use Rattle.dr_model.specs.Machines.Events.{Event, PacketSource, SideCall, cuts, does, drops, of_bytes, of_flip, of_number, of_position, says, seeds, shows_awaiting, shows_inbox, shows_state, takes}
 use Rattle.answer_lines.specs.Answers.{drop_word, position_text}
 use Rattle.scripts.specs.Deeds.{Deed, acts, fails, reopens, stops, syncs}
 use Rattle.scripts.specs.Sides.{side_text}
@@ -36,6 +36,7 @@ unfoldable pub event_text : Event → List ℕ
 event_text (seeds seed) = codes "seed " ++ encode_lower seed
 event_text (does side call) = side_text side ++ call_text call
 event_text (shows_inbox side) = side_text side ++ codes "inbox"
+event_text (shows_awaiting side) = side_text side ++ codes "awaiting"
 event_text (shows_state side) = side_text side ++ codes "state"
 event_text (cuts took event) = []
 
@@ -93,6 +94,7 @@ abbrev pub IsSayableEvent : Event → Type 0
 IsSayableEvent (seeds seed) = (length seed ≡ 32) × IsBytes seed
 IsSayableEvent (does side call) = IsSayableCall call
 IsSayableEvent (shows_inbox side) = ⊤
+IsSayableEvent (shows_awaiting side) = ⊤
 IsSayableEvent (shows_state side) = ⊤
 IsSayableEvent (cuts took event) = ⊥
 

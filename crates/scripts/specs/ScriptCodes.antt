@@ -1,9 +1,9 @@
 -- How a script is stored, so that a type of code may stand for it.
-use Rattle.std.specs.Prelude.{Bool, List, Option, false, refl, true, ℕ, ◌≡◌, ◌⊎◌}
+use Rattle.std.specs.Prelude.{Bool, List, None, Option, Some, false, refl, true, ℕ, ◌≡◌, ◌⊎◌}
 use Rattle.std.proofs.Common.{inl, inr}
 use Rattle.std.specs.Coded.{Coded, code_by, coded_bool, coded_list, coded_option, coded_ℕ, coded×, coded⊎}
 use Rattle.bodies.specs.declared.format.Format.{Format}
-use Rattle.bodies.specs.declared.format.Format.TheVariants.{Padded, Plain}
+use Rattle.bodies.specs.declared.format.Format.TheVariants.{Padded, Plain, Receipts}
 use Rattle.dr_base.specs.declared.position.Side.{Side}
 use Rattle.dr_disk.specs.declared.call.Mode.{Mode}
 use Rattle.dr_disk.specs.declared.call.Mode.TheVariants.{Fill, New, Old}
@@ -88,20 +88,24 @@ same_kem Sntrup761 = refl
 abbrev pub kem_code : Coded KemName
 kem_code = code_by Bool coded_bool is_open kem_by same_kem
 
-abbrev is_padded : Format → Bool
-is_padded Plain = false
-is_padded Padded = true
+-- none where it is plain, else whether there are receipts
+abbrev has_receipts : Format → Option Bool
+has_receipts Plain = None
+has_receipts Padded = Some false
+has_receipts Receipts = Some true
 
-abbrev format_by : Bool → Format
-format_by false = Plain
-format_by true = Padded
+abbrev format_by : Option Bool → Format
+format_by None = Plain
+format_by (Some false) = Padded
+format_by (Some true) = Receipts
 
-pub same_format : (format : Format) → format_by (is_padded format) ≡ format
+pub same_format : (format : Format) → format_by (has_receipts format) ≡ format
 same_format Plain = refl
 same_format Padded = refl
+same_format Receipts = refl
 
 abbrev pub coded_format : Coded Format
-coded_format = code_by Bool coded_bool is_padded format_by same_format
+coded_format = code_by (Option Bool) (coded_option coded_bool) has_receipts format_by same_format
 
 abbrev pub formats_code : Coded Formats
 formats_code =

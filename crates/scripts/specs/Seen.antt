@@ -3,7 +3,7 @@ use Rattle.std.specs.Prelude.{ℕ, List, [], Option, Some, None}
 use Rattle.std.specs.Borrow.{Bor}
 use Rattle.dr_base.specs.declared.position.Side.{Side}
 use Rattle.session_model.specs.declared.answer.Amount.{Amount}
-use Rattle.dr_model.specs.Machines.Events.{Event, PacketSource, SideCall, does, drops, of_bytes, of_flip, of_number, of_position, says, seeds, shows_inbox, shows_state, takes}
+use Rattle.dr_model.specs.Machines.Events.{Event, PacketSource, SideCall, does, drops, of_bytes, of_flip, of_number, of_position, says, seeds, shows_awaiting, shows_inbox, shows_state, takes}
 use Rattle.scripts.specs.Heads.{Headed}
 use Rattle.scripts.specs.Script.{lines_of}
 use Rattle.scripts.specs.Words.{hex_read}
@@ -13,7 +13,7 @@ use Rattle.scripts.specs.declared.call.Source.{Source}
 use Rattle.scripts.specs.declared.call.Source.TheVariants.{At, Nth, Flipped, Bytes}
 use Rattle.scripts.specs.declared.head.Head.{Head}
 use Rattle.scripts.specs.declared.line.Line.{Line}
-use Rattle.scripts.specs.declared.line.Line.TheVariants.{Seed, Does, Inbox, State}
+use Rattle.scripts.specs.declared.line.Line.TheVariants.{Seed, Does, Inbox, Awaiting, State}
 
 -- bytes that were written in hex, none where the digits aren't such
 abbrev pub or_empty : Option (List ℕ) → List ℕ
@@ -48,6 +48,7 @@ abbrev pub event_of : Line → Event
 event_of (Seed seed) = seeds seed
 event_of (Does side call) = call_event side call
 event_of (Inbox side) = shows_inbox side
+event_of (Awaiting side) = shows_awaiting side
 event_of (State side) = shows_state side
 
 -- the lines before the deeds

@@ -2,7 +2,7 @@
 use Rattle.std.specs.Prelude.{ℕ, List, codes}
 use Rattle.dr_base.specs.declared.position.Side.{Side}
 use Rattle.dr_base.specs.declared.position.Side.TheVariants.{First, Second}
-use Rattle.dr_model.specs.Machines.Events.{Event, cuts, does, seeds, shows_inbox, shows_state}
+use Rattle.dr_model.specs.Machines.Events.{Event, cuts, does, seeds, shows_awaiting, shows_inbox, shows_state}
 use Rattle.scripts.specs.Deeds.{Deed, acts, fails, reopens, stops, syncs}
 
 -- a side
@@ -15,6 +15,7 @@ abbrev pub acting_side : Event → Side
 acting_side (seeds seed) = First
 acting_side (does side call) = side
 acting_side (shows_inbox side) = side
+acting_side (shows_awaiting side) = side
 acting_side (shows_state side) = side
 acting_side (cuts took event) = acting_side event
 

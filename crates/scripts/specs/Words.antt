@@ -14,7 +14,7 @@ use Rattle.session_model.specs.declared.answer.Amount.{Amount}
 use Rattle.session_model.specs.declared.answer.Amount.TheVariants.{All, Exactly}
 use Rattle.session_model.specs.declared.answer.Items.{Items}
 use Rattle.session_model.specs.declared.answer.Items.TheVariants.{Packets, Texts}
-use Rattle.dr_model.specs.Machines.Events.{Event, PacketSource, SideCall, does, drops, of_bytes, of_flip, of_number, of_position, says, seeds, shows_inbox, shows_state, takes}
+use Rattle.dr_model.specs.Machines.Events.{Event, PacketSource, SideCall, does, drops, of_bytes, of_flip, of_number, of_position, says, seeds, shows_awaiting, shows_inbox, shows_state, takes}
 use Rattle.answer_lines.specs.Answers.{drop_word}
 use Rattle.scripts.specs.Deeds.{Deed, acts, fails, reopens, stops, syncs}
 use Rattle.scripts.specs.Number.{script_number_read}
@@ -104,11 +104,12 @@ called_words words =
     option_or (say_words words) (option_or (option_map takes (source_words words))
     (option_or (drop_words Packets words) (drop_words Texts words)))
 
--- `inbox` or `state`
+-- `inbox`, `awaiting` or `state`
 unfoldable pub look_words : Side → List ℕ → Option Event
 look_words side words =
     if is_text (codes "inbox") words then Some (shows_inbox side)
-    else (if is_text (codes "state") words then Some (shows_state side) else None)
+    else (if is_text (codes "awaiting") words then Some (shows_awaiting side)
+    else (if is_text (codes "state") words then Some (shows_state side) else None))
 
 -- what stands after a side: a call, or a look at it
 unfoldable pub side_words : Side → List ℕ → Option Event

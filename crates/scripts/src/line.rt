@@ -21,6 +21,8 @@ pub enum Line<'a> {
     Does(Side, LineCall<'a>),
     /// A side shows its inbox.
     Inbox(Side),
+    /// A side shows which of its own texts wait for a receipt.
+    Awaiting(Side),
     /// A side shows what it holds, in numbers.
     State(Side),
 }
@@ -48,6 +50,7 @@ impl<'a> Line<'a> {
             Line::Seed(_) => Side::First,
             Line::Does(side, _) => *side,
             Line::Inbox(side) => *side,
+            Line::Awaiting(side) => *side,
             Line::State(side) => *side,
         }
     }

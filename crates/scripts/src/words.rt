@@ -138,13 +138,16 @@ pub fn parse_called(words: &[u8]) -> Option<LineCall<'_>>
     parse_drop(Items::Texts, words)
 }
 
-/// Reads `inbox` or `state`.
+/// Reads `inbox`, `awaiting` or `state`.
 #[tactic(auto, unfolding(crate::specs::Words::look_words))]
 pub fn parse_look(side: Side, words: &[u8]) -> Option<Line<'_>>
     ensures { option_map event_of result ≡ look_words side words.entry.now }
 {
     if words == b"inbox".as_slice() {
         return Some(Line::Inbox(side));
+    }
+    if words == b"awaiting".as_slice() {
+        return Some(Line::Awaiting(side));
     }
     if words == b"state".as_slice() {
         return Some(Line::State(side));

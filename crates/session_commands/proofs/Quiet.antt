@@ -102,7 +102,7 @@ take_came : {X : Type 0} (state : X → DiskState) (k : Mechanism) (from to : So
     → code_of ending ≡ 0 → IsQuiet (state start) (state now) × (to.faults ≡ from.faults)
 take_came state k from to start now ending lines (had_no_packet e none same) zero =
     absurd (input_code _ _ _ _ _ e refl none zero)
-take_came state k from to start now ending lines (had_packet packet e l input runs) zero = (
+take_came state k from to start now ending lines (had_packet packet e l input runs truly) zero = (
   acted_quiet state k _ start now (IsQuiet (state start) (state now)) (λ kept act asks quiet. quiet) e l runs.acted zero,
   input.quiet,
 )

@@ -1,7 +1,7 @@
 -- The lines that commands show.
 use Rattle.std.specs.Prelude.{List, [], codes, decimal, flat_map, length, ℕ, ◌++◌}
 use Rattle.answer_lines.specs.Answers.{position_text}
-use Rattle.answer_lines.specs.Texts.{text_line}
+use Rattle.answer_lines.specs.Texts.{place_line, text_line}
 use Rattle.boxes.specs.Posts.{Post}
 use Rattle.dr_base.specs.declared.position.Side.{Side}
 use Rattle.dr_base.specs.declared.position.Side.TheVariants.{First, Second}
@@ -44,3 +44,9 @@ inbox_lines kept = flat_map (text_line []) kept.inbox
 
 abbrev pub outbox_lines : Client → List ℕ
 outbox_lines kept = flat_map packet_line kept.outbox
+
+-- how many own texts wait for a receipt, and where they stand
+abbrev pub awaiting_lines : Client → List ℕ
+awaiting_lines kept =
+    count_line (codes "awaiting ") (length kept.state.awaiting)
+    ++ flat_map (place_line []) kept.state.awaiting

@@ -1,7 +1,16 @@
 -- A command as a whole: how it ended, its lines, what was written of them, and how it counts the
 -- calls that fail.
-use Rattle.std.specs.Prelude.{List, [], ℕ, ◌≡◌, ◌≤◌}
+use Rattle.std.specs.Prelude.{List, [], true, ℕ, ◌≡◌, ◌≤◌}
+use Rattle.dr_base.specs.Position.{peer_of}
+use Rattle.dr_base.specs.declared.position.Position.{Position}
+use Rattle.dr_base.specs.declared.position.Side.{Side}
 use Rattle.dr_disk.specs.State.{DiskState}
+use Rattle.dr_model.specs.Conversations.Views.{has_opened}
+use Rattle.dr_model.specs.Machines.Acts.{taking}
+use Rattle.dr_model.specs.Machines.WorldActs.{act_in}
+use Rattle.dr_model.specs.Machines.Worlds.{World, view_of}
+use Rattle.dr_model.specs.Theorems.LawfulWorlds.{IsLawfulWorld}
+use Rattle.dr_model.specs.Theorems.Receipts.{EndsWaiting}
 use Rattle.dr_ports.specs.States.{SinkState, SourceState}
 use Rattle.endings.specs.Ends.{Ends}
 use Rattle.endings.specs.declared.ending.Ending.{Ending}
@@ -26,6 +35,12 @@ pub record RunsAndCounts (comes : Ending → List ℕ → Type 0) (others : Type
   pub quiet : code ≡ 0 → others × (new.faults ≡ old.faults)
   pub later : old.faults ≤ new.faults
 
+-- In each lawful world: an own text of a side whose waiting a packet ends was opened by the other side.
+abbrev pub EndsTruly : Mechanism → List ℕ → Type 0
+EndsTruly k packet = (w : World) (side : Side) (p : Position) → IsLawfulWorld k w
+    → EndsWaiting w (act_in k w side (taking packet)).next side p
+    → has_opened (view_of w (peer_of side)) p ≡ true
+
 -- Taking: the source holds no packet, and the disk is left alone; or the client takes it.
 pub data RunsTake {X : Type 0} (state : X → DiskState) (k : Mechanism) (from to : SourceState)
     (start now : X)
@@ -36,4 +51,5 @@ pub data RunsTake {X : Type 0} (state : X → DiskState) (k : Mechanism) (from t
   had_packet : (packet : List ℕ) (ending : Ending) (lines : List ℕ)
       → IsInput PACKET_TEXT_LIMIT packet_in_hex from to packet
       → RunsAct state k (asked_take k packet) start now ending lines
+      → EndsTruly k packet
       → RunsTake state k from to start now ending lines

@@ -1,5 +1,5 @@
 //! The work of the commands on a session, on a source, a sink, a disk, a link and draws: begin,
-//! say, take, inbox, done, sent, outbox, state, check and sync.
+//! say, take, inbox, done, sent, outbox, awaiting, state, check and sync.
 //!
 //! Each command but `begin` opens the client that the disk holds, lets it act at most once, sync,
 //! or shows what it keeps, writes its lines and answers its status. `take` and `begin` read the
@@ -16,6 +16,7 @@ pub use saying::say;
 pub use showing::{inbox, outbox, state};
 pub use syncing::sync;
 pub use taking::take;
+pub use waiting::awaiting;
 pub use whole_runs::{runs_are_linked, talk};
 
 mod beginning;
@@ -31,4 +32,5 @@ mod saying;
 mod showing;
 mod syncing;
 mod taking;
+mod waiting;
 mod whole_runs;

@@ -3,3 +3,4 @@ pub mod LawfulKept
 pub mod Opened
 pub mod Passing
 pub mod Sealed
+pub mod Waiting

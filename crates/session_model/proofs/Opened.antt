@@ -5,13 +5,18 @@ use Rattle.bodies.specs.Bodies.{Body, opened_body}
 use Rattle.dr_base.specs.Position.{peer_of, side_of}
 use Rattle.etm_aead.specs.Seal.{ciphertext_of, tag_of}
 use Rattle.packet.specs.Packet.{Fields, ad_of}
+use Rattle.session_model.specs.Awaiting.{still_waiting}
 use Rattle.session_model.specs.Taking.{ReceiveDraft, opened_as, opening_on}
 use Rattle.session_model.specs.Ways.{Way, position_of}
 use Rattle.session_model.specs.declared.answer.Refusal.TheVariants.{BadTag}
 use Rattle.session_model.proofs.Passing.{lets}
 
 abbrev draft_with : Fields → Way → Body → ReceiveDraft
-draft_with f way body = record { position = position_of f; text = body.content; next = way.next }
+draft_with f way body = record {
+  position = position_of f;
+  text = body.content;
+  next = record way.next { awaiting = still_waiting body.receipt way.next.awaiting };
+}
 
 -- its bytes are a body, whose text the draft has
 pub record IsOpened (f : Fields) (way : Way) (draft : ReceiveDraft) : Type 0 where

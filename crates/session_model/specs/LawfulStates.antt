@@ -8,6 +8,7 @@ use Rattle.dr_base.specs.declared.position.Side.{Side}
 use Rattle.fs_aead.specs.Table.{AllBefore, IsAscending}
 use Rattle.kem_laws.specs.Mechanism.{IsLawful, Mechanism}
 use Rattle.packet.specs.Packet.{agreement_len}
+use Rattle.session_model.specs.Awaiting.{AreWaiting}
 use Rattle.session_model.specs.States.{Own, Phase, Reception, State, in_own, in_peers, receiving_epoch}
 
 -- in an own epoch the secret is one of the mechanism's, and the agreement message is as long as the epoch asks
@@ -52,3 +53,4 @@ pub record IsLawfulState (k : Mechanism) (s : State) : Type 0 where
   pub kept : IsAscending s.kept
   pub each : All (IsLawfulKept s.side) s.kept
   pub few : length s.kept ≤ KEPT_LIMIT
+  pub waiting : AreWaiting s.side s.epoch s.phase s.awaiting

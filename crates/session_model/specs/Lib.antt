@@ -2,6 +2,7 @@ pub mod Schedule
 pub mod Turns
 pub mod Sealing
 pub mod States
+pub mod Awaiting
 pub mod LawfulStates
 pub mod Saying
 pub mod Ways

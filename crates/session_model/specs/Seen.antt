@@ -30,4 +30,5 @@ seen head kept = record {
   previous = head.previous;
   receiving = option_map reception_seen head.receiving;
   kept = kept;
+  awaiting = head.awaiting;
 }

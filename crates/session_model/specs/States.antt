@@ -3,6 +3,7 @@ use Rattle.std.specs.Prelude.{List, None, Option, Some, [], if◌then◌else◌,
 use Rattle.bodies.specs.declared.format.Format.{Format}
 use Rattle.dr_base.specs.Position.{is_own}
 use Rattle.dr_base.specs.declared.key.Kept.{Kept}
+use Rattle.dr_base.specs.declared.position.Position.{Position}
 use Rattle.dr_base.specs.declared.position.Side.{Side}
 use Rattle.dr_base.specs.declared.position.Side.TheVariants.{First, Second}
 use Rattle.kem_laws.specs.Mechanism.{Mechanism}
@@ -42,6 +43,8 @@ pub record State : Type 0 where
   pub receiving : Option Reception
   -- the keys that were passed, in ascending order of their positions
   pub kept : List Kept
+  -- the own texts that wait for a receipt, in the order that they were said
+  pub awaiting : List Position
 
 -- the latest peer's epoch
 abbrev pub receiving_epoch : Side → ℕ → Option ℕ
@@ -68,4 +71,5 @@ opening_state k key side format = record {
   previous = 0;
   receiving = opening_reception key side;
   kept = [];
+  awaiting = [];
 }

@@ -7,6 +7,7 @@ use Rattle.dr_base.specs.declared.position.Position.{Position}
 use Rattle.etm_aead.specs.Seal.{ciphertext_of, tag_of}
 use Rattle.kem_laws.specs.Mechanism.{Mechanism}
 use Rattle.packet.specs.Packet.{Fields, ad_of}
+use Rattle.session_model.specs.Awaiting.{still_waiting}
 use Rattle.session_model.specs.States.{State}
 use Rattle.session_model.specs.Ways.{Way, position_of, way_of}
 use Rattle.session_model.specs.declared.answer.Refusal.{Refusal}
@@ -18,10 +19,15 @@ pub record ReceiveDraft : Type 0 where
   pub text : List ℕ
   pub next : State
 
--- what the opened bytes of a packet are, on the way to its key: a body, unless their padding is wrong
+-- what the opened bytes of a packet are, on the way to its key: a body, whose receipt is obeyed, unless they are none of
+-- its version
 abbrev pub opened_as : Fields → Way → Option Body → Result ReceiveDraft Refusal
 opened_as f way None = Err BadPadding
-opened_as f way (Some body) = Ok (record { position = position_of f; text = body.content; next = way.next })
+opened_as f way (Some body) = Ok (record {
+  position = position_of f;
+  text = body.content;
+  next = record way.next { awaiting = still_waiting body.receipt way.next.awaiting };
+})
 
 -- on the way to a packet's key: whether its tag is the one under that key, and then what its bytes are to whoever opens
 -- it, the other party of the one whose epoch it is

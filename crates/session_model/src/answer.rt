@@ -14,6 +14,8 @@ pub enum Answer {
     Dropped(Items, u32),
     /// This many texts stand in the inbox.
     Inbox(u32),
+    /// This many of its own texts wait for a receipt.
+    Awaiting(u32),
     /// What a side holds.
     State(Summary),
     /// The next draw is a given seed; this has no line.
@@ -78,7 +80,7 @@ pub enum Refusal {
     SkipLimit(u32),
     /// The packet's tag differs from the one under its key.
     BadTag,
-    /// The tag is right, but what the packet seals is no text that was padded.
+    /// The tag is right, but what the packet seals is no lawful body of its version.
     BadPadding,
     /// The inbox is full.
     InboxFull,

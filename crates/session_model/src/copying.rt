@@ -5,6 +5,7 @@ ghost use Rattle.std.specs.Prelude.{◌≡◌, ◌≤◌, [], length};
 ghost use Rattle.session_model.specs.Seen.{own_seen, phase_seen, seen};
 ghost use Rattle.session_model.specs.States.{in_own, in_peers};
 
+use crate::awaiting::Awaiting;
 use crate::part::{Head, Own, Phase, Reception, copy_of_key};
 use arrayvec::ArrayVec;
 use cka::{Agreement, PublicText, SecretText};
@@ -110,6 +111,7 @@ impl<K: Kem> Head<K> {
         self.phase.copy_from(&from.phase);
         self.previous = from.previous;
         self.receiving = copy_of_reception(&from.receiving);
+        self.awaiting.copy_from(&from.awaiting);
     }
 
     /// A second copy. Inlined, it is made where it stays.
@@ -119,6 +121,8 @@ impl<K: Kem> Head<K> {
     {
         let mut phase = Phase::Peers(PublicText::new());
         phase.copy_from(&self.phase);
+        let mut awaiting = Awaiting::new();
+        awaiting.copy_from(&self.awaiting);
         Head {
             side: self.side,
             format: self.format,
@@ -128,6 +132,7 @@ impl<K: Kem> Head<K> {
             phase,
             previous: self.previous,
             receiving: copy_of_reception(&self.receiving),
+            awaiting,
             mechanism: PhantomData,
         }
     }

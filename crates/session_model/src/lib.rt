@@ -1,14 +1,17 @@
 //! One side of a conversation as plain values: what a session keeps, what it answers to a text or a
 //! packet, and its boxes. The definitions stand in specs/. The code's share is what a session keeps
-//! (`SessionPart` and its parts), the copying of its head in place, and the enums of answers and
-//! refusals.
+//! (`SessionPart` and its parts, among them the texts that wait for a receipt), the receipt that it
+//! sends, the copying of its head in place, and the enums of answers and refusals.
 #![tactic(auto)]
 
 pub use answer::{Amount, Answer, Items, Refusal, Summary};
+pub use awaiting::Awaiting;
 pub use part::{Head, LentPart, Own, Phase, Reception, SessionPart, copy_of_key};
 pub use refusals::{ReceiveRefusal, SendRefusal};
 
 mod answer;
+mod awaiting;
 mod copying;
 mod part;
+mod receipts;
 mod refusals;

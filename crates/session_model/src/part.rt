@@ -2,6 +2,7 @@
 
 ghost use Rattle.std.specs.Prelude.{◌≡◌};
 
+use crate::awaiting::Awaiting;
 use bodies::Format;
 use cka::{Agreement, PublicText, SecretText};
 use dr_base::{Key32, Side};
@@ -51,6 +52,8 @@ pub struct Head<K: Kem> {
     pub previous: u32,
     /// None before the first peer's epoch.
     pub receiving: Option<Reception>,
+    /// The own texts that wait for a receipt.
+    pub awaiting: Awaiting,
     pub mechanism: PhantomData<K>,
 }
 

@@ -43,8 +43,8 @@ pub enum ReceiveRefusal {
     /// The packet's tag differs from the one under its key.
     #[error("the packet's tag is wrong")]
     BadTag,
-    /// The tag is right, but what the packet seals is no text that was padded.
-    #[error("the packet seals no padded text")]
+    /// The tag is right, but what the packet seals is no lawful body of its version.
+    #[error("the packet seals no body of its version")]
     BadPadding,
 }
 

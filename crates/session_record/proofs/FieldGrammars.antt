@@ -1,10 +1,10 @@
 -- The grammars of the fields before the lists.
-use Rattle.std.proofs.Common.{◌≡◌, ℕ, ◌^◌, ◌<◌, Bool, true, false, List, length, Option, Some, None, refl, sym, arith, inl, inr, if◌then◌else◌}
+use Rattle.std.proofs.Common.{◌≡◌, ℕ, ◌^◌, ◌<◌, ◌==◌, Bool, true, false, List, length, Option, Some, None, refl, sym, ap, ◌∙◌, arith, inl, inr, if◌then◌else◌}
 use Rattle.std.specs.Prelude.{◌⊎◌}
 use Rattle.std.specs.Int.{w8, w32, to_be_bytes}
 use Rattle.std.proofs.lemmas.Bool.Decides.{nat_tests}
 use Rattle.bodies.specs.declared.format.Format.{Format}
-use Rattle.bodies.specs.declared.format.Format.TheVariants.{Padded, Plain}
+use Rattle.bodies.specs.declared.format.Format.TheVariants.{Padded, Plain, Receipts}
 use Rattle.dr_base.specs.declared.position.Side.{Side}
 use Rattle.dr_base.specs.declared.position.Side.TheVariants.{First, Second}
 use Rattle.packet.specs.Packet.{agreement_len}
@@ -24,7 +24,7 @@ use Rattle.session_record.specs.Fields.{up_to, version_field, is_side, side_at, 
 use Rattle.session_record.specs.Versions.{IsFormatOf, has_format, is_version, version_at, version_code}
 use Rattle.session_record.specs.declared.versions.Version.{Version}
 use Rattle.session_record.proofs.Passing.{PassesOwn, PassesPhase, PassesReception}
-use Rattle.session_record.proofs.VersionLimits.{code_fits, code_is_version, version_lawful, version_of_code}
+use Rattle.session_record.proofs.VersionLimits.{code_fits, code_is_version, version_lawful, version_of_code, with-format}
 
 -- a number that passes a test which only numbers of its width pass
 pub small_number : (test : ℕ → Bool) → ((n : ℕ) → test n ≡ true → n < 2 ^ 32) → IsGrammar (to_be_bytes w32) (λ n. test n ≡ true) (checked test (number w32))
@@ -56,36 +56,56 @@ side_grammar =
     mapped_grammar (to_be_bytes w8) _ _ (checked_grammar _ _ _ (number_grammar w8 (2 ^ 8) exact8) is_side) (λ side. Unit {0}) side_at code_of
     (λ n lawful. (tt, side_lawful n lawful.1)) (λ side lawful. code_lawful side)
 
-format_lawful : (n : ℕ) → is_format n ≡ true → format_code (format_at n) ≡ n
-format_lawful n lawful = grind (arith, nat_tests)
+format_lawful : (version : Version) (n : ℕ) → is_format version n ≡ true → format_code (format_at n) ≡ n
+format_lawful version n lawful = by_tests (n == 1) (n == 2) (n == 3) refl refl refl
+  where
+    by_tests : (one two three : Bool) → (n == 1) ≡ one → (n == 2) ≡ two → (n == 3) ≡ three
+        → format_code (if one then Plain else if two then Padded else Receipts) ≡ n
+    by_tests true two three is next last = grind (arith, nat_tests)
+    by_tests false true three is next last = grind (arith, nat_tests)
+    by_tests false false true is next last = grind (arith, nat_tests)
+    by_tests false false false is next last =
+        absurd (let e : false ≡ true = rw (is, next, last) at lawful in cc)
 
-byte_lawful : (format : Format) → ((format_code format < 2 ^ 8) × (is_format (format_code format) ≡ true)) × (format_at (format_code format) ≡ format)
-byte_lawful Plain = ((omega arith, refl), refl)
-byte_lawful Padded = ((omega arith, refl), refl)
+byte_lawful : (format : Format) → (format_code format < 2 ^ 8) × (format_at (format_code format) ≡ format)
+byte_lawful Plain = (omega arith, refl)
+byte_lawful Padded = (omega arith, refl)
+byte_lawful Receipts = (omega arith, refl)
 
-byte_grammar : IsGrammar (λ format. to_be_bytes w8 (format_code format)) (λ format. Unit {0}) format_byte
+-- a format whose byte the version allows
+abbrev IsByteOf : Version → Format → Type 0
+IsByteOf version format = is_format version (format_code format) ≡ true
+
+byte_grammar : (version : Version) → IsGrammar (λ format. to_be_bytes w8 (format_code format)) (IsByteOf version) (format_byte version)
 unfolding format_byte
-byte_grammar =
-    mapped_grammar (to_be_bytes w8) _ _ (checked_grammar _ _ _ (number_grammar w8 (2 ^ 8) exact8) is_format) (λ format. Unit {0}) format_at format_code
-    (λ n lawful. (tt, format_lawful n lawful.1)) (λ format lawful. byte_lawful format)
+byte_grammar version =
+    mapped_grammar (to_be_bytes w8) _ _ (checked_grammar _ _ _ (number_grammar w8 (2 ^ 8) exact8) (is_format version)) (IsByteOf version) format_at format_code
+    (λ n lawful. let same = format_lawful version n lawful.1 in (ap (is_format version) same ∙ lawful.1, same))
+    (λ format lawful. (((byte_lawful format).0, lawful), (byte_lawful format).1))
 
 pub format_grammar : (version : Version) → IsGrammar (format_text version) (IsFormatOf version) (format_field version)
 unfolding format_field
 format_grammar version =
-    mapped_grammar _ _ _ (maybe_grammar _ _ _ byte_grammar (has_format version)) (IsFormatOf version) format_of (of_format version)
-    (λ o lawful. there (has_format version) o lawful) (λ format plain. back (has_format version) format plain)
+    mapped_grammar _ _ _ (maybe_grammar _ _ _ (byte_grammar version) (has_format version)) (IsFormatOf version) format_of (of_format version)
+    (λ o lawful. there (has_format version) refl o lawful) (λ format fits. back (has_format version) refl format fits)
   where
-    there : (has : Bool) (o : Option Format) → IsMaybe has (λ format. Unit {0}) o
-        → (has ≡ false → format_of o ≡ Plain) × ((if has then Some (format_of o) else None) ≡ o)
-    there true None lawful = absurd (let e : true ≡ false = lawful in cc)
-    there false None lawful = (λ _. refl, refl)
-    there true (Some format) lawful = (λ without. absurd (let e : true ≡ false = without in cc), refl)
-    there false (Some format) lawful = absurd (let e : false ≡ true = lawful.0 in cc)
+    there : (has : Bool) → has_format version ≡ has → (o : Option Format) → IsMaybe has (IsByteOf version) o
+        → IsFormatOf version (format_of o) × ((if has then Some (format_of o) else None) ≡ o)
+    there true is None lawful = absurd (let e : true ≡ false = lawful in cc)
+    there false is None lawful = (refl, refl)
+    there true is (Some Plain) lawful = (refl, refl)
+    there true is (Some Padded) lawful = (is, refl)
+    there true is (Some Receipts) lawful = (lawful.1, refl)
+    there false is (Some format) lawful = absurd (let e : false ≡ true = lawful.0 in cc)
 
-    back : (has : Bool) (format : Format) → (has ≡ false → format ≡ Plain)
-        → IsMaybe has (λ (one : Format). Unit {0}) (if has then Some format else None) × (format_of (if has then Some format else None) ≡ format)
-    back true format plain = ((refl, tt), refl)
-    back false format plain = (refl, sym (plain refl))
+    back : (has : Bool) → has_format version ≡ has → (format : Format) → IsFormatOf version format
+        → IsMaybe has (IsByteOf version) (if has then Some format else None) × (format_of (if has then Some format else None) ≡ format)
+    back true is Plain fits = ((refl, refl), refl)
+    back true is Padded fits = ((refl, refl), refl)
+    back true is Receipts fits = ((refl, fits), refl)
+    back false is Plain fits = (refl, refl)
+    back false is Padded fits = absurd (let e : false ≡ true = sym is ∙ fits in cc)
+    back false is Receipts fits = absurd (let e : false ≡ true = sym is ∙ with-format version fits in cc)
 
 pub epoch_grammar : IsGrammar (to_be_bytes w32) (λ n. up_to LAST_EPOCH n ≡ true) epoch_field
 unfolding epoch_field

@@ -14,6 +14,7 @@ use Rattle.session_model.specs.States.{Phase, in_own, in_peers, State}
 use Rattle.dr_base.specs.declared.limits.TheConstants.{INDEX_LIMIT, LAST_EPOCH}
 use Rattle.kem_laws.specs.Mechanism.{Mechanism}
 use Rattle.grammar.proofs.Lists.{items-from}
+use Rattle.session_record.specs.Versions.{has_receipts}
 use Rattle.session_record.specs.Fields.{is_good, is_previous, up_to}
 use Rattle.session_record.specs.Lists.{is_post, is_posted, place_of, post_of}
 use Rattle.session_record.proofs.Passing.{Passes, PassesEntry, PassesPhase, PassesPost}
@@ -21,6 +22,7 @@ use Rattle.session_record.specs.Lawful.{IsLawfulEntry, IsLawfulPost, IsLawfulSav
 use Rattle.session_record.specs.Record.{Saved}
 use Rattle.session_record.specs.Versions.{inbox_most, kept_most, outbox_most, text_most}
 use Rattle.session_record.specs.declared.versions.Version.{Version}
+use Rattle.session_record.proofs.Waiting.{awaiting-passes}
 use Rattle.session_record.proofs.KeptFromLawful.{AreKeys, received}
 
 -- ---- the fields before
@@ -117,4 +119,5 @@ passes k saved l =
         outbox = items-from (PassesPost k version c.state.session c.state.side c.state.epoch) c.outbox no_post (λ i d inside.
             post_passes k version c.state (take i c.outbox) (get_or c.outbox i d) (l.client.outbox i d inside) (l.fits.posts i d inside));
       };
+      awaiting = awaiting-passes (has_receipts version) c.state.side c.state.epoch c.state.phase c.state.awaiting s.epoch_fits l.fits.awaiting s.waiting;
     }

@@ -52,7 +52,7 @@ keys_grammar k h =
     (λ e l. (record { phase = l.0; previous = l.1.0; receiving = l.1.1.0; few_kept = l.1.1.1.0.1; kept = l.1.1.1.1 }, refl))
     (λ keys l. ((l.phase, (l.previous, (l.receiving, ((fits_kept h.version _ l.few_kept, l.few_kept), l.kept)))), refl))
 
-pub boxes_grammar : (k : Mechanism) (h : Heading) → IsGrammar boxes_text (PassesBoxes k h) (boxes_fields k h)
+pub boxes_grammar : (k : Mechanism) (h : Heading) → IsGrammar (boxes_text h.version) (PassesBoxes k h) (boxes_fields k h)
 unfolding boxes_fields
 boxes_grammar k h =
     mapped_grammar _ _ _

@@ -1,11 +1,9 @@
 -- The kept keys and the receiving stream of a lawful client pass the tests.
-use Rattle.std.proofs.Common.{◌≡◌, ℕ, zero, suc, ◌+◌, ◌-◌, ◌<◌, ◌≤◌, ◌==◌, Bool, true, false, List, [], length, take, get_or, Option, Some, None, refl, sym, ◌∙◌, ap, subst, arith, if◌then◌else◌}
+use Rattle.std.proofs.Common.{◌≡◌, ℕ, zero, suc, ◌+◌, ◌-◌, ◌<◌, ◌≤◌, ◌==◌, Bool, true, false, List, [], length, take, get_or, Option, Some, None, refl, ap, subst, arith, if◌then◌else◌}
 use Rattle.std.specs.Prelude.{not, nat_le, nat_lt, ◌||◌, All}
 use Rattle.std.proofs.lemmas.Bool.{le-leb, and_from, not_from_false}
 use Rattle.std.proofs.lemmas.Bool.Decides.{nat_tests}
-use Rattle.std.proofs.lemmas.List.{take_more}
 use Rattle.dr_base.specs.declared.key.Kept.{Kept}
-use Rattle.dr_base.specs.declared.position.Position.{Position}
 use Rattle.dr_base.specs.declared.position.Side.{Side}
 use Rattle.dr_base.specs.declared.position.Side.TheVariants.{First, Second}
 use Rattle.fs_aead.specs.Table.{AllBefore, IsAscending}
@@ -17,21 +15,8 @@ use Rattle.grammar.specs.Printer.{AreItems, IsMaybe}
 use Rattle.grammar.proofs.Lists.{items-from}
 use Rattle.session_record.specs.Lists.{last_position, most_kept, reach_of}
 use Rattle.session_record.proofs.Passing.{PassesKept, PassesReception}
+use Rattle.session_record.proofs.Items.{above_last, last_before}
 use Rattle.session_record.proofs.Lasts.{last_of-push}
-
--- ---- the last key of those before a place
-
-last_before : (list : List Kept) (i : ℕ) (d : Kept) → i < length list → 1 ≤ (get_or list i d).position.index → IsAscending list
-    → ((last_position (take i list)).epoch ≤ (get_or list i d).position.epoch)
-    × ((last_position (take i list)).epoch ≡ (get_or list i d).position.epoch → (last_position (take i list)).index < (get_or list i d).position.index)
-last_before list zero d inside one up = (omega arith, λ _. omega arith)
-last_before list (suc i) d inside one up =
-    let below : i < length list = omega arith in
-    let next : suc i ≡ i + 1 = omega arith in
-    let last : last_position (take (suc i) list) ≡ (get_or list i d).position =
-    ap (λ n. last_position (take n list)) next ∙ ap (λ l. last_position l) (take_more list i d below) ∙ last_of-push (position_at 0 0) (take i list) (get_or list i d) in
-    subst (λ (p : Position). (p.epoch ≤ (get_or list (suc i) d).position.epoch) × (p.epoch ≡ (get_or list (suc i) d).position.epoch → p.index < (get_or list (suc i) d).position.index)) (sym last)
-    (up i (suc i) d (omega arith) inside)
 
 -- ---- kept keys
 
@@ -61,13 +46,13 @@ kept_passes : (side : Side) (epoch reach latest : ℕ) (list : List Kept) → Ar
 kept_passes side epoch reach latest list keys peers near within fits all i d inside =
     let kept = get_or list i d in
     let one = keys.each i d inside in
-    let last = last_before list i d inside one.one keys.up in
+    let last = last_before (λ (kept : Kept). kept.position) last_position refl (last_of-push (position_at 0 0)) list i d inside one.one keys.up in
     let below = all i d inside in
     let t = kept.position.epoch in
     let n = kept.position.index in
     let l = last_position (take i list) in
     let above : (nat_lt (last_position (take i list)).epoch (get_or list i d).position.epoch || nat_lt (last_position (take i list)).index (get_or list i d).position.index) ≡ true =
-    above_last l.epoch l.index t n last.0 last.1 in
+    above_last l kept.position last in
     let index = within_latest epoch t n reach latest one.most near below.1 (parities side t latest one.peers peers) below.0 within in
     record {
       epoch_is = and_from _ _ (and_from _ _ (not_from_false _ one.peers) (le-leb _ _ (omega (arith, below.0)))) (le-leb _ _ last.0);
@@ -76,9 +61,6 @@ kept_passes side epoch reach latest list keys peers near within fits all i d ins
       index_fits = omega (arith, one.most);
       key_long = keys.long i d inside;
     }
-  where
-    above_last : (e x t n : ℕ) → e ≤ t → (e ≡ t → x < n) → (nat_lt e t || nat_lt x n) ≡ true
-    above_last e x t n most later = grind (arith, nat_tests)
 
 no_key : Kept
 no_key = record { position = position_at 0 0; key = record { bytes = [] } }

@@ -1,29 +1,24 @@
 -- Kept keys and a receiving stream that pass the tests are lawful.
-use Rattle.std.proofs.Common.{◌≡◌, ℕ, zero, suc, ◌+◌, ◌-◌, ◌≤◌, ◌==◌, Bool, true, false, List, [], ◌∷◌, ◌++◌, Option, Some, None, refl, sym, ◌∙◌, ap, subst, arith, inl, inr, if◌then◌else◌}
-use Rattle.std.specs.Prelude.{not, nat_le, nat_lt, ◌||◌, All}
+use Rattle.std.proofs.Common.{◌≡◌, ℕ, zero, suc, ◌+◌, ◌-◌, ◌≤◌, ◌==◌, Bool, true, false, List, [], Option, Some, None, refl, sym, ◌∙◌, ap, subst, arith, inl, inr, if◌then◌else◌}
+use Rattle.std.specs.Prelude.{not, nat_le, nat_lt, ◌||◌}
 use Rattle.std.proofs.lemmas.Bool.{leb-true, cases_lt, not-true, and_parts}
 use Rattle.std.proofs.lemmas.Bool.Decides.{nat_tests}
-use Rattle.std.proofs.lemmas.List.Quantifiers.{all_pairs_push}
 use Rattle.std.proofs.lemmas.List.Elements.{All-push}
 use Rattle.dr_base.specs.declared.key.Kept.{Kept}
-use Rattle.dr_base.specs.declared.position.Position.{Position}
 use Rattle.dr_base.specs.declared.position.Side.{Side}
 use Rattle.dr_base.specs.declared.position.Side.TheVariants.{First, Second}
-use Rattle.fs_aead.specs.Table.{AllBefore, IsAscending, IsBefore}
-use Rattle.dr_base.specs.Position.{is_own, position_at}
+use Rattle.fs_aead.specs.Table.{AllBefore, IsAscending}
+use Rattle.dr_base.specs.Position.{IsBefore, is_own, position_at}
 use Rattle.dr_base.specs.declared.limits.TheConstants.{INDEX_LIMIT}
 use Rattle.session_model.specs.LawfulStates.{IsLawfulReception}
 use Rattle.session_model.specs.States.{Reception}
 use Rattle.grammar.specs.Printer.{AreItems, no_items, and_item, IsMaybe}
 use Rattle.session_record.specs.Lists.{is_peers, last_position, reach_of}
 use Rattle.session_record.proofs.Passing.{PassesKept, PassesReception}
+use Rattle.session_record.proofs.Items.{ups}
 use Rattle.session_record.proofs.Lasts.{last_of-push}
 
 -- ---- kept keys ascend
-
-pub record IsAtMost (p q : Position) : Type 0 where
-  epochs : p.epoch ≤ q.epoch
-  indices : p.epoch ≡ q.epoch → p.index ≤ q.index
 
 behind_last : (side : Side) (epoch reach : ℕ) (before : List Kept) (kept : Kept) → PassesKept side epoch reach before kept → IsBefore (last_position before) kept.position
 behind_last side epoch reach before kept lawful =
@@ -31,30 +26,9 @@ behind_last side epoch reach before kept lawful =
     let indices = lawful.index_is in
     grind (arith, nat_tests)
 
-before_all : (p q r : Position) → IsAtMost p q → IsBefore q r → IsBefore p r
-before_all p q r most below = (omega (arith, most.epochs, below.0), λ same. omega (arith, most.epochs, below.0, most.indices, below.1))
-
-at_most_itself : (p : Position) → IsAtMost p p
-at_most_itself p = record { epochs = omega arith; indices = λ _. omega arith }
-
-at_most_later : (p q r : Position) → IsAtMost p q → IsBefore q r → IsAtMost p r
-at_most_later p q r most below = record { epochs = omega (arith, most.epochs, below.0); indices = λ same. omega (arith, most.epochs, below.0, most.indices, below.1) }
-
-pub record IsUp (list : List Kept) : Type 0 where
-  pub up : IsAscending list
-  pub last : All (λ kept. IsAtMost kept.position (last_position list)) list
-
-pub ups : (side : Side) (epoch reach n : ℕ) (list : List Kept) → AreItems (PassesKept side epoch reach) n list → IsUp list
-ups side epoch reach n list no_items = record { up = λ i j d small inside. absurd (omega arith); last = λ i d inside. absurd (omega arith) }
-ups side epoch reach m list (and_item n before a were lawful) =
-    let earlier = ups side epoch reach n before were in
-    let next = behind_last side epoch reach before a lawful in
-    let last : last_position (before ++ a ∷ []) ≡ a.position = last_of-push (position_at 0 0) before a in
-    record {
-      up = all_pairs_push (λ x y. IsBefore x.position y.position) before a earlier.up (λ i d inside. before_all _ _ _ (earlier.last i d inside) next);
-      last = subst (λ (p : Position). All (λ (kept : Kept). IsAtMost kept.position p) (before ++ a ∷ [])) (sym last)
-          (All-push (λ (kept : Kept). IsAtMost kept.position a.position) before a (λ i d inside. at_most_later _ _ _ (earlier.last i d inside) next) (at_most_itself a.position));
-    }
+pub ascending : (side : Side) (epoch reach n : ℕ) (list : List Kept) → AreItems (PassesKept side epoch reach) n list → IsAscending list
+ascending side epoch reach n list items =
+    (ups (λ (kept : Kept). kept.position) last_position refl (last_of-push (position_at 0 0)) (PassesKept side epoch reach) (behind_last side epoch reach) n list items).up
 
 -- ---- and are those of the peer's epochs up to the reach
 

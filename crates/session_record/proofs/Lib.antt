@@ -3,6 +3,8 @@ mod Passing
 mod FieldGrammars
 mod ListGrammars
 mod GroupGrammars
+mod Items
+mod Waiting
 mod RecordGrammar
 mod Lasts
 mod KeptFromLawful

@@ -1,24 +1,26 @@
 -- The grammars of the lists.
-use Rattle.std.proofs.Common.{◌≡◌, ℕ, ◌^◌, ◌<◌, true, List, length, refl, arith}
-use Rattle.std.specs.Int.{w8, w16, w32}
+use Rattle.std.proofs.Common.{◌≡◌, ℕ, ◌^◌, ◌<◌, Bool, true, false, List, length, Option, Some, None, refl, ap, arith, if◌then◌else◌}
+use Rattle.std.specs.Int.{w8, w16, w32, to_be_bytes}
 use Rattle.std.proofs.lemmas.Bool.{leb-true}
 use Rattle.std.proofs.lemmas.Bool.Decides.{nat_tests}
 use Rattle.dr_base.specs.declared.key.Kept.{Kept}
 use Rattle.dr_base.specs.declared.position.Side.{Side}
+use Rattle.bodies.specs.declared.limits.TheConstants.{TEXT_KIND}
 use Rattle.boxes.specs.Entries.{Entry}
 use Rattle.boxes.specs.Posts.{Post}
 use Rattle.kem_laws.specs.Mechanism.{Mechanism}
 use Rattle.grammar.specs.Grammar.{IsGrammar}
-use Rattle.grammar.specs.Printer.{print_counted, AreItems}
+use Rattle.grammar.specs.Printer.{print_counted, print_maybe, AreItems, IsMaybe}
 use Rattle.grammar.proofs.Fields.{number_grammar, piece_grammar}
 use Rattle.dr_base.proofs.Widths.{exact8, exact16, exact32}
+use Rattle.grammar.proofs.Choices.{maybe_grammar}
 use Rattle.grammar.proofs.Combined.{both_grammar, checked_grammar, mapped_grammar}
 use Rattle.grammar.proofs.Lists.{counted_grammar, sized_grammar}
 use Rattle.session_record.specs.Fields.{up_to}
-use Rattle.session_record.specs.Lists.{is_kept_epoch, is_kept_index, last_position, kept_of, of_kept, kept_behind, kept_item, kept_text, kept_field, is_peers, any, entry_of, of_entry, entry_field, entry_text, inbox_field, is_post, post_of, any_length, post_field, post_text, outbox_field}
+use Rattle.session_record.specs.Lists.{is_kept_epoch, is_kept_index, last_position, kept_of, of_kept, kept_behind, kept_item, kept_text, kept_field, is_peers, is_text_kind, kind_field, any, entry_of, of_entry, entry_field, entry_text, inbox_field, is_post, post_of, any_length, post_field, post_text, outbox_field}
 use Rattle.packet.specs.Reading.{is_index}
 use Rattle.session_record.proofs.Passing.{PassesKept, PassesEntry, PassesPost}
-use Rattle.session_record.specs.Versions.{inbox_most, kept_most, outbox_most, text_most}
+use Rattle.session_record.specs.Versions.{has_kinds, inbox_most, kept_most, outbox_most, text_most}
 use Rattle.session_record.specs.declared.versions.Version.{Version}
 use Rattle.session_record.proofs.FieldGrammars.{small_number}
 use Rattle.session_record.proofs.VersionLimits.{text-limit}
@@ -42,27 +44,51 @@ kept_list version side epoch reach =
     counted_grammar kept_text (PassesKept side epoch reach) (kept_item side epoch reach) (kept_grammar side epoch reach) w16 (2 ^ 16) exact16
     (up_to (kept_most version))
 
+abbrev IsKind : ℕ → Type 0
+IsKind n = (n < 2 ^ 8) × (is_text_kind n ≡ true)
+
+kind_grammar : (version : Version) → IsGrammar (print_maybe (to_be_bytes w8)) (IsMaybe (has_kinds version) IsKind) (kind_field version)
+unfolding kind_field
+kind_grammar version = maybe_grammar _ _ _ (checked_grammar _ _ _ (number_grammar w8 (2 ^ 8) exact8) is_text_kind) (has_kinds version)
+
+-- there is one kind
+kind_there : (has : Bool) (o : Option ℕ) → IsMaybe has IsKind o → (if has then Some TEXT_KIND else None) ≡ o
+kind_there true None lawful = absurd (let e : true ≡ false = lawful in cc)
+kind_there false None lawful = refl
+kind_there true (Some n) lawful =
+    let test = lawful.1.1 in
+    let same : TEXT_KIND ≡ n = grind (arith, nat_tests) in ap (λ (m : ℕ). Some m) same
+kind_there false (Some n) lawful = absurd (let e : false ≡ true = lawful.0 in cc)
+
+kind_back : (has : Bool) → IsMaybe has IsKind (if has then Some TEXT_KIND else None)
+kind_back true = (refl, (omega arith, refl))
+kind_back false = refl
+
 entry_grammar : (version : Version) (side : Side) (epoch : ℕ) (before : List Entry)
-    → IsGrammar entry_text (PassesEntry version side epoch before) (entry_field version side epoch)
+    → IsGrammar (entry_text version) (PassesEntry version side epoch before) (entry_field version side epoch)
 unfolding entry_field
 entry_grammar version side epoch before =
     mapped_grammar _ _ _
     (both_grammar _ _ _ _ _ _ (checked_grammar _ _ _ (number_grammar w32 (2 ^ 32) exact32) (is_peers side epoch)) (λ _ _.
     both_grammar _ _ _ _ _ _ (small_number is_index (λ n passes. grind (arith, nat_tests))) (λ _ _.
-    sized_grammar w16 (2 ^ 16) exact16 (up_to (text_most version)) any)))
-    (PassesEntry version side epoch before) entry_of of_entry
-    (λ e l. (record { epoch_is = l.0.1; epoch_fits = l.0.0; index_is = l.1.0; short = l.1.1.0.1 }, refl))
-    (λ entry l. (((l.epoch_fits, l.epoch_is), (l.index_is, ((below _ l.short, l.short), refl))), refl))
+    both_grammar _ _ _ _ _ _ (kind_grammar version) (λ _ _.
+    sized_grammar w16 (2 ^ 16) exact16 (up_to (text_most version)) any))))
+    (PassesEntry version side epoch before) entry_of (of_entry version)
+    (λ e l. (
+      record { epoch_is = l.0.1; epoch_fits = l.0.0; index_is = l.1.0; short = l.1.1.1.0.1 },
+      ap (λ (kind : Option ℕ). (e.0, (e.1.0, (kind, e.1.1.1)))) (kind_there (has_kinds version) e.1.1.0 l.1.1.0),
+    ))
+    (λ entry l. (((l.epoch_fits, l.epoch_is), (l.index_is, (kind_back (has_kinds version), ((below _ l.short, l.short), refl)))), refl))
   where
     below : (n : ℕ) → up_to (text_most version) n ≡ true → n < 2 ^ 16
     below n passes = omega (arith, leb-true n (text_most version) passes, text-limit version)
 
-pub inbox_list : (version : Version) (side : Side) (epoch : ℕ) → IsGrammar (print_counted w8 entry_text)
+pub inbox_list : (version : Version) (side : Side) (epoch : ℕ) → IsGrammar (print_counted w8 (entry_text version))
     (λ list. ((length list < 2 ^ 8) × (up_to (inbox_most version) (length list) ≡ true)) × AreItems (PassesEntry version side epoch) (length list) list)
     (inbox_field version side epoch)
 unfolding inbox_field
 inbox_list version side epoch =
-    counted_grammar entry_text (PassesEntry version side epoch) (λ _. entry_field version side epoch) (entry_grammar version side epoch) w8 (2 ^ 8) exact8
+    counted_grammar (entry_text version) (PassesEntry version side epoch) (λ _. entry_field version side epoch) (entry_grammar version side epoch) w8 (2 ^ 8) exact8
     (up_to (inbox_most version))
 
 post_grammar : (k : Mechanism) (version : Version) (session : List ℕ) (side : Side) (epoch : ℕ) (before : List Post)

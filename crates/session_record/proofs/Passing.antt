@@ -1,22 +1,24 @@
 -- The values that pass the tests of the record's reader, field by field.
-use Rattle.std.specs.Prelude.{◌≡◌, ℕ, ◌^◌, ◌<◌, true, List, length}
+use Rattle.std.specs.Prelude.{◌≡◌, ℕ, ◌^◌, ◌<◌, Bool, true, false, List, [], length}
 use Rattle.boxes.specs.Entries.{Entry}
 use Rattle.boxes.specs.Posts.{Post}
 use Rattle.cka.specs.Agreement.{agreement_size}
 use Rattle.dr_base.specs.Position.{is_own}
 use Rattle.dr_base.specs.declared.key.Kept.{Kept}
-use Rattle.dr_base.specs.declared.limits.TheConstants.{INDEX_LIMIT, LAST_EPOCH}
+use Rattle.dr_base.specs.declared.limits.TheConstants.{AWAITING_LIMIT, INDEX_LIMIT, LAST_EPOCH}
+use Rattle.dr_base.specs.declared.position.Position.{Position}
 use Rattle.dr_base.specs.declared.position.Side.{Side}
 use Rattle.grammar.specs.Printer.{AreItems, IsEither, IsMaybe}
 use Rattle.kem_laws.specs.Mechanism.{Mechanism}
 use Rattle.packet.specs.Packet.{agreement_len}
 use Rattle.session_model.specs.States.{Own, Phase, Reception}
+use Rattle.session_record.specs.Awaiting.{is_waiting_epoch, is_waiting_index, last_waiting, sent_of}
 use Rattle.session_record.specs.Fields.{has_receiving, is_previous, is_secret, of_phase, up_to}
 use Rattle.session_record.specs.Lists.{is_kept_epoch, is_kept_index, is_peers, is_post, last_position, post_of, reach_of}
 use Rattle.packet.specs.Reading.{is_index}
 use Rattle.session_record.specs.Groups.{Boxes, Keys}
 use Rattle.session_record.specs.Record.{Saved, boxes_in, heading_in, keys_in}
-use Rattle.session_record.specs.Versions.{IsFormatOf, inbox_most, kept_most, outbox_most, text_most}
+use Rattle.session_record.specs.Versions.{IsFormatOf, has_receipts, inbox_most, kept_most, outbox_most, text_most}
 use Rattle.session_record.specs.declared.groups.Heading.{Heading}
 use Rattle.session_record.specs.declared.versions.Version.{Version}
 
@@ -52,6 +54,18 @@ pub record PassesPost (k : Mechanism) (version : Version) (session : List ℕ) (
   pub fits : length one.packet < 2 ^ 16
   pub own_place : post_of k one.packet ≡ one
 
+pub record PassesWaiting (side : Side) (epoch sent : ℕ) (before : List Position) (p : Position) : Type 0 where
+  pub epoch_is : is_waiting_epoch side epoch (last_waiting before) p.epoch ≡ true
+  pub epoch_fits : p.epoch < 2 ^ 32
+  pub index_is : is_waiting_index epoch sent (last_waiting before) p.epoch p.index ≡ true
+  pub index_fits : p.index < 2 ^ 32
+
+-- where the field stands or not
+pub record PassesAwaiting (there : Bool) (side : Side) (epoch sent : ℕ) (awaiting : List Position) : Type 0 where
+  pub allowed : there ≡ false → awaiting ≡ []
+  pub few : up_to AWAITING_LIMIT (length awaiting) ≡ true
+  pub each : AreItems (PassesWaiting side epoch sent) (length awaiting) awaiting
+
 -- ---- the groups
 
 pub record PassesHeading (h : Heading) : Type 0 where
@@ -77,3 +91,4 @@ pub record Passes (k : Mechanism) (s : Saved) : Type 0 where
   pub heading : PassesHeading (heading_in s.version s.client.state)
   pub keys : PassesKeys k (heading_in s.version s.client.state) (keys_in s.client.state)
   pub boxes : PassesBoxes k (heading_in s.version s.client.state) (boxes_in s.client)
+  pub awaiting : PassesAwaiting (has_receipts s.version) s.client.state.side s.client.state.epoch (sent_of s.client.state.phase) s.client.state.awaiting

@@ -3,9 +3,10 @@ use Rattle.std.proofs.Common.{◌≡◌, ℕ, ◌+◌, ◌≤◌, Bool, true, fa
 use Rattle.std.specs.Prelude.{◌==◌}
 use Rattle.std.specs.Int.{w8, w16, w32}
 use Rattle.std.proofs.lemmas.Bool.{leb-true}
+use Rattle.bodies.specs.Receipts.{listed_place}
 use Rattle.cka.specs.Agreement.{agreement_size}
 use Rattle.dr_base.specs.Position.{is_own}
-use Rattle.dr_base.specs.declared.limits.TheConstants.{AGREEMENT_LIMIT, INBOX_LIMIT, INDEX_LIMIT, KEPT_LIMIT, LAST_EPOCH, OUTBOX_LIMIT, PACKET_LIMIT, TEXT_LIMIT}
+use Rattle.dr_base.specs.declared.limits.TheConstants.{AGREEMENT_LIMIT, AWAITING_LIMIT, INBOX_LIMIT, INDEX_LIMIT, KEPT_LIMIT, LAST_EPOCH, OUTBOX_LIMIT, PACKET_LIMIT, TEXT_LIMIT}
 use Rattle.dr_base.specs.declared.position.Side.{Side}
 use Rattle.dr_base.specs.Bytes.{AreBytes}
 use Rattle.grammar.specs.Reader.{Read, checked, ended, mapped, number, piece}
@@ -17,11 +18,12 @@ use Rattle.packet.specs.declared.fault.Malformed.{Malformed}
 use Rattle.packet.proofs.Known.{text_few}
 use Rattle.packet.proofs.Lengths.{length-packet_of}
 use Rattle.packet.proofs.Read.{read_was_printed}
-use Rattle.session_record.specs.declared.limits.TheConstants.{COUNT_SIZE, ENTRIES_LIMIT, ENTRY_LIMIT, HEADING_SIZE, KEPT_SIZE, KEYS_LIMIT, PHASE_LIMIT, POSTS_LIMIT, POST_LIMIT, RECORD_LIMIT, STREAM_SIZE}
+use Rattle.session_record.specs.declared.limits.TheConstants.{COUNT_SIZE, ENTRIES_LIMIT, ENTRY_LIMIT, HEADING_SIZE, KEPT_SIZE, KEYS_LIMIT, PHASE_LIMIT, POSTS_LIMIT, POST_LIMIT, RECORD_LIMIT, PLACE_SIZE, STREAM_SIZE, WAITING_LIMIT}
+use Rattle.session_record.specs.Awaiting.{awaiting_field, awaiting_of, is_waiting_epoch, is_waiting_index, last_waiting, sent_of, waiting_behind, waiting_item}
 use Rattle.session_record.specs.Fields.{count_field, epoch_field, is_secret, own_fields, phase_field, previous_field, receiving_field, reception_fields, side_field, format_byte, format_field, format_at, format_of, is_format, up_to, own_of, phase_of, reception_of, version_field, is_side, side_at, is_previous, has_receiving}
-use Rattle.session_record.specs.Lists.{any, any_length, entry_field, entry_of, inbox_field, is_kept_epoch, is_kept_index, is_peers, is_post, is_posted, kept_behind, kept_field, kept_item, kept_of, last_position, outbox_field, post_field, post_of, reach_of}
+use Rattle.session_record.specs.Lists.{any, any_length, entry_field, entry_of, inbox_field, kind_field, is_kept_epoch, is_kept_index, is_peers, is_post, is_posted, is_text_kind, kept_behind, kept_field, kept_item, kept_of, last_position, outbox_field, post_field, post_of, reach_of}
 use Rattle.session_record.specs.Groups.{boxes_fields, boxes_of, heading_fields, heading_of, keys_fields, keys_of}
-use Rattle.session_record.specs.Versions.{has_format, inbox_most, is_version, kept_most, outbox_most, text_most, version_at}
+use Rattle.session_record.specs.Versions.{has_format, has_kinds, has_receipts, inbox_most, is_version, kept_most, outbox_most, text_most, version_at}
 use Rattle.session_record.specs.declared.groups.Heading.{Heading}
 use Rattle.session_record.specs.declared.versions.Version.{Version}
 use Rattle.session_record.proofs.VersionLimits.{inbox-limit, kept-limit, outbox-limit, text-limit}
@@ -71,17 +73,18 @@ within-kept version side epoch reach =
     within-piece 32))))
 
 within-inbox : (version : Version) (side : Side) (epoch : ℕ) → IsWithin ENTRIES_LIMIT (inbox_field version side epoch)
-unfolding inbox_field entry_field
+unfolding inbox_field entry_field kind_field
 within-inbox version side epoch =
     within-counted w8 (up_to (inbox_most version)) ENTRY_LIMIT INBOX_LIMIT (λ _. entry_field version side epoch)
     (λ n few. omega (arith, leb-true n (inbox_most version) few, inbox-limit version)) (λ before.
     within-mapped ENTRY_LIMIT entry_of _
     (within-both _ _ _ _ (within-checked _ (is_peers side epoch) (number w32) (within-number w32)) (λ _.
     within-both _ _ _ _ (within-checked _ is_index (number w32) (within-number w32)) (λ _.
+    within-both _ _ _ _ (within-maybe _ (has_kinds version) _ (within-checked _ is_text_kind (number w8) (within-number w8))) (λ _.
     within-mapped _ (λ e. e.1) _
     (within-numbered w16 (up_to (text_most version)) TEXT_LIMIT (λ n. checked any (piece n)) (λ n short.
     within-checked TEXT_LIMIT any (piece n)
-    (within-more n TEXT_LIMIT (piece n) (omega (arith, leb-true n (text_most version) short, text-limit version)) (within-piece n))))))))
+    (within-more n TEXT_LIMIT (piece n) (omega (arith, leb-true n (text_most version) short, text-limit version)) (within-piece n)))))))))
 
 -- a packet that was read is short
 short_post : (k : Mechanism) (version : Version) (session : List ℕ) (side : Side) (epoch : ℕ) → IsLawfulMechanism k → (bytes : List ℕ) → AreBytes bytes
@@ -108,6 +111,16 @@ within-outbox k version session side epoch law =
     (within-numbered w16 any_length PACKET_LIMIT (λ n. checked (is_post k version session side epoch) (piece n)) (λ n any.
     within-short n PACKET_LIMIT (is_post k version session side epoch) (short_post k version session side epoch law)))))
 
+within-awaiting : (version : Version) (side : Side) (epoch sent : ℕ) → IsWithin WAITING_LIMIT (awaiting_field version side epoch sent)
+unfolding awaiting_field waiting_behind
+within-awaiting version side epoch sent =
+    within-mapped WAITING_LIMIT awaiting_of _
+    (within-maybe WAITING_LIMIT (has_receipts version) _
+    (within-counted w8 (up_to AWAITING_LIMIT) PLACE_SIZE AWAITING_LIMIT (waiting_item side epoch sent) (λ n few. leb-true n AWAITING_LIMIT few) (λ before.
+    within-mapped PLACE_SIZE listed_place _
+    (within-both _ _ _ _ (within-checked _ (is_waiting_epoch side epoch (last_waiting before)) (number w32) (within-number w32)) (λ t.
+    within-checked _ (is_waiting_index epoch sent (last_waiting before) t) (number w32) (within-number w32))))))
+
 -- ---- the groups
 
 within-heading : IsWithin HEADING_SIZE heading_fields
@@ -117,7 +130,7 @@ within-heading =
     (within-both _ _ _ _ (within-mapped _ version_at _ (within-checked _ is_version (number w8) (within-number w8))) (λ version.
     within-both _ _ _ _ (within-mapped _ side_at _ (within-checked _ is_side (number w8) (within-number w8))) (λ _.
     within-both _ _ _ _ (within-mapped _ format_of _ (within-maybe _ (has_format version) _
-    (within-mapped _ format_at _ (within-checked _ is_format (number w8) (within-number w8))))) (λ _.
+    (within-mapped _ format_at _ (within-checked _ (is_format version) (number w8) (within-number w8))))) (λ _.
     within-both _ _ _ _ (within-piece 16) (λ _.
     within-both _ _ _ _ (within-piece 32) (λ _.
     within-checked _ (up_to LAST_EPOCH) (number w32) (within-number w32)))))))
@@ -146,8 +159,9 @@ unfolding record_fields
 within-record k law =
     within-mapped RECORD_LIMIT saved_of (record_fields k)
     (within-both HEADING_SIZE _ _ _ within-heading (λ heading.
-    within-both (PHASE_LIMIT + (COUNT_SIZE + (STREAM_SIZE + KEYS_LIMIT))) _ _ _ (within-keys k heading law) (λ _.
-    within-boxes k heading law)))
+    within-both (PHASE_LIMIT + (COUNT_SIZE + (STREAM_SIZE + KEYS_LIMIT))) _ _ _ (within-keys k heading law) (λ keys.
+    within-both (ENTRIES_LIMIT + POSTS_LIMIT) WAITING_LIMIT _ _ (within-boxes k heading law) (λ _.
+    within-awaiting heading.version heading.side heading.epoch (sent_of keys.phase)))))
 
 fault_within : {A : Type 0} (most : ℕ) (r : Result (Read A) ℕ) (at : ℕ) → EndsBy most r → ended r ≡ Err at → at ≤ most
 fault_within most (Err fault) at ends is = let same : fault ≡ at = cc in omega (arith, ends)

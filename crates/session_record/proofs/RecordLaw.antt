@@ -8,11 +8,11 @@ use Rattle.session_record.specs.Lawful.{FitsVersion, IsLawfulClient, IsLawfulSav
 use Rattle.session_record.specs.Record.{Saved, record_read, record_text, saved_read, saved_text, without_version}
 use Rattle.session_record.specs.Versions.{is_newest, newest, version_code}
 use Rattle.session_record.specs.declared.versions.Version.{Version}
-use Rattle.session_record.specs.declared.versions.Version.TheVariants.{One, Two, Three}
+use Rattle.session_record.specs.declared.versions.Version.TheVariants.{One, Two, Three, Four}
 use Rattle.session_record.proofs.FromLawful.{passes}
 use Rattle.session_record.proofs.RecordGrammar.{passing_grammar}
 use Rattle.session_record.proofs.ToLawful.{lawful}
-use Rattle.session_record.proofs.VersionLimits.{inbox-newest, is-newest, kept-newest, outbox-newest, packet-newest, text-newest}
+use Rattle.session_record.proofs.VersionLimits.{format-newest, inbox-newest, is-newest, kept-newest, outbox-newest, packet-newest, text-newest}
 
 -- in each version
 pub saved_grammar : (k : Mechanism) → IsWholeGrammar saved_text (IsLawfulSaved k) (saved_read k)
@@ -26,12 +26,13 @@ saved_grammar k =
 -- the newest version allows what a client may hold
 fits-newest : (k : Mechanism) (c : Client) → IsLawfulClient k c → FitsVersion k newest c
 fits-newest k c l = record {
-  format = λ without. absurd (let e : true ≡ false = without in cc);
+  format = format-newest c.state.format;
   few_kept = omega (arith, l.state.few, kept-newest);
   few_entries = omega (arith, l.few_entries, inbox-newest);
   short_texts = λ i d inside. omega (arith, (l.inbox i d inside).short, text-newest);
   few_posts = omega (arith, l.few_posts, outbox-newest);
   posts = λ i d inside f reads. packet-newest f;
+  awaiting = λ without. absurd (let e : true ≡ false = without in cc);
 }
 
 -- what is written is read as it
@@ -53,6 +54,7 @@ unfolding saved_text
 first-byte One c = refl
 first-byte Two c = refl
 first-byte Three c = refl
+first-byte Four c = refl
 
 pub newest-byte : (c : Client) → is_newest (record_text c) ≡ true
 unfolding record_text

@@ -7,9 +7,11 @@ use Rattle.std.proofs.lemmas.List.{length-drop, length_push}
 use Rattle.std.proofs.lemmas.List.Elements.{All-drop, All-head, All-push, All-tail}
 use Rattle.boxes.specs.Entries.{Entry, entry_under}
 use Rattle.boxes.specs.Posts.{Post}
+use Rattle.bodies.proofs.Lengths.{length-positions}
 use Rattle.cka.specs.Agreement.{agreement_size}
 use Rattle.dr_base.specs.declared.key.Kept.{Kept}
 use Rattle.dr_base.specs.declared.limits.TheConstants.{INBOX_LIMIT, KEPT_LIMIT, OUTBOX_LIMIT, PACKET_LIMIT, TEXT_LIMIT}
+use Rattle.dr_base.specs.declared.position.Position.{Position}
 use Rattle.dr_base.specs.declared.position.Side.{Side}
 use Rattle.grammar.specs.Printer.{print_counted, print_items, print_maybe}
 use Rattle.grammar.proofs.Printing.{print-next, size-items}
@@ -20,7 +22,8 @@ use Rattle.session_model.specs.LawfulStates.{IsLawfulPhase, IsLawfulReception, I
 use Rattle.session_model.specs.States.{Phase, Reception, State, in_own, in_peers, receiving_epoch}
 use Rattle.session_record.specs.declared.change.Change.{Change}
 use Rattle.session_record.specs.declared.change.Change.TheVariants.{Same, Received, Said, Dropped}
-use Rattle.session_record.specs.declared.limits.TheConstants.{COUNT_SIZE, ENTRIES_LIMIT, ENTRY_LIMIT, HEADING_SIZE, KEPT_SIZE, KEYS_LIMIT, PHASE_LIMIT, POSTS_LIMIT, POST_LIMIT, RECORD_LIMIT, STREAM_SIZE}
+use Rattle.session_record.specs.declared.limits.TheConstants.{COUNT_SIZE, ENTRIES_LIMIT, ENTRY_LIMIT, HEADING_SIZE, KEPT_SIZE, KEYS_LIMIT, PHASE_LIMIT, POSTS_LIMIT, PLACE_SIZE, POST_LIMIT, RECORD_LIMIT, STREAM_SIZE}
+use Rattle.session_record.specs.Awaiting.{awaiting_text}
 use Rattle.session_record.specs.Changes.{FitsInbox, FitsOutbox, inbox_after, outbox_after}
 use Rattle.session_record.specs.Fields.{phase_text, reception_text}
 use Rattle.session_record.specs.Groups.{Keys, boxes_text, heading_text, keys_text}
@@ -37,7 +40,10 @@ heading_bytes c = heading_text (heading_in newest c.state)
 abbrev pub keys_bytes : Client → List ℕ
 keys_bytes c = keys_text (keys_in c.state)
 
-pub text_pieces : (c : Client) → record_text c ≡ heading_bytes c ++ (keys_bytes c ++ boxes_text (boxes_in c))
+abbrev pub waiting_bytes : Client → List ℕ
+waiting_bytes c = awaiting_text newest c.state.awaiting
+
+pub text_pieces : (c : Client) → record_text c ≡ heading_bytes c ++ (keys_bytes c ++ (boxes_text newest (boxes_in c) ++ waiting_bytes c))
 unfolding record_text saved_text
 text_pieces c = refl
 
@@ -51,15 +57,17 @@ keys_size keys =
     omega (arith, length-append phase (previous ++ (receiving ++ kept)), length-append previous (receiving ++ kept), length-append receiving kept)
 
 pub text_size : (c : Client) → length (record_text c) ≡ length (heading_bytes c) + (length (keys_bytes c)
-    + (length (print_counted w8 entry_text c.inbox) + length (print_counted w8 post_text c.outbox)))
+    + (length (print_counted w8 (entry_text newest) c.inbox) + length (print_counted w8 post_text c.outbox) + length (waiting_bytes c)))
 text_size c =
-    let inbox = print_counted w8 entry_text c.inbox in
+    let inbox = print_counted w8 (entry_text newest) c.inbox in
     let outbox = print_counted w8 post_text c.outbox in
+    let waiting = waiting_bytes c in
     omega (
       arith,
       ap (λ (l : List ℕ). length l) (text_pieces c),
-      length-append (heading_bytes c) (keys_bytes c ++ (inbox ++ outbox)),
-      length-append (keys_bytes c) (inbox ++ outbox),
+      length-append (heading_bytes c) (keys_bytes c ++ ((inbox ++ outbox) ++ waiting)),
+      length-append (keys_bytes c) ((inbox ++ outbox) ++ waiting),
+      length-append (inbox ++ outbox) waiting,
       length-append inbox outbox,
     )
 
@@ -118,9 +126,9 @@ abbrev pub IsRoomyOutbox : List Post → Type 0
 IsRoomyOutbox outbox = IsRoomy (λ (post : Post). post.packet) OUTBOX_LIMIT PACKET_LIMIT outbox
 
 size-inbox : (inbox : List Entry) → IsRoomyInbox inbox
-    → length (print_counted w8 entry_text inbox) ≤ ENTRIES_LIMIT
+    → length (print_counted w8 (entry_text newest) inbox) ≤ ENTRIES_LIMIT
 size-inbox inbox box =
-    let items = size-items entry_text ENTRY_LIMIT inbox (λ i d inside. omega (arith, box.short i d inside)) in
+    let items = size-items (entry_text newest) ENTRY_LIMIT inbox (λ i d inside. omega (arith, box.short i d inside)) in
     omega (arith, items, box.few)
 
 size-outbox : (outbox : List Post) → IsRoomyOutbox outbox
@@ -129,12 +137,15 @@ size-outbox outbox box =
     let items = size-items post_text POST_LIMIT outbox (λ i d inside. omega (arith, box.short i d inside)) in
     omega (arith, items, box.few)
 
+pub size-awaiting : (awaiting : List Position) → length (awaiting_text newest awaiting) ≡ 1 + PLACE_SIZE * length awaiting
+size-awaiting awaiting = omega (arith, length-positions awaiting)
+
 -- a client of which this is known has a text of at most RECORD_LIMIT bytes
 pub text-fits : (k : Mechanism) (c : Client) → IsLawfulMechanism k → IsLawfulState k c.state → All (λ (one : Kept). length one.key.bytes ≡ 32) c.state.kept
     → IsRoomyInbox c.inbox → IsRoomyOutbox c.outbox → length (record_text c) ≤ RECORD_LIMIT
 text-fits k c law l long inbox outbox =
     let s = c.state in
-    omega (arith, text_size c, keys_size (keys_in s), size-heading s l.session_long l.root_long, size-phase k s.side s.epoch s.phase law l.phase, size-receiving s.kept s.receiving (receiving_epoch s.side s.epoch) l.receiving, size-kept s.kept long l.few, size-inbox c.inbox inbox, size-outbox c.outbox outbox)
+    omega (arith, text_size c, keys_size (keys_in s), size-heading s l.session_long l.root_long, size-phase k s.side s.epoch s.phase law l.phase, size-receiving s.kept s.receiving (receiving_epoch s.side s.epoch) l.receiving, size-kept s.kept long l.few, size-inbox c.inbox inbox, size-outbox c.outbox outbox, size-awaiting s.awaiting, l.waiting.few)
 
 -- ---- after a change
 

@@ -1,9 +1,8 @@
 -- What passes the tests is a lawful client.
 use Rattle.std.proofs.Common.{◌≡◌, Result, Ok, Err, ℕ, ◌≤◌, ◌==◌, Bool, true, false, List, length, Option, Some, None, refl, sym, ◌∙◌, ap, arith, if◌then◌else◌}
-use Rattle.std.specs.Prelude.{not, nat_le, ◌&&◌, ◌||◌, All}
+use Rattle.std.specs.Prelude.{not, nat_le, ◌&&◌, ◌||◌}
 use Rattle.std.proofs.lemmas.Bool.{leb-true, not-true, and_parts}
 use Rattle.std.proofs.lemmas.Bool.Decides.{nat_tests}
-use Rattle.std.proofs.lemmas.List.Elements.{All-push}
 use Rattle.std.proofs.lemmas.Slice.Eq.{bytes_eq-Decides}
 use Rattle.std.specs.Str.{bytes_eq}
 use Rattle.boxes.specs.Entries.{Entry}
@@ -19,16 +18,19 @@ use Rattle.dr_base.specs.declared.limits.TheConstants.{INDEX_LIMIT, LAST_EPOCH}
 use Rattle.session_model.specs.LawfulStates.{IsLawfulKept, IsLawfulPhase, IsLawfulPrevious, IsLawfulState}
 use Rattle.session_model.specs.States.{Phase, in_own, in_peers, Reception, State}
 use Rattle.kem_laws.specs.Mechanism.{Mechanism}
-use Rattle.grammar.specs.Printer.{AreItems, no_items, and_item, IsMaybe}
+use Rattle.grammar.specs.Printer.{IsMaybe}
+use Rattle.session_record.specs.Awaiting.{sent_of}
 use Rattle.session_record.specs.Fields.{has_receiving, is_good, is_previous}
 use Rattle.session_record.specs.Lists.{is_peers, is_post, is_posted, last_position, place_of, post_of, reach_of}
 use Rattle.session_record.proofs.Passing.{Passes, PassesEntry, PassesKept, PassesPhase, PassesPost, PassesReception}
 use Rattle.session_record.specs.Lawful.{FitsVersion, IsLawfulEntry, IsLawfulPost, IsLawfulSaved, IsPostOf}
 use Rattle.session_record.specs.Record.{Saved}
-use Rattle.session_record.specs.Versions.{inbox_most, is_packet_of, kept_most, outbox_most, text_most}
+use Rattle.session_record.specs.Versions.{has_receipts, inbox_most, is_packet_of, kept_most, outbox_most, text_most}
 use Rattle.session_record.specs.declared.versions.Version.{Version}
 use Rattle.session_record.proofs.VersionLimits.{inbox-limit, kept-limit, outbox-limit, text-limit}
-use Rattle.session_record.proofs.KeptToLawful.{lawful_receiving, ups}
+use Rattle.session_record.proofs.Waiting.{are-waiting}
+use Rattle.session_record.proofs.Items.{each_of}
+use Rattle.session_record.proofs.KeptToLawful.{ascending, lawful_receiving}
 
 -- ---- the keys of the epoch
 
@@ -122,17 +124,16 @@ post_of_version k version s before post l f reads =
     let own = and_parts (is_own s.side f.epoch) (nat_le f.epoch s.epoch && is_packet_of version f) parts.1 in
     (and_parts (nat_le f.epoch s.epoch) (is_packet_of version f) own.1).1
 
--- what each item of a list is, whatever stands before it
-each_of : {A : Type 0} (Passing : List A → A → Type 0) (Lawful : A → Type 0) → ((before : List A) (a : A) → Passing before a → Lawful a)
-    → (n : ℕ) (list : List A) → AreItems Passing n list → All Lawful list
-each_of Passing Lawful one n list no_items = λ i d inside. absurd (omega arith)
-each_of Passing Lawful one m list (and_item n before a were passes) = All-push Lawful before a (each_of Passing Lawful one n before were) (one before a passes)
-
 -- a stream's reach, or 0
 few_reach : (there : Bool) (receiving : Option Reception) → IsMaybe there PassesReception receiving
     → reach_of receiving ≤ INDEX_LIMIT
 few_reach there None l = omega arith
 few_reach there (Some r) l = leb-true r.reach INDEX_LIMIT l.1.few
+
+-- no more was sent than an epoch may have
+few_sent : (k : Mechanism) (side : Side) (epoch : ℕ) (phase : Phase) → IsLawfulPhase k side epoch phase → sent_of phase ≤ INDEX_LIMIT
+few_sent k side epoch (in_own own) l = l.1.few
+few_sent k side epoch (in_peers public) l = omega arith
 
 -- ---- the client
 
@@ -149,6 +150,7 @@ fits_version k saved l =
       few_posts = leb-true (length c.outbox) (outbox_most version) l.boxes.few_posts;
       posts = each_of (PassesPost k version c.state.session c.state.side c.state.epoch) (IsPostOf k version) (post_of_version k version c.state)
           (length c.outbox) c.outbox l.boxes.outbox;
+      awaiting = l.awaiting.allowed;
     }
 
 lawful_state : (k : Mechanism) (saved : Saved) → Passes k saved → IsLawfulState k saved.client.state
@@ -164,9 +166,10 @@ lawful_state k saved l =
       phase = phase;
       previous = lawful_previous k s.side s.epoch s.previous s.phase phase l.keys.previous;
       receiving = lawful_receiving s.side s.epoch (is_own s.side s.epoch) refl s.receiving (length s.kept) s.kept l.keys.receiving l.keys.kept;
-      kept = (ups s.side s.epoch (reach_of s.receiving) (length s.kept) s.kept l.keys.kept).up;
+      kept = ascending s.side s.epoch (reach_of s.receiving) (length s.kept) s.kept l.keys.kept;
       each = each_of (PassesKept s.side s.epoch reach) (IsLawfulKept s.side) (λ before kept. lawful_kept s.side s.epoch reach before kept few) (length s.kept) s.kept l.keys.kept;
       few = omega (arith, (fits_version k saved l).few_kept, kept-limit saved.version);
+      waiting = are-waiting (has_receipts saved.version) s.side s.epoch s.phase s.awaiting (few_sent k s.side s.epoch s.phase phase) l.awaiting;
     }
 
 pub lawful : (k : Mechanism) (saved : Saved) → Passes k saved → IsLawfulSaved k saved

@@ -1,37 +1,58 @@
 -- The bytes of versions, and what they allow: none more than the product does, and the newest no less.
 use Rattle.std.proofs.Common.{◌≡◌, ℕ, ◌^◌, ◌<◌, ◌≤◌, ◌==◌, Bool, true, false, refl, arith, if◌then◌else◌}
 use Rattle.std.proofs.lemmas.Bool.Decides.{nat_tests}
+use Rattle.bodies.specs.declared.format.Format.{Format}
+use Rattle.bodies.specs.declared.format.Format.TheVariants.{Padded, Plain, Receipts}
 use Rattle.dr_base.specs.declared.limits.TheConstants.{INBOX_LIMIT, KEPT_LIMIT, OUTBOX_LIMIT, TEXT_LIMIT}
 use Rattle.packet.specs.Packet.{Fields}
-use Rattle.session_record.specs.Versions.{inbox_most, is_packet_of, is_version, kept_most, newest, outbox_most, text_most, version_at, version_code}
+use Rattle.session_record.specs.Versions.{IsFormatOf, has_format, has_receipts, inbox_most, is_packet_of, is_version, kept_most, newest, outbox_most, text_most, version_at, version_code}
 use Rattle.session_record.specs.declared.versions.Version.{Version}
-use Rattle.session_record.specs.declared.versions.Version.TheVariants.{One, Two, Three}
+use Rattle.session_record.specs.declared.versions.Version.TheVariants.{One, Two, Three, Four}
 
 -- ---- the byte of a version
 
 pub version_lawful : (n : ℕ) → is_version n ≡ true → version_code (version_at n) ≡ n
-version_lawful n lawful = by_tests (n == 1) (n == 2) refl refl
+version_lawful n lawful = by_tests (n == 1) (n == 2) (n == 3) refl refl refl
   where
-    by_tests : (one two : Bool) → (n == 1) ≡ one → (n == 2) ≡ two
-        → version_code (if one then One else if two then Two else Three) ≡ n
-    by_tests true two is next = grind (arith, nat_tests)
-    by_tests false true is next = grind (arith, nat_tests)
-    by_tests false false is next = grind (arith, nat_tests)
+    by_tests : (one two three : Bool) → (n == 1) ≡ one → (n == 2) ≡ two → (n == 3) ≡ three
+        → version_code (if one then One else if two then Two else if three then Three else Four) ≡ n
+    by_tests true two three is next last = grind (arith, nat_tests)
+    by_tests false true three is next last = grind (arith, nat_tests)
+    by_tests false false true is next last = grind (arith, nat_tests)
+    by_tests false false false is next last = grind (arith, nat_tests)
 
 pub code_fits : (version : Version) → version_code version < 2 ^ 8
 code_fits One = omega arith
 code_fits Two = omega arith
 code_fits Three = omega arith
+code_fits Four = omega arith
 
 pub code_is_version : (version : Version) → is_version (version_code version) ≡ true
 code_is_version One = refl
 code_is_version Two = refl
 code_is_version Three = refl
+code_is_version Four = refl
 
 pub version_of_code : (version : Version) → version_at (version_code version) ≡ version
 version_of_code One = refl
 version_of_code Two = refl
 version_of_code Three = refl
+version_of_code Four = refl
+
+-- ---- formats
+
+-- where receipts are known, a byte says the format
+pub with-format : (version : Version) → has_receipts version ≡ true → has_format version ≡ true
+with-format One has = has
+with-format Two has = has
+with-format Three has = refl
+with-format Four has = refl
+
+-- the newest version has any
+pub format-newest : (format : Format) → IsFormatOf newest format
+format-newest Plain = refl
+format-newest Padded = refl
+format-newest Receipts = refl
 
 -- ---- packets
 
@@ -45,21 +66,25 @@ pub text-limit : (version : Version) → text_most version ≤ TEXT_LIMIT
 text-limit One = omega arith
 text-limit Two = omega arith
 text-limit Three = omega arith
+text-limit Four = omega arith
 
 pub kept-limit : (version : Version) → kept_most version ≤ KEPT_LIMIT
 kept-limit One = omega arith
 kept-limit Two = omega arith
 kept-limit Three = omega arith
+kept-limit Four = omega arith
 
 pub inbox-limit : (version : Version) → inbox_most version ≤ INBOX_LIMIT
 inbox-limit One = omega arith
 inbox-limit Two = omega arith
 inbox-limit Three = omega arith
+inbox-limit Four = omega arith
 
 pub outbox-limit : (version : Version) → outbox_most version ≤ OUTBOX_LIMIT
 outbox-limit One = omega arith
 outbox-limit Two = omega arith
 outbox-limit Three = omega arith
+outbox-limit Four = omega arith
 
 pub text-newest : TEXT_LIMIT ≤ text_most newest
 text-newest = omega arith
@@ -78,4 +103,5 @@ outbox-newest = omega arith
 pub is-newest : (version : Version) → (version_code version == version_code newest) ≡ true → version ≡ newest
 is-newest One same = absurd (let e : false ≡ true = same in cc)
 is-newest Two same = absurd (let e : false ≡ true = same in cc)
-is-newest Three same = refl
+is-newest Three same = absurd (let e : false ≡ true = same in cc)
+is-newest Four same = refl

@@ -3,7 +3,7 @@ use Rattle.std.specs.Prelude.{ℕ, ◌==◌, ◌&&◌, ◌||◌, ◌⊎◌, Bool
 use Rattle.std.proofs.Common.{inl, inr}
 use Rattle.std.specs.Int.{w8, w32, to_be_bytes}
 use Rattle.bodies.specs.declared.format.Format.{Format}
-use Rattle.bodies.specs.declared.format.Format.TheVariants.{Padded, Plain}
+use Rattle.bodies.specs.declared.format.Format.TheVariants.{Padded, Plain, Receipts}
 use Rattle.cka.specs.Agreement.{agreement_size}
 use Rattle.dr_base.specs.Position.{is_own}
 use Rattle.dr_base.specs.declared.limits.TheConstants.{INDEX_LIMIT, LAST_EPOCH}
@@ -14,7 +14,7 @@ use Rattle.grammar.specs.Reader.{Reader, number, piece, checked, mapped, both, m
 use Rattle.kem_laws.specs.Mechanism.{Mechanism}
 use Rattle.packet.specs.Packet.{agreement_len}
 use Rattle.session_model.specs.States.{Own, Phase, Reception, in_own, in_peers}
-use Rattle.session_record.specs.Versions.{has_format, is_version, version_at}
+use Rattle.session_record.specs.Versions.{has_format, has_receipts, is_version, version_at}
 use Rattle.session_record.specs.declared.versions.Version.{Version}
 
 abbrev pub up_to : ℕ → ℕ → Bool
@@ -38,17 +38,19 @@ code_of Second = 2
 unfoldable pub side_field : Reader Side
 side_field = mapped side_at (checked is_side (number w8))
 
--- ---- the format, where the version has a byte for it: 1 is Plain, 2 is Padded
+-- ---- the format, where the version has a byte for it: 1 is Plain, 2 is Padded, 3 is Receipts
 
-abbrev pub is_format : ℕ → Bool
-is_format n = (n == 1) || (n == 2)
+-- the last one where the version knows receipts
+abbrev pub is_format : Version → ℕ → Bool
+is_format version n = (n == 1) || ((n == 2) || ((n == 3) && has_receipts version))
 
 abbrev pub format_at : ℕ → Format
-format_at n = if n == 1 then Plain else Padded
+format_at n = if n == 1 then Plain else if n == 2 then Padded else Receipts
 
 abbrev pub format_code : Format → ℕ
 format_code Plain = 1
 format_code Padded = 2
+format_code Receipts = 3
 
 -- without a byte it is Plain
 abbrev pub format_of : Option Format → Format
@@ -58,11 +60,11 @@ format_of (Some format) = format
 abbrev pub of_format : Version → Format → Option Format
 of_format version format = if has_format version then Some format else None
 
-unfoldable pub format_byte : Reader Format
-format_byte = mapped format_at (checked is_format (number w8))
+unfoldable pub format_byte : Version → Reader Format
+format_byte version = mapped format_at (checked (is_format version) (number w8))
 
 unfoldable pub format_field : Version → Reader Format
-format_field version = mapped format_of (maybe (has_format version) format_byte)
+format_field version = mapped format_of (maybe (has_format version) (format_byte version))
 
 abbrev pub format_text : Version → Format → List ℕ
 format_text version format =

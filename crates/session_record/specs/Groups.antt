@@ -1,5 +1,6 @@
--- The three groups that a record consists of, each as its fields in their order and as their text:
--- the heading, the keys, the boxes. What the heading says is handed to the others, the version too.
+-- The groups that a record consists of, each as its fields in their order and as their text: the
+-- heading, the keys, the boxes. What the heading says is handed to the others, the version too.
+-- After them stand the texts that wait (`Awaiting`).
 use Rattle.std.specs.Prelude.{ℕ, List, ◌++◌, Option}
 use Rattle.std.specs.Int.{w8, w16, w32, to_be_bytes}
 use Rattle.bodies.specs.declared.format.Format.{Format}
@@ -98,6 +99,6 @@ boxes_fields k h =
     (both (inbox_field h.version h.side h.epoch) (λ _.
     outbox_field k h.version h.session h.side h.epoch))
 
-abbrev pub boxes_text : Boxes → List ℕ
-boxes_text boxes =
-    print_counted w8 entry_text boxes.inbox ++ print_counted w8 post_text boxes.outbox
+abbrev pub boxes_text : Version → Boxes → List ℕ
+boxes_text version boxes =
+    print_counted w8 (entry_text version) boxes.inbox ++ print_counted w8 post_text boxes.outbox

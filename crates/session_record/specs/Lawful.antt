@@ -13,7 +13,7 @@ use Rattle.session_model.specs.LawfulStates.{IsLawfulState}
 use Rattle.session_model.specs.States.{State}
 use Rattle.session_model.specs.Ways.{position_of}
 use Rattle.session_record.specs.Record.{Saved}
-use Rattle.session_record.specs.Versions.{IsFormatOf, inbox_most, is_packet_of, kept_most, outbox_most, text_most}
+use Rattle.session_record.specs.Versions.{IsAwaitingOf, IsFormatOf, inbox_most, is_packet_of, kept_most, outbox_most, text_most}
 use Rattle.session_record.specs.declared.versions.Version.{Version}
 
 -- a text of the peer's, of an epoch that was reached
@@ -57,6 +57,7 @@ pub record FitsVersion (k : Mechanism) (version : Version) (c : Client) : Type 0
   pub short_texts : All (λ entry. length entry.text ≤ text_most version) c.inbox
   pub few_posts : length c.outbox ≤ outbox_most version
   pub posts : All (IsPostOf k version) c.outbox
+  pub awaiting : IsAwaitingOf version c.state.awaiting
 
 -- a client that has a record in a version
 pub record IsLawfulSaved (k : Mechanism) (s : Saved) : Type 0 where

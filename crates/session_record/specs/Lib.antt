@@ -1,6 +1,7 @@
 pub mod Versions
 pub mod Fields
 pub mod Lists
+pub mod Awaiting
 pub mod Groups
 pub mod Record
 pub mod Lawful

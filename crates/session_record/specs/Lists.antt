@@ -1,8 +1,9 @@
 -- The lists of a record: kept keys, the inbox, the outbox.
-use Rattle.std.specs.Prelude.{ℕ, ◌+◌, ◌&&◌, ◌||◌, Bool, true, false, not, nat_le, nat_lt, List, [], ◌∷◌, ◌++◌, Option, Some, None, Result, Ok, Err, if◌then◌else◌}
+use Rattle.std.specs.Prelude.{ℕ, ◌+◌, ◌==◌, ◌&&◌, ◌||◌, Bool, true, false, not, nat_le, nat_lt, List, [], ◌∷◌, ◌++◌, Option, Some, None, Result, Ok, Err, if◌then◌else◌}
 use Rattle.std.specs.Int.{w8, w16, w32, to_be_bytes}
 use Rattle.std.specs.Str.{bytes_eq}
 use Rattle.boxes.specs.Entries.{Entry, entry_under}
+use Rattle.bodies.specs.declared.limits.TheConstants.{TEXT_KIND}
 use Rattle.boxes.specs.Posts.{Post, post_under}
 use Rattle.cka.specs.Agreement.{agreement_size}
 use Rattle.dr_base.specs.Position.{is_own, position_at}
@@ -10,15 +11,15 @@ use Rattle.dr_base.specs.declared.key.Kept.{Kept}
 use Rattle.dr_base.specs.declared.limits.TheConstants.{INDEX_LIMIT}
 use Rattle.dr_base.specs.declared.position.Position.{Position}
 use Rattle.dr_base.specs.declared.position.Side.{Side}
-use Rattle.grammar.specs.Printer.{print_sized}
-use Rattle.grammar.specs.Reader.{Reader, number, piece, checked, mapped, both, counted, sized}
+use Rattle.grammar.specs.Printer.{print_maybe, print_sized}
+use Rattle.grammar.specs.Reader.{Reader, number, piece, checked, mapped, maybe, both, counted, sized}
 use Rattle.kem_laws.specs.Mechanism.{Mechanism}
 use Rattle.packet.specs.declared.fault.Malformed.{Malformed}
 use Rattle.packet.specs.Packet.{Fields}
 use Rattle.packet.specs.Reading.{read_packet, is_index}
 use Rattle.session_model.specs.States.{Reception}
 use Rattle.session_record.specs.Fields.{up_to}
-use Rattle.session_record.specs.Versions.{inbox_most, is_packet_of, kept_most, outbox_most, text_most}
+use Rattle.session_record.specs.Versions.{has_kinds, inbox_most, is_packet_of, kept_most, outbox_most, text_most}
 use Rattle.session_record.specs.declared.versions.Version.{Version}
 
 -- ---- kept keys, each above the one before
@@ -47,11 +48,13 @@ reach_of (Some r) = r.reach
 abbrev pub most_kept : ℕ → ℕ → ℕ → ℕ
 most_kept epoch reach t = if nat_lt (t + 1) epoch then INDEX_LIMIT else reach
 
--- in the epoch of the one before, above its index
+-- an index up to a greatest one; in the epoch of the position before, above that one's index
+abbrev pub is_index_behind : ℕ → Position → ℕ → ℕ → Bool
+is_index_behind most last t n =
+    nat_le 1 n && (nat_le n most && (nat_lt last.epoch t || nat_lt last.index n))
+
 abbrev pub is_kept_index : ℕ → ℕ → Position → ℕ → ℕ → Bool
-is_kept_index epoch reach last t n =
-    nat_le 1 n
-    && (nat_le n (most_kept epoch reach t) && (nat_lt last.epoch t || nat_lt last.index n))
+is_kept_index epoch reach last t n = is_index_behind (most_kept epoch reach t) last t n
 
 abbrev pub kept_of : ℕ × (ℕ × List ℕ) → Kept
 kept_of e = record { position = position_at e.0 e.1.0; key = record { bytes = e.1.1 } }
@@ -78,32 +81,44 @@ kept_text kept =
     to_be_bytes w32 kept.position.epoch
     ++ (to_be_bytes w32 kept.position.index ++ kept.key.bytes)
 
--- ---- the inbox: position, and text after its length
+-- ---- the inbox: position, kind where the version has a byte for it, and text after its length
+
+abbrev pub is_text_kind : ℕ → Bool
+is_text_kind n = n == TEXT_KIND
+
+unfoldable pub kind_field : Version → Reader (Option ℕ)
+kind_field version = maybe (has_kinds version) (checked is_text_kind (number w8))
+
+abbrev pub kind_of : Version → Option ℕ
+kind_of version = if has_kinds version then Some TEXT_KIND else None
 
 abbrev pub any : List ℕ → Bool
 any bytes = true
 
-abbrev pub entry_of : ℕ × (ℕ × List ℕ) → Entry
-entry_of e = entry_under (position_at e.0 e.1.0) e.1.1
+abbrev pub entry_of : ℕ × (ℕ × (Option ℕ × List ℕ)) → Entry
+entry_of e = entry_under (position_at e.0 e.1.0) e.1.1.1
 
-abbrev pub of_entry : Entry → ℕ × (ℕ × List ℕ)
-of_entry entry = (entry.position.epoch, (entry.position.index, entry.text))
+abbrev pub of_entry : Version → Entry → ℕ × (ℕ × (Option ℕ × List ℕ))
+of_entry version entry =
+    (entry.position.epoch, (entry.position.index, (kind_of version, entry.text)))
 
 unfoldable pub entry_field : Version → Side → ℕ → Reader Entry
 entry_field version side epoch =
     mapped entry_of
     (both (checked (is_peers side epoch) (number w32)) (λ _.
     both (checked is_index (number w32)) (λ _.
-    sized w16 (up_to (text_most version)) any)))
+    both (kind_field version) (λ _.
+    sized w16 (up_to (text_most version)) any))))
 
 unfoldable pub inbox_field : Version → Side → ℕ → Reader (List Entry)
 inbox_field version side epoch =
     counted w8 (up_to (inbox_most version)) (λ _. entry_field version side epoch)
 
-abbrev pub entry_text : Entry → List ℕ
-entry_text entry =
+abbrev pub entry_text : Version → Entry → List ℕ
+entry_text version entry =
     to_be_bytes w32 entry.position.epoch
-    ++ (to_be_bytes w32 entry.position.index ++ print_sized w16 entry.text)
+    ++ (to_be_bytes w32 entry.position.index
+    ++ (print_maybe (to_be_bytes w8) (kind_of version) ++ print_sized w16 entry.text))
 
 -- ---- the outbox: packets, each after its length
 

@@ -3,10 +3,12 @@
 use Rattle.std.specs.Prelude.{ℕ, List, ◌++◌, Result, Ok, Err}
 use Rattle.boxes.specs.Entries.{Entry}
 use Rattle.boxes.specs.Posts.{Post}
+use Rattle.dr_base.specs.declared.position.Position.{Position}
 use Rattle.grammar.specs.Reader.{Reader, mapped, both, whole}
 use Rattle.kem_laws.specs.Mechanism.{Mechanism}
 use Rattle.session_model.specs.Clients.{Client}
 use Rattle.session_model.specs.States.{State}
+use Rattle.session_record.specs.Awaiting.{awaiting_field, awaiting_text, sent_of}
 use Rattle.session_record.specs.Groups.{Boxes, Keys, boxes_fields, boxes_text, heading_fields, heading_text, keys_fields, keys_text}
 use Rattle.session_record.specs.Versions.{newest}
 use Rattle.session_record.specs.declared.groups.Heading.{Heading}
@@ -21,10 +23,10 @@ pub record Saved : Type 0 where
   pub version : Version
   pub client : Client
 
--- ---- its groups
+-- ---- its groups, and the texts that wait
 
 abbrev pub Groups : Type 0
-Groups = Heading × (Keys × Boxes)
+Groups = Heading × (Keys × (Boxes × List Position))
 
 abbrev pub heading_in : Version → State → Heading
 heading_in version s = record {
@@ -44,10 +46,12 @@ abbrev pub boxes_in : Client → Boxes
 boxes_in c = record { inbox = c.inbox; outbox = c.outbox }
 
 abbrev pub of_saved : Saved → Groups
-of_saved s = (heading_in s.version s.client.state, (keys_in s.client.state, boxes_in s.client))
+of_saved s =
+    let state = s.client.state in
+    (heading_in s.version state, (keys_in state, (boxes_in s.client, state.awaiting)))
 
-abbrev pub state_of_groups : Heading → Keys → State
-state_of_groups h keys = record {
+abbrev pub state_of_groups : Heading → Keys → List Position → State
+state_of_groups h keys awaiting = record {
   side = h.side;
   format = h.format;
   session = h.session;
@@ -57,20 +61,23 @@ state_of_groups h keys = record {
   previous = keys.previous;
   receiving = keys.receiving;
   kept = keys.kept;
+  awaiting = awaiting;
 }
 
 abbrev pub saved_of : Groups → Saved
 saved_of g =
-    let state = state_of_groups g.0 g.1.0 in
-    record { version = g.0.version; client = client_of state g.1.1.inbox g.1.1.outbox }
+    let boxes = g.1.1.0 in
+    let state = state_of_groups g.0 g.1.0 g.1.1.1 in
+    record { version = g.0.version; client = client_of state boxes.inbox boxes.outbox }
 
 -- ---- read
 
 unfoldable pub record_fields : Mechanism → Reader Groups
 record_fields k =
     both heading_fields (λ heading.
-    both (keys_fields k heading) (λ _.
-    boxes_fields k heading))
+    both (keys_fields k heading) (λ keys.
+    both (boxes_fields k heading) (λ _.
+    awaiting_field heading.version heading.side heading.epoch (sent_of keys.phase))))
 
 -- what a text is the record of, and in which version; else the offset of the first field that is
 -- cut short or unlawful, or of the first byte after the record
@@ -91,7 +98,8 @@ unfoldable pub saved_text : Saved → List ℕ
 saved_text s =
     heading_text (heading_in s.version s.client.state)
     ++ (keys_text (keys_in s.client.state)
-    ++ boxes_text (boxes_in s.client))
+    ++ (boxes_text s.version (boxes_in s.client)
+    ++ awaiting_text s.version s.client.state.awaiting))
 
 -- the text of a client's record, which is that of the newest version
 unfoldable pub record_text : Client → List ℕ

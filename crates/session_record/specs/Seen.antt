@@ -1,7 +1,8 @@
--- What the keys that code read stand for.
+-- What the groups that code read stand for.
 use Rattle.std.specs.Prelude.{List, option_map}
 use Rattle.boxes.specs.Entries.{Entry}
 use Rattle.boxes.specs.Posts.{Post}
+use Rattle.dr_base.specs.declared.position.Position.{Position}
 use Rattle.session_model.specs.Seen.{phase_seen, reception_seen}
 use Rattle.session_record.specs.Groups.{Keys, boxes_of}
 use Rattle.session_record.specs.Record.{Groups}
@@ -17,5 +18,6 @@ keys_seen keys = record {
 }
 
 -- with what the boxes hold
-abbrev pub groups_read : Heading → KeysRead → List Entry → List Post → Groups
-groups_read h keys inbox outbox = (h, (keys_seen keys, boxes_of (inbox, outbox)))
+abbrev pub groups_read : Heading → KeysRead → List Position → List Entry → List Post → Groups
+groups_read h keys awaiting inbox outbox =
+    (h, (keys_seen keys, (boxes_of (inbox, outbox), awaiting)))

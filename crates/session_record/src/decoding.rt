@@ -9,6 +9,7 @@ ghost use Rattle.session_record.specs.Groups.{boxes_fields, boxes_of};
 ghost use Rattle.session_record.specs.Record.{client_of, record_fields, record_read, saved_of, saved_read, state_of_groups};
 ghost use Rattle.session_record.specs.Seen.{groups_read, keys_seen};
 
+use crate::awaiting::{read_awaiting, sent_of};
 use crate::damaged::Damaged;
 use crate::groups::{Heading, Keys, read_heading, read_keys};
 use crate::inbox::read_inbox;
@@ -18,7 +19,7 @@ use boxes::{Inbox, Outbox};
 use fs_aead::Skipped;
 use grammar::Cursor;
 use kem_laws::{Kem, laws};
-use session_model::{Head, SessionPart};
+use session_model::{Awaiting, Head, SessionPart};
 use std::marker::PhantomData;
 
 /// The boxes, which are empty before.
@@ -44,16 +45,18 @@ fn read_fields<K: Kem>(
     cursor: &mut Cursor<'_>,
     inbox: &mut Inbox,
     outbox: &mut Outbox,
-) -> Result<(Heading, Keys), usize>
+) -> Result<(Heading, Keys, Awaiting), usize>
     requires inbox { inbox.old ≡ [] }
     requires outbox { outbox.old ≡ [] }
     ensures { let fields = record_fields K.mechanism in
-        Reads (λ f. groups_read f.0 f.1 inbox.new outbox.new) fields cursor.old cursor.new result }
+        Reads (λ f. groups_read f.0 f.1 f.2 inbox.new outbox.new) fields
+        cursor.old cursor.new result }
 {
     let heading = read_heading(cursor)?;
     let keys = read_keys::<K>(cursor, &heading)?;
     read_boxes::<K>(cursor, &heading, inbox, outbox)?;
-    Ok((heading, keys))
+    let awaiting = read_awaiting(cursor, &heading, sent_of(&keys.phase))?;
+    Ok((heading, keys, awaiting))
 }
 
 /// Reads a whole text.
@@ -62,11 +65,11 @@ fn read_whole<K: Kem>(
     text: &[u8],
     inbox: &mut Inbox,
     outbox: &mut Outbox,
-) -> Result<(Heading, Keys), usize>
+) -> Result<(Heading, Keys, Awaiting), usize>
     requires inbox { inbox.old ≡ [] }
     requires outbox { outbox.old ≡ [] }
     ensures { MatchResult result
-        (λ f. let groups = groups_read f.0 f.1 inbox.new outbox.new in
+        (λ f. let groups = groups_read f.0 f.1 f.2 inbox.new outbox.new in
         saved_read K.mechanism text.now ≡ Ok (saved_of groups))
         (λ at. saved_read K.mechanism text.now ≡ Err at) }
 {
@@ -79,9 +82,9 @@ fn read_whole<K: Kem>(
 }
 
 /// The part of a session that these are.
-fn part_of<K: Kem>(heading: Heading, keys: Keys) -> SessionPart<K>
-    requires { IsLawfulState K.mechanism (state_of_groups heading (keys_seen keys)) }
-    ensures { result ≡ state_of_groups heading (keys_seen keys) }
+fn part_of<K: Kem>(heading: Heading, keys: Keys, awaiting: Awaiting) -> SessionPart<K>
+    requires { IsLawfulState K.mechanism (state_of_groups heading (keys_seen keys) awaiting) }
+    ensures { result ≡ state_of_groups heading (keys_seen keys) awaiting }
 {
     let session = heading.session;
     SessionPart {
@@ -94,6 +97,7 @@ fn part_of<K: Kem>(heading: Heading, keys: Keys) -> SessionPart<K>
             phase: keys.phase,
             previous: keys.previous,
             receiving: keys.receiving,
+            awaiting,
             mechanism: PhantomData,
         },
         kept: Skipped::resume(keys.kept.as_slice()),
@@ -121,7 +125,7 @@ pub fn decode<K: Kem>(
     laws::<K>();
     version_law();
     match read_whole::<K>(text, inbox, outbox) {
-        Ok((heading, keys)) => Ok(part_of(heading, keys)),
+        Ok((heading, keys, awaiting)) => Ok(part_of(heading, keys, awaiting)),
         Err(at) => {
             inbox.drop_first(inbox.len()).unwrap();
             outbox.drop_first(outbox.len()).unwrap();

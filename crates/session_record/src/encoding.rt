@@ -6,6 +6,7 @@ ghost use Rattle.session_record.specs.declared.limits.TheConstants.{RECORD_LIMIT
 ghost use Rattle.session_record.specs.Changes.{FitsInbox, FitsOutbox, changed};
 ghost use Rattle.session_record.specs.Record.{client_of, record_text};
 
+use crate::awaiting::put_awaiting;
 use crate::change::Change;
 use crate::groups::{put_heading, put_keys};
 use crate::inbox::put_inbox;
@@ -61,5 +62,6 @@ pub fn encode<K: Kem>(
     let at_keys = put_heading(out, part);
     let at_inbox = put_keys(out, at_keys, part);
     let at_outbox = put_inbox(out, at_inbox, inbox, change);
-    put_outbox::<K>(out, at_outbox, outbox, change)
+    let at_awaiting = put_outbox::<K>(out, at_outbox, outbox, change);
+    put_awaiting(out, at_awaiting, part)
 }

@@ -11,10 +11,12 @@ ghost use Rattle.grammar.specs.Standing.{Reads};
 ghost use Rattle.session_record.specs.Changes.{FitsInbox, inbox_after};
 ghost use Rattle.session_record.specs.Fields.{up_to};
 ghost use Rattle.session_record.specs.Lists.{any, entry_field, entry_text, inbox_field};
+ghost use Rattle.session_record.specs.Versions.{newest};
 
 use crate::change::Change;
 use crate::groups::Heading;
-use crate::numbers::read_len;
+use crate::numbers::{read_kind, read_len};
+use bodies::TEXT_KIND;
 use boxes::{Entry, Inbox};
 use dr_base::{INBOX_LIMIT, INDEX_LIMIT, Position, TEXT_LIMIT, put, put_u8, put_u16, put_u32};
 use grammar::Cursor;
@@ -50,6 +52,7 @@ fn read_entry<'a>(cursor: &mut Cursor<'a>, heading: &Heading) -> Result<Entry<'a
     if index == 0 || index > INDEX_LIMIT {
         return Err(at_index);
     }
+    read_kind(cursor, heading.version)?;
     let text = read_text(cursor, heading.version.text_most())?;
     Ok(Entry {
         position: Position { epoch: of, index },
@@ -94,11 +97,14 @@ pub(crate) fn read_inbox(
 /// Puts a text and its position.
 fn put_entry(out: &mut [u8], at: usize, position: Position, text: &[u8]) -> usize
     requires short { length text.now ≤ TEXT_LIMIT }
-    requires room { at + length (entry_text (entry_under position text.now)) ≤ length out.old }
-    ensures { Puts out.old out.new at (entry_text (entry_under position text.now)) result }
+    requires room { let entry = entry_under position text.now in
+        at + length (entry_text newest entry) ≤ length out.old }
+    ensures { let entry = entry_under position text.now in
+        Puts out.old out.new at (entry_text newest entry) result }
 {
     let at_index = put_u32(out, at, position.epoch);
-    let at_size = put_u32(out, at_index, position.index);
+    let at_kind = put_u32(out, at_index, position.index);
+    let at_size = put_u8(out, at_kind, TEXT_KIND);
     let at_text = put_u16(out, at_size, text.len() as u16);
     put(out, at_text, text)
 }
@@ -106,8 +112,10 @@ fn put_entry(out: &mut [u8], at: usize, position: Position, text: &[u8]) -> usiz
 /// Puts the texts from a place on.
 fn put_entries(out: &mut [u8], at: usize, inbox: &Inbox, from: u32) -> usize
     requires inside { from ≤ length inbox.now }
-    requires room { at + length (print_items entry_text (drop from inbox.now)) ≤ length out.old }
-    ensures { Puts out.old out.new at (print_items entry_text (drop from inbox.now)) result }
+    requires room { let later = drop from inbox.now in
+        at + length (print_items (entry_text newest) later) ≤ length out.old }
+    ensures { let later = drop from inbox.now in
+        Puts out.old out.new at (print_items (entry_text newest) later) result }
 {
     let mut next = at;
     'entries: for i in 0..inbox.len() - from {
@@ -123,8 +131,9 @@ fn put_entries(out: &mut [u8], at: usize, inbox: &Inbox, from: u32) -> usize
 fn put_later(out: &mut [u8], at: usize, inbox: &Inbox, from: u32) -> usize
     requires inside { from ≤ length inbox.now }
     requires room { let later = drop from inbox.now in
-        at + length (print_counted w8 entry_text later) ≤ length out.old }
-    ensures { Puts out.old out.new at (print_counted w8 entry_text (drop from inbox.now)) result }
+        at + length (print_counted w8 (entry_text newest) later) ≤ length out.old }
+    ensures { let later = drop from inbox.now in
+        Puts out.old out.new at (print_counted w8 (entry_text newest) later) result }
 {
     let next = put_u8(out, at, (inbox.len() - from) as u8);
     put_entries(out, next, inbox, from)
@@ -135,9 +144,9 @@ fn put_more(out: &mut [u8], at: usize, inbox: &Inbox, position: Position, text: 
     requires space { length inbox.now < INBOX_LIMIT }
     requires short { length text.now ≤ TEXT_LIMIT }
     requires room { let more = inbox.now ++ entry_under position text.now ∷ [] in
-        at + length (print_counted w8 entry_text more) ≤ length out.old }
+        at + length (print_counted w8 (entry_text newest) more) ≤ length out.old }
     ensures { let more = inbox.now ++ entry_under position text.now ∷ [] in
-        Puts out.old out.new at (print_counted w8 entry_text more) result }
+        Puts out.old out.new at (print_counted w8 (entry_text newest) more) result }
 {
     let at_first = put_u8(out, at, inbox.len() as u8 + 1);
     let at_last = put_entries(out, at_first, inbox, 0);
@@ -148,9 +157,9 @@ fn put_more(out: &mut [u8], at: usize, inbox: &Inbox, position: Position, text: 
 pub(crate) fn put_inbox(out: &mut [u8], at: usize, inbox: &Inbox, change: &Change<'_>) -> usize
     requires fits { FitsInbox inbox.now change.now }
     requires room { let after = inbox_after inbox.now change.now in
-        at + length (print_counted w8 entry_text after) ≤ length out.old }
+        at + length (print_counted w8 (entry_text newest) after) ≤ length out.old }
     ensures { let after = inbox_after inbox.now change.now in
-        Puts out.old out.new at (print_counted w8 entry_text after) result }
+        Puts out.old out.new at (print_counted w8 (entry_text newest) after) result }
 {
     match change {
         Change::Received { position, text } => put_more(out, at, inbox, *position, text),

@@ -6,6 +6,7 @@ ghost use Rattle.dr_base.specs.declared.limits.TheConstants.{INBOX_LIMIT, KEPT_L
 ghost use Rattle.grammar.specs.Printer.{print_counted, print_items, print_maybe};
 ghost use Rattle.session_model.specs.Seen.{phase_seen, reception_seen};
 ghost use Rattle.session_record.specs.declared.limits.TheConstants.{ENTRY_LIMIT, KEYS_LIMIT, PHASE_LIMIT, POST_LIMIT, RECORD_LIMIT, STREAM_SIZE};
+ghost use Rattle.session_record.specs.Awaiting.{awaiting_text};
 ghost use Rattle.session_record.specs.Changes.{FitsInbox, FitsOutbox, changed, inbox_after, outbox_after};
 ghost use Rattle.session_record.specs.Fields.{phase_text, reception_text};
 ghost use Rattle.session_record.specs.Groups.{heading_text, keys_text};
@@ -16,7 +17,7 @@ ghost use Rattle.session_record.specs.Versions.{newest};
 use crate::change::Change;
 use crate::encoding::is_short;
 use crate::kept::{are_long, is_long};
-use crate::limits::{COUNT_SIZE, HEADING_SIZE, KEPT_SIZE, PLACE_SIZE, STREAM_SIZE};
+use crate::limits::{COUNT_SIZE, ENTRY_SIZE, HEADING_SIZE, KEPT_SIZE, PLACE_SIZE, STREAM_SIZE};
 use boxes::{Inbox, Outbox};
 use dr_base::Kept;
 use kem_laws::Kem;
@@ -81,13 +82,13 @@ fn keys_len<K: Kem>(part: &LentPart<'_, K>) -> usize
 /// The length of the texts from a place on.
 fn entries_len(inbox: &Inbox, from: u32) -> usize
     requires { from ≤ length inbox.now }
-    ensures len { result ≡ length (print_items entry_text (drop from inbox.now)) }
+    ensures len { result ≡ length (print_items (entry_text newest) (drop from inbox.now)) }
     ensures limit { result ≤ ENTRY_LIMIT * INBOX_LIMIT }
 {
     let mut sum = 0;
     'entries: for i in 0..inbox.len() - from {
         match inbox.at((from + i) as usize) {
-            Some(entry) => sum += PLACE_SIZE + 2 + entry.text.len(),
+            Some(entry) => sum += ENTRY_SIZE + entry.text.len(),
             None => unreachable!(),
         }
     }
@@ -98,10 +99,10 @@ fn entries_len(inbox: &Inbox, from: u32) -> usize
 fn inbox_len(inbox: &Inbox, change: &Change<'_>) -> usize
     requires { FitsInbox inbox.now change.now }
     ensures { let after = inbox_after inbox.now change.now in
-        result ≡ length (print_counted w8 entry_text after) }
+        result ≡ length (print_counted w8 (entry_text newest) after) }
 {
     match change {
-        Change::Received { text, .. } => 1 + entries_len(inbox, 0) + PLACE_SIZE + 2 + text.len(),
+        Change::Received { text, .. } => 1 + entries_len(inbox, 0) + ENTRY_SIZE + text.len(),
         Change::Dropped { items, n } => match items {
             Items::Texts => 1 + entries_len(inbox, *n),
             Items::Packets => 1 + entries_len(inbox, 0),
@@ -142,6 +143,13 @@ fn outbox_len<K: Kem>(outbox: &Outbox, change: &Change<'_>) -> usize
     }
 }
 
+/// The length of the texts that wait after their count.
+fn awaiting_len<K: Kem>(part: &LentPart<'_, K>) -> usize
+    ensures { result ≡ length (awaiting_text newest part.now.awaiting) }
+{
+    1 + PLACE_SIZE * part.head.awaiting.positions().len()
+}
+
 /// How many bytes the record has that `encode` writes of the same.
 pub fn encoded_len<K: Kem>(
     part: &LentPart<'_, K>,
@@ -158,5 +166,6 @@ pub fn encoded_len<K: Kem>(
 {
     is_short(part, inbox, outbox, change);
     let groups = heading_len(part) + keys_len(part);
-    groups + inbox_len(inbox, change) + outbox_len::<K>(outbox, change)
+    let boxes = inbox_len(inbox, change) + outbox_len::<K>(outbox, change);
+    groups + boxes + awaiting_len(part)
 }

@@ -3,7 +3,8 @@
 ghost use Rattle.session_record.specs.Limits.{HasLimits};
 
 use dr_base::{
-    AGREEMENT_LIMIT, INBOX_LIMIT, KEPT_LIMIT, OUTBOX_LIMIT, PACKET_LIMIT, SECRET_LIMIT, TEXT_LIMIT,
+    AGREEMENT_LIMIT, AWAITING_LIMIT, INBOX_LIMIT, KEPT_LIMIT, OUTBOX_LIMIT, PACKET_LIMIT,
+    SECRET_LIMIT, TEXT_LIMIT,
 };
 
 /// The version, the side, the format, the session id, the root and the epoch.
@@ -27,8 +28,11 @@ pub(crate) const KEPT_SIZE: usize = PLACE_SIZE + 32;
 /// The most kept keys, after their number.
 pub(crate) const KEYS_LIMIT: usize = 2 + KEPT_SIZE * KEPT_LIMIT;
 
-/// The longest text of an inbox, after its position and its length.
-pub(crate) const ENTRY_LIMIT: usize = PLACE_SIZE + 2 + TEXT_LIMIT;
+/// What a text of an inbox has before it: its position, its kind and its length.
+pub(crate) const ENTRY_SIZE: usize = PLACE_SIZE + 1 + 2;
+
+/// The longest text of an inbox, after what it has before it.
+pub(crate) const ENTRY_LIMIT: usize = ENTRY_SIZE + TEXT_LIMIT;
 
 /// The longest inbox: its texts after their number.
 pub(crate) const ENTRIES_LIMIT: usize = 1 + ENTRY_LIMIT * INBOX_LIMIT;
@@ -39,15 +43,19 @@ pub(crate) const POST_LIMIT: usize = 2 + PACKET_LIMIT;
 /// The longest outbox: its packets after their number.
 pub(crate) const POSTS_LIMIT: usize = 1 + POST_LIMIT * OUTBOX_LIMIT;
 
+/// The most positions of texts that wait, after their number.
+pub(crate) const WAITING_LIMIT: usize = 1 + PLACE_SIZE * AWAITING_LIMIT;
+
 /// The longest record: its heading, the keys of the epoch, the previous count, the receiving
-/// stream, the kept keys, the inbox and the outbox.
+/// stream, the kept keys, the inbox, the outbox and the texts that wait.
 pub const RECORD_LIMIT: usize = HEADING_SIZE
     + PHASE_LIMIT
     + COUNT_SIZE
     + STREAM_SIZE
     + KEYS_LIMIT
     + ENTRIES_LIMIT
-    + POSTS_LIMIT;
+    + POSTS_LIMIT
+    + WAITING_LIMIT;
 
 /// The limits of this crate as numbers. The function has no code.
 pub fn limits_in_numbers()

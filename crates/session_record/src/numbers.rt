@@ -5,9 +5,10 @@ ghost use Rattle.std.specs.Int.{w8};
 ghost use Rattle.grammar.specs.Reader.{checked, number};
 ghost use Rattle.grammar.specs.Standing.{Reads};
 ghost use Rattle.session_record.specs.Fields.{code_of, count_field, epoch_field, format_code, format_field, previous_field, side_field, up_to};
+ghost use Rattle.session_record.specs.Lists.{kind_field, kind_of};
 
 use crate::versions::Version;
-use bodies::Format;
+use bodies::{Format, TEXT_KIND};
 use dr_base::{INDEX_LIMIT, LAST_EPOCH, Side};
 use grammar::Cursor;
 
@@ -36,6 +37,7 @@ pub(crate) fn read_format(cursor: &mut Cursor<'_>, version: Version) -> Result<F
     match cursor.number8()? {
         1 => Ok(Format::Plain),
         2 => Ok(Format::Padded),
+        3 if version.has_receipts() => Ok(Format::Receipts),
         _ => Err(at),
     }
 }
@@ -94,6 +96,22 @@ pub(crate) fn read_len(cursor: &mut Cursor<'_>, limit: usize) -> Result<u8, usiz
     Ok(len)
 }
 
+/// The kind of a text, where the version has a byte for it: a text's.
+#[tactic(auto, unfolding(crate::specs::Lists::kind_field))]
+pub(crate) fn read_kind(cursor: &mut Cursor<'_>, version: Version) -> Result<(), usize>
+    ensures { Reads (λ _. kind_of version) (kind_field version) cursor.old cursor.new result }
+{
+    if !version.has_kinds() {
+        return Ok(());
+    }
+    let at = cursor.at();
+    let kind = cursor.number8()?;
+    if kind != TEXT_KIND {
+        return Err(at);
+    }
+    Ok(())
+}
+
 /// The byte of a side.
 pub(crate) fn side_code(side: Side) -> u8
     ensures { result ≡ code_of side }
@@ -111,5 +129,6 @@ pub(crate) fn format_code(format: Format) -> u8
     match format {
         Format::Plain => 1,
         Format::Padded => 2,
+        Format::Receipts => 3,
     }
 }

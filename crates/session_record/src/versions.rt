@@ -5,9 +5,9 @@ ghost use Rattle.dr_base.specs.declared.limits.TheConstants.{PLAIN, TEXT_LIMIT};
 ghost use Rattle.grammar.specs.Standing.{Reads};
 ghost use Rattle.packet.specs.Packet.{Fields};
 ghost use Rattle.session_record.specs.Fields.{version_field};
-ghost use Rattle.session_record.specs.Versions.{has_format, inbox_most, is_newest, is_packet_of, kept_most, outbox_most, text_most, version_code};
+ghost use Rattle.session_record.specs.Versions.{has_format, has_kinds, has_receipts, inbox_most, is_newest, is_packet_of, kept_most, outbox_most, text_most, version_code};
 
-use dr_base::{INBOX_LIMIT, KEPT_LIMIT, OUTBOX_LIMIT, PLAIN, TEXT_LIMIT};
+use dr_base::{INBOX_LIMIT, KEPT_LIMIT, OUTBOX_LIMIT, PADDED, PLAIN, TEXT_LIMIT};
 use grammar::Cursor;
 
 /// The longest text of version 1, in bytes. Each version keeps its limits when those of the product
@@ -29,10 +29,11 @@ pub(crate) enum Version {
     One,
     Two,
     Three,
+    Four,
 }
 
 /// The version that is written.
-pub(crate) const NEWEST: Version = Version::Three;
+pub(crate) const NEWEST: Version = Version::Four;
 
 impl Version {
     /// Its byte.
@@ -43,6 +44,7 @@ impl Version {
             Version::One => 1,
             Version::Two => 2,
             Version::Three => 3,
+            Version::Four => 4,
         }
     }
 
@@ -52,7 +54,27 @@ impl Version {
     {
         match self {
             Version::One | Version::Two => false,
-            Version::Three => true,
+            Version::Three | Version::Four => true,
+        }
+    }
+
+    /// Whether a session may seal receipts, and own texts wait for those of the other side.
+    pub(crate) fn has_receipts(self) -> bool
+        ensures { result ≡ has_receipts self }
+    {
+        match self {
+            Version::One | Version::Two | Version::Three => false,
+            Version::Four => true,
+        }
+    }
+
+    /// Whether a byte says the kind of each text of the inbox.
+    pub(crate) fn has_kinds(self) -> bool
+        ensures { result ≡ has_kinds self }
+    {
+        match self {
+            Version::One | Version::Two | Version::Three => false,
+            Version::Four => true,
         }
     }
 
@@ -63,7 +85,7 @@ impl Version {
     {
         match self {
             Version::One => FIRST_TEXT_LIMIT,
-            Version::Two | Version::Three => TEXT_LIMIT,
+            Version::Two | Version::Three | Version::Four => TEXT_LIMIT,
         }
     }
 
@@ -74,7 +96,8 @@ impl Version {
     {
         match self {
             Version::One | Version::Two => packet == PLAIN && sealed <= self.text_most(),
-            Version::Three => true,
+            Version::Three => packet == PLAIN || packet == PADDED,
+            Version::Four => true,
         }
     }
 
@@ -85,7 +108,7 @@ impl Version {
     {
         match self {
             Version::One => FIRST_KEPT_LIMIT,
-            Version::Two | Version::Three => KEPT_LIMIT,
+            Version::Two | Version::Three | Version::Four => KEPT_LIMIT,
         }
     }
 
@@ -96,7 +119,7 @@ impl Version {
     {
         match self {
             Version::One => FIRST_INBOX_LIMIT,
-            Version::Two | Version::Three => INBOX_LIMIT,
+            Version::Two | Version::Three | Version::Four => INBOX_LIMIT,
         }
     }
 
@@ -107,7 +130,7 @@ impl Version {
     {
         match self {
             Version::One => FIRST_OUTBOX_LIMIT,
-            Version::Two | Version::Three => OUTBOX_LIMIT,
+            Version::Two | Version::Three | Version::Four => OUTBOX_LIMIT,
         }
     }
 }
@@ -122,6 +145,7 @@ pub(crate) fn read_version(cursor: &mut Cursor<'_>) -> Result<Version, usize>
         1 => Ok(Version::One),
         2 => Ok(Version::Two),
         3 => Ok(Version::Three),
+        4 => Ok(Version::Four),
         _ => Err(at),
     }
 }

@@ -4,14 +4,11 @@ ghost use Rattle.std.specs.Prelude.{◌≡◌, ◌≤◌, length, is_some};
 
 use arrayvec::ArrayVec;
 use bodies::Format;
-use cka::{Agreement, PublicText, SecretText};
 use dr_base::{Key32, PACKET_LIMIT, Position, Side, TEXT_LIMIT, in_room};
-use fs_aead::Skipped;
 use kem_laws::{NoPair, OpenKem};
 use packet::parse;
 use ratchet::{NoPairFor, OpeningRoom, PacketRoom, Session};
-use session_model::{Head, Own, Phase, Reception, Refusal, SendRefusal, SessionPart};
-use std::marker::PhantomData;
+use session_model::Refusal;
 use std::test::Fail;
 
 /// A seed of equal bytes, if one is asked for.
@@ -50,10 +47,10 @@ pub(crate) fn say(
     }
 }
 
-/// Takes a packet, and answers its text.
-pub(crate) fn take(session: &mut Session<OpenKem>, packet: &Packet) -> Result<Text, Refusal> {
+/// Takes the bytes of a packet, and answers its text.
+pub(crate) fn take_bytes(session: &mut Session<OpenKem>, packet: &[u8]) -> Result<Text, Refusal> {
     let mut room = OpeningRoom::new();
-    match parse(packet.as_slice(), 64) {
+    match parse(packet, 64) {
         Err(fault) => Err(Refusal::Malformed(fault)),
         Ok(view) => match session.draft_receive(&mut (), &view, &mut room) {
             Err(refusal) => Err(refusal.into()),
@@ -66,11 +63,20 @@ pub(crate) fn take(session: &mut Session<OpenKem>, packet: &Packet) -> Result<Te
     }
 }
 
+/// Takes a packet, and answers its text.
+pub(crate) fn take(session: &mut Session<OpenKem>, packet: &Packet) -> Result<Text, Refusal> {
+    take_bytes(session, packet.as_slice())
+}
+
+/// A side at the beginning, under the key of 32 times a byte.
+pub(crate) fn begin(side: Side, format: Format, byte: u8) -> Result<Session<OpenKem>, NoPair> {
+    Session::begin(&mut (), side, format, &Key32 { bytes: [byte; 32] })
+}
+
 /// What both sides begin with.
 fn sessions() -> Result<(Session<OpenKem>, Session<OpenKem>), NoPair> {
-    let key = Key32 { bytes: [7; 32] };
-    let first = Session::begin(&mut (), Side::First, Format::Plain, &key)?;
-    let second = Session::begin(&mut (), Side::Second, Format::Plain, &key)?;
+    let first = begin(Side::First, Format::Plain, 7)?;
+    let second = begin(Side::Second, Format::Plain, 7)?;
     Ok((first, second))
 }
 
@@ -142,60 +148,5 @@ fn what_has_no_pair_is_handed_back(rt: HostRuntime) -> Result<(), Fail> {
     assert!(rt; passes(&mut second, &mut first, b"hello", 0)?);
     assert!(rt; say(&mut first, b"lost", 255).err() == Some(Refusal::NoPair));
     assert!(rt; passes(&mut first, &mut second, b"answer", 1)?);
-    Ok(())
-}
-
-/// Second, which said all texts that its epoch 0 holds.
-fn full_session() -> Session<OpenKem> {
-    let mut secret = SecretText::new();
-    secret.try_extend_from_slice(&[1; 32]).unwrap();
-    Session::resume(SessionPart {
-        head: Head {
-            side: Side::Second,
-            format: Format::Plain,
-            session: [2; 16],
-            root: Key32 { bytes: [3; 32] },
-            epoch: 0,
-            phase: Phase::Own(Own {
-                secret,
-                agreement: Agreement::new(),
-                chain: Key32 { bytes: [4; 32] },
-                sent: 65535,
-            }),
-            previous: 0,
-            receiving: None,
-            mechanism: PhantomData,
-        },
-        kept: Skipped::new(),
-    })
-}
-
-/// First in the last epoch, which is Second's.
-fn last_session() -> Session<OpenKem> {
-    let mut public = PublicText::new();
-    public.try_extend_from_slice(&[1; 32]).unwrap();
-    Session::resume(SessionPart {
-        head: Head {
-            side: Side::First,
-            format: Format::Plain,
-            session: [2; 16],
-            root: Key32 { bytes: [3; 32] },
-            epoch: 4294967294,
-            phase: Phase::Peers(public),
-            previous: 0,
-            receiving: Some(Reception {
-                chain: Key32 { bytes: [4; 32] },
-                reach: 0,
-            }),
-            mechanism: PhantomData,
-        },
-        kept: Skipped::new(),
-    })
-}
-
-#[test]
-fn ends_are_refused(rt: HostRuntime) -> Result<(), Fail> {
-    assert!(rt; full_session().send_check(1) == Err(SendRefusal::EpochFull));
-    assert!(rt; last_session().send_check(1) == Err(SendRefusal::LastEpoch));
     Ok(())
 }

@@ -3,12 +3,12 @@
 ghost use Rattle.std.specs.Prelude.{◌≤◌, length};
 ghost use Rattle.dr_base.specs.declared.limits.TheConstants.{PACKET_LIMIT};
 
-use crate::conversation::say;
+use crate::conversation::{begin, say};
 use crate::record::BEGUN;
 use bodies::Format;
 use boxes::{Inbox, Outbox};
-use dr_base::{Key32, PACKET_LIMIT, Side};
-use kem_laws::{NoPair, OpenKem};
+use dr_base::{PACKET_LIMIT, Side};
+use kem_laws::OpenKem;
 use ratchet::Session;
 use session_record::{Change, RECORD_LIMIT, encode};
 use std::alloc::{AllocError, Global};
@@ -31,6 +31,14 @@ fn begun(alloc: Global, version: u8) -> Result<Vec<u8>, AllocError> {
     Ok(text)
 }
 
+/// Where a version has them, no texts that wait.
+fn close(text: &mut Vec<u8>, version: u8) -> Result<(), AllocError> {
+    if version > 3 {
+        text.push(0)?;
+    }
+    Ok(())
+}
+
 /// The record with so many kept keys.
 fn with_kept(alloc: Global, version: u8, n: u16) -> Result<Vec<u8>, AllocError> {
     let mut text = begun(alloc, version)?;
@@ -42,7 +50,20 @@ fn with_kept(alloc: Global, version: u8, n: u16) -> Result<Vec<u8>, AllocError> 
         text.extend_from_slice(&[(index % 256) as u8; 32])?;
     }
     text.extend_from_slice(&[0; 2])?;
+    close(&mut text, version)?;
     Ok(text)
+}
+
+/// Puts a text of so many a, after its kind, where a version has one, and its length.
+fn put_text(text: &mut Vec<u8>, version: u8, n: u16) -> Result<(), AllocError> {
+    if version > 3 {
+        text.push(0)?;
+    }
+    text.extend_from_slice(&n.to_be_bytes())?;
+    for _ in 0..n {
+        text.push(b'a')?;
+    }
+    Ok(())
 }
 
 /// The record with so many empty texts.
@@ -52,9 +73,10 @@ fn with_entries(alloc: Global, version: u8, n: u16) -> Result<Vec<u8>, AllocErro
     for i in 0..n {
         text.extend_from_slice(&[0; 4])?;
         text.extend_from_slice(&u32::from(i + 1).to_be_bytes())?;
-        text.extend_from_slice(&[0; 2])?;
+        put_text(&mut text, version, 0)?;
     }
-    text.extend_from_slice(&[0])?;
+    text.push(0)?;
+    close(&mut text, version)?;
     Ok(text)
 }
 
@@ -62,15 +84,17 @@ fn with_entries(alloc: Global, version: u8, n: u16) -> Result<Vec<u8>, AllocErro
 fn with_text(alloc: Global, version: u8, n: u16) -> Result<Vec<u8>, AllocError> {
     let mut text = begun(alloc, version)?;
     text.extend_from_slice(&[0, 0, 1, 0, 0, 0, 0, 0, 0, 0, 1])?;
-    text.extend_from_slice(&n.to_be_bytes())?;
-    for _ in 0..n {
-        text.push(b'a')?;
-    }
+    put_text(&mut text, version, n)?;
     text.push(0)?;
+    close(&mut text, version)?;
     Ok(text)
 }
 
-/// The record of a plain session of Second's with one packet, in a version.
+/// How long the end of a record is where one text waits: their number and a position.
+const WAITING: usize = 1 + 8;
+
+/// The record of a plain session of Second's that said one text, with one packet and without the
+/// text that waits, in a version.
 fn encoded(
     alloc: Global,
     session: &Session<OpenKem>,
@@ -84,8 +108,12 @@ fn encoded(
     let mut text = vec![in alloc; 0; RECORD_LIMIT]?;
     let change = Change::Said { packet };
     let len = encode(&session.part(), &inbox, &outbox, &change, &mut text);
-    match text.get(3..len) {
-        Some(rest) => of_side(alloc, version, 2, rest),
+    match text.get(3..len.saturating_sub(WAITING)) {
+        Some(rest) => {
+            let mut text = of_side(alloc, version, 2, rest)?;
+            close(&mut text, version)?;
+            Ok(text)
+        }
         None => Ok(Vec::new(alloc)),
     }
 }
@@ -101,20 +129,10 @@ fn with_said(
     Ok(encoded(alloc, session, packet.as_slice(), version)?)
 }
 
-/// Second at the beginning, under the key of zeros.
-fn second() -> Result<Session<OpenKem>, NoPair> {
-    Session::begin(
-        &mut (),
-        Side::Second,
-        Format::Plain,
-        &Key32 { bytes: [0; 32] },
-    )
-}
-
 /// What Second keeps once it said so many x at the beginning, in a version.
 fn with_packet(alloc: Global, version: u8, n: u16) -> Result<Vec<u8>, Fail> {
     let first = vec![in alloc; b'x'; usize::from(n)]?;
-    let mut session = second()?;
+    let mut session = begin(Side::Second, Format::Plain, 0)?;
     with_said(alloc, &mut session, &first, version)
 }
 
@@ -124,7 +142,7 @@ pub(crate) fn with_other(alloc: Global, version: u8, packet: &[u8]) -> Result<Ve
     if packet.len() > PACKET_LIMIT {
         return Ok(Vec::new(alloc));
     }
-    let mut session = second()?;
+    let mut session = begin(Side::Second, Format::Plain, 0)?;
     let _own = say(&mut session, b"hi", 0)?;
     Ok(encoded(alloc, &session, packet, version)?)
 }

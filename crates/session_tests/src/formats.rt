@@ -1,13 +1,8 @@
 //! What both sides keep after a conversation in each format, by an independent implementation.
 
-use crate::conversation::{Packet, say, take};
-use crate::versions::has_digest;
+use crate::party::Party;
 use bodies::Format;
-use boxes::{Inbox, Outbox};
-use dr_base::{Key32, Position, Side};
-use kem_laws::OpenKem;
-use ratchet::Session;
-use session_record::{Change, RECORD_LIMIT, encode};
+use dr_base::{Key32, Side};
 use std::alloc::Global;
 use std::test::Fail;
 
@@ -20,54 +15,10 @@ const KEY: Key32 = Key32 {
     ],
 };
 
-/// A side: its session and its boxes.
-#[derive(Drop)]
-struct Party {
-    session: Session<OpenKem>,
-    inbox: Inbox,
-    outbox: Outbox,
-}
-
-impl Party {
-    fn begin(alloc: Global, side: Side, format: Format) -> Result<Party, Fail> {
-        Ok(Party {
-            session: Session::begin(&mut (), side, format, &KEY)?,
-            inbox: Inbox::new(alloc)?,
-            outbox: Outbox::new(alloc)?,
-        })
-    }
-
-    /// Says a text, which gets this position, with these bytes where some are drawn.
-    fn says(&mut self, position: (u32, u32), text: &[u8], byte: u8) -> Result<Packet, Fail> {
-        let (epoch, index) = position;
-        let packet = say(&mut self.session, text, byte)?;
-        self.outbox
-            .push(Position { epoch, index }, packet.as_slice())?;
-        Ok(packet)
-    }
-
-    /// Takes the packet of this position.
-    fn takes(&mut self, position: (u32, u32), packet: &Packet) -> Result<(), Fail> {
-        let (epoch, index) = position;
-        let text = take(&mut self.session, packet)?;
-        self.inbox.push(Position { epoch, index }, text.as_slice())?;
-        Ok(())
-    }
-
-    /// Whether its record has this SHA-256.
-    fn has_record(&self, alloc: Global, sha256: &str) -> Result<bool, Fail> {
-        let mut text = vec![in alloc; 0; RECORD_LIMIT]?;
-        let part = self.session.part();
-        let len = encode(&part, &self.inbox, &self.outbox, &Change::Same, &mut text);
-        text.truncate(len);
-        has_digest(alloc, &text, sha256)
-    }
-}
-
 /// Whether the records of First and of Second have these SHA-256 where both begin in this format.
 fn have_records(alloc: Global, format: Format, one: &str, other: &str) -> Result<bool, Fail> {
-    let mut first = Party::begin(alloc, Side::First, format)?;
-    let mut second = Party::begin(alloc, Side::Second, format)?;
+    let mut first = Party::begin(alloc, Side::First, format, &KEY)?;
+    let mut second = Party::begin(alloc, Side::Second, format, &KEY)?;
     let _a = second.says((0, 1), b"a", 0)?;
     let _b = second.says((0, 2), b"b", 0)?;
     let c = second.says((0, 3), b"c", 0)?;
@@ -86,13 +37,18 @@ fn records_keep_the_format(rt: HostRuntime) -> Result<(), Fail> {
     let rows = [
         (
             Format::Plain,
-            "e5a40f3339811ae67a200cbda4d86df0201de9c0a3701d05b70269973a5c9eb0",
-            "b4a0f3469ba53b8a5cddca84c328601dbd5e6e818e8dd15a9d3937c15ae1a7e3",
+            "28cefe0d71f84106b212e199a22cecd2fd0c517971bfc3fc34132ab5b104cd2b",
+            "058fe8f06dcb34fb0d29e3e8192d614b1bb213c4d76d3a459e2bcc0e2c5e6734",
         ),
         (
             Format::Padded,
-            "5c755a5455b98de28a18b4aba79314b3ddb460935efc3ea05606ca85dc18bf6c",
-            "411df27594a307d215160e23b396150b71363561b2abb9a162242b30add577d4",
+            "eb6552ae0115b5d4afe98ac3534bbb3b39e6a5fb7b5ef6628b7a6b526b265015",
+            "770b090212067273f16429ee8e8fb566d754a18183b8034f071b447bd2099365",
+        ),
+        (
+            Format::Receipts,
+            "e205c92e0c3627b009f0055c98f7058bbadbc79fa93729e6f6f0e247485ba86b",
+            "0fa6e6b8b5095fb993c88fdca7fb9f649cf3fd171f20a6402f97e0a77f1c3f67",
         ),
     ];
     for (format, one, other) in rows {

@@ -1,9 +1,15 @@
-//! Packets of later versions, of an independent implementation: which version of a record holds them.
+//! Packets of later versions, of an independent implementation: who takes them, and which version
+//! of a record holds them.
 
+use crate::conversation::{begin, take_bytes};
 use crate::filled::with_other;
 use crate::record::is_damaged;
 use crate::versions::has_digest;
+use bodies::Format;
+use dr_base::Side;
 use hex::decode;
+use packet::{Kind, Malformed};
+use session_model::Refusal;
 use std::alloc::Global;
 use std::test::Fail;
 
@@ -40,7 +46,7 @@ fn is_told(alloc: Global, row: Row) -> Result<bool, Fail> {
 
 #[test]
 fn records_hold_the_packets_of_their_version(rt: HostRuntime) -> Result<(), Fail> {
-    let rows: [Row; 6] = [
+    let rows: [Row; 8] = [
         (
             1,
             PADDED,
@@ -77,9 +83,72 @@ fn records_hold_the_packets_of_their_version(rt: HostRuntime) -> Result<(), Fail
             "0ed8a3012c9e8c41a10f2d710c8a5c7a36851e8340bf7c48bb92949ed2bc7cd4",
             Some(133),
         ),
+        (
+            4,
+            PADDED,
+            "13150fd26cab7cc2b3d52df3c133eac20a6dde4062302133434dfa2d5c7d1e72",
+            None,
+        ),
+        (
+            4,
+            RECEIPTS,
+            "2d0bf3cc0d66962b7620e14d9c7b6cf2a5d8f9ed79e6c462e93bd510883eedb8",
+            None,
+        ),
     ];
     for row in rows {
         assert!(rt; is_told(rt.alloc(), row)?);
+    }
+    Ok(())
+}
+
+/// Whether First takes the text `hi` out of a packet, whatever it seals itself.
+fn is_taken(alloc: Global, format: Format, packet: &str) -> Result<bool, Fail> {
+    let packet = decode(alloc, packet)?;
+    let mut first = begin(Side::First, format, 0)?;
+    Ok(take_bytes(&mut first, &packet)?.as_slice() == b"hi".as_slice())
+}
+
+#[test]
+fn packets_of_each_version_are_taken(rt: HostRuntime) -> Result<(), Fail> {
+    for format in [Format::Plain, Format::Padded, Format::Receipts] {
+        assert!(rt; is_taken(rt.alloc(), format, PADDED)?);
+        assert!(rt; is_taken(rt.alloc(), format, RECEIPTS)?);
+    }
+    Ok(())
+}
+
+/// A packet that says it is of version 4.
+fn of_version_4(alloc: Global) -> Result<Vec<u8>, Fail> {
+    let mut packet = decode(alloc, RECEIPTS)?;
+    if let Some(version) = packet.first_mut() {
+        *version = 4;
+    }
+    Ok(packet)
+}
+
+/// Whether First refuses a packet of version 4.
+fn is_refused(alloc: Global) -> Result<bool, Fail> {
+    let packet = of_version_4(alloc)?;
+    let mut first = begin(Side::First, Format::Receipts, 0)?;
+    let fault = Malformed {
+        at: 0,
+        kind: Kind::Version,
+    };
+    Ok(take_bytes(&mut first, &packet).err() == Some(Refusal::Malformed(fault)))
+}
+
+/// Whether a record of a version with a packet of version 4 is damaged at this packet.
+fn is_damage(alloc: Global, version: u8, at: usize) -> Result<bool, Fail> {
+    let text = with_other(alloc, version, &of_version_4(alloc)?)?;
+    Ok(is_damaged(alloc, &text, Some(at))?)
+}
+
+#[test]
+fn packets_of_version_4_are_refused(rt: HostRuntime) -> Result<(), Fail> {
+    assert!(rt; is_refused(rt.alloc())?);
+    for (version, at) in [(1, 132), (2, 132), (3, 133), (4, 133)] {
+        assert!(rt; is_damage(rt.alloc(), version, at)?);
     }
     Ok(())
 }

@@ -10,7 +10,7 @@ use std::test::Fail;
 type Row = (u8, u16, Option<usize>);
 
 /// So many kept keys.
-const KEPT: [Row; 12] = [
+const KEPT: [Row; 16] = [
     (1, 256, None),
     (1, 257, Some(126)),
     (1, 512, Some(126)),
@@ -23,10 +23,14 @@ const KEPT: [Row; 12] = [
     (3, 257, None),
     (3, 512, None),
     (3, 513, Some(127)),
+    (4, 256, None),
+    (4, 257, None),
+    (4, 512, None),
+    (4, 513, Some(127)),
 ];
 
 /// The SHA-256 of each of these records.
-const KEPT_SHA256: [&str; 12] = [
+const KEPT_SHA256: [&str; 16] = [
     "1144b719cc6a8e7d37f2e6e2494feacdd6a35423461568aec3b0ef79485690c7",
     "deff041acb243b1baf92dab2b7ca17e5bb3f2c86e9de3376f7288be61cdadce2",
     "6e99cd7091d3c0ba0aae3db90bf67594927dd957b24bbf9aa73f1a082c0bdcdf",
@@ -39,10 +43,14 @@ const KEPT_SHA256: [&str; 12] = [
     "0ae5ce05ec62a678c9b6d968a3be2a9f3b7180f9184c201d0fb4b32e53755faf",
     "0c9ed814588dcf7024e612ec025af1fa43fdeff8e179431068a7606d9372e7b6",
     "be56e546da497e5592090a3aedcaf2ceb1d6d599b763e9414f163a399251ac33",
+    "20e125e85acea0322716ba62511d8647750a4923b8f93198eb45bf5144a8649f",
+    "97621b2f1b5940d1d28a9b7f8254859a2d6ae7e8df5ab23d72fed5fe6778ff74",
+    "c6d42274c33b9105f352a98de85aa116d350bd3c4ed68ffb5676ac9810ebfa8f",
+    "80e1a106465ede4879be31716cf08b525c0a14405d230293e2cd1d28a9d96e0c",
 ];
 
 /// So many texts in an inbox, all empty.
-const ENTRIES: [Row; 12] = [
+const ENTRIES: [Row; 16] = [
     (1, 64, None),
     (1, 65, Some(128)),
     (1, 128, Some(128)),
@@ -55,10 +63,14 @@ const ENTRIES: [Row; 12] = [
     (3, 65, None),
     (3, 128, None),
     (3, 129, Some(129)),
+    (4, 64, None),
+    (4, 65, None),
+    (4, 128, None),
+    (4, 129, Some(129)),
 ];
 
 /// The SHA-256 of each of these records.
-const ENTRIES_SHA256: [&str; 12] = [
+const ENTRIES_SHA256: [&str; 16] = [
     "f7f00785b8b7511cd57ceb850c471bcf4c621ed7663b6ac625a6022c60fea818",
     "f36adef3e04cace899e8c704ff2039e34edb0f376a3752facadbfa7a9e637b87",
     "9b11a955b2ad292a9e497da7b81c84c5d9f6ca87dcf34856829baa18f4ec0f46",
@@ -71,10 +83,14 @@ const ENTRIES_SHA256: [&str; 12] = [
     "40cadcad8f1b6f358198694d776c027525676ad069d8a610ae1ba69ed839bece",
     "ef5dccaa96c1140cc420d689f79cc61ba8a0a1ecc8de22885052105294d670a9",
     "567bdfeb12e99c4f01bd9757f6612820cff2e4de68a7ce575286f425b8e689bf",
+    "90dabf4fb6dbbfeef9c256884a6b09e953fa26958076a94fbf5c37660d842d5a",
+    "3758bf9ac8cb969c6891f1fe273a22cfe3ee648b7f7977d1722eecf85f6b647f",
+    "2fda135b62a44a91db27f9bba6a955a6e984ff92c1394bfaa814a359b92e461d",
+    "9f3348668a30288a205c413199d257a0977cf65a88181299aad60db9a3467b4c",
 ];
 
 /// One text of so many bytes.
-const TEXT: [Row; 12] = [
+const TEXT: [Row; 16] = [
     (1, 1024, None),
     (1, 1025, Some(137)),
     (1, 4096, Some(137)),
@@ -87,10 +103,14 @@ const TEXT: [Row; 12] = [
     (3, 1025, None),
     (3, 4096, None),
     (3, 4097, Some(138)),
+    (4, 1024, None),
+    (4, 1025, None),
+    (4, 4096, None),
+    (4, 4097, Some(139)),
 ];
 
 /// The SHA-256 of each of these records.
-const TEXT_SHA256: [&str; 12] = [
+const TEXT_SHA256: [&str; 16] = [
     "05fc41c100ed6e526ffc2349c9a4e0a62d62e040fe88ff25ad9331a38c83ff2d",
     "1c35c822ac0cf2bc8fb0b43024724dab388713354db47416419c06e38065d0c0",
     "94437fe4b48e543377e3d195c62e61da2c1fd045e84c6177373a7d82838dece1",
@@ -103,10 +123,14 @@ const TEXT_SHA256: [&str; 12] = [
     "301015a3ea87a591a219cd45dcd23dad7cdaa5dc8cb2d9f0c4b6ec5edb24377c",
     "3ecdcc8dbb373c83854db2b1f94d9e5016685c94e217e3b40d20caedb9d6afa3",
     "031adf24aeb4ba2a6c387a2bbcdf575eedd868fecd0884dcfc0c6f62fb340f4a",
+    "dc4b97c6f0728dc0e7efe26709f41bad848412670c1f4bfc157e4d06b5b0ec27",
+    "51a28dbdc78837f8d07bb7cc7225ca51aca6f8a9b542a72ebc117e73c119e148",
+    "251e955e54275e7944ac1c037afd357e540b5aa3b0ad414f0264eddc7229c979",
+    "853820bea036f3c7497f5a7cf9bb03e43096ebafdd460d06fa33fa8745331550",
 ];
 
 /// One packet in Second's outbox, of a text of so many bytes.
-const PACKET: [Row; 9] = [
+const PACKET: [Row; 12] = [
     (1, 1024, None),
     (1, 1025, Some(132)),
     (1, 4096, Some(132)),
@@ -116,10 +140,13 @@ const PACKET: [Row; 9] = [
     (3, 1024, None),
     (3, 1025, None),
     (3, 4096, None),
+    (4, 1024, None),
+    (4, 1025, None),
+    (4, 4096, None),
 ];
 
 /// The SHA-256 of each of these records.
-const PACKET_SHA256: [&str; 9] = [
+const PACKET_SHA256: [&str; 12] = [
     "8337d56a8d6a2f1ef3313959ae475ae36688c3057b07bc868bd54536b4885b24",
     "2829d765fa811ff9c4eb5a2a768b400a73a109f33c519550b71e9220dae6db83",
     "ba20a6fb79654d8f83be3291124c848f4a033d306c339e7177c637c1ff8bcae7",
@@ -129,6 +156,9 @@ const PACKET_SHA256: [&str; 9] = [
     "4bdebc0811446e677d92c2e1feece537532306a22ba38724ded945aa2d9ae6e0",
     "0d19a39c0d195fb919ed5f83d367f6d313a8745947b7336dbf796110dca96910",
     "91bd102ebc56ceef65610406cfb350f20cb9e7f50fc9591917fe2abfcf5b6766",
+    "ed6bd3164082f52a9c9b2f8121814dd427d12521caf8a2f0d7d858e521b7f749",
+    "c02b0bf1f65e33f70cf761b53a51b7ab660c5d6a9add675a4f25a0b91a6ef70a",
+    "d1cc4f3767de3d44544b6f06a5dcdee2c4d61e2c10dc11706d9bc6d21a69d1d0",
 ];
 
 /// Whether a row's record has its SHA-256, and its damage.

@@ -63,8 +63,9 @@ fn finds(len: usize, place: usize, new: &[u8], fault: Malformed) -> bool {
 #[test]
 fn finds_the_first_fault(rt: HostRuntime) {
     // the length of what is parsed, a place, the bytes that are put there, and the fault
-    let rows: [(usize, usize, &[u8], usize, Kind); 11] = [
+    let rows: [(usize, usize, &[u8], usize, Kind); 12] = [
         (67, 0, &[0], 0, Kind::Version),
+        (67, 0, &[4], 0, Kind::Version),
         (67, 17, &[255, 255, 255, 255], 17, Kind::Epoch),
         (67, 24, &[1], 21, Kind::Previous),
         (67, 26, &[1], 25, Kind::Index),

@@ -17,35 +17,44 @@ fn opened(version: u8, bytes: &[u8]) -> Option<&[u8]> {
     }
 }
 
-/// Whether a text is sealed as so many bytes with this SHA-256, and opened again.
-fn seals_text(alloc: Global, text: &[u8], len: usize, sha256: &str) -> Result<bool, Fail> {
+/// Whether a text is sealed in a version as so many bytes with this SHA-256, and opened again.
+fn seals_text(
+    alloc: Global,
+    version: u8,
+    text: &[u8],
+    len: usize,
+    sha256: &str,
+) -> Result<bool, Fail> {
     if text.len() > TEXT_LIMIT {
         return Ok(false);
     }
     let body = Body::text(text);
     let mut room = [255; SEALED_LIMIT];
-    let said_len = sealed_len(PADDED, &body);
-    let end = put_sealed(PADDED, &mut room, 0, &body);
+    let said_len = sealed_len(version, &body);
+    let end = put_sealed(version, &mut room, 0, &body);
     let sealed = &room[..end];
-    let is_right = (said_len, end) == (len, len) && opened(PADDED, sealed) == Some(text);
+    let is_right = (said_len, end) == (len, len) && opened(version, sealed) == Some(text);
     Ok(is_right && has_digest(alloc, sealed, sha256)?)
 }
 
-/// Whether so many times a letter are sealed as so many bytes with this SHA-256, and opened again.
-fn seals(alloc: Global, letter: u8, count: usize, len: usize, sha256: &str) -> Result<bool, Fail> {
+/// A letter, how many of it are a text, how many bytes are sealed, and their SHA-256.
+pub(crate) type Sealed = (u8, usize, usize, &'static str);
+
+/// Whether the text of a row is sealed as told in a version, and opened again.
+pub(crate) fn seals(alloc: Global, version: u8, row: Sealed) -> Result<bool, Fail> {
+    let (letter, count, len, sha256) = row;
     if count > TEXT_LIMIT {
         return Ok(false);
     }
     let letters = [letter; TEXT_LIMIT];
-    seals_text(alloc, &letters[..count], len, sha256)
+    seals_text(alloc, version, &letters[..count], len, sha256)
 }
 
 #[test]
 fn seals_padded(rt: HostRuntime) -> Result<(), Fail> {
     bodies_law();
     lengths_law();
-    // a letter, how many of it are a text, how many bytes are sealed, and their SHA-256
-    let rows = [
+    let rows: [Sealed; 6] = [
         (
             b'a',
             0,
@@ -83,8 +92,8 @@ fn seals_padded(rt: HostRuntime) -> Result<(), Fail> {
             "21cf06555b4ac0842143a2a4eee2db760151ad0979d2c852a84e4663435564e6",
         ),
     ];
-    for (letter, count, len, sha256) in rows {
-        assert!(rt; seals(rt.alloc(), letter, count, len, sha256)?);
+    for row in rows {
+        assert!(rt; seals(rt.alloc(), PADDED, row)?);
     }
     Ok(())
 }

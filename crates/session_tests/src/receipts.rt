@@ -1,14 +1,9 @@
-//! What packets with receipts seal, and what receipts cover, by rows of an independent
-//! implementation.
+//! What packets with receipts seal, by rows of an independent implementation.
 
 ghost use Rattle.std.specs.Prelude.{◌≤◌};
 
-use arrayvec::ArrayVec;
-use bodies::{
-    BODY_LIMIT, Body, RECEIPTS, Receipt, SEALED_BODY_LIMIT, is_covered, open_body, put_sealed,
-    receipts_law, sealed_len,
-};
-use dr_base::{Position, Side, TEXT_LIMIT, put, put_u8, put_u16, put_u32};
+use bodies::{BODY_LIMIT, Body, Receipt, open_body, put_sealed, receipts_law, sealed_len};
+use dr_base::{Position, RECEIPTS, SEALED_LIMIT, Side, TEXT_LIMIT, put, put_u16};
 use hex::decode;
 use std::alloc::Global;
 use std::test::Fail;
@@ -16,13 +11,13 @@ use std::test::Fail;
 /// More letters than a text has.
 const LETTERS: [u8; BODY_LIMIT] = [b'a'; BODY_LIMIT];
 
-fn at(epoch: u32, index: u32) -> Position {
+pub(crate) fn at(epoch: u32, index: u32) -> Position {
     Position { epoch, index }
 }
 
 /// Puts bytes and so many letters after them, padded, and answers the place after them.
-fn pad(room: &mut [u8; SEALED_BODY_LIMIT], front: &[u8], letters: usize) -> usize
-    ensures { result ≤ SEALED_BODY_LIMIT }
+fn pad(room: &mut [u8; SEALED_LIMIT], front: &[u8], letters: usize) -> usize
+    ensures { result ≤ SEALED_LIMIT }
 {
     if front.len() > 300 || letters > TEXT_LIMIT + 1 {
         return 0;
@@ -35,9 +30,9 @@ fn pad(room: &mut [u8; SEALED_BODY_LIMIT], front: &[u8], letters: usize) -> usiz
 }
 
 /// What a receipt says: its bound, and how many positions it lists.
-type Said = Option<(Position, usize)>;
+pub(crate) type Said = Option<(Position, usize)>;
 
-fn said(receipt: &Option<Receipt>) -> Said {
+pub(crate) fn said(receipt: &Option<Receipt>) -> Said {
     match receipt {
         Some(receipt) => Some((receipt.bound, receipt.listed.len())),
         None => None,
@@ -49,7 +44,7 @@ fn is_sealed_as(body: &Body<'_>, bytes: &[u8]) -> bool {
     if body.content.len() > TEXT_LIMIT {
         return false;
     }
-    let mut room = [0; SEALED_BODY_LIMIT];
+    let mut room = [0; SEALED_LIMIT];
     let len = sealed_len(RECEIPTS, body);
     let end = put_sealed(RECEIPTS, &mut room, 0, body);
     len == end && &room[..end] == bytes
@@ -57,8 +52,8 @@ fn is_sealed_as(body: &Body<'_>, bytes: &[u8]) -> bool {
 
 /// Whether a side opens the padding of bytes and so many letters after them as a text of the
 /// letters with this receipt, which is sealed as the same again.
-fn opens(side: Side, front: &[u8], letters: usize, receipt: Said) -> bool {
-    let mut room = [0; SEALED_BODY_LIMIT];
+pub(crate) fn opens(side: Side, front: &[u8], letters: usize, receipt: Said) -> bool {
+    let mut room = [0; SEALED_LIMIT];
     let end = pad(&mut room, front, letters);
     match open_body(RECEIPTS, side, &room[..end]) {
         Some(body) => {
@@ -71,8 +66,8 @@ fn opens(side: Side, front: &[u8], letters: usize, receipt: Said) -> bool {
 }
 
 /// Whether a side opens the padding of bytes and so many letters after them as nothing.
-fn refuses(side: Side, front: &[u8], letters: usize) -> bool {
-    let mut room = [0; SEALED_BODY_LIMIT];
+pub(crate) fn refuses(side: Side, front: &[u8], letters: usize) -> bool {
+    let mut room = [0; SEALED_LIMIT];
     let end = pad(&mut room, front, letters);
     open_body(RECEIPTS, side, &room[..end]).is_none()
 }
@@ -184,93 +179,4 @@ fn refuses_other_bodies(rt: HostRuntime) -> Result<(), Fail> {
         assert!(rt; is_bad(rt.alloc(), front, 0)?);
     }
     Ok(())
-}
-
-/// The front of a body whose receipt has the bound 0.40 and says that it lists so many positions,
-/// and lists as many from 0.1 on; and the place after it.
-fn listing(count: u8) -> ([u8; 300], usize) {
-    let mut front = [0; 300];
-    put_u8(&mut front, 0, 1);
-    put_u32(&mut front, 5, 40);
-    put_u8(&mut front, 9, count);
-    let listed = usize::from(count).min(33);
-    for i in 0..listed {
-        put_u32(&mut front, 14 + 8 * i, i as u32 + 1);
-    }
-    (front, 11 + 8 * listed)
-}
-
-/// Whether Second alone opens a full receipt with a longest text, and nobody more of either.
-fn takes_no_more() -> bool {
-    let (full, len) = listing(32);
-    let (more, longer) = listing(33);
-    let receipt = Some((at(0, 40), 32));
-    match (full.get(..len), more.get(..longer)) {
-        (Some(full), Some(more)) => {
-            opens(Side::Second, full, 4096, receipt)
-                && refuses(Side::First, full, 4096)
-                && refuses(Side::Second, full, 4097)
-                && refuses(Side::Second, more, 0)
-        }
-        _ => false,
-    }
-}
-
-#[test]
-fn lists_as_many_as_it_may(rt: HostRuntime) {
-    assert!(rt; takes_no_more());
-}
-
-/// Whether a receipt covers exactly these of some positions.
-fn covers(bound: Position, listed: &[Position], covered: [bool; 7]) -> bool {
-    let waiting = [
-        at(0, 1),
-        at(0, 2),
-        at(0, 3),
-        at(2, 1),
-        at(2, 2),
-        at(4, 1),
-        at(4, 7),
-    ];
-    let mut list = ArrayVec::new();
-    for position in listed {
-        if !list.is_full() {
-            list.push(*position);
-        }
-    }
-    let receipt = Some(Receipt {
-        bound,
-        listed: list,
-    });
-    let mut is_right = true;
-    for i in 0..7 {
-        is_right = is_right && is_covered(&receipt, waiting[i]) == covered[i];
-    }
-    is_right
-}
-
-#[test]
-fn covers_what_was_opened(rt: HostRuntime) {
-    let (o, x) = (false, true);
-    let rows: [(Position, &[Position], [bool; 7]); 11] = [
-        (at(0, 0), &[], [o, o, o, o, o, o, o]),
-        (at(0, 1), &[], [x, o, o, o, o, o, o]),
-        (at(0, 2), &[at(0, 1)], [o, x, o, o, o, o, o]),
-        (at(0, 9), &[], [x, x, x, o, o, o, o]),
-        (at(2, 1), &[], [x, x, x, x, o, o, o]),
-        (at(2, 1), &[at(0, 2), at(2, 1)], [x, o, x, o, o, o, o]),
-        (at(2, 0), &[], [x, x, x, o, o, o, o]),
-        (
-            at(4, 6),
-            &[at(0, 1), at(0, 3), at(2, 2)],
-            [o, x, o, x, o, x, o],
-        ),
-        (at(4, 7), &[at(4, 7)], [x, x, x, x, x, x, o]),
-        (at(8, 1), &[at(4, 1), at(6, 1)], [x, x, x, x, x, o, x]),
-        (at(4294967294, 4294967295), &[], [x, x, x, x, x, x, x]),
-    ];
-    for (bound, listed, covered) in rows {
-        assert!(rt; covers(bound, listed, covered));
-    }
-    assert!(rt; !is_covered(&None, at(0, 1)));
 }

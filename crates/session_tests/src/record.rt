@@ -1,10 +1,12 @@
-//! Records of an independent implementation, in version 1, read and written again, and the places
-//! of damage.
+//! Records of an independent implementation, in version 1, read and written again.
 
+use crate::conversation::begin;
+use bodies::Format;
 use boxes::{Inbox, Outbox};
-use dr_base::put;
+use dr_base::Side;
 use kem_laws::OpenKem;
-use session_record::{Change, RECORD_LIMIT, decode, encode};
+use ratchet::Session;
+use session_record::{Change, RECORD_LIMIT, decode, encode, encoded_len};
 use std::alloc::{AllocError, Global};
 use std::test::Fail;
 
@@ -17,7 +19,7 @@ pub(crate) const BEGUN: &[u8] =
     \x62\x4d\xe0\x83\x54\xa5\xf4\x6a\xb7\xde\xde\x4d\x63\x5b\xa2\x0e\x35\xcd\x00\x00\x00\x00\x00\x00\x00\x00";
 
 /// First in an epoch of Second's: two kept keys, a text and a packet.
-const PEERS: &[u8] =
+pub(crate) const PEERS: &[u8] =
     b"\x01\x01\x79\x92\xcd\x5f\x4a\xc8\x39\x4b\xf3\x74\x4a\xc5\x0e\xb9\xf2\x86\x80\xc7\xb2\xb0\x50\x74\x04\xfb\
     \xfc\x22\x02\xb9\x8e\x3d\x36\x84\x79\x1a\x47\x95\xc2\xfd\x1b\x04\x3a\xf6\xe4\x7c\x56\xee\x93\x23\x00\x00\
     \x00\x02\x79\x0c\xea\x61\xa1\xbd\x23\xfc\x33\xd6\xd1\x1e\xa1\xb2\x5c\xa6\xc2\x3d\x43\x49\x46\x43\x62\x77\
@@ -86,108 +88,72 @@ pub(crate) fn rewritten(alloc: Global, text: &[u8]) -> Result<Option<Vec<u8>>, A
     }
 }
 
-/// Whether a text of version 1 is read, and written again in version 3: the same but for the
-/// version and a plain format after the side.
-fn is_kept(alloc: Global, text: &[u8]) -> Result<bool, AllocError> {
-    match rewritten(alloc, text)? {
-        Some(again) => {
-            let is_begun = again.first() == Some(&3) && again.get(1) == text.get(1);
-            Ok(is_begun && again.get(2) == Some(&1) && again.get(3..) == text.get(2..))
-        }
-        None => Ok(false),
+/// The record of a session with empty boxes.
+pub(crate) fn recorded(alloc: Global, session: &Session<OpenKem>) -> Result<Vec<u8>, AllocError> {
+    let inbox = Inbox::new(alloc)?;
+    let outbox = Outbox::new(alloc)?;
+    let mut out = vec![in alloc; 0; RECORD_LIMIT]?;
+    let len = encode(&session.part(), &inbox, &outbox, &Change::Same, &mut out);
+    out.truncate(len);
+    Ok(out)
+}
+
+/// A text of version 1 with at most one text in its inbox, as it is in version 4 up to what waits:
+/// a plain format after the side, and a kind at the place of this text's length.
+pub(crate) fn fourth_of(
+    alloc: Global,
+    text: &[u8],
+    kind: Option<usize>,
+) -> Result<Vec<u8>, AllocError> {
+    let mut fourth = Vec::from_slice(alloc, b"\x04")?;
+    let place = kind.unwrap_or(2);
+    if text.len() < 2 || place < 2 || place > text.len() {
+        return Ok(fourth);
     }
+    fourth.push(text[1])?;
+    fourth.push(1)?;
+    fourth.extend_from_slice(&text[2..place])?;
+    if kind.is_some() {
+        fourth.push(0)?;
+    }
+    fourth.extend_from_slice(&text[place..])?;
+    Ok(fourth)
+}
+
+/// Whether a text of version 1 is read, and written again in version 4, where no text waits.
+fn is_kept(alloc: Global, text: &[u8], kind: Option<usize>) -> Result<bool, AllocError> {
+    let mut fourth = fourth_of(alloc, text, kind)?;
+    fourth.push(0)?;
+    Ok(rewritten(alloc, text)? == Some(fourth) && is_damaged(alloc, text, None)?)
 }
 
 #[test]
 fn records_are_read_and_written(rt: HostRuntime) -> Result<(), Fail> {
-    for text in [BEGUN, PEERS, OWN] {
-        assert!(rt; is_kept(rt.alloc(), text)? && is_damaged(rt.alloc(), text, None)?);
+    // a record, and where the length of its text stands, if it has one
+    let rows = [(BEGUN, None), (PEERS, Some(217)), (OWN, Some(237))];
+    for (text, kind) in rows {
+        assert!(rt; is_kept(rt.alloc(), text, kind)?);
     }
     Ok(())
 }
 
-/// A text, how much of it is read, a place, the bytes that are put there, and where the damage is
-/// then.
-type Row = (&'static [u8], usize, usize, &'static [u8], usize);
+/// How long the record of a session with empty boxes is, before it is written.
+fn len_of(alloc: Global, session: &Session<OpenKem>) -> Result<usize, AllocError> {
+    let inbox = Inbox::new(alloc)?;
+    let outbox = Outbox::new(alloc)?;
+    Ok(encoded_len(&session.part(), &inbox, &outbox, &Change::Same))
+}
 
-/// Whether the damage is found where a row has it.
-fn is_found(alloc: Global, row: Row) -> Result<bool, AllocError> {
-    let (text, len, place, new, at) = row;
-    if text.len() > 353 || len > 353 || place > 349 || new.len() > 4 {
-        return Ok(false);
-    }
-    let mut bytes = [0; 353];
-    let _end = put(&mut bytes, 0, text);
-    let _end = put(&mut bytes, place, new);
-    is_damaged(alloc, &bytes[..len], Some(at))
+/// Whether the record that First begins with is `BEGUN` in version 4, of 132 bytes.
+fn is_begun(alloc: Global) -> Result<bool, Fail> {
+    let first = begin(Side::First, Format::Plain, 0)?;
+    let mut begun = fourth_of(alloc, BEGUN, None)?;
+    begun.push(0)?;
+    Ok(begun.len() == 132 && len_of(alloc, &first)? == 132 && recorded(alloc, &first)? == begun)
 }
 
 #[test]
-fn damage_is_found(rt: HostRuntime) -> Result<(), Fail> {
-    let rows: [Row; 19] = [
-        (BEGUN, 130, 0, b"\x09", 0),
-        (BEGUN, 130, 1, b"\x03", 1),
-        (BEGUN, 130, 50, b"\xff\xff\xff\xff", 50),
-        (BEGUN, 130, 86, b"\x00\x00\x00\x01", 86),
-        (BEGUN, 130, 122, b"\x00\x01\x00\x00", 122),
-        (BEGUN, 130, 126, b"\x00\x01", 128),
-        (BEGUN, 130, 128, b"\xff", 128),
-        (BEGUN, 130, 129, b"\xff", 129),
-        (BEGUN, 131, 130, b"\x00", 130),
-        (BEGUN, 60, 0, b"\x01", 54),
-        (BEGUN, 0, 0, b"\x01", 0),
-        // the second kept key: of an epoch above the session's, at the position of the first, at
-        // index 0, of an own epoch, and of an epoch below the first
-        (PEERS, 353, 171, b"\x04", 168),
-        (PEERS, 353, 175, b"\x01", 172),
-        (PEERS, 353, 175, b"\x00", 172),
-        (PEERS, 353, 171, b"\x01", 168),
-        (PEERS, 353, 131, b"\x02", 168),
-        // a packet of another session, one that is a byte too short, and one of a later version:
-        // the place is its first byte
-        (PEERS, 353, 224, b"\x00", 223),
-        (PEERS, 353, 222, b"\x81", 223),
-        (PEERS, 353, 223, b"\x02", 223),
-    ];
-    for row in rows {
-        assert!(rt; is_found(rt.alloc(), row)?);
-    }
-    Ok(())
-}
-
-/// How much of the record is read, a place, the bytes that are put there, and where the damage is
-/// then.
-type ThirdRow = (usize, usize, &'static [u8], usize);
-
-/// Whether the damage of `BEGUN` in version 3 is found where a row has it.
-fn is_found_in_third(alloc: Global, row: ThirdRow) -> Result<bool, AllocError> {
-    let (len, place, new, at) = row;
-    if len > 135 || place > 131 || new.len() > 4 {
-        return Ok(false);
-    }
-    let mut bytes = [0; 135];
-    let at_session = put(&mut bytes, 0, b"\x03\x01\x01");
-    let _end = put(&mut bytes, at_session, &BEGUN[2..130]);
-    let _end = put(&mut bytes, place, new);
-    is_damaged(alloc, &bytes[..len], Some(at))
-}
-
-#[test]
-fn damage_is_found_in_version_3(rt: HostRuntime) -> Result<(), Fail> {
-    let rows: [ThirdRow; 10] = [
-        (131, 0, b"\x09", 0),
-        (131, 1, b"\x03", 1),
-        (131, 51, b"\xff\xff\xff\xff", 51),
-        (131, 87, b"\x00\x00\x00\x01", 87),
-        (131, 123, b"\x00\x01\x00\x00", 123),
-        (131, 127, b"\x00\x01", 129),
-        (131, 129, b"\xff", 129),
-        (131, 130, b"\xff", 130),
-        (132, 131, b"\x00", 131),
-        (61, 0, b"\x03", 55),
-    ];
-    for row in rows {
-        assert!(rt; is_found_in_third(rt.alloc(), row)?);
-    }
+fn the_first_record_is_written(rt: HostRuntime) -> Result<(), Fail> {
+    assert!(rt; is_begun(rt.alloc())?);
     Ok(())
 }

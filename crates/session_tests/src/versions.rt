@@ -9,7 +9,7 @@ use std::alloc::Global;
 use std::test::Fail;
 
 /// What First keeps after some texts.
-const FIRST: &str =
+pub(crate) const FIRST: &str =
     "01017992cd5f4ac8394bf3744ac50eb9f28667a6a5f78efba36acc5e81f3219174142de180ed40c79b959963389e\
     d8019461000000030303030303030303030303030303030303030303030303030303030303030303f2e642f85e31\
     36bb0e4fbe5be762c080f60968fa15c54152b62a7454b2e321b0d8041f7991d732ea98ec0ad6308ce15b8d99264b\
@@ -25,7 +25,7 @@ const FIRST: &str =
     4610f6a8b5d5253cf519e8a7f45a5e72766089d1bb47b4eb255127c7a07a523e29";
 
 /// What Second keeps then.
-const SECOND: &str =
+pub(crate) const SECOND: &str =
     "01027992cd5f4ac8394bf3744ac50eb9f2861ad54e3cc0ded4c85f47c37f7ec3b266a38b509a6029fec0cf4be88a\
     de5acc800000000202020202020202020202020202020202020202020202020202020202020202028222949357eb\
     f260b3578c9918e5d37a22bd10ae357ef2086f691bbaf0d68a83d3d6f6b75cfec808069133863e94fcaf6e45d67d\
@@ -45,67 +45,80 @@ pub(crate) fn has_digest(alloc: Global, text: &[u8], sha256: &str) -> Result<boo
     Ok(Sha256::digest(text).as_slice() == decode(alloc, sha256)?.as_slice())
 }
 
-/// Whether a record, in hex, with this first byte has one SHA-256, and what it is written as the
-/// other.
-fn is_renewed(alloc: Global, record: &str, byte: u8, old: &str, new: &str) -> Result<bool, Fail> {
-    let mut text = decode(alloc, record)?;
-    if let Some(first) = text.first_mut() {
-        *first = byte;
-    }
-    match rewritten(alloc, &text)? {
-        Some(again) => Ok(has_digest(alloc, &text, old)? && has_digest(alloc, &again, new)?),
-        None => Ok(false),
-    }
-}
-
-#[test]
-fn old_records_are_written_in_the_newest_version(rt: HostRuntime) -> Result<(), Fail> {
-    // a record, its version, its SHA-256, and that of what it is written as
-    let rows = [
-        (
-            FIRST,
-            1,
-            "427c752bd17e7c4c113e359707d3bacedf23640e5524e32ca21b71c9ab260332",
-            "e5a40f3339811ae67a200cbda4d86df0201de9c0a3701d05b70269973a5c9eb0",
-        ),
-        (
-            FIRST,
-            2,
-            "ceb479bf50bbec4323627b5eb238c1a1b9a03e5b25719a7ba6ec40eab30a7179",
-            "e5a40f3339811ae67a200cbda4d86df0201de9c0a3701d05b70269973a5c9eb0",
-        ),
-        (
-            SECOND,
-            1,
-            "9fa58e2cd116976a3a7a003c6c1f24eac04c445342aebaae5e997d0a8beb8eb8",
-            "b4a0f3469ba53b8a5cddca84c328601dbd5e6e818e8dd15a9d3937c15ae1a7e3",
-        ),
-        (
-            SECOND,
-            2,
-            "91e5cc38d5ede5be187eb03505730e1f900bd3faa5d592e70f2f4e7bc3248d0d",
-            "b4a0f3469ba53b8a5cddca84c328601dbd5e6e818e8dd15a9d3937c15ae1a7e3",
-        ),
-    ];
-    for (record, byte, old, new) in rows {
-        assert!(rt; is_renewed(rt.alloc(), record, byte, old, new)?);
-    }
-    Ok(())
-}
-
 /// What is put after the side: a format, or nothing.
 type Format = &'static [u8];
 
-/// Whether First's record with another first byte, and with what is put after its side, is damaged
-/// at this place, or nowhere, and in the newest version where that byte is 3.
-fn is_told(alloc: Global, byte: u8, format: Format, at: Option<usize>) -> Result<bool, Fail> {
-    let old = decode(alloc, FIRST)?;
-    let mut text = Vec::from_slice(alloc, &[byte, 1])?;
+/// A record, in hex, with another first byte, and with what is put after its side.
+fn with_format(alloc: Global, record: &str, byte: u8, format: Format) -> Result<Vec<u8>, Fail> {
+    let old = decode(alloc, record)?;
+    let mut text = Vec::from_slice(alloc, &[byte])?;
+    if let Some(side) = old.get(1..2) {
+        text.extend_from_slice(side)?;
+    }
     text.extend_from_slice(format)?;
     if let Some(rest) = old.get(2..) {
         text.extend_from_slice(rest)?;
     }
-    Ok(is_newest(&text) == (byte == 3) && is_damaged(alloc, &text, at)?)
+    Ok(text)
+}
+
+/// Whether a text has one SHA-256, and what it is written as the other, which is written as it is.
+fn is_renewed(alloc: Global, text: &[u8], old: &str, new: &str) -> Result<bool, Fail> {
+    match rewritten(alloc, text)? {
+        Some(again) => Ok(
+            has_digest(alloc, text, old)?
+                && has_digest(alloc, &again, new)?
+                && rewritten(alloc, &again)? == Some(again),
+        ),
+        None => Ok(false),
+    }
+}
+
+/// Whether a record, in hex, has the SHA-256 of each of the first three versions, and in each of
+/// them is written in the fourth, with the last SHA-256.
+fn are_renewed(alloc: Global, record: &str, sha256: [&str; 4]) -> Result<bool, Fail> {
+    let formats: [Format; 3] = [b"", b"", b"\x01"];
+    let mut is_right = true;
+    for i in 0..3 {
+        let text = with_format(alloc, record, i as u8 + 1, formats[i])?;
+        is_right = is_right && is_renewed(alloc, &text, sha256[i], sha256[3])?;
+    }
+    Ok(is_right)
+}
+
+#[test]
+fn old_records_are_written_in_the_newest_version(rt: HostRuntime) -> Result<(), Fail> {
+    let rows = [
+        (
+            FIRST,
+            [
+                "427c752bd17e7c4c113e359707d3bacedf23640e5524e32ca21b71c9ab260332",
+                "ceb479bf50bbec4323627b5eb238c1a1b9a03e5b25719a7ba6ec40eab30a7179",
+                "e5a40f3339811ae67a200cbda4d86df0201de9c0a3701d05b70269973a5c9eb0",
+                "158625a68973b69f56dc1640e061eb0673ac140cfb7430730353ced374124023",
+            ],
+        ),
+        (
+            SECOND,
+            [
+                "9fa58e2cd116976a3a7a003c6c1f24eac04c445342aebaae5e997d0a8beb8eb8",
+                "91e5cc38d5ede5be187eb03505730e1f900bd3faa5d592e70f2f4e7bc3248d0d",
+                "b4a0f3469ba53b8a5cddca84c328601dbd5e6e818e8dd15a9d3937c15ae1a7e3",
+                "b1e4c6ae983fe00e6f7ab321d06e663204c5137c0f201f64da5ca37bf4458a0e",
+            ],
+        ),
+    ];
+    for (record, sha256) in rows {
+        assert!(rt; are_renewed(rt.alloc(), record, sha256)?);
+    }
+    Ok(())
+}
+
+/// Whether First's record with another first byte, and with what is put after its side, is damaged
+/// at this place, or nowhere, and in the newest version where that byte is 4.
+fn is_told(alloc: Global, byte: u8, format: Format, at: Option<usize>) -> Result<bool, Fail> {
+    let text = with_format(alloc, FIRST, byte, format)?;
+    Ok(is_newest(&text) == (byte == 4) && is_damaged(alloc, &text, at)?)
 }
 
 #[test]
@@ -116,14 +129,14 @@ fn the_first_byte_tells_the_version(rt: HostRuntime) -> Result<(), Fail> {
         (1, b"", None),
         (2, b"", None),
         (3, b"", Some(2)),
-        (4, b"", Some(0)),
+        (4, b"", Some(2)),
         (5, b"", Some(0)),
         (255, b"", Some(0)),
         (0, b"\x01", Some(0)),
         (1, b"\x01", Some(86)),
         (2, b"\x01", Some(86)),
         (3, b"\x01", None),
-        (4, b"\x01", Some(0)),
+        (4, b"\x01", Some(321)),
         (5, b"\x01", Some(0)),
         (255, b"\x01", Some(0)),
         // the other formats of version 3

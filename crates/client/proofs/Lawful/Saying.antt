@@ -4,7 +4,7 @@ use Rattle.std.specs.Prelude.{All, if◌then◌else◌, nat_le, nat_lt, option_m
 use Rattle.std.proofs.lemmas.Bool.Decides.{nat_tests}
 use Rattle.std.proofs.lemmas.List.{length_push}
 use Rattle.std.proofs.lemmas.List.Elements.{All-push, All-weaker}
-use Rattle.bodies.specs.Bodies.{text_body}
+use Rattle.bodies.specs.Bodies.{Body}
 use Rattle.bodies.specs.Formats.{version_of}
 use Rattle.bodies.specs.declared.format.Format.{Format}
 use Rattle.boxes.specs.Entries.{Entry}
@@ -24,8 +24,8 @@ use Rattle.packet.proofs.Lengths.{length-packet_of}
 use Rattle.packet.proofs.Printed.{printed_is_read}
 use Rattle.session_model.specs.Clients.{Client, say_check}
 use Rattle.session_model.specs.LawfulStates.{IsLawfulPhase, IsLawfulPrevious, IsLawfulState}
-use Rattle.session_model.specs.Saying.{SendDraft, draft_own, draft_phase, draft_send, draft_turn, send_check}
-use Rattle.session_model.proofs.Sealed.{known_version, sealed_fits}
+use Rattle.session_model.specs.Saying.{SendDraft, body_of, draft_own, draft_phase, draft_send, draft_turn, send_check}
+use Rattle.session_model.proofs.Sealed.{HasFewListed, few_listed, known_version, sealed_fits}
 use Rattle.session_model.specs.Sealing.{posted, sealing}
 use Rattle.session_model.specs.States.{Own, Phase, State, in_own, in_peers}
 use Rattle.session_model.specs.declared.answer.Refusal.TheVariants.{OutboxFull, TextTooLong}
@@ -71,16 +71,22 @@ pub message_fits : (agreement epoch : ℕ) → agreement ≤ AGREEMENT_LIMIT
     → agreement_len agreement epoch ≤ AGREEMENT_LIMIT
 message_fits agreement epoch fits = grind arith
 
-post_lawful : (k : Mechanism) (next : State) (format : Format) (p : Position) (previous : ℕ) (agreement key text : List ℕ) → IsLawfulMechanism k
+-- a body that fits a packet
+record MaySeal (body : Body) : Type 0 where
+  short : length body.content ≤ TEXT_LIMIT
+  listed : HasFewListed body.receipt
+
+post_lawful : (k : Mechanism) (next : State) (format : Format) (p : Position) (previous : ℕ) (agreement key : List ℕ) (body : Body)
+    → IsLawfulMechanism k
     → IsLawfulState k next → p.epoch ≤ next.epoch → is_own next.side p.epoch ≡ true → previous ≤ INDEX_LIMIT
     → (p.epoch ≤ 1 → previous ≡ 0) → 1 ≤ p.index → p.index ≤ INDEX_LIMIT
-    → length agreement ≡ agreement_len (agreement_size k) p.epoch → length text ≤ TEXT_LIMIT
-    → IsLawfulPost k next (posted (version_of format) next.session p previous agreement key (text_body text))
+    → length agreement ≡ agreement_len (agreement_size k) p.epoch → MaySeal body
+    → IsLawfulPost k next (posted (version_of format) next.session p previous agreement key body)
 unfolding posted
-post_lawful k next format p previous agreement key text law l reached own few none one most message short =
-    let f = sealing (version_of format) next.session p previous agreement key (text_body text) in
+post_lawful k next format p previous agreement key body law l reached own few none one most message may =
+    let f = sealing (version_of format) next.session p previous agreement key body in
     let size : agreement_size k ≤ AGREEMENT_LIMIT = omega (arith, law.public_fits, law.ciphertext_fits) in
-    let text_fits : is_text_len f.version (length f.ciphertext) ≡ true = sealed_fits format key text short in
+    let text_fits : is_text_len f.version (length f.ciphertext) ≡ true = sealed_fits format key body may.listed may.short in
     let lawful : IsLawful (agreement_size k) f = record {
       version_is = known_version format;
       session_len = l.session_long;
@@ -111,54 +117,54 @@ record IsSaid (k : Mechanism) (s : State) (draft : SendDraft) : Type 0 where
   kept : draft.next.kept ≡ s.kept
   post : IsLawfulPost k draft.next draft.post
 
-own_said : (k : Mechanism) (s : State) (own : Own) (text : List ℕ) → IsLawfulMechanism k → IsLawfulState k s
-    → s.phase ≡ in_own own → IsLawfulState k (draft_own s own text).next → length text ≤ TEXT_LIMIT
-    → IsSaid k s (draft_own s own text)
-own_said k s own text law l held after short =
+own_said : (k : Mechanism) (s : State) (own : Own) (body : Body) → IsLawfulMechanism k → IsLawfulState k s
+    → s.phase ≡ in_own own → IsLawfulState k (draft_own s own body).next → MaySeal body
+    → IsSaid k s (draft_own s own body)
+own_said k s own body law l held after may =
     let phase : IsLawfulPhase k s.side s.epoch (in_own own) = subst (IsLawfulPhase k s.side s.epoch) held l.phase in
     let previous : IsLawfulPrevious s.previous s.epoch (in_own own) =
     subst (IsLawfulPrevious s.previous s.epoch) held l.previous in
     record {
       on = record { side = refl; session = refl; grows = omega arith };
       kept = refl;
-      post = post_lawful k (draft_own s own text).next s.format (record { epoch = s.epoch; index = own.sent + 1 }) s.previous
-          own.agreement (chain_message_key own.chain) text law after (omega arith) phase.0 previous.0 previous.1 (omega arith)
-          after.phase.1.few phase.1.agreement_long short;
+      post = post_lawful k (draft_own s own body).next s.format (record { epoch = s.epoch; index = own.sent + 1 }) s.previous
+          own.agreement (chain_message_key own.chain) body law after (omega arith) phase.0 previous.0 previous.1 (omega arith)
+          after.phase.1.few phase.1.agreement_long may;
     }
 
-turn_said : (k : Mechanism) (s : State) (public text : List ℕ) (turn : List ℕ × List ℕ × List ℕ) → IsLawfulMechanism k
-    → IsLawfulState k s → s.phase ≡ in_peers public → IsLawfulState k (draft_turn s text turn).next
-    → length text ≤ TEXT_LIMIT → IsSaid k s (draft_turn s text turn)
-turn_said k s public text turn law l held after short =
+turn_said : (k : Mechanism) (s : State) (body : Body) (public : List ℕ) (turn : List ℕ × List ℕ × List ℕ) → IsLawfulMechanism k
+    → IsLawfulState k s → s.phase ≡ in_peers public → IsLawfulState k (draft_turn s body turn).next
+    → MaySeal body → IsSaid k s (draft_turn s body turn)
+turn_said k s body public turn law l held after may =
     let previous : IsLawfulPrevious s.previous s.epoch (in_peers public) =
     subst (IsLawfulPrevious s.previous s.epoch) held l.previous in
     let one : 1 ≤ INDEX_LIMIT = omega arith in
     record {
       on = record { side = refl; session = refl; grows = omega arith };
       kept = refl;
-      post = post_lawful k (draft_turn s text turn).next s.format (record { epoch = s.epoch + 1; index = 1 }) s.previous turn.1 _ text
+      post = post_lawful k (draft_turn s body turn).next s.format (record { epoch = s.epoch + 1; index = 1 }) s.previous turn.1 _ body
           law after (omega arith) after.phase.0 previous.0 (λ first. previous.1 (omega (arith, first))) (omega arith) one
-          after.phase.1.agreement_long short;
+          after.phase.1.agreement_long may;
     }
 
-turned_said : (k : Mechanism) (s : State) (public text : List ℕ) (turn : Option (List ℕ × List ℕ × List ℕ)) (draft : SendDraft)
+turned_said : (k : Mechanism) (s : State) (body : Body) (public : List ℕ) (turn : Option (List ℕ × List ℕ × List ℕ)) (draft : SendDraft)
     → IsLawfulMechanism k → IsLawfulState k s → s.phase ≡ in_peers public → IsLawfulState k draft.next
-    → length text ≤ TEXT_LIMIT → option_map (draft_turn s text) turn ≡ Some draft → IsSaid k s draft
-turned_said k s public text None draft law l held after short gives = absurd (let no : None ≡ Some draft = gives in cc)
-turned_said k s public text (Some turn) draft law l held after short gives =
-    let is : draft_turn s text turn ≡ draft = cc in
+    → MaySeal body → option_map (draft_turn s body) turn ≡ Some draft → IsSaid k s draft
+turned_said k s body public None draft law l held after may gives = absurd (let no : None ≡ Some draft = gives in cc)
+turned_said k s body public (Some turn) draft law l held after may gives =
+    let is : draft_turn s body turn ≡ draft = cc in
     subst (IsSaid k s) is
-    (turn_said k s public text turn law l held (subst (λ (d : SendDraft). IsLawfulState k d.next) (sym is) after) short)
+    (turn_said k s body public turn law l held (subst (λ (d : SendDraft). IsLawfulState k d.next) (sym is) after) may)
 
-phase_said : (k : Mechanism) (s : State) (text seed : List ℕ) (phase : Phase) (draft : SendDraft) → IsLawfulMechanism k
-    → IsLawfulState k s → s.phase ≡ phase → IsLawfulState k draft.next → length text ≤ TEXT_LIMIT
-    → draft_phase k s text seed phase ≡ Some draft → IsSaid k s draft
-phase_said k s text seed (in_own own) draft law l held after short gives =
-    let is : draft_own s own text ≡ draft = cc in
+phase_said : (k : Mechanism) (s : State) (body : Body) (seed : List ℕ) (phase : Phase) (draft : SendDraft) → IsLawfulMechanism k
+    → IsLawfulState k s → s.phase ≡ phase → IsLawfulState k draft.next → MaySeal body
+    → draft_phase k s body seed phase ≡ Some draft → IsSaid k s draft
+phase_said k s body seed (in_own own) draft law l held after may gives =
+    let is : draft_own s own body ≡ draft = cc in
     subst (IsSaid k s) is
-    (own_said k s own text law l held (subst (λ (d : SendDraft). IsLawfulState k d.next) (sym is) after) short)
-phase_said k s text seed (in_peers public) draft law l held after short gives =
-    turned_said k s public text (turn_of k public seed) draft law l held after short gives
+    (own_said k s own body law l held (subst (λ (d : SendDraft). IsLawfulState k d.next) (sym is) after) may)
+phase_said k s body seed (in_peers public) draft law l held after may gives =
+    turned_said k s body public (turn_of k public seed) draft law l held after may gives
 
 -- ---- the client
 
@@ -168,7 +174,9 @@ pub said_lawful : (k : Mechanism) (c : Client) (text seed : List ℕ) (draft : S
     → IsLawfulClient k (client_of draft.next c.inbox (c.outbox ++ draft.post ∷ []))
 unfolding draft_send
 said_lawful k c text seed draft law l after short room gives =
-    let said = phase_said k c.state text seed c.state.phase draft law l.state refl after short gives in
+    let s = c.state in
+    let may : MaySeal (body_of s text) = record { short = short; listed = few_listed s.format s } in
+    let said = phase_said k s (body_of s text) seed s.phase draft law l.state refl after may gives in
     record {
       state = after;
       keys_long = subst (All (λ kept. length kept.key.bytes ≡ 32)) (sym said.kept) l.keys_long;

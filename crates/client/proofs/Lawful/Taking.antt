@@ -170,9 +170,17 @@ opened_on : (s : State) (f : Fields) (way : Way) (draft : ReceiveDraft) → IsPe
     → opening_on f way ≡ Ok draft → IsTakenOf s f draft
 opened_on s f way draft peers is =
     let o = is_opened f way draft is in
+    let on = peers.taken in
     subst (IsTakenOf s f) (sym o.is)
     (record {
-      peers = peers;
+      peers = record {
+        taken = record {
+          on = record { side = on.on.side; session = on.on.session; grows = on.on.grows };
+          reached = on.reached;
+          long = on.long;
+        };
+        peers = peers.peers;
+      };
       place = refl;
       short = λ plain. opened_short f.version _ _ o.body o.opens
           (λ version. omega (arith, plain version, length-ciphertext_of way.key f.ciphertext));

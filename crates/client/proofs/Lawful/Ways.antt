@@ -20,7 +20,7 @@ use Rattle.packet.specs.Packet.{Fields, IsLawful, agreement_len}
 use Rattle.prf_prng.specs.Root.{next_root, root_key}
 use Rattle.prf_prng.proofs.Lengths.{length-next_root, length-root_key}
 use Rattle.ratchet.proofs.Fields.{agreement_later}
-use Rattle.ratchet.proofs.LawfulKept.{known_reception, lawful_along, lawful_without}
+use Rattle.ratchet.proofs.LawfulKept.{known_reception, lawful_along, lawful_obeyed, lawful_without}
 use Rattle.ratchet.proofs.LawfulNext.{lawful_next}
 use Rattle.ratchet.proofs.LawfulTurn.{in_own_phase}
 use Rattle.session_model.proofs.Latest.{latest-own, latest-peers}
@@ -201,7 +201,9 @@ opened_lawful : (k : Mechanism) (s : State) (f : Fields) (way : Result Way Refus
     → IsLawful (agreement_size k) f → way_of k s f ≡ way → opened_by f way ≡ Ok draft → IsLawfulState k draft.next
 opened_lawful k s f (Err refusal) draft l packet found is = absurd (cc is)
 opened_lawful k s f (Ok way) draft l packet found is =
-    subst (λ (d : ReceiveDraft). IsLawfulState k d.next) (sym (is_opened f way draft is).is) (way_lawful k s f way l packet found)
+    let o = is_opened f way draft is in
+    subst (λ (d : ReceiveDraft). IsLawfulState k d.next) (sym o.is)
+    (lawful_obeyed k way.next o.body.receipt (way_lawful k s f way l packet found))
 
 pub receive_lawful : (k : Mechanism) (s : State) (f : Fields) (draft : ReceiveDraft) → IsLawfulState k s
     → IsLawful (agreement_size k) f → draft_receive k s f ≡ Ok draft → IsLawfulState k draft.next

@@ -78,9 +78,9 @@ meets_one k w side p is = by_opened (has_opened (view_of w side) p) refl is.near
     by_opened false new (inr within) =
         let made = opened_within k w side p (record { said = is.said; peers = is.peers; unopened = new }) within in
         record {
-          conversation = ap (λ (m : Step World). m.next.conversation) made ∙ with_view_leaves w side (after_opening (view_of w side) p);
+          conversation = ap (λ (m : Step World). m.next.conversation) made ∙ with_view_leaves w side (after_opening w.conversation (view_of w side) p);
           arrived = ap (λ (m : Step World). (view_of m.next side).arrived) made
-              ∙ ap (λ (v : View). v.arrived) (with_view_is w side (after_opening (view_of w side) p))
+              ∙ ap (λ (v : View). v.arrived) (with_view_is w side (after_opening w.conversation (view_of w side) p))
               ∙ ap (λ (b : Bool). if b then (view_of w side).arrived else (view_of w side).arrived ++ p ∷ []) (sym new);
           room = ap (λ (m : Step World). is_inbox_full m.answer) made;
         }

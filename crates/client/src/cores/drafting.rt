@@ -125,8 +125,8 @@ impl<K: Kem> Core<K> {
         }
     }
 
-    /// How many items its box holds.
-    fn held(&self, items: Items) -> u32
+    /// How many of these items stand in their box.
+    pub fn standing(&self, items: Items) -> u32
         ensures { result ≡ standing_with self.now items }
     {
         match items {
@@ -141,6 +141,6 @@ impl<K: Kem> Core<K> {
             ≡ dropped_by self.now items n result }
         ensures fits { OnOk result (HasToDrop self.now items n) }
     {
-        enough(self.held(items), n)
+        enough(self.standing(items), n)
     }
 }

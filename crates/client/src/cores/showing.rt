@@ -78,6 +78,22 @@ impl<K: Kem> Core<K> {
         self.outbox.at(at)
     }
 
+    /// How many own texts wait for a receipt.
+    pub fn waiting(&self) -> u32
+        ensures { result ≡ length self.now.state.awaiting }
+    {
+        let part = self.session.part();
+        part.head.awaiting.positions().len() as u32
+    }
+
+    /// Where the own text stands that waits for a receipt at a place, from 0, the oldest first.
+    pub fn awaiting(&self, at: usize) -> Option<Position>
+        ensures { result ≡ slice_get self.now.state.awaiting at }
+    {
+        let part = self.session.part();
+        part.head.awaiting.positions().get(at).copied()
+    }
+
     /// What the core keeps is lawful, so its record is read as just that, and no packet of the
     /// outbox is longer than one may be. It has no code: a caller that needs this calls it.
     pub fn lawful(&self)

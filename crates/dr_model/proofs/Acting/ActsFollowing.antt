@@ -100,7 +100,7 @@ act_follows k w side act law lawful fair =
     (fair_event k w side act fair))
     ∙ ap (λ (client : Client). record {
       answer = (act_in k w side act).answer;
-      entries = (act_in k w side act).entries;
+      shown = (act_in k w side act).shown;
       next = client;
     })
     (client_of-kept k (act_in k w side act).next side)

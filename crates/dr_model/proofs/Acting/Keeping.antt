@@ -14,7 +14,7 @@ use Rattle.dr_model.specs.Machines.Steps.{Step, settled}
 
 -- what the side then keeps, and whether the other side keeps what it kept
 abbrev pub kept_on : Side → Step Sides → Step Client
-kept_on side made = record { answer = made.answer; entries = made.entries; next = client_of made.next side }
+kept_on side made = record { answer = made.answer; shown = made.shown; next = client_of made.next side }
 
 abbrev pub Leaves : Side → Sides → Step Sides → Type 0
 Leaves side s made = client_of made.next (peer_of side) ≡ client_of s (peer_of side)
@@ -32,7 +32,7 @@ others s Second client = refl
 pub settled_kept : (s : Sides) (side : Side) (r : Result (Step Client) Refusal)
     → kept_on side (settled_on s side r) ≡ settled (client_of s side) r
 settled_kept s side (Ok made) =
-    ap (λ (c : Client). record { answer = made.answer; entries = made.entries; next = c }) (own_client s side made.next)
+    ap (λ (c : Client). record { answer = made.answer; shown = made.shown; next = c }) (own_client s side made.next)
 settled_kept s side (Err refusal) = refl
 
 pub settled_leaves : (s : Sides) (side : Side) (r : Result (Step Client) Refusal) → Leaves side s (settled_on s side r)

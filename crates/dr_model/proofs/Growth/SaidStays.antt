@@ -1,6 +1,7 @@
 -- A packet and its text stay, whatever happens.
 use Rattle.std.proofs.Common.{◌≡◌, ℕ, ◌+◌, ◌≤◌, true, false, Bool, nat_le, nat_lt, List, [], ◌++◌, ◌∷◌, length, Option, Some, None, Result, Ok, Err, refl, sym, subst, arith, if◌then◌else◌}
 use Rattle.std.specs.Prelude.{All, is_none}
+use Rattle.bodies.specs.Bodies.{Body}
 use Rattle.dr_base.specs.declared.limits.TheConstants.{KEPT_LIMIT, INBOX_LIMIT}
 use Rattle.dr_base.specs.Position.{is_own}
 use Rattle.dr_base.specs.declared.position.Position.{Position}
@@ -13,11 +14,12 @@ use Rattle.session_model.specs.declared.answer.Refusal.{Refusal}
 use Rattle.session_model.specs.declared.answer.Refusal.TheVariants.{NoPair, OwnPacket, Spent, SkipLimit, InboxFull, Fewer}
 use Rattle.dr_model.specs.Conversations.Conversation.{Conversation, is_said, with_text, with_turn}
 use Rattle.dr_model.specs.Conversations.Posts.{post_at}
+use Rattle.dr_model.specs.Conversations.Receipts.{body_in}
 use Rattle.dr_model.specs.Conversations.Views.{View, after_drop, has_opened, after_opening, missing_of, entry_at}
 use Rattle.dr_model.specs.Machines.Draws.{next_seed}
-use Rattle.dr_model.specs.Machines.Events.{Event, cuts, does, seeds, shows_inbox, shows_state}
+use Rattle.dr_model.specs.Machines.Events.{Event, cuts, does, seeds, shows_awaiting, shows_inbox, shows_state}
 use Rattle.dr_model.specs.Machines.Steps.{Step, step, settled}
-use Rattle.dr_model.specs.Machines.Worlds.{World, view_of, with_view, dropping_in, inbox_in, may_say, said_next, saying_in, taking_in, taking_at, made_at, taking_made, taking_given, standing_in, step_of}
+use Rattle.dr_model.specs.Machines.Worlds.{World, said_here, view_of, with_view, dropping_in, inbox_in, may_say, said_next, saying_in, taking_in, taking_at, made_at, taking_made, taking_given, standing_in, step_of}
 use Rattle.dr_model.specs.Theorems.LawfulWorlds.{IsLawfulWorld}
 use Rattle.dr_model.proofs.Growth.Growing.{grown, is_said-grown, entry_at-grown, said-begun}
 use Rattle.dr_model.proofs.Growth.TurnGrowth.{SameTurns, post_at-grown, turns_same, turns_stay}
@@ -53,7 +55,7 @@ leave_leaves w false refusal made h = refl
 -- packets are taken
 taking_leaves : (w : World) (side : Side) (p : Position) → Leaves w (settled w (taking_in w side p))
 taking_leaves w side p =
-    let opened = after_opening (view_of w side) p in
+    let opened = after_opening w.conversation (view_of w side) p in
     let missing = length (missing_of w.conversation opened) in
     steps_leave w (is_own side p.epoch) (has_opened (view_of w side) p) (nat_lt KEPT_LIMIT missing)
     (nat_le INBOX_LIMIT (length (inbox_in w side)))
@@ -82,8 +84,14 @@ left_leaves k w side items n =
     (with_view_leaves w side after)
 
 -- a text is said, or refused
+here_keeps : (w : World) (side : Side) (text : List ℕ) (P : Conversation → Type 0)
+    → P (with_text w.conversation (view_of w side).epoch (body_in w.conversation (view_of w side) text))
+    → P (said_here w side text).next.conversation
+here_keeps w First text P here = here
+here_keeps w Second text P here = here
+
 next_keeps : (w : World) (side : Side) (seed text : List ℕ) (none : Bool) (P : Conversation → Type 0) → P w.conversation
-    → P (with_turn w.conversation seed ((view_of w side).epoch + 1) text)
+    → P (with_turn w.conversation seed ((view_of w side).epoch + 1) (body_in w.conversation (view_of w side) text))
     → P (if none then settled (drawn_in w) (Err NoPair) else said_next (drawn_in w) side seed text).next.conversation
 next_keeps w side seed text true P still next = still
 next_keeps w First seed text false P still next = next
@@ -91,31 +99,35 @@ next_keeps w Second seed text false P still next = next
 
 saying_keeps : (k : Mechanism) (w : World) (side : Side) (text : List ℕ) (r : Result Bool Refusal)
     (P : Conversation → Type 0) → P w.conversation
-    → P (with_text w.conversation (view_of w side).epoch text)
-    → ((seed : List ℕ) → P (with_turn w.conversation seed ((view_of w side).epoch + 1) text))
+    → P (with_text w.conversation (view_of w side).epoch (body_in w.conversation (view_of w side) text))
+    → ((seed : List ℕ)
+    → P (with_turn w.conversation seed ((view_of w side).epoch + 1) (body_in w.conversation (view_of w side) text)))
     → P (saying_in k w side text r).next.conversation
 saying_keeps k w side text (Err refusal) P still here next = still
-saying_keeps k w side text (Ok false) P still here next = here
+saying_keeps k w side text (Ok false) P still here next = here_keeps w side text P here
 saying_keeps k w side text (Ok true) P still here next =
     let seed = next_seed w.conversation.key w.draws in
     next_keeps w side seed text (is_none (k.meaning.pair_of seed)) P still (next seed)
 
 -- so a property of the conversation holds after a step, if one text more keeps it
 pub step_keeps : (k : Mechanism) (w : World) (h : Event) (P : Conversation → Type 0) → P w.conversation
-    → ((side : Side) (text : List ℕ) → P (with_text w.conversation (view_of w side).epoch text))
-    → ((side : Side) (seed text : List ℕ) → P (with_turn w.conversation seed ((view_of w side).epoch + 1) text))
+    → ((side : Side) (body : Body) → P (with_text w.conversation (view_of w side).epoch body))
+    → ((side : Side) (seed : List ℕ) (body : Body) → P (with_turn w.conversation seed ((view_of w side).epoch + 1) body))
     → P (step_of k w h).next.conversation
 step_keeps k w (seeds seed) P still here next = still
 step_keeps k w (does side call) P still here next =
     of_call k w side (λ made. P made.next.conversation) (record {
       text = λ text.
-          saying_keeps k w side text (may_say k w side (length text)) P still (here side text) (λ seed. next side seed text);
+          let body = body_in w.conversation (view_of w side) text in
+          saying_keeps k w side text (may_say k w side (length text)) P still (here side body)
+          (λ seed. next side seed body);
       packet = λ at said. subst P (sym (at_leaves w side at)) still;
       bytes = λ given. subst P (sym (given_leaves k w side given)) still;
       drop = λ items n. subst P (sym (left_leaves k w side items n)) still;
     }) call
 step_keeps k w (shows_inbox side) P still here next = still
 step_keeps k w (shows_state side) P still here next = still
+step_keeps k w (shows_awaiting side) P still here next = still
 step_keeps k w (cuts took h) P still here next =
     let kept = step_keeps k w h P still here next in
     cut_off (λ made. P made.next.conversation) (record w { draws = (step_of k w h).next.draws }) took (step_of k w h) kept
@@ -128,17 +140,17 @@ pub texts_stay : (k : Mechanism) (w : World) (h : Event) (p : Position) → is_s
 texts_stay k w h p said =
     let c = w.conversation in
     step_keeps k w h (λ d. entry_at d p ≡ entry_at c p) refl
-    (λ side text. entry_at-grown c c.seeds (view_of w side).epoch text p said)
-    (λ side seed text. entry_at-grown c (c.seeds ++ seed ∷ []) ((view_of w side).epoch + 1) text p said)
+    (λ side body. entry_at-grown c c.seeds (view_of w side).epoch body p said)
+    (λ side seed body. entry_at-grown c (c.seeds ++ seed ∷ []) ((view_of w side).epoch + 1) body p said)
 
 -- a packet is said and stays
-pub post_keeps : (k : Mechanism) (c : Conversation) (more : List (List ℕ)) (epoch : ℕ) (text : List ℕ) (p : Position)
+pub post_keeps : (k : Mechanism) (c : Conversation) (more : List (List ℕ)) (epoch : ℕ) (body : Body) (p : Position)
     → SameTurns k c.key c.seeds more
     → length c.seeds ≤ epoch + 1 → All (λ s. s.epoch ≤ length c.seeds) c.said → is_said c p ≡ true
-    → (is_said (grown c more epoch text) p ≡ true) × (post_at k (grown c more epoch text) p ≡ post_at k c p)
-post_keeps k c more epoch text p same late begun said = (
-  is_said-grown c more epoch text p said,
-  post_at-grown k c more epoch text p same late (said-begun c (length c.seeds) p begun said) said,
+    → (is_said (grown c more epoch body) p ≡ true) × (post_at k (grown c more epoch body) p ≡ post_at k c p)
+post_keeps k c more epoch body p same late begun said = (
+  is_said-grown c more epoch body p said,
+  post_at-grown k c more epoch body p same late (said-begun c (length c.seeds) p begun said) said,
 )
 
 pub packets_stay : (k : Mechanism) (w : World) (h : Event) (p : Position) → IsLawfulWorld k w
@@ -147,8 +159,8 @@ pub packets_stay : (k : Mechanism) (w : World) (h : Event) (p : Position) → Is
 packets_stay k w h p lawful said =
     let c = w.conversation in
     step_keeps k w h (λ d. (is_said d p ≡ true) × (post_at k d p ≡ post_at k c p)) (said, refl)
-    (λ side text. post_keeps k c c.seeds (view_of w side).epoch text p (turns_same k c.key c.seeds)
+    (λ side body. post_keeps k c c.seeds (view_of w side).epoch body p (turns_same k c.key c.seeds)
     (view_lawful k w side lawful).near_end lawful.conversation.begun said)
-    (λ side seed text. post_keeps k c (c.seeds ++ seed ∷ []) ((view_of w side).epoch + 1) text p
+    (λ side seed body. post_keeps k c (c.seeds ++ seed ∷ []) ((view_of w side).epoch + 1) body p
     (turns_stay k c.key c.seeds seed)
     (let view = view_lawful k w side lawful in omega arith) lawful.conversation.begun said)

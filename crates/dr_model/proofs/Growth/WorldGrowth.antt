@@ -4,7 +4,6 @@ use Rattle.std.specs.List.{list_any}
 use Rattle.std.specs.Prelude.{if◌then◌else◌, nat_le, nat_lt, is_none}
 use Rattle.std.proofs.lemmas.Bool.{cond_both}
 use Rattle.dr_base.specs.declared.limits.TheConstants.{KEPT_LIMIT, INBOX_LIMIT}
-use Rattle.boxes.specs.Entries.{Entry}
 use Rattle.dr_base.specs.Position.{is_own, is_at}
 use Rattle.dr_base.specs.declared.position.Position.{Position}
 use Rattle.dr_base.specs.declared.position.Side.{Side}
@@ -16,12 +15,12 @@ use Rattle.session_model.specs.declared.answer.Items.{Items}
 use Rattle.session_model.specs.declared.answer.Items.TheVariants.{Packets, Texts}
 use Rattle.session_model.specs.declared.answer.Refusal.{Refusal}
 use Rattle.session_model.specs.declared.answer.Refusal.TheVariants.{NoPair, OwnPacket, Spent, SkipLimit, InboxFull, Fewer}
-use Rattle.dr_model.specs.Conversations.Conversation.{Conversation, with_text}
+use Rattle.dr_model.specs.Conversations.Conversation.{Conversation}
 use Rattle.dr_model.specs.Conversations.ViewStates.{state_of}
 use Rattle.dr_model.specs.Conversations.Views.{View, after_drop, has_opened, after_opening, missing_of}
 use Rattle.dr_model.specs.Machines.Draws.{Draws, next_seed, after_draw}
-use Rattle.dr_model.specs.Machines.Events.{Event, cuts, does, seeds, shows_inbox, shows_state}
-use Rattle.dr_model.specs.Machines.Steps.{Step, step, settled}
+use Rattle.dr_model.specs.Machines.Events.{Event, cuts, does, seeds, shows_awaiting, shows_inbox, shows_state}
+use Rattle.dr_model.specs.Machines.Steps.{Shown, Step, places, settled, step, texts}
 use Rattle.dr_model.specs.Machines.Worlds.{World, view_of, with_view, dropping_in, inbox_in, may_say, said_here, said_next, saying_in, taking_in, taking_at, made_at, refusal_of, taking_made, taking_given, standing_in, step_of}
 use Rattle.dr_model.proofs.Saying.SayingFollows.{drawn_in}
 use Rattle.dr_model.proofs.Worlds.CallKinds.{of_call}
@@ -46,13 +45,13 @@ abbrev IsSettled : World → Result (Step World) Refusal → Type 0
 IsSettled w r = IsSound w (settled w r)
 
 -- a step that leaves the world is sound
-still_sound : (w : World) (answer : Answer) (entries : List Entry)
-    → IsSound w (record { answer = answer; entries = entries; next = w })
-still_sound w answer entries = record { gains = λ side. same refl; refused = λ _ _. (refl, refl, refl) }
+still_sound : (w : World) (answer : Answer) (shown : Shown)
+    → IsSound w (record { answer = answer; shown = shown; next = w })
+still_sound w answer shown = record { gains = λ side. same refl; refused = λ _ _. (refl, refl, refl) }
 
 -- and so is a refusal
 err_sound : (w : World) (refusal : Refusal) → IsSettled w (Err refusal)
-err_sound w refusal = still_sound w (Refused refusal) []
+err_sound w refusal = still_sound w (Refused refusal) (texts [])
 
 -- a test that refuses is sound, if what comes where it fails is
 unless_sound : (w : World) (test : Bool) (refusal : Refusal) (r : Result (Step World) Refusal)
@@ -93,16 +92,16 @@ left_sound k w side items n =
 
 -- the packet of a position is opened
 opened_sound : (w : World) (side : Side) (p : Position) → has_opened (view_of w side) p ≡ false
-    → IsSettled w (Ok (step (Opened p) (with_view w side (after_opening (view_of w side) p))))
+    → IsSettled w (Ok (step (Opened p) (with_view w side (after_opening w.conversation (view_of w side) p))))
 opened_sound w side p new = record {
-  gains = λ other. with_view_gains w side (after_opening (view_of w side) p) other (more p new refl);
+  gains = λ other. with_view_gains w side (after_opening w.conversation (view_of w side) p) other (more p new refl);
   refused = λ refusal e. cc;
 }
 
 -- or refused
 taking_sound : (w : World) (side : Side) (p : Position) → IsSettled w (taking_in w side p)
 taking_sound w side p =
-    let missing = length (missing_of w.conversation (after_opening (view_of w side) p)) in
+    let missing = length (missing_of w.conversation (after_opening w.conversation (view_of w side) p)) in
     unless_sound w (is_own side p.epoch) (OwnPacket p.epoch) _
     (λ _. unless_sound w (has_opened (view_of w side) p) (Spent p) _
     (λ new. unless_sound w (nat_lt KEPT_LIMIT missing) (SkipLimit missing) _
@@ -111,7 +110,7 @@ taking_sound w side p =
 -- or the network holds no such packet
 at_sound : (w : World) (side : Side) (p : Option Position) → IsSound w (taking_at w side p)
 at_sound w side (Some p) = taking_sound w side p
-at_sound w side None = still_sound w Nothing []
+at_sound w side None = still_sound w Nothing (texts [])
 
 -- bytes are taken
 made_sound : (k : Mechanism) (w : World) (side : Side) (bytes : List ℕ) (p : Option Position)
@@ -122,7 +121,7 @@ made_sound k w side bytes None = err_sound w (refusal_of k (state_of k w.convers
 -- or the network has none to give
 given_sound : (k : Mechanism) (w : World) (side : Side) (bytes : Option (List ℕ)) → IsSound w (taking_given k w side bytes)
 given_sound k w side (Some bytes) = made_sound k w side bytes (made_at k w bytes)
-given_sound k w side None = still_sound w Nothing []
+given_sound k w side None = still_sound w Nothing (texts [])
 
 -- ---- a text is said
 
@@ -132,7 +131,14 @@ talk_gains : (w : World) (conversation : Conversation) (draws : Draws) (side : S
 talk_gains w conversation draws First = same refl
 talk_gains w conversation draws Second = same refl
 
--- nor where a side begins its next epoch
+-- nor where a side says a text, in its epoch or in the next
+here_gains : (w : World) (side : Side) (text : List ℕ) (other : Side)
+    → Gains (view_of w other).arrived (view_of (said_here w side text).next other).arrived
+here_gains w First text First = same refl
+here_gains w First text Second = same refl
+here_gains w Second text First = same refl
+here_gains w Second text Second = same refl
+
 turn_gains : (w : World) (side : Side) (seed text : List ℕ) (other : Side)
     → Gains (view_of w other).arrived (view_of (said_next (drawn_in w) side seed text).next other).arrived
 turn_gains w First seed text First = same refl
@@ -142,10 +148,7 @@ turn_gains w Second seed text Second = same refl
 
 -- in the side's epoch
 here_sound : (w : World) (side : Side) (text : List ℕ) → IsSound w (said_here w side text)
-here_sound w side text = record {
-  gains = talk_gains w (with_text w.conversation (view_of w side).epoch text) w.draws;
-  refused = λ refusal e. cc;
-}
+here_sound w side text = record { gains = here_gains w side text; refused = λ refusal e. cc }
 
 -- in its next one, with a draw
 next_sound : (w : World) (side : Side) (seed text : List ℕ) (none : Bool)
@@ -176,8 +179,9 @@ step_sound k w (does side call) =
       bytes = given_sound k w side;
       drop = left_sound k w side;
     }) call
-step_sound k w (shows_inbox side) = still_sound w _ (inbox_in w side)
-step_sound k w (shows_state side) = still_sound w _ []
+step_sound k w (shows_inbox side) = still_sound w _ (texts (inbox_in w side))
+step_sound k w (shows_awaiting side) = still_sound w _ (places (view_of w side).awaiting)
+step_sound k w (shows_state side) = still_sound w _ (texts [])
 step_sound k w (cuts took h) =
     let sound = step_sound k w h in
     let draws = (step_of k w h).next.draws in

@@ -4,9 +4,8 @@ use Rattle.std.specs.Prelude.{All, AllPairs, slice_index_or}
 use Rattle.std.proofs.lemmas.Bool.{eqb-true}
 use Rattle.std.proofs.lemmas.List.Elements.{All-append, All-cons, All-filter, All-head, All-map, All-nil, All-tail, All-weaker, filter_passes}
 use Rattle.std.proofs.lemmas.List.Kept.{AllPairs-cons}
-use Rattle.dr_base.specs.Position.{is_own}
+use Rattle.dr_base.specs.Position.{IsBefore, is_own}
 use Rattle.dr_base.specs.declared.position.Position.{Position}
-use Rattle.fs_aead.specs.Table.{IsBefore}
 use Rattle.dr_model.specs.Conversations.Conversation.{Conversation, count_of}
 use Rattle.dr_model.specs.Conversations.Indices.{is_among, missing_to, reach}
 use Rattle.dr_model.specs.Conversations.Lawful.{HasArrived}

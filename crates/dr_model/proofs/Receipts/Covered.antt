@@ -3,8 +3,7 @@ use Rattle.std.proofs.Common.{◌≡◌, ℕ, ◌+◌, ◌≤◌, ◌||◌, Bool
 use Rattle.std.specs.List.{find, list_any}
 use Rattle.std.specs.Prelude.{option_map}
 use Rattle.std.proofs.lemmas.Bool.{both_ways, cases_Bool, cases_lt}
-use Rattle.bodies.specs.Lawful.{IsUpTo}
-use Rattle.dr_base.specs.Position.{is_at, is_own, position_at}
+use Rattle.dr_base.specs.Position.{IsUpTo, is_at, is_own, position_at}
 use Rattle.dr_base.specs.declared.key.Kept.{Kept}
 use Rattle.dr_base.specs.declared.position.Position.{Position}
 use Rattle.fs_aead.specs.Chain.{message_key}

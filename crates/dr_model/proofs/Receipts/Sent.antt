@@ -5,7 +5,7 @@ use Rattle.std.proofs.lemmas.Bool.{cond_both, not-true}
 use Rattle.std.proofs.lemmas.Bool.Decides.{nat_tests}
 use Rattle.bodies.specs.Lawful.{AreListed, FitsFields, IsReceiptOrNone}
 use Rattle.bodies.specs.Receipts.{Receipt, is_covered, receipt_up_to}
-use Rattle.bodies.specs.declared.limits.TheConstants.{RECEIPT_LIMIT}
+use Rattle.dr_base.specs.declared.limits.TheConstants.{RECEIPT_LIMIT}
 use Rattle.bodies.proofs.Covered.{covered-opened, receipt-lawful}
 use Rattle.dr_base.specs.Position.{is_own, peer_of, position_at}
 use Rattle.dr_base.specs.declared.position.Position.{Position}
@@ -15,7 +15,7 @@ use Rattle.kem_laws.specs.Mechanism.{Mechanism}
 use Rattle.session_model.specs.States.{receiving_epoch}
 use Rattle.dr_model.specs.Conversations.Conversation.{Conversation, count_of, is_said}
 use Rattle.dr_model.specs.Conversations.Views.{View, has_opened, missing_of, reach_in}
-use Rattle.dr_model.specs.Theorems.Receipts.{IsTrue, IsSaidSoFar, receipt_in}
+use Rattle.dr_model.specs.Conversations.Receipts.{IsTrue, IsSaidSoFar, view_receipt}
 use Rattle.dr_model.specs.Theorems.Sessions.{StandsIn}
 use Rattle.dr_model.proofs.Growth.Growing.{said_from, said_to}
 use Rattle.dr_model.proofs.Growth.GrowingViews.{missing_below-below}
@@ -41,7 +41,7 @@ module _ (k : Mechanism) (c : Conversation) (side : Side) (v : View) (at : Stand
   -- what holds of no receipt, and of the one up to the latest peer's epoch, holds of the receipt
   by_latest : (P : Option Receipt → Type 0) → P None
       → ((t : ℕ) → IsLatest v.side v.epoch t → P (Some (receipt_up_to (missing_of c v) (read_to t))))
-      → P (receipt_in c v)
+      → P (view_receipt c v)
   by_latest P none some = chosen (receiving_epoch v.side v.epoch) refl
     where
       chosen : (o : Option ℕ) → receiving_epoch v.side v.epoch ≡ o
@@ -85,9 +85,9 @@ module _ (k : Mechanism) (c : Conversation) (side : Side) (v : View) (at : Stand
     ascending = missing_below-ascending c v (v.epoch + 1);
   }
 
-  pub lawful_sent : IsReceiptOrNone (peer_of side) (receipt_in c v)
+  pub lawful_sent : IsReceiptOrNone (peer_of side) (view_receipt c v)
   lawful_sent =
-      subst (λ (s : Side). IsReceiptOrNone (peer_of s) (receipt_in c v)) at.view.side_is
+      subst (λ (s : Side). IsReceiptOrNone (peer_of s) (view_receipt c v)) at.view.side_is
       (by_latest (IsReceiptOrNone (peer_of v.side)) tt
       (λ t latest. receipt-lawful (peer_of v.side) (missing_of c v) (read_to t) (are_listed t latest)))
 
@@ -115,7 +115,7 @@ module _ (k : Mechanism) (c : Conversation) (side : Side) (v : View) (at : Stand
         most = up_to_read c v t latest p peers is.up_to most;
       }) is.opened
 
-  pub true_sent : IsTrue c v (receipt_in c v)
+  pub true_sent : IsTrue c v (view_receipt c v)
   true_sent =
       by_latest (IsTrue c v) (record { bounded = tt; opened = λ p said covered. cc })
       (λ t latest. record {

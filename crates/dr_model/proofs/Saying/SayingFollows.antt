@@ -1,6 +1,7 @@
 -- Where a side says a text, both sides keep what the world says.
 use Rattle.std.proofs.Common.{◌≡◌, ℕ, ◌+◌, true, false, Bool, not, List, [], ◌∷◌, ◌++◌, length, Option, Some, None, Result, Ok, Err, refl, sym, ◌∙◌, ap, ap₂, if◌then◌else◌, arith}
 use Rattle.std.specs.Prelude.{is_none, is_some}
+use Rattle.bodies.specs.Bodies.{Body}
 use Rattle.boxes.specs.Posts.{Post}
 use Rattle.dr_base.specs.Position.{is_own, peer_of}
 use Rattle.dr_base.specs.declared.position.Side.{Side}
@@ -16,6 +17,7 @@ use Rattle.dr_model.specs.Conversations.Conversation.{Conversation, next_positio
 use Rattle.dr_model.specs.Conversations.Lawful.{IsLawfulConversation, IsLawfulView}
 use Rattle.dr_model.specs.Conversations.Posts.{post_at, posts}
 use Rattle.dr_model.specs.Conversations.ViewStates.{client_at}
+use Rattle.dr_model.specs.Conversations.Receipts.{body_in}
 use Rattle.dr_model.specs.Conversations.Views.{View, after_turn}
 use Rattle.dr_model.specs.Machines.Draws.{Draws, next_seed, after_draw}
 use Rattle.dr_model.specs.Machines.Events.{does, says}
@@ -27,7 +29,7 @@ use Rattle.dr_model.specs.Theorems.LawfulWorlds.{IsLawfulWorld}
 use Rattle.dr_model.proofs.Growth.GrowingStates.{client-grown}
 use Rattle.dr_model.proofs.Growth.TurnGrowth.{posts-grown, turns_same, turns_stay}
 use Rattle.dr_model.proofs.Saying.SayingChecks.{own_where, same_check}
-use Rattle.dr_model.proofs.Saying.SayingText.{say_on-own}
+use Rattle.dr_model.proofs.Saying.SayingText.{said_view, say_on-own}
 use Rattle.dr_model.proofs.Saying.SayingTurn.{first_place, say_on-turn, say_on-none}
 use Rattle.dr_model.proofs.Worlds.SeenWorlds.{seen_world}
 use Rattle.dr_model.proofs.Worlds.WorldViews.{own_in, dropped_in, at_last}
@@ -45,24 +47,24 @@ same_sides key draws first other_first second other_second sent other_sent f s p
     ap₂ (λ a b. sides_with key draws a b sent) f s ∙ ap (sides_with key draws other_first other_second) p
 
 -- the other side keeps what it kept: where the text is in the side's epoch
-peer_keeps : (k : Mechanism) (c : Conversation) (side : Side) (v u : View) (text : List ℕ) → IsLawfulConversation k c
+peer_keeps : (k : Mechanism) (c : Conversation) (side : Side) (v u : View) (body : Body) → IsLawfulConversation k c
     → IsLawfulView k c side v
     → IsLawfulView k c (peer_of side) u → is_own side v.epoch ≡ true
-    → client_at k c u ≡ client_at k (with_text c v.epoch text) u
-peer_keeps k c side v u text world lawful other own =
-    sym (client-grown k c c.seeds v.epoch text u (turns_same k c.key c.seeds)
+    → client_at k c u ≡ client_at k (with_text c v.epoch body) u
+peer_keeps k c side v u body world lawful other own =
+    sym (client-grown k c c.seeds v.epoch body u (turns_same k c.key c.seeds)
     (omega (arith, lawful.near_end, other.reached)) other.reached lawful.near_end
     (own_in k c (peer_of side) u v.epoch false other (own_peer side v.epoch ∙ ap not own))
     world.begun other.arrivals)
 
 -- and where it begins one
-peer_keeps_turn : (k : Mechanism) (c : Conversation) (side : Side) (v u : View) (seed text : List ℕ)
+peer_keeps_turn : (k : Mechanism) (c : Conversation) (side : Side) (v u : View) (seed : List ℕ) (body : Body)
     → IsLawfulConversation k c → IsLawfulView k c side v
     → IsLawfulView k c (peer_of side) u → is_own side v.epoch ≡ false
-    → client_at k c u ≡ client_at k (with_turn c seed (v.epoch + 1) text) u
-peer_keeps_turn k c side v u seed text world lawful other peers =
+    → client_at k c u ≡ client_at k (with_turn c seed (v.epoch + 1) body) u
+peer_keeps_turn k c side v u seed body world lawful other peers =
     let last = at_last k c side v lawful peers in
-    sym (client-grown k c (c.seeds ++ seed ∷ []) (v.epoch + 1) text u (turns_stay k c.key c.seeds seed)
+    sym (client-grown k c (c.seeds ++ seed ∷ []) (v.epoch + 1) body u (turns_stay k c.key c.seeds seed)
     (omega (arith, other.reached)) other.reached (omega arith)
     (own_in k c (peer_of side) u (v.epoch + 1) false other
     (own_peer side (v.epoch + 1) ∙ ap not (own_after side v.epoch peers)))
@@ -72,7 +74,10 @@ peer_keeps_turn k c side v u seed text world lawful other peers =
 says_own : (k : Mechanism) (c : Conversation) (side : Side) (v : View) (text : List ℕ) → IsLawfulConversation k c
     → IsLawfulView k c side v → is_own side v.epoch ≡ true
     → say_on k (client_at k c v) text []
-    ≡ Ok (record { post = post_at k (with_text c v.epoch text) (next_position c.said v.epoch); next = client_at k (with_text c v.epoch text) v })
+    ≡ Ok (record {
+      post = post_at k (with_text c v.epoch (body_in c v text)) (next_position c.said v.epoch);
+      next = client_at k (with_text c v.epoch (body_in c v text)) (said_view c v);
+    })
 says_own k c side v text world lawful own =
     say_on-own k c v text
     (own_in k c side v v.epoch true lawful own) lawful.reached lawful.near_end world.begun lawful.arrivals
@@ -83,27 +88,27 @@ says_turn : (k : Mechanism) (c : Conversation) (side : Side) (v : View) (text se
     → is_some (k.meaning.pair_of seed) ≡ true
     → say_on k (client_at k c v) text seed
     ≡ Ok (record {
-      post = post_at k (with_turn c seed (v.epoch + 1) text) (next_position c.said (v.epoch + 1));
-      next = client_at k (with_turn c seed (v.epoch + 1) text) (after_turn v);
+      post = post_at k (with_turn c seed (v.epoch + 1) (body_in c v text)) (next_position c.said (v.epoch + 1));
+      next = client_at k (with_turn c seed (v.epoch + 1) (body_in c v text)) (after_turn v);
     })
 says_turn k c side v text seed world lawful peers pairs =
     say_on-turn k c v text seed pairs (own_in k c side v v.epoch false lawful peers)
     (at_last k c side v lawful peers) world.begun lawful.arrivals (dropped_in k c side v lawful)
 
 -- all packets
-posts_own : (k : Mechanism) (c : Conversation) (side : Side) (v : View) (text : List ℕ) → IsLawfulConversation k c
+posts_own : (k : Mechanism) (c : Conversation) (side : Side) (v : View) (body : Body) → IsLawfulConversation k c
     → IsLawfulView k c side v
-    → posts k c ++ post_at k (with_text c v.epoch text) (next_position c.said v.epoch) ∷ []
-    ≡ posts k (with_text c v.epoch text)
-posts_own k c side v text world lawful =
-    sym (posts-grown k c c.seeds v.epoch text (turns_same k c.key c.seeds) lawful.near_end world.begun)
+    → posts k c ++ post_at k (with_text c v.epoch body) (next_position c.said v.epoch) ∷ []
+    ≡ posts k (with_text c v.epoch body)
+posts_own k c side v body world lawful =
+    sym (posts-grown k c c.seeds v.epoch body (turns_same k c.key c.seeds) lawful.near_end world.begun)
 
-posts_turn : (k : Mechanism) (c : Conversation) (side : Side) (v : View) (seed text : List ℕ) → IsLawfulConversation k c
+posts_turn : (k : Mechanism) (c : Conversation) (side : Side) (v : View) (seed : List ℕ) (body : Body) → IsLawfulConversation k c
     → IsLawfulView k c side v
-    → posts k c ++ post_at k (with_turn c seed (v.epoch + 1) text) (next_position c.said (v.epoch + 1)) ∷ []
-    ≡ posts k (with_turn c seed (v.epoch + 1) text)
-posts_turn k c side v seed text world lawful =
-    sym (posts-grown k c (c.seeds ++ seed ∷ []) (v.epoch + 1) text (turns_stay k c.key c.seeds seed)
+    → posts k c ++ post_at k (with_turn c seed (v.epoch + 1) body) (next_position c.said (v.epoch + 1)) ∷ []
+    ≡ posts k (with_turn c seed (v.epoch + 1) body)
+posts_turn k c side v seed body world lawful =
+    sym (posts-grown k c (c.seeds ++ seed ∷ []) (v.epoch + 1) body (turns_stay k c.key c.seeds seed)
     (omega (arith, lawful.near_end)) world.begun)
 
 -- ---- what is said
@@ -117,15 +122,15 @@ said_here-follows k w First text lawful own =
     ap (said_on (sides_of k w) First) (says_own k c First w.first text lawful.conversation lawful.first own)
     ∙ ap (step (Said (next_position c.said w.first.epoch)))
     (same_sides c.key w.draws _ _ _ _ _ _ refl
-    (peer_keeps k c First w.first w.second text lawful.conversation lawful.first lawful.second own)
-    (posts_own k c First w.first text lawful.conversation lawful.first))
+    (peer_keeps k c First w.first w.second (body_in c w.first text) lawful.conversation lawful.first lawful.second own)
+    (posts_own k c First w.first (body_in c w.first text) lawful.conversation lawful.first))
 said_here-follows k w Second text lawful own =
     let c = w.conversation in
     ap (said_on (sides_of k w) Second) (says_own k c Second w.second text lawful.conversation lawful.second own)
     ∙ ap (step (Said (next_position c.said w.second.epoch)))
     (same_sides c.key w.draws _ _ _ _ _ _
-    (peer_keeps k c Second w.second w.first text lawful.conversation lawful.second lawful.first own) refl
-    (posts_own k c Second w.second text lawful.conversation lawful.second))
+    (peer_keeps k c Second w.second w.first (body_in c w.second text) lawful.conversation lawful.second lawful.first own) refl
+    (posts_own k c Second w.second (body_in c w.second text) lawful.conversation lawful.second))
 
 -- the world once a draw was made
 abbrev pub drawn_in : World → World
@@ -144,8 +149,8 @@ said_next-follows k w First seed text lawful peers pairs =
     ∙ ap₂ (λ place sides. step {S = Sides} (Said place) sides)
     (first_place c w.first.epoch lawful.conversation.begun (at_last k c First w.first lawful.first peers))
     (same_sides c.key (after_draw w.draws) _ _ _ _ _ _ refl
-    (peer_keeps_turn k c First w.first w.second seed text lawful.conversation lawful.first lawful.second peers)
-    (posts_turn k c First w.first seed text lawful.conversation lawful.first))
+    (peer_keeps_turn k c First w.first w.second seed (body_in c w.first text) lawful.conversation lawful.first lawful.second peers)
+    (posts_turn k c First w.first seed (body_in c w.first text) lawful.conversation lawful.first))
 said_next-follows k w Second seed text lawful peers pairs =
     let c = w.conversation in
     ap (said_on (sides_of k (drawn_in w)) Second)
@@ -153,8 +158,8 @@ said_next-follows k w Second seed text lawful peers pairs =
     ∙ ap₂ (λ place sides. step {S = Sides} (Said place) sides)
     (first_place c w.second.epoch lawful.conversation.begun (at_last k c Second w.second lawful.second peers))
     (same_sides c.key (after_draw w.draws) _ _ _ _ _ _
-    (peer_keeps_turn k c Second w.second w.first seed text lawful.conversation lawful.second lawful.first peers) refl
-    (posts_turn k c Second w.second seed text lawful.conversation lawful.second))
+    (peer_keeps_turn k c Second w.second w.first seed (body_in c w.second text) lawful.conversation lawful.second lawful.first peers) refl
+    (posts_turn k c Second w.second seed (body_in c w.second text) lawful.conversation lawful.second))
 
 -- without a pair nothing is said
 says_none : (k : Mechanism) (w : World) (side : Side) (seed text : List ℕ) → IsLawfulWorld k w

@@ -3,7 +3,7 @@ use Rattle.std.proofs.Common.{◌≡◌, ℕ, ◌+◌, ◌-◌, ◌≤◌, true,
 use Rattle.std.specs.Prelude.{All}
 use Rattle.std.proofs.lemmas.Bool.{cond-true, cond-false}
 use Rattle.std.proofs.lemmas.List.{drop-append-le}
-use Rattle.bodies.specs.Bodies.{text_body}
+use Rattle.bodies.specs.Bodies.{Body}
 use Rattle.bodies.specs.Formats.{version_of}
 use Rattle.boxes.specs.Entries.{Entry}
 use Rattle.boxes.specs.Posts.{Post}
@@ -23,13 +23,16 @@ use Rattle.dr_model.specs.Conversations.Lawful.{HasArrived}
 use Rattle.dr_model.specs.Conversations.Formats.{side_format}
 use Rattle.dr_model.specs.Conversations.Posts.{post_at, posts_of, turn_of_epoch}
 use Rattle.dr_model.specs.Conversations.ViewStates.{client_at, view_own, view_phase, previous_in, state_of}
-use Rattle.dr_model.specs.Conversations.Views.{View, outbox_of}
-use Rattle.dr_model.proofs.Growth.Growing.{grown, previous-grown, text_at-new}
+use Rattle.dr_model.specs.Conversations.Receipts.{body_in}
+use Rattle.dr_model.specs.Conversations.Views.{View, after_text, outbox_of}
+use Rattle.dr_model.proofs.Growth.Growing.{grown, previous-grown, body_at-new}
 use Rattle.dr_model.proofs.Growth.GrowingStates.{inbox-grown, own_with, same_state}
 use Rattle.dr_model.proofs.Growth.GrowingViews.{kept-grown, receiving-grown}
+use Rattle.dr_model.proofs.Growth.SameViews.{kept-waiting}
 use Rattle.dr_model.proofs.Growth.Texts.{count-here}
 use Rattle.dr_model.proofs.Growth.TurnGrowth.{SameTurns, posts_of-grown, turns_same}
 use Rattle.dr_model.proofs.Saying.OwnSide.{own_side}
+use Rattle.dr_model.proofs.Saying.SaidBodies.{same_body}
 
 -- what a side holds of an own epoch, and of a peer's
 pub phase_own : (k : Mechanism) (c : Conversation) (v : View) → is_own v.side v.epoch ≡ true
@@ -64,49 +67,54 @@ own_next turn n m more =
     ∙ ap (λ (chain : List ℕ). record { secret = turn.secret; agreement = turn.agreement; chain = chain; sent = n + 1 })
     (chain_of-suc turn.stream n)
 
-state_own : (k : Mechanism) (c : Conversation) (v : View) (text : List ℕ) → is_own v.side v.epoch ≡ true
+-- the view once it has said the next one
+abbrev pub said_view : Conversation → View → View
+said_view c v = after_text v (next_position c.said v.epoch)
+
+state_own : (k : Mechanism) (c : Conversation) (v : View) (body : Body) → is_own v.side v.epoch ≡ true
     → v.epoch ≤ length c.seeds
-    → (draft_own (state_of k c v) (view_own k c v) text).next ≡ state_of k (with_text c v.epoch text) v
-state_own k c v text own within =
-    let d = with_text c v.epoch text in
+    → (draft_own (state_of k c v) (view_own k c v) body).next ≡ state_of k (with_text c v.epoch body) (said_view c v)
+state_own k c v body own within =
+    let d = with_text c v.epoch body in
     let same = turns_same k c.key c.seeds in
     sym (same_state v.side (side_format c.formats v.side) (session_of c.key) v.epoch _ _ _ _ _ _ _ _ _ _
+    (said_view c v).awaiting
     refl
     (phase_own k d v own ∙ ap in_own
-    (own_next (turn_of_epoch k c v.epoch) (count_of c v.epoch) (count_of d v.epoch) (count-here c.said v.epoch text)))
-    (previous_own d v own ∙ previous-grown c c.seeds v.epoch text v.epoch (omega arith) ∙ sym (previous_own c v own))
-    (receiving-grown k c c.seeds v.epoch text v same (omega arith) within)
-    (kept-grown k c c.seeds v.epoch text v same (omega arith) within))
+    (own_next (turn_of_epoch k c v.epoch) (count_of c v.epoch) (count_of d v.epoch) (count-here c.said v.epoch body)))
+    (previous_own d v own ∙ previous-grown c c.seeds v.epoch body v.epoch (omega arith) ∙ sym (previous_own c v own))
+    (receiving-grown k c c.seeds v.epoch body v same (omega arith) within)
+    (kept-waiting k d v (said_view c v).awaiting ∙ kept-grown k c c.seeds v.epoch body v same (omega arith) within))
 
 -- ---- its packet
 
-post_own : (k : Mechanism) (c : Conversation) (v : View) (text : List ℕ) → is_own v.side v.epoch ≡ true
-    → (draft_own (state_of k c v) (view_own k c v) text).post ≡ post_at k (with_text c v.epoch text)
+post_own : (k : Mechanism) (c : Conversation) (v : View) (body : Body) → is_own v.side v.epoch ≡ true
+    → (draft_own (state_of k c v) (view_own k c v) body).post ≡ post_at k (with_text c v.epoch body)
     (next_position c.said v.epoch)
-post_own k c v text own =
-    let d = with_text c v.epoch text in
+post_own k c v body own =
+    let d = with_text c v.epoch body in
     let turn = turn_of_epoch k c v.epoch in
-    let make : Side → ℕ → List ℕ → List ℕ → Post = λ side previous key said. posted (version_of (side_format c.formats side)) (session_of c.key)
-    (next_position c.said v.epoch) previous turn.agreement key (text_body said) in
-    ap (λ side. make side (previous_in c v) (chain_message_key (view_own k c v).chain) text) (sym (own_side v.side v.epoch own))
-    ∙ ap₂ (λ previous key. make (side_of v.epoch) previous key text)
-    (previous_own c v own ∙ sym (previous-grown c c.seeds v.epoch text v.epoch (omega arith)))
+    let make : Side → ℕ → List ℕ → Body → Post = λ side previous key said. posted (version_of (side_format c.formats side)) (session_of c.key)
+    (next_position c.said v.epoch) previous turn.agreement key said in
+    ap (λ side. make side (previous_in c v) (chain_message_key (view_own k c v).chain) body) (sym (own_side v.side v.epoch own))
+    ∙ ap₂ (λ previous key. make (side_of v.epoch) previous key body)
+    (previous_own c v own ∙ sym (previous-grown c c.seeds v.epoch body v.epoch (omega arith)))
     (sym (message_key-suc turn.stream (count_of c v.epoch)))
     ∙ ap (make (side_of v.epoch) (previous_of d v.epoch) (message_key turn.stream (count_of c v.epoch + 1)))
-    (sym (text_at-new c c.seeds v.epoch text))
+    (sym (body_at-new c c.seeds v.epoch body))
 
 -- it stands in the outbox
-pub outbox_own : (k : Mechanism) (c : Conversation) (seeds : List (List ℕ)) (epoch : ℕ) (text : List ℕ) (v : View)
+pub outbox_own : (k : Mechanism) (c : Conversation) (seeds : List (List ℕ)) (epoch : ℕ) (body : Body) (v : View)
     → SameTurns k c.key c.seeds seeds
     → length c.seeds ≤ epoch + 1 → All (λ s. s.epoch ≤ length c.seeds) c.said → is_own v.side epoch ≡ true
     → v.dropped ≤ length (posts_of k c v.side)
-    → outbox_of k (grown c seeds epoch text) v ≡ outbox_of k c v ++ post_at k (grown c seeds epoch text)
+    → outbox_of k (grown c seeds epoch body) v ≡ outbox_of k c v ++ post_at k (grown c seeds epoch body)
     (next_position c.said epoch) ∷ []
-outbox_own k c seeds epoch text v same late begun own fits =
-    let d = grown c seeds epoch text in
+outbox_own k c seeds epoch body v same late begun own fits =
+    let d = grown c seeds epoch body in
     let post = post_at k d (next_position c.said epoch) in
     ap (drop v.dropped)
-    (posts_of-grown k c seeds epoch text v.side same late begun
+    (posts_of-grown k c seeds epoch body v.side same late begun
     ∙ ap (λ ps. posts_of k c v.side ++ ps) (cond-true (is_own v.side epoch) (post ∷ []) [] own))
     ∙ drop-append-le v.dropped (posts_of k c v.side) (post ∷ []) fits
 
@@ -116,14 +124,15 @@ pub draft_send-own : (k : Mechanism) (c : Conversation) (v : View) (text seed : 
     → v.epoch ≤ length c.seeds
     → draft_send k (state_of k c v) text seed
     ≡ Some (record {
-      post = post_at k (with_text c v.epoch text) (next_position c.said v.epoch);
-      next = state_of k (with_text c v.epoch text) v;
+      post = post_at k (with_text c v.epoch (body_in c v text)) (next_position c.said v.epoch);
+      next = state_of k (with_text c v.epoch (body_in c v text)) (said_view c v);
     })
 unfolding draft_send
 draft_send-own k c v text seed own within =
-    ap (draft_phase k (state_of k c v) text seed) (phase_own k c v own)
-    ∙ ap₂ (λ (post : Post) (next : State). Some (record { post = post; next = next })) (post_own k c v text own)
-    (state_own k c v text own within)
+    let body = body_in c v text in
+    ap₂ (λ (said : Body) phase. draft_phase k (state_of k c v) said seed phase) (same_body k c v text) (phase_own k c v own)
+    ∙ ap₂ (λ (post : Post) (next : State). Some (record { post = post; next = next })) (post_own k c v body own)
+    (state_own k c v body own within)
 
 -- a draft that is accepted
 pub accepted : (client : Client) (post : Post) (state : State) (inbox : List Entry) (outbox : List Post) → client.inbox ≡ inbox
@@ -139,11 +148,12 @@ pub say_on-own : (k : Mechanism) (c : Conversation) (v : View) (text : List ℕ)
     → v.dropped ≤ length (posts_of k c v.side)
     → say_on k (client_at k c v) text []
     ≡ Ok (record {
-      post = post_at k (with_text c v.epoch text) (next_position c.said v.epoch);
-      next = client_at k (with_text c v.epoch text) v;
+      post = post_at k (with_text c v.epoch (body_in c v text)) (next_position c.said v.epoch);
+      next = client_at k (with_text c v.epoch (body_in c v text)) (said_view c v);
     })
 say_on-own k c v text own within late begun arrivals fits =
+    let body = body_in c v text in
     ap (accept_send (client_at k c v)) (draft_send-own k c v text [] own within)
     ∙ accepted (client_at k c v) _ _ _ _
-    (sym (inbox-grown c c.seeds v.epoch text v arrivals))
-    (outbox_own k c c.seeds v.epoch text v (turns_same k c.key c.seeds) late begun own fits)
+    (sym (inbox-grown c c.seeds v.epoch body v arrivals))
+    (outbox_own k c c.seeds v.epoch body v (turns_same k c.key c.seeds) late begun own fits)

@@ -2,7 +2,7 @@
 use Rattle.std.proofs.Common.{◌≡◌, ℕ, ◌+◌, ◌≤◌, true, false, List, [], ◌∷◌, ◌++◌, length, Option, Some, None, Ok, Err, sym, ◌∙◌, ap, ap₂, add-one, arith}
 use Rattle.std.specs.Prelude.{All, is_some, option_map, slice_index_or}
 use Rattle.std.proofs.Math.Seq.{get_or-append_seam}
-use Rattle.bodies.specs.Bodies.{text_body}
+use Rattle.bodies.specs.Bodies.{Body}
 use Rattle.bodies.specs.Formats.{version_of}
 use Rattle.boxes.specs.Posts.{Post}
 use Rattle.dr_base.specs.Position.{is_own, side_of}
@@ -19,24 +19,26 @@ use Rattle.session_model.specs.Sealing.{posted}
 use Rattle.session_model.specs.States.{State, in_own}
 use Rattle.session_model.specs.Turns.{Turn, next_turn, turn_at, pair_at}
 use Rattle.session_model.specs.declared.answer.Refusal.TheVariants.{NoPair}
-use Rattle.dr_model.specs.Conversations.Conversation.{Conversation, count_of, next_position, previous_of, text_at, with_turn}
+use Rattle.dr_model.specs.Conversations.Conversation.{Conversation, count_of, next_position, previous_of, body_at, with_turn}
 use Rattle.dr_model.specs.Conversations.Lawful.{HasArrived}
 use Rattle.dr_model.specs.Conversations.Formats.{side_format}
 use Rattle.dr_model.specs.Conversations.Posts.{post_at, posts_of, turn_of_epoch}
 use Rattle.dr_model.specs.Conversations.ViewStates.{client_at, previous_in, state_of}
+use Rattle.dr_model.specs.Conversations.Receipts.{body_in}
 use Rattle.dr_model.specs.Conversations.Views.{View, after_turn}
-use Rattle.dr_model.proofs.Growth.Growing.{grown, text_at-new}
+use Rattle.dr_model.proofs.Growth.Growing.{grown, body_at-new}
 use Rattle.dr_model.proofs.Growth.GrowingStates.{inbox-grown, own_with, same_state}
-use Rattle.dr_model.proofs.Growth.Texts.{count-here, texts_of-beyond}
+use Rattle.dr_model.proofs.Growth.Texts.{count-here, bodies_of-beyond}
 use Rattle.dr_model.proofs.Growth.TurnGrowth.{turns_stay}
 use Rattle.dr_model.proofs.Growth.TurnedViews.{kept-turned, receiving-turned, previous-turned}
 use Rattle.dr_model.proofs.Saying.OwnSide.{own_side}
+use Rattle.dr_model.proofs.Saying.SaidBodies.{same_body}
 use Rattle.dr_model.proofs.Saying.SayingText.{phase_own, phase_peers, previous_own, previous_peers, outbox_own, accepted}
 use Rattle.dr_model.proofs.Worlds.TurnSizes.{some_pair}
 
 -- the conversation with the turn
-abbrev turned_talk : Conversation → View → List ℕ → List ℕ → Conversation
-turned_talk c v seed text = with_turn c seed (v.epoch + 1) text
+abbrev turned_talk : Conversation → View → List ℕ → Body → Conversation
+turned_talk c v seed body = with_turn c seed (v.epoch + 1) body
 
 -- ---- the new epoch
 
@@ -52,25 +54,25 @@ turn_new k key seeds seed n last =
 -- it had no text
 pub none_yet : (c : Conversation) (n : ℕ) → All (λ s. s.epoch ≤ length c.seeds) c.said → n ≡ length c.seeds
     → count_of c (n + 1) ≡ 0
-none_yet c n begun last = ap length (texts_of-beyond c.said (length c.seeds) (n + 1) begun (omega arith))
+none_yet c n begun last = ap length (bodies_of-beyond c.said (length c.seeds) (n + 1) begun (omega arith))
 
 -- and so this is its first
 pub first_place : (c : Conversation) (n : ℕ) → All (λ s. s.epoch ≤ length c.seeds) c.said → n ≡ length c.seeds
     → next_position c.said (n + 1) ≡ record { epoch = n + 1; index = 1 }
 first_place c n begun last = ap (λ count. record { epoch = n + 1; index = count + 1 }) (none_yet c n begun last)
 
-pub first_count : (c : Conversation) (seeds : List (List ℕ)) (n : ℕ) (text : List ℕ)
+pub first_count : (c : Conversation) (seeds : List (List ℕ)) (n : ℕ) (body : Body)
     → All (λ s. s.epoch ≤ length c.seeds) c.said → n ≡ length c.seeds
-    → count_of (grown c seeds (n + 1) text) (n + 1) ≡ 1
-first_count c seeds n text begun last = count-here c.said (n + 1) text ∙ ap (λ count. count + 1) (none_yet c n begun last)
+    → count_of (grown c seeds (n + 1) body) (n + 1) ≡ 1
+first_count c seeds n body begun last = count-here c.said (n + 1) body ∙ ap (λ count. count + 1) (none_yet c n begun last)
 
 -- ---- what the side keeps then
 
 -- the draft of a seed that has a pair
-abbrev turn_draft : Mechanism → Conversation → View → List ℕ → List ℕ → SendDraft
-turn_draft k c v text seed =
+abbrev turn_draft : Mechanism → Conversation → View → Body → List ℕ → SendDraft
+turn_draft k c v body seed =
     let turn = turn_of_epoch k c v.epoch in
-    draft_turn (state_of k c v) text (
+    draft_turn (state_of k c v) body (
       (pair_at k seed).1,
       (k.meaning.encap_of turn.public seed).0 ++ (pair_at k seed).0,
       (k.meaning.encap_of turn.public seed).1,
@@ -85,46 +87,47 @@ own_first turn other n same one =
     ∙ ap (λ (chain : List ℕ). record { secret = other.secret; agreement = other.agreement; chain = chain; sent = 1 })
     (chain_of-suc other.stream 0 ∙ ap next_chain (chain_of-zero other.stream))
 
-state_turn : (k : Mechanism) (c : Conversation) (v : View) (text seed : List ℕ) → is_own v.side v.epoch ≡ false
+state_turn : (k : Mechanism) (c : Conversation) (v : View) (body : Body) (seed : List ℕ) → is_own v.side v.epoch ≡ false
     → v.epoch ≡ length c.seeds
     → All (λ s. s.epoch ≤ length c.seeds) c.said
-    → (turn_draft k c v text seed).next ≡ state_of k (turned_talk c v seed text) (after_turn v)
-state_turn k c v text seed peers last begun =
-    let d = turned_talk c v seed text in
+    → (turn_draft k c v body seed).next ≡ state_of k (turned_talk c v seed body) (after_turn v)
+state_turn k c v body seed peers last begun =
+    let d = turned_talk c v seed body in
     let same = turns_stay k c.key c.seeds seed in
     let new = turn_new k c.key c.seeds seed v.epoch last in
     let own = own_after v.side v.epoch peers in
     sym (same_state v.side (side_format c.formats v.side) (session_of c.key) (v.epoch + 1) _ _ _ _ _ _ _ _ _ _
+    (after_turn v).awaiting
     (ap (λ (turn : Turn). turn.root) new)
     (phase_own k d (after_turn v) own
     ∙ ap in_own (own_first (turn_of_epoch k d (v.epoch + 1)) (next_turn k (turn_of_epoch k c v.epoch) seed)
     (count_of d (v.epoch + 1)) new
-    (first_count c (c.seeds ++ seed ∷ []) v.epoch text begun last)))
-    (previous_own d (after_turn v) own ∙ previous-turned c (c.seeds ++ seed ∷ []) text v ∙ sym (previous_peers c v peers))
-    (receiving-turned k c (c.seeds ++ seed ∷ []) text v same peers (omega arith))
-    (kept-turned k c (c.seeds ++ seed ∷ []) text v same peers (omega arith)))
+    (first_count c (c.seeds ++ seed ∷ []) v.epoch body begun last)))
+    (previous_own d (after_turn v) own ∙ previous-turned c (c.seeds ++ seed ∷ []) body v ∙ sym (previous_peers c v peers))
+    (receiving-turned k c (c.seeds ++ seed ∷ []) body v same peers (omega arith))
+    (kept-turned k c (c.seeds ++ seed ∷ []) body v same peers (omega arith)))
 
 -- ---- its packet
 
-post_turn : (k : Mechanism) (c : Conversation) (v : View) (text seed : List ℕ) → is_own v.side v.epoch ≡ false
+post_turn : (k : Mechanism) (c : Conversation) (v : View) (body : Body) (seed : List ℕ) → is_own v.side v.epoch ≡ false
     → v.epoch ≡ length c.seeds
     → All (λ s. s.epoch ≤ length c.seeds) c.said
-    → (turn_draft k c v text seed).post ≡ post_at k (turned_talk c v seed text) (next_position c.said (v.epoch + 1))
-post_turn k c v text seed peers last begun =
-    let d = turned_talk c v seed text in
+    → (turn_draft k c v body seed).post ≡ post_at k (turned_talk c v seed body) (next_position c.said (v.epoch + 1))
+post_turn k c v body seed peers last begun =
+    let d = turned_talk c v seed body in
     let turn = next_turn k (turn_of_epoch k c v.epoch) seed in
     let first : Position = record { epoch = v.epoch + 1; index = 1 } in
     let place = first_place c v.epoch begun last in
-    let make : Side → ℕ → List ℕ → List ℕ → List ℕ → Post = λ side previous agreement key said. posted (version_of (side_format c.formats side))
-    (session_of c.key) first previous agreement key (text_body said) in
-    ap (λ side. make side (previous_in c v) turn.agreement (chain_message_key turn.stream) text)
+    let make : Side → ℕ → List ℕ → List ℕ → Body → Post = λ side previous agreement key said. posted (version_of (side_format c.formats side))
+    (session_of c.key) first previous agreement key said in
+    ap (λ side. make side (previous_in c v) turn.agreement (chain_message_key turn.stream) body)
     (sym (own_side v.side (v.epoch + 1) (own_after v.side v.epoch peers)))
-    ∙ ap₂ (λ previous key. make (side_of (v.epoch + 1)) previous turn.agreement key text)
-    (previous_peers c v peers ∙ sym (previous-turned c (c.seeds ++ seed ∷ []) text v))
+    ∙ ap₂ (λ previous key. make (side_of (v.epoch + 1)) previous turn.agreement key body)
+    (previous_peers c v peers ∙ sym (previous-turned c (c.seeds ++ seed ∷ []) body v))
     (ap chain_message_key (sym (chain_of-zero turn.stream)) ∙ sym (message_key-suc turn.stream 0))
     ∙ ap₂ (λ (t : Turn) said. make (side_of (v.epoch + 1)) (previous_of d (v.epoch + 1)) t.agreement (message_key t.stream 1) said)
     (sym (turn_new k c.key c.seeds seed v.epoch last))
-    (sym (text_at-new c (c.seeds ++ seed ∷ []) (v.epoch + 1) text) ∙ ap (text_at d) place)
+    (sym (body_at-new c (c.seeds ++ seed ∷ []) (v.epoch + 1) body) ∙ ap (body_at d) place)
     ∙ ap (post_at k d) (sym place)
 
 -- ---- what its session drafts, and its client answers
@@ -134,12 +137,13 @@ draft_by : (k : Mechanism) (c : Conversation) (v : View) (text seed : List ℕ) 
     → k.meaning.pair_of seed ≡ pair → is_own v.side v.epoch ≡ false
     → draft_send k (state_of k c v) text seed
     ≡ (let sealed = k.meaning.encap_of (turn_of_epoch k c v.epoch).public seed in
-    option_map (draft_turn (state_of k c v) text) (option_map (λ pair. (pair.1, sealed.0 ++ pair.0, sealed.1)) pair))
+    option_map (draft_turn (state_of k c v) (body_in c v text))
+    (option_map (λ pair. (pair.1, sealed.0 ++ pair.0, sealed.1)) pair))
 unfolding draft_send
 draft_by k c v text seed pair is peers =
     let sealed = k.meaning.encap_of (turn_of_epoch k c v.epoch).public seed in
-    ap (draft_phase k (state_of k c v) text seed) (phase_peers k c v peers)
-    ∙ ap (λ pair. option_map (draft_turn (state_of k c v) text)
+    ap₂ (λ (said : Body) phase. draft_phase k (state_of k c v) said seed phase) (same_body k c v text) (phase_peers k c v peers)
+    ∙ ap (λ pair. option_map (draft_turn (state_of k c v) (body_in c v text))
     (option_map (λ pair. (pair.1, sealed.0 ++ pair.0, sealed.1)) pair)) is
 
 pub draft_send-turn : (k : Mechanism) (c : Conversation) (v : View) (text seed : List ℕ)
@@ -147,13 +151,13 @@ pub draft_send-turn : (k : Mechanism) (c : Conversation) (v : View) (text seed :
     → v.epoch ≡ length c.seeds → All (λ s. s.epoch ≤ length c.seeds) c.said
     → draft_send k (state_of k c v) text seed
     ≡ Some (record {
-      post = post_at k (with_turn c seed (v.epoch + 1) text) (next_position c.said (v.epoch + 1));
-      next = state_of k (with_turn c seed (v.epoch + 1) text) (after_turn v);
+      post = post_at k (with_turn c seed (v.epoch + 1) (body_in c v text)) (next_position c.said (v.epoch + 1));
+      next = state_of k (with_turn c seed (v.epoch + 1) (body_in c v text)) (after_turn v);
     })
 draft_send-turn k c v text seed pairs peers last begun =
     draft_by k c v text seed (Some (pair_at k seed)) (some_pair (k.meaning.pair_of seed) pairs) peers
     ∙ ap₂ (λ (post : Post) (next : State). Some (record { post = post; next = next }))
-    (post_turn k c v text seed peers last begun) (state_turn k c v text seed peers last begun)
+    (post_turn k c v (body_in c v text) seed peers last begun) (state_turn k c v (body_in c v text) seed peers last begun)
 
 pub draft_send-none : (k : Mechanism) (c : Conversation) (v : View) (text seed : List ℕ) → k.meaning.pair_of seed ≡ None
     → is_own v.side v.epoch ≡ false
@@ -166,15 +170,16 @@ pub say_on-turn : (k : Mechanism) (c : Conversation) (v : View) (text seed : Lis
     → v.dropped ≤ length (posts_of k c v.side)
     → say_on k (client_at k c v) text seed
     ≡ Ok (record {
-      post = post_at k (with_turn c seed (v.epoch + 1) text) (next_position c.said (v.epoch + 1));
-      next = client_at k (with_turn c seed (v.epoch + 1) text) (after_turn v);
+      post = post_at k (with_turn c seed (v.epoch + 1) (body_in c v text)) (next_position c.said (v.epoch + 1));
+      next = client_at k (with_turn c seed (v.epoch + 1) (body_in c v text)) (after_turn v);
     })
 say_on-turn k c v text seed pairs peers last begun arrivals fits =
     let more = c.seeds ++ seed ∷ [] in
+    let body = body_in c v text in
     ap (accept_send (client_at k c v)) (draft_send-turn k c v text seed pairs peers last begun)
     ∙ accepted (client_at k c v) _ _ _ _
-    (sym (inbox-grown c more (v.epoch + 1) text v arrivals))
-    (outbox_own k c more (v.epoch + 1) text v (turns_stay k c.key c.seeds seed) (omega arith) begun
+    (sym (inbox-grown c more (v.epoch + 1) body v arrivals))
+    (outbox_own k c more (v.epoch + 1) body v (turns_stay k c.key c.seeds seed) (omega arith) begun
     (own_after v.side v.epoch peers) fits)
 
 pub say_on-none : (k : Mechanism) (c : Conversation) (v : View) (text seed : List ℕ) → k.meaning.pair_of seed ≡ None

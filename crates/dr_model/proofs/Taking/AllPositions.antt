@@ -7,26 +7,26 @@ use Rattle.std.proofs.lemmas.List.Sums.{sum_by-cons}
 use Rattle.dr_base.specs.Position.{is_at}
 use Rattle.dr_base.specs.declared.position.Position.{Position}
 use Rattle.dr_base.proofs.Positions.{is_at-same}
-use Rattle.dr_model.specs.Conversations.Conversation.{Conversation, Said, is_said, next_position, positions, positions_after, texts_of}
+use Rattle.dr_model.specs.Conversations.Conversation.{Conversation, Said, is_said, next_position, positions, positions_after, bodies_of}
 use Rattle.dr_model.specs.Machines.Worlds.{said_at}
-use Rattle.dr_model.proofs.Growth.Texts.{texts_of-append, texts_of-first, texts_of-skip}
+use Rattle.dr_model.proofs.Growth.Texts.{bodies_of-append, bodies_of-first, bodies_of-skip}
 
 -- a position lies after the first texts and up to the last ones
 lies : List Said → List Said → Position → Bool
-lies before said p = nat_lt (length (texts_of before p.epoch)) p.index && nat_le p.index (length (texts_of said p.epoch))
+lies before said p = nat_lt (length (bodies_of before p.epoch)) p.index && nat_le p.index (length (bodies_of said p.epoch))
 
 -- how many texts an epoch has with one more
 counted : (before : List Said) (s : Said) (t : ℕ) (same : Bool) → (s.epoch == t) ≡ same
-    → length (texts_of (before ++ s ∷ []) t) ≡ length (texts_of before t) + cond same 1 0
+    → length (bodies_of (before ++ s ∷ []) t) ≡ length (bodies_of before t) + cond same 1 0
 counted before s t true h =
     let e : s.epoch ≡ t = eqb-true s.epoch t h in
-    ap length (texts_of-append before (s ∷ []) t) ∙ length-append (texts_of before t) (texts_of (s ∷ []) t)
-    ∙ ap (λ n. length (texts_of before t) + n)
-    (ap (λ u. length (texts_of (s ∷ []) u)) (sym e) ∙ ap length (texts_of-first s []))
+    ap length (bodies_of-append before (s ∷ []) t) ∙ length-append (bodies_of before t) (bodies_of (s ∷ []) t)
+    ∙ ap (λ n. length (bodies_of before t) + n)
+    (ap (λ u. length (bodies_of (s ∷ []) u)) (sym e) ∙ ap length (bodies_of-first s []))
 counted before s t false h =
     let other : t ≢ s.epoch = λ e. eqb-false s.epoch t h (sym e) in
-    ap length (texts_of-append before (s ∷ []) t) ∙ length-append (texts_of before t) (texts_of (s ∷ []) t)
-    ∙ ap (λ n. length (texts_of before t) + n) (ap length (texts_of-skip s [] t other))
+    ap length (bodies_of-append before (s ∷ []) t) ∙ length-append (bodies_of before t) (bodies_of (s ∷ []) t)
+    ∙ ap (λ n. length (bodies_of before t) + n) (ap length (bodies_of-skip s [] t other))
 
 pub same_test : (a b : Bool) → (a ≡ true → b ≡ true) → (b ≡ true → a ≡ true) → a ≡ b
 same_test true b f g = sym (f refl)
@@ -66,12 +66,12 @@ zero_more n = omega arith
 next_lies : (before rest : List Said) (s : Said) → lies before (before ++ s ∷ rest) (next_position before s.epoch) ≡ true
 unfolding lies
 next_lies before rest s =
-    let n = length (texts_of before s.epoch) in
-    let all : length (texts_of (before ++ s ∷ rest) s.epoch) ≡ n + length (texts_of (s ∷ rest) s.epoch) =
-    ap length (texts_of-append before (s ∷ rest) s.epoch)
-    ∙ length-append (texts_of before s.epoch) (texts_of (s ∷ rest) s.epoch) in
-    let some : 1 ≤ length (texts_of (s ∷ rest) s.epoch) = omega (arith, ap length (texts_of-first s rest)) in
-    and_from (nat_lt n (n + 1)) (nat_le (n + 1) (length (texts_of (before ++ s ∷ rest) s.epoch))) (grind (arith, nat_tests))
+    let n = length (bodies_of before s.epoch) in
+    let all : length (bodies_of (before ++ s ∷ rest) s.epoch) ≡ n + length (bodies_of (s ∷ rest) s.epoch) =
+    ap length (bodies_of-append before (s ∷ rest) s.epoch)
+    ∙ length-append (bodies_of before s.epoch) (bodies_of (s ∷ rest) s.epoch) in
+    let some : 1 ≤ length (bodies_of (s ∷ rest) s.epoch) = omega (arith, ap length (bodies_of-first s rest)) in
+    and_from (nat_lt n (n + 1)) (nat_le (n + 1) (length (bodies_of (before ++ s ∷ rest) s.epoch))) (grind (arith, nat_tests))
     (grind (arith, nat_tests))
 
 -- where the first text is passed
@@ -80,11 +80,11 @@ lies-after : (p : Position) (before rest : List Said) (s : Said) → is_at p (ne
 unfolding lies
 lies-after p before rest s h =
     ap₂ (λ a b. a && b)
-    (beyond (length (texts_of (before ++ s ∷ []) p.epoch)) (length (texts_of before p.epoch))
-    (length (texts_of before s.epoch)) p.index (s.epoch == p.epoch)
+    (beyond (length (bodies_of (before ++ s ∷ []) p.epoch)) (length (bodies_of before p.epoch))
+    (length (bodies_of before s.epoch)) p.index (s.epoch == p.epoch)
     (counted before s p.epoch (s.epoch == p.epoch) refl)
-    (λ e. ap (λ t. length (texts_of before t)) (eqb-true s.epoch p.epoch e)) h)
-    (ap (λ said. nat_le p.index (length (texts_of said p.epoch))) (append_assoc before (s ∷ []) rest))
+    (λ e. ap (λ t. length (bodies_of before t)) (eqb-true s.epoch p.epoch e)) h)
+    (ap (λ said. nat_le p.index (length (bodies_of said p.epoch))) (append_assoc before (s ∷ []) rest))
 
 -- the first position that is this one, where it lies among them
 find-positions : (p : Position) (before rest : List Said)
@@ -92,9 +92,9 @@ find-positions : (p : Position) (before rest : List Said)
 unfolding positions_after lies
 find-positions p before [] =
     sym (ap (λ b. if b then Some p else None)
-    (ap (λ said. nat_lt (length (texts_of before p.epoch)) p.index && nat_le p.index (length (texts_of said p.epoch)))
+    (ap (λ said. nat_lt (length (bodies_of before p.epoch)) p.index && nat_le p.index (length (bodies_of said p.epoch)))
     (append-nil before)
-    ∙ none_between (length (texts_of before p.epoch)) p.index))
+    ∙ none_between (length (bodies_of before p.epoch)) p.index))
 find-positions p before (s ∷ rest) =
     let q = next_position before s.epoch in
     elim (cases_Bool (is_at p q)) as (λ _. find (is_at p) (positions_after before (s ∷ rest)) ≡ (if lies before (before ++ s ∷ rest) p then Some p else None)) [
@@ -113,7 +113,7 @@ pub find-position : (c : Conversation) (p : Position) → find (is_at p) (positi
 unfolding lies
 find-position c p =
     find-positions p [] c.said
-    ∙ ap (λ b. if b then Some p else None) (from_zero p.index (nat_le p.index (length (texts_of c.said p.epoch))))
+    ∙ ap (λ b. if b then Some p else None) (from_zero p.index (nat_le p.index (length (bodies_of c.said p.epoch))))
 
 -- ---- how often a position stands among all
 
@@ -132,22 +132,22 @@ passed_by : (p : Position) (before rest : List Said) (s : Said) → is_at p (nex
 unfolding lies
 passed_by p before rest s h =
     let at = is_at-same p (next_position before s.epoch) h in
-    let n = length (texts_of before s.epoch) in
-    let one : length (texts_of (before ++ s ∷ []) s.epoch) ≡ n + 1 =
-    ap length (texts_of-append before (s ∷ []) s.epoch) ∙ length-append (texts_of before s.epoch) (texts_of (s ∷ []) s.epoch)
-    ∙ ap (λ m. n + m) (ap length (texts_of-first s [])) in
+    let n = length (bodies_of before s.epoch) in
+    let one : length (bodies_of (before ++ s ∷ []) s.epoch) ≡ n + 1 =
+    ap length (bodies_of-append before (s ∷ []) s.epoch) ∙ length-append (bodies_of before s.epoch) (bodies_of (s ∷ []) s.epoch)
+    ∙ ap (λ m. n + m) (ap length (bodies_of-first s [])) in
     ap (lies (before ++ s ∷ []) ((before ++ s ∷ []) ++ rest)) (sym at)
-    ∙ and_left (nat_lt (length (texts_of (before ++ s ∷ []) s.epoch)) (n + 1))
-    (nat_le (n + 1) (length (texts_of ((before ++ s ∷ []) ++ rest) s.epoch))) (grind (arith, nat_tests))
+    ∙ and_left (nat_lt (length (bodies_of (before ++ s ∷ []) s.epoch)) (n + 1))
+    (nat_le (n + 1) (length (bodies_of ((before ++ s ∷ []) ++ rest) s.epoch))) (grind (arith, nat_tests))
 
 count-positions : (p : Position) (before rest : List Said)
     → count_by (is_at p) (positions_after before rest) ≡ cond (lies before (before ++ rest) p) 1 0
 unfolding positions_after lies
 count-positions p before [] =
     sym (ap (λ b. cond b 1 0)
-    (ap (λ said. nat_lt (length (texts_of before p.epoch)) p.index && nat_le p.index (length (texts_of said p.epoch)))
+    (ap (λ said. nat_lt (length (bodies_of before p.epoch)) p.index && nat_le p.index (length (bodies_of said p.epoch)))
     (append-nil before)
-    ∙ none_between (length (texts_of before p.epoch)) p.index))
+    ∙ none_between (length (bodies_of before p.epoch)) p.index))
 count-positions p before (s ∷ rest) =
     let q = next_position before s.epoch in
     sum_by-cons (λ y. cond (is_at p y) 1 0) q (positions_after (before ++ s ∷ []) rest)
@@ -163,4 +163,4 @@ pub count-said : (c : Conversation) (p : Position) → count_by (is_at p) (posit
 unfolding lies
 count-said c p =
     count-positions p [] c.said
-    ∙ ap (λ b. cond b 1 0) (from_zero p.index (nat_le p.index (length (texts_of c.said p.epoch))))
+    ∙ ap (λ b. cond b 1 0) (from_zero p.index (nat_le p.index (length (bodies_of c.said p.epoch))))

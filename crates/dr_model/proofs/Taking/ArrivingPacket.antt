@@ -39,7 +39,7 @@ taken_on k s side given = acted_on k s side (option_map taking given)
 
 -- one text more in the inbox
 inbox_after : (k : Mechanism) (c : Conversation) (side : Side) (v : View) (p : Position) → IsLawfulView k c side v
-    → inbox_of c v ++ entry_at c p ∷ [] ≡ inbox_of c (after_opening v p)
+    → inbox_of c v ++ entry_at c p ∷ [] ≡ inbox_of c (after_opening c v p)
 inbox_after k c side v p view =
     sym (ap (drop v.done) (map_push (entry_at c) v.arrived p)
     ∙ drop-append-le v.done (history_of c v) (entry_at c p ∷ [])
@@ -64,33 +64,33 @@ taken_at k c v p =
     record {
       position = p;
       next = record {
-        state = state_of k c (after_opening v p);
+        state = state_of k c (after_opening c v p);
         inbox = inbox_of c v ++ entry_at c p ∷ [];
         outbox = outbox_of k c v;
       };
     }
 
 taken_after : (k : Mechanism) (c : Conversation) (side : Side) (v : View) (p : Position) → IsLawfulView k c side v
-    → taken_at k c v p ≡ record { position = p; next = client_at k c (after_opening v p) }
+    → taken_at k c v p ≡ record { position = p; next = client_at k c (after_opening c v p) }
 taken_after k c side v p view =
-    ap (λ (inbox : List Entry). record { position = p; next = record { state = state_of k c (after_opening v p); inbox = inbox; outbox = outbox_of k c v } }) (inbox_after k c side v p view)
+    ap (λ (inbox : List Entry). record { position = p; next = record { state = state_of k c (after_opening c v p); inbox = inbox; outbox = outbox_of k c v } }) (inbox_after k c side v p view)
 
 -- what the side answers to the packet
 answered : (k : Mechanism) (c : Conversation) (side : Side) (v : View) (p : Position) → IsLawfulMechanism k
     → IsLawfulConversation k c → IsLawfulView k c side v → is_said c p ≡ true
     → take_on k (client_at k c v) (post_at k c p).packet
-    ≡ (let missing = length (missing_of c (after_opening v p)) in
+    ≡ (let missing = length (missing_of c (after_opening c v p)) in
     if is_own v.side p.epoch then Err (OwnPacket p.epoch) else (if has_opened v p then Err (Spent p)
     else (if nat_lt KEPT_LIMIT missing then Err (SkipLimit missing) else
     (if nat_le INBOX_LIMIT (length (inbox_of c v)) then Err InboxFull else Ok (taken_at k c v p)))))
 unfolding take_on
 answered k c side v p law lawful view said =
-    let missing = length (missing_of c (after_opening v p)) in
+    let missing = length (missing_of c (after_opening c v p)) in
     ap (take_read k (client_at k c v)) (read-post k c p law lawful (is_place k c p lawful said))
     ∙ ap (accept_receive (client_at k c v)) (received k c side v p law lawful view said)
     ∙ accept_by (client_at k c v) (is_own v.side p.epoch) (has_opened v p) (nat_lt KEPT_LIMIT missing) (OwnPacket p.epoch) (Spent p)
     (SkipLimit missing)
-    (record { position = p; text = text_at c p; next = state_of k c (after_opening v p) })
+    (record { position = p; text = text_at c p; next = state_of k c (after_opening c v p) })
 
 -- the first of four refusals, or else a step that both sides see
 seen_world-by : (k : Mechanism) (w : World) (side : Side) (own old far full : Bool) (p q r t : Refusal) (taken : TakenPacket)
@@ -121,7 +121,7 @@ arrival k w side p law lawful said =
     let c = w.conversation in
     let v = view_of w side in
     let view = view_lawful k w side lawful in
-    let missing = length (missing_of c (after_opening v p)) in
+    let missing = length (missing_of c (after_opening c v p)) in
     ap (λ client. opened_on (sides_of k w) side (take_on k client (post_at k c p).packet)) (client_of-kept k w side)
     ∙ ap (opened_on (sides_of k w) side) (answered k c side v p law lawful.conversation view said)
     ∙ ap₂ (λ s (taken : TakenPacket). opened_on (sides_of k w) side
@@ -131,6 +131,6 @@ arrival k w side p law lawful said =
     view.side_is (taken_after k c side v p view)
     ∙ seen_world-by k w side (is_own side p.epoch) (has_opened v p) (nat_lt KEPT_LIMIT missing) (nat_le INBOX_LIMIT (length (inbox_of c v)))
     (OwnPacket p.epoch) (Spent p) (SkipLimit missing) InboxFull
-    (record { position = p; next = client_at k c (after_opening v p) })
-    (step (Opened p) (with_view w side (after_opening v p)))
-    (with_client-view k w side p (after_opening v p))
+    (record { position = p; next = client_at k c (after_opening c v p) })
+    (step (Opened p) (with_view w side (after_opening c v p)))
+    (with_client-view k w side p (after_opening c v p))

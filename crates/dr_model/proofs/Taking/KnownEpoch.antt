@@ -10,14 +10,16 @@ use Rattle.dr_base.specs.declared.position.Position.{Position}
 use Rattle.fs_aead.specs.Chain.{chain_of, message_key}
 use Rattle.fs_aead.specs.Table.{is_kept_at, kept_key, without}
 use Rattle.kem_laws.specs.Mechanism.{Mechanism}
+use Rattle.session_model.specs.Awaiting.{still_waiting}
 use Rattle.session_model.specs.States.{Reception, State}
 use Rattle.session_model.specs.Ways.{chain_way, kept_way, known_way}
 use Rattle.session_model.specs.declared.answer.Refusal.TheVariants.{Spent}
-use Rattle.dr_model.specs.Conversations.Conversation.{Conversation, count_of}
+use Rattle.dr_model.specs.Conversations.Conversation.{Conversation, count_of, receipt_at}
 use Rattle.dr_model.specs.Conversations.Indices.{is_among, reach}
 use Rattle.dr_model.specs.Conversations.Posts.{key_of, turn_of_epoch}
 use Rattle.dr_model.specs.Conversations.ViewStates.{view_reception, state_of}
 use Rattle.dr_model.specs.Conversations.Views.{View, after_opening, has_opened, indices_in, missing_of, reach_in}
+use Rattle.dr_model.proofs.Growth.SameViews.{kept-waiting}
 use Rattle.dr_model.proofs.Missing.Arrived.{reach-push, reach-greatest}
 use Rattle.dr_model.proofs.Missing.EpochIndices.{indices_in-other, indices_in-same, is_among-indices}
 use Rattle.dr_model.proofs.Missing.MissingEpochs.{epoch_keys, keys_below, kept_key-below, without-below, without-other}
@@ -28,11 +30,23 @@ use Rattle.dr_model.proofs.Taking.LatestEpoch.{IsLatest, is_latest}
 abbrev pub opened_here : View → Position → View
 opened_here v p = record v { arrived = v.arrived ++ p ∷ [] }
 
+-- the view once the receipt of a position is obeyed
+abbrev pub obeying : Conversation → Position → View → View
+obeying c p v = record v { awaiting = still_waiting (receipt_at c p) v.awaiting }
+
+-- what a session keeps then
+pub state_of-obeying : (k : Mechanism) (c : Conversation) (p : Position) (v : View)
+    → record (state_of k c v) { awaiting = still_waiting (receipt_at c p) v.awaiting } ≡ state_of k c (obeying c p v)
+state_of-obeying k c p v =
+    ap (λ (kept : List Kept). record (state_of k c (obeying c p v)) { kept = kept })
+    (sym (kept-waiting k c v (still_waiting (receipt_at c p) v.awaiting)))
+
 -- a known epoch leaves the reached one
-pub after_opening-known : (v : View) (p : Position) → p.epoch ≤ v.epoch → after_opening v p ≡ opened_here v p
-after_opening-known v p known =
+pub after_opening-known : (c : Conversation) (v : View) (p : Position) → p.epoch ≤ v.epoch
+    → after_opening c v p ≡ obeying c p (opened_here v p)
+after_opening-known c v p known =
     let same : max v.epoch p.epoch ≡ v.epoch = omega arith in
-    ap (λ (epoch : ℕ). record v { arrived = v.arrived ++ p ∷ []; epoch = epoch }) same
+    ap (λ (epoch : ℕ). obeying c p (record v { arrived = v.arrived ++ p ∷ []; epoch = epoch })) same
 
 -- the reach where an index arrives that isn't greater
 reach_late : (latest : Bool) (indices : List ℕ) (i end : ℕ) → i ≤ (if latest then reach indices else end)

@@ -23,7 +23,7 @@ use Rattle.dr_model.proofs.Missing.EpochIndices.{indices_in-beyond, indices_in-s
 use Rattle.dr_model.proofs.Missing.MissingEpochs.{epoch_keys, keys_below, keys_below-own, keys_below-peers}
 use Rattle.dr_model.proofs.Missing.MissingKeys.{keys_in}
 use Rattle.dr_model.proofs.Missing.PassedKeys.{keys_in-first}
-use Rattle.dr_model.proofs.Taking.KnownEpoch.{receiving-latest}
+use Rattle.dr_model.proofs.Taking.KnownEpoch.{obeying, receiving-latest}
 use Rattle.dr_model.proofs.Taking.LatestEpoch.{latest_here, reach_in-latest}
 use Rattle.dr_model.proofs.Worlds.TurnSizes.{turn_sizes}
 
@@ -32,10 +32,12 @@ abbrev pub opened_next : View → ℕ → View
 opened_next v i = record v { arrived = v.arrived ++ position_at (v.epoch + 1) i ∷ []; epoch = v.epoch + 1 }
 
 -- the next epoch is reached then
-pub after_opening-next : (v : View) (i : ℕ) → after_opening v (position_at (v.epoch + 1) i) ≡ opened_next v i
-after_opening-next v i =
+pub after_opening-next : (c : Conversation) (v : View) (i : ℕ)
+    → after_opening c v (position_at (v.epoch + 1) i) ≡ obeying c (position_at (v.epoch + 1) i) (opened_next v i)
+after_opening-next c v i =
+    let p = position_at (v.epoch + 1) i in
     let same : max v.epoch (v.epoch + 1) ≡ v.epoch + 1 = omega arith in
-    ap (λ (epoch : ℕ). record v { arrived = v.arrived ++ position_at (v.epoch + 1) i ∷ []; epoch = epoch }) same
+    ap (λ (epoch : ℕ). obeying c p (record v { arrived = v.arrived ++ p ∷ []; epoch = epoch })) same
 
 -- ---- the keys of the turn
 

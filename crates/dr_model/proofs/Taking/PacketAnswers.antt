@@ -10,6 +10,7 @@ use Rattle.dr_base.proofs.Parity.{own_next}
 use Rattle.fs_aead.specs.Chain.{message_key}
 use Rattle.kem_laws.specs.Mechanism.{Mechanism, IsLawfulMechanism}
 use Rattle.packet.specs.Packet.{Fields}
+use Rattle.session_model.specs.States.{State}
 use Rattle.session_model.specs.Taking.{ReceiveDraft, draft_receive, opened_by}
 use Rattle.session_model.specs.Ways.{Way, epoch_way, known_way, way_of, within_limit}
 use Rattle.session_model.specs.declared.answer.Refusal.{Refusal}
@@ -21,9 +22,10 @@ use Rattle.dr_model.specs.Conversations.Posts.{post_fields, turn_of_epoch}
 use Rattle.dr_model.specs.Conversations.ViewStates.{state_of}
 use Rattle.dr_model.specs.Conversations.Views.{View, after_opening, has_opened, missing_of, reach_in}
 use Rattle.dr_model.specs.Theorems.Sessions.{received_in}
+use Rattle.dr_model.proofs.Growth.SameViews.{missing_of-waiting}
 use Rattle.dr_model.proofs.Missing.EpochIndices.{indices_in-beyond, is_among-indices}
 use Rattle.dr_model.proofs.Taking.AlongChain.{way_chain}
-use Rattle.dr_model.proofs.Taking.KnownEpoch.{after_opening-known, length-kept, opened_here, way_kept, way_spent}
+use Rattle.dr_model.proofs.Taking.KnownEpoch.{after_opening-known, length-kept, obeying, opened_here, state_of-obeying, way_kept, way_spent}
 use Rattle.dr_model.proofs.Taking.LatestEpoch.{IsLatest, is_latest, latest_of, near_reach}
 use Rattle.dr_model.proofs.Taking.NextEpoch.{after_opening-next, answers, opened_next}
 use Rattle.dr_model.proofs.Taking.NextWay.{way_next}
@@ -45,14 +47,26 @@ answer_within : (f : Fields) (b : Bool) (n : ℕ) (way : Way) (opened : Result R
 answer_within f true n way opened h = refl
 answer_within f false n way opened h = h
 
+-- the key of a way that leads to a view opens the packet, and its receipt is obeyed
+opened_on : (k : Mechanism) (c : Conversation) (next : View) (p : Position) → IsPlace c p
+    → opened_by (post_fields k c p) (Ok (record { key = message_key (turn_of_epoch k c p.epoch).stream p.index; next = state_of k c next }))
+    ≡ opens_at k c (obeying c p next) p
+opened_on k c next p place =
+    opened_by-key k c p (record { key = message_key (turn_of_epoch k c p.epoch).stream p.index; next = state_of k c next })
+    place refl
+    ∙ ap (λ (s : State). Ok (record { position = p; text = text_at c p; next = s })) (state_of-obeying k c p next)
+
 answer_limit : (k : Mechanism) (c : Conversation) (next : View) (p : Position) → IsPlace c p
     → opened_by (post_fields k c p) (within_limit (length (missing_of c next)) (record { key = message_key (turn_of_epoch k c p.epoch).stream p.index; next = state_of k c next }))
-    ≡ far_at k c next p
+    ≡ far_at k c (obeying c p next) p
 answer_limit k c next p place =
     let way : Way = record { key = message_key (turn_of_epoch k c p.epoch).stream p.index; next = state_of k c next } in
+    let after = obeying c p next in
     answer_within (post_fields k c p) (nat_lt KEPT_LIMIT (length (missing_of c next))) (length (missing_of c next)) way
-    (opens_at k c next p)
-    (opened_by-key k c p way place.short refl)
+    (opens_at k c after p)
+    (opened_on k c next p place)
+    ∙ ap (λ n. if nat_lt KEPT_LIMIT n then Err (SkipLimit n) else opens_at k c after p)
+    (ap length (sym (missing_of-waiting c next after.awaiting)))
 
 -- ---- a known epoch
 
@@ -60,25 +74,24 @@ answer_limit k c next p place =
 answer_late : (k : Mechanism) (c : Conversation) (v : View) (p : Position) → IsPlace c p → length (missing_of c v) ≤ KEPT_LIMIT
     → p.index ≤ reach_in c v p.epoch
     → opened_by (post_fields k c p) (Ok (record { key = message_key (turn_of_epoch k c p.epoch).stream p.index; next = state_of k c (opened_here v p) }))
-    ≡ far_at k c (opened_here v p) p
+    ≡ far_at k c (obeying c p (opened_here v p)) p
 answer_late k c v p place near late =
-    let next = opened_here v p in
-    opened_by-key k c p (record {
-      key = message_key (turn_of_epoch k c p.epoch).stream p.index;
-      next = state_of k c next;
-    }) place.short refl
+    let here = opened_here v p in
+    let next = obeying c p here in
+    opened_on k c here p place
     ∙ sym (cond-false (nat_lt KEPT_LIMIT (length (missing_of c next))) (Err (SkipLimit (length (missing_of c next))))
     (opens_at k c next p)
-    (le-ltb KEPT_LIMIT (length (missing_of c next)) (omega (arith, length-kept k c v p late))))
+    (le-ltb KEPT_LIMIT (length (missing_of c next))
+    (omega (arith, ap length (missing_of-waiting c here next.awaiting), length-kept k c v p late))))
 
 -- the index comes after the reach, or its key is kept
 answer_new : (k : Mechanism) (c : Conversation) (v : View) (p : Position) (latest : ℕ) → IsPlace c p
     → IsLatest v.side v.epoch latest → length (missing_of c v) ≤ KEPT_LIMIT
     → is_own v.side p.epoch ≡ false → p.epoch ≤ v.epoch → has_opened v p ≡ false
-    → opened_by (post_fields k c p) (known_way (state_of k c v) p (state_of k c v).receiving) ≡ far_at k c (opened_here v p) p
+    → opened_by (post_fields k c p) (known_way (state_of k c v) p (state_of k c v).receiving) ≡ far_at k c (obeying c p (opened_here v p)) p
 answer_new k c v p latest place at near own known new =
     let f = post_fields k c p in
-    elim (cases_lt (reach_in c v p.epoch) p.index) as (λ _. opened_by f (known_way (state_of k c v) p (state_of k c v).receiving) ≡ far_at k c (opened_here v p) p) [
+    elim (cases_lt (reach_in c v p.epoch) p.index) as (λ _. opened_by f (known_way (state_of k c v) p (state_of k c v).receiving) ≡ far_at k c (obeying c p (opened_here v p)) p) [
       | inl early ↦
           let low : v.epoch ≤ p.epoch + 1 = near_reach c v p.epoch p.index place.most early in
           ap (opened_by f)
@@ -94,19 +107,19 @@ answer_new k c v p latest place at near own known new =
 answer_known : (k : Mechanism) (c : Conversation) (v : View) (p : Position) → IsPlace c p → length (missing_of c v) ≤ KEPT_LIMIT
     → is_own v.side p.epoch ≡ false → p.epoch ≤ v.epoch
     → opened_by (post_fields k c p) (known_way (state_of k c v) p (state_of k c v).receiving)
-    ≡ (if has_opened v p then Err (Spent p) else far_at k c (after_opening v p) p)
+    ≡ (if has_opened v p then Err (Spent p) else far_at k c (after_opening c v p) p)
 answer_known k c v p place near own known =
     let f = post_fields k c p in
     let ways = known_way (state_of k c v) p (state_of k c v).receiving in
     let found = latest_of v.side v.epoch p.epoch own known in
-    elim (cases_Bool (has_opened v p)) as (λ _. opened_by f ways ≡ (if has_opened v p then Err (Spent p) else far_at k c (after_opening v p) p)) [
+    elim (cases_Bool (has_opened v p)) as (λ _. opened_by f ways ≡ (if has_opened v p then Err (Spent p) else far_at k c (after_opening c v p) p)) [
       | inl old ↦
           ap (opened_by f) (way_spent k c v p found.0 found.1 own known place.most old)
-          ∙ sym (cond-true (has_opened v p) (Err (Spent p)) (far_at k c (after_opening v p) p) old)
+          ∙ sym (cond-true (has_opened v p) (Err (Spent p)) (far_at k c (after_opening c v p) p) old)
       | inr new ↦
           answer_new k c v p found.0 place found.1 near own known new
-          ∙ ap (λ next. far_at k c next p) (sym (after_opening-known v p known))
-          ∙ sym (cond-false (has_opened v p) (Err (Spent p)) (far_at k c (after_opening v p) p) new)
+          ∙ ap (λ next. far_at k c next p) (sym (after_opening-known c v p known))
+          ∙ sym (cond-false (has_opened v p) (Err (Spent p)) (far_at k c (after_opening c v p) p) new)
     ]
 
 -- ---- the next epoch
@@ -121,7 +134,7 @@ unopened_next c v i arrivals =
 -- what the side answers by the way
 abbrev AnswersOn : Mechanism → Conversation → View → Position → Result Way Refusal → Type 0
 AnswersOn k c v p ways =
-    opened_by (post_fields k c p) ways ≡ (if has_opened v p then Err (Spent p) else far_at k c (after_opening v p) p)
+    opened_by (post_fields k c p) ways ≡ (if has_opened v p then Err (Spent p) else far_at k c (after_opening c v p) p)
 
 answer_next : (k : Mechanism) (c : Conversation) (v : View) (i : ℕ) → IsLawfulMechanism k → IsLawfulConversation k c
     → All (HasArrived c v) v.arrived → 1 ≤ i
@@ -132,8 +145,8 @@ answer_next k c v i law lawful arrivals one begun peers place =
     let own : is_own v.side v.epoch ≡ true = not-false (is_own v.side v.epoch) (sym (own_next v.side v.epoch) ∙ peers) in
     ap (opened_by (post_fields k c p)) (way_next k c v i (answers k c v.epoch law lawful begun) arrivals one own peers)
     ∙ answer_limit k c (opened_next v i) p place
-    ∙ ap (λ next. far_at k c next p) (sym (after_opening-next v i))
-    ∙ sym (cond-false (has_opened v p) (Err (Spent p)) (far_at k c (after_opening v p) p) (unopened_next c v i arrivals))
+    ∙ ap (λ next. far_at k c next p) (sym (after_opening-next c v i))
+    ∙ sym (cond-false (has_opened v p) (Err (Spent p)) (far_at k c (after_opening c v p) p) (unopened_next c v i arrivals))
 
 -- ---- any packet
 
@@ -171,7 +184,7 @@ received k c side v p law lawful view said =
     let s = state_of k c v in
     let f = post_fields k c p in
     let place = is_place k c p lawful said in
-    let others = if has_opened v p then Err (Spent p) else far_at k c (after_opening v p) p in
+    let others = if has_opened v p then Err (Spent p) else far_at k c (after_opening c v p) p in
     elim (cases_Bool (is_own v.side p.epoch)) as (λ _. opened_by f (way_of k s f) ≡ received_in k c v p) [
       | inl own ↦
           ap (opened_by f) (way_of-own k s f refl own)

@@ -1,5 +1,5 @@
 -- The packet of a position as a session reads it.
-use Rattle.std.proofs.Common.{◌≡◌, ℕ, ◌+◌, ◌-◌, ◌<◌, ◌≤◌, Bool, true, false, not, nat_eq, nat_le, nat_lt, List, [], ◌∷◌, length, map, slice_index_or, Ok, Err, refl, sym, ◌∙◌, ap, arith, if◌then◌else◌}
+use Rattle.std.proofs.Common.{◌≡◌, ℕ, ◌+◌, ◌-◌, ◌<◌, ◌≤◌, Bool, true, false, not, nat_eq, nat_le, nat_lt, List, [], ◌∷◌, length, map, slice_index_or, Option, Some, None, Ok, Err, refl, sym, ◌∙◌, ap, arith, if◌then◌else◌}
 use Rattle.std.specs.Cmp.Lexicographic.{pointwise}
 use Rattle.std.specs.Prelude.{All, filter}
 use Rattle.std.proofs.lemmas.Bool.{cond-true, cond-false, lt-leb, le-ltb}
@@ -8,10 +8,14 @@ use Rattle.std.proofs.lemmas.List.{length-map, get_or-map}
 use Rattle.std.proofs.lemmas.List.Elements.{All-head, All-tail, All-filter}
 use Rattle.std.proofs.lemmas.Slice.Eq.{bytes_eq-Decides}
 use Rattle.dr_base.specs.declared.limits.TheConstants.{TEXT_LIMIT, INDEX_LIMIT}
-use Rattle.bodies.specs.Bodies.{opened_body, sealed_body, text_body}
+use Rattle.bodies.specs.Bodies.{Body, opened_body, sealed_body, text_body}
+use Rattle.bodies.specs.Lawful.{IsLawfulBody, IsReceiptOrNone}
+use Rattle.bodies.specs.Receipts.{Receipt}
+use Rattle.bodies.proofs.Sealed.{sealed-opens}
 use Rattle.cka.specs.Agreement.{agreement_size}
 use Rattle.dr_base.specs.Position.{is_own, peer_of, side_of}
 use Rattle.dr_base.specs.declared.position.Position.{Position}
+use Rattle.dr_base.specs.declared.position.Side.{Side}
 use Rattle.fs_aead.specs.Chain.{message_key}
 use Rattle.etm_aead.specs.Seal.{ciphertext_of, tag_of}
 use Rattle.etm_aead.specs.Undoing.{ciphertext_of-ciphertext_of, length-ciphertext_of, length-tag_of}
@@ -23,10 +27,11 @@ use Rattle.session_model.specs.Schedule.{session_of}
 use Rattle.session_model.specs.Sealing.{posted}
 use Rattle.session_model.specs.States.{State}
 use Rattle.session_model.specs.Taking.{opened_as, opened_by}
-use Rattle.session_model.proofs.Sealed.{known_version, opened_sealed, sealed_fits}
+use Rattle.session_model.proofs.Sealed.{HasFewListed, known_version, sealed_fits}
+use Rattle.session_model.specs.Awaiting.{still_waiting}
 use Rattle.session_model.specs.Ways.{Way, epoch_way, known_way, position_of, way_of}
 use Rattle.session_model.specs.declared.answer.Refusal.TheVariants.{OtherSession, OwnPacket, Ahead, BadTag}
-use Rattle.dr_model.specs.Conversations.Conversation.{Conversation, Said, is_said, count_of, previous_of, text_at, texts_of}
+use Rattle.dr_model.specs.Conversations.Conversation.{Conversation, Said, is_said, count_of, previous_of, body_at, receipt_at, text_at, bodies_of}
 use Rattle.dr_model.specs.Conversations.Lawful.{IsLawfulConversation}
 use Rattle.dr_model.specs.Conversations.Posts.{post_fields, epoch_format, post_at, turn_of_epoch, epoch_version}
 use Rattle.dr_model.proofs.Growth.Growing.{said_from, said_to}
@@ -36,15 +41,15 @@ use Rattle.dr_model.proofs.Worlds.TurnSizes.{turn_sizes, length-session_of}
 
 -- the text of an epoch shows that it began
 epoch_first : (b : Bool) (s : Said) (rest : List Said) (epoch n : ℕ) → (b ≡ true → epoch ≤ n)
-    → (1 ≤ length (map (λ (t : Said). t.text) rest) → epoch ≤ n)
-    → 1 ≤ length (map (λ (t : Said). t.text) (if b then s ∷ rest else rest)) → epoch ≤ n
+    → (1 ≤ length (map (λ (t : Said). t.body) rest) → epoch ≤ n)
+    → 1 ≤ length (map (λ (t : Said). t.body) (if b then s ∷ rest else rest)) → epoch ≤ n
 epoch_first true s rest epoch n here later h = here refl
 epoch_first false s rest epoch n here later h = later h
 
 same_epoch : (e epoch n : ℕ) → e ≤ n → nat_eq e epoch ≡ true → epoch ≤ n
 same_epoch e epoch n le h = grind (arith, nat_tests)
 
-begun_epoch : (said : List Said) (epoch n : ℕ) → All (λ s. s.epoch ≤ n) said → 1 ≤ length (texts_of said epoch) → epoch ≤ n
+begun_epoch : (said : List Said) (epoch n : ℕ) → All (λ s. s.epoch ≤ n) said → 1 ≤ length (bodies_of said epoch) → epoch ≤ n
 begun_epoch [] epoch n all h = absurd (omega arith)
 begun_epoch (s ∷ rest) epoch n all h =
     epoch_first (nat_eq s.epoch epoch) s (filter (λ t. nat_eq t.epoch epoch) rest) epoch n
@@ -58,17 +63,18 @@ pub record IsPlace (c : Conversation) (p : Position) : Type 0 where
   pub few : p.index ≤ INDEX_LIMIT
   pub began : p.epoch ≤ length c.seeds
   pub short : length (text_at c p) ≤ TEXT_LIMIT
+  pub sealed : IsLawfulBody (epoch_version c p.epoch) (peer_of (side_of p.epoch)) (body_at c p)
 
 -- a text of an epoch fits a packet
 short_text : (k : Mechanism) (c : Conversation) (epoch n : ℕ) → IsLawfulConversation k c → n < count_of c epoch
-    → length (slice_index_or (texts_of c.said epoch) n []) ≤ TEXT_LIMIT
+    → length (slice_index_or (bodies_of c.said epoch) n (text_body [])).content ≤ TEXT_LIMIT
 short_text k c epoch n lawful h =
-    let none : Said = record { epoch = 0; text = [] } in
+    let none : Said = record { epoch = 0; body = text_body [] } in
     let said = filter (λ (s : Said). nat_eq s.epoch epoch) c.said in
-    let below : n < length said = omega (arith, length-map said (λ (s : Said). s.text)) in
-    let short : length (slice_index_or said n none).text ≤ TEXT_LIMIT =
-    All-filter (λ (s : Said). nat_eq s.epoch epoch) (λ (s : Said). length s.text ≤ TEXT_LIMIT) c.said lawful.short n none below in
-    let same = ap length (get_or-map (λ (s : Said). s.text) said n none [] below) in
+    let below : n < length said = omega (arith, length-map said (λ (s : Said). s.body)) in
+    let short : length (slice_index_or said n none).body.content ≤ TEXT_LIMIT =
+    All-filter (λ (s : Said). nat_eq s.epoch epoch) (λ (s : Said). length s.body.content ≤ TEXT_LIMIT) c.said lawful.short n none below in
+    let same = ap (λ (b : Body). length b.content) (get_or-map (λ (s : Said). s.body) said n none (text_body []) below) in
     omega arith
 
 pub is_place : (k : Mechanism) (c : Conversation) (p : Position) → IsLawfulConversation k c → is_said c p ≡ true
@@ -82,6 +88,7 @@ is_place k c p lawful said =
       few = omega (arith, lawful.few p.epoch);
       began = begun_epoch c.said p.epoch (length c.seeds) lawful.begun (omega arith);
       short = short_text k c p.epoch (p.index - 1) lawful (omega arith);
+      sealed = lawful.bodies p said;
     }
 
 -- ---- its packet
@@ -93,7 +100,12 @@ few_previous false n h = omega arith
 
 -- what is sealed
 abbrev sealed_at : Conversation → Position → List ℕ
-sealed_at c p = sealed_body (epoch_version c p.epoch) (text_body (text_at c p))
+sealed_at c p = sealed_body (epoch_version c p.epoch) (body_at c p)
+
+-- a lawful receipt lists few positions
+few_listed : (side : Side) (receipt : Option Receipt) → IsReceiptOrNone side receipt → HasFewListed receipt
+few_listed side None lawful = tt
+few_listed side (Some r) lawful = lawful.few
 
 -- the fields are lawful
 pub IsLawful-fields : (k : Mechanism) (c : Conversation) (p : Position) → IsLawfulMechanism k → IsLawfulConversation k c
@@ -107,7 +119,8 @@ IsLawful-fields k c p law lawful place = record {
   index_from_one = place.one;
   index_fits = omega (arith, place.few);
   agreement_is = (turn_sizes k c p.epoch law lawful place.began).agreement_long;
-  text_fits = sealed_fits (epoch_format c p.epoch) (message_key (turn_of_epoch k c p.epoch).stream p.index) (text_at c p) place.short;
+  text_fits = sealed_fits (epoch_format c p.epoch) (message_key (turn_of_epoch k c p.epoch).stream p.index) (body_at c p)
+      (few_listed (peer_of (side_of p.epoch)) (receipt_at c p) place.sealed.receipt) place.short;
   tag_len = length-tag_of _ _ _;
 }
 
@@ -161,11 +174,16 @@ tag-fields k c p key same =
     (sym (length-ciphertext_of own_key (sealed_at c p)))
     ∙ ap (λ key. tag_of key (ad_of (post_fields k c p)) (post_fields k c p).ciphertext) (sym same)
 
--- its key opens it to the text that was said
-pub opened_by-key : (k : Mechanism) (c : Conversation) (p : Position) (way : Way) → length (text_at c p) ≤ TEXT_LIMIT
+-- its key opens it to what was said, whose receipt is obeyed
+pub opened_by-key : (k : Mechanism) (c : Conversation) (p : Position) (way : Way) → IsPlace c p
     → way.key ≡ message_key (turn_of_epoch k c p.epoch).stream p.index
-    → opened_by (post_fields k c p) (Ok way) ≡ Ok (record { position = p; text = text_at c p; next = way.next })
-opened_by-key k c p way short same =
+    → opened_by (post_fields k c p) (Ok way)
+    ≡ Ok (record {
+      position = p;
+      text = text_at c p;
+      next = record way.next { awaiting = still_waiting (receipt_at c p) way.next.awaiting };
+    })
+opened_by-key k c p way place same =
     let f = post_fields k c p in
     let tag = tag_of way.key (ad_of f) f.ciphertext in
     let tagged : pointwise nat_eq f.tag tag ≡ true = ap (λ t. pointwise nat_eq f.tag t) (sym (tag-fields k c p way.key same))
@@ -174,4 +192,4 @@ opened_by-key k c p way short same =
     ∙ ap (λ bytes. opened_as f way (opened_body f.version (peer_of (side_of f.epoch)) bytes))
     (ap (λ key. ciphertext_of key f.ciphertext) same
     ∙ ciphertext_of-ciphertext_of (message_key (turn_of_epoch k c p.epoch).stream p.index) (sealed_at c p))
-    ∙ ap (opened_as f way) (opened_sealed (epoch_format c p.epoch) _ (text_at c p) short)
+    ∙ ap (opened_as f way) (sealed-opens (epoch_version c p.epoch) (peer_of (side_of p.epoch)) (body_at c p) place.sealed)

@@ -42,6 +42,19 @@ nth_said c side n =
 -- ---- any call
 
 module _ (k : Mechanism) (w : World) (side : Side) (P : Step World → Type 0) where
+  -- it holds of packets, by what is given
+  pub record HoldsOfPackets : Type 0 where
+    pub packet : (at : Option Position) → IfSome at (λ p. is_said w.conversation p ≡ true) → P (taking_at w side at)
+    pub bytes : (given : Option (List ℕ)) → P (taking_given k w side given)
+
+  -- so it holds of the taking of each
+  pub of_source : HoldsOfPackets → (source : PacketSource) → P (taking_of k w side source)
+  of_source holds (of_position p) =
+      holds.packet (said_at w.conversation p) (where_said w.conversation p (is_said w.conversation p) refl)
+  of_source holds (of_number nth) = holds.packet (nth_of_peer w.conversation side nth) (nth_said w.conversation side nth)
+  of_source holds (of_flip p bit) = holds.bytes (flipped_at (posts k w.conversation) p bit)
+  of_source holds (of_bytes given) = holds.bytes (Some given)
+
   -- it holds of each kind
   pub record HoldsOfKinds : Type 0 where
     pub text : (text : List ℕ) → P (saying_in k w side text (may_say k w side (length text)))
@@ -49,15 +62,8 @@ module _ (k : Mechanism) (w : World) (side : Side) (P : Step World → Type 0) w
     pub bytes : (given : Option (List ℕ)) → P (taking_given k w side given)
     pub drop : (items : Items) (n : ℕ) → P (settled w (dropping_in k w side items n))
 
-  of_source : HoldsOfKinds → (source : PacketSource) → P (taking_of k w side source)
-  of_source holds (of_position p) =
-      holds.packet (said_at w.conversation p) (where_said w.conversation p (is_said w.conversation p) refl)
-  of_source holds (of_number nth) = holds.packet (nth_of_peer w.conversation side nth) (nth_said w.conversation side nth)
-  of_source holds (of_flip p bit) = holds.bytes (flipped_at (posts k w.conversation) p bit)
-  of_source holds (of_bytes given) = holds.bytes (Some given)
-
   -- so it holds of the call
   pub of_call : HoldsOfKinds → (call : SideCall) → P (called_in k w side call)
   of_call holds (says text) = holds.text text
-  of_call holds (takes source) = of_source holds source
+  of_call holds (takes source) = of_source (record { packet = holds.packet; bytes = holds.bytes }) source
   of_call holds (drops items amount) = holds.drop items (amount_of amount (standing_in k w side items))

@@ -1,8 +1,7 @@
 -- Each event of a world on both sides: they answer as the machine does, and keep what stands after it.
-use Rattle.std.proofs.Common.{◌≡◌, ℕ, ◌+◌, Bool, true, false, nat_le, List, [], length, map, Option, Some, None, Ok, Err, refl, sym, ◌∙◌, ap, ap₂, zero, suc, ◌++◌, if◌then◌else◌}
+use Rattle.std.proofs.Common.{◌≡◌, ℕ, ◌+◌, Bool, true, false, nat_le, List, length, map, Option, Some, None, Ok, Err, refl, sym, ◌∙◌, ap, ap₂, if◌then◌else◌}
 use Rattle.std.specs.Prelude.{IfSome, option_map}
 use Rattle.std.proofs.lemmas.List.{drop-drop, length-map}
-use Rattle.dr_base.specs.Position.{is_own}
 use Rattle.dr_base.specs.declared.position.Position.{Position}
 use Rattle.dr_base.specs.declared.position.Side.{Side}
 use Rattle.dr_base.specs.declared.position.Side.TheVariants.{First, Second}
@@ -16,9 +15,9 @@ use Rattle.session_model.specs.declared.answer.Refusal.TheVariants.{Fewer}
 use Rattle.dr_model.specs.Conversations.Conversation.{Conversation, is_said}
 use Rattle.dr_model.specs.Conversations.Posts.{post_at, posts, posts_of, key_of}
 use Rattle.dr_model.specs.Conversations.ViewStates.{client_at, state_of}
-use Rattle.dr_model.specs.Conversations.Views.{View, after_drop, history_of, inbox_of, missing_below, missing_in, missing_of, outbox_of, standing_of}
+use Rattle.dr_model.specs.Conversations.Views.{View, after_drop, history_of, inbox_of, missing_of, outbox_of, standing_of}
 use Rattle.dr_model.specs.Machines.Acts.{dropped_client, standing_with}
-use Rattle.dr_model.specs.Machines.Events.{Event, PacketSource, SideCall, cuts, does, drops, of_bytes, of_flip, of_number, of_position, says, seeds, shows_inbox, shows_state, takes}
+use Rattle.dr_model.specs.Machines.Events.{Event, PacketSource, SideCall, cuts, does, drops, of_bytes, of_flip, of_number, of_position, says, seeds, shows_awaiting, shows_inbox, shows_state, takes}
 use Rattle.dr_model.specs.Machines.Network.{flipped_at, packet_given}
 use Rattle.dr_model.specs.Machines.Sides.{Sides, called_on, settled_on, step_on, with_client}
 use Rattle.dr_model.specs.Machines.Steps.{Step, step, settled, amount_of, cut_step, leaving}
@@ -26,6 +25,7 @@ use Rattle.dr_model.specs.Machines.WorldSides.{sides_of}
 use Rattle.dr_model.specs.Machines.Worlds.{World, called_in, inbox_in, nth_of_peer, outbox_in, said_at, step_of, taking_at, taking_given, taking_of, view_of, with_view}
 use Rattle.dr_model.specs.Theorems.Fairness.{IsFair, IsUnforged, IsUnforgedCall, IsUnforgedSource}
 use Rattle.dr_model.specs.Theorems.LawfulWorlds.{IsLawfulWorld}
+use Rattle.dr_model.proofs.Growth.SameViews.{missing_below-boxes}
 use Rattle.dr_model.proofs.Saying.SayingFollows.{says_follows}
 use Rattle.dr_model.proofs.Taking.ArrivingPacket.{arrival, taken_on}
 use Rattle.dr_model.proofs.Taking.ForeignBytes.{bytes_follow}
@@ -51,18 +51,11 @@ given_follows k w side None law lawful unforged = refl
 given_follows k w side (Some bytes) law lawful unforged = bytes_follow k w side bytes law lawful unforged
 
 -- the session keeps nothing of what left the boxes
-pub missing_below-boxes : (c : Conversation) (v : View) (done dropped t : ℕ)
-    → missing_below c (record v { done = done; dropped = dropped }) t ≡ missing_below c v t
-unfolding missing_below
-missing_below-boxes c v done dropped zero = refl
-missing_below-boxes c v done dropped (suc t) =
-    ap (λ before. before ++ (if is_own v.side t then [] else missing_in c v t)) (missing_below-boxes c v done dropped t)
-
 state_of-boxes : (k : Mechanism) (c : Conversation) (v : View) (done dropped : ℕ)
     → state_of k c (record v { done = done; dropped = dropped }) ≡ state_of k c v
 state_of-boxes k c v done dropped =
     ap (λ missing. record (state_of k c v) { kept = map (key_of k c) missing })
-    (missing_below-boxes c v done dropped (v.epoch + 1))
+    (missing_below-boxes c v done dropped v.awaiting (v.epoch + 1))
 
 -- so many of a box leave it: as many stand, and what is left is kept
 same_standing : (k : Mechanism) (c : Conversation) (v : View) (items : Items)
@@ -155,6 +148,8 @@ step_follows k w (seeds seed) law lawful fair = refl
 step_follows k w (does side call) law lawful fair = called_follows k w side call law lawful fair.unforged
 step_follows k w (shows_inbox First) law lawful fair = refl
 step_follows k w (shows_inbox Second) law lawful fair = refl
+step_follows k w (shows_awaiting First) law lawful fair = refl
+step_follows k w (shows_awaiting Second) law lawful fair = refl
 step_follows k w (shows_state First) law lawful fair =
     ap (λ n. in_numbers k w First n) (length-map (missing_of w.conversation w.first) (key_of k w.conversation))
 step_follows k w (shows_state Second) law lawful fair =

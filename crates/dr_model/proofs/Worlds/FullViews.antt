@@ -1,25 +1,34 @@
 -- The view of a side that has opened all, and whose boxes are empty.
-use Rattle.std.proofs.Common.{◌≡◌, ℕ, ◌+◌, ◌≤◌, Bool, true, false, not, cond, List, [], ◌∷◌, length, count_by, filter, inl, inr, refl, sym, ◌∙◌, ap, ap₂, arith, if◌then◌else◌}
+use Rattle.std.proofs.Common.{◌≡◌, ℕ, ◌+◌, ◌≤◌, Bool, true, false, not, cond, List, [], ◌∷◌, length, count_by, filter, inl, inr, refl, subst, sym, ◌∙◌, ap, ap₂, arith, if◌then◌else◌}
 use Rattle.std.specs.List.{list_any}
-use Rattle.std.specs.Prelude.{All}
+use Rattle.std.specs.Prelude.{All, Option, Some, None}
 use Rattle.std.proofs.lemmas.Bool.{cases_Bool, cond-true, le-leb, not-true, and_from}
-use Rattle.std.proofs.lemmas.List.Elements.{All-filter, All-head, filter_passes}
+use Rattle.std.proofs.lemmas.Bool.Decides.{nat_tests}
+use Rattle.std.proofs.lemmas.List.Elements.{All-filter, All-head, All-nil, filter_passes}
 use Rattle.std.proofs.lemmas.List.Sums.{sum_by-cons}
-use Rattle.dr_base.specs.Position.{is_at, is_own}
+use Rattle.bodies.specs.Lawful.{IsReceiptOrNone}
+use Rattle.bodies.specs.Receipts.{Receipt, is_covered, is_covered_by}
+use Rattle.dr_base.specs.Position.{is_at, is_own, peer_of}
 use Rattle.dr_base.specs.declared.position.Position.{Position}
 use Rattle.dr_base.specs.declared.position.Side.{Side}
+use Rattle.dr_base.specs.declared.position.Side.TheVariants.{First, Second}
 use Rattle.dr_base.proofs.Positions.{is_at-same}
 use Rattle.kem_laws.specs.Mechanism.{Mechanism}
-use Rattle.dr_model.specs.Conversations.Conversation.{Conversation, count_of, is_said, positions}
+use Rattle.dr_model.specs.Conversations.Conversation.{Conversation, count_of, is_said, positions, receipt_at}
 use Rattle.dr_model.specs.Conversations.Indices.{is_among}
 use Rattle.dr_model.specs.Conversations.Lawful.{HasArrived, IsLawfulConversation, IsLawfulView}
 use Rattle.dr_model.specs.Conversations.Posts.{posts_of}
+use Rattle.dr_model.specs.Conversations.Receipts.{IsTrue}
+use Rattle.dr_model.specs.Conversations.ViewStates.{view_phase}
 use Rattle.dr_model.specs.Conversations.Views.{View, has_opened, indices_in, missing_of, times_opened}
 use Rattle.dr_model.specs.Machines.Worlds.{positions_of_peer}
 use Rattle.dr_model.proofs.Growth.BoxSizes.{length-inbox_of, length-outbox_of}
 use Rattle.dr_model.proofs.Growth.Growing.{positions-said, said-begun}
 use Rattle.dr_model.proofs.Missing.EpochIndices.{is_among-indices}
 use Rattle.dr_model.proofs.Missing.MissedPositions.{IsMissed, missing_below-missed, reach_in-most}
+use Rattle.dr_model.proofs.Receipts.Truth.{covered_up}
+use Rattle.dr_model.proofs.Saying.OwnSide.{own_side}
+use Rattle.session_model.proofs.Waiting.{waiting-none}
 use Rattle.dr_model.proofs.Taking.AllPositions.{count-said}
 use Rattle.dr_model.proofs.Worlds.Counted.{count_by-none}
 
@@ -30,6 +39,7 @@ full_view k c side = record {
   arrived = positions_of_peer c side;
   done = length (positions_of_peer c side);
   dropped = length (posts_of k c side);
+  awaiting = [];
 }
 
 -- ---- how often a position has arrived
@@ -140,6 +150,28 @@ arrived k c side lawful i d below =
       reached = said-begun c (length c.seeds) _ lawful.begun said;
     }
 
+-- what a receipt for a side covers are its texts
+covered_others : (side : Side) (r : Receipt) (q : Position) → is_own (peer_of side) r.bound.epoch ≡ true
+    → is_covered_by r q ≡ true → is_own side q.epoch ≡ false
+covered_others First r q own covered = let same = (covered_up r q covered).0 in grind (arith, nat_tests)
+covered_others Second r q own covered = let same = (covered_up r q covered).0 in grind (arith, nat_tests)
+
+covers_opened : (k : Mechanism) (c : Conversation) (side : Side) (receipt : Option Receipt)
+    → IsReceiptOrNone (peer_of side) receipt → (q : Position) → is_said c q ≡ true → is_covered receipt q ≡ true
+    → has_opened (full_view k c side) q ≡ true
+covers_opened k c side None lawful q said covered = cc
+covers_opened k c side (Some r) lawful q said covered =
+    opened_all k c side q said (covered_others side r q lawful.listed.own covered)
+
+true_receipts : (k : Mechanism) (c : Conversation) (side : Side) → IsLawfulConversation k c → (p : Position)
+    → is_said c p ≡ true → is_own side p.epoch ≡ true → IsTrue c (full_view k c side) (receipt_at c p)
+true_receipts k c side lawful p said own = record {
+  bounded = lawful.bounded p said;
+  opened = covers_opened k c side (receipt_at c p)
+      (subst (λ (s : Side). IsReceiptOrNone (peer_of s) (receipt_at c p)) (own_side side p.epoch own)
+      (lawful.bodies p said).receipt);
+}
+
 pub full_lawful : (k : Mechanism) (c : Conversation) (side : Side) → IsLawfulConversation k c
     → IsLawfulView k c side (full_view k c side)
 full_lawful k c side lawful =
@@ -162,4 +194,7 @@ full_lawful k c side lawful =
       dropped_fits = omega arith;
       few_texts = omega (arith, length-inbox_of c v);
       few_packets = omega (arith, length-outbox_of k c v);
+      awaiting = waiting-none side (length c.seeds) (view_phase k c v);
+      awaiting_said = All-nil (λ p. is_said c p ≡ true);
+      receipts = true_receipts k c side lawful;
     }

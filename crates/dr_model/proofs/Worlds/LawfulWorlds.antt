@@ -10,22 +10,23 @@ use Rattle.session_model.specs.declared.answer.Items.{Items}
 use Rattle.session_model.specs.declared.answer.Items.TheVariants.{Packets, Texts}
 use Rattle.session_model.specs.declared.answer.Refusal.{Refusal}
 use Rattle.session_model.specs.declared.answer.Refusal.TheVariants.{Fewer}
-use Rattle.dr_model.specs.Conversations.Conversation.{Conversation, is_said}
+use Rattle.dr_model.specs.Conversations.Conversation.{Conversation, is_said, receipt_at}
 use Rattle.dr_model.specs.Conversations.Lawful.{HasArrived, IsLawfulView}
 use Rattle.dr_model.specs.Conversations.Posts.{posts_of}
 use Rattle.dr_model.specs.Conversations.Views.{View, after_drop, inbox_of, outbox_of, standing_of}
-use Rattle.dr_model.specs.Machines.Events.{Event, cuts, does, seeds, shows_inbox, shows_state}
+use Rattle.dr_model.specs.Machines.Events.{Event, cuts, does, seeds, shows_awaiting, shows_inbox, shows_state}
 use Rattle.dr_model.specs.Machines.Steps.{Step, step, settled}
 use Rattle.dr_model.specs.Machines.Worlds.{World, dropping_in, made_at, run_of, standing_in, step_of, taking_at, taking_given, taking_made, view_of, with_view}
 use Rattle.dr_model.specs.Theorems.Fairness.{IsSeedWhole}
 use Rattle.dr_model.specs.Theorems.LawfulWorlds.{IsLawfulWorld}
 use Rattle.dr_model.proofs.Growth.BoxSizes.{length-inbox_of, length-outbox_of, within}
+use Rattle.dr_model.proofs.Receipts.Truth.{true_later}
 use Rattle.dr_model.proofs.Saying.SayingLawful.{lawful_says}
 use Rattle.dr_model.proofs.Taking.ArrivingLawful.{lawful_taking, with_lawful}
 use Rattle.dr_model.proofs.Taking.MadePositions.{made_at-is}
 use Rattle.dr_model.proofs.Worlds.CallKinds.{of_call}
 use Rattle.dr_model.proofs.Worlds.CutSteps.{cut_off}
-use Rattle.dr_model.proofs.Worlds.Following.{missing_below-boxes}
+use Rattle.dr_model.proofs.Growth.SameViews.{missing_below-boxes}
 use Rattle.dr_model.proofs.Worlds.WorldViews.{view_lawful}
 
 -- a packet of a position that was said, or none
@@ -61,11 +62,14 @@ lawful_boxes k c side v done dropped lawful fewer less d e =
           (λ p h. record { said = h.said; peers = h.peers; reached = h.reached }) v.arrived lawful.arrivals;
       once = lawful.once;
       some = lawful.some;
-      near = omega (arith, lawful.near, ap length (missing_below-boxes c v done dropped (v.epoch + 1)));
+      near = omega (arith, lawful.near, ap length (missing_below-boxes c v done dropped v.awaiting (v.epoch + 1)));
       done_fits = d;
       dropped_fits = e;
       few_texts = omega (arith, lawful.few_texts, length-inbox_of c v, length-inbox_of c after);
       few_packets = omega (arith, lawful.few_packets, length-outbox_of k c v, length-outbox_of k c after);
+      awaiting = lawful.awaiting;
+      awaiting_said = lawful.awaiting_said;
+      receipts = λ p said own. true_later c v after (receipt_at c p) (λ q opened. opened) (lawful.receipts p said own);
     }
 
 leave_lawful : (k : Mechanism) (w : World) (enough : Bool) (refusal : Refusal) (next : Step World) → IsLawfulWorld k w
@@ -111,6 +115,7 @@ lawful_next k w (does side call) lawful whole =
     }) call
 lawful_next k w (shows_inbox side) lawful whole = lawful
 lawful_next k w (shows_state side) lawful whole = lawful
+lawful_next k w (shows_awaiting side) lawful whole = lawful
 lawful_next k w (cuts took h) lawful whole =
     let next = lawful_next k w h lawful whole in
     cut_off (λ made. IsLawfulWorld k made.next) (record w { draws = (step_of k w h).next.draws }) took (step_of k w h) next

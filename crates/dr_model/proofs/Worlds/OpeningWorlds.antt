@@ -1,6 +1,7 @@
 -- Where a world begins.
-use Rattle.std.proofs.Common.{◌≡◌, ℕ, ◌≤◌, true, List, [], length, refl, ap, arith}
+use Rattle.std.proofs.Common.{◌≡◌, ℕ, ◌≤◌, ◌&&◌, nat_le, true, List, [], length, refl, ap, arith}
 use Rattle.std.specs.Prelude.{is_some}
+use Rattle.std.proofs.lemmas.Bool.Decides.{nat_tests}
 use Rattle.std.proofs.lemmas.List.Elements.{All-nil}
 use Rattle.dr_base.specs.declared.limits.TheConstants.{OUTBOX_LIMIT, TEXT_LIMIT}
 use Rattle.dr_base.specs.declared.position.Side.{Side}
@@ -10,15 +11,20 @@ use Rattle.kem_laws.specs.Mechanism.{Mechanism}
 use Rattle.session_model.specs.Schedule.{agreement_seed}
 use Rattle.session_model.specs.States.{opening_state}
 use Rattle.session_model.specs.Turns.{turn_at}
-use Rattle.dr_model.specs.Conversations.Conversation.{Said, opening_conversation, positions_after}
+use Rattle.session_model.proofs.Waiting.{waiting-none}
+use Rattle.dr_model.specs.Conversations.Conversation.{Said, is_said, opening_conversation, positions_after}
 use Rattle.dr_model.specs.Conversations.Indices.{missing_to, reach}
 use Rattle.dr_model.specs.Conversations.Formats.{Formats, side_format}
 use Rattle.dr_model.specs.Conversations.Lawful.{IsSeed, IsLawfulConversation, HasArrived, IsLawfulView}
-use Rattle.dr_model.specs.Conversations.ViewStates.{client_at}
+use Rattle.dr_model.specs.Conversations.ViewStates.{client_at, view_phase}
 use Rattle.dr_model.specs.Conversations.Views.{opening_view, missing_below, missing_of, outbox_of}
 use Rattle.dr_model.specs.Machines.Worlds.{opening_world}
 use Rattle.dr_model.specs.Theorems.LawfulWorlds.{IsLawfulWorld}
 use Rattle.dr_model.proofs.Growth.BoxSizes.{length-inbox_of}
+
+-- nothing was said
+none_said : (i : ℕ) → (nat_le 1 i && nat_le i 0) ≡ true → ⊥
+none_said i said = grind (arith, nat_tests)
 
 lawful_opening_conversation : (k : Mechanism) (key : List ℕ) (formats : Formats) → is_some (k.meaning.pair_of (agreement_seed key)) ≡ true
     → IsLawfulConversation k (opening_conversation key formats)
@@ -26,10 +32,12 @@ lawful_opening_conversation k key formats some = record {
   begins = some;
   turns = All-nil (IsSeed k);
   few_turns = omega arith;
-  short = All-nil (λ (s : Said). length s.text ≤ TEXT_LIMIT);
+  short = All-nil (λ (s : Said). length s.body.content ≤ TEXT_LIMIT);
   begun = All-nil (λ (s : Said). s.epoch ≤ 0);
   few = λ epoch. omega arith;
   some = λ epoch one last. absurd (omega arith);
+  bodies = λ p said. absurd (none_said p.index said);
+  bounded = λ p said. absurd (none_said p.index said);
 }
 
 -- nothing is missing
@@ -60,6 +68,9 @@ opening_lawful k key formats side = record {
   dropped_fits = omega arith;
   few_texts = omega (arith, length-inbox_of (opening_conversation key formats) (opening_view side));
   few_packets = opening_packets k key formats side;
+  awaiting = waiting-none side 0 (view_phase k (opening_conversation key formats) (opening_view side));
+  awaiting_said = All-nil (λ p. is_said (opening_conversation key formats) p ≡ true);
+  receipts = λ p said own. absurd (none_said p.index said);
 }
 
 pub lawful_opening : (k : Mechanism) (key : List ℕ) (formats : Formats) → is_some (k.meaning.pair_of (agreement_seed key)) ≡ true

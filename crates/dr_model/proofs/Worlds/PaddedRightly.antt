@@ -27,7 +27,7 @@ taken false false false false w p n next same = cc
 at_position : (w : World) (side : Side) (o : Option Position) → (taking_at w side o).answer ≢ Refused BadPadding
 at_position w side None same = cc
 at_position w side (Some p) same =
-    let opened = after_opening (view_of w side) p in
+    let opened = after_opening w.conversation (view_of w side) p in
     let missing = length (missing_of w.conversation opened) in
     taken (is_own side p.epoch) (has_opened (view_of w side) p) (nat_lt KEPT_LIMIT missing) (nat_le INBOX_LIMIT (length (inbox_in w side))) w p missing
     (with_view w side opened) same

@@ -82,9 +82,9 @@ taken k w side p said = ap (taking_at w side) (cond-true (is_said w.conversation
 
 -- within the limits it is opened
 pub opened_within : (k : Mechanism) (w : World) (side : Side) (p : Position) → IsNew w side p → IsWithinLimits w side p
-    → step_of k w (does side (takes (of_position p))) ≡ step (Opened p) (with_view w side (after_opening (view_of w side) p))
+    → step_of k w (does side (takes (of_position p))) ≡ step (Opened p) (with_view w side (after_opening w.conversation (view_of w side) p))
 opened_within k w side p new within =
-    let missing = length (missing_of w.conversation (after_opening (view_of w side) p)) in
+    let missing = length (missing_of w.conversation (after_opening w.conversation (view_of w side) p)) in
     let near : nat_lt KEPT_LIMIT missing ≡ false = le-ltb KEPT_LIMIT missing within.near in
     let room : nat_le INBOX_LIMIT (length (inbox_in w side)) ≡ false = lt-leb INBOX_LIMIT (length (inbox_in w side)) within.room in
     taken k w side p new.said
@@ -111,7 +111,7 @@ pub stands : (k : Mechanism) (w : World) (side : Side) (p : Position) → IsNew 
 stands k w side p new within =
     ap (λ (made : Step World). history_of made.next.conversation (view_of made.next side))
     (opened_within k w side p new within)
-    ∙ history_with w side (after_opening (view_of w side) p)
+    ∙ history_with w side (after_opening w.conversation (view_of w side) p)
     ∙ map_push (entry_at w.conversation) (view_of w side).arrived p
 
 -- what comes last is among them
@@ -131,7 +131,7 @@ pub opened : (k : Mechanism) (w : World) (side : Side) (p : Position) → IsNew 
     → has_opened (view_of (step_of k w (does side (takes (of_position p)))).next side) p ≡ true
 opened k w side p new within =
     ap (λ (made : Step World). has_opened (view_of made.next side) p) (opened_within k w side p new within)
-    ∙ opened_with w side (after_opening (view_of w side) p) p
+    ∙ opened_with w side (after_opening w.conversation (view_of w side) p) p
     ∙ among_last (view_of w side).arrived p
 
 -- a repeat is refused
@@ -145,11 +145,11 @@ repeats k w side p said peers before =
 
 -- too far ahead it is refused
 pub too_far : (k : Mechanism) (w : World) (side : Side) (p : Position) → IsNew w side p
-    → KEPT_LIMIT < length (missing_of w.conversation (after_opening (view_of w side) p))
+    → KEPT_LIMIT < length (missing_of w.conversation (after_opening w.conversation (view_of w side) p))
     → (step_of k w (does side (takes (of_position p)))).answer
-    ≡ Refused (SkipLimit (length (missing_of w.conversation (after_opening (view_of w side) p))))
+    ≡ Refused (SkipLimit (length (missing_of w.conversation (after_opening w.conversation (view_of w side) p))))
 too_far k w side p new far =
-    let missing = length (missing_of w.conversation (after_opening (view_of w side) p)) in
+    let missing = length (missing_of w.conversation (after_opening w.conversation (view_of w side) p)) in
     let over : nat_lt KEPT_LIMIT missing ≡ true = lt-ltb KEPT_LIMIT missing far in
     ap (λ (made : Step World). made.answer)
     (taken k w side p new.said
@@ -158,10 +158,10 @@ too_far k w side p new far =
 
 -- and so it is where the inbox is full
 pub inbox_full : (k : Mechanism) (w : World) (side : Side) (p : Position) → IsNew w side p
-    → length (missing_of w.conversation (after_opening (view_of w side) p)) ≤ KEPT_LIMIT
+    → length (missing_of w.conversation (after_opening w.conversation (view_of w side) p)) ≤ KEPT_LIMIT
     → INBOX_LIMIT ≤ length (inbox_in w side) → (step_of k w (does side (takes (of_position p)))).answer ≡ Refused InboxFull
 inbox_full k w side p new near full =
-    let missing = length (missing_of w.conversation (after_opening (view_of w side) p)) in
+    let missing = length (missing_of w.conversation (after_opening w.conversation (view_of w side) p)) in
     let under : nat_lt KEPT_LIMIT missing ≡ false = le-ltb KEPT_LIMIT missing near in
     let filled : nat_le INBOX_LIMIT (length (inbox_in w side)) ≡ true = le-leb INBOX_LIMIT (length (inbox_in w side)) full in
     ap (λ (made : Step World). made.answer)

@@ -7,4 +7,4 @@ use Rattle.dr_model.specs.Machines.Worlds.{World}
 
 -- a step of the machine, with what both sides keep after it
 abbrev pub seen_world : Mechanism → Step World → Step Sides
-seen_world k s = record { answer = s.answer; entries = s.entries; next = sides_of k s.next }
+seen_world k s = record { answer = s.answer; shown = s.shown; next = sides_of k s.next }

@@ -7,13 +7,13 @@ use Rattle.std.proofs.lemmas.List.{length-map}
 use Rattle.std.proofs.lemmas.List.Elements.{All-map, All-weaker}
 use Rattle.session_model.proofs.Latest.{latest-reached}
 use Rattle.dr_base.specs.declared.limits.TheConstants.{INDEX_LIMIT}
-use Rattle.dr_base.specs.Position.{is_own}
+use Rattle.dr_base.specs.Position.{IsBefore, is_own}
 use Rattle.dr_base.specs.declared.key.Kept.{Kept}
 use Rattle.dr_base.specs.declared.position.Position.{Position}
 use Rattle.dr_base.specs.declared.position.Side.{Side}
 use Rattle.dr_base.proofs.Parity.{own_other}
 use Rattle.fs_aead.specs.Chain.{chain_of, next_chain}
-use Rattle.fs_aead.specs.Table.{AllBefore, IsAscending, IsBefore}
+use Rattle.fs_aead.specs.Table.{AllBefore, IsAscending}
 use Rattle.hmac_hkdf.proofs.Lengths.{length-hmac_of}
 use Rattle.kem_laws.specs.Mechanism.{Mechanism, IsLawfulMechanism}
 use Rattle.session_model.specs.LawfulStates.{IsLawfulKept, IsLawfulPhase, IsLawfulPrevious, IsLawfulReception, IsLawfulState}
@@ -180,6 +180,7 @@ state_lawful k c side v law world lawful =
       kept = kept-ascending k c v;
       each = kept-lawful k c side v world lawful;
       few = omega (arith, length-map (missing_of c v) (key_of k c), lawful.near);
+      waiting = lawful.awaiting;
     }
 
 pub lawful_state : (k : Mechanism) (w : World) (side : Side) → IsLawfulMechanism k → IsLawfulWorld k w

@@ -1,6 +1,5 @@
 -- The packets of a conversation.
 use Rattle.std.specs.Prelude.{List, [], filter, map, slice_index_or, suc, zero, ℕ}
-use Rattle.bodies.specs.Bodies.{text_body}
 use Rattle.bodies.specs.Formats.{version_of}
 use Rattle.bodies.specs.declared.format.Format.{Format}
 use Rattle.boxes.specs.Posts.{Post}
@@ -14,7 +13,7 @@ use Rattle.packet.specs.Packet.{Fields}
 use Rattle.session_model.specs.Schedule.{agreement_seed, session_of}
 use Rattle.session_model.specs.Sealing.{posted, sealing}
 use Rattle.session_model.specs.Turns.{Turn, turn_at}
-use Rattle.dr_model.specs.Conversations.Conversation.{Conversation, positions, previous_of, text_at}
+use Rattle.dr_model.specs.Conversations.Conversation.{Conversation, positions, previous_of, body_at}
 use Rattle.dr_model.specs.Conversations.Formats.{side_format}
 
 -- the keys of an epoch of a conversation
@@ -41,13 +40,13 @@ epoch_version c epoch = version_of (epoch_format c epoch)
 abbrev pub post_fields : Mechanism → Conversation → Position → Fields
 post_fields k c p =
     sealing (epoch_version c p.epoch) (session_of c.key) p (previous_of c p.epoch) (turn_of_epoch k c p.epoch).agreement
-    (message_key (turn_of_epoch k c p.epoch).stream p.index) (text_body (text_at c p))
+    (message_key (turn_of_epoch k c p.epoch).stream p.index) (body_at c p)
 
 -- the packet of a position
 abbrev pub post_at : Mechanism → Conversation → Position → Post
 post_at k c p =
     posted (epoch_version c p.epoch) (session_of c.key) p (previous_of c p.epoch) (turn_of_epoch k c p.epoch).agreement
-    (message_key (turn_of_epoch k c p.epoch).stream p.index) (text_body (text_at c p))
+    (message_key (turn_of_epoch k c p.epoch).stream p.index) (body_at c p)
 
 -- all packets, in the order that the texts were said; the network holds them all
 abbrev pub posts : Mechanism → Conversation → List Post

@@ -51,6 +51,7 @@ state_of k c v = record {
   previous = previous_in c v;
   receiving = option_map (view_reception k c v) (receiving_epoch v.side v.epoch);
   kept = map (key_of k c) (missing_of c v);
+  awaiting = v.awaiting;
 }
 
 -- what a client keeps in a view of a conversation

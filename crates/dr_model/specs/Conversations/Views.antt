@@ -3,13 +3,14 @@ use Rattle.std.specs.List.{list_any}
 use Rattle.std.specs.Prelude.{Bool, List, [], count_by, drop, filter, if◌then◌else◌, length, map, max, nat_le, suc, zero, ℕ, ◌++◌, ◌+◌, ◌==◌, ◌∷◌}
 use Rattle.boxes.specs.Entries.{Entry, entry_under}
 use Rattle.boxes.specs.Posts.{Post}
-use Rattle.dr_base.specs.Position.{is_at, is_own}
+use Rattle.dr_base.specs.Position.{is_at, is_own, position_at}
 use Rattle.dr_base.specs.declared.position.Position.{Position}
 use Rattle.dr_base.specs.declared.position.Side.{Side}
 use Rattle.kem_laws.specs.Mechanism.{Mechanism}
+use Rattle.session_model.specs.Awaiting.{still_waiting, waiting_with}
 use Rattle.session_model.specs.declared.answer.Items.{Items}
 use Rattle.session_model.specs.declared.answer.Items.TheVariants.{Packets, Texts}
-use Rattle.dr_model.specs.Conversations.Conversation.{Conversation, count_of, text_at}
+use Rattle.dr_model.specs.Conversations.Conversation.{Conversation, count_of, receipt_at, text_at}
 use Rattle.dr_model.specs.Conversations.Indices.{missing_to, reach}
 use Rattle.dr_model.specs.Conversations.Posts.{posts_of}
 
@@ -23,10 +24,12 @@ pub record View : Type 0 where
   pub done : ℕ
   -- how many of the oldest packets have left its outbox
   pub dropped : ℕ
+  -- its own texts that wait for a receipt, in the order that they were said
+  pub awaiting : List Position
 
 -- where a conversation begins
 abbrev pub opening_view : Side → View
-opening_view side = record { side = side; epoch = 0; arrived = []; done = 0; dropped = 0 }
+opening_view side = record { side = side; epoch = 0; arrived = []; done = 0; dropped = 0; awaiting = [] }
 
 -- the side has opened the packet of this position
 abbrev pub has_opened : View → Position → Bool
@@ -36,13 +39,21 @@ has_opened v p = list_any (is_at p) v.arrived
 abbrev pub times_opened : View → Position → ℕ
 times_opened v p = count_by (is_at p) v.arrived
 
--- the view once the side has opened the packet of a position
-abbrev pub after_opening : View → Position → View
-after_opening v p = record v { arrived = v.arrived ++ p ∷ []; epoch = max v.epoch p.epoch }
+-- the view once the side has opened the packet of a position, whose receipt it obeys
+abbrev pub after_opening : Conversation → View → Position → View
+after_opening c v p = record v {
+  arrived = v.arrived ++ p ∷ [];
+  epoch = max v.epoch p.epoch;
+  awaiting = still_waiting (receipt_at c p) v.awaiting;
+}
 
--- the view once the side has begun an epoch of its own
+-- the view once the side has said a text, which waits, in the epoch that stands
+abbrev pub after_text : View → Position → View
+after_text v p = record v { awaiting = waiting_with v.awaiting p }
+
+-- and once it has begun an epoch of its own with one
 abbrev pub after_turn : View → View
-after_turn v = record v { epoch = v.epoch + 1 }
+after_turn v = record v { epoch = v.epoch + 1; awaiting = waiting_with v.awaiting (position_at (v.epoch + 1) 1) }
 
 -- the indices of an epoch among positions
 abbrev pub indices_in : List Position → ℕ → List ℕ

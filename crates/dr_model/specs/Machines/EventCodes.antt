@@ -9,7 +9,7 @@ use Rattle.session_model.specs.declared.answer.Amount.{Amount}
 use Rattle.session_model.specs.declared.answer.Amount.TheVariants.{All, Exactly}
 use Rattle.session_model.specs.declared.answer.Items.{Items}
 use Rattle.session_model.specs.declared.answer.Items.TheVariants.{Packets, Texts}
-use Rattle.dr_model.specs.Machines.Events.{Event, PacketSource, SideCall, cuts, does, drops, of_bytes, of_flip, of_number, of_position, says, seeds, shows_inbox, shows_state, takes}
+use Rattle.dr_model.specs.Machines.Events.{Event, PacketSource, SideCall, cuts, does, drops, of_bytes, of_flip, of_number, of_position, says, seeds, shows_awaiting, shows_inbox, shows_state, takes}
 
 -- ---- a side, a position, an amount of items
 
@@ -120,25 +120,27 @@ call_code =
 
 -- a seed; or a call of a side; or a look
 abbrev pub Plain : Type 0
-Plain = List ℕ ⊎ ((Side × SideCall) ⊎ (Side ⊎ Side))
+Plain = List ℕ ⊎ ((Side × SideCall) ⊎ (Side ⊎ (Side ⊎ Side)))
 
 abbrev pub plain_code : Coded Plain
 plain_code =
     coded⊎ (coded_list coded_ℕ)
-    (coded⊎ (coded× side_code call_code) (coded⊎ side_code side_code))
+    (coded⊎ (coded× side_code call_code) (coded⊎ side_code (coded⊎ side_code side_code)))
 
 abbrev stored : Event → List Bool × Plain
 stored (seeds seed) = ([], inl seed)
 stored (does side call) = ([], inr (inl (side, call)))
 stored (shows_inbox side) = ([], inr (inr (inl side)))
-stored (shows_state side) = ([], inr (inr (inr side)))
+stored (shows_state side) = ([], inr (inr (inr (inl side))))
+stored (shows_awaiting side) = ([], inr (inr (inr (inr side))))
 stored (cuts took event) = (took ∷ (stored event).0, (stored event).1)
 
 abbrev plain_by : Plain → Event
 plain_by (inl seed) = seeds seed
 plain_by (inr (inl called)) = does called.0 called.1
 plain_by (inr (inr (inl side))) = shows_inbox side
-plain_by (inr (inr (inr side))) = shows_state side
+plain_by (inr (inr (inr (inl side)))) = shows_state side
+plain_by (inr (inr (inr (inr side)))) = shows_awaiting side
 
 abbrev cut_by : List Bool → Event → Event
 cut_by [] event = event
@@ -149,6 +151,7 @@ same_event (seeds seed) = refl
 same_event (does side call) = refl
 same_event (shows_inbox side) = refl
 same_event (shows_state side) = refl
+same_event (shows_awaiting side) = refl
 same_event (cuts took event) = ap (cuts took) (same_event event)
 
 abbrev pub event_code : Coded Event

@@ -32,6 +32,8 @@ pub data Event : Type 0 where
   does : Side → SideCall → Event
   -- a side shows its inbox
   shows_inbox : Side → Event
+  -- a side shows which of its own texts wait for a receipt
+  shows_awaiting : Side → Event
   -- a side shows what it holds, in numbers
   shows_state : Side → Event
   -- a crash at any moment of an event, or a failing call on the disk, cuts it off: it took effect or it didn't, which the

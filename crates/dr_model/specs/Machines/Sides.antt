@@ -5,13 +5,13 @@ use Rattle.dr_base.specs.declared.position.Side.{Side}
 use Rattle.dr_base.specs.declared.position.Side.TheVariants.{First, Second}
 use Rattle.kem_laws.specs.Mechanism.{Mechanism}
 use Rattle.session_model.specs.Clients.{Client, SaidText, say_check, say_on, summary_of}
-use Rattle.session_model.specs.declared.answer.Answer.TheVariants.{Inbox, Said, Seeded, State as InNumbers}
+use Rattle.session_model.specs.declared.answer.Answer.TheVariants.{Awaiting, Inbox, Said, Seeded, State as InNumbers}
 use Rattle.session_model.specs.declared.answer.Refusal.{Refusal}
 use Rattle.dr_model.specs.Machines.Acts.{Act, act_on, dropping, saying, standing_with, taking}
 use Rattle.dr_model.specs.Machines.Draws.{Draws, after_draw, next_seed}
-use Rattle.dr_model.specs.Machines.Events.{Event, SideCall, cuts, does, drops, says, seeds, shows_inbox, shows_state, takes}
+use Rattle.dr_model.specs.Machines.Events.{Event, SideCall, cuts, does, drops, says, seeds, shows_awaiting, shows_inbox, shows_state, takes}
 use Rattle.dr_model.specs.Machines.Network.{packet_given}
-use Rattle.dr_model.specs.Machines.Steps.{Step, amount_of, cut_step, nothing, settled, step}
+use Rattle.dr_model.specs.Machines.Steps.{Step, amount_of, cut_step, nothing, places, settled, step, texts}
 
 pub record Sides : Type 0 where
   -- the shared key, from which the draws come
@@ -45,7 +45,7 @@ saying_on k s side text (Ok true) =
 -- what a side makes of an act by itself: the other side, the network and the draws stay as they are
 abbrev pub settled_on : Sides → Side → Result (Step Client) Refusal → Step Sides
 settled_on s side (Ok made) =
-    record { answer = made.answer; entries = made.entries; next = with_client s side made.next }
+    record { answer = made.answer; shown = made.shown; next = with_client s side made.next }
 settled_on s side (Err refusal) = settled s (Err refusal)
 
 -- or the network holds no packet for it
@@ -77,6 +77,10 @@ abbrev pub step_on : Mechanism → Sides → Event → Step Sides
 step_on k s (seeds seed) = step Seeded (record s { draws = record s.draws { given = Some seed } })
 step_on k s (does side call) = called_on k s side call
 step_on k s (shows_inbox side) =
-    record { answer = Inbox (length (client_of s side).inbox); entries = (client_of s side).inbox; next = s }
+    let inbox = (client_of s side).inbox in
+    record { answer = Inbox (length inbox); shown = texts inbox; next = s }
+step_on k s (shows_awaiting side) =
+    let waiting = (client_of s side).state.awaiting in
+    record { answer = Awaiting (length waiting); shown = places waiting; next = s }
 step_on k s (shows_state side) = step (InNumbers (summary_of (client_of s side))) s
 step_on k s (cuts took h) = let made = step_on k s h in cut_step (record s { draws = made.next.draws }) took made

@@ -1,6 +1,7 @@
 -- What comes of an event.
 use Rattle.std.specs.Prelude.{Bool, Err, List, Ok, Result, [], false, if◌then◌else◌, nat_le, nat_lt, true, ℕ}
 use Rattle.boxes.specs.Entries.{Entry}
+use Rattle.dr_base.specs.declared.position.Position.{Position}
 use Rattle.session_model.specs.declared.answer.Amount.{Amount}
 use Rattle.session_model.specs.declared.answer.Amount.TheVariants.{All, Exactly}
 use Rattle.session_model.specs.declared.answer.Answer.{Answer}
@@ -9,15 +10,20 @@ use Rattle.session_model.specs.declared.answer.Items.{Items}
 use Rattle.session_model.specs.declared.answer.Refusal.{Refusal}
 use Rattle.session_model.specs.declared.answer.Refusal.TheVariants.{Fewer}
 
--- an event's answer, the texts that it shows, and what stands after it
+-- what an event shows: texts, or only where texts stand
+pub data Shown : Type 0 where
+  texts : List Entry → Shown
+  places : List Position → Shown
+
+-- an event's answer, what it shows, and what stands after it
 pub record Step (S : Type 0) : Type 0 where
   pub answer : Answer
-  pub entries : List Entry
+  pub shown : Shown
   pub next : S
 
--- a step that shows no text
+-- a step that shows nothing
 abbrev pub step : {S : Type 0} → Answer → S → Step S
-step answer next = record { answer = answer; entries = []; next = next }
+step answer next = record { answer = answer; shown = texts []; next = next }
 
 -- a step that was made, or a refusal, which changes nothing
 abbrev pub settled : {S : Type 0} → S → Result (Step S) Refusal → Step S

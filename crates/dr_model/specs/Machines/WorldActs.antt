@@ -35,4 +35,4 @@ act_in k w side act = step_of k (world_for w act) (event_of side act)
 -- a step of a world, with what a side keeps after it
 abbrev pub kept_by : Mechanism → Side → Step World → Step Client
 kept_by k side made =
-    record { answer = made.answer; entries = made.entries; next = kept_in k made.next side }
+    record { answer = made.answer; shown = made.shown; next = kept_in k made.next side }

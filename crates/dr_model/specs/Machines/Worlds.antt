@@ -5,7 +5,7 @@ use Rattle.dr_base.specs.declared.limits.TheConstants.{TEXT_LIMIT, INDEX_LIMIT, 
 use Rattle.boxes.specs.Entries.{Entry}
 use Rattle.boxes.specs.Posts.{Post}
 use Rattle.cka.specs.Agreement.{agreement_size}
-use Rattle.dr_base.specs.Position.{is_own}
+use Rattle.dr_base.specs.Position.{is_own, position_at}
 use Rattle.dr_base.specs.declared.position.Position.{Position}
 use Rattle.dr_base.specs.declared.position.Side.{Side}
 use Rattle.dr_base.specs.declared.position.Side.TheVariants.{First, Second}
@@ -15,19 +15,20 @@ use Rattle.packet.specs.Reading.{read_packet}
 use Rattle.packet.specs.declared.fault.Malformed.{Malformed}
 use Rattle.session_model.specs.States.{State}
 use Rattle.session_model.specs.Ways.{Way, way_of}
-use Rattle.session_model.specs.declared.answer.Answer.TheVariants.{Inbox, Opened, Said, Seeded, State as InNumbers}
+use Rattle.session_model.specs.declared.answer.Answer.TheVariants.{Awaiting, Inbox, Opened, Said, Seeded, State as InNumbers}
 use Rattle.session_model.specs.declared.answer.Items.{Items}
 use Rattle.session_model.specs.declared.answer.Refusal.{Refusal}
 use Rattle.session_model.specs.declared.answer.Refusal.TheVariants.{BadTag, EpochFull, InboxFull, LastEpoch, Malformed as Unreadable, NoPair, OutboxFull, OwnPacket, SkipLimit, Spent, TextTooLong}
 use Rattle.dr_model.specs.Conversations.Formats.{Formats}
 use Rattle.dr_model.specs.Conversations.Conversation.{Conversation, count_of, is_said, next_position, opening_conversation, positions, with_text, with_turn}
 use Rattle.dr_model.specs.Conversations.Posts.{posts}
+use Rattle.dr_model.specs.Conversations.Receipts.{body_in}
 use Rattle.dr_model.specs.Conversations.ViewStates.{state_of}
-use Rattle.dr_model.specs.Conversations.Views.{View, after_drop, after_opening, after_turn, has_opened, inbox_of, missing_of, opening_view, outbox_of, standing_of}
+use Rattle.dr_model.specs.Conversations.Views.{View, after_drop, after_opening, after_text, after_turn, has_opened, inbox_of, missing_of, opening_view, outbox_of, standing_of}
 use Rattle.dr_model.specs.Machines.Draws.{Draws, after_draw, next_seed}
-use Rattle.dr_model.specs.Machines.Events.{Event, PacketSource, SideCall, cuts, does, drops, of_bytes, of_flip, of_number, of_position, says, seeds, shows_inbox, shows_state, takes}
+use Rattle.dr_model.specs.Machines.Events.{Event, PacketSource, SideCall, cuts, does, drops, of_bytes, of_flip, of_number, of_position, says, seeds, shows_awaiting, shows_inbox, shows_state, takes}
 use Rattle.dr_model.specs.Machines.Network.{flipped_at}
-use Rattle.dr_model.specs.Machines.Steps.{Step, amount_of, cut_step, leaving, nothing, settled, step}
+use Rattle.dr_model.specs.Machines.Steps.{Step, amount_of, cut_step, leaving, nothing, places, settled, step, texts}
 
 pub record World : Type 0 where
   pub conversation : Conversation
@@ -71,15 +72,19 @@ may_say k w side len =
 -- the next text of the side's epoch
 abbrev pub said_here : World → Side → List ℕ → Step World
 said_here w side text =
-    let epoch = (view_of w side).epoch in
-    step (Said (next_position w.conversation.said epoch)) (record w { conversation = with_text w.conversation epoch text })
+    let c = w.conversation in
+    let v = view_of w side in
+    let p = next_position c.said v.epoch in
+    step (Said p)
+    (with_view (record w { conversation = with_text c v.epoch (body_in c v text) }) side (after_text v p))
 
 -- the first text of the side's next epoch
 abbrev pub said_next : World → Side → List ℕ → List ℕ → Step World
 said_next w side seed text =
+    let c = w.conversation in
     let v = view_of w side in
-    step (Said (record { epoch = v.epoch + 1; index = 1 }))
-    (with_view (record w { conversation = with_turn w.conversation seed (v.epoch + 1) text }) side (after_turn v))
+    step (Said (position_at (v.epoch + 1) 1))
+    (with_view (record w { conversation = with_turn c seed (v.epoch + 1) (body_in c v text) }) side (after_turn v))
 
 abbrev pub saying_in : Mechanism → World → Side → List ℕ → Result Bool Refusal → Step World
 saying_in k w side text (Err refusal) = settled w (Err refusal)
@@ -93,7 +98,7 @@ saying_in k w side text (Ok true) =
 abbrev pub taking_in : World → Side → Position → Result (Step World) Refusal
 taking_in w side p =
     let v = view_of w side in
-    let opened = after_opening v p in
+    let opened = after_opening w.conversation v p in
     if is_own side p.epoch then Err (OwnPacket p.epoch)
     else (if has_opened v p then Err (Spent p)
     else (if nat_lt KEPT_LIMIT (length (missing_of w.conversation opened)) then Err
@@ -174,7 +179,11 @@ called_in k w side (drops items amount) =
 abbrev pub step_of : Mechanism → World → Event → Step World
 step_of k w (seeds seed) = step Seeded (record w { draws = record w.draws { given = Some seed } })
 step_of k w (does side call) = called_in k w side call
-step_of k w (shows_inbox side) = record { answer = Inbox (length (inbox_in w side)); entries = inbox_in w side; next = w }
+step_of k w (shows_inbox side) =
+    record { answer = Inbox (length (inbox_in w side)); shown = texts (inbox_in w side); next = w }
+step_of k w (shows_awaiting side) =
+    let waiting = (view_of w side).awaiting in
+    record { answer = Awaiting (length waiting); shown = places waiting; next = w }
 step_of k w (shows_state side) =
     step (InNumbers (record {
       epoch = (view_of w side).epoch;

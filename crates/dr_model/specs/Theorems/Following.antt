@@ -25,7 +25,7 @@ pub record Follows (k : Mechanism) : Type 0 where
       → IsLawfulState k (state_of k w.conversation (view_of w side))
   pub answer : (w : World) (h : Event) → IsLawfulWorld k w → IsFair k w h
       → (step_on k (sides_of k w) h).answer ≡ (step_of k w h).answer
-  pub entries : (w : World) (h : Event) → IsLawfulWorld k w → IsFair k w h
-      → (step_on k (sides_of k w) h).entries ≡ (step_of k w h).entries
+  pub shown : (w : World) (h : Event) → IsLawfulWorld k w → IsFair k w h
+      → (step_on k (sides_of k w) h).shown ≡ (step_of k w h).shown
   pub next : (w : World) (h : Event) → IsLawfulWorld k w → IsFair k w h
       → (step_on k (sides_of k w) h).next ≡ sides_of k (step_of k w h).next

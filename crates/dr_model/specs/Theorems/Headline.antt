@@ -20,7 +20,7 @@ use Rattle.dr_model.specs.Theorems.LawfulWorlds.{IsLawfulWorld}
 
 -- how many positions a side misses once it has opened this one
 abbrev pub would_miss : World → Side → Position → ℕ
-would_miss w side p = length (missing_of w.conversation (after_opening (view_of w side) p))
+would_miss w side p = length (missing_of w.conversation (after_opening w.conversation (view_of w side) p))
 
 -- a packet within the limits: at most KEPT_LIMIT keys are kept once it is opened, and the inbox
 -- has room

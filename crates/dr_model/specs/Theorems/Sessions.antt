@@ -1,6 +1,7 @@
 -- The ratchet end to end: what a session that stands in a view of a conversation answers, and what it keeps then.
 use Rattle.std.specs.Prelude.{Bool, Err, List, None, Ok, Result, Some, false, if◌then◌else◌, is_some, length, nat_le, nat_lt, true, ℕ, ◌+◌, ◌≡◌}
 use Rattle.dr_base.specs.declared.limits.TheConstants.{TEXT_LIMIT, INDEX_LIMIT, LAST_EPOCH, KEPT_LIMIT}
+use Rattle.bodies.specs.Bodies.{Body}
 use Rattle.cka.specs.Agreement.{agreement_size}
 use Rattle.dr_base.specs.Position.{is_own, peer_of}
 use Rattle.dr_base.specs.declared.position.Position.{Position}
@@ -16,14 +17,15 @@ use Rattle.dr_model.specs.Conversations.Conversation.{Conversation, count_of, is
 use Rattle.dr_model.specs.Conversations.Formats.{Formats, side_format}
 use Rattle.dr_model.specs.Conversations.Lawful.{IsLawfulConversation, IsLawfulView}
 use Rattle.dr_model.specs.Conversations.Posts.{post_fields, post_at}
+use Rattle.dr_model.specs.Conversations.Receipts.{body_in}
 use Rattle.dr_model.specs.Conversations.ViewStates.{state_of}
-use Rattle.dr_model.specs.Conversations.Views.{View, after_opening, after_turn, has_opened, missing_of, opening_view}
+use Rattle.dr_model.specs.Conversations.Views.{View, after_opening, after_text, after_turn, has_opened, missing_of, opening_view}
 
 -- what a session answers to the packet of a position that was said: as the machine does, but for the inbox, which is its
 -- client's
 abbrev pub received_in : Mechanism → Conversation → View → Position → Result ReceiveDraft Refusal
 received_in k c v p =
-    let opened = after_opening v p in
+    let opened = after_opening c v p in
     if is_own v.side p.epoch then Err (OwnPacket p.epoch)
     else (if has_opened v p then Err (Spent p)
     else (if nat_lt KEPT_LIMIT (length (missing_of c opened)) then Err (SkipLimit (length (missing_of c opened)))
@@ -62,24 +64,26 @@ pub record SessionsAgree (k : Mechanism) : Type 0 where
   pub sends : (c : Conversation) (side : Side) (v : View) (text seed : List ℕ) → StandsIn k c side v
       → is_own side v.epoch ≡ true
       → draft_send k (state_of k c v) text seed
-      ≡ Some (drafted_in k (with_text c v.epoch text) v (next_position c.said v.epoch))
+      ≡ Some (drafted_in k (with_text c v.epoch (body_in c v text)) (after_text v (next_position c.said v.epoch))
+      (next_position c.said v.epoch))
   pub turns : (c : Conversation) (side : Side) (v : View) (text seed : List ℕ) → StandsIn k c side v
       → is_own side v.epoch ≡ false → is_some (k.meaning.pair_of seed) ≡ true
       → draft_send k (state_of k c v) text seed
-      ≡ Some (drafted_in k (with_turn c seed (v.epoch + 1) text) (after_turn v) (next_position c.said (v.epoch + 1)))
+      ≡ Some (drafted_in k (with_turn c seed (v.epoch + 1) (body_in c v text)) (after_turn v)
+      (next_position c.said (v.epoch + 1)))
   pub no_pair : (c : Conversation) (side : Side) (v : View) (text seed : List ℕ) → StandsIn k c side v
       → is_own side v.epoch ≡ false → k.meaning.pair_of seed ≡ None → draft_send k (state_of k c v) text seed ≡ None
   -- the other side, in its view u, keeps its state
-  pub stays : (c : Conversation) (side : Side) (v u : View) (text : List ℕ) → StandsIn k c side v
+  pub stays : (c : Conversation) (side : Side) (v u : View) (body : Body) → StandsIn k c side v
       → StandsIn k c (peer_of side) u → is_own side v.epoch ≡ true
-      → state_of k (with_text c v.epoch text) u ≡ state_of k c u
-  pub stays_turned : (c : Conversation) (side : Side) (v u : View) (text seed : List ℕ) → StandsIn k c side v
+      → state_of k (with_text c v.epoch body) u ≡ state_of k c u
+  pub stays_turned : (c : Conversation) (side : Side) (v u : View) (body : Body) (seed : List ℕ) → StandsIn k c side v
       → StandsIn k c (peer_of side) u → is_own side v.epoch ≡ false
-      → state_of k (with_turn c seed (v.epoch + 1) text) u ≡ state_of k c u
+      → state_of k (with_turn c seed (v.epoch + 1) body) u ≡ state_of k c u
   -- and each packet stays
-  pub packets_stay : (c : Conversation) (side : Side) (v : View) (text : List ℕ) (p : Position) → StandsIn k c side v
-      → is_said c p ≡ true → let next = with_text c v.epoch text in
+  pub packets_stay : (c : Conversation) (side : Side) (v : View) (body : Body) (p : Position) → StandsIn k c side v
+      → is_said c p ≡ true → let next = with_text c v.epoch body in
       (is_said next p ≡ true) × (post_at k next p ≡ post_at k c p)
-  pub packets_stay_turned : (c : Conversation) (side : Side) (v : View) (text seed : List ℕ) (p : Position)
-      → StandsIn k c side v → is_said c p ≡ true → let next = with_turn c seed (v.epoch + 1) text in
+  pub packets_stay_turned : (c : Conversation) (side : Side) (v : View) (body : Body) (seed : List ℕ) (p : Position)
+      → StandsIn k c side v → is_said c p ≡ true → let next = with_turn c seed (v.epoch + 1) body in
       (is_said next p ≡ true) × (post_at k next p ≡ post_at k c p)

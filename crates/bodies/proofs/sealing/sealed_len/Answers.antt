@@ -1,7 +1,7 @@
-use Rattle.std.proofs.Common.{◌∙◌, ℕ, length, ap, sym, arith, length-append}
-use Rattle.bodies.specs.Bodies.{Body, body_head, sealed_body}
+use Rattle.std.proofs.Common.{◌∙◌, ℕ, List, length, ap, sym, arith}
+use Rattle.bodies.specs.Bodies.{Body, sealed_body}
 use Rattle.bodies.specs.Padding.{padded_len}
-use Rattle.bodies.proofs.Lengths.{alone-head, length-plain, length-sealed}
+use Rattle.bodies.proofs.Lengths.{alone_text, length-plain, length-sealed}
 use Rattle.bodies.proofs.sealing.sealed_len.Goals as goal
 
 pub returns-then-version-eq-PLAIN-clause-sealed : goal.returns-then-version-eq-PLAIN-clause-sealed
@@ -16,13 +16,12 @@ returns-else-version-eq-PLAIN-clause-sealed c =
     ∙ sym (length-sealed c.args.version c.args.body.now c.if-version-eq-PLAIN.false)
 
 pub returns-else-version-eq-PLAIN-clause-alone : goal.returns-else-version-eq-PLAIN-clause-alone
-returns-else-version-eq-PLAIN-clause-alone c = λ none.
+returns-else-version-eq-PLAIN-clause-alone c = λ other.
     let body = c.args.body.now in
     omega (
       arith,
       c.padded_len.ensures,
       c.text_len.ensures.value,
       c.requires,
-      alone-head c.args.version body none,
-      length-append (body_head c.args.version body) body.content,
+      ap (λ (t : List ℕ). length t) (alone_text c.args.version body other),
     )

@@ -9,9 +9,10 @@ returns c =
     let done = c.with_valued-command-2.ensures _ inbox in
     let sent = c.with_valued-command-3.ensures _ done in
     let outbox = c.with_bare-command-3.ensures _ sent in
-    let state = c.with_bare-command-4.ensures _ outbox in
-    let check = c.with_bare-command-5.ensures _ state in
+    let awaiting = c.with_bare-command-4.ensures _ outbox in
+    let state = c.with_bare-command-5.ensures _ awaiting in
+    let check = c.with_bare-command-6.ensures _ state in
     let sync = c.with_valued-command-4.ensures _ check in
     let relay = c.with_listed-command.ensures _ sync in
-    let duet = c.with_bare-command-6.ensures _ relay in
+    let duet = c.with_bare-command-7.ensures _ relay in
     c.with_paired.ensures _ duet

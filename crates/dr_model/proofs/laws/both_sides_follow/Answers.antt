@@ -14,6 +14,6 @@ returns c k law = record {
   lawful_run = lawful_run k;
   lawful_state = λ w side lawful. lawful_state k w side law lawful;
   answer = λ w h lawful fair. ap (λ (s : Step Sides). s.answer) (step_follows k w h law lawful fair);
-  entries = λ w h lawful fair. ap (λ (s : Step Sides). s.entries) (step_follows k w h law lawful fair);
+  shown = λ w h lawful fair. ap (λ (s : Step Sides). s.shown) (step_follows k w h law lawful fair);
   next = λ w h lawful fair. ap (λ (s : Step Sides). s.next) (step_follows k w h law lawful fair);
 }

@@ -1,4 +1,6 @@
 use Rattle.std.proofs.Common.{refl, subst}
+use Rattle.dr_model.specs.Machines.Events.{of_bytes}
+use Rattle.dr_model.proofs.Receipts.Arrived.{taking_arrives}
 use Rattle.session_commands.specs.Asking.{asked_take}
 use Rattle.session_commands.specs.Closing.{ending_by, lines_of_ending}
 use Rattle.session_commands.specs.InWorlds.{RunsAct}
@@ -14,3 +16,4 @@ returns-in-Ok-clause-runs g c =
     (subst
     (λ packet. RunsAct g.D.Disk.state g.K.Kem.mechanism (asked_take g.K.Kem.mechanism packet) c.args.disk.now c.take_packet.new.disk (ending_by c.take_packet.result) (lines_of_ending c.take_packet.result))
     c.as_slice.ensures.value c.take_packet.ensures)
+    (λ w side p lawful ends. taking_arrives g.K.Kem.mechanism w side p lawful (of_bytes c.in-Ok.packet.items) ends)

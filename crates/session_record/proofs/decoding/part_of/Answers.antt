@@ -10,5 +10,5 @@ resume-requires-clause-ascending g c = rw c.as_slice.ensures.value c.requires.ke
 
 pub invariant_of-result : goal.invariant_of-result
 invariant_of-result g c =
-    subst (λ (kept : List Kept). IsLawfulState g.K.Kem.mechanism (record (state_of_groups c.args.heading (keys_seen c.args.keys)) { kept = kept }))
+    subst (λ (kept : List Kept). IsLawfulState g.K.Kem.mechanism (record (state_of_groups c.args.heading (keys_seen c.args.keys) c.args.awaiting) { kept = kept }))
     (sym (c.resume.ensures ∙ c.as_slice.ensures.value)) c.requires

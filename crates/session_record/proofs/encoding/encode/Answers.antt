@@ -30,8 +30,8 @@ put_inbox-at_outbox-requires-clause-room g c =
     let room = holds (record_text client) (length c.args.out.now) c.requires.room c.is_short.ensures in
     omega (arith, room, text_size client, c.put_heading-at_keys.ensures.next_is, c.put_keys-at_inbox.ensures.next_is)
 
-pub put_outbox-requires-clause-room : goal.put_outbox-requires-clause-room
-put_outbox-requires-clause-room g c =
+pub put_outbox-at_awaiting-requires-clause-room : goal.put_outbox-at_awaiting-requires-clause-room
+put_outbox-at_awaiting-requires-clause-room g c =
     let client = changed g.K.Kem.mechanism (client_of c.args.part.now c.args.inbox.now c.args.outbox.now) c.args.change.now in
     let room = holds (record_text client) (length c.args.out.now) c.requires.room c.is_short.ensures in
     omega (
@@ -43,31 +43,46 @@ put_outbox-requires-clause-room g c =
       c.put_inbox-at_outbox.ensures.next_is,
     )
 
+pub put_awaiting-requires : goal.put_awaiting-requires
+put_awaiting-requires g c =
+    let client = changed g.K.Kem.mechanism (client_of c.args.part.now c.args.inbox.now c.args.outbox.now) c.args.change.now in
+    let room = holds (record_text client) (length c.args.out.now) c.requires.room c.is_short.ensures in
+    omega (
+      arith,
+      room,
+      text_size client,
+      c.put_heading-at_keys.ensures.next_is,
+      c.put_keys-at_inbox.ensures.next_is,
+      c.put_inbox-at_outbox.ensures.next_is,
+      c.put_outbox-at_awaiting.ensures.next_is,
+    )
+
 pub returns-clause-len : goal.returns-clause-len
 returns-clause-len g c =
     let client = changed g.K.Kem.mechanism (client_of c.args.part.now c.args.inbox.now c.args.outbox.now) c.args.change.now in
-    let l : c.put_outbox.result ≡ length (record_text client) =
+    let l : c.put_awaiting.result ≡ length (record_text client) =
     omega (
       arith,
       text_size client,
       c.put_heading-at_keys.ensures.next_is,
       c.put_keys-at_inbox.ensures.next_is,
       c.put_inbox-at_outbox.ensures.next_is,
-      c.put_outbox.ensures.next_is,
+      c.put_outbox-at_awaiting.ensures.next_is,
+      c.put_awaiting.ensures.next_is,
     ) in
     l
 
 pub returns-clause-written : goal.returns-clause-written
 returns-clause-written g c =
     let client = changed g.K.Kem.mechanism (client_of c.args.part.now c.args.inbox.now c.args.outbox.now) c.args.change.now in
-    let boxes = then_puts c.put_inbox-at_outbox.ensures c.put_outbox.ensures in
-    let all = then_puts c.put_heading-at_keys.ensures (then_puts c.put_keys-at_inbox.ensures boxes) in
+    let boxes = then_puts c.put_inbox-at_outbox.ensures c.put_outbox-at_awaiting.ensures in
+    let all = then_puts c.put_heading-at_keys.ensures (then_puts c.put_keys-at_inbox.ensures (then_puts boxes c.put_awaiting.ensures)) in
     all.front ∙ sym (text_pieces client)
 
 pub returns-clause-rest : goal.returns-clause-rest
 returns-clause-rest g c =
-    let boxes = then_puts c.put_inbox-at_outbox.ensures c.put_outbox.ensures in
-    (then_puts c.put_heading-at_keys.ensures (then_puts c.put_keys-at_inbox.ensures boxes)).rest
+    let boxes = then_puts c.put_inbox-at_outbox.ensures c.put_outbox-at_awaiting.ensures in
+    (then_puts c.put_heading-at_keys.ensures (then_puts c.put_keys-at_inbox.ensures (then_puts boxes c.put_awaiting.ensures))).rest
 
 pub returns-clause-limit : goal.returns-clause-limit
 returns-clause-limit g c =
@@ -79,5 +94,6 @@ returns-clause-limit g c =
       c.put_heading-at_keys.ensures.next_is,
       c.put_keys-at_inbox.ensures.next_is,
       c.put_inbox-at_outbox.ensures.next_is,
-      c.put_outbox.ensures.next_is,
+      c.put_outbox-at_awaiting.ensures.next_is,
+      c.put_awaiting.ensures.next_is,
     )

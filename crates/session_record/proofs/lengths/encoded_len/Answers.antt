@@ -9,22 +9,27 @@ overflow_add-groups g c =
     let client = changed g.K.Kem.mechanism (client_of c.args.part.now c.args.inbox.now c.args.outbox.now) c.args.change.now in
     omega (arith, c.is_short.ensures, text_size client, c.heading_len.ensures, c.keys_len.ensures)
 
+pub overflow_add-boxes : goal.overflow_add-boxes
+overflow_add-boxes g c =
+    let client = changed g.K.Kem.mechanism (client_of c.args.part.now c.args.inbox.now c.args.outbox.now) c.args.change.now in
+    omega (arith, c.is_short.ensures, text_size client, c.inbox_len.ensures, c.outbox_len.ensures)
+
 pub overflow_add-result : goal.overflow_add-result
 overflow_add-result g c =
     let client = changed g.K.Kem.mechanism (client_of c.args.part.now c.args.inbox.now c.args.outbox.now) c.args.change.now in
-    omega (arith, c.is_short.ensures, text_size client, c.heading_len.ensures, c.keys_len.ensures, c.inbox_len.ensures)
+    omega (arith, c.is_short.ensures, text_size client, c.heading_len.ensures, c.keys_len.ensures, c.inbox_len.ensures, c.outbox_len.ensures)
 
 pub overflow_add-result-2 : goal.overflow_add-result-2
 overflow_add-result-2 g c =
     let client = changed g.K.Kem.mechanism (client_of c.args.part.now c.args.inbox.now c.args.outbox.now) c.args.change.now in
-    omega (arith, c.is_short.ensures, text_size client, c.heading_len.ensures, c.keys_len.ensures, c.inbox_len.ensures, c.outbox_len.ensures)
+    omega (arith, c.is_short.ensures, text_size client, c.heading_len.ensures, c.keys_len.ensures, c.inbox_len.ensures, c.outbox_len.ensures, c.awaiting_len.ensures)
 
 pub returns-clause-len : goal.returns-clause-len
 returns-clause-len g c =
     let client = changed g.K.Kem.mechanism (client_of c.args.part.now c.args.inbox.now c.args.outbox.now) c.args.change.now in
-    omega (arith, text_size client, c.heading_len.ensures, c.keys_len.ensures, c.inbox_len.ensures, c.outbox_len.ensures)
+    omega (arith, text_size client, c.heading_len.ensures, c.keys_len.ensures, c.inbox_len.ensures, c.outbox_len.ensures, c.awaiting_len.ensures)
 
 pub returns-clause-limit : goal.returns-clause-limit
 returns-clause-limit g c =
     let client = changed g.K.Kem.mechanism (client_of c.args.part.now c.args.inbox.now c.args.outbox.now) c.args.change.now in
-    omega (arith, c.is_short.ensures, text_size client, c.heading_len.ensures, c.keys_len.ensures, c.inbox_len.ensures, c.outbox_len.ensures)
+    omega (arith, c.is_short.ensures, text_size client, c.heading_len.ensures, c.keys_len.ensures, c.inbox_len.ensures, c.outbox_len.ensures, c.awaiting_len.ensures)

@@ -2,6 +2,7 @@ use Rattle.dr_model.specs.Machines.Acts.{act_on, taking}
 use Rattle.client.specs.Outcomes.{taken_as}
 use Rattle.client.proofs.Lifted.{lift}
 use Rattle.client.proofs.Readiness.{taken_ready}
+use Rattle.client.proofs.Receipts.{take_arrives}
 use Rattle.client.proofs.Spends.{take_spends}
 use Rattle.client.proofs.client.Client.take.Goals as goal
 
@@ -30,3 +31,11 @@ returns-clause-exact g c = c.take_exact.ensures.exact
 
 pub returns-clause-fate : goal.returns-clause-fate
 returns-clause-fate g c = c.take_exact.ensures.fate
+
+pub returns-clause-arrived : goal.returns-clause-arrived
+returns-clause-arrived g c = λ w side is unforged.
+    take_arrives g.K.Kem.mechanism w side c.args.packet.now c.args.self.now c.take_exact.new.self
+    (g.D.Disk.state c.args.disk.now) (g.D.Disk.state c.take_exact.new.disk) (taken_as c.take_exact.result) is
+    (lift g.K.Kem.mechanism c.grounds.ensures w side (taking c.args.packet.now) c.args.self.now c.take_exact.new.self is
+    g.D.Disk.state c.args.disk.now c.take_exact.new.disk c.requires (λ _. unforged) (taken_as c.take_exact.result)
+    c.take_exact.ensures.exact)

@@ -2,7 +2,8 @@ use Rattle.std.proofs.Common.{◌∙◌, ap, subst, sym}
 use Rattle.std.proofs.lemmas.List.Quantifiers.{all_pairs_remove}
 use Rattle.dr_base.specs.declared.key.Kept.{Kept}
 use Rattle.fs_aead.specs.Rows.{starts_of}
-use Rattle.fs_aead.specs.Table.{IsAscending, IsBefore}
+use Rattle.dr_base.specs.Position.{IsBefore}
+use Rattle.fs_aead.specs.Table.{IsAscending}
 use Rattle.fs_aead.proofs.table.Skipped.take_at.Goals as goal
 
 pub invariant_of-self : goal.invariant_of-self

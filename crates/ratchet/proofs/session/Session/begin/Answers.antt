@@ -17,12 +17,12 @@ invariant_of-result g c =
     elim c.match-side.branch [
       | in-First w ↦
           let public = front_of w.PUBLIC-in-First.result c.pair.new.public _ _ (public_long ∙ sym (w.PUBLIC-in-First.ensures ∙ c.laws.ensures.sizes.public_is)) w.in_room.ensures in
-          opens_first _ _ _ _ _ _ _ _ w.in_room.result.items c.begin-beginning.result.stream.bytes w.in-First.is (ap (λ (x : Phase × Option Reception). phase_seen x.0) w.phase-is)
-          (ap (λ (x : Phase × Option Reception). option_map reception_seen x.1) w.phase-is) c.new-in-Ok.ensures
+          opens_first _ _ _ _ _ _ _ _ _ w.in_room.result.items c.begin-beginning.result.stream.bytes w.in-First.is (ap (λ (x : Phase × Option Reception). phase_seen x.0) w.phase-is)
+          (ap (λ (x : Phase × Option Reception). option_map reception_seen x.1) w.phase-is) c.new-in-Ok-2.ensures c.new-in-Ok.ensures
           (search rules) (search rules) (search rules) (ap length public ∙ public_long)
       | in-Second w ↦
           let secret = front_of w.SECRET-in-Second.result c.pair.new.secret _ _ (secret_long ∙ sym (w.SECRET-in-Second.ensures ∙ c.laws.ensures.sizes.secret_is)) w.in_room-in-Second.ensures in
-          opens_second _ _ _ _ _ _ _ _ _ w.in-Second.is (ap (λ (x : Phase × Option Reception). phase_seen x.0) w.phase-is)
-          (ap (λ (x : Phase × Option Reception). option_map reception_seen x.1) w.phase-is) c.new-in-Ok.ensures (search rules) (search rules) (search rules)
+          opens_second _ _ _ _ _ _ _ _ _ _ w.in-Second.is (ap (λ (x : Phase × Option Reception). phase_seen x.0) w.phase-is)
+          (ap (λ (x : Phase × Option Reception). option_map reception_seen x.1) w.phase-is) c.new-in-Ok-2.ensures c.new-in-Ok.ensures (search rules) (search rules) (search rules)
           (ap length secret ∙ secret_long) (ap g.K.Kem.mechanism.meaning.bad_byte secret ∙ c.laws.ensures.law.lawful _ _ _ pair) w.new.ensures refl
     ]
