@@ -2,7 +2,7 @@
 //! its box's records.
 
 ghost use Rattle.relay_core.specs.Record.{box_text};
-ghost use Rattle.relay_server.specs.Durable.{IsReady};
+ghost use Rattle.relay_server.specs.Durable.{IsServerReady};
 
 use crate::clock::Times;
 use crate::store::time_bare;
@@ -73,7 +73,7 @@ fn serve_once<R: Clock, D: Disk, L: Link, A: Door>(
     bytes: &[u8],
     times: &mut Times,
 ) -> io::Result<()>
-    requires { IsReady box_text server.old (D.state disk.old) }
+    requires { IsServerReady box_text server.old (D.state disk.old) }
 {
     let start = Instant::now(rt)?;
     let connected = link.open(ADDRESS).is_ok()
