@@ -36,8 +36,10 @@ const LEN: usize = 6122;
 
 const PAGE: usize = 4096;
 
-/// Where the kind of its text stands, and the count of the texts that wait, with which it ends in
-/// version 1.
+/// How many bytes it has in version 1.
+const AGED: usize = 6079;
+
+/// Where the kind of its text stands, and the count of the texts that wait.
 const KIND: usize = 278;
 
 const COUNT: usize = 6081;
@@ -197,11 +199,14 @@ fn aged(alloc: Global, text: &[u8]) -> Option<Vec<u8>> {
 
 /// Puts a record of version 1 in the place of that one in pages 2 and 5 under table 0.
 fn lays_aged(disk: &mut MemoryDisk, old: &[u8]) -> bool {
-    old.len() == COUNT - 2
-        && lays(disk, 2, b"\x00\x00\x17\xbf")
-        && lays(disk, 8192, &old[..PAGE])
-        && lays(disk, 20480, &old[PAGE..])
-        && lays(disk, 22463, &[0; LEN + 2 - COUNT])
+    if old.len() != AGED {
+        return false;
+    }
+    let (front, back) = old.split_at(PAGE);
+    lays(disk, 2, b"\x00\x00\x17\xbf")
+        && lays(disk, 8192, front)
+        && lays(disk, 20480, back)
+        && lays(disk, 22463, &[0; LEN - AGED])
 }
 
 /// Makes that record one of version 1.
