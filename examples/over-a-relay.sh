@@ -1,6 +1,7 @@
 #!/usr/bin/env bash
 # Two people in two folders, and a relay that keeps their packets: texts go both ways, the relay is killed and started again
-# in between, and one side is offline for a while. It shows both inboxes, and fails if anything is off.
+# in between, and one side is offline for a while. The answer's receipt tells which texts came. It shows both inboxes, and
+# fails if anything is off.
 set -euo pipefail
 top=$(cd "$(dirname "${BASH_SOURCE[0]}")/.." && pwd)
 program=${MESSENGER:-$top/messenger}
@@ -53,8 +54,8 @@ start_relay() {
 sync_of() { as "$1" sync "127.0.0.1:$port"; } # side
 
 key=$(od -An -v -N32 -tx1 /dev/urandom | tr -d ' \n')
-session=$(as first begin first <<<"$key" | sed 's/^session //')
-expect "$(as second begin second <<<"$key")" "session $session"
+session=$(as first begin first receipts <<<"$key" | sed 's/^session //')
+expect "$(as second begin second receipts <<<"$key")" "session $session"
 start_relay
 
 echo "second says two texts while first is offline:"
@@ -74,7 +75,10 @@ as first say 'here I am' >/dev/null
 expect "$(sync_of first | tee -a /dev/stderr)" $'stored 1\nend'
 
 echo "second syncs: the answer comes, and what waited goes:"
+expect "$(as second awaiting)" $'awaiting 3\n0.1\n0.2\n0.3'
 expect "$(sync_of second | tee -a /dev/stderr)" $'opened 1.1\nstored 3\nend'
+echo "the answer's receipt says that the first two of second's texts were opened, so the third alone waits for one:"
+expect "$(as second awaiting | tee -a /dev/stderr)" $'awaiting 1\n0.3'
 expect "$(sync_of first | tee -a /dev/stderr)" $'opened 0.3\nend'
 expect "$(sync_of first)" "end"
 

@@ -1,5 +1,5 @@
 -- Worlds that come later: by events, by acts of one side, and by what a sync makes of the replies that it reads.
-use Rattle.std.proofs.Common.{Bool, List, None, Some, [], ap, false, if◌then◌else◌, refl, subst, true, ℕ, ◌++◌, ◌+◌, ◌==◌, ◌∙◌, ◌∷◌, ◌≡◌, sym}
+use Rattle.std.proofs.Common.{List, None, Some, [], ap, refl, subst, ℕ, ◌++◌, ◌∙◌, ◌∷◌, ◌≡◌, sym}
 use Rattle.std.specs.Prelude.{All}
 use Rattle.std.proofs.lemmas.List.Elements.{All-append, All-cons, All-nil, All-weaker}
 use Rattle.dr_base.specs.declared.position.Side.{Side}
@@ -8,20 +8,19 @@ use Rattle.dr_model.specs.Machines.WorldActs.{act_in, event_of}
 use Rattle.dr_model.specs.Machines.Events.{Event, seeds}
 use Rattle.dr_model.specs.Machines.Worlds.{World, run_of, step_of}
 use Rattle.dr_model.specs.Theorems.Acting.{IsFairAct}
-use Rattle.dr_model.specs.Theorems.Fairness.{IsSeedWhole, IsUnforged}
+use Rattle.dr_model.specs.Theorems.Fairness.{IsSeedWhole}
 use Rattle.dr_model.specs.Theorems.LawfulWorlds.{IsLawfulWorld}
 use Rattle.dr_model.proofs.Worlds.LawfulWorlds.{lawful_run}
 use Rattle.kem_laws.specs.Mechanism.{Mechanism}
-use Rattle.relay_wire.specs.Replies.{Replied, absent, acked, bad, box_full, empty, item, stored, unknown}
+use Rattle.relay_wire.specs.Replies.{Replied}
 use Rattle.sync_model.specs.Courses.{Course, begun, course_from, read_one}
-use Rattle.sync_model.specs.Moves.{Move, Wait, acking, acknowledged, fetching, move, over, posting}
 use Rattle.sync_model.specs.Parties.{Party}
-use Rattle.sync_model.specs.Simulation.{AreFairFrom, IsFairReply}
-use Rattle.sync_model.specs.declared.limits.TheConstants.{ITEM_LIMIT}
+use Rattle.sync_model.specs.Simulation.{AreFairFrom}
 use Rattle.client.specs.Moments.{AreFairActs, IsActed, IsLater, acts_in, reached_by}
 use Rattle.client.specs.Syncing.InWorlds.{AreUnforged, course_in}
 use Rattle.client.specs.Syncing.Parties.{oldest_sent, world_party}
 use Rattle.client.proofs.Syncs.Courses.{read_on}
+use Rattle.client.proofs.Syncs.Steps.{Fair, HoldsOfSteps, course_leads, move_leads}
 
 runs_on : (k : Mechanism) (w : World) (hs es : List Event) → run_of k w (hs ++ es) ≡ run_of k (run_of k w hs) es
 runs_on k w [] es = refl
@@ -92,67 +91,35 @@ acted_twice k side first mid last one two = record {
 -- ---- by the replies of a sync
 
 module _ (k : Mechanism) (prefix : List ℕ) (side : Side) (first : World) where
-  abbrev pub p : Party World
+  abbrev p : Party World
   p = world_party k prefix side first
 
-  abbrev pub Fair : World → List ℕ → Type 0
-  Fair turn packet = IsUnforged k turn side packet
-
-  either_acted : (s : World) (test : Bool) (one other : Move World) → IsActed k side s one.state → IsActed k side s other.state
-      → IsActed k side s (if◌then◌else◌ {A = Move World} test one other).state
-  either_acted s true one other is is_other = is
-  either_acted s false one other is is_other = is_other
-
-  acknowledged_acted : (s : World) (n : ℕ) → IsActed k side s (acknowledged p s n).state
-  acknowledged_acted s n = either_acted s (n + 1 == ITEM_LIMIT) _ _ (acted_none k side s) (acted_none k side s)
-
-  move_acted : (s : World) (wait : Wait) (reply : Replied) → IsFairReply Fair s wait reply → IsActed k side s (move p s wait reply).state
-  move_acted s (fetching n) (item number packet) fair =
-      either_acted s (p.take s packet).full _ _ (acted_none k side s) (acted_once k side s (taking packet) fair)
-  move_acted s (fetching n) (stored m) fair = acted_none k side s
-  move_acted s (fetching n) empty fair = acted_none k side s
-  move_acted s (fetching n) acked fair = acted_none k side s
-  move_acted s (fetching n) box_full fair = acted_none k side s
-  move_acted s (fetching n) unknown fair = acted_none k side s
-  move_acted s (fetching n) (absent m) fair = acted_none k side s
-  move_acted s (fetching n) (bad kind) fair = acted_none k side s
-  move_acted s (acking n number) acked fair = acknowledged_acted s n
-  move_acted s (acking n number) (absent m) fair = either_acted s (m == number) _ _ (acknowledged_acted s n) (acted_none k side s)
-  move_acted s (acking n number) (item m packet) fair = acted_none k side s
-  move_acted s (acking n number) (stored m) fair = acted_none k side s
-  move_acted s (acking n number) empty fair = acted_none k side s
-  move_acted s (acking n number) box_full fair = acted_none k side s
-  move_acted s (acking n number) unknown fair = acted_none k side s
-  move_acted s (acking n number) (bad kind) fair = acted_none k side s
-  move_acted s (posting which) (stored number) fair = acted_once k side s oldest_sent tt
-  move_acted s (posting which) (item m packet) fair = acted_none k side s
-  move_acted s (posting which) empty fair = acted_none k side s
-  move_acted s (posting which) acked fair = acted_none k side s
-  move_acted s (posting which) box_full fair = acted_none k side s
-  move_acted s (posting which) unknown fair = acted_none k side s
-  move_acted s (posting which) (absent m) fair = acted_none k side s
-  move_acted s (posting which) (bad kind) fair = acted_none k side s
-  move_acted s (over ending) reply fair = acted_none k side s
+  by_acts : HoldsOfSteps k prefix side first (IsActed k side)
+  by_acts = record {
+    none = acted_none k side;
+    takes = λ w packet fair. acted_once k side w (taking packet) fair;
+    sends = λ w. acted_once k side w oldest_sent tt;
+    twice = acted_twice k side;
+  }
 
   -- a course leads on by acts, with each reply
-  pub course_acted : (c : Course World) (replies : List Replied) → AreFairFrom p Fair c replies → IsActed k side c.state (course_from p c replies).state
-  course_acted c [] fair = acted_none k side c.state
-  course_acted c (reply ∷ replies) fair =
-      acted_twice k side c.state (read_one p c reply).state (course_from p (read_one p c reply) replies).state
-      (move_acted c.state c.wait reply fair.0) (course_acted (read_one p c reply) replies fair.1)
+  pub course_acted : (c : Course World) (replies : List Replied) → AreFairFrom p (Fair k prefix side first) c replies
+      → IsActed k side c.state (course_from p c replies).state
+  course_acted c replies fair = course_leads k prefix side first (IsActed k side) by_acts c replies fair
 
   -- and so to all that it reaches
-  pub reached_acted : (c : Course World) (replies : List Replied) → AreFairFrom p Fair c replies → All (IsActed k side c.state) (reached_by p c replies)
+  pub reached_acted : (c : Course World) (replies : List Replied) → AreFairFrom p (Fair k prefix side first) c replies → All (IsActed k side c.state) (reached_by p c replies)
   reached_acted c [] fair = All-nil (IsActed k side c.state)
   reached_acted c (reply ∷ replies) fair =
       let next = (read_one p c reply).state in
-      let step = move_acted c.state c.wait reply fair.0 in
+      let step = move_leads k prefix side first (IsActed k side) by_acts c.state c.wait reply fair.0 in
       All-cons (IsActed k side c.state) next (reached_by p (read_one p c reply) replies) step
       (All-weaker (IsActed k side next) (IsActed k side c.state) (λ w later. acted_twice k side c.state next w step later)
       (reached_by p (read_one p c reply) replies) (reached_acted (read_one p c reply) replies fair.1))
 
-  fair_split : (front back : List Replied) (c : Course World) → AreFairFrom p Fair c (front ++ back)
-      → AreFairFrom p Fair c front × AreFairFrom p Fair (course_from p c front) back
+  -- what is fair for all replies is fair for a beginning of them, and for those behind it
+  pub fair_split : (front back : List Replied) (c : Course World) → AreFairFrom p (Fair k prefix side first) c (front ++ back)
+      → AreFairFrom p (Fair k prefix side first) c front × AreFairFrom p (Fair k prefix side first) (course_from p c front) back
   fair_split [] back c fair = (tt, fair)
   fair_split (reply ∷ front) back c fair =
       let rest = fair_split front back (read_one p c reply) fair.1 in

@@ -17,3 +17,5 @@ pub mod Links
 pub mod Requests
 pub mod Arrivals
 pub mod GoingOver
+pub mod Steps
+pub mod Covered

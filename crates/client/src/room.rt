@@ -23,6 +23,8 @@ pub(crate) struct Room<K: Kem> {
 
 impl<K: Kem> Room<K> {
     /// Takes it. No record was read.
+    // A function of its own, so that its room isn't set while the client is opened.
+    #[inline(never)]
     pub(crate) fn new(alloc: Global) -> Result<Room<K>, AllocError>
         ensures { IfOk result (λ room. let core = room.record.room in
             HasReadNothing room.record.session core.inbox core.outbox) }

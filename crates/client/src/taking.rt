@@ -60,6 +60,8 @@ impl<K: Kem> Client<K> {
         self.take_exact(disk, packet)
     }
 
+    // A function of its own, so that its rooms aren't set while the client is opened.
+    #[inline(never)]
     pub(crate) fn take_exact<D: Disk>(
         &mut self,
         disk: &mut D,

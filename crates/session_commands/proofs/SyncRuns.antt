@@ -150,4 +150,5 @@ module _ (k : Mechanism) (start mid now : DiskState) (lawful : IsLawful now) whe
             ⊎_elim (λ was. stands_first s (alike s was) (opens.client.1 s was)) (λ r. in_course alike side w replies s r)
             (syncs.passed.last s (lawful.seen_now s told));
         rests = rests_in result ends syncs.leads;
+        arrived = syncs.arrived;
       }

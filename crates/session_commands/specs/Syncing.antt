@@ -28,7 +28,7 @@ use Rattle.sync_model.specs.declared.more.More.{More}
 use Rattle.client.specs.InWorlds.{StandsFor}
 use Rattle.client.specs.Opening.{IsAsRead, IsUnopened, ReadsAsSide}
 use Rattle.client.specs.Syncing.Arrivals.{OpensArrived}
-use Rattle.client.specs.Syncing.InWorlds.{AreUnforged, IsKeptIn, course_in}
+use Rattle.client.specs.Syncing.InWorlds.{AreUnforged, IsKeptIn, SyncArrives, course_in}
 use Rattle.client.specs.Syncing.Parties.{client_party}
 use Rattle.client.specs.Syncing.Rounds.{sync_fault_of}
 use Rattle.client.specs.Syncing.SoFar.{Talked}
@@ -142,6 +142,7 @@ pub record SyncRunsIn (k : Mechanism) (side : Side) (w : World) (kept : Client) 
   pub any_moment : Span start now (λ c. start.image c ⊎ StandsForCourse k side w replies start c)
   pub reads : (s : List ℕ) → now.seen ≡ Some s → StandsForCourse k side w replies start s
   pub rests : RestsIn k side w replies now result
+  pub arrived : SyncArrives k [] side w replies
 
 -- ---- the command
 

@@ -15,7 +15,9 @@ use crate::groups::{Heading, Keys, read_heading, read_keys};
 use crate::inbox::read_inbox;
 use crate::laws::version_law;
 use crate::outbox::read_outbox;
+use arrayvec::ArrayVec;
 use boxes::{Inbox, Outbox};
+use dr_base::{KEPT_LIMIT, Kept};
 use fs_aead::Skipped;
 use grammar::Cursor;
 use kem_laws::{Kem, laws};
@@ -39,21 +41,24 @@ fn read_boxes<K: Kem>(
     read_outbox::<K>(cursor, heading, outbox)
 }
 
-/// The fields in their order. What the boxes hold is put into them.
+/// The fields in their order. The kept keys are put into the list, and what the boxes hold into
+/// them.
 #[tactic(auto, unfolding(crate::specs::Record::record_fields))]
 fn read_fields<K: Kem>(
     cursor: &mut Cursor<'_>,
+    kept: &mut ArrayVec<Kept, KEPT_LIMIT>,
     inbox: &mut Inbox,
     outbox: &mut Outbox,
 ) -> Result<(Heading, Keys, Awaiting), usize>
+    requires kept { kept.old.items ≡ [] }
     requires inbox { inbox.old ≡ [] }
     requires outbox { outbox.old ≡ [] }
     ensures { let fields = record_fields K.mechanism in
-        Reads (λ f. groups_read f.0 f.1 f.2 inbox.new outbox.new) fields
+        Reads (λ f. groups_read f.0 f.1 kept.new.items f.2 inbox.new outbox.new) fields
         cursor.old cursor.new result }
 {
     let heading = read_heading(cursor)?;
-    let keys = read_keys::<K>(cursor, &heading)?;
+    let keys = read_keys::<K>(cursor, &heading, kept)?;
     read_boxes::<K>(cursor, &heading, inbox, outbox)?;
     let awaiting = read_awaiting(cursor, &heading, sent_of(&keys.phase))?;
     Ok((heading, keys, awaiting))
@@ -63,28 +68,38 @@ fn read_fields<K: Kem>(
 #[tactic(auto, unfolding(crate::specs::Record::saved_read))]
 fn read_whole<K: Kem>(
     text: &[u8],
+    kept: &mut ArrayVec<Kept, KEPT_LIMIT>,
     inbox: &mut Inbox,
     outbox: &mut Outbox,
 ) -> Result<(Heading, Keys, Awaiting), usize>
+    requires kept { kept.old.items ≡ [] }
     requires inbox { inbox.old ≡ [] }
     requires outbox { outbox.old ≡ [] }
     ensures { MatchResult result
-        (λ f. let groups = groups_read f.0 f.1 f.2 inbox.new outbox.new in
+        (λ f. let groups = groups_read f.0 f.1 kept.new.items f.2 inbox.new outbox.new in
         saved_read K.mechanism text.now ≡ Ok (saved_of groups))
         (λ at. saved_read K.mechanism text.now ≡ Err at) }
 {
     let mut cursor = Cursor::new(text);
-    let fields = read_fields::<K>(&mut cursor, inbox, outbox)?;
+    let fields = read_fields::<K>(&mut cursor, kept, inbox, outbox)?;
     if !cursor.is_at_end() {
         return Err(cursor.at());
     }
     Ok(fields)
 }
 
-/// The part of a session that these are.
-fn part_of<K: Kem>(heading: Heading, keys: Keys, awaiting: Awaiting) -> SessionPart<K>
-    requires { IsLawfulState K.mechanism (state_of_groups heading (keys_seen keys) awaiting) }
-    ensures { result ≡ state_of_groups heading (keys_seen keys) awaiting }
+/// The part of a session that these are. A function of its own, so that its room isn't set while
+/// the fields are read.
+#[inline(never)]
+fn part_of<K: Kem>(
+    heading: Heading,
+    keys: Keys,
+    awaiting: Awaiting,
+    kept: &[Kept],
+) -> SessionPart<K>
+    requires { IsLawfulState K.mechanism
+        (state_of_groups heading (keys_seen keys kept.now) awaiting) }
+    ensures { result ≡ state_of_groups heading (keys_seen keys kept.now) awaiting }
 {
     let session = heading.session;
     SessionPart {
@@ -100,7 +115,7 @@ fn part_of<K: Kem>(heading: Heading, keys: Keys, awaiting: Awaiting) -> SessionP
             awaiting,
             mechanism: PhantomData,
         },
-        kept: Skipped::resume(keys.kept.as_slice()),
+        kept: Skipped::resume(kept),
     }
 }
 
@@ -124,8 +139,9 @@ pub fn decode<K: Kem>(
 {
     laws::<K>();
     version_law();
-    match read_whole::<K>(text, inbox, outbox) {
-        Ok((heading, keys, awaiting)) => Ok(part_of(heading, keys, awaiting)),
+    let mut kept = ArrayVec::new();
+    match read_whole::<K>(text, &mut kept, inbox, outbox) {
+        Ok((heading, keys, awaiting)) => Ok(part_of(heading, keys, awaiting, kept.as_slice())),
         Err(at) => {
             inbox.drop_first(inbox.len()).unwrap();
             outbox.drop_first(outbox.len()).unwrap();

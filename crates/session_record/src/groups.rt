@@ -1,6 +1,6 @@
 //! The groups of a record before its boxes: what it begins with, and the keys.
 
-ghost use Rattle.std.specs.Prelude.{◌≡◌, ◌+◌, ◌≤◌, length};
+ghost use Rattle.std.specs.Prelude.{◌≡◌, ◌+◌, ◌≤◌, [], length};
 ghost use Rattle.dr_base.specs.Buffer.{Puts};
 ghost use Rattle.grammar.specs.Standing.{Reads};
 ghost use Rattle.session_record.specs.Groups.{heading_fields, heading_text, keys_fields, keys_text};
@@ -32,14 +32,13 @@ pub(crate) struct Heading {
     pub(crate) epoch: u32,
 }
 
-/// The keys of the epoch, the count of the own epoch before, the stream of the latest peer's epoch,
-/// and the kept keys.
+/// The keys of the epoch, the count of the own epoch before, and the stream of the latest peer's
+/// epoch. The kept keys, which are 20 KB, are read into a list of their own.
 #[derive(Drop)]
 pub(crate) struct Keys {
     pub(crate) phase: Phase,
     pub(crate) previous: u32,
     pub(crate) receiving: Option<Reception>,
-    pub(crate) kept: ArrayVec<Kept, KEPT_LIMIT>,
 }
 
 /// What a record begins with.
@@ -63,21 +62,26 @@ pub(crate) fn read_heading(cursor: &mut Cursor<'_>) -> Result<Heading, usize>
     })
 }
 
-/// The keys.
+/// The keys. Those that are kept are put into the list, which is empty.
 #[tactic(auto, unfolding(crate::specs::Groups::keys_fields))]
-pub(crate) fn read_keys<K: Kem>(cursor: &mut Cursor<'_>, heading: &Heading) -> Result<Keys, usize>
-    ensures { Reads keys_seen (keys_fields K.mechanism heading.now) cursor.old cursor.new result }
+pub(crate) fn read_keys<K: Kem>(
+    cursor: &mut Cursor<'_>,
+    heading: &Heading,
+    kept: &mut ArrayVec<Kept, KEPT_LIMIT>,
+) -> Result<Keys, usize>
+    requires { kept.old.items ≡ [] }
+    ensures { Reads (λ keys. keys_seen keys kept.new.items) (keys_fields K.mechanism heading.now)
+        cursor.old cursor.new result }
 {
     let phase = read_phase::<K>(cursor, heading.side, heading.epoch)?;
     let previous = read_previous(cursor, heading.side, heading.epoch)?;
     let receiving = read_receiving(cursor, heading.side, heading.epoch)?;
     let reach = reach_of(&receiving);
-    let kept = read_kept(cursor, heading, reach)?;
+    read_kept(cursor, heading, reach, kept)?;
     Ok(Keys {
         phase,
         previous,
         receiving,
-        kept,
     })
 }
 

@@ -1,6 +1,6 @@
 //! The kept keys of a record.
 
-ghost use Rattle.std.specs.Prelude.{◌≡◌, ◌+◌, ◌≤◌, length, All};
+ghost use Rattle.std.specs.Prelude.{◌≡◌, ◌+◌, ◌≤◌, [], length, All};
 ghost use Rattle.std.specs.Int.{w16};
 ghost use Rattle.dr_base.specs.Buffer.{Puts};
 ghost use Rattle.grammar.specs.Printer.{print_counted, print_items};
@@ -47,43 +47,46 @@ fn read_one(
     })
 }
 
-/// This many kept keys.
+/// This many kept keys, put into a list.
 fn read_each(
     cursor: &mut Cursor<'_>,
     heading: &Heading,
     reach: u32,
     count: u16,
-) -> Result<ArrayVec<Kept, KEPT_LIMIT>, usize>
-    requires { count ≤ KEPT_LIMIT }
+    list: &mut ArrayVec<Kept, KEPT_LIMIT>,
+) -> Result<(), usize>
+    requires few { count ≤ KEPT_LIMIT }
+    requires empty { list.old.items ≡ [] }
     ensures { let one = kept_item heading.now.side heading.now.epoch reach in
-        Reads (λ v. v.items) (items one count) cursor.old cursor.new result }
+        Reads (λ _. list.new.items) (items one count) cursor.old cursor.new result }
 {
-    let mut list = ArrayVec::new();
     let mut last = Position { epoch: 0, index: 0 };
     'keys: for _ in 0..count {
         let one = read_one(cursor, heading, reach, last)?;
         last = one.position;
         list.push(one);
     }
-    Ok(list)
+    Ok(())
 }
 
-/// The kept keys after their count.
+/// The kept keys after their count, put into a list, which is empty.
 #[tactic(auto, unfolding(crate::specs::Lists::kept_field))]
 pub(crate) fn read_kept(
     cursor: &mut Cursor<'_>,
     heading: &Heading,
     reach: u32,
-) -> Result<ArrayVec<Kept, KEPT_LIMIT>, usize>
+    list: &mut ArrayVec<Kept, KEPT_LIMIT>,
+) -> Result<(), usize>
+    requires { list.old.items ≡ [] }
     ensures { let h = heading.now in let kept = kept_field h.version h.side h.epoch reach in
-        Reads (λ v. v.items) kept cursor.old cursor.new result }
+        Reads (λ _. list.new.items) kept cursor.old cursor.new result }
 {
     let at = cursor.at();
     let count = cursor.number16()?;
     if usize::from(count) > heading.version.kept_most() {
         return Err(at);
     }
-    read_each(cursor, heading, reach, count)
+    read_each(cursor, heading, reach, count, list)
 }
 
 /// Puts a kept key.

@@ -29,6 +29,7 @@ use Rattle.client.specs.Syncing.Syncs.{EndsSync, SyncsBy}
 use Rattle.client.specs.declared.syncing.faults.SyncFault.{SyncFault}
 use Rattle.client.specs.declared.syncing.faults.SyncFault.TheVariants.{Closed, Link, Peer, Refused, Store, Write}
 use Rattle.client.proofs.Lifted.{ready_stands, record_stands}
+use Rattle.client.proofs.Syncs.Covered.{sync_arrives}
 
 -- what is fair for all replies is fair for a beginning of them
 pub fair_front : {T : Type 0} (q : Party T) (Fair : T → List ℕ → Type 0) (front back : List Replied) (c : Course T) → AreFairFrom q Fair c (front ++ back)
@@ -132,4 +133,5 @@ module _ (k : Mechanism) (grounds : Grounds k) (prefix : List ℕ) (side : Side)
             undamaged = r.undamaged;
             outside = r.outside;
           }) syncs.passed;
+      arrived = sync_arrives k side prefix w replies is_in.lawful fair;
     }

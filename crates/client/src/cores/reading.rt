@@ -11,6 +11,7 @@ use super::showing::Core;
 use super::starting::CoreRoom;
 use kem_laws::Kem;
 use ratchet::Session;
+use session_model::SessionPart;
 use session_record::decode;
 use slot_store::Grammar;
 use std::alloc::{AllocError, Global};
@@ -21,6 +22,15 @@ use std::alloc::{AllocError, Global};
 pub(crate) struct RecordReader<K: Kem> {
     pub(crate) room: CoreRoom<K>,
     pub(crate) session: Option<Session<K>>,
+}
+
+/// Keeps the session of a part. A function of its own, so that its room isn't set while a record is
+/// read.
+#[inline(never)]
+fn keep_part<K: Kem>(session: &mut Option<Session<K>>, part: SessionPart<K>)
+    ensures { session.new ≡ Some part }
+{
+    *session = Some(Session::resume(part));
 }
 
 impl<K: Kem> Grammar for RecordReader<K> {
@@ -34,7 +44,7 @@ impl<K: Kem> Grammar for RecordReader<K> {
     fn read(&mut self, text: &[u8]) -> Result<(), u32> {
         match decode::<K>(text, &mut self.room.inbox, &mut self.room.outbox) {
             Ok(part) => {
-                self.session = Some(Session::resume(part));
+                keep_part(&mut self.session, part);
                 Ok(())
             }
             Err(damaged) => Err(damaged.at as u32),

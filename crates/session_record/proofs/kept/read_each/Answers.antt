@@ -13,10 +13,9 @@ pub keys-init : goal.keys-init
 keys-init c =
     let start = c.args.cursor.now in
     record {
-      read = items-none (kept_item c.args.heading.now.side c.args.heading.now.epoch c.args.reach) start.at start.rest
-          ∙ ap (λ l. Ok (record { value = l; at = start.at; rest = start.rest })) (sym c.new-list.ensures);
-      last = ap last_position (sym c.new-list.ensures);
-      long = ap (λ (l : List Kept). length l) c.new-list.ensures;
+      read = rw c.requires.empty (items-none (kept_item c.args.heading.now.side c.args.heading.now.epoch c.args.reach) start.at start.rest);
+      last = ap last_position (sym c.requires.empty);
+      long = ap (λ (l : List Kept). length l) c.requires.empty;
     }
 
 pub returns-in_err-one : goal.returns-in_err-one
