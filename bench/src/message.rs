@@ -41,6 +41,7 @@ fn time_opening<R: Clock + AllocGlobal>(rt: &R) -> io::Result<u64> {
 }
 
 /// The median time of parsing a packet of 3,286 bytes a thousand times, in nanoseconds a packet.
+#[tactic(auto, unfolding(packet::specs::Versions::is_version, packet::specs::Versions::is_text_len))]
 fn time_parsing<R: Clock + AllocGlobal>(rt: &R) -> io::Result<u64> {
     let position = Position { epoch: 1, index: 1 };
     let mut bytes = [0; 3286];
