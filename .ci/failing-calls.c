@@ -4,7 +4,9 @@
 // descriptor. Where FAILING_MORE is set, calls that open, connect, wait, set and close are among them. Or it refuses memory,
 // where FAILING_ALLOCATION is set: to the allocation of this number, from 1 and since the program's beginning, and where it is
 // negative to those that follow too. Then each allocation has a line in the log, with its name, its size, and whether the
-// program asks for it or a library.
+// program asks for it or a library. Where FAILING_DURABLE names a folder, it has there of each file that is synced what a power
+// cut would leave: a sync that passes brings what was written since, and one that fails loses it, as a system does that
+// forgets what it couldn't write. Then lines with places and lengths of writes stand in FAILING_ORDER, and with each sync.
 #define _GNU_SOURCE
 #include <dlfcn.h>
 #include <errno.h>
@@ -58,6 +60,73 @@ static size_t cut(size_t count) {
     return how() == -1 ? 1 : count > 200 ? 100 : count / 2;
 }
 
+// ---- what a power cut would leave
+
+typedef struct Write Write;
+struct Write {
+    Write *next;
+    int fd;
+    long at;
+    size_t count;
+    char bytes[];
+};
+static Write *writes, **last_write = &writes;
+
+static const char *file_of(int fd, char *path) {
+    char link[64];
+    snprintf(link, sizeof link, "/proc/self/fd/%d", fd);
+    ssize_t length = readlink(link, path, 4095);
+    path[length < 0 ? 0 : length] = 0;
+    const char *slash = strrchr(path, '/');
+    return slash && slash[1] ? slash + 1 : "folder";
+}
+
+// a line for a call that passed or failed on a file
+static void order(const char *what, int fd, long at, long count) {
+    const char *log = getenv("FAILING_ORDER");
+    char path[4096], line[4300];
+    if (log)
+        note(log, line, snprintf(line, sizeof line, "%s %s %ld %ld\n", what, file_of(fd, path), at, count));
+}
+
+static void written(int fd, const void *bytes, ssize_t count, long at) {
+    if (count <= 0)
+        return;
+    order("write", fd, at, count);
+    if (!getenv("FAILING_DURABLE"))
+        return;
+    Write *one = malloc(sizeof *one + (size_t)count);
+    *one = (Write){0, fd, at, (size_t)count};
+    memcpy(one->bytes, bytes, (size_t)count);
+    *last_write = one;
+    last_write = &one->next;
+}
+
+static void synced(const char *how_named, int fd, int failed) {
+    const char *folder = getenv("FAILING_DURABLE");
+    char path[4096], to[4400];
+    order(failed ? "failed-sync" : how_named, fd, 0, 0);
+    if (!folder)
+        return;
+    snprintf(to, sizeof to, "%s/%s", folder, file_of(fd, path));
+    long file = failed ? -1 : syscall(SYS_openat, AT_FDCWD, to, O_WRONLY | O_CREAT, 0600);
+    for (Write **it = &writes; *it;) {
+        Write *one = *it;
+        if (one->fd != fd) {
+            it = &one->next;
+            continue;
+        }
+        if (file >= 0)
+            syscall(SYS_pwrite64, file, one->bytes, one->count, one->at);
+        *it = one->next;
+        free(one);
+    }
+    for (last_write = &writes; *last_write;)
+        last_write = &(*last_write)->next;
+    if (file >= 0)
+        syscall(SYS_close, file);
+}
+
 // a call that moves bytes fails or moves fewer of them
 #define MOVES(name, parameters, ...)                                                               \
     ssize_t name parameters {                                                                      \
@@ -83,17 +152,46 @@ static size_t cut(size_t count) {
         return REAL(name)(__VA_ARGS__);                                                            \
     }
 
+// a write at a place, which a power cut loses until the file is synced
+#define WRITES(name, Place)                                                                        \
+    ssize_t name(int fd, const void *buffer, size_t count, Place at) {                             \
+        if (is_it(#name, fd)) {                                                                    \
+            if (how() == -2)                                                                       \
+                return 0;                                                                          \
+            if (how() > 0) {                                                                       \
+                errno = how();                                                                     \
+                return -1;                                                                         \
+            }                                                                                      \
+            count = cut(count);                                                                    \
+        }                                                                                          \
+        ssize_t moved = REAL(name)(fd, buffer, count, at);                                         \
+        written(fd, buffer, moved, at);                                                            \
+        return moved;                                                                              \
+    }
+
+#define SYNCS(name)                                                                                \
+    int name(int fd) {                                                                             \
+        if (is_it(#name, fd) && how() > 0) {                                                       \
+            synced(#name, fd, 1);                                                                  \
+            errno = how();                                                                         \
+            return -1;                                                                             \
+        }                                                                                          \
+        int answer = REAL(name)(fd);                                                               \
+        synced(#name, fd, answer);                                                                 \
+        return answer;                                                                             \
+    }
+
 MOVES(read, (int fd, void *buffer, size_t count), fd, buffer, count)
 MOVES(write, (int fd, const void *buffer, size_t count), fd, buffer, count)
 MOVES(__write, (int fd, const void *buffer, size_t count), fd, buffer, count)
 MOVES(pread, (int fd, void *buffer, size_t count, off_t at), fd, buffer, count, at)
 MOVES(pread64, (int fd, void *buffer, size_t count, off64_t at), fd, buffer, count, at)
-MOVES(pwrite, (int fd, const void *buffer, size_t count, off_t at), fd, buffer, count, at)
-MOVES(pwrite64, (int fd, const void *buffer, size_t count, off64_t at), fd, buffer, count, at)
+WRITES(pwrite, off_t)
+WRITES(pwrite64, off64_t)
 MOVES(recv, (int fd, void *buffer, size_t count, int flags), fd, buffer, count, flags)
 MOVES(send, (int fd, const void *buffer, size_t count, int flags), fd, buffer, count, flags)
-ACTS(fsync, (int fd), fd)
-ACTS(fdatasync, (int fd), fd)
+SYNCS(fsync)
+SYNCS(fdatasync)
 ACTS(ftruncate, (int fd, off_t size), fd, size)
 ACTS(ftruncate64, (int fd, off64_t size), fd, size)
 ACTS(flock, (int fd, int operation), fd, operation)

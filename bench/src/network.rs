@@ -6,7 +6,8 @@ ghost use Rattle.relay_server.specs.Durable.{IsServerReady};
 
 use crate::clock::Times;
 use crate::store::time_bare;
-use dr_disk::{Disk, FileDisk, Sharing};
+use dr_disk::Disk;
+use file_disk::{FileDisk, Sharing};
 use dr_ports::{Door, Link};
 use relay_pipe::send_all;
 use relay_server::{HALF_SIZE, Server, UPPER_START};

@@ -4,7 +4,8 @@ ghost use Rattle.std.specs.Prelude.{⊤, ℕ, List, None};
 
 use crate::clock::Times;
 use dr_base::PAGE;
-use dr_disk::{Disk, FileDisk, Sharing};
+use dr_disk::Disk;
+use file_disk::{FileDisk, Sharing};
 use slot_store::{Area, Grammar, SlotStore, lengthen, record_memory};
 use std::fs::{File, OpenOptions};
 use std::io::{Error, ErrorKind};

@@ -8,7 +8,6 @@ pub mod MemoryLaws
 pub mod MemoryDisks
 pub mod Metered
 pub mod SteadyDisks
-pub mod Untold
 pub mod Recorded
 pub mod RecordedLaws
 pub mod RecordingDisks

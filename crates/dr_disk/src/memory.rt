@@ -23,8 +23,8 @@ pub struct MemoryDisk {
     syncs: u64,
 }
 
-/// Counts a call that failed.
-pub(crate) fn count_fault(count: &mut u64)
+/// Counts a call that failed, up to the end of the count's type.
+pub fn count_fault(count: &mut u64)
     ensures value { count.new ≡ one_more count.old }
     ensures no_less { count.old ≤ count.new }
 {

@@ -2,9 +2,9 @@
 //! and output, TCP, and the system's random source, handed to the top call.
 #![tactic(auto)]
 
-use dr_disk::{FileDisk, Sharing};
 use dr_ports::{RandomDraws, ReaderSource, WriterSink};
-use messenger_cli::{DISK_SIZE, HALF_SIZE, RELAY_DISK_SIZE, run_arguments};
+use file_disk::{FileDisk, Sharing};
+use messenger_cli::{DISK_SIZE, RELAY_DISK_SIZE, run_arguments};
 use rand::rngs::SysRng;
 use standard::take_closed;
 use std::env;
@@ -15,22 +15,24 @@ mod standard;
 
 fn main(rt: HostRuntime) -> ExitCode {
     let _placeholders = take_closed(&rt);
-    // A session's file has its whole size from its first write on, a relay's the halves of areas up
-    // to the last one that was written to.
+    // A session's file has its whole size from its first write on, a relay's from its opening on.
     let mut disk = FileDisk::new(
         &rt,
         "messenger.state",
         DISK_SIZE,
         DISK_SIZE,
         Sharing::InTurn,
-    );
+    )
+    .with_mark("messenger.state.unsynced");
     let mut relay_disk = FileDisk::new(
         &rt,
         "relay.state",
         RELAY_DISK_SIZE,
-        HALF_SIZE,
+        RELAY_DISK_SIZE,
         Sharing::Alone,
-    );
+    )
+    .with_mark("relay.state.unsynced")
+    .whole_at_opening();
     let mut source = ReaderSource::new(rt.stdin());
     let mut out = WriterSink::new(rt.stdout());
     let mut link = TcpLink::new(&rt);

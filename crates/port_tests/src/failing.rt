@@ -4,7 +4,8 @@
 use crate::files::{is_absent, is_written, makes_folder, removes_folder};
 use crate::watched::Watched;
 use dr_base::Failed;
-use dr_disk::{Disk, FileDisk, Sharing, write_synced};
+use dr_disk::{Disk, write_synced};
+use file_disk::{FileDisk, Sharing};
 
 /// Whether a disk can't be written to.
 fn is_unwritten<D: Disk>(disk: &mut D) -> bool {

@@ -2,7 +2,8 @@
 //! steps.
 
 use crate::disks::{seen, works};
-use dr_disk::{Disk, FileDisk, Sharing};
+use dr_disk::Disk;
+use file_disk::{FileDisk, Sharing};
 use std::fs;
 use std::os::unix::fs::PermissionsExt;
 

@@ -3,22 +3,27 @@
 ghost use Rattle.std.specs.Prelude.{◌≡◌, ◌<◌, ◌≤◌, ◌+◌, min, length};
 ghost use Rattle.std.specs.Int.{next_multiple_of};
 
-use crate::disk::Disk;
-use crate::handle::{Handle, Sharing};
-use crate::memory::count_fault;
+use crate::handle::Handle;
+use crate::opening::Sharing;
 use dr_base::Failed;
+use dr_disk::{Disk, count_fault};
 use std::fs::File;
 use std::marker::Model;
 use std::rt::Files;
 
 /// A disk over a file, of a stated size. The file is looked for at the first call, and locked until
 /// the disk is let go. Where there is none, reads give zeros, and only a write makes it, for its
-/// owner alone to read and write. Bytes past the file's end are read as 0.
+/// owner alone to read and write. Bytes past the file's end are read as 0. Of two disks that take
+/// turns and find no file, the second finds what the first has made.
 ///
 /// The file takes its room in steps: before a write, zeros are written up to the end of the step
 /// that the write ends in, where the file ends before that. So a write fails for want of room only
 /// where it is the first one of its step, and a file that was to be made and found no room is
 /// removed again.
+///
+/// After a sync that failed a system may take bytes for written that it lost. So the next sync
+/// writes each byte of the file anew. A disk with a mark leaves it there for the program that comes
+/// next, whose disk does so before it reads.
 #[derive(Drop)]
 pub struct FileDisk<'a, R: Files<File = File>> {
     handle: Handle<'a, R>,
@@ -30,7 +35,7 @@ pub struct FileDisk<'a, R: Files<File = File>> {
 }
 
 impl<'a, R: Files<File = File>> Model for FileDisk<'a, R> {
-    ghost use Rattle.dr_disk.specs.Untold.{Counted};
+    ghost use Rattle.file_disk.specs.Untold.{Counted};
 
     ghost Value = { Counted };
 
@@ -62,10 +67,31 @@ impl<'a, R: Files<File = File>> FileDisk<'a, R> {
             syncs: 0,
         }
     }
+
+    /// The disk with a mark: an empty file at this path, from a sync that fails to the sync by which
+    /// this disk, or the next one over the file, has written each byte anew.
+    pub fn with_mark(self, mark: &'a str) -> Self
+        ensures { result ≡ self.entry }
+    {
+        let mut disk = self;
+        disk.handle.set_mark(mark);
+        disk
+    }
+
+    /// The disk whose file, where there is one, has all its room from the first call on. So no later
+    /// write fails for want of room.
+    pub fn whole_at_opening(self) -> Self
+        ensures { result ≡ self.entry }
+    {
+        let mut disk = self;
+        let size = disk.size;
+        disk.handle.set_whole(size);
+        disk
+    }
 }
 
 impl<'a, R: Files<File = File>> Disk for FileDisk<'a, R> {
-    ghost use Rattle.dr_disk.specs.Untold.{untold, untold_lawful};
+    ghost use Rattle.file_disk.specs.Untold.{untold, untold_lawful};
 
     ghost state = { untold };
 

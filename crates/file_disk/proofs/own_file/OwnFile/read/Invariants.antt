@@ -1,5 +1,5 @@
 use Rattle.std.proofs.Common.{◌-◌, ◌≤◌, length}
-use Rattle.dr_disk.proofs.own_file.OwnFile.read.Given as goal
+use Rattle.file_disk.proofs.own_file.OwnFile.read.Given as goal
 
 abbrev pub invariant-pieces : goal.invariant-pieces
 invariant-pieces l = l.done ≤ length l.into

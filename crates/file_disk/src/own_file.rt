@@ -4,7 +4,7 @@ ghost use Rattle.std.specs.Prelude.{◌≤◌, ◌↔◌, length, IsOk, IfOk};
 ghost use Rattle.std.specs.Fd.{file_raw_fd};
 ghost use Rattle.dr_base.specs.Descriptors.{IsOwn};
 
-use crate::handle::Sharing;
+use crate::opening::Sharing;
 use std::fs::{File, Metadata, Permissions};
 use std::io;
 use std::io::{Error, ErrorKind};
@@ -103,6 +103,20 @@ impl OwnFile {
             end += count;
         }
         Ok(())
+    }
+
+    /// Writes each byte of the file anew, as it is read, and syncs them.
+    pub(crate) fn write_back(&self) -> io::Result<()> {
+        let mut piece = [0; PIECE as usize];
+        let end = self.file.metadata()?.len();
+        let mut at = 0;
+        'pieces: while at < end {
+            let count = (end - at).min(PIECE);
+            self.read(at, &mut piece[..count as usize])?;
+            self.write(at, &piece[..count as usize])?;
+            at += count;
+        }
+        self.sync()
     }
 
     /// Syncs the bytes, and what the system needs to find them.

@@ -1,0 +1,5 @@
+use Rattle.std.proofs.Common.{◌-◌}
+use Rattle.file_disk.proofs.own_file.OwnFile.write_back.Given as goal
+
+abbrev pub decreases-pieces : goal.decreases-pieces
+decreases-pieces l = l.end - l.at
