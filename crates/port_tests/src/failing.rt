@@ -106,7 +106,7 @@ fn watch(rt: &HostRuntime, path: &str, is_full: bool) -> bool {
 #[test]
 fn syncs_the_folder_once(rt: HostRuntime) {
     assert!(rt; makes_folder(&rt, "folder"));
-    assert!(rt; is_written(&rt, "folder/state", b""));
+    assert!(rt; is_written(&rt, "folder/state", b"old"));
     assert!(rt; watch(&rt, "folder/state", false));
     assert!(rt; removes_folder(&rt, "folder"));
 }
