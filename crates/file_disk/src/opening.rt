@@ -78,10 +78,15 @@ fn look<R: Files<File = File>>(
 }
 
 /// The folder of a file, locked once those who came before have let it go, if it can be opened.
-fn take_turn<R: Files<File = File>>(files: &R, path: &str) -> io::Result<OwnFile> {
-    let folder = OwnFile::new(File::open(files, folder_of(path))?)?;
+fn take_turn<R: Files<File = File>>(files: &R, path: &str) -> io::Result<Option<OwnFile>> {
+    let Ok(folder) = File::open(files, folder_of(path)) else {
+        return Ok(None);
+    };
+    let Ok(folder) = OwnFile::new(folder) else {
+        return Ok(None);
+    };
     folder.lock(Sharing::InTurn)?;
-    Ok(folder)
+    Ok(Some(folder))
 }
 
 /// Whether a file has bytes. One without any may be just being made.
@@ -104,7 +109,7 @@ pub(crate) fn find<R: Files<File = File>>(
         Sharing::InTurn if !is_made(&first)? => {
             // An empty file is let go before, since who makes it waits for its lock.
             drop(first);
-            let turn = take_turn(files, path).ok();
+            let turn = take_turn(files, path)?;
             (look(files, path, sharing)?, turn)
         }
         _ => (first, None),
