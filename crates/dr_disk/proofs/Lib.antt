@@ -9,6 +9,7 @@ pub mod Calling
 pub mod Exactly
 pub mod Metering
 pub mod WrittenAndSynced
+pub mod UntoldCalls
 pub mod Fresh
 pub mod Writes
 pub mod Replays
