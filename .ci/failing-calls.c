@@ -6,24 +6,39 @@
 // negative to those that follow too. Then each allocation has a line in the log, with its name, its size, and whether the
 // program asks for it or a library. Where FAILING_DURABLE names a folder, it has there of each file that is synced what a power
 // cut would leave: a sync that passes brings what was written since, and one that fails loses it, as a system does that
-// forgets what it couldn't write. Then lines with places and lengths of writes stand in FAILING_ORDER, and with each sync.
-#define _GNU_SOURCE
-#include <dlfcn.h>
-#include <errno.h>
-#include <fcntl.h>
-#include <poll.h>
-#include <stdarg.h>
-#include <stdio.h>
-#include <stdlib.h>
-#include <string.h>
-#include <sys/ioctl.h>
-#include <sys/socket.h>
-#include <sys/stat.h>
-#include <sys/syscall.h>
-#include <sys/types.h>
-#include <unistd.h>
+// forgets what it couldn't write. FAILING_ORDER gets a line for each write at a place, with place and length, and each sync.
+// It has no headers, as a compiler of the kit has none: what it needs of the C library of Linux is declared here.
+typedef __SIZE_TYPE__ size_t;
+typedef long ssize_t, off_t, off64_t;
+typedef unsigned mode_t, socklen_t;
+typedef unsigned long nfds_t;
+struct sockaddr;
+struct pollfd;
+struct statx;
+typedef struct {
+    const char *dli_fname;
+    void *dli_fbase;
+    const char *dli_sname;
+    void *dli_saddr;
+} Dl_info;
 
-ssize_t __write(int fd, const void *buffer, size_t count);
+int *__errno_location(void), dladdr(const void *, Dl_info *), snprintf(char *, size_t, const char *, ...);
+int atoi(const char *), strcmp(const char *, const char *);
+char *strrchr(const char *, int);
+ssize_t readlink(const char *, char *, size_t);
+void *malloc(size_t), *memcpy(void *, const void *, size_t);
+void free(void *);
+long atol(const char *), syscall(long, ...);
+char *getenv(const char *);
+void *dlsym(void *, const char *);
+
+#define errno (*__errno_location())
+enum { ENOMEM = 12, AT_FDCWD = -100, O_WRONLY = 1, O_CREAT = 0100, O_APPEND = 02000 };
+#ifdef __x86_64__
+enum { SYS_write = 1, SYS_close = 3, SYS_pwrite64 = 18, SYS_openat = 257 };
+#else
+enum { SYS_write = 64, SYS_close = 57, SYS_pwrite64 = 68, SYS_openat = 56 };
+#endif
 
 static long made;
 
@@ -51,7 +66,7 @@ static int how(void) {
 }
 
 // what the C library has under a name
-#define REAL(name) ((__typeof__(&name))dlsym(RTLD_NEXT, #name))
+#define REAL(name) ((__typeof__(&name))dlsym((void *)-1, #name))
 
 // half of some bytes, and at most 100; or one
 static size_t cut(size_t count) {
@@ -227,18 +242,18 @@ MORE(getsockopt, (int fd, int level, int name, void *value, socklen_t *size), fd
 MORE(setsockopt, (int fd, int level, int name, const void *value, socklen_t size), fd, fd, level, name, value, size)
 
 int open(const char *path, int flags, ...) {
-    va_list rest;
-    va_start(rest, flags);
-    mode_t mode = flags & O_CREAT ? va_arg(rest, mode_t) : 0;
-    va_end(rest);
+    __builtin_va_list rest;
+    __builtin_va_start(rest, flags);
+    mode_t mode = flags & O_CREAT ? __builtin_va_arg(rest, mode_t) : 0;
+    __builtin_va_end(rest);
     return fails_more(strcmp(path, "/dev/null") ? "open" : "open-null", -1) ? -1 : REAL(open)(path, flags, mode);
 }
 
 int ioctl(int fd, unsigned long request, ...) {
-    va_list rest;
-    va_start(rest, request);
-    void *argument = va_arg(rest, void *);
-    va_end(rest);
+    __builtin_va_list rest;
+    __builtin_va_start(rest, request);
+    void *argument = __builtin_va_arg(rest, void *);
+    __builtin_va_end(rest);
     return fails_more("ioctl", fd) ? -1 : REAL(ioctl)(fd, request, argument);
 }
 
