@@ -17,7 +17,6 @@ const FIRST: Position = Position { epoch: 0, index: 1 };
 const TAG: [u8; 32] = [7; 32];
 
 /// Whether what stands before the ciphertext is written.
-#[tactic(auto, unfolding(packet::specs::Versions::is_text_len))]
 fn writes_ad() -> bool {
     let mut ad = [0; 33];
     write_ad(PLAIN, &SESSION, FIRST, 0, &[], 2, &mut ad) == 33 && ad == AD
@@ -37,7 +36,6 @@ fn lends(packet: &[u8]) -> Result<bool, Malformed> {
 }
 
 #[test]
-#[tactic(auto, unfolding(packet::specs::Versions::is_text_len))]
 fn writes_and_lends_the_first_packet(rt: HostRuntime) -> Result<(), Fail> {
     assert!(rt; writes_ad());
     let mut bytes = [0; 67];
@@ -49,7 +47,6 @@ fn writes_and_lends_the_first_packet(rt: HostRuntime) -> Result<(), Fail> {
 
 /// Whether the fault of the first packet's first `len` bytes is this one, where `new` is put at a
 /// place.
-#[tactic(auto, unfolding(packet::specs::Versions::is_text_len))]
 fn finds(len: usize, place: usize, new: &[u8], fault: Malformed) -> bool {
     let mut bytes = [0; 68];
     let _len = write_into(PLAIN, &SESSION, FIRST, 0, &[], b"hi", &TAG, &mut bytes);

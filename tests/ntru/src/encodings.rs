@@ -6,7 +6,6 @@ use ntru_codec::{
 };
 
 #[test]
-#[tactic(auto, unfolding(ntru_codec::specs::Coding::encoded_length, ntru_codec::specs::Coding::length_in, ntru_codec::specs::Levels::pair_length, ntru_codec::specs::Levels::next_limits, ntru_codec::specs::Numbers::bytes_out, ntru_codec::specs::Numbers::limit_after))]
 fn lists(rt: HostRuntime) {
     let mut out = [9; 5];
     assert!(rt; encode(&[0, 1], &[4591, 4591], &mut out) == 4);
