@@ -4,6 +4,7 @@
 # fails if anything is off.
 set -euo pipefail
 top=$(cd "$(dirname "${BASH_SOURCE[0]}")/.." && pwd)
+[ $# = 0 ] || { echo "usage: examples/over-a-relay.sh    it takes no words, and ends within seconds" >&2 && exit 2; }
 program=${MESSENGER:-$top/messenger}
 work=$(mktemp -d)
 relay=''
@@ -51,6 +52,14 @@ start_relay() {
   exit 1
 }
 
+# runs words, and shows on standard error what they answer
+shown() { # words
+  local lines
+  lines=$("$@")
+  printf '%s\n' "$lines" >&2
+  printf '%s\n' "$lines"
+}
+
 sync_of() { as "$1" sync "127.0.0.1:$port"; } # side
 
 key=$(od -An -v -N32 -tx1 /dev/urandom | tr -d ' \n')
@@ -61,7 +70,7 @@ start_relay
 echo "second says two texts while first is offline:"
 as second say 'are you there?' >/dev/null
 as second say 'the relay keeps this' >/dev/null
-expect "$(sync_of second | tee -a /dev/stderr)" $'stored 1\nstored 2\nend'
+expect "$(shown sync_of second)" $'stored 1\nstored 2\nend'
 
 echo "the relay is killed, and a sync meets nobody:"
 stop_relay
@@ -70,16 +79,16 @@ expect "$(sync_of second || echo "status $?")" $'fault: link\nstatus 7'
 
 echo "the relay is started again, and has kept all; first syncs and answers:"
 start_relay
-expect "$(sync_of first | tee -a /dev/stderr)" $'opened 0.1\nopened 0.2\nend'
+expect "$(shown sync_of first)" $'opened 0.1\nopened 0.2\nend'
 as first say 'here I am' >/dev/null
-expect "$(sync_of first | tee -a /dev/stderr)" $'stored 1\nend'
+expect "$(shown sync_of first)" $'stored 1\nend'
 
 echo "second syncs: the answer comes, and what waited goes:"
 expect "$(as second awaiting)" $'awaiting 3\n0.1\n0.2\n0.3'
-expect "$(sync_of second | tee -a /dev/stderr)" $'opened 1.1\nstored 3\nend'
+expect "$(shown sync_of second)" $'opened 1.1\nstored 3\nend'
 echo "the answer's receipt says that the first two of second's texts were opened, so the third alone waits for one:"
-expect "$(as second awaiting | tee -a /dev/stderr)" $'awaiting 1\n0.3'
-expect "$(sync_of first | tee -a /dev/stderr)" $'opened 0.3\nend'
+expect "$(shown as second awaiting)" $'awaiting 1\n0.3'
+expect "$(shown sync_of first)" $'opened 0.3\nend'
 expect "$(sync_of first)" "end"
 
 echo "first's inbox:"

@@ -4,6 +4,7 @@
 # was answered, and fails if anything is off.
 set -euo pipefail
 top=$(cd "$(dirname "${BASH_SOURCE[0]}")/.." && pwd)
+[ $# = 0 ] || { echo "usage: examples/receipts.sh    it takes no words, and ends within seconds" >&2 && exit 2; }
 program=${MESSENGER:-$top/messenger}
 work=$(mktemp -d)
 trap 'rm -rf "$work"' EXIT

@@ -3,6 +3,7 @@
 # one of them twice, and an answer goes back. It shows both inboxes, and fails if anything is off.
 set -euo pipefail
 top=$(cd "$(dirname "${BASH_SOURCE[0]}")/.." && pwd)
+[ $# = 0 ] || { echo "usage: examples/two-folders.sh    it takes no words, and ends within seconds" >&2 && exit 2; }
 program=${MESSENGER:-$top/messenger}
 work=$(mktemp -d)
 trap 'rm -rf "$work"' EXIT
@@ -27,7 +28,7 @@ expect() { # what was answered, what must be
 }
 
 key=$(od -An -v -N32 -tx1 /dev/urandom | tr -d ' \n')
-expect "$(as first begin first <<<"$key")" "$(as second begin second <<<"$key")"
+expect "$(as first begin first receipts <<<"$key")" "$(as second begin second receipts <<<"$key")"
 
 expect "$(as second say 'are you there?')" "said 0.1"
 expect "$(as second say 'it is me')" "said 0.2"
