@@ -7,6 +7,24 @@
 //!
 //! A client is a `Core` with the store that keeps its record. A core is the same side in memory
 //! alone: a step of it is drafted, written as a record, and only then accepted.
+//!
+//! Two sides, each on a disk of `AREA_SIZE` bytes (the crate `two_sides` is this as a program):
+//!
+//! ```rust
+//! use bodies::Format;
+//! use client::Client;
+//! use dr_base::Side;
+//! use sntrup761::Sntrup761;
+//!
+//! let mut second =
+//!     Client::<Sntrup761>::begin(alloc, &mut disk, Side::Second, Format::Receipts, &key)?;
+//! let mut first =
+//!     Client::<Sntrup761>::begin(alloc, &mut other, Side::First, Format::Receipts, &key)?;
+//! second.say(&mut disk, b"are you there?", &mut draws)?;
+//! if let Some((_, packet)) = second.outbox(0) {
+//!     first.take(&mut other, packet)?;
+//! }
+//! ```
 #![tactic(auto)]
 
 pub use begin::Begin;
