@@ -1,5 +1,5 @@
 -- Entries without a fault are numbers of the area's pages.
-use Rattle.std.proofs.Common.{◌≡◌, ℕ, ◌<◌, All, Bool, false, List, [], length, replicate, None, sym, ◌∙◌, ap, subst, arith}
+use Rattle.std.proofs.Common.{◌≡◌, ℕ, ◌<◌, All, Bool, false, List, [], ◌∷◌, length, replicate, None, refl, sym, ◌∙◌, ap, subst, arith}
 use Rattle.std.proofs.lemmas.List.{length-replicate}
 use Rattle.std.proofs.lemmas.List.Elements.{All-weaker}
 use Rattle.pages.specs.Layouts.{IsPage}
@@ -9,6 +9,11 @@ use Rattle.slot_store.specs.Areas.{Area, layout_of}
 
 pub entries_within : (area : Area) (numbers : List ℕ) → entry_fault area.pages [] 6 numbers ≡ None → All (IsPage (layout_of area)) numbers
 entries_within area numbers is = (entries_lawful area.pages numbers is).within
+
+-- where there are none none is at fault
+pub none_entries : (pages : ℕ) (numbers : List ℕ) → length numbers ≡ 0 → entry_fault pages [] 6 numbers ≡ None
+none_entries pages [] is = refl
+none_entries pages (n ∷ numbers) is = absurd (omega arith)
 
 -- each has a mark in a list of one for each page
 pub entries_inside : (area : Area) (given numbers : List ℕ) (named : List Bool) → given ≡ numbers → named ≡ replicate area.pages false

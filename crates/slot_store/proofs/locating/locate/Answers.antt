@@ -1,8 +1,9 @@
-use Rattle.std.proofs.Common.{◌≡◌, refl, subst, sym}
+use Rattle.std.proofs.Common.{◌≡◌, arith, refl, subst, sym}
 use Rattle.dr_disk.specs.State.{OnSeen}
 use Rattle.pages.proofs.Looking.{looks_none}
 use Rattle.pages.specs.Tables.{alike, none_open, tables_standing}
 use Rattle.slot_store.specs.Areas.{layout_of}
+use Rattle.slot_store.proofs.Entries.{none_entries}
 use Rattle.slot_store.proofs.EmptyRead.{alike_reading, empty_reading, empty_shown, empty_text, judged_read}
 use Rattle.slot_store.specs.Found.{HasReadContent}
 use Rattle.slot_store.proofs.Settled.{has_none}
@@ -64,3 +65,8 @@ pub returns-in-NoneOpen-clause-read : goal.returns-in-NoneOpen-clause-read
 returns-in-NoneOpen-clause-read g c =
     subst (HasReadContent g.G.Grammar.has_read c.args.reader.now c.args.reader.now)
     (sym (has_none c.pager_of-pager.result c.pager_of-pager.ensures.turn)) refl
+
+pub pager_of-pager-requires-clause-entries : goal.pager_of-pager-requires-clause-entries
+pager_of-pager-requires-clause-entries g c =
+    none_entries c.args.area.pages c.args.kept.numbers.items
+    (omega (arith, c.args.kept.least, c.requires.memory.none))

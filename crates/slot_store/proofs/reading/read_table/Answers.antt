@@ -1,5 +1,6 @@
-use Rattle.std.proofs.Common.{refl, arith}
+use Rattle.std.proofs.Common.{◌+◌, ◌∙◌, List, ap, length, refl, ℕ, arith}
 use Rattle.std.proofs.lemmas.Grind.{common_steps}
+use Rattle.std.proofs.lemmas.List.{with_items_is}
 use Rattle.dr_disk.specs.Called.{itself}
 use Rattle.dr_disk.specs.declared.call.Call.TheVariants.{Read}
 use Rattle.dr_disk.proofs.Calling.{read_fails, reads_well}
@@ -32,3 +33,15 @@ returns-clause-table g c = record {
       (looked _ _ _ c.read-2.ensures.passes c.read-2.ensures.unwritten c.in-Ok-read.ensures.told.passed
       (reads_well itself Read _ _ _ _ c.in-Ok-read.ensures.told c.in-Ok-read.ensures.cause) tt);
 }
+
+pub returns-clause-long : goal.returns-clause-long
+returns-clause-long g c =
+    let read = with_items_is c.args.body.now c.read-2.new.into (c.read-2.auto.into ∙ c.deref_mut.ensures.len) in
+    ap (λ (l : List ℕ). length l + 1) read ∙ ap (λ (n : ℕ). n + 1) c.read-2.auto.into
+    ∙ ap (λ (l : List ℕ). length l + 1) c.deref_mut.ensures.value ∙ c.requires.long
+
+pub returns-in_default-read-clause-long : goal.returns-in_default-read-clause-long
+returns-in_default-read-clause-long g c =
+    let read = with_items_is c.args.body.now c.read-2.new.into (c.read-2.auto.into ∙ c.deref_mut.ensures.len) in
+    ap (λ (l : List ℕ). length l + 1) read ∙ ap (λ (n : ℕ). n + 1) c.read-2.auto.into
+    ∙ ap (λ (l : List ℕ). length l + 1) c.deref_mut.ensures.value ∙ c.requires.long

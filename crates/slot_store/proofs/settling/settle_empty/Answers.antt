@@ -1,4 +1,5 @@
-use Rattle.std.proofs.Common.{false, true, refl, ◌∙◌}
+use Rattle.std.proofs.Common.{false, true, ap, length, refl, ◌∙◌}
+use Rattle.std.proofs.lemmas.List.{length-replicate}
 use Rattle.dr_disk.specs.Called.{itself}
 use Rattle.dr_disk.proofs.Calling.{failed_as, then_any}
 use Rattle.pages.proofs.Looking.{untouched_twice}
@@ -100,3 +101,11 @@ returns g c =
           (empty_body pager c.requires.turn start rests true c.args.second_gate c.args.second.now c.requires.read.second_is)
           (empty_blank pager c.requires.turn c.args.named.now a (rests.0, one.unwritten.seen ∙ rests.1, rests.2)));
     }
+
+pub wipe_table-requires-clause-marks : goal.wipe_table-requires-clause-marks
+wipe_table-requires-clause-marks g c =
+    ap length c.requires.marks ∙ length-replicate c.args.pager.now.area.pages false
+
+pub wipe_table-requires-2-clause-marks : goal.wipe_table-requires-2-clause-marks
+wipe_table-requires-2-clause-marks g c =
+    ap length c.requires.marks ∙ length-replicate c.args.pager.now.area.pages false
