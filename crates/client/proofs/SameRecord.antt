@@ -14,9 +14,10 @@ use Rattle.session_model.specs.Clients.{Client}
 use Rattle.session_model.specs.States.{State}
 use Rattle.session_record.specs.Lists.{post_of, post_text}
 use Rattle.session_record.specs.Record.{client_of, record_text, saved_text}
+use Rattle.session_record.specs.declared.change.Change.{Change}
 use Rattle.session_record.specs.declared.limits.TheConstants.{RECORD_LIMIT}
 use Rattle.client.specs.Cores.{HasRecordLength, HasRoomToWrite, PutsRecord}
-use Rattle.client.specs.Drafting.{received_client, said_client}
+use Rattle.client.specs.Drafting.{IsWrittenFrom, received_client, said_client}
 
 -- the record of a packet in the outbox is that of its bytes
 same_posts : (k : Mechanism) (posts : List Post) (position : Position) (packet : List ℕ)
@@ -59,6 +60,12 @@ pub received_record : (kept : Client) (draft : Received) (state : State) (p : Po
 received_record kept draft state p text next place same =
     ap (λ s. record_text (client_of s (kept.inbox ++ entry_under p text ∷ []) kept.outbox)) next
     ∙ ap₂ (λ a t. record_text (client_of (received_of kept.state draft).next (kept.inbox ++ entry_under a t ∷ []) kept.outbox)) place same
+
+-- what is written from a client is written from one that equals it
+pub written_alike : (k : Mechanism) (a b next : Client) (state : State) (change : Change) → b ≡ a
+    → IsWrittenFrom k a next state change → IsWrittenFrom k b next state change
+written_alike k a b next state change same from =
+    subst (λ (n : Client). IsWrittenFrom k n next state change) (sym same) from
 
 -- ---- how long it is, and where it is put
 

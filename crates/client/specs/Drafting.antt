@@ -17,7 +17,10 @@ use Rattle.session_model.specs.declared.answer.Answer.TheVariants.{Dropped, Open
 use Rattle.session_model.specs.declared.answer.Items.{Items}
 use Rattle.session_model.specs.declared.answer.Refusal.{Refusal}
 use Rattle.session_model.specs.declared.answer.Refusal.TheVariants.{Fewer}
+use Rattle.session_record.specs.Changes.{FitsInbox, FitsOutbox, changed}
 use Rattle.session_record.specs.Lawful.{IsLawfulClient}
+use Rattle.session_record.specs.Record.{client_of, record_text}
+use Rattle.session_record.specs.declared.change.Change.{Change}
 use Rattle.client.specs.declared.cores.drafts.Draft.{Draft}
 use Rattle.client.specs.declared.cores.drafts.Draft.TheVariants.{Dropped as ToDrop, Received as ToTake, Said as ToSay}
 
@@ -98,3 +101,14 @@ IsDraftOf k kept (ToDrop items n) = HasToDrop kept items n
 -- the step that it makes
 abbrev pub drafted_step : {K Work : Type 0} → Client → Draft K Work → Step Client
 drafted_step kept draft = step (drafted_answer draft) (drafted_client kept draft)
+
+-- ---- what its record is written from
+
+-- the record of what is kept next is that of what is kept, with the session as it will be, and this
+-- change of the boxes
+pub record IsWrittenFrom (k : Mechanism) (kept next : Client) (state : State) (change : Change)
+    : Type 0 where
+  pub inbox : FitsInbox kept.inbox change
+  pub outbox : FitsOutbox kept.outbox change
+  pub same : record_text (changed k (client_of state kept.inbox kept.outbox) change)
+      ≡ record_text next

@@ -12,3 +12,4 @@ mod measuring;
 mod reading;
 mod showing;
 mod starting;
+mod writing;
