@@ -23,8 +23,9 @@ use Rattle.dr_model.proofs.Worlds.WorldViews.{client_of-kept}
 use Rattle.kem_laws.specs.Mechanism.{IsLawfulMechanism, Mechanism}
 use Rattle.session_model.specs.Clients.{Client, say_check}
 use Rattle.session_model.specs.Ways.{way_of}
-use Rattle.client.specs.InWorlds.{StandsFor}
-use Rattle.client.specs.Moments.{AreFairActs, HaveMoved, IsActed, Known, acts_in, settled_in}
+use Rattle.client.specs.Cells.{Cell}
+use Rattle.client.specs.InWorlds.{CellStandsFor}
+use Rattle.client.specs.Moments.{AreFairActs, HaveMovedInCell, IsActed, Known, acts_in, settled_in}
 use Rattle.client.proofs.Later.{act_later}
 
 -- A world that is ahead of another: a side keeps the same in both, and a packet that is found in the one is found in the other.
@@ -70,9 +71,11 @@ one_more P x y xs ys first rest (suc n) z lt is holds =
     let found = rest (n, z, omega (arith, lt), is, holds) in
     (suc found.0, found.1, omega (arith, found.2), found.3, found.4)
 
-module _ (k : Mechanism) (law : IsLawfulMechanism k) (follow : ActsFollow k) (side : Side) where
+module _ (cell : Cell) (k : Mechanism) (law : IsLawfulMechanism k) (follow : ActsFollow k)
+    (side : Side) where
   -- bytes that stand for a world stand for one in which the side keeps the same
-  pub stands_ahead : (ahead w : World) (c : List ℕ) → kept_in k ahead side ≡ kept_in k w side → StandsFor k w side c → StandsFor k ahead side c
+  pub stands_ahead : (ahead w : World) (c : List ℕ) → kept_in k ahead side ≡ kept_in k w side
+      → CellStandsFor cell k w side c → CellStandsFor cell k ahead side c
   stands_ahead ahead w c keeps stood = stood ∙ ap (λ (x : Client). Some (Ok x)) (sym keeps)
 
   -- ---- what a side does by itself is the same ahead
@@ -153,7 +156,8 @@ module _ (k : Mechanism) (law : IsLawfulMechanism k) (follow : ActsFollow k) (si
     record AreMoved (worlds : List World) : Type 0 where
       moved : List World
       acted : All (IsActed k side next) moved
-      stands : (c : List ℕ) → Any (λ v. StandsFor k v side c) worlds → Any (λ v. StandsFor k v side c) moved
+      stands : (c : List ℕ) → Any (λ v. CellStandsFor cell k v side c) worlds
+          → Any (λ v. CellStandsFor cell k v side c) moved
 
     are_moved : (worlds : List World) → All (IsActed k side w) worlds → AreMoved worlds
     are_moved [] acted = record { moved = []; acted = All-nil (IsActed k side next); stands = λ c none. absurd (omega (arith, none.2)) }
@@ -168,11 +172,12 @@ module _ (k : Mechanism) (law : IsLawfulMechanism k) (follow : ActsFollow k) (si
           acted = All-cons (IsActed k side next) there rest.moved
               (record { acts = is.acts; fair = fair_acts next w is.acts goes_ahead is.fair; leads = refl }) rest.acted;
           stands = λ c at.
-              one_more (λ v. StandsFor k v side c) x there xs rest.moved (stands_ahead there x c keeps) (rest.stands c) at.0 at.1 at.2 at.3 at.4;
+              one_more (λ v. CellStandsFor cell k v side c) x there xs rest.moved (stands_ahead there x c keeps) (rest.stands c) at.0 at.1 at.2 at.3 at.4;
         }
 
     moves : (worlds : List World) (acted : All (IsActed k side w) worlds)
-        → HaveMoved k side (record { last = w; doubtful = worlds }) (record { last = next; doubtful = (are_moved worlds acted).moved })
+        → HaveMovedInCell cell k side (record { last = w; doubtful = worlds })
+        (record { last = next; doubtful = (are_moved worlds acted).moved })
     moves worlds acted = record {
       last_later = act_later k (peer_of side) w act fair;
       doubtful_acted = (are_moved worlds acted).acted;
@@ -180,16 +185,18 @@ module _ (k : Mechanism) (law : IsLawfulMechanism k) (follow : ActsFollow k) (si
     }
 
     -- where nothing is in doubt
-    pub moves_settled : HaveMoved k side (settled_in w) (settled_in next)
+    pub moves_settled : HaveMovedInCell cell k side (settled_in w) (settled_in next)
     moves_settled = record {
       last_later = act_later k (peer_of side) w act fair;
       doubtful_acted = All-nil (IsActed k side next);
       stands = λ c known. ⊎_elim (λ stood. inl (stands_ahead next w c goes_ahead.keeps stood))
-          (λ (none : Any (λ (v : World). StandsFor k v side c) []). absurd (omega (arith, none.2))) known;
+          (λ (none : Any (λ (v : World). CellStandsFor cell k v side c) []). absurd (omega (arith, none.2))) known;
     }
 
   pub all_move : (known : Known) (act : Act) → IsLawfulWorld k known.last → IsFairAct k known.last (peer_of side) act
       → All (IsActed k side known.last) known.doubtful
-      → (worlds : List World) × HaveMoved k side known (record { last = (act_in k known.last (peer_of side) act).next; doubtful = worlds })
+      → (worlds : List World)
+      × HaveMovedInCell cell k side known
+      (record { last = (act_in k known.last (peer_of side) act).next; doubtful = worlds })
   all_move known act lawful fair acted =
       ((are_moved known.last act lawful fair known.doubtful acted).moved, moves known.last act lawful fair known.doubtful acted)

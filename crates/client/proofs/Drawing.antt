@@ -12,60 +12,71 @@ use Rattle.dr_ports.specs.States.{DrawsState}
 use Rattle.kem_laws.specs.Mechanism.{Mechanism}
 use Rattle.session_model.specs.Clients.{say_check, say_on}
 use Rattle.session_model.specs.declared.answer.Refusal.{Refusal}
-use Rattle.client.specs.Clients.{ClientNow, IsOpenOn}
-use Rattle.client.specs.Outcomes.{Acts, said_as}
-use Rattle.client.specs.Saying.{HandsBack, SaysWithDraw, asks_seed, draw_failed, with_draw, without_draw}
+use Rattle.client.specs.Keepings.{IsKeeperOpen, Keeping}
+use Rattle.client.specs.Outcomes.{KeeperActs, said_as}
+use Rattle.client.specs.Saying.{HandsBack, KeeperSaysWithDraw, draw_failed, keeper_asks_seed, with_draw, without_draw}
 use Rattle.client.specs.declared.refusals.SayRefusal.{SayRefusal}
 use Rattle.client.specs.declared.refusals.SayRefusal.TheVariants.{Closed, DrawFault, Refused}
 
 -- whether a seed is asked for, by what the check answers
-asks_by : (client : ClientNow) (len : ℕ) (r : Result Bool Refusal) → client.closed ≡ None → say_check client.kept len ≡ r
-    → asks_seed client len ≡ needs_seed r
-asks_by client len r unclosed is =
-    ap (λ closed. is_none closed && needs_seed (say_check client.kept len)) unclosed ∙ ap needs_seed is
+asks_by : {S : Type 0} (keeping : Keeping S) (client : S) (len : ℕ) (r : Result Bool Refusal)
+    → keeping.closed client ≡ None → say_check (keeping.kept client) len ≡ r
+    → keeper_asks_seed keeping client len ≡ needs_seed r
+asks_by keeping client len r unclosed is =
+    ap (λ closed. is_none closed && needs_seed (say_check (keeping.kept client) len)) unclosed ∙ ap needs_seed is
 
-module _ {X W : Type 0} (state : X → DiskState) (draws : W → DrawsState) (k : Mechanism)
-    (text : List ℕ) (old new : ClientNow) (start now : X) (source left : W) where
+module _ {S X W : Type 0} (keeping : Keeping S) (state : X → DiskState) (draws : W → DrawsState)
+    (k : Mechanism)
+    (text : List ℕ) (old new : S) (start now : X) (source left : W) where
   abbrev Said : Result Position SayRefusal → Type 0
-  Said = SaysWithDraw state draws k text old new start now source left
+  Said = KeeperSaysWithDraw keeping state draws k text old new start now source left
 
-  pub says_closed : (call : Call) → old.closed ≡ Some call → new ≡ old → now ≡ start → left ≡ source → Said (Err (Closed call))
+  pub says_closed : (call : Call) → keeping.closed old ≡ Some call → new ≡ old → now ≡ start
+      → left ≡ source → Said (Err (Closed call))
   says_closed call closed same stays leaves =
       without_draw (Err (Closed call))
-      (ap (λ c. is_none c && needs_seed (say_check old.kept (length text))) closed) leaves (closed, same, stays)
+      (ap (λ c. is_none c && needs_seed (say_check (keeping.kept old) (length text))) closed) leaves (closed, same, stays)
 
-  pub says_refused : (refusal : Refusal) → old.closed ≡ None → say_check old.kept (length text) ≡ Err refusal → new ≡ old
+  pub says_refused : (refusal : Refusal) → keeping.closed old ≡ None
+      → say_check (keeping.kept old) (length text) ≡ Err refusal → new ≡ old
       → now ≡ start → left ≡ source → Said (Err (Refused refusal))
   says_refused refusal unclosed is same stays leaves =
-      without_draw (Err (Refused refusal)) (asks_by old (length text) (Err refusal) unclosed is) leaves
-      (unclosed, ap (saying_by k old.kept text None) is, same, stays)
+      without_draw (Err (Refused refusal)) (asks_by keeping old (length text) (Err refusal) unclosed is) leaves
+      (unclosed, ap (saying_by k (keeping.kept old) text None) is, same, stays)
 
-  pub says_plain : (result : Result Position SayRefusal) → old.closed ≡ None → say_check old.kept (length text) ≡ Ok false
-      → left ≡ source → Acts state (said_by (say_on k old.kept text [])) old new start now (said_as result)
+  pub says_plain : (result : Result Position SayRefusal) → keeping.closed old ≡ None
+      → say_check (keeping.kept old) (length text) ≡ Ok false
+      → left ≡ source
+      → KeeperActs keeping state (said_by (say_on k (keeping.kept old) text [])) old new start now
+      (said_as result)
       → Said result
   says_plain result unclosed is leaves acts =
-      without_draw result (asks_by old (length text) (Ok false) unclosed is) leaves
-      (subst (λ made. Acts state made old new start now (said_as result)) (sym (ap (saying_by k old.kept text None) is)) acts)
+      without_draw result (asks_by keeping old (length text) (Ok false) unclosed is) leaves
+      (subst (λ made. KeeperActs keeping state made old new start now (said_as result)) (sym (ap (saying_by k (keeping.kept old) text None) is)) acts)
 
-  pub says_drawn : (result : Result Position SayRefusal) (seed : Key32) → old.closed ≡ None
-      → say_check old.kept (length text) ≡ Ok true → length seed.bytes ≡ 32
+  pub says_drawn : (result : Result Position SayRefusal) (seed : Key32)
+      → keeping.closed old ≡ None
+      → say_check (keeping.kept old) (length text) ≡ Ok true → length seed.bytes ≡ 32
       → (draws source).coming ≡ drawn (seed.bytes ∷ []) (draws left).coming → (draws left).faults ≡ (draws source).faults
-      → Acts state (said_by (say_on k old.kept text seed.bytes)) old new start now (said_as result)
+      → KeeperActs keeping state
+      (said_by (say_on k (keeping.kept old) text seed.bytes)) old new start now (said_as result)
       → HandsBack (Some seed) result → Said result
   says_drawn result seed unclosed is long drew quiet acts back =
-      with_draw result seed (asks_by old (length text) (Ok true) unclosed is) long drew quiet
-      (subst (λ made. Acts state made old new start now (said_as result))
-      (sym (ap (saying_by k old.kept text (Some seed.bytes)) is)) acts)
+      with_draw result seed (asks_by keeping old (length text) (Ok true) unclosed is) long drew quiet
+      (subst (λ made. KeeperActs keeping state made old new start now (said_as result))
+      (sym (ap (saying_by k (keeping.kept old) text (Some seed.bytes)) is)) acts)
       back
 
-  pub says_nothing : old.closed ≡ None → say_check old.kept (length text) ≡ Ok true → Rose (draws source).faults (draws left).faults
+  pub says_nothing : keeping.closed old ≡ None
+      → say_check (keeping.kept old) (length text) ≡ Ok true
+      → Rose (draws source).faults (draws left).faults
       → (draws left).coming ≡ (draws source).coming → new ≡ old → now ≡ start → Said (Err DrawFault)
   says_nothing unclosed is rose same stays leaves =
-      draw_failed (asks_by old (length text) (Ok true) unclosed is) rose same stays leaves
+      draw_failed (asks_by keeping old (length text) (Ok true) unclosed is) rose same stays leaves
 
   -- a text that was said leaves the client open, and its disk at rest
   pub ready_after : (result : Result Position SayRefusal) → Said result
-      → OnOk result (IsOpenOn new (state now))
+      → OnOk result (IsKeeperOpen keeping new (state now))
   ready_after result (without_draw (Ok p) none leaves acts) = (acts.stays_open, acts.disk.ready)
   ready_after result (without_draw (Err e) none leaves acts) = tt
   ready_after result (with_draw (Ok p) seed asks long drew quiet acts back) = (acts.stays_open, acts.disk.ready)

@@ -19,6 +19,7 @@ use Rattle.kem_laws.specs.Mechanism.{IsLawfulMechanism, Mechanism}
 use Rattle.session_model.specs.Clients.{Client}
 use Rattle.session_model.specs.declared.answer.Answer.{Answer}
 use Rattle.session_model.specs.declared.answer.Answer.TheVariants.{Opened, Said}
+use Rattle.client.specs.Cells.{client_cell}
 use Rattle.client.specs.Clients.{ClientNow}
 use Rattle.client.specs.Exchanges.{Call, IsExchange, IsHistory}
 use Rattle.client.specs.InWorlds.{ActsIn, IsIn, StandsFor}
@@ -141,7 +142,9 @@ module _ {D E V : Type 0} (state : D → DiskState) (lawful : (d : D) → IsLawf
       ∙ follow.others w1 Second (taking question.packet) asked.acts.1.lawful heard_fair
 
   crash_stands : Always (StandsFor k w3 First) (state crashed)
-  crash_stands c left = stands_ahead k law follow First w3 w1 c kept_then (asked.acts.3 c (happens.crashes c left))
+  crash_stands c left =
+      stands_ahead client_cell k law follow First w3 w1 c kept_then
+      (asked.acts.3 c (happens.crashes c left))
 
   -- is opened
   opened : IsIn k w3 First reads.old × Always (StandsFor k w3 First) (state reads.start)
@@ -172,9 +175,9 @@ module _ {D E V : Type 0} (state : D → DiskState) (lawful : (d : D) → IsLawf
   chain =
       let says = was_acknowledged (settled_in w) w (inl refl) (saying happens.text asked.draw) asked.fair asked.acts.3 in
       let peer_takes = was_moved (settled_in w1) (settled_in w2)
-      (moves_settled k law follow First w1 (taking question.packet) asked.acts.1.lawful heard_fair) (λ c left. inl left) in
+      (moves_settled client_cell k law follow First w1 (taking question.packet) asked.acts.1.lawful heard_fair) (λ c left. inl left) in
       let peer_says = was_moved (settled_in w2) (settled_in w3)
-      (moves_settled k law follow First w2 (saying happens.reply answered.draw) heard.1.lawful answered.fair) (λ c left. inl left) in
+      (moves_settled client_cell k law follow First w2 (saying happens.reply answered.draw) heard.1.lawful answered.fair) (λ c left. inl left) in
       let crashes = was_left (settled_in w3) (λ c left. inl (happens.crashes c left)) in
       let opens = was_opened (settled_in w3) w3 (inl refl) opened.1 in
       let takes = was_acknowledged (settled_in w3) w3 (inl refl) (taking answer.packet) took_fair took.3 in

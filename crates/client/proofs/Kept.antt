@@ -14,28 +14,37 @@ use Rattle.session_model.specs.declared.answer.Answer.{Answer}
 use Rattle.session_model.specs.declared.answer.Answer.TheVariants.{Opened}
 use Rattle.session_model.specs.declared.answer.Refusal.{Refusal}
 use Rattle.session_model.specs.declared.answer.Refusal.TheVariants.{InboxFull}
-use Rattle.client.specs.Acting.{IsAct}
-use Rattle.client.specs.Clients.{ClientNow}
+use Rattle.client.specs.Keepings.{Keeping, cell_of}
+use Rattle.client.specs.Acting.{IsKeeperAct}
 use Rattle.client.specs.Drafting.{IsReceivedOf, received_client}
-use Rattle.client.specs.Outcomes.{IsEffected, IsKept, IsLost, Outcome, acknowledged, faulted}
+use Rattle.client.specs.Outcomes.{IsKeeperEffected, IsKeptBy, IsLostInCell, Outcome, acknowledged, faulted}
 
-module _ {X : Type 0} (state : X → DiskState) (answer : Answer) (next : Client) (old new : ClientNow) (start now : X)
-    (effect : has_effect answer ≡ true) (unclosed : old.closed ≡ None) where
-  pub kept_act : new.closed ≡ None → new.kept ≡ next → IsKept old.kept next new.store (state start) (state now)
+module _ {S X : Type 0} (keeping : Keeping S) (state : X → DiskState) (answer : Answer)
+    (next : Client) (old new : S) (start now : X)
+    (effect : has_effect answer ≡ true) (unclosed : keeping.closed old ≡ None) where
+  pub kept_act : keeping.closed new ≡ None → keeping.kept new ≡ next
+      → IsKeptBy keeping (keeping.kept old) next old new (state start) (state now)
       → ((state start).fate ≡ all_pass → (state now).fate ≡ all_pass)
-      → IsAct state (Ok (step answer next)) old new start now (acknowledged answer)
+      → IsKeeperAct keeping state (Ok (step answer next)) old new start now (acknowledged answer)
   kept_act stays keeps kept passes = record {
-    exact = subst (λ e. IsEffected state e (Ok (step answer next)) old new start now answer) (sym effect) (record {
-      made_is = ap (λ (c : Client). Ok (step answer c)) (sym keeps);
-      was_open = unclosed;
-      stays_open = stays;
-      disk = subst (λ (c : Client). IsKept old.kept c new.store (state start) (state now)) (sym keeps) kept;
-    });
+    exact =
+        subst (λ e. IsKeeperEffected keeping state e
+        (Ok (step answer next)) old new start now answer) (sym effect) (record {
+          made_is = ap (λ (c : Client). Ok (step answer c)) (sym keeps);
+          was_open = unclosed;
+          stays_open = stays;
+          disk =
+              subst (λ (c : Client). IsKeptBy keeping (keeping.kept old) c old new (state start)
+              (state now)) (sym keeps) kept;
+        });
     fate = λ all. (tt, passes all);
   }
 
-  pub lost_act : (call : Call) → new.closed ≡ Some call → new.kept ≡ old.kept → IsLost old.kept next call (state start) (state now)
-      → ((state start).fate ≡ all_pass → ⊥) → IsAct state (Ok (step answer next)) old new start now (faulted call)
+  pub lost_act : (call : Call) → keeping.closed new ≡ Some call
+      → keeping.kept new ≡ keeping.kept old
+      → IsLostInCell (cell_of keeping old) (keeping.kept old) next call (state start) (state now)
+      → ((state start).fate ≡ all_pass → ⊥)
+      → IsKeeperAct keeping state (Ok (step answer next)) old new start now (faulted call)
   lost_act call closes keeps lost fails = record {
     exact = record {
       next = step answer next;
@@ -50,12 +59,14 @@ module _ {X : Type 0} (state : X → DiskState) (answer : Answer) (next : Client
   }
 
 -- an act that is a step, from a client that is the same
-pub act_again : {X : Type 0} (state : X → DiskState) (made : Client → Result (Step Client) Refusal) (by : Result (Step Client) Refusal)
-    (was old new : ClientNow) (start now : X) (outcome : Outcome) → was ≡ old → made was.kept ≡ by
-    → IsAct state by was new start now outcome → IsAct state (made old.kept) old new start now outcome
-act_again state made by was old new start now outcome same is acts =
-    subst (λ (n : ClientNow). IsAct state (made n.kept) n new start now outcome) same
-    (subst (λ r. IsAct state r was new start now outcome) (sym is) acts)
+pub act_again : {S X : Type 0} (keeping : Keeping S) (state : X → DiskState)
+    (made : Client → Result (Step Client) Refusal) (by : Result (Step Client) Refusal)
+    (was old new : S) (start now : X) (outcome : Outcome) → was ≡ old → made (keeping.kept was) ≡ by
+    → IsKeeperAct keeping state by was new start now outcome
+    → IsKeeperAct keeping state (made (keeping.kept old)) old new start now outcome
+act_again {S = S} keeping state made by was old new start now outcome same is acts =
+    subst (λ (n : S). IsKeeperAct keeping state (made (keeping.kept n)) n new start now outcome) same
+    (subst (λ r. IsKeeperAct keeping state r was new start now outcome) (sym is) acts)
 
 -- a packet that is taken where the inbox has room for its text
 pub received_step : (k : Mechanism) (kept : Client) (draft : Received) → IsReceivedOf k kept draft

@@ -17,7 +17,8 @@ use Rattle.dr_model.specs.Machines.Worlds.{World, view_of}
 use Rattle.dr_model.specs.Theorems.LawfulWorlds.{IsLawfulWorld}
 use Rattle.dr_model.proofs.Growth.Growing.{positions-said}
 use Rattle.dr_model.proofs.Worlds.LastingPackets.{packets_last}
-use Rattle.client.specs.Moments.{AreLinked, IsLater, Known}
+use Rattle.client.specs.Cells.{Cell}
+use Rattle.client.specs.Moments.{AreLinkedInCell, IsLater, Known}
 use Rattle.client.proofs.Later.{lawful_at}
 use Rattle.client.proofs.Standing.{first_later, later}
 
@@ -57,17 +58,18 @@ same_packet k w last side post after lawful later a b same =
     ∙ (packets_last k w later.events a.place lawful later.whole a.said).1 in
     b.is ∙ ap (post_at k d) (sym one) ∙ stays ∙ sym a.is
 
-pub one_packet : {X : Type 0} (state : X → DiskState) (xs : List X) (k : Mechanism) (side : Side) (first : World)
-    (known : ℕ → Known) → IsLawfulWorld k first → AreLinked state xs k side first known
+pub one_packet : (cell : Cell) {X : Type 0} (state : X → DiskState) (xs : List X) (k : Mechanism)
+    (side : Side) (first : World)
+    (known : ℕ → Known) → IsLawfulWorld k first → AreLinkedInCell cell state xs k side first known
     → (n m : ℕ) (b : X) → n ≤ m → slice_get xs m ≡ Some b → (at again : ℕ) (post after : Post)
     → slice_get (kept_in k (known n).last side).outbox at ≡ Some post
     → slice_get (kept_in k (known m).last side).outbox again ≡ Some after
     → post.position ≡ after.position → after ≡ post
-one_packet state xs k side first known lawful linked n m b le is at again post after here there same =
+one_packet cell state xs k side first known lawful linked n m b le is at again post after here there same =
     let w = (known n).last in
     let last = (known m).last in
-    same_packet k w last side post after (lawful_at k first w lawful (first_later state xs k side first known linked n m b le is))
-    (later state xs k side first known linked n m b le is)
+    same_packet k w last side post after (lawful_at k first w lawful (first_later cell state xs k side first known linked n m b le is))
+    (later cell state xs k side first known linked n m b le is)
     (got (IsPosted k w.conversation) (kept_in k w side).outbox at post (posted_all k w.conversation (view_of w side)) here)
     (got (IsPosted k last.conversation) (kept_in k last side).outbox again after
     (posted_all k last.conversation (view_of last side)) there)

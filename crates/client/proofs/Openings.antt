@@ -16,10 +16,11 @@ use Rattle.slot_store.specs.Reading.{IsLikeRead, damaged, area_reading}
 use Rattle.slot_store.specs.Records.{stored_record}
 use Rattle.slot_store.specs.declared.errors.OpenError.{OpenError}
 use Rattle.slot_store.specs.declared.errors.OpenError.TheVariants.{Damaged, Memory, StoreFault}
+use Rattle.client.specs.Cells.{Cell, client_cell}
 use Rattle.client.specs.Clients.{ClientNow, client_area}
 use Rattle.client.specs.Grounds.{ReadsWritten}
-use Rattle.client.specs.Opening.{IsAsRead, IsClientOpened, IsEntryOrAsRead, IsLeftAtRest, IsUnopened, OpensIn, ReadsAsSide, open_refusal, client_record_fault}
-use Rattle.client.specs.InWorlds.{IsIn, StandsFor}
+use Rattle.client.specs.Opening.{CellReadsAsSide, IsAsRead, IsAsReadInCell, IsClientOpened, IsEntryOrAsRead, IsLeftAtRest, IsUnopened, OpensIn, ReadsAsSide, client_record_fault, open_refusal}
+use Rattle.client.specs.InWorlds.{CellStandsFor, IsIn, StandsFor}
 use Rattle.client.specs.declared.refusals.OpenRefusal.{OpenRefusal}
 use Rattle.client.specs.declared.refusals.OpenRefusal.TheVariants.{Memory as MemoryIsWanting}
 use Rattle.client.proofs.Renewing.{same_reading}
@@ -55,12 +56,14 @@ like_stands k w side start c reads like =
     ap (option_map (record_read k)) (like.same ∙ ap (stored_record client_area) same) ∙ reads.stands
 
 -- and so do bytes that are as read
-pub as_read_stands : (k : Mechanism) → ReadsWritten k → (w : World) (side : Side) (start : DiskState) (c : List ℕ)
-    → ReadsAsSide k w side start → IsAsRead k start c → StandsFor k w side c
-as_read_stands k written w side start c reads is =
+pub as_read_stands : (cell : Cell) → (k : Mechanism) → ReadsWritten k
+    → (w : World) (side : Side) (start : DiskState) (c : List ℕ)
+    → CellReadsAsSide cell k w side start → IsAsReadInCell cell k start c
+    → CellStandsFor cell k w side c
+as_read_stands cell k written w side start c reads is =
     let same : is.read ≡ reads.bytes = cc (sym is.told ∙ reads.told) in
-    same_reading k written (stored_record client_area is.read) (stored_record client_area c) is.same
-    ∙ ap (λ s. option_map (record_read k) (stored_record client_area s)) same ∙ reads.stands
+    same_reading k written (cell.record_in is.read) (cell.record_in c) is.same
+    ∙ ap (λ s. option_map (record_read k) (cell.record_in s)) same ∙ reads.stands
 
 module _ (k : Mechanism) (written : ReadsWritten k) (w : World) (side : Side) (start now : DiskState)
     (result : Result ClientNow OpenRefusal) (lawful : IsLawfulWorld k w) (reads : ReadsAsSide k w side start) where
@@ -73,7 +76,7 @@ module _ (k : Mechanism) (written : ReadsWritten k) (w : World) (side : Side) (s
       by (Err refusal) is = tt
       by (Ok client) is = (
         record { lawful = lawful; keeps = cc (sym (is.read reads.bytes reads.told) ∙ reads.stands) },
-        λ c left. as_read_stands k written w side start c reads (is.alike c left),
+        λ c left. as_read_stands client_cell k written w side start c reads (is.alike c left),
       )
 
   pub opens_in : IfOk result (λ client. IsClientOpened k client start now) → Span start now (IsEntryOrAsRead k start)
@@ -82,8 +85,8 @@ module _ (k : Mechanism) (written : ReadsWritten k) (w : World) (side : Side) (s
     client = opened_in is;
     any_moment =
         widen start now (IsEntryOrAsRead k start) (λ c. start.image c ⊎ StandsFor k w side c)
-        (λ c s. ⊎_elim (λ was. inl was) (λ as_read. inr (as_read_stands k written w side start c reads as_read)) s) span;
-    reads = λ s told. as_read_stands k written w side start s reads (seen s told);
+        (λ c s. ⊎_elim (λ was. inl was) (λ as_read. inr (as_read_stands client_cell k written w side start c reads as_read)) s) span;
+    reads = λ s told. as_read_stands client_cell k written w side start s reads (seen s told);
   }
 
 -- where nothing was done

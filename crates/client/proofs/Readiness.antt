@@ -8,27 +8,32 @@ use Rattle.session_model.specs.Clients.{Client}
 use Rattle.session_model.specs.declared.answer.Answer.{Answer}
 use Rattle.session_model.specs.declared.answer.Answer.TheVariants.{Opened}
 use Rattle.session_model.specs.declared.answer.Refusal.{Refusal}
-use Rattle.client.specs.Clients.{ClientNow, IsOpenOn, IsReady, MayActOn}
-use Rattle.client.specs.Outcomes.{Acts, IsEffected, dropped_as, taken_as}
+use Rattle.client.specs.Keepings.{IsKeeperOpen, Keeping, MayKeeperAct}
+use Rattle.client.specs.Outcomes.{IsKeeperEffected, KeeperActs, dropped_as, taken_as}
 use Rattle.client.specs.declared.refusals.DropRefusal.{DropRefusal}
 use Rattle.client.specs.declared.refusals.TakeRefusal.{TakeRefusal}
 
-module _ {X : Type 0} (state : X → DiskState) (made : Result (Step Client) Refusal) (old new : ClientNow) (start now : X)
-    (ready : MayActOn old (state start)) where
-  effected_ready : (effect : Bool) (answer : Answer) → IsEffected state effect made old new start now answer → IsOpenOn new (state now)
+module _ {S X : Type 0} (keeping : Keeping S) (state : X → DiskState)
+    (made : Result (Step Client) Refusal) (old new : S) (start now : X)
+    (ready : MayKeeperAct keeping old (state start)) where
+  effected_ready : (effect : Bool) (answer : Answer)
+      → IsKeeperEffected keeping state effect made old new start now answer
+      → IsKeeperOpen keeping new (state now)
   effected_ready true answer acts = (acts.stays_open, acts.disk.ready)
   effected_ready false answer acts = (
-    ap (λ (n : ClientNow). n.closed) acts.2 ∙ acts.1,
-    subst (λ (n : ClientNow). IsReady n.kept n.store (state now)) (sym acts.2)
-        (subst (λ x. IsReady old.kept old.store (state x)) (sym acts.3) (ready acts.1)),
+    ap keeping.closed acts.2 ∙ acts.1,
+    subst (λ (n : S). keeping.ready n (state now)) (sym acts.2)
+        (subst (λ x. keeping.ready old (state x)) (sym acts.3) (ready acts.1)),
   )
 
-  pub taken_ready : (result : Result Position TakeRefusal) → Acts state made old new start now (taken_as result)
-      → OnOk result (IsOpenOn new (state now))
+  pub taken_ready : (result : Result Position TakeRefusal)
+      → KeeperActs keeping state made old new start now (taken_as result)
+      → OnOk result (IsKeeperOpen keeping new (state now))
   taken_ready (Ok p) acts = effected_ready true (Opened p) acts
   taken_ready (Err e) acts = tt
 
   pub dropped_ready : (answer : Answer) (result : Result Unit DropRefusal)
-      → Acts state made old new start now (dropped_as answer result) → OnOk result (IsOpenOn new (state now))
+      → KeeperActs keeping state made old new start now (dropped_as answer result)
+      → OnOk result (IsKeeperOpen keeping new (state now))
   dropped_ready answer (Ok u) acts = effected_ready (has_effect answer) answer acts
   dropped_ready answer (Err e) acts = tt

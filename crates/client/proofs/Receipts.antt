@@ -8,8 +8,8 @@ use Rattle.dr_model.specs.Machines.Worlds.{World}
 use Rattle.dr_model.proofs.Receipts.Arrived.{taking_arrives}
 use Rattle.kem_laws.specs.Mechanism.{Mechanism}
 use Rattle.session_model.specs.Clients.{Client}
-use Rattle.client.specs.Clients.{ClientNow}
-use Rattle.client.specs.InWorlds.{ActsIn, IsIn}
+use Rattle.client.specs.Keepings.{Keeping}
+use Rattle.client.specs.InWorlds.{IsKeeperIn, KeeperActsIn}
 use Rattle.client.specs.Outcomes.{Outcome, acknowledged, faulted, is_closed, refused, undrawn}
 use Rattle.client.specs.Receipts.{HaveArrived, waits}
 
@@ -18,17 +18,18 @@ same_waits : (w : World) (side : Side) (before after : Client) → after ≡ bef
 same_waits w side before after same p waited over =
     absurd (let e : true ≡ false = sym waited ∙ ap (λ c. waits c p) (sym same) ∙ over in cc)
 
-pub take_arrives : (k : Mechanism) (w : World) (side : Side) (packet : List ℕ) (old new : ClientNow) (start now : DiskState)
-    (outcome : Outcome) → IsIn k w side old → ActsIn k w side (taking packet) old new start now outcome
-    → HaveArrived w side old.kept new.kept
-take_arrives k w side packet old new start now (is_closed call) is acts =
-    same_waits w side old.kept new.kept (ap (λ (c : ClientNow). c.kept) acts)
-take_arrives k w side packet old new start now (refused refusal) is acts =
-    same_waits w side old.kept new.kept (ap (λ (c : ClientNow). c.kept) acts.1)
-take_arrives k w side packet old new start now undrawn is acts = absurd acts
-take_arrives k w side packet old new start now (acknowledged answer) is acts = λ p waited over.
+pub take_arrives : {S : Type 0} (keeping : Keeping S) (k : Mechanism) (w : World) (side : Side)
+    (packet : List ℕ) (old new : S) (start now : DiskState)
+    (outcome : Outcome) → IsKeeperIn keeping k w side old → KeeperActsIn keeping k w side (taking packet) old new start now outcome
+    → HaveArrived w side (keeping.kept old) (keeping.kept new)
+take_arrives keeping k w side packet old new start now (is_closed call) is acts =
+    same_waits w side (keeping.kept old) (keeping.kept new) (ap keeping.kept acts)
+take_arrives keeping k w side packet old new start now (refused refusal) is acts =
+    same_waits w side (keeping.kept old) (keeping.kept new) (ap keeping.kept acts.1)
+take_arrives keeping k w side packet old new start now undrawn is acts = absurd acts
+take_arrives keeping k w side packet old new start now (acknowledged answer) is acts = λ p waited over.
     taking_arrives k w side p is.lawful (of_bytes packet) (record {
       waited = ap (λ c. waits c p) (sym is.keeps) ∙ waited;
       over = ap (λ c. waits c p) (sym acts.1.keeps) ∙ over;
     })
-take_arrives k w side packet old new start now (faulted call) is acts = same_waits w side old.kept new.kept acts.0
+take_arrives keeping k w side packet old new start now (faulted call) is acts = same_waits w side (keeping.kept old) (keeping.kept new) acts.0

@@ -5,11 +5,12 @@ use Rattle.dr_disk.specs.State.{Always, DiskState, IsLawful}
 use Rattle.kem_laws.specs.Mechanism.{Mechanism}
 use Rattle.session_model.specs.Clients.{Client}
 use Rattle.session_record.specs.Record.{record_read}
-use Rattle.slot_store.specs.Reading.{IsUndamaged, OpensAs, damaged, holds, no_content, area_reading}
+use Rattle.slot_store.specs.Reading.{OpensAs, damaged, holds, no_content, area_reading}
 use Rattle.slot_store.specs.Records.{stored_record}
+use Rattle.client.specs.Cells.{Cell}
 use Rattle.client.specs.Beginning.{HoldsRecord}
 use Rattle.client.specs.Clients.{client_area}
-use Rattle.client.specs.Moments.{IsWholeAsRead, LeavesWhole}
+use Rattle.client.specs.Moments.{IsWholeAsReadInCell, LeavesCellWhole}
 use Rattle.client.specs.Opening.{IsUnopened, ReadsClient, SaysNothing, fault_of, client_record_fault}
 use Rattle.client.specs.declared.refusals.OpenRefusal.{OpenRefusal}
 use Rattle.client.specs.declared.refusals.OpenRefusal.TheVariants.{Damaged, Memory, NoSession, StoreFault}
@@ -46,16 +47,18 @@ not_refused state k start now held NoSession unopened =
 
 -- ---- over whole runs
 
-module _ {X : Type 0} (state : X → DiskState) (lawful : (a : X) → IsLawful (state a)) (xs : List X)
-    (first : (a : X) → slice_get xs 0 ≡ Some a → Always (IsUndamaged client_area) (state a))
-    (links : (n : ℕ) (a b : X) → slice_get xs n ≡ Some a → slice_get xs (n + 1) ≡ Some b → LeavesWhole (state a) (state b)) where
-  goes_on : (a b : X) → LeavesWhole (state a) (state b) → Always (IsUndamaged client_area) (state a) → Always (IsUndamaged client_area) (state b)
+module _ (cell : Cell) {X : Type 0} (state : X → DiskState) (lawful : (a : X) → IsLawful (state a))
+    (xs : List X)
+    (first : (a : X) → slice_get xs 0 ≡ Some a → Always (cell.undamaged) (state a))
+    (links : (n : ℕ) (a b : X) → slice_get xs n ≡ Some a → slice_get xs (n + 1) ≡ Some b → LeavesCellWhole cell (state a) (state b)) where
+  goes_on : (a b : X) → LeavesCellWhole cell (state a) (state b) → Always (cell.undamaged) (state a)
+      → Always (cell.undamaged) (state b)
   goes_on a b came was c left =
       ⊎_elim (was c)
-      (⊎_elim (λ (l : IsWholeAsRead (state a) c). l.undamaged (was l.read ((lawful a).seen_now l.read l.told))) (λ whole. whole))
+      (⊎_elim (λ (l : IsWholeAsReadInCell cell (state a) c). l.undamaged (was l.read ((lawful a).seen_now l.read l.told))) (λ whole. whole))
       (came c left)
 
-  pub each_undamaged : (n : ℕ) (b : X) → slice_get xs n ≡ Some b → Always (IsUndamaged client_area) (state b)
+  pub each_undamaged : (n : ℕ) (b : X) → slice_get xs n ≡ Some b → Always (cell.undamaged) (state b)
   each_undamaged zero b is = first b is
   each_undamaged (suc n) b is =
       let before = get_before xs n b is in

@@ -16,7 +16,6 @@ use Rattle.session_model.specs.declared.answer.Answer.TheVariants.{Opened, Said}
 use Rattle.session_model.specs.declared.answer.Refusal.{Refusal}
 use Rattle.session_model.specs.declared.answer.Refusal.TheVariants.{InboxFull, OwnPacket, SkipLimit, Spent}
 use Rattle.session_record.specs.Record.{record_read}
-use Rattle.slot_store.specs.Records.{stored_record}
 use Rattle.dr_model.specs.Conversations.Conversation.{Conversation, is_said, positions}
 use Rattle.dr_model.specs.Conversations.Posts.{post_at}
 use Rattle.dr_model.specs.Conversations.Views.{View, after_opening, has_opened, missing_of, outbox_of}
@@ -34,10 +33,10 @@ use Rattle.dr_model.proofs.Growth.Growing.{positions-said}
 use Rattle.dr_model.proofs.Worlds.LastingPackets.{packets_last}
 use Rattle.dr_model.proofs.Worlds.Runs.{among_last, opened_with, stays}
 use Rattle.dr_model.proofs.Worlds.WorldViews.{view_lawful}
-use Rattle.client.specs.Clients.{client_area}
-use Rattle.client.specs.InWorlds.{StandsFor}
-use Rattle.client.specs.Moments.{AreLinked, IsLater, Known}
-use Rattle.client.specs.Spent.{IsErasedOn, IsUsed}
+use Rattle.client.specs.Cells.{Cell}
+use Rattle.client.specs.InWorlds.{CellStandsFor}
+use Rattle.client.specs.Moments.{AreLinkedInCell, IsLater, Known}
+use Rattle.client.specs.Spent.{IsErasedInCell, IsUsed}
 use Rattle.client.proofs.Later.{later_twice, lawful_at}
 use Rattle.client.proofs.Standing.{among, first_later, later, stands}
 
@@ -157,21 +156,24 @@ said_used k w side client next text draw p made lawful is =
 -- ---- erased, and for good
 
 -- bytes that stand for a world in which a position was used
-pub erased_at : (k : Mechanism) → IsErased k → (w : World) (side : Side) (p : Position) (c : List ℕ) (kept : Client)
-    → IsLawfulWorld k w → StandsFor k w side c → IsUsed w side p
-    → option_map (record_read k) (stored_record client_area c) ≡ Some (Ok kept)
+pub erased_at : (cell : Cell) → (k : Mechanism) → IsErased k
+    → (w : World) (side : Side) (p : Position) (c : List ℕ) (kept : Client)
+    → IsLawfulWorld k w → CellStandsFor cell k w side c → IsUsed w side p
+    → option_map (record_read k) (cell.record_in c) ≡ Some (Ok kept)
     → Made (Holds kept.state) (the_message_key p.epoch p.index) → ⊥
-erased_at k erased w side p c kept lawful stood used reads made =
+erased_at cell k erased w side p c kept lawful stood used reads made =
     let same : kept_in k w side ≡ kept = cc (sym stood ∙ reads) in
     let view = view_lawful k w side lawful in
     let there = subst (λ (x : Client). Made (Holds x.state) (the_message_key p.epoch p.index)) (sym same) made in
     ⊎_elim (λ opened. erased.opened w.conversation side (view_of w side) p view opened there)
     (λ said. erased.said w.conversation side (view_of w side) p lawful.conversation view said.0 said.1 there) used
 
-pub used_erased : (k : Mechanism) → IsErased k → (w : World) (side : Side) (p : Position) (disk : DiskState)
-    → IsLawfulWorld k w → Always (StandsFor k w side) disk → IsUsed w side p → IsErasedOn k p disk
-used_erased k erased w side p disk lawful stood used c kept left =
-    erased_at k erased w side p c kept lawful (stood c left) used
+pub used_erased : (cell : Cell) → (k : Mechanism) → IsErased k
+    → (w : World) (side : Side) (p : Position) (disk : DiskState)
+    → IsLawfulWorld k w → Always (CellStandsFor cell k w side) disk → IsUsed w side p
+    → IsErasedInCell cell k p disk
+used_erased cell k erased w side p disk lawful stood used c kept left =
+    erased_at cell k erased w side p c kept lawful (stood c left) used
 
 -- what was used stays used
 pub used_later : (k : Mechanism) (w last : World) (side : Side) (p : Position) → IsLawfulWorld k w → IsLater k w last
@@ -182,27 +184,31 @@ used_later k w last side p lawful later used =
     (λ said. inr ((packets_last k w later.events p lawful later.whole said.0).0, said.1)) used)
 
 -- bytes that stand for a later world
-pub erased_in : (k : Mechanism) → IsErased k → (w last : World) (side : Side) (p : Position) (c : List ℕ) (kept : Client)
-    → IsLawfulWorld k w → IsLater k w last → StandsFor k last side c → IsUsed w side p
-    → option_map (record_read k) (stored_record client_area c) ≡ Some (Ok kept)
+pub erased_in : (cell : Cell) → (k : Mechanism) → IsErased k
+    → (w last : World) (side : Side) (p : Position) (c : List ℕ) (kept : Client)
+    → IsLawfulWorld k w → IsLater k w last → CellStandsFor cell k last side c → IsUsed w side p
+    → option_map (record_read k) (cell.record_in c) ≡ Some (Ok kept)
     → Made (Holds kept.state) (the_message_key p.epoch p.index) → ⊥
-erased_in k erased w last side p c kept lawful later stood used =
-    erased_at k erased last side p c kept (lawful_at k w last lawful later) stood (used_later k w last side p lawful later used)
+erased_in cell k erased w last side p c kept lawful later stood used =
+    erased_at cell k erased last side p c kept (lawful_at k w last lawful later) stood (used_later k w last side p lawful later used)
 
 -- ---- at every later moment
 
-pub erased_later : {X : Type 0} (state : X → DiskState) (xs : List X) (k : Mechanism) (side : Side) (first : World)
-    (known : ℕ → Known) → IsErased k → IsLawfulWorld k first → AreLinked state xs k side first known
+pub erased_later : (cell : Cell) {X : Type 0} (state : X → DiskState) (xs : List X) (k : Mechanism)
+    (side : Side) (first : World)
+    (known : ℕ → Known) → IsErased k → IsLawfulWorld k first → AreLinkedInCell cell state xs k side first known
     → (n m : ℕ) (b : X) → n ≤ m → slice_get xs m ≡ Some b → (p : Position) → IsUsed (known n).last side p
-    → IsErasedOn k p (state b)
-erased_later state xs k side first known erased lawful linked n m b le is p used c kept left =
+    → IsErasedInCell cell k p (state b)
+erased_later cell state xs k side first known erased lawful linked n m b le is p used c kept left =
     let w = (known n).last in
-    let here = lawful_at k first w lawful (first_later state xs k side first known linked n m b le is) in
-    let last = later state xs k side first known linked n m b le is in
-    let still = stands state xs k side first known linked m b is in
-    ⊎_elim (λ stood. erased_in k erased w (known m).last side p c kept here last stood used)
-    (λ (at : Any (λ (v : World). StandsFor k v side c) (known m).doubtful).
-    erased_in k erased w at.1 side p c kept here
+    let here =
+    lawful_at k first w lawful
+    (first_later cell state xs k side first known linked n m b le is) in
+    let last = later cell state xs k side first known linked n m b le is in
+    let still = stands cell state xs k side first known linked m b is in
+    ⊎_elim (λ stood. erased_in cell k erased w (known m).last side p c kept here last stood used)
+    (λ (at : Any (λ (v : World). CellStandsFor cell k v side c) (known m).doubtful).
+    erased_in cell k erased w at.1 side p c kept here
     (later_twice k w (known m).last at.1 last
     (among (IsLater k (known m).last) (known m).doubtful at.1 still.doubtful_later (at.0, at.2, at.3)))
     at.4 used)

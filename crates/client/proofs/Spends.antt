@@ -15,12 +15,12 @@ use Rattle.dr_ports.specs.States.{DrawsState}
 use Rattle.kem_laws.specs.Mechanism.{Mechanism}
 use Rattle.session_model.specs.Clients.{Client, say_check}
 use Rattle.session_model.specs.declared.answer.Answer.TheVariants.{Said}
-use Rattle.client.specs.Clients.{ClientNow, MayActOn}
+use Rattle.client.specs.Keepings.{HoldsKept, Keeping, MayKeeperAct, cell_of}
 use Rattle.client.specs.Grounds.{Grounds}
-use Rattle.client.specs.InWorlds.{ActsIn, IsIn}
-use Rattle.client.specs.Outcomes.{IsDone, acknowledged, said_as, taken_as}
-use Rattle.client.specs.Saying.{IsSeedDrawn, SaysWithDraw, SaysIn, acted, asks_seed, draw_failed, stayed, was_drawn, was_unasked, with_draw, without_draw}
-use Rattle.client.specs.Spent.{IsSpent}
+use Rattle.client.specs.InWorlds.{IsKeeperIn, KeeperActsIn}
+use Rattle.client.specs.Outcomes.{IsKeeperDone, acknowledged, said_as, taken_as}
+use Rattle.client.specs.Saying.{KeeperDraws, KeeperSaysIn, KeeperSaysWithDraw, acted, draw_failed, keeper_asks_seed, stayed, was_drawn, was_unasked, with_draw, without_draw}
+use Rattle.client.specs.Spent.{IsSpentInCell}
 use Rattle.client.specs.declared.refusals.SayRefusal.{SayRefusal}
 use Rattle.client.specs.declared.refusals.TakeRefusal.{TakeRefusal}
 use Rattle.client.proofs.Lifted.{lift}
@@ -28,63 +28,91 @@ use Rattle.client.proofs.Spending.{said_used, taken_used, used_erased}
 
 -- ---- a packet that was taken
 
-pub take_spends : (k : Mechanism) (grounds : Grounds k) (packet : List ℕ) (old new : ClientNow) (start now : DiskState)
+pub take_spends : {S : Type 0} (keeping : Keeping S) (k : Mechanism) (grounds : Grounds k)
+    (packet : List ℕ) (old new : S) (start now : DiskState)
     (result : Result Position TakeRefusal)
-    → ((w : World) (side : Side) → IsIn k w side old → IsUnforged k w side packet
-    → ActsIn k w side (taking packet) old new start now (taken_as result))
-    → IfOk result (λ p. (w : World) (side : Side) → IsIn k w side old → IsUnforged k w side packet
-    → IsSpent k (act_in k w side (taking packet)).next side p now)
-take_spends k grounds packet old new start now (Err refusal) acts = tt
-take_spends k grounds packet old new start now (Ok p) acts = λ w side is unforged.
+    → ((w : World) (side : Side) → IsKeeperIn keeping k w side old → IsUnforged k w side packet
+    → KeeperActsIn keeping k w side (taking packet) old new start now (taken_as result))
+    → IfOk result
+    (λ p. (w : World) (side : Side) → IsKeeperIn keeping k w side old → IsUnforged k w side packet
+    → IsSpentInCell (cell_of keeping old) k (act_in k w side (taking packet)).next side p now)
+take_spends keeping k grounds packet old new start now (Err refusal) acts = tt
+take_spends keeping k grounds packet old new start now (Ok p) acts = λ w side is unforged.
     let done = acts w side is unforged in
     let used = inl (taken_used k w side packet p done.0) in
-    record { used = used; erased = used_erased k grounds.erased (act_in k w side (taking packet)).next side p now done.1.lawful done.3 used }
+    record { used = used; erased = used_erased (cell_of keeping old) k grounds.erased (act_in k w side (taking packet)).next side p now done.1.lawful done.3 used }
 
 -- ---- a text that was said
 
 -- an unclosed client asks for a seed where the machine needs one
-asked : (k : Mechanism) (w : World) (side : Side) (client : ClientNow) (len : ℕ) (asks : Bool) → IsIn k w side client
-    → asks_seed client len ≡ asks → client.closed ≡ None → asks ≡ needs_seed (may_say k w side len)
-asked k w side client len asks is e unclosed =
+asked : {S : Type 0} (keeping : Keeping S) (k : Mechanism) (w : World) (side : Side) (client : S)
+    (len : ℕ) (asks : Bool) → IsKeeperIn keeping k w side client
+    → keeper_asks_seed keeping client len ≡ asks → keeping.closed client ≡ None
+    → asks ≡ needs_seed (may_say k w side len)
+asked keeping k w side client len asks is e unclosed =
     sym e
-    ∙ ap (λ closed. is_none closed && needs_seed (say_check client.kept len)) unclosed
+    ∙ ap (λ closed. is_none closed && needs_seed (say_check (keeping.kept client) len)) unclosed
     ∙ ap (λ (c : Client). needs_seed (say_check c len)) (is.keeps ∙ sym (client_of-kept k w side))
     ∙ ap needs_seed (same_check k w side len is.lawful)
 
-module _ (k : Mechanism) (grounds : Grounds k) (w : World) (side : Side) (text : List ℕ) (old new : ClientNow)
-    (is : IsIn k w side old) {X W : Type 0} (state : X → DiskState) (draws : W → DrawsState)
-    (start now : X) (source left : W) (ready : MayActOn old (state start)) where
-  fair_without : asks_seed old (length text) ≡ false → old.closed ≡ None → IsFairAct k w side (saying text None)
-  fair_without none unclosed = record { needed = asked k w side old (length text) false is none unclosed; whole = tt }
+module _ {S : Type 0} (keeping : Keeping S) (k : Mechanism) (grounds : Grounds k) (w : World)
+    (side : Side) (text : List ℕ) (old new : S)
+    (is : IsKeeperIn keeping k w side old) {X W : Type 0} (state : X → DiskState) (holds : (x : X) → HoldsKept keeping (state x)) (draws : W → DrawsState)
+    (start now : X) (source left : W) (ready : MayKeeperAct keeping old (state start)) where
+  fair_without : keeper_asks_seed keeping old (length text) ≡ false → keeping.closed old ≡ None
+      → IsFairAct k w side (saying text None)
+  fair_without none unclosed =
+      record {
+        needed = asked keeping k w side old
+            (length text) false is none unclosed;
+        whole = tt;
+      }
 
-  fair_with : (seed : List ℕ) → asks_seed old (length text) ≡ true → length seed ≡ 32 → old.closed ≡ None
+  fair_with : (seed : List ℕ) → keeper_asks_seed keeping old (length text) ≡ true → length seed ≡ 32
+      → keeping.closed old ≡ None
       → IsFairAct k w side (saying text (Some seed))
-  fair_with seed asks long unclosed = record { needed = asked k w side old (length text) true is asks unclosed; whole = long }
+  fair_with seed asks long unclosed =
+      record {
+        needed = asked keeping k w side old
+            (length text) true is asks unclosed;
+        whole = long;
+      }
 
-  pub says_in : (result : Result Position SayRefusal) → SaysWithDraw state draws k text old new start now source left result
-      → SaysIn draws k w side text old new (state start) (state now) source left (said_as result)
+  pub says_in : (result : Result Position SayRefusal)
+      → KeeperSaysWithDraw keeping state draws k text old new start now source left result
+      → KeeperSaysIn keeping draws k w side text old new (state start) (state now) source left
+      (said_as result)
   says_in result (without_draw r none same acts) =
       acted (said_as r) None (was_unasked none same) (fair_without none)
-      (lift k grounds w side (saying text None) old new is state start now ready (fair_without none) (said_as r) acts)
+      (lift keeping k grounds w side (saying text None) old new is state holds start now ready (fair_without none) (said_as r) acts)
   says_in result (with_draw r seed asks long drew quiet acts back) =
       acted (said_as r) (Some seed.bytes) (was_drawn seed.bytes asks long drew quiet) (fair_with seed.bytes asks long)
-      (lift k grounds w side (saying text (Some seed.bytes)) old new is state start now ready
+      (lift keeping k grounds w side (saying text (Some seed.bytes)) old new is state holds start now ready
       (fair_with seed.bytes asks long) (said_as r) acts)
   says_in result (draw_failed asks rose same stays leaves) = stayed asks rose same stays
 
-  done_spends : (draw : Option (List ℕ)) (p : Position) → (old.closed ≡ None → IsFairAct k w side (saying text draw))
-      → IsDone (act_on k old.kept (saying text draw)) old new (state start) (state now) (Said p)
-      → IsSpent k (act_in k w side (saying text draw)).next side p (state now)
+  done_spends : (draw : Option (List ℕ)) (p : Position)
+      → (keeping.closed old ≡ None → IsFairAct k w side (saying text draw))
+      → IsKeeperDone keeping (act_on k (keeping.kept old) (saying text draw)) old new (state start)
+      (state now) (Said p)
+      → IsSpentInCell (cell_of keeping old) k (act_in k w side (saying text draw)).next side p
+      (state now)
   done_spends draw p fair acts =
       let next = (act_in k w side (saying text draw)).next in
-      let worlds = lift k grounds w side (saying text draw) old new is state start now ready fair (acknowledged (Said p)) acts in
-      let used = inr (said_used k next side old.kept new.kept text draw p acts.made_is worlds.1.lawful worlds.1.keeps) in
-      record { used = used; erased = used_erased k grounds.erased next side p (state now) worlds.1.lawful worlds.3 used }
+      let worlds =
+      lift keeping k grounds w side
+      (saying text draw) old new is state holds start now ready fair
+      (acknowledged (Said p)) acts in
+      let used =
+      inr (said_used k next side (keeping.kept old)
+      (keeping.kept new) text draw p acts.made_is worlds.1.lawful worlds.1.keeps) in
+      record { used = used; erased = used_erased (cell_of keeping old) k grounds.erased next side p (state now) worlds.1.lawful worlds.3 used }
 
   pub say_spends : (result : Result Position SayRefusal)
-      → SaysWithDraw state draws k text old new start now source left result
-      → IfOk result (λ p. (draw : Option (List ℕ)) × IsSeedDrawn draws old (length text) source left draw
-      × IsSpent k (act_in k w side (saying text draw)).next side p (state now))
+      → KeeperSaysWithDraw keeping state draws k text old new start now source left result
+      → IfOk result
+      (λ p. (draw : Option (List ℕ)) × KeeperDraws keeping draws old (length text) source left draw
+      × IsSpentInCell (cell_of keeping old) k (act_in k w side (saying text draw)).next side p (state now))
   say_spends result (without_draw (Ok p) none same acts) = (None, was_unasked none same, done_spends None p (fair_without none) acts)
   say_spends result (without_draw (Err e) none same acts) = tt
   say_spends result (with_draw (Ok p) seed asks long drew quiet acts back) =

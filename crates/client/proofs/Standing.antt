@@ -9,8 +9,9 @@ use Rattle.dr_model.specs.Machines.WorldActs.{act_in}
 use Rattle.dr_model.specs.Machines.Worlds.{World}
 use Rattle.kem_laws.specs.Mechanism.{Mechanism}
 use Rattle.sync_model.specs.Courses.{begun}
-use Rattle.client.specs.InWorlds.{StandsFor}
-use Rattle.client.specs.Moments.{AreLinked, IsActed, IsKnown, IsLater, IsAmongKnown, Known, Link, StandsStill, reached_by, settled_in, known_after_sync, was_acknowledged, was_cut, was_cut_in_sync, was_left, was_moved, was_opened, was_synced, with_doubts}
+use Rattle.client.specs.Cells.{Cell}
+use Rattle.client.specs.InWorlds.{CellStandsFor}
+use Rattle.client.specs.Moments.{AreLinkedInCell, CellLink, CellStandsStill, IsActed, IsAmongKnown, IsKnownInCell, IsLater, Known, known_after_sync, reached_by, settled_in, was_acknowledged, was_cut, was_cut_in_sync, was_left, was_moved, was_opened, was_synced, with_doubts}
 use Rattle.client.specs.Syncing.InWorlds.{course_in}
 use Rattle.client.specs.Syncing.Parties.{world_party}
 use Rattle.client.proofs.Later.{act_later, acted_later, acted_none, acted_once, acted_twice, back_acted, front_later, itself, later_twice}
@@ -20,9 +21,10 @@ pub among : {X : Type 0} (P : X → Type 0) (xs : List X) (x : X) → All P xs �
 among P xs x all at = subst P at.2 (all at.0 x at.1)
 
 -- one world in doubt
-pub one_known : (k : Mechanism) (w : World) (side : Side) (c : List ℕ) → StandsFor k w side c
-    → Any (λ v. StandsFor k v side c) (w ∷ [])
-one_known k w side c stood = (0, w, omega arith, refl, stood)
+pub one_known : (cell : Cell) → (k : Mechanism) (w : World) (side : Side) (c : List ℕ)
+    → CellStandsFor cell k w side c
+    → Any (λ v. CellStandsFor cell k v side c) (w ∷ [])
+one_known cell k w side c stood = (0, w, omega arith, refl, stood)
 
 pub only : {X : Type 0} (P : X → Type 0) (x : X) → Any P (x ∷ []) → P x
 only {X = X} P x at = by_place at.0 at.1 at.2 at.3 at.4
@@ -42,20 +44,24 @@ in_second P xs ys at =
     (length xs + at.0, at.1, omega (arith, at.2, length-append xs ys), get_or-append-add xs ys at.0 at.1 ∙ at.3, at.4)
 
 -- what stood for a known world, or stands for one that is known or for one of more, is known with those
-more_known : (k : Mechanism) (side : Side) (known : Known) (worlds : List World) (w : World) (c : List ℕ) → IsAmongKnown known w
-    → IsKnown k side known c ⊎ (StandsFor k w side c ⊎ Any (λ v. StandsFor k v side c) worlds)
-    → IsKnown k side (with_doubts known worlds) c
-more_known k side known worlds w c which either =
-    ⊎_elim (λ was. ⊎_elim inl (λ at. inr (in_first (λ v. StandsFor k v side c) known.doubtful worlds at)) was)
-    (λ stood. ⊎_elim (λ is. ⊎_elim (λ e. inl (subst (λ v. StandsFor k v side c) e is))
-    (λ at. inr (in_first (λ v. StandsFor k v side c) known.doubtful worlds (at.0, w, at.1, at.2, is))) which)
-    (λ at. inr (in_second (λ v. StandsFor k v side c) known.doubtful worlds at)) stood) either
+more_known : (cell : Cell)
+    → (k : Mechanism) (side : Side) (known : Known) (worlds : List World) (w : World) (c : List ℕ)
+    → IsAmongKnown known w
+    → IsKnownInCell cell k side known c
+    ⊎ (CellStandsFor cell k w side c ⊎ Any (λ v. CellStandsFor cell k v side c) worlds)
+    → IsKnownInCell cell k side (with_doubts known worlds) c
+more_known cell k side known worlds w c which either =
+    ⊎_elim (λ was. ⊎_elim inl (λ at. inr (in_first (λ v. CellStandsFor cell k v side c) known.doubtful worlds at)) was)
+    (λ stood. ⊎_elim (λ is. ⊎_elim (λ e. inl (subst (λ v. CellStandsFor cell k v side c) e is))
+    (λ at. inr (in_first (λ v. CellStandsFor cell k v side c) known.doubtful worlds (at.0, w, at.1, at.2, is))) which)
+    (λ at. inr (in_second (λ v. CellStandsFor cell k v side c) known.doubtful worlds at)) stood) either
 
-module _ (k : Mechanism) (side : Side) (first : World) where
+module _ (cell : Cell) (k : Mechanism) (side : Side) (first : World) where
   abbrev Still : Known → DiskState → Type 0
-  Still = StandsStill k side first
+  Still = CellStandsStill cell k side first
 
-  settled_still : (w : World) (b : DiskState) → IsLater k first w → Always (StandsFor k w side) b → Still (settled_in w) b
+  settled_still : (w : World) (b : DiskState) → IsLater k first w
+      → Always (CellStandsFor cell k w side) b → Still (settled_in w) b
   settled_still w b later rests = record {
     images = λ c left. inl (rests c left);
     last_later = later;
@@ -64,7 +70,8 @@ module _ (k : Mechanism) (side : Side) (first : World) where
   }
 
   -- what is acted is later
-  still_by : (known : Known) (b : DiskState) → Always (IsKnown k side known) b → IsLater k first known.last
+  still_by : (known : Known) (b : DiskState) → Always (IsKnownInCell cell k side known) b
+      → IsLater k first known.last
       → All (IsActed k side known.last) known.doubtful → Still known b
   still_by known b images later acted = record {
     images = images;
@@ -86,16 +93,19 @@ module _ (k : Mechanism) (side : Side) (first : World) where
   -- more worlds in doubt, to which acts lead from one that is known
   doubts_still : (known : Known) (a b : DiskState) (w : World) (worlds : List World) → IsAmongKnown known w → Still known a
       → All (IsActed k side w) worlds
-      → ((c : List ℕ) → b.image c → a.image c ⊎ (StandsFor k w side c ⊎ Any (λ v. StandsFor k v side c) worlds))
+      → ((c : List ℕ) → b.image c
+      → a.image c
+      ⊎ (CellStandsFor cell k w side c ⊎ Any (λ v. CellStandsFor cell k v side c) worlds))
       → Still (with_doubts known worlds) b
   doubts_still known a b w worlds which still acted left_by =
       still_by (with_doubts known worlds) b
-      (λ c left. more_known k side known worlds w c which (⊎_elim (λ was. inl (still.images c was)) inr (left_by c left)))
+      (λ c left. more_known cell k side known worlds w c which (⊎_elim (λ was. inl (still.images c was)) inr (left_by c left)))
       still.last_later
       (All-append (IsActed k side known.last) known.doubtful worlds still.doubtful_acted
       (All-weaker (IsActed k side w) (IsActed k side known.last) (λ v is. acted_twice k side known.last w v (opened_acted known a w which still) is) worlds acted))
 
-  goes_on : (a b : DiskState) (before after : Known) → Link k side a b before after → Still before a → Still after b
+  goes_on : (a b : DiskState) (before after : Known) → CellLink cell k side a b before after
+      → Still before a → Still after b
   goes_on a b before after (was_opened known w which rests) still = settled_still w b (opened_later known a w which still) rests
   goes_on a b before after (was_acknowledged known w which act fair rests) still =
       let next = (act_in k w side act).next in
@@ -104,7 +114,7 @@ module _ (k : Mechanism) (side : Side) (first : World) where
       let next = (act_in k w side act).next in
       doubts_still known a b w (next ∷ []) which still
       (All-cons (IsActed k side w) next [] (acted_once k side w act fair) (All-nil (IsActed k side w)))
-      (λ c left. ⊎_elim inl (λ stood. inr (⊎_elim inl (λ is. inr (one_known k next side c is)) stood)) (left_by c left))
+      (λ c left. ⊎_elim inl (λ stood. inr (⊎_elim inl (λ is. inr (one_known cell k next side c is)) stood)) (left_by c left))
   goes_on a b before after (was_synced known w which prefix front back fair images) still =
       still_by (known_after_sync k prefix side w front back) b images
       (later_twice k first w (course_in k prefix side w front).state (opened_later known a w which still) (front_later k prefix side w front back fair))
@@ -123,7 +133,8 @@ module _ (k : Mechanism) (side : Side) (first : World) where
       (later_twice k first known.last moved.last still.last_later have.last_later) have.doubtful_acted
 
   -- what was acknowledged or opened last comes later with each link
-  last_later : (a b : DiskState) (before after : Known) → Link k side a b before after → Still before a
+  last_later : (a b : DiskState) (before after : Known) → CellLink cell k side a b before after
+      → Still before a
       → IsLater k before.last after.last
   last_later a b before after (was_opened known w which rests) still = acted_later k side known.last w (opened_acted known a w which still)
   last_later a b before after (was_acknowledged known w which act fair rests) still =
@@ -149,18 +160,20 @@ get_back xs n (suc more) b h =
     let before = get_before xs (n + more) b (ap (slice_get xs) (omega arith) ∙ h) in
     get_back xs n more before.0 before.1
 
-module _ {X : Type 0} (state : X → DiskState) (xs : List X) (k : Mechanism) (side : Side) (first : World) (known : ℕ → Known)
-    (linked : AreLinked state xs k side first known) where
-  pub stands : (n : ℕ) (a : X) → slice_get xs n ≡ Some a → StandsStill k side first (known n) (state a)
+module _ (cell : Cell) {X : Type 0} (state : X → DiskState) (xs : List X) (k : Mechanism)
+    (side : Side) (first : World) (known : ℕ → Known)
+    (linked : AreLinkedInCell cell state xs k side first known) where
+  pub stands : (n : ℕ) (a : X) → slice_get xs n ≡ Some a
+      → CellStandsStill cell k side first (known n) (state a)
   stands zero a is =
-      subst (λ (kn : Known). StandsStill k side first kn (state a)) (sym linked.begins)
-      (settled_still k side first first (state a) (itself k first) (linked.stands a is))
+      subst (λ (kn : Known). CellStandsStill cell k side first kn (state a)) (sym linked.begins)
+      (settled_still cell k side first first (state a) (itself k first) (linked.stands a is))
   stands (suc n) b is =
       let before = get_before xs n b is in
       let step : n + 1 ≡ suc n = omega arith in
       let link = linked.links n before.0 b before.1 (ap (slice_get xs) step ∙ is) in
-      subst (λ m. StandsStill k side first (known m) (state b)) step
-      (goes_on k side first (state before.0) (state b) (known n) (known (n + 1)) link (stands n before.0 before.1))
+      subst (λ m. CellStandsStill cell k side first (known m) (state b)) step
+      (goes_on cell k side first (state before.0) (state b) (known n) (known (n + 1)) link (stands n before.0 before.1))
 
   -- from a moment to one that is this many links later
   later_by : (n more : ℕ) (b : X) → slice_get xs (n + more) ≡ Some b → IsLater k (known n).last (known (n + more)).last
@@ -172,7 +185,7 @@ module _ {X : Type 0} (state : X → DiskState) (xs : List X) (k : Mechanism) (s
       let link = linked.links (n + more) before.0 b before.1 (ap (slice_get xs) one ∙ is) in
       subst (λ m. IsLater k (known n).last (known m).last) one
       (later_twice k (known n).last (known (n + more)).last (known (n + more + 1)).last (later_by n more before.0 before.1)
-      (last_later k side first (state before.0) (state b) (known (n + more)) (known (n + more + 1)) link
+      (last_later cell k side first (state before.0) (state b) (known (n + more)) (known (n + more + 1)) link
       (stands (n + more) before.0 before.1)))
 
   pub later : (n m : ℕ) (b : X) → n ≤ m → slice_get xs m ≡ Some b → IsLater k (known n).last (known m).last

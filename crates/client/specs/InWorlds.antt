@@ -11,42 +11,72 @@ use Rattle.dr_model.specs.Theorems.LawfulWorlds.{IsLawfulWorld}
 use Rattle.kem_laws.specs.Mechanism.{Mechanism}
 use Rattle.session_model.specs.declared.answer.Answer.TheVariants.{Refused}
 use Rattle.session_record.specs.Record.{record_read}
-use Rattle.slot_store.specs.Reading.{IsUndamaged}
-use Rattle.slot_store.specs.Records.{stored_record}
-use Rattle.slot_store.specs.Store.{KeepsOutsideArea}
-use Rattle.client.specs.Clients.{ClientNow, client_area}
+use Rattle.client.specs.Cells.{Cell, KeepsOutsideCell, client_cell}
+use Rattle.client.specs.Clients.{ClientNow}
+use Rattle.client.specs.Keepings.{Keeping, cell_of, client_keeping}
 use Rattle.client.specs.Outcomes.{Outcome, acknowledged, faulted, is_closed, refused, undrawn}
 
--- a client that keeps a side of a lawful world
-pub record IsIn (k : Mechanism) (w : World) (side : Side) (client : ClientNow) : Type 0 where
+-- what keeps a side of a lawful world
+pub record IsKeeperIn {S : Type 0} (keeping : Keeping S) (k : Mechanism) (w : World) (side : Side)
+    (s : S) : Type 0 where
   pub lawful : IsLawfulWorld k w
-  pub keeps : client.kept ≡ kept_in k w side
+  pub keeps : keeping.kept s ≡ kept_in k w side
 
--- bytes that stand for a side of a world: the record that they have is read as what the side keeps there
-abbrev pub StandsFor : Mechanism → World → Side → List ℕ → Type 0
-StandsFor k w side c = option_map (record_read k) (stored_record client_area c) ≡ Some (Ok (kept_in k w side))
+-- bytes that stand for a side of a world: the record that a place has is read as what the side
+-- keeps there
+abbrev pub CellStandsFor : Cell → Mechanism → World → Side → List ℕ → Type 0
+CellStandsFor cell k w side c =
+    option_map (record_read k) (cell.record_in c) ≡ Some (Ok (kept_in k w side))
 
--- bytes that stand for a side of one of two worlds, and are read without damage; outside the client's area they are as they were
-pub record StandsForEither (k : Mechanism) (side : Side) (before after : World) (start : DiskState) (c : List ℕ) : Type 0 where
-  pub either : StandsFor k before side c ⊎ StandsFor k after side c
-  pub undamaged : IsUndamaged client_area c
-  pub outside : KeepsOutsideArea client_area start c
+-- bytes that stand for a side of one of two worlds, and are read without damage; outside the place
+-- they are as they were
+pub record CellStandsForEither (cell : Cell) (k : Mechanism) (side : Side) (before after : World)
+    (start : DiskState) (c : List ℕ) : Type 0 where
+  pub either : CellStandsFor cell k before side c ⊎ CellStandsFor cell k after side c
+  pub undamaged : cell.undamaged c
+  pub outside : KeepsOutsideCell cell start c
 
 -- from one moment to the other each crash leaves the one world or the other
+abbrev pub IsBetweenInCell : Cell → Mechanism → Side → World → World → DiskState → DiskState
+    → Type 0
+IsBetweenInCell cell k side before after start now =
+    Span start now (CellStandsForEither cell k side before after start)
+
+-- ---- where a client lies
+
+abbrev pub StandsFor : Mechanism → World → Side → List ℕ → Type 0
+StandsFor = CellStandsFor client_cell
+
+abbrev pub StandsForEither : Mechanism → Side → World → World → DiskState → List ℕ → Type 0
+StandsForEither = CellStandsForEither client_cell
+
 abbrev pub IsBetween : Mechanism → Side → World → World → DiskState → DiskState → Type 0
-IsBetween k side before after start now = Span start now (StandsForEither k side before after start)
+IsBetween = IsBetweenInCell client_cell
 
 -- The answer is the machine's. Meanwhile each crash leaves the world before the act or the one after it, and once it is
 -- acknowledged, the one after it. A refusal leaves the world. Where a call on the disk fails the client shows the world
 -- before.
+abbrev pub KeeperActsIn : {S : Type 0} → Keeping S → Mechanism → World → Side → Act → S → S
+    → DiskState → DiskState → Outcome → Type 0
+KeeperActsIn keeping k w side act old new start now (is_closed call) = new ≡ old
+KeeperActsIn keeping k w side act old new start now (refused refusal) =
+    ((act_in k w side act).answer ≡ Refused refusal) × (new ≡ old)
+    × IsKeeperIn keeping k (act_in k w side act).next side new
+KeeperActsIn keeping k w side act old new start now undrawn = ⊥
+KeeperActsIn keeping k w side act old new start now (acknowledged answer) =
+    ((act_in k w side act).answer ≡ answer)
+    × IsKeeperIn keeping k (act_in k w side act).next side new
+    × IsBetweenInCell (cell_of keeping old) k side w (act_in k w side act).next start now
+    × Always (CellStandsFor (cell_of keeping old) k (act_in k w side act).next side) now
+KeeperActsIn keeping k w side act old new start now (faulted call) =
+    (keeping.kept new ≡ keeping.kept old)
+    × IsBetweenInCell (cell_of keeping old) k side w (act_in k w side act).next start now
+
+-- ---- of a client
+
+-- a client that keeps a side of a lawful world
+abbrev pub IsIn : Mechanism → World → Side → ClientNow → Type 0
+IsIn = IsKeeperIn client_keeping
+
 abbrev pub ActsIn : Mechanism → World → Side → Act → ClientNow → ClientNow → DiskState → DiskState → Outcome → Type 0
-ActsIn k w side act old new start now (is_closed call) = new ≡ old
-ActsIn k w side act old new start now (refused refusal) =
-    ((act_in k w side act).answer ≡ Refused refusal) × (new ≡ old) × IsIn k (act_in k w side act).next side new
-ActsIn k w side act old new start now undrawn = ⊥
-ActsIn k w side act old new start now (acknowledged answer) =
-    ((act_in k w side act).answer ≡ answer) × IsIn k (act_in k w side act).next side new
-    × IsBetween k side w (act_in k w side act).next start now
-    × Always (StandsFor k (act_in k w side act).next side) now
-ActsIn k w side act old new start now (faulted call) =
-    (new.kept ≡ old.kept) × IsBetween k side w (act_in k w side act).next start now
+ActsIn = KeeperActsIn client_keeping

@@ -1,4 +1,6 @@
 pub mod Clients
+pub mod Cells
+pub mod Keepings
 pub mod Drafting
 pub mod Cores
 pub mod Outcomes

@@ -11,14 +11,14 @@ use Rattle.session_model.specs.Clients.{Client}
 use Rattle.session_record.specs.Lawful.{IsLawfulClient}
 use Rattle.session_record.specs.Record.{record_read, record_text}
 use Rattle.session_record.specs.Versions.{is_newest}
-use Rattle.slot_store.specs.Areas.{IsSameOutsideArea}
-use Rattle.slot_store.specs.Reading.{IsUndamaged, AreaReading, damaged, no_content, area_reading}
+use Rattle.slot_store.specs.Reading.{AreaReading, damaged, no_content, area_reading}
 use Rattle.slot_store.specs.Records.{stored_record}
 use Rattle.slot_store.specs.Store.{Rests, SlotStore, content}
 use Rattle.slot_store.specs.declared.errors.OpenError.{OpenError}
 use Rattle.slot_store.specs.declared.errors.OpenError.TheVariants.{Damaged as StoreDamaged, Memory as StoreMemory, StoreFault as DiskFault}
+use Rattle.client.specs.Cells.{Cell, client_cell}
 use Rattle.client.specs.Clients.{ClientNow, IsReady, client_area}
-use Rattle.client.specs.InWorlds.{IsIn, StandsFor}
+use Rattle.client.specs.InWorlds.{CellStandsFor, IsIn, StandsFor}
 use Rattle.client.specs.declared.refusals.OpenRefusal.{OpenRefusal}
 use Rattle.client.specs.declared.refusals.OpenRefusal.TheVariants.{Damaged, Memory, NoSession, StoreFault}
 
@@ -48,21 +48,63 @@ IsSameOrNewest k was now = (now ≡ was)
     ⊎ ((kept : Client) × (option_map (record_read k) was ≡ Some (Ok kept)) × IsLawfulClient k kept × (now ≡ Some (record_text kept)))
 
 -- Bytes with the record that was read, or with the same client's in the newest version, and read without damage where those
--- were. Outside the client's area they are the same.
-pub record IsAsRead (k : Mechanism) (start : DiskState) (c : List ℕ) : Type 0 where
+-- were. Outside the place they are the same.
+pub record IsAsReadInCell (cell : Cell) (k : Mechanism) (start : DiskState) (c : List ℕ)
+    : Type 0 where
   pub read : List ℕ
   pub told : start.seen ≡ Some read
-  pub same : IsSameOrNewest k (stored_record client_area read) (stored_record client_area c)
-  pub undamaged : IsUndamaged client_area read → IsUndamaged client_area c
-  pub outside : IsSameOutsideArea client_area read c
+  pub same : IsSameOrNewest k (cell.record_in read) (cell.record_in c)
+  pub undamaged : cell.undamaged read → cell.undamaged c
+  pub outside : cell.outside read c
 
 -- an image of that moment, or one as what was read then
-abbrev pub IsEntryOrAsRead : Mechanism → DiskState → List ℕ → Type 0
-IsEntryOrAsRead k start c = start.image c ⊎ IsAsRead k start c
+abbrev pub IsEntryOrAsReadInCell : Cell → Mechanism → DiskState → List ℕ → Type 0
+IsEntryOrAsReadInCell cell k start c = start.image c ⊎ IsAsReadInCell cell k start c
 
 -- where what a read gives has a record, it is in the newest version
+abbrev pub IsReadNewestInCell : Cell → DiskState → Type 0
+IsReadNewestInCell cell disk =
+    (s text : List ℕ) → disk.seen ≡ Some s → cell.record_in s ≡ Some text → is_newest text ≡ true
+
+-- what a read gives has a client's record, in whatever version, and is read without damage
+pub record ReadsClientInCell (cell : Cell) (k : Mechanism) (disk : DiskState) : Type 0 where
+  pub kept : Client
+  pub bytes : List ℕ
+  pub told : disk.seen ≡ Some bytes
+  pub has : option_map (record_read k) (cell.record_in bytes) ≡ Some (Ok kept)
+  pub undamaged : cell.undamaged bytes
+
+-- what a read gives stands for a side of a world
+pub record CellReadsAsSide (cell : Cell) (k : Mechanism) (w : World) (side : Side)
+    (disk : DiskState) : Type 0 where
+  pub bytes : List ℕ
+  pub told : disk.seen ≡ Some bytes
+  pub stands : CellStandsFor cell k w side bytes
+
+-- while a place is opened in the world that a read stands for, and in each ending, a crash leaves
+-- what one might have left at
+-- entry, or what stands for it, and a read gives what does
+pub record StandsInOpening (cell : Cell) (k : Mechanism) (w : World) (side : Side)
+    (start now : DiskState) : Type 0 where
+  pub any_moment : Span start now (λ c. start.image c ⊎ CellStandsFor cell k w side c)
+  pub reads : (s : List ℕ) → now.seen ≡ Some s → CellStandsFor cell k w side s
+
+-- ---- where a client lies
+
+abbrev pub IsAsRead : Mechanism → DiskState → List ℕ → Type 0
+IsAsRead = IsAsReadInCell client_cell
+
+abbrev pub IsEntryOrAsRead : Mechanism → DiskState → List ℕ → Type 0
+IsEntryOrAsRead = IsEntryOrAsReadInCell client_cell
+
 abbrev pub IsReadNewest : DiskState → Type 0
-IsReadNewest disk = (s text : List ℕ) → disk.seen ≡ Some s → stored_record client_area s ≡ Some text → is_newest text ≡ true
+IsReadNewest = IsReadNewestInCell client_cell
+
+abbrev pub ReadsClient : Mechanism → DiskState → Type 0
+ReadsClient = ReadsClientInCell client_cell
+
+abbrev pub ReadsAsSide : Mechanism → World → Side → DiskState → Type 0
+ReadsAsSide = CellReadsAsSide client_cell
 
 -- ---- how an opening ends
 
@@ -91,14 +133,6 @@ IsUnopened state k start now (Damaged slot at) =
     IsReadAs k (state start) (damaged slot at) × IsQuiet (state start) (state now) × Unwritten (state start) (state now)
 IsUnopened state k start now NoSession = IsReadAs k (state start) no_content × IsQuiet (state start) (state now)
 
--- what a read gives has a client's record, in whatever version, and is read without damage
-pub record ReadsClient (k : Mechanism) (disk : DiskState) : Type 0 where
-  pub kept : Client
-  pub bytes : List ℕ
-  pub told : disk.seen ≡ Some bytes
-  pub has : option_map (record_read k) (stored_record client_area bytes) ≡ Some (Ok kept)
-  pub undamaged : IsUndamaged client_area bytes
-
 -- a refusal that says nothing of what was read: memory was wanting, or a call on the disk failed
 abbrev pub SaysNothing : OpenRefusal → Type 0
 SaysNothing Memory = ⊤
@@ -115,12 +149,6 @@ HasOneSync start now _ = HavePassed 1 start now
 pub record IsLeftAtRest (start now : DiskState) (result : Result ClientNow OpenRefusal) : Type 0 where
   pub unwritten : Unwritten start now
   pub one_sync : HasOneSync start now result
-
--- what a read gives stands for a side of a world
-pub record ReadsAsSide (k : Mechanism) (w : World) (side : Side) (disk : DiskState) : Type 0 where
-  pub bytes : List ℕ
-  pub told : disk.seen ≡ Some bytes
-  pub stands : StandsFor k w side bytes
 
 -- Opening a client in the world that a read stands for: the client keeps a side of it, and each image stands for it.
 -- Meanwhile, and in each ending, a crash leaves what one might have left at entry, or what stands for it, and a read gives

@@ -1,5 +1,5 @@
 -- What a call on a client does, by how it ends.
-use Rattle.std.specs.Prelude.{Err, None, Ok, Result, Some, Bool, true, false, ℕ, ◌+◌, ◌-◌, ◌<◌, ◌≡◌}
+use Rattle.std.specs.Prelude.{Bool, Err, None, Ok, Result, Some, false, true, ℕ, ◌+◌, ◌-◌, ◌<◌, ◌≡◌}
 use Rattle.dr_base.specs.Causes.{Rose}
 use Rattle.dr_base.specs.declared.position.Position.{Position}
 use Rattle.dr_disk.specs.Spans.{FailsLater, HasFailedAsTold, HavePassed, IsQuiet, Span}
@@ -12,9 +12,10 @@ use Rattle.session_model.specs.declared.answer.Answer.TheVariants.{Opened, Said}
 use Rattle.session_model.specs.declared.answer.Refusal.{Refusal}
 use Rattle.session_model.specs.declared.answer.Refusal.TheVariants.{Fewer, NoPair}
 use Rattle.session_record.specs.Record.{record_text}
-use Rattle.slot_store.specs.Stops.{IsStopped, call_after, calls_of}
-use Rattle.slot_store.specs.Store.{IsOldOrNew, ReadsOutsideArea, SlotStore}
-use Rattle.client.specs.Clients.{ClientNow, IsReady, client_area}
+use Rattle.slot_store.specs.Stops.{call_after, calls_of}
+use Rattle.client.specs.Cells.{Cell, IsOldOrNewInCell, IsStoppedInCell, ReadsOutsideCell, client_cell}
+use Rattle.client.specs.Clients.{ClientNow}
+use Rattle.client.specs.Keepings.{Keeping, cell_of, client_keeping}
 use Rattle.client.specs.declared.refusals.DropRefusal.{DropRefusal}
 use Rattle.client.specs.declared.refusals.DropRefusal.TheVariants.{Closed as DropClosed, Fewer as DropFewer, StoreFault as DropFault}
 use Rattle.client.specs.declared.refusals.SayRefusal.{SayRefusal}
@@ -60,10 +61,14 @@ kept_as answer (Err call) = faulted call
 
 -- ---- what happened to the disk while one record was replaced by another
 
--- each crash leaves the one or the other, with all outside the area as it was
+-- each crash leaves the one or the other, with all outside the place as it was
+abbrev pub IsReplacingInCell : Cell → Client → Client → DiskState → DiskState → Type 0
+IsReplacingInCell cell before after start now =
+    Span start now
+    (IsOldOrNewInCell cell start (Some (record_text before)) (Some (record_text after)))
+
 abbrev pub IsReplacing : Client → Client → DiskState → DiskState → Type 0
-IsReplacing before after start now =
-    Span start now (IsOldOrNew start client_area (Some (record_text before)) (Some (record_text after)))
+IsReplacing = IsReplacingInCell client_cell
 
 -- how many writes and syncs it takes
 abbrev pub replacing_calls : Client → Client → ℕ
@@ -75,20 +80,24 @@ replacing_call before after n =
     call_after (Some (record_text before)) (Some (record_text after)) n
 
 -- it was replaced, by so many writes and syncs, and the disk is at rest
-pub record IsKept (before after : Client) (store : SlotStore) (start now : DiskState) : Type 0 where
-  pub ready : IsReady after store now
-  pub any_moment : IsReplacing before after start now
-  pub reads : ReadsOutsideArea client_area start now
+pub record IsKeptBy {S : Type 0} (keeping : Keeping S) (before after : Client) (old new : S)
+    (start now : DiskState) : Type 0 where
+  pub ready : keeping.ready new now
+  pub stays : keeping.place new ≡ keeping.place old
+  pub any_moment : IsReplacingInCell (cell_of keeping old) before after start now
+  pub reads : ReadsOutsideCell (cell_of keeping old) start now
   pub passed : HavePassed (replacing_calls before after) start now
   pub ahead : FailsLater start now
   pub quiet : IsQuiet start now
 
 -- a call on the disk failed meanwhile, of this kind
-pub record IsLost (before after : Client) (call : Call) (start now : DiskState) : Type 0 where
-  pub any_moment : IsReplacing before after start now
-  pub reads : ReadsOutsideArea client_area start now
+pub record IsLostInCell (cell : Cell) (before after : Client) (call : Call) (start now : DiskState)
+    : Type 0 where
+  pub any_moment : IsReplacingInCell cell before after start now
+  pub reads : ReadsOutsideCell cell start now
   -- by how many writes and syncs passed: which of the two records each crash leaves, and a read gives
-  pub stopped : IsStopped client_area (Some (record_text before)) (Some (record_text after)) start now
+  pub stopped : IsStoppedInCell cell (Some (record_text before)) (Some (record_text after))
+      start now
   pub few : (l m : ℕ) → start.passed ≡ Some l → now.passed ≡ Some m
       → m < l + replacing_calls before after
   -- the call that failed is the one that came next
@@ -97,41 +106,81 @@ pub record IsLost (before after : Client) (call : Call) (start now : DiskState) 
   pub ended : HasFailedAsTold start now
   pub rose : Rose (start.faults call) (now.faults call)
 
--- ---- what a call does, over what its step makes of what the client keeps
+abbrev pub IsLost : Client → Client → Call → DiskState → DiskState → Type 0
+IsLost = IsLostInCell client_cell
+
+-- ---- what a call does, over what its step makes of what is kept
 
 -- the step took effect, and its record is on the disk
-pub record IsDone (made : Result (Step Client) Refusal) (old new : ClientNow) (start now : DiskState) (answer : Answer) : Type 0 where
-  pub made_is : made ≡ Ok (step answer new.kept)
-  pub was_open : old.closed ≡ None
-  pub stays_open : new.closed ≡ None
-  pub disk : IsKept old.kept new.kept new.store start now
+pub record IsKeeperDone {S : Type 0} (keeping : Keeping S) (made : Result (Step Client) Refusal)
+    (old new : S) (start now : DiskState) (answer : Answer) : Type 0 where
+  pub made_is : made ≡ Ok (step answer (keeping.kept new))
+  pub was_open : keeping.closed old ≡ None
+  pub stays_open : keeping.closed new ≡ None
+  pub disk : IsKeptBy keeping (keeping.kept old) (keeping.kept new) old new start now
 
 -- the step changed nothing, and no call on the disk was made
-abbrev pub IsIdle : {X : Type 0} → Result (Step Client) Refusal → ClientNow → ClientNow → X → X → Answer → Type 0
-IsIdle made old new start now answer =
-    (made ≡ Ok (step answer new.kept)) × (old.closed ≡ None) × (new ≡ old) × (now ≡ start)
+abbrev pub IsKeeperIdle : {S X : Type 0} → Keeping S → Result (Step Client) Refusal → S → S → X → X
+    → Answer → Type 0
+IsKeeperIdle keeping made old new start now answer =
+    (made ≡ Ok (step answer (keeping.kept new))) × (keeping.closed old ≡ None) × (new ≡ old)
+    × (now ≡ start)
 
--- a call on the disk failed in a step with an effect: the client is closed, and keeps what it kept
-pub record IsCutOff (made : Result (Step Client) Refusal) (old new : ClientNow) (start now : DiskState) (call : Call) : Type 0 where
+-- a call on the disk failed in a step with an effect: the keeper is closed, and keeps what it kept
+pub record IsKeeperCutOff {S : Type 0} (keeping : Keeping S) (made : Result (Step Client) Refusal)
+    (old new : S) (start now : DiskState) (call : Call) : Type 0 where
   pub next : Step Client
   pub made_is : made ≡ Ok next
   pub effect : has_effect next.answer ≡ true
-  pub was_open : old.closed ≡ None
-  pub closes : new.closed ≡ Some call
-  pub keeps : new.kept ≡ old.kept
-  pub disk : IsLost old.kept next.next call start now
+  pub was_open : keeping.closed old ≡ None
+  pub closes : keeping.closed new ≡ Some call
+  pub keeps : keeping.kept new ≡ keeping.kept old
+  pub disk : IsLostInCell (cell_of keeping old) (keeping.kept old) next.next call start now
+
+abbrev pub IsKeeperEffected : {S X : Type 0} → Keeping S → (X → DiskState) → Bool
+    → Result (Step Client) Refusal → S → S → X → X → Answer → Type 0
+IsKeeperEffected keeping state true made old new start now answer =
+    IsKeeperDone keeping made old new (state start) (state now) answer
+IsKeeperEffected keeping state false made old new start now answer =
+    IsKeeperIdle keeping made old new start now answer
+
+-- Just this: nothing is changed and no call on the disk is made where the keeper is closed, or the
+-- step is refused.
+abbrev pub KeeperActs : {S X : Type 0} → Keeping S → (X → DiskState) → Result (Step Client) Refusal
+    → S → S → X → X → Outcome → Type 0
+KeeperActs keeping state made old new start now (is_closed call) =
+    (keeping.closed old ≡ Some call) × (new ≡ old) × (now ≡ start)
+KeeperActs keeping state made old new start now (refused refusal) =
+    (keeping.closed old ≡ None) × (made ≡ Err refusal) × (new ≡ old) × (now ≡ start)
+KeeperActs keeping state made old new start now undrawn = ⊥
+KeeperActs keeping state made old new start now (acknowledged answer) =
+    IsKeeperEffected keeping state (has_effect answer) made old new start now answer
+KeeperActs keeping state made old new start now (faulted call) =
+    IsKeeperCutOff keeping made old new (state start) (state now) call
+
+-- ---- of a client
+
+abbrev pub IsDone : Result (Step Client) Refusal → ClientNow → ClientNow → DiskState → DiskState
+    → Answer → Type 0
+IsDone = IsKeeperDone client_keeping
+
+abbrev pub IsCutOff : Result (Step Client) Refusal → ClientNow → ClientNow → DiskState → DiskState
+    → Call → Type 0
+IsCutOff = IsKeeperCutOff client_keeping
+
+abbrev pub IsIdle : {X : Type 0} → Result (Step Client) Refusal → ClientNow → ClientNow → X → X
+    → Answer → Type 0
+IsIdle made old new start now answer = IsKeeperIdle client_keeping made old new start now answer
 
 abbrev pub IsEffected : {X : Type 0} → (X → DiskState) → Bool → Result (Step Client) Refusal → ClientNow → ClientNow → X → X → Answer → Type 0
-IsEffected state true made old new start now answer = IsDone made old new (state start) (state now) answer
-IsEffected state false made old new start now answer = IsIdle made old new start now answer
+IsEffected state effect made old new start now answer =
+    IsKeeperEffected client_keeping state effect made old new start now answer
 
--- Just this: nothing is changed and no call on the disk is made where the client is closed, or the step is refused.
 abbrev pub Acts : {X : Type 0} → (X → DiskState) → Result (Step Client) Refusal → ClientNow → ClientNow → X → X → Outcome → Type 0
-Acts state made old new start now (is_closed call) = (old.closed ≡ Some call) × (new ≡ old) × (now ≡ start)
-Acts state made old new start now (refused refusal) = (old.closed ≡ None) × (made ≡ Err refusal) × (new ≡ old) × (now ≡ start)
-Acts state made old new start now undrawn = ⊥
-Acts state made old new start now (acknowledged answer) = IsEffected state (has_effect answer) made old new start now answer
-Acts state made old new start now (faulted call) = IsCutOff made old new (state start) (state now) call
+Acts state made old new start now outcome =
+    KeeperActs client_keeping state made old new start now outcome
+
+-- ---- where no call fails
 
 -- where all calls on the disk pass, none has failed, and all pass from then on
 abbrev pub IsPassed : Outcome → Type 0

@@ -13,14 +13,17 @@ use Rattle.dr_ports.specs.States.{DrawsState}
 use Rattle.kem_laws.specs.Mechanism.{Mechanism}
 use Rattle.session_model.specs.Clients.{say_check}
 use Rattle.client.specs.Clients.{ClientNow}
-use Rattle.client.specs.InWorlds.{ActsIn}
-use Rattle.client.specs.Outcomes.{Acts, Outcome, StaysPassing, said_as, undrawn}
+use Rattle.client.specs.InWorlds.{KeeperActsIn}
+use Rattle.client.specs.Keepings.{Keeping, client_keeping}
+use Rattle.client.specs.Outcomes.{KeeperActs, Outcome, StaysPassing, said_as, undrawn}
 use Rattle.client.specs.declared.refusals.SayRefusal.{SayRefusal}
 use Rattle.client.specs.declared.refusals.SayRefusal.TheVariants.{DrawFault, NoPair}
 
--- whether a seed is drawn for a text of this length: where the client is open, and the text may be said and needs one
-abbrev pub asks_seed : ClientNow → ℕ → Bool
-asks_seed client len = is_none client.closed && needs_seed (say_check client.kept len)
+-- whether a seed is drawn for a text of this length: where the keeper is open, and the text may be
+-- said and needs one
+abbrev pub keeper_asks_seed : {S : Type 0} → Keeping S → S → ℕ → Bool
+keeper_asks_seed keeping s len =
+    is_none (keeping.closed s) && needs_seed (say_check (keeping.kept s) len)
 
 -- a seed that has no pair is handed back
 abbrev pub HandsBack : Option Key32 → Result Position SayRefusal → Type 0
@@ -29,49 +32,74 @@ HandsBack seed _ = ⊤
 
 -- The act with the seed that the source gave, or without one where none is asked for; where the source gives none, nothing
 -- changes and no call on the disk is made.
-pub data SaysWithDraw {X W : Type 0} (state : X → DiskState) (draws : W → DrawsState) (k : Mechanism)
-    (text : List ℕ) (old new : ClientNow) (start now : X) (source left : W) : Result Position SayRefusal → Type 0 where
-  without_draw : (result : Result Position SayRefusal) → asks_seed old (length text) ≡ false → left ≡ source
-      → Acts state (act_on k old.kept (saying text None)) old new start now (said_as result)
-      → SaysWithDraw state draws k text old new start now source left result
-  with_draw : (result : Result Position SayRefusal) (seed : Key32) → asks_seed old (length text) ≡ true
+pub data KeeperSaysWithDraw {S X W : Type 0} (keeping : Keeping S) (state : X → DiskState)
+    (draws : W → DrawsState) (k : Mechanism) (text : List ℕ) (old new : S) (start now : X)
+    (source left : W) : Result Position SayRefusal → Type 0 where
+  without_draw : (result : Result Position SayRefusal)
+      → keeper_asks_seed keeping old (length text) ≡ false → left ≡ source
+      → KeeperActs keeping state (act_on k (keeping.kept old) (saying text None)) old new start now
+      (said_as result)
+      → KeeperSaysWithDraw keeping state draws k text old new start now source left result
+  with_draw : (result : Result Position SayRefusal) (seed : Key32)
+      → keeper_asks_seed keeping old (length text) ≡ true
       → length seed.bytes ≡ 32
       → (draws source).coming ≡ drawn (seed.bytes ∷ []) (draws left).coming → (draws left).faults ≡ (draws source).faults
-      → Acts state (act_on k old.kept (saying text (Some seed.bytes))) old new start now (said_as result)
+      → KeeperActs keeping state (act_on k (keeping.kept old) (saying text (Some seed.bytes))) old
+      new start now (said_as result)
       → HandsBack (Some seed) result
-      → SaysWithDraw state draws k text old new start now source left result
-  draw_failed : asks_seed old (length text) ≡ true → Rose (draws source).faults (draws left).faults
+      → KeeperSaysWithDraw keeping state draws k text old new start now source left result
+  draw_failed : keeper_asks_seed keeping old (length text) ≡ true
+      → Rose (draws source).faults (draws left).faults
       → (draws left).coming ≡ (draws source).coming
       → new ≡ old → now ≡ start
-      → SaysWithDraw state draws k text old new start now source left (Err DrawFault)
+      → KeeperSaysWithDraw keeping state draws k text old new start now source left (Err DrawFault)
 
 -- just that, and no call on the disk fails where all pass
-pub record IsSay {X W : Type 0} (state : X → DiskState) (draws : W → DrawsState) (k : Mechanism)
-    (text : List ℕ) (old new : ClientNow) (start now : X) (source left : W)
-    (result : Result Position SayRefusal) : Type 0 where
-  pub exact : SaysWithDraw state draws k text old new start now source left result
+pub record IsKeeperSay {S X W : Type 0} (keeping : Keeping S) (state : X → DiskState)
+    (draws : W → DrawsState) (k : Mechanism) (text : List ℕ) (old new : S) (start now : X)
+    (source left : W) (result : Result Position SayRefusal) : Type 0 where
+  pub exact : KeeperSaysWithDraw keeping state draws k text old new start now source left result
   pub fate : StaysPassing (state start) (state now) (said_as result)
 
 -- Whether a seed was drawn for a text of this length, and which one: just where one is asked for, the next that the source gives.
-pub data IsSeedDrawn {W : Type 0} (draws : W → DrawsState) (client : ClientNow) (len : ℕ)
-    (source left : W)
-    : Option (List ℕ) → Type 0 where
-  was_unasked : asks_seed client len ≡ false → left ≡ source
-      → IsSeedDrawn draws client len source left None
-  was_drawn : (seed : List ℕ) → asks_seed client len ≡ true → length seed ≡ 32
+pub data KeeperDraws {S W : Type 0} (keeping : Keeping S) (draws : W → DrawsState) (client : S)
+    (len : ℕ) (source left : W) : Option (List ℕ) → Type 0 where
+  was_unasked : keeper_asks_seed keeping client len ≡ false → left ≡ source
+      → KeeperDraws keeping draws client len source left None
+  was_drawn : (seed : List ℕ) → keeper_asks_seed keeping client len ≡ true → length seed ≡ 32
       → (draws source).coming ≡ drawn (seed ∷ []) (draws left).coming
       → (draws left).faults ≡ (draws source).faults
-      → IsSeedDrawn draws client len source left (Some seed)
+      → KeeperDraws keeping draws client len source left (Some seed)
 
--- in a world that the client stands for: the act, with the seed that the source gave; or nothing, where it gave none
-pub data SaysIn {W : Type 0} (draws : W → DrawsState) (k : Mechanism) (w : World) (side : Side)
-    (text : List ℕ)
-    (old new : ClientNow) (start now : DiskState) (source left : W) : Outcome → Type 0 where
+-- in a world that the keeper stands for: the act, with the seed that the source gave; or nothing, where it gave none
+pub data KeeperSaysIn {S W : Type 0} (keeping : Keeping S) (draws : W → DrawsState) (k : Mechanism)
+    (w : World) (side : Side) (text : List ℕ) (old new : S) (start now : DiskState) (source left : W) : Outcome → Type 0 where
   acted : (outcome : Outcome) (draw : Option (List ℕ))
-      → IsSeedDrawn draws old (length text) source left draw
-      → (old.closed ≡ None → IsFairAct k w side (saying text draw))
-      → ActsIn k w side (saying text draw) old new start now outcome
-      → SaysIn draws k w side text old new start now source left outcome
-  stayed : asks_seed old (length text) ≡ true → Rose (draws source).faults (draws left).faults
+      → KeeperDraws keeping draws old (length text) source left draw
+      → (keeping.closed old ≡ None → IsFairAct k w side (saying text draw))
+      → KeeperActsIn keeping k w side (saying text draw) old new start now outcome
+      → KeeperSaysIn keeping draws k w side text old new start now source left outcome
+  stayed : keeper_asks_seed keeping old (length text) ≡ true
+      → Rose (draws source).faults (draws left).faults
       → (draws left).coming ≡ (draws source).coming → new ≡ old
-      → SaysIn draws k w side text old new start now source left undrawn
+      → KeeperSaysIn keeping draws k w side text old new start now source left undrawn
+
+-- ---- of a client
+
+abbrev pub asks_seed : ClientNow → ℕ → Bool
+asks_seed = keeper_asks_seed client_keeping
+
+abbrev pub SaysWithDraw : {X W : Type 0} → (X → DiskState) → (W → DrawsState) → Mechanism → List ℕ
+    → ClientNow → ClientNow → X → X → W → W → Result Position SayRefusal → Type 0
+SaysWithDraw state draws k text old new start now source left result =
+    KeeperSaysWithDraw client_keeping state draws k text old new start now source left result
+
+abbrev pub IsSeedDrawn : {W : Type 0} → (W → DrawsState) → ClientNow → ℕ → W → W → Option (List ℕ)
+    → Type 0
+IsSeedDrawn draws client len source left draw =
+    KeeperDraws client_keeping draws client len source left draw
+
+abbrev pub SaysIn : {W : Type 0} → (W → DrawsState) → Mechanism → World → Side → List ℕ
+    → ClientNow → ClientNow → DiskState → DiskState → W → W → Outcome → Type 0
+SaysIn draws k w side text old new start now source left outcome =
+    KeeperSaysIn client_keeping draws k w side text old new start now source left outcome

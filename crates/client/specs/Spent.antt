@@ -13,8 +13,7 @@ use Rattle.dr_model.specs.Secrets.Secret.{the_message_key}
 use Rattle.kem_laws.specs.Mechanism.{Mechanism}
 use Rattle.session_model.specs.Clients.{Client}
 use Rattle.session_record.specs.Record.{record_read}
-use Rattle.slot_store.specs.Records.{stored_record}
-use Rattle.client.specs.Clients.{client_area}
+use Rattle.client.specs.Cells.{Cell, client_cell}
 
 -- the side has opened the packet of a position, or has said its text
 abbrev pub IsUsed : World → Side → Position → Type 0
@@ -22,11 +21,20 @@ IsUsed w side p =
     (has_opened (view_of w side) p ≡ true) ⊎ ((is_said w.conversation p ≡ true) × (is_own side p.epoch ≡ true))
 
 -- whatever a crash leaves, the state that is read then doesn't give the message key of the position
-abbrev pub IsErasedOn : Mechanism → Position → DiskState → Type 0
-IsErasedOn k p disk = (c : List ℕ) (kept : Client) → disk.image c
-    → option_map (record_read k) (stored_record client_area c) ≡ Some (Ok kept)
+abbrev pub IsErasedInCell : Cell → Mechanism → Position → DiskState → Type 0
+IsErasedInCell cell k p disk = (c : List ℕ) (kept : Client) → disk.image c
+    → option_map (record_read k) (cell.record_in c) ≡ Some (Ok kept)
     → Made (Holds kept.state) (the_message_key p.epoch p.index) → ⊥
 
-pub record IsSpent (k : Mechanism) (w : World) (side : Side) (p : Position) (disk : DiskState) : Type 0 where
+pub record IsSpentInCell (cell : Cell) (k : Mechanism) (w : World) (side : Side) (p : Position)
+    (disk : DiskState) : Type 0 where
   pub used : IsUsed w side p
-  pub erased : IsErasedOn k p disk
+  pub erased : IsErasedInCell cell k p disk
+
+-- ---- where a client lies
+
+abbrev pub IsErasedOn : Mechanism → Position → DiskState → Type 0
+IsErasedOn = IsErasedInCell client_cell
+
+abbrev pub IsSpent : Mechanism → World → Side → Position → DiskState → Type 0
+IsSpent = IsSpentInCell client_cell

@@ -30,7 +30,9 @@
 pub use begin::Begin;
 pub use client::{AREA_SIZE, Client, limits_in_numbers};
 pub use cores::{Core, Draft};
+pub use dropping::drop_items;
 pub use histories::{exchange, meanwhile, syncs_are_links};
+pub use keepers::Keeper;
 pub use laws::{
     areas_are_their_records, client_grounds, crash_safety, opens_again, single_use,
     stays_undamaged, used_keys_stay_erased,
@@ -39,7 +41,9 @@ pub use looking::look;
 pub use refusals::{
     BeginRefusal, CoreBeginError, DropRefusal, OpenRefusal, SayRefusal, TakeRefusal,
 };
+pub use saying::say;
 pub use syncing::{Names, SyncFault, SyncRefusal, goes_over};
+pub use taking::take;
 
 mod begin;
 mod beginning;
@@ -47,6 +51,7 @@ mod client;
 mod cores;
 mod dropping;
 mod histories;
+mod keepers;
 mod keeping;
 mod laws;
 mod looking;

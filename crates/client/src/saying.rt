@@ -7,15 +7,17 @@ ghost use Rattle.dr_model.specs.Machines.WorldActs.{act_in};
 ghost use Rattle.dr_model.specs.Machines.Worlds.{World};
 ghost use Rattle.ratchet.specs.Seen.{seed_bytes};
 ghost use Rattle.session_model.specs.Clients.{say_check, say_on};
-ghost use Rattle.client.specs.Acting.{IsAct};
+ghost use Rattle.client.specs.Acting.{IsKeeperAct};
 ghost use Rattle.client.specs.Clients.{IsOpenOn, MayActOn};
-ghost use Rattle.client.specs.InWorlds.{IsIn};
+ghost use Rattle.client.specs.InWorlds.{IsIn, IsKeeperIn};
+ghost use Rattle.client.specs.Keepings.{IsKeeperOpen, MayKeeperAct, cell_of};
 ghost use Rattle.client.specs.Outcomes.{StaysPassing, said_as};
-ghost use Rattle.client.specs.Saying.{HandsBack, IsSay, IsSeedDrawn, SaysWithDraw, SaysIn};
-ghost use Rattle.client.specs.Spent.{IsSpent};
+ghost use Rattle.client.specs.Saying.{HandsBack, IsKeeperSay, IsSeedDrawn, KeeperDraws, KeeperSaysIn, KeeperSaysWithDraw, SaysIn, SaysWithDraw};
+ghost use Rattle.client.specs.Spent.{IsSpent, IsSpentInCell};
 
 use crate::client::Client;
 use crate::cores::Draft;
+use crate::keepers::{Keeper, keep};
 use crate::laws::grounds;
 use crate::refusals::SayRefusal;
 use dr_base::{Key32, Position};
@@ -64,60 +66,96 @@ impl<K: Kem> Client<K> {
             position (D.state disk.new)) }
         ensures fate { StaysPassing (D.state disk.old) (D.state disk.new) (said_as result) }
     {
-        grounds::<K>();
-        self.say_exact(disk, text, draws)
+        say::<K, Client<K>, D, W>(self, disk, text, draws)
     }
+}
 
-    fn say_exact<D: Disk, W: Draws>(
-        &mut self,
-        disk: &mut D,
-        text: &[u8],
-        draws: &mut W,
-    ) -> Result<Position, SayRefusal>
-        requires { MayActOn self.old (D.state disk.old) }
-        ensures { IsSay D.state W.at K.mechanism text.now
-            self.old self.new disk.old disk.new draws.old draws.new result }
-    {
-        if let Some(call) = self.closed {
-            return Err(SayRefusal::Closed { call });
-        }
-        match self.say_check(text.len()) {
-            Err(refusal) => Err(SayRefusal::Refused(refusal)),
-            Ok(false) => self.speak(disk, text, None),
-            Ok(true) => match draws.draw() {
-                Err(_) => Err(SayRefusal::DrawFault),
-                Ok(seed) => {
-                    // The proof takes the length of the seed from this.
-                    let _bytes = &seed.bytes;
-                    self.speak(disk, text, Some(seed))
-                }
-            },
-        }
+/// Says a text, with a draw exactly where it needs a seed, and puts its packet into the outbox.
+/// `Closed` exactly where a call on the disk failed before, then the first reason against a
+/// text of this length, then `DrawFault` only where the draw failed, then `NoPair` exactly
+/// where its seed has no pair. None of these changes anything or calls the disk. `StoreFault`
+/// only where a call on the disk failed: then the client is closed, and shows what it showed.
+pub fn say<K: Kem, Q: Keeper<K>, D: Disk, W: Draws>(
+    keeper: &mut Q,
+    disk: &mut D,
+    text: &[u8],
+    draws: &mut W,
+) -> Result<Position, SayRefusal>
+    requires { MayKeeperAct Q.keeping keeper.old (D.state disk.old) }
+    // Exactly what the side makes of it, but for a failing draw or call on the disk.
+    ensures exact { KeeperSaysWithDraw Q.keeping D.state W.at K.mechanism text.now
+        keeper.old keeper.new disk.old disk.new draws.old draws.new result }
+    ensures ready { OnOk result (IsKeeperOpen Q.keeping keeper.new (D.state disk.new)) }
+    // In each world that the keeper stands for, at every moment.
+    ensures in_worlds { (w : World) (side : Side)
+        → IsKeeperIn Q.keeping K.mechanism w side keeper.old
+        → KeeperSaysIn Q.keeping W.at K.mechanism w side text.now keeper.old keeper.new
+        (D.state disk.old) (D.state disk.new) draws.old draws.new (said_as result) }
+    // Once it is said, the key of its position is used up, and nothing that a crash leaves
+    // gives it.
+    ensures spent { IfOk result (λ position. (w : World) (side : Side)
+        → IsKeeperIn Q.keeping K.mechanism w side keeper.old
+        → (draw : Option (List ℕ))
+        × KeeperDraws Q.keeping W.at keeper.old (length text.now) draws.old draws.new draw
+        × IsSpentInCell (cell_of Q.keeping keeper.old) K.mechanism
+        (act_in K.mechanism w side (saying text.now draw)).next side position
+        (D.state disk.new)) }
+    ensures fate { StaysPassing (D.state disk.old) (D.state disk.new) (said_as result) }
+{
+    grounds::<K>();
+    Q::holds::<D>();
+    say_exact::<K, Q, D, W>(keeper, disk, text, draws)
+}
+
+fn say_exact<K: Kem, Q: Keeper<K>, D: Disk, W: Draws>(
+    keeper: &mut Q,
+    disk: &mut D,
+    text: &[u8],
+    draws: &mut W,
+) -> Result<Position, SayRefusal>
+    requires { MayKeeperAct Q.keeping keeper.old (D.state disk.old) }
+    ensures { IsKeeperSay Q.keeping D.state W.at K.mechanism text.now
+        keeper.old keeper.new disk.old disk.new draws.old draws.new result }
+{
+    if let Some(call) = keeper.closed() {
+        return Err(SayRefusal::Closed { call });
     }
+    match keeper.core().say_check(text.len()) {
+        Err(refusal) => Err(SayRefusal::Refused(refusal)),
+        Ok(false) => speak::<K, Q, D>(keeper, disk, text, None),
+        Ok(true) => match draws.draw() {
+            Err(_) => Err(SayRefusal::DrawFault),
+            Ok(seed) => {
+                // The proof takes the length of the seed from this.
+                let _bytes = &seed.bytes;
+                speak::<K, Q, D>(keeper, disk, text, Some(seed))
+            }
+        },
+    }
+}
 
-    /// Says a text that may be said, with a seed exactly where it needs one.
-    fn speak<D: Disk>(
-        &mut self,
-        disk: &mut D,
-        text: &[u8],
-        seed: Option<Key32>,
-    ) -> Result<Position, SayRefusal>
-        requires checked { say_check self.old.kept (length text.now) ≡ Ok (is_some seed) }
-        requires open { IsOpenOn self.old (D.state disk.old) }
-        ensures acts { IsAct D.state
-            (said_by (say_on K.mechanism self.old.kept text.now (seed_bytes seed)))
-            self.old self.new disk.old disk.new (said_as result) }
-        ensures seed { HandsBack seed result }
-    {
-        let mut room = PacketRoom::new();
-        match self.core.draft_say(text, seed, &mut room) {
-            Err(none) => Err(SayRefusal::NoPair { seed: none.seed }),
-            Ok(draft) => {
-                let position = draft.position();
-                match self.keep(disk, Draft::Said(draft)) {
-                    Err(call) => Err(SayRefusal::StoreFault { call }),
-                    Ok(()) => Ok(position),
-                }
+/// Says a text that may be said, with a seed exactly where it needs one.
+fn speak<K: Kem, Q: Keeper<K>, D: Disk>(
+    keeper: &mut Q,
+    disk: &mut D,
+    text: &[u8],
+    seed: Option<Key32>,
+) -> Result<Position, SayRefusal>
+    requires checked { say_check (Q.keeping.kept keeper.old) (length text.now) ≡ Ok (is_some seed) }
+    requires open { IsKeeperOpen Q.keeping keeper.old (D.state disk.old) }
+    ensures acts { IsKeeperAct Q.keeping D.state
+        (said_by (say_on K.mechanism (Q.keeping.kept keeper.old) text.now (seed_bytes seed)))
+        keeper.old keeper.new disk.old disk.new (said_as result) }
+    ensures seed { HandsBack seed result }
+{
+    let mut room = PacketRoom::new();
+    match keeper.draft_say(text, seed, &mut room) {
+        Err(none) => Err(SayRefusal::NoPair { seed: none.seed }),
+        Ok(draft) => {
+            let position = draft.position();
+            match keep::<K, Q, D>(keeper, disk, Draft::Said(draft)) {
+                Err(call) => Err(SayRefusal::StoreFault { call }),
+                Ok(()) => Ok(position),
             }
         }
     }

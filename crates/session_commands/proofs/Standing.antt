@@ -9,8 +9,9 @@ use Rattle.kem_laws.specs.Mechanism.{Mechanism}
 use Rattle.session_model.specs.Clients.{Client}
 use Rattle.session_record.specs.Record.{record_text}
 use Rattle.slot_store.specs.Reading.{IsUndamaged}
-use Rattle.slot_store.specs.Store.{IsOldOrNew, KeepsOutsideArea}
+use Rattle.slot_store.specs.Store.{KeepsOutsideArea}
 use Rattle.slot_store.proofs.Outside.{twice_outside}
+use Rattle.client.specs.Cells.{IsOldOrNewInCell, client_cell}
 use Rattle.client.specs.Clients.{ClientNow, IsReady, client_area}
 use Rattle.client.specs.InWorlds.{IsBetween, StandsFor, StandsForEither}
 use Rattle.client.specs.Opening.{IsAsRead, IsClientOpened, IsEntryOrAsRead, OpensIn}
@@ -75,7 +76,8 @@ module _ (k : Mechanism) (side : Side) (before after : World) (start : DiskState
 module _ (k : Mechanism) (start mid now : DiskState) (lawful : IsLawful now) where
   module _ (alike : Always (IsAsRead k start) mid) where
     left_by : (before after : Client) (c : List ℕ)
-        → IsOldOrNew mid client_area (Some (record_text before)) (Some (record_text after)) c → IsReadOrEither k before after start c
+        → IsOldOrNewInCell client_cell mid (Some (record_text before)) (Some (record_text after)) c
+        → IsReadOrEither k before after start c
     left_by before after c s =
         let sound = left_sound k start mid c alike s.undamaged s.frame in
         ⊎_elim (λ old. is_before (record { has = old; undamaged = s.undamaged; sound = sound }))
@@ -92,7 +94,7 @@ module _ (k : Mechanism) (start mid now : DiskState) (lawful : IsLawful now) whe
         spans start mid now (λ c. start.image c ⊎ IsReadOrEither k before after start c)
         (widen start mid (IsEntryOrAsRead k start) (λ c. start.image c ⊎ IsReadOrEither k before after start c)
         (λ c s. ⊎_elim (λ was. inl was) (λ as_read. inr (is_read as_read)) s) opening)
-        (widen mid now (IsOldOrNew mid client_area (Some (record_text before)) (Some (record_text after)))
+        (widen mid now (IsOldOrNewInCell client_cell mid (Some (record_text before)) (Some (record_text after)))
         (λ c. start.image c ⊎ IsReadOrEither k before after start c) (λ c s. inr (left_by alike before after c s)) replacing);
     reads = λ s told.
         ⊎_elim (λ was. is_read (alike s was)) (λ new. left_by alike before after s new)
@@ -135,7 +137,7 @@ module _ {X : Type 0} (state : X → DiskState) (k : Mechanism) (start mid now :
         leaves_either k (state start) (state mid) (state now) lawful client.kept client.kept opening opened.alike
         (subst (λ x. IsReplacing client.kept client.kept (state mid) (state x)) (sym same)
         (stays (state mid)
-        (IsOldOrNew (state mid) client_area (Some (record_text client.kept)) (Some (record_text client.kept)))));
+        (IsOldOrNewInCell client_cell (state mid) (Some (record_text client.kept)) (Some (record_text client.kept)))));
     rests = record { store = client.store; ready = still_ready };
     quiet = subst (λ x. IsQuiet (state start) (state x)) (sym same) opened.quiet;
   }

@@ -12,6 +12,7 @@ use Rattle.dr_model.specs.Theorems.LawfulWorlds.{IsLawfulWorld}
 use Rattle.dr_ports.specs.States.{DrawsState}
 use Rattle.endings.specs.declared.ending.Ending.TheVariants.{Done}
 use Rattle.kem_laws.specs.Mechanism.{Mechanism}
+use Rattle.client.specs.Cells.{client_cell}
 use Rattle.client.specs.Grounds.{Grounds}
 use Rattle.client.specs.InWorlds.{StandsFor}
 use Rattle.client.specs.Moments.{IsAmongKnown, Known, settled_in}
@@ -169,7 +170,7 @@ module _ {D E V : Type 0} (state : D → DiskState) (sound : (d : D) → IsLawfu
       let at : ℕ → Known = λ n. slice_index_or (settled_in w ∷ worlds) n (settled_in w) in
       let xs = start ∷ before in
       let linked = all_linked state sound draws k First xs w at run grounds lawful in
-      let still = stands state xs k First w at linked 4 crashed refl in
+      let still = stands client_cell state xs k First w at linked 4 crashed refl in
       reads_one k First w known4 (state crashed) (sound crashed) talk.bytes lawful still talk.told
 
   -- ---- and takes it again

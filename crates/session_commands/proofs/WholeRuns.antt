@@ -13,6 +13,7 @@ use Rattle.endings.specs.declared.ending.Ending.{Ending}
 use Rattle.kem_laws.specs.Mechanism.{Mechanism}
 use Rattle.session_model.specs.Clients.{Client}
 use Rattle.slot_store.specs.Reading.{IsUndamaged}
+use Rattle.client.specs.Cells.{client_cell}
 use Rattle.client.specs.Clients.{client_area}
 use Rattle.client.specs.Grounds.{Grounds}
 use Rattle.client.specs.Moments.{AreLinked, IsAmongKnown, Known, Link, was_left, was_moved}
@@ -170,7 +171,7 @@ module _ {X W : Type 0} (state : X → DiskState) (sound : (x : X) → IsLawful 
           → (w : World) × IsAmongKnown (known n) w × ReadsWhole k w side (state a)
       all_read whole n a bytes is told =
           let found = reads_one k side first (known n) (state a) (sound a) bytes lawful
-          (stands state xs k side first known all_linked n a is) told in (
+          (stands client_cell state xs k side first known all_linked n a is) told in (
             found.0,
             found.1,
             reads_whole k found.0 side (state a) (sound a) (all_whole whole n a is)

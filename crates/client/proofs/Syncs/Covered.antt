@@ -1,5 +1,5 @@
 -- What the receipts of a sync's packets cover was opened by the other side.
-use Rattle.std.proofs.Common.{Bool, Err, List, None, Ok, Option, Some, ap, false, if◌then◌else◌, inl, inr, length, nat_le, nat_lt, refl, subst, sym, true, ℕ, ◌++◌, ◌∙◌, ◌≡◌}
+use Rattle.std.proofs.Common.{Bool, Err, List, None, Ok, Option, Some, ap, false, if◌then◌else◌, inl, inr, length, nat_le, nat_lt, refl, subst, sym, true, ℕ, ◌∙◌, ◌≡◌}
 use Rattle.std.specs.List.{list_any}
 use Rattle.std.proofs.lemmas.Bool.{cases_Bool}
 use Rattle.dr_base.specs.Position.{is_at, is_own, peer_of}

@@ -16,7 +16,7 @@ use Rattle.relay_wire.specs.Requests.{Asked}
 use Rattle.session_model.specs.Clients.{Client}
 use Rattle.session_record.specs.Record.{record_text}
 use Rattle.slot_store.specs.Records.{stored_record}
-use Rattle.slot_store.specs.Store.{IsOldOrNew, SlotStore}
+use Rattle.slot_store.specs.Store.{SlotStore}
 use Rattle.slot_store.specs.Areas.{Area}
 use Rattle.slot_store.proofs.Standing.{rests_recovered}
 use Rattle.sync_model.specs.Carried.{replied_bytes, request_bytes}
@@ -25,7 +25,8 @@ use Rattle.sync_model.specs.Moves.{Ending, Wait, asked_in, box_is_full, ended, i
 use Rattle.sync_model.specs.Parties.{Party}
 use Rattle.sync_model.specs.declared.more.More.{More}
 use Rattle.sync_model.proofs.Reading.{bytes_last, lawful_last}
-use Rattle.client.specs.Clients.{IsReady, client_area}
+use Rattle.client.specs.Cells.{IsOldOrNewInCell, client_cell}
+use Rattle.client.specs.Clients.{IsReady}
 use Rattle.client.specs.Syncing.Moments.{Moment, Moved, Wrote, WroteBeginning}
 use Rattle.client.specs.Syncing.Rounds.{IsRound, IsUnmoved, RoundEnd, MovesTo, came_to_end, sync_fault_of, goes_on, heard, stops, was_broken, was_unheard, was_unstored, was_unwritten, went_on}
 use Rattle.client.specs.Syncing.SoFar.{SoFar, Stands}
@@ -126,7 +127,7 @@ module _ (p : Party Client) where
               fate = λ all. broken.fate (far.stands.fate all);
               leaves = λ d left.
                   ⊎_elim (λ was. inl (rested b.client.store b.client.kept b.disk far.stands.ready d was ∙ ap (λ (x : Client). Some (record_text x)) far.stands.keeps))
-                  (λ (s : IsOldOrNew b.disk client_area (Some (record_text b.client.kept)) (Some (record_text (move p b.client.kept wait reply).state)) d).
+                  (λ (s : IsOldOrNewInCell client_cell b.disk (Some (record_text b.client.kept)) (Some (record_text (move p b.client.kept wait reply).state)) d).
                   ⊎_elim (λ old. inl (old ∙ ap (λ (x : Client). Some (record_text x)) far.stands.keeps))
                   (λ new. inr (new ∙ ap (λ (x : Client). Some (record_text x)) (sym next.state))) s.either)
                   (broken.during.last d left);

@@ -16,7 +16,7 @@ use Rattle.relay_wire.specs.Replies.{Replied}
 use Rattle.relay_wire.specs.Requests.{Asked}
 use Rattle.session_model.specs.Clients.{Client}
 use Rattle.session_record.specs.Record.{record_text}
-use Rattle.slot_store.specs.Store.{IsOldOrNew, KeepsOutsideArea}
+use Rattle.slot_store.specs.Store.{KeepsOutsideArea}
 use Rattle.slot_store.proofs.Outside.{twice_outside}
 use Rattle.sync_model.specs.Carried.{replied_bytes, request_bytes}
 use Rattle.sync_model.specs.Courses.{course_of}
@@ -24,6 +24,7 @@ use Rattle.sync_model.specs.Moves.{Move, Wait, asked_in, fetching, move}
 use Rattle.sync_model.specs.Parties.{Party}
 use Rattle.sync_model.proofs.Reading.{bytes_last, lawful_last}
 use Rattle.client.specs.Clients.{IsReady, client_area}
+use Rattle.client.specs.Cells.{IsOldOrNewInCell, client_cell}
 use Rattle.client.specs.Outcomes.{IsReplacing}
 use Rattle.client.specs.Syncing.Moments.{Moment, Moved, Wrote, WroteBeginning}
 use Rattle.client.specs.Syncing.SoFar.{IsReached, Passed, SoFar, Stands, Talked}
@@ -88,7 +89,7 @@ module _ (p : Party Client) where
         spans a.disk b.disk c.disk (IsReached p first (far.replies ++ reply ∷ []) a.disk)
         (widen a.disk b.disk (IsReached p first far.replies a.disk) (IsReached p first (far.replies ++ reply ∷ []) a.disk)
         (λ d r. record { front = r.front; back = r.back ++ reply ∷ []; split = ap (λ (xs : List Replied). xs ++ reply ∷ []) r.split ∙ append_assoc r.front r.back (reply ∷ []); holds = r.holds; undamaged = r.undamaged; outside = r.outside }) far.passed)
-        (widen b.disk c.disk (IsOldOrNew b.disk client_area (Some (record_text b.client.kept)) (Some (record_text next))) (IsReached p first (far.replies ++ reply ∷ []) a.disk)
+        (widen b.disk c.disk (IsOldOrNewInCell client_cell b.disk (Some (record_text b.client.kept)) (Some (record_text next))) (IsReached p first (far.replies ++ reply ∷ []) a.disk)
         (λ d s. ⊎_elim
         (λ old. record { front = far.replies; back = reply ∷ []; split = refl; holds = old ∙ ap (λ (x : Client). Some (record_text x)) far.stands.keeps; undamaged = s.undamaged; outside = outside_since a.disk b.disk first far.replies d far.passed s.frame })
         (λ new. record { front = far.replies ++ reply ∷ []; back = []; split = sym (append-nil (far.replies ++ reply ∷ [])); holds = new ∙ ap (λ (x : Client). Some (record_text x)) (sym is); undamaged = s.undamaged; outside = outside_since a.disk b.disk first far.replies d far.passed s.frame })
@@ -97,7 +98,7 @@ module _ (p : Party Client) where
     pub passed_still : (c : Moment) → IsReplacing b.client.kept b.client.kept b.disk c.disk → Passed p far.replies a c
     passed_still c replacing =
         spans a.disk b.disk c.disk (IsReached p first far.replies a.disk) far.passed
-        (widen b.disk c.disk (IsOldOrNew b.disk client_area (Some (record_text b.client.kept)) (Some (record_text b.client.kept))) (IsReached p first far.replies a.disk)
+        (widen b.disk c.disk (IsOldOrNewInCell client_cell b.disk (Some (record_text b.client.kept)) (Some (record_text b.client.kept))) (IsReached p first far.replies a.disk)
         (λ d s. record { front = far.replies; back = []; split = sym (append-nil far.replies); holds = ⊎_elim (λ o. o) (λ n. n) s.either ∙ ap (λ (x : Client). Some (record_text x)) far.stands.keeps; undamaged = s.undamaged; outside = outside_since a.disk b.disk first far.replies d far.passed s.frame })
         replacing)
 

@@ -10,6 +10,7 @@ use Rattle.sync_model.specs.Courses.{Course, begun, course_from, read_one}
 use Rattle.sync_model.specs.Parties.{Party}
 use Rattle.sync_model.specs.declared.more.More.{More}
 use Rattle.sync_model.proofs.Reading.{read_last}
+use Rattle.client.specs.Cells.{client_cell}
 use Rattle.client.specs.InWorlds.{IsIn, StandsFor}
 use Rattle.client.specs.Moments.{IsKnown, IsAmongKnown, Known, Link, reached_by, known_after_sync, was_cut_in_sync, was_synced, with_doubts}
 use Rattle.client.specs.Syncing.InWorlds.{AreLeft, AreUnforged, IsReachedIn, LeadsTo, SyncsIn, course_in}
@@ -74,7 +75,7 @@ module _ (k : Mechanism) (prefix : List ℕ) (side : Side) (w : World) (known : 
         (last, refl),
         leads.3,
         was_synced known w which prefix before (last ∷ []) (subst (AreUnforged k prefix side w) leads.2 fair) (λ c left. ⊎_elim (λ old. inl old)
-            (λ new. inr (one_known k (read_one (world_party k prefix side w) (course_in k prefix side w before) last).state side c
+            (λ new. inr (one_known client_cell k (read_one (world_party k prefix side w) (course_in k prefix side w before) last).state side c
             (subst (λ (x : Course World). StandsFor k x.state side c) after new))) (leads.4 c left)),
       )
 

@@ -8,8 +8,8 @@ use Rattle.session_model.specs.Clients.{Client}
 use Rattle.session_model.specs.declared.answer.Answer.TheVariants.{Refused}
 use Rattle.session_model.specs.declared.answer.Refusal.{Refusal}
 use Rattle.session_record.specs.Record.{record_text}
-use Rattle.slot_store.specs.Store.{IsOldOrNew}
-use Rattle.client.specs.Clients.{ClientNow, IsReady, client_area}
+use Rattle.client.specs.Cells.{IsOldOrNewInCell, client_cell}
+use Rattle.client.specs.Clients.{ClientNow, IsReady}
 use Rattle.client.specs.Syncing.Moments.{HasMovedOn, IsTaken, Moment, Wrote}
 
 -- nothing was done
@@ -19,7 +19,10 @@ still client disk is_open ready = record {
   keeps = refl;
   is_open = is_open;
   ready = ready;
-  during = stays disk (IsOldOrNew disk client_area (Some (record_text client.kept)) (Some (record_text client.kept)));
+  during =
+      stays disk
+      (IsOldOrNewInCell client_cell disk (Some (record_text client.kept))
+      (Some (record_text client.kept)));
   quiet = λ call. refl;
   fate = λ all. all;
 }

@@ -17,6 +17,7 @@ use Rattle.sync_model.specs.Moves.{Move, Wait, fetching, move}
 use Rattle.sync_model.specs.Parties.{Party}
 use Rattle.sync_model.specs.declared.more.More.{More}
 use Rattle.sync_model.proofs.Reading.{read_last}
+use Rattle.client.specs.Cells.{client_cell}
 use Rattle.client.specs.InWorlds.{StandsFor}
 use Rattle.client.specs.Moments.{IsLater}
 use Rattle.client.specs.Spent.{IsErasedOn, IsUsed}
@@ -80,7 +81,9 @@ module _ (k : Mechanism) (prefix : List ℕ) (side : Side) (w : World) where
         (subst (AreUnforged k prefix side w) (ap (λ (xs : List Replied). front ++ xs) is ∙ sym (append_assoc front more rest)) fair))
 
     gone : Always (StandsFor k (at replies).state side) b.disk → IsErasedOn k position b.disk
-    gone stands c kept left = erased_in k erased (at front).state (at replies).state side position c kept front_lawful to_end (stands c left) used
+    gone stands c kept left =
+        erased_in client_cell k erased (at front).state
+        (at replies).state side position c kept front_lawful to_end (stands c left) used
 
     all_gone : (result : Result More SyncFault) → LeadsTo k prefix side w replies b result → AreBehind result back → IsErasedOn k position b.disk
     all_gone (Ok which) leads behind = gone leads.1
@@ -94,8 +97,8 @@ module _ (k : Mechanism) (prefix : List ℕ) (side : Side) (w : World) where
         let found = before_last front back before leads.1 (sym split ∙ leads.2) behind in
         let to_before : IsLater k (at front).state (at before).state =
         subst (λ (xs : List Replied). IsLater k (at front).state (at xs).state) (sym found.split) (on found.rest (leads.1 ∷ []) found.behind) in
-        ⊎_elim (λ old. erased_in k erased (at front).state (at before).state side position c kept front_lawful to_before old used reads made)
-        (λ new. erased_in k erased (at front).state (at replies).state side position c kept front_lawful to_end new used reads made)
+        ⊎_elim (λ old. erased_in client_cell k erased (at front).state (at before).state side position c kept front_lawful to_before old used reads made)
+        (λ new. erased_in client_cell k erased (at front).state (at replies).state side position c kept front_lawful to_end new used reads made)
         (leads.4 c left)
 
   pub sync_spends : IsErased k → IsLawfulWorld k w → (replies : List Replied) (a b : Moment) (result : Result More SyncFault)

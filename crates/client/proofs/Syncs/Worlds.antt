@@ -18,6 +18,7 @@ use Rattle.sync_model.specs.Parties.{Party}
 use Rattle.sync_model.specs.Simulation.{AreAlike, AreFairFrom, IsSameCourse}
 use Rattle.sync_model.specs.declared.more.More.{More}
 use Rattle.sync_model.proofs.Alike.{alike}
+use Rattle.client.specs.Cells.{client_cell}
 use Rattle.client.specs.Grounds.{Grounds}
 use Rattle.client.specs.InWorlds.{IsIn, StandsFor}
 use Rattle.client.specs.Syncing.InWorlds.{AreUnforged, IsKeptIn, IsReachedIn, LeadsTo, SyncsIn, course_in}
@@ -107,13 +108,15 @@ module _ (k : Mechanism) (grounds : Grounds k) (prefix : List ℕ) (side : Side)
     leads start now (Err (Refused refusal)) ends = stands_in ends.2.stands
     leads start now (Err (Store call)) ends =
         let before = kept_behind first w is_kept ends.before (ends.last ∷ []) replies ends.split fair in
-        let stood = record_stands k grounds (course_in k prefix side w ends.before).state side (course_of (client_party k prefix first) first ends.before).state in (
+        let stood =
+        record_stands client_cell k grounds (course_in k prefix side w ends.before).state side
+        (course_of (client_party k prefix first) first ends.before).state in (
           ends.before,
           ends.last,
           ends.split,
           record { lawful = before.lawful; keeps = ends.keeps ∙ before.keeps },
           λ c left. ⊎_elim (λ old. inl (stood c before.lawful before.keeps old))
-              (λ new. inr (record_stands k grounds (course_in k prefix side w replies).state side (course_of (client_party k prefix first) first replies).state c there.lawful there.keeps new))
+              (λ new. inr (record_stands client_cell k grounds (course_in k prefix side w replies).state side (course_of (client_party k prefix first) first replies).state c there.lawful there.keeps new))
               (ends.leaves c left),
         )
     leads start now (Err Write) ends = stands_in ends.stands
@@ -129,7 +132,10 @@ module _ (k : Mechanism) (grounds : Grounds k) (prefix : List ℕ) (side : Side)
             front = r.front;
             back = r.back;
             split = r.split;
-            stands = record_stands k grounds (course_in k prefix side w r.front).state side (course_of (client_party k prefix first) first r.front).state c at.lawful at.keeps r.holds;
+            stands =
+                record_stands client_cell k grounds (course_in k prefix side w r.front).state side
+                (course_of
+                (client_party k prefix first) first r.front).state c at.lawful at.keeps r.holds;
             undamaged = r.undamaged;
             outside = r.outside;
           }) syncs.passed;

@@ -20,7 +20,9 @@ ghost use Rattle.client.specs.Syncing.Moments.{HasGone, IsTaken};
 use super::faults::SyncFault;
 use crate::client::Client;
 use crate::cores::Core;
+use crate::dropping::drop_exact;
 use crate::refusals::{DropRefusal, TakeRefusal};
+use crate::taking::take_drafted;
 use dr_disk::{Call, Disk};
 use dr_ports::Pipe;
 use kem_laws::Kem;
@@ -92,7 +94,7 @@ impl<K: Kem> Client<K> {
             IsTaken (settled self.old.kept (taken_by (accept_receive self.old.kept taken)))
             self.old self.new (D.state disk.old) (D.state disk.new) result }
     {
-        match self.take_drafted(disk, drafted) {
+        match take_drafted::<K, Client<K>, D>(self, disk, drafted) {
             Ok(position) => Ok(Answer::Opened(position)),
             Err(TakeRefusal::Refused(refusal)) => Ok(Answer::Refused(refusal)),
             Err(TakeRefusal::StoreFault { call }) => Err(call),
@@ -108,7 +110,7 @@ impl<K: Kem> Client<K> {
             (D.state disk.old) (D.state disk.new) result }
         ensures fewer { OnOk result (length self.new.kept.outbox < length self.old.kept.outbox) }
     {
-        match self.drop_exact(disk, Items::Packets, 1) {
+        match drop_exact::<K, Client<K>, D>(self, disk, Items::Packets, 1) {
             Ok(()) => Ok(()),
             Err(DropRefusal::StoreFault { call }) => Err(call),
             Err(_) => unreachable!(),

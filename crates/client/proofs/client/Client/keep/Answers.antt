@@ -4,6 +4,7 @@ use Rattle.std.proofs.lemmas.List.{with_items_is}
 use Rattle.client.specs.Acting.{IsAct}
 use Rattle.client.specs.Clients.{ClientNow, IsOpenOn}
 use Rattle.client.specs.Drafting.{drafted_answer, drafted_step, drafted_client}
+use Rattle.client.specs.Keepings.{client_keeping}
 use Rattle.client.specs.Outcomes.{kept_as}
 use Rattle.client.proofs.Kept.{kept_act, lost_act}
 use Rattle.client.proofs.Replaced.{kept, lost}
@@ -20,10 +21,10 @@ returns-in-Ok g c =
     (c.encode-len.auto.out ∙ c.deref_mut.ensures.len)) ∙ c.encode-len.ensures.written in
     subst (λ (n : ClientNow). IsAct state (Ok (drafted_step n.kept c.args.draft)) n new c.args.disk.now c.replace.new.disk
     (kept_as (drafted_answer c.args.draft) (Ok tt))) c.self.view_is
-    (kept_act state (drafted_answer c.args.draft) (drafted_client client.kept c.args.draft) client new c.args.disk.now c.replace.new.disk
+    (kept_act client_keeping state (drafted_answer c.args.draft) (drafted_client client.kept c.args.draft) client new c.args.disk.now c.replace.new.disk
     c.requires.effect opened.0 opened.0 c.accept.ensures
     (kept client.kept (drafted_client client.kept c.args.draft) client.store _ start (state c.replace.new.disk) opened.1 written
-    c.replace.new.self c.replace.ensures.replaces.any_moment c.in-Ok.ensures.done c.replace.ensures.replaces.reads c.in-Ok.ensures.holds
+    client new c.replace.new.self refl c.accept.ensures c.replace.ensures.replaces.any_moment c.in-Ok.ensures.done c.replace.ensures.replaces.reads c.in-Ok.ensures.holds
     c.replace.ensures.next.area c.in-Ok.ensures.calls.passed c.in-Ok.ensures.calls.went.ahead c.in-Ok.ensures.calls.went.quiet)
     (λ all. (c.in-Ok.ensures.calls.went.fate all).1))
 
@@ -38,7 +39,7 @@ returns-in-Err g c =
     (c.encode-len.auto.out ∙ c.deref_mut.ensures.len)) ∙ c.encode-len.ensures.written in
     subst (λ (n : ClientNow). IsAct state (Ok (drafted_step n.kept c.args.draft)) n new c.args.disk.now c.replace.new.disk
     (kept_as (drafted_answer c.args.draft) (Err c.in-Err.fault.call))) c.self.view_is
-    (lost_act state (drafted_answer c.args.draft) (drafted_client client.kept c.args.draft) client new c.args.disk.now c.replace.new.disk
+    (lost_act client_keeping state (drafted_answer c.args.draft) (drafted_client client.kept c.args.draft) client new c.args.disk.now c.replace.new.disk
     c.requires.effect opened.0 c.in-Err.fault.call refl refl
     (lost client.kept (drafted_client client.kept c.args.draft) client.store _ start (state c.replace.new.disk) opened.1 written
     c.in-Err.fault.call c.replace.ensures.replaces.any_moment c.replace.ensures.replaces.reads c.in-Err.ensures.replaces.stopped
