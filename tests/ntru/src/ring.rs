@@ -1,12 +1,9 @@
 //! Worked rows of the ring.
 ghost use Rattle.ntru_ring.specs.Reduction.{IsWithin};
 
-use ntru_ring::{
-    R3, Rq, Workspace, inverse_q, inverse3, planes_of, quick_inverse_q, quick_inverse3, r3_of,
-};
+use ntru_ring::{R3, Rq, planes_of, quick_inverse_q, quick_inverse3, r3_of};
 use sntrup_core::short_of;
 use std::process::Abort;
-use std::test::Fail;
 
 fn rounds(rt: &impl Abort, from: i16, to: i16)
     requires from { IsWithin 2295 from }
@@ -42,18 +39,6 @@ fn multiplies_powers_of_x(rt: HostRuntime) {
     assert!(rt; small.mul(&small) == small.add(&R3::monomial(759, 1)));
     assert!(rt; small.lift() == top);
     assert!(rt; small.weight() == 1);
-}
-
-#[test]
-fn inverts_x(rt: HostRuntime) -> Result<(), Fail> {
-    let mut work = Workspace::new(rt.alloc())?;
-    let inverse = R3::monomial(760, 1).add(&R3::monomial(0, -1));
-    assert!(rt; inverse3(&mut work, &R3::monomial(1, 1)) == Ok(inverse));
-    assert!(rt; inverse3(&mut work, &R3::zero()).is_err());
-    let inverse = Rq::monomial(760, 1).add(&Rq::monomial(0, -1));
-    assert!(rt; inverse_q(&mut work, &Rq::monomial(1, 1)) == Ok(inverse));
-    assert!(rt; inverse_q(&mut work, &Rq::zero()).is_err());
-    Ok(())
 }
 
 #[test]

@@ -1,9 +1,6 @@
-//! Tests of the crates below the client: the stand-in, the agreement, packets and what they seal,
-//! boxes, sessions and records.
+//! Tests of the crates below the client: packets and what they seal, sessions and records.
 #![tactic(auto)]
 
-#[cfg(test)]
-mod agreement;
 #[cfg(test)]
 mod awaiting_damage;
 #[cfg(test)]
@@ -29,8 +26,6 @@ mod later_packets;
 #[cfg(test)]
 mod limits;
 #[cfg(test)]
-mod lists;
-#[cfg(test)]
 mod misread;
 #[cfg(test)]
 mod missing;
@@ -46,8 +41,6 @@ mod receipts;
 mod record;
 #[cfg(test)]
 mod said_receipts;
-#[cfg(test)]
-mod stand_in;
 #[cfg(test)]
 mod versions;
 #[cfg(test)]

@@ -1,49 +1,13 @@
-//! The packet of the text `hi`, written and read, and the first fault of what is none.
+//! The first fault of what is no packet.
 
 use dr_base::{PLAIN, Position, put};
-use packet::{Kind, Malformed, grammar, parse, write_ad, write_into};
-use std::test::Fail;
+use packet::{Kind, Malformed, parse, write_into};
 
 const SESSION: [u8; 16] = [0, 1, 2, 3, 4, 5, 6, 7, 8, 9, 10, 11, 12, 13, 14, 15];
-
-/// What stands before the ciphertext of the text `hi`, said first in epoch 0.
-const AD: [u8; 33] = [
-    1, 0, 1, 2, 3, 4, 5, 6, 7, 8, 9, 10, 11, 12, 13, 14, 15, 0, 0, 0, 0, 0, 0, 0, 0, 0, 0, 0, 1, 0,
-    0, 0, 2,
-];
 
 const FIRST: Position = Position { epoch: 0, index: 1 };
 
 const TAG: [u8; 32] = [7; 32];
-
-/// Whether what stands before the ciphertext is written.
-fn writes_ad() -> bool {
-    let mut ad = [0; 33];
-    write_ad(PLAIN, &SESSION, FIRST, 0, &[], 2, &mut ad) == 33 && ad == AD
-}
-
-/// Whether the parts of the first packet are lent.
-fn lends(packet: &[u8]) -> Result<bool, Malformed> {
-    let view = parse(packet, 64)?;
-    Ok(
-        view.ad() == AD.as_slice()
-            && view.session() == &SESSION
-            && (view.epoch(), view.previous(), view.index()) == (0, 0, 1)
-            && view.agreement().len() == 0
-            && view.ciphertext() == b"hi".as_slice()
-            && view.tag() == &TAG,
-    )
-}
-
-#[test]
-fn writes_and_lends_the_first_packet(rt: HostRuntime) -> Result<(), Fail> {
-    assert!(rt; writes_ad());
-    let mut bytes = [0; 67];
-    assert!(rt; write_into(PLAIN, &SESSION, FIRST, 0, &[], b"hi", &TAG, &mut bytes) == 67);
-    assert!(rt; lends(&bytes)?);
-    grammar();
-    Ok(())
-}
 
 /// Whether the fault of the first packet's first `len` bytes is this one, where `new` is put at a
 /// place.

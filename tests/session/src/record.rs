@@ -1,12 +1,9 @@
 //! Records of an independent implementation, in version 1, read and written again.
 
-use crate::conversation::begin;
-use bodies::Format;
 use boxes::{Inbox, Outbox};
-use dr_base::Side;
 use kem_laws::OpenKem;
 use ratchet::Session;
-use session_record::{Change, RECORD_LIMIT, decode, encode, encoded_len};
+use session_record::{Change, RECORD_LIMIT, decode, encode};
 use std::alloc::{AllocError, Global};
 use std::test::Fail;
 
@@ -134,26 +131,5 @@ fn records_are_read_and_written(rt: HostRuntime) -> Result<(), Fail> {
     for (text, kind) in rows {
         assert!(rt; is_kept(rt.alloc(), text, kind)?);
     }
-    Ok(())
-}
-
-/// How long the record of a session with empty boxes is, before it is written.
-fn len_of(alloc: Global, session: &Session<OpenKem>) -> Result<usize, AllocError> {
-    let inbox = Inbox::new(alloc)?;
-    let outbox = Outbox::new(alloc)?;
-    Ok(encoded_len(&session.part(), &inbox, &outbox, &Change::Same))
-}
-
-/// Whether the record that First begins with is `BEGUN` in version 4, of 132 bytes.
-fn is_begun(alloc: Global) -> Result<bool, Fail> {
-    let first = begin(Side::First, Format::Plain, 0)?;
-    let mut begun = fourth_of(alloc, BEGUN, None)?;
-    begun.push(0)?;
-    Ok(begun.len() == 132 && len_of(alloc, &first)? == 132 && recorded(alloc, &first)? == begun)
-}
-
-#[test]
-fn the_first_record_is_written(rt: HostRuntime) -> Result<(), Fail> {
-    assert!(rt; is_begun(rt.alloc())?);
     Ok(())
 }
