@@ -115,8 +115,15 @@ fn has_digest(alloc: Global, disk: &mut MemoryDisk, sha256: &str) -> Result<bool
     Ok(Sha256::digest(&bytes).as_slice() == decode(alloc, sha256)?.as_slice())
 }
 
-/// Whether First's disk is as told while its inbox is filled.
+/// Whether First's disk is as told while both begin, and its inbox is filled.
 fn grows(alloc: Global, first: &mut MemoryDisk, second: &mut MemoryDisk) -> Result<bool, Fail> {
+    let (one, other) = (
+        Command::Begin(Side::First, Format::Plain, KEY),
+        Command::Begin(Side::Second, Format::Plain, KEY),
+    );
+    if !works(alloc, first, one)? || !works(alloc, second, other)? {
+        return Ok(false);
+    }
     for (from, to, sha256) in TAKES {
         if !takes(alloc, first, second, from, to)? || !has_digest(alloc, first, sha256)? {
             return Ok(false);
@@ -140,20 +147,6 @@ fn records_of_many_pages(rt: HostRuntime) -> Result<(), Fail> {
     let alloc = rt.alloc();
     let mut first = new_disk(alloc)?;
     let mut second = new_disk(alloc)?;
-    assert!(rt;
-        works(
-            alloc,
-            &mut first,
-            Command::Begin(Side::First, Format::Plain, KEY)
-        )?
-    );
-    assert!(rt;
-        works(
-            alloc,
-            &mut second,
-            Command::Begin(Side::Second, Format::Plain, KEY)
-        )?
-    );
     assert!(rt; grows(alloc, &mut first, &mut second)?);
     assert!(rt; shrinks(alloc, &mut first)?);
     Ok(())

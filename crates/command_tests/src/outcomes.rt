@@ -32,67 +32,12 @@ pub enum Command<'a> {
     Check,
 }
 
-/// The status of a beginning, over a source whose reads of these numbers fail.
-fn begun(
-    alloc: Global,
-    disk: &mut MemoryDisk,
-    (side, format): (Side, Format),
-    text: &[u8],
-    fails: &[u64],
-    out: &mut MemorySink,
-) -> Result<u8, Fail> {
-    if disk.size() < AREA_SIZE {
-        return Err(Fail::from("no room"));
+/// What a command reads.
+fn text_of<'a>(command: Command<'a>) -> &'a [u8] {
+    match command {
+        Command::Begin(_, _, text) | Command::Take(text) => text,
+        _ => b"",
     }
-    let mut source = MemorySource::new(alloc, text, fails)?;
-    let status = begin::<OpenKem, MemoryDisk, MemorySource, MemorySink>(
-        alloc,
-        side,
-        format,
-        disk,
-        &mut source,
-        out,
-    );
-    Ok(status.code)
-}
-
-/// The status of a taking, over such a source.
-fn taken(
-    alloc: Global,
-    disk: &mut MemoryDisk,
-    text: &[u8],
-    fails: &[u64],
-    out: &mut MemorySink,
-) -> Result<u8, Fail> {
-    if disk.size() < AREA_SIZE {
-        return Err(Fail::from("no room"));
-    }
-    let mut source = MemorySource::new(alloc, text, fails)?;
-    let status = take::<OpenKem, MemoryDisk, MemorySource, MemorySink>(
-        alloc,
-        disk,
-        &mut source,
-        out,
-    );
-    Ok(status.code)
-}
-
-/// The status of a saying, whose draws of these numbers fail.
-fn said(
-    alloc: Global,
-    disk: &mut MemoryDisk,
-    text: &[u8],
-    fails: &[u64],
-    out: &mut MemorySink,
-) -> Result<u8, Fail> {
-    if disk.size() < AREA_SIZE {
-        return Err(Fail::from("no room"));
-    }
-    let mut draws = MemoryDraws::new(alloc, &[Key32 { bytes: [9; 32] }], fails)?;
-    let status = say::<OpenKem, MemoryDisk, MemorySink, MemoryDraws>(
-        alloc, text, disk, out, &mut draws,
-    );
-    Ok(status.code)
 }
 
 /// The status of a command. The reads and the draws of these numbers fail.
@@ -106,31 +51,21 @@ fn status_of(
     if disk.size() < AREA_SIZE {
         return Err(Fail::from("no room"));
     }
+    let mut source = MemorySource::new(alloc, text_of(command), fails)?;
+    let mut draws = MemoryDraws::new(alloc, &[Key32 { bytes: [9; 32] }], fails)?;
     let status = match command {
-        Command::Begin(side, format, text) => {
-            return begun(alloc, disk, (side, format), text, fails, out);
+        Command::Begin(side, format, _) => {
+            begin::<OpenKem, _, _, _>(alloc, side, format, disk, &mut source, out)
         }
-        Command::Take(text) => return taken(alloc, disk, text, fails, out),
-        Command::Say(text) => return said(alloc, disk, text, fails, out),
-        Command::Done(n) => drop_items::<OpenKem, MemoryDisk, MemorySink>(
-            alloc,
-            Items::Texts,
-            n,
-            disk,
-            out,
-        ),
-        Command::Sent(n) => drop_items::<OpenKem, MemoryDisk, MemorySink>(
-            alloc,
-            Items::Packets,
-            n,
-            disk,
-            out,
-        ),
-        Command::Inbox => inbox::<OpenKem, MemoryDisk, MemorySink>(alloc, disk, out),
-        Command::Outbox => outbox::<OpenKem, MemoryDisk, MemorySink>(alloc, disk, out),
-        Command::Awaiting => awaiting::<OpenKem, MemoryDisk, MemorySink>(alloc, disk, out),
-        Command::State => state::<OpenKem, MemoryDisk, MemorySink>(alloc, disk, out),
-        Command::Check => check::<OpenKem, MemoryDisk, MemorySink>(alloc, disk, out),
+        Command::Take(_) => take::<OpenKem, _, _, _>(alloc, disk, &mut source, out),
+        Command::Say(text) => say::<OpenKem, _, _, _>(alloc, text, disk, out, &mut draws),
+        Command::Done(n) => drop_items::<OpenKem, _, _>(alloc, Items::Texts, n, disk, out),
+        Command::Sent(n) => drop_items::<OpenKem, _, _>(alloc, Items::Packets, n, disk, out),
+        Command::Inbox => inbox::<OpenKem, _, _>(alloc, disk, out),
+        Command::Outbox => outbox::<OpenKem, _, _>(alloc, disk, out),
+        Command::Awaiting => awaiting::<OpenKem, _, _>(alloc, disk, out),
+        Command::State => state::<OpenKem, _, _>(alloc, disk, out),
+        Command::Check => check::<OpenKem, _, _>(alloc, disk, out),
     };
     Ok(status.code)
 }

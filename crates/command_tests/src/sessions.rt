@@ -10,17 +10,27 @@ use std::test::Fail;
 
 const KEY: &[u8] = b"0000000000000000000000000000000000000000000000000000000000000000\n";
 
-/// Whether a command ends with this status and writes just these lines.
+/// A command, the numbers of its reads or draws that fail, its status, and its lines.
+type Row<'a> = (Command<'a>, &'a [u64], u8, &'a [u8]);
+
+/// Whether a command ends with its status and writes just its lines.
 fn ends(
     alloc: Global,
     disk: &mut MemoryDisk,
-    command: Command<'_>,
-    fails: &[u64],
-    status: u8,
-    lines: &[u8],
+    (command, fails, status, lines): Row<'_>,
 ) -> Result<bool, Fail> {
     let (code, written) = outcome(alloc, disk, command, fails)?;
     Ok(code == status && written.as_slice() == lines)
+}
+
+/// The same of each of these, one after the other.
+fn all_end(alloc: Global, disk: &mut MemoryDisk, rows: &[Row<'_>]) -> Result<bool, Fail> {
+    for &row in rows {
+        if !ends(alloc, disk, row)? {
+            return Ok(false);
+        }
+    }
+    Ok(true)
 }
 
 /// The packet of the position 0.1 in an outbox, in hex.
@@ -42,68 +52,70 @@ fn a_text_is_said(rt: HostRuntime) -> Result<(), Fail> {
     let mut disk = new_disk(alloc)?;
     let state =
         b"session 70e0f9cd1a5863238d67aecce0c032e5\nside second\nepoch 0\nmissing 0\ninbox 0\noutbox 0\n";
-    let rows: [(Command<'_>, &[u8]); 7] = [
-        (Command::Begin(Side::Second, Format::Plain, KEY), NAME),
-        (Command::State, state),
-        (Command::Awaiting, b"awaiting 0\n"),
-        (Command::Say(b"hi"), b"said 0.1\n"),
-        (Command::Awaiting, b"awaiting 1\n0.1\n"),
-        (Command::Sent(1), b"sent 1\n"),
-        (Command::Outbox, b""),
+    let rows: [Row<'_>; 7] = [
+        (
+            Command::Begin(Side::Second, Format::Plain, KEY),
+            &[],
+            0,
+            NAME,
+        ),
+        (Command::State, &[], 0, state),
+        (Command::Awaiting, &[], 0, b"awaiting 0\n"),
+        (Command::Say(b"hi"), &[], 0, b"said 0.1\n"),
+        (Command::Awaiting, &[], 0, b"awaiting 1\n0.1\n"),
+        (Command::Sent(1), &[], 0, b"sent 1\n"),
+        (Command::Outbox, &[], 0, b""),
     ];
-    for (command, lines) in rows {
-        assert!(rt; ends(alloc, &mut disk, command, &[], 0, lines)?);
-    }
+    assert!(rt; all_end(alloc, &mut disk, &rows)?);
     Ok(())
 }
 
 /// The packet of a text that Second says in this format.
 fn packet_of_second(alloc: Global, format: Format) -> Result<Vec<u8>, Fail> {
     let mut disk = new_disk(alloc)?;
-    let begin = Command::Begin(Side::Second, format, KEY);
-    if !ends(alloc, &mut disk, begin, &[], 0, NAME)? {
-        return Err(Fail::from("not begun"));
-    }
-    let say = Command::Say(b"a\"b\\\n");
-    if !ends(alloc, &mut disk, say, &[], 0, b"said 0.1\n")? {
+    let rows: [Row<'_>; 2] = [
+        (Command::Begin(Side::Second, format, KEY), &[], 0, NAME),
+        (Command::Say(b"a\"b\\\n"), &[], 0, b"said 0.1\n"),
+    ];
+    if !all_end(alloc, &mut disk, &rows)? {
         return Err(Fail::from("not said"));
     }
     first_packet(alloc, &mut disk)
 }
 
-/// Whether First, which begins on this disk, takes the packet once, shows its text, and is done with
-/// it.
-fn takes_once(alloc: Global, disk: &mut MemoryDisk, packet: &[u8]) -> Result<bool, Fail> {
-    let rows: [(Command<'_>, u8, &[u8]); 6] = [
-        (Command::Begin(Side::First, Format::Plain, KEY), 0, NAME),
-        (Command::Take(packet), 0, b"opened 0.1\n"),
-        (Command::Inbox, 0, b"0.1 \"a\\x22b\\x5c\\x0a\"\n"),
-        (Command::Take(packet), 3, b"refused: Spent 0.1\n"),
-        (Command::Done(2), 3, b"refused: Fewer 1\n"),
-        (Command::Done(1), 0, b"done 1\n"),
+/// Whether First takes a packet of so many bytes once, which Second says in this format, shows its
+/// text, and is done with it.
+fn takes_once(alloc: Global, format: Format, bytes: usize) -> Result<bool, Fail> {
+    let packet = packet_of_second(alloc, format)?;
+    let mut disk = new_disk(alloc)?;
+    let rows: [Row<'_>; 6] = [
+        (
+            Command::Begin(Side::First, Format::Plain, KEY),
+            &[],
+            0,
+            NAME,
+        ),
+        (Command::Take(packet.as_slice()), &[], 0, b"opened 0.1\n"),
+        (Command::Inbox, &[], 0, b"0.1 \"a\\x22b\\x5c\\x0a\"\n"),
+        (
+            Command::Take(packet.as_slice()),
+            &[],
+            3,
+            b"refused: Spent 0.1\n",
+        ),
+        (Command::Done(2), &[], 3, b"refused: Fewer 1\n"),
+        (Command::Done(1), &[], 0, b"done 1\n"),
     ];
-    for (command, status, lines) in rows {
-        if !ends(alloc, disk, command, &[], status, lines)? {
-            return Ok(false);
-        }
-    }
-    Ok(true)
+    Ok(packet.len() == 2 * bytes + 1 && all_end(alloc, &mut disk, &rows)?)
 }
 
+// How many bytes each packet has: 33, the text of 5 bytes or its padding, and 32.
 #[test]
 fn a_text_is_taken(rt: HostRuntime) -> Result<(), Fail> {
     let alloc = rt.alloc();
-    // how many bytes each packet has: 33, the text of 5 bytes or its padding, and 32
-    for (format, bytes) in [
-        (Format::Plain, 70),
-        (Format::Padded, 321),
-        (Format::Receipts, 321),
-    ] {
-        let packet = packet_of_second(alloc, format)?;
-        let mut disk = new_disk(alloc)?;
-        assert!(rt; packet.len() == 2 * bytes + 1);
-        assert!(rt; takes_once(alloc, &mut disk, packet.as_slice())?);
-    }
+    assert!(rt; takes_once(alloc, Format::Plain, 70)?);
+    assert!(rt; takes_once(alloc, Format::Padded, 321)?);
+    assert!(rt; takes_once(alloc, Format::Receipts, 321)?);
     Ok(())
 }
 
@@ -122,21 +134,22 @@ fn opens_gate(disk: &mut MemoryDisk) -> bool {
 /// and one at a disk that has stopped is refused.
 fn shows_looks(alloc: Global, disk: &mut MemoryDisk) -> Result<bool, Fail> {
     let none = b"slot 0 closed\nslot 1 closed\nno record\nrest yes\n";
-    let rows: [(Command<'_>, &[u8]); 3] = [
-        (Command::Check, none),
-        (Command::Begin(Side::Second, Format::Plain, KEY), NAME),
-        (Command::Check, BEGUN),
+    let rows: [Row<'_>; 3] = [
+        (Command::Check, &[], 0, none),
+        (
+            Command::Begin(Side::Second, Format::Plain, KEY),
+            &[],
+            0,
+            NAME,
+        ),
+        (Command::Check, &[], 0, BEGUN),
     ];
-    for (command, lines) in rows {
-        if !ends(alloc, disk, command, &[], 0, lines)? {
-            return Ok(false);
-        }
-    }
-    if !opens_gate(disk) || !ends(alloc, disk, Command::Check, &[], 0, DAMAGED)? {
+    if !all_end(alloc, disk, &rows)? || !opens_gate(disk) {
         return Ok(false);
     }
+    let is_damaged = ends(alloc, disk, (Command::Check, &[], 0, DAMAGED))?;
     disk.stop_after(0);
-    ends(alloc, disk, Command::Check, &[], 6, b"fault: disk\n")
+    Ok(is_damaged && ends(alloc, disk, (Command::Check, &[], 6, b"fault: disk\n"))?)
 }
 
 // A look's lines, also of a damaged disk, and its fault.
@@ -154,7 +167,7 @@ fn each_fault(rt: HostRuntime) -> Result<(), Fail> {
     let alloc = rt.alloc();
     let mut disk = new_disk(alloc)?;
     let begin = Command::Begin(Side::First, Format::Plain, KEY);
-    let rows: [(Command<'_>, &[u64], u8, &[u8]); 9] = [
+    let rows: [Row<'_>; 9] = [
         (Command::State, &[], 9, b"no session\n"),
         (Command::Awaiting, &[], 9, b"no session\n"),
         (
@@ -175,18 +188,13 @@ fn each_fault(rt: HostRuntime) -> Result<(), Fail> {
         (Command::Take(b"0g"), &[], 3, b"refused: NotHex\n"),
         (Command::Say(b"hi"), &[1], 8, b"fault: draws\n"),
     ];
-    for (command, fails, status, lines) in rows {
-        assert!(rt; ends(alloc, &mut disk, command, fails, status, lines)?);
-    }
+    assert!(rt; all_end(alloc, &mut disk, &rows)?);
     disk.stop_after(1);
     assert!(rt;
         ends(
             alloc,
             &mut disk,
-            Command::Say(b"hi"),
-            &[],
-            6,
-            b"fault: disk\n"
+            (Command::Say(b"hi"), &[], 6, b"fault: disk\n")
         )?
     );
     Ok(())

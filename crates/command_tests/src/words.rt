@@ -22,11 +22,6 @@ fn are(alloc: Global, line: &str, expected: Option<Command<'_>>) -> Result<bool,
     Ok(found == expected)
 }
 
-/// The command that plays a made script.
-fn made<'a>(rounds: u32, number: u64) -> Command<'a> {
-    Command::DuetMake { rounds, number }
-}
-
 #[test]
 fn words_are_commands(rt: HostRuntime) -> Result<(), Fail> {
     let alloc = rt.alloc();
@@ -77,9 +72,27 @@ fn words_are_commands(rt: HostRuntime) -> Result<(), Fail> {
         ("sync|127.0.0.1:4000", Command::Sync("127.0.0.1:4000")),
         ("sync|--|-a", Command::Sync("-a")),
         ("duet", Command::Duet),
-        ("duet-make|1|0", made(1, 0)),
-        ("duet-make|1000|18446744073709551615", made(1000, u64::MAX)),
-        ("duet-make|--|+7|007", made(7, 7)),
+        (
+            "duet-make|1|0",
+            Command::DuetMake {
+                rounds: 1,
+                number: 0,
+            },
+        ),
+        (
+            "duet-make|1000|18446744073709551615",
+            Command::DuetMake {
+                rounds: 1000,
+                number: u64::MAX,
+            },
+        ),
+        (
+            "duet-make|--|+7|007",
+            Command::DuetMake {
+                rounds: 7,
+                number: 7,
+            },
+        ),
     ];
     for (line, command) in commands {
         assert!(rt; are(alloc, line, Some(command))?, "{line}");
