@@ -1,96 +1,78 @@
-//! What the program answers to words, on disks in memory.
+//! What the program answers to words: over ports in memory, and over std's reader and writer.
 
 use crate::running::{Network, run_on};
-use dr_disk::Disk;
-use dr_ports::{MemorySink, MemorySource};
+use dr_disk::{Disk, SteadyDisk};
+use dr_ports::{MemorySink, MemorySource, ReaderSource, WriterSink};
 use std::alloc::{AllocError, Global};
+use std::io::Cursor;
 
-/// What the program writes to words, with its status, on this disk and with this text in the
-/// source.
-pub fn answer<D: Disk>(
+/// Words between bars, what the source holds, the status, and what is written.
+pub type Row<'a> = (&'a str, &'a [u8], u8, &'a [u8]);
+
+/// The key of zeros.
+pub const KEY: &[u8] = b"0000000000000000000000000000000000000000000000000000000000000000\n";
+
+/// The session of that key, whose name is from another implementation of HKDF.
+pub const SESSION: &[u8] = b"session 70e0f9cd1a5863238d67aecce0c032e5\n";
+
+/// What Second shows that has begun it.
+pub const BEGUN: &[u8] =
+    b"session 70e0f9cd1a5863238d67aecce0c032e5\nside second\nepoch 0\nmissing 0\ninbox 0\noutbox 0\n";
+
+/// Whether a run comes to this row, where these reads and writes fail.
+pub fn is_answered(
     alloc: Global,
-    line: &str,
-    disk: &mut D,
+    disk: &mut SteadyDisk,
     network: &mut Network,
-    text: &[u8],
-) -> Result<(u8, Vec<u8>), AllocError> {
-    let mut source = MemorySource::new(alloc, text, &[])?;
-    let mut out = MemorySink::new(alloc, 8192, &[])?;
-    let status = run_on(alloc, line, disk, network, &mut source, &mut out)?;
-    Ok((status.code, Vec::from_slice(alloc, out.taken())?))
-}
-
-/// Whether the program answers lines of words so: each line of the table is the words, the text of
-/// the source, the status, and what is written, parted by `>`. A line feed in it is `;`, and `^` is
-/// 64 zeros.
-pub fn answers<D: Disk>(alloc: Global, disk: &mut D, table: &str) -> Result<bool, AllocError> {
-    let mut network = Network::new(alloc, b"", b"")?;
-    answers_over(alloc, disk, &mut network, table)
-}
-
-/// The same, over this network.
-pub fn answers_over<D: Disk>(
-    alloc: Global,
-    disk: &mut D,
-    network: &mut Network,
-    table: &str,
+    (words, text, status, lines): Row<'_>,
+    reads: &[u64],
+    writes: &[u64],
 ) -> Result<bool, AllocError> {
-    for row in table.lines() {
-        let mut fields = row.split('>');
-        let (Some(words), Some(text), Some(status), Some(written)) = (
-            fields.next(),
-            fields.next(),
-            fields.next(),
-            fields.next(),
-        ) else {
-            return Ok(false);
-        };
-        let (input, expected) = (spelled(alloc, text)?, spelled(alloc, written)?);
-        let (code, lines) = answer(alloc, words, disk, network, input.as_slice())?;
-        if lines.as_slice() != expected.as_slice() || status.parse::<u8>() != Ok(code) {
+    let mut source = MemorySource::new(alloc, text, reads)?;
+    let mut out = MemorySink::new(alloc, 8192, writes)?;
+    let ended = run_on(alloc, words, disk, network, &mut source, &mut out)?;
+    Ok(ended.code == status && out.taken() == lines)
+}
+
+/// Whether runs, one after the other, come to these rows.
+pub fn are_answered(
+    alloc: Global,
+    disk: &mut SteadyDisk,
+    network: &mut Network,
+    rows: &[Row<'_>],
+) -> Result<bool, AllocError> {
+    for &row in rows {
+        if !is_answered(alloc, disk, network, row, &[], &[])? {
             return Ok(false);
         }
     }
     Ok(true)
 }
 
-/// A field of the table.
-fn spelled(alloc: Global, field: &str) -> Result<Vec<u8>, AllocError> {
-    let mut text = Vec::new(alloc);
-    for &byte in field.as_bytes() {
-        match byte {
-            b';' => text.push(b'\n')?,
-            b'^' => text.extend_from_slice(&[b'0'; 64])?,
-            _ => text.push(byte)?,
-        }
-    }
-    Ok(text)
-}
-
-/// Whether the program writes these lines to words, with this status.
-pub fn is_answered<D: Disk>(
-    alloc: Global,
-    line: &str,
-    disk: &mut D,
-    network: &mut Network,
-    text: &[u8],
-    status: u8,
-    lines: &[u8],
-) -> Result<bool, AllocError> {
-    let (code, written) = answer(alloc, line, disk, network, text)?;
-    Ok(code == status && written.as_slice() == lines)
-}
-
-/// Whether it writes the lines of each row to the row's words, with the row's status.
-pub fn are_answered<D: Disk>(
+/// Whether a run over std's reader and writer comes to this row.
+fn is_told<D: Disk>(
     alloc: Global,
     disk: &mut D,
     network: &mut Network,
-    text: &[u8],
-    rows: &[(&str, u8, &[u8])],
+    (words, text, status, lines): Row<'_>,
 ) -> Result<bool, AllocError> {
-    for &(words, status, lines) in rows {
-        if !is_answered(alloc, words, disk, network, text, status, lines)? {
+    let mut written = vec![in alloc; 0; lines.len()]?;
+    let mut source = ReaderSource::new(text);
+    let mut out = WriterSink::new(Cursor::new(written.as_mut_slice()));
+    let ended = run_on(alloc, words, disk, network, &mut source, &mut out)?;
+    drop(out);
+    Ok(ended.code == status && written.as_slice() == lines)
+}
+
+/// Whether runs over them, one after the other, come to these rows.
+pub fn are_told<D: Disk>(
+    alloc: Global,
+    disk: &mut D,
+    network: &mut Network,
+    rows: &[Row<'_>],
+) -> Result<bool, AllocError> {
+    for &row in rows {
+        if !is_told(alloc, disk, network, row)? {
             return Ok(false);
         }
     }

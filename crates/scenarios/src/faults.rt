@@ -1,95 +1,90 @@
-//! Each fault once: reads, writes and disks that fail, and arguments that can't be read.
+//! One call on each port that fails, with its status and its line, and words that can't be read.
 
-use crate::answers::answers;
-use crate::running::{Network, new_disk, run_duet, run_given};
-use dr_ports::{MemorySink, MemorySource};
+use crate::answers::{KEY, Row, SESSION, is_answered};
+use crate::running::{Network, steady_disk};
+use dr_disk::{Disk, SteadyDisk};
+use dr_ports::{MemoryDoor, MemoryLink, MemorySink, MemorySource};
+use messenger_cli::{DISK_SIZE, RELAY_DISK_SIZE, run_arguments};
 use std::alloc::{AllocError, Global};
 use std::io;
 use std::io::ErrorKind;
 use std::test::Fail;
 
-/// A script whose last line doesn't end in a line feed.
-const HELLO: &[u8] =
-    b"kem open\nkey 0000000000000000000000000000000000000000000000000000000000000000\nsecond say hi\nfirst take 0.1\nfirst inbox\nfirst take 0.1";
+/// What First does over a link, a door and draws of which a call fails, with the numbers of the
+/// reads and of the writes that fail: nothing that fails is done.
+const ROWS: [(Row<'static>, &[u64], &[u64]); 7] = [
+    (("begin|first", KEY, 0, SESSION), &[], &[]),
+    (("take", b"", 4, b"fault: read\n"), &[1], &[]),
+    (("state", b"", 5, b""), &[], &[1]),
+    (("say|hi", b"", 8, b"fault: draws\n"), &[], &[]),
+    (("sync|127.0.0.1:4000", b"", 7, b"fault: link\n"), &[], &[]),
+    (
+        ("relay|4000|1|a", b"", 7, b"relay 4000\nfault: link\n"),
+        &[],
+        &[],
+    ),
+    (("outbox", b"", 0, b""), &[], &[]),
+];
 
-/// What it is answered with.
-const HELLO_TRACE: &[u8] =
-    b"second said 0.1\nfirst opened 0.1\nfirst inbox 1\nfirst 0.1 \"hi\"\nfirst refused Spent 0.1\n";
-
-/// The status of a script, and whether just these bytes were written. The reads and the writes of
-/// these numbers fail, and there is room for this many bytes.
-fn outcome(
+/// Whether each of these calls is told.
+fn are_told(
     alloc: Global,
+    disk: &mut SteadyDisk,
     network: &mut Network,
-    script: &[u8],
-    reads: &[u64],
-    writes: &[u64],
-    room: usize,
-    expected: &[u8],
-) -> Result<(u8, bool), AllocError> {
-    let mut source = MemorySource::new(alloc, script, reads)?;
-    let mut out = MemorySink::new(alloc, room, writes)?;
-    let status = run_duet(alloc, network, &mut source, &mut out)?;
-    Ok((status.code, out.taken() == expected))
-}
-
-#[test]
-fn says_what_failed(rt: HostRuntime) -> Result<(), Fail> {
-    let alloc = rt.alloc();
-    let mut network = Network::new(alloc, b"", b"")?;
-    // reads and writes that fail, the room, what is written, and the status
-    let cases: [(&[u64], &[u64], usize, &[u8], u8); 7] = [
-        (&[1], &[], 4096, b"fault: read\n", 4),
-        (&[2], &[], 4096, b"fault: read\n", 4),
-        (&[1], &[1], 4096, b"", 5),
-        (&[], &[1], 4096, b"", 5),
-        (&[], &[2], 4096, b"second said 0.1\n", 5),
-        (&[], &[], 20, b"second said 0.1\nfirs", 5),
-        (&[], &[6], 4096, HELLO_TRACE, 0),
-    ];
-    for (reads, writes, room, expected, status) in cases {
-        assert!(rt;
-            outcome(alloc, &mut network, HELLO, reads, writes, room, expected)? == (status, true)
-        );
+) -> Result<bool, AllocError> {
+    network.link = MemoryLink::new(alloc, b"", 4096, &[1])?;
+    network.door = MemoryDoor::new(alloc, b"", &[], 4096, &[2], &[])?;
+    for (row, reads, writes) in ROWS {
+        if !is_answered(alloc, disk, network, row, reads, writes)? {
+            return Ok(false);
+        }
     }
-    assert!(rt; outcome(alloc, &mut network, b"", &[], &[], 0, b"")? == (5, true));
-    let long = vec![in alloc; 10; 65537]?;
-    assert!(rt;
-        outcome(
-            alloc,
-            &mut network,
-            long.as_slice(),
-            &[],
-            &[],
-            4096,
-            b"refused: InputTooLong 65536\n"
-        )? == (3, true)
-    );
-    Ok(())
+    Ok(true)
 }
 
 #[test]
-fn tells_a_disk_that_stops(rt: HostRuntime) -> Result<(), Fail> {
+fn a_failing_call_has_its_status(rt: HostRuntime) -> Result<(), Fail> {
     let alloc = rt.alloc();
-    let mut disk = new_disk(alloc)?;
-    disk.stop_after(0);
-    assert!(rt; answers(alloc, &mut disk, "begin|first>^>6>fault: disk;")?);
-    disk.go_on();
-    assert!(rt; answers(alloc, &mut disk, "state>>9>no session;")?);
+    let mut disk = steady_disk(alloc)?;
+    let mut network = Network::new(alloc, b"", b"")?;
+    assert!(rt; are_told(alloc, &mut disk, &mut network)?);
     Ok(())
+}
+
+/// Whether a run that gets no words, for this reason, ends with this status and this line.
+fn is_asked(
+    alloc: Global,
+    disk: &mut SteadyDisk,
+    network: &mut Network,
+    (kind, status, line): (ErrorKind, u8, &[u8]),
+) -> Result<bool, AllocError> {
+    let mut source = MemorySource::new(alloc, b"", &[])?;
+    let mut out = MemorySink::new(alloc, 64, &[])?;
+    if disk.size() < DISK_SIZE || network.relay_disk.size() < RELAY_DISK_SIZE {
+        return Err(AllocError);
+    }
+    let ended = run_arguments(
+        alloc,
+        Err(io::Error::from(kind)),
+        disk,
+        &mut network.relay_disk,
+        &mut source,
+        &mut out,
+        &mut network.link,
+        &mut network.door,
+        &mut network.draws,
+    );
+    Ok(ended.code == status && out.taken() == line)
 }
 
 #[test]
 fn asks_for_words(rt: HostRuntime) -> Result<(), Fail> {
     let alloc = rt.alloc();
-    let mut source = MemorySource::new(alloc, HELLO, &[])?;
-    let mut out = MemorySink::new(alloc, 64, &[])?;
-    let cases = [(ErrorKind::InvalidData, 2), (ErrorKind::OutOfMemory, 13)];
-    for (kind, status) in cases {
-        let unread = Err(io::Error::from(kind));
-        let ended = run_given(alloc, unread, &mut source, &mut out)?;
-        assert!(rt; ended.code == status);
-    }
-    assert!(rt; out.taken() == b"usage\nno memory\n".as_slice());
+    let mut disk = steady_disk(alloc)?;
+    let mut network = Network::new(alloc, b"", b"")?;
+    let unread = (ErrorKind::InvalidData, 2, b"usage\n".as_slice());
+    let without_memory = (ErrorKind::OutOfMemory, 13, b"no memory\n".as_slice());
+    assert!(rt; is_asked(alloc, &mut disk, &mut network, unread)?);
+    assert!(rt; is_asked(alloc, &mut disk, &mut network, without_memory)?);
     Ok(())
 }

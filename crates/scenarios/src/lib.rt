@@ -1,22 +1,15 @@
-//! Tests of the whole program over ports in memory: each fault once, and the bytes that go to a
-//! relay and come from one. Its scripts and commands are tried on the built program.
+//! Tests of the whole program over ports in memory, over std's reader and writer and over files:
+//! one call on each port that fails, and the bytes that go to a relay and come from one. Its
+//! scripts and commands, and each call that fails, are tried on the built program.
 #![tactic(auto)]
 
 #[cfg(test)]
 mod answers;
 #[cfg(test)]
-mod earlier;
-#[cfg(test)]
-mod failing;
+mod disks;
 #[cfg(test)]
 mod faults;
 #[cfg(test)]
-mod in_turn;
-#[cfg(test)]
-mod old;
-#[cfg(test)]
 mod relays;
-#[cfg(test)]
-mod rows;
 #[cfg(test)]
 mod running;

@@ -1,6 +1,6 @@
 //! The commands that meet a relay, over links and doors in memory.
 
-use crate::answers::{answers_over, are_answered};
+use crate::answers::{BEGUN, KEY, Row, SESSION, are_answered};
 use crate::running::{Network, steady_disk};
 use dr_ports::{MemoryLink, Stand};
 use std::alloc::{AllocError, Global};
@@ -9,17 +9,19 @@ use std::test::Fail;
 /// Whether the program serves the box `a` to the one connection that there is.
 fn is_served(alloc: Global, network: &mut Network) -> Result<bool, AllocError> {
     let mut disk = steady_disk(alloc)?;
-    let rows: [(&str, u8, &[u8]); 4] = [
-        ("relay|4000|1|a|a", 3, b"refused: BadBox 2\n"),
-        ("relay|4000|1|a", 0, b"relay 4000\nconnection 1 ended 4\n"),
-        ("relay|4000|1|b", 3, b"refused: BoxName 1\n"),
+    let twice = b"relay 4000\nconnection 1 ended 0\nconnection 2 ended 0\n";
+    let rows: [Row<'_>; 4] = [
+        ("relay|4000|1|a|a", b"", 3, b"refused: BadBox 2\n"),
         (
-            "relay|4000|2|a",
+            "relay|4000|1|a",
+            b"",
             0,
-            b"relay 4000\nconnection 1 ended 0\nconnection 2 ended 0\n",
+            b"relay 4000\nconnection 1 ended 4\n",
         ),
+        ("relay|4000|1|b", b"", 3, b"refused: BoxName 1\n"),
+        ("relay|4000|2|a", b"", 0, twice),
     ];
-    are_answered(alloc, &mut disk, network, b"", &rows)
+    are_answered(alloc, &mut disk, network, &rows)
 }
 
 #[test]
@@ -39,13 +41,16 @@ fn serves_a_relay(rt: HostRuntime) -> Result<(), Fail> {
 /// A relay's replies to two syncs: none stands; none stands, and a packet is kept as number 1.
 const REPLIES: &[u8] = b"\x00\x01\x83\x00\x01\x83\x00\x09\x81\x00\x00\x00\x00\x00\x00\x00\x01";
 
-const SYNCED: &str = "\
-begin|second>^>0>session 70e0f9cd1a5863238d67aecce0c032e5;
-sync|127.0.0.1:4000>>0>end;
-say|hi>>0>said 0.1;
-sync|127.0.0.1:4000>>0>stored 1;end;
-outbox>>0>
-sync|127.0.0.1:4000>>12>peer: Ended at 0;";
+/// What Second does. Its text in epoch 0 draws nothing: a draw would fail.
+const SYNCED: [Row<'static>; 7] = [
+    ("begin|second", KEY, 0, SESSION),
+    ("state", b"", 0, BEGUN),
+    ("sync|127.0.0.1:4000", b"", 0, b"end\n"),
+    ("say|hi", b"", 0, b"said 0.1\n"),
+    ("sync|127.0.0.1:4000", b"", 0, b"stored 1\nend\n"),
+    ("outbox", b"", 0, b""),
+    ("sync|127.0.0.1:4000", b"", 12, b"peer: Ended at 0\n"),
+];
 
 /// What the first two syncs begin with: a fetch of the own box.
 const FETCHED: &[u8] =
@@ -56,7 +61,7 @@ fn syncs_with_a_relay(rt: HostRuntime) -> Result<(), Fail> {
     let alloc = rt.alloc();
     let mut network = Network::new(alloc, REPLIES, b"")?;
     let mut disk = steady_disk(alloc)?;
-    assert!(rt; answers_over(alloc, &mut disk, &mut network, SYNCED)?);
+    assert!(rt; are_answered(alloc, &mut disk, &mut network, &SYNCED)?);
     assert!(rt; network.link.sent().starts_with(FETCHED));
     assert!(rt; has_ended(&network.link));
     Ok(())
