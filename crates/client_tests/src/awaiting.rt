@@ -1,93 +1,81 @@
 //! A side that sends receipts learns which of its texts were opened.
 
-ghost use Rattle.std.specs.Prelude.{◌≡◌, true};
-ghost use Rattle.dr_disk.specs.MemoryDisks.{state_of};
-ghost use Rattle.client.specs.Clients.{IsOpenOn, MayActOn};
-
-use crate::acts::{Act, SIZE, begin_in, perform, said_packet};
+use crate::acts::{Act, HI, SIZE, ZEROS, begun, new_disk, packet_at, performs_all};
 use bodies::Format;
 use client::Client;
 use dr_base::{Position, Side};
-use dr_disk::MemoryDisk;
+use dr_disk::{Disk, MemoryDisk};
 use kem_laws::OpenKem;
 use session_model::Items;
 use std::alloc::Global;
+use std::test::Fail;
 
-/// Whether just these own texts wait, one at the most.
-fn waits_for(client: &Client<OpenKem>, one: Option<Position>) -> bool {
-    client.waiting() == one.is_some() as u32
-        && client.awaiting(0) == one
-        && client.awaiting(1).is_none()
-}
-
-/// Whether a side takes a packet, with this many texts in the inbox then and packets in the outbox.
-fn takes(
+/// Whether a client has this many texts in its inbox and packets in its outbox, and just these own
+/// texts wait, one at the most.
+fn shows(
     alloc: Global,
-    packet: &[u8],
-    client: &mut Client<OpenKem>,
     disk: &mut MemoryDisk,
-    stand: (u32, u32),
-) -> bool
-    requires { MayActOn client.old (state_of disk.old) }
-    ensures { result ≡ true → IsOpenOn client.new (state_of disk.new) }
-{
-    perform(alloc, Act::Take, packet, client, disk)
-        && client.standing(Items::Texts) == stand.0
-        && client.standing(Items::Packets) == stand.1
+    (texts, packets, one): (u32, u32, Option<Position>),
+) -> bool {
+    if disk.size() < SIZE {
+        return false;
+    }
+    match Client::<OpenKem>::open(alloc, disk) {
+        Ok(client) => {
+            client.standing(Items::Texts) == texts
+                && client.standing(Items::Packets) == packets
+                && client.waiting() == one.is_some() as u32
+                && client.awaiting(0) == one
+                && client.awaiting(1).is_none()
+        }
+        Err(_) => false,
+    }
 }
 
 /// First takes the packet of a text, and answers.
-fn answer_on(alloc: Global, packet: &[u8], disk: &mut MemoryDisk) -> Option<Vec<u8>> {
-    match begin_in(alloc, Side::First, Format::Receipts, disk) {
-        Ok(mut client) => {
-            if takes(alloc, packet, &mut client, disk, (1, 0)) && waits_for(&client, None) {
-                said_packet(alloc, &mut client, disk)
-            } else {
-                None
-            }
-        }
-        Err(_) => None,
-    }
-}
-
-/// The same on a disk of its own.
 fn answer(alloc: Global, packet: &[u8]) -> Option<Vec<u8>> {
-    match MemoryDisk::new(alloc, SIZE) {
-        Ok(mut disk) => answer_on(alloc, packet, &mut disk),
-        Err(_) => None,
+    let Ok(mut disk) = new_disk(alloc) else {
+        return None;
+    };
+    let is_so = begun(alloc, (Side::First, Format::Receipts), &ZEROS, &mut disk).is_ok()
+        && performs_all(alloc, &[Act::Take(packet)], &mut disk)
+        && shows(alloc, &mut disk, (1, 0, None))
+        && performs_all(alloc, &[HI], &mut disk);
+    if is_so {
+        packet_at(alloc, 0, &mut disk)
+    } else {
+        None
     }
 }
 
-/// Second says a text, which waits until the answer to it is taken.
-fn learns_on(alloc: Global, client: &mut Client<OpenKem>, disk: &mut MemoryDisk) -> bool
-    requires { MayActOn client.old (state_of disk.old) }
-{
-    let Some(packet) = said_packet(alloc, client, disk) else {
-        return false;
-    };
-    if !waits_for(client, Some(Position { epoch: 0, index: 1 })) {
+/// First's answer to a disk's packet.
+fn answer_to(alloc: Global, disk: &mut MemoryDisk) -> Option<Vec<u8>> {
+    match packet_at(alloc, 0, disk) {
+        Some(packet) => answer(alloc, packet.as_slice()),
+        None => None,
+    }
+}
+
+/// Whether Second says a text, which waits until the answer to it is taken.
+fn learns(alloc: Global, disk: &mut MemoryDisk) -> bool {
+    let waits = begun(alloc, (Side::Second, Format::Receipts), &ZEROS, disk).is_ok()
+        && performs_all(alloc, &[HI], disk)
+        && shows(alloc, disk, (0, 1, Some(Position { epoch: 0, index: 1 })));
+    if !waits {
         return false;
     }
-    match answer(alloc, packet.as_slice()) {
+    match answer_to(alloc, disk) {
         Some(answer) => {
-            takes(alloc, answer.as_slice(), client, disk, (1, 1)) && waits_for(client, None)
+            performs_all(alloc, &[Act::Take(answer.as_slice())], disk)
+                && shows(alloc, disk, (1, 1, None))
         }
         None => false,
     }
 }
 
-/// The same on a disk of its own.
-fn learns(alloc: Global) -> bool {
-    let Ok(mut disk) = MemoryDisk::new(alloc, SIZE) else {
-        return false;
-    };
-    match begin_in(alloc, Side::Second, Format::Receipts, &mut disk) {
-        Ok(mut client) => learns_on(alloc, &mut client, &mut disk),
-        Err(_) => false,
-    }
-}
-
 #[test]
-fn a_text_is_known_to_be_opened(rt: HostRuntime) {
-    assert!(rt; learns(rt.alloc()));
+fn a_text_is_known_to_be_opened(rt: HostRuntime) -> Result<(), Fail> {
+    let mut disk = new_disk(rt.alloc())?;
+    assert!(rt; learns(rt.alloc(), &mut disk));
+    Ok(())
 }

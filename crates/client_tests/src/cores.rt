@@ -1,10 +1,11 @@
 //! Cores of both sides in memory: each step once, drafted and accepted or let be, and a record that
 //! is read again.
 
+use crate::acts::ZEROS;
 use bodies::Format;
 use boxes::{Inbox, Outbox};
-use client::{Core, CoreBeginError, Draft};
-use dr_base::{Key32, Position, Side};
+use client::{Core, Draft};
+use dr_base::{Position, Side};
 use kem_laws::OpenKem;
 use ratchet::{OpeningRoom, PacketRoom};
 use session_model::Items;
@@ -123,17 +124,12 @@ fn goes_over(alloc: Global, first: &mut Core<OpenKem>, second: &mut Core<OpenKem
         && drop_one(alloc, first, Items::Texts)
 }
 
-/// The core of a side, with the key of zeros.
-fn begun(alloc: Global, side: Side) -> Result<Core<OpenKem>, CoreBeginError> {
-    Core::begin(alloc, side, Format::Plain, &Key32 { bytes: [0; 32] })
-}
-
-/// The same over cores of its own.
+/// The same over cores of its own, begun with the key of zeros.
 fn meet(alloc: Global) -> bool {
-    let Ok(mut first) = begun(alloc, Side::First) else {
+    let Ok(mut first) = Core::<OpenKem>::begin(alloc, Side::First, Format::Plain, &ZEROS) else {
         return false;
     };
-    let Ok(mut second) = begun(alloc, Side::Second) else {
+    let Ok(mut second) = Core::<OpenKem>::begin(alloc, Side::Second, Format::Plain, &ZEROS) else {
         return false;
     };
     first.side() == Side::First

@@ -1,59 +1,12 @@
 //! Disks whose bytes were changed: which place is told, and what is mended.
 
-ghost use Rattle.std.specs.Prelude.{◌≡◌, true};
-ghost use Rattle.dr_disk.specs.MemoryDisks.{state_of};
-ghost use Rattle.client.specs.Clients.{IsOpenOn, MayActOn};
-
-use crate::acts::{SIZE, begin};
+use crate::acts::{Act, SIZE, begins, new_disk, performs_all};
 use crate::changes::{Change, Found, rows};
 use client::{Client, OpenRefusal};
-use dr_base::{Key32, Side};
+use dr_base::Side;
 use dr_disk::{Disk, MemoryDisk};
-use dr_ports::SteadyDraws;
 use kem_laws::OpenKem;
 use std::alloc::Global;
-
-/// Says a text of 1,000 letters. Answers whether that was acknowledged.
-fn says(alloc: Global, client: &mut Client<OpenKem>, disk: &mut MemoryDisk) -> bool
-    requires { MayActOn client.old (state_of disk.old) }
-    ensures { result ≡ true → IsOpenOn client.new (state_of disk.new) }
-{
-    match SteadyDraws::new(alloc, &[Key32 { bytes: [9; 32] }]) {
-        Ok(mut draws) => client.say(disk, &[b'x'; 1000], &mut draws).is_ok(),
-        Err(_) => false,
-    }
-}
-
-/// The same twice.
-fn says_two(alloc: Global, client: &mut Client<OpenKem>, disk: &mut MemoryDisk) -> bool
-    requires { MayActOn client.old (state_of disk.old) }
-    ensures { result ≡ true → IsOpenOn client.new (state_of disk.new) }
-{
-    says(alloc, client, disk) && says(alloc, client, disk)
-}
-
-/// The same four times.
-fn says_four(alloc: Global, client: &mut Client<OpenKem>, disk: &mut MemoryDisk) -> bool
-    requires { MayActOn client.old (state_of disk.old) }
-    ensures { result ≡ true → IsOpenOn client.new (state_of disk.new) }
-{
-    says_two(alloc, client, disk) && says_two(alloc, client, disk)
-}
-
-/// The same eight times.
-fn says_all(alloc: Global, client: &mut Client<OpenKem>, disk: &mut MemoryDisk) -> bool
-    requires { MayActOn client.old (state_of disk.old) }
-{
-    says_four(alloc, client, disk) && says_four(alloc, client, disk)
-}
-
-/// Begins Second, which says eight such texts. Answers whether it did.
-fn says_eight(alloc: Global, disk: &mut MemoryDisk) -> bool {
-    match begin(alloc, Side::Second, 0, disk) {
-        Ok(mut client) => says_all(alloc, &mut client, disk),
-        Err(_) => false,
-    }
-}
 
 /// All bytes of a disk, where they can be read.
 pub fn bytes_of(alloc: Global, disk: &mut MemoryDisk) -> Option<Vec<u8>> {
@@ -97,9 +50,11 @@ fn found(alloc: Global, disk: &mut MemoryDisk, before: &[u8]) -> Option<Found> {
     }
 }
 
-/// Whether an opening finds this on a new disk, once it is Second's with these changes.
+/// Whether an opening finds this on a new disk, once it is Second's, which has said eight texts of
+/// 1,000 letters, with these changes.
 fn is_found_on(alloc: Global, disk: &mut MemoryDisk, over: &[Change], expected: Found) -> bool {
-    if !says_eight(alloc, disk) {
+    let says = [Act::Say(&[b'x'; 1000], 9); 8];
+    if !begins(alloc, Side::Second, disk) || !performs_all(alloc, &says, disk) {
         return false;
     }
     let Some(before) = bytes_of(alloc, disk) else {
@@ -115,7 +70,7 @@ fn is_found_on(alloc: Global, disk: &mut MemoryDisk, over: &[Change], expected: 
 
 /// The same on a disk of its own.
 fn is_found(alloc: Global, over: &[Change], expected: Found) -> bool {
-    match MemoryDisk::new(alloc, SIZE) {
+    match new_disk(alloc) {
         Ok(mut disk) => is_found_on(alloc, &mut disk, over, expected),
         Err(_) => false,
     }

@@ -1,19 +1,14 @@
 //! A disk with a record of version 1 of two pages, which both change in the newest version.
 
-ghost use Rattle.std.specs.Prelude.{◌≡◌, true};
-ghost use Rattle.dr_disk.specs.MemoryDisks.{state_of};
-ghost use Rattle.client.specs.Clients.{IsOpenOn, MayActOn};
-
-use crate::acts::{SIZE, begin_under};
+use crate::acts::{Act, SIZE, begun, new_disk, packet_at, performs_all};
 use crate::damaged::bytes_of;
 use crate::old_disks::{are, has_digest, lays, opens_to};
-use client::Client;
+use bodies::Format;
 use dr_base::{Key32, Side};
 use dr_disk::MemoryDisk;
-use dr_ports::SteadyDraws;
-use kem_laws::OpenKem;
 use sha2::{Digest, Sha256};
 use std::alloc::Global;
+use std::test::Fail;
 
 /// The key of the conversation: these eight bytes four times.
 const KEY: Key32 = Key32 {
@@ -48,123 +43,45 @@ const COUNT: usize = 6081;
 /// own sync, and then twelve.
 const CALLS: u32 = 13;
 
-/// Says a text, with a draw that has this byte 32 times. Answers whether that was acknowledged.
-fn says(
-    alloc: Global,
-    text: &[u8],
-    draw: u8,
-    client: &mut Client<OpenKem>,
-    disk: &mut MemoryDisk,
-) -> bool
-    requires { MayActOn client.old (state_of disk.old) }
-    ensures { result ≡ true → IsOpenOn client.new (state_of disk.new) }
-{
-    match SteadyDraws::new(alloc, &[Key32 { bytes: [draw; 32] }]) {
-        Ok(mut draws) => client.say(disk, text, &mut draws).is_ok(),
-        Err(_) => false,
+/// Whether a side begins, and does these acts.
+fn goes(alloc: Global, side: Side, acts: &[Act<'_>], disk: &mut MemoryDisk) -> bool {
+    begun(alloc, (side, Format::Plain), &KEY, disk).is_ok() && performs_all(alloc, acts, disk)
+}
+
+/// First's packet 1.2, once it has taken these two and said three texts in epoch 1.
+fn reply<'a>(alloc: Global, early: &'a [u8], late: &'a [u8]) -> Option<Vec<u8>> {
+    let Ok(mut disk) = new_disk(alloc) else {
+        return None;
+    };
+    let say = Act::Say(&[b'y'; 1000], 1);
+    let acts = [Act::Take(early), Act::Take(late), say, say, say];
+    if goes(alloc, Side::First, &acts, &mut disk) {
+        packet_at(alloc, 1, &mut disk)
+    } else {
+        None
     }
 }
 
-/// Second says four texts in epoch 0.
-fn says_four(alloc: Global, client: &mut Client<OpenKem>, disk: &mut MemoryDisk) -> bool
-    requires { MayActOn client.old (state_of disk.old) }
-    ensures { result ≡ true → IsOpenOn client.new (state_of disk.new) }
-{
-    let text = [b'x'; 900];
-    says(alloc, &text, 0, client, disk)
-        && says(alloc, &text, 0, client, disk)
-        && says(alloc, &text, 0, client, disk)
-        && says(alloc, &text, 0, client, disk)
-}
-
-/// Takes a packet. Answers whether that was acknowledged.
-fn takes(packet: &[u8], client: &mut Client<OpenKem>, disk: &mut MemoryDisk) -> bool
-    requires { MayActOn client.old (state_of disk.old) }
-    ensures { result ≡ true → IsOpenOn client.new (state_of disk.new) }
-{
-    client.take(disk, packet).is_ok()
-}
-
-/// First takes two packets, and says three texts in epoch 1.
-fn replies(
-    alloc: Global,
-    packets: (&[u8], &[u8]),
-    client: &mut Client<OpenKem>,
-    disk: &mut MemoryDisk,
-) -> bool
-    requires { MayActOn client.old (state_of disk.old) }
-    ensures { result ≡ true → IsOpenOn client.new (state_of disk.new) }
-{
-    let text = [b'y'; 1000];
-    takes(packets.0, client, disk)
-        && takes(packets.1, client, disk)
-        && says(alloc, &text, 1, client, disk)
-        && says(alloc, &text, 1, client, disk)
-        && says(alloc, &text, 1, client, disk)
-}
-
-/// The packet that stands at this place of a client's outbox.
-fn packet(alloc: Global, client: &Client<OpenKem>, at: usize) -> Option<Vec<u8>> {
-    match client.outbox(at) {
-        Some((_, packet)) => packet.to_vec(alloc).ok(),
-        None => None,
-    }
-}
-
-/// First's packet 1.2, which answers these two.
-fn reply_on(alloc: Global, packets: (&[u8], &[u8]), disk: &mut MemoryDisk) -> Option<Vec<u8>> {
-    match begin_under(alloc, Side::First, &KEY, disk) {
-        Ok(mut client) => {
-            if replies(alloc, packets, &mut client, disk) {
-                packet(alloc, &client, 1)
-            } else {
-                None
-            }
-        }
-        Err(_) => None,
-    }
-}
-
-/// The same on a disk of its own.
-fn reply(alloc: Global, packets: (&[u8], &[u8])) -> Option<Vec<u8>> {
-    match MemoryDisk::new(alloc, SIZE) {
-        Ok(mut disk) => reply_on(alloc, packets, &mut disk),
-        Err(_) => None,
-    }
-}
-
-/// First's answer to the packets 0.1 and 0.4 of a client.
-fn answer(alloc: Global, client: &Client<OpenKem>) -> Option<Vec<u8>> {
-    match (packet(alloc, client, 0), packet(alloc, client, 3)) {
-        (Some(early), Some(late)) => reply(alloc, (early.as_slice(), late.as_slice())),
+/// First's answer to the packets 0.1 and 0.4 of a disk.
+fn answer(alloc: Global, disk: &mut MemoryDisk) -> Option<Vec<u8>> {
+    match (packet_at(alloc, 0, disk), packet_at(alloc, 3, disk)) {
+        (Some(early), Some(late)) => reply(alloc, early.as_slice(), late.as_slice()),
         _ => None,
     }
 }
 
-/// Says a text in epoch 2.
-fn says_last(alloc: Global, client: &mut Client<OpenKem>, disk: &mut MemoryDisk) -> bool
-    requires { MayActOn client.old (state_of disk.old) }
-{
-    says(alloc, &[b'z'; 800], 2, client, disk)
-}
-
-/// Second takes that answer, and says a text in epoch 2.
-fn goes_on(alloc: Global, client: &mut Client<OpenKem>, disk: &mut MemoryDisk) -> bool
-    requires { MayActOn client.old (state_of disk.old) }
-{
-    match answer(alloc, client) {
-        Some(packet) => takes(packet.as_slice(), client, disk) && says_last(alloc, client, disk),
-        None => false,
-    }
-}
-
-/// Whether all of it was acknowledged to Second.
+/// Second says four texts in epoch 0, takes First's answer, and says a text in epoch 2. Answers
+/// whether all of it was acknowledged.
 fn talks(alloc: Global, disk: &mut MemoryDisk) -> bool {
-    match begin_under(alloc, Side::Second, &KEY, disk) {
-        Ok(mut client) => {
-            says_four(alloc, &mut client, disk) && goes_on(alloc, &mut client, disk)
+    if !goes(alloc, Side::Second, &[Act::Say(&[b'x'; 900], 0); 4], disk) {
+        return false;
+    }
+    match answer(alloc, disk) {
+        Some(packet) => {
+            let acts = [Act::Take(packet.as_slice()), Act::Say(&[b'z'; 800], 2)];
+            performs_all(alloc, &acts, disk)
         }
-        Err(_) => false,
+        None => false,
     }
 }
 
@@ -197,23 +114,17 @@ fn aged(alloc: Global, text: &[u8]) -> Option<Vec<u8>> {
     if pushed { Some(old) } else { None }
 }
 
-/// Puts a record of version 1 in the place of that one in pages 2 and 5 under table 0.
-fn lays_aged(disk: &mut MemoryDisk, old: &[u8]) -> bool {
-    if old.len() != AGED {
-        return false;
-    }
-    let (front, back) = old.split_at(PAGE);
-    lays(disk, 2, b"\x00\x00\x17\xbf")
-        && lays(disk, 8192, front)
-        && lays(disk, 20480, back)
-        && lays(disk, 22463, &[0; LEN - AGED])
-}
-
-/// Makes that record one of version 1.
+/// Makes that record, in pages 2 and 5 under table 0, one of version 1.
 fn ages(alloc: Global, disk: &mut MemoryDisk, text: &[u8]) -> bool {
     match aged(alloc, text) {
-        Some(old) => lays_aged(disk, old.as_slice()),
-        None => false,
+        Some(old) if old.len() == AGED => {
+            let (front, back) = old.split_at(PAGE);
+            lays(disk, 2, b"\x00\x00\x17\xbf")
+                && lays(disk, 8192, front)
+                && lays(disk, 20480, back)
+                && lays(disk, 22463, &[0; LEN - AGED])
+        }
+        _ => false,
     }
 }
 
@@ -237,15 +148,9 @@ fn is_renewed(alloc: Global, disk: &mut MemoryDisk) -> bool {
     }
 }
 
-/// Whether that is so on a disk of its own.
-fn goes(alloc: Global) -> bool {
-    match MemoryDisk::new(alloc, SIZE) {
-        Ok(mut disk) => is_renewed(alloc, &mut disk),
-        Err(_) => false,
-    }
-}
-
 #[test]
-fn grown_renewed(rt: HostRuntime) {
-    assert!(rt; goes(rt.alloc()));
+fn grown_renewed(rt: HostRuntime) -> Result<(), Fail> {
+    let mut disk = new_disk(rt.alloc())?;
+    assert!(rt; is_renewed(rt.alloc(), &mut disk));
+    Ok(())
 }

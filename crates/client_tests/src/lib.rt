@@ -21,6 +21,8 @@ mod grown;
 #[cfg(test)]
 mod old_disks;
 #[cfg(test)]
+mod once;
+#[cfg(test)]
 mod openings;
 #[cfg(test)]
 mod renewals;

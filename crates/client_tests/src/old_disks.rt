@@ -66,24 +66,19 @@ pub fn lays_old(alloc: Global, disk: &mut MemoryDisk) -> bool {
     lays_hexed(alloc, disk, 4096, TABLE) && lays_hexed(alloc, disk, 12288, RECORD)
 }
 
-/// Whether a client was opened, or which call failed; nothing where it was refused otherwise.
-fn ended(opened: Result<Client<OpenKem>, OpenRefusal>) -> Option<Result<(), Call>> {
-    match opened {
+/// Whether a client is opened, or which call fails; nothing where it is refused otherwise.
+fn opens(alloc: Global, disk: &mut MemoryDisk) -> Option<Result<(), Call>> {
+    if disk.size() < SIZE {
+        return None;
+    }
+    match Client::<OpenKem>::open(alloc, disk) {
         Ok(_) => Some(Ok(())),
         Err(OpenRefusal::StoreFault { call }) => Some(Err(call)),
         Err(_) => None,
     }
 }
 
-/// How an opening ends.
-fn opens(alloc: Global, disk: &mut MemoryDisk) -> Option<Result<(), Call>> {
-    if disk.size() < SIZE {
-        return None;
-    }
-    ended(Client::<OpenKem>::open(alloc, disk))
-}
-
-/// How it does on a disk that stops after so many writes and syncs, and then goes on.
+/// How an opening ends on a disk that stops after so many writes and syncs, and then goes on.
 pub fn opens_stopped(alloc: Global, disk: &mut MemoryDisk, after: u32) -> Option<Result<(), Call>> {
     disk.stop_after(after);
     let end = opens(alloc, disk);
@@ -91,15 +86,11 @@ pub fn opens_stopped(alloc: Global, disk: &mut MemoryDisk, after: u32) -> Option
     end
 }
 
-/// Whether an opening makes no more than so many writes and syncs.
-fn opens_within(alloc: Global, disk: &mut MemoryDisk, calls: u32) -> bool {
+/// Whether an opening makes no more than so many writes and syncs, and leaves a disk with this
+/// digest.
+pub fn opens_to(alloc: Global, disk: &mut MemoryDisk, calls: u32, hexed: &str) -> bool {
     disk.fail_at(calls.saturating_add(1));
     let end = opens(alloc, disk);
     disk.go_on();
-    end == Some(Ok(()))
-}
-
-/// Whether it leaves a disk with this digest then.
-pub fn opens_to(alloc: Global, disk: &mut MemoryDisk, calls: u32, hexed: &str) -> bool {
-    opens_within(alloc, disk, calls) && has_digest(alloc, disk, hexed)
+    end == Some(Ok(())) && has_digest(alloc, disk, hexed)
 }

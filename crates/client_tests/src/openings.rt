@@ -1,6 +1,6 @@
 //! An opening stopped at each write and sync: what the next one finds.
 
-use crate::acts::Act;
+use crate::acts::HI;
 use crate::stops::{MANY, MODES, Row, stopped_twice};
 use dr_base::Side;
 use dr_disk::Mode;
@@ -10,9 +10,8 @@ use std::alloc::Global;
 fn finds_said(alloc: Global, k: u32, j: u32, (mode, from): (Mode, u32)) -> bool {
     let row = Row {
         side: Side::Second,
-        earlier: None,
-        act: Act::Say,
-        packet: &[],
+        earlier: &[],
+        act: HI,
     };
     let outbox = if k >= from { 1 } else { 0 };
     match stopped_twice(alloc, row, (k, j), mode) {

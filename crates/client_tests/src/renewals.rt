@@ -2,14 +2,16 @@
 //! Whatever a crash leaves meanwhile opens to the same disk. The digests are an independent
 //! implementation's.
 
-use crate::acts::{SIZE, begin};
+use crate::acts::{ZEROS, begun, new_disk};
 use crate::damaged::bytes_of;
 use crate::old_disks::{are, has_digest, lays_old, opens_stopped, opens_to};
+use bodies::Format;
 use client::BeginRefusal;
 use dr_base::Side;
 use dr_disk::{Call, MemoryDisk, Mode};
 use sha2::{Digest, Sha256};
 use std::alloc::Global;
+use std::test::Fail;
 
 /// The disk before, and once it was opened.
 const BEFORE: &str = "00fecaffeab362272ff7448702ca9ee90e07e512ce7cb82979fa808a1aa7cff6";
@@ -57,47 +59,29 @@ fn is_renewed(alloc: Global, disk: &mut MemoryDisk) -> bool {
         && opens_to(alloc, disk, 1, AFTER)
 }
 
-/// Why no session is begun on it.
-fn refuses(alloc: Global, disk: &mut MemoryDisk) -> Option<BeginRefusal> {
-    match begin(alloc, Side::First, 0, disk) {
-        Ok(_) => None,
-        Err(refusal) => Some(refusal),
-    }
-}
-
 /// Whether a session that exists is found on it by a sync alone, and stays.
 fn stays(alloc: Global, disk: &mut MemoryDisk) -> bool {
     if !lays_old(alloc, disk) {
         return false;
     }
     disk.fail_at(2);
-    let refusal = refuses(alloc, disk);
+    let end = begun(alloc, (Side::First, Format::Plain), &ZEROS, disk);
     disk.go_on();
-    matches!(refusal, Some(BeginRefusal::Exists)) && has_digest(alloc, disk, BEFORE)
-}
-
-/// Either of the two on a disk of its own.
-fn goes(alloc: Global, is_opened: bool) -> bool {
-    match MemoryDisk::new(alloc, SIZE) {
-        Ok(mut disk) => {
-            if is_opened {
-                is_renewed(alloc, &mut disk)
-            } else {
-                stays(alloc, &mut disk)
-            }
-        }
-        Err(_) => false,
-    }
+    matches!(end, Err(BeginRefusal::Exists)) && has_digest(alloc, disk, BEFORE)
 }
 
 #[test]
-fn renewed(rt: HostRuntime) {
-    assert!(rt; goes(rt.alloc(), true));
+fn renewed(rt: HostRuntime) -> Result<(), Fail> {
+    let mut disk = new_disk(rt.alloc())?;
+    assert!(rt; is_renewed(rt.alloc(), &mut disk));
+    Ok(())
 }
 
 #[test]
-fn begun_never(rt: HostRuntime) {
-    assert!(rt; goes(rt.alloc(), false));
+fn begun_never(rt: HostRuntime) -> Result<(), Fail> {
+    let mut disk = new_disk(rt.alloc())?;
+    assert!(rt; stays(rt.alloc(), &mut disk));
+    Ok(())
 }
 
 /// Adds the digest of a disk that a crash left, and opens it. Answers whether it did, with all as
@@ -114,7 +98,7 @@ fn recovers(alloc: Global, disk: &mut MemoryDisk, images: &mut Vec<u8>) -> bool 
 
 /// Stops an opening at a write or a sync, and crashes. Answers whether the next opening recovers.
 fn is_stopped(alloc: Global, (after, call): (u32, Call), mode: Mode, images: &mut Vec<u8>) -> bool {
-    let Ok(mut disk) = MemoryDisk::new(alloc, SIZE) else {
+    let Ok(mut disk) = new_disk(alloc) else {
         return false;
     };
     if !lays_old(alloc, &mut disk) || opens_stopped(alloc, &mut disk, after) != Some(Err(call)) {

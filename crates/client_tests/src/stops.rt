@@ -1,26 +1,26 @@
 //! Each act stopped at each write and sync: what an opening then finds.
 
-ghost use Rattle.std.specs.Prelude.{◌≡◌, true};
 ghost use Rattle.dr_disk.specs.MemoryDisks.{state_of};
-ghost use Rattle.client.specs.Clients.{IsOpenOn, IsReady};
+ghost use Rattle.client.specs.Clients.{IsReady};
 
-use crate::acts::{Act, SIZE, begin, opened, packet_of_second, perform};
+use crate::acts::{
+    Act, HI, SIZE, begins, new_disk, opened, packet_of_second, perform, performs_all,
+};
 use client::Client;
 use dr_base::Side;
-use dr_disk::{MemoryDisk, Mode};
+use dr_disk::{Disk, MemoryDisk, Mode};
 use kem_laws::OpenKem;
 use std::alloc::Global;
 
 /// No opening makes this many writes and syncs.
 pub const MANY: u32 = 8;
 
-/// An act of a side, after another one or none, with the packet that it takes.
+/// An act of a side, after others.
 #[derive(Clone, Copy)]
 pub struct Row<'a> {
     pub side: Side,
-    pub earlier: Option<Act>,
-    pub act: Act,
-    pub packet: &'a [u8],
+    pub earlier: &'a [Act<'a>],
+    pub act: Act<'a>,
 }
 
 /// From this many writes and syncs on, such a crash leaves what the act made.
@@ -32,17 +32,6 @@ pub const MODES: [(Mode, u32); 5] = [
     (Mode::Fill(0xff), 5),
 ];
 
-/// Acts first where there is such an act. Answers whether that was acknowledged.
-fn prepare(alloc: Global, row: Row<'_>, client: &mut Client<OpenKem>, disk: &mut MemoryDisk) -> bool
-    requires { IsOpenOn client.old (state_of disk.old) }
-    ensures { result ≡ true → IsOpenOn client.new (state_of disk.new) }
-{
-    match row.earlier {
-        Some(earlier) => perform(alloc, earlier, row.packet, client, disk),
-        None => true,
-    }
-}
-
 /// Stops the disk of a client that is ready.
 pub fn stop(client: &Client<OpenKem>, disk: &mut MemoryDisk, k: u32)
     requires { IsReady client.now.kept client.now.store (state_of disk.old) }
@@ -51,47 +40,28 @@ pub fn stop(client: &Client<OpenKem>, disk: &mut MemoryDisk, k: u32)
     disk.stop_after(k);
 }
 
-/// Acts on a disk that stops after `k` writes and syncs then. Answers whether that was
+/// Acts on a disk that stops after `k` writes and syncs of the act. Answers whether that was
 /// acknowledged, if it came to it.
-fn act(
-    alloc: Global,
-    row: Row<'_>,
-    client: &mut Client<OpenKem>,
-    disk: &mut MemoryDisk,
-    k: u32,
-) -> Option<bool>
-    requires { IsOpenOn client.old (state_of disk.old) }
-{
-    if !prepare(alloc, row, client, disk) {
+fn act_stopped(alloc: Global, act: Act<'_>, disk: &mut MemoryDisk, k: u32) -> Option<bool> {
+    if disk.size() < SIZE {
         return None;
     }
-    stop(client, disk, k);
-    Some(perform(alloc, row.act, row.packet, client, disk))
-}
-
-/// The same of a client that is begun.
-fn act_stopped(alloc: Global, row: Row<'_>, disk: &mut MemoryDisk, k: u32) -> Option<bool> {
-    match begin(alloc, row.side, 0, disk) {
-        Ok(mut client) => act(alloc, row, &mut client, disk, k),
-        Err(_) => None,
-    }
-}
-
-/// How many texts and packets an opening finds, or nothing where it refuses.
-fn found(alloc: Global, disk: &mut MemoryDisk) -> Option<(u32, u32)> {
-    match opened(alloc, disk) {
-        Ok(boxes) => Some(boxes),
+    match Client::<OpenKem>::open(alloc, disk) {
+        Ok(mut client) => {
+            stop(&client, disk, k);
+            Some(perform(alloc, act, &mut client, disk))
+        }
         Err(_) => None,
     }
 }
 
 /// Crashes a disk, opens it until that stops after `j` writes and syncs, crashes it again, and
-/// answers what an opening finds.
+/// answers what an opening finds, if it finds something.
 fn found_twice(alloc: Global, disk: MemoryDisk, j: u32, mode: Mode) -> Option<(u32, u32)> {
     let mut left = disk.crash(mode);
     left.stop_after(j);
-    let _until = found(alloc, &mut left);
-    found(alloc, &mut left.crash(mode))
+    let _until = opened(alloc, &mut left);
+    opened(alloc, &mut left.crash(mode)).ok()
 }
 
 /// Acts on a disk that stops after `k` writes and syncs, and crashes so twice, the second time
@@ -102,10 +72,13 @@ pub fn stopped_twice(
     (k, j): (u32, u32),
     mode: Mode,
 ) -> Option<(bool, Option<(u32, u32)>)> {
-    let Ok(mut disk) = MemoryDisk::new(alloc, SIZE) else {
+    let Ok(mut disk) = new_disk(alloc) else {
         return None;
     };
-    match act_stopped(alloc, row, &mut disk, k) {
+    if !begins(alloc, row.side, &mut disk) || !performs_all(alloc, row.earlier, &mut disk) {
+        return None;
+    }
+    match act_stopped(alloc, row.act, &mut disk, k) {
         Some(done) => Some((done, found_twice(alloc, disk, j, mode))),
         None => None,
     }
@@ -130,10 +103,10 @@ fn is_told(
 }
 
 /// Whether that is so wherever the disk stops, and whatever a crash leaves.
-fn are_told(alloc: Global, row: Row<'_>, before: (u32, u32), after: (u32, u32)) -> bool {
+fn are_told(alloc: Global, row: Row<'_>, boxes: ((u32, u32), (u32, u32))) -> bool {
     for crash in MODES {
         for k in 0u32..12 {
-            if !is_told(alloc, row, k, crash, (before, after)) {
+            if !is_told(alloc, row, k, crash, boxes) {
                 return false;
             }
         }
@@ -141,44 +114,29 @@ fn are_told(alloc: Global, row: Row<'_>, before: (u32, u32), after: (u32, u32)) 
     true
 }
 
-/// Whether all of it is so of an act of this side.
-fn stand(
-    alloc: Global,
-    side: Side,
-    earlier: Option<Act>,
-    act: Act,
-    packet: &[u8],
-    before: (u32, u32),
-    after: (u32, u32),
-) -> bool {
-    let row = Row {
-        side,
-        earlier,
-        act,
-        packet,
-    };
-    are_told(alloc, row, before, after)
+/// Whether it is of each act of a side's, with what an opening finds before it and after it.
+fn stand(alloc: Global, packet: &[u8]) -> bool {
+    let (first, second) = (Side::First, Side::Second);
+    let take = Act::Take(packet);
+    let rows: [(Side, &[Act<'_>], Act<'_>, (u32, u32), (u32, u32)); 4] = [
+        (second, &[], HI, (0, 0), (0, 1)),
+        (second, &[HI], Act::Sent, (0, 1), (0, 0)),
+        (first, &[], take, (0, 0), (1, 0)),
+        (first, &[take], Act::Done, (1, 0), (0, 0)),
+    ];
+    for (side, earlier, act, before, after) in rows {
+        let row = Row { side, earlier, act };
+        if !are_told(alloc, row, (before, after)) {
+            return false;
+        }
+    }
+    true
 }
 
-/// Whether it is of each act of First's on this packet.
-fn stand_taken(alloc: Global, packet: &[u8]) -> bool {
-    let first = Side::First;
-    stand(alloc, first, None, Act::Take, packet, (0, 0), (1, 0))
-        && stand(
-            alloc,
-            first,
-            Some(Act::Take),
-            Act::Done,
-            packet,
-            (1, 0),
-            (0, 0),
-        )
-}
-
-/// Whether it is of those on the packet that Second says.
-fn stand_received(alloc: Global) -> bool {
+/// Whether all of it is so with the packet that Second says.
+fn all_stand(alloc: Global) -> bool {
     match packet_of_second(alloc) {
-        Some(packet) => stand_taken(alloc, packet.as_slice()),
+        Some(packet) => stand(alloc, packet.as_slice()),
         None => false,
     }
 }
@@ -187,19 +145,5 @@ fn stand_received(alloc: Global) -> bool {
 // became a5.
 #[test]
 fn acts_stopped(rt: HostRuntime) {
-    let alloc = rt.alloc();
-    let second = Side::Second;
-    assert!(rt; stand(alloc, second, None, Act::Say, &[], (0, 0), (0, 1)));
-    assert!(rt;
-        stand(
-            alloc,
-            second,
-            Some(Act::Say),
-            Act::Sent,
-            &[],
-            (0, 1),
-            (0, 0)
-        )
-    );
-    assert!(rt; stand_received(alloc));
+    assert!(rt; all_stand(rt.alloc()));
 }

@@ -1,12 +1,10 @@
-//! Syncs over links in memory, and those of Second, which says a text first.
+//! Syncs over links in memory.
 
-ghost use Rattle.dr_disk.specs.MemoryDisks.{state_of};
-ghost use Rattle.client.specs.Clients.{MayActOn};
-
-use crate::acts::{SIZE, begin, said_packet};
+use crate::acts::{HI, SIZE, begins, new_disk, packet_at, performs_all};
+use crate::stops::stop;
 use client::{Client, SyncFault};
 use dr_base::Side;
-use dr_disk::MemoryDisk;
+use dr_disk::{Disk, MemoryDisk};
 use dr_ports::{MemoryLink, MemorySink};
 use kem_laws::OpenKem;
 use std::alloc::Global;
@@ -15,86 +13,111 @@ use sync_model::More;
 /// The end of a sync.
 pub type End = Result<More, SyncFault>;
 
-/// Syncs a client.
-pub fn sync(
-    client: &mut Client<OpenKem>,
+/// What a sync gets and how many calls pass on its disk; and what it then comes to, writes and
+/// sends: at first the requests of these bytes, and then the packet that is posted.
+#[derive(Clone, Copy)]
+pub struct Row<'a> {
+    pub gives: &'a [u8],
+    pub passing: u32,
+    pub end: End,
+    pub lines: &'a [u8],
+    pub sent: &'a [u8],
+    pub posted: &'a [u8],
+}
+
+/// Whether a client's sync over a link and into a sink comes to that.
+fn comes_to(
+    alloc: Global,
+    row: Row<'_>,
     disk: &mut MemoryDisk,
     link: &mut MemoryLink,
     out: &mut MemorySink,
-) -> End
-    requires { MayActOn client.old (state_of disk.old) }
-{
-    client.sync(disk, link, out, "it ")
-}
-
-/// The packet of a text that a client says, and how its sync ends.
-fn say_and_sync(
-    alloc: Global,
-    client: &mut Client<OpenKem>,
-    disk: &mut MemoryDisk,
-    link: &mut MemoryLink,
-    out: &mut MemorySink,
-) -> Option<(Vec<u8>, End)>
-    requires { MayActOn client.old (state_of disk.old) }
-{
-    match said_packet(alloc, client, disk) {
-        Some(packet) => Some((packet, sync(client, disk, link, out))),
-        None => None,
+) -> bool {
+    if disk.size() < SIZE {
+        return false;
     }
-}
-
-/// The same of Second, which begins on this disk.
-fn begin_and_sync(
-    alloc: Global,
-    disk: &mut MemoryDisk,
-    link: &mut MemoryLink,
-    out: &mut MemorySink,
-) -> Option<(Vec<u8>, End)> {
-    match begin(alloc, Side::Second, 0, disk) {
-        Ok(mut client) => say_and_sync(alloc, &mut client, disk, link, out),
-        Err(_) => None,
-    }
-}
-
-/// The same on a disk of its own.
-fn sync_second(
-    alloc: Global,
-    link: &mut MemoryLink,
-    out: &mut MemorySink,
-) -> Option<(Vec<u8>, End)> {
-    match MemoryDisk::new(alloc, SIZE) {
-        Ok(mut disk) => begin_and_sync(alloc, &mut disk, link, out),
-        Err(_) => None,
-    }
-}
-
-/// Second's packet of a text, where its sync comes to this, writes these lines, and sends the
-/// packet last.
-fn posted(
-    alloc: Global,
-    link: &mut MemoryLink,
-    out: &mut MemorySink,
-    expected: End,
-    lines: &[u8],
-) -> Option<Vec<u8>> {
-    match sync_second(alloc, link, out) {
-        Some((packet, end)) => {
-            let is_so = end == expected
-                && out.taken() == lines
-                && link.sent().ends_with(packet.as_slice());
-            if is_so { Some(packet) } else { None }
+    match Client::<OpenKem>::open(alloc, disk) {
+        Ok(mut client) => {
+            stop(&client, disk, row.passing);
+            client.sync(disk, link, out, "it ") == row.end
+                && out.taken() == row.lines
+                && link.sent().strip_prefix(row.sent) == Some(row.posted)
         }
-        None => None,
+        Err(_) => false,
     }
 }
 
-/// The same over a link that gives these bytes.
-pub fn second(alloc: Global, gives: &[u8], expected: End, lines: &[u8]) -> Option<Vec<u8>> {
-    let Ok(mut link) = MemoryLink::new(alloc, gives, 8192, &[]) else {
+/// The same over a link whose calls of these numbers fail.
+fn links(
+    alloc: Global,
+    row: Row<'_>,
+    fails: &[u64],
+    disk: &mut MemoryDisk,
+    out: &mut MemorySink,
+) -> bool {
+    match MemoryLink::new(alloc, row.gives, 8192, fails) {
+        Ok(mut link) => comes_to(alloc, row, disk, &mut link, out),
+        Err(_) => false,
+    }
+}
+
+/// The same into a sink whose calls of these numbers fail.
+fn syncs(
+    alloc: Global,
+    row: Row<'_>,
+    (link_fails, out_fails): (&[u64], &[u64]),
+    disk: &mut MemoryDisk,
+) -> bool {
+    match MemorySink::new(alloc, 1024, out_fails) {
+        Ok(mut out) => links(alloc, row, link_fails, disk, &mut out),
+        Err(_) => false,
+    }
+}
+
+/// The same of First, on a disk of its own.
+pub fn first(alloc: Global, row: Row<'_>, fails: (&[u64], &[u64])) -> bool {
+    match new_disk(alloc) {
+        Ok(mut disk) => {
+            begins(alloc, Side::First, &mut disk) && syncs(alloc, row, fails, &mut disk)
+        }
+        Err(_) => false,
+    }
+}
+
+/// What Second's sync sends before the packet of the text "hi": it fetches, and posts 67 bytes. The
+/// session is that of the key of zeros.
+const POSTS: &[u8] = b"\x00\x24\x02\x2270e0f9cd1a5863238d67aecce0c032e5-2\
+    \x00\x67\x01\x2270e0f9cd1a5863238d67aecce0c032e5-1";
+
+/// Second's packet of that text, where its sync that gets these replies comes to this, writes these
+/// lines, and posts the packet.
+fn posted<'a>(
+    alloc: Global,
+    (gives, end, lines): (&'a [u8], End, &'a [u8]),
+    disk: &mut MemoryDisk,
+) -> Option<Vec<u8>> {
+    let Some(packet) = packet_at(alloc, 0, disk) else {
         return None;
     };
-    match MemorySink::new(alloc, 1024, &[]) {
-        Ok(mut out) => posted(alloc, &mut link, &mut out, expected, lines),
-        Err(_) => None,
+    let row = Row {
+        gives,
+        passing: 100,
+        end,
+        lines,
+        sent: POSTS,
+        posted: packet.as_slice(),
+    };
+    let is_so = syncs(alloc, row, (&[], &[]), disk);
+    if is_so { Some(packet) } else { None }
+}
+
+/// The same of Second, which says the text on a disk of its own.
+pub fn second<'a>(alloc: Global, row: (&'a [u8], End, &'a [u8])) -> Option<Vec<u8>> {
+    let Ok(mut disk) = new_disk(alloc) else {
+        return None;
+    };
+    if !begins(alloc, Side::Second, &mut disk) || !performs_all(alloc, &[HI], &mut disk) {
+        return None;
     }
+    posted(alloc, row, &mut disk)
 }
