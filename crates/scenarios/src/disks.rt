@@ -3,7 +3,8 @@
 
 use crate::answers::{BEGUN, KEY, Row, SESSION, are_told};
 use crate::running::Network;
-use dr_disk::{FileDisk, RecordingDisk, Sharing};
+use dr_disk::RecordingDisk;
+use file_disk::{FileDisk, Sharing};
 use messenger_cli::DISK_SIZE;
 use std::alloc::{AllocError, Global};
 use std::fs;
