@@ -1,6 +1,7 @@
 -- What a conversation begins with is lawful.
 use Rattle.std.proofs.Common.{◌≡◌, ℕ, ◌≤◌, List, [], ◌++◌, length, take, Option, Some, None, refl, sym, ◌∙◌, ap, subst, arith}
 use Rattle.std.proofs.Math.Seq.{take-append_seam}
+use Rattle.std.proofs.lemmas.List.{length-append}
 use Rattle.std.proofs.lemmas.List.Elements.{All-nil}
 use Rattle.bodies.specs.declared.format.Format.{Format}
 use Rattle.dr_base.specs.declared.limits.TheConstants.{INDEX_LIMIT}
@@ -78,3 +79,13 @@ opens_second k side format session root phase receiving kept awaiting own s p r 
 -- the front of a buffer
 pub front_of : (n : ℕ) (part after text : List ℕ) → length part ≡ n → text ≡ take n (part ++ after) → text ≡ part
 front_of n part after text long e = e ∙ ap (λ k. take k (part ++ after)) (sym long) ∙ take-append_seam part after
+
+pub front_long : (n : ℕ) (part after : List ℕ) → length part ≡ n → n ≡ length (take n (part ++ after))
+front_long n part after long = sym long ∙ sym (ap length (front_of n part after _ long refl))
+
+pub front_few : (n most : ℕ) (part after : List ℕ) → length part ≡ n → n ≤ most
+    → length (take n (part ++ after)) ≤ most
+front_few n most part after long few = omega (arith, front_long n part after long)
+
+pub front_fits : (n : ℕ) (part after : List ℕ) → length part ≡ n → n ≤ length (part ++ after)
+front_fits n part after long = omega (arith, length-append part after)

@@ -1,6 +1,7 @@
-use Rattle.std.proofs.Common.{◌≡◌, ◌∙◌, ◌+◌, ◌≤◌, ℕ, Err, true, false, ap, ap₂, sym, arith}
+use Rattle.std.proofs.Common.{◌≡◌, ◌∙◌, ◌+◌, ◌≤◌, ℕ, Err, true, false, ap, ap₂, subst, sym, arith}
 use Rattle.dr_base.specs.declared.position.Position.{Position}
 use Rattle.session_model.specs.declared.answer.Refusal.TheVariants.{OwnPacket, Ahead}
+use Rattle.session_model.specs.LawfulStates.{IsLawfulState}
 use Rattle.session_model.specs.Ways.{known_way, next_way}
 use Rattle.session_model.specs.States.{State}
 use Rattle.session_model.specs.Seen.{own_seen, phase_seen, seen}
@@ -54,3 +55,21 @@ returns-clause-way g c =
     ∙ c.find_known.ensures.way
     ∙ ap (λ (s : State). known_way s (at c.epoch-epoch.result c.index.result) s.receiving) (ap (seen c.args.next.now) kept ∙ c.requires.copy)
     ∙ place ∙ sym (leads_known _ _ _ same peers known)
+
+pub returns-then-ne-clause-state : goal.returns-then-ne-clause-state
+returns-then-ne-clause-state g c =
+    let before = subst (IsLawfulState g.K.Kem.mechanism) c.part.view_is c.part.invariant in
+    subst (λ t. IsLawfulState g.K.Kem.mechanism (seen c.args.next.now (kept_in c.args.part.now.kept t)))
+    (sym c.requires.same) (subst (IsLawfulState g.K.Kem.mechanism) (sym c.requires.copy) before)
+
+pub returns-then-owns-clause-state : goal.returns-then-owns-clause-state
+returns-then-owns-clause-state g c =
+    let before = subst (IsLawfulState g.K.Kem.mechanism) c.part.view_is c.part.invariant in
+    subst (λ t. IsLawfulState g.K.Kem.mechanism (seen c.args.next.now (kept_in c.args.part.now.kept t)))
+    (sym c.requires.same) (subst (IsLawfulState g.K.Kem.mechanism) (sym c.requires.copy) before)
+
+pub returns-then-epoch-head-clause-state : goal.returns-then-epoch-head-clause-state
+returns-then-epoch-head-clause-state g c =
+    let before = subst (IsLawfulState g.K.Kem.mechanism) c.part.view_is c.part.invariant in
+    subst (λ t. IsLawfulState g.K.Kem.mechanism (seen c.args.next.now (kept_in c.args.part.now.kept t)))
+    (sym c.requires.same) (subst (IsLawfulState g.K.Kem.mechanism) (sym c.requires.copy) before)
