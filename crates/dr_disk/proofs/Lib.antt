@@ -9,7 +9,6 @@ pub mod Calling
 pub mod Exactly
 pub mod Metering
 pub mod WrittenAndSynced
-pub mod UntoldCalls
 pub mod Fresh
 pub mod Writes
 pub mod Replays

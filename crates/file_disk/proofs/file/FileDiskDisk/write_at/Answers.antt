@@ -1,6 +1,6 @@
 use Rattle.std.proofs.Common.{arith}
-use Rattle.dr_disk.proofs.UntoldCalls.{counted, untold_fails, untold_goes, untold_passes}
-use Rattle.dr_disk.proofs.file.FileDiskDisk.sync.Goals as goal
+use Rattle.file_disk.proofs.UntoldCalls.{counted, untold_fails, untold_goes, untold_passes}
+use Rattle.file_disk.proofs.file.FileDiskDisk.write_at.Goals as goal
 
 pub returns-in-Ok-clause-passes : goal.returns-in-Ok-clause-passes
 returns-in-Ok-clause-passes g c =
@@ -11,8 +11,8 @@ returns-in-Ok-clause-passes g c =
 pub returns-in-Err-clause-passes : goal.returns-in-Err-clause-passes
 returns-in-Err-clause-passes g c =
     let was = c.self.inside in
-    untold_goes _ was.size was.reads was.writes was.syncs was.reads was.writes c.count_fault.new.count
-    c.self.view_is (omega arith) (omega arith) c.count_fault.ensures.no_less
+    untold_goes _ was.size was.reads was.writes was.syncs was.reads c.count_fault.new.count was.syncs
+    c.self.view_is (omega arith) c.count_fault.ensures.no_less (omega arith)
 
 pub returns-in-Ok-clause-told : goal.returns-in-Ok-clause-told
 returns-in-Ok-clause-told g c =
@@ -23,4 +23,4 @@ pub returns-in-Err-clause-told : goal.returns-in-Err-clause-told
 returns-in-Err-clause-told g c =
     let was = c.self.inside in
     untold_fails c.args.self.now
-    (counted was.size was.reads was.writes c.count_fault.new.count) _
+    (counted was.size was.reads c.count_fault.new.count was.syncs) _

@@ -2,7 +2,7 @@
 use Rattle.std.proofs.Common.{◌≡◌, ◌≤◌, ℕ, Some, None, Ok, Err, refl, subst, arith}
 use Rattle.dr_disk.specs.Spans.{GoesBy}
 use Rattle.dr_disk.specs.Calls.{Goes, ReadGoes}
-use Rattle.dr_disk.specs.Untold.{Counted, untold}
+use Rattle.file_disk.specs.Untold.{Counted, untold}
 use Rattle.dr_disk.proofs.Passing.{counts_grow}
 
 abbrev pub counted : ℕ → ℕ → ℕ → ℕ → Counted

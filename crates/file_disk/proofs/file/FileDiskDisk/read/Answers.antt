@@ -1,6 +1,6 @@
 use Rattle.std.proofs.Common.{arith}
-use Rattle.dr_disk.proofs.UntoldCalls.{counted, untold_goes, untold_reads_badly, untold_reads_well}
-use Rattle.dr_disk.proofs.file.FileDiskDisk.read.Goals as goal
+use Rattle.file_disk.proofs.UntoldCalls.{counted, untold_goes, untold_reads_badly, untold_reads_well}
+use Rattle.file_disk.proofs.file.FileDiskDisk.read.Goals as goal
 
 pub returns-in-Ok-clause-passes : goal.returns-in-Ok-clause-passes
 returns-in-Ok-clause-passes g c =
