@@ -2,7 +2,7 @@
 
 ghost use Rattle.std.specs.Prelude.{◌≡◌, ◌<◌, ◌↔◌, length, None, IsTrue, IfOk, IfSome};
 ghost use Rattle.dr_base.specs.Descriptors.{IsOwn};
-ghost use Rattle.tcp_ports.specs.Streams.{Passes, Received, Sent};
+ghost use Rattle.tcp_ports.specs.Streams.{Passes, WentOver};
 
 use crate::patience::{Patience, Traffic};
 use dr_ports::Failed;
@@ -26,9 +26,9 @@ struct Open<S: Drop> {
     traffic: Traffic,
 }
 
-/// A stream, if one stands, and how often receiving or sending has failed. A call without a stream
-/// has failed, so has one on a stream that has taken all the time that it may, and so has a write
-/// that takes nothing of a piece that isn't empty. A call that a signal interrupts is tried again.
+/// A stream, if one stands, and how often receiving or sending has failed. A call fails without a
+/// stream, on one that has taken all the time that it may, and where it sends nothing of a piece
+/// that isn't empty. A call that a signal interrupts is tried again.
 #[derive(Drop)]
 pub struct Connection<'a, R: Net + Clock> {
     system: &'a R,
@@ -64,7 +64,7 @@ impl<S: Read + OpenStream + Drop> Open<S> {
         patience: Patience,
         into: &mut [u8],
     ) -> io::Result<usize>
-        ensures { Received into.old self.old self.new result }
+        ensures { WentOver (length into.old) self.old self.new result }
     {
         let wait = self.wait(clock, patience)?;
         self.stream.set_read_timeout(Some(wait))?;
@@ -80,7 +80,7 @@ impl<S: Read + OpenStream + Drop> Open<S> {
         patience: Patience,
         into: &mut [u8],
     ) -> io::Result<usize>
-        ensures { Received into.old self.old self.new result }
+        ensures { WentOver (length into.old) self.old self.new result }
     {
         for _ in 0..TRIES {
             match self.receive_once(clock, patience, into) {
@@ -100,19 +100,18 @@ impl<S: Write + OpenStream + Drop> Open<S> {
         patience: Patience,
         bytes: &[u8],
     ) -> io::Result<usize>
-        ensures { Sent bytes.now self.old self.new result }
+        ensures { WentOver (length bytes.now) self.old self.new result }
     {
         let wait = self.wait(clock, patience)?;
         self.stream.set_write_timeout(Some(wait))?;
         let count = self.stream.write(bytes)?;
         self.traffic.bytes = self.traffic.bytes.saturating_add(count as u64);
-        self.traffic.pieces = self.traffic.pieces.saturating_add(1);
         Ok(count)
     }
 
     /// Sends a beginning of the bytes.
     fn send<C: Clock>(&mut self, clock: &C, patience: Patience, bytes: &[u8]) -> io::Result<usize>
-        ensures { Sent bytes.now self.old self.new result }
+        ensures { WentOver (length bytes.now) self.old self.new result }
     {
         for _ in 0..TRIES {
             match self.send_once(clock, patience, bytes) {
@@ -148,14 +147,10 @@ impl<'a, R: Net + Clock> Connection<'a, R> {
         }
         match Instant::now(self.system) {
             Ok(begun) => {
-                let traffic = Traffic {
-                    bytes: 0,
-                    pieces: 0,
-                };
                 self.current = Some(Open {
                     stream,
                     begun,
-                    traffic,
+                    traffic: Traffic { bytes: 0 },
                 });
                 true
             }
@@ -183,14 +178,19 @@ impl<'a, R: Net + Clock> Connection<'a, R> {
         Err(Failed)
     }
 
-    /// Sends a beginning of the bytes.
+    /// Sends a beginning of the bytes. A peer that takes no more of a piece in its time takes none
+    /// later, so that ends the connection.
     pub fn send(&mut self, bytes: &[u8]) -> Result<usize, Failed>
         ensures passes { Passes bytes.now self.old.faults self.new.faults result }
         ensures progress { IfOk result (λ count. 0 < length bytes.now → 0 < count) }
+        ensures ends { IfOk result (λ count. count < length bytes.now → self.new.current ≡ None) }
     {
         if let Some(open) = &mut self.current {
             if let Ok(count) = open.send(self.system, self.patience, bytes) {
                 if count > 0 || bytes.is_empty() {
+                    if count < bytes.len() {
+                        self.shut();
+                    }
                     return Ok(count);
                 }
             }

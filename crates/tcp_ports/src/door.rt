@@ -4,24 +4,30 @@ ghost use Rattle.std.specs.Prelude.{◌≡◌};
 ghost use Rattle.dr_ports.specs.MemoryWires.{nobody};
 ghost use Rattle.tcp_ports.specs.Sockets.{no_faults, untold_port};
 
-use crate::connection::{Connection, is_own};
+use crate::connection::Connection;
+use crate::hall::Hall;
 use crate::patience::Patience;
 use dr_ports::{Door, Failed, Pipe};
+use std::alloc::AllocGlobal;
 use std::marker::Model;
-use std::net::{Net, OpenListener, TcpListener};
-use std::time::Clock;
+use std::net::{Net, TcpStream};
+use std::time::{Clock, Duration};
 
-/// A door over a TCP listener, at every address of this machine. A contract sees its counts of
-/// faults.
+/// For how many seconds one who came may say nothing.
+const SILENCE: u64 = 10;
+
+/// A door over a TCP listener, at every address of this machine. What it accepts is the first
+/// connection that has said something; those that say nothing wait, and go after ten seconds. A
+/// contract sees its counts of faults.
 #[derive(Drop)]
-pub struct TcpDoor<'a, R: Net + Clock> {
+pub struct TcpDoor<'a, R: Net<Stream = TcpStream> + Clock + AllocGlobal> {
     net: &'a R,
-    listener: Option<R::Listener>,
+    hall: Option<Hall>,
     connection: Connection<'a, R>,
     faults: u64,
 }
 
-impl<'a, R: Net + Clock> Model for TcpDoor<'a, R> {
+impl<'a, R: Net<Stream = TcpStream> + Clock + AllocGlobal> Model for TcpDoor<'a, R> {
     ghost use Rattle.tcp_ports.specs.Sockets.{Counts};
 
     ghost Value = { Counts };
@@ -29,10 +35,10 @@ impl<'a, R: Net + Clock> Model for TcpDoor<'a, R> {
     ghost view = { λ d. record { flow = d.connection.faults; gate = d.faults } };
 }
 
-impl<'a, R: Net + Clock> TcpDoor<'a, R> {
+impl<'a, R: Net<Stream = TcpStream> + Clock + AllocGlobal> TcpDoor<'a, R> {
     /// A door that doesn't listen yet, with no fault so far. A call on a connection waits for five
-    /// seconds at most, and the connection may take ten seconds, one more for each reply and each
-    /// `RATE` bytes, and a minute at most.
+    /// seconds at most, and the connection may take five seconds, one more for each `RATE` bytes,
+    /// and twenty at most.
     pub fn new(net: &'a R) -> TcpDoor<'a, R>
         ensures { result ≡ no_faults }
     {
@@ -45,14 +51,14 @@ impl<'a, R: Net + Clock> TcpDoor<'a, R> {
     {
         TcpDoor {
             net,
-            listener: None,
+            hall: None,
             connection: Connection::new(net, patience),
             faults: 0,
         }
     }
 }
 
-impl<R: Net + Clock> Pipe for TcpDoor<'_, R> {
+impl<R: Net<Stream = TcpStream> + Clock + AllocGlobal> Pipe for TcpDoor<'_, R> {
     ghost port = { untold_port };
 
     ghost Behind = { Unit {0} };
@@ -70,24 +76,23 @@ impl<R: Net + Clock> Pipe for TcpDoor<'_, R> {
     }
 }
 
-impl<R: Net + Clock> Door for TcpDoor<'_, R> {
+impl<R: Net<Stream = TcpStream> + Clock + AllocGlobal> Door for TcpDoor<'_, R> {
     fn listen(&mut self, at: u16) -> Result<(), Failed> {
-        match TcpListener::bind(self.net, ("0.0.0.0", at)) {
-            Ok(listener) if is_own(&listener) => {
-                self.listener = Some(listener);
+        match Hall::open(self.net, at, Duration::from_secs(SILENCE)) {
+            Ok(hall) => {
+                self.hall = Some(hall);
                 Ok(())
             }
-            _ => {
+            Err(_) => {
                 self.faults = self.faults.saturating_add(1);
                 Err(Failed)
             }
         }
     }
 
-    // std's `accept` tries again where a signal interrupts it.
     fn accept(&mut self) -> Result<(), Failed> {
-        if let Some(listener) = &self.listener {
-            if let Ok((stream, _)) = listener.accept() {
+        if let Some(hall) = &mut self.hall {
+            if let Ok(stream) = hall.next(self.net) {
                 if self.connection.take(stream) {
                     return Ok(());
                 }

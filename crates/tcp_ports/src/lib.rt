@@ -1,7 +1,7 @@
-//! A link and a door over TCP. They tell nothing of content, and count each error. A call on a link
-//! fails where nothing comes or goes for a minute, one on a door's connection after five seconds;
-//! and such a connection may take ten seconds in all, one more for each piece that was sent and
-//! each `RATE` bytes, and a minute at most. Neither uses the descriptor of a standard stream.
+//! A link and a door over TCP. They tell nothing of content, and count each error. The door's next
+//! connection is the first that has said something: so who is silent keeps nobody waiting. Each
+//! call has a time, and so has each connection, which the bytes that go over it make longer, up to
+//! a most: `Patience` says how. Neither uses the descriptor of a standard stream.
 #![tactic(auto)]
 
 pub use door::TcpDoor;
@@ -10,5 +10,7 @@ pub use patience::{Patience, RATE, Traffic, Whole, limits_in_numbers};
 
 mod connection;
 mod door;
+mod guests;
+mod hall;
 mod link;
 mod patience;
