@@ -174,6 +174,7 @@ def try_relay_file(draw, folder, inputs):
 def try_frames(draw, folder, inputs):
     frames = requests(draw, inputs)
     stream = changed(draw, b"".join(frames), inputs.packets + frames, beginnings(frames, (1, 2, 3, 4)))
+    stream = stream or b"\0"  # a relay doesn't count who says nothing
     return served(folder, inputs, draw.choice(inputs.relays), stream)
 
 
