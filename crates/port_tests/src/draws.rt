@@ -1,7 +1,6 @@
 //! Draws over a source of random bytes: the system's, one that counts, and one that fails.
 
-use dr_base::Key32;
-use dr_ports::{Draws, Failed, RandomDraws};
+use dr_ports::{Draws, RandomDraws};
 use rand::TryRng;
 use rand::rngs::SysRng;
 use std::io;
@@ -76,30 +75,16 @@ fn count_up<D: Draws>(draws: &mut D) -> bool {
         && draws.draw().is_err()
 }
 
-#[test]
-fn draws_all_that_a_source_gives(rt: HostRuntime) {
-    let mut draws = RandomDraws::new(Counting { next: 0, calls: 2 });
-    assert!(rt; count_up(&mut draws));
-}
-
-/// Whether the next seed is another one.
-fn has_others<D: Draws>(draws: &mut D, one: &Key32) -> bool {
-    match draws.draw() {
-        Ok(two) => two.bytes != one.bytes,
-        Err(Failed) => false,
-    }
-}
-
 /// Whether two seeds are given that differ.
 fn differ<D: Draws>(draws: &mut D) -> bool {
-    match draws.draw() {
-        Ok(one) => has_others(draws, &one),
-        Err(Failed) => false,
+    match (draws.draw(), draws.draw()) {
+        (Ok(one), Ok(two)) => one.bytes != two.bytes,
+        _ => false,
     }
 }
 
 #[test]
-fn draws_from_the_system(rt: HostRuntime) {
-    let mut draws = RandomDraws::new(SysRng::new(&rt));
-    assert!(rt; differ(&mut draws));
+fn draws_all_that_a_source_gives(rt: HostRuntime) {
+    assert!(rt; count_up(&mut RandomDraws::new(Counting { next: 0, calls: 2 })));
+    assert!(rt; differ(&mut RandomDraws::new(SysRng::new(&rt))));
 }

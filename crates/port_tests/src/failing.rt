@@ -3,70 +3,41 @@
 
 use crate::files::{is_absent, is_written, makes_folder, removes_folder};
 use crate::watched::Watched;
-use dr_base::Failed;
 use dr_disk::{Disk, write_synced};
 use file_disk::{FileDisk, Sharing};
 
-/// Whether a disk can't be written to.
-fn is_unwritten<D: Disk>(disk: &mut D) -> bool {
-    disk.size() == 4 && disk.write_at(0, &[1]) == Err(Failed)
-}
-
-/// What a read of a disk comes to.
-fn is_read<D: Disk>(disk: &mut D) -> Result<(), Failed> {
+/// Which of a read, a write, a sync, a read and a sync pass on a disk of four bytes.
+fn passes<D: Disk>(disk: &mut D) -> [bool; 5] {
     if disk.size() != 4 {
-        return Ok(());
+        return [true; 5];
     }
-    disk.read(0, &mut [0; 4])
+    let reads = disk.read(0, &mut [0; 4]).is_ok();
+    let writes = disk.write_at(0, &[1]).is_ok();
+    let syncs = disk.sync().is_ok();
+    let reads_again = disk.size() == 4 && disk.read(0, &mut [0; 4]).is_ok();
+    [reads, writes, syncs, reads_again, disk.sync().is_ok()]
 }
 
-/// Whether a disk can be written to and read, and neither be synced.
-fn is_unsynced<D: Disk>(disk: &mut D) -> bool {
-    disk.size() == 4
-        && disk.write_at(0, &[1]) == Ok(())
-        && disk.sync() == Err(Failed)
-        && is_read(disk) == Ok(())
-        && disk.sync() == Err(Failed)
-}
-
-/// Whether a disk can be read, and not be written to.
-fn is_only_read<D: Disk>(disk: &mut D) -> bool {
-    is_read(disk) == Ok(()) && is_unwritten(disk)
-}
-
-/// What a disk does over a file with a fault.
-#[derive(Clone, Copy)]
-enum Fault {
-    Unsynced,
-    Unwritten,
-    Unread,
-    OnlyRead,
-}
-
-/// Whether a disk hands this fault on.
-fn tells<D: Disk>(disk: &mut D, fault: Fault) -> bool {
-    match fault {
-        Fault::Unsynced => is_unsynced(disk),
-        Fault::Unwritten => is_unwritten(disk),
-        Fault::Unread => is_read(disk) == Err(Failed),
-        Fault::OnlyRead => is_only_read(disk),
-    }
-}
-
-/// Whether a disk of four bytes over the file at a path does.
-fn hands_on(rt: &HostRuntime, path: &str, fault: Fault) -> bool {
+/// Whether just these pass on a disk of four bytes over the file at a path.
+fn hands_on(rt: &HostRuntime, path: &str, passing: [bool; 5]) -> bool {
     let mut disk = FileDisk::new(rt, path, 4, 0, Sharing::InTurn);
-    tells(&mut disk, fault)
+    passes(&mut disk) == passing
 }
 
-// /dev/null can't be synced, /dev/full not be written to, and of one's own memory the first page
-// not be read.
+// /dev/null can't be synced, /dev/full neither that nor be written to, and of one's own memory the
+// first page not be read either. Where there is no folder there is no file, which reads as zeros
+// and has nothing to sync.
 #[test]
 fn hands_errors_on(rt: HostRuntime) {
-    assert!(rt; hands_on(&rt, "/dev/null", Fault::Unsynced));
-    assert!(rt; hands_on(&rt, "/dev/full", Fault::Unwritten));
-    assert!(rt; hands_on(&rt, "/proc/self/mem", Fault::Unread));
-    assert!(rt; hands_on(&rt, "no/folder", Fault::OnlyRead));
+    let rows = [
+        ("/dev/null", [true, true, false, true, false]),
+        ("/dev/full", [true, false, false, true, false]),
+        ("/proc/self/mem", [false; 5]),
+        ("no/folder", [true, false, true, true, true]),
+    ];
+    for (path, passing) in rows {
+        assert!(rt; hands_on(&rt, path, passing));
+    }
 }
 
 /// Whether a write is synced, after which so many folders were opened in all.
@@ -79,9 +50,9 @@ fn sync_once<D: Disk>(disk: &mut D, files: &Watched<'_>) -> bool {
     disk.sync() == Ok(()) && files.folders() == 0 && syncs(disk, files, 1) && syncs(disk, files, 1)
 }
 
-/// Whether a write fails, after which one file was made, and none is there.
+/// Whether a write alone fails, after which one file was made, and none is there.
 fn make_none<D: Disk>(rt: &HostRuntime, disk: &mut D, files: &Watched<'_>) -> bool {
-    is_unwritten(disk) && files.made() == 1 && is_absent(rt, "unmade") && is_read(disk) == Ok(())
+    passes(disk) == [true, false, true, true, true] && files.made() == 1 && is_absent(rt, "unmade")
 }
 
 /// Whether a disk that is watched makes no file where there is no room, and otherwise syncs the

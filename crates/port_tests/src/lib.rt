@@ -10,9 +10,13 @@ mod failing;
 #[cfg(test)]
 mod files;
 #[cfg(test)]
+mod played;
+#[cfg(test)]
 mod ports;
 #[cfg(test)]
 mod sockets;
+#[cfg(test)]
+mod times;
 #[cfg(test)]
 mod waiting;
 #[cfg(test)]

@@ -44,6 +44,8 @@ fn reads(rt: HostRuntime) {
     assert!(rt; ends(alloc, &[1], 4, InputError::Fault));
     assert!(rt; ends(alloc, &[2], 4, InputError::Fault));
     assert!(rt; gives_all(alloc));
+    assert!(rt; gives(alloc, &mut ReaderSource::new(b"text".as_slice()), 9));
+    assert!(rt; fails_to_read(&rt));
 }
 
 /// Whether a sink with room for five bytes that fails at its second call takes so.
@@ -66,6 +68,8 @@ fn takes_five(alloc: Global) -> bool {
 fn writes(rt: HostRuntime) {
     assert!(rt; takes_five(rt.alloc()));
     assert!(rt; NullSink::new().write(b"lost") == Ok(4));
+    assert!(rt; takes_three());
+    assert!(rt; fails_to_write(&rt));
 }
 
 /// Whether draws give seeds with these first bytes next, where 0 is a draw that fails.
@@ -82,30 +86,25 @@ fn give<D: Draws>(draws: &mut D, expected: &[u8]) -> bool {
     true
 }
 
-/// Whether draws that never fail give both seeds again and again.
-fn give_again(alloc: Global) -> bool {
-    match SteadyDraws::new(alloc, &[Key32 { bytes: [1; 32] }, Key32 { bytes: [2; 32] }]) {
-        Ok(mut draws) => give(&mut draws, &[1, 2, 1, 2]),
-        Err(_) => false,
-    }
-}
+const SEEDS: [Key32; 2] = [Key32 { bytes: [1; 32] }, Key32 { bytes: [2; 32] }];
 
-/// Whether draws that fail once give the seed that was to come the next time.
-fn give_after_a_fault(alloc: Global) -> bool {
-    match MemoryDraws::new(
-        alloc,
-        &[Key32 { bytes: [1; 32] }, Key32 { bytes: [2; 32] }],
-        &[2],
+/// Whether draws that never fail give both seeds again and again, and draws that fail once give the
+/// seed that was to come the next time.
+fn give_in_turn(alloc: Global) -> bool {
+    match (
+        SteadyDraws::new(alloc, &SEEDS),
+        MemoryDraws::new(alloc, &SEEDS, &[2]),
     ) {
-        Ok(mut draws) => give(&mut draws, &[1, 0, 2, 1]),
-        Err(_) => false,
+        (Ok(mut steady), Ok(mut faulty)) => {
+            give(&mut steady, &[1, 2, 1, 2]) && give(&mut faulty, &[1, 0, 2, 1])
+        }
+        _ => false,
     }
 }
 
 #[test]
 fn draws_in_turn(rt: HostRuntime) {
-    assert!(rt; give_again(rt.alloc()));
-    assert!(rt; give_after_a_fault(rt.alloc()));
+    assert!(rt; give_in_turn(rt.alloc()));
 }
 
 /// Whether a file that was opened to be written is no source.
@@ -114,18 +113,6 @@ fn fails_to_read(rt: &HostRuntime) -> bool {
         Ok(file) => ReaderSource::new(file).read(&mut [0; 4]) == Err(Failed),
         Err(_) => false,
     }
-}
-
-/// Whether a slice is a source.
-fn gives_a_slice(alloc: Global) -> bool {
-    let mut source = ReaderSource::new(b"text".as_slice());
-    gives(alloc, &mut source, 9)
-}
-
-#[test]
-fn adapts_a_reader(rt: HostRuntime) {
-    assert!(rt; gives_a_slice(rt.alloc()));
-    assert!(rt; fails_to_read(&rt));
 }
 
 /// Whether a file that was opened to be read is no sink.
@@ -141,10 +128,4 @@ fn takes_three() -> bool {
     let mut bytes = [0; 3];
     let mut sink = WriterSink::new(Cursor::new(bytes.as_mut_slice()));
     write_all(&mut sink, b"four") == Err(Failed)
-}
-
-#[test]
-fn adapts_a_writer(rt: HostRuntime) {
-    assert!(rt; takes_three());
-    assert!(rt; fails_to_write(&rt));
 }

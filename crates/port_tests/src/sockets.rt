@@ -1,6 +1,7 @@
 //! Both ends of a connection, over loopback.
 
 use dr_ports::{Door, Failed, Link, Pipe};
+use std::io::Write;
 use std::net::TcpStream;
 use tcp_ports::{TcpDoor, TcpLink};
 
@@ -11,9 +12,14 @@ fn fail_alone<D: Door, L: Link>(door: &mut D, link: &mut L) -> bool {
         && link.open("127.0.0.1:1") == Err(Failed)
 }
 
-/// Whether a door and a link are joined at this port.
+/// Whether a door and a link are joined at this port, by a byte that is sent: a door accepts who
+/// has said something.
 pub fn are_joined<D: Door, L: Link>(door: &mut D, link: &mut L, at: u16, address: &str) -> bool {
-    door.listen(at) == Ok(()) && link.open(address) == Ok(()) && door.accept() == Ok(())
+    door.listen(at) == Ok(())
+        && link.open(address) == Ok(())
+        && link.send(b"!") == Ok(1)
+        && door.accept() == Ok(())
+        && door.receive(&mut [0; 4]) == Ok(1)
 }
 
 /// Whether a text goes each way.
@@ -60,9 +66,32 @@ fn accepts_another<D: Door, L: Link>(rt: &HostRuntime, door: &mut D, link: &mut 
         return false;
     }
     match TcpStream::connect(rt, "127.0.0.3:47616") {
-        Ok(_second) => door.accept() == Ok(()),
+        Ok(mut second) => second.write(b"!").is_ok() && door.accept() == Ok(()),
         Err(_) => false,
     }
+}
+
+/// Whether a door accepts the one that speaks, of three who came: one before it hung up, and one
+/// says nothing.
+fn accepts_who_speaks<D: Door, L: Link>(rt: &HostRuntime, door: &mut D, link: &mut L) -> bool {
+    if door.listen(47621).is_err() {
+        return false;
+    }
+    let _gone = TcpStream::connect(rt, "127.0.0.1:47621").is_ok();
+    match TcpStream::connect(rt, "127.0.0.1:47621") {
+        Ok(_silent) => is_heard(door, link, "127.0.0.1:47621"),
+        Err(_) => false,
+    }
+}
+
+/// Whether a door accepts a link that says something.
+fn is_heard<D: Door, L: Link>(door: &mut D, link: &mut L, address: &str) -> bool {
+    let mut piece = [0; 4];
+    link.open(address) == Ok(())
+        && link.send(b"word") == Ok(4)
+        && door.accept() == Ok(())
+        && door.receive(&mut piece) == Ok(4)
+        && piece == *b"word"
 }
 
 /// What both ends do.
@@ -71,6 +100,7 @@ enum Course {
     Whole,
     Broken,
     Another,
+    Heard,
 }
 
 /// Whether both ends do all of it.
@@ -79,6 +109,7 @@ fn takes<D: Door, L: Link>(rt: &HostRuntime, door: &mut D, link: &mut L, course:
         Course::Whole => go(door, link),
         Course::Broken => break_off(door, link),
         Course::Another => accepts_another(rt, door, link),
+        Course::Heard => accepts_who_speaks(rt, door, link),
     }
 }
 
@@ -89,18 +120,15 @@ fn take(rt: &HostRuntime, course: Course) -> bool {
     takes(rt, &mut door, &mut link, course)
 }
 
-#[test]
-fn goes_over_loopback(rt: HostRuntime) {
-    assert!(rt; take(&rt, Course::Whole));
-}
-
 // A peer that ends with bytes that it didn't read breaks the connection.
 #[test]
-fn a_broken_connection_is_no_end(rt: HostRuntime) {
-    assert!(rt; take(&rt, Course::Broken));
-}
-
-#[test]
-fn listens_at_every_address(rt: HostRuntime) {
-    assert!(rt; take(&rt, Course::Another));
+fn goes_over_loopback(rt: HostRuntime) {
+    for course in [
+        Course::Whole,
+        Course::Broken,
+        Course::Another,
+        Course::Heard,
+    ] {
+        assert!(rt; take(&rt, course));
+    }
 }

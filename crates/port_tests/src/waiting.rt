@@ -26,22 +26,15 @@ fn bounded(least: u64, most: u64) -> Patience {
     }
 }
 
-/// Whether both ends fail to receive.
-fn hear_nothing<D: Pipe, L: Pipe>(door: &mut D, link: &mut L) -> bool {
-    door.receive(&mut [0; 4]) == Err(Failed) && link.receive(&mut [0; 4]) == Err(Failed)
-}
-
 /// Whether both ends of a connection on which nothing is said give it up, after two times 35
 /// milliseconds at least.
 fn give_up<D: Door, L: Link>(rt: &HostRuntime, door: &mut D, link: &mut L) -> bool {
     if !are_joined(door, link, 47617, "127.0.0.1:47617") {
         return false;
     }
-    let Ok(start) = Instant::now(rt) else {
-        return false;
-    };
-    let is_silent = hear_nothing(door, link);
-    match start.elapsed(rt) {
+    let start = Instant::now(rt);
+    let is_silent = door.receive(&mut [0; 4]).is_err() && link.receive(&mut [0; 4]).is_err();
+    match start.and_then(|start| start.elapsed(rt)) {
         Ok(took) => {
             is_silent && took >= Duration::from_millis(70) && took < Duration::from_secs(20)
         }
@@ -133,30 +126,15 @@ fn meet(rt: &HostRuntime, near: Patience, far: Patience, peer: Peer) -> bool {
     meets(rt, &mut door, &mut link, peer)
 }
 
-// Neither end says anything.
+// Neither end says anything; each byte comes well within the time of a call; 100 pieces of 4,096
+// bytes give it more than 100 seconds, which it has where it may last so long; and only what the
+// system has room for is taken, which is told, and ends the connection.
 #[test]
-fn gives_up_a_silent_peer(rt: HostRuntime) {
+fn waits_for_a_time(rt: HostRuntime) {
+    let relay = Patience::with_a_relay();
     assert!(rt; meet(&rt, endless(40), endless(40), Peer::Silent));
-}
-
-// Each byte comes well within the time of a call.
-#[test]
-fn gives_up_a_slow_peer(rt: HostRuntime) {
-    let relay = Patience::with_a_relay();
     assert!(rt; meet(&rt, bounded(1_000, 100_000), relay, Peer::Slow));
-}
-
-// 100 pieces of 4,096 bytes give it 100 seconds more, and it has that much where it may last so
-// long.
-#[test]
-fn bears_with_a_busy_peer_for_its_time(rt: HostRuntime) {
-    let relay = Patience::with_a_relay();
     assert!(rt; meet(&rt, bounded(1_000, 100_000), relay, Peer::Busy));
     assert!(rt; meet(&rt, bounded(1_000, 1_000), relay, Peer::Endless));
-}
-
-// Only what the system has room for is taken, which is told, and then the call gives up.
-#[test]
-fn gives_up_a_peer_that_reads_nothing(rt: HostRuntime) {
-    assert!(rt; meet(&rt, endless(200), Patience::with_a_relay(), Peer::Deaf));
+    assert!(rt; meet(&rt, endless(200), relay, Peer::Deaf));
 }
