@@ -116,9 +116,9 @@ impl Hall {
         Ok(())
     }
 
-    /// Takes in those who came, as long as fewer were heard than there are seats, and answers whether
-    /// nobody more is there: the system tells of each one only once. Room is made for one that can't
-    /// come in, as descriptors are wanting; where nobody waits it is an error.
+    /// Takes in those who came, as long as fewer were heard than there are seats, and answers
+    /// whether nobody more is there: the system tells of each one only once. Room is made for one
+    /// that can't come in, as descriptors are wanting; where nobody waits it is an error.
     fn admit<C: Clock>(&mut self, clock: &C) -> io::Result<bool> {
         for _ in 0..SEATS {
             if self.heard.len() >= SEATS {
