@@ -53,48 +53,35 @@ fn fetched(alloc: Global, bytes: &[u8], fails: &[u64]) -> Outcome {
     }
 }
 
-/// Whether these bytes are read so.
-fn is_read(alloc: Global, bytes: &[u8], expected: Outcome) -> bool {
-    fetched(alloc, bytes, &[]) == expected
+/// A fault of the peer, at this place of what the link gives.
+const fn at(at: usize, kind: PeerKind) -> Outcome {
+    Outcome::Peer(PeerFault { at, kind })
 }
 
 #[test]
-fn replies_are_read(rt: HostRuntime) {
-    let alloc = rt.alloc();
-    let item = b"\x00\x0a\x82\x00\x00\x00\x00\x00\x00\x00\x07x";
-    assert!(rt; is_read(alloc, b"\x00\x01\x83", Outcome::Empty));
-    assert!(rt; is_read(alloc, item, Outcome::Item(7, b'x', 11)));
-    assert!(rt; is_read(alloc, b"\x00\x02\x88\x01", Outcome::Bad(1)));
-}
-
-/// Whether these bytes have this fault, at this place.
-fn has_fault(alloc: Global, bytes: &[u8], at: usize, kind: PeerKind) -> bool {
-    fetched(alloc, bytes, &[]) == Outcome::Peer(PeerFault { at, kind })
-}
-
-/// Whether a link whose call of this number fails is told as that.
-fn fails(alloc: Global, call: u64) -> bool {
-    fetched(alloc, b"\x00\x01\x83", &[call]) == Outcome::Pipe
-}
-
-#[test]
-fn faults_are_told(rt: HostRuntime) {
-    let alloc = rt.alloc();
-    // what the link gives, the place of the fault in it, and its kind
-    let rows: [(&[u8], usize, PeerKind); 9] = [
-        (b"", 0, PeerKind::Ended),
-        (b"\x00\x03\x82\x00", 4, PeerKind::Ended),
-        (b"\x00\x05\x83", 3, PeerKind::Ended),
-        (b"\x00\x00", 0, PeerKind::Frame),
-        (b"\xff\xff", 0, PeerKind::Frame),
-        (b"\x00\x01\x55", 2, PeerKind::Kind),
-        (b"\x00\x01\x99", 2, PeerKind::Kind),
-        (b"\x00\x02\x83\x00", 3, PeerKind::Size),
-        (b"\x00\x01\x82", 3, PeerKind::Size),
+fn replies_and_faults_are_told(rt: HostRuntime) {
+    // what the link gives, which of its calls fails, and what that is read as
+    let rows: [(&[u8], &[u64], Outcome); 14] = [
+        (b"\x00\x01\x83", &[], Outcome::Empty),
+        (
+            b"\x00\x0a\x82\x00\x00\x00\x00\x00\x00\x00\x07x",
+            &[],
+            Outcome::Item(7, b'x', 11),
+        ),
+        (b"\x00\x02\x88\x01", &[], Outcome::Bad(1)),
+        (b"", &[], at(0, PeerKind::Ended)),
+        (b"\x00\x03\x82\x00", &[], at(4, PeerKind::Ended)),
+        (b"\x00\x05\x83", &[], at(3, PeerKind::Ended)),
+        (b"\x00\x00", &[], at(0, PeerKind::Frame)),
+        (b"\xff\xff", &[], at(0, PeerKind::Frame)),
+        (b"\x00\x01\x55", &[], at(2, PeerKind::Kind)),
+        (b"\x00\x01\x99", &[], at(2, PeerKind::Kind)),
+        (b"\x00\x02\x83\x00", &[], at(3, PeerKind::Size)),
+        (b"\x00\x01\x82", &[], at(3, PeerKind::Size)),
+        (b"\x00\x01\x83", &[1], Outcome::Pipe),
+        (b"\x00\x01\x83", &[2], Outcome::Pipe),
     ];
-    for (bytes, at, kind) in rows {
-        assert!(rt; has_fault(alloc, bytes, at, kind));
+    for (bytes, fails, expected) in rows {
+        assert!(rt; fetched(rt.alloc(), bytes, fails) == expected);
     }
-    assert!(rt; fails(alloc, 1));
-    assert!(rt; fails(alloc, 2));
 }

@@ -19,24 +19,29 @@ fn ends_unasked(
     }
 }
 
-/// Whether these names are refused so.
-fn refuses(alloc: Global, disk: &mut MemoryDisk, boxes: &[&str], lines: &[u8]) -> bool {
-    ends_unasked(alloc, disk, boxes, 3, lines)
-}
-
 /// 17 names, one more than a relay may have.
 const MANY: [&str; 17] = [
     "a", "b", "c", "d", "e", "f", "g", "h", "i", "j", "k", "l", "m", "n", "o", "p", "q",
 ];
 
-/// Whether names are refused, on a disk whose first area has the box `b`.
+/// Names, the status, and the lines: the first ones are taken, and the others refused on that disk.
+const NAMES: [(&[&str], u8, &[u8]); 6] = [
+    (&["b"], 0, b"relay 4000\n"),
+    (&["a"], 3, b"refused: BoxName 1\n"),
+    (&["b", "b"], 3, b"refused: BadBox 2\n"),
+    (&["b", "c", "D"], 3, b"refused: BadBox 3\n"),
+    (&[""], 3, b"refused: BadBox 1\n"),
+    (&MANY, 3, b"refused: BadBox 17\n"),
+];
+
+/// Whether each row of names ends so.
 fn refuse(alloc: Global, disk: &mut MemoryDisk) -> bool {
-    ends_unasked(alloc, disk, &["b"], 0, b"relay 4000\n")
-        && refuses(alloc, disk, &["a"], b"refused: BoxName 1\n")
-        && refuses(alloc, disk, &["b", "b"], b"refused: BadBox 2\n")
-        && refuses(alloc, disk, &["b", "c", "D"], b"refused: BadBox 3\n")
-        && refuses(alloc, disk, &[""], b"refused: BadBox 1\n")
-        && refuses(alloc, disk, &MANY, b"refused: BadBox 17\n")
+    for (boxes, status, lines) in NAMES {
+        if !ends_unasked(alloc, disk, boxes, status, lines) {
+            return false;
+        }
+    }
+    true
 }
 
 /// Whether the command ends so for one connection to the box `a`, over a door whose calls of these
@@ -120,21 +125,8 @@ fn meets(alloc: Global, fault: Fault) -> bool {
 }
 
 #[test]
-fn names_that_are_refused(rt: HostRuntime) {
-    assert!(rt; meets(rt.alloc(), Fault::Names));
-}
-
-#[test]
-fn ports_that_fail(rt: HostRuntime) {
-    assert!(rt; meets(rt.alloc(), Fault::Ports));
-}
-
-#[test]
-fn disks_that_stop(rt: HostRuntime) {
-    assert!(rt; meets(rt.alloc(), Fault::Stops));
-}
-
-#[test]
-fn a_damaged_area(rt: HostRuntime) {
-    assert!(rt; meets(rt.alloc(), Fault::Damage));
+fn faults_of_the_command(rt: HostRuntime) {
+    for fault in [Fault::Names, Fault::Ports, Fault::Stops, Fault::Damage] {
+        assert!(rt; meets(rt.alloc(), fault));
+    }
 }

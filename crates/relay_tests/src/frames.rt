@@ -91,21 +91,6 @@ fn are_requests(reader: &mut FrameReader) -> bool {
     true
 }
 
-/// Whether a new reader gives the requests of the table.
-fn has_requests(alloc: Global) -> bool {
-    match FrameReader::new(alloc) {
-        Ok(mut reader) => are_requests(&mut reader),
-        Err(_) => false,
-    }
-}
-
-#[test]
-fn requests_are_read_and_written(rt: HostRuntime) {
-    assert!(rt; has_requests(rt.alloc()));
-    assert!(rt; Name::new(b"").is_none());
-    assert!(rt; Name::new(b"a-9").is_some());
-}
-
 /// Whether a reply is written as these bytes.
 fn is_replied(reply: &Reply<'_>, bytes: &[u8]) -> bool {
     let mut out = [0; FRAME_LIMIT];
@@ -140,19 +125,6 @@ fn are_replies(reader: &mut FrameReader) -> bool {
         }
     }
     true
-}
-
-/// Whether a new reader gives the replies of the table.
-fn has_replies(alloc: Global) -> bool {
-    match FrameReader::new(alloc) {
-        Ok(mut reader) => are_replies(&mut reader),
-        Err(_) => false,
-    }
-}
-
-#[test]
-fn replies_are_read_and_written(rt: HostRuntime) {
-    assert!(rt; has_replies(rt.alloc()));
 }
 
 /// Two frames of one stream: of 5 bytes, and a post of three bytes to the box `a`.
@@ -195,15 +167,19 @@ fn are_placed(reader: &mut FrameReader) -> bool
     }
 }
 
-/// The same of a new reader.
-fn has_places(alloc: Global) -> bool {
+/// Whether a new reader does all of that.
+fn reads_all(alloc: Global) -> bool {
     match FrameReader::new(alloc) {
-        Ok(mut reader) => are_placed(&mut reader),
+        Ok(mut reader) => {
+            are_placed(&mut reader) && are_requests(&mut reader) && are_replies(&mut reader)
+        }
         Err(_) => false,
     }
 }
 
 #[test]
-fn parts_tell_their_places(rt: HostRuntime) {
-    assert!(rt; has_places(rt.alloc()));
+fn frames_are_read_and_written(rt: HostRuntime) {
+    assert!(rt; reads_all(rt.alloc()));
+    assert!(rt; Name::new(b"").is_none());
+    assert!(rt; Name::new(b"a-9").is_some());
 }

@@ -62,19 +62,6 @@ fn come(link: &mut RelayLink) -> bool {
         && replies(link, b"", b"")
 }
 
-/// Whether they come over a new link.
-fn all_come(alloc: Global) -> bool {
-    match linked(alloc) {
-        Some(mut link) => come(&mut link),
-        None => false,
-    }
-}
-
-#[test]
-fn replies_come(rt: HostRuntime) {
-    assert!(rt; all_come(rt.alloc()));
-}
-
 /// Whether the second reply of a connection is lost.
 fn loses(link: &mut RelayLink) -> bool {
     link.connect(Some(2));
@@ -99,15 +86,18 @@ fn holds_both(link: &mut RelayLink) -> bool {
         && replies(link, FETCH_B, second)
 }
 
-/// Whether that is so of a new link.
-fn loses_one(alloc: Global) -> bool {
-    match linked(alloc) {
-        Some(mut link) => loses(&mut link) && posts_again(&mut link) && holds_both(&mut link),
-        None => false,
+/// Whether all replies come over a new link, and over one that loses a reply.
+fn are_linked(alloc: Global) -> bool {
+    match (linked(alloc), linked(alloc)) {
+        (Some(mut whole), Some(mut link)) => {
+            come(&mut whole) && loses(&mut link) && posts_again(&mut link) && holds_both(&mut link)
+        }
+        _ => false,
     }
 }
 
+// A lost reply breaks the link.
 #[test]
-fn a_lost_reply_breaks_the_link(rt: HostRuntime) {
-    assert!(rt; loses_one(rt.alloc()));
+fn replies_come_and_are_lost(rt: HostRuntime) {
+    assert!(rt; are_linked(rt.alloc()));
 }

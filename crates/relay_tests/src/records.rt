@@ -48,11 +48,6 @@ fn has_faults() -> bool {
     true
 }
 
-#[test]
-fn a_record_and_its_faults(rt: HostRuntime) {
-    assert!(rt; has_faults());
-}
-
 /// Loads a record into the box at a place, and writes the record of that box.
 fn load_and_write(relay: &mut Relay, place: usize, text: &[u8], out: &mut [u8]) -> (Loaded, usize)
     requires inside { place < length relay.old }
@@ -100,6 +95,7 @@ fn is_loaded(alloc: Global) -> bool {
 }
 
 #[test]
-fn a_box_from_its_record(rt: HostRuntime) {
+fn a_record_and_its_faults(rt: HostRuntime) {
+    assert!(rt; has_faults());
     assert!(rt; is_loaded(rt.alloc()));
 }

@@ -167,29 +167,18 @@ fn refuses(alloc: Global, disk: &mut MemoryDisk) -> bool {
     is_damaged && refusal(alloc, disk, b"b") == Some(stopped)
 }
 
-/// Whether the worked connection is served on a disk, or servers on it are refused.
-fn takes(alloc: Global, disk: &mut MemoryDisk, is_served: bool) -> bool {
-    if is_served {
-        serves_both(alloc, disk)
-    } else {
-        refuses(alloc, disk)
+/// Whether the worked connection is served on a new disk, and servers on another one are refused.
+fn goes(alloc: Global) -> bool {
+    match (blank(alloc), blank(alloc)) {
+        (Ok(mut disk), Ok(mut other)) => {
+            serves_both(alloc, &mut disk) && refuses(alloc, &mut other)
+        }
+        _ => false,
     }
 }
 
-/// The same on a new disk.
-fn goes(alloc: Global, is_served: bool) -> bool {
-    match blank(alloc) {
-        Ok(mut disk) => takes(alloc, &mut disk, is_served),
-        Err(_) => false,
-    }
-}
-
+// In two connections, on one disk.
 #[test]
-fn a_worked_connection_in_two(rt: HostRuntime) {
-    assert!(rt; goes(rt.alloc(), true));
-}
-
-#[test]
-fn openings_that_are_refused(rt: HostRuntime) {
-    assert!(rt; goes(rt.alloc(), false));
+fn a_worked_connection_and_refusals(rt: HostRuntime) {
+    assert!(rt; goes(rt.alloc()));
 }
