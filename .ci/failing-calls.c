@@ -1,19 +1,21 @@
 // Makes one call of a program on a file, a socket or the random source fail, or cuts it short. It is loaded before the C
-// library. FAILING_CALL is the number of the call, from 1; FAILING_HOW an error's number, or 0 for half of the bytes and at
-// most 100, -1 for one byte, -2 for none; and to the file FAILING_LOG goes a line for each call, with its name and its
-// descriptor. Where FAILING_MORE is set, calls that open, connect, wait, set and close are among them. Or it refuses memory,
-// where FAILING_ALLOCATION is set: to the allocation of this number, from 1 and since the program's beginning, and where it is
-// negative to those that follow too. Then each allocation has a line in the log, with its name, its size, and whether the
-// program asks for it or a library. Where FAILING_DURABLE names a folder, it has there of each file that is synced what a power
-// cut would leave: a sync that passes brings what was written since, and one that fails loses it, as a system does that
-// forgets what it couldn't write. FAILING_ORDER gets a line for each write at a place, with place and length, and each sync.
-// It has no headers, as a compiler of the kit has none: what it needs of the C library of Linux is declared here.
+// library. FAILING_CALL is the number of the call, from 1, and FAILING_NAME its name, if only a call of this name is to fail;
+// FAILING_HOW an error's number, or 0 for half of the bytes and at most 100, -1 for one byte, -2 for none; and to the file
+// FAILING_LOG goes a line for each call, with its name and its descriptor. Where FAILING_MORE is set, calls that open, connect,
+// wait, set and close are among them. Or it refuses memory, where FAILING_ALLOCATION is set: to the allocation of this number,
+// from 1 and since the program's beginning, and where it is negative to those that follow too. Then each allocation has a line
+// in the log, with its name, its size, and whether the program asks for it or a library. Where FAILING_DURABLE names a folder,
+// it has there of each file that is synced what a power cut would leave: a sync that passes brings what was written since, and
+// one that fails loses it, as a system does that forgets what it couldn't write. FAILING_ORDER gets a line for each write at a
+// place, with place and length, and each sync. It has no headers, as a compiler of the kit has none: what it needs of the C
+// library of Linux is declared here.
 typedef __SIZE_TYPE__ size_t;
 typedef long ssize_t, off_t, off64_t;
 typedef unsigned mode_t, socklen_t;
 typedef unsigned long nfds_t;
 struct sockaddr;
 struct pollfd;
+struct epoll_event;
 struct statx;
 typedef struct {
     const char *dli_fname;
@@ -52,12 +54,12 @@ static void note(const char *log, const char *line, int length) {
 
 // whether this call is the one; a line goes to the log
 static int is_it(const char *name, int fd) {
-    const char *log = getenv("FAILING_LOG"), *number = getenv("FAILING_CALL");
+    const char *log = getenv("FAILING_LOG"), *number = getenv("FAILING_CALL"), *only = getenv("FAILING_NAME");
     if (!log || getenv("FAILING_ALLOCATION"))
         return 0;
     char line[64];
     note(log, line, snprintf(line, sizeof line, "%s %d\n", name, fd));
-    return number && ++made == atol(number);
+    return number && ++made == atol(number) && (!only || !strcmp(only, name));
 }
 
 static int how(void) {
@@ -236,6 +238,9 @@ MORE(unlink, (const char *path), -1, path)
 MORE(socket, (int domain, int type, int protocol), -1, domain, type, protocol)
 MORE(connect, (int fd, const struct sockaddr *to, socklen_t size), fd, fd, to, size)
 MORE(accept4, (int fd, struct sockaddr *from, socklen_t *size, int flags), fd, fd, from, size, flags)
+MORE(epoll_create1, (int flags), -1, flags)
+MORE(epoll_ctl, (int fd, int what, int on, struct epoll_event *event), fd, fd, what, on, event)
+MORE(epoll_wait, (int fd, struct epoll_event *events, int most, int milliseconds), fd, fd, events, most, milliseconds)
 MORE(bind, (int fd, const struct sockaddr *at, socklen_t size), fd, fd, at, size)
 MORE(listen, (int fd, int waiting), fd, fd, waiting)
 MORE(getsockopt, (int fd, int level, int name, void *value, socklen_t *size), fd, fd, level, name, value, size)
@@ -259,11 +264,10 @@ int ioctl(int fd, unsigned long request, ...) {
 
 // what waits may find nothing in its time
 int poll(struct pollfd *these, nfds_t count, int milliseconds) {
-    if (fails_more("poll", -1))
-        return -1;
-    return getenv("FAILING_MORE") && how() == -2 && made == atol(getenv("FAILING_CALL"))
-               ? 0
-               : REAL(poll)(these, count, milliseconds);
+    if (!getenv("FAILING_MORE") || !is_it("poll", -1) || how() == -1)
+        return REAL(poll)(these, count, milliseconds);
+    errno = how();
+    return how() == -2 ? 0 : -1;
 }
 
 // what is closed is so also where that fails

@@ -86,6 +86,14 @@ class Room:
         if time.monotonic() > until:
             raise Failed(what)
 
+    def ends_soon(self, process):
+        """Whether a process ends by itself within two seconds."""
+        try:
+            process.wait(2)
+        except subprocess.TimeoutExpired:
+            return False
+        return True
+
     def run(self, folder, *words, given=b"", faults=None):
         """The status and the lines of a command."""
         return self.ended(self.begin(folder, words, faults, subprocess.PIPE), given)
